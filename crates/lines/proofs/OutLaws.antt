@@ -1,0 +1,109 @@
+-- Laws of `Wrote`. Assumes nothing.
+use Prim.Native.Nat.{ℕ, zero, suc, _+_, _-_, _≤_, _<_}
+use mathlib.Core.Path.{_≡_, refl, sym, ap, _∙_}
+use mathlib.Core.List.{List, [], _∷_, _++_, append-assoc, append-nil}
+use native.Mathlib.Omega.{arith}
+use native.Mathlib.Nat.{add-zero, add-assoc}
+use native.Mathlib.Numerals.{add-one}
+use lib.ListN.{length, take, drop, getD, set, length-append, length-take, length-drop, take-append-drop}
+use lib.Seq.{slice, slice-empty, take-suc, drop-append-le, length-slice, set-split, append-snoc, take-at, drop-at, drop-drop, length-take-le, take-all}
+use Rattle.lines.specs.Out.{putAt, Wrote}
+
+-- one more element at the end of a part
+pub slice-snoc : (f t : ℕ) (l : List ℕ) → f ≤ t → t < length l → slice f (suc t) l ≡ slice f t l ++ (getD l t 0 ∷ [])
+slice-snoc f t l h k =
+    ap (drop f) (take-suc l t 0 k)
+    ∙ drop-append-le f (take t l) (getD l t 0 ∷ []) (simp length-take (omega arith))
+
+pub put-length : (d : List ℕ) (o : ℕ) (xs : List ℕ) → o + length xs ≤ length d → length (putAt d o xs) ≡ length d
+unfolding putAt
+put-length d o xs h = simp (length-append, length-take, length-drop) (omega arith)
+
+pub put-put : (d : List ℕ) (o : ℕ) (xs ys : List ℕ) → o + length xs ≤ length d → putAt (putAt d o xs) (o + length xs) ys ≡ putAt d o (xs ++ ys)
+unfolding putAt
+put-put d o xs ys h =
+    let a : ℕ = o + length xs in
+    let q : List ℕ = take o d ++ xs in
+    let e : length q ≡ a = length-append (take o d) xs ∙ ap (λ (n : ℕ). n + length xs) (length-take-le o d (omega arith)) in
+    let t₁ : take a (q ++ drop a d) ≡ q = take-at q (drop a d) a e in
+    let t₂ : drop (a + length ys) (q ++ drop a d) ≡ drop (a + length ys) d =
+    sym (drop-drop (length ys) a (q ++ drop a d)) ∙ ap (drop (length ys)) (drop-at q (drop a d) a e) ∙ drop-drop (length ys) a d in
+    ap (λ (r : List ℕ). r ++ ys ++ drop (a + length ys) (q ++ drop a d)) t₁
+    ∙ ap (λ (r : List ℕ). q ++ ys ++ r) t₂
+    ∙ ap (λ (r : List ℕ). r ++ drop (a + length ys) d) (append-assoc (take o d) xs ys)
+    ∙ ap (λ (n : ℕ). take o d ++ (xs ++ ys) ++ drop n d) (add-assoc o (length xs) (length ys) ∙ ap (λ (n : ℕ). o + n) (sym (length-append xs ys)))
+
+pub wrote-length : {d xs d′ : List ℕ} {o r : ℕ} → Wrote d o xs d′ r → length d′ ≡ length d
+wrote-length {d} {xs} {d′} {o} {r} w = ap length (w .holds) ∙ put-length d o xs (w .fits)
+
+pub wrote-nil : (d : List ℕ) (o : ℕ) → o ≤ length d → Wrote d o [] d o
+unfolding putAt
+wrote-nil d o h = record {
+  fits = omega arith;
+  place = omega arith;
+  holds = sym (rw (add-zero o, append-nil (take o d)) (take-append-drop o d));
+}
+
+pub wrote-byte : (d : List ℕ) (o b : ℕ) → o < length d → Wrote d o (b ∷ []) (set d o b) (o + 1)
+unfolding putAt
+wrote-byte d o b h = record {
+  fits = omega arith;
+  place = refl;
+  holds = set-split d o b h ∙ sym (append-snoc (take o d) b (drop (suc o) d)) ∙ ap (λ (n : ℕ). take o d ++ (b ∷ []) ++ drop n d) (sym (add-one o));
+}
+
+pub wrote-then : {d xs d₁ ys d₂ : List ℕ} {o p r : ℕ} → Wrote d o xs d₁ p → Wrote d₁ p ys d₂ r → Wrote d o (xs ++ ys) d₂ r
+wrote-then {d} {xs} {d₁} {ys} {d₂} {o} {p} {r} w v = record {
+  fits = let e = wrote-length w in let f = w .place in let g = v .fits in omega (arith, length-append xs ys);
+  place = let f = w .place in let g = v .place in omega (arith, length-append xs ys);
+  holds = v .holds ∙ ap (λ (l : List ℕ). putAt l p ys) (w .holds) ∙ ap (λ (n : ℕ). putAt (putAt d o xs) n ys) (w .place) ∙ put-put d o xs ys (w .fits);
+}
+
+-- a byte more
+pub wrote-more : {d xs d₁ : List ℕ} {o p : ℕ} (b : ℕ) → Wrote d o xs d₁ p → p < length d₁ → Wrote d o (xs ++ (b ∷ [])) (set d₁ p b) (p + 1)
+wrote-more {d} {xs} {d₁} {o} {p} b w h = wrote-then w (wrote-byte d₁ p b h)
+
+-- what is written at another name
+pub wrote-as : {d xs d′ : List ℕ} {o r : ℕ} {ys : List ℕ} → xs ≡ ys → Wrote d o xs d′ r → Wrote d o ys d′ r
+wrote-as {d} {xs} {d′} {o} {r} {ys} e w = rw (← e) w
+
+-- what stood before is still there
+pub wrote-below : {d xs d′ : List ℕ} {o r : ℕ} → Wrote d o xs d′ r → take o d′ ≡ take o d
+unfolding putAt
+wrote-below {d} {xs} {d′} {o} {r} w =
+    ap (take o) (w .holds ∙ append-assoc (take o d) xs (drop (o + length xs) d))
+    ∙ take-at (take o d) (xs ++ drop (o + length xs) d) o (length-take-le o d (let f = w .fits in omega arith))
+
+-- and what was written is there
+pub wrote-part : {d xs d′ : List ℕ} {o r : ℕ} → Wrote d o xs d′ r → slice o r d′ ≡ xs
+unfolding putAt
+wrote-part {d} {xs} {d′} {o} {r} w =
+    let f = w .fits in
+    let e : length (take o d) ≡ o = length-take-le o d (omega arith) in
+    ap (λ (l : List ℕ). slice o r l) (w .holds) ∙ ap (λ (n : ℕ). slice o n (putAt d o xs)) (w .place)
+    ∙ ap (drop o) (take-at (take o d ++ xs) (drop (o + length xs) d) (o + length xs) (length-append (take o d) xs ∙ ap (λ (n : ℕ). n + length xs) e))
+    ∙ drop-at (take o d) xs o e
+
+-- ---- the loop of `put`
+
+pub record PutInv (t d₀ d : List ℕ) (o j p : ℕ) : Type 0 where
+  pub j≤ : j ≤ length t
+  pub room : o + length t ≤ length d₀
+  pub wrote : Wrote d₀ o (take j t) d p
+
+pub put-start : (t d : List ℕ) (o : ℕ) → o + length t ≤ length d → PutInv t d d o 0 o
+put-start t d o r = record { j≤ = omega arith; room = r; wrote = wrote-nil d o (omega arith) }
+
+module _ {t d₀ d : List ℕ} {o j p : ℕ} (h : PutInv t d₀ d o j p) where
+  pub put-in : j < length t → p < length d
+  put-in l = omega (arith, wrote-length (h .wrote), length-take-le j t (h .j≤), h .wrote .place, h .room)
+
+  pub put-byte : j < length t → PutInv t d₀ (set d p (getD t j 0)) o (j + 1) (p + 1)
+  put-byte l = record {
+    j≤ = omega arith;
+    room = h .room;
+    wrote = wrote-as (sym (ap (λ (n : ℕ). take n t) (add-one j) ∙ take-suc t j 0 l)) (wrote-more (getD t j 0) (h .wrote) (put-in l));
+  }
+
+  pub put-end : length t ≤ j → Wrote d₀ o t d p
+  put-end l = wrote-as (take-all j t l) (h .wrote)

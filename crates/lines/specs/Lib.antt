@@ -1,0 +1,4 @@
+pub mod Lf
+pub mod Out
+pub mod Steps
+pub mod Acts

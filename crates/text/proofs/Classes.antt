@@ -1,0 +1,52 @@
+-- The table of byte classes: its rule at all 256 entries, by tests that antt computes.
+use mathlib.Core.Path.{_≡_, refl, sym, ap, _∙_}
+use mathlib.Core.List.{List, [], _∷_}
+use mathlib.Core.Bool.{Bool, true, false, cond, not}
+use Prim.Native.Nat.{ℕ, _<_}
+use lib.Dec.{T, eqb, eqb→eq}
+use lib.ListN.{getD, length}
+use Rattle.text.specs.Class.{isName, isQuote, opensPattern, classOf}
+use Rattle.text.proofs.Table.{every, at}
+
+-- the table of `class`
+unfoldable pub classes : List ℕ
+classes = 0 ∷ 0 ∷ 0 ∷ 0 ∷ 0 ∷ 0 ∷ 0 ∷ 0 ∷ 0 ∷ 0 ∷ 0 ∷ 0 ∷ 0 ∷ 0 ∷ 0 ∷ 0 ∷ 0 ∷ 0 ∷ 0 ∷ 0 ∷ 0 ∷ 0 ∷ 0 ∷ 0 ∷ 0 ∷ 0 ∷ 0 ∷ 0 ∷ 0 ∷ 0 ∷ 0 ∷ 0 ∷ 0 ∷ 3 ∷ 2 ∷ 0 ∷ 1 ∷ 3 ∷ 3 ∷ 2 ∷ 3 ∷ 0 ∷ 3 ∷ 3 ∷ 3 ∷ 3 ∷ 0 ∷ 0 ∷ 1 ∷ 1 ∷ 1 ∷ 1 ∷ 1 ∷ 1 ∷ 1 ∷ 1 ∷ 1 ∷ 1 ∷ 3 ∷ 3 ∷ 3 ∷ 3 ∷ 3 ∷ 3 ∷ 0 ∷ 1 ∷ 1 ∷ 1 ∷ 1 ∷ 1 ∷ 1 ∷ 1 ∷ 1 ∷ 1 ∷ 1 ∷ 1 ∷ 1 ∷ 1 ∷ 1 ∷ 1 ∷ 1 ∷ 1 ∷ 1 ∷ 1 ∷ 1 ∷ 1 ∷ 1 ∷ 1 ∷ 1 ∷ 1 ∷ 1 ∷ 3 ∷ 0 ∷ 0 ∷ 3 ∷ 1 ∷ 2 ∷ 1 ∷ 1 ∷ 1 ∷ 1 ∷ 1 ∷ 1 ∷ 1 ∷ 1 ∷ 1 ∷ 1 ∷ 1 ∷ 1 ∷ 1 ∷ 1 ∷ 1 ∷ 1 ∷ 1 ∷ 1 ∷ 1 ∷ 1 ∷ 1 ∷ 1 ∷ 1 ∷ 1 ∷ 1 ∷ 1 ∷ 3 ∷ 3 ∷ 3 ∷ 3 ∷ 0 ∷ 0 ∷ 0 ∷ 0 ∷ 0 ∷ 0 ∷ 0 ∷ 0 ∷ 0 ∷ 0 ∷ 0 ∷ 0 ∷ 0 ∷ 0 ∷ 0 ∷ 0 ∷ 0 ∷ 0 ∷ 0 ∷ 0 ∷ 0 ∷ 0 ∷ 0 ∷ 0 ∷ 0 ∷ 0 ∷ 0 ∷ 0 ∷ 0 ∷ 0 ∷ 0 ∷ 0 ∷ 0 ∷ 0 ∷ 0 ∷ 0 ∷ 0 ∷ 0 ∷ 0 ∷ 0 ∷ 0 ∷ 0 ∷ 0 ∷ 0 ∷ 0 ∷ 0 ∷ 0 ∷ 0 ∷ 0 ∷ 0 ∷ 0 ∷ 0 ∷ 0 ∷ 0 ∷ 0 ∷ 0 ∷ 0 ∷ 0 ∷ 0 ∷ 0 ∷ 0 ∷ 0 ∷ 0 ∷ 0 ∷ 0 ∷ 0 ∷ 0 ∷ 0 ∷ 0 ∷ 0 ∷ 0 ∷ 0 ∷ 0 ∷ 0 ∷ 0 ∷ 0 ∷ 0 ∷ 0 ∷ 0 ∷ 0 ∷ 0 ∷ 0 ∷ 0 ∷ 0 ∷ 0 ∷ 0 ∷ 0 ∷ 0 ∷ 0 ∷ 0 ∷ 0 ∷ 0 ∷ 0 ∷ 0 ∷ 0 ∷ 0 ∷ 0 ∷ 0 ∷ 0 ∷ 0 ∷ 0 ∷ 0 ∷ 0 ∷ 0 ∷ 0 ∷ 0 ∷ 0 ∷ 0 ∷ 0 ∷ 0 ∷ 0 ∷ 0 ∷ 0 ∷ 0 ∷ 0 ∷ 0 ∷ 0 ∷ 0 ∷ 0 ∷ 0 ∷ 0 ∷ 0 ∷ 0 ∷ 0 ∷ 0 ∷ 0 ∷ 0 ∷ 0 ∷ 0 ∷ []
+
+right : ℕ → ℕ → Bool
+right k x = eqb x (classOf k)
+
+-- the entry of a byte is its class
+pub class-at : (b : ℕ) → b < 256 → getD classes b 0 ≡ classOf b
+unfolding classes right classOf
+class-at b h = eqb→eq (getD classes b 0) (classOf b) (at right classes tt b h)
+
+-- two tests agree
+abbrev agree : Bool → Bool → Bool
+agree true b = b
+agree false b = not b
+
+agree-eq : (a b : Bool) → T (agree a b) → a ≡ b
+agree-eq true true t = refl
+agree-eq true false t = absurd t
+agree-eq false true t = absurd t
+agree-eq false false t = refl
+
+-- the bytes of class n are those that pass a test
+is : ℕ → (ℕ → Bool) → ℕ → ℕ → Bool
+is n f k x = agree (eqb x n) (f k)
+
+by : (n : ℕ) (f : ℕ → Bool) → T (every (is n f) 0 classes) → (b : ℕ) → b < 256 → eqb (classOf b) n ≡ f b
+unfolding is classes
+by n f t b h = ap (λ (x : ℕ). eqb x n) (sym (class-at b h)) ∙ agree-eq (eqb (getD classes b 0) n) (f b) (at (is n f) classes t b h)
+
+pub class-name : (b : ℕ) → b < 256 → eqb (classOf b) 1 ≡ isName b
+unfolding is classes
+class-name = by 1 (λ (b : ℕ). isName b) tt
+
+pub class-quote : (b : ℕ) → b < 256 → eqb (classOf b) 2 ≡ isQuote b
+unfolding is classes
+class-quote = by 2 (λ (b : ℕ). isQuote b) tt
+
+pub class-opens : (b : ℕ) → b < 256 → eqb (classOf b) 3 ≡ opensPattern b
+unfolding is classes
+class-opens = by 3 (λ (b : ℕ). opensPattern b) tt

@@ -1,0 +1,9 @@
+pub mod Table
+pub mod Classes
+pub mod Rows
+pub mod Scan
+pub mod Whites
+pub mod Trims
+pub mod Chars
+pub mod CharsEnd
+pub mod CharsValid

@@ -1,0 +1,38 @@
+-- The scan of a text, a sequence at a time.
+-- Assumes nothing.
+use mathlib.Core.Path.{_≡_, refl, sym, ap, _∙_}
+use mathlib.Core.List.{List, [], _∷_}
+use Prim.Native.Nat.{ℕ, zero, suc, _+_, _≤_, _<_}
+use native.Mathlib.Nat.{add-zero}
+use native.Mathlib.Omega.{arith}
+use lib.ListN.{length, getD, drop}
+use lib.Seq.{drop-cons, drop-drop}
+use Rattle.text.specs.Utf8Form.{seqLen, scan, badOr}
+use Rattle.text.specs.declared.Utf8.{Utf8}
+use Rattle.text.specs.declared.Utf8.the-variants.{Valid, Bad}
+
+pub scan-skip : (k i : ℕ) (l : List ℕ) → scan k i l ≡ scan 0 (i + k) (drop k l)
+unfolding scan
+scan-skip zero i l = ap (λ (n : ℕ). scan 0 n l) (sym (add-zero i))
+scan-skip (suc k) i [] = refl
+scan-skip (suc k) i (x ∷ xs) = scan-skip k (suc i) xs ∙ ap (λ (n : ℕ). scan 0 n (drop k xs)) (omega arith)
+
+pub first-bad : (i x : ℕ) (xs : List ℕ) → seqLen (x ∷ xs) ≡ 0 → scan 0 i (x ∷ xs) ≡ Bad i
+unfolding scan
+first-bad i x xs e = rw e
+
+pub first-on : (i k x : ℕ) (xs : List ℕ) → seqLen (x ∷ xs) ≡ suc k → scan 0 i (x ∷ xs) ≡ scan 0 (i + suc k) (drop k xs)
+unfolding scan
+first-on i k x xs e = rw e (scan-skip k (suc i) xs ∙ ap (λ (n : ℕ). scan 0 n (drop k xs)) (omega arith))
+
+module _ (t : List ℕ) (i : ℕ) (h : i < length t) where
+  pub scan-bad : seqLen (drop i t) ≡ 0 → scan 0 i (drop i t) ≡ Bad i
+  scan-bad e = rw (drop-cons t i 0 h) (first-bad i (getD t i 0) (drop (suc i) t) (rw (drop-cons t i 0 h) at e))
+
+  pub scan-on : (n : ℕ) → seqLen (drop i t) ≡ n → (n ≡ 0 → ⊥) → scan 0 i (drop i t) ≡ scan 0 (i + n) (drop (i + n) t)
+  scan-on zero e z = absurd (z refl)
+  scan-on (suc k) e z =
+      let q : suc i + k ≡ i + suc k = omega arith in
+      rw (drop-cons t i 0 h)
+      (first-on i k (getD t i 0) (drop (suc i) t) (rw (drop-cons t i 0 h) at e)
+      ∙ ap (scan 0 (i + suc k)) (drop-drop k (suc i) t ∙ ap (λ (n : ℕ). drop n t) q))

@@ -1,0 +1,110 @@
+-- The white space at the ends of a list, one at a time.
+-- Assumes nothing.
+use mathlib.Core.Path.{_≡_, refl, sym, ap, _∙_}
+use mathlib.Core.List.{List, [], _∷_}
+use Prim.Native.Nat.{ℕ, zero, suc, _+_, _-_, _≤_, _<_}
+use native.Mathlib.Omega.{arith}
+use lib.ListN.{length, getD, drop, take, length-drop}
+use lib.Seq.{drop-cons, drop-drop, take-all}
+use Rattle.text.specs.Trim.{whiteHead, whiteTail, lead, endWhite, orOn, fromOf, toOf, toEnd, trimStart, trimOf}
+use Rattle.text.proofs.Whites.{head-le, tail-le}
+
+-- ---- the front
+
+pub lead-skip : (k : ℕ) (l : List ℕ) → k ≤ length l → lead k l ≡ k + lead 0 (drop k l)
+unfolding lead
+lead-skip zero l h = omega arith
+lead-skip (suc k) [] h = absurd (omega arith)
+lead-skip (suc k) (x ∷ xs) h = let r = lead-skip k xs (omega arith) in omega arith
+
+first-stop : (x : ℕ) (xs : List ℕ) → whiteHead (x ∷ xs) ≡ 0 → lead 0 (x ∷ xs) ≡ 0
+unfolding lead
+first-stop x xs e = rw e
+
+first-on : (k x : ℕ) (xs : List ℕ) → k ≤ length xs → whiteHead (x ∷ xs) ≡ suc k → lead 0 (x ∷ xs) ≡ suc k + lead 0 (drop k xs)
+unfolding lead
+first-on k x xs h e = rw e (let r = lead-skip k xs h in omega arith)
+
+module _ (s : List ℕ) (i : ℕ) (h : i < length s) where
+  pub front-stop : whiteHead (drop i s) ≡ 0 → lead 0 (drop i s) ≡ 0
+  front-stop e = rw (drop-cons s i 0 h) (first-stop (getD s i 0) (drop (suc i) s) (rw (drop-cons s i 0 h) at e))
+
+  pub front-on : (n : ℕ) → whiteHead (drop i s) ≡ n → (n ≡ 0 → ⊥) → lead 0 (drop i s) ≡ n + lead 0 (drop (i + n) s)
+  front-on zero e z = absurd (z refl)
+  front-on (suc k) e z =
+      let q : suc i + k ≡ i + suc k = omega arith in
+      let l = head-le s i h in
+      let d = length-drop (suc i) s in
+      rw (drop-cons s i 0 h)
+      (first-on k (getD s i 0) (drop (suc i) s) (omega arith) (rw (drop-cons s i 0 h) at e)
+      ∙ ap (λ (r : List ℕ). suc k + lead 0 r) (drop-drop k (suc i) s ∙ ap (λ (n : ℕ). drop n s) q))
+
+-- what `&s[i..]` is
+pub rest-of : (s : List ℕ) (i : ℕ) → take (length s - i) (drop i s) ≡ drop i s
+rest-of s i = let d = length-drop i s in take-all (length s - i) (drop i s) (omega arith)
+
+-- ---- the back
+
+pub end-skip : (s : List ℕ) (k e : ℕ) → endWhite s k e ≡ endWhite s 0 (e - k)
+unfolding endWhite
+end-skip s zero e = let q : e ≡ e - 0 = omega arith in ap (endWhite s 0) q
+end-skip s (suc k) zero = let q : 0 ≡ 0 - suc k = omega arith in ap (endWhite s 0) q
+end-skip s (suc k) (suc e) = let q : e - k ≡ suc e - suc k = omega arith in end-skip s k e ∙ ap (endWhite s 0) q
+
+pub back-stop : (s : List ℕ) (e : ℕ) → 0 < e → whiteTail s e ≡ 0 → endWhite s 0 e ≡ e
+unfolding endWhite
+back-stop s zero h w = omega arith
+back-stop s (suc e) h w = rw w
+
+pub back-on : (s : List ℕ) (e n : ℕ) → 0 < e → whiteTail s e ≡ n → (n ≡ 0 → ⊥) → endWhite s 0 e ≡ endWhite s 0 (e - n)
+unfolding endWhite
+back-on s zero n h w z = omega arith
+back-on s (suc e) zero h w z = absurd (z refl)
+back-on s (suc e) (suc k) h w z = let q : e - k ≡ suc e - suc k = omega arith in rw w (end-skip s k e ∙ ap (endWhite s 0) q)
+
+pub back-start : (s : List ℕ) (e : ℕ) → e ≤ 0 → endWhite s 0 e ≡ e
+unfolding endWhite
+back-start s zero h = refl
+back-start s (suc e) h = absurd (omega arith)
+
+-- ---- the bounds
+
+lead-le : (k : ℕ) (l : List ℕ) → lead k l ≤ length l
+unfolding lead
+lead-le k [] = omega arith
+lead-le (suc k) (x ∷ xs) = let r = lead-le k xs in omega arith
+lead-le zero (x ∷ xs) = go (whiteHead (x ∷ xs)) (λ k. lead-le k xs)
+  where
+    go : (n : ℕ) → ((k : ℕ) → lead k xs ≤ length xs) → orOn n 0 (λ k. suc (lead k xs)) ≤ suc (length xs)
+    go zero f = omega arith
+    go (suc k) f = let r = f k in omega arith
+
+end-le : (s : List ℕ) (k e : ℕ) → endWhite s k e ≤ e
+unfolding endWhite
+end-le s k zero = omega arith
+end-le s (suc k) (suc e) = let r = end-le s k e in omega arith
+end-le s zero (suc e) = go (whiteTail s (suc e)) (λ k. end-le s k e)
+  where
+    go : (n : ℕ) → ((k : ℕ) → endWhite s k e ≤ e) → orOn n (suc e) (λ k. endWhite s k e) ≤ suc e
+    go zero f = omega arith
+    go (suc k) f = let r = f k in omega arith
+
+pub fromOf-le : (l : List ℕ) → fromOf l ≤ length l
+unfolding fromOf
+fromOf-le l = lead-le 0 l
+
+pub toOf-le : (l : List ℕ) → toOf l ≤ length l
+unfolding toOf
+toOf-le l = end-le l 0 (length l)
+
+pub toEnd-le : (l : List ℕ) → toEnd l ≤ length l
+toEnd-le l =
+    let a = fromOf-le l in
+    let b = toOf-le (drop (fromOf l) l) in
+    let d = length-drop (fromOf l) l in
+    omega arith
+
+-- trimming is the part from the one place to the other
+pub trim-part : (l : List ℕ) → trimOf l ≡ take (toEnd l - fromOf l) (drop (fromOf l) l)
+unfolding trimOf
+trim-part l = let q : toOf (trimStart l) ≡ toEnd l - fromOf l = omega arith in ap (λ (n : ℕ). take n (drop (fromOf l) l)) q

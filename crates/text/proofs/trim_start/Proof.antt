@@ -1,0 +1,34 @@
+use mathlib.Core.Path.{_≡_, refl, sym, ap, _∙_}
+use native.Mathlib.Omega.{arith}
+use lib.ListN.{drop}
+use Rattle.text.proofs.Trims.{fromOf-le, rest-of}
+use borrow.Author.Needs.{needs}
+use Rattle.text.proofs.trim_start.Statement.{statement}
+use Rattle.text.proofs.trim_start.Tie as tie
+use Rattle.text.proofs.trim_start.Reads as reads
+use Rattle.text.proofs.trim_start.Lts as lts
+use Rattle.text.proofs.trim_from.Reads as trim-from-reads
+
+-- src/lib.rt:225:9
+trim-from-requires : tie.Need-trim-from-requires
+trim-from-requires c κs = search needs
+
+-- src/lib.rt:226:5
+sub-result : tie.Need-sub-result
+sub-result c = omega (arith, fromOf-le (c .before .before .args .s .now))
+
+-- src/lib.rt:226:5
+part-result-start : tie.Need-part-result-start
+part-result-start c = omega (arith, fromOf-le (c .before .before .args .s .now))
+
+-- src/lib.rt:226:5
+part-result-end : tie.Need-part-result-end
+part-result-end c = search needs
+
+-- src/lib.rt:222:1
+returns : tie.Need-returns
+returns c = rest-of (c .before .before .before .args .s .now) _ ∙ ap (λ n. drop n (c .before .before .before .args .s .now)) (c .before .trim-from .ensures)
+
+pub trim-start-spec : {M : Type 1} → statement M
+trim-start-spec =
+    tie.close (tie.spec trim-from-requires sub-result part-result-start part-result-end returns)

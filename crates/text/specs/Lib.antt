@@ -1,0 +1,4 @@
+pub mod Class
+pub mod White
+pub mod Utf8Form
+pub mod Trim
