@@ -377,7 +377,7 @@ fn byte(s: &[u8], i: usize) -> u32
 }
 
 // The length of the well-formed sequence at a place, or 0.
-fn seq_at(s: &[u8], i: usize) -> usize
+pub fn seq_at(s: &[u8], i: usize) -> usize
     ensures { λ r. ⌜ r ≡ seqLen (drop i (now (s .entry))) ⌝ }
 {
     if i < s.len() {
