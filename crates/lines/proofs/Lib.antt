@@ -1,3 +1,9 @@
 pub mod Tests
 pub mod LfLaws
+pub mod Compare
 pub mod OutLaws
+pub mod StepLaws
+pub mod Counts
+pub mod JoinLaws
+pub mod ActLaws
+pub mod Examples

@@ -1,12 +1,12 @@
 -- Laws of `Wrote`. Assumes nothing.
-use Prim.Native.Nat.{ℕ, zero, suc, _+_, _-_, _≤_, _<_}
+use Prim.Native.Nat.{ℕ, suc, _+_, _-_, _≤_, _<_}
 use mathlib.Core.Path.{_≡_, refl, sym, ap, _∙_}
 use mathlib.Core.List.{List, [], _∷_, _++_, append-assoc, append-nil}
 use native.Mathlib.Omega.{arith}
 use native.Mathlib.Nat.{add-zero, add-assoc}
 use native.Mathlib.Numerals.{add-one}
 use lib.ListN.{length, take, drop, getD, set, length-append, length-take, length-drop, take-append-drop}
-use lib.Seq.{slice, slice-empty, take-suc, drop-append-le, length-slice, set-split, append-snoc, take-at, drop-at, drop-drop, length-take-le, take-all}
+use lib.Seq.{slice, take-suc, drop-append-le, set-split, append-snoc, take-at, drop-at, drop-drop, length-take-le, take-all}
 use Rattle.lines.specs.Out.{putAt, Wrote}
 
 -- one more element at the end of a part
@@ -83,6 +83,45 @@ wrote-part {d} {xs} {d′} {o} {r} w =
     ap (λ (l : List ℕ). slice o r l) (w .holds) ∙ ap (λ (n : ℕ). slice o n (putAt d o xs)) (w .place)
     ∙ ap (drop o) (take-at (take o d ++ xs) (drop (o + length xs) d) (o + length xs) (length-append (take o d) xs ∙ ap (λ (n : ℕ). n + length xs) e))
     ∙ drop-at (take o d) xs o e
+
+-- what was written says what the buffer is now and where the writing ended
+pub wrote-once : {d xs d₁ d₂ : List ℕ} {o r₁ r₂ : ℕ} → Wrote d o xs d₁ r₁ → Wrote d o xs d₂ r₂ → (d₁ ≡ d₂) × (r₁ ≡ r₂)
+wrote-once w v = (w .holds ∙ sym (v .holds), w .place ∙ sym (v .place))
+
+-- ---- a text that is written bit by bit: of `whole`, from the place a on, `rest` is still to come
+
+pub record Writing (a : ℕ) (whole rest d₀ d : List ℕ) (o : ℕ) : Type 0 where
+  pub room : a + length whole ≤ length d₀
+  pub done : List ℕ
+  pub wrote : Wrote d₀ a done d o
+  pub so-far : done ++ rest ≡ whole
+
+pub writing-start : (a : ℕ) (whole d : List ℕ) → a + length whole ≤ length d → Writing a whole whole d d a
+writing-start a whole d h = record { room = h; done = []; wrote = wrote-nil d a (omega arith); so-far = refl }
+
+-- what is still to come at another name
+pub writing-as : {a o : ℕ} {whole rest d₀ d next : List ℕ} → rest ≡ next → Writing a whole rest d₀ d o → Writing a whole next d₀ d o
+writing-as e w = rw (← e) w
+
+pub writing-length : {a o : ℕ} {whole rest d₀ d : List ℕ} → Writing a whole rest d₀ d o → length d ≡ length d₀
+writing-length w = wrote-length (w .wrote)
+
+-- there is room for what is still to come
+pub writing-room : {a o : ℕ} {whole rest d₀ d : List ℕ} → Writing a whole rest d₀ d o → o + length rest ≤ length d
+writing-room {a} {o} {whole} {rest} {d₀} {d} w =
+    omega (arith, w .room, w .wrote .place, wrote-length (w .wrote), length-append (w .done) rest, ap length (w .so-far))
+
+-- one piece more
+pub writing-put : {a o r : ℕ} {whole xs rest d₀ d d′ : List ℕ} → Writing a whole (xs ++ rest) d₀ d o → Wrote d o xs d′ r → Writing a whole rest d₀ d′ r
+writing-put {a} {o} {r} {whole} {xs} {rest} w v = record {
+  room = w .room;
+  done = w .done ++ xs;
+  wrote = wrote-then (w .wrote) v;
+  so-far = append-assoc (w .done) xs rest ∙ w .so-far;
+}
+
+pub writing-end : {a o : ℕ} {whole d₀ d : List ℕ} → Writing a whole [] d₀ d o → Wrote d₀ a whole d o
+writing-end w = wrote-as (sym (append-nil (w .done)) ∙ w .so-far) (w .wrote)
 
 -- ---- the loop of `put`
 

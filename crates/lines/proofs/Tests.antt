@@ -1,11 +1,11 @@
 -- Laws of the tests that the definitions are made of. Assumes nothing.
-use mathlib.Core.Path.{_≡_, refl, sym, ap, _∙_}
+use mathlib.Core.Path.{_≡_, refl, sym, _∙_}
 use mathlib.Core.Bool.{Bool, true, false, _&&_, _||_}
 use Prim.Native.Nat.{ℕ, _≤_, _<_}
 use mathlib.Core.List.{List, [], _∷_}
 use native.Mathlib.Omega.{arith}
 use lib.Dec.{T, leb, eqb}
-use borrow.Author.Tests.{le-leb, lt-leb, leb-true}
+use borrow.Author.Tests.{le-leb, lt-leb, leb-true, eq-eqb, ne-eqb, eqb-true, eqb-false}
 use Rattle.lines.specs.Lf.{within}
 
 -- what cannot be
@@ -38,6 +38,13 @@ and-right false b h = cc
 
 pub and-both : {a b : Bool} → a ≡ true → b ≡ true → a && b ≡ true
 and-both p q = rw (p, q)
+
+pub eqb-sym : (a b : ℕ) → eqb a b ≡ eqb b a
+eqb-sym a b = go (eqb a b) refl
+  where
+    go : (t : Bool) → eqb a b ≡ t → eqb a b ≡ eqb b a
+    go true e = e ∙ sym (eq-eqb b a (sym (eqb-true a b e)))
+    go false e = e ∙ sym (ne-eqb b a (λ q. eqb-false a b e (sym q)))
 
 -- x is in lo to hi
 pub is-in : (lo hi x : ℕ) → lo ≤ x → x ≤ hi → within lo hi x ≡ true

@@ -46,6 +46,12 @@ same [] (y ∷ l) = false
 same (x ∷ p) [] = false
 same (x ∷ p) (y ∷ l) = eqb x y && same p l
 
+-- p stands somewhere in it
+unfoldable pub holds : List ℕ → List ℕ → Bool
+unfolding prefixed
+holds p [] = prefixed p []
+holds p (x ∷ xs) = prefixed p (x ∷ xs) || holds p xs
+
 -- the last byte is b, where b is not 0
 abbrev pub endsIn : ℕ → List ℕ → Bool
 endsIn b l = eqb (getD l (length l - 1) 0) b

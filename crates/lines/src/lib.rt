@@ -3,7 +3,7 @@ ghost use mathlib.Core.Path.{_≡_};
 ghost use mathlib.Core.List.{[], _∷_};
 ghost use Prim.Native.Nat.{ℕ, min, _≤_, _<_, _+_};
 ghost use lib.ListN.{getD, drop, length};
-ghost use Rattle.lines.specs.Lf.{part, upTo, countOf, prefixed, endsIn, linesOf, unlines};
+ghost use Rattle.lines.specs.Lf.{part, upTo, countOf, prefixed, suffixed, same, holds, endsIn, linesOf, unlines};
 ghost use Rattle.lines.specs.Out.{Wrote};
 ghost use Rattle.lines.specs.Steps.{splitLines, joined, overFrom};
 
@@ -91,6 +91,41 @@ pub fn starts_with(s: &[u8], p: &[u8]) -> bool
     true
 }
 
+// Whether `p` stands at the end.
+pub fn ends_with(s: &[u8], p: &[u8]) -> bool
+    ensures { λ r. ⌜ r ≡ suffixed (now (p .entry)) (now (s .entry)) ⌝ }
+{
+    if s.len() < p.len() {
+        return false;
+    }
+    let a = s.len() - p.len();
+    starts_with(&s[a..], p)
+}
+
+// Whether the two are equal.
+pub fn same(s: &[u8], t: &[u8]) -> bool
+    ensures { λ r. ⌜ r ≡ same (now (s .entry)) (now (t .entry)) ⌝ }
+{
+    if s.len() != t.len() {
+        return false;
+    }
+    starts_with(t, s)
+}
+
+// Whether `p` stands somewhere.
+pub fn contains(s: &[u8], p: &[u8]) -> bool
+    ensures { λ r. ⌜ r ≡ holds (now (p .entry)) (now (s .entry)) ⌝ }
+{
+    let mut i = 0;
+    while i < s.len() {
+        if starts_with(&s[i..], p) {
+            return true;
+        }
+        i += 1;
+    }
+    p.len() == 0
+}
+
 // Writes one byte at `o`, and returns the place after it.
 pub fn put_byte(out: &mut [u8], o: usize, b: u8) -> usize
     requires { ⌜ o < length (now out) ⌝ }
@@ -115,8 +150,117 @@ pub fn put(out: &mut [u8], o: usize, t: &[u8]) -> usize
     p
 }
 
+// Whether the last byte is an LF.
+pub fn ends_lf(text: &[u8]) -> bool
+    ensures { λ r. ⌜ r ≡ endsIn 10 (now (text .entry)) ⌝ }
+{
+    let n = text.len();
+    if n == 0 {
+        return false;
+    }
+    text[n - 1] == 10
+}
+
+// Whether a CR stands at `i`, and an LF just after it.
+fn cr_lf(s: &[u8], i: usize) -> bool
+    ensures { λ r. ⌜ r ≡ prefixed (13 ∷ 10 ∷ []) (drop i (now (s .entry))) ⌝ }
+{
+    if byte_at(s, i) != 13 {
+        return false;
+    }
+    byte_at(s, i + 1) == 10
+}
+
+// Writes the lines of a text, each followed by one LF, and returns the place after them.
+pub fn split_lines(text: &[u8], out: &mut [u8]) -> usize
+    requires { ⌜ length (unlines (splitLines (now text))) ≤ length (now out) ⌝ }
+    ensures { λ r. ⌜ Wrote (now (out .entry)) 0 (unlines (splitLines (now (text .entry)))) (now (out .exit)) r ⌝ }
+{
+    let mut i = 0;
+    let mut o = 0;
+    while i < text.len() {
+        if cr_lf(text, i) {
+            i += 1;
+        } else {
+            o = put_byte(out, o, text[i]);
+            i += 1;
+        }
+    }
+    if ends_lf(text) {
+        return o;
+    }
+    if text.len() == 0 {
+        return o;
+    }
+    put_byte(out, o, 10)
+}
+
+// How many lines a text has.
+pub fn count_lines(text: &[u8]) -> usize
+    ensures { λ r. ⌜ r ≡ length (splitLines (now (text .entry))) ⌝ }
+{
+    let n = count_byte(text, 10);
+    if ends_lf(text) {
+        return n;
+    }
+    if text.len() == 0 {
+        return n;
+    }
+    n + 1
+}
+
 // The first line with more than `most` of some byte.
 pub enum Crowded {
     At(usize),
     Nowhere,
+}
+
+// The first line with more than `most` bytes `[`.
+pub fn crowded_line(text: &[u8], most: usize) -> Crowded
+    ensures { λ r. ⌜ r ≡ overFrom most 91 0 (splitLines (now (text .entry))) ⌝ }
+{
+    let mut n = 0;
+    let mut i = 0;
+    while i < text.len() {
+        let e = find_byte(text, i, 10);
+        if most < count_byte(&text[i..e], b'[') {
+            return Crowded::At(n);
+        }
+        n += 1;
+        i = after(text, e);
+    }
+    Crowded::Nowhere
+}
+
+// How long the lines of `lf` are when joined, the last LF settled.
+pub fn joined_len(lf: &[u8], ended: bool) -> usize
+    ensures { λ r. ⌜ r ≡ length (joined ended (linesOf (now (lf .entry)))) ⌝ }
+{
+    let n = lf.len();
+    if ends_lf(lf) {
+        if ended {
+            if ends_lf(&lf[..n - 1]) {
+                return n - 1;
+            }
+            return n;
+        }
+        return n - 1;
+    }
+    if ended {
+        return n + 1;
+    }
+    n
+}
+
+// Writes the lines of `lf` with an LF between them, the last LF settled, and returns the place after them.
+pub fn join_lines(lf: &[u8], ended: bool, out: &mut [u8]) -> usize
+    requires { ⌜ length (joined ended (linesOf (now lf))) ≤ length (now out) ⌝ }
+    ensures { λ r. ⌜ Wrote (now (out .entry)) 0 (joined ended (linesOf (now (lf .entry)))) (now (out .exit)) r ⌝ }
+{
+    let n = joined_len(lf, ended);
+    if lf.len() < n {
+        let o = put(out, 0, lf);
+        return put_byte(out, o, 10);
+    }
+    put(out, 0, &lf[..n])
 }

@@ -1,3 +1,4 @@
+-- `lines::byte_at` meets its contract. Assumes nothing.
 use borrow.Author.Needs.{needs}
 use mathlib.Core.Path.{sym}
 use lib.ListN.{List·getD-eq-default}
@@ -6,15 +7,12 @@ use Rattle.lines.proofs.byte_at.Tie as tie
 use Rattle.lines.proofs.byte_at.Reads as reads
 use Rattle.lines.proofs.byte_at.Lts as lts
 
--- src/lib.rt:33:16
 shared-slice-read-result : tie.Need-shared-slice-read-result
 shared-slice-read-result c = search needs
 
--- src/lib.rt:33:9
 returns : tie.Need-returns
 returns c = search needs
 
--- src/lib.rt:29:1
 returns-2 : tie.Need-returns-2
 returns-2 c = sym (List·getD-eq-default (c .before .args .s .now) 0 (c .if1 .left))
 

@@ -1,7 +1,8 @@
+-- `lines::count_byte` meets its contract. Assumes nothing.
 use Prim.Native.Nat.{_+_, _-_, _≤_}
 use native.Mathlib.Omega.{arith}
 use native.Mathlib.Nat.{zero-add}
-use mathlib.Core.Path.{_≡_, refl}
+use mathlib.Core.Path.{_≡_}
 use lib.ListN.{length, drop}
 use Rattle.lines.specs.Lf.{countOf}
 use Rattle.lines.proofs.LfLaws.{count-here, count-on, count-end}
@@ -16,43 +17,33 @@ Inv-loop s b n₀ i₀ n i = (n ≤ i) × ((i ≤ length s) × (n + countOf b (d
 abbrev μ-loop : tie.MeasureT-loop
 μ-loop s b n₀ i₀ n i = length s - i
 
--- src/lib.rt:66:5
 loop-holds : tie.Need-loop-holds Inv-loop μ-loop
 loop-holds c = (omega arith, (omega arith, zero-add (countOf (c .args .b) (c .args .s .now))))
 
--- src/lib.rt:67:12
 shared-slice-read-if1 : tie.Need-shared-slice-read-if1 Inv-loop μ-loop
 shared-slice-read-if1 c = omega arith
 
--- src/lib.rt:68:13
 add-n : tie.Need-add-n Inv-loop μ-loop
 add-n c = omega arith
 
--- src/lib.rt:69:13
 add-i : tie.Need-add-i Inv-loop μ-loop
 add-i c = omega arith
 
--- src/lib.rt:66:5
 loop-less : tie.Need-loop-less Inv-loop μ-loop
 loop-less c = omega arith
 
--- src/lib.rt:66:5
 loop-again : tie.Need-loop-again Inv-loop μ-loop
 loop-again c = let a = c .before .before .before .before .args in let l = c .before .before .before .loop in (omega arith, (omega arith, omega (arith, count-here (a .b) (a .s .now) (l .i) (omega arith) (c .if1 .taken), l .inv .1 .1)))
 
--- src/lib.rt:71:13
 add-i-2 : tie.Need-add-i-2 Inv-loop μ-loop
 add-i-2 c = omega arith
 
--- src/lib.rt:66:5
 loop-less-2 : tie.Need-loop-less-2 Inv-loop μ-loop
 loop-less-2 c = omega arith
 
--- src/lib.rt:66:5
 loop-again-2 : tie.Need-loop-again-2 Inv-loop μ-loop
 loop-again-2 c = let a = c .before .before .before .before .args in let l = c .before .before .before .loop in (omega arith, (omega arith, omega (arith, count-on (a .b) (a .s .now) (l .i) (omega arith) (c .if1 .left), l .inv .1 .1)))
 
--- src/lib.rt:61:1
 returns : tie.Need-returns Inv-loop μ-loop
 returns c = let a = c .before .before .args in let l = c .before .loop in omega (arith, count-end (a .b) (a .s .now) (l .i) (c .loop-test .left), l .inv .1 .1)
 

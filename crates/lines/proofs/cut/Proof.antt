@@ -1,5 +1,5 @@
+-- `lines::cut` meets its contract. Assumes nothing.
 use borrow.Author.Needs.{needs}
-use mathlib.Core.Path.{_≡_, refl, sym, ap, _∙_}
 use Rattle.lines.proofs.LfLaws.{part-least}
 use Rattle.lines.proofs.cut.Statement.{statement}
 use Rattle.lines.proofs.cut.Tie as tie
@@ -7,27 +7,21 @@ use Rattle.lines.proofs.cut.Reads as reads
 use Rattle.lines.proofs.cut.Lts as lts
 use Rattle.lines.proofs.least.Reads as least-reads
 
--- src/lib.rt:41:9
 least-requires : tie.Need-least-requires
 least-requires c κs = search needs
 
--- src/lib.rt:42:9
 least-requires-2 : tie.Need-least-requires-2
 least-requires-2 c κs = search needs
 
--- src/lib.rt:43:5
 sub-result : tie.Need-sub-result
 sub-result c = search needs
 
--- src/lib.rt:43:5
 part-result-start : tie.Need-part-result-start
 part-result-start c = search needs
 
--- src/lib.rt:43:5
 part-result-end : tie.Need-part-result-end
 part-result-end c = search needs
 
--- src/lib.rt:38:1
 returns : tie.Need-returns
 returns c = let a = c .before .before .before .before .args in rw (c .before .least2 .ensures, c .before .before .least .ensures) (part-least (a .s .now) (a .a) (a .e))
 

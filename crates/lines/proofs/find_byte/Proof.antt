@@ -1,3 +1,4 @@
+-- `lines::find_byte` meets its contract. Assumes nothing.
 use Prim.Native.Nat.{_+_, _-_, _≤_}
 use native.Mathlib.Omega.{arith}
 use mathlib.Core.Path.{_≡_, refl}
@@ -15,31 +16,24 @@ Inv-loop s i b j₀ j = (i ≤ j) × (j + upTo b (drop j s) ≡ i + upTo b (drop
 abbrev μ-loop : tie.MeasureT-loop
 μ-loop s i b j₀ j = length s - j
 
--- src/lib.rt:19:5
 loop-holds : tie.Need-loop-holds Inv-loop μ-loop
 loop-holds c = (omega arith, refl)
 
--- src/lib.rt:20:12
 shared-slice-read-if1 : tie.Need-shared-slice-read-if1 Inv-loop μ-loop
 shared-slice-read-if1 c = omega arith
 
--- src/lib.rt:21:13
 returns : tie.Need-returns Inv-loop μ-loop
 returns c = let a = c .before .before .before .before .args in omega (arith, find-here (a .b) (a .s .now) (c .before .before .before .loop .j) (c .before .before .loop-test .taken) (c .if1 .taken), c .before .before .before .loop .inv .1)
 
--- src/lib.rt:23:9
 add-j : tie.Need-add-j Inv-loop μ-loop
 add-j c = omega arith
 
--- src/lib.rt:19:5
 loop-less : tie.Need-loop-less Inv-loop μ-loop
 loop-less c = omega arith
 
--- src/lib.rt:19:5
 loop-again : tie.Need-loop-again Inv-loop μ-loop
 loop-again c = let a = c .before .before .before .before .args in (omega arith, omega (arith, find-on (a .b) (a .s .now) (c .before .before .before .loop .j) (c .before .before .loop-test .taken) (c .if1 .left), c .before .before .before .loop .inv .1))
 
--- src/lib.rt:14:1
 returns-2 : tie.Need-returns-2 Inv-loop μ-loop
 returns-2 c = let a = c .before .before .args in omega (arith, find-end (a .b) (a .s .now) (c .before .loop .j) (c .loop-test .left), c .before .loop .inv .1)
 

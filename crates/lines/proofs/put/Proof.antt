@@ -1,4 +1,5 @@
-use Prim.Native.Nat.{_+_, _-_, _≤_}
+-- `lines::put` meets its contract. Assumes nothing.
+use Prim.Native.Nat.{_-_}
 use native.Mathlib.Omega.{arith}
 use lib.ListN.{length}
 use Rattle.lines.proofs.OutLaws.{PutInv, put-start, put-in, put-byte, put-end, wrote-length}
@@ -13,39 +14,30 @@ Inv-loop out₀ o t p₀ j₀ out p j = PutInv t out₀ out o j p
 abbrev μ-loop : tie.MeasureT-loop
 μ-loop out₀ o t p₀ j₀ out p j = length t - j
 
--- src/lib.rt:110:5
 loop-holds : tie.Need-loop-holds Inv-loop μ-loop
 loop-holds c = put-start (c .args .t .now) (c .args .out .now) (c .args .o) (c .pre)
 
--- src/lib.rt:111:18
 shared-slice-read-out : tie.Need-shared-slice-read-out Inv-loop μ-loop
 shared-slice-read-out c = omega arith
 
--- src/lib.rt:111:9
 slice-write-out : tie.Need-slice-write-out Inv-loop μ-loop
 slice-write-out c = put-in (c .before .before .loop .inv) (c .before .loop-test .taken)
 
--- src/lib.rt:112:9
 add-p : tie.Need-add-p Inv-loop μ-loop
 add-p c = let h = put-in (c .before .before .loop .inv) (c .before .loop-test .taken) in omega arith
 
--- src/lib.rt:113:9
 add-j : tie.Need-add-j Inv-loop μ-loop
 add-j c = omega arith
 
--- src/lib.rt:110:5
 loop-less : tie.Need-loop-less Inv-loop μ-loop
 loop-less c = omega arith
 
--- src/lib.rt:110:5
 loop-again : tie.Need-loop-again Inv-loop μ-loop
 loop-again c = put-byte (c .before .before .loop .inv) (c .before .loop-test .taken)
 
--- src/lib.rt:104:1
 same-length : tie.Need-same-length Inv-loop μ-loop
 same-length c = wrote-length (c .before .loop .inv .wrote)
 
--- src/lib.rt:104:1
 returns : tie.Need-returns Inv-loop μ-loop
 returns c = put-end (c .before .loop .inv) (c .loop-test .left)
 

@@ -1,6 +1,6 @@
--- `names::starts_with` meets its contract. Assumes nothing.
+-- `lines::starts_with` meets its contract. Assumes nothing.
 use mathlib.Core.Path.{_≡_, refl, sym, ap, _∙_}
-use Prim.Native.Nat.{_-_, _≤_, _<_, _+_}
+use Prim.Native.Nat.{_-_, _≤_}
 use native.Mathlib.Omega.{arith}
 use lib.ListN.{length, drop, drop-of-length-le}
 use Rattle.lines.specs.Lf.{prefixed}
@@ -16,39 +16,30 @@ Inv-loop s p i₀ i = (i ≤ length p) × (prefixed (drop i p) (drop i s) ≡ pr
 abbrev μ-loop : tie.MeasureT-loop
 μ-loop s p i₀ i = length p - i
 
--- src/lib.rt:14:9
 returns : tie.Need-returns Inv-loop μ-loop
 returns c = sym (short _ _ (c .if1 .taken))
 
--- src/lib.rt:17:5
 loop-holds : tie.Need-loop-holds Inv-loop μ-loop
 loop-holds c = (omega arith, refl)
 
--- src/lib.rt:18:12
 shared-slice-read-if2 : tie.Need-shared-slice-read-if2 Inv-loop μ-loop
 shared-slice-read-if2 c = omega arith
 
--- src/lib.rt:18:20
 shared-slice-read-if2-2 : tie.Need-shared-slice-read-if2-2 Inv-loop μ-loop
 shared-slice-read-if2-2 c = omega arith
 
--- src/lib.rt:19:13
 returns-2 : tie.Need-returns-2 Inv-loop μ-loop
 returns-2 c = sym (differ-at _ _ _ (c .before .before .before .loop-test .taken) (omega arith) (c .if2 .taken)) ∙ c .before .before .before .before .loop .inv .1
 
--- src/lib.rt:21:9
 add-i : tie.Need-add-i Inv-loop μ-loop
 add-i c = omega arith
 
--- src/lib.rt:17:5
 loop-less : tie.Need-loop-less Inv-loop μ-loop
 loop-less c = omega arith
 
--- src/lib.rt:17:5
 loop-again : tie.Need-loop-again Inv-loop μ-loop
 loop-again c = (omega arith, sym (same-at _ _ _ (c .before .before .before .loop-test .taken) (omega arith) (c .if2 .left)) ∙ c .before .before .before .before .loop .inv .1)
 
--- src/lib.rt:10:1
 returns-3 : tie.Need-returns-3 Inv-loop μ-loop
 unfolding prefixed
 returns-3 c = sym (ap (λ l. prefixed l (drop (c .before .loop .i) (c .before .before .before .args .s .now))) (drop-of-length-le (c .before .before .before .args .p .now) (c .loop-test .left))) ∙ c .before .loop .inv .1

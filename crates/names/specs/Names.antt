@@ -1,0 +1,128 @@
+-- The names of registers, phis and temps. Assumes nothing.
+use Prim.Native.Nat.{ℕ, zero, suc, _+_, _-_, _*_, _/_, _%_, _^_}
+use mathlib.Core.Bool.{Bool, true, false, cond, not, _&&_}
+use mathlib.Core.List.{List, [], _∷_, _++_}
+use lib.ListN.{length, drop}
+use lib.Dec.{eqb, ltb}
+use Rattle.lines.specs.Lf.{within, prefixed}
+use Rattle.text.specs.Class.{isName}
+use Rattle.names.specs.declared.Number.{Number}
+use Rattle.names.specs.declared.Number.the-variants as number
+use Rattle.names.specs.declared.RegName.{RegName}
+use Rattle.names.specs.declared.RegName.the-variants as reg
+use Rattle.names.specs.declared.PhiName.{PhiName}
+use Rattle.names.specs.declared.PhiName.the-variants as phi
+
+-- ---- numbers
+
+-- `0` to `9`
+abbrev pub isDigit : ℕ → Bool
+isDigit d = within 48 57 d
+
+-- every byte passes a test
+abbrev pub allBy : (ℕ → Bool) → List ℕ → Bool
+allBy f [] = true
+allBy f (x ∷ xs) = f x && allBy f xs
+
+-- digits alone
+abbrev pub allDigits : List ℕ → Bool
+allDigits ds = allBy (λ (d : ℕ). isDigit d) ds
+
+-- the decimal value of digits, after digits of the value v
+abbrev pub value : ℕ → List ℕ → ℕ
+value v [] = v
+value v (d ∷ ds) = value (v * 10 + (d - 48)) ds
+
+-- digits alone, after digits of the value v, whose value fits 64 bits
+unfoldable pub numbered : ℕ → List ℕ → Number
+numbered v ds = cond (allDigits ds && ltb (value v ds) (2 ^ 64)) (number.Of (value v ds)) number.None
+
+-- `n.parse()`: one or more digits whose value fits 64 bits; leading zeros do not count
+unfoldable pub numberOf : List ℕ → Number
+unfolding numbered
+numberOf [] = number.None
+numberOf (d ∷ ds) = numbered 0 (d ∷ ds)
+
+-- how many zeros lead, of digits; the last digit is not counted
+unfoldable pub zeros : List ℕ → ℕ
+zeros [] = 0
+zeros (x ∷ []) = 0
+zeros (x ∷ d ∷ ds) = cond (eqb x 48) (suc (zeros (d ∷ ds))) 0
+
+-- the decimal digits of a number below 10 to the k + 1, without leading zeros
+unfoldable pub decimalBy : ℕ → ℕ → List ℕ
+decimalBy zero n = (48 + n) ∷ []
+decimalBy (suc k) n = cond (ltb n 10) ((48 + n) ∷ []) (decimalBy k (n / 10) ++ ((48 + n % 10) ∷ []))
+
+-- `{n}`: a number of 64 bits as it is printed
+unfoldable pub decimal : ℕ → List ℕ
+unfolding decimalBy
+decimal n = decimalBy 19 n
+
+-- ---- names
+
+-- `r`
+abbrev pub regWord : List ℕ
+regWord = 114 ∷ []
+
+-- `phi`
+abbrev pub phiWord : List ℕ
+phiWord = 112 ∷ 104 ∷ 105 ∷ []
+
+-- `t`
+abbrev pub tempWord : List ℕ
+tempWord = 116 ∷ []
+
+-- the number that follows a word, where the word stands in front
+unfoldable pub numberAfter : List ℕ → List ℕ → Number
+unfolding numberOf prefixed
+numberAfter p s = cond (prefixed p s) (numberOf (drop (length p) s)) number.None
+
+-- the register, the phi, of a number
+abbrev pub regBy : Number → RegName
+regBy (number.Of n) = reg.Reg (record { 0 = n })
+regBy number.None = reg.None
+
+abbrev pub phiBy : Number → PhiName
+phiBy (number.Of n) = phi.Phi (record { 0 = n })
+phiBy number.None = phi.None
+
+-- `reg_name`: the register that a text names, `r` and its number
+unfoldable pub regOf : List ℕ → RegName
+unfolding numberOf prefixed
+regOf s = cond (prefixed regWord s) (regBy (numberOf (drop 1 s))) reg.None
+
+-- `phi_name`: the phi that a text names, `phi` and its number
+unfoldable pub phiOf : List ℕ → PhiName
+unfolding numberOf prefixed
+phiOf s = cond (prefixed phiWord s) (phiBy (numberOf (drop 3 s))) phi.None
+
+-- `is_temp_name`: `t` and one or more digits
+unfoldable pub isTemp : List ℕ → Bool
+unfolding prefixed
+isTemp s = prefixed tempWord s && (ltb 1 (length s) && allDigits (drop 1 s))
+
+-- `r{v}` and `phi{v}`: a register and a phi as they are printed and looked for
+abbrev pub regText : ℕ → List ℕ
+regText v = regWord ++ decimal v
+
+abbrev pub phiText : ℕ → List ℕ
+phiText v = phiWord ++ decimal v
+
+-- a name is that of register v, or of phi v
+abbrev pub regIs : ℕ → RegName → Bool
+regIs v reg.None = false
+regIs v (reg.Reg q) = eqb (q .0) v
+
+abbrev pub phiIs : ℕ → PhiName → Bool
+phiIs v phi.None = false
+phiIs v (phi.Phi q) = eqb (q .0) v
+
+-- name bytes alone
+abbrev pub allNames : List ℕ → Bool
+allNames l = allBy (λ (x : ℕ). isName x) l
+
+-- `is_simple_ident`: a letter, `_` or `$`, then name bytes
+unfoldable pub isIdent : List ℕ → Bool
+isIdent [] = false
+isIdent (x ∷ xs) = (isName x && not (isDigit x)) && allNames xs

@@ -1,0 +1,65 @@
+-- Reading a line: a declaration, a store with its register and value, or other. Assumes nothing.
+use Prim.Native.Nat.{ℕ, zero, suc, _+_, _-_}
+use mathlib.Core.Bool.{Bool, true, false, cond, not, _&&_, _||_}
+use mathlib.Core.List.{List, [], _∷_, _++_}
+use lib.ListN.{length, take, drop, getD}
+use lib.Dec.{eqb, ltb}
+use Rattle.lines.specs.Lf.{part, upTo, partsOf, prefixed, endsIn}
+use Rattle.text.specs.Trim.{fromOf, toEnd, trimOf}
+use Rattle.names.specs.Names.{regOf}
+use Rattle.names.specs.declared.RegName.{RegName}
+use Rattle.names.specs.declared.RegName.the-variants as name
+use Rattle.parse.specs.declared.Store.{Store}
+use Rattle.parse.specs.declared.Line.{Line}
+use Rattle.parse.specs.declared.Line.the-variants as line
+
+-- ---- a declaration: `let `, names split at commas and trimmed, every one a register, then `;`
+
+-- `let `
+abbrev pub letWord : List ℕ
+letWord = 108 ∷ 101 ∷ 116 ∷ 32 ∷ []
+
+-- what stands between `let ` and `;`
+abbrev pub bodyOf : List ℕ → List ℕ
+bodyOf t = part 4 (length t - 1) t
+
+abbrev pub isReg : RegName → Bool
+isReg (name.Reg q) = true
+isReg name.None = false
+
+-- each piece, trimmed, names a register
+unfoldable pub allRegs : List (List ℕ) → Bool
+allRegs [] = true
+allRegs (p ∷ ps) = isReg (regOf (trimOf p)) && allRegs ps
+
+-- a trimmed line is a declaration
+unfoldable pub isDecl : List ℕ → Bool
+isDecl t = ltb 4 (length t) && (prefixed letWord t && (endsIn 59 t && allRegs (partsOf 44 (bodyOf t))))
+
+-- ---- a store: ends in `;`; split at the first `=`; the left side trimmed is a register; the right side does not start with `=`
+
+-- a store of the register that the left side names, where it names one; the right side begins at the place b.
+-- (That the left side is not empty and does not end in `!`, `<`, `>` or `=`, which the Rust tests too, follows from its being a register.)
+abbrev pub storeBy : RegName → ℕ → List ℕ → Line
+storeBy name.None b rhs = line.Other
+storeBy (name.Reg q) b rhs = line.Store (record { reg = q; from = b + fromOf rhs; to = b + toEnd rhs })
+
+-- without the last byte, split at the first `=`, of a text that begins at the place a
+abbrev pub splitStore : ℕ → List ℕ → Line
+splitStore a u =
+    cond (ltb (upTo 61 u) (length u) && not (eqb (getD u (upTo 61 u + 1) 0) 61))
+    (storeBy (regOf (trimOf (take (upTo 61 u) u))) (a + (upTo 61 u + 1)) (drop (upTo 61 u + 1) u)) line.Other
+
+-- a trimmed line that is no declaration, and begins at the place a
+unfoldable pub storeIn : ℕ → List ℕ → Line
+storeIn a t = cond (endsIn 59 t) (splitStore a (take (length t - 1) t)) line.Other
+
+-- `parse`
+unfoldable pub parseOf : List ℕ → Line
+parseOf l = cond (isDecl (trimOf l)) line.Decl (storeIn (fromOf l) (trimOf l))
+
+-- `Line::text`: the expression of a line, which is what it reads; a declaration has none
+unfoldable pub textOf : List ℕ → Line → List ℕ
+textOf l line.Decl = []
+textOf l (line.Store s) = part (s .from) (s .to) l
+textOf l line.Other = l
