@@ -1,0 +1,1 @@
+// The weight of a text, which no pass raises: theorems alone.
