@@ -1,0 +1,3 @@
+pub mod Fix
+pub mod Comments
+pub mod Pure

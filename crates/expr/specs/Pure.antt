@@ -1,0 +1,154 @@
+-- `purity`: how freely a value may be moved. Only ASCII white space is trimmed here. Assumes nothing.
+use Prim.Native.Nat.{ℕ, _+_, _-_}
+use mathlib.Core.Bool.{Bool, true, false, cond, _&&_, _||_}
+use mathlib.Core.List.{List, [], _∷_, _++_}
+use lib.ListN.{length, getD}
+use lib.Dec.{eqb, leb}
+use Rattle.lines.specs.Lf.{within, among, part, same}
+use Rattle.names.specs.Names.{isDigit, regOf, isIdent}
+use Rattle.names.specs.declared.RegName.{RegName}
+use Rattle.names.specs.declared.RegName.the-variants as name
+use Rattle.expr.specs.Fix.{fix}
+use Rattle.expr.specs.Comments.{stripComments}
+use Rattle.expr.specs.declared.kinds.Shape.{Shape}
+use Rattle.expr.specs.declared.kinds.Shape.the-variants.{Plain, Array}
+use Rattle.expr.specs.declared.kinds.Purity.{Purity}
+use Rattle.expr.specs.declared.kinds.Purity.the-variants.{Stable, Ident, Effectful}
+
+-- ---- white space of ASCII
+
+-- tab to carriage return, and the space
+abbrev pub isSpace : ℕ → Bool
+isSpace b = within 9 13 b || eqb b 32
+
+-- a test passes at every element
+abbrev pub all : {A : Type 0} → (A → Bool) → List A → Bool
+all f [] = true
+all f (a ∷ s) = f a && all f s
+
+-- without the white space at the front
+unfoldable pub spaceStart : List ℕ → List ℕ
+spaceStart [] = []
+spaceStart (a ∷ s) = cond (isSpace a) (spaceStart s) (a ∷ s)
+
+-- a and then s, but nothing where that is white space alone
+abbrev pub unlessBlank : ℕ → List ℕ → List ℕ
+unlessBlank a [] = cond (isSpace a) [] (a ∷ [])
+unlessBlank a (b ∷ s) = a ∷ b ∷ s
+
+-- without the white space at the end
+unfoldable pub spaceEnd : List ℕ → List ℕ
+spaceEnd [] = []
+spaceEnd (a ∷ s) = unlessBlank a (spaceEnd s)
+
+-- `trim` of the widened text
+unfoldable pub spaceTrim : List ℕ → List ℕ
+unfolding spaceStart spaceEnd
+spaceTrim s = spaceEnd (spaceStart s)
+
+-- ---- the tests, in the order of the Rust
+
+-- no byte
+abbrev pub isEmpty : List ℕ → Bool
+isEmpty [] = true
+isEmpty (a ∷ s) = false
+
+-- the name of a register
+abbrev pub namesReg : RegName → Bool
+namesReg (name.Reg q) = true
+namesReg name.None = false
+
+-- undefined null true false NaN Infinity
+abbrev pub isWord : List ℕ → Bool
+isWord t =
+    same t (117 ∷ 110 ∷ 100 ∷ 101 ∷ 102 ∷ 105 ∷ 110 ∷ 101 ∷ 100 ∷ [])
+    || (same t (110 ∷ 117 ∷ 108 ∷ 108 ∷ [])
+    || (same t (116 ∷ 114 ∷ 117 ∷ 101 ∷ [])
+    || (same t (102 ∷ 97 ∷ 108 ∷ 115 ∷ 101 ∷ [])
+    || (same t (78 ∷ 97 ∷ 78 ∷ []) || same t (73 ∷ 110 ∷ 102 ∷ 105 ∷ 110 ∷ 105 ∷ 116 ∷ 121 ∷ [])))))
+
+-- a digit first, or `-` and a digit
+abbrev pub startsNumber : List ℕ → Bool
+startsNumber t = isDigit (getD t 0 0) || (eqb (getD t 0 0) 45 && isDigit (getD t 1 0))
+
+-- digits . - + e x _
+abbrev pub isNumberByte : ℕ → Bool
+isNumberByte b = isDigit b || among (46 ∷ 45 ∷ 43 ∷ 101 ∷ 120 ∷ 95 ∷ []) b
+
+-- x first and y last, in two bytes or more
+unfoldable pub wrapped : ℕ → ℕ → List ℕ → Bool
+wrapped x y t = leb 2 (length t) && (eqb (getD t 0 0) x && eqb (getD t (length t - 1) 0) y)
+
+-- in `"` or in `'`: only the first byte and the last are looked at
+abbrev pub isQuoted : List ℕ → Bool
+isQuoted t = wrapped 34 34 t || wrapped 39 39 t
+
+-- what a trimmed text is: an array, or something whose purity does not hang on its parts
+unfoldable pub shapeOf : List ℕ → Shape
+shapeOf t =
+    cond (isEmpty t) (Plain Effectful)
+    (cond (namesReg (regOf t)) (Plain Stable)
+    (cond (isWord t) (Plain Stable)
+    (cond (startsNumber t) (cond (all isNumberByte t) (Plain Stable) (Plain Effectful))
+    (cond (isQuoted t) (Plain Stable)
+    (cond (wrapped 91 93 t) Array
+    (cond (isIdent t) (Plain Ident)
+    (Plain Effectful)))))))
+
+-- ---- arrays
+
+-- what stands between the first byte and the last
+abbrev pub inner : List ℕ → List ℕ
+inner t = part 1 (length t - 1) t
+
+-- brackets that open, and that close; the depth may go below 0, so the two are counted apart
+unfoldable pub opens : ℕ → ℕ
+opens b = cond (among (40 ∷ 91 ∷ 123 ∷ []) b) 1 0
+
+unfoldable pub closes : ℕ → ℕ
+closes b = cond (among (41 ∷ 93 ∷ 125 ∷ []) b) 1 0
+
+-- the elements of an array, cut at each comma at depth 0; `now` is what has been read of the present one, o brackets have been opened
+-- and c closed. A last one that is white space alone is left out
+unfoldable pub elements : List ℕ → List ℕ → ℕ → ℕ → List (List ℕ)
+unfolding opens closes
+elements [] now o c = cond (all isSpace now) [] (now ∷ [])
+elements (a ∷ s) now o c =
+    let ended = now ∷ elements s [] o c in
+    let longer = elements s (now ++ (a ∷ [])) (o + opens a) (c + closes a) in
+    cond (eqb a 44 && eqb o c) ended longer
+
+-- `pure_expr`
+abbrev pub isPure : Purity → Bool
+isPure Stable = true
+isPure Ident = true
+isPure Effectful = false
+
+-- each element is pure by the judgement f
+unfoldable pub pureBy : (List ℕ → Purity) → List ℕ → Bool
+unfolding elements
+pureBy f s = all (λ (e : List ℕ). isPure (f e)) (elements s [] 0 0)
+
+-- the purity of a trimmed text of that shape, where f judges an array's elements
+unfoldable pub judge : (List ℕ → Purity) → List ℕ → Shape → Purity
+unfolding pureBy
+judge f t (Plain p) = p
+judge f t Array = cond (pureBy f (inner t)) Stable Effectful
+
+-- ---- the whole
+
+-- white space is trimmed; the purity of an array asks for its elements, and each element asks for purity again
+abbrev pub cutRule : (List ℕ → Purity) → List ℕ → Purity
+cutRule f s = judge f (spaceTrim s) (shapeOf (spaceTrim s))
+
+-- the same, where comments are cut before: at each level anew, as in the Rust
+abbrev pub purityRule : (List ℕ → Purity) → List ℕ → Purity
+purityRule f s = cutRule f (stripComments s)
+
+-- `purity`
+unfoldable pub purityOf : List ℕ → Purity
+purityOf = fix purityRule Effectful length
+
+-- the purity of a text that is cut already, where no level looks for comments
+unfoldable pub purityCut : List ℕ → Purity
+purityCut = fix cutRule Effectful length

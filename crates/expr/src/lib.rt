@@ -1,0 +1,309 @@
+// What a value's text says of its effects, once its comments are cut.
+pub mod kinds;
+
+use kinds::Purity;
+use kinds::Shape;
+ghost use mathlib.Core.Path.{_≡_};
+ghost use mathlib.Core.List.{[], _∷_};
+ghost use Prim.Native.Nat.{_≤_, _+_};
+ghost use lib.ListN.{length, take, drop};
+ghost use Rattle.lines.specs.Lf.{prefixed};
+ghost use Rattle.lines.specs.Out.{putAt, Wrote};
+ghost use Rattle.names.specs.Names.{isDigit, regOf};
+ghost use Rattle.expr.specs.Comments.{stripComments};
+ghost use Rattle.expr.specs.Pure.{isSpace, all, spaceStart, spaceEnd, spaceTrim, namesReg, isWord, startsNumber, isNumberByte, wrapped, isQuoted, shapeOf, opens, closes, isPure, pureBy, purityOf, purityCut};
+
+// Whether the bytes `x` and `y` stand at `i` and just after it.
+fn two_at(s: &[u8], i: usize, x: u8, y: u8) -> bool
+    ensures { λ r. ⌜ r ≡ prefixed (x ∷ y ∷ []) (drop i (now (s .entry))) ⌝ }
+{
+    if s.len() <= i {
+        return false;
+    }
+    let j = i + 1;
+    if s.len() <= j {
+        return false;
+    }
+    (x == s[i]) & (y == s[j])
+}
+
+// Writes `s` without its comments at `o`, and returns the place after it.
+pub fn strip_comments(s: &[u8], out: &mut [u8], o: usize) -> usize
+    requires { ⌜ o + length (stripComments (now s)) ≤ length (now out) ⌝ }
+    ensures { λ r. ⌜ Wrote (now (out .entry)) o (stripComments (now (s .entry))) (now (out .exit)) r ⌝ }
+{
+    let mut i = 0;
+    let mut n = o;
+    let mut inside = false;
+    while i < s.len() {
+        if inside {
+            if two_at(s, i, b'*', b'/') {
+                out[n] = b' ';
+                n += 1;
+                i += 2;
+                inside = false;
+            } else {
+                i += 1;
+            }
+        } else if two_at(s, i, b'/', b'*') {
+            i += 2;
+            inside = true;
+        } else if two_at(s, i, b'/', b'/') {
+            return n;
+        } else {
+            out[n] = s[i];
+            n += 1;
+            i += 1;
+        }
+    }
+    n
+}
+
+// Whether a byte is white space of ASCII.
+fn is_space(b: u8) -> bool
+    ensures { λ r. ⌜ r ≡ isSpace b ⌝ }
+{
+    ((9 <= b) & (b <= 13)) | (b == b' ')
+}
+
+// Where `s` begins, past the white space at its front.
+fn space_from(s: &[u8]) -> usize
+    ensures { λ r. ⌜ (r ≤ length (now (s .entry))) × (drop r (now (s .entry)) ≡ spaceStart (now (s .entry))) ⌝ }
+{
+    let mut i = 0;
+    while i < s.len() {
+        if !is_space(s[i]) {
+            return i;
+        }
+        i += 1;
+    }
+    i
+}
+
+// Where `s` ends, before the white space at its end.
+fn space_to(s: &[u8]) -> usize
+    ensures { λ r. ⌜ (r ≤ length (now (s .entry))) × (take r (now (s .entry)) ≡ spaceEnd (now (s .entry))) ⌝ }
+{
+    let mut n = s.len();
+    while 0 < n {
+        if !is_space(s[n - 1]) {
+            return n;
+        }
+        n -= 1;
+    }
+    n
+}
+
+// `s` without the white space of ASCII around it.
+fn space_trim(s: &[u8]) -> &[u8]
+    ensures { λ r. ⌜ now r ≡ spaceTrim (now (s .entry)) ⌝ }
+{
+    let a = space_from(s);
+    let u = &s[a..];
+    let e = space_to(u);
+    &u[..e]
+}
+
+// Whether `s` is white space of ASCII alone.
+fn is_blank(s: &[u8]) -> bool
+    ensures { λ r. ⌜ r ≡ all isSpace (now (s .entry)) ⌝ }
+{
+    space_from(s) == s.len()
+}
+
+// Whether a text names a register.
+fn is_register(t: &[u8]) -> bool
+    ensures { λ r. ⌜ r ≡ namesReg (regOf (now (t .entry))) ⌝ }
+{
+    match names::reg_name(t) {
+        names::RegName::Reg(_) => true,
+        names::RegName::None => false,
+    }
+}
+
+// Whether a text is one of the six words of a fixed value.
+fn is_word(t: &[u8]) -> bool
+    ensures { λ r. ⌜ r ≡ isWord (now (t .entry)) ⌝ }
+{
+    lines::same(t, b"undefined")
+        | (lines::same(t, b"null")
+            | (lines::same(t, b"true")
+                | (lines::same(t, b"false")
+                    | (lines::same(t, b"NaN") | lines::same(t, b"Infinity")))))
+}
+
+// Whether a byte is a digit.
+fn is_digit(b: u8) -> bool
+    ensures { λ r. ⌜ r ≡ isDigit b ⌝ }
+{
+    (b'0' <= b) & (b <= b'9')
+}
+
+// Whether a text begins as a number does.
+fn starts_number(t: &[u8]) -> bool
+    ensures { λ r. ⌜ r ≡ startsNumber (now (t .entry)) ⌝ }
+{
+    is_digit(lines::byte_at(t, 0))
+        | ((lines::byte_at(t, 0) == b'-') & is_digit(lines::byte_at(t, 1)))
+}
+
+// Whether a byte may stand in a number.
+fn is_number_byte(b: u8) -> bool
+    ensures { λ r. ⌜ r ≡ isNumberByte b ⌝ }
+{
+    ((b'0' <= b) & (b <= b'9'))
+        | ((b == b'.')
+            | ((b == b'-') | ((b == b'+') | ((b == b'e') | ((b == b'x') | (b == b'_'))))))
+}
+
+// Whether every byte may stand in a number.
+fn all_number(s: &[u8]) -> bool
+    ensures { λ r. ⌜ r ≡ all isNumberByte (now (s .entry)) ⌝ }
+{
+    let mut i = 0;
+    while i < s.len() {
+        if !is_number_byte(s[i]) {
+            return false;
+        }
+        i += 1;
+    }
+    true
+}
+
+// Whether a text has two bytes or more, `x` first and `y` last.
+fn wrapped(t: &[u8], x: u8, y: u8) -> bool
+    ensures { λ r. ⌜ r ≡ wrapped x y (now (t .entry)) ⌝ }
+{
+    let n = t.len();
+    if n < 2 {
+        return false;
+    }
+    (t[0] == x) & (t[n - 1] == y)
+}
+
+// Whether a text begins and ends with one quote. What stands between is not looked at.
+fn is_quoted(t: &[u8]) -> bool
+    ensures { λ r. ⌜ r ≡ isQuoted (now (t .entry)) ⌝ }
+{
+    wrapped(t, b'"', b'"') | wrapped(t, b'\'', b'\'')
+}
+
+// What a trimmed text is: an array, or something whose purity does not hang on its parts.
+fn shape(t: &[u8]) -> Shape
+    ensures { λ r. ⌜ r ≡ shapeOf (now (t .entry)) ⌝ }
+{
+    if t.len() == 0 {
+        return Shape::Plain(Purity::Effectful);
+    }
+    if is_register(t) {
+        return Shape::Plain(Purity::Stable);
+    }
+    if is_word(t) {
+        return Shape::Plain(Purity::Stable);
+    }
+    if starts_number(t) {
+        if all_number(t) {
+            return Shape::Plain(Purity::Stable);
+        }
+        return Shape::Plain(Purity::Effectful);
+    }
+    if is_quoted(t) {
+        return Shape::Plain(Purity::Stable);
+    }
+    if wrapped(t, b'[', b']') {
+        return Shape::Array;
+    }
+    if names::is_simple_ident(t) {
+        return Shape::Plain(Purity::Ident);
+    }
+    Shape::Plain(Purity::Effectful)
+}
+
+// 1 for a bracket that opens, else 0.
+fn opens(b: u8) -> usize
+    ensures { λ r. ⌜ r ≡ opens b ⌝ }
+{
+    if (b == b'(') | ((b == b'[') | (b == b'{')) {
+        return 1;
+    }
+    0
+}
+
+// 1 for a bracket that closes, else 0.
+fn closes(b: u8) -> usize
+    ensures { λ r. ⌜ r ≡ closes b ⌝ }
+{
+    if (b == b')') | ((b == b']') | (b == b'}')) {
+        return 1;
+    }
+    0
+}
+
+// Whether a value of that purity has no effects.
+pub fn is_pure(p: Purity) -> bool
+    ensures { λ r. ⌜ r ≡ isPure p ⌝ }
+{
+    match p {
+        Purity::Stable => true,
+        Purity::Ident => true,
+        Purity::Effectful => false,
+    }
+}
+
+// Whether each element of an array is pure, `s` being what stands between its brackets.
+fn elements(s: &[u8]) -> bool
+    ensures { λ r. ⌜ r ≡ pureBy purityCut (now (s .entry)) ⌝ }
+{
+    let mut start = 0;
+    let mut i = 0;
+    let mut opened = 0;
+    let mut closed = 0;
+    while i < s.len() {
+        let b = s[i];
+        if (b == b',') & (opened == closed) {
+            if !is_pure(purity_cut(&s[start..i])) {
+                return false;
+            }
+            i += 1;
+            start = i;
+        } else {
+            opened += opens(b);
+            closed += closes(b);
+            i += 1;
+        }
+    }
+    let last = &s[start..];
+    if is_blank(last) {
+        return true;
+    }
+    is_pure(purity_cut(last))
+}
+
+// The purity of a text whose comments are cut.
+fn purity_cut(s: &[u8]) -> Purity
+    ensures { λ r. ⌜ r ≡ purityCut (now (s .entry)) ⌝ }
+{
+    let t = space_trim(s);
+    let k = shape(t);
+    match k {
+        Shape::Plain(p) => p,
+        Shape::Array => {
+            let m = t.len() - 1;
+            if elements(&t[1..m]) {
+                Purity::Stable
+            } else {
+                Purity::Effectful
+            }
+        }
+    }
+}
+
+// The purity of a value. The text without its comments is left in `scratch`.
+pub fn purity(s: &[u8], scratch: &mut [u8]) -> Purity
+    requires { ⌜ length (stripComments (now s)) ≤ length (now scratch) ⌝ }
+    ensures answer { λ r. ⌜ r ≡ purityOf (now (s .entry)) ⌝ }
+    ensures memory { λ _. ⌜ now (scratch .exit) ≡ putAt (now (scratch .entry)) 0 (stripComments (now (s .entry))) ⌝ }
+{
+    let n = strip_comments(s, scratch, 0);
+    purity_cut(&scratch[..n])
+}
