@@ -120,6 +120,9 @@ decimal-by : (n : ℕ) → decimal n ≡ decimalBy 19 n
 unfolding decimal
 decimal-by n = refl
 
+pub decimal-long : (v : ℕ) → 0 < length (decimal v)
+decimal-long v = rw (decimal-by v) (decimal-some 19 v)
+
 pub decimal-zeros : (v : ℕ) → zeros (decimal v) ≡ 0
 decimal-zeros v = ap zeros (decimal-by v) ∙ decimal-bare 19 v
 

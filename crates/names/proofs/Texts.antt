@@ -9,7 +9,7 @@ use lib.Dec.{ltb}
 use lib.ListN.{length, drop, getD}
 use lib.Seq.{drop-drop, drop-append-seam}
 use Rattle.lines.specs.Lf.{prefixed, same}
-use Rattle.lines.proofs.Tests.{and-true, and-left, and-right}
+use Rattle.lines.proofs.Tests.{no, and-true, and-left, and-right, and-both}
 use Rattle.text.specs.Class.{isName}
 use Rattle.names.specs.declared.Register.{Register}
 use Rattle.names.specs.declared.Phi.{Phi}
@@ -156,3 +156,11 @@ pub ident-rest : (s : List ℕ) → (length s ≡ 0 → ⊥) → isDigit (getD s
 unfolding isIdent
 ident-rest [] n h = absurd (n refl)
 ident-rest (x ∷ xs) n h = ap (λ (b : Bool). (isName x && not b) && allNames xs) h ∙ ap (λ (b : Bool). b && allNames xs) (and-true (isName x))
+
+-- a simple name is of name bytes
+pub ident-names : (s : List ℕ) → isIdent s ≡ true → allNames s ≡ true
+unfolding isIdent
+ident-names [] h = no h
+ident-names (x ∷ xs) h =
+    let a = and-left (isName x && not (isDigit x)) (allNames xs) h in
+    and-both (and-left (isName x) (not (isDigit x)) a) (and-right (isName x && not (isDigit x)) (allNames xs) h)

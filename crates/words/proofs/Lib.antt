@@ -1,0 +1,4 @@
+pub mod RunLaws
+pub mod HitLaws
+pub mod Places
+pub mod Glue

@@ -1,0 +1,77 @@
+use Prim.Native.Nat.{ℕ, _-_}
+use mathlib.Core.List.{List}
+use native.Mathlib.Omega.{arith}
+use borrow.Author.Needs.{needs}
+use lib.ListN.{length}
+use Rattle.lines.specs.Lf.{same}
+use Rattle.words.proofs.RunLaws.{CountInv, count-start, count-small, count-less, count-next, count-end}
+use Rattle.words.proofs.count_word.Statement.{statement}
+use Rattle.words.proofs.count_word.Tie as tie
+
+abbrev Inv-loop : tie.InvT-loop
+Inv-loop s p n₀ i₀ n i = CountInv (λ (r : List ℕ). same r p) s n i
+
+abbrev μ-loop : tie.MeasureT-loop
+μ-loop s p n₀ i₀ n i = length s - i
+
+run-start-requires : tie.Need-run-start-requires Inv-loop μ-loop
+run-start-requires c κs = search needs
+
+loop-holds : tie.Need-loop-holds Inv-loop μ-loop
+loop-holds c = let a = c .before .before .before .args in count-start (λ (r : List ℕ). same r (a .p .now)) (a .s .now) (c .run-start .result) (c .run-start .ensures)
+
+run-end-requires : tie.Need-run-end-requires Inv-loop μ-loop
+run-end-requires c κs = search needs
+
+cut-requires : tie.Need-cut-requires Inv-loop μ-loop
+cut-requires c κs = search needs
+
+same-requires : tie.Need-same-requires Inv-loop μ-loop
+same-requires c κs = search needs
+
+one-if-requires : tie.Need-one-if-requires Inv-loop μ-loop
+one-if-requires c κs = search needs
+
+add-n : tie.Need-add-n Inv-loop μ-loop
+add-n c =
+    let a = c .before .before .before .before .before .before .before .before .before .args in
+    let l = c .before .before .before .before .before .loop in
+    let k = count-small (λ (r : List ℕ). same r (a .p .now)) (a .s .now) (l .inv) (c .before .before .before .before .loop-test .taken) _ (c .before .before .before .run-end .ensures) _ (c .before .before .cut .ensures) _ (c .before .same .ensures) _ (c .one-if .ensures) in
+    omega (arith, k, l .inv .n≤, c .before .before .before .before .loop-test .taken)
+
+run-start-requires-2 : tie.Need-run-start-requires-2 Inv-loop μ-loop
+run-start-requires-2 c κs = search needs
+
+loop-less : tie.Need-loop-less Inv-loop μ-loop
+loop-less c =
+    let a = c .before .before .before .before .before .before .before .before .before .before .args in
+    let l = c .before .before .before .before .before .before .loop in
+    let k = count-less (λ (r : List ℕ). same r (a .p .now)) (a .s .now) (l .inv) (c .before .before .before .before .before .loop-test .taken) _ (c .before .before .before .before .run-end .ensures) _ (c .before .before .before .cut .ensures) _ (c .before .before .same .ensures) _ (c .before .one-if .ensures) _ (c .run-start2 .ensures) in
+    omega (arith, k, c .before .before .before .before .before .loop-test .taken)
+
+loop-again : tie.Need-loop-again Inv-loop μ-loop
+loop-again c =
+    let a = c .before .before .before .before .before .before .before .before .before .before .args in
+    let l = c .before .before .before .before .before .before .loop in
+    count-next (λ (r : List ℕ). same r (a .p .now)) (a .s .now) (l .inv) (c .before .before .before .before .before .loop-test .taken) _ (c .before .before .before .before .run-end .ensures) _ (c .before .before .before .cut .ensures) _ (c .before .before .same .ensures) _ (c .before .one-if .ensures) _ (c .run-start2 .ensures)
+
+returns : tie.Need-returns Inv-loop μ-loop
+returns c = let a = c .before .before .before .before .before .args in count-end (λ (r : List ℕ). same r (a .p .now)) (a .s .now) (c .before .loop .inv) (c .loop-test .left)
+
+pub count-word-spec : {M : Type 1} → statement M
+count-word-spec =
+    tie.close
+    (tie.spec
+    Inv-loop
+    μ-loop
+    run-start-requires
+    loop-holds
+    run-end-requires
+    cut-requires
+    same-requires
+    one-if-requires
+    add-n
+    run-start-requires-2
+    loop-less
+    loop-again
+    returns)
