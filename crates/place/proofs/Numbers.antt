@@ -11,10 +11,14 @@ use lib.Seq.{getD-append-add}
 use Rattle.lines.proofs.Tests.{and-true, no}
 use Rattle.place.specs.Region.{isHeader, headed, regionsGo, regions, regionNext, untilHeader, region, regionAt}
 
+-- ---- one line
+
+-- by whether it is a header
 regions-cons : (l : List ℕ) (ls : List (List ℕ)) (c : ℕ) (b : Bool) → isHeader l ≡ b → regionsGo (l ∷ ls) c ≡ cond b (suc c) c ∷ regionsGo ls (cond b (suc c) c)
 unfolding regionsGo
 regions-cons l ls c b e = rw e
 
+-- as many numbers as lines
 pub length-regions : (ls : List (List ℕ)) (c : ℕ) → length (regionsGo ls c) ≡ length ls
 unfolding regionsGo
 length-regions [] c = refl
@@ -121,6 +125,7 @@ pub same-region : (ls : List (List ℕ)) (i k : ℕ) → i + k < length ls → e
 unfolding regions
 same-region ls i k h = same-go ls 0 i k h
 
+-- no number of lines is past the last, and one header is enough to be past those above
 below-by : (u : List (List ℕ)) (c i : ℕ) → i < length u → getD (regionsGo u c) i 0 ≤ regionBelow u c
 unfolding regionsGo regionBelow
 below-by [] c i h = absurd (omega arith)
@@ -177,6 +182,7 @@ runsGo (l ∷ ls) run = regionAt l ls run ∷ runsGo ls (regionAt l ls run)
 unfoldable pub runs : List (List ℕ) → List (List (List ℕ))
 runs ls = runsGo ls (region ls)
 
+-- the lines of a number, part by part
 in-nil : (q : ℕ) → linesIn q [] [] ≡ []
 unfolding linesIn
 in-nil q = refl
@@ -201,6 +207,7 @@ regions-nil : (c : ℕ) → regionsGo [] c ≡ []
 unfolding regionsGo
 regions-nil c = refl
 
+-- below a line none has a smaller number
 above-by : (q c : ℕ) (l : List ℕ) (ls : List (List ℕ)) (b : Bool) → isHeader l ≡ b → q < c → ((d : ℕ) → q < d → linesIn q (regionsGo ls d) ls ≡ []) → linesIn q (regionsGo (l ∷ ls) c) (l ∷ ls) ≡ []
 above-by q c l ls true e h f = ap (λ (gs : List ℕ). linesIn q gs (l ∷ ls)) (regions-cons l ls c true e) ∙ in-other q (suc c) (regionsGo ls (suc c)) l ls (λ z. omega arith) ∙ f (suc c) (omega arith)
 above-by q c l ls false e h f = ap (λ (gs : List ℕ). linesIn q gs (l ∷ ls)) (regions-cons l ls c false e) ∙ in-other q c (regionsGo ls c) l ls (λ z. omega arith) ∙ f c h

@@ -12,6 +12,7 @@ use Rattle.lines.specs.Lf.{part, upTo, linesOf, lacks}
 use Rattle.lines.proofs.LfLaws.{upTo-le, lines-first, lines-line, drop-min}
 use Rattle.place.specs.Region.{isHeader, untilHeader, region, regionAt, upHeader, regionLen}
 
+-- the bytes of the line that is passed
 skip : (k : ℕ) (l : List ℕ) → upHeader k l ≡ min k (length l) + upHeader 0 (drop k l)
 unfolding upHeader
 skip zero l = omega arith
@@ -25,6 +26,8 @@ past t i e j q h r =
     let d : drop (suc (upTo 10 (drop i t))) (drop i t) ≡ drop j t =
     drop-drop (suc (upTo 10 (drop i t))) i t ∙ ap (λ (n : ℕ). drop n t) v ∙ sym (drop-min (e + 1) t) ∙ ap (λ (n : ℕ). drop n t) (sym r) in
     omega (arith, skip (suc (upTo 10 (drop i t))) (drop i t), ap (upHeader 0) d, length-drop i t)
+
+-- ---- at the head of a line: a header stops, and another line is passed
 
 head-stop : (x : ℕ) (xs : List ℕ) → isHeader (take (upTo 10 (x ∷ xs)) (x ∷ xs)) ≡ true → upHeader 0 (x ∷ xs) ≡ 0
 unfolding upHeader
@@ -63,6 +66,7 @@ end-past t i h = rw (drop-of-length-le t h) (omega arith)
 
 -- ---- the lines of a region
 
+-- a line of bytes, and the LF after it
 lacks-line : (l : List ℕ) → lacks 10 (take (upTo 10 l) l) ≡ true
 unfolding upTo lacks
 lacks-line [] = refl
@@ -83,6 +87,7 @@ split-line (x ∷ xs) h = go (eqb x 10) refl h (split-line xs)
     go true e k f = ap (λ (n : ℕ). n ∷ xs) (eqb-true x 10 e)
     go false e k f = ap (λ (r : List ℕ). x ∷ r) (f (omega arith))
 
+-- one line and what is taken of the lines below it
 glue : (l : List ℕ) (n : ℕ) → 0 < length l → linesOf (take (suc (upTo 10 l) + n) l) ≡ take (upTo 10 l) l ∷ linesOf (take n (drop (suc (upTo 10 l)) l))
 glue l n h = go (ltb (upTo 10 l) (length l)) refl
   where
@@ -153,14 +158,17 @@ until-lines zero (x ∷ xs) h = absurd (omega arith)
 until-lines (suc n) (x ∷ xs) h = until-by x xs (isHeader (take (upTo 10 (x ∷ xs)) (x ∷ xs))) refl
     (until-lines n (drop (suc (upTo 10 (x ∷ xs))) (x ∷ xs)) (let d = length-drop (upTo 10 (x ∷ xs)) xs in omega arith))
 
+-- the bytes that a region takes are its lines
 pub region-lines : (l : List ℕ) → linesOf (take (regionLen l) l) ≡ region (linesOf l)
 unfolding upHeader linesOf region
 region-lines [] = refl
 region-lines (x ∷ xs) = region-by x xs (until-lines (length (drop (suc (upTo 10 (x ∷ xs))) (x ∷ xs))) (drop (suc (upTo 10 (x ∷ xs))) (x ∷ xs)) (omega arith))
 
+-- the same from a place on
 pub region-at : (t : List ℕ) (i r : ℕ) → r ≡ i + regionLen (drop i t) → linesOf (part i r t) ≡ region (linesOf (drop i t))
 region-at t i r q = let z : r - i ≡ regionLen (drop i t) = omega arith in ap (λ (n : ℕ). linesOf (take n (drop i t))) z ∙ region-lines (drop i t)
 
+-- a region ends inside the text
 up-le : (k : ℕ) (l : List ℕ) → upHeader k l ≤ length l
 unfolding upHeader
 up-le k [] = omega arith
