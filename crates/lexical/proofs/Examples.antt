@@ -3,8 +3,7 @@ use Prim.Native.Nat.{ℕ}
 use mathlib.Core.Path.{_≡_, refl}
 use mathlib.Core.Bool.{true}
 use mathlib.Core.List.{List, [], _∷_}
-use Rattle.lines.specs.Lf.{prefixed, same}
-use Rattle.lines.proofs.Tests.{every}
+use Rattle.lines.specs.Lf.{prefixed, same, all}
 use Rattle.text.specs.White.{isWhite}
 use Rattle.text.specs.Utf8Form.{seqLen}
 use Rattle.text.specs.Trim.{whiteChar, whiteTail, endWhite, toOf}
@@ -30,6 +29,6 @@ table =
     ∷ (120 ∷ 32 ∷ 61 ∷ 32 ∷ 49 ∷ 32 ∷ 47 ∷ 32 ∷ 50 ∷ [], 120 ∷ 32 ∷ 61 ∷ 32 ∷ 49 ∷ 32 ∷ 47 ∷ 32 ∷ 50 ∷ [])
     ∷ []
 
-pub strips : every (λ (v : List ℕ × List ℕ). same (stripLexical (v .0)) (v .1)) table ≡ true
+pub strips : all (λ (v : List ℕ × List ℕ). same (stripLexical (v .0)) (v .1)) table ≡ true
 unfolding table same stripLexical lexGo tokenOf quoteLen patternLen commentLen lastOf prefixed toOf endWhite whiteTail whiteChar seqLen isWhite
 strips = refl

@@ -8,8 +8,8 @@ use borrow.Author.Tests.{ne-eqb}
 use lib.Dec.{T, leb, eqb, leb→le}
 use lib.ListN.{length, drop, getD, length-drop, drop-of-length-le}
 use lib.Seq.{drop-drop}
-use Rattle.lines.specs.Lf.{among, prefixed}
-use Rattle.lines.proofs.Tests.{no, every, T-left, T-right}
+use Rattle.lines.specs.Lf.{among, prefixed, all}
+use Rattle.lines.proofs.Tests.{no, T-left, T-right}
 use Rattle.text.specs.Class.{isQuote}
 use Rattle.lexical.specs.declared.Kind.the-variants.{Kept, Literal, Gone}
 use Rattle.lexical.specs.declared.Token.{Token}
@@ -20,7 +20,7 @@ use Rattle.lexical.proofs.EndLaws.{cons-at, ends, quotes, patterns, nex
 -- ---- tests of one byte
 
 -- a number above all of a list is none of them
-among-above : (m x : ℕ) (bs : List ℕ) → T (every (λ b. leb b m) bs) → m < x → among bs x ≡ false
+among-above : (m x : ℕ) (bs : List ℕ) → T (all (λ b. leb b m) bs) → m < x → among bs x ≡ false
 among-above m x [] t h = refl
 among-above m x (b ∷ bs) t h =
     let k = leb→le b m (T-left (leb b m) _ t) in
