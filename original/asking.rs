@@ -42,6 +42,12 @@ const DRAWN: &[(u8, &[&str])] = &[
     (34, &["expr", "val", "member", "call"]),
     (35, &["LISTING", "scratch", "scratch"]),
     (36, &["VALUE", "val", "array", "str", "num", "expr"]),
+    (41, &["LISTING"]),
+    (42, &["LISTING", "scratch"]),
+    (43, &["LISTING"]),
+    (44, &["LISTING", "callfrag"]),
+    (45, &["LISTING"]),
+    (46, &["LISTING"]),
 ];
 
 struct Request {
@@ -152,7 +158,7 @@ fn request(t: &Texts, r: &mut Random, function: u8) -> Request {
 
 pub fn requests(wire: &mut Wire, seed: u64, count: u64, functions: &[u8]) -> Option<()> {
     let t = Texts::new();
-    let all: Vec<u8> = (1..=36).collect();
+    let all: Vec<u8> = DRAWN.iter().map(|(function, _)| *function).collect();
     let functions = if functions.is_empty() { &all } else { functions };
     for index in 0..count {
         let function = functions[(index % functions.len() as u64) as usize];

@@ -81,8 +81,8 @@ pub mod exports {
         out
     }
 
-    /// One pass, 1 to 6, split and joined as `optimize` does.
-    pub fn one_pass(pass: u8, text: &str) -> String {
+    /// One pass, 1 to 6, over lines.
+    pub fn pass_lines(pass: u8, lines: &mut Vec<String>) {
         let run = match pass {
             1 => super::prune_dead_temps,
             2 => super::optimize_once,
@@ -91,8 +91,13 @@ pub mod exports {
             5 => super::prune_decls,
             _ => super::bind_declarators,
         };
+        run(lines);
+    }
+
+    /// The same, split and joined as `optimize` does.
+    pub fn one_pass(pass: u8, text: &str) -> String {
         let mut lines: Vec<String> = text.lines().map(str::to_string).collect();
-        run(&mut lines);
+        pass_lines(pass, &mut lines);
         join(&lines, text.ends_with('\n'))
     }
 }

@@ -91,7 +91,16 @@ fn breaks(q: &Asked) -> Bytes {
     flag(exports::breaks_dependency(q.a, &all, &lines))
 }
 
-/// The functions 1 to 36, 4 apart: it alone takes bytes that are no text.
+fn pass(pass: u8, q: &Asked) -> Bytes {
+    if !ends::pass_ends(pass, q.a) {
+        return None;
+    }
+    let mut lines = list(q.a);
+    exports::pass_lines(pass, &mut lines);
+    ended(lines)
+}
+
+/// The functions 1 to 36 and 41 to 46, 4 apart: it alone takes bytes that are no text.
 fn ask(function: u8, q: &Asked) -> Bytes {
     match function {
         1 => trim(q),
@@ -135,6 +144,7 @@ fn ask_further(function: u8, q: &Asked) -> Bytes {
         34 => breaks(q),
         35 => flags(exports::call_scratch_lines(&list(q.a))),
         36 => ends::value_ends(q.a).then(|| vec![exports::pure_expr(q.a) as u8]),
+        41..=46 => pass(function - 40, q),
         _ => None,
     }
 }

@@ -16,6 +16,7 @@ NAMES = {
     26: "block_ids", 27: "block_paths", 28: "inside_loop", 29: "starts_statement", 30: "is_control_header",
     31: "paren_if_needed", 32: "is_plain_ref", 33: "is_primary_expr", 34: "breaks_dependency",
     35: "call_scratch_lines", 36: "pure_expr",
+    41: "prune_dead_temps", 42: "optimize_once", 43: "prune_dead_phis", 44: "rebuild_calls", 45: "prune_decls", 46: "bind_declarators",
 }
 
 

@@ -5,9 +5,12 @@ use mathlib.Core.Bool.{Bool, true, false, _||_}
 use mathlib.Core.List.{List}
 use native.Mathlib.Omega.{arith}
 use lib.ListN.{length, length-take, length-drop, length-map}
-use Rattle.lines.specs.Lf.{part, countOf, linesOf}
+use Rattle.lines.specs.Lf.{part, countOf, linesOf, unlines}
 use Rattle.lines.specs.Steps.{dropCr, splitLines}
 use Rattle.lines.proofs.Counts.{drop-counts}
+use Rattle.weight.specs.Weight.{weight}
+use Rattle.weight.proofs.Weigh.{length-weight, weight-twice}
+use Rattle.weight.proofs.Moves.{lines-weight}
 use Rattle.words.specs.Hits.{glueLeft, glueRight, glued, replacedAt}
 use Rattle.words.proofs.Glue.{glued-bare, glued-two, replaced-length}
 
@@ -41,3 +44,13 @@ lines-count t =
     sym (length-map (linesOf t) (countOf 10))
     ∙ sym (ap length (drop-counts 10 refl t))
     ∙ length-map (linesOf (dropCr t)) (countOf 10)
+
+-- a pass that does not raise the weight: twice the text and one LF is room
+pub pass-room : (pass : List (List ℕ) → List (List ℕ)) → ((ls : List (List ℕ)) → weight (unlines (pass ls)) ≤ weight (unlines ls)) →
+    (t : List ℕ) → length (unlines (pass (linesOf t))) ≤ length t + length t + 1
+pass-room pass light t =
+    let a = length-weight (unlines (pass (linesOf t))) in
+    let b = light (linesOf t) in
+    let c = lines-weight t in
+    let d = weight-twice t in
+    omega arith

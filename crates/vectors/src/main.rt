@@ -2,6 +2,7 @@
 // original's answer, replays it and says how many agree.
 mod lexed;
 mod named;
+mod passed;
 mod placed;
 mod replay;
 mod reply;

@@ -1,6 +1,7 @@
 // One turn: a request is read and answered.
 use crate::lexed;
 use crate::named;
+use crate::passed;
 use crate::placed;
 use crate::say;
 use crate::texts;
@@ -26,6 +27,7 @@ fn answer(function: u8, number: u64, a: &[u8], b: &[u8], out: &mut [u8]) -> usiz
         20..=21 | 36 => values::answer(function, a, out),
         22..=24 => lexed::answer(function, a, out),
         25..=29 => placed::answer(function, number, a, out),
+        41 | 45 => passed::answer(function, a, out),
         _ => say::nothing(),
     }
 }
