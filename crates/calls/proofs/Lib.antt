@@ -6,3 +6,7 @@ pub mod Instance
 pub mod Room
 pub mod Sent
 pub mod Listings
+pub mod StepLaws
+pub mod WalkLaws
+pub mod Owners
+pub mod Texts

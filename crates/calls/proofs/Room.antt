@@ -1,11 +1,11 @@
--- rebuild_calls, by any reading, raises no weight, brings no LF in, and lets no line go but into another. Assumes nothing.
+-- rebuild_calls, by any reading, raises no weight, does not lengthen a text, and brings no LF in. Assumes nothing.
 use Prim.Native.Nat.{ℕ, zero, suc, _+_, _-_, _≤_, _<_}
 use mathlib.Core.Path.{_≡_, refl, sym, ap, _∙_}
 use mathlib.Core.Bool.{Bool, true, false, cond, not, _&&_, _||_}
 use mathlib.Core.List.{List, [], _∷_, _++_, append-assoc}
 use native.Mathlib.Omega.{arith}
 use lib.Dec.{eqb, ltb}
-use lib.ListN.{length, take, drop, getD, take-append-drop}
+use lib.ListN.{length, take, drop, getD, take-append-drop, length-append, length-take, length-drop}
 use lib.Seq.{drop-drop}
 use Rattle.lines.specs.Lf.{part, upTo, endsIn, unlines, lacks, noLf}
 use Rattle.lines.proofs.LfLaws.{lacks-append, lacks-take, lacks-drop}
@@ -24,11 +24,12 @@ use Rattle.parse.proofs.ParseLaws.{parse-place}
 use Rattle.words.specs.declared.Hit.{Hit}
 use Rattle.words.specs.declared.Hit.the-variants as hit
 use Rattle.words.specs.Hits.{regHit, glueLeft, glueRight, glued, replacedAt, replaceBy, replaceReg}
-use Rattle.words.proofs.Places.{Stands, hit-stands, replace-lacks}
+use Rattle.words.proofs.Places.{Stands, hit-stands, replace-hit, replace-lacks}
 use Rattle.weight.specs.Weight.{spaced, extra, weight}
 use Rattle.weight.proofs.Weigh.{weight-append, weight-part, weight-line, nothing}
 use Rattle.weight.proofs.Moves.{bracketed, absorb-le}
 use Rattle.forms.specs.Primary.{bare, parenIfNeeded}
+use Rattle.forms.proofs.PrimaryLaws.{paren-length, paren-lacks}
 use Rattle.reading.specs.Reading.{Reading}
 use Rattle.calls.specs.Leaves.{Parsed, store, other, Context, unclear, target, newed, operand}
 use Rattle.calls.specs.LeavesOf.{parsedBy, parsedOf, contextOf, leavesOf}
@@ -198,19 +199,46 @@ calls-weight R ls =
         let b = value-weight t v value (valued t v value p) in
         omega arith
 
+-- ---- length
+
+-- a value is shorter than its line
+pub value-length : (t : List ℕ) (v : ℕ) (value : List ℕ) → Valued t v value → length value + 1 ≤ length t
+value-length t v value h =
+    let s : Store = h .place in
+    let p = parse-place t s (h .reads) in
+    let k = value-after t s (h .reads) in
+    omega (arith, p .0, p .1, ap length (h .text), length-take (s .to - s .from) (drop (s .from) t), length-drop (s .from) t)
+
+-- a line that takes a value in grows by no more than the line that goes and its LF
+pub put-length : (cur t : List ℕ) (v : ℕ) (value next : List ℕ) → Valued t v value → Put cur v value next → length next ≤ length cur + length t + 1
+put-length cur t v value next h p =
+    omega (arith, ap length (p .is), replace-hit v cur (parenIfNeeded value (p .after)) (p .span) (p .found), paren-length value (p .after), value-length t v value h)
+
+-- a line and its LF
+abbrev long : List ℕ → ℕ
+long l = length l + 1
+
+long-lines : (ls : List (List ℕ)) → weighs long ls ≡ length (unlines ls)
+unfolding weighs unlines
+long-lines [] = refl
+long-lines (l ∷ ls) = omega (arith, long-lines ls, length-append l (10 ∷ unlines ls))
+
+-- the text does not grow
+pub calls-bytes : (R : Reading) (ls : List (List ℕ)) → length (unlines (rebuildCalls (leavesOf R) ls)) ≤ length (unlines ls)
+calls-bytes R ls =
+    let h = rebuilt-weight (leavesOf R) long fits ls in
+    omega (arith, h, long-lines ls, long-lines (rebuildCalls (leavesOf R) ls))
+  where
+    fits : (cur t : List ℕ) (v : ℕ) (value next : List ℕ) → parsedOf t ≡ store v value → putBy (leavesOf R) (contextOf cur v) cur v value ≡ absorb next → long next ≤ long cur + long t
+    fits cur t v value next p q =
+        let a = put-length cur t v value next (valued t v value p) (put-is R cur v value next q) in
+        omega arith
+
 -- ---- no LF comes in
 
 -- 1 for a line that holds an LF
 abbrev holed : List ℕ → ℕ
 holed l = cond (lacks 10 l) 0 1
-
-paren-lacks : (v : List ℕ) (b : Bool) → lacks 10 v ≡ true → lacks 10 (parenIfNeeded v b) ≡ true
-unfolding parenIfNeeded lacks
-paren-lacks v b h = go (bare v b)
-  where
-    go : (t : Bool) → lacks 10 (cond t v (40 ∷ v ++ 41 ∷ [])) ≡ true
-    go true = h
-    go false = lacks-append v (41 ∷ []) h refl
 
 put-lacks : (cur t : List ℕ) (v : ℕ) (value next : List ℕ) → Valued t v value → Put cur v value next → lacks 10 cur ≡ true → lacks 10 t ≡ true → lacks 10 next ≡ true
 put-lacks cur t v value next h p c k =

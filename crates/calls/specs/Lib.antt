@@ -1,3 +1,4 @@
 pub mod Leaves
 pub mod LeavesOf
 pub mod Calls
+pub mod Steps

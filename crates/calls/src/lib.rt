@@ -1,1 +1,168 @@
-// The definition of rebuild_calls and its theorems.
+// rebuild_calls: the values of stores go back into the call that follows them.
+ghost use mathlib.Core.Path.{_≡_};
+ghost use mathlib.Core.Bool.{not, _&&_};
+ghost use Prim.Native.Nat.{_+_, _≤_};
+ghost use lib.ListN.{length};
+ghost use Rattle.lines.specs.Lf.{linesOf};
+ghost use Rattle.lines.specs.Out.{Wrote};
+ghost use Rattle.words.specs.Hits.{replacedAt};
+ghost use Rattle.lexical.specs.Idents.{wordsIn};
+ghost use Rattle.forms.specs.Primary.{parenIfNeeded};
+ghost use Rattle.forms.specs.Breaks.{breaksWith};
+ghost use Rattle.reading.specs.Reading.{plain};
+ghost use Rattle.calls.specs.LeavesOf.{isCall, isControlLine, contextOf, leavesOf};
+ghost use Rattle.calls.specs.Calls.{readLater, putBy};
+ghost use Rattle.calls.specs.Steps.{breaksDown, absorbStep, lineBack, PutAs};
+
+// What putting a value into a line makes: a line of so many bytes, or nothing.
+pub enum Made {
+    Line(usize),
+    Nothing,
+}
+
+// Whether a line that `starts` a statement is a call line that may take values in.
+fn takes(line: &[u8], starts: bool) -> bool
+    ensures { λ r. ⌜ r ≡ isCall (now (line .entry)) && (starts && not (isControlLine (now (line .entry)))) ⌝ }
+{
+    if !starts {
+        return false;
+    }
+    if !lines::contains(line, b"(") {
+        return false;
+    }
+    !forms::is_control_header(text::trim_start(line))
+}
+
+// Whether a line below reads a register, in this region and up to the next store of it, whose own reads count.
+fn read_later(below: &[u8], reg: names::Register) -> bool
+    ensures { λ r. ⌜ r ≡ readLater (leavesOf plain) (reg .0) (linesOf (now (below .entry))) ⌝ }
+{
+    let mut i = 0;
+    while i < below.len() {
+        let e = lines::find_byte(below, i, 10);
+        if place::is_header(&below[i..e]) {
+            return false;
+        }
+        let u = reading::use_of(&below[i..e], reg);
+        if u.reads != 0 {
+            return true;
+        }
+        if u.stores {
+            return false;
+        }
+        i = lines::after(below, e);
+    }
+    false
+}
+
+// Whether a line that was taken in writes what a value needs; one that was not does not.
+fn breaks_if(taken: bool, value: &[u8], clean: &[u8], line: &[u8]) -> bool
+    ensures { λ r. ⌜ r ≡ taken && breaksWith (now (value .entry)) (wordsIn (now (clean .entry))) (now (line .entry)) ⌝ }
+{
+    if !taken {
+        return false;
+    }
+    forms::breaks(value, clean, line)
+}
+
+// Whether one of the lines above a call line that were taken into it writes what a value needs. `owner` is for each line how far below
+// it the line stands that it was taken into.
+fn breaks_taken(value: &[u8], clean: &[u8], text: &[u8], owner: &[usize]) -> bool
+    ensures { λ r. ⌜ r ≡ breaksDown (breaksWith (now (value .entry)) (wordsIn (now (clean .entry)))) (linesOf (now (text .entry))) (now (owner .entry)) ⌝ }
+{
+    let mut i = 0;
+    let mut j = 0;
+    while i < text.len() {
+        if j >= owner.len() {
+            return false;
+        }
+        let e = lines::find_byte(text, i, 10);
+        let taken = owner[j] == owner.len() - j;
+        if breaks_if(taken, value, clean, &text[i..e]) {
+            return true;
+        }
+        j += 1;
+        i = lines::after(text, e);
+    }
+    false
+}
+
+// Writes a line with a value in the place of a hit, in parentheses where it needs them, and returns the place after it; the value so
+// written stands in `rep` too.
+fn put_value(
+    line: &[u8],
+    w: text::Span,
+    value: &[u8],
+    after: bool,
+    rep: &mut [u8],
+    out: &mut [u8],
+) -> usize
+    requires { ⌜ (length (parenIfNeeded (now value) after) ≤ length (now rep))
+        × (length (replacedAt (w .from) (w .to) (now line) (parenIfNeeded (now value) after)) ≤ length (now out)) ⌝ }
+    ensures { λ r. ⌜ (Wrote (now (rep .entry)) 0 (parenIfNeeded (now (value .entry)) after) (now (rep .exit)) (length (parenIfNeeded (now (value .entry)) after)))
+        × (Wrote (now (out .entry)) 0 (replacedAt (w .from) (w .to) (now (line .entry)) (parenIfNeeded (now (value .entry)) after)) (now (out .exit)) r) ⌝ }
+{
+    let n = forms::put_paren(value, after, rep, 0);
+    words::put_replaced(line, w, lines::cut(rep, 0, n), out, 0)
+}
+
+// Writes a line with a value in the place of a register, where the register stands once and not as a target.
+fn put_in(line: &[u8], reg: names::Register, value: &[u8], rep: &mut [u8], out: &mut [u8]) -> Made
+    requires { ⌜ (length (now value) + 2 ≤ length (now rep)) × (length (now line) + length (now value) + 2 ≤ length (now out)) ⌝ }
+    ensures { λ r. ⌜ PutAs (now (rep .entry)) (now (out .entry)) (putBy (leavesOf plain) (contextOf (now (line .entry)) (reg .0)) (now (line .entry)) (reg .0) (now (value .entry))) (now (rep .exit)) (now (out .exit)) r ⌝ }
+{
+    match words::find_reg(line, reg) {
+        words::Hit::One(w) => {
+            if words::as_target(line, w.to) {
+                return Made::Nothing;
+            }
+            let after = words::after_new(line, w.from);
+            let n = put_value(line, w, value, after, rep, out);
+            Made::Line(n)
+        }
+        words::Hit::Not => Made::Nothing,
+    }
+}
+
+// Writes a line with the value of a store above it in the place of the store's register, where the line reads the register once, no line
+// below reads it, and no line taken in between writes what the value needs.
+fn absorb(
+    line: &[u8],
+    reg: names::Register,
+    value: &[u8],
+    below: &[u8],
+    taken: &[u8],
+    owner: &[usize],
+    clean: &mut [u8],
+    out: &mut [u8],
+) -> Made
+    requires { ⌜ (length (now value) + 2 ≤ length (now clean)) × (length (now line) + length (now value) + 2 ≤ length (now out)) ⌝ }
+    ensures { λ r. ⌜ PutAs (now (clean .entry)) (now (out .entry)) (absorbStep plain (now (line .entry)) (reg .0) (now (value .entry)) (linesOf (now (below .entry))) (linesOf (now (taken .entry))) (now (owner .entry))) (now (clean .exit)) (now (out .exit)) r ⌝ }
+{
+    let u = reading::use_of(line, reg);
+    if u.reads != 1 {
+        return Made::Nothing;
+    }
+    if read_later(below, reg) {
+        return Made::Nothing;
+    }
+    let n = lexical::strip_lexical(value, clean, 0);
+    if breaks_taken(value, lines::cut(clean, 0, n), taken, owner) {
+        return Made::Nothing;
+    }
+    put_in(line, reg, value, clean, out)
+}
+
+// Where the line begins that ends before a place: after the LF above, or at the front.
+fn line_back(s: &[u8], e: usize) -> usize
+    ensures { λ r. ⌜ r ≡ lineBack (now (s .entry)) e ⌝ }
+{
+    let mut j = e;
+    while 0 < j {
+        if lines::byte_at(s, j - 1) == 10 {
+            return j;
+        }
+        j -= 1;
+    }
+    j
+}

@@ -1,0 +1,59 @@
+-- Laws of scratch that is wiped after use. Assumes nothing.
+use Prim.Native.Nat.{ℕ, zero, suc, _+_, _-_, _≤_, _<_}
+use mathlib.Core.Path.{_≡_, refl, sym, ap, subst, _∙_}
+use mathlib.Core.List.{List, [], _∷_, _++_}
+use native.Mathlib.Omega.{arith}
+use native.Mathlib.Numerals.{add-one}
+use lib.ListN.{length, take, drop, set, replicate}
+use lib.Seq.{drop-drop, drop-append-add}
+use Rattle.lines.specs.Out.{putAt, Wrote}
+use Rattle.lines.proofs.OutLaws.{wrote-nil, wrote-more, wrote-as}
+use Rattle.once.specs.Tables.{Blank}
+
+zeros-more : (i : ℕ) → replicate i 0 ++ (0 ∷ []) ≡ replicate {A = ℕ} (suc i) 0
+zeros-more zero = refl
+zeros-more (suc i) = ap (λ (l : List ℕ). 0 ∷ l) (zeros-more i)
+
+pub wipe-start : (d : List ℕ) → Wrote d 0 (replicate 0 0) d 0
+wipe-start d = wrote-nil d 0 (omega arith)
+
+pub wipe-on : {d₀ d : List ℕ} {i : ℕ} → i < length d → Wrote d₀ 0 (replicate i 0) d i → Wrote d₀ 0 (replicate (i + 1) 0) (set d i 0) (i + 1)
+wipe-on {d₀} {d} {i} h w = wrote-as (zeros-more i ∙ ap (λ (n : ℕ). replicate n 0) (sym (add-one i))) (wrote-more 0 w h)
+
+zeros-length : (n : ℕ) → length (replicate {A = ℕ} n 0) ≡ n
+zeros-length zero = refl
+zeros-length (suc n) = ap suc (zeros-length n)
+
+zeros-split : (n m : ℕ) → n ≤ m → replicate n 0 ++ drop n (replicate m 0) ≡ replicate {A = ℕ} m 0
+zeros-split zero m h = refl
+zeros-split (suc n) zero h = absurd (omega arith)
+zeros-split (suc n) (suc m) h = ap (λ (l : List ℕ). 0 ∷ l) (zeros-split n m (omega arith))
+
+past : (t d : List ℕ) (n : ℕ) → length t ≤ n → drop n (t ++ drop (length t) d) ≡ drop n d
+past t d n h =
+    let q : n ≡ length t + (n - length t) = omega arith in
+    ap (λ (k : ℕ). drop k (t ++ drop (length t) d)) q
+    ∙ drop-append-add t (drop (length t) d) (n - length t)
+    ∙ drop-drop (n - length t) (length t) d
+    ∙ ap (λ (k : ℕ). drop k d) (sym q)
+
+-- what was written over zeros is gone
+pub wiped : {n : ℕ} {d d₁ d₂ : List ℕ} (t : List ℕ) → Blank n d → length t ≤ n → d₁ ≡ putAt d 0 t → Wrote d₁ 0 (replicate n 0) d₂ n → d₂ ≡ d
+unfolding putAt
+wiped {n} {d} {d₁} {d₂} t b h e w =
+    let z : 0 + length (replicate {A = ℕ} n 0) ≡ n = omega (arith, zeros-length n) in
+    let y : 0 + length t ≡ length t = omega arith in
+    w .holds
+    ∙ ap (λ (k : ℕ). replicate n 0 ++ drop k d₁) z
+    ∙ ap (λ (l : List ℕ). replicate n 0 ++ drop n l) (e ∙ ap (λ (k : ℕ). t ++ drop k d) y)
+    ∙ ap (λ (l : List ℕ). replicate n 0 ++ l) (past t d n h)
+    ∙ ap (λ (l : List ℕ). replicate n 0 ++ drop n l) (b .zeros)
+    ∙ zeros-split n (length d) (b .room)
+    ∙ sym (b .zeros)
+
+-- room for more is room for less, and the same scratch serves again
+pub blank-less : {m n : ℕ} {d : List ℕ} → n ≤ m → Blank m d → Blank n d
+blank-less h b = record { room = omega (arith, b .room); zeros = b .zeros }
+
+pub wipe-end : {d₀ d : List ℕ} {i n : ℕ} → i ≡ n → Wrote d₀ 0 (replicate i 0) d i → Wrote d₀ 0 (replicate n 0) d n
+wipe-end {d₀} {d} e w = subst (λ (k : ℕ). Wrote d₀ 0 (replicate k 0) d k) e w

@@ -1,0 +1,101 @@
+-- Laws of what becomes of one line. Assumes nothing.
+use Prim.Native.Nat.{ℕ, suc, _+_, _-_, _≤_, _<_}
+use mathlib.Core.Path.{_≡_, refl, sym, ap, _∙_}
+use mathlib.Core.Bool.{Bool, true, false, cond, not, _&&_, _||_}
+use mathlib.Core.List.{List, [], _∷_, _++_}
+use native.Mathlib.Omega.{arith}
+use lib.Dec.{eqb, ltb}
+use lib.ListN.{length, length-take, length-drop}
+use Rattle.lines.specs.Lf.{part}
+use borrow.Author.Tests.{eq-eqb, ne-eqb}
+use Rattle.lines.proofs.Tests.{and-false, and-true}
+use Rattle.parse.specs.Parse.{parseOf, textOf}
+use Rattle.parse.specs.declared.Line.{Line}
+use Rattle.parse.specs.declared.Line.the-variants as line
+use Rattle.words.specs.Runs.{readsOf}
+use Rattle.words.specs.Hits.{regHit}
+use Rattle.reading.specs.Reading.{Reading, pureIn}
+use Rattle.reading.specs.Uses.{lineReads, lineStores}
+use Rattle.once.specs.Scratch.{scratchAt}
+use Rattle.once.specs.Once.{Next, deadBy, readCount, laterRead}
+use Rattle.once.specs.Tables.{nextIn, storeDrops, dropsBy, lineDrops, hasHit, storeForwards, forwardsBy, lineForwards}
+
+-- ---- a store that goes
+
+module _ (R : Reading) (v : ℕ) (x : List ℕ) (p : ℕ) (b : Bool) (ls : List (List ℕ)) (ps : List ℕ) where
+  pub drops-scratch : scratchAt v x ls ≡ true → storeDrops R v x p b ls ps ≡ true
+  unfolding storeDrops
+  drops-scratch h = rw h
+
+  module _ (s : scratchAt v x ls ≡ false) where
+    pub drops-loop : b ≡ true → storeDrops R v x p b ls ps ≡ false
+    unfolding storeDrops
+    drops-loop h = rw (s, h, and-false (pureIn R x), and-false (deadBy p (nextIn v ls ps)))
+
+    module _ (o : b ≡ false) where
+      pub drops-read : (n : ℕ) → n ≡ readsOf v x → (n ≡ 0 → ⊥) → storeDrops R v x p b ls ps ≡ false
+      unfolding storeDrops
+      drops-read n e h = rw (s, o, sym e, ne-eqb n 0 h, and-false (pureIn R x), and-false (deadBy p (nextIn v ls ps)))
+
+      module _ (n : ℕ) (e : n ≡ readsOf v x) (z : n ≡ 0) where
+        pub drops-wanted : deadBy p (nextIn v ls ps) ≡ false → storeDrops R v x p b ls ps ≡ false
+        unfolding storeDrops
+        drops-wanted h = rw (s, h)
+
+        pub drops-pure : deadBy p (nextIn v ls ps) ≡ true → pureIn R x ≡ storeDrops R v x p b ls ps
+        unfolding storeDrops
+        drops-pure h = rw (s, h, o, sym e, eq-eqb n 0 z, and-true (pureIn R x))
+
+pub drops-at : (R : Reading) (l : List ℕ) (p : ℕ) (b : Bool) (ls : List (List ℕ)) (ps : List ℕ) (k : Line) → k ≡ parseOf l → dropsBy R l p b ls ps k ≡ lineDrops R l p b ls ps
+unfolding lineDrops
+drops-at R l p b ls ps k q = ap (dropsBy R l p b ls ps) q
+
+-- ---- a store that goes into the next line
+
+module _ (R : Reading) (v : ℕ) (x : List ℕ) (run : List (List ℕ)) (b goes : Bool) (e : List ℕ) (ls : List (List ℕ)) where
+  pub forwards-loop : b ≡ true → storeForwards R v x run b goes e ls ≡ false
+  unfolding storeForwards
+  forwards-loop h = rw h
+
+  module _ (o : b ≡ false) where
+    pub forwards-gone : goes ≡ true → storeForwards R v x run b goes e ls ≡ false
+    unfolding storeForwards
+    forwards-gone h = rw (o, h)
+
+    module _ (g : goes ≡ false) where
+      pub forwards-stored : lineStores v e ≡ true → storeForwards R v x run b goes e ls ≡ false
+      unfolding storeForwards
+      forwards-stored h = rw (o, g, h)
+
+      module _ (s : lineStores v e ≡ false) (n : ℕ) (m : n ≡ lineReads v e) where
+        pub forwards-reads : (n ≡ 1 → ⊥) → storeForwards R v x run b goes e ls ≡ false
+        unfolding storeForwards
+        forwards-reads h = rw (o, g, s, sym m, ne-eqb n 1 h)
+
+        module _ (z : n ≡ 1) where
+          pub forwards-hit : hasHit (regHit v e) ≡ false → storeForwards R v x run b goes e ls ≡ false
+          unfolding storeForwards
+          forwards-hit h = rw (o, g, s, sym m, eq-eqb n 1 z, h, and-false (eqb (readCount v run) 1), and-false (pureIn R x), and-false (not (laterRead v ls)))
+
+          module _ (t : hasHit (regHit v e) ≡ true) where
+            pub forwards-later : laterRead v ls ≡ true → storeForwards R v x run b goes e ls ≡ false
+            unfolding storeForwards
+            forwards-later h = rw (o, g, s, sym m, eq-eqb n 1 z, h)
+
+            module _ (k : laterRead v ls ≡ false) where
+              pub forwards-often : eqb (readCount v run) 1 ≡ false → storeForwards R v x run b goes e ls ≡ false
+              unfolding storeForwards
+              forwards-often h = rw (o, g, s, sym m, eq-eqb n 1 z, k, h, and-false (pureIn R x))
+
+              pub forwards-pure : eqb (readCount v run) 1 ≡ true → pureIn R x ≡ storeForwards R v x run b goes e ls
+              unfolding storeForwards
+              forwards-pure h = rw (o, g, s, sym m, eq-eqb n 1 z, t, k, h, and-true (pureIn R x))
+
+pub forwards-at : (R : Reading) (l : List ℕ) (run : List (List ℕ)) (b goes : Bool) (e : List ℕ) (ls : List (List ℕ)) (k : Line) → k ≡ parseOf l →
+    forwardsBy R l run b goes e ls k ≡ lineForwards R l run b goes e ls
+unfolding lineForwards
+forwards-at R l run b goes e ls k q = ap (forwardsBy R l run b goes e ls) q
+
+-- the value of a store is a part of its line
+pub value-room : (n m : ℕ) (l : List ℕ) → length (part n m l) ≤ length l
+value-room n m l = simp (length-take, length-drop) (omega arith)

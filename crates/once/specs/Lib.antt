@@ -1,0 +1,3 @@
+pub mod Scratch
+pub mod Once
+pub mod Tables

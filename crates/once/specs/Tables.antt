@@ -1,0 +1,114 @@
+-- The searches of `optimize_once` over lines and a table of numbers beside them. Assumes nothing.
+use Prim.Native.Nat.{ℕ, _≤_}
+use mathlib.Core.Path.{_≡_}
+use mathlib.Core.Bool.{Bool, true, false, cond, not, _&&_, _||_}
+use mathlib.Core.List.{List, [], _∷_}
+use lib.Dec.{eqb, ltb}
+use lib.ListN.{length, drop, replicate}
+use Rattle.parse.specs.Parse.{parseOf, textOf}
+use Rattle.parse.specs.declared.Line.{Line}
+use Rattle.parse.specs.declared.Line.the-variants as line
+use Rattle.words.specs.Runs.{readsOf}
+use Rattle.words.specs.Hits.{regHit}
+use Rattle.words.specs.declared.Hit.{Hit}
+use Rattle.words.specs.declared.Hit.the-variants as hit
+use Rattle.reading.specs.Reading.{Reading, pureIn}
+use Rattle.lines.specs.Acts.{Act, keep, become, into, gone}
+use Rattle.place.specs.Region.{isHeader}
+use Rattle.place.specs.Blocks.{top}
+use Rattle.reading.specs.Uses.{lineReads, lineStores}
+use Rattle.once.specs.Scratch.{scratchAt}
+use Rattle.once.specs.Once.{Next, none, read, write, deadBy, readCount, laterRead, Spot, spotsOf, dropped, forwards, takenBy, nextRun}
+
+-- a read of register v before it is stored again: in all lines below, or down to the end of the region
+unfoldable pub readBelow : Bool → ℕ → List (List ℕ) → Bool
+readBelow far v [] = false
+readBelow far v (l ∷ ls) =
+    let more = readBelow far v ls in
+    let on = not (lineStores v l) && (ltb 0 (lineReads v l) || more) in
+    cond (not far && isHeader l) false on
+
+-- the nearest use below, where the numbers of the block paths stand in a list of their own
+unfoldable pub nextIn : ℕ → List (List ℕ) → List ℕ → Next
+nextIn v [] ps = none
+nextIn v (l ∷ ls) [] = none
+nextIn v (l ∷ ls) (p ∷ ps) =
+    let more = nextIn v ls ps in
+    let stored = cond (lineStores v l) (write p) more in
+    cond (isHeader l) none (cond (ltb 0 (lineReads v l)) read stored)
+
+-- ---- the same tests on one line, over the lines below it and their numbers
+
+-- scratch of zeros, with room for n bytes
+pub record Blank (n : ℕ) (d : List ℕ) : Type 0 where
+  pub room : n ≤ length d
+  pub zeros : d ≡ replicate (length d) 0
+
+-- a store of register v with the value x, in block path p, goes: a scratch load, or a dead store
+unfoldable pub storeDrops : Reading → ℕ → List ℕ → ℕ → Bool → List (List ℕ) → List ℕ → Bool
+storeDrops R v x p b ls ps =
+    scratchAt v x ls || (deadBy p (nextIn v ls ps) && (pureIn R x && (not b && eqb (readsOf v x) 0)))
+
+-- a line, as it was read, goes
+abbrev pub dropsBy : Reading → List ℕ → ℕ → Bool → List (List ℕ) → List ℕ → Line → Bool
+dropsBy R l p b ls ps line.Decl = false
+dropsBy R l p b ls ps (line.Store s) = storeDrops R (s .reg .0) (textOf l (line.Store s)) p b ls ps
+dropsBy R l p b ls ps line.Other = false
+
+-- a line goes
+unfoldable pub lineDrops : Reading → List ℕ → ℕ → Bool → List (List ℕ) → List ℕ → Bool
+lineDrops R l p b ls ps = dropsBy R l p b ls ps (parseOf l)
+
+-- a search found one place
+abbrev pub hasHit : Hit → Bool
+hasHit hit.Not = false
+hasHit (hit.One w) = true
+
+-- a store of register v with the value x, whose region is run, goes into the next line e, above ls; `goes` says whether that one goes
+unfoldable pub storeForwards : Reading → ℕ → List ℕ → List (List ℕ) → Bool → Bool → List ℕ → List (List ℕ) → Bool
+storeForwards R v x run b goes e ls =
+    not b
+    && (not goes
+    && (not (lineStores v e)
+    && (eqb (lineReads v e) 1
+    && (not (laterRead v ls) && (pureIn R x && (eqb (readCount v run) 1 && hasHit (regHit v e)))))))
+
+-- a line, as it was read, goes into the next
+abbrev pub forwardsBy : Reading → List ℕ → List (List ℕ) → Bool → Bool → List ℕ → List (List ℕ) → Line → Bool
+forwardsBy R l run b goes e ls line.Decl = false
+forwardsBy R l run b goes e ls (line.Store s) = storeForwards R (s .reg .0) (textOf l (line.Store s)) run b goes e ls
+forwardsBy R l run b goes e ls line.Other = false
+
+-- a line that stays goes into the next
+unfoldable pub lineForwards : Reading → List ℕ → List (List ℕ) → Bool → Bool → List ℕ → List (List ℕ) → Bool
+lineForwards R l run b goes e ls = forwardsBy R l run b goes e ls (parseOf l)
+
+-- ---- a mark for each line, and the acts by the marks
+
+-- 1 where a line goes, 2 where it would go into the next, else 0; run is its region
+unfoldable pub markOf : Reading → List (List ℕ) → Spot → List Spot → ℕ
+markOf R run d ss = cond (dropped R d ss) 1 (cond (forwards R run (d ∷ ss)) 2 0)
+
+-- the marks of lines; run is the region of the first
+unfoldable pub marksGo : Reading → List Spot → List (List ℕ) → List ℕ
+unfolding markOf
+marksGo R [] run = []
+marksGo R (d ∷ ss) run = markOf R run d ss ∷ marksGo R ss (nextRun ss run)
+
+-- a line goes into the next: it would, and the next would not
+abbrev pub sends : ℕ → ℕ → Bool
+sends m n = eqb m 2 && not (eqb n 2)
+
+-- what becomes of a line with the mark m, where n is that of the next line, and `given` says whether the line above goes into it
+abbrev pub actBy : ℕ → ℕ → Bool → List ℕ → List ℕ → Act
+actBy m n given above l =
+    cond (eqb m 1) gone
+    (cond (eqb m 2) (cond (eqb n 2) keep (into 1))
+    (cond given (become (takenBy above (parseOf above) l)) keep))
+
+-- the acts of lines with their marks; a mark that is missing is 0
+unfoldable pub actsBy : List (List ℕ) → List ℕ → Bool → List ℕ → List Act
+unfolding top
+actsBy [] ms given above = []
+actsBy (l ∷ ls) ms given above =
+    actBy (top ms) (top (drop 1 ms)) given above l ∷ actsBy ls (drop 1 ms) (sends (top ms) (top (drop 1 ms))) l

@@ -1,0 +1,408 @@
+// `optimize_once`: dead stores and scratch loads go, and a value that is read once on the next line goes there.
+ghost use mathlib.Core.Path.{_≡_};
+ghost use mathlib.Core.Bool.{true, false};
+ghost use mathlib.Core.List.{[], _∷_, _++_};
+ghost use Prim.Native.Nat.{_≤_, _+_};
+ghost use lib.Dec.{eqb};
+ghost use lib.ListN.{length, replicate};
+ghost use Rattle.lines.specs.Out.{Wrote};
+ghost use Rattle.lines.specs.Acts.{act, apply};
+ghost use Rattle.parse.specs.Parse.{parseOf};
+ghost use Rattle.lines.specs.Lf.{linesOf, unlines, prefixed, holds};
+ghost use Rattle.names.specs.Names.{regOf, isIdent};
+ghost use Rattle.once.specs.Scratch.{objectOf, isMember, changesBy, calledBelow, scratchAt};
+ghost use Rattle.once.specs.Once.{deadBy, readCount, firstOf, takenBy};
+ghost use Rattle.words.specs.Hits.{regHit, replaceReg};
+ghost use Rattle.reading.specs.Reading.{plain, pureIn};
+ghost use Rattle.once.specs.Tables.{readBelow, nextIn, Blank, hasHit, storeDrops, lineDrops, storeForwards, lineForwards, actBy, actsBy};
+
+// Whether a value is a bare member read, `A.B`.
+fn is_member(x: &[u8]) -> bool
+    ensures { λ r. ⌜ r ≡ isMember (now (x .entry)) ⌝ }
+{
+    let n = x.len();
+    let k = lines::find_byte(x, 0, b'.');
+    if k >= n {
+        return false;
+    }
+    names::is_simple_ident(lines::cut(x, 0, k)) & names::is_simple_ident(lines::cut(x, k + 1, n))
+}
+
+// Whether a register is read before it is stored again: in all lines below, or down to the end of the region.
+fn read_below(text: &[u8], reg: names::Register, far: bool) -> bool
+    ensures { λ r. ⌜ r ≡ readBelow far (reg .0) (linesOf (now (text .entry))) ⌝ }
+{
+    let mut i = 0;
+    while i < text.len() {
+        let e = lines::find_byte(text, i, 10);
+        if !far & place::is_header(&text[i..e]) {
+            return false;
+        }
+        let u = reading::use_of(&text[i..e], reg);
+        if u.stores {
+            return false;
+        }
+        if 0 < u.reads {
+            return true;
+        }
+        i = lines::after(text, e);
+    }
+    false
+}
+
+// Whether a text begins with `x(`.
+fn starts_call(s: &[u8], x: &[u8]) -> bool
+    ensures { λ r. ⌜ r ≡ prefixed (now (x .entry) ++ 40 ∷ []) (now (s .entry)) ⌝ }
+{
+    if !lines::starts_with(s, x) {
+        return false;
+    }
+    lines::byte_at(s, x.len()) == b'('
+}
+
+// Whether a line holds `x(`.
+fn holds_call(s: &[u8], x: &[u8]) -> bool
+    ensures { λ r. ⌜ r ≡ holds (now (x .entry) ++ 40 ∷ []) (now (s .entry)) ⌝ }
+{
+    let mut i = 0;
+    while i < s.len() {
+        if starts_call(&s[i..], x) {
+            return true;
+        }
+        i += 1;
+    }
+    false
+}
+
+// Whether a line changes an object: it stores the register that the object is, or mentions the name that it is.
+fn changes(line: &[u8], obj: &[u8]) -> bool
+    requires { ⌜ isIdent (now obj) ≡ true ⌝ }
+    ensures { λ r. ⌜ r ≡ changesBy (regOf (now (obj .entry))) (now (obj .entry)) (now (line .entry)) ⌝ }
+{
+    match names::reg_name(obj) {
+        names::RegName::Reg(q) => {
+            let u = reading::use_of(line, q);
+            u.stores
+        }
+        names::RegName::None => {
+            let p = parse::parse(line);
+            0 < words::count_word(parse::text_of(line, p), obj)
+        }
+    }
+}
+
+// Whether a call of the member x of obj follows in the region, before any line that changes the object.
+fn called_below(text: &[u8], x: &[u8], obj: &[u8]) -> bool
+    requires { ⌜ (now obj ≡ objectOf (now x)) × (isIdent (now obj) ≡ true) ⌝ }
+    ensures { λ r. ⌜ r ≡ calledBelow (now (x .entry)) (linesOf (now (text .entry))) ⌝ }
+{
+    let mut i = 0;
+    while i < text.len() {
+        let e = lines::find_byte(text, i, 10);
+        if place::is_header(&text[i..e]) {
+            return false;
+        }
+        if holds_call(&text[i..e], x) {
+            return true;
+        }
+        if changes(&text[i..e], obj) {
+            return false;
+        }
+        i = lines::after(text, e);
+    }
+    false
+}
+
+// Whether a store of a register with the value x, above `below`, is a scratch load.
+fn scratch_at(x: &[u8], reg: names::Register, below: &[u8]) -> bool
+    ensures { λ r. ⌜ r ≡ scratchAt (reg .0) (now (x .entry)) (linesOf (now (below .entry))) ⌝ }
+{
+    if !is_member(x) {
+        return false;
+    }
+    if read_below(below, reg, false) {
+        return false;
+    }
+    let k = lines::find_byte(x, 0, b'.');
+    called_below(below, x, lines::cut(x, 0, k))
+}
+
+// Whether the value of a store in the block path p is wanted by nothing below in its region; `paths` has the block paths of the lines.
+fn dead_below(text: &[u8], paths: &[usize], p: usize, reg: names::Register) -> bool
+    ensures { λ r. ⌜ r ≡ deadBy p (nextIn (reg .0) (linesOf (now (text .entry))) (now (paths .entry))) ⌝ }
+{
+    let mut i = 0;
+    let mut k = 0;
+    while i < text.len() {
+        let e = lines::find_byte(text, i, 10);
+        if k >= paths.len() {
+            return true;
+        }
+        if place::is_header(&text[i..e]) {
+            return true;
+        }
+        let u = reading::use_of(&text[i..e], reg);
+        if 0 < u.reads {
+            return false;
+        }
+        if u.stores {
+            return p == paths[k];
+        }
+        k += 1;
+        i = lines::after(text, e);
+    }
+    true
+}
+
+// Whether lines read a register once in all.
+fn read_once(text: &[u8], reg: names::Register) -> bool
+    ensures { λ r. ⌜ r ≡ eqb (readCount (reg .0) (linesOf (now (text .entry)))) 1 ⌝ }
+{
+    let mut i = 0;
+    let mut n = 0;
+    while i < text.len() {
+        let e = lines::find_byte(text, i, 10);
+        let u = reading::use_of(&text[i..e], reg);
+        if 1 < u.reads {
+            return false;
+        }
+        n += u.reads;
+        if 1 < n {
+            return false;
+        }
+        i = lines::after(text, e);
+    }
+    n == 1
+}
+
+// Writes zeros over the first n bytes.
+fn wipe(s: &mut [u8], n: usize)
+    requires { ⌜ n ≤ length (now s) ⌝ }
+    ensures { λ _. ⌜ Wrote (now (s .entry)) 0 (replicate n 0) (now (s .exit)) n ⌝ }
+{
+    let mut i = 0;
+    while i < n {
+        s[i] = 0;
+        i += 1;
+    }
+}
+
+// Whether a value is pure. Scratch that held zeros holds zeros again.
+fn pure_value(x: &[u8], scratch: &mut [u8]) -> bool
+    requires { ⌜ Blank (length (now x)) (now scratch) ⌝ }
+    ensures answer { λ r. ⌜ r ≡ pureIn plain (now (x .entry)) ⌝ }
+    ensures memory { λ _. ⌜ now (scratch .exit) ≡ now (scratch .entry) ⌝ }
+{
+    let p = expr::purity(x, scratch);
+    wipe(scratch, x.len());
+    expr::is_pure(p)
+}
+
+// Whether a store of a register with the value x, above `below`, goes: its block path is p, and those of the lines below are `paths`.
+fn store_drops(
+    x: &[u8],
+    reg: names::Register,
+    below: &[u8],
+    paths: &[usize],
+    p: usize,
+    in_loop: bool,
+    scratch: &mut [u8],
+) -> bool
+    requires { ⌜ Blank (length (now x)) (now scratch) ⌝ }
+    ensures answer { λ r. ⌜ r ≡ storeDrops plain (reg .0) (now (x .entry)) p in_loop (linesOf (now (below .entry))) (now (paths .entry)) ⌝ }
+    ensures memory { λ _. ⌜ now (scratch .exit) ≡ now (scratch .entry) ⌝ }
+{
+    if scratch_at(x, reg, below) {
+        return true;
+    }
+    if in_loop {
+        return false;
+    }
+    if words::count_reg(x, reg) != 0 {
+        return false;
+    }
+    if !dead_below(below, paths, p, reg) {
+        return false;
+    }
+    pure_value(x, scratch)
+}
+
+// Whether a line goes.
+fn line_drops(
+    line: &[u8],
+    below: &[u8],
+    paths: &[usize],
+    p: usize,
+    in_loop: bool,
+    scratch: &mut [u8],
+) -> bool
+    requires { ⌜ Blank (length (now line)) (now scratch) ⌝ }
+    ensures answer { λ r. ⌜ r ≡ lineDrops plain (now (line .entry)) p in_loop (linesOf (now (below .entry))) (now (paths .entry)) ⌝ }
+    ensures memory { λ _. ⌜ now (scratch .exit) ≡ now (scratch .entry) ⌝ }
+{
+    match parse::parse(line) {
+        parse::Line::Decl => false,
+        parse::Line::Store(s) => {
+            let x = parse::value_of(line, s);
+            store_drops(x, s.reg, below, paths, p, in_loop, scratch)
+        }
+        parse::Line::Other => false,
+    }
+}
+
+// Whether a line can take a value in the place of a register.
+fn takes(line: &[u8], reg: names::Register) -> bool
+    ensures { λ r. ⌜ r ≡ hasHit (regHit (reg .0) (now (line .entry))) ⌝ }
+{
+    match words::find_reg(line, reg) {
+        words::Hit::One(w) => true,
+        words::Hit::Not => false,
+    }
+}
+
+// Whether a store of a register with the value x, in the region `run`, goes into the next line, which goes itself where `gone` says so.
+fn store_forwards(
+    x: &[u8],
+    reg: names::Register,
+    next: &[u8],
+    below: &[u8],
+    run: &[u8],
+    in_loop: bool,
+    gone: bool,
+    scratch: &mut [u8],
+) -> bool
+    requires { ⌜ Blank (length (now x)) (now scratch) ⌝ }
+    ensures answer { λ r. ⌜ r ≡ storeForwards plain (reg .0) (now (x .entry)) (linesOf (now (run .entry))) in_loop gone (now (next .entry)) (linesOf (now (below .entry))) ⌝ }
+    ensures memory { λ _. ⌜ now (scratch .exit) ≡ now (scratch .entry) ⌝ }
+{
+    if in_loop {
+        return false;
+    }
+    if gone {
+        return false;
+    }
+    let u = reading::use_of(next, reg);
+    if u.stores {
+        return false;
+    }
+    if u.reads != 1 {
+        return false;
+    }
+    if !takes(next, reg) {
+        return false;
+    }
+    if read_below(below, reg, true) {
+        return false;
+    }
+    if !read_once(run, reg) {
+        return false;
+    }
+    pure_value(x, scratch)
+}
+
+// Whether a line that stays goes into the next line.
+fn line_forwards(
+    line: &[u8],
+    next: &[u8],
+    below: &[u8],
+    run: &[u8],
+    in_loop: bool,
+    gone: bool,
+    scratch: &mut [u8],
+) -> bool
+    requires { ⌜ Blank (length (now line)) (now scratch) ⌝ }
+    ensures answer { λ r. ⌜ r ≡ lineForwards plain (now (line .entry)) (linesOf (now (run .entry))) in_loop gone (now (next .entry)) (linesOf (now (below .entry))) ⌝ }
+    ensures memory { λ _. ⌜ now (scratch .exit) ≡ now (scratch .entry) ⌝ }
+{
+    match parse::parse(line) {
+        parse::Line::Decl => false,
+        parse::Line::Store(s) => {
+            let x = parse::value_of(line, s);
+            store_forwards(x, s.reg, next, below, run, in_loop, gone, scratch)
+        }
+        parse::Line::Other => false,
+    }
+}
+
+// Writes a line with its LF, and returns the place after it.
+fn put_whole(line: &[u8], out: &mut [u8], o: usize) -> usize
+    requires { ⌜ o + length (unlines (now line ∷ [])) ≤ length (now out) ⌝ }
+    ensures { λ r. ⌜ Wrote (now (out .entry)) o (unlines (now (line .entry) ∷ [])) (now (out .exit)) r ⌝ }
+{
+    let p = lines::put(out, o, line);
+    lines::put_byte(out, p, 10)
+}
+
+// Writes a line with a value in the place of a register, where it can take it.
+fn put_into(line: &[u8], reg: names::Register, x: &[u8], out: &mut [u8], o: usize) -> usize
+    requires { ⌜ o + length (unlines (firstOf (replaceReg (reg .0) (now line) (now x)) (now line) ∷ [])) ≤ length (now out) ⌝ }
+    ensures { λ r. ⌜ Wrote (now (out .entry)) o (unlines (firstOf (replaceReg (reg .0) (now (line .entry)) (now (x .entry))) (now (line .entry)) ∷ [])) (now (out .exit)) r ⌝ }
+{
+    match words::find_reg(line, reg) {
+        words::Hit::One(w) => {
+            let p = words::put_replaced(line, w, x, out, o);
+            lines::put_byte(out, p, 10)
+        }
+        words::Hit::Not => put_whole(line, out, o),
+    }
+}
+
+// Writes a line with the value of the line above in it.
+fn put_taken(line: &[u8], above: &[u8], out: &mut [u8], o: usize) -> usize
+    requires { ⌜ o + length (unlines (takenBy (now above) (parseOf (now above)) (now line) ∷ [])) ≤ length (now out) ⌝ }
+    ensures { λ r. ⌜ Wrote (now (out .entry)) o (unlines (takenBy (now (above .entry)) (parseOf (now (above .entry))) (now (line .entry)) ∷ [])) (now (out .exit)) r ⌝ }
+{
+    match parse::parse(above) {
+        parse::Line::Decl => put_whole(line, out, o),
+        parse::Line::Store(s) => {
+            let x = parse::value_of(above, s);
+            put_into(line, s.reg, x, out, o)
+        }
+        parse::Line::Other => put_whole(line, out, o),
+    }
+}
+
+// Writes what becomes of a line with the mark m, where n is that of the next, and `given` says whether the line above goes into it.
+fn put_act(line: &[u8], above: &[u8], m: u8, n: u8, given: bool, out: &mut [u8], o: usize) -> usize
+    requires { ⌜ o + length (unlines (act (actBy m n given (now above) (now line)) (now line))) ≤ length (now out) ⌝ }
+    ensures { λ r. ⌜ Wrote (now (out .entry)) o (unlines (act (actBy m n given (now (above .entry)) (now (line .entry))) (now (line .entry)))) (now (out .exit)) r ⌝ }
+{
+    if m == 1 {
+        return o;
+    }
+    if m == 2 {
+        if n == 2 {
+            return put_whole(line, out, o);
+        }
+        return o;
+    }
+    if given {
+        return put_taken(line, above, out, o);
+    }
+    put_whole(line, out, o)
+}
+
+// Writes what becomes of lines by their marks.
+fn put_acts(text: &[u8], marks: &[u8], out: &mut [u8]) -> usize
+    requires { ⌜ length (unlines (apply (actsBy (linesOf (now text)) (now marks) false []) (linesOf (now text)))) ≤ length (now out) ⌝ }
+    ensures { λ r. ⌜ Wrote (now (out .entry)) 0 (unlines (apply (actsBy (linesOf (now (text .entry))) (now (marks .entry)) false []) (linesOf (now (text .entry))))) (now (out .exit)) r ⌝ }
+{
+    let mut i = 0;
+    let mut k = 0;
+    let mut o = 0;
+    let mut given = false;
+    let mut a = 0;
+    let mut b = 0;
+    while i < text.len() {
+        let e = lines::find_byte(text, i, 10);
+        let m = lines::byte_at(marks, k);
+        let n = lines::byte_at(marks, k + 1);
+        o = put_act(&text[i..e], lines::cut(text, a, b), m, n, given, out, o);
+        given = (m == 2) & !(n == 2);
+        a = i;
+        b = e;
+        k += 1;
+        i = lines::after(text, e);
+    }
+    o
+}
