@@ -15,24 +15,9 @@ use Rattle.text.specs.Utf8Form.{seqLen}
 use Rattle.text.specs.Trim.{whiteChar, whiteTail, endWhite, orOn, toOf}
 use Rattle.text.proofs.Whites.{tail-at, pick3, white-yes, white-no}
 use Rattle.text.proofs.Trims.{back-stop, back-on, toOf-le}
+use Rattle.text.proofs.CharsEnd.{tail-append, end-append}
 use Rattle.lexical.specs.declared.Tail.{Tail}
 use Rattle.lexical.specs.Lex.{lastOf, backByte, front, tailOf, lastAfter, pushed, grown}
-
--- ---- what stands after the place e does not count
-
-tail-append : (p c : List ℕ) (e : ℕ) → e ≤ length p → whiteTail (p ++ c) e ≡ whiteTail p e
-unfolding whiteTail
-tail-append p c e h = simp (take-append-le e p c h)
-
-end-append : (p c : List ℕ) (k e : ℕ) → e ≤ length p → endWhite (p ++ c) k e ≡ endWhite p k e
-unfolding endWhite
-end-append p c k zero h = refl
-end-append p c (suc k) (suc e) h = end-append p c k e (omega arith)
-end-append p c zero (suc e) h = rw (tail-append p c (suc e) h) (go (whiteTail p (suc e)) (λ k. end-append p c k e (omega arith)))
-  where
-    go : (n : ℕ) → ((k : ℕ) → endWhite (p ++ c) k e ≡ endWhite p k e) → orOn n (suc e) (λ k. endWhite (p ++ c) k e) ≡ orOn n (suc e) (λ k. endWhite p k e)
-    go zero f = refl
-    go (suc k) f = f k
 
 -- ---- the last character
 

@@ -119,11 +119,11 @@ rear p x (y ∷ z ∷ u ∷ v ∷ ys) F =
 
 -- ---- what stands after the place e does not count
 
-tail-append : (p c : List ℕ) (e : ℕ) → e ≤ length p → whiteTail (p ++ c) e ≡ whiteTail p e
+pub tail-append : (p c : List ℕ) (e : ℕ) → e ≤ length p → whiteTail (p ++ c) e ≡ whiteTail p e
 unfolding whiteTail
 tail-append p c e h = simp (take-append-le e p c h)
 
-end-append : (p c : List ℕ) (k e : ℕ) → e ≤ length p → endWhite (p ++ c) k e ≡ endWhite p k e
+pub end-append : (p c : List ℕ) (k e : ℕ) → e ≤ length p → endWhite (p ++ c) k e ≡ endWhite p k e
 unfolding endWhite
 end-append p c k zero h = refl
 end-append p c (suc k) (suc e) h = end-append p c k e (omega arith)
