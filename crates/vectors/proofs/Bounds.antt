@@ -1,0 +1,32 @@
+-- Bounds of answers that are tested before they are written. Assumes nothing.
+use Prim.Native.Nat.{ℕ, _+_, _≤_}
+use mathlib.Core.Path.{_≡_, refl, ap}
+use mathlib.Core.Bool.{Bool, true, false, _||_}
+use mathlib.Core.List.{List}
+use native.Mathlib.Omega.{arith}
+use lib.ListN.{length, length-take, length-drop}
+use Rattle.lines.specs.Lf.{part}
+use Rattle.words.specs.Hits.{glueLeft, glueRight, glued, replacedAt}
+use Rattle.words.proofs.Glue.{glued-bare, glued-two, replaced-length}
+
+glued-room : (before rep after : List ℕ) → length (glued before rep after) ≤ length rep + 2
+glued-room before rep after = go (glueLeft before rep || glueRight rep after) refl
+  where
+    go : (b : Bool) → (glueLeft before rep || glueRight rep after) ≡ b → length (glued before rep after) ≤ length rep + 2
+    go true e = omega (arith, glued-two before rep after e)
+    go false e = omega (arith, ap length (glued-bare before rep after e))
+
+part-room : (a e : ℕ) (l : List ℕ) → length (part a e l) ≤ length l
+part-room a e l = simp (length-take, length-drop) (omega arith)
+
+-- a line with a replacement, wherever the hit is said to be
+pub replaced-room : (from to : ℕ) (l rep : List ℕ) → length (replacedAt from to l rep) ≤ length l + length l + length rep + 2
+replaced-room from to l rep =
+    let before = part 0 from l in
+    let after = part to (length l) l in
+    omega
+    (arith,
+    replaced-length from to l rep before after refl refl,
+    glued-room before rep after,
+    part-room 0 from l,
+    part-room to (length l) l)

@@ -1,0 +1,73 @@
+use borrow.Author.Needs.{needs}
+use Rattle.vectors.proofs.worded.replaced.Statement.{statement}
+use Rattle.vectors.proofs.worded.replaced.Tie as tie
+use Rattle.vectors.proofs.worded.replaced.Reads as reads
+use Rattle.vectors.proofs.worded.replaced.Lts as lts
+use Rattle.lines.proofs.put_byte.Reads as put-byte-reads
+use Rattle.vectors.proofs.say.nothing.Reads as nothing-reads
+use Rattle.words.proofs.put_replaced.Reads as put-replaced-reads
+
+-- src/worded.rt:17:9
+nothing-requires : tie.Need-nothing-requires
+nothing-requires c κs = search needs
+
+-- src/worded.rt:17:9
+returns : tie.Need-returns
+returns c = search needs
+
+-- src/worded.rt:20:9
+nothing-requires-2 : tie.Need-nothing-requires-2
+nothing-requires-2 c κs = search needs
+
+-- src/worded.rt:20:9
+returns-2 : tie.Need-returns-2
+returns-2 c = search needs
+
+-- src/worded.rt:22:16
+mul-if3 : tie.Need-mul-if3
+mul-if3 c = search needs
+
+-- src/worded.rt:22:8
+sub-if3 : tie.Need-sub-if3
+sub-if3 c = search needs
+
+-- src/worded.rt:23:9
+nothing-requires-3 : tie.Need-nothing-requires-3
+nothing-requires-3 c κs = search needs
+
+-- src/worded.rt:23:9
+returns-3 : tie.Need-returns-3
+returns-3 c = search needs
+
+-- src/worded.rt:25:9
+put-byte-requires : tie.Need-put-byte-requires
+put-byte-requires c κs = search needs
+
+-- src/worded.rt:26:5
+put-replaced-requires : tie.Need-put-replaced-requires
+put-replaced-requires c κs = ?
+
+-- src/worded.rt:14:1
+same-length : tie.Need-same-length
+same-length c = search needs
+
+-- src/worded.rt:14:1
+returns-4 : tie.Need-returns-4
+returns-4 c = search needs
+
+pub replaced-spec : {M : Type 1} → statement M
+replaced-spec =
+    tie.close
+    (tie.spec
+    nothing-requires
+    returns
+    nothing-requires-2
+    returns-2
+    mul-if3
+    sub-if3
+    nothing-requires-3
+    returns-3
+    put-byte-requires
+    put-replaced-requires
+    same-length
+    returns-4)
