@@ -1,4 +1,7 @@
 use borrow.Author.Needs.{needs}
+use native.Mathlib.Omega.{arith}
+use Rattle.lines.proofs.OutLaws.{wrote-length}
+use Rattle.vectors.proofs.Bounds.{replaced-room}
 use Rattle.vectors.proofs.worded.replaced.Statement.{statement}
 use Rattle.vectors.proofs.worded.replaced.Tie as tie
 use Rattle.vectors.proofs.worded.replaced.Reads as reads
@@ -45,7 +48,7 @@ put-byte-requires c κs = search needs
 
 -- src/worded.rt:26:5
 put-replaced-requires : tie.Need-put-replaced-requires
-put-replaced-requires c κs = ?
+put-replaced-requires c κs = let a = c .before .before .before .before .before .before .before .before .before .before .before .args in omega (arith, wrote-length (c .before .before .before .put-byte .ensures), c .before .before .before .put-byte .ensures .place, replaced-room (a .w .from) (a .w .to) (a .a .now) (a .b .now))
 
 -- src/worded.rt:14:1
 same-length : tie.Need-same-length
