@@ -1,11 +1,13 @@
 -- Bounds of answers that are tested before they are written. Assumes nothing.
 use Prim.Native.Nat.{ℕ, _+_, _≤_}
-use mathlib.Core.Path.{_≡_, refl, ap}
+use mathlib.Core.Path.{_≡_, refl, sym, ap, _∙_}
 use mathlib.Core.Bool.{Bool, true, false, _||_}
 use mathlib.Core.List.{List}
 use native.Mathlib.Omega.{arith}
-use lib.ListN.{length, length-take, length-drop}
-use Rattle.lines.specs.Lf.{part}
+use lib.ListN.{length, length-take, length-drop, length-map}
+use Rattle.lines.specs.Lf.{part, countOf, linesOf}
+use Rattle.lines.specs.Steps.{dropCr, splitLines}
+use Rattle.lines.proofs.Counts.{drop-counts}
 use Rattle.words.specs.Hits.{glueLeft, glueRight, glued, replacedAt}
 use Rattle.words.proofs.Glue.{glued-bare, glued-two, replaced-length}
 
@@ -24,9 +26,18 @@ pub replaced-room : (from to : ℕ) (l rep : List ℕ) → length (replacedAt fr
 replaced-room from to l rep =
     let before = part 0 from l in
     let after = part to (length l) l in
-    omega
-    (arith,
-    replaced-length from to l rep before after refl refl,
-    glued-room before rep after,
-    part-room 0 from l,
-    part-room to (length l) l)
+    omega (
+      arith,
+      replaced-length from to l rep before after refl refl,
+      glued-room before rep after,
+      part-room 0 from l,
+      part-room to (length l) l,
+    )
+
+-- a text has as many lines with its CRs as without
+pub lines-count : (t : List ℕ) → length (linesOf t) ≡ length (splitLines t)
+unfolding splitLines
+lines-count t =
+    sym (length-map (linesOf t) (countOf 10))
+    ∙ sym (ap length (drop-counts 10 refl t))
+    ∙ length-map (linesOf (dropCr t)) (countOf 10)

@@ -1,6 +1,8 @@
 // Answers requests for single functions as the original does; or, where it is given a file of requests that are each followed by the
 // original's answer, replays it and says how many agree.
+mod lexed;
 mod named;
+mod placed;
 mod replay;
 mod reply;
 mod say;

@@ -5,10 +5,12 @@ use crate::wire;
 use crate::wire::Text;
 use libc::STDOUT_FILENO;
 
-// How many requests were replayed, how many of them agreed, whether there may be more, and whether the file ended within one.
+// How many requests were answered, how many of these answers agreed, how many requests have none, whether there may be more requests,
+// and whether the file ended within one.
 pub struct Tally {
     pub asked: u64,
     pub agreed: u64,
+    pub passed: u64,
     pub more: bool,
     pub cut: bool,
 }
@@ -16,33 +18,40 @@ pub struct Tally {
 // How many disagreements are shown.
 const SHOWN: u64 = 5;
 
-// Says that the next request differs, unless enough were shown.
+// Writes a text, a number and a text.
+fn say_count(before: &[u8], n: u64, after: &[u8]) {
+    io::write_all(STDOUT_FILENO, before);
+    io::print_decimal(STDOUT_FILENO, n);
+    io::write_all(STDOUT_FILENO, after);
+}
+
+// Says that the next request differs, unless enough were shown. Requests count from 0.
 fn differs(t: Tally, function: u8) {
     if SHOWN <= std::num::wrapping_sub_u64(t.asked, t.agreed) {
         return;
     }
-    io::write_all(STDOUT_FILENO, b"differs: request ");
-    io::print_decimal(STDOUT_FILENO, t.asked);
-    io::write_all(STDOUT_FILENO, b" function ");
-    io::print_decimal(STDOUT_FILENO, function as u64);
-    io::write_all(STDOUT_FILENO, b"\n");
+    let k = std::num::wrapping_add_u64(t.asked, t.passed);
+    say_count(b"differs: request ", k, b" function ");
+    say_count(b"", function as u64, b"\n");
 }
 
-// One request more, that agrees or differs.
-fn counted(t: Tally, function: u8, agrees: bool) -> Tally {
-    let asked = std::num::wrapping_add_u64(t.asked, 1);
-    if agrees {
-        return Tally {
-            asked,
-            agreed: std::num::wrapping_add_u64(t.agreed, 1),
-            more: true,
-            cut: false,
-        };
-    }
-    differs(t, function);
+// One answer more, that agrees or differs.
+fn counted(t: Tally, agrees: bool) -> Tally {
     Tally {
-        asked,
+        asked: std::num::wrapping_add_u64(t.asked, 1),
+        agreed: std::num::wrapping_add_u64(t.agreed, if agrees { 1 } else { 0 }),
+        passed: t.passed,
+        more: true,
+        cut: false,
+    }
+}
+
+// One request more that has no answer.
+fn passed(t: Tally) -> Tally {
+    Tally {
+        asked: t.asked,
         agreed: t.agreed,
+        passed: std::num::wrapping_add_u64(t.passed, 1),
         more: true,
         cut: false,
     }
@@ -53,26 +62,29 @@ fn ended(t: Tally, cut: bool) -> Tally {
     Tally {
         asked: t.asked,
         agreed: t.agreed,
+        passed: t.passed,
         more: false,
         cut,
     }
 }
 
-// Whether the `n` bytes of an answer are the `m` of another, where both are there.
-fn agree(x: &[u8], n: usize, y: &[u8], m: usize) -> bool {
-    if x.len() < n {
-        return false;
+// Compares our answer of `n` bytes with the original's of `m`.
+fn compare(t: Tally, function: u8, ours: &[u8], n: usize, theirs: &[u8], m: usize) -> Tally {
+    if ours.len() < n {
+        return passed(t);
     }
-    if y.len() < m {
-        return false;
+    let agrees = (m <= theirs.len())
+        & lines::same(lines::cut(ours, 0, n), lines::cut(theirs, 0, m));
+    if !agrees {
+        differs(t, function);
     }
-    lines::same(lines::cut(x, 0, n), lines::cut(y, 0, m))
+    counted(t, agrees)
 }
 
 // Reads the original's answer and compares the `n` bytes of ours with it.
 fn judge(fd: i32, t: Tally, function: u8, out: &[u8], n: usize, want: &mut [u8]) -> Tally {
     match wire::read_text(fd, want) {
-        Text::Whole(m) => counted(t, function, agree(out, n, want, m)),
+        Text::Whole(m) => compare(t, function, out, n, want, m),
         Text::Cut => ended(t, true),
     }
 }
@@ -91,6 +103,7 @@ pub fn replay(fd: i32, a: &mut [u8], b: &mut [u8], out: &mut [u8]) -> Tally {
     let mut t = Tally {
         asked: 0,
         agreed: 0,
+        passed: 0,
         more: true,
         cut: false,
     };
@@ -105,13 +118,16 @@ pub fn replay(fd: i32, a: &mut [u8], b: &mut [u8], out: &mut [u8]) -> Tally {
 // Says how a replay came out.
 pub fn report(t: Tally) {
     if t.cut {
-        io::write_all(STDOUT_FILENO, b"the file is cut after ");
-        io::print_decimal(STDOUT_FILENO, t.asked);
-        io::write_all(STDOUT_FILENO, b" requests\n");
+        say_count(
+            b"the file is cut after ",
+            std::num::wrapping_add_u64(t.asked, t.passed),
+            b" requests\n",
+        );
         return;
     }
-    io::print_decimal(STDOUT_FILENO, t.agreed);
-    io::write_all(STDOUT_FILENO, b" of ");
-    io::print_decimal(STDOUT_FILENO, t.asked);
-    io::write_all(STDOUT_FILENO, b" agree\n");
+    if 0 < t.passed {
+        say_count(b"not answered: ", t.passed, b"\n");
+    }
+    say_count(b"", t.agreed, b" of ");
+    say_count(b"", t.asked, b" agree\n");
 }

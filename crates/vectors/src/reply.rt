@@ -1,5 +1,7 @@
 // One turn: a request is read and answered.
+use crate::lexed;
 use crate::named;
+use crate::placed;
 use crate::say;
 use crate::texts;
 use crate::values;
@@ -22,6 +24,8 @@ fn answer(function: u8, number: u64, a: &[u8], b: &[u8], out: &mut [u8]) -> usiz
         9..=12 | 18..=19 => named::answer(function, a, out),
         13..=17 => worded::answer(function, number, a, b, out),
         20..=21 | 36 => values::answer(function, a, out),
+        22..=24 => lexed::answer(function, a, out),
+        25..=29 => placed::answer(function, number, a, out),
         _ => say::nothing(),
     }
 }

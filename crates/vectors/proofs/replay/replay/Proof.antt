@@ -1,11 +1,9 @@
+-- `vectors::replay::replay` is safe and ends. The measure is how many turns are left. Assumes nothing.
 use native.Mathlib.Omega.{arith}
 use lib.ListN.{length}
 use mathlib.Core.Path.{_≡_}
 use Rattle.vectors.proofs.replay.replay.Statement.{statement}
 use Rattle.vectors.proofs.replay.replay.Tie as tie
-use Rattle.vectors.proofs.replay.replay.Reads as reads
-use Rattle.vectors.proofs.replay.replay.Lts as lts
-use Rattle.vectors.proofs.replay.replay_one.Reads as replay-one-reads
 
 abbrev Inv-loop : tie.InvT-loop
 Inv-loop fd a₀ b₀ out₀ t₀ turns₀ a b out t turns = (length a ≡ length a₀) × ((length b ≡ length b₀) × (length out ≡ length out₀))
@@ -13,55 +11,42 @@ Inv-loop fd a₀ b₀ out₀ t₀ turns₀ a b out t turns = (length a ≡ lengt
 abbrev μ-loop : tie.MeasureT-loop
 μ-loop fd a₀ b₀ out₀ t₀ turns₀ a b out t turns = turns
 
--- src/replay.rt:96:5
 loop-holds : tie.Need-loop-holds Inv-loop μ-loop
 loop-holds c = omega arith
 
--- src/replay.rt:97:9
 replay-one-requires : tie.Need-replay-one-requires Inv-loop μ-loop
 replay-one-requires c κs = tt
 
--- src/replay.rt:98:9
 sub-turns : tie.Need-sub-turns Inv-loop μ-loop
 sub-turns c = omega arith
 
--- src/replay.rt:96:5
 loop-less : tie.Need-loop-less Inv-loop μ-loop
 loop-less c = omega arith
 
--- src/replay.rt:96:5
 loop-again : tie.Need-loop-again Inv-loop μ-loop
 loop-again c = omega arith
 
--- src/replay.rt:88:1
 same-length : tie.Need-same-length Inv-loop μ-loop
 same-length c = omega arith
 
--- src/replay.rt:88:1
 same-length-2 : tie.Need-same-length-2 Inv-loop μ-loop
 same-length-2 c = omega arith
 
--- src/replay.rt:88:1
 same-length-3 : tie.Need-same-length-3 Inv-loop μ-loop
 same-length-3 c = omega arith
 
--- src/replay.rt:88:1
 returns : tie.Need-returns Inv-loop μ-loop
 returns c = tt
 
--- src/replay.rt:88:1
 same-length-4 : tie.Need-same-length-4 Inv-loop μ-loop
 same-length-4 c = omega arith
 
--- src/replay.rt:88:1
 same-length-5 : tie.Need-same-length-5 Inv-loop μ-loop
 same-length-5 c = omega arith
 
--- src/replay.rt:88:1
 same-length-6 : tie.Need-same-length-6 Inv-loop μ-loop
 same-length-6 c = omega arith
 
--- src/replay.rt:88:1
 returns-2 : tie.Need-returns-2 Inv-loop μ-loop
 returns-2 c = tt
 

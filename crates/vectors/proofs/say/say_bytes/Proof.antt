@@ -1,11 +1,9 @@
+-- `vectors::say::say_bytes` is safe and ends. The measure is how many bytes are left. Assumes nothing.
 use native.Mathlib.Omega.{arith}
 use lib.ListN.{length}
 use mathlib.Core.Path.{_≡_}
 use Rattle.vectors.proofs.say.say_bytes.Statement.{statement}
 use Rattle.vectors.proofs.say.say_bytes.Tie as tie
-use Rattle.vectors.proofs.say.say_bytes.Reads as reads
-use Rattle.vectors.proofs.say.say_bytes.Lts as lts
-use Rattle.vectors.proofs.say.say_byte.Reads as say-byte-reads
 
 abbrev Inv-loop : tie.InvT-loop
 Inv-loop out₀ o v bytes p₀ rest₀ k₀ out p rest k = length out ≡ length out₀
@@ -13,35 +11,27 @@ Inv-loop out₀ o v bytes p₀ rest₀ k₀ out p rest k = length out ≡ length
 abbrev μ-loop : tie.MeasureT-loop
 μ-loop out₀ o v bytes p₀ rest₀ k₀ out p rest k = k
 
--- src/say.rt:41:5
 loop-holds : tie.Need-loop-holds Inv-loop μ-loop
 loop-holds c = omega arith
 
--- src/say.rt:42:30
 cast-say-byte : tie.Need-cast-say-byte Inv-loop μ-loop
 cast-say-byte c = omega arith
 
--- src/say.rt:42:9
 say-byte-requires : tie.Need-say-byte-requires Inv-loop μ-loop
 say-byte-requires c κs = tt
 
--- src/say.rt:44:9
 sub-k : tie.Need-sub-k Inv-loop μ-loop
 sub-k c = omega arith
 
--- src/say.rt:41:5
 loop-less : tie.Need-loop-less Inv-loop μ-loop
 loop-less c = omega arith
 
--- src/say.rt:41:5
 loop-again : tie.Need-loop-again Inv-loop μ-loop
 loop-again c = omega arith
 
--- src/say.rt:37:1
 same-length : tie.Need-same-length Inv-loop μ-loop
 same-length c = omega arith
 
--- src/say.rt:37:1
 returns : tie.Need-returns Inv-loop μ-loop
 returns c = tt
 

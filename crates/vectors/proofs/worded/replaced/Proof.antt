@@ -1,60 +1,44 @@
+-- `vectors::worded::replaced` is safe and ends. There is room for the line twice, the replacement, two parentheses and the byte before them. Assumes nothing.
 use borrow.Author.Needs.{needs}
 use native.Mathlib.Omega.{arith}
 use Rattle.lines.proofs.OutLaws.{wrote-length}
 use Rattle.vectors.proofs.Bounds.{replaced-room}
 use Rattle.vectors.proofs.worded.replaced.Statement.{statement}
 use Rattle.vectors.proofs.worded.replaced.Tie as tie
-use Rattle.vectors.proofs.worded.replaced.Reads as reads
-use Rattle.vectors.proofs.worded.replaced.Lts as lts
-use Rattle.lines.proofs.put_byte.Reads as put-byte-reads
-use Rattle.vectors.proofs.say.nothing.Reads as nothing-reads
-use Rattle.words.proofs.put_replaced.Reads as put-replaced-reads
 
--- src/worded.rt:17:9
 nothing-requires : tie.Need-nothing-requires
 nothing-requires c κs = search needs
 
--- src/worded.rt:17:9
 returns : tie.Need-returns
 returns c = search needs
 
--- src/worded.rt:20:9
 nothing-requires-2 : tie.Need-nothing-requires-2
 nothing-requires-2 c κs = search needs
 
--- src/worded.rt:20:9
 returns-2 : tie.Need-returns-2
 returns-2 c = search needs
 
--- src/worded.rt:22:16
 mul-if3 : tie.Need-mul-if3
 mul-if3 c = search needs
 
--- src/worded.rt:22:8
 sub-if3 : tie.Need-sub-if3
 sub-if3 c = search needs
 
--- src/worded.rt:23:9
 nothing-requires-3 : tie.Need-nothing-requires-3
 nothing-requires-3 c κs = search needs
 
--- src/worded.rt:23:9
 returns-3 : tie.Need-returns-3
 returns-3 c = search needs
 
--- src/worded.rt:25:9
 put-byte-requires : tie.Need-put-byte-requires
 put-byte-requires c κs = search needs
 
--- src/worded.rt:26:5
 put-replaced-requires : tie.Need-put-replaced-requires
 put-replaced-requires c κs = let a = c .before .before .before .before .before .before .before .before .before .before .before .args in omega (arith, wrote-length (c .before .before .before .put-byte .ensures), c .before .before .before .put-byte .ensures .place, replaced-room (a .w .from) (a .w .to) (a .a .now) (a .b .now))
 
--- src/worded.rt:14:1
 same-length : tie.Need-same-length
 same-length c = search needs
 
--- src/worded.rt:14:1
 returns-4 : tie.Need-returns-4
 returns-4 c = search needs
 
