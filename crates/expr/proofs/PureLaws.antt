@@ -8,11 +8,12 @@ use borrow.Author.Tests.{leb-true}
 use lib.Dec.{eqb, leb}
 use lib.ListN.{length, take, drop, length-take, length-append, take-append-drop}
 use lib.Seq.{append-snoc}
+use Rattle.lines.specs.Lf.{all}
 use Rattle.lines.proofs.Tests.{and-left}
 use Rattle.names.specs.Names.{regOf, isIdent}
 use Rattle.expr.specs.Fix.{deep, fix}
 use Rattle.expr.specs.Comments.{stripComments, noComment}
-use Rattle.expr.specs.Pure.{isSpace, all, spaceStart, spaceEnd, spaceTrim, isEmpty, namesReg, isWord, startsNumber, isNumberByte, wrapped, isQuoted, shapeOf, inner, opens, closes, elements, isPure, pureBy, judge, cutRule, purityRule, purityOf, purityCut}
+use Rattle.expr.specs.Pure.{isSpace, spaceStart, spaceEnd, spaceTrim, isEmpty, namesReg, isWord, startsNumber, isNumberByte, wrapped, isQuoted, shapeOf, inner, opens, closes, elements, isPure, pureBy, judge, cutRule, purityRule, purityOf, purityCut}
 use Rattle.expr.specs.declared.kinds.Shape.{Shape}
 use Rattle.expr.specs.declared.kinds.Shape.the-variants.{Plain, Array}
 use Rattle.expr.specs.declared.kinds.Purity.{Purity}

@@ -9,9 +9,9 @@ use borrow.Author.Tests.{eqb-true, eqb-false}
 use lib.Dec.{eqb}
 use lib.ListN.{length, take, drop, getD, length-drop, drop-of-length-le}
 use lib.Seq.{drop-cons, take-suc}
-use Rattle.lines.specs.Lf.{among}
+use Rattle.lines.specs.Lf.{among, all}
 use Rattle.lines.proofs.Tests.{or-false}
-use Rattle.expr.specs.Pure.{isSpace, all, spaceStart, unlessBlank, spaceEnd}
+use Rattle.expr.specs.Pure.{isSpace, spaceStart, unlessBlank, spaceEnd}
 
 -- ---- a test at every byte
 

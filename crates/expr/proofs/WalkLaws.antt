@@ -8,10 +8,10 @@ use native.Mathlib.Numerals.{add-one}
 use lib.Dec.{eqb}
 use lib.ListN.{length, drop, getD, length-take, length-drop, drop-of-length-le}
 use lib.Seq.{drop-cons}
-use Rattle.lines.specs.Lf.{among, part}
+use Rattle.lines.specs.Lf.{among, part, all}
 use Rattle.lines.proofs.Tests.{and-true}
 use Rattle.lines.proofs.LfLaws.{part-none, part-more}
-use Rattle.expr.specs.Pure.{isSpace, all, spaceTrim, shapeOf, opens, closes, elements, pureBy, judge, purityCut}
+use Rattle.expr.specs.Pure.{isSpace, spaceTrim, shapeOf, opens, closes, elements, pureBy, judge, purityCut}
 use Rattle.expr.specs.declared.kinds.Shape.{Shape}
 use Rattle.expr.specs.declared.kinds.Shape.the-variants.{Plain, Array}
 use Rattle.expr.specs.declared.kinds.Purity.{Purity}

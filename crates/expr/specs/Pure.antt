@@ -4,7 +4,7 @@ use mathlib.Core.Bool.{Bool, true, false, cond, _&&_, _||_}
 use mathlib.Core.List.{List, [], _∷_, _++_}
 use lib.ListN.{length, getD}
 use lib.Dec.{eqb, leb}
-use Rattle.lines.specs.Lf.{within, among, part, same}
+use Rattle.lines.specs.Lf.{within, among, part, same, all}
 use Rattle.names.specs.Names.{isDigit, regOf, isIdent}
 use Rattle.names.specs.declared.RegName.{RegName}
 use Rattle.names.specs.declared.RegName.the-variants as name
@@ -20,11 +20,6 @@ use Rattle.expr.specs.declared.kinds.Purity.the-variants.{Stable, Ident,
 -- tab to carriage return, and the space
 abbrev pub isSpace : ℕ → Bool
 isSpace b = within 9 13 b || eqb b 32
-
--- a test passes at every element
-abbrev pub all : {A : Type 0} → (A → Bool) → List A → Bool
-all f [] = true
-all f (a ∷ s) = f a && all f s
 
 -- without the white space at the front
 unfoldable pub spaceStart : List ℕ → List ℕ

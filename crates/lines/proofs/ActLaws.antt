@@ -5,10 +5,10 @@ use mathlib.Core.Bool.{Bool, true, false}
 use mathlib.Core.List.{List, [], _∷_, _++_, append-assoc}
 use native.Mathlib.Omega.{arith}
 use lib.ListN.{length, length-append}
-use Rattle.lines.proofs.Tests.{no, and-left, and-right, and-both, every}
+use Rattle.lines.proofs.Tests.{no, and-left, and-right, and-both}
 use Rattle.lines.proofs.LfLaws.{noLf-append}
 use Rattle.lines.specs.Acts.{Act, keep, become, into, gone, act, apply}
-use Rattle.lines.specs.Lf.{unlines, lacks, noLf}
+use Rattle.lines.specs.Lf.{unlines, lacks, noLf, all}
 
 -- acts on two runs of lines, one after the other
 pub apply-append : (xs : List Act) (us : List (List ℕ)) (ys : List Act) (ts : List (List ℕ)) → length xs ≡ length us → apply (xs ++ ys) (us ++ ts) ≡ apply xs us ++ apply ys ts
@@ -33,15 +33,15 @@ keep-line (become x) l h = no h
 keep-line (into n) l h = no h
 keep-line gone l h = no h
 
--- where every line stays, the lines are what they were
-pub apply-keep : (xs : List Act) (ls : List (List ℕ)) → length xs ≡ length ls → every keeps xs ≡ true → apply xs ls ≡ ls
+-- where all line stays, the lines are what they were
+pub apply-keep : (xs : List Act) (ls : List (List ℕ)) → length xs ≡ length ls → all keeps xs ≡ true → apply xs ls ≡ ls
 unfolding apply
 apply-keep [] [] q h = refl
 apply-keep [] (l ∷ ls) q h = absurd (omega arith)
 apply-keep (x ∷ xs) [] q h = absurd (omega arith)
 apply-keep (x ∷ xs) (l ∷ ls) q h =
-    ap (λ (r : List (List ℕ)). r ++ apply xs ls) (keep-line x l (and-left (keeps x) (every keeps xs) h))
-    ∙ ap (λ (r : List (List ℕ)). l ∷ r) (apply-keep xs ls (omega arith) (and-right (keeps x) (every keeps xs) h))
+    ap (λ (r : List (List ℕ)). r ++ apply xs ls) (keep-line x l (and-left (keeps x) (all keeps xs) h))
+    ∙ ap (λ (r : List (List ℕ)). l ∷ r) (apply-keep xs ls (omega arith) (and-right (keeps x) (all keeps xs) h))
 
 act-length : (x : Act) (l : List ℕ) → length (act x l) ≤ 1
 unfolding act
@@ -72,13 +72,13 @@ act-noLf (into n) l p h = refl
 act-noLf gone l p h = refl
 
 -- where no line had an LF and none comes in, no line has one
-pub apply-noLf : (xs : List Act) (ls : List (List ℕ)) → every actNoLf xs ≡ true → noLf ls ≡ true → noLf (apply xs ls) ≡ true
+pub apply-noLf : (xs : List Act) (ls : List (List ℕ)) → all actNoLf xs ≡ true → noLf ls ≡ true → noLf (apply xs ls) ≡ true
 unfolding apply noLf
 apply-noLf [] ls p h = refl
 apply-noLf (x ∷ xs) [] p h = refl
 apply-noLf (x ∷ xs) (l ∷ ls) p h =
-    noLf-append (act x l) (apply xs ls) (act-noLf x l (and-left (actNoLf x) (every actNoLf xs) p) (and-left (lacks 10 l) (noLf ls) h))
-    (apply-noLf xs ls (and-right (actNoLf x) (every actNoLf xs) p) (and-right (lacks 10 l) (noLf ls) h))
+    noLf-append (act x l) (apply xs ls) (act-noLf x l (and-left (actNoLf x) (all actNoLf xs) p) (and-left (lacks 10 l) (noLf ls) h))
+    (apply-noLf xs ls (and-right (actNoLf x) (all actNoLf xs) p) (and-right (lacks 10 l) (noLf ls) h))
 
 -- the bytes of two runs of lines, one after the other
 pub unlines-append : (xs ys : List (List ℕ)) → unlines (xs ++ ys) ≡ unlines xs ++ unlines ys

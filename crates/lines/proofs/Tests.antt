@@ -76,8 +76,3 @@ T-left false b t = t
 pub T-right : (a b : Bool) → T (a && b) → T b
 T-right true b t = t
 T-right false b t = absurd t
-
--- a test passes at every element
-abbrev pub every : {A : Type 0} → (A → Bool) → List A → Bool
-every f [] = true
-every f (x ∷ xs) = f x && every f xs

@@ -14,6 +14,11 @@ abbrev pub among : List ℕ → ℕ → Bool
 among [] x = false
 among (b ∷ bs) x = eqb x b || among bs x
 
+-- every element passes a test
+abbrev pub all : {A : Type 0} → (A → Bool) → List A → Bool
+all f [] = true
+all f (x ∷ xs) = f x && all f xs
+
 -- what `&s[a..e]` is
 abbrev pub part : ℕ → ℕ → List ℕ → List ℕ
 part a e s = take (e - a) (drop a s)

@@ -10,29 +10,30 @@ use borrow.Author.Tests.{le-ltb, lt-ltb, ltb-true, eq-eqb, ne-eqb, eqb-true}
 use lib.Dec.{ltb, eqb}
 use lib.ListN.{length, getD, drop, length-drop, drop-of-length-le}
 use lib.Seq.{drop-cons}
+use Rattle.lines.specs.Lf.{all}
 use Rattle.lines.proofs.Tests.{and-false, and-left, and-right, and-both}
 use Rattle.names.specs.declared.Number.the-variants.{Of, None}
-use Rattle.names.specs.Names.{isDigit, allBy, allDigits, value, numbered, numberOf, zeros}
+use Rattle.names.specs.Names.{isDigit, allDigits, value, numbered, numberOf, zeros}
 
 -- ---- every byte passes a test
 
 module _ (f : ℕ → Bool) (s : List ℕ) (i : ℕ) where
-  pub all-stop : i < length s → f (getD s i 0) ≡ false → allBy f (drop i s) ≡ false
+  pub all-stop : i < length s → f (getD s i 0) ≡ false → all f (drop i s) ≡ false
   all-stop h e = rw (drop-cons s i 0 h, e)
 
-  pub all-on : i < length s → f (getD s i 0) ≡ true → allBy f (drop i s) ≡ allBy f (drop (i + 1) s)
+  pub all-on : i < length s → f (getD s i 0) ≡ true → all f (drop i s) ≡ all f (drop (i + 1) s)
   all-on h e = rw (add-one i, drop-cons s i 0 h, e)
 
-  pub all-end : length s ≤ i → allBy f (drop i s) ≡ true
+  pub all-end : length s ≤ i → all f (drop i s) ≡ true
   all-end h = rw (drop-of-length-le s h)
 
-pub all-append : (f : ℕ → Bool) (xs ys : List ℕ) → allBy f xs ≡ true → allBy f ys ≡ true → allBy f (xs ++ ys) ≡ true
+pub all-append : (f : ℕ → Bool) (xs ys : List ℕ) → all f xs ≡ true → all f ys ≡ true → all f (xs ++ ys) ≡ true
 all-append f [] ys p q = q
-all-append f (x ∷ xs) ys p q = and-both (and-left (f x) (allBy f xs) p) (all-append f xs ys (and-right (f x) (allBy f xs) p) q)
+all-append f (x ∷ xs) ys p q = and-both (and-left (f x) (all f xs) p) (all-append f xs ys (and-right (f x) (all f xs) p) q)
 
-pub all-more : (f g : ℕ → Bool) → ((x : ℕ) → f x ≡ true → g x ≡ true) → (xs : List ℕ) → allBy f xs ≡ true → allBy g xs ≡ true
+pub all-more : (f g : ℕ → Bool) → ((x : ℕ) → f x ≡ true → g x ≡ true) → (xs : List ℕ) → all f xs ≡ true → all g xs ≡ true
 all-more f g t [] p = refl
-all-more f g t (x ∷ xs) p = and-both (t x (and-left (f x) (allBy f xs) p)) (all-more f g t xs (and-right (f x) (allBy f xs) p))
+all-more f g t (x ∷ xs) p = and-both (t x (and-left (f x) (all f xs) p)) (all-more f g t xs (and-right (f x) (all f xs) p))
 
 -- ---- numbers
 

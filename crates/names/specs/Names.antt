@@ -4,7 +4,7 @@ use mathlib.Core.Bool.{Bool, true, false, cond, not, _&&_}
 use mathlib.Core.List.{List, [], _∷_, _++_}
 use lib.ListN.{length, drop}
 use lib.Dec.{eqb, ltb}
-use Rattle.lines.specs.Lf.{within, prefixed}
+use Rattle.lines.specs.Lf.{within, all, prefixed}
 use Rattle.text.specs.Class.{isName}
 use Rattle.names.specs.declared.Number.{Number}
 use Rattle.names.specs.declared.Number.the-variants as number
@@ -19,14 +19,9 @@ use Rattle.names.specs.declared.PhiName.the-variants as phi
 abbrev pub isDigit : ℕ → Bool
 isDigit d = within 48 57 d
 
--- every byte passes a test
-abbrev pub allBy : (ℕ → Bool) → List ℕ → Bool
-allBy f [] = true
-allBy f (x ∷ xs) = f x && allBy f xs
-
 -- digits alone
 abbrev pub allDigits : List ℕ → Bool
-allDigits ds = allBy (λ (d : ℕ). isDigit d) ds
+allDigits ds = all (λ (d : ℕ). isDigit d) ds
 
 -- the decimal value of digits, after digits of the value v
 abbrev pub value : ℕ → List ℕ → ℕ
@@ -120,7 +115,7 @@ phiIs v (phi.Phi q) = eqb (q .0) v
 
 -- name bytes alone
 abbrev pub allNames : List ℕ → Bool
-allNames l = allBy (λ (x : ℕ). isName x) l
+allNames l = all (λ (x : ℕ). isName x) l
 
 -- `is_simple_ident`: a letter, `_` or `$`, then name bytes
 unfoldable pub isIdent : List ℕ → Bool

@@ -9,11 +9,11 @@ use borrow.Author.Tests.{leb-true, leb-false, ltb-true, ltb-false, ne-eqb}
 use lib.Dec.{T, leb, ltb, leb→le, ltb→lt}
 use lib.ListN.{length, take, drop, length-append}
 use lib.Seq.{drop-append-seam, drop-append-add}
-use Rattle.lines.specs.Lf.{within}
+use Rattle.lines.specs.Lf.{within, all}
 use Rattle.text.specs.White.{isWhite}
 use Rattle.text.specs.Utf8Form.{seqLen, seqBy, begins, grammar}
 use Rattle.text.specs.Trim.{whiteChar, whiteHead, point, lead, orOn, fromOf, trimStart}
-use Rattle.lines.proofs.Tests.{is-in, is-out, is-above, is-below, every, T-left, T-right, and-false}
+use Rattle.lines.proofs.Tests.{is-in, is-out, is-above, is-below, T-left, T-right, and-false}
 use Rattle.text.proofs.Rows.{seqLen-le, rows-le, leadF0, lead-high}
 use Rattle.text.proofs.Whites.{white-yes, white-no}
 use Rattle.text.proofs.Trims.{lead-skip}
@@ -25,7 +25,7 @@ tailOk r = leb 0x80 (r .0) && leb (r .1) 0xBF
 
 abbrev pub rowOk : ℕ → List (ℕ × ℕ) → Bool
 rowOk b [] = false
-rowOk b (r ∷ g) = leb b (r .0) && (leb (r .0) (r .1) && ((ltb (r .1) 0x80 || ltb 0xBF (r .0)) && every tailOk g))
+rowOk b (r ∷ g) = leb b (r .0) && (leb (r .0) (r .1) && ((ltb (r .1) 0x80 || ltb 0xBF (r .0)) && all tailOk g))
 
 abbrev pub next : List (ℕ × ℕ) → ℕ
 next [] = 0
@@ -38,7 +38,7 @@ sorted b (g ∷ gs) = rowOk b g && sorted (next g) gs
 -- what a first byte leaves to ask of the rest
 pub data Led (gs : List (List (ℕ × ℕ))) (a : ℕ) : Type 0 where
   bad : ((ys : List ℕ) → seqBy gs (a ∷ ys) ≡ 0) → Led gs a
-  good : (g : List (ℕ × ℕ)) → T (every tailOk g) → (0x80 ≤ a → a ≤ 0xBF → ⊥) → ((ys : List ℕ) → seqBy gs (a ∷ ys) ≡ cond (begins g ys) (suc (length g)) 0) → Led gs a
+  good : (g : List (ℕ × ℕ)) → T (all tailOk g) → (0x80 ≤ a → a ≤ 0xBF → ⊥) → ((ys : List ℕ) → seqBy gs (a ∷ ys) ≡ cond (begins g ys) (suc (length g)) 0) → Led gs a
 
 out : (b a : ℕ) (gs : List (List (ℕ × ℕ))) (ys : List ℕ) → T (sorted b gs) → a < b → seqBy gs (a ∷ ys) ≡ 0
 out b a [] ys t h = refl
@@ -68,7 +68,7 @@ led b a ((r ∷ g) ∷ gs) t = go (leb (r .0) a) refl (leb a (r .1)) refl (led (
     later : T (sorted (suc (r .1)) gs)
     later = T-right (rowOk b (r ∷ g)) (sorted (suc (r .1)) gs) t
 
-    after : T ((ltb (r .1) 0x80 || ltb 0xBF (r .0)) && every tailOk g)
+    after : T ((ltb (r .1) 0x80 || ltb 0xBF (r .0)) && all tailOk g)
     after = T-right (leb (r .0) (r .1)) _ (T-right (leb b (r .0)) _ row)
 
     on : Led gs a → within (r .0) (r .1) a ≡ false → Led ((r ∷ g) ∷ gs) a
@@ -88,7 +88,7 @@ led b a ((r ∷ g) ∷ gs) t = go (leb (r .0) a) refl (leb a (r .1)) refl (led (
 
 pub record Formed (x : ℕ) (ys : List ℕ) : Type 0 where
   pub g : List (ℕ × ℕ)
-  pub tails : T (every tailOk g)
+  pub tails : T (all tailOk g)
   pub head : 0x80 ≤ x → x ≤ 0xBF → ⊥
   pub law : (zs : List ℕ) → seqLen (x ∷ zs) ≡ cond (begins g zs) (suc (length g)) 0
   pub fits : begins g ys ≡ true

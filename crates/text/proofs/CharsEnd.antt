@@ -9,11 +9,11 @@ use borrow.Author.Tests.{leb-true, leb-false, le-leb, eqb-true}
 use lib.Dec.{T, leb, eqb, leb→le}
 use lib.ListN.{length, take, drop, getD, length-append}
 use lib.Seq.{take-append-le, take-all, getD-append-add}
-use Rattle.lines.specs.Lf.{within}
+use Rattle.lines.specs.Lf.{within, all}
 use Rattle.text.specs.White.{isWhite}
 use Rattle.text.specs.Utf8Form.{seqLen, begins}
 use Rattle.text.specs.Trim.{whiteChar, whiteTail, point, orOn, endWhite, toOf, trimEnd}
-use Rattle.lines.proofs.Tests.{every, T-left, T-right}
+use Rattle.lines.proofs.Tests.{T-left, T-right}
 use Rattle.text.proofs.Rows.{seqLen-le}
 use Rattle.text.proofs.Whites.{tail-at, pick3}
 use Rattle.text.proofs.Trims.{back-stop, back-on, toOf-le}
@@ -28,13 +28,13 @@ abbrev Tails : List ℕ → Type 0
 Tails [] = Unit {0}
 Tails (y ∷ ys) = Tail y × Tails ys
 
-tails-of : (g : List (ℕ × ℕ)) (zs : List ℕ) → T (every tailOk g) → begins g zs ≡ true → length g ≡ length zs → Tails zs
+tails-of : (g : List (ℕ × ℕ)) (zs : List ℕ) → T (all tailOk g) → begins g zs ≡ true → length g ≡ length zs → Tails zs
 tails-of g [] t e l = tt
 tails-of [] (z ∷ zs) t e l = absurd (omega arith)
 tails-of (r ∷ g) (z ∷ zs) t e l = go (leb (r .0) z) refl (leb z (r .1)) refl e (λ q. tails-of g zs (T-right (tailOk r) _ t) q (omega arith))
   where
     ok : T (tailOk r)
-    ok = T-left (tailOk r) (every tailOk g) t
+    ok = T-left (tailOk r) (all tailOk g) t
 
     go : (a : Bool) → leb (r .0) z ≡ a → (b : Bool) → leb z (r .1) ≡ b → a && b && begins g zs ≡ true → (begins g zs ≡ true → Tails zs) → Tails (z ∷ zs)
     go true p true q e f =

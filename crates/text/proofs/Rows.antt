@@ -9,9 +9,9 @@ use borrow.Author.Tests.{leb-true, leb-false}
 use lib.Dec.{T, leb, leb→le}
 use lib.ListN.{length, getD, drop}
 use lib.Seq.{drop-cons, getD-drop}
-use Rattle.lines.specs.Lf.{within}
+use Rattle.lines.specs.Lf.{within, all}
 use Rattle.text.specs.Utf8Form.{seqLen, seqBy, begins, grammar}
-use Rattle.lines.proofs.Tests.{is-in, is-out, and-true, and-false, every, T-left, T-right}
+use Rattle.lines.proofs.Tests.{is-in, is-out, and-true, and-false, T-left, T-right}
 
 module _ (a b c d : ℕ) where
   pub lead1 : a < 0x80 → seqLen (a ∷ b ∷ c ∷ d ∷ []) ≡ 1
@@ -156,7 +156,7 @@ cond-le : (b : Bool) (x y m : ℕ) → x ≤ m → y ≤ m → cond b x y ≤ m
 cond-le true x y m p q = p
 cond-le false x y m p q = q
 
-pub rows-le : (m : ℕ) (gs : List (List (ℕ × ℕ))) (l : List ℕ) → T (every (λ g. leb (length g) m) gs) → seqBy gs l ≤ m
+pub rows-le : (m : ℕ) (gs : List (List (ℕ × ℕ))) (l : List ℕ) → T (all (λ g. leb (length g) m) gs) → seqBy gs l ≤ m
 rows-le m [] l t = zero-le
 rows-le m (g ∷ gs) l t =
     cond-le (begins g l) (length g) (seqBy gs l) m (leb→le (length g) m (T-left (leb (length g) m) _ t)) (rows-le m gs l (T-right (leb (length g) m) _ t))

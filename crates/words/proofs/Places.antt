@@ -8,9 +8,9 @@ use native.Mathlib.Omega.{arith}
 use borrow.Author.Tests.{le-ltb, lt-ltb}
 use lib.ListN.{length, take, drop, getD, length-append, length-take, length-drop}
 use lib.Seq.{drop-drop, take-append-seam}
-use Rattle.lines.specs.Lf.{part, prefixed, same, lacks}
+use Rattle.lines.specs.Lf.{part, prefixed, same, lacks, all}
 use Rattle.lines.proofs.LfLaws.{lacks-append, lacks-take, lacks-drop}
-use Rattle.lines.proofs.Tests.{and-left, and-right, and-both, every}
+use Rattle.lines.proofs.Tests.{and-left, and-right, and-both}
 use Rattle.text.specs.Class.{isName}
 use Rattle.text.specs.declared.Span.{Span}
 use Rattle.names.specs.Names.{regText}
@@ -26,26 +26,26 @@ use Rattle.words.proofs.HitLaws.{hits-runs}
 
 -- ---- what stands at a hit
 
-every-append : {A : Type 0} (f : A → Bool) (xs ys : List A) → every f xs ≡ true → every f ys ≡ true → every f (xs ++ ys) ≡ true
+every-append : {A : Type 0} (f : A → Bool) (xs ys : List A) → all f xs ≡ true → all f ys ≡ true → all f (xs ++ ys) ≡ true
 every-append f [] ys p q = q
-every-append f (x ∷ xs) ys p q = and-both (and-left (f x) (every f xs) p) (every-append f xs ys (and-right (f x) (every f xs) p) q)
+every-append f (x ∷ xs) ys p q = and-both (and-left (f x) (all f xs) p) (every-append f xs ys (and-right (f x) (all f xs) p) q)
 
 module _ (p s : List ℕ) where
-  one-here : (l : List ℕ) (i : ℕ) (b : Bool) → l ≡ drop i s → prefixed p l ≡ true → every (λ (j : ℕ). prefixed p (drop j s)) (hitHere p l i b) ≡ true
+  one-here : (l : List ℕ) (i : ℕ) (b : Bool) → l ≡ drop i s → prefixed p l ≡ true → all (λ (j : ℕ). prefixed p (drop j s)) (hitHere p l i b) ≡ true
   one-here l i b e q = go (b || isName (getD l (length p) 0))
     where
-      go : (t : Bool) → every (λ (j : ℕ). prefixed p (drop j s)) (cond t [] (i ∷ [])) ≡ true
+      go : (t : Bool) → all (λ (j : ℕ). prefixed p (drop j s)) (cond t [] (i ∷ [])) ≡ true
       go true = refl
       go false = and-both (ap (prefixed p) (sym e) ∙ q) refl
 
   -- p stands at each hit
-  at-hits : (l : List ℕ) (k i : ℕ) (b : Bool) → l ≡ drop i s → every (λ (j : ℕ). prefixed p (drop j s)) (hitsGo l p k i b) ≡ true
+  at-hits : (l : List ℕ) (k i : ℕ) (b : Bool) → l ≡ drop i s → all (λ (j : ℕ). prefixed p (drop j s)) (hitsGo l p k i b) ≡ true
   unfolding hitsGo
   at-hits [] k i b e = refl
   at-hits (x ∷ xs) zero i b e = go (prefixed p (x ∷ xs)) refl (λ k. at-hits xs k (suc i) (isName x) (ap (drop 1) e ∙ drop-drop 1 i s ∙ ap (λ (n : ℕ). drop n s) (add-one i)))
     where
-      go : (t : Bool) → prefixed p (x ∷ xs) ≡ t → ((k : ℕ) → every (λ (j : ℕ). prefixed p (drop j s)) (hitsGo xs p k (suc i) (isName x)) ≡ true) →
-          every (λ (j : ℕ). prefixed p (drop j s)) (cond t (hitHere p (x ∷ xs) i b ++ hitsGo xs p (length p - 1) (suc i) (isName x)) (hitsGo xs p 0 (suc i) (isName x))) ≡ true
+      go : (t : Bool) → prefixed p (x ∷ xs) ≡ t → ((k : ℕ) → all (λ (j : ℕ). prefixed p (drop j s)) (hitsGo xs p k (suc i) (isName x)) ≡ true) →
+          all (λ (j : ℕ). prefixed p (drop j s)) (cond t (hitHere p (x ∷ xs) i b ++ hitsGo xs p (length p - 1) (suc i) (isName x)) (hitsGo xs p 0 (suc i) (isName x))) ≡ true
       go true q f = every-append (λ (j : ℕ). prefixed p (drop j s)) (hitHere p (x ∷ xs) i b) (hitsGo xs p (length p - 1) (suc i) (isName x)) (one-here (x ∷ xs) i b e q) (f (length p - 1))
       go false q f = f 0
   at-hits (x ∷ xs) (suc k) i b e = at-hits xs k (suc i) (isName x) (ap (drop 1) e ∙ drop-drop 1 i s ∙ ap (λ (n : ℕ). drop n s) (add-one i))

@@ -5,7 +5,8 @@ use Prim.Native.Nat.{_-_}
 use native.Mathlib.Omega.{arith}
 use borrow.Author.Tests.{not-true, not-false}
 use lib.ListN.{length, drop}
-use Rattle.expr.specs.Pure.{isNumberByte, all}
+use Rattle.lines.specs.Lf.{all}
+use Rattle.expr.specs.Pure.{isNumberByte}
 use Rattle.expr.proofs.SpaceLaws.{all-stop, all-more, all-end}
 use Rattle.expr.proofs.all_number.Statement.{statement}
 use Rattle.expr.proofs.all_number.Tie as tie

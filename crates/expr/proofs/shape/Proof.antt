@@ -4,8 +4,9 @@ use mathlib.Core.Path.{_≡_, sym, _∙_}
 use mathlib.Core.List.{List}
 use Prim.Native.Nat.{ℕ}
 use mathlib.Core.Bool.{cond}
+use Rattle.lines.specs.Lf.{all}
 use Rattle.names.specs.Names.{regOf, isIdent}
-use Rattle.expr.specs.Pure.{all, namesReg, isWord, startsNumber, isNumberByte, wrapped, isQuoted, shapeOf}
+use Rattle.expr.specs.Pure.{namesReg, isWord, startsNumber, isNumberByte, wrapped, isQuoted, shapeOf}
 use Rattle.expr.specs.declared.kinds.Shape.{Shape}
 use Rattle.expr.specs.declared.kinds.Shape.the-variants.{Plain, Array}
 use Rattle.expr.specs.declared.kinds.Purity.the-variants.{Stable, Ident, Effectful}

@@ -1,0 +1,91 @@
+-- `ident_words`: the words of an expression that are no registers. Assumes nothing.
+use Prim.Native.Nat.{ℕ, zero, suc, _+_, _-_, _%_, max}
+use mathlib.Core.Bool.{Bool, true, false, cond, not, _&&_, _||_}
+use mathlib.Core.List.{List, [], _∷_, _++_}
+use lib.ListN.{length, take, drop}
+use Rattle.lines.specs.Lf.{within, part, prefixed}
+use Rattle.text.specs.Class.{isName}
+use Rattle.text.specs.Utf8Form.{seqLen}
+use Rattle.text.specs.Trim.{point}
+use Rattle.lexical.specs.declared.Word.{Word}
+use Rattle.lexical.specs.declared.Word.the-variants as variant
+use Rattle.lexical.specs.Lex.{stripLexical}
+
+-- the bytes of the character at the head of a text; a byte that begins none stands alone
+unfoldable pub charLen : List ℕ → ℕ
+charLen l = max 1 (seqLen l)
+
+-- the characters of a text; k bytes of one that has begun are still to pass
+unfoldable pub charsGo : List ℕ → ℕ → List (List ℕ)
+unfolding charLen
+charsGo [] k = []
+charsGo (x ∷ xs) (suc k) = charsGo xs k
+charsGo (x ∷ xs) zero = take (charLen (x ∷ xs)) (x ∷ xs) ∷ charsGo xs (charLen (x ∷ xs) - 1)
+
+-- `is_ident_byte(ch as u8)`: the character's low 8 bits are a name byte
+abbrev pub nameLow : List ℕ → Bool
+nameLow c = isName (point c % 256)
+
+-- `ch.is_ascii_digit()`
+abbrev pub digitChar : List ℕ → Bool
+digitChar c = within 48 57 (point c)
+
+-- nothing
+abbrev pub empty : List ℕ → Bool
+empty [] = true
+empty (x ∷ xs) = false
+
+-- ASCII digits, or nothing
+abbrev pub digits : List ℕ → Bool
+digits [] = true
+digits (d ∷ ds) = within 48 57 d && digits ds
+
+-- no word: nothing, or an `r` with digits or none
+abbrev pub noWord : List ℕ → Bool
+noWord cur = empty cur || (prefixed (114 ∷ []) cur && digits (drop 1 cur))
+
+-- a word that has ended, where it is one
+unfoldable pub flushWord : List ℕ → List (List ℕ)
+flushWord cur = cond (noWord cur) [] (cur ∷ [])
+
+-- the character c goes on with the word so far, or begins one where there is none
+abbrev pub joins : List ℕ → Bool → Bool
+joins c none = nameLow c && (not (digitChar c) || not none)
+
+-- the words of characters; `cur` is the word so far
+unfoldable pub wordsGo : List (List ℕ) → List ℕ → List (List ℕ)
+unfolding flushWord
+wordsGo [] cur = flushWord cur
+wordsGo (c ∷ cs) cur =
+    let more = wordsGo cs (cur ++ c) in
+    let ends = flushWord cur ++ wordsGo cs [] in
+    cond (joins c (empty cur)) more ends
+
+-- the words of a cleaned text
+unfoldable pub wordsIn : List ℕ → List (List ℕ)
+unfolding charsGo wordsGo
+wordsIn t = wordsGo (charsGo t 0) []
+
+-- `ident_words`
+unfoldable pub identWords : List ℕ → List (List ℕ)
+unfolding wordsIn stripLexical
+identWords s = wordsIn (stripLexical s)
+
+-- the first word of characters whose place is i, where it begins and where it ends; `cur` is the word so far, which ends at i
+unfoldable pub wordFrom : List (List ℕ) → ℕ → List ℕ → Word
+wordFrom [] i cur = cond (noWord cur) variant.None (variant.At (record { from = i - length cur; to = i }))
+wordFrom (c ∷ cs) i cur =
+    let more = wordFrom cs (i + length c) (cur ++ c) in
+    let on = wordFrom cs (i + length c) [] in
+    cond (joins c (empty cur)) more (cond (noWord cur) on (variant.At (record { from = i - length cur; to = i })))
+
+-- the first word at or after the place i, where a character begins
+unfoldable pub nextWord : List ℕ → ℕ → Word
+unfolding charsGo wordFrom
+nextWord t i = wordFrom (charsGo (drop i t) 0) i []
+
+-- the words from a first one on: it, and those after its end
+unfoldable pub wordsBy : List ℕ → Word → List (List ℕ)
+unfolding charsGo wordsGo
+wordsBy t (variant.At w) = part (w .from) (w .to) t ∷ wordsGo (charsGo (drop (w .to) t) 0) []
+wordsBy t variant.None = []

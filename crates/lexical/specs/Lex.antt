@@ -1,0 +1,143 @@
+-- Cleaning a line: `strip_lexical`. Comments go, and a literal leaves `S`. Assumes nothing.
+-- The Rust goes over characters. A byte of a character of several bytes is no quote, no `\`, no `/` and no bracket, so bytes do as well.
+use Prim.Native.Nat.{ℕ, zero, suc, _+_, _-_}
+use mathlib.Core.Bool.{Bool, true, false, cond, not, _&&_, _||_}
+use mathlib.Core.List.{List, [], _∷_, _++_}
+use lib.ListN.{length, take, drop, getD}
+use lib.Dec.{eqb, leb}
+use Rattle.lines.specs.Lf.{prefixed}
+use Rattle.text.specs.Class.{isQuote, opensPattern}
+use Rattle.text.specs.Trim.{whiteChar, toOf}
+use Rattle.lexical.specs.declared.Kind.{Kind}
+use Rattle.lexical.specs.declared.Kind.the-variants.{Kept, Literal, Gone}
+use Rattle.lexical.specs.declared.Token.{Token}
+use Rattle.lexical.specs.declared.Tail.{Tail}
+use Rattle.lexical.specs.declared.Step.{Step}
+
+-- ---- how far a literal or a comment goes, counted after what opened it: with what closes it, or to the end where nothing does
+
+-- a quote q: `\` takes the next character along
+unfoldable pub quoteLen : List ℕ → ℕ → ℕ
+quoteLen [] q = 0
+quoteLen (x ∷ []) q = 1
+quoteLen (x ∷ y ∷ l) q =
+    let escaped = suc (suc (quoteLen l q)) in
+    let on = suc (quoteLen (y ∷ l) q) in
+    cond (eqb x 92) escaped (cond (eqb x q) 1 on)
+
+-- a pattern: a `/` inside a class `[..]` does not close it
+unfoldable pub patternLen : List ℕ → Bool → ℕ
+patternLen [] inside = 0
+patternLen (x ∷ []) inside = 1
+patternLen (x ∷ y ∷ l) inside =
+    let escaped = suc (suc (patternLen l inside)) in
+    let opened = suc (patternLen (y ∷ l) true) in
+    let closed = suc (patternLen (y ∷ l) false) in
+    let on = suc (patternLen (y ∷ l) inside) in
+    cond (eqb x 92) escaped (cond (eqb x 91) opened (cond (eqb x 93) closed (cond (eqb x 47 && not inside) 1 on)))
+
+-- a block comment, after its `/*`
+unfoldable pub commentLen : List ℕ → ℕ
+commentLen [] = 0
+commentLen (x ∷ []) = 1
+commentLen (x ∷ y ∷ l) =
+    let on = suc (commentLen (y ∷ l)) in
+    cond (eqb x 42 && eqb y 47) 2 on
+
+-- ---- one token
+
+-- the last character of a text without the white space at its end, or 256 where there is none; of a character of several bytes its last
+unfoldable pub lastOf : List ℕ → ℕ
+lastOf out = cond (eqb (toOf out) 0) 256 (getD out (toOf out - 1) 0)
+
+-- `out.trim_end().chars().last().map(regex_prev).unwrap_or(true)`: after this last character a `/` starts a pattern
+abbrev pub patternAfter : ℕ → Bool
+patternAfter last = eqb last 256 || opensPattern last
+
+-- a token of n bytes
+abbrev pub token : ℕ → Kind → Token
+token n k = record { size = n; kind = k }
+
+-- the token that x begins, before xs: the tests in the order of the Rust
+unfoldable pub tokenOf : ℕ → ℕ → List ℕ → Token
+unfolding quoteLen patternLen commentLen
+tokenOf last x xs =
+    cond (eqb x 47 && prefixed (47 ∷ []) xs) (token (suc (length xs)) Gone)
+    (cond (eqb x 47 && prefixed (42 ∷ []) xs) (token (2 + commentLen (drop 1 xs)) Gone)
+    (cond (isQuote x) (token (suc (quoteLen xs x)) Literal)
+    (cond (eqb x 47 && patternAfter last) (token (suc (patternLen xs false)) Literal)
+    (token 1 Kept))))
+
+-- the token at the head of a text; where nothing is left, one of no bytes
+unfoldable pub tokenAt : ℕ → List ℕ → Token
+unfolding tokenOf
+tokenAt last [] = token 0 Gone
+tokenAt last (x ∷ xs) = tokenOf last x xs
+
+-- what a token that x begins leaves
+abbrev pub leaves : Kind → ℕ → List ℕ
+leaves Kept x = x ∷ []
+leaves Literal x = 83 ∷ []
+leaves Gone x = []
+
+-- ---- the whole line
+
+-- the text left in the end: `out` is left so far, and k bytes of a token are still to pass
+unfoldable pub lexGo : List ℕ → ℕ → List ℕ → List ℕ
+unfolding lastOf tokenOf
+lexGo [] k out = out
+lexGo (x ∷ xs) (suc k) out = lexGo xs k out
+lexGo (x ∷ xs) zero out =
+    let t : Token = tokenOf (lastOf out) x xs in
+    lexGo xs (t .size - 1) (out ++ leaves (t .kind) x)
+
+-- `strip_lexical`
+unfoldable pub stripLexical : List ℕ → List ℕ
+unfolding lexGo
+stripLexical l = lexGo l 0 []
+
+-- ---- the same with a digest of the text left so far in the place of that text
+
+-- the byte k before the end of a text, or 0 where there is none
+abbrev pub backByte : ℕ → List ℕ → ℕ
+backByte k l = cond (leb k (length l)) (getD l (length l - k) 0) 0
+
+-- a text without its last k bytes
+abbrev pub front : ℕ → List ℕ → List ℕ
+front k l = take (length l - k) l
+
+-- the last two bytes of a text, and its last character, that of it without its last byte, and that of it without its last two
+unfoldable pub tailOf : List ℕ → Tail
+unfolding lastOf
+tailOf out = record {
+  byte = backByte 1 out;
+  byte2 = backByte 2 out;
+  last = lastOf out;
+  last2 = lastOf (front 1 out);
+  last3 = lastOf (front 2 out);
+}
+
+-- the last character once b stands after the text: b, or, where b is the end of a white space, that of the text before it
+abbrev pub lastAfter : Tail → ℕ → ℕ
+lastAfter t b =
+    cond (whiteChar (b ∷ [])) (t .last)
+    (cond (whiteChar (t .byte ∷ b ∷ [])) (t .last2)
+    (cond (whiteChar (t .byte2 ∷ t .byte ∷ b ∷ [])) (t .last3)
+    b))
+
+-- the digest of the text with b after it
+unfoldable pub pushed : Tail → ℕ → Tail
+pushed t b = record { byte = b; byte2 = t .byte; last = lastAfter t b; last2 = t .last; last3 = t .last2 }
+
+-- the digest of the text with further bytes after it
+unfoldable pub grown : Tail → List ℕ → Tail
+unfolding pushed
+grown t [] = t
+grown t (b ∷ bs) = grown (pushed t b) bs
+
+-- one token of a text whose place is i: the place after it, what becomes of it, and the digest with what it leaves
+unfoldable pub stepOf : ℕ → Tail → List ℕ → Step
+unfolding tokenAt grown
+stepOf i t l =
+    let k : Token = tokenAt (t .last) l in
+    record { next = i + k .size; kind = k .kind; tail = grown t (leaves (k .kind) (getD l 0 0)) }

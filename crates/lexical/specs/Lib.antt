@@ -1,0 +1,3 @@
+pub mod Lex
+pub mod Phi
+pub mod Idents

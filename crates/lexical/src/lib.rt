@@ -1,0 +1,429 @@
+// Cleaning a line: comments go, and a literal leaves `S`; what is read from a cleaned line.
+ghost use mathlib.Core.Path.{_≡_};
+ghost use mathlib.Core.List.{[]};
+ghost use mathlib.Core.Bool.{false};
+ghost use Prim.Native.Nat.{_+_, _≤_};
+ghost use lib.ListN.{length, drop};
+ghost use Rattle.lines.specs.Out.{Wrote};
+ghost use Rattle.text.specs.Trim.{point, whiteChar};
+ghost use Rattle.lexical.specs.Lex.{quoteLen, patternLen, commentLen, patternAfter, token, tokenAt, leaves, lastOf, stripLexical, tailOf, lastAfter, pushed, grown, stepOf};
+ghost use Rattle.lexical.specs.Phi.{phiRhsPure, sees, seesAll};
+ghost use Rattle.lexical.specs.Idents.{charLen, joins, noWord, nextWord};
+
+// What becomes of a token: its one byte is kept, a literal leaves `S`, a comment goes.
+pub enum Kind {
+    Kept,
+    Literal,
+    Gone,
+}
+
+// How many bytes a token has, and what becomes of it.
+pub struct Token {
+    pub size: usize,
+    pub kind: Kind,
+}
+
+// Where the quote `q` ends that was opened just before `i`: past what closes it, or at the end.
+fn quote_end(s: &[u8], i: usize, q: u8) -> usize
+    ensures { λ r. ⌜ r ≡ i + quoteLen (drop i (now (s .entry))) q ⌝ }
+{
+    let mut j = i;
+    while j < s.len() {
+        let x = s[j];
+        let next = j + 1;
+        if x == b'\\' {
+            j = lines::after(s, next);
+        } else if x == q {
+            return next;
+        } else {
+            j = next;
+        }
+    }
+    j
+}
+
+// Where the pattern ends that was opened just before `i`. A `/` inside a class does not close it.
+fn pattern_end(s: &[u8], i: usize) -> usize
+    ensures { λ r. ⌜ r ≡ i + patternLen (drop i (now (s .entry))) false ⌝ }
+{
+    let mut j = i;
+    let mut inside = false;
+    while j < s.len() {
+        let next = j + 1;
+        match s[j] {
+            b'\\' => j = lines::after(s, next),
+            b'[' => {
+                inside = true;
+                j = next;
+            }
+            b']' => {
+                inside = false;
+                j = next;
+            }
+            b'/' => {
+                if inside {
+                    j = next;
+                } else {
+                    return next;
+                }
+            }
+            _ => j = next,
+        }
+    }
+    j
+}
+
+// Where the block comment ends whose `/*` stands just before `i`.
+fn comment_end(s: &[u8], i: usize) -> usize
+    ensures { λ r. ⌜ r ≡ i + commentLen (drop i (now (s .entry))) ⌝ }
+{
+    let mut j = i;
+    while j < s.len() {
+        let next = j + 1;
+        if s[j] == b'*' {
+            if lines::byte_at(s, next) == b'/' {
+                return next + 1;
+            }
+            j = next;
+        } else {
+            j = next;
+        }
+    }
+    j
+}
+
+// Whether a `/` after this last character starts a pattern; 256 stands for none.
+fn pattern_after(last: u16) -> bool
+    ensures { λ r. ⌜ r ≡ patternAfter last ⌝ }
+{
+    if last == 256 {
+        return true;
+    }
+    if last < 256 {
+        return text::opens_pattern(last as u8);
+    }
+    false
+}
+
+// A token of its size and its kind.
+fn sized(size: usize, kind: Kind) -> Token
+    ensures { λ r. ⌜ r ≡ token size kind ⌝ }
+{
+    Token { size, kind }
+}
+
+// The token that begins at `i`, where `last` is the last character left before it that is no white space.
+pub fn token_at(s: &[u8], i: usize, last: u16) -> Token
+    ensures { λ r. ⌜ r ≡ tokenAt last (drop i (now (s .entry))) ⌝ }
+{
+    if s.len() <= i {
+        return sized(0, Kind::Gone);
+    }
+    let x = s[i];
+    let next = i + 1;
+    if x == b'/' {
+        let y = lines::byte_at(s, next);
+        if y == b'/' {
+            return sized(s.len() - i, Kind::Gone);
+        }
+        if y == b'*' {
+            return sized(comment_end(s, next + 1) - i, Kind::Gone);
+        }
+        if pattern_after(last) {
+            return sized(pattern_end(s, next) - i, Kind::Literal);
+        }
+        return sized(1, Kind::Kept);
+    }
+    if text::is_quote(x) {
+        return sized(quote_end(s, next, x) - i, Kind::Literal);
+    }
+    sized(1, Kind::Kept)
+}
+
+// What decides the last character of a text as it grows: its last two bytes, 0 where there is none; and the last character that is
+// no white space, 256 where there is none, of the text, of it without its last byte, and of it without its last two.
+pub struct Tail {
+    pub byte: u8,
+    pub byte2: u8,
+    pub last: u16,
+    pub last2: u16,
+    pub last3: u16,
+}
+
+// The tail of an empty text.
+pub fn no_tail() -> Tail
+    ensures { λ r. ⌜ r ≡ tailOf [] ⌝ }
+{
+    Tail {
+        byte: 0,
+        byte2: 0,
+        last: 256,
+        last2: 256,
+        last3: 256,
+    }
+}
+
+// The code point of a character.
+fn code_point(c: &[u8]) -> u32
+    ensures { λ r. ⌜ r ≡ point (now (c .entry)) ⌝ }
+{
+    let x = lines::byte_at(c, 0) as u32;
+    let y = lines::byte_at(c, 1) as u32;
+    let z = lines::byte_at(c, 2) as u32;
+    let w = lines::byte_at(c, 3) as u32;
+    match c.len() {
+        0 => 0,
+        1 => x,
+        2 => x % 32 * 64 + y % 64,
+        3 => x % 16 * 4096 + y % 64 * 64 + z % 64,
+        _ => x % 8 * 262144 + y % 64 * 4096 + z % 64 * 64 + w % 64,
+    }
+}
+
+// Whether bytes are one character, and it is white space.
+fn white_char(c: &[u8]) -> bool
+    ensures { λ r. ⌜ r ≡ whiteChar (now (c .entry)) ⌝ }
+{
+    if text::seq_at(c, 0) == c.len() {
+        return text::is_white(code_point(c));
+    }
+    false
+}
+
+// The last character that is no white space, once `b` stands after the text.
+fn last_after(t: Tail, b: u8) -> u16
+    ensures { λ r. ⌜ r ≡ lastAfter t b ⌝ }
+{
+    if b < 128 {
+        if text::is_white(b as u32) {
+            return t.last;
+        }
+        return b as u16;
+    }
+    let x = t.byte;
+    let y = t.byte2;
+    if white_char(&[x, b]) {
+        return t.last2;
+    }
+    if white_char(&[y, x, b]) {
+        return t.last3;
+    }
+    b as u16
+}
+
+// The tail once `b` stands after the text.
+pub fn push(t: Tail, b: u8) -> Tail
+    ensures { λ r. ⌜ r ≡ pushed t b ⌝ }
+{
+    Tail {
+        byte: b,
+        byte2: t.byte,
+        last: last_after(t, b),
+        last2: t.last,
+        last3: t.last2,
+    }
+}
+
+// The tail with what a token leaves that begins with `b`.
+fn grow(t: Tail, kind: Kind, b: u8) -> Tail
+    ensures { λ r. ⌜ r ≡ grown t (leaves kind b) ⌝ }
+{
+    match kind {
+        Kind::Kept => push(t, b),
+        Kind::Literal => push(t, b'S'),
+        Kind::Gone => t,
+    }
+}
+
+// One token of a line: where the next begins, what becomes of it, and the tail of the text left after it.
+pub struct Step {
+    pub next: usize,
+    pub kind: Kind,
+    pub tail: Tail,
+}
+
+// The step from `i` on, where `tail` is that of the text left so far.
+pub fn step_at(s: &[u8], i: usize, tail: Tail) -> Step
+    ensures { λ r. ⌜ r ≡ stepOf i tail (drop i (now (s .entry))) ⌝ }
+{
+    let token = token_at(s, i, tail.last);
+    let kind = token.kind;
+    let b = lines::byte_at(s, i);
+    Step {
+        next: i + token.size,
+        kind,
+        tail: grow(tail, kind, b),
+    }
+}
+
+// Writes what a token leaves that begins with `b`.
+fn put_left(out: &mut [u8], o: usize, kind: Kind, b: u8) -> usize
+    requires { ⌜ o + length (leaves kind b) ≤ length (now out) ⌝ }
+    ensures { λ r. ⌜ Wrote (now (out .entry)) o (leaves kind b) (now (out .exit)) r ⌝ }
+{
+    match kind {
+        Kind::Kept => lines::put_byte(out, o, b),
+        Kind::Literal => lines::put_byte(out, o, b'S'),
+        Kind::Gone => o,
+    }
+}
+
+// Writes the cleaned line at `o`, and returns the place after it.
+pub fn strip_lexical(s: &[u8], out: &mut [u8], o: usize) -> usize
+    requires { ⌜ o + length (stripLexical (now s)) ≤ length (now out) ⌝ }
+    ensures { λ r. ⌜ Wrote (now (out .entry)) o (stripLexical (now (s .entry))) (now (out .exit)) r ⌝ }
+{
+    let mut p = o;
+    let mut i = 0;
+    let mut tail = no_tail();
+    while i < s.len() {
+        let b = s[i];
+        let step = step_at(s, i, tail);
+        let kind = step.kind;
+        p = put_left(out, p, kind, b);
+        tail = step.tail;
+        i = step.next;
+    }
+    p
+}
+
+// The last character of the cleaned line that is no white space, or 256 where there is none; of several bytes the last.
+pub fn last_char(s: &[u8]) -> u16
+    ensures { λ r. ⌜ r ≡ lastOf (stripLexical (now (s .entry))) ⌝ }
+{
+    let mut i = 0;
+    let mut tail = no_tail();
+    while i < s.len() {
+        let step = step_at(s, i, tail);
+        tail = step.tail;
+        i = step.next;
+    }
+    tail.last
+}
+
+// What of the bytes seen decides whether a value is pure: the last, whether it is an `=` that may still become `==`, and whether
+// there was a call, a member, an index or an assignment.
+pub struct Seen {
+    pub prev: u8,
+    pub waits: bool,
+    pub effect: bool,
+}
+
+// The byte `c` is seen.
+fn see(w: Seen, c: u8) -> Seen
+    ensures { λ r. ⌜ r ≡ sees w c ⌝ }
+{
+    let p = w.prev;
+    let equals = c == b'=';
+    let compares = (p == b'=') | ((p == b'!') | ((p == b'<') | (p == b'>')));
+    let reaches = (c == b'(') | ((c == b'[') | (c == b'.'));
+    Seen {
+        prev: c,
+        waits: equals & !compares,
+        effect: w.effect | (reaches | (w.waits & !equals)),
+    }
+}
+
+// What a token leaves that begins with `b` is seen.
+fn see_left(w: Seen, kind: Kind, b: u8) -> Seen
+    ensures { λ r. ⌜ r ≡ seesAll w (leaves kind b) ⌝ }
+{
+    match kind {
+        Kind::Kept => see(w, b),
+        Kind::Literal => see(w, b'S'),
+        Kind::Gone => w,
+    }
+}
+
+// Whether a value of a phi has no call, no member, no index and no assignment.
+pub fn phi_rhs_pure(s: &[u8]) -> bool
+    ensures { λ r. ⌜ r ≡ phiRhsPure (now (s .entry)) ⌝ }
+{
+    let mut i = 0;
+    let mut tail = no_tail();
+    let mut seen = Seen {
+        prev: b' ',
+        waits: false,
+        effect: false,
+    };
+    while i < s.len() {
+        let b = s[i];
+        let step = step_at(s, i, tail);
+        let kind = step.kind;
+        seen = see_left(seen, kind, b);
+        tail = step.tail;
+        i = step.next;
+    }
+    !(seen.effect | seen.waits)
+}
+
+// The place of a word, or none.
+pub enum Word {
+    At(text::Span),
+    None,
+}
+
+// How many bytes the character at a place has; a byte that begins none stands alone.
+fn char_len(t: &[u8], i: usize) -> usize
+    ensures { λ r. ⌜ r ≡ charLen (drop i (now (t .entry))) ⌝ }
+{
+    let n = text::seq_at(t, i);
+    if n == 0 {
+        return 1;
+    }
+    n
+}
+
+// Whether a character goes on with the word so far, or begins one where there is `none`.
+fn joins_word(c: &[u8], none: bool) -> bool
+    ensures { λ r. ⌜ r ≡ joins (now (c .entry)) none ⌝ }
+{
+    let p = code_point(c);
+    let low = (p % 256) as u8;
+    text::is_name_byte(low) & (!((48 <= p) & (p <= 57)) | !none)
+}
+
+// Whether a run is no word: nothing, or `r` with digits or none.
+fn is_no_word(w: &[u8]) -> bool
+    ensures { λ r. ⌜ r ≡ noWord (now (w .entry)) ⌝ }
+{
+    if w.len() == 0 {
+        return true;
+    }
+    if w[0] != b'r' {
+        return false;
+    }
+    let mut i = 1;
+    while i < w.len() {
+        if !((48 <= w[i]) & (w[i] <= 57)) {
+            return false;
+        }
+        i += 1;
+    }
+    true
+}
+
+// The first word at or after the place `i` of a cleaned text, where a character begins: from the place 0, and then from the end of
+// the last, these are the words of the text.
+pub fn next_word(t: &[u8], i: usize) -> Word
+    ensures { λ r. ⌜ r ≡ nextWord (now (t .entry)) i ⌝ }
+{
+    let mut a = i;
+    let mut j = i;
+    while j < t.len() {
+        let e = j + char_len(t, j);
+        if joins_word(&t[j..e], a == j) {
+            j = e;
+        } else {
+            if !is_no_word(&t[a..j]) {
+                return Word::At(text::Span { from: a, to: j });
+            }
+            a = e;
+            j = e;
+        }
+    }
+    if !is_no_word(lines::cut(t, a, j)) {
+        return Word::At(text::Span { from: a, to: j });
+    }
+    Word::None
+}

@@ -1,0 +1,15 @@
+pub mod Regions
+pub mod Numbers
+pub mod Stacks
+pub mod Blocks
+pub mod Regional
+pub mod Paths
+pub mod Fills
+pub mod Parents
+pub mod Starts
+pub mod Tables
+pub mod Walks
+pub mod Nests
+pub mod Rooms
+pub mod Lengths
+pub mod Examples

@@ -1,0 +1,154 @@
+-- The loops of `walk_line` and `place_lines`. Assumes nothing.
+use Prim.Native.Nat.{ℕ, zero, suc, _+_, _-_, _≤_, _<_, _^_, min}
+use mathlib.Core.Path.{_≡_, refl, sym, ap, _∙_}
+use mathlib.Core.Bool.{Bool, true, false, cond, _||_}
+use mathlib.Core.List.{List, [], _∷_, _++_, append-assoc}
+use native.Mathlib.Omega.{arith}
+use borrow.Author.Tests.{eq-eqb, ne-eqb, ltb-true, ltb-false}
+use lib.ListN.{length, getD, set, take, drop, length-take, List·getD-eq-default}
+use lib.Seq.{getD-take, getD-drop}
+use lib.Dec.{eqb, ltb}
+use Rattle.lines.specs.Lf.{part, upTo, linesOf}
+use Rattle.lines.proofs.Tests.{or-false}
+use Rattle.lines.proofs.LfLaws.{lines-at, lines-end}
+use Rattle.lines.proofs.OutLaws.{Writing, writing-start, writing-as, writing-room}
+use Rattle.lexical.specs.declared.Step.{Step}
+use Rattle.lexical.specs.declared.Tail.{Tail}
+use Rattle.lexical.specs.Lex.{lastOf, leaves, lexGo, stripLexical, tailOf, stepOf}
+use Rattle.lexical.proofs.LexLaws.{LexAt, lex-start, lex-next, lex-on, lex-end}
+use Rattle.place.specs.Blocks.{Brace, braceOf, cleaned, blockIds}
+use Rattle.place.specs.Starts.{startsAfter, startsBy, startsGo}
+use Rattle.place.specs.Fill.{Filled, flagsOf}
+use Rattle.place.specs.Parents.{curBy, upsBy, Room, Moved, notesGo, flat, braces, idsPre, idsPost, idsParents}
+use Rattle.place.proofs.Blocks.{cleaned-length}
+use Rattle.place.proofs.Fills.{entry-on, entry-end, flags-length, filled-as}
+use Rattle.place.proofs.Parents.{moved-none, moved-then, moved-as, room-as, room-first, room-then, room-length, ids-notes}
+use Rattle.place.proofs.Tables.{LinesInv, lines-start, lines-place, lines-room, lines-on, lines-done}
+use Rattle.place.proofs.Starts.{lex-keeps, length-starts, Bytes, bytes-strip, after-by}
+
+braces-append : (a b : List ℕ) → braces (a ++ b) ≡ braces a ++ braces b
+unfolding braces
+braces-append [] b = refl
+braces-append (x ∷ a) b = ap (λ (r : List Brace). braceOf x ∷ r) (braces-append a b)
+
+-- ---- a line, token by token
+
+-- `out` is left of the line so far
+pub record WalkInv (line : List ℕ) (c : ℕ) (u₀ : List ℕ) (n : ℕ) (u : List ℕ) (i : ℕ) (t : Tail) (k m : ℕ) : Type 0 where
+  pub room : Room (idsPost line) c u₀ n
+  pub out : List ℕ
+  pub lex : LexAt line i t out
+  pub moved : Moved (braces out) c u₀ n k u m
+
+pub walk-start : (line : List ℕ) (c : ℕ) (u : List ℕ) (n : ℕ) (t : Tail) → Room (idsPost line) c u n → t ≡ tailOf [] → WalkInv line c u n u 0 t c n
+unfolding braces
+walk-start line c u n t r e = record { room = r; out = []; lex = lex-start line t e; moved = moved-none c u n (r .known) }
+
+module _ {line : List ℕ} {c : ℕ} {u₀ : List ℕ} {n : ℕ} {u : List ℕ} {i : ℕ} {t : Tail} {k m : ℕ} (h : WalkInv line c u₀ n u i t k m) where
+  rest-room : {out : List ℕ} → LexAt line i t out → (r : List ℕ) × (Room (braces out ++ braces r) c u₀ n)
+  unfolding idsPost
+  rest-room {out} l =
+      let e = lex-keeps (drop i line) 0 out in
+      (e .0, room-as (ap braces (sym (l .so-far) ∙ e .1) ∙ braces-append out (e .0)) (h .room))
+
+  pub walk-length : length u ≡ length u₀
+  walk-length = let p = rest-room (h .lex) in room-length (braces (h .out)) (braces (p .0)) (p .1) (h .moved)
+
+  module _ (s : Step) (q : s ≡ stepOf i t (drop i line)) (l : i < length line) where
+    pub walk-room : Room (braces (leaves (s .kind) (getD line i 0))) k u m
+    unfolding idsPost
+    walk-room =
+        let w : List ℕ = leaves (s .kind) (getD line i 0) in
+        let x = lex-next (h .lex) s q l in
+        let e = lex-keeps (drop (s .next) line) 0 (h .out ++ w) in
+        let z : braces (stripLexical line) ≡ braces (h .out) ++ (braces w ++ braces (e .0)) =
+        ap braces (sym (x .so-far) ∙ e .1 ∙ append-assoc (h .out) w (e .0)) ∙ braces-append (h .out) (w ++ e .0)
+        ∙ ap (λ (r : List Brace). braces (h .out) ++ r) (braces-append w (e .0)) in
+        room-first (braces w) (braces (e .0)) (room-then (braces (h .out)) (braces w ++ braces (e .0)) (room-as z (h .room)) (h .moved))
+
+    pub walk-less : i < s .next
+    walk-less = lex-on (h .lex) s q l
+
+    pub walk-on : {k′ m′ : ℕ} {u′ : List ℕ} → Moved (braces (leaves (s .kind) (getD line i 0))) k u m k′ u′ m′ → WalkInv line c u₀ n u′ (s .next) (s .tail) k′ m′
+    walk-on v = record {
+      room = h .room;
+      out = h .out ++ leaves (s .kind) (getD line i 0);
+      lex = lex-next (h .lex) s q l;
+      moved = moved-as (sym (braces-append (h .out) (leaves (s .kind) (getD line i 0)))) (moved-then (h .moved) v);
+    }
+
+  pub walk-done : length line ≤ i → Moved (idsPost line) c u₀ n k u m × (t .last ≡ lastOf (stripLexical line))
+  unfolding idsPost tailOf
+  walk-done l =
+      let e = lex-end (h .lex) l in
+      (moved-as (ap braces e) (h .moved), ap (λ (x : Tail). x .last) (h .lex .tail) ∙ ap lastOf e)
+
+-- ---- a test of the last character
+
+module _ (last : ℕ) (st : Bool) where
+  pub by-blank : last ≡ 256 → st ≡ startsBy last st
+  unfolding startsBy
+  by-blank e = rw (eq-eqb last 256 e)
+
+  pub by-last : (last ≡ 256 → ⊥) → eqb last 59 || (eqb last 123 || (eqb last 125 || eqb last 58)) ≡ startsBy last st
+  unfolding startsBy
+  by-last n = rw (ne-eqb last 256 n, or-false (eqb last 58))
+
+-- ---- the lines
+
+pub bytes-part : (t : List ℕ) (i e : ℕ) → Bytes t → Bytes (part i e t)
+bytes-part t i e p j = go (ltb j (e - i)) refl
+  where
+    go : (b : Bool) → ltb j (e - i) ≡ b → getD (take (e - i) (drop i t)) j 0 < 256
+    go true h = let q = p (i + j) in let g = getD-take (e - i) (drop i t) j 0 (ltb-true j (e - i) h) in let f = getD-drop i t j 0 in omega arith
+    go false h = let l = ltb-false j (e - i) h in let g = List·getD-eq-default (take (e - i) (drop i t)) 0 {n = j} (omega (arith, length-take (e - i) (drop i t))) in omega arith
+
+pub record PlaceInv (t d₀ d s₀ s u₀ u : List ℕ) (i k c n : ℕ) (st : Bool) : Type 0 where
+  pub blocks : LinesInv idsPre idsPost t d₀ d u₀ u i k c n
+  pub starts : Writing 0 (flagsOf (startsGo (cleaned (linesOf t)) true)) (flagsOf (startsGo (cleaned (linesOf (drop i t))) st)) s₀ s k
+
+pub place-start : (t d s u : List ℕ) → length (linesOf t) ≤ length d → length (linesOf t) ≤ length s → length (idsParents (linesOf t)) ≤ length u → length u < 2 ^ 32 →
+    PlaceInv t d d s s u u 0 0 0 0 true
+unfolding idsParents
+place-start t d s u p q r b = record {
+  blocks = lines-start idsPre idsPost t d u p r b;
+  starts = writing-start 0 (flagsOf (startsGo (cleaned (linesOf t)) true)) s
+      (omega (arith, flags-length (startsGo (cleaned (linesOf t)) true), length-starts (cleaned (linesOf t)) true, cleaned-length (linesOf t)));
+}
+
+module _ {t d₀ d s₀ s u₀ u : List ℕ} {i k c n : ℕ} {st : Bool} (h : PlaceInv t d₀ d s₀ s u₀ u i k c n st) where
+  module _ (q : i < length t) (e : ℕ) (z : e ≡ i + upTo 10 (drop i t)) where
+    on-starts : flagsOf (startsGo (cleaned (linesOf (drop i t))) st)
+        ≡ cond st 1 0 ∷ flagsOf (startsGo (cleaned (linesOf (drop (min (e + 1) (length t)) t))) (startsAfter (stripLexical (part i e t)) st))
+    unfolding startsGo cleaned flagsOf
+    on-starts = ap (λ (ls : List (List ℕ)). flagsOf (startsGo (cleaned ls) st)) (lines-at t i e q z)
+
+    pub place-flag : k < length s
+    place-flag = let p = writing-room (writing-as on-starts (h .starts)) in omega arith
+
+    pub place-room : Room (idsPost (part i e t)) c u n
+    place-room = lines-room idsPre idsPost (h .blocks) q e z
+
+    pub place-on : {b f last c′ : ℕ} {u′ : List ℕ} {n′ j : ℕ} {st′ : Bool} → Bytes t → b ≡ c → f ≡ cond st 1 0 →
+        Moved (idsPost (part i e t)) c u n c′ u′ n′ × (last ≡ lastOf (stripLexical (part i e t))) → st′ ≡ startsBy last st → j ≡ min (e + 1) (length t) →
+        PlaceInv t d₀ (set d k b) s₀ (set s k f) u₀ u′ j (k + 1) c′ n′ st′
+    unfolding curBy
+    place-on {b} {f} {last} {c′} {u′} {n′} {j} {st′} a x y m w v =
+        let g : startsAfter (stripLexical (part i e t)) st ≡ st′ =
+        sym (after-by (stripLexical (part i e t)) st (bytes-strip (part i e t) (bytes-part t i e a))) ∙ ap (λ (l : ℕ). startsBy l st) (sym (m .1)) ∙ sym w in
+        record {
+          blocks = lines-on idsPre idsPost (h .blocks) q e z x (m .0) v;
+          starts = entry-on f (writing-as (on-starts
+              ∙ ap (λ (r : ℕ). r ∷ flagsOf (startsGo (cleaned (linesOf (drop (min (e + 1) (length t)) t))) (startsAfter (stripLexical (part i e t)) st))) (sym y)
+              ∙ ap (λ (r : Bool). f ∷ flagsOf (startsGo (cleaned (linesOf (drop (min (e + 1) (length t)) t))) r)) g
+              ∙ ap (λ (r : ℕ). f ∷ flagsOf (startsGo (cleaned (linesOf (drop r t))) st′)) (sym v)) (h .starts));
+        }
+
+  pub place-done : length t ≤ i → Filled d₀ (blockIds (linesOf t)) d k
+      × (Filled s₀ (flagsOf (startsGo (cleaned (linesOf t)) true)) s k × Filled u₀ (idsParents (linesOf t)) u (length (idsParents (linesOf t))))
+  unfolding idsParents startsGo cleaned flagsOf
+  place-done q =
+      let p = lines-done idsPre idsPost (h .blocks) q in (
+        filled-as (ids-notes (linesOf t)) (p .0),
+        (entry-end (ap (λ (ls : List (List ℕ)). flagsOf (startsGo (cleaned ls) st)) (lines-end t i q)) (h .starts), p .1),
+      )

@@ -1,0 +1,105 @@
+-- `block_ids`, over lines that are cleaned already: every brace counts. Assumes nothing.
+use Prim.Native.Nat.{ℕ, zero, suc, _+_}
+use mathlib.Core.Bool.{Bool, true, false, cond, _&&_}
+use mathlib.Core.List.{List, [], _∷_}
+use lib.ListN.{drop}
+use lib.Dec.{eqb}
+use Rattle.lexical.specs.Lex.{stripLexical}
+
+-- what a byte does to blocks
+pub data Brace : Type 0 where
+  opens : Brace
+  closes : Brace
+  plain : Brace
+
+-- `{` opens one, and `}` closes one
+unfoldable pub braceOf : ℕ → Brace
+braceOf x = cond (eqb x 123) opens (cond (eqb x 125) closes plain)
+
+-- the numbers of the open blocks, the innermost first; the Rust's 0 at the bottom is left out, and n is the next number
+unfoldable pub push : Brace → ℕ → List ℕ → List ℕ
+push opens n s = n ∷ s
+push closes n s = drop 1 s
+push plain n s = s
+
+-- the next number after a brace
+unfoldable pub count : Brace → ℕ → ℕ
+count opens n = suc n
+count closes n = n
+count plain n = n
+
+-- the block that is open: 0 outside all
+unfoldable pub top : List ℕ → ℕ
+top [] = 0
+top (x ∷ s) = x
+
+-- the open blocks after the bytes of a line
+unfoldable pub stackAfter : List ℕ → ℕ → List ℕ → List ℕ
+unfolding push count
+stackAfter [] n s = s
+stackAfter (x ∷ xs) n s = stackAfter xs (count (braceOf x) n) (push (braceOf x) n s)
+
+-- the next number after the bytes of a line
+unfoldable pub nextAfter : List ℕ → ℕ → ℕ
+unfolding count
+nextAfter [] n = n
+nextAfter (x ∷ xs) n = nextAfter xs (count (braceOf x) n)
+
+-- the block in which each line begins
+unfoldable pub blocksGo : List (List ℕ) → ℕ → List ℕ → List ℕ
+unfolding top stackAfter nextAfter
+blocksGo [] n s = []
+blocksGo (l ∷ ls) n s = top s ∷ blocksGo ls (nextAfter l n) (stackAfter l n s)
+
+-- from the first line on, with no block open
+unfoldable pub blocks : List (List ℕ) → List ℕ
+unfolding blocksGo
+blocks ls = blocksGo ls 1 []
+
+-- each line cleaned by itself
+unfoldable pub cleaned : List (List ℕ) → List (List ℕ)
+cleaned [] = []
+cleaned (l ∷ ls) = stripLexical l ∷ cleaned ls
+
+-- `block_ids`
+abbrev pub blockIds : List (List ℕ) → List ℕ
+blockIds ls = blocks (cleaned ls)
+
+-- ---- the condition of the law for a tail: no brace is closed that was not opened in it; d are open
+
+-- a brace may stand there
+unfoldable pub mayAt : Brace → ℕ → Bool
+mayAt opens d = true
+mayAt closes zero = false
+mayAt closes (suc d) = true
+mayAt plain d = true
+
+-- how many are open after it
+unfoldable pub depthAt : Brace → ℕ → ℕ
+depthAt opens d = suc d
+depthAt closes zero = zero
+depthAt closes (suc d) = d
+depthAt plain d = d
+
+-- how many are open after a line
+unfoldable pub depthAfter : List ℕ → ℕ → ℕ
+unfolding depthAt
+depthAfter [] d = d
+depthAfter (x ∷ xs) d = depthAfter xs (depthAt (braceOf x) d)
+
+-- every brace of a line may stand there
+unfoldable pub ownLine : List ℕ → ℕ → Bool
+unfolding mayAt depthAt
+ownLine [] d = true
+ownLine (x ∷ xs) d = mayAt (braceOf x) d && ownLine xs (depthAt (braceOf x) d)
+
+-- and of lines
+unfoldable pub ownGo : List (List ℕ) → ℕ → Bool
+unfolding ownLine depthAfter
+ownGo [] d = true
+ownGo (l ∷ ls) d = ownLine l d && ownGo ls (depthAfter l d)
+
+-- of cleaned lines, read in order, none closes what they did not open
+unfoldable pub own : List (List ℕ) → Bool
+unfolding ownGo
+own ls = ownGo ls 0

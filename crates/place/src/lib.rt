@@ -1,0 +1,378 @@
+// Regions, blocks, block paths, loops: four notions of place, each with its own rule for braces.
+ghost use mathlib.Core.Path.{_≡_};
+ghost use mathlib.Core.Bool.{true, cond};
+ghost use mathlib.Core.List.{[], _∷_};
+ghost use Prim.Native.Nat.{_≤_, _<_, _+_, _-_, _^_};
+ghost use lib.ListN.{take, drop, length, replicate};
+ghost use Rattle.lines.specs.Lf.{linesOf, endsIn};
+ghost use Rattle.lexical.specs.Lex.{lastOf, leaves, stripLexical};
+ghost use Rattle.place.specs.Region.{isHeader, regionNext, regionLen};
+ghost use Rattle.place.specs.Blocks.{opens, closes, braceOf, blockIds, cleaned};
+ghost use Rattle.place.specs.Paths.{pathCloses, blockPaths, tops};
+ghost use Rattle.place.specs.Loops.{opensLoop, nestOpen, nestClose, nestLine, insideLoop};
+ghost use Rattle.place.specs.Parents.{around, curBy, Room, Moved, braces, idsPost, idsParents, pathOpen, pathParents};
+ghost use Rattle.place.specs.Starts.{startsBy, startsGo};
+ghost use Rattle.place.specs.Fill.{Filled, flagsOf};
+
+// The number of a region: of its own type, so that no other number is taken for one.
+pub struct Region(pub usize);
+
+// Whether a line opens a region.
+pub fn is_header(line: &[u8]) -> bool
+    ensures { λ r. ⌜ r ≡ isHeader (now (line .entry)) ⌝ }
+{
+    !lines::starts_with(line, b"let phi")
+        & (lines::starts_with(line, b"function ")
+            | (lines::starts_with(line, b"var ")
+                | (lines::starts_with(line, b"let ")
+                    | (lines::starts_with(line, b"const ") | lines::starts_with(line, b"class ")))))
+}
+
+// Where the region ends that the line at `i` opens, or is at the top of: at the next header, or at the end.
+pub fn region_end(text: &[u8], i: usize) -> usize
+    ensures { λ r. ⌜ r ≡ i + regionLen (drop i (now (text .entry))) ⌝ }
+{
+    if i >= text.len() {
+        return i;
+    }
+    let e = lines::find_byte(text, i, 10);
+    let mut j = lines::after(text, e);
+    while j < text.len() {
+        let f = lines::find_byte(text, j, 10);
+        if is_header(&text[j..f]) {
+            return j;
+        }
+        j = lines::after(text, f);
+    }
+    j
+}
+
+// The region of a line, given that of the line above; the largest number there is stays.
+pub fn next_region(r: Region, line: &[u8]) -> Region
+    ensures { λ q. ⌜ q .0 ≡ regionNext (r .0) (now (line .entry)) ⌝ }
+{
+    if !is_header(line) {
+        return r;
+    }
+    if r.0 < 18446744073709551615 {
+        return Region(r.0 + 1);
+    }
+    r
+}
+
+// A number of a block as an entry.
+fn wide(c: u32) -> usize
+    ensures { λ r. ⌜ r ≡ c ⌝ }
+{
+    c as usize
+}
+
+// A test as an entry.
+fn flag(b: bool) -> u8
+    ensures { λ r. ⌜ r ≡ cond b 1 0 ⌝ }
+{
+    if b { 1 } else { 0 }
+}
+
+// The open block, and how many blocks are known.
+struct Open {
+    block: u32,
+    next: usize,
+}
+
+// The block around `c`, of `n` that are known.
+fn around(up: &[u32], c: u32, n: usize) -> u32
+    requires { ⌜ n ≤ length (now up) ⌝ }
+    ensures { λ r. ⌜ r ≡ around c (take n (now (up .entry))) ⌝ }
+{
+    if c == 0 {
+        return 0;
+    }
+    let k = wide(c - 1);
+    if k < n {
+        return up[k];
+    }
+    0
+}
+
+// The block `k` blocks further out than `c`.
+fn outward(up: &[u32], c: u32, n: usize, k: usize) -> u32
+    requires { ⌜ n ≤ length (now up) ⌝ }
+    ensures { λ r. ⌜ r ≡ curBy (replicate k closes) c (take n (now (up .entry))) ⌝ }
+{
+    let mut b = c;
+    let mut j = k;
+    while 0 < j {
+        b = around(up, b, n);
+        j -= 1;
+    }
+    b
+}
+
+// Opens a block in `c`, with `n` blocks known.
+fn enter(c: u32, up: &mut [u32], n: usize) -> Open
+    requires { ⌜ Room (opens ∷ []) c (now up) n ⌝ }
+    ensures { λ r. ⌜ Moved (opens ∷ []) c (now (up .entry)) n (r .block) (now (up .exit)) (r .next) ⌝ }
+{
+    up[n] = c;
+    Open {
+        block: (n + 1) as u32,
+        next: n + 1,
+    }
+}
+
+// One byte of a cleaned line, with `c` open.
+fn brace(b: u8, c: u32, up: &mut [u32], n: usize) -> Open
+    requires { ⌜ Room (braceOf b ∷ []) c (now up) n ⌝ }
+    ensures { λ r. ⌜ Moved (braceOf b ∷ []) c (now (up .entry)) n (r .block) (now (up .exit)) (r .next) ⌝ }
+{
+    if b == b'{' {
+        return enter(c, up, n);
+    }
+    if b == b'}' {
+        let a = around(up, c, n);
+        return Open { block: a, next: n };
+    }
+    Open { block: c, next: n }
+}
+
+// What a token of a line leaves that begins with `b`, with `c` open.
+fn left(kind: lexical::Kind, b: u8, c: u32, up: &mut [u32], n: usize) -> Open
+    requires { ⌜ Room (braces (leaves kind b)) c (now up) n ⌝ }
+    ensures { λ r. ⌜ Moved (braces (leaves kind b)) c (now (up .entry)) n (r .block) (now (up .exit)) (r .next) ⌝ }
+{
+    match kind {
+        lexical::Kind::Kept => brace(b, c, up, n),
+        lexical::Kind::Literal => Open { block: c, next: n },
+        lexical::Kind::Gone => Open { block: c, next: n },
+    }
+}
+
+// Below a line: the open block, how many blocks are known, and the line's last character once it is cleaned, or 256 where it is blank.
+pub struct At {
+    pub block: u32,
+    pub next: usize,
+    pub last: u16,
+}
+
+// The braces of a line as `block_ids` counts them, from the block `block`, with `n` blocks known.
+pub fn walk_line(line: &[u8], block: u32, up: &mut [u32], n: usize) -> At
+    requires { ⌜ Room (idsPost (now line)) block (now up) n ⌝ }
+    ensures { λ r. ⌜ (Moved (idsPost (now (line .entry))) block (now (up .entry)) n (r .block) (now (up .exit)) (r .next))
+        × (r .last ≡ lastOf (stripLexical (now (line .entry)))) ⌝ }
+{
+    let mut i = 0;
+    let mut tail = lexical::no_tail();
+    let mut c = block;
+    let mut m = n;
+    while i < line.len() {
+        let b = line[i];
+        let step = lexical::step_at(line, i, tail);
+        let kind = step.kind;
+        let x = left(kind, b, c, up, m);
+        c = x.block;
+        m = x.next;
+        tail = step.tail;
+        i = step.next;
+    }
+    At {
+        block: c,
+        next: m,
+        last: tail.last,
+    }
+}
+
+// Whether the line below may begin a statement: where a cleaned line is blank, whether that one might, and else whether it ends in
+// `;`, `{`, `}` or `:`.
+fn starts_after(last: u16, st: bool) -> bool
+    ensures { λ r. ⌜ r ≡ startsBy last st ⌝ }
+{
+    if last == 256 {
+        return st;
+    }
+    (last == 59) | ((last == 123) | ((last == 125) | (last == 58)))
+}
+
+// For each line its block and whether it may begin a statement, and the block around each block.
+pub fn place_lines(text: &[u8], blocks: &mut [usize], starts: &mut [u8], up: &mut [u32]) -> usize
+    requires { ⌜ (length (linesOf (now text)) ≤ length (now blocks))
+        × ((length (linesOf (now text)) ≤ length (now starts))
+        × ((length (idsParents (linesOf (now text))) ≤ length (now up)) × (length (now up) < 2 ^ 32))) ⌝ }
+    ensures { λ r. ⌜ (Filled (now (blocks .entry)) (blockIds (linesOf (now (text .entry)))) (now (blocks .exit)) r)
+        × ((Filled (now (starts .entry)) (flagsOf (startsGo (cleaned (linesOf (now (text .entry)))) true)) (now (starts .exit)) r)
+        × (Filled (now (up .entry)) (idsParents (linesOf (now (text .entry)))) (now (up .exit)) (length (idsParents (linesOf (now (text .entry))))))) ⌝ }
+{
+    let mut i = 0;
+    let mut k = 0;
+    let mut c = 0;
+    let mut n = 0;
+    let mut st = true;
+    while i < text.len() {
+        let e = lines::find_byte(text, i, 10);
+        blocks[k] = wide(c);
+        starts[k] = flag(st);
+        k += 1;
+        let x = walk_line(&text[i..e], c, up, n);
+        c = x.block;
+        n = x.next;
+        st = starts_after(x.last, st);
+        i = lines::after(text, e);
+    }
+    k
+}
+
+// Whether a text ends in `{`.
+fn ends_open(t: &[u8]) -> bool
+    ensures { λ r. ⌜ r ≡ endsIn 123 (now (t .entry)) ⌝ }
+{
+    let n = t.len();
+    if n == 0 {
+        return false;
+    }
+    t[n - 1] == b'{'
+}
+
+// How many blocks a trimmed line closes, as `block_paths` counts.
+fn path_closes(t: &[u8]) -> usize
+    ensures { λ r. ⌜ r ≡ pathCloses (now (t .entry)) ⌝ }
+{
+    if !lines::starts_with(t, b"}") {
+        return 0;
+    }
+    let n = lines::count_byte(t, b'}');
+    if !ends_open(t) {
+        return n;
+    }
+    n - 1
+}
+
+// The block that a trimmed line opens in `c`, as `block_paths` counts.
+fn path_open(t: &[u8], c: u32, up: &mut [u32], n: usize) -> Open
+    requires { ⌜ Room (pathOpen (now t)) c (now up) n ⌝ }
+    ensures { λ r. ⌜ Moved (pathOpen (now (t .entry))) c (now (up .entry)) n (r .block) (now (up .exit)) (r .next) ⌝ }
+{
+    if ends_open(t) {
+        return enter(c, up, n);
+    }
+    Open { block: c, next: n }
+}
+
+// The innermost block of each line's path, and the block around each block.
+pub fn block_paths(text: &[u8], table: &mut [usize], up: &mut [u32]) -> usize
+    requires { ⌜ (length (linesOf (now text)) ≤ length (now table))
+        × ((length (pathParents (linesOf (now text))) ≤ length (now up)) × (length (now up) < 2 ^ 32)) ⌝ }
+    ensures { λ r. ⌜ (Filled (now (table .entry)) (tops (blockPaths (linesOf (now (text .entry))))) (now (table .exit)) r)
+        × (Filled (now (up .entry)) (pathParents (linesOf (now (text .entry)))) (now (up .exit)) (length (pathParents (linesOf (now (text .entry)))))) ⌝ }
+{
+    let mut i = 0;
+    let mut k = 0;
+    let mut c = 0;
+    let mut n = 0;
+    while i < text.len() {
+        let e = lines::find_byte(text, i, 10);
+        let t = text::trim(&text[i..e]);
+        let b = outward(up, c, n, path_closes(t));
+        table[k] = wide(b);
+        k += 1;
+        let x = path_open(t, b, up, n);
+        c = x.block;
+        n = x.next;
+        i = lines::after(text, e);
+    }
+    k
+}
+
+// Whether a trimmed line begins a loop.
+pub fn opens_loop(t: &[u8]) -> bool
+    ensures { λ r. ⌜ r ≡ opensLoop (now (t .entry)) ⌝ }
+{
+    lines::starts_with(t, b"while (")
+        | (lines::starts_with(t, b"while(")
+            | (lines::starts_with(t, b"for (")
+                | (lines::starts_with(t, b"for(")
+                    | (lines::same(t, b"do {")
+                        | (lines::ends_with(t, b" do {")
+                            | (lines::contains(t, b": while (")
+                                | lines::contains(t, b": for (")))))))
+}
+
+// The open blocks as far as `inside_loop` asks: how many, and how many there were when the outermost loop's was opened, or 0 where none is a loop's.
+struct Nest {
+    depth: usize,
+    outer: usize,
+}
+
+// After the brace at the end of a trimmed line.
+fn nest_open(t: &[u8], d: usize, o: usize) -> Nest
+    requires { ⌜ d < 2 ^ 64 - 1 ⌝ }
+    ensures { λ r. ⌜ r ≡ nestOpen (now (t .entry)) d o ⌝ }
+{
+    if !ends_open(t) {
+        return Nest { depth: d, outer: o };
+    }
+    if o != 0 {
+        return Nest {
+            depth: d + 1,
+            outer: o,
+        };
+    }
+    if opens_loop(t) {
+        return Nest {
+            depth: d + 1,
+            outer: d + 1,
+        };
+    }
+    Nest {
+        depth: d + 1,
+        outer: 0,
+    }
+}
+
+// After `k` blocks have been closed.
+fn nest_close(k: usize, d: usize, o: usize) -> Nest
+    ensures { λ r. ⌜ r ≡ nestClose k d o ⌝ }
+{
+    if d < k {
+        return Nest { depth: 0, outer: 0 };
+    }
+    if d - k < o {
+        return Nest {
+            depth: d - k,
+            outer: 0,
+        };
+    }
+    Nest {
+        depth: d - k,
+        outer: o,
+    }
+}
+
+// After a trimmed line.
+fn nest_line(t: &[u8], d: usize, o: usize) -> Nest
+    requires { ⌜ d < 2 ^ 64 - 1 ⌝ }
+    ensures { λ r. ⌜ r ≡ nestLine (now (t .entry)) d o ⌝ }
+{
+    let x = nest_open(t, d, o);
+    nest_close(lines::count_byte(t, b'}'), x.depth, x.outer)
+}
+
+// For each line whether it stands in the body of a loop.
+pub fn inside_loop(text: &[u8], flags: &mut [u8]) -> usize
+    requires { ⌜ length (linesOf (now text)) ≤ length (now flags) ⌝ }
+    ensures { λ r. ⌜ Filled (now (flags .entry)) (flagsOf (insideLoop (linesOf (now (text .entry))))) (now (flags .exit)) r ⌝ }
+{
+    let mut i = 0;
+    let mut k = 0;
+    let mut d = 0;
+    let mut o = 0;
+    while i < text.len() {
+        let e = lines::find_byte(text, i, 10);
+        flags[k] = flag(o != 0);
+        k += 1;
+        let x = nest_line(text::trim(&text[i..e]), d, o);
+        d = x.depth;
+        o = x.outer;
+        i = lines::after(text, e);
+    }
+    k
+}

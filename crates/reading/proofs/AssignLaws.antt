@@ -1,0 +1,168 @@
+-- Laws of the two sides of an assignment. Assumes nothing.
+use Prim.Native.Nat.{ℕ, zero, suc, _+_, _-_, _≤_, _<_}
+use mathlib.Core.Path.{_≡_, refl, sym, ap, _∙_}
+use mathlib.Core.Bool.{Bool, true, false, cond, _&&_}
+use mathlib.Core.List.{List, [], _∷_}
+use native.Mathlib.Omega.{arith}
+use native.Mathlib.Numerals.{add-one}
+use borrow.Author.Tests.{eq-eqb, ne-eqb, lt-ltb, le-ltb, ltb-true}
+use lib.Dec.{eqb, ltb}
+use lib.ListN.{length, take, drop, getD, length-take, length-drop}
+use lib.Seq.{take-nil, take-take, drop-drop}
+use Rattle.lines.specs.Lf.{part, upTo, endsIn}
+use Rattle.lines.proofs.Tests.{and-left, and-right}
+use Rattle.lines.proofs.LfLaws.{rest-of}
+use Rattle.text.specs.Trim.{fromOf, toEnd, trimOf}
+use Rattle.text.specs.declared.Span.{Span}
+use Rattle.text.proofs.Trims.{fromOf-le, toEnd-le, trim-part}
+use Rattle.reading.specs.declared.Sides.{Sides}
+use Rattle.reading.specs.declared.Assign.{Assign}
+use Rattle.reading.specs.declared.Assign.the-variants.{Split, None}
+use Rattle.reading.specs.Assign.{unended, isAssign, leftOf, rightOf, splitAt, sidesOf, assignOf}
+
+-- ---- parts of parts
+
+-- what is dropped of a front is the front of what is dropped
+pub drop-take : (a m : ℕ) (l : List ℕ) → drop a (take m l) ≡ take (m - a) (drop a l)
+drop-take zero m l = let q : m ≡ m - 0 = omega arith in ap (λ (n : ℕ). take n l) q
+drop-take (suc a) zero l = let q : 0 ≡ 0 - suc a = omega arith in ap (λ (n : ℕ). take n (drop (suc a) l)) q
+drop-take (suc a) (suc m) [] = sym (take-nil (suc m - suc a))
+drop-take (suc a) (suc m) (x ∷ xs) = let q : m - a ≡ suc m - suc a = omega arith in drop-take a m xs ∙ ap (λ (n : ℕ). take n (drop a xs)) q
+
+-- a part of what stands in front
+pub part-take : (s : List ℕ) (m a e : ℕ) → e ≤ m → part a e (take m s) ≡ part a e s
+part-take s m a e h = ap (take (e - a)) (drop-take a m s) ∙ take-take (e - a) (m - a) (drop a s) (omega arith)
+
+-- a part of what stands behind
+pub part-drop : (s : List ℕ) (b a e : ℕ) → part a e (drop b s) ≡ part (b + a) (b + e) s
+part-drop s b a e = let q : e - a ≡ b + e - (b + a) = omega arith in ap (take (e - a)) (drop-drop a b s) ∙ ap (λ (n : ℕ). take n (drop (b + a) s)) q
+
+-- ---- the sides, as the code finds them
+
+-- a span of two places
+abbrev spanned : ℕ → ℕ → Span
+spanned f t = record { from = f; to = t }
+
+span-is : (w : Span) {f t : ℕ} → w .from ≡ f → w .to ≡ t → w ≡ spanned f t
+span-is w {f} {t} a b = ap (λ (x : ℕ). spanned x (w .to)) a ∙ ap (λ (x : ℕ). spanned f x) b
+
+module _ (u : List ℕ) (k : ℕ) (q′ : k ≡ 0 + upTo 61 u) where
+  pub sides-none : length u ≤ k → sidesOf u ≡ None
+  sides-none h = let q : k ≡ upTo 61 u = omega arith in rw (← q, le-ltb k (length u) h)
+
+  pub sides-split : k < length u → sidesOf u ≡ splitAt k u
+  sides-split h = let q : k ≡ upTo 61 u = omega arith in rw (← q, lt-ltb k (length u) h)
+
+  -- as they are put together from the two spans
+  pub sides-are : k < length u → (w v : Span) → w .from ≡ fromOf (take k u) → w .to ≡ toEnd (take k u) → v .from ≡ fromOf (part (k + 1) (length u) u) → v .to ≡ toEnd (part (k + 1) (length u) u) →
+      Split (record { left = w; right = record { from = k + 1 + v .from; to = k + 1 + v .to } }) ≡ sidesOf u
+  sides-are h w v a b c d =
+      let r = rest-of u (k + 1) in
+      let f : v .from ≡ fromOf (drop (k + 1) u) = c ∙ ap fromOf r in
+      let g : v .to ≡ toEnd (drop (k + 1) u) = d ∙ ap (λ (l : List ℕ). toEnd l) r in
+      ap (λ (x : Span). Split (record { left = x; right = record { from = k + 1 + v .from; to = k + 1 + v .to } })) (span-is w a b)
+      ∙ rw (f, g, add-one k) (sym (sides-split h))
+
+pub assign-none : (t : List ℕ) → length t ≡ 0 → assignOf t ≡ None
+unfolding assignOf isAssign
+assign-none [] h = refl
+assign-none (x ∷ xs) h = absurd (omega arith)
+
+pub assign-open : (t : List ℕ) → (getD t (length t - 1) 0 ≡ 59 → ⊥) → assignOf t ≡ None
+unfolding assignOf isAssign
+assign-open t n = rw (ne-eqb (getD t (length t - 1) 0) 59 n)
+
+pub assign-sides : (t : List ℕ) → getD t (length t - 1) 0 ≡ 59 → assignOf t ≡ sidesOf (unended t)
+unfolding assignOf isAssign
+assign-sides t e = rw (eq-eqb (getD t (length t - 1) 0) 59 e)
+
+-- ---- what the places say: the sides of the definition, in order and inside the text
+
+pub record Sided (t : List ℕ) (s : Sides) : Type 0 where
+  pub assigns : isAssign t ≡ true
+  pub is-left : part (s .left .from) (s .left .to) t ≡ leftOf t
+  pub is-right : part (s .right .from) (s .right .to) t ≡ rightOf t
+  pub left-in : s .left .from ≤ s .left .to
+  pub between : s .left .to < s .right .from
+  pub right-in : s .right .from ≤ s .right .to
+  pub before-end : s .right .to < length t
+
+module _ (t : List ℕ) (h : isAssign t ≡ true) where
+  in-assign : upTo 61 (unended t) < length (unended t)
+  unfolding isAssign
+  in-assign = ltb-true (upTo 61 (unended t)) (length (unended t)) (and-right (endsIn 59 t) (ltb (upTo 61 (unended t)) (length (unended t))) h)
+
+  left-part : part (fromOf (take (upTo 61 (unended t)) (unended t))) (toEnd (take (upTo 61 (unended t)) (unended t))) t ≡ leftOf t
+  unfolding leftOf
+  left-part =
+      let k : ℕ = upTo 61 (unended t) in
+      let l : List ℕ = take k (unended t) in
+      let b : toEnd l ≤ length l = toEnd-le l in
+      let c = length-take k (unended t) in
+      let d = length-take (length t - 1) t in
+      sym (part-take t (length t - 1) (fromOf l) (toEnd l) (omega arith))
+      ∙ sym (part-take (unended t) k (fromOf l) (toEnd l) (omega arith))
+      ∙ sym (trim-part l)
+
+  right-part : part (suc (upTo 61 (unended t)) + fromOf (drop (suc (upTo 61 (unended t))) (unended t))) (suc (upTo 61 (unended t)) + toEnd (drop (suc (upTo 61 (unended t))) (unended t))) t ≡ rightOf t
+  unfolding rightOf
+  right-part =
+      let k : ℕ = suc (upTo 61 (unended t)) in
+      let r : List ℕ = drop k (unended t) in
+      let b : toEnd r ≤ length r = toEnd-le r in
+      let c = length-drop k (unended t) in
+      let d = length-take (length t - 1) t in
+      let i = in-assign in
+      sym (part-take t (length t - 1) (k + fromOf r) (k + toEnd r) (omega arith))
+      ∙ sym (part-drop (unended t) k (fromOf r) (toEnd r))
+      ∙ sym (trim-part r)
+
+  sided : Sided t
+      (record {
+        left = record { from = fromOf (take (upTo 61 (unended t)) (unended t)); to = toEnd (take (upTo 61 (unended t)) (unended t)) };
+        right = record { from = suc (upTo 61 (unended t)) + fromOf (drop (suc (upTo 61 (unended t))) (unended t)); to = suc (upTo 61 (unended t)) + toEnd (drop (suc (upTo 61 (unended t))) (unended t)) };
+      })
+  sided =
+      let k : ℕ = upTo 61 (unended t) in
+      let b : toEnd (take k (unended t)) ≤ length (take k (unended t)) = toEnd-le (take k (unended t)) in
+      let c = length-take k (unended t) in
+      let e : toEnd (drop (suc k) (unended t)) ≤ length (drop (suc k) (unended t)) = toEnd-le (drop (suc k) (unended t)) in
+      let f = length-drop (suc k) (unended t) in
+      let d = length-take (length t - 1) t in
+      let i = in-assign in
+      record {
+        assigns = h;
+        is-left = left-part;
+        is-right = right-part;
+        left-in = omega arith;
+        between = omega arith;
+        right-in = omega arith;
+        before-end = omega arith;
+      }
+
+never : {A : Type 0} {s : Sides} → None ≡ Split s → A
+never h = let z : _≡_ {A = ℕ} 0 1 = cc in absurd (omega arith)
+
+pub assign-split : (t : List ℕ) (s : Sides) → assignOf t ≡ Split s → Sided t s
+unfolding assignOf
+assign-split t s h = go (isAssign t) refl h
+  where
+    go : (b : Bool) → isAssign t ≡ b → cond b (splitAt (upTo 61 (unended t)) (unended t)) None ≡ Split s → Sided t s
+    go true e g =
+        let k : ℕ = upTo 61 (unended t) in
+        let u : List ℕ = unended t in
+        let q : _≡_ {A = Sides}
+        (record {
+          left = record { from = fromOf (take k u); to = toEnd (take k u) };
+          right = record { from = suc k + fromOf (drop (suc k) u); to = suc k + toEnd (drop (suc k) u) };
+        }) s = cc in
+        rw (← q) (sided t e)
+    go false e g = never g
+
+pub assign-not : (t : List ℕ) → assignOf t ≡ None → isAssign t ≡ false
+unfolding assignOf
+assign-not t h = go (isAssign t) h
+  where
+    go : (b : Bool) → cond b (splitAt (upTo 61 (unended t)) (unended t)) None ≡ None → b ≡ false
+    go true g = let z : _≡_ {A = ℕ} 0 1 = cc in absurd (omega arith)
+    go false g = refl

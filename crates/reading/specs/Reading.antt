@@ -1,0 +1,20 @@
+-- What the passes ask of values and of lines, as a parameter: what counts as pure, and how lines are cleaned. Assumes nothing.
+use Prim.Native.Nat.{ℕ}
+use mathlib.Core.Bool.{Bool}
+use mathlib.Core.List.{List}
+use Rattle.expr.specs.Pure.{isPure, purityOf}
+use Rattle.expr.specs.declared.kinds.Purity.{Purity}
+use Rattle.place.specs.Blocks.{cleaned}
+
+-- the purity of a value, and the cleaning of lines
+pub record Reading : Type 0 where
+  pub purity : List ℕ → Purity
+  pub clean : List (List ℕ) → List (List ℕ)
+
+-- as the Rust reads
+abbrev pub plain : Reading
+plain = record { purity = purityOf; clean = cleaned }
+
+-- `pure_expr`
+abbrev pub pureIn : Reading → List ℕ → Bool
+pureIn R v = isPure (R .purity v)

@@ -1,0 +1,115 @@
+// What a line reads and stores, and the two sides of an assignment.
+ghost use mathlib.Core.Path.{_≡_};
+ghost use Rattle.lines.specs.Lf.{part, linesOf};
+ghost use Rattle.reading.specs.Uses.{lineReads, storesBy, lineStores, lineUses, usedIn};
+ghost use Rattle.reading.specs.Assign.{sidesOf, assignOf};
+
+// What a line does with a register: how often it reads it, and whether it stores it.
+pub struct Use {
+    pub reads: usize,
+    pub stores: bool,
+}
+
+// The trimmed sides of an assignment, as places of its text.
+pub struct Sides {
+    pub left: text::Span,
+    pub right: text::Span,
+}
+
+pub enum Assign {
+    Split(Sides),
+    None,
+}
+
+// Whether a line that is read already stores a register.
+fn stores_in(p: parse::Line, reg: names::Register) -> bool
+    ensures { λ r. ⌜ r ≡ storesBy (reg .0) p ⌝ }
+{
+    match p {
+        parse::Line::Decl => false,
+        parse::Line::Store(s) => s.reg.0 == reg.0,
+        parse::Line::Other => false,
+    }
+}
+
+// What a line does with a register.
+pub fn use_of(line: &[u8], reg: names::Register) -> Use
+    ensures { λ r. ⌜ (r .reads ≡ lineReads (reg .0) (now (line .entry))) × (r .stores ≡ lineStores (reg .0) (now (line .entry))) ⌝ }
+{
+    let p = parse::parse(line);
+    let n = words::count_reg(parse::text_of(line, p), reg);
+    let s = stores_in(p, reg);
+    Use {
+        reads: n,
+        stores: s,
+    }
+}
+
+// Whether a line reads or stores a register.
+pub fn line_uses(line: &[u8], reg: names::Register) -> bool
+    ensures { λ r. ⌜ r ≡ lineUses (reg .0) (now (line .entry)) ⌝ }
+{
+    let u = use_of(line, reg);
+    u.stores | (0 < u.reads)
+}
+
+// Whether some line of a text does.
+pub fn uses(text: &[u8], reg: names::Register) -> bool
+    ensures { λ r. ⌜ r ≡ usedIn (reg .0) (linesOf (now (text .entry))) ⌝ }
+{
+    let mut i = 0;
+    while i < text.len() {
+        let e = lines::find_byte(text, i, 10);
+        if line_uses(&text[i..e], reg) {
+            return true;
+        }
+        i = lines::after(text, e);
+    }
+    false
+}
+
+// The two sides of a text that ended in `;`, without it, split at its first `=`.
+fn sides_of(u: &[u8]) -> Assign
+    ensures { λ r. ⌜ r ≡ sidesOf (now (u .entry)) ⌝ }
+{
+    let k = lines::find_byte(u, 0, b'=');
+    if k >= u.len() {
+        return Assign::None;
+    }
+    let b = k + 1;
+    let left = text::trim_span(&u[..k]);
+    let v = text::trim_span(&u[b..]);
+    let right = text::Span {
+        from: b + v.from,
+        to: b + v.to,
+    };
+    Assign::Split(Sides { left, right })
+}
+
+// The two sides of a text that ends in `;`, split at its first `=`.
+pub fn assign_of(t: &[u8]) -> Assign
+    ensures { λ r. ⌜ r ≡ assignOf (now (t .entry)) ⌝ }
+{
+    let n = t.len();
+    if n == 0 {
+        return Assign::None;
+    }
+    if t[n - 1] != b';' {
+        return Assign::None;
+    }
+    sides_of(&t[..n - 1])
+}
+
+// The left side of an assignment, as a part of its text.
+pub fn left_of(t: &[u8], s: Sides) -> &[u8]
+    ensures { λ r. ⌜ now r ≡ part (s .left .from) (s .left .to) (now (t .entry)) ⌝ }
+{
+    lines::cut(t, s.left.from, s.left.to)
+}
+
+// The right side of an assignment, as a part of its text.
+pub fn right_of(t: &[u8], s: Sides) -> &[u8]
+    ensures { λ r. ⌜ now r ≡ part (s .right .from) (s .right .to) (now (t .entry)) ⌝ }
+{
+    lines::cut(t, s.right.from, s.right.to)
+}

@@ -1,0 +1,76 @@
+//! What the original answers to one request: document 01's table "Numbers a caller gets".
+
+use crate::ends;
+use opt::exports;
+use std::panic::{catch_unwind, AssertUnwindSafe};
+
+pub const MOST_BYTES: usize = 16_384;
+pub const MOST_LINES: usize = 1_024;
+pub const MOST_BRACKETS: usize = 64;
+pub const MOST_ROOM: u32 = 32_768;
+/// The number of lent work buffers.
+pub const WORK: u8 = 8;
+
+/// Not numbers of the table: the original would not end, and the original panicked.
+pub const SKIPPED: u8 = 255;
+pub const PANICKED: u8 = 254;
+
+pub struct Asked {
+    pub pass: u8,
+    pub short: u8,
+    pub room: u32,
+    pub text: Vec<u8>,
+}
+
+pub struct Answer {
+    pub number: u8,
+    pub place: u32,
+    pub result: Vec<u8>,
+}
+
+fn refused(number: u8, place: usize) -> Answer {
+    Answer { number, place: place as u32, result: Vec::new() }
+}
+
+/// The first line with more than 64 brackets.
+pub fn crowded_line(text: &str) -> Option<usize> {
+    text.lines().position(|l| l.bytes().filter(|b| *b == b'[').count() > MOST_BRACKETS)
+}
+
+/// The text, if none of the refusals 1 to 6 holds.
+fn accepted(asked: &Asked, work: u8) -> Result<&str, Answer> {
+    if asked.pass > 6 {
+        return Err(refused(1, 0));
+    }
+    if asked.text.len() > MOST_BYTES {
+        return Err(refused(2, MOST_BYTES));
+    }
+    if (1..=work).contains(&asked.short) {
+        return Err(refused(3, 0));
+    }
+    let text = std::str::from_utf8(&asked.text).map_err(|e| refused(4, e.valid_up_to()))?;
+    if text.lines().count() > MOST_LINES {
+        return Err(refused(5, MOST_LINES));
+    }
+    crowded_line(text).map_or(Ok(text), |line| Err(refused(6, line)))
+}
+
+fn run(pass: u8, text: &str) -> Option<String> {
+    let work = || if pass == 0 { opt::optimize(text) } else { exports::one_pass(pass, text) };
+    catch_unwind(AssertUnwindSafe(work)).ok()
+}
+
+pub fn answer(asked: &Asked, work: u8) -> Answer {
+    let text = match accepted(asked, work) {
+        Ok(text) => text,
+        Err(answer) => return answer,
+    };
+    if !ends::pass_ends(asked.pass, text) {
+        return refused(SKIPPED, 0);
+    }
+    let Some(result) = run(asked.pass, text) else { return refused(PANICKED, 0) };
+    if result.len() > asked.room.min(MOST_ROOM) as usize {
+        return refused(7, result.len());
+    }
+    Answer { number: 0, place: 0, result: result.into_bytes() }
+}

@@ -1,0 +1,162 @@
+//! Makes requests, the same for the same seed on every machine. See README.md.
+
+mod asking;
+mod ends;
+mod grammar;
+mod judge;
+mod random;
+mod rules;
+mod texts;
+mod wire;
+
+use judge::{Asked, MOST_ROOM, WORK};
+use random::Random;
+use texts::Texts;
+use wire::Wire;
+
+enum Kind {
+    Listing,
+    LongListing,
+    Special,
+    Soup,
+    Damaged,
+    Short,
+    Bytes,
+    Lines,
+    Brackets,
+    Sequence,
+    Room,
+    Work,
+    Spoiled,
+}
+
+/// How many of each hundred requests are of which kind.
+const MIX: &[(u64, Kind)] = &[
+    (33, Kind::Listing),
+    (2, Kind::LongListing),
+    (5, Kind::Special),
+    (12, Kind::Soup),
+    (14, Kind::Damaged),
+    (16, Kind::Short),
+    (1, Kind::Bytes),
+    (1, Kind::Lines),
+    (2, Kind::Brackets),
+    (4, Kind::Sequence),
+    (6, Kind::Room),
+    (2, Kind::Work),
+    (2, Kind::Spoiled),
+];
+
+/// The kind of the request of that index, and how many of its kind came before.
+fn kind_of(index: u64) -> (&'static Kind, u64) {
+    // 37 has no divisor in common with 100: each hundred has every slot once
+    let mut slot = index * 37 % 100;
+    for (share, kind) in MIX {
+        if slot < *share {
+            return (kind, index / 100 * share + slot);
+        }
+        slot -= share;
+    }
+    unreachable!("the shares come to 100")
+}
+
+/// Short texts go on where the seed before leaves off, where that one had some 100,000 requests.
+const SHORT_OF_A_SEED: u64 = 16_000;
+
+struct Maker {
+    texts: Texts,
+    seed: u64,
+}
+
+impl Maker {
+    fn text(&self, kind: &Kind, before: u64, pass: u8, r: &mut Random) -> Vec<u8> {
+        let t = &self.texts;
+        match kind {
+            Kind::LongListing => t.long_listing(r),
+            Kind::Special => t.special(r),
+            Kind::Soup => texts::soup(r, 40).into_bytes(),
+            Kind::Damaged => {
+                let whole = t.listing(r, pass);
+                texts::damaged(r, whole)
+            }
+            Kind::Short => texts::short(self.seed.wrapping_mul(SHORT_OF_A_SEED).wrapping_add(before)).into_bytes(),
+            Kind::Bytes => t.at_most_bytes(r),
+            Kind::Lines => t.at_most_lines(r),
+            Kind::Brackets => t.at_most_brackets(r),
+            Kind::Sequence => {
+                let whole = t.listing(r, pass);
+                texts::with_sequence(r, whole)
+            }
+            _ => t.listing(r, pass),
+        }
+    }
+
+    fn request(&self, index: u64) -> Asked {
+        let r = &mut Random::new(self.seed, index);
+        let (kind, before) = kind_of(index);
+        let pass = r.below(10).saturating_sub(3) as u8;
+        let mut asked = Asked { pass, short: 0, room: MOST_ROOM, text: self.text(kind, before, pass, r) };
+        match kind {
+            Kind::Room => asked.room = near_room(r, &asked),
+            Kind::Work => asked.short = r.between(1, WORK as usize + 1) as u8,
+            Kind::Spoiled => self.spoil(r, &mut asked),
+            _ => {}
+        }
+        asked
+    }
+
+    /// Several reasons to refuse at once, to see which comes first.
+    fn spoil(&self, r: &mut Random, asked: &mut Asked) {
+        for _ in 0..r.between(1, 3) {
+            match r.below(7) {
+                0 => asked.pass = *r.pick(&[&7, &8, &255]),
+                1 => asked.text = self.texts.at_most_bytes(r),
+                2 => asked.short = r.below(256) as u8,
+                3 => asked.text = texts::with_sequence(r, std::mem::take(&mut asked.text)),
+                4 => asked.text.extend_from_slice(&self.texts.at_most_lines(r)),
+                5 => asked.text.extend_from_slice(&self.texts.at_most_brackets(r)),
+                _ => asked.room = *r.pick(&[&0, &1, &32_769, &u32::MAX]),
+            }
+        }
+    }
+}
+
+/// A result buffer of exactly the length, a little more or less, or none.
+fn near_room(r: &mut Random, asked: &Asked) -> u32 {
+    let length = judge::answer(asked, WORK).result.len() as u32;
+    match r.below(5) {
+        0 => length,
+        1 => length.saturating_sub(1),
+        2 => length + 1,
+        3 => r.below(length as usize + 1) as u32,
+        _ => 0,
+    }
+}
+
+fn write(wire: &mut Wire, asked: &Asked) -> Option<()> {
+    wire.put(&[asked.pass, asked.short])?;
+    wire.put(&asked.room.to_le_bytes())?;
+    wire.put_text(&asked.text)
+}
+
+fn requests(wire: &mut Wire, seed: u64, count: u64) -> Option<()> {
+    let maker = Maker { texts: Texts::new(), seed };
+    (0..count).try_for_each(|index| write(wire, &maker.request(index)))
+}
+
+fn number(word: Option<&String>) -> u64 {
+    let usage = "make SEED COUNT | make leaves SEED COUNT [FUNCTION..]";
+    word.and_then(|w| w.parse().ok()).unwrap_or_else(|| wire::usage(usage))
+}
+
+fn main() {
+    let words: Vec<String> = std::env::args().skip(1).collect();
+    let mut wire = Wire::new();
+    // None where the reader has gone away: nothing is left to do then
+    let _ = if words.first().is_some_and(|w| w == "leaves") {
+        let functions: Vec<u8> = words[1..].iter().skip(2).map(|w| number(Some(w)) as u8).collect();
+        asking::requests(&mut wire, number(words.get(1)), number(words.get(2)), &functions)
+    } else {
+        requests(&mut wire, number(words.first()), number(words.get(1)))
+    };
+}

@@ -1,0 +1,115 @@
+"""The two protocols of README.md as bytes and as text to read, for the scripts beside this file."""
+import os
+import struct
+import subprocess
+
+HERE = os.path.dirname(os.path.realpath(__file__))
+TARGET = os.path.join(os.path.dirname(HERE), "target")
+MADE = os.path.join(TARGET, "original")
+SKIP = 0xFFFFFFFF
+
+NAMES = {
+    1: "trim", 2: "trim_start", 3: "trim_end", 4: "utf8", 5: "lines", 6: "join", 7: "count_lines", 8: "crowded_line",
+    9: "reg_name", 10: "phi_name", 11: "is_temp_name", 12: "parse", 13: "reads_in", 14: "replace_reg",
+    15: "occurrence_context", 16: "count_ident", 17: "mentions_ident", 18: "is_simple_ident", 19: "is_ident_byte",
+    20: "strip_comments", 21: "purity", 22: "strip_lexical", 23: "phi_rhs_pure", 24: "ident_words", 25: "regions",
+    26: "block_ids", 27: "block_paths", 28: "inside_loop", 29: "starts_statement", 30: "is_control_header",
+    31: "paren_if_needed", 32: "is_plain_ref", 33: "is_primary_expr", 34: "breaks_dependency",
+    35: "call_scratch_lines", 36: "pure_expr",
+}
+
+
+def build(*words):
+    """Builds what is missing below target/original/."""
+    subprocess.run([os.path.join(HERE, "build"), *words], check=True)
+
+
+def shown(text):
+    """Bytes as text to read: one line to a line, what is not plain as escapes."""
+    parts = text.decode("utf-8", "surrogateescape").split("\n")
+    lines = [p + "\n" for p in parts[:-1]] + parts[-1:]
+    return "\n".join("    " + (ascii(l) if len(l) < 600 else ascii(l[:600]) + f".. ({len(l)})") for l in lines)
+
+
+class Texts:
+    """Requests for whole texts, and their answers."""
+
+    @staticmethod
+    def request_end(data, at):
+        return at + 10 + struct.unpack_from("<I", data, at + 6)[0]
+
+    @staticmethod
+    def answer_end(data, at):
+        return at + 10 + struct.unpack_from("<I", data, at + 2)[0]
+
+    @staticmethod
+    def skipped(answer):
+        return answer[0] == 255
+
+    @staticmethod
+    def sort(request, answer):
+        """What requests are counted by."""
+        return answer[0]
+
+    @staticmethod
+    def show_request(request):
+        which, short, room, length = struct.unpack_from("<BBII", request)
+        return f"pass {which}, short {short}, room {room}, {length} bytes:\n{shown(request[10:])}"
+
+    @staticmethod
+    def show_answer(answer):
+        number, memory, length, place = struct.unpack_from("<BBII", answer)
+        head = f"number {number}, memory {memory}, length {length}, place {place}"
+        return head + (":\n" + shown(answer[10:]) if length else "")
+
+
+class Leaves:
+    """Requests for single functions, and their answers."""
+
+    @staticmethod
+    def request(function, number, a, b):
+        head = struct.pack("<BQI", function, number, len(a)) + a
+        return head + struct.pack("<I", len(b)) + b
+
+    @staticmethod
+    def request_end(data, at):
+        b_at = at + 13 + struct.unpack_from("<I", data, at + 9)[0]
+        return b_at + 4 + struct.unpack_from("<I", data, b_at)[0]
+
+    @staticmethod
+    def answer_end(data, at):
+        length = struct.unpack_from("<I", data, at)[0]
+        return at + 4 + (0 if length == SKIP else length)
+
+    @staticmethod
+    def skipped(answer):
+        return answer[:4] == b"\xff\xff\xff\xff"
+
+    @staticmethod
+    def sort(request, answer):
+        return request[0]
+
+    @staticmethod
+    def show_request(request):
+        function, number, length = struct.unpack_from("<BQI", request)
+        a, b = request[13 : 13 + length], request[17 + length :]
+        name = NAMES.get(function, "unknown")
+        return f"function {function} {name}, number {number}, a:\n{shown(a)}\n  b:\n{shown(b)}"
+
+    @staticmethod
+    def show_answer(answer):
+        return f"{len(answer) - 4} bytes: {answer[4:].hex(' ')}\n{shown(answer[4:])}"
+
+
+def cut(data, end_of):
+    """The requests or answers of a stream, one after the other; a cut last one is left out."""
+    at = 0
+    while at < len(data):
+        try:
+            end = end_of(data, at)
+        except struct.error:
+            return
+        if end > len(data):
+            return
+        yield data[at:end]
+        at = end
