@@ -1,0 +1,1 @@
+// The definition of rebuild_calls and its theorems.

@@ -1,0 +1,6 @@
+pub mod PrintLaws
+pub mod Writes
+pub mod Passes
+pub mod Keeps
+pub mod Decl
+pub mod Examples

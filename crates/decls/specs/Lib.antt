@@ -1,0 +1,2 @@
+pub mod Decls
+pub mod Print

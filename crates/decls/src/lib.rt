@@ -1,0 +1,77 @@
+// prune_decls: declarations keep the registers that their region reads or stores.
+pub mod print;
+
+ghost use mathlib.Core.Path.{_≡_};
+ghost use mathlib.Core.Bool.{false};
+ghost use Prim.Native.Nat.{_≤_, _+_};
+ghost use lib.ListN.{length};
+ghost use Rattle.lines.specs.Lf.{linesOf, partsOf, unlines};
+ghost use Rattle.lines.specs.Out.{Wrote};
+ghost use Rattle.names.specs.Names.{regOf};
+ghost use Rattle.decls.specs.Decls.{staysBy, stays, lineText, pruneDecls};
+ghost use Rattle.decls.specs.Print.{kept, declText};
+
+// Whether a text names a register that some line of the region reads or stores.
+fn stays_in(region: &[u8], t: &[u8]) -> bool
+    ensures { λ r. ⌜ r ≡ staysBy (linesOf (now (region .entry))) (regOf (now (t .entry))) ⌝ }
+{
+    match names::reg_name(t) {
+        names::RegName::Reg(q) => reading::uses(region, q),
+        names::RegName::None => false,
+    }
+}
+
+// Writes a declaration anew, with its LF; nothing where no name stays.
+fn put_decl(body: &[u8], indent: &[u8], region: &[u8], out: &mut [u8], o: usize) -> usize
+    requires { ⌜ o + length (declText (now indent) (kept (stays (linesOf (now region))) 1 (partsOf 44 (now body))) false) ≤ length (now out) ⌝ }
+    ensures { λ r. ⌜ Wrote (now (out .entry)) o (declText (now (indent .entry)) (kept (stays (linesOf (now (region .entry)))) 1 (partsOf 44 (now (body .entry)))) false) (now (out .exit)) r ⌝ }
+{
+    let mut i = 0;
+    let mut p = o;
+    loop {
+        let e = lines::find_byte(body, i, b',');
+        let t = text::trim(lines::cut(body, i, e));
+        let s = stays_in(region, t);
+        p = print::put_part(indent, o < p, s, t, 1, out, p);
+        if e >= body.len() {
+            return print::put_end(o < p, out, p);
+        }
+        i = e + 1;
+    }
+}
+
+// Writes what a line of a region becomes.
+fn put_line(line: &[u8], region: &[u8], out: &mut [u8], o: usize) -> usize
+    requires { ⌜ o + length (lineText (linesOf (now region)) (now line)) ≤ length (now out) ⌝ }
+    ensures { λ r. ⌜ Wrote (now (out .entry)) o (lineText (linesOf (now (region .entry))) (now (line .entry))) (now (out .exit)) r ⌝ }
+{
+    let t = text::trim(line);
+    if parse::is_decl(t) {
+        let a = text::trim_from(line);
+        return put_decl(&t[4..t.len() - 1], lines::cut(line, 0, a), region, out, o);
+    }
+    let p = lines::put(out, o, line);
+    lines::put_byte(out, p, 10)
+}
+
+// Writes the lines of a text without the declared registers that their region neither reads nor stores.
+pub fn prune_decls(text: &[u8], out: &mut [u8]) -> usize
+    requires { ⌜ length (unlines (pruneDecls (linesOf (now text)))) ≤ length (now out) ⌝ }
+    ensures { λ r. ⌜ Wrote (now (out .entry)) 0 (unlines (pruneDecls (linesOf (now (text .entry))))) (now (out .exit)) r ⌝ }
+{
+    let mut a = 0;
+    let mut b = place::region_end(text, 0);
+    let mut i = 0;
+    let mut o = 0;
+    while i < text.len() {
+        let e = lines::find_byte(text, i, 10);
+        let line = lines::cut(text, i, e);
+        if place::is_header(line) {
+            a = i;
+            b = place::region_end(text, i);
+        }
+        o = put_line(line, lines::cut(text, a, b), out, o);
+        i = lines::after(text, e);
+    }
+    o
+}

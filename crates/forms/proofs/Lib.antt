@@ -1,0 +1,4 @@
+pub mod Ors
+pub mod PrimaryLaws
+pub mod BreaksLaws
+pub mod Examples

@@ -1,0 +1,3 @@
+pub mod Control
+pub mod Primary
+pub mod Breaks

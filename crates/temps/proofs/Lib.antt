@@ -1,0 +1,4 @@
+pub mod TempLaws
+pub mod PassLaws
+pub mod Keeps
+pub mod Examples

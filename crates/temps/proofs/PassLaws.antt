@@ -1,0 +1,162 @@
+-- Laws of what one line of `prune_dead_temps` asks and becomes, and of its loop. Assumes nothing.
+use Prim.Native.Nat.{ℕ, suc, _+_, _-_, _≤_, _<_, min}
+use mathlib.Core.Path.{_≡_, refl, sym, ap, _∙_}
+use mathlib.Core.Bool.{Bool, true, false, cond, not, _&&_}
+use mathlib.Core.List.{List, [], _∷_, _++_}
+use native.Mathlib.Omega.{arith}
+use lib.ListN.{length, drop, length-take, length-drop, length-append}
+use Rattle.lines.specs.Lf.{part, upTo, linesOf, unlines}
+use Rattle.lines.specs.Out.{putAt, Wrote}
+use Rattle.lines.specs.Acts.{keep, gone, act, apply}
+use Rattle.lines.proofs.Tests.{and-false, and-true}
+use Rattle.lines.proofs.LfLaws.{lines-at, lines-end}
+use Rattle.lines.proofs.ActLaws.{unlines-append}
+use Rattle.lines.proofs.OutLaws.{Writing, writing-start, writing-as, writing-room, writing-put, writing-end}
+use Rattle.text.specs.Trim.{fromOf, toEnd, trimOf}
+use Rattle.text.proofs.Trims.{trim-part}
+use Rattle.names.specs.Names.{isTemp}
+use Rattle.expr.specs.Comments.{stripComments}
+use Rattle.expr.proofs.CommentLaws.{strip-length}
+use Rattle.reading.specs.Reading.{Reading, plain, pureIn}
+use Rattle.reading.specs.Assign.{unended, isAssign, leftOf, rightOf}
+use Rattle.temps.specs.Temps.{declaredIn, tempRead, deadTemp, tempAct, tempActs, pruneDeadTempsActs, pruneDeadTemps}
+use Rattle.temps.specs.Scratch.{tempGoes, tempText, scratchLine, tempScratch}
+
+-- ---- one line
+
+-- t is the trimmed line, and x its left side
+module _ (R : Reading) (ls : List (List ℕ)) (l t : List ℕ) (p : t ≡ trimOf l) where
+  -- no assignment
+  pub goes-other : isAssign t ≡ false → tempGoes R ls l ≡ false
+  unfolding tempGoes
+  goes-other e = rw (← p, e)
+
+  -- an assignment of what is no temp
+  pub goes-name : (x : List ℕ) → isAssign t ≡ true → x ≡ leftOf t → isTemp x ≡ false → tempGoes R ls l ≡ false
+  unfolding tempGoes
+  goes-name x e q d = rw (← p, e, ← q, d)
+
+  -- a store of a temp, of a value that is not pure, or that is
+  module _ (x v : List ℕ) (e : isAssign t ≡ true) (q : x ≡ leftOf t) (d : isTemp x ≡ true) (z : v ≡ rightOf t) where
+    pub goes-impure : pureIn R v ≡ false → tempGoes R ls l ≡ false
+    unfolding tempGoes
+    goes-impure f = rw (← p, e, ← q, d, ← z, f) (and-false (declaredIn x ls && not (tempRead x ls)))
+
+    pub goes-pure : pureIn R v ≡ true → tempGoes R ls l ≡ declaredIn x ls && not (tempRead x ls)
+    unfolding tempGoes
+    goes-pure f = rw (← p, e, ← q, d, ← z, f) (and-true (declaredIn x ls && not (tempRead x ls)))
+
+-- what it leaves in the scratch d
+module _ (d l t : List ℕ) (p : t ≡ trimOf l) where
+  pub scratch-other : isAssign t ≡ false → scratchLine l d ≡ d
+  unfolding scratchLine
+  scratch-other e = rw (← p, e)
+
+  pub scratch-store : (b : Bool) (x : List ℕ) → isAssign t ≡ true → x ≡ leftOf t → isTemp x ≡ b → scratchLine l d ≡ cond b (putAt d 0 (stripComments (rightOf t))) d
+  unfolding scratchLine
+  scratch-store b x e q g = rw (← p, e, ← q, g)
+
+pub text-by : (R : Reading) (ls : List (List ℕ)) (l : List ℕ) (b : Bool) → tempGoes R ls l ≡ b → tempText R ls l ≡ cond b [] (l ++ 10 ∷ [])
+unfolding tempText
+text-by R ls l b e = rw e
+
+-- a part is no longer than the whole
+part-le : (a e : ℕ) (s : List ℕ) → length (part a e s) ≤ length s
+part-le a e s = omega (arith, length-take (e - a) (drop a s), length-drop a s)
+
+trim-le : (s : List ℕ) → length (trimOf s) ≤ length s
+trim-le s = omega (arith, ap length (trim-part s), part-le (fromOf s) (toEnd s) s)
+
+right-le : (t : List ℕ) → length (rightOf t) ≤ length t
+unfolding rightOf
+right-le t =
+    let k : ℕ = suc (upTo 61 (unended t)) in
+    omega (arith, trim-le (drop k (unended t)), length-drop k (unended t), length-take (length t - 1) t)
+
+-- a value without its comments fits where its line does
+pub value-room : (l t v : List ℕ) → t ≡ trimOf l → v ≡ rightOf t → length (stripComments v) ≤ length l
+value-room l t v p q = omega (arith, strip-length v, ap length q, right-le t, ap length p, trim-le l)
+
+-- ---- the lines that are still to come, as bytes
+
+abbrev toGo : Reading → List (List ℕ) → List (List ℕ) → List ℕ
+toGo R ls ms = unlines (apply (tempActs R ls ms) ms)
+
+act-text : (R : Reading) (ls : List (List ℕ)) (l : List ℕ) → unlines (act (tempAct R ls l) l) ≡ tempText R ls l
+unfolding tempText tempAct tempGoes act unlines
+act-text R ls l = go (isAssign (trimOf l) && (deadTemp (leftOf (trimOf l)) ls && pureIn R (rightOf (trimOf l))))
+  where
+    go : (b : Bool) → unlines (act (cond b gone keep) l) ≡ cond b [] (l ++ 10 ∷ [])
+    go true = refl
+    go false = refl
+
+go-line : (R : Reading) (ls : List (List ℕ)) (m : List ℕ) (ms : List (List ℕ)) → toGo R ls (m ∷ ms) ≡ tempText R ls m ++ toGo R ls ms
+unfolding tempActs apply
+go-line R ls m ms =
+    unlines-append (act (tempAct R ls m) m) (apply (tempActs R ls ms) ms) ∙ ap (λ (t : List ℕ). t ++ toGo R ls ms) (act-text R ls m)
+
+go-none : (R : Reading) (ls : List (List ℕ)) → toGo R ls [] ≡ []
+unfolding tempActs apply unlines
+go-none R ls = refl
+
+go-all : (R : Reading) (ls : List (List ℕ)) → unlines (pruneDeadTemps R ls) ≡ toGo R ls ls
+unfolding pruneDeadTemps pruneDeadTempsActs
+go-all R ls = refl
+
+scratch-line : (m : List ℕ) (ms : List (List ℕ)) (d : List ℕ) → tempScratch (m ∷ ms) d ≡ tempScratch ms (scratchLine m d)
+unfolding tempScratch
+scratch-line m ms d = refl
+
+scratch-none : (d : List ℕ) → tempScratch [] d ≡ d
+unfolding tempScratch
+scratch-none d = refl
+
+-- ---- the loop of `prune_dead_temps`
+
+pub record TempInv (t c₀ d₀ c d : List ℕ) (i o : ℕ) : Type 0 where
+  pub room : length t ≤ length c
+  pub i≤ : i ≤ length t
+  pub same-scratch : length c ≡ length c₀
+  pub writing : Writing 0 (unlines (pruneDeadTemps plain (linesOf t))) (toGo plain (linesOf t) (linesOf (drop i t))) d₀ d o
+  pub memory : tempScratch (linesOf (drop i t)) c ≡ tempScratch (linesOf t) c₀
+
+pub temp-start : (t c d : List ℕ) → length t ≤ length c → length (unlines (pruneDeadTemps plain (linesOf t))) ≤ length d → TempInv t c d c d 0 0
+temp-start t c d h k = record {
+  room = h;
+  i≤ = omega arith;
+  same-scratch = refl;
+  writing = writing-as (go-all plain (linesOf t)) (writing-start 0 (unlines (pruneDeadTemps plain (linesOf t))) d (omega arith));
+  memory = refl;
+}
+
+module _ {t c₀ d₀ c d : List ℕ} {i o : ℕ} (h : TempInv t c₀ d₀ c d i o) where
+  module _ (e : ℕ) (k : i < length t) (q : e ≡ i + upTo 10 (drop i t)) where
+    -- the next line and what follows it
+    next : Writing 0 (unlines (pruneDeadTemps plain (linesOf t))) (tempText plain (linesOf t) (part i e t) ++ toGo plain (linesOf t) (linesOf (drop (min (e + 1) (length t)) t))) d₀ d o
+    next = writing-as (ap (λ (ms : List (List ℕ)). toGo plain (linesOf t) ms) (lines-at t i e k q) ∙ go-line plain (linesOf t) _ _) (h .writing)
+
+    pub temp-room : (length (part i e t) ≤ length c) × (o + length (tempText plain (linesOf t) (part i e t)) ≤ length d)
+    temp-room = (
+      omega (arith, part-le i e t, h .room),
+      omega (arith, writing-room next, length-append (tempText plain (linesOf t) (part i e t)) (toGo plain (linesOf t) (linesOf (drop (min (e + 1) (length t)) t)))),
+    )
+
+    pub temp-on : (c′ d′ : List ℕ) (r j : ℕ) → Wrote d o (tempText plain (linesOf t) (part i e t)) d′ r → c′ ≡ scratchLine (part i e t) c → length c′ ≡ length c → j ≡ min (e + 1) (length t) →
+        TempInv t c₀ d₀ c′ d′ j r
+    temp-on c′ d′ r j w m s z = record {
+      room = omega (arith, h .room);
+      i≤ = omega arith;
+      same-scratch = s ∙ h .same-scratch;
+      writing = rw z (writing-put next w);
+      memory =
+          rw (z, m)
+          (sym (scratch-line (part i e t) (linesOf (drop (min (e + 1) (length t)) t)) c)
+          ∙ ap (λ (ms : List (List ℕ)). tempScratch ms c) (sym (lines-at t i e k q))
+          ∙ h .memory);
+    }
+
+  pub temp-end : length t ≤ i → Wrote d₀ 0 (unlines (pruneDeadTemps plain (linesOf t))) d o
+  temp-end k = writing-end (writing-as (ap (λ (ms : List (List ℕ)). toGo plain (linesOf t) ms) (lines-end t i k) ∙ go-none plain (linesOf t)) (h .writing))
+
+  pub temp-memory : length t ≤ i → c ≡ tempScratch (linesOf t) c₀
+  temp-memory k = sym (ap (λ (ms : List (List ℕ)). tempScratch ms c) (lines-end t i k) ∙ scratch-none c) ∙ h .memory

@@ -1,0 +1,183 @@
+// prune_dead_temps, over LF form.
+ghost use mathlib.Core.Path.{_≡_};
+ghost use mathlib.Core.Bool.{true, not, _&&_, _||_};
+ghost use Prim.Native.Nat.{_≤_, _+_};
+ghost use lib.ListN.{length};
+ghost use Rattle.lines.specs.Lf.{partsOf, linesOf, unlines, prefixed, same};
+ghost use Rattle.lines.specs.Out.{Wrote};
+ghost use Rattle.names.specs.Names.{isTemp};
+ghost use Rattle.parse.specs.Parse.{letWord};
+ghost use Rattle.place.specs.Region.{varWord, constWord};
+ghost use Rattle.reading.specs.Reading.{plain};
+ghost use Rattle.reading.specs.Assign.{isAssign, leftOf};
+ghost use Rattle.temps.specs.Temps.{anyPiece, declares, tempReads, declaredIn, tempRead, pruneDeadTemps};
+ghost use Rattle.temps.specs.Scratch.{tempGoes, tempText, scratchLine, tempScratch};
+
+// Whether one of the pieces between the commas, trimmed, is a name.
+fn any_piece(s: &[u8], name: &[u8]) -> bool
+    ensures { λ r. ⌜ r ≡ anyPiece (now (name .entry)) (partsOf 44 (now (s .entry))) ⌝ }
+{
+    let mut i = 0;
+    loop {
+        let e = lines::find_byte(s, i, b',');
+        if lines::same(text::trim(&s[i..e]), name) {
+            return true;
+        }
+        if e >= s.len() {
+            return false;
+        }
+        i = e + 1;
+    }
+}
+
+// Whether a trimmed line declares a name.
+fn declares(t: &[u8], name: &[u8]) -> bool
+    ensures { λ r. ⌜ r ≡ declares (now (name .entry)) (now (t .entry)) ⌝ }
+{
+    let n = t.len();
+    if n <= 4 {
+        return false;
+    }
+    if !lines::starts_with(t, b"let ") {
+        return false;
+    }
+    if t[n - 1] != b';' {
+        return false;
+    }
+    any_piece(&t[4..n - 1], name)
+}
+
+// Whether some line of a text declares a name.
+fn declared_in(text: &[u8], name: &[u8]) -> bool
+    ensures { λ r. ⌜ r ≡ declaredIn (now (name .entry)) (linesOf (now (text .entry))) ⌝ }
+{
+    let mut i = 0;
+    while i < text.len() {
+        let e = lines::find_byte(text, i, 10);
+        if declares(text::trim(&text[i..e]), name) {
+            return true;
+        }
+        i = lines::after(text, e);
+    }
+    false
+}
+
+// Whether a trimmed line begins with `let `, `var ` or `const `.
+fn is_binding(t: &[u8]) -> bool
+    ensures { λ r. ⌜ r ≡ prefixed letWord (now (t .entry)) || (prefixed varWord (now (t .entry)) || prefixed constWord (now (t .entry))) ⌝ }
+{
+    if lines::starts_with(t, b"let ") {
+        return true;
+    }
+    if lines::starts_with(t, b"var ") {
+        return true;
+    }
+    lines::starts_with(t, b"const ")
+}
+
+// Whether a trimmed line is a store of a name.
+fn is_store(t: &[u8], name: &[u8]) -> bool
+    ensures { λ r. ⌜ r ≡ isAssign (now (t .entry)) && same (leftOf (now (t .entry))) (now (name .entry)) ⌝ }
+{
+    match reading::assign_of(t) {
+        reading::Assign::Split(s) => lines::same(reading::left_of(t, s), name),
+        reading::Assign::None => false,
+    }
+}
+
+// How often a trimmed line reads a temp.
+fn temp_reads(t: &[u8], name: &[u8]) -> usize
+    requires { ⌜ isTemp (now name) ≡ true ⌝ }
+    ensures { λ r. ⌜ r ≡ tempReads (now (name .entry)) (now (t .entry)) ⌝ }
+{
+    if is_binding(t) {
+        return 0;
+    }
+    let n = words::count_word(t, name);
+    if n == 0 {
+        return 0;
+    }
+    if is_store(t, name) {
+        return n - 1;
+    }
+    n
+}
+
+// Whether some line of a text reads a temp.
+fn temp_read(text: &[u8], name: &[u8]) -> bool
+    requires { ⌜ isTemp (now name) ≡ true ⌝ }
+    ensures { λ r. ⌜ r ≡ tempRead (now (name .entry)) (linesOf (now (text .entry))) ⌝ }
+{
+    let mut i = 0;
+    while i < text.len() {
+        let e = lines::find_byte(text, i, 10);
+        if 0 < temp_reads(text::trim(&text[i..e]), name) {
+            return true;
+        }
+        i = lines::after(text, e);
+    }
+    false
+}
+
+// Whether a temp is dead: some line of a text declares it, and none reads it.
+fn is_dead(text: &[u8], name: &[u8]) -> bool
+    requires { ⌜ isTemp (now name) ≡ true ⌝ }
+    ensures { λ r. ⌜ r ≡ declaredIn (now (name .entry)) (linesOf (now (text .entry))) && not (tempRead (now (name .entry)) (linesOf (now (text .entry)))) ⌝ }
+{
+    if !declared_in(text, name) {
+        return false;
+    }
+    !temp_read(text, name)
+}
+
+// Whether a line of a text goes. The value of a store of a temp is judged first, and left in `scratch` without its comments.
+fn goes(line: &[u8], text: &[u8], scratch: &mut [u8]) -> bool
+    requires { ⌜ length (now line) ≤ length (now scratch) ⌝ }
+    ensures answer { λ r. ⌜ r ≡ tempGoes plain (linesOf (now (text .entry))) (now (line .entry)) ⌝ }
+    ensures memory { λ _. ⌜ now (scratch .exit) ≡ scratchLine (now (line .entry)) (now (scratch .entry)) ⌝ }
+{
+    let t = text::trim(line);
+    match reading::assign_of(t) {
+        reading::Assign::Split(s) => {
+            let name = reading::left_of(t, s);
+            if !names::is_temp_name(name) {
+                return false;
+            }
+            if !expr::is_pure(expr::purity(reading::right_of(t, s), scratch)) {
+                return false;
+            }
+            is_dead(text, name)
+        }
+        reading::Assign::None => false,
+    }
+}
+
+// Writes what a line of a text becomes, and returns the place after it.
+fn put_line(line: &[u8], text: &[u8], scratch: &mut [u8], out: &mut [u8], o: usize) -> usize
+    requires { ⌜ (length (now line) ≤ length (now scratch)) × (o + length (tempText plain (linesOf (now text)) (now line)) ≤ length (now out)) ⌝ }
+    ensures answer { λ r. ⌜ Wrote (now (out .entry)) o (tempText plain (linesOf (now (text .entry))) (now (line .entry))) (now (out .exit)) r ⌝ }
+    ensures memory { λ _. ⌜ now (scratch .exit) ≡ scratchLine (now (line .entry)) (now (scratch .entry)) ⌝ }
+{
+    if goes(line, text, scratch) {
+        return o;
+    }
+    let p = lines::put(out, o, line);
+    lines::put_byte(out, p, 10)
+}
+
+// A store of a declared temp that nothing reads goes, where its value is pure. Each line is followed by one LF; the values of the stores
+// of temps are left in `scratch`, one over the other, without their comments.
+pub fn prune_dead_temps(text: &[u8], scratch: &mut [u8], out: &mut [u8]) -> usize
+    requires { ⌜ (length (now text) ≤ length (now scratch)) × (length (unlines (pruneDeadTemps plain (linesOf (now text)))) ≤ length (now out)) ⌝ }
+    ensures answer { λ r. ⌜ Wrote (now (out .entry)) 0 (unlines (pruneDeadTemps plain (linesOf (now (text .entry))))) (now (out .exit)) r ⌝ }
+    ensures memory { λ _. ⌜ now (scratch .exit) ≡ tempScratch (linesOf (now (text .entry))) (now (scratch .entry)) ⌝ }
+{
+    let mut i = 0;
+    let mut o = 0;
+    while i < text.len() {
+        let e = lines::find_byte(text, i, 10);
+        o = put_line(&text[i..e], text, scratch, out, o);
+        i = lines::after(text, e);
+    }
+    o
+}
