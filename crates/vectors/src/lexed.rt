@@ -5,7 +5,7 @@ use crate::say::say_byte;
 use crate::say::say_flag;
 
 // A cleaned line.
-fn strip_lexical(a: &[u8], out: &mut [u8]) -> usize {
+pub fn strip_lexical(a: &[u8], out: &mut [u8]) -> usize {
     if out.len() < a.len() {
         return nothing();
     }

@@ -1,4 +1,5 @@
 // One turn: a request is read and answered.
+use crate::formed;
 use crate::lexed;
 use crate::named;
 use crate::passed;
@@ -27,6 +28,7 @@ fn answer(function: u8, number: u64, a: &[u8], b: &[u8], out: &mut [u8]) -> usiz
         20..=21 | 36 => values::answer(function, a, out),
         22..=24 => lexed::answer(function, a, out),
         25..=29 => placed::answer(function, number, a, out),
+        30..=34 => formed::answer(function, number, a, b, out),
         41 | 45 => passed::answer(function, a, out),
         _ => say::nothing(),
     }
