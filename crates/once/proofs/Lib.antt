@@ -6,3 +6,4 @@ pub mod Marks
 pub mod Writes
 pub mod Reasons
 pub mod Keeps
+pub mod Examples

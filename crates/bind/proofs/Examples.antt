@@ -1,0 +1,53 @@
+-- bind_declarators on some listings, as one table. What is expected is the original's answer. Assumes nothing.
+use Prim.Native.Nat.{ℕ}
+use mathlib.Core.Path.{_≡_, refl}
+use mathlib.Core.List.{List, [], _∷_, map}
+use Rattle.lines.specs.Lf.{upTo, countOf, prefixed, suffixed, same, holds, cutOn, linesOf, partsOf, unlines, lacks, noLf}
+use Rattle.lines.specs.Acts.{act, apply}
+use Rattle.text.specs.White.{isWhite}
+use Rattle.text.specs.Utf8Form.{seqLen, scan, utf8Of}
+use Rattle.text.specs.Trim.{whiteChar, whiteHead, whiteTail, lead, fromOf, endWhite, toOf, trimOf}
+use Rattle.names.specs.Names.{numbered, numberOf, zeros, decimalBy, decimal, numberAfter, regOf, phiOf, isTemp, isIdent}
+use Rattle.parse.specs.Parse.{allRegs, isDecl, storeIn, parseOf, textOf}
+use Rattle.words.specs.Runs.{runsGo, runs, countBy, upBy, walk, runHits}
+use Rattle.words.specs.Hits.{hitsGo, hits, oneHit, regHit, afterNew, asTarget, glueLeft, glueRight, glued, replacedAt, replaceReg}
+use Rattle.lexical.specs.Lex.{quoteLen, patternLen, commentLen, lastOf, tokenOf, tokenAt, lexGo, stripLexical, tailOf, pushed, grown, stepOf}
+use Rattle.place.specs.Region.{isHeader, headed, regionsGo, regions, regionNext, untilHeader, region, regionAt, upHeader}
+use Rattle.place.specs.Blocks.{braceOf, push, count, top, stackAfter, nextAfter, blocksGo, blocks, cleaned, mayAt, depthAt, depthAfter, ownLine, ownGo, own}
+use Rattle.place.specs.Starts.{startsAfter, startsBy, startsAbove, startsGo}
+use Rattle.reading.specs.Assign.{isAssign, leftOf, rightOf, assignOf}
+use Rattle.reading.specs.Uses.{lineReads, lineStores, lineUses, usedIn}
+use Rattle.decls.specs.Decls.{commas, declAct, keepNames, actOf, actsGo, pruneDeclsActs, pruneDecls}
+use Rattle.bind.specs.Bind.{spotsOf, spots, linesIn, untilHead, pieceCount, declCount, storeCount, firstUse, bound, anyBound, unbound, mark, markAll, piecesOf, bindAct, bindGo, bindDeclaratorsActs, bindDeclarators}
+use Rattle.reading.specs.Reading.{plain}
+
+-- the lines of a listing, and what they become
+pub record Row : Type 0 where
+  pub lines : List (List ℕ)
+  pub result : List (List ℕ)
+
+abbrev pub row : List (List ℕ) → List (List ℕ) → Row
+row ls rs = record { lines = ls; result = rs }
+
+-- `var x;`; `  let r0;`; `}`; `  r0 = 1;`
+--   gives `var x;`; `}`; `  let r0 = 1;`
+-- `if (x) {`; `var x;`; `  let r0;`; `}`; `  r0 = 1;`
+--   gives `if (x) {`; `var x;`; `  let r0;`; `}`; `  r0 = 1;`
+-- `let r1, r2;`; `  r1 = r1 + 1;`; `  use(r2);`
+--   gives `let r2;`; `  let r1 = r1 + 1;`; `  use(r2);`
+-- `let r007, r1;`; `r7 = f();`; `if (c)`; `r1 = 2;`
+--   gives `let r1;`; `let r7 = f();`; `if (c)`; `r1 = 2;`
+-- `let r3;`; `let r4;`; `r3 = 1;`
+--   gives `let r3;`; `let r4;`; `r3 = 1;`
+unfoldable pub rows : List Row
+rows =
+    row ((118 ∷ 97 ∷ 114 ∷ 32 ∷ 120 ∷ 59 ∷ []) ∷ (32 ∷ 32 ∷ 108 ∷ 101 ∷ 116 ∷ 32 ∷ 114 ∷ 48 ∷ 59 ∷ []) ∷ (125 ∷ []) ∷ (32 ∷ 32 ∷ 114 ∷ 48 ∷ 32 ∷ 61 ∷ 32 ∷ 49 ∷ 59 ∷ []) ∷ []) ((118 ∷ 97 ∷ 114 ∷ 32 ∷ 120 ∷ 59 ∷ []) ∷ (125 ∷ []) ∷ (32 ∷ 32 ∷ 108 ∷ 101 ∷ 116 ∷ 32 ∷ 114 ∷ 48 ∷ 32 ∷ 61 ∷ 32 ∷ 49 ∷ 59 ∷ []) ∷ [])
+    ∷ row ((105 ∷ 102 ∷ 32 ∷ 40 ∷ 120 ∷ 41 ∷ 32 ∷ 123 ∷ []) ∷ (118 ∷ 97 ∷ 114 ∷ 32 ∷ 120 ∷ 59 ∷ []) ∷ (32 ∷ 32 ∷ 108 ∷ 101 ∷ 116 ∷ 32 ∷ 114 ∷ 48 ∷ 59 ∷ []) ∷ (125 ∷ []) ∷ (32 ∷ 32 ∷ 114 ∷ 48 ∷ 32 ∷ 61 ∷ 32 ∷ 49 ∷ 59 ∷ []) ∷ []) ((105 ∷ 102 ∷ 32 ∷ 40 ∷ 120 ∷ 41 ∷ 32 ∷ 123 ∷ []) ∷ (118 ∷ 97 ∷ 114 ∷ 32 ∷ 120 ∷ 59 ∷ []) ∷ (32 ∷ 32 ∷ 108 ∷ 101 ∷ 116 ∷ 32 ∷ 114 ∷ 48 ∷ 59 ∷ []) ∷ (125 ∷ []) ∷ (32 ∷ 32 ∷ 114 ∷ 48 ∷ 32 ∷ 61 ∷ 32 ∷ 49 ∷ 59 ∷ []) ∷ [])
+    ∷ row ((108 ∷ 101 ∷ 116 ∷ 32 ∷ 114 ∷ 49 ∷ 44 ∷ 32 ∷ 114 ∷ 50 ∷ 59 ∷ []) ∷ (32 ∷ 32 ∷ 114 ∷ 49 ∷ 32 ∷ 61 ∷ 32 ∷ 114 ∷ 49 ∷ 32 ∷ 43 ∷ 32 ∷ 49 ∷ 59 ∷ []) ∷ (32 ∷ 32 ∷ 117 ∷ 115 ∷ 101 ∷ 40 ∷ 114 ∷ 50 ∷ 41 ∷ 59 ∷ []) ∷ []) ((108 ∷ 101 ∷ 116 ∷ 32 ∷ 114 ∷ 50 ∷ 59 ∷ []) ∷ (32 ∷ 32 ∷ 108 ∷ 101 ∷ 116 ∷ 32 ∷ 114 ∷ 49 ∷ 32 ∷ 61 ∷ 32 ∷ 114 ∷ 49 ∷ 32 ∷ 43 ∷ 32 ∷ 49 ∷ 59 ∷ []) ∷ (32 ∷ 32 ∷ 117 ∷ 115 ∷ 101 ∷ 40 ∷ 114 ∷ 50 ∷ 41 ∷ 59 ∷ []) ∷ [])
+    ∷ row ((108 ∷ 101 ∷ 116 ∷ 32 ∷ 114 ∷ 48 ∷ 48 ∷ 55 ∷ 44 ∷ 32 ∷ 114 ∷ 49 ∷ 59 ∷ []) ∷ (114 ∷ 55 ∷ 32 ∷ 61 ∷ 32 ∷ 102 ∷ 40 ∷ 41 ∷ 59 ∷ []) ∷ (105 ∷ 102 ∷ 32 ∷ 40 ∷ 99 ∷ 41 ∷ []) ∷ (114 ∷ 49 ∷ 32 ∷ 61 ∷ 32 ∷ 50 ∷ 59 ∷ []) ∷ []) ((108 ∷ 101 ∷ 116 ∷ 32 ∷ 114 ∷ 49 ∷ 59 ∷ []) ∷ (108 ∷ 101 ∷ 116 ∷ 32 ∷ 114 ∷ 55 ∷ 32 ∷ 61 ∷ 32 ∷ 102 ∷ 40 ∷ 41 ∷ 59 ∷ []) ∷ (105 ∷ 102 ∷ 32 ∷ 40 ∷ 99 ∷ 41 ∷ []) ∷ (114 ∷ 49 ∷ 32 ∷ 61 ∷ 32 ∷ 50 ∷ 59 ∷ []) ∷ [])
+    ∷ row ((108 ∷ 101 ∷ 116 ∷ 32 ∷ 114 ∷ 51 ∷ 59 ∷ []) ∷ (108 ∷ 101 ∷ 116 ∷ 32 ∷ 114 ∷ 52 ∷ 59 ∷ []) ∷ (114 ∷ 51 ∷ 32 ∷ 61 ∷ 32 ∷ 49 ∷ 59 ∷ []) ∷ []) ((108 ∷ 101 ∷ 116 ∷ 32 ∷ 114 ∷ 51 ∷ 59 ∷ []) ∷ (108 ∷ 101 ∷ 116 ∷ 32 ∷ 114 ∷ 52 ∷ 59 ∷ []) ∷ (114 ∷ 51 ∷ 32 ∷ 61 ∷ 32 ∷ 49 ∷ 59 ∷ []) ∷ [])
+    ∷ []
+
+pub examples : map (λ (r : Row). bindDeclarators plain (r .lines)) rows ≡ map (λ (r : Row). r .result) rows
+unfolding rows upTo countOf prefixed suffixed same holds cutOn linesOf partsOf unlines lacks noLf act apply isWhite seqLen scan utf8Of whiteChar whiteHead whiteTail lead fromOf endWhite toOf trimOf numbered numberOf zeros decimalBy decimal numberAfter regOf phiOf isTemp isIdent allRegs isDecl storeIn parseOf textOf runsGo runs countBy upBy walk runHits hitsGo hits oneHit regHit afterNew asTarget glueLeft glueRight glued replacedAt replaceReg quoteLen patternLen commentLen lastOf tokenOf tokenAt lexGo stripLexical tailOf pushed grown stepOf isHeader headed regionsGo regions regionNext untilHeader region regionAt upHeader braceOf push count top stackAfter nextAfter blocksGo blocks cleaned mayAt depthAt depthAfter ownLine ownGo own startsAfter startsBy startsAbove startsGo isAssign leftOf rightOf assignOf lineReads lineStores lineUses usedIn commas declAct keepNames actOf actsGo pruneDeclsActs pruneDecls spotsOf spots linesIn untilHead pieceCount declCount storeCount firstUse bound anyBound unbound mark markAll piecesOf bindAct bindGo bindDeclaratorsActs bindDeclarators
+examples = refl

@@ -1,0 +1,1 @@
+// bind_declarators: its definition.

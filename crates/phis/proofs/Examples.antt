@@ -1,0 +1,60 @@
+-- prune_dead_phis on some listings, as one table. What is expected is the original's answer. Assumes nothing.
+use Prim.Native.Nat.{ℕ}
+use mathlib.Core.Path.{_≡_, refl}
+use mathlib.Core.List.{List, [], _∷_, map}
+use Rattle.lines.specs.Lf.{upTo, countOf, prefixed, suffixed, same, holds, cutOn, linesOf, partsOf, unlines, lacks, noLf}
+use Rattle.lines.specs.Acts.{act, apply}
+use Rattle.text.specs.White.{isWhite}
+use Rattle.text.specs.Utf8Form.{seqLen, scan, utf8Of}
+use Rattle.text.specs.Trim.{whiteChar, whiteHead, whiteTail, lead, fromOf, endWhite, toOf, trimOf}
+use Rattle.names.specs.Names.{numbered, numberOf, zeros, decimalBy, decimal, numberAfter, regOf, phiOf, isTemp, isIdent}
+use Rattle.parse.specs.Parse.{allRegs, isDecl, storeIn, parseOf, textOf}
+use Rattle.words.specs.Runs.{runsGo, runs, countBy, upBy, walk, runHits}
+use Rattle.words.specs.Hits.{hitsGo, hits, oneHit, regHit, afterNew, asTarget, glueLeft, glueRight, glued, replacedAt, replaceReg}
+use Rattle.lexical.specs.Lex.{quoteLen, patternLen, commentLen, lastOf, tokenOf, tokenAt, lexGo, stripLexical, tailOf, pushed, grown, stepOf}
+use Rattle.place.specs.Region.{isHeader, headed, regionsGo, regions, regionNext, untilHeader, region, regionAt, upHeader}
+use Rattle.place.specs.Blocks.{braceOf, push, count, top, stackAfter, nextAfter, blocksGo, blocks, cleaned, mayAt, depthAt, depthAfter, ownLine, ownGo, own}
+use Rattle.place.specs.Starts.{startsAfter, startsBy, startsAbove, startsGo}
+use Rattle.reading.specs.Assign.{isAssign, leftOf, rightOf, assignOf}
+use Rattle.reading.specs.Uses.{lineReads, lineStores, lineUses, usedIn}
+use Rattle.decls.specs.Decls.{commas, declAct, keepNames, actOf, actsGo, pruneDeclsActs, pruneDecls}
+use Rattle.lexical.specs.Phi.{anyOf, assigns, phiPure, phiRhsPure, sees, seesAll}
+use Rattle.expr.specs.Fix.{deep, fix}
+use Rattle.expr.specs.Comments.{strip, stripComments, noComment}
+use Rattle.expr.specs.Pure.{spaceStart, spaceEnd, spaceTrim, wrapped, shapeOf, opens, closes, elements, pureBy, judge, purityOf, purityCut}
+use Rattle.phis.specs.Phis.{isLet, allPhis, phiDecl, anyPhi, phiStore, phiOwn, phiReads, phiRead, phiStored, anyDead, livePhis, phiAct, phiActs, keeps, roundActs, round, pruneDeadPhis}
+use Rattle.reading.specs.Reading.{plain}
+
+-- the lines of a listing, and what they become
+pub record Row : Type 0 where
+  pub lines : List (List ℕ)
+  pub result : List (List ℕ)
+
+abbrev pub row : List (List ℕ) → List (List ℕ) → Row
+row ls rs = record { lines = ls; result = rs }
+
+-- `let phi1, phi2;`; `phi1 = r7 === 1;`; `phi2 = f();`; `use(r7);`
+--   gives `f();`; `use(r7);`
+-- `  let phi7,phi8;`; `  phi007 = a;`; `  x = phi8;`
+--   gives `  let phi8;`; `  x = phi8;`
+-- `phi1 = phi2;`; `phi2 = phi3;`; `phi3 = phi4;`; `phi4 = 1;`
+--   gives `phi4 = 1;`
+-- `phi1 == 1;`
+--   gives `= 1;`
+-- `phi1 = 1; `
+--   gives `phi1 = 1; `
+-- ` phi2 = phi2 + g(1);`
+--   gives ` phi2 + g(1);`
+unfoldable pub rows : List Row
+rows =
+    row ((108 ∷ 101 ∷ 116 ∷ 32 ∷ 112 ∷ 104 ∷ 105 ∷ 49 ∷ 44 ∷ 32 ∷ 112 ∷ 104 ∷ 105 ∷ 50 ∷ 59 ∷ []) ∷ (112 ∷ 104 ∷ 105 ∷ 49 ∷ 32 ∷ 61 ∷ 32 ∷ 114 ∷ 55 ∷ 32 ∷ 61 ∷ 61 ∷ 61 ∷ 32 ∷ 49 ∷ 59 ∷ []) ∷ (112 ∷ 104 ∷ 105 ∷ 50 ∷ 32 ∷ 61 ∷ 32 ∷ 102 ∷ 40 ∷ 41 ∷ 59 ∷ []) ∷ (117 ∷ 115 ∷ 101 ∷ 40 ∷ 114 ∷ 55 ∷ 41 ∷ 59 ∷ []) ∷ []) ((102 ∷ 40 ∷ 41 ∷ 59 ∷ []) ∷ (117 ∷ 115 ∷ 101 ∷ 40 ∷ 114 ∷ 55 ∷ 41 ∷ 59 ∷ []) ∷ [])
+    ∷ row ((32 ∷ 32 ∷ 108 ∷ 101 ∷ 116 ∷ 32 ∷ 112 ∷ 104 ∷ 105 ∷ 55 ∷ 44 ∷ 112 ∷ 104 ∷ 105 ∷ 56 ∷ 59 ∷ []) ∷ (32 ∷ 32 ∷ 112 ∷ 104 ∷ 105 ∷ 48 ∷ 48 ∷ 55 ∷ 32 ∷ 61 ∷ 32 ∷ 97 ∷ 59 ∷ []) ∷ (32 ∷ 32 ∷ 120 ∷ 32 ∷ 61 ∷ 32 ∷ 112 ∷ 104 ∷ 105 ∷ 56 ∷ 59 ∷ []) ∷ []) ((32 ∷ 32 ∷ 108 ∷ 101 ∷ 116 ∷ 32 ∷ 112 ∷ 104 ∷ 105 ∷ 56 ∷ 59 ∷ []) ∷ (32 ∷ 32 ∷ 120 ∷ 32 ∷ 61 ∷ 32 ∷ 112 ∷ 104 ∷ 105 ∷ 56 ∷ 59 ∷ []) ∷ [])
+    ∷ row ((112 ∷ 104 ∷ 105 ∷ 49 ∷ 32 ∷ 61 ∷ 32 ∷ 112 ∷ 104 ∷ 105 ∷ 50 ∷ 59 ∷ []) ∷ (112 ∷ 104 ∷ 105 ∷ 50 ∷ 32 ∷ 61 ∷ 32 ∷ 112 ∷ 104 ∷ 105 ∷ 51 ∷ 59 ∷ []) ∷ (112 ∷ 104 ∷ 105 ∷ 51 ∷ 32 ∷ 61 ∷ 32 ∷ 112 ∷ 104 ∷ 105 ∷ 52 ∷ 59 ∷ []) ∷ (112 ∷ 104 ∷ 105 ∷ 52 ∷ 32 ∷ 61 ∷ 32 ∷ 49 ∷ 59 ∷ []) ∷ []) ((112 ∷ 104 ∷ 105 ∷ 52 ∷ 32 ∷ 61 ∷ 32 ∷ 49 ∷ 59 ∷ []) ∷ [])
+    ∷ row ((112 ∷ 104 ∷ 105 ∷ 49 ∷ 32 ∷ 61 ∷ 61 ∷ 32 ∷ 49 ∷ 59 ∷ []) ∷ []) ((61 ∷ 32 ∷ 49 ∷ 59 ∷ []) ∷ [])
+    ∷ row ((112 ∷ 104 ∷ 105 ∷ 49 ∷ 32 ∷ 61 ∷ 32 ∷ 49 ∷ 59 ∷ 32 ∷ []) ∷ []) ((112 ∷ 104 ∷ 105 ∷ 49 ∷ 32 ∷ 61 ∷ 32 ∷ 49 ∷ 59 ∷ 32 ∷ []) ∷ [])
+    ∷ row ((32 ∷ 112 ∷ 104 ∷ 105 ∷ 50 ∷ 32 ∷ 61 ∷ 32 ∷ 112 ∷ 104 ∷ 105 ∷ 50 ∷ 32 ∷ 43 ∷ 32 ∷ 103 ∷ 40 ∷ 49 ∷ 41 ∷ 59 ∷ []) ∷ []) ((32 ∷ 112 ∷ 104 ∷ 105 ∷ 50 ∷ 32 ∷ 43 ∷ 32 ∷ 103 ∷ 40 ∷ 49 ∷ 41 ∷ 59 ∷ []) ∷ [])
+    ∷ []
+
+pub examples : map (λ (r : Row). pruneDeadPhis plain (r .lines)) rows ≡ map (λ (r : Row). r .result) rows
+unfolding rows upTo countOf prefixed suffixed same holds cutOn linesOf partsOf unlines lacks noLf act apply isWhite seqLen scan utf8Of whiteChar whiteHead whiteTail lead fromOf endWhite toOf trimOf numbered numberOf zeros decimalBy decimal numberAfter regOf phiOf isTemp isIdent allRegs isDecl storeIn parseOf textOf runsGo runs countBy upBy walk runHits hitsGo hits oneHit regHit afterNew asTarget glueLeft glueRight glued replacedAt replaceReg quoteLen patternLen commentLen lastOf tokenOf tokenAt lexGo stripLexical tailOf pushed grown stepOf isHeader headed regionsGo regions regionNext untilHeader region regionAt upHeader braceOf push count top stackAfter nextAfter blocksGo blocks cleaned mayAt depthAt depthAfter ownLine ownGo own startsAfter startsBy startsAbove startsGo isAssign leftOf rightOf assignOf lineReads lineStores lineUses usedIn commas declAct keepNames actOf actsGo pruneDeclsActs pruneDecls anyOf assigns phiPure phiRhsPure sees seesAll deep fix strip stripComments noComment spaceStart spaceEnd spaceTrim wrapped shapeOf opens closes elements pureBy judge purityOf purityCut isLet allPhis phiDecl anyPhi phiStore phiOwn phiReads phiRead phiStored anyDead livePhis phiAct phiActs keeps roundActs round pruneDeadPhis
+examples = refl

@@ -1,0 +1,1 @@
+// prune_dead_phis: its definition.
