@@ -1,0 +1,19 @@
+-- Each public function of crate decls: its contract fixes its outcome. Assumes nothing.
+use Rattle.lines.proofs.OutLaws.{wrote-once}
+use Rattle.decls.proofs as decls
+use Rattle.determined.proofs.Outcomes.{Determined, fixed}
+
+pub prune-decls-once : Determined decls.prune_decls.ended (λ κs z. z) decls.prune_decls.Reads.Learnt
+prune-decls-once = fixed (λ κs a x y l m. wrote-once l m)
+
+pub put-lead-once : Determined decls.print.put_lead.ended (λ κs z. z) decls.print.put_lead.Reads.Learnt
+put-lead-once = fixed (λ κs a x y l m. wrote-once l m)
+
+pub put-name-once : Determined decls.print.put_name.ended (λ κs z. z) decls.print.put_name.Reads.Learnt
+put-name-once = fixed (λ κs a x y l m. wrote-once l m)
+
+pub put-part-once : Determined decls.print.put_part.ended (λ κs z. z) decls.print.put_part.Reads.Learnt
+put-part-once = fixed (λ κs a x y l m. wrote-once l m)
+
+pub put-end-once : Determined decls.print.put_end.ended (λ κs z. z) decls.print.put_end.Reads.Learnt
+put-end-once = fixed (λ κs a x y l m. wrote-once l m)
