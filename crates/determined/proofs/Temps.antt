@@ -4,5 +4,5 @@ use Rattle.lines.proofs.OutLaws.{wrote-once}
 use Rattle.temps.proofs as temps
 use Rattle.determined.proofs.Outcomes.{Determined, fixed}
 
-pub prune-dead-temps-once : Determined temps.prune_dead_temps.ended (λ κs z. z) temps.prune_dead_temps.Reads.Learnt
-prune-dead-temps-once = fixed (λ κs a x y l m. (l .1 ∙ sym (m .1), wrote-once (l .0) (m .0)))
+pub prune-dead-temps-fixed : Determined temps.prune_dead_temps.ended (λ κs z. z) temps.prune_dead_temps.Reads.Learnt
+prune-dead-temps-fixed = fixed (λ κs a x y l m. (l .1 ∙ sym (m .1), wrote-once (l .0) (m .0)))
