@@ -4,6 +4,7 @@ pub mod Blanks
 pub mod Decides
 pub mod Marks
 pub mod Writes
+pub mod Fills
 pub mod Reasons
 pub mod Keeps
 pub mod Examples
