@@ -23,7 +23,7 @@ use Rattle.place.proofs.Nests.{length-loops}
 use Rattle.text.specs.declared.Span.{Span}
 use Rattle.reading.specs.Reading.{Reading, plain}
 use Rattle.once.specs.Once.{Spot, spotsOf, spots, linesIn, dropped, forwards, nextRun, onceGo, onceActs}
-use Rattle.once.specs.Tables.{Blank, lineDrops, lineForwards, markOf, marksGo, actsBy, isSet, firstDrops, firstTakes, markBy, marksIn, marksOf, areaAt}
+use Rattle.once.specs.Tables.{Blank, lineDrops, lineForwards, markOf, marksGo, onceMarks, actsBy, isSet, firstDrops, firstTakes, markBy, marksIn, marksOf, areaAt}
 use Rattle.once.proofs.Searches.{lines-in}
 use Rattle.once.proofs.Marks.{drops-is, forwards-is, acts-marks}
 use Rattle.once.proofs.Writes.{top-drop}
@@ -83,8 +83,8 @@ run-first (l ∷ ls) (p ∷ ps) (b ∷ bs) g h = rw (lines-in ls ps bs (omega ar
     go true = refl
     go false = refl
 
-pub marks-of : (R : Reading) (ls : List (List ℕ)) → marksOf R ls (tops (blockPaths ls)) (flagsOf (insideLoop ls)) ≡ marksGo R (spots ls) (region ls)
-unfolding marksOf spots
+pub marks-of : (R : Reading) (ls : List (List ℕ)) → marksOf R ls (tops (blockPaths ls)) (flagsOf (insideLoop ls)) ≡ onceMarks R ls
+unfolding marksOf spots onceMarks
 marks-of R ls =
     let ps : List ℕ = tops (blockPaths ls) in
     let bs : List Bool = insideLoop ls in
@@ -93,12 +93,12 @@ marks-of R ls =
     marks-in R ls ps bs (region ls) (omega arith) (omega arith) ∙ ap (marksGo R (spotsOf ls ps bs)) (run-first ls ps bs (omega arith) (omega arith))
 
 -- so the acts by them are the acts of the pass
-pub acts-of : (R : Reading) (ls : List (List ℕ)) → actsBy ls (marksOf R ls (tops (blockPaths ls)) (flagsOf (insideLoop ls))) false [] ≡ onceActs R ls
-unfolding onceActs spots
+pub acts-of : (R : Reading) (ls : List (List ℕ)) → actsBy ls (onceMarks R ls) false [] ≡ onceActs R ls
+unfolding onceActs onceMarks spots
 acts-of R ls =
     let g = length-tops ls in
     let h = length-loops ls in
-    rw (marks-of R ls) (ap (λ (xs : List (List ℕ)). actsBy xs (marksGo R (spots ls) (region ls)) false []) (sym (lines-in ls (tops (blockPaths ls)) (insideLoop ls) (omega arith) (omega arith))) ∙ acts-marks R (spots ls) false [] (region ls))
+    ap (λ (xs : List (List ℕ)). actsBy xs (marksGo R (spots ls) (region ls)) false []) (sym (lines-in ls (tops (blockPaths ls)) (insideLoop ls) (omega arith) (omega arith))) ∙ acts-marks R (spots ls) false [] (region ls)
 
 in-length : (R : Reading) (ls : List (List ℕ)) (ps fs : List ℕ) (goes : Bool) (run : List (List ℕ)) → length (marksIn R ls ps fs goes run) ≡ length ls
 unfolding marksIn

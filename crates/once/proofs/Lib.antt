@@ -7,4 +7,5 @@ pub mod Writes
 pub mod Fills
 pub mod Reasons
 pub mod Keeps
+pub mod Passes
 pub mod Examples

@@ -20,7 +20,7 @@ use Rattle.place.specs.Region.{isHeader, region, regionAt, regionLen}
 use Rattle.place.specs.Blocks.{top}
 use Rattle.reading.specs.Uses.{lineReads, lineStores}
 use Rattle.once.specs.Scratch.{scratchAt}
-use Rattle.once.specs.Once.{Next, none, read, write, deadBy, readCount, laterRead, Spot, spotsOf, dropped, forwards, takenBy, nextRun}
+use Rattle.once.specs.Once.{Next, none, read, write, deadBy, readCount, laterRead, Spot, spotsOf, spots, dropped, forwards, takenBy, nextRun}
 
 -- a read of register v before it is stored again: in all lines below, or down to the end of the region
 unfoldable pub readBelow : Bool → ℕ → List (List ℕ) → Bool
@@ -96,6 +96,11 @@ unfoldable pub marksGo : Reading → List Spot → List (List ℕ) → List ℕ
 unfolding markOf
 marksGo R [] run = []
 marksGo R (d ∷ ss) run = markOf R run d ss ∷ marksGo R ss (nextRun ss run)
+
+-- the marks of a listing
+unfoldable pub onceMarks : Reading → List (List ℕ) → List ℕ
+unfolding marksGo
+onceMarks R ls = marksGo R (spots ls) (region ls)
 
 -- a line goes into the next: it would, and the next would not
 abbrev pub sends : ℕ → ℕ → Bool

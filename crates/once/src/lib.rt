@@ -2,7 +2,7 @@
 ghost use mathlib.Core.Path.{_≡_};
 ghost use mathlib.Core.Bool.{true, false};
 ghost use mathlib.Core.List.{[], _∷_, _++_};
-ghost use Prim.Native.Nat.{_≤_, _+_};
+ghost use Prim.Native.Nat.{_≤_, _<_, _+_, _^_};
 ghost use lib.Dec.{eqb};
 ghost use lib.ListN.{length, drop, replicate};
 ghost use Rattle.lines.specs.Out.{Wrote};
@@ -11,11 +11,14 @@ ghost use Rattle.parse.specs.Parse.{parseOf};
 ghost use Rattle.lines.specs.Lf.{linesOf, unlines, prefixed, holds};
 ghost use Rattle.names.specs.Names.{regOf, isIdent};
 ghost use Rattle.once.specs.Scratch.{objectOf, isMember, changesBy, calledBelow, scratchAt};
-ghost use Rattle.once.specs.Once.{deadBy, readCount, firstOf, takenBy};
+ghost use Rattle.once.specs.Once.{deadBy, readCount, firstOf, takenBy, onceActs, optimizeOnce};
 ghost use Rattle.words.specs.Hits.{regHit, replaceReg};
 ghost use Rattle.reading.specs.Reading.{plain, pureIn};
-ghost use Rattle.once.specs.Tables.{readBelow, nextIn, Blank, hasHit, storeDrops, lineDrops, storeForwards, lineForwards, actBy, actsBy, firstDrops, firstTakes, markBy, marksOf, areaAt};
-ghost use Rattle.place.specs.Fill.{Filled};
+ghost use Rattle.once.specs.Tables.{readBelow, nextIn, Blank, hasHit, storeDrops, lineDrops, storeForwards, lineForwards, onceMarks, actBy, actsBy, firstDrops, firstTakes, markBy, marksOf, areaAt};
+ghost use Rattle.place.specs.Fill.{Filled, flagsOf};
+ghost use Rattle.place.specs.Loops.{insideLoop};
+ghost use Rattle.place.specs.Paths.{blockPaths, tops};
+ghost use Rattle.place.specs.Parents.{pathParents};
 
 // Whether a value is a bare member read, `A.B`.
 fn is_member(x: &[u8]) -> bool
@@ -520,4 +523,63 @@ fn put_acts(text: &[u8], marks: &[u8], out: &mut [u8]) -> usize
         i = lines::after(text, e);
     }
     o
+}
+
+// Fills the tables of a text: which lines stand in a loop, their block paths, and what becomes of them.
+fn decide(
+    text: &[u8],
+    scratch: &mut [u8],
+    loops: &mut [u8],
+    marks: &mut [u8],
+    paths: &mut [usize],
+    up: &mut [u32],
+) -> usize
+    requires { ⌜ (length (linesOf (now text)) ≤ length (now loops))
+        × ((length (linesOf (now text)) ≤ length (now marks))
+        × ((length (linesOf (now text)) ≤ length (now paths))
+        × ((length (pathParents (linesOf (now text))) ≤ length (now up))
+        × ((length (now up) < 2 ^ 32) × (length (now text) ≤ length (now scratch)))))) ⌝ }
+    ensures answer { λ r. ⌜ Filled (now (marks .entry)) (onceMarks plain (linesOf (now (text .entry)))) (now (marks .exit)) r ⌝ }
+    ensures memory { λ _. ⌜ (Wrote (now (scratch .entry)) 0 (replicate (length (now (text .entry))) 0) (now (scratch .exit)) (length (now (text .entry))))
+        × ((Filled (now (loops .entry)) (flagsOf (insideLoop (linesOf (now (text .entry))))) (now (loops .exit)) (length (flagsOf (insideLoop (linesOf (now (text .entry)))))))
+        × ((Filled (now (paths .entry)) (tops (blockPaths (linesOf (now (text .entry))))) (now (paths .exit)) (length (tops (blockPaths (linesOf (now (text .entry)))))))
+        × (Filled (now (up .entry)) (pathParents (linesOf (now (text .entry)))) (now (up .exit)) (length (pathParents (linesOf (now (text .entry)))))))) ⌝ }
+{
+    wipe(scratch, text.len());
+    let n = place::inside_loop(text, loops);
+    let k = place::block_paths(text, paths, up);
+    fill_marks(text, &paths[0..k], &loops[0..n], scratch, marks)
+}
+
+// Writes the lines of a text without dead stores and scratch loads, with each value that is read once, on the next line, in that line, and
+// without the declared registers that are then unused. `mid` takes what the lines are before their declarations are pruned.
+pub fn optimize_once(
+    text: &[u8],
+    scratch: &mut [u8],
+    mid: &mut [u8],
+    loops: &mut [u8],
+    marks: &mut [u8],
+    paths: &mut [usize],
+    up: &mut [u32],
+    out: &mut [u8],
+) -> usize
+    requires { ⌜ (length (linesOf (now text)) ≤ length (now loops))
+        × ((length (linesOf (now text)) ≤ length (now marks))
+        × ((length (linesOf (now text)) ≤ length (now paths))
+        × ((length (pathParents (linesOf (now text))) ≤ length (now up))
+        × ((length (now up) < 2 ^ 32)
+        × ((length (now text) ≤ length (now scratch))
+        × ((length (unlines (apply (onceActs plain (linesOf (now text))) (linesOf (now text)))) ≤ length (now mid))
+        × (length (unlines (optimizeOnce plain (linesOf (now text)))) ≤ length (now out)))))))) ⌝ }
+    ensures answer { λ r. ⌜ Wrote (now (out .entry)) 0 (unlines (optimizeOnce plain (linesOf (now (text .entry))))) (now (out .exit)) r ⌝ }
+    ensures memory { λ _. ⌜ (Wrote (now (scratch .entry)) 0 (replicate (length (now (text .entry))) 0) (now (scratch .exit)) (length (now (text .entry))))
+        × ((Wrote (now (mid .entry)) 0 (unlines (apply (onceActs plain (linesOf (now (text .entry)))) (linesOf (now (text .entry))))) (now (mid .exit)) (length (unlines (apply (onceActs plain (linesOf (now (text .entry)))) (linesOf (now (text .entry)))))))
+        × ((Filled (now (loops .entry)) (flagsOf (insideLoop (linesOf (now (text .entry))))) (now (loops .exit)) (length (flagsOf (insideLoop (linesOf (now (text .entry)))))))
+        × ((Filled (now (marks .entry)) (onceMarks plain (linesOf (now (text .entry)))) (now (marks .exit)) (length (onceMarks plain (linesOf (now (text .entry))))))
+        × ((Filled (now (paths .entry)) (tops (blockPaths (linesOf (now (text .entry))))) (now (paths .exit)) (length (tops (blockPaths (linesOf (now (text .entry)))))))
+        × (Filled (now (up .entry)) (pathParents (linesOf (now (text .entry)))) (now (up .exit)) (length (pathParents (linesOf (now (text .entry)))))))))) ⌝ }
+{
+    let n = decide(text, scratch, loops, marks, paths, up);
+    let m = put_acts(text, &marks[0..n], mid);
+    decls::prune_decls(&mid[0..m], out)
 }
