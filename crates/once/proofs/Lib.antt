@@ -8,4 +8,5 @@ pub mod Fills
 pub mod Reasons
 pub mod Keeps
 pub mod Passes
+pub mod Room
 pub mod Examples
