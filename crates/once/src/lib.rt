@@ -225,10 +225,10 @@ fn store_drops(
     if words::count_reg(x, reg) != 0 {
         return false;
     }
-    if !dead_below(below, paths, p, reg) {
+    if !pure_value(x, scratch) {
         return false;
     }
-    pure_value(x, scratch)
+    dead_below(below, paths, p, reg)
 }
 
 // Whether a line goes.
@@ -295,13 +295,13 @@ fn store_forwards(
     if !takes(next, reg) {
         return false;
     }
+    if !pure_value(x, scratch) {
+        return false;
+    }
     if read_below(below, reg, true) {
         return false;
     }
-    if !read_once(run, reg) {
-        return false;
-    }
-    pure_value(x, scratch)
+    read_once(run, reg)
 }
 
 // Whether a line that stays goes into the next line.
