@@ -1,17 +1,17 @@
 -- What prune_dead_phis keeps: no LF comes in, lines do not grow in number, and a line goes only for its reason. Assumes nothing.
-use Prim.Native.Nat.{ℕ, suc, _+_, _-_, _≤_, _<_}
+use Prim.Native.Nat.{ℕ, suc, _-_, _≤_, _<_}
 use mathlib.Core.Path.{_≡_, refl, sym, ap, _∙_}
 use mathlib.Core.Bool.{Bool, true, false, cond, not, _&&_, _||_}
 use mathlib.Core.List.{List, [], _∷_, _++_}
 use native.Mathlib.Omega.{arith}
 use lib.ListN.{length, take, drop}
 use Rattle.lines.specs.Lf.{upTo, linesOf, partsOf, unlines, same, lacks, noLf, all}
-use Rattle.lines.specs.Acts.{Act, keep, become, into, gone, act, apply}
-use Rattle.lines.proofs.Tests.{no, and-left, and-right, and-both, or-true}
+use Rattle.lines.specs.Acts.{keep, become, gone, apply}
+use Rattle.lines.proofs.Tests.{no, and-left, and-right, and-both}
 use Rattle.lines.proofs.LfLaws.{lines-noLf, lines-unlines, lacks-append, lacks-take, lacks-drop, parts-noLf}
 use Rattle.lines.proofs.ActLaws.{actNoLf, apply-noLf, apply-length}
 use Rattle.text.specs.Trim.{fromOf, trimStart, trimOf}
-use Rattle.names.specs.Names.{phiWord, phiText, zeros, decimal, phiOf}
+use Rattle.names.specs.Names.{phiWord, phiText, zeros}
 use Rattle.names.proofs.Decimal.{prints-not}
 use Rattle.parse.specs.Parse.{bodyOf}
 use Rattle.lexical.specs.Phi.{phiRhsPure}

@@ -1,15 +1,14 @@
 -- Laws of what a line is to `prune_dead_phis`: a declaration of phis, a store of a phi, a read of one. Assumes nothing.
-use Prim.Native.Nat.{ℕ, _+_, _-_, _≤_, _<_, _^_}
-use mathlib.Core.Path.{_≡_, refl, sym, ap, _∙_}
-use mathlib.Core.Bool.{Bool, true, false, cond, not, _&&_, _||_}
-use mathlib.Core.List.{List, [], _∷_, _++_}
+use Prim.Native.Nat.{ℕ, _-_, _≤_, _<_, _^_}
+use mathlib.Core.Path.{_≡_, refl, sym, _∙_}
+use mathlib.Core.Bool.{Bool, true, false, _&&_}
+use mathlib.Core.List.{List}
 use native.Mathlib.Omega.{arith}
-use borrow.Author.Tests.{lt-ltb, le-ltb, ltb-true, eq-eqb, ne-eqb}
-use lib.Dec.{eqb, ltb}
-use lib.ListN.{length, drop, getD, length-append}
+use borrow.Author.Tests.{lt-ltb, le-ltb, ltb-true}
+use lib.Dec.{ltb}
+use lib.ListN.{length, length-append}
 use Rattle.lines.specs.Lf.{part, partsOf, prefixed, endsIn}
 use Rattle.lines.proofs.Tests.{and-left}
-use Rattle.text.specs.Trim.{fromOf, trimStart}
 use Rattle.names.specs.Names.{phiWord, phiText, decimal, phiOf, phiIs}
 use Rattle.names.specs.declared.PhiName.{PhiName}
 use Rattle.names.specs.declared.PhiName.the-variants as name
@@ -19,7 +18,7 @@ use Rattle.words.specs.Runs.{wordsOf}
 use Rattle.words.specs.Hits.{hits}
 use Rattle.words.proofs.HitLaws.{hits-words}
 use Rattle.reading.specs.Assign.{isAssign, leftOf}
-use Rattle.phis.specs.Phis.{isLet, allPhis, phiDecl, anyPhi, phiStore, phiOwn, phiReads}
+use Rattle.phis.specs.Phis.{isLet, allPhis, phiDecl, anyPhi, phiStore, phiOwn}
 
 -- ---- a text, its front trimmed
 
@@ -83,15 +82,6 @@ module _ (t : List ℕ) where
 
 -- ---- a line
 
--- the text of a phi is found exactly where it stands as a run: n is how often it does
-module _ (p : ℕ) (h : p < 2 ^ 64) (l : List ℕ) (n : ℕ) (w : n ≡ wordsOf (phiText p) l) where
-  hits-are : length (hits (phiText p) l) ≡ n
-  hits-are = hits-words (phiText p) (omega (arith, length-append phiWord (decimal p))) (phi-text-names p h) l ∙ sym w
-
-  pub reads-none : n ≡ 0 → phiReads p l ≡ false
-  unfolding phiReads
-  reads-none z = rw (hits-are, z)
-
-  pub reads-some : (n ≡ 0 → ⊥) → (t : List ℕ) → t ≡ trimStart l → phiReads p l ≡ not (phiOwn p t)
-  unfolding phiReads
-  reads-some z t y = rw (hits-are, lt-ltb 0 n (omega arith), y)
+-- the text of a phi is found exactly where it stands as a run
+pub phi-hits : (p : ℕ) → p < 2 ^ 64 → (l : List ℕ) (n : ℕ) → n ≡ wordsOf (phiText p) l → length (hits (phiText p) l) ≡ n
+phi-hits p h l n w = hits-words (phiText p) (omega (arith, length-append phiWord (decimal p))) (phi-text-names p h) l ∙ sym w

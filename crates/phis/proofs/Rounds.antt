@@ -7,7 +7,7 @@ use native.Mathlib.Numerals.{add-one}
 use lib.ListN.{length, take, drop, set, replicate}
 use Rattle.lines.specs.Lf.{part, linesOf, unlines}
 use Rattle.lines.specs.Out.{putAt, Wrote}
-use Rattle.lines.proofs.OutLaws.{wrote-nil, wrote-more, wrote-as, wrote-part, wrote-length}
+use Rattle.lines.proofs.OutLaws.{wrote-nil, wrote-more, wrote-as, wrote-part}
 use Rattle.reading.specs.Reading.{plain}
 use Rattle.phis.specs.Phis.{round, pruneDeadPhis}
 use Rattle.phis.specs.Rounds.{longest}

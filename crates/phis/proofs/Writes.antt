@@ -7,7 +7,7 @@ use native.Mathlib.Omega.{arith}
 use lib.ListN.{length, take, drop, length-take, length-drop, length-append}
 use lib.Seq.{drop-drop, drop-append-add}
 use Rattle.lines.specs.Lf.{part, upTo, linesOf, partsOf, unlines}
-use Rattle.lines.specs.Acts.{keep, become, gone, act, apply}
+use Rattle.lines.specs.Acts.{become, gone, act, apply}
 use Rattle.lines.specs.Out.{putAt, Wrote}
 use Rattle.lines.proofs.Tests.{no, so}
 use Rattle.lines.proofs.LfLaws.{lines-at, lines-end}
@@ -22,7 +22,6 @@ use Rattle.names.specs.declared.PhiName.the-variants as name
 use Rattle.names.proofs.Texts.{phi-number}
 use Rattle.parse.specs.Parse.{bodyOf}
 use Rattle.lexical.specs.Phi.{phiRhsPure}
-use Rattle.decls.specs.Decls.{declAct}
 use Rattle.decls.specs.Print.{bareName, one, kept, declText}
 use Rattle.decls.proofs.PrintLaws.{after-bare, act-text}
 use Rattle.reading.specs.Reading.{Reading, plain, pureIn}

@@ -4,7 +4,7 @@ use mathlib.Core.Bool.{Bool, false, cond, not, _||_}
 use mathlib.Core.List.{List, [], _∷_, _++_}
 use lib.ListN.{length}
 use Rattle.lines.specs.Lf.{linesOf, unlines}
-use Rattle.lines.specs.Acts.{Act, keep, act}
+use Rattle.lines.specs.Acts.{act}
 use Rattle.names.specs.Names.{phiOf}
 use Rattle.names.specs.declared.PhiName.{PhiName}
 use Rattle.names.specs.declared.PhiName.the-variants as name

@@ -1,18 +1,19 @@
 // prune_dead_phis: stores of phis that nothing reads go, and their names leave the declarations.
 ghost use mathlib.Core.Path.{_≡_};
-ghost use mathlib.Core.Bool.{Bool, true, false, not, _&&_, _||_};
+ghost use mathlib.Core.Bool.{true, false, not, _||_};
 ghost use mathlib.Core.List.{[], _∷_, _++_};
 ghost use Prim.Native.Nat.{_≤_, _+_, max};
 ghost use lib.ListN.{length, drop, replicate};
 ghost use Rattle.lines.specs.Lf.{partsOf, linesOf, unlines};
 ghost use Rattle.lines.specs.Out.{Wrote};
+ghost use Rattle.text.specs.Trim.{trimStart};
 ghost use Rattle.names.specs.Names.{phiOf, phiIs};
 ghost use Rattle.lexical.specs.Phi.{phiRhsPure};
 ghost use Rattle.decls.specs.Print.{kept, declText};
 ghost use Rattle.reading.specs.Reading.{plain, pureIn};
 ghost use Rattle.reading.specs.Assign.{isAssign, rightOf};
 ghost use Rattle.phis.specs.Phis.{isLet, isPhi, allPhis, phiDecl, anyPhi, phiStore, phiOwn, phiReads, phiRead, phiStored, deadPhi, deadBy, anyDead, round, pruneDeadPhis};
-ghost use Rattle.phis.specs.Rounds.{liveBy, live, storeText, changeText, lineText, longest};
+ghost use Rattle.phis.specs.Rounds.{live, storeText, changeText, lineText, longest};
 
 // Whether a name is that of a phi.
 fn is_phi(name: names::PhiName, phi: names::Phi) -> bool
@@ -105,6 +106,13 @@ fn phi_store(t: &[u8]) -> names::PhiName
     }
 }
 
+// The phi that a line stores.
+fn line_store(line: &[u8]) -> names::PhiName
+    ensures { λ r. ⌜ r ≡ phiStore (trimStart (now (line .entry))) ⌝ }
+{
+    phi_store(text::trim_start(line))
+}
+
 // Whether a text, its front trimmed, stores a phi or is a declaration of phis that has it.
 fn phi_own(t: &[u8], phi: names::Phi) -> bool
     ensures { λ r. ⌜ r ≡ phiOwn (phi .0) (now (t .entry)) ⌝ }
@@ -150,7 +158,7 @@ fn phi_stored(text: &[u8], phi: names::Phi) -> bool
     let mut i = 0;
     while i < text.len() {
         let e = lines::find_byte(text, i, 10);
-        if is_phi(phi_store(text::trim_start(lines::cut(text, i, e))), phi) {
+        if is_phi(line_store(lines::cut(text, i, e)), phi) {
             return true;
         }
         i = lines::after(text, e);
@@ -185,7 +193,7 @@ fn any_dead(text: &[u8]) -> bool
     let mut i = 0;
     while i < text.len() {
         let e = lines::find_byte(text, i, 10);
-        if dead_by(phi_store(text::trim_start(lines::cut(text, i, e))), text) {
+        if dead_by(line_store(lines::cut(text, i, e)), text) {
             return true;
         }
         i = lines::after(text, e);

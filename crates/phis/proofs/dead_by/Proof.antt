@@ -1,33 +1,24 @@
-use Prim.Native.Nat.{_-_}
+-- `phis::dead_by` meets its contract. Assumes nothing.
+use borrow.Author.Needs.{needs}
 use mathlib.Core.Path.{sym, ap, _∙_}
 use Rattle.lines.specs.Lf.{linesOf}
-use Rattle.lines.proofs.Tests.{no}
-use Rattle.phis.specs.Phis.{deadBy}
 use Rattle.names.specs.declared.PhiName.{PhiName}
-use borrow.Author.Needs.{needs}
+use Rattle.phis.specs.Phis.{deadBy}
 use Rattle.phis.proofs.dead_by.Statement.{statement}
 use Rattle.phis.proofs.dead_by.Tie as tie
-use Rattle.phis.proofs.dead_by.Reads as reads
-use Rattle.phis.proofs.dead_by.Lts as lts
-use Rattle.phis.proofs.dead_phi.Reads as dead-phi-reads
 
--- src/lib.rt:176:29
 enum-known-name : tie.Need-enum-known-name
 enum-known-name c = search needs
 
--- src/lib.rt:176:35
 dead-phi-requires : tie.Need-dead-phi-requires
 dead-phi-requires c κs = search needs
 
--- src/lib.rt:177:33
 enum-told : tie.Need-enum-told
 enum-told c = search needs
 
--- src/lib.rt:172:1
 returns : tie.Need-returns
 returns c = c .dead-phi .ensures ∙ sym (ap (λ (n : PhiName). deadBy n (linesOf (c .before .before .before .before .before .args .text .now))) (c .before .before .name .given .1))
 
--- src/lib.rt:172:1
 returns-2 : tie.Need-returns-2
 returns-2 c = sym (ap (λ (n : PhiName). deadBy n (linesOf (c .before .before .before .args .text .now))) (c .enum-told .given .1))
 

@@ -1,24 +1,16 @@
-use borrow.Author.Needs.{needs}
+-- `phis::put_decl` meets its contract. Assumes nothing.
 use Prim.Native.Nat.{_-_}
 use native.Mathlib.Omega.{arith}
+use borrow.Author.Needs.{needs}
 use mathlib.Core.Path.{ap, _∙_}
 use lib.ListN.{length}
 use Rattle.lines.specs.Lf.{linesOf}
-use Rattle.lines.proofs.Tests.{no}
 use Rattle.lines.proofs.OutLaws.{wrote-length, writing-length}
 use Rattle.text.specs.Trim.{trimOf}
 use Rattle.decls.proofs.PrintLaws.{DeclInv, decl-start, decl-room, decl-on, decl-end-room, decl-end}
 use Rattle.phis.specs.Rounds.{live}
 use Rattle.phis.proofs.put_decl.Statement.{statement}
 use Rattle.phis.proofs.put_decl.Tie as tie
-use Rattle.phis.proofs.put_decl.Reads as reads
-use Rattle.phis.proofs.put_decl.Lts as lts
-use Rattle.decls.proofs.print.put_end.Reads as put-end-reads
-use Rattle.decls.proofs.print.put_part.Reads as put-part-reads
-use Rattle.lines.proofs.cut.Reads as cut-reads
-use Rattle.lines.proofs.find_byte.Reads as find-byte-reads
-use Rattle.phis.proofs.is_live.Reads as is-live-reads
-use Rattle.text.proofs.trim.Reads as trim-reads
 
 abbrev Inv-loop : tie.InvT-loop
 Inv-loop body indent text out₀ o i₀ p₀ out i p = DeclInv (live (linesOf text)) 3 indent body out₀ out o i p
@@ -26,51 +18,39 @@ Inv-loop body indent text out₀ o i₀ p₀ out i p = DeclInv (live (linesOf te
 abbrev μ-loop : tie.MeasureT-loop
 μ-loop body indent text out₀ o i₀ p₀ out i p = length body - i
 
--- src/lib.rt:213:5
 loop-holds : tie.Need-loop-holds Inv-loop μ-loop
 loop-holds c = decl-start (live (linesOf (c .before .before .before .before .args .text .now))) 3 (c .before .before .before .before .args .indent .now) (c .before .before .before .before .args .body .now) (c .before .before .before .before .args .out .now) (c .before .before .before .before .args .o) (c .before .before .before .before .pre)
 
--- src/lib.rt:214:13
 find-byte-requires : tie.Need-find-byte-requires Inv-loop μ-loop
 find-byte-requires c κs = search needs
 
--- src/lib.rt:215:28
 cut-requires : tie.Need-cut-requires Inv-loop μ-loop
 cut-requires c κs = search needs
 
--- src/lib.rt:215:13
 trim-requires : tie.Need-trim-requires Inv-loop μ-loop
 trim-requires c κs = search needs
 
--- src/lib.rt:216:13
 is-live-requires : tie.Need-is-live-requires Inv-loop μ-loop
 is-live-requires c κs = search needs
 
--- src/lib.rt:217:9
 put-part-requires : tie.Need-put-part-requires Inv-loop μ-loop
 put-part-requires c κs = decl-room (c .before .before .before .before .before .loop .inv) (c .before .before .before .before .find-byte .result) (c .before .before .before .before .find-byte .ensures) (c .before .before .trim .result .now) (c .before .before .trim .ensures .0 ∙ ap trimOf (c .before .before .before .cut .ensures)) (c .before .is-live .result) (c .before .is-live .ensures)
 
--- src/lib.rt:219:13
 put-end-requires : tie.Need-put-end-requires Inv-loop μ-loop
 put-end-requires c κs = decl-end-room (c .before .before .before .before .before .before .before .before .before .before .loop .inv) (c .before .before .before .before .before .before .before .before .before .find-byte .result) (c .before .before .before .before .before .before .before .before .before .find-byte .ensures) (c .before .before .before .before .before .before .before .trim .result .now) (c .before .before .before .before .before .before .before .trim .ensures .0 ∙ ap trimOf (c .before .before .before .before .before .before .before .before .cut .ensures)) (c .before .before .before .before .before .before .is-live .result) (c .before .before .before .before .before .before .is-live .ensures) (c .before .before .before .before .put-part .ensures) (c .before .if1 .taken)
 
--- src/lib.rt:219:13
 same-length : tie.Need-same-length Inv-loop μ-loop
 same-length c = omega (arith, writing-length (c .before .before .before .before .before .before .before .before .before .before .before .before .before .loop .inv .writing), wrote-length (c .before .before .before .before .before .before .before .put-part .ensures), wrote-length (c .before .before .put-end .ensures))
 
--- src/lib.rt:219:13
 returns : tie.Need-returns Inv-loop μ-loop
 returns c = decl-end (c .before .before .before .before .before .before .before .before .before .before .before .before .before .loop .inv) (c .before .before .before .before .before .before .before .before .before .before .before .before .find-byte .result) (c .before .before .before .before .before .before .before .before .before .before .before .before .find-byte .ensures) (c .before .before .before .before .before .before .before .before .before .before .trim .result .now) (c .before .before .before .before .before .before .before .before .before .before .trim .ensures .0 ∙ ap trimOf (c .before .before .before .before .before .before .before .before .before .before .before .cut .ensures)) (c .before .before .before .before .before .before .before .before .before .is-live .result) (c .before .before .before .before .before .before .before .before .before .is-live .ensures) (c .before .before .before .before .before .before .before .put-part .ensures) (c .before .before .before .before .if1 .taken) (c .before .before .put-end .ensures)
 
--- src/lib.rt:221:13
 add-i : tie.Need-add-i Inv-loop μ-loop
 add-i c = omega arith
 
--- src/lib.rt:213:5
 loop-less : tie.Need-loop-less Inv-loop μ-loop
 loop-less c = omega (arith, c .before .before .before .before .before .before .before .before .find-byte .ensures)
 
--- src/lib.rt:213:5
 loop-again : tie.Need-loop-again Inv-loop μ-loop
 loop-again c = decl-on (c .before .before .before .before .before .before .before .before .before .loop .inv) (c .before .before .before .before .before .before .before .before .find-byte .result) (c .before .before .before .before .before .before .before .before .find-byte .ensures) (c .before .before .before .before .before .before .trim .result .now) (c .before .before .before .before .before .before .trim .ensures .0 ∙ ap trimOf (c .before .before .before .before .before .before .before .cut .ensures)) (c .before .before .before .before .before .is-live .result) (c .before .before .before .before .before .is-live .ensures) (c .before .before .before .put-part .ensures) (c .if1 .left)
 

@@ -1,46 +1,34 @@
-use Prim.Native.Nat.{_-_}
+-- `phis::put_line` meets its contract. Assumes nothing.
 use native.Mathlib.Omega.{arith}
+use borrow.Author.Needs.{needs}
 use mathlib.Core.Path.{refl, sym, ap}
 use mathlib.Core.Bool.{true, false}
 use lib.ListN.{length}
 use Rattle.lines.specs.Lf.{linesOf}
-use Rattle.lines.proofs.Tests.{so, no}
 use Rattle.lines.proofs.OutLaws.{wrote-as}
 use Rattle.reading.specs.Reading.{plain}
 use Rattle.phis.proofs.Writes.{line-by}
-use borrow.Author.Needs.{needs}
 use Rattle.phis.proofs.put_line.Statement.{statement}
 use Rattle.phis.proofs.put_line.Tie as tie
-use Rattle.phis.proofs.put_line.Reads as reads
-use Rattle.phis.proofs.put_line.Lts as lts
-use Rattle.phis.proofs.put_change.Reads as put-change-reads
-use Rattle.phis.proofs.put_whole.Reads as put-whole-reads
 
--- src/lib.rt:305:9
 put-change-requires : tie.Need-put-change-requires
 put-change-requires c κs = (c .before .before .before .before .before .before .before .pre .0, omega (arith, c .before .before .before .before .before .before .before .pre .1, ap length (line-by plain (c .before .before .before .before .before .before .before .args .some) (linesOf (c .before .before .before .before .before .before .before .args .text .now)) (c .before .before .before .before .before .before .before .args .line .now) true (c .before .before .if1 .taken))))
 
--- src/lib.rt:305:9
 same-length : tie.Need-same-length
 same-length c = search needs
 
--- src/lib.rt:305:9
 same-length-2 : tie.Need-same-length-2
 same-length-2 c = search needs
 
--- src/lib.rt:305:9
 returns : tie.Need-returns
 returns c = (wrote-as (sym (line-by plain (c .before .before .before .before .before .before .before .before .before .before .before .before .args .some) (linesOf (c .before .before .before .before .before .before .before .before .before .before .before .before .args .text .now)) (c .before .before .before .before .before .before .before .before .before .before .before .before .args .line .now) true (c .before .before .before .before .before .before .before .if1 .taken))) (c .before .before .before .before .put-change .ensures .0), c .before .before .before .before .put-change .ensures .1)
 
--- src/lib.rt:307:5
 put-whole-requires : tie.Need-put-whole-requires
 put-whole-requires c κs = omega (arith, c .before .before .before .before .before .before .pre .1, ap length (line-by plain (c .before .before .before .before .before .before .args .some) (linesOf (c .before .before .before .before .before .before .args .text .now)) (c .before .before .before .before .before .before .args .line .now) false (c .before .if1 .left)))
 
--- src/lib.rt:292:1
 same-length-3 : tie.Need-same-length-3
 same-length-3 c = search needs
 
--- src/lib.rt:292:1
 returns-2 : tie.Need-returns-2
 returns-2 c = (wrote-as (sym (line-by plain (c .before .before .before .before .before .before .before .before .before .args .some) (linesOf (c .before .before .before .before .before .before .before .before .before .args .text .now)) (c .before .before .before .before .before .before .before .before .before .args .line .now) false (c .before .before .before .before .if1 .left))) (c .before .before .put-whole .ensures), refl)
 

@@ -1,38 +1,27 @@
-use Prim.Native.Nat.{_+_, _-_}
+-- `phis::put_value` meets its contract. Assumes nothing.
 use native.Mathlib.Omega.{arith}
-use mathlib.Core.Path.{ap}
-use mathlib.Core.List.{[], _∷_, _++_}
-use lib.ListN.{length, length-append}
-use Rattle.lines.proofs.Tests.{no}
-use Rattle.lines.proofs.OutLaws.{wrote-then, wrote-length}
 use borrow.Author.Needs.{needs}
+use mathlib.Core.List.{[], _∷_, _++_}
+use lib.ListN.{length-append}
+use Rattle.lines.proofs.OutLaws.{wrote-then, wrote-length}
 use Rattle.phis.proofs.put_value.Statement.{statement}
 use Rattle.phis.proofs.put_value.Tie as tie
-use Rattle.phis.proofs.put_value.Reads as reads
-use Rattle.phis.proofs.put_value.Lts as lts
-use Rattle.lines.proofs.put.Reads as put-reads
 
--- src/lib.rt:242:9
 put-requires : tie.Need-put-requires
 put-requires c κs = omega (arith, c .before .before .before .before .pre, length-append (c .before .before .before .before .args .indent .now) (c .before .before .before .before .args .x .now), length-append (c .before .before .before .before .args .indent .now ++ c .before .before .before .before .args .x .now) (59 ∷ 10 ∷ []))
 
--- src/lib.rt:243:9
 put-requires-2 : tie.Need-put-requires-2
 put-requires-2 c κs = omega (arith, c .before .before .before .before .before .before .before .before .pre, length-append (c .before .before .before .before .before .before .before .before .args .indent .now) (c .before .before .before .before .before .before .before .before .args .x .now), length-append (c .before .before .before .before .before .before .before .before .args .indent .now ++ c .before .before .before .before .before .before .before .before .args .x .now) (59 ∷ 10 ∷ []), wrote-length (c .before .before .before .put .ensures), c .before .before .before .put .ensures .place)
 
--- src/lib.rt:244:24
 slice-aggregate-put : tie.Need-slice-aggregate-put
 slice-aggregate-put c = search needs
 
--- src/lib.rt:244:5
 put-requires-3 : tie.Need-put-requires-3
 put-requires-3 c κs = omega (arith, c .before .before .before .before .before .before .before .before .before .before .before .before .before .pre, length-append (c .before .before .before .before .before .before .before .before .before .before .before .before .before .args .indent .now) (c .before .before .before .before .before .before .before .before .before .before .before .before .before .args .x .now), length-append (c .before .before .before .before .before .before .before .before .before .before .before .before .before .args .indent .now ++ c .before .before .before .before .before .before .before .before .before .before .before .before .before .args .x .now) (59 ∷ 10 ∷ []), wrote-length (c .before .before .before .before .before .before .before .before .put .ensures), c .before .before .before .before .before .before .before .before .put .ensures .place, wrote-length (c .before .before .before .before .put2 .ensures), c .before .before .before .before .put2 .ensures .place)
 
--- src/lib.rt:238:1
 same-length : tie.Need-same-length
 same-length c = search needs
 
--- src/lib.rt:238:1
 returns : tie.Need-returns
 returns c = wrote-then (wrote-then (c .before .before .before .before .before .before .before .before .before .before .before .put .ensures) (c .before .before .before .before .before .before .before .put2 .ensures)) (c .before .before .put3 .ensures)
 
