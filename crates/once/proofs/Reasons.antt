@@ -7,7 +7,7 @@ use borrow.Author.Tests.{eqb-true, not-true}
 use lib.Dec.{eqb}
 use lib.ListN.{take, drop}
 use Rattle.lines.specs.Acts.{Act, keep, become, into, gone}
-use Rattle.lines.proofs.Tests.{no, and-left, and-right}
+use Rattle.lines.proofs.Tests.{no, or-true, and-left, and-right}
 use Rattle.text.specs.declared.Span.{Span}
 use Rattle.parse.specs.Parse.{parseOf, textOf}
 use Rattle.parse.specs.declared.Line.{Line}
@@ -73,6 +73,13 @@ dropped-reason R d below h = go (parseOf (d .line)) refl h
           own = eqb-true (lineReads v (d .line)) 0 (and-right (not (d .loop)) (eqb (lineReads v (d .line)) 0) w);
         })) e
     go line.Other q e = no e
+
+-- and for each of them it goes
+pub reason-dropped : (R : Reading) (d : Spot) (below : List Spot) → Reason R d below → dropped R d below ≡ true
+unfolding dropped
+reason-dropped R d below (as-load r) = rw (r .reads, r .load)
+reason-dropped R d below (as-dead r) =
+    rw (r .reads, r .unwanted, r .pure, r .outside, r .own) (or-true (scratchAt (r .store .reg .0) (textOf (d .line) (line.Store (r .store))) (linesIn below)))
 
 -- ---- a line that goes into the next
 
