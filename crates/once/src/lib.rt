@@ -360,7 +360,8 @@ fn drops_at(
     )
 }
 
-// The mark of a line in the region `run`, above the line at j: 1 where it goes, 2 where it would go into the next, else 0.
+// The mark of a line in the region `run`, above the line at j: 1 where it goes, as `goes` says, 2 where it would go into the next, else 0;
+// `next` says whether that one goes.
 fn mark_at(
     line: &[u8],
     text: &[u8],
