@@ -1,7 +1,7 @@
 -- prune_dead_phis raises no weight, whatever a `{` weighs, and so its three texts need no more room than the weight of the first. Assumes nothing.
-use Prim.Native.Nat.{ℕ, suc, _+_, _-_, _*_, _≤_, _<_}
+use Prim.Native.Nat.{ℕ, suc, _+_, _-_, _≤_, _<_}
 use mathlib.Core.Path.{_≡_, refl, sym, ap, _∙_}
-use mathlib.Core.Bool.{Bool, true, false, cond, not, _&&_, _||_}
+use mathlib.Core.Bool.{Bool, true, false, cond, _&&_, _||_}
 use mathlib.Core.List.{List, [], _∷_, _++_}
 use native.Mathlib.Omega.{arith}
 use borrow.Author.Tests.{ltb-true, le-leb}
@@ -17,7 +17,7 @@ use Rattle.names.specs.Names.{numberOf, phiBy, phiOf}
 use Rattle.names.specs.declared.PhiName.the-variants as name
 use Rattle.parse.specs.Parse.{letWord, bodyOf}
 use Rattle.lexical.specs.Phi.{phiRhsPure}
-use Rattle.weight.specs.Weight.{spaced, extra, heavy, weight}
+use Rattle.weight.specs.Weight.{spaced, extra, weight}
 use Rattle.weight.proofs.Weigh.{length-weight, weight-append, weight-cut, weight-take, weight-drop, weight-line, nothing}
 use Rattle.weight.proofs.Pays.{Pays, done, step, pays}
 use Rattle.weight.proofs.Moves.{from-clean}

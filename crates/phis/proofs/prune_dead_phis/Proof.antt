@@ -9,7 +9,7 @@ use Rattle.lines.specs.Lf.{unlines}
 use Rattle.lines.proofs.OutLaws.{wrote-as}
 use Rattle.reading.specs.Reading.{plain}
 use Rattle.phis.specs.Phis.{round}
-use Rattle.phis.proofs.Rounds.{wipe-end, next-lines, next-length, longest-first, longest-fits, third-text, first-wrote, second-wrote, wiped-length, scratch-end}
+use Rattle.phis.proofs.Rounds.{passed, wipe-end, next-lines, next-length, longest-first, longest-fits, third-text, first-wrote, second-wrote, wiped-length, scratch-end}
 use Rattle.phis.proofs.prune_dead_phis.Statement.{statement}
 use Rattle.phis.proofs.prune_dead_phis.Tie as tie
 
@@ -40,7 +40,8 @@ put-round-requires-3 c κs =
     let cut = c .before .before .before .before .before .before .before .before .before .before .before .cut in
     let put-round2 = c .before .before .before .before .before .before .before .before .put-round2 in
     let cut2 = c .before .before .cut2 in
-    (omega (arith, longest-fits (a .text .now) (cut .result .now) (cut2 .result .now) _ _ _ _ (put-round .result) (put-round2 .result) (put-round .ensures .0) (cut .ensures) (put-round2 .ensures .0) (cut2 .ensures) .1 .1, pre .0), omega (arith, ap length (third-text (a .text .now) (cut .result .now) (cut2 .result .now) _ _ _ _ (put-round .result) (put-round2 .result) (put-round .ensures .0) (cut .ensures) (put-round2 .ensures .0) (cut2 .ensures)), pre .1 .1 .1))
+    let h = passed (a .text .now) (cut .result .now) (cut2 .result .now) (put-round .ensures .0) (cut .ensures) (put-round2 .ensures .0) (cut2 .ensures) in
+    (omega (arith, longest-fits h .1 .1, pre .0), omega (arith, ap length (third-text h), pre .1 .1 .1))
 
 larger-requires : tie.Need-larger-requires
 larger-requires c κs = search needs
@@ -54,7 +55,8 @@ wipe-requires c κs =
     let cut = c .before .before .before .before .before .before .before .before .before .before .before .before .before .before .before .before .before .before .before .cut in
     let put-round2 = c .before .before .before .before .before .before .before .before .before .before .before .before .before .before .before .before .put-round2 in
     let cut2 = c .before .before .before .before .before .before .before .before .before .before .cut2 in
-    omega (arith, wiped-length (c .before .before .before .before .before .before .before .before .before .before .before .before .before .before .before .before .before .before .before .before .before .before .before .before .before .before .before .before .before .before .before .before .before .args .text .now) (cut .result .now) (cut2 .result .now) _ _ _ _ (put-round .result) (put-round2 .result) (put-round .ensures .0) (cut .ensures) (put-round2 .ensures .0) (cut2 .ensures) _ _ (c .before .larger .ensures) (c .larger2 .ensures), c .before .before .before .before .before .before .before .before .before .before .before .before .before .before .before .before .before .before .before .before .before .before .before .before .before .before .before .before .before .before .before .before .before .pre .0)
+    let h = passed (c .before .before .before .before .before .before .before .before .before .before .before .before .before .before .before .before .before .before .before .before .before .before .before .before .before .before .before .before .before .before .before .before .before .args .text .now) (cut .result .now) (cut2 .result .now) (put-round .ensures .0) (cut .ensures) (put-round2 .ensures .0) (cut2 .ensures) in
+    omega (arith, wiped-length h _ _ (c .before .larger .ensures) (c .larger2 .ensures), c .before .before .before .before .before .before .before .before .before .before .before .before .before .before .before .before .before .before .before .before .before .before .before .before .before .before .before .before .before .before .before .before .before .pre .0)
 
 same-length : tie.Need-same-length
 same-length c = search needs
@@ -76,13 +78,14 @@ returns c =
     let put-round2 = c .before .before .before .before .before .before .before .before .before .before .before .before .before .before .before .before .before .before .before .put-round2 in
     let cut2 = c .before .before .before .before .before .before .before .before .before .before .before .before .before .cut2 in
     let put-round3 = c .before .before .before .before .before .before .before .before .before .before .put-round3 in
-    let q = wiped-length (a .text .now) (cut .result .now) (cut2 .result .now) _ _ _ _ (put-round .result) (put-round2 .result) (put-round .ensures .0) (cut .ensures) (put-round2 .ensures .0) (cut2 .ensures) _ _ (c .before .before .before .before .larger .ensures) (c .before .before .before .larger2 .ensures) in (
-      wrote-as (third-text (a .text .now) (cut .result .now) (cut2 .result .now) _ _ _ _ (put-round .result) (put-round2 .result) (put-round .ensures .0) (cut .ensures) (put-round2 .ensures .0) (cut2 .ensures)) (put-round3 .ensures .0),
+    let h = passed (a .text .now) (cut .result .now) (cut2 .result .now) (put-round .ensures .0) (cut .ensures) (put-round2 .ensures .0) (cut2 .ensures) in
+    let q = wiped-length h _ _ (c .before .before .before .before .larger .ensures) (c .before .before .before .larger2 .ensures) in (
+      wrote-as (third-text h) (put-round3 .ensures .0),
       (
-        first-wrote (a .text .now) (cut .result .now) (cut2 .result .now) _ _ _ _ (put-round .result) (put-round2 .result) (put-round .ensures .0) (cut .ensures) (put-round2 .ensures .0) (cut2 .ensures),
+        first-wrote h,
         (
-          second-wrote (a .text .now) (cut .result .now) (cut2 .result .now) _ _ _ _ (put-round .result) (put-round2 .result) (put-round .ensures .0) (cut .ensures) (put-round2 .ensures .0) (cut2 .ensures),
-          scratch-end _ _ _ _ _ _ _ _ _ (put-round .ensures .1) (put-round2 .ensures .1) (put-round3 .ensures .1) (omega arith) (longest-fits (a .text .now) (cut .result .now) (cut2 .result .now) _ _ _ _ (put-round .result) (put-round2 .result) (put-round .ensures .0) (cut .ensures) (put-round2 .ensures .0) (cut2 .ensures)) (wipe-end q (c .before .before .wipe .ensures)),
+          second-wrote h,
+          scratch-end _ _ _ _ _ _ _ _ _ (put-round .ensures .1) (put-round2 .ensures .1) (put-round3 .ensures .1) (omega arith) (longest-fits h) (wipe-end q (c .before .before .wipe .ensures)),
         ),
       ),
     )
