@@ -1,4 +1,5 @@
 pub mod CountLaws
 pub mod SiteLaws
 pub mod WalkLaws
+pub mod Cut
 pub mod Examples
