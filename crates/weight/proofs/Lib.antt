@@ -1,3 +1,4 @@
 pub mod Weigh
 pub mod Pays
 pub mod Moves
+pub mod Braces

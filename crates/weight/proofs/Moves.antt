@@ -33,15 +33,6 @@ zero-extra : (s : Bool) → extra false s ≡ 0
 unfolding extra
 zero-extra s = refl
 
-sub-by : {a b : List ℕ} (c : Bool) → Sub a b → extra c (spaced a) + weight a ≤ extra c (spaced b) + weight b
-unfolding weight spaced
-sub-by c stop = omega arith
-sub-by c (stay x s) = let r = sub-by (eqb x 44) s in omega arith
-sub-by {a} c (skip {b = b} x s) = let r = sub-by false s in let e = extra-le c (spaced a) in let z = zero-extra (spaced a) in let y = zero-extra (spaced b) in omega arith
-
-pub sub-weight : {a b : List ℕ} → Sub a b → weight a ≤ weight b
-sub-weight {a} {b} s = let r = sub-by false s in let z = zero-extra (spaced a) in let y = zero-extra (spaced b) in omega arith
-
 pub sub-self : (a : List ℕ) → Sub a a
 sub-self [] = stop
 sub-self (x ∷ a) = stay x (sub-self a)
@@ -55,47 +46,20 @@ sub-append stop t = t
 sub-append (stay x s) t = stay x (sub-append s t)
 sub-append (skip x s) t = skip x (sub-append s t)
 
--- ---- a text cut into lines: one LF more at most
+-- the first step drops each CR before an LF
+drop-sub : (t : List ℕ) → Sub (dropCr t) t
+unfolding dropCr
+drop-sub [] = stop
+drop-sub (x ∷ xs) = go (eqb x 13 && prefixed (10 ∷ []) xs) (drop-sub xs)
+  where
+    go : (b : Bool) → Sub (dropCr xs) xs → Sub (cond b (dropCr xs) (x ∷ dropCr xs)) (x ∷ xs)
+    go true h = skip x h
+    go false h = stay x h
 
-lines-by : (b : Bool) (x : ℕ) (xs : List ℕ) (ls : List (List ℕ)) → eqb x 10 ≡ b → spaced (unlines ls) ≡ spaced xs → weight (unlines ls) ≤ weight xs + 1 →
-    (spaced (unlines (cutOn b x ls)) ≡ spaced (x ∷ xs)) × (weight (unlines (cutOn b x ls)) ≤ weight (x ∷ xs) + 1)
-unfolding cutOn unlines weight spaced extra
-lines-by true x xs ls e s h = let q = eqb-true x 10 e in (sym (ne-eqb x 32 (λ z. omega arith)), omega arith)
-lines-by false x xs [] e s h = let r : extra (eqb x 44) false ≡ extra (eqb x 44) (spaced xs) = ap (extra (eqb x 44)) s in (refl, omega arith)
-lines-by false x xs (l ∷ ls) e s h = let r : extra (eqb x 44) (spaced (unlines (l ∷ ls))) ≡ extra (eqb x 44) (spaced xs) = ap (extra (eqb x 44)) s in (refl, omega arith)
-
-lines-both : (t : List ℕ) → (spaced (unlines (linesOf t)) ≡ spaced t) × (weight (unlines (linesOf t)) ≤ weight t + 1)
-unfolding linesOf unlines weight spaced
-lines-both [] = (refl, omega arith)
-lines-both (x ∷ xs) = let r = lines-both xs in lines-by (eqb x 10) x xs (linesOf xs) refl (r .0) (r .1)
-
-pub lines-weight : (t : List ℕ) → weight (unlines (linesOf t)) ≤ weight t + 1
-lines-weight t = lines-both t .1
-
--- ---- a value for a name, in brackets or not: the line grows by what the value weighs at most
-
+-- a value as it is put: in brackets or not
 abbrev pub bracketed : Bool → List ℕ → List ℕ
 bracketed true v = 40 ∷ v ++ 41 ∷ []
 bracketed false v = v
-
-bracket-le : (b : Bool) (v : List ℕ) → weight (bracketed b v) ≤ weight v + 2
-unfolding weight spaced extra
-bracket-le true v = let r = weight-append (40 ∷ v) (41 ∷ []) in omega arith
-bracket-le false v = omega arith
-
-pub absorb-le : (p : Bool) (a name v b : List ℕ) → spaced name ≡ false → 2 ≤ length name → weight (a ++ (bracketed p v ++ b)) ≤ weight (a ++ (name ++ b)) + weight v
-absorb-le p a name v b h n = let r = weight-swap a name (bracketed p v) b h (omega arith) in let s = bracket-le p v in omega arith
-
--- ---- a store promoted: `let ` is 4
-
-pub promote-le : (l : List ℕ) → spaced (drop (fromOf l) l) ≡ false → weight (take (fromOf l) l ++ letWord ++ drop (fromOf l) l) ≤ weight l + 4
-unfolding weight spaced extra
-promote-le l h =
-    let a = weight-append (take (fromOf l) l ++ letWord) (drop (fromOf l) l) in
-    let b = weight-append (take (fromOf l) l) letWord in
-    let c : weight l ≡ weight (take (fromOf l) l) + weight (drop (fromOf l) l) =
-    ap weight (sym (take-append-drop (fromOf l) l)) ∙ weight-cut (take (fromOf l) l) (drop (fromOf l) l) h in
-    omega arith
 
 -- a line without the white space at its front does not begin with a space
 lead-clean : (k : ℕ) (l : List ℕ) → spaced (drop (lead k l) l) ≡ false
@@ -115,6 +79,62 @@ lead-clean zero (x ∷ xs) = go (eqb x 32) refl (whiteHead (x ∷ xs)) refl (λ 
 pub from-clean : (l : List ℕ) → spaced (drop (fromOf l) l) ≡ false
 unfolding fromOf
 from-clean l = lead-clean 0 l
+
+-- ---- laws for every weight of `{`: H is what each weighs more than another byte
+
+module _ (H : ℕ) where
+  sub-by : {a b : List ℕ} (c : Bool) → Sub a b → extra c (spaced a) + weight H a ≤ extra c (spaced b) + weight H b
+  unfolding weight spaced
+  sub-by c stop = omega arith
+  sub-by c (stay x s) = let r = sub-by (eqb x 44) s in omega arith
+  sub-by {a} c (skip {b = b} x s) = let r = sub-by false s in let e = extra-le c (spaced a) in let z = zero-extra (spaced a) in let y = zero-extra (spaced b) in omega arith
+
+  pub sub-weight : {a b : List ℕ} → Sub a b → weight H a ≤ weight H b
+  sub-weight {a} {b} s = let r = sub-by false s in let z = zero-extra (spaced a) in let y = zero-extra (spaced b) in omega arith
+
+  -- ---- a text cut into lines: one LF more at most
+
+  lines-by : (b : Bool) (x : ℕ) (xs : List ℕ) (ls : List (List ℕ)) → eqb x 10 ≡ b → spaced (unlines ls) ≡ spaced xs → weight H (unlines ls) ≤ weight H xs + 1 →
+      (spaced (unlines (cutOn b x ls)) ≡ spaced (x ∷ xs)) × (weight H (unlines (cutOn b x ls)) ≤ weight H (x ∷ xs) + 1)
+  unfolding cutOn unlines weight spaced extra
+  lines-by true x xs ls e s h = let q = eqb-true x 10 e in (sym (ne-eqb x 32 (λ z. omega arith)), omega arith)
+  lines-by false x xs [] e s h = let r : extra (eqb x 44) false ≡ extra (eqb x 44) (spaced xs) = ap (extra (eqb x 44)) s in (refl, omega arith)
+  lines-by false x xs (l ∷ ls) e s h = let r : extra (eqb x 44) (spaced (unlines (l ∷ ls))) ≡ extra (eqb x 44) (spaced xs) = ap (extra (eqb x 44)) s in (refl, omega arith)
+
+  lines-both : (t : List ℕ) → (spaced (unlines (linesOf t)) ≡ spaced t) × (weight H (unlines (linesOf t)) ≤ weight H t + 1)
+  unfolding linesOf unlines weight spaced
+  lines-both [] = (refl, omega arith)
+  lines-both (x ∷ xs) = let r = lines-both xs in lines-by (eqb x 10) x xs (linesOf xs) refl (r .0) (r .1)
+
+  pub lines-weight : (t : List ℕ) → weight H (unlines (linesOf t)) ≤ weight H t + 1
+  lines-weight t = lines-both t .1
+
+  -- ---- a value for a name, in brackets or not: the line grows by what the value weighs at most
+
+  bracket-le : (b : Bool) (v : List ℕ) → weight H (bracketed b v) ≤ weight H v + 2
+  unfolding weight spaced extra
+  bracket-le true v = let r = weight-append H (40 ∷ v) (41 ∷ []) in omega arith
+  bracket-le false v = omega arith
+
+  pub absorb-le : (p : Bool) (a name v b : List ℕ) → spaced name ≡ false → 2 ≤ length name → weight H (a ++ (bracketed p v ++ b)) ≤ weight H (a ++ (name ++ b)) + weight H v
+  absorb-le p a name v b h n = let r = weight-swap H a name (bracketed p v) b h (omega arith) in let s = bracket-le p v in omega arith
+
+  -- ---- a store promoted: `let ` is 4
+
+  pub promote-le : (l : List ℕ) → spaced (drop (fromOf l) l) ≡ false → weight H (take (fromOf l) l ++ letWord ++ drop (fromOf l) l) ≤ weight H l + 4
+  unfolding weight spaced extra
+  promote-le l h =
+      let a = weight-append H (take (fromOf l) l ++ letWord) (drop (fromOf l) l) in
+      let b = weight-append H (take (fromOf l) l) letWord in
+      let c : weight H l ≡ weight H (take (fromOf l) l) + weight H (drop (fromOf l) l) =
+      ap (weight H) (sym (take-append-drop (fromOf l) l)) ∙ weight-cut H (take (fromOf l) l) (drop (fromOf l) l) h in
+      omega arith
+
+  -- ---- the first step: each CR before an LF goes, and at most one LF comes
+
+  pub split-weight : (t : List ℕ) → weight H (unlines (splitLines t)) ≤ weight H t + 1
+  unfolding splitLines
+  split-weight t = let a = lines-weight (dropCr t) in let b = sub-weight (drop-sub t) in omega arith
 
 -- ---- credit for lines to come: the place n gets k
 
@@ -145,44 +165,29 @@ due-sum [] = omega arith
 due-sum (d ∷ ds) = omega arith
 
 -- what a line became weighs no more than the line and what was taken into it; ds is what was sent to this line and to each below
-pub data Fits : List ℕ → List Act → List (List ℕ) → Type 0 where
-  ended : {ds : List ℕ} → Fits ds [] []
-  kept : {ds : List ℕ} {more : List Act} {l : List ℕ} {ls : List (List ℕ)} → Fits (drop 1 ds) more ls → Fits ds (keep ∷ more) (l ∷ ls)
-  became : {ds : List ℕ} {more : List Act} {l x : List ℕ} {ls : List (List ℕ)} → weight x ≤ weight l + due ds → Fits (drop 1 ds) more ls → Fits ds (become x ∷ more) (l ∷ ls)
-  sent : {ds : List ℕ} {more : List Act} {l : List ℕ} {ls : List (List ℕ)} (n : ℕ) → Fits (credit n (weight l + 1 + due ds) (drop 1 ds)) more ls → Fits ds (into (suc n) ∷ more) (l ∷ ls)
-  dropped : {ds : List ℕ} {more : List Act} {l : List ℕ} {ls : List (List ℕ)} → Fits (drop 1 ds) more ls → Fits ds (gone ∷ more) (l ∷ ls)
+pub data Fits (H : ℕ) : List ℕ → List Act → List (List ℕ) → Type 0 where
+  ended : {ds : List ℕ} → Fits H ds [] []
+  kept : {ds : List ℕ} {more : List Act} {l : List ℕ} {ls : List (List ℕ)} → Fits H (drop 1 ds) more ls → Fits H ds (keep ∷ more) (l ∷ ls)
+  became : {ds : List ℕ} {more : List Act} {l x : List ℕ} {ls : List (List ℕ)} → weight H x ≤ weight H l + due ds → Fits H (drop 1 ds) more ls → Fits H ds (become x ∷ more) (l ∷ ls)
+  sent : {ds : List ℕ} {more : List Act} {l : List ℕ} {ls : List (List ℕ)} (n : ℕ) → Fits H (credit n (weight H l + 1 + due ds) (drop 1 ds)) more ls → Fits H ds (into (suc n) ∷ more) (l ∷ ls)
+  dropped : {ds : List ℕ} {more : List Act} {l : List ℕ} {ls : List (List ℕ)} → Fits H (drop 1 ds) more ls → Fits H ds (gone ∷ more) (l ∷ ls)
 
-pub fits-pays : {ds : List ℕ} {acts : List Act} {ls : List (List ℕ)} → Fits ds acts ls → Pays (sum ds) acts ls
+pub fits-pays : {H : ℕ} {ds : List ℕ} {acts : List Act} {ls : List (List ℕ)} → Fits H ds acts ls → Pays H (sum ds) acts ls
 unfolding act
 fits-pays ended = done
-fits-pays {ds} (kept {l = l} f) =
-    let a = due-sum ds in let b = weight-line l [] in let z = nothing in
+fits-pays {H} {ds} (kept {l = l} f) =
+    let a = due-sum ds in let b = weight-line H l [] in let z = nothing H in
     step {c = sum ds} {a = keep} {l = l} (sum (drop 1 ds)) (omega arith) (fits-pays f)
-fits-pays {ds} (became {l = l} {x = x} h f) =
-    let a = due-sum ds in let b = weight-line x [] in let z = nothing in
+fits-pays {H} {ds} (became {l = l} {x = x} h f) =
+    let a = due-sum ds in let b = weight-line H x [] in let z = nothing H in
     step {c = sum ds} {a = become x} {l = l} (sum (drop 1 ds)) (omega arith) (fits-pays f)
-fits-pays {ds} (sent {l = l} n f) =
-    let a = due-sum ds in let b = credit-sum n (weight l + 1 + due ds) (drop 1 ds) in let z = nothing in
-    step {c = sum ds} {a = into (suc n)} {l = l} (sum (credit n (weight l + 1 + due ds) (drop 1 ds))) (omega arith) (fits-pays f)
-fits-pays {ds} (dropped {l = l} f) =
-    let a = due-sum ds in let z = nothing in
+fits-pays {H} {ds} (sent {l = l} n f) =
+    let a = due-sum ds in let b = credit-sum n (weight H l + 1 + due ds) (drop 1 ds) in let z = nothing H in
+    step {c = sum ds} {a = into (suc n)} {l = l} (sum (credit n (weight H l + 1 + due ds) (drop 1 ds))) (omega arith) (fits-pays f)
+fits-pays {H} {ds} (dropped {l = l} f) =
+    let a = due-sum ds in let z = nothing H in
     step {c = sum ds} {a = gone} {l = l} (sum (drop 1 ds)) (omega arith) (fits-pays f)
 
-pub fits-weight : {acts : List Act} {ls : List (List ℕ)} → Fits [] acts ls → weight (unlines (apply acts ls)) ≤ weight (unlines ls)
+pub fits-weight : {H : ℕ} {acts : List Act} {ls : List (List ℕ)} → Fits H [] acts ls → weight H (unlines (apply acts ls)) ≤ weight H (unlines ls)
 unfolding sum
 fits-weight f = let r = pays (fits-pays f) in omega arith
-
--- ---- the first step: each CR before an LF goes, and at most one LF comes
-
-drop-sub : (t : List ℕ) → Sub (dropCr t) t
-unfolding dropCr
-drop-sub [] = stop
-drop-sub (x ∷ xs) = go (eqb x 13 && prefixed (10 ∷ []) xs) (drop-sub xs)
-  where
-    go : (b : Bool) → Sub (dropCr xs) xs → Sub (cond b (dropCr xs) (x ∷ dropCr xs)) (x ∷ xs)
-    go true h = skip x h
-    go false h = stay x h
-
-pub split-weight : (t : List ℕ) → weight (unlines (splitLines t)) ≤ weight t + 1
-unfolding splitLines
-split-weight t = let a = lines-weight (dropCr t) in let b = sub-weight (drop-sub t) in omega arith
