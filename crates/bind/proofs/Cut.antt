@@ -43,12 +43,15 @@ store-lt v b n [] h = no (ap (λ (r : List Spot). storeAt v b r) (sym (drop-nil 
 store-lt v b zero (s ∷ sp) h = omega arith
 store-lt v b (suc n) (s ∷ sp) h = omega (arith, store-lt v b n sp h)
 
-pub bound-near : (v : ℕ) (above : List (List ℕ)) (d : Spot) (below : List Spot) → bound v above d below ≡ true → firstUse v below < length below
+-- the first use of a register that is bound is a store of it
+pub bound-store : (v : ℕ) (above : List (List ℕ)) (d : Spot) (below : List Spot) → bound v above d below ≡ true → storeAt v (d .block) (drop (firstUse v below) below) ≡ true
 unfolding bound
-bound-near v above d below h =
-    store-lt v (d .block) (firstUse v below) below
-    (and-right (not (usedIn v above)) _ (and-right (eqb (storeCount v above + storeCount v (linesIn below)) 1) _
-    (and-right (eqb (declCount v above + (declCount v (d .line ∷ []) + declCount v (linesIn below))) 1) _ h)))
+bound-store v above d below h =
+    and-right (not (usedIn v above)) _ (and-right (eqb (storeCount v above + storeCount v (linesIn below)) 1) _
+    (and-right (eqb (declCount v above + (declCount v (d .line ∷ []) + declCount v (linesIn below))) 1) _ h))
+
+bound-near : (v : ℕ) (above : List (List ℕ)) (d : Spot) (below : List Spot) → bound v above d below ≡ true → firstUse v below < length below
+bound-near v above d below h = store-lt v (d .block) (firstUse v below) below (bound-store v above d below h)
 
 module _ (above : List (List ℕ)) (d : Spot) (below : List Spot) where
   one-long : (r : RegName) (ms : List Bool) → length ms ≤ length below → length (markOne r above d below ms) ≤ length below
@@ -59,7 +62,7 @@ module _ (above : List (List ℕ)) (d : Spot) (below : List Spot) where
       go true f = mark-long (firstUse (q .0) below) (length below) ms (f refl) h
       go false f = h
 
-  pub all-long : (ps : List (List ℕ)) (ms : List Bool) → length ms ≤ length below → length (markAll ps above d below ms) ≤ length below
+  all-long : (ps : List (List ℕ)) (ms : List Bool) → length ms ≤ length below → length (markAll ps above d below ms) ≤ length below
   unfolding markAll
   all-long [] ms h = h
   all-long (p ∷ ps) ms h = all-long ps (markOne (regOf (trimOf p)) above d below ms) (one-long (regOf (trimOf p)) ms h)
@@ -220,9 +223,9 @@ alike-header t d l ls (x ∷ bs) a b ss e = each refl refl (λ f. no (sym f ∙ 
 
 -- a reading that cleans each line by itself, and leaves of a header something that is not blank
 pub record ByLine (R : Reading) : Type 0 where
-  pub clean : List ℕ → List ℕ
-  pub is : (ls : List (List ℕ)) → R .clean ls ≡ map clean ls
-  pub shown : (l : List ℕ) → isHeader l ≡ true → blank (clean l) ≡ false
+  pub one : List ℕ → List ℕ
+  pub is : (ls : List (List ℕ)) → R .clean ls ≡ map one ls
+  pub shown : (l : List ℕ) → isHeader l ≡ true → blank (one l) ≡ false
 
 cleaned-map : (ls : List (List ℕ)) → cleaned ls ≡ map stripLexical ls
 unfolding cleaned
@@ -231,7 +234,7 @@ cleaned-map (l ∷ ls) = ap (λ (r : List (List ℕ)). stripLexical l ∷ r) (cl
 
 -- the Rust's is one
 pub plain-by-line : ByLine plain
-plain-by-line = record { clean = stripLexical; is = cleaned-map; shown = header-shown }
+plain-by-line = record { one = stripLexical; is = cleaned-map; shown = header-shown }
 
 map-length : (f : List ℕ → List ℕ) (xs : List (List ℕ)) → length (map f xs) ≡ length xs
 map-length f [] = refl
@@ -266,14 +269,14 @@ upper-go sp h ts [] s ss e = ap (λ (r : List Spot). bindGo r [] []) (append-nil
 upper-go sp h ts (b ∷ bs) s ss e = go-upper (record { line = h; block = b; starts = s }) (spotsOf ts bs ss) e sp [] [] (omega arith)
 
 module _ {R : Reading} (c : ByLine R) where
-  long : (ls : List (List ℕ)) → length (R .clean ls) ≡ length ls
-  long ls = ap length (c .is ls) ∙ map-length (c .clean) ls
+  pub clean-long : (ls : List (List ℕ)) → length (R .clean ls) ≡ length ls
+  clean-long ls = ap length (c .is ls) ∙ map-length (c .one) ls
 
-  clean-cut : (us : List (List ℕ)) (h : List ℕ) (ts : List (List ℕ)) → R .clean (us ++ h ∷ ts) ≡ R .clean us ++ c .clean h ∷ map (c .clean) ts
-  clean-cut us h ts = c .is (us ++ h ∷ ts) ∙ map-append (c .clean) us (h ∷ ts) ∙ ap (λ (ls : List (List ℕ)). ls ++ c .clean h ∷ map (c .clean) ts) (sym (c .is us))
+  clean-cut : (us : List (List ℕ)) (h : List ℕ) (ts : List (List ℕ)) → R .clean (us ++ h ∷ ts) ≡ R .clean us ++ c .one h ∷ map (c .one) ts
+  clean-cut us h ts = c .is (us ++ h ∷ ts) ∙ map-append (c .one) us (h ∷ ts) ∙ ap (λ (ls : List (List ℕ)). ls ++ c .one h ∷ map (c .one) ts) (sym (c .is us))
 
   module _ (us : List (List ℕ)) (h : List ℕ) (ts : List (List ℕ)) (e : isHeader h ≡ true) (o : own (R .clean (h ∷ ts)) ≡ true) where
-    tail-clean : R .clean (h ∷ ts) ≡ c .clean h ∷ map (c .clean) ts
+    tail-clean : R .clean (h ∷ ts) ≡ c .one h ∷ map (c .one) ts
     tail-clean = c .is (h ∷ ts)
 
     blocks-are : blocks (R .clean (us ++ h ∷ ts)) ≡ blocks (R .clean us) ++ renamed (blockBelow (R .clean us)) (nextBelow (R .clean us)) (blocks (R .clean (h ∷ ts)))
@@ -281,7 +284,7 @@ module _ {R : Reading} (c : ByLine R) where
 
     starts-are : startsGo (R .clean (us ++ h ∷ ts)) true ≡ startsGo (R .clean us) true ++ startsBelow (R .clean us) true ∷ drop 1 (startsGo (R .clean (h ∷ ts)) true)
     starts-are =
-        ap (λ (ls : List (List ℕ)). startsGo ls true) (clean-cut us h ts) ∙ starts-cut (R .clean us) (map (c .clean) ts) (c .clean h) (c .shown h e)
+        ap (λ (ls : List (List ℕ)). startsGo ls true) (clean-cut us h ts) ∙ starts-cut (R .clean us) (map (c .one) ts) (c .one h) (c .shown h e)
         ∙ ap (λ (ls : List (List ℕ)). startsGo (R .clean us) true ++ startsBelow (R .clean us) true ∷ drop 1 (startsGo ls true)) (sym tail-clean)
 
     -- the tail's spots below the upper lines
@@ -292,13 +295,13 @@ module _ {R : Reading} (c : ByLine R) where
     unfolding spots lower
     spots-are =
         rw (blocks-are, starts-are)
-        (spots-append us (h ∷ ts) (blocks (R .clean us)) _ (startsGo (R .clean us) true) _ (length-blocks (R .clean us) ∙ long us) (length-starts (R .clean us) true ∙ long us))
+        (spots-append us (h ∷ ts) (blocks (R .clean us)) _ (startsGo (R .clean us) true) _ (length-blocks (R .clean us) ∙ clean-long us) (length-starts (R .clean us) true ∙ clean-long us))
 
     lower-alike : Alike (rename (blockBelow (R .clean us)) (nextBelow (R .clean us))) lower (spots R (h ∷ ts))
     unfolding spots lower
     lower-alike =
-        rw (tail-clean, ← starts-first (c .clean h) (map (c .clean) ts))
-        (alike-header (blockBelow (R .clean us)) (nextBelow (R .clean us)) h ts (blocks (c .clean h ∷ map (c .clean) ts)) (startsBelow (R .clean us) true) true (drop 1 (startsGo (c .clean h ∷ map (c .clean) ts) true)) e)
+        rw (tail-clean, ← starts-first (c .one h) (map (c .one) ts))
+        (alike-header (blockBelow (R .clean us)) (nextBelow (R .clean us)) h ts (blocks (c .one h ∷ map (c .one) ts)) (startsBelow (R .clean us) true) true (drop 1 (startsGo (c .one h ∷ map (c .one) ts) true)) e)
 
     acts-go : bindGo (spots R us ++ lower) [] [] ≡ bindGo (spots R us) [] [] ++ bindGo lower [] []
     unfolding lower
@@ -315,7 +318,7 @@ module _ {R : Reading} (c : ByLine R) where
   -- one act for each line
   pub bind-length : (ls : List (List ℕ)) → length (bindDeclaratorsActs R ls) ≡ length ls
   unfolding bindDeclaratorsActs spots
-  bind-length ls = go-length (spots R ls) [] [] ∙ spots-length ls (blocks (R .clean ls)) (startsGo (R .clean ls) true) (length-blocks (R .clean ls) ∙ long ls) (length-starts (R .clean ls) true ∙ long ls)
+  bind-length ls = go-length (spots R ls) [] [] ∙ spots-length ls (blocks (R .clean ls)) (startsGo (R .clean ls) true) (length-blocks (R .clean ls) ∙ clean-long ls) (length-starts (R .clean ls) true ∙ clean-long ls)
 
   -- demand 3, of acts
   pub bind-acts-cut : (upper tail : List (List ℕ)) → headed tail ≡ true → own (R .clean tail) ≡ true →
