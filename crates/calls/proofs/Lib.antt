@@ -10,3 +10,6 @@ pub mod StepLaws
 pub mod WalkLaws
 pub mod Owners
 pub mod Texts
+pub mod Stacks
+pub mod Told
+pub mod Climbs

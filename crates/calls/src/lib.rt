@@ -1,8 +1,9 @@
 // rebuild_calls: the values of stores go back into the call that follows them.
 ghost use mathlib.Core.Path.{_≡_};
 ghost use mathlib.Core.Bool.{not, _&&_};
-ghost use Prim.Native.Nat.{_+_, _≤_};
-ghost use lib.ListN.{length};
+ghost use Prim.Native.Nat.{_+_, _-_, _≤_, _<_};
+ghost use lib.Dec.{eqb};
+ghost use lib.ListN.{length, getD};
 ghost use Rattle.lines.specs.Lf.{linesOf};
 ghost use Rattle.lines.specs.Out.{Wrote};
 ghost use Rattle.words.specs.Hits.{replacedAt};
@@ -13,6 +14,7 @@ ghost use Rattle.reading.specs.Reading.{plain};
 ghost use Rattle.calls.specs.LeavesOf.{isCall, isControlLine, contextOf, leavesOf};
 ghost use Rattle.calls.specs.Calls.{readLater, putBy};
 ghost use Rattle.calls.specs.Steps.{breaksDown, absorbStep, lineBack, PutAs};
+ghost use Rattle.calls.specs.Tables.{rowsAt, Keeps, Stands, Placed, Foot, Peaked};
 
 // What putting a value into a line makes: a line of so many bytes, or nothing.
 pub enum Made {
@@ -165,4 +167,109 @@ fn line_back(s: &[u8], e: usize) -> usize
         j -= 1;
     }
     j
+}
+
+// Whether the line that a dropped line k went into has gone into line n itself.
+fn is_ours(owner: &[usize], k: usize, n: usize) -> bool
+    requires { ⌜ (k + getD (now owner) k 0 < n) × (n ≤ length (now owner)) ⌝ }
+    ensures { λ r. ⌜ r ≡ eqb (getD (now (owner .entry)) (k + getD (now (owner .entry)) k 0) 0) (n - (k + getD (now (owner .entry)) k 0)) ⌝ }
+{
+    let j = k + owner[k];
+    owner[j] == n - j
+}
+
+// Whether region, block and start of statement let line k go into line n.
+fn may_go(over: bool, blocks: &[usize], starts: &[u8], k: usize, n: usize) -> bool
+    requires { ⌜ (k < length (now blocks)) × ((n < length (now blocks)) × (k < length (now starts))) ⌝ }
+    ensures { λ r. ⌜ r ≡ not over && (eqb (getD (now (blocks .entry)) k 0) (getD (now (blocks .entry)) n 0) && eqb (getD (now (starts .entry)) k 0) 1) ⌝ }
+{
+    if over {
+        return false;
+    }
+    if blocks[k] != blocks[n] {
+        return false;
+    }
+    starts[k] == 1
+}
+
+// Where a walk ends: how many bytes of the stack still stand, and how long the line is that it made.
+struct Peak {
+    height: usize,
+    size: usize,
+}
+
+// Walks up from line n, which begins at i and stands at the front of `cur`: at most 64 lines, each a store whose value goes into it, or a
+// line that went into one of these before. `owner` gets the lines that go, and the others stand on the stack below `height`.
+fn walk_up(
+    text: &[u8],
+    i: usize,
+    below: usize,
+    n: usize,
+    blocks: &[usize],
+    starts: &[u8],
+    owner: &mut [usize],
+    stack: &[u8],
+    o: usize,
+    top: bool,
+    size: usize,
+    cur: &mut [u8],
+    next: &mut [u8],
+    clean: &mut [u8],
+) -> Peak
+    requires { ⌜ (Keeps (now text) n (rowsAt (now text) n) (now owner) (now stack) o)
+        × ((Stands (now text) n i below)
+        × ((Placed (now text) (now blocks) (now starts))
+        × ((Foot (now text) n top (now cur) size)
+        × ((o + size ≤ length (now cur)) × ((o + size ≤ length (now next)) × (o + size ≤ length (now clean))))))) ⌝ }
+    ensures { λ r. ⌜ Peaked (now (text .entry)) n (now (owner .entry)) (now (owner .exit)) (now (stack .entry)) (now (cur .exit)) (r .height) (r .size) (o + size) ⌝ }
+{
+    let mut k = n;
+    let mut p = i;
+    let mut h = o;
+    let mut c = size;
+    let mut over = top;
+    let mut steps: usize = 0;
+    while steps < 64 {
+        if k == 0 {
+            break;
+        }
+        let q = line_back(text, p - 1);
+        if owner[k - 1] != 0 {
+            if !is_ours(owner, k - 1, n) {
+                break;
+            }
+            over = over | place::is_header(lines::cut(text, q, p - 1));
+            p = q;
+            k -= 1;
+            steps += 1;
+        } else {
+            let b = line_back(stack, h - 1);
+            let parse::Line::Store(s) = parse::parse(lines::cut(stack, b, h - 1)) else {
+                break
+            };
+            if !may_go(over, blocks, starts, k - 1, n) {
+                break;
+            }
+            let v = parse::value_of(lines::cut(stack, b, h - 1), s);
+            let made = absorb(
+                lines::cut(cur, 0, c),
+                s.reg,
+                v,
+                lines::cut(text, below, text.len()),
+                lines::cut(text, p, i),
+                &owner[k..n],
+                clean,
+                next,
+            );
+            let Made::Line(m) = made else { break };
+            c = lines::put(cur, 0, lines::cut(next, 0, m));
+            owner[k - 1] = n - k + 1;
+            over = over | place::is_header(lines::cut(text, q, p - 1));
+            h = b;
+            p = q;
+            k -= 1;
+            steps += 1;
+        }
+    }
+    Peak { height: h, size: c }
 }
