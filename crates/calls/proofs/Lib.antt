@@ -13,3 +13,4 @@ pub mod Texts
 pub mod Stacks
 pub mod Told
 pub mod Climbs
+pub mod Turns

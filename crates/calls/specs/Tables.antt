@@ -9,11 +9,11 @@ use Rattle.lines.specs.Acts.{Act, keep, become, into, gone, act, apply}
 use Rattle.place.specs.Region.{isHeader}
 use Rattle.place.specs.Blocks.{blockIds, cleaned}
 use Rattle.place.specs.Starts.{startsGo}
-use Rattle.place.specs.Fill.{flagsOf}
+use Rattle.place.specs.Fill.{Filled, flagsOf}
 use Rattle.reading.specs.Reading.{plain}
 use Rattle.calls.specs.Leaves.{Leaves}
 use Rattle.calls.specs.LeavesOf.{blocksBy, leavesOf}
-use Rattle.calls.specs.Calls.{Item, Row, Walked, linesOn, climb, itemsOf, actsUp, readLater, walk, turn}
+use Rattle.calls.specs.Calls.{Item, Row, Walked, linesOn, climb, itemsOf, actsUp, readLater, walk, turn, rebuildCallsActs, rebuildCalls}
 
 -- how far below a line its owner stands, or 0 where it has none
 unfoldable pub ownerOf : Act → ℕ
@@ -90,3 +90,34 @@ pub record Peaked (t : List ℕ) (n : ℕ) (owner owner′ stack cur : List ℕ)
   pub line : act (walkAt t n .act) (lineAt t n) ≡ take size cur ∷ []
   pub room : height + size ≤ most
   pub sized : size ≤ length cur
+
+-- line n of t stands from i up to e
+pub record Spot (t : List ℕ) (n i e : ℕ) : Type 0 where
+  pub inside : i < length t
+  pub above : take i t ≡ unlines (take n (linesOf t))
+  pub here : linesOf (drop i t) ≡ drop n (linesOf t)
+  pub ends : e ≡ i + upTo 10 (drop i t)
+
+-- all is ready for line n, which stands from i up to e: the tables, and room in the buffers
+pub record Ready (t : List ℕ) (n i e : ℕ) (blocks starts owner stack : List ℕ) (o : ℕ) (cur next clean : List ℕ) : Type 0 where
+  pub keeps : Keeps t n (rowsAt t n) owner stack o
+  pub spot : Spot t n i e
+  pub placed : Placed t blocks starts
+  pub many : n < length owner
+  pub low : o ≤ i
+  pub stack-room : length t < length stack
+  pub cur-room : length t ≤ length cur
+  pub next-room : length t ≤ length next
+  pub clean-room : length t ≤ length clean
+
+-- after line n: the tables keep one row more, and the stack has grown by no more than the line and its LF
+pub record Turned (t : List ℕ) (n : ℕ) (owner owner′ stack : List ℕ) (o r : ℕ) : Type 0 where
+  pub keeps : Keeps t (suc n) (rowsAt t (suc n)) owner′ stack r
+  pub beyond : drop (suc n) owner′ ≡ drop (suc n) owner
+  pub room : r ≤ o + length (lineAt t n) + 1
+
+-- after all lines: below r the stack has the bytes of the lines that the pass makes, and the table has the owner of each line
+pub record Rebuilt (t owner owner′ stack : List ℕ) (r : ℕ) : Type 0 where
+  pub owners : Filled owner (ownersOf (rebuildCallsActs (leavesOf plain) (linesOf t))) owner′ (length (linesOf t))
+  pub lines : take r stack ≡ unlines (rebuildCalls (leavesOf plain) (linesOf t))
+  pub fits : r ≤ length stack

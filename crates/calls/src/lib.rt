@@ -1,10 +1,11 @@
 // rebuild_calls: the values of stores go back into the call that follows them.
 ghost use mathlib.Core.Path.{_≡_};
 ghost use mathlib.Core.Bool.{not, _&&_};
+ghost use mathlib.Core.List.{[], _∷_};
 ghost use Prim.Native.Nat.{_+_, _-_, _≤_, _<_};
 ghost use lib.Dec.{eqb};
 ghost use lib.ListN.{length, getD};
-ghost use Rattle.lines.specs.Lf.{linesOf};
+ghost use Rattle.lines.specs.Lf.{linesOf, unlines};
 ghost use Rattle.lines.specs.Out.{Wrote};
 ghost use Rattle.words.specs.Hits.{replacedAt};
 ghost use Rattle.lexical.specs.Idents.{wordsIn};
@@ -14,7 +15,7 @@ ghost use Rattle.reading.specs.Reading.{plain};
 ghost use Rattle.calls.specs.LeavesOf.{isCall, isControlLine, contextOf, leavesOf};
 ghost use Rattle.calls.specs.Calls.{readLater, putBy};
 ghost use Rattle.calls.specs.Steps.{breaksDown, absorbStep, lineBack, PutAs};
-ghost use Rattle.calls.specs.Tables.{rowsAt, Keeps, Stands, Placed, Foot, Peaked};
+ghost use Rattle.calls.specs.Tables.{rowsAt, Keeps, Stands, Placed, Foot, Peaked, Ready, Turned, Rebuilt};
 
 // What putting a value into a line makes: a line of so many bytes, or nothing.
 pub enum Made {
@@ -272,4 +273,100 @@ fn walk_up(
         }
     }
     Peak { height: h, size: c }
+}
+
+// Puts a line with its LF on a stack of the height o, and returns the height then.
+fn push_line(line: &[u8], stack: &mut [u8], o: usize) -> usize
+    requires { ⌜ o + length (unlines (now line ∷ [])) ≤ length (now stack) ⌝ }
+    ensures { λ r. ⌜ Wrote (now (stack .entry)) o (unlines (now (line .entry) ∷ [])) (now (stack .exit)) r ⌝ }
+{
+    let p = lines::put(stack, o, line);
+    lines::put_byte(stack, p, 10)
+}
+
+// Puts line n, which stands from i up to e, on the stack, with the values of the stores above that go into it.
+fn turn_line(
+    text: &[u8],
+    i: usize,
+    e: usize,
+    n: usize,
+    blocks: &[usize],
+    starts: &[u8],
+    owner: &mut [usize],
+    stack: &mut [u8],
+    o: usize,
+    cur: &mut [u8],
+    next: &mut [u8],
+    clean: &mut [u8],
+) -> usize
+    requires { ⌜ Ready (now text) n i e (now blocks) (now starts) (now owner) (now stack) o (now cur) (now next) (now clean) ⌝ }
+    ensures { λ r. ⌜ Turned (now (text .entry)) n (now (owner .entry)) (now (owner .exit)) (now (stack .exit)) o r ⌝ }
+{
+    owner[n] = 0;
+    if !takes(&text[i..e], starts[n] == 1) {
+        return push_line(&text[i..e], stack, o);
+    }
+    let size = lines::put(cur, 0, &text[i..e]);
+    let top = place::is_header(&text[i..e]);
+    let f = lines::after(text, e);
+    let w = walk_up(
+        text,
+        i,
+        f,
+        n,
+        blocks,
+        starts,
+        owner,
+        stack,
+        o,
+        top,
+        size,
+        cur,
+        next,
+        clean,
+    );
+    let h = w.height;
+    let m = w.size;
+    push_line(lines::cut(cur, 0, m), stack, h)
+}
+
+// Puts what becomes of all lines on the stack, and returns its height.
+fn rebuild_lines(
+    text: &[u8],
+    blocks: &[usize],
+    starts: &[u8],
+    owner: &mut [usize],
+    stack: &mut [u8],
+    cur: &mut [u8],
+    next: &mut [u8],
+    clean: &mut [u8],
+) -> usize
+    requires { ⌜ (Placed (now text) (now blocks) (now starts))
+        × ((length (linesOf (now text)) ≤ length (now owner)) × ((length (now text) < length (now stack))
+        × ((length (now text) ≤ length (now cur)) × ((length (now text) ≤ length (now next)) × (length (now text) ≤ length (now clean)))))) ⌝ }
+    ensures { λ r. ⌜ Rebuilt (now (text .entry)) (now (owner .entry)) (now (owner .exit)) (now (stack .exit)) r ⌝ }
+{
+    let mut i = 0;
+    let mut n = 0;
+    let mut o = 0;
+    while i < text.len() {
+        let e = lines::find_byte(text, i, 10);
+        o = turn_line(
+            text,
+            i,
+            e,
+            n,
+            blocks,
+            starts,
+            owner,
+            stack,
+            o,
+            cur,
+            next,
+            clean,
+        );
+        n += 1;
+        i = lines::after(text, e);
+    }
+    o
 }
