@@ -14,3 +14,4 @@ pub mod Stacks
 pub mod Told
 pub mod Climbs
 pub mod Turns
+pub mod Wipes

@@ -1,10 +1,10 @@
 // rebuild_calls: the values of stores go back into the call that follows them.
 ghost use mathlib.Core.Path.{_≡_};
-ghost use mathlib.Core.Bool.{not, _&&_};
+ghost use mathlib.Core.Bool.{true, not, _&&_};
 ghost use mathlib.Core.List.{[], _∷_};
-ghost use Prim.Native.Nat.{_+_, _-_, _≤_, _<_};
+ghost use Prim.Native.Nat.{_+_, _-_, _≤_, _<_, _^_};
 ghost use lib.Dec.{eqb};
-ghost use lib.ListN.{length, getD};
+ghost use lib.ListN.{length, getD, replicate};
 ghost use Rattle.lines.specs.Lf.{linesOf, unlines};
 ghost use Rattle.lines.specs.Out.{Wrote};
 ghost use Rattle.words.specs.Hits.{replacedAt};
@@ -12,10 +12,14 @@ ghost use Rattle.lexical.specs.Idents.{wordsIn};
 ghost use Rattle.forms.specs.Primary.{parenIfNeeded};
 ghost use Rattle.forms.specs.Breaks.{breaksWith};
 ghost use Rattle.reading.specs.Reading.{plain};
+ghost use Rattle.place.specs.Blocks.{blockIds, cleaned};
+ghost use Rattle.place.specs.Starts.{startsGo};
+ghost use Rattle.place.specs.Parents.{idsParents};
+ghost use Rattle.place.specs.Fill.{Filled, flagsOf};
 ghost use Rattle.calls.specs.LeavesOf.{isCall, isControlLine, contextOf, leavesOf};
-ghost use Rattle.calls.specs.Calls.{readLater, putBy};
+ghost use Rattle.calls.specs.Calls.{readLater, putBy, rebuildCallsActs, rebuildCalls};
 ghost use Rattle.calls.specs.Steps.{breaksDown, absorbStep, lineBack, PutAs};
-ghost use Rattle.calls.specs.Tables.{rowsAt, Keeps, Stands, Placed, Foot, Peaked, Ready, Turned, Rebuilt};
+ghost use Rattle.calls.specs.Tables.{rowsAt, Keeps, Stands, Placed, Foot, Peaked, Ready, Turned, Rebuilt, ownersOf};
 
 // What putting a value into a line makes: a line of so many bytes, or nothing.
 pub enum Made {
@@ -369,4 +373,90 @@ fn rebuild_lines(
         i = lines::after(text, e);
     }
     o
+}
+
+// Writes zeros over all of a buffer.
+fn wipe(s: &mut [u8])
+    ensures { λ _. ⌜ now (s .exit) ≡ replicate (length (now (s .entry))) 0 ⌝ }
+{
+    let mut i = 0;
+    while i < s.len() {
+        s[i] = 0;
+        i += 1;
+    }
+}
+
+// Writes what becomes of all lines, with a stack and three more buffers that are wiped at the end.
+fn rebuild_with(
+    text: &[u8],
+    blocks: &[usize],
+    starts: &[u8],
+    owner: &mut [usize],
+    stack: &mut [u8],
+    cur: &mut [u8],
+    next: &mut [u8],
+    clean: &mut [u8],
+    out: &mut [u8],
+) -> usize
+    requires { ⌜ (Placed (now text) (now blocks) (now starts))
+        × ((length (linesOf (now text)) ≤ length (now owner)) × ((length (now text) < length (now stack))
+        × ((length (now text) ≤ length (now cur)) × ((length (now text) ≤ length (now next)) × ((length (now text) ≤ length (now clean))
+        × (length (unlines (rebuildCalls (leavesOf plain) (linesOf (now text)))) ≤ length (now out))))))) ⌝ }
+    ensures answer { λ r. ⌜ Wrote (now (out .entry)) 0 (unlines (rebuildCalls (leavesOf plain) (linesOf (now (text .entry))))) (now (out .exit)) r ⌝ }
+    ensures owners { λ _. ⌜ Filled (now (owner .entry)) (ownersOf (rebuildCallsActs (leavesOf plain) (linesOf (now (text .entry))))) (now (owner .exit)) (length (linesOf (now (text .entry)))) ⌝ }
+    ensures scratch { λ _. ⌜ (now (stack .exit) ≡ replicate (length (now (stack .entry))) 0)
+        × ((now (cur .exit) ≡ replicate (length (now (cur .entry))) 0)
+        × ((now (next .exit) ≡ replicate (length (now (next .entry))) 0) × (now (clean .exit) ≡ replicate (length (now (clean .entry))) 0))) ⌝ }
+{
+    let o = rebuild_lines(text, blocks, starts, owner, stack, cur, next, clean);
+    let r = lines::put(out, 0, lines::cut(stack, 0, o));
+    wipe(stack);
+    wipe(cur);
+    wipe(next);
+    wipe(clean);
+    r
+}
+
+// The values of stores go back into the call that follows them. Each line is followed by one LF; `owner` gets for each line how far below it
+// the line stands that took it in, or 0, and the front of the four buffers before `out` is wiped.
+pub fn rebuild_calls(
+    text: &[u8],
+    owner: &mut [usize],
+    blocks: &mut [usize],
+    starts: &mut [u8],
+    up: &mut [u32],
+    stack: &mut [u8],
+    cur: &mut [u8],
+    next: &mut [u8],
+    clean: &mut [u8],
+    out: &mut [u8],
+) -> usize
+    requires { ⌜ ((length (linesOf (now text)) ≤ length (now owner)) × ((length (linesOf (now text)) ≤ length (now blocks)) × (length (linesOf (now text)) ≤ length (now starts))))
+        × (((length (idsParents (linesOf (now text))) ≤ length (now up)) × (length (now up) < 2 ^ 32))
+        × (((length (now text) < length (now stack)) × ((length (now text) ≤ length (now cur)) × ((length (now text) ≤ length (now next)) × (length (now text) ≤ length (now clean)))))
+        × (length (unlines (rebuildCalls (leavesOf plain) (linesOf (now text)))) ≤ length (now out)))) ⌝ }
+    ensures answer { λ r. ⌜ Wrote (now (out .entry)) 0 (unlines (rebuildCalls (leavesOf plain) (linesOf (now (text .entry))))) (now (out .exit)) r ⌝ }
+    ensures owners { λ _. ⌜ Filled (now (owner .entry)) (ownersOf (rebuildCallsActs (leavesOf plain) (linesOf (now (text .entry))))) (now (owner .exit)) (length (linesOf (now (text .entry)))) ⌝ }
+    ensures tables { λ _. ⌜ (Filled (now (blocks .entry)) (blockIds (linesOf (now (text .entry)))) (now (blocks .exit)) (length (linesOf (now (text .entry)))))
+        × ((Filled (now (starts .entry)) (flagsOf (startsGo (cleaned (linesOf (now (text .entry)))) true)) (now (starts .exit)) (length (linesOf (now (text .entry)))))
+        × (Filled (now (up .entry)) (idsParents (linesOf (now (text .entry)))) (now (up .exit)) (length (idsParents (linesOf (now (text .entry))))))) ⌝ }
+    ensures scratch { λ _. ⌜ (Wrote (now (stack .entry)) 0 (replicate (length (now (text .entry)) + 1) 0) (now (stack .exit)) (length (now (text .entry)) + 1))
+        × ((Wrote (now (cur .entry)) 0 (replicate (length (now (text .entry))) 0) (now (cur .exit)) (length (now (text .entry))))
+        × ((Wrote (now (next .entry)) 0 (replicate (length (now (text .entry))) 0) (now (next .exit)) (length (now (text .entry))))
+        × (Wrote (now (clean .entry)) 0 (replicate (length (now (text .entry))) 0) (now (clean .exit)) (length (now (text .entry)))))) ⌝ }
+{
+    let m = text.len();
+    let h = m + 1;
+    place::place_lines(text, blocks, starts, up);
+    rebuild_with(
+        text,
+        blocks,
+        starts,
+        owner,
+        &mut stack[..h],
+        &mut cur[..m],
+        &mut next[..m],
+        &mut clean[..m],
+        out,
+    )
 }
