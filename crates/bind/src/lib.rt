@@ -20,13 +20,13 @@ ghost use Rattle.bind.specs.Steps.{lineOf, belowOf, useRow, storesAt, bo
 
 // A line of the text and its region: the region begins at `top` and ends at `end`, the line goes from `from` to `to` and the one below
 // begins at `next`, and there are `row` lines above it.
-pub struct Site {
-    pub top: usize,
-    pub from: usize,
-    pub to: usize,
-    pub next: usize,
-    pub end: usize,
-    pub row: usize,
+struct Site {
+    top: usize,
+    from: usize,
+    to: usize,
+    next: usize,
+    end: usize,
+    row: usize,
 }
 
 // One more, where `b` says so, but no more than 2.
@@ -54,7 +54,6 @@ fn names_reg(t: &[u8], reg: names::Register) -> bool
 
 // How many of the pieces between the commas name a register, and `n` more; 2 stands for all above.
 fn count_pieces(body: &[u8], reg: names::Register, n: usize) -> usize
-    requires { ⌜ n ≤ 2 ⌝ }
     ensures { λ r. ⌜ r ≡ min (n + pieceCount (reg .0) (partsOf 44 (now (body .entry)))) 2 ⌝ }
 {
     let mut i = 0;
@@ -114,9 +113,9 @@ fn count_stores(text: &[u8], reg: names::Register, n: usize) -> usize
 }
 
 // The first line that uses a register: how many lines stand above it, and where it begins.
-pub struct First {
-    pub row: usize,
-    pub place: usize,
+struct First {
+    row: usize,
+    place: usize,
 }
 
 // The first line of a text that reads or stores a register, or its end.
