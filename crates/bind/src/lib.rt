@@ -15,6 +15,7 @@ ghost use Rattle.place.specs.Parents.{idsParents};
 ghost use Rattle.place.specs.Fill.{Filled, flagsOf};
 ghost use Rattle.decls.specs.Print.{kept, declText};
 ghost use Rattle.reading.specs.Reading.{plain};
+ghost use Rattle.reading.specs.Uses.{lineStores};
 ghost use Rattle.bind.specs.Bind.{spots, pieceCount, declCount, storeCount, promoted, bindDeclarators};
 ghost use Rattle.bind.specs.Steps.{lineOf, belowOf, useRow, storesAt, boundAt, markRow, passes, left, anyPass, noted, notedAll, otherText, siteText, siteMarks, bindMarks, Rows, Reach};
 
@@ -96,6 +97,17 @@ fn count_decls(text: &[u8], reg: names::Register, n: usize) -> usize
     m
 }
 
+// Whether a line stores a register.
+fn stores_reg(line: &[u8], reg: names::Register) -> bool
+    ensures { λ r. ⌜ r ≡ lineStores (reg .0) (now (line .entry)) ⌝ }
+{
+    match parse::parse(line) {
+        parse::Line::Decl => false,
+        parse::Line::Store(s) => s.reg.0 == reg.0,
+        parse::Line::Other => false,
+    }
+}
+
 // How often the lines of a text store a register, and `n` more; 2 stands for all above.
 fn count_stores(text: &[u8], reg: names::Register, n: usize) -> usize
     requires { ⌜ n ≤ 2 ⌝ }
@@ -105,8 +117,8 @@ fn count_stores(text: &[u8], reg: names::Register, n: usize) -> usize
     let mut m = n;
     while i < text.len() {
         let e = lines::find_byte(text, i, 10);
-        let u = reading::use_of(lines::cut(text, i, e), reg);
-        m = one_more(m, u.stores);
+        let s = stores_reg(lines::cut(text, i, e), reg);
+        m = one_more(m, s);
         i = lines::after(text, e);
     }
     m
@@ -171,8 +183,7 @@ fn store_first(
         return false;
     }
     let e = lines::find_byte(below, f.place, 10);
-    let u = reading::use_of(lines::cut(below, f.place, e), reg);
-    if !u.stores {
+    if !stores_reg(lines::cut(below, f.place, e), reg) {
         return false;
     }
     let k = row + (f.row + 1);

@@ -25,8 +25,8 @@ find-byte-requires c κs = search needs
 cut-requires : tie.Need-cut-requires Inv-loop μ-loop
 cut-requires c κs = search needs
 
-use-of-requires : tie.Need-use-of-requires Inv-loop μ-loop
-use-of-requires c κs = search needs
+stores-reg-requires : tie.Need-stores-reg-requires Inv-loop μ-loop
+stores-reg-requires c κs = search needs
 
 one-more-requires : tie.Need-one-more-requires Inv-loop μ-loop
 one-more-requires c κs = search needs
@@ -39,8 +39,8 @@ loop-less c = omega (arith, c .after .ensures, c .before .before .before .before
 
 loop-again : tie.Need-loop-again Inv-loop μ-loop
 loop-again c = let f = c .before .before .before .before .find-byte in
-    let u = c .before .before .use-of in
-    (omega (arith, c .before .one-more .ensures), (omega (arith, c .after .ensures), omega (arith, c .before .one-more .ensures, stores-on (c .before .before .before .before .before .before .before .before .args .reg .0) (c .before .before .before .before .before .before .before .before .args .text .now) (c .before .before .before .before .before .before .loop .i) (f .result) (c .after .result) (c .before .before .before .before .before .loop-test .taken) (f .ensures) (c .after .ensures) (c .before .before .before .cut .result .now) (c .before .before .before .cut .ensures) (u .result .stores) (u .ensures .1), c .before .before .before .before .before .before .loop .inv .1 .1)))
+    let u = c .before .before .stores-reg in
+    (omega (arith, c .before .one-more .ensures), (omega (arith, c .after .ensures), omega (arith, c .before .one-more .ensures, stores-on (c .before .before .before .before .before .before .before .before .args .reg .0) (c .before .before .before .before .before .before .before .before .args .text .now) (c .before .before .before .before .before .before .loop .i) (f .result) (c .after .result) (c .before .before .before .before .before .loop-test .taken) (f .ensures) (c .after .ensures) (c .before .before .before .cut .result .now) (c .before .before .before .cut .ensures) (u .result) (u .ensures), c .before .before .before .before .before .before .loop .inv .1 .1)))
 
 returns : tie.Need-returns Inv-loop μ-loop
 returns c = omega (arith, c .before .loop .inv .0, stores-end (c .before .before .before .args .reg .0) (c .before .before .before .args .text .now) (c .before .loop .i) (c .loop-test .left), c .before .loop .inv .1 .1)
@@ -54,7 +54,7 @@ count-stores-spec =
     loop-holds
     find-byte-requires
     cut-requires
-    use-of-requires
+    stores-reg-requires
     one-more-requires
     after-requires
     loop-less
