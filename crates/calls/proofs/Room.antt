@@ -125,15 +125,7 @@ put-is R cur v value next q = go (contextOf cur v) q
     go newed k = put-by cur v value next true k
     go operand k = put-by cur v value next false k
 
--- ---- weight
-
-paren-weight : (v : List ℕ) (b : Bool) → weight (parenIfNeeded v b) ≤ weight v + 2
-unfolding parenIfNeeded weight spaced extra
-paren-weight v b = go (bare v b)
-  where
-    go : (t : Bool) → weight (cond t v (40 ∷ v ++ 41 ∷ [])) ≤ weight v + 2
-    go true = omega arith
-    go false = let r = weight-append v (41 ∷ []) in omega arith
+-- ---- weight: H is what each `{` weighs more than another byte
 
 glued-is : (before rep after : List ℕ) → glued before rep after ≡ bracketed (glueLeft before rep || glueRight rep after) rep
 unfolding glued
@@ -157,47 +149,56 @@ not-spaced : (v : ℕ) → spaced (regText v) ≡ false
 unfolding spaced
 not-spaced v = refl
 
-put-weight : (cur : List ℕ) (v : ℕ) (value next : List ℕ) → Put cur v value next → weight next ≤ weight cur + weight value + 2
-unfolding replacedAt
-put-weight cur v value next p =
-    let w : Span = p .span in
-    let rep : List ℕ = parenIfNeeded value (p .after) in
-    let g : Bool = glueLeft (take (w .from) cur) rep || glueRight rep (drop (w .to) cur) in
-    let a : next ≡ take (w .from) cur ++ (bracketed g rep ++ drop (w .to) cur) =
-    p .is
-    ∙ append-assoc (take (w .from) cur) (glued (take (w .from) cur) rep (drop (w .to) cur)) (drop (w .to) cur)
-    ∙ ap (λ (x : List ℕ). take (w .from) cur ++ (x ++ drop (w .to) cur)) (glued-is (take (w .from) cur) rep (drop (w .to) cur)) in
-    let s = hit-stands v cur w (p .found) in
-    let m = absorb-le g (take (w .from) cur) (regText v) rep (drop (w .to) cur) (not-spaced v) (omega (arith, decimal-long v)) in
-    omega (arith, ap weight a, m, sym (ap weight (around cur v w s)), paren-weight value (p .after))
+module _ (H : ℕ) where
+  paren-weight : (v : List ℕ) (b : Bool) → weight H (parenIfNeeded v b) ≤ weight H v + 2
+  unfolding parenIfNeeded weight spaced extra
+  paren-weight v b = go (bare v b)
+    where
+      go : (t : Bool) → weight H (cond t v (40 ∷ v ++ 41 ∷ [])) ≤ weight H v + 2
+      go true = omega arith
+      go false = let r = weight-append H v (41 ∷ []) in omega arith
 
-value-weight : (t : List ℕ) (v : ℕ) (value : List ℕ) → Valued t v value → weight value + 1 ≤ weight t
-value-weight t v value h =
-    let s : Store = h .place in
-    let p = parse-place t s (h .reads) in
-    let k = value-after t s (h .reads) in
-    omega (arith, weight-part (s .from) (s .to) t (omega (arith, p .0, p .1)), ap weight (h .text))
+  put-weight : (cur : List ℕ) (v : ℕ) (value next : List ℕ) → Put cur v value next → weight H next ≤ weight H cur + weight H value + 2
+  unfolding replacedAt
+  put-weight cur v value next p =
+      let w : Span = p .span in
+      let rep : List ℕ = parenIfNeeded value (p .after) in
+      let g : Bool = glueLeft (take (w .from) cur) rep || glueRight rep (drop (w .to) cur) in
+      let a : next ≡ take (w .from) cur ++ (bracketed g rep ++ drop (w .to) cur) =
+      p .is
+      ∙ append-assoc (take (w .from) cur) (glued (take (w .from) cur) rep (drop (w .to) cur)) (drop (w .to) cur)
+      ∙ ap (λ (x : List ℕ). take (w .from) cur ++ (x ++ drop (w .to) cur)) (glued-is (take (w .from) cur) rep (drop (w .to) cur)) in
+      let s = hit-stands v cur w (p .found) in
+      let m = absorb-le H g (take (w .from) cur) (regText v) rep (drop (w .to) cur) (not-spaced v) (omega (arith, decimal-long v)) in
+      omega (arith, ap (weight H) a, m, sym (ap (weight H) (around cur v w s)), paren-weight value (p .after))
 
--- a line and its LF
-abbrev weighed : List ℕ → ℕ
-weighed l = weight l + 1
+  value-weight : (t : List ℕ) (v : ℕ) (value : List ℕ) → Valued t v value → weight H value + 1 ≤ weight H t
+  value-weight t v value h =
+      let s : Store = h .place in
+      let p = parse-place t s (h .reads) in
+      let k = value-after t s (h .reads) in
+      omega (arith, weight-part H (s .from) (s .to) t (omega (arith, p .0, p .1)), ap (weight H) (h .text))
 
-weighs-lines : (ls : List (List ℕ)) → weighs weighed ls ≡ weight (unlines ls)
-unfolding weighs
-weighs-lines [] = sym nothing
-weighs-lines (l ∷ ls) = omega (arith, weighs-lines ls, weight-line l ls)
+  -- a line and its LF
+  abbrev weighed : List ℕ → ℕ
+  weighed l = weight H l + 1
 
--- no weight is raised
-pub calls-weight : (R : Reading) (ls : List (List ℕ)) → weight (unlines (rebuildCalls (leavesOf R) ls)) ≤ weight (unlines ls)
-calls-weight R ls =
-    let h = rebuilt-weight (leavesOf R) weighed fits ls in
-    omega (arith, h, weighs-lines ls, weighs-lines (rebuildCalls (leavesOf R) ls))
-  where
-    fits : (cur t : List ℕ) (v : ℕ) (value next : List ℕ) → parsedOf t ≡ store v value → putBy (leavesOf R) (contextOf cur v) cur v value ≡ absorb next → weighed next ≤ weighed cur + weighed t
-    fits cur t v value next p q =
-        let a = put-weight cur v value next (put-is R cur v value next q) in
-        let b = value-weight t v value (valued t v value p) in
-        omega arith
+  weighs-lines : (ls : List (List ℕ)) → weighs weighed ls ≡ weight H (unlines ls)
+  unfolding weighs
+  weighs-lines [] = sym (nothing H)
+  weighs-lines (l ∷ ls) = omega (arith, weighs-lines ls, weight-line H l ls)
+
+  -- no weight is raised
+  pub calls-weight : (R : Reading) (ls : List (List ℕ)) → weight H (unlines (rebuildCalls (leavesOf R) ls)) ≤ weight H (unlines ls)
+  calls-weight R ls =
+      let h = rebuilt-weight (leavesOf R) weighed fits ls in
+      omega (arith, h, weighs-lines ls, weighs-lines (rebuildCalls (leavesOf R) ls))
+    where
+      fits : (cur t : List ℕ) (v : ℕ) (value next : List ℕ) → parsedOf t ≡ store v value → putBy (leavesOf R) (contextOf cur v) cur v value ≡ absorb next → weighed next ≤ weighed cur + weighed t
+      fits cur t v value next p q =
+          let a = put-weight cur v value next (put-is R cur v value next q) in
+          let b = value-weight t v value (valued t v value p) in
+          omega arith
 
 -- ---- length
 

@@ -41,20 +41,20 @@ temps-noLf R ls h = apply-noLf (tempActs R ls ls) ls (acts-noLf R ls ls) h
 pub temps-lines : (R : Reading) (t : List ℕ) → linesOf (unlines (pruneDeadTemps R (linesOf t))) ≡ pruneDeadTemps R (linesOf t)
 temps-lines R t = lines-unlines (pruneDeadTemps R (linesOf t)) (temps-noLf R (linesOf t) (lines-noLf t))
 
--- ---- the weight is not raised
+-- ---- the weight is not raised, whatever a `{` weighs
 
-acts-fit : (R : Reading) (ls ms : List (List ℕ)) → Fits [] (tempActs R ls ms) ms
+acts-fit : (H : ℕ) (R : Reading) (ls ms : List (List ℕ)) → Fits H [] (tempActs R ls ms) ms
 unfolding tempActs
-acts-fit R ls [] = ended
-acts-fit R ls (m ∷ ms) = rw (temp-act R ls m) (go (tempGoes R ls m) (acts-fit R ls ms))
+acts-fit H R ls [] = ended
+acts-fit H R ls (m ∷ ms) = rw (temp-act R ls m) (go (tempGoes R ls m) (acts-fit H R ls ms))
   where
-    go : (b : Bool) → Fits [] (tempActs R ls ms) ms → Fits [] (cond b gone keep ∷ tempActs R ls ms) (m ∷ ms)
+    go : (b : Bool) → Fits H [] (tempActs R ls ms) ms → Fits H [] (cond b gone keep ∷ tempActs R ls ms) (m ∷ ms)
     go true f = dropped f
     go false f = kept f
 
-pub temps-weight : (R : Reading) (ls : List (List ℕ)) → weight (unlines (pruneDeadTemps R ls)) ≤ weight (unlines ls)
+pub temps-weight : (H : ℕ) (R : Reading) (ls : List (List ℕ)) → weight H (unlines (pruneDeadTemps R ls)) ≤ weight H (unlines ls)
 unfolding pruneDeadTemps pruneDeadTempsActs
-temps-weight R ls = fits-weight (acts-fit R ls ls)
+temps-weight H R ls = fits-weight (acts-fit H R ls ls)
 
 -- ---- nothing is lost unsaid
 
