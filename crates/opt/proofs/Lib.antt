@@ -1,2 +1,4 @@
 pub mod Tame
 pub mod ChainLaws
+pub mod WorkLaws
+pub mod EntryLaws

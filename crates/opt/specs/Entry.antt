@@ -36,13 +36,16 @@ abbrev pub byCrowd : crowd.Crowded → Answer → Answer
 byCrowd crowd-is.Nowhere fine = fine
 byCrowd (crowd-is.At n) fine = Crowded n
 
+-- by its lines
+unfoldable pub checkedLines : List ℕ → Answer → Answer
+checkedLines t fine = cond (ltb 1024 (length (splitLines t))) TooManyLines (byCrowd (overFrom 64 91 0 (splitLines t)) fine)
+
 unfoldable pub checked : Bool → List ℕ → Answer → Answer
+unfolding checkedLines
 checked short t fine =
     cond (ltb 16384 (length t)) TooLong
     (cond short ShortWork
-    (byUtf8 (utf8Of t)
-    (cond (ltb 1024 (length (splitLines t))) TooManyLines
-    (byCrowd (overFrom 64 91 0 (splitLines t)) fine))))
+    (byUtf8 (utf8Of t) (checkedLines t fine)))
 
 -- the result is n bytes long, and the result buffer `room`
 abbrev pub roomed : ℕ → ℕ → Answer

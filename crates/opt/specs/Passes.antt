@@ -24,6 +24,10 @@ unfolding stepOf
 stepsOf R k zero ls = ls
 stepsOf R k (suc n) ls = stepsOf R (suc k) n (stepOf R k ls)
 
+-- the removal, and the six passes in their order
+unfoldable pub whole : Reading → List (List ℕ) → List (List ℕ)
+whole R ls = pruneDecls (pruneDeadTemps R (removeGlobals ls))
+
 -- the text that some lines of it become
 unfoldable pub resultOf : (List (List ℕ) → List (List ℕ)) → List ℕ → List ℕ
 resultOf f t = joined (endsIn 10 t) (f (splitLines t))

@@ -10,9 +10,13 @@ ghost use Rattle.lines.specs.Steps.{splitLines, joined};
 ghost use Rattle.reading.specs.Reading.{plain};
 ghost use Rattle.opt.specs.declared.Answer.the-variants.{Done};
 ghost use Rattle.opt.specs.Answer.{isDone};
-ghost use Rattle.opt.specs.Passes.{stepOf, stepsOf, resultOf};
-ghost use Rattle.opt.specs.Entry.{byteSize, blockSize, isShort, checked, roomed, answerOf, passAnswer, blank, workAfter, outAfter};
-ghost use Rattle.opt.specs.Room.{Room, Sized, Front};
+ghost use Rattle.opt.specs.Passes.{stepOf, stepsOf, whole, resultOf};
+ghost use Rattle.opt.specs.Entry.{byteSize, blockSize, isShort, checkedLines, checked, roomed, answerOf, passAnswer, blank, workAfter, outAfter};
+ghost use Rattle.opt.specs.Room.{Room, Sized, Long, Blank, Wiped, After, Front};
+
+// How many bytes of each work buffer are used, and how many numbers.
+const BYTES: usize = 32769;
+const BLOCKS: usize = 16384;
 
 // What an entry answers: the length of the result, or why there is none.
 pub enum Answer {
@@ -91,4 +95,242 @@ fn chain(
         j += 1;
     }
     n
+}
+
+// Makes every byte of a buffer 0.
+fn wipe(s: &mut [u8])
+    ensures { λ _. ⌜ now (s .exit) ≡ blank (length (now (s .entry))) ⌝ }
+{
+    let mut i = 0;
+    while i < s.len() {
+        s[i] = 0;
+        i += 1;
+    }
+}
+
+// Makes every number of a buffer 0.
+fn wipe_numbers(s: &mut [u32])
+    ensures { λ _. ⌜ now (s .exit) ≡ blank (length (now (s .entry))) ⌝ }
+{
+    let mut i = 0;
+    while i < s.len() {
+        s[i] = 0;
+        i += 1;
+    }
+}
+
+// Makes every work buffer 0.
+fn wipe_all(
+    a: &mut [u8],
+    b: &mut [u8],
+    c: &mut [u8],
+    d: &mut [u8],
+    e: &mut [u8],
+    u: &mut [u32],
+)
+    requires { ⌜ (length (now a) ≡ byteSize) × Sized (now b) (now c) (now d) (now e) (now u) ⌝ }
+    ensures { λ _. ⌜ Blank (now (a .exit)) (now (b .exit)) (now (c .exit)) (now (d .exit)) (now (e .exit)) (now (u .exit)) ⌝ }
+{
+    wipe(a);
+    wipe(b);
+    wipe(c);
+    wipe(d);
+    wipe(e);
+    wipe_numbers(u);
+}
+
+// Joins the lines of `lf` into the result buffer, where it is long enough.
+fn finish(lf: &[u8], ended: bool, out: &mut [u8]) -> Answer
+    ensures answer { λ r. ⌜ r ≡ roomed (length (joined ended (linesOf (now (lf .entry))))) (length (now (out .entry))) ⌝ }
+    ensures memory { λ r. ⌜ now (out .exit) ≡ outAfter r (joined ended (linesOf (now (lf .entry)))) (now (out .entry)) ⌝ }
+{
+    let n = lines::joined_len(lf, ended);
+    if out.len() < n {
+        return Answer::ShortResult(n);
+    }
+    let m = lines::join_lines(lf, ended, out);
+    Answer::Done(m)
+}
+
+// Runs the passes from `k` up to `to` over a text, in work buffers of the stated sizes, and leaves these 0.
+fn work(
+    k: usize,
+    to: usize,
+    text: &[u8],
+    a: &mut [u8],
+    b: &mut [u8],
+    c: &mut [u8],
+    d: &mut [u8],
+    e: &mut [u8],
+    u: &mut [u32],
+    out: &mut [u8],
+) -> Answer
+    requires { ⌜ (length (now text) ≤ 16384) × ((length (splitLines (now text)) ≤ 1024) × ((length (now a) ≡ byteSize) × Sized (now b) (now c) (now d) (now e) (now u))) ⌝ }
+    ensures answer { λ r. ⌜ r ≡ roomed (length (resultOf (stepsOf plain k (to - k)) (now (text .entry)))) (length (now (out .entry))) ⌝ }
+    ensures memory { λ r. ⌜ (now (out .exit) ≡ outAfter r (resultOf (stepsOf plain k (to - k)) (now (text .entry))) (now (out .entry)))
+        × Blank (now (a .exit)) (now (b .exit)) (now (c .exit)) (now (d .exit)) (now (e .exit)) (now (u .exit)) ⌝ }
+{
+    let n = chain(k, to, text, a, b, c, d, e, u);
+    let ended = lines::ends_lf(text);
+    let r = finish(&a[..n], ended, out);
+    wipe_all(a, b, c, d, e, u);
+    r
+}
+
+// The same over the front of longer work buffers.
+fn run(
+    k: usize,
+    to: usize,
+    text: &[u8],
+    a: &mut [u8],
+    b: &mut [u8],
+    c: &mut [u8],
+    d: &mut [u8],
+    e: &mut [u8],
+    u: &mut [u32],
+    out: &mut [u8],
+) -> Answer
+    requires { ⌜ (length (now text) ≤ 16384) × ((length (splitLines (now text)) ≤ 1024) × Long (now a) (now b) (now c) (now d) (now e) (now u)) ⌝ }
+    ensures answer { λ r. ⌜ r ≡ roomed (length (resultOf (stepsOf plain k (to - k)) (now (text .entry)))) (length (now (out .entry))) ⌝ }
+    ensures memory { λ r. ⌜ (now (out .exit) ≡ outAfter r (resultOf (stepsOf plain k (to - k)) (now (text .entry))) (now (out .entry)))
+        × Wiped (now (a .entry)) (now (b .entry)) (now (c .entry)) (now (d .entry)) (now (e .entry)) (now (u .entry)) (now (a .exit)) (now (b .exit)) (now (c .exit)) (now (d .exit)) (now (e .exit)) (now (u .exit)) ⌝ }
+{
+    let n = BYTES;
+    let m = BLOCKS;
+    work(k, to, text, &mut a[..n], &mut b[..n], &mut c[..n], &mut d[..n], &mut e[..n], &mut u[..m], out)
+}
+
+// Whether one of six work buffers, of these lengths, is shorter than its stated size.
+fn too_short(a: usize, b: usize, c: usize, d: usize, e: usize, u: usize) -> bool
+    ensures { λ r. ⌜ r ≡ isShort a b c d e u ⌝ }
+{
+    if a < BYTES {
+        return true;
+    }
+    if b < BYTES {
+        return true;
+    }
+    if c < BYTES {
+        return true;
+    }
+    if d < BYTES {
+        return true;
+    }
+    if e < BYTES {
+        return true;
+    }
+    u < BLOCKS
+}
+
+// Why a text is refused by its lines, or `Done` where it is not.
+fn refused_lines(text: &[u8]) -> Answer
+    ensures { λ r. ⌜ r ≡ checkedLines (now (text .entry)) (Done 0) ⌝ }
+{
+    if lines::count_lines(text) > 1024 {
+        return Answer::TooManyLines;
+    }
+    match lines::crowded_line(text, 64) {
+        lines::Crowded::At(n) => Answer::Crowded(n),
+        lines::Crowded::Nowhere => Answer::Done(0),
+    }
+}
+
+// Why a text is refused, or `Done` where it is not. The checks stand in their order.
+fn refused(text: &[u8], short: bool) -> Answer
+    ensures { λ r. ⌜ r ≡ checked short (now (text .entry)) (Done 0) ⌝ }
+{
+    if text.len() > 16384 {
+        return Answer::TooLong;
+    }
+    if short {
+        return Answer::ShortWork;
+    }
+    match text::check_utf8(text) {
+        text::Utf8::Bad(i) => Answer::NotUtf8(i),
+        text::Utf8::Valid => refused_lines(text),
+    }
+}
+
+// Whether an answer is `Done`.
+fn is_done(r: Answer) -> bool
+    ensures { λ b. ⌜ b ≡ isDone r ⌝ }
+{
+    match r {
+        Answer::Done(n) => true,
+        Answer::BadPass => false,
+        Answer::TooLong => false,
+        Answer::ShortWork => false,
+        Answer::NotUtf8(i) => false,
+        Answer::TooManyLines => false,
+        Answer::Crowded(n) => false,
+        Answer::ShortResult(n) => false,
+    }
+}
+
+// Checks a text, and runs the passes from `k` up to `to` over it.
+fn tidy(
+    k: usize,
+    to: usize,
+    text: &[u8],
+    a: &mut [u8],
+    b: &mut [u8],
+    c: &mut [u8],
+    d: &mut [u8],
+    e: &mut [u8],
+    u: &mut [u32],
+    out: &mut [u8],
+) -> Answer
+    ensures answer { λ r. ⌜ r ≡ answerOf (isShort (length (now (a .entry))) (length (now (b .entry))) (length (now (c .entry))) (length (now (d .entry))) (length (now (e .entry))) (length (now (u .entry)))) (now (text .entry)) (resultOf (stepsOf plain k (to - k)) (now (text .entry))) (length (now (out .entry))) ⌝ }
+    ensures memory { λ r. ⌜ (now (out .exit) ≡ outAfter r (resultOf (stepsOf plain k (to - k)) (now (text .entry))) (now (out .entry)))
+        × After r (now (a .entry)) (now (b .entry)) (now (c .entry)) (now (d .entry)) (now (e .entry)) (now (u .entry)) (now (a .exit)) (now (b .exit)) (now (c .exit)) (now (d .exit)) (now (e .exit)) (now (u .exit)) ⌝ }
+{
+    let short = too_short(a.len(), b.len(), c.len(), d.len(), e.len(), u.len());
+    let r = refused(text, short);
+    if !is_done(r) {
+        return r;
+    }
+    run(k, to, text, a, b, c, d, e, u, out)
+}
+
+// Removes the lines that declare globals from a text, runs the six passes over it, and writes the result.
+pub fn optimize(
+    text: &[u8],
+    a: &mut [u8],
+    b: &mut [u8],
+    c: &mut [u8],
+    d: &mut [u8],
+    e: &mut [u8],
+    u: &mut [u32],
+    out: &mut [u8],
+) -> Answer
+    ensures answer { λ r. ⌜ r ≡ answerOf (isShort (length (now (a .entry))) (length (now (b .entry))) (length (now (c .entry))) (length (now (d .entry))) (length (now (e .entry))) (length (now (u .entry)))) (now (text .entry)) (resultOf (whole plain) (now (text .entry))) (length (now (out .entry))) ⌝ }
+    ensures memory { λ r. ⌜ (now (out .exit) ≡ outAfter r (resultOf (whole plain) (now (text .entry))) (now (out .entry)))
+        × After r (now (a .entry)) (now (b .entry)) (now (c .entry)) (now (d .entry)) (now (e .entry)) (now (u .entry)) (now (a .exit)) (now (b .exit)) (now (c .exit)) (now (d .exit)) (now (e .exit)) (now (u .exit)) ⌝ }
+{
+    tidy(0, 7, text, a, b, c, d, e, u, out)
+}
+
+// Runs one pass over a text, by its number from 1 to 6, and writes the result.
+pub fn run_pass(
+    pass: usize,
+    text: &[u8],
+    a: &mut [u8],
+    b: &mut [u8],
+    c: &mut [u8],
+    d: &mut [u8],
+    e: &mut [u8],
+    u: &mut [u32],
+    out: &mut [u8],
+) -> Answer
+    ensures answer { λ r. ⌜ r ≡ passAnswer pass (isShort (length (now (a .entry))) (length (now (b .entry))) (length (now (c .entry))) (length (now (d .entry))) (length (now (e .entry))) (length (now (u .entry)))) (now (text .entry)) (resultOf (stepOf plain pass) (now (text .entry))) (length (now (out .entry))) ⌝ }
+    ensures memory { λ r. ⌜ (now (out .exit) ≡ outAfter r (resultOf (stepOf plain pass) (now (text .entry))) (now (out .entry)))
+        × After r (now (a .entry)) (now (b .entry)) (now (c .entry)) (now (d .entry)) (now (e .entry)) (now (u .entry)) (now (a .exit)) (now (b .exit)) (now (c .exit)) (now (d .exit)) (now (e .exit)) (now (u .exit)) ⌝ }
+{
+    if pass < 1 {
+        return Answer::BadPass;
+    }
+    if pass > 6 {
+        return Answer::BadPass;
+    }
+    tidy(pass, pass + 1, text, a, b, c, d, e, u, out)
 }
