@@ -1,1 +1,4 @@
+pub mod CountLaws
+pub mod SiteLaws
+pub mod WalkLaws
 pub mod Examples

@@ -1,1 +1,438 @@
-// bind_declarators: its definition.
+// bind_declarators: a register that is declared and stored once leaves its declaration, and its store becomes one.
+ghost use mathlib.Core.Path.{_≡_};
+ghost use mathlib.Core.Bool.{true, false, cond, _&&_};
+ghost use mathlib.Core.List.{[], _∷_, _++_};
+ghost use Prim.Native.Nat.{suc, min, _≤_, _<_, _+_, _^_};
+ghost use lib.Dec.{eqb};
+ghost use lib.ListN.{length, getD, take, drop, replicate};
+ghost use Rattle.lines.specs.Lf.{linesOf, partsOf, unlines};
+ghost use Rattle.lines.specs.Out.{Wrote};
+ghost use Rattle.names.specs.Names.{regOf, regIs};
+ghost use Rattle.parse.specs.Parse.{bodyOf, isDecl};
+ghost use Rattle.place.specs.Blocks.{blockIds, cleaned};
+ghost use Rattle.place.specs.Starts.{startsGo};
+ghost use Rattle.place.specs.Parents.{idsParents};
+ghost use Rattle.place.specs.Fill.{Filled, flagsOf};
+ghost use Rattle.decls.specs.Print.{kept, declText};
+ghost use Rattle.reading.specs.Reading.{plain};
+ghost use Rattle.bind.specs.Bind.{spots, pieceCount, declCount, storeCount, promoted, bindDeclarators};
+ghost use Rattle.bind.specs.Steps.{lineOf, belowOf, useRow, storesAt, boundAt, markRow, passes, left, anyPass, noted, notedAll, otherText, siteText, siteMarks, bindMarks, Rows, Reach};
+
+// A line of the text and its region: the region begins at `top` and ends at `end`, the line goes from `from` to `to` and the one below
+// begins at `next`, and there are `row` lines above it.
+pub struct Site {
+    pub top: usize,
+    pub from: usize,
+    pub to: usize,
+    pub next: usize,
+    pub end: usize,
+    pub row: usize,
+}
+
+// One more, where `b` says so, but no more than 2.
+fn one_more(n: usize, b: bool) -> usize
+    ensures { λ r. ⌜ r ≡ min (n + cond b 1 0) 2 ⌝ }
+{
+    if n >= 2 {
+        return 2;
+    }
+    if b {
+        return n + 1;
+    }
+    n
+}
+
+// Whether a text names a register.
+fn names_reg(t: &[u8], reg: names::Register) -> bool
+    ensures { λ r. ⌜ r ≡ regIs (reg .0) (regOf (now (t .entry))) ⌝ }
+{
+    match names::reg_name(t) {
+        names::RegName::Reg(q) => q.0 == reg.0,
+        names::RegName::None => false,
+    }
+}
+
+// How many of the pieces between the commas name a register, and `n` more; 2 stands for all above.
+fn count_pieces(body: &[u8], reg: names::Register, n: usize) -> usize
+    requires { ⌜ n ≤ 2 ⌝ }
+    ensures { λ r. ⌜ r ≡ min (n + pieceCount (reg .0) (partsOf 44 (now (body .entry)))) 2 ⌝ }
+{
+    let mut i = 0;
+    let mut m = n;
+    loop {
+        let e = lines::find_byte(body, i, b',');
+        let s = names_reg(text::trim(lines::cut(body, i, e)), reg);
+        m = one_more(m, s);
+        if e >= body.len() {
+            return m;
+        }
+        i = e + 1;
+    }
+}
+
+// How often a line declares a register, and `n` more; 2 stands for all above.
+fn line_decls(line: &[u8], reg: names::Register, n: usize) -> usize
+    requires { ⌜ n ≤ 2 ⌝ }
+    ensures { λ r. ⌜ r ≡ min (n + declCount (reg .0) (now (line .entry) ∷ [])) 2 ⌝ }
+{
+    let t = text::trim(line);
+    if parse::is_decl(t) {
+        return count_pieces(&t[4..t.len() - 1], reg, n);
+    }
+    n
+}
+
+// The same of the lines of a text.
+fn count_decls(text: &[u8], reg: names::Register, n: usize) -> usize
+    requires { ⌜ n ≤ 2 ⌝ }
+    ensures { λ r. ⌜ r ≡ min (n + declCount (reg .0) (linesOf (now (text .entry)))) 2 ⌝ }
+{
+    let mut i = 0;
+    let mut m = n;
+    while i < text.len() {
+        let e = lines::find_byte(text, i, 10);
+        m = line_decls(lines::cut(text, i, e), reg, m);
+        i = lines::after(text, e);
+    }
+    m
+}
+
+// How often the lines of a text store a register, and `n` more; 2 stands for all above.
+fn count_stores(text: &[u8], reg: names::Register, n: usize) -> usize
+    requires { ⌜ n ≤ 2 ⌝ }
+    ensures { λ r. ⌜ r ≡ min (n + storeCount (reg .0) (linesOf (now (text .entry)))) 2 ⌝ }
+{
+    let mut i = 0;
+    let mut m = n;
+    while i < text.len() {
+        let e = lines::find_byte(text, i, 10);
+        let u = reading::use_of(lines::cut(text, i, e), reg);
+        m = one_more(m, u.stores);
+        i = lines::after(text, e);
+    }
+    m
+}
+
+// The first line that uses a register: how many lines stand above it, and where it begins.
+pub struct First {
+    pub row: usize,
+    pub place: usize,
+}
+
+// The first line of a text that reads or stores a register, or its end.
+fn first_use(text: &[u8], reg: names::Register) -> First
+    ensures { λ r. ⌜ (r .row ≡ useRow (reg .0) (linesOf (now (text .entry))))
+        × (linesOf (drop (r .place) (now (text .entry))) ≡ drop (r .row) (linesOf (now (text .entry)))) ⌝ }
+{
+    let mut i = 0;
+    let mut k = 0;
+    while i < text.len() {
+        let e = lines::find_byte(text, i, 10);
+        if reading::line_uses(lines::cut(text, i, e), reg) {
+            return First { row: k, place: i };
+        }
+        k += 1;
+        i = lines::after(text, e);
+    }
+    First { row: k, place: i }
+}
+
+// Whether the lines above, a line, and those below declare a register once in all.
+fn declared_once(above: &[u8], line: &[u8], below: &[u8], reg: names::Register) -> bool
+    ensures { λ r. ⌜ r ≡ eqb (declCount (reg .0) (linesOf (now (above .entry))) + (declCount (reg .0) (now (line .entry) ∷ []) + declCount (reg .0) (linesOf (now (below .entry))))) 1 ⌝ }
+{
+    let a = count_decls(above, reg, 0);
+    let b = line_decls(line, reg, a);
+    let c = count_decls(below, reg, b);
+    c == 1
+}
+
+// Whether the lines above and those below store a register once in all.
+fn stored_once(above: &[u8], below: &[u8], reg: names::Register) -> bool
+    ensures { λ r. ⌜ r ≡ eqb (storeCount (reg .0) (linesOf (now (above .entry))) + storeCount (reg .0) (linesOf (now (below .entry)))) 1 ⌝ }
+{
+    let a = count_stores(above, reg, 0);
+    let b = count_stores(below, reg, a);
+    b == 1
+}
+
+// Whether the first use of a register below line `row` is a store of it, in that line's block, that starts a statement.
+fn store_first(below: &[u8], blocks: &[usize], starts: &[u8], row: usize, reg: names::Register) -> bool
+    requires { ⌜ (row + suc (length (linesOf (now below))) ≤ length (now blocks)) × (row + suc (length (linesOf (now below))) ≤ length (now starts)) ⌝ }
+    ensures { λ r. ⌜ r ≡ storesAt (reg .0) (linesOf (now (below .entry))) (now (blocks .entry)) (now (starts .entry)) row (useRow (reg .0) (linesOf (now (below .entry)))) ⌝ }
+{
+    let f = first_use(below, reg);
+    if f.place >= below.len() {
+        return false;
+    }
+    let e = lines::find_byte(below, f.place, 10);
+    let u = reading::use_of(lines::cut(below, f.place, e), reg);
+    if !u.stores {
+        return false;
+    }
+    let k = row + (f.row + 1);
+    if blocks[k] != blocks[row] {
+        return false;
+    }
+    starts[k] == 1
+}
+
+// Whether a register is bound that the line of a site declares: one declaration in the region and one store, no use above, and the
+// first use below is that store.
+fn bound(text: &[u8], s: Site, blocks: &[usize], starts: &[u8], reg: names::Register) -> bool
+    requires { ⌜ Reach (now text) s (now blocks) (now starts) ⌝ }
+    ensures { λ r. ⌜ r ≡ boundAt (now (text .entry)) s (now (blocks .entry)) (now (starts .entry)) (reg .0) ⌝ }
+{
+    let above = lines::cut(text, s.top, s.from);
+    let below = lines::cut(text, s.next, s.end);
+    if !declared_once(above, lines::cut(text, s.from, s.to), below, reg) {
+        return false;
+    }
+    if !stored_once(above, below, reg) {
+        return false;
+    }
+    if reading::uses(above, reg) {
+        return false;
+    }
+    store_first(below, blocks, starts, s.row, reg)
+}
+
+// Whether a text names a register that is bound.
+fn is_bound(text: &[u8], s: Site, blocks: &[usize], starts: &[u8], t: &[u8]) -> bool
+    requires { ⌜ Reach (now text) s (now blocks) (now starts) ⌝ }
+    ensures { λ r. ⌜ r ≡ passes (boundAt (now (text .entry)) s (now (blocks .entry)) (now (starts .entry))) (regOf (now (t .entry))) ⌝ }
+{
+    match names::reg_name(t) {
+        names::RegName::Reg(q) => bound(text, s, blocks, starts, q),
+        names::RegName::None => false,
+    }
+}
+
+// Whether a text names a register that is not bound.
+fn is_left(text: &[u8], s: Site, blocks: &[usize], starts: &[u8], t: &[u8]) -> bool
+    requires { ⌜ Reach (now text) s (now blocks) (now starts) ⌝ }
+    ensures { λ r. ⌜ r ≡ left (boundAt (now (text .entry)) s (now (blocks .entry)) (now (starts .entry))) (now (t .entry)) ⌝ }
+{
+    match names::reg_name(t) {
+        names::RegName::Reg(q) => !bound(text, s, blocks, starts, q),
+        names::RegName::None => false,
+    }
+}
+
+// Whether some piece of a declaration is bound.
+fn any_bound(body: &[u8], text: &[u8], s: Site, blocks: &[usize], starts: &[u8]) -> bool
+    requires { ⌜ Reach (now text) s (now blocks) (now starts) ⌝ }
+    ensures { λ r. ⌜ r ≡ anyPass (boundAt (now (text .entry)) s (now (blocks .entry)) (now (starts .entry))) (partsOf 44 (now (body .entry))) ⌝ }
+{
+    let mut i = 0;
+    loop {
+        let e = lines::find_byte(body, i, b',');
+        if is_bound(text, s, blocks, starts, text::trim(lines::cut(body, i, e))) {
+            return true;
+        }
+        if e >= body.len() {
+            return false;
+        }
+        i = e + 1;
+    }
+}
+
+// Marks the line of the store that becomes the declaration of a name, where the name is bound.
+fn mark_name(text: &[u8], s: Site, blocks: &[usize], starts: &[u8], t: &[u8], marks: &mut [u8])
+    requires { ⌜ (Reach (now text) s (now blocks) (now starts)) × (s .row + suc (length (belowOf (now text) s)) ≤ length (now marks)) ⌝ }
+    ensures { λ _. ⌜ now (marks .exit) ≡ noted (boundAt (now (text .entry)) s (now (blocks .entry)) (now (starts .entry))) (markRow (now (text .entry)) s) (regOf (now (t .entry))) (now (marks .entry)) ⌝ }
+{
+    match names::reg_name(t) {
+        names::RegName::Reg(q) => {
+            if !bound(text, s, blocks, starts, q) {
+                return;
+            }
+            let f = first_use(lines::cut(text, s.next, s.end), q);
+            let k = s.row + (f.row + 1);
+            marks[k] = 1;
+        }
+        names::RegName::None => {}
+    }
+}
+
+// The same for each piece of a declaration.
+fn mark_names(body: &[u8], text: &[u8], s: Site, blocks: &[usize], starts: &[u8], marks: &mut [u8])
+    requires { ⌜ (Reach (now text) s (now blocks) (now starts)) × (s .row + suc (length (belowOf (now text) s)) ≤ length (now marks)) ⌝ }
+    ensures { λ _. ⌜ now (marks .exit) ≡ notedAll (boundAt (now (text .entry)) s (now (blocks .entry)) (now (starts .entry))) (markRow (now (text .entry)) s) (partsOf 44 (now (body .entry))) (now (marks .entry)) ⌝ }
+{
+    let mut i = 0;
+    loop {
+        let e = lines::find_byte(body, i, b',');
+        mark_name(text, s, blocks, starts, text::trim(lines::cut(body, i, e)), marks);
+        if e >= body.len() {
+            return;
+        }
+        i = e + 1;
+    }
+}
+
+// Writes a declaration without the names that are bound, with its LF; nothing where none is left.
+fn put_decl(
+    body: &[u8],
+    indent: &[u8],
+    text: &[u8],
+    s: Site,
+    blocks: &[usize],
+    starts: &[u8],
+    out: &mut [u8],
+    o: usize,
+) -> usize
+    requires { ⌜ (Reach (now text) s (now blocks) (now starts))
+        × (o + length (declText (now indent) (kept (left (boundAt (now text) s (now blocks) (now starts))) 1 (partsOf 44 (now body))) false) ≤ length (now out)) ⌝ }
+    ensures { λ r. ⌜ Wrote (now (out .entry)) o (declText (now (indent .entry)) (kept (left (boundAt (now (text .entry)) s (now (blocks .entry)) (now (starts .entry)))) 1 (partsOf 44 (now (body .entry)))) false) (now (out .exit)) r ⌝ }
+{
+    let mut i = 0;
+    let mut p = o;
+    loop {
+        let e = lines::find_byte(body, i, b',');
+        let t = text::trim(lines::cut(body, i, e));
+        let l = is_left(text, s, blocks, starts, t);
+        p = decls::print::put_part(indent, o < p, l, t, 1, out, p);
+        if e >= body.len() {
+            return decls::print::put_end(o < p, out, p);
+        }
+        i = e + 1;
+    }
+}
+
+// Writes a store as a declaration: its indent, `let `, the rest of it, and an LF.
+fn put_promoted(line: &[u8], out: &mut [u8], o: usize) -> usize
+    requires { ⌜ o + length (promoted (now line) ++ 10 ∷ []) ≤ length (now out) ⌝ }
+    ensures { λ r. ⌜ Wrote (now (out .entry)) o (promoted (now (line .entry)) ++ 10 ∷ []) (now (out .exit)) r ⌝ }
+{
+    let a = text::trim_from(line);
+    let p = lines::put(out, o, lines::cut(line, 0, a));
+    let q = lines::put(out, p, b"let ");
+    let r = lines::put(out, q, lines::cut(line, a, line.len()));
+    lines::put_byte(out, r, 10)
+}
+
+// Writes a line that gives up no name: as a declaration where its mark `m` is 1, and else as it is.
+fn put_other(line: &[u8], m: u8, out: &mut [u8], o: usize) -> usize
+    requires { ⌜ o + length (otherText (now line) m) ≤ length (now out) ⌝ }
+    ensures { λ r. ⌜ Wrote (now (out .entry)) o (otherText (now (line .entry)) m) (now (out .exit)) r ⌝ }
+{
+    if m == 1 {
+        return put_promoted(line, out, o);
+    }
+    let p = lines::put(out, o, line);
+    lines::put_byte(out, p, 10)
+}
+
+// Whether a trimmed line is a declaration that gives up a name.
+fn gives_up(t: &[u8], text: &[u8], s: Site, blocks: &[usize], starts: &[u8]) -> bool
+    requires { ⌜ Reach (now text) s (now blocks) (now starts) ⌝ }
+    ensures { λ r. ⌜ r ≡ isDecl (now (t .entry)) && anyPass (boundAt (now (text .entry)) s (now (blocks .entry)) (now (starts .entry))) (partsOf 44 (bodyOf (now (t .entry)))) ⌝ }
+{
+    if !parse::is_decl(t) {
+        return false;
+    }
+    any_bound(lines::cut(t, 4, t.len() - 1), text, s, blocks, starts)
+}
+
+// Writes what the line of a site becomes, and marks the stores that take up the names which it gives up.
+fn bind_line(
+    text: &[u8],
+    s: Site,
+    blocks: &[usize],
+    starts: &[u8],
+    marks: &mut [u8],
+    out: &mut [u8],
+    o: usize,
+) -> usize
+    requires { ⌜ (Reach (now text) s (now blocks) (now starts))
+        × ((s .row + suc (length (belowOf (now text) s)) ≤ length (now marks))
+        × (o + length (siteText (boundAt (now text) s (now blocks) (now starts)) (lineOf (now text) s) (getD (now marks) (s .row) 0)) ≤ length (now out))) ⌝ }
+    ensures answer { λ r. ⌜ Wrote (now (out .entry)) o (siteText (boundAt (now (text .entry)) s (now (blocks .entry)) (now (starts .entry))) (lineOf (now (text .entry)) s) (getD (now (marks .entry)) (s .row) 0)) (now (out .exit)) r ⌝ }
+    ensures memory { λ _. ⌜ now (marks .exit) ≡ siteMarks (boundAt (now (text .entry)) s (now (blocks .entry)) (now (starts .entry))) (markRow (now (text .entry)) s) (lineOf (now (text .entry)) s) (now (marks .entry)) ⌝ }
+{
+    let line = lines::cut(text, s.from, s.to);
+    let t = text::trim(line);
+    if !gives_up(t, text, s, blocks, starts) {
+        let row = s.row;
+        return put_other(line, marks[row], out, o);
+    }
+    let body = lines::cut(t, 4, t.len() - 1);
+    mark_names(body, text, s, blocks, starts, marks);
+    let indent = lines::cut(line, 0, text::trim_from(line));
+    put_decl(body, indent, text, s, blocks, starts, out, o)
+}
+
+// Makes the first `n` entries 0.
+fn clear(marks: &mut [u8], n: usize)
+    requires { ⌜ n ≤ length (now marks) ⌝ }
+    ensures { λ _. ⌜ Filled (now (marks .entry)) (replicate n 0) (now (marks .exit)) n ⌝ }
+{
+    let mut k = 0;
+    while k < n {
+        marks[k] = 0;
+        k += 1;
+    }
+}
+
+// The walk down the lines, with the tables of blocks and starts, and with no line marked.
+fn walk(text: &[u8], blocks: &[usize], starts: &[u8], marks: &mut [u8], out: &mut [u8]) -> usize
+    requires { ⌜ (Rows (spots plain (linesOf (now text))) (now blocks) (now starts))
+        × ((length (linesOf (now text)) ≤ length (now marks))
+        × ((take (length (linesOf (now text))) (now marks) ≡ replicate (length (linesOf (now text))) 0)
+        × (length (unlines (bindDeclarators plain (linesOf (now text)))) ≤ length (now out)))) ⌝ }
+    ensures answer { λ r. ⌜ Wrote (now (out .entry)) 0 (unlines (bindDeclarators plain (linesOf (now (text .entry))))) (now (out .exit)) r ⌝ }
+    ensures memory { λ _. ⌜ Filled (now (marks .entry)) (flagsOf (bindMarks plain (linesOf (now (text .entry))))) (now (marks .exit)) (length (linesOf (now (text .entry)))) ⌝ }
+{
+    let mut top = 0;
+    let mut end = place::region_end(text, 0);
+    let mut i = 0;
+    let mut k = 0;
+    let mut o = 0;
+    while i < text.len() {
+        let e = lines::find_byte(text, i, 10);
+        if place::is_header(lines::cut(text, i, e)) {
+            top = i;
+            end = place::region_end(text, i);
+        }
+        let next = lines::after(text, e);
+        let s = Site {
+            top,
+            from: i,
+            to: e,
+            next,
+            end,
+            row: k,
+        };
+        o = bind_line(text, s, blocks, starts, marks, out, o);
+        i = next;
+        k += 1;
+    }
+    o
+}
+
+// A register that is declared once and stored once, with that store its first use, on a later line of its region and block that starts a
+// statement, leaves its declaration, and its store becomes one. Each line is followed by one LF. `blocks`, `starts` and `up` are left as
+// `place_lines` fills them, and `marks` says for each line whether it was such a store.
+pub fn bind_declarators(
+    text: &[u8],
+    blocks: &mut [usize],
+    starts: &mut [u8],
+    up: &mut [u32],
+    marks: &mut [u8],
+    out: &mut [u8],
+) -> usize
+    requires { ⌜ ((length (linesOf (now text)) ≤ length (now blocks))
+        × ((length (linesOf (now text)) ≤ length (now starts))
+        × ((length (idsParents (linesOf (now text))) ≤ length (now up)) × (length (now up) < 2 ^ 32))))
+        × ((length (linesOf (now text)) ≤ length (now marks)) × (length (unlines (bindDeclarators plain (linesOf (now text)))) ≤ length (now out))) ⌝ }
+    ensures answer { λ r. ⌜ Wrote (now (out .entry)) 0 (unlines (bindDeclarators plain (linesOf (now (text .entry))))) (now (out .exit)) r ⌝ }
+    ensures tables { λ _. ⌜ (Filled (now (blocks .entry)) (blockIds (linesOf (now (text .entry)))) (now (blocks .exit)) (length (linesOf (now (text .entry)))))
+        × ((Filled (now (starts .entry)) (flagsOf (startsGo (cleaned (linesOf (now (text .entry)))) true)) (now (starts .exit)) (length (linesOf (now (text .entry)))))
+        × (Filled (now (up .entry)) (idsParents (linesOf (now (text .entry)))) (now (up .exit)) (length (idsParents (linesOf (now (text .entry))))))) ⌝ }
+    ensures marked { λ _. ⌜ Filled (now (marks .entry)) (flagsOf (bindMarks plain (linesOf (now (text .entry))))) (now (marks .exit)) (length (linesOf (now (text .entry)))) ⌝ }
+{
+    let n = place::place_lines(text, blocks, starts, up);
+    clear(marks, n);
+    walk(text, blocks, starts, marks, out)
+}

@@ -1,4 +1,5 @@
 pub mod PrintLaws
+pub mod SeenLaws
 pub mod Writes
 pub mod Passes
 pub mod Keeps

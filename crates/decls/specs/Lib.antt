@@ -1,2 +1,3 @@
 pub mod Decls
 pub mod Print
+pub mod Seen

@@ -1,29 +1,43 @@
 // prune_decls: declarations keep the registers that their region reads or stores.
 pub mod print;
+mod seen;
 
 ghost use mathlib.Core.Path.{_≡_};
-ghost use mathlib.Core.Bool.{false};
+ghost use mathlib.Core.Bool.{true, false};
 ghost use Prim.Native.Nat.{_≤_, _+_};
 ghost use lib.ListN.{length};
 ghost use Rattle.lines.specs.Lf.{linesOf, partsOf, unlines};
 ghost use Rattle.lines.specs.Out.{Wrote};
+ghost use Rattle.text.specs.Trim.{trimOf};
 ghost use Rattle.names.specs.Names.{regOf};
+ghost use Rattle.parse.specs.Parse.{isDecl};
 ghost use Rattle.decls.specs.Decls.{staysBy, stays, lineText, pruneDecls};
 ghost use Rattle.decls.specs.Print.{kept, declText};
+ghost use Rattle.decls.specs.Seen.{AtMost, Says};
 
 // Whether a text names a register that some line of the region reads or stores.
-fn stays_in(region: &[u8], t: &[u8]) -> bool
+fn stays_in(region: &[u8], m: usize, seen: &[usize], t: &[u8]) -> bool
+    requires { ⌜ Says m (linesOf (now region)) (now seen) ⌝ }
     ensures { λ r. ⌜ r ≡ staysBy (linesOf (now (region .entry))) (regOf (now (t .entry))) ⌝ }
 {
     match names::reg_name(t) {
-        names::RegName::Reg(q) => reading::uses(region, q),
+        names::RegName::Reg(q) => seen::used_in(region, m, seen, q),
         names::RegName::None => false,
     }
 }
 
 // Writes a declaration anew, with its LF; nothing where no name stays.
-fn put_decl(body: &[u8], indent: &[u8], region: &[u8], out: &mut [u8], o: usize) -> usize
-    requires { ⌜ o + length (declText (now indent) (kept (stays (linesOf (now region))) 1 (partsOf 44 (now body))) false) ≤ length (now out) ⌝ }
+fn put_decl(
+    body: &[u8],
+    indent: &[u8],
+    region: &[u8],
+    m: usize,
+    seen: &[usize],
+    out: &mut [u8],
+    o: usize,
+) -> usize
+    requires { ⌜ (Says m (linesOf (now region)) (now seen))
+        × (o + length (declText (now indent) (kept (stays (linesOf (now region))) 1 (partsOf 44 (now body))) false) ≤ length (now out)) ⌝ }
     ensures { λ r. ⌜ Wrote (now (out .entry)) o (declText (now (indent .entry)) (kept (stays (linesOf (now (region .entry)))) 1 (partsOf 44 (now (body .entry)))) false) (now (out .exit)) r ⌝ }
 {
     let mut i = 0;
@@ -31,7 +45,7 @@ fn put_decl(body: &[u8], indent: &[u8], region: &[u8], out: &mut [u8], o: usize)
     loop {
         let e = lines::find_byte(body, i, b',');
         let t = text::trim(lines::cut(body, i, e));
-        let s = stays_in(region, t);
+        let s = stays_in(region, m, seen, t);
         p = print::put_part(indent, o < p, s, t, 1, out, p);
         if e >= body.len() {
             return print::put_end(o < p, out, p);
@@ -41,26 +55,36 @@ fn put_decl(body: &[u8], indent: &[u8], region: &[u8], out: &mut [u8], o: usize)
 }
 
 // Writes what a line of a region becomes.
-fn put_line(line: &[u8], region: &[u8], out: &mut [u8], o: usize) -> usize
-    requires { ⌜ o + length (lineText (linesOf (now region)) (now line)) ≤ length (now out) ⌝ }
+fn put_line(line: &[u8], region: &[u8], m: usize, seen: &[usize], out: &mut [u8], o: usize) -> usize
+    requires { ⌜ (isDecl (trimOf (now line)) ≡ true → Says m (linesOf (now region)) (now seen))
+        × (o + length (lineText (linesOf (now region)) (now line)) ≤ length (now out)) ⌝ }
     ensures { λ r. ⌜ Wrote (now (out .entry)) o (lineText (linesOf (now (region .entry))) (now (line .entry))) (now (out .exit)) r ⌝ }
 {
     let t = text::trim(line);
     if parse::is_decl(t) {
         let a = text::trim_from(line);
-        return put_decl(&t[4..t.len() - 1], lines::cut(line, 0, a), region, out, o);
+        return put_decl(
+            &t[4..t.len() - 1],
+            lines::cut(line, 0, a),
+            region,
+            m,
+            seen,
+            out,
+            o,
+        );
     }
     let p = lines::put(out, o, line);
     lines::put_byte(out, p, 10)
 }
 
-// Writes the lines of a text without the declared registers that their region neither reads nor stores.
-pub fn prune_decls(text: &[u8], out: &mut [u8]) -> usize
-    requires { ⌜ length (unlines (pruneDecls (linesOf (now text)))) ≤ length (now out) ⌝ }
+// The same as prune_decls, with a table of registers that holds no mark.
+fn prune_with(text: &[u8], seen: &mut [usize], out: &mut [u8]) -> usize
+    requires { ⌜ (AtMost 0 (now seen)) × (length (unlines (pruneDecls (linesOf (now text)))) ≤ length (now out)) ⌝ }
     ensures { λ r. ⌜ Wrote (now (out .entry)) 0 (unlines (pruneDecls (linesOf (now (text .entry))))) (now (out .exit)) r ⌝ }
 {
     let mut a = 0;
     let mut b = place::region_end(text, 0);
+    let mut m = 0;
     let mut i = 0;
     let mut o = 0;
     while i < text.len() {
@@ -70,8 +94,19 @@ pub fn prune_decls(text: &[u8], out: &mut [u8]) -> usize
             a = i;
             b = place::region_end(text, i);
         }
-        o = put_line(line, lines::cut(text, a, b), out, o);
+        let region = lines::cut(text, a, b);
+        m = seen::mark_once(line, region, a, m, seen);
+        o = put_line(line, region, m, seen, out, o);
         i = lines::after(text, e);
     }
     o
+}
+
+// Writes the lines of a text without the declared registers that their region neither reads nor stores.
+pub fn prune_decls(text: &[u8], out: &mut [u8]) -> usize
+    requires { ⌜ length (unlines (pruneDecls (linesOf (now text)))) ≤ length (now out) ⌝ }
+    ensures { λ r. ⌜ Wrote (now (out .entry)) 0 (unlines (pruneDecls (linesOf (now (text .entry))))) (now (out .exit)) r ⌝ }
+{
+    let mut seen = [0usize; 1024];
+    prune_with(text, &mut seen, out)
 }

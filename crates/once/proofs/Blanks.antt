@@ -4,10 +4,10 @@ use mathlib.Core.Path.{_≡_, refl, sym, ap, subst, _∙_}
 use mathlib.Core.List.{List, [], _∷_, _++_}
 use native.Mathlib.Omega.{arith}
 use native.Mathlib.Numerals.{add-one}
-use lib.ListN.{length, take, drop, set, replicate}
-use lib.Seq.{drop-drop, drop-append-add}
+use lib.ListN.{length, take, drop, set, replicate, take-append-drop}
+use lib.Seq.{take-take, drop-drop, drop-append-add}
 use Rattle.lines.specs.Out.{putAt, Wrote}
-use Rattle.lines.proofs.OutLaws.{wrote-nil, wrote-more, wrote-as}
+use Rattle.lines.proofs.OutLaws.{wrote-nil, wrote-more, wrote-as, wrote-length, wrote-part}
 use Rattle.once.specs.Tables.{Blank}
 
 zeros-more : (i : ℕ) → replicate i 0 ++ (0 ∷ []) ≡ replicate {A = ℕ} (suc i) 0
@@ -24,10 +24,10 @@ zeros-length : (n : ℕ) → length (replicate {A = ℕ} n 0) ≡ n
 zeros-length zero = refl
 zeros-length (suc n) = ap suc (zeros-length n)
 
-zeros-split : (n m : ℕ) → n ≤ m → replicate n 0 ++ drop n (replicate m 0) ≡ replicate {A = ℕ} m 0
-zeros-split zero m h = refl
-zeros-split (suc n) zero h = absurd (omega arith)
-zeros-split (suc n) (suc m) h = ap (λ (l : List ℕ). 0 ∷ l) (zeros-split n m (omega arith))
+zeros-less : (n m : ℕ) → n ≤ m → take n (replicate m 0) ≡ replicate {A = ℕ} n 0
+zeros-less zero m h = refl
+zeros-less (suc n) zero h = absurd (omega arith)
+zeros-less (suc n) (suc m) h = ap (λ (l : List ℕ). 0 ∷ l) (zeros-less n m (omega arith))
 
 past : (t d : List ℕ) (n : ℕ) → length t ≤ n → drop n (t ++ drop (length t) d) ≡ drop n d
 past t d n h =
@@ -47,13 +47,22 @@ wiped {n} {d} {d₁} {d₂} t b h e w =
     ∙ ap (λ (k : ℕ). replicate n 0 ++ drop k d₁) z
     ∙ ap (λ (l : List ℕ). replicate n 0 ++ drop n l) (e ∙ ap (λ (k : ℕ). t ++ drop k d) y)
     ∙ ap (λ (l : List ℕ). replicate n 0 ++ l) (past t d n h)
-    ∙ ap (λ (l : List ℕ). replicate n 0 ++ drop n l) (b .zeros)
-    ∙ zeros-split n (length d) (b .room)
-    ∙ sym (b .zeros)
+    ∙ ap (λ (l : List ℕ). l ++ drop n d) (sym (b .zeros))
+    ∙ take-append-drop n d
 
--- room for more is room for less, and the same scratch serves again
+-- room for more is room for less
 pub blank-less : {m n : ℕ} {d : List ℕ} → n ≤ m → Blank m d → Blank n d
-blank-less h b = record { room = omega (arith, b .room); zeros = b .zeros }
+blank-less {m} {n} {d} h b = record {
+  room = omega (arith, b .room);
+  zeros = sym (take-take n m d h) ∙ ap (take n) (b .zeros) ∙ zeros-less n m h;
+}
+
+pub blank-as : {n : ℕ} {d d′ : List ℕ} → d′ ≡ d → Blank n d → Blank n d′
+blank-as e b = rw e b
+
+-- scratch that was wiped is blank
+pub blank-wiped : {n : ℕ} {d₀ d : List ℕ} → Wrote d₀ 0 (replicate n 0) d n → Blank n d
+blank-wiped {n} {d₀} {d} w = record { room = omega (arith, wrote-length w, w .fits, zeros-length n); zeros = wrote-part w }
 
 pub wipe-end : {d₀ d : List ℕ} {i n : ℕ} → i ≡ n → Wrote d₀ 0 (replicate i 0) d i → Wrote d₀ 0 (replicate n 0) d n
 wipe-end {d₀} {d} e w = subst (λ (k : ℕ). Wrote d₀ 0 (replicate k 0) d k) e w

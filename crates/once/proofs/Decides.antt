@@ -38,13 +38,13 @@ module _ (R : Reading) (v : ℕ) (x : List ℕ) (p : ℕ) (b : Bool) (ls : List 
       drops-read n e h = rw (s, o, sym e, ne-eqb n 0 h, and-false (pureIn R x), and-false (deadBy p (nextIn v ls ps)))
 
       module _ (n : ℕ) (e : n ≡ readsOf v x) (z : n ≡ 0) where
-        pub drops-wanted : deadBy p (nextIn v ls ps) ≡ false → storeDrops R v x p b ls ps ≡ false
+        pub drops-impure : pureIn R x ≡ false → storeDrops R v x p b ls ps ≡ false
         unfolding storeDrops
-        drops-wanted h = rw (s, h)
+        drops-impure h = rw (s, h, and-false (deadBy p (nextIn v ls ps)))
 
-        pub drops-pure : deadBy p (nextIn v ls ps) ≡ true → pureIn R x ≡ storeDrops R v x p b ls ps
+        pub drops-dead : pureIn R x ≡ true → deadBy p (nextIn v ls ps) ≡ storeDrops R v x p b ls ps
         unfolding storeDrops
-        drops-pure h = rw (s, h, o, sym e, eq-eqb n 0 z, and-true (pureIn R x))
+        drops-dead h = rw (s, h, o, sym e, eq-eqb n 0 z, and-true (deadBy p (nextIn v ls ps)))
 
 pub drops-at : (R : Reading) (l : List ℕ) (p : ℕ) (b : Bool) (ls : List (List ℕ)) (ps : List ℕ) (k : Line) → k ≡ parseOf l → dropsBy R l p b ls ps k ≡ lineDrops R l p b ls ps
 unfolding lineDrops
@@ -78,18 +78,18 @@ module _ (R : Reading) (v : ℕ) (x : List ℕ) (run : List (List ℕ)) (b goes 
           forwards-hit h = rw (o, g, s, sym m, eq-eqb n 1 z, h, and-false (eqb (readCount v run) 1), and-false (pureIn R x), and-false (not (laterRead v ls)))
 
           module _ (t : hasHit (regHit v e) ≡ true) where
-            pub forwards-later : laterRead v ls ≡ true → storeForwards R v x run b goes e ls ≡ false
+            pub forwards-impure : pureIn R x ≡ false → storeForwards R v x run b goes e ls ≡ false
             unfolding storeForwards
-            forwards-later h = rw (o, g, s, sym m, eq-eqb n 1 z, h)
+            forwards-impure h = rw (o, g, s, sym m, eq-eqb n 1 z, h, and-false (not (laterRead v ls)))
 
-            module _ (k : laterRead v ls ≡ false) where
-              pub forwards-often : eqb (readCount v run) 1 ≡ false → storeForwards R v x run b goes e ls ≡ false
+            module _ (y : pureIn R x ≡ true) where
+              pub forwards-later : laterRead v ls ≡ true → storeForwards R v x run b goes e ls ≡ false
               unfolding storeForwards
-              forwards-often h = rw (o, g, s, sym m, eq-eqb n 1 z, k, h, and-false (pureIn R x))
+              forwards-later h = rw (o, g, s, sym m, eq-eqb n 1 z, h)
 
-              pub forwards-pure : eqb (readCount v run) 1 ≡ true → pureIn R x ≡ storeForwards R v x run b goes e ls
+              pub forwards-once : laterRead v ls ≡ false → eqb (readCount v run) 1 ≡ storeForwards R v x run b goes e ls
               unfolding storeForwards
-              forwards-pure h = rw (o, g, s, sym m, eq-eqb n 1 z, t, k, h, and-true (pureIn R x))
+              forwards-once h = rw (o, g, s, sym m, eq-eqb n 1 z, t, y, h, and-true (eqb (readCount v run) 1))
 
 pub forwards-at : (R : Reading) (l : List ℕ) (run : List (List ℕ)) (b goes : Bool) (e : List ℕ) (ls : List (List ℕ)) (k : Line) → k ≡ parseOf l →
     forwardsBy R l run b goes e ls k ≡ lineForwards R l run b goes e ls

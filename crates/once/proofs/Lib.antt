@@ -4,6 +4,9 @@ pub mod Blanks
 pub mod Decides
 pub mod Marks
 pub mod Writes
+pub mod Fills
 pub mod Reasons
 pub mod Keeps
+pub mod Passes
+pub mod Room
 pub mod Examples

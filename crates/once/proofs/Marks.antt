@@ -63,7 +63,7 @@ forwards-is R run d e ls ps bs g h n = go (parseOf (d .line))
 -- ---- the marks
 
 -- what would go into the next line does not go
-forwards-stays : (R : Reading) (run : List (List ℕ)) (d : Spot) (ss : List Spot) → dropped R d ss ≡ true → forwards R run (d ∷ ss) ≡ false
+pub forwards-stays : (R : Reading) (run : List (List ℕ)) (d : Spot) (ss : List Spot) → dropped R d ss ≡ true → forwards R run (d ∷ ss) ≡ false
 unfolding forwards
 forwards-stays R run d [] h = refl
 forwards-stays R run d (e ∷ ss) h = go (parseOf (d .line))

@@ -91,7 +91,7 @@ module _ (m n : ℕ) (given : Bool) (above l : List ℕ) where
 abbrev pub toCome : List ℕ → List ℕ → ℕ → ℕ → Bool → List ℕ → List ℕ
 toCome t ms i k given above = unlines (apply (actsBy (linesOf (drop i t)) (drop k ms) given above) (linesOf (drop i t)))
 
-top-drop : (ms : List ℕ) (k : ℕ) → top (drop k ms) ≡ getD ms k 0
+pub top-drop : (ms : List ℕ) (k : ℕ) → top (drop k ms) ≡ getD ms k 0
 unfolding top
 top-drop [] zero = refl
 top-drop [] (suc k) = refl

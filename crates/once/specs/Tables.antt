@@ -1,10 +1,10 @@
 -- The searches of `optimize_once` over lines and a table of numbers beside them. Assumes nothing.
-use Prim.Native.Nat.{ℕ, _≤_}
+use Prim.Native.Nat.{ℕ, _+_, _≤_}
 use mathlib.Core.Path.{_≡_}
 use mathlib.Core.Bool.{Bool, true, false, cond, not, _&&_, _||_}
 use mathlib.Core.List.{List, [], _∷_}
 use lib.Dec.{eqb, ltb}
-use lib.ListN.{length, drop, replicate}
+use lib.ListN.{length, take, drop, replicate}
 use Rattle.parse.specs.Parse.{parseOf, textOf}
 use Rattle.parse.specs.declared.Line.{Line}
 use Rattle.parse.specs.declared.Line.the-variants as line
@@ -14,11 +14,13 @@ use Rattle.words.specs.declared.Hit.{Hit}
 use Rattle.words.specs.declared.Hit.the-variants as hit
 use Rattle.reading.specs.Reading.{Reading, pureIn}
 use Rattle.lines.specs.Acts.{Act, keep, become, into, gone}
-use Rattle.place.specs.Region.{isHeader}
+use Rattle.lines.specs.Lf.{part}
+use Rattle.text.specs.declared.Span.{Span}
+use Rattle.place.specs.Region.{isHeader, region, regionAt, regionLen}
 use Rattle.place.specs.Blocks.{top}
 use Rattle.reading.specs.Uses.{lineReads, lineStores}
 use Rattle.once.specs.Scratch.{scratchAt}
-use Rattle.once.specs.Once.{Next, none, read, write, deadBy, readCount, laterRead, Spot, spotsOf, dropped, forwards, takenBy, nextRun}
+use Rattle.once.specs.Once.{Next, none, read, write, deadBy, readCount, laterRead, Spot, spotsOf, spots, dropped, forwards, takenBy, nextRun}
 
 -- a read of register v before it is stored again: in all lines below, or down to the end of the region
 unfoldable pub readBelow : Bool → ℕ → List (List ℕ) → Bool
@@ -39,10 +41,10 @@ nextIn v (l ∷ ls) (p ∷ ps) =
 
 -- ---- the same tests on one line, over the lines below it and their numbers
 
--- scratch of zeros, with room for n bytes
+-- scratch whose first n bytes are there, and zeros
 pub record Blank (n : ℕ) (d : List ℕ) : Type 0 where
   pub room : n ≤ length d
-  pub zeros : d ≡ replicate (length d) 0
+  pub zeros : take n d ≡ replicate n 0
 
 -- a store of register v with the value x, in block path p, goes: a scratch load, or a dead store
 unfoldable pub storeDrops : Reading → ℕ → List ℕ → ℕ → Bool → List (List ℕ) → List ℕ → Bool
@@ -95,6 +97,11 @@ unfolding markOf
 marksGo R [] run = []
 marksGo R (d ∷ ss) run = markOf R run d ss ∷ marksGo R ss (nextRun ss run)
 
+-- the marks of a listing
+unfoldable pub onceMarks : Reading → List (List ℕ) → List ℕ
+unfolding marksGo
+onceMarks R ls = marksGo R (spots ls) (region ls)
+
 -- a line goes into the next: it would, and the next would not
 abbrev pub sends : ℕ → ℕ → Bool
 sends m n = eqb m 2 && not (eqb n 2)
@@ -112,3 +119,41 @@ unfolding top
 actsBy [] ms given above = []
 actsBy (l ∷ ls) ms given above =
     actBy (top ms) (top (drop 1 ms)) given above l ∷ actsBy ls (drop 1 ms) (sends (top ms) (top (drop 1 ms))) l
+
+-- ---- the marks, over tables of the block paths and of the loops
+
+-- an entry of a table of tests
+abbrev pub isSet : ℕ → Bool
+isSet f = not (eqb f 0)
+
+-- the first line goes; ps are the block paths of the lines, and b says whether the first stands in a loop
+unfoldable pub firstDrops : Reading → List (List ℕ) → List ℕ → Bool → Bool
+firstDrops R [] ps b = false
+firstDrops R (l ∷ ls) [] b = false
+firstDrops R (l ∷ ls) (p ∷ ps) b = lineDrops R l p b ls ps
+
+-- a line that stays, whose region is run, goes into the first line below, which goes itself where `goes` says so
+unfoldable pub firstTakes : Reading → List ℕ → List (List ℕ) → Bool → Bool → List (List ℕ) → Bool
+firstTakes R l run b goes [] = false
+firstTakes R l run b goes (e ∷ ls) = lineForwards R l run b goes e ls
+
+-- the mark of a line that goes, or would go into the next
+abbrev pub markBy : Bool → Bool → ℕ
+markBy goes sent = cond goes 1 (cond sent 2 0)
+
+-- the marks of lines; `goes` says whether the first goes, and run is the region of the line above
+unfoldable pub marksIn : Reading → List (List ℕ) → List ℕ → List ℕ → Bool → List (List ℕ) → List ℕ
+unfolding firstDrops firstTakes
+marksIn R [] ps fs goes run = []
+marksIn R (l ∷ ls) ps fs goes run =
+    let next = firstDrops R ls (drop 1 ps) (isSet (top (drop 1 fs))) in
+    markBy goes (firstTakes R l (regionAt l ls run) (isSet (top fs)) next ls) ∷ marksIn R ls (drop 1 ps) (drop 1 fs) next (regionAt l ls run)
+
+-- the marks of all lines
+unfoldable pub marksOf : Reading → List (List ℕ) → List ℕ → List ℕ → List ℕ
+unfolding marksIn
+marksOf R ls ps fs = marksIn R ls ps fs (firstDrops R ls ps (isSet (top fs))) (region ls)
+
+-- the part of a text that is the region of the line from i to e, given that of the line above
+unfoldable pub areaAt : List ℕ → ℕ → ℕ → Span → Span
+areaAt t i e above = cond (isHeader (part i e t)) (record { from = i; to = i + regionLen (drop i t) }) above

@@ -2,19 +2,23 @@
 ghost use mathlib.Core.Path.{_≡_};
 ghost use mathlib.Core.Bool.{true, false};
 ghost use mathlib.Core.List.{[], _∷_, _++_};
-ghost use Prim.Native.Nat.{_≤_, _+_};
+ghost use Prim.Native.Nat.{_≤_, _<_, _+_, _^_};
 ghost use lib.Dec.{eqb};
-ghost use lib.ListN.{length, replicate};
+ghost use lib.ListN.{length, drop, replicate};
 ghost use Rattle.lines.specs.Out.{Wrote};
 ghost use Rattle.lines.specs.Acts.{act, apply};
 ghost use Rattle.parse.specs.Parse.{parseOf};
 ghost use Rattle.lines.specs.Lf.{linesOf, unlines, prefixed, holds};
 ghost use Rattle.names.specs.Names.{regOf, isIdent};
 ghost use Rattle.once.specs.Scratch.{objectOf, isMember, changesBy, calledBelow, scratchAt};
-ghost use Rattle.once.specs.Once.{deadBy, readCount, firstOf, takenBy};
+ghost use Rattle.once.specs.Once.{deadBy, readCount, firstOf, takenBy, onceActs, optimizeOnce};
 ghost use Rattle.words.specs.Hits.{regHit, replaceReg};
 ghost use Rattle.reading.specs.Reading.{plain, pureIn};
-ghost use Rattle.once.specs.Tables.{readBelow, nextIn, Blank, hasHit, storeDrops, lineDrops, storeForwards, lineForwards, actBy, actsBy};
+ghost use Rattle.once.specs.Tables.{readBelow, nextIn, Blank, hasHit, storeDrops, lineDrops, storeForwards, lineForwards, onceMarks, actBy, actsBy, firstDrops, firstTakes, markBy, marksOf, areaAt};
+ghost use Rattle.place.specs.Fill.{Filled, flagsOf};
+ghost use Rattle.place.specs.Loops.{insideLoop};
+ghost use Rattle.place.specs.Paths.{blockPaths, tops};
+ghost use Rattle.place.specs.Parents.{pathParents};
 
 // Whether a value is a bare member read, `A.B`.
 fn is_member(x: &[u8]) -> bool
@@ -221,10 +225,10 @@ fn store_drops(
     if words::count_reg(x, reg) != 0 {
         return false;
     }
-    if !dead_below(below, paths, p, reg) {
+    if !pure_value(x, scratch) {
         return false;
     }
-    pure_value(x, scratch)
+    dead_below(below, paths, p, reg)
 }
 
 // Whether a line goes.
@@ -291,13 +295,13 @@ fn store_forwards(
     if !takes(next, reg) {
         return false;
     }
+    if !pure_value(x, scratch) {
+        return false;
+    }
     if read_below(below, reg, true) {
         return false;
     }
-    if !read_once(run, reg) {
-        return false;
-    }
-    pure_value(x, scratch)
+    read_once(run, reg)
 }
 
 // Whether a line that stays goes into the next line.
@@ -322,6 +326,120 @@ fn line_forwards(
         }
         parse::Line::Other => false,
     }
+}
+
+// Whether the line at i goes; its block path stands in `paths` at k, and those of the lines below after it.
+fn drops_at(
+    text: &[u8],
+    i: usize,
+    paths: &[usize],
+    k: usize,
+    in_loop: bool,
+    scratch: &mut [u8],
+) -> bool
+    requires { ⌜ Blank (length (now text)) (now scratch) ⌝ }
+    ensures answer { λ r. ⌜ r ≡ firstDrops plain (linesOf (drop i (now (text .entry)))) (drop k (now (paths .entry))) in_loop ⌝ }
+    ensures memory { λ _. ⌜ now (scratch .exit) ≡ now (scratch .entry) ⌝ }
+{
+    if i >= text.len() {
+        return false;
+    }
+    if k >= paths.len() {
+        return false;
+    }
+    let e = lines::find_byte(text, i, 10);
+    let j = lines::after(text, e);
+    let n = k + 1;
+    line_drops(
+        &text[i..e],
+        &text[j..],
+        &paths[n..],
+        paths[k],
+        in_loop,
+        scratch,
+    )
+}
+
+// The mark of a line in the region `run`, above the line at j: 1 where it goes, 2 where it would go into the next, else 0.
+fn mark_at(
+    line: &[u8],
+    text: &[u8],
+    j: usize,
+    run: &[u8],
+    in_loop: bool,
+    goes: bool,
+    next: bool,
+    scratch: &mut [u8],
+) -> u8
+    requires { ⌜ Blank (length (now line)) (now scratch) ⌝ }
+    ensures answer { λ r. ⌜ r ≡ markBy goes (firstTakes plain (now (line .entry)) (linesOf (now (run .entry))) in_loop next (linesOf (drop j (now (text .entry))))) ⌝ }
+    ensures memory { λ _. ⌜ now (scratch .exit) ≡ now (scratch .entry) ⌝ }
+{
+    if goes {
+        return 1;
+    }
+    if j >= text.len() {
+        return 0;
+    }
+    let e = lines::find_byte(text, j, 10);
+    let n = lines::after(text, e);
+    if line_forwards(line, &text[j..e], &text[n..], run, in_loop, next, scratch) {
+        return 2;
+    }
+    0
+}
+
+// The part that is the region of the line from i to e, where `above` is that of the line above.
+fn area_at(text: &[u8], i: usize, e: usize, above: text::Span) -> text::Span
+    ensures { λ r. ⌜ r ≡ areaAt (now (text .entry)) i e above ⌝ }
+{
+    if place::is_header(lines::cut(text, i, e)) {
+        let to = place::region_end(text, i);
+        return text::Span { from: i, to: to };
+    }
+    above
+}
+
+// Writes the mark of each line; `paths` has the block paths of the lines, and `loops` whether each stands in a loop.
+fn fill_marks(
+    text: &[u8],
+    paths: &[usize],
+    loops: &[u8],
+    scratch: &mut [u8],
+    marks: &mut [u8],
+) -> usize
+    requires { ⌜ (Blank (length (now text)) (now scratch)) × (length (linesOf (now text)) ≤ length (now marks)) ⌝ }
+    ensures answer { λ r. ⌜ Filled (now (marks .entry)) (marksOf plain (linesOf (now (text .entry))) (now (paths .entry)) (now (loops .entry))) (now (marks .exit)) r ⌝ }
+    ensures memory { λ _. ⌜ now (scratch .exit) ≡ now (scratch .entry) ⌝ }
+{
+    let to = place::region_end(text, 0);
+    let f = lines::byte_at(loops, 0);
+    let mut goes = drops_at(text, 0, paths, 0, f != 0, scratch);
+    let mut run = text::Span { from: 0, to: to };
+    let mut i = 0;
+    let mut k = 0;
+    while i < text.len() {
+        let e = lines::find_byte(text, i, 10);
+        let j = lines::after(text, e);
+        let g = lines::byte_at(loops, k + 1);
+        let next = drops_at(text, j, paths, k + 1, g != 0, scratch);
+        run = area_at(text, i, e, run);
+        let h = lines::byte_at(loops, k);
+        marks[k] = mark_at(
+            lines::cut(text, i, e),
+            text,
+            j,
+            lines::cut(text, run.from, run.to),
+            h != 0,
+            goes,
+            next,
+            scratch,
+        );
+        goes = next;
+        k += 1;
+        i = j;
+    }
+    k
 }
 
 // Writes a line with its LF, and returns the place after it.
@@ -405,4 +523,63 @@ fn put_acts(text: &[u8], marks: &[u8], out: &mut [u8]) -> usize
         i = lines::after(text, e);
     }
     o
+}
+
+// Fills the tables of a text: which lines stand in a loop, their block paths, and what becomes of them.
+fn decide(
+    text: &[u8],
+    scratch: &mut [u8],
+    loops: &mut [u8],
+    marks: &mut [u8],
+    paths: &mut [usize],
+    up: &mut [u32],
+) -> usize
+    requires { ⌜ (length (linesOf (now text)) ≤ length (now loops))
+        × ((length (linesOf (now text)) ≤ length (now marks))
+        × ((length (linesOf (now text)) ≤ length (now paths))
+        × ((length (pathParents (linesOf (now text))) ≤ length (now up))
+        × ((length (now up) < 2 ^ 32) × (length (now text) ≤ length (now scratch)))))) ⌝ }
+    ensures answer { λ r. ⌜ Filled (now (marks .entry)) (onceMarks plain (linesOf (now (text .entry)))) (now (marks .exit)) r ⌝ }
+    ensures memory { λ _. ⌜ (Wrote (now (scratch .entry)) 0 (replicate (length (now (text .entry))) 0) (now (scratch .exit)) (length (now (text .entry))))
+        × ((Filled (now (loops .entry)) (flagsOf (insideLoop (linesOf (now (text .entry))))) (now (loops .exit)) (length (flagsOf (insideLoop (linesOf (now (text .entry)))))))
+        × ((Filled (now (paths .entry)) (tops (blockPaths (linesOf (now (text .entry))))) (now (paths .exit)) (length (tops (blockPaths (linesOf (now (text .entry)))))))
+        × (Filled (now (up .entry)) (pathParents (linesOf (now (text .entry)))) (now (up .exit)) (length (pathParents (linesOf (now (text .entry)))))))) ⌝ }
+{
+    wipe(scratch, text.len());
+    let n = place::inside_loop(text, loops);
+    let k = place::block_paths(text, paths, up);
+    fill_marks(text, &paths[0..k], &loops[0..n], scratch, marks)
+}
+
+// Writes the lines of a text without dead stores and scratch loads, with each value that is read once, on the next line, in that line, and
+// without the declared registers that are then unused. `mid` takes what the lines are before their declarations are pruned.
+pub fn optimize_once(
+    text: &[u8],
+    scratch: &mut [u8],
+    mid: &mut [u8],
+    loops: &mut [u8],
+    marks: &mut [u8],
+    paths: &mut [usize],
+    up: &mut [u32],
+    out: &mut [u8],
+) -> usize
+    requires { ⌜ (length (linesOf (now text)) ≤ length (now loops))
+        × ((length (linesOf (now text)) ≤ length (now marks))
+        × ((length (linesOf (now text)) ≤ length (now paths))
+        × ((length (pathParents (linesOf (now text))) ≤ length (now up))
+        × ((length (now up) < 2 ^ 32)
+        × ((length (now text) ≤ length (now scratch))
+        × ((length (unlines (apply (onceActs plain (linesOf (now text))) (linesOf (now text)))) ≤ length (now mid))
+        × (length (unlines (optimizeOnce plain (linesOf (now text)))) ≤ length (now out)))))))) ⌝ }
+    ensures answer { λ r. ⌜ Wrote (now (out .entry)) 0 (unlines (optimizeOnce plain (linesOf (now (text .entry))))) (now (out .exit)) r ⌝ }
+    ensures memory { λ _. ⌜ (Wrote (now (scratch .entry)) 0 (replicate (length (now (text .entry))) 0) (now (scratch .exit)) (length (now (text .entry))))
+        × ((Wrote (now (mid .entry)) 0 (unlines (apply (onceActs plain (linesOf (now (text .entry)))) (linesOf (now (text .entry))))) (now (mid .exit)) (length (unlines (apply (onceActs plain (linesOf (now (text .entry)))) (linesOf (now (text .entry)))))))
+        × ((Filled (now (loops .entry)) (flagsOf (insideLoop (linesOf (now (text .entry))))) (now (loops .exit)) (length (flagsOf (insideLoop (linesOf (now (text .entry)))))))
+        × ((Filled (now (marks .entry)) (onceMarks plain (linesOf (now (text .entry)))) (now (marks .exit)) (length (onceMarks plain (linesOf (now (text .entry))))))
+        × ((Filled (now (paths .entry)) (tops (blockPaths (linesOf (now (text .entry))))) (now (paths .exit)) (length (tops (blockPaths (linesOf (now (text .entry)))))))
+        × (Filled (now (up .entry)) (pathParents (linesOf (now (text .entry)))) (now (up .exit)) (length (pathParents (linesOf (now (text .entry)))))))))) ⌝ }
+{
+    let n = decide(text, scratch, loops, marks, paths, up);
+    let m = put_acts(text, &marks[0..n], mid);
+    decls::prune_decls(&mid[0..m], out)
 }

@@ -1,1 +1,6 @@
+pub mod Searches
+pub mod Lines
+pub mod Writes
+pub mod Keeps
+pub mod Rounds
 pub mod Examples

@@ -1,1 +1,2 @@
 pub mod Phis
+pub mod Rounds

@@ -1,1 +1,377 @@
-// prune_dead_phis: its definition.
+// prune_dead_phis: stores of phis that nothing reads go, and their names leave the declarations.
+ghost use mathlib.Core.Path.{_≡_};
+ghost use mathlib.Core.Bool.{true, false, not, _||_};
+ghost use mathlib.Core.List.{[], _∷_, _++_};
+ghost use Prim.Native.Nat.{_≤_, _+_, max};
+ghost use lib.ListN.{length, drop, replicate};
+ghost use Rattle.lines.specs.Lf.{partsOf, linesOf, unlines};
+ghost use Rattle.lines.specs.Out.{Wrote};
+ghost use Rattle.text.specs.Trim.{trimStart};
+ghost use Rattle.names.specs.Names.{phiOf, phiIs};
+ghost use Rattle.lexical.specs.Phi.{phiRhsPure};
+ghost use Rattle.decls.specs.Print.{kept, declText};
+ghost use Rattle.reading.specs.Reading.{plain, pureIn};
+ghost use Rattle.reading.specs.Assign.{isAssign, rightOf};
+ghost use Rattle.phis.specs.Phis.{isLet, isPhi, allPhis, phiDecl, anyPhi, phiStore, phiOwn, phiReads, phiRead, phiStored, deadPhi, deadBy, anyDead, round, pruneDeadPhis};
+ghost use Rattle.phis.specs.Rounds.{live, storeText, changeText, lineText, longest};
+
+// Whether a name is that of a phi.
+fn is_phi(name: names::PhiName, phi: names::Phi) -> bool
+    ensures { λ r. ⌜ r ≡ phiIs (phi .0) name ⌝ }
+{
+    match name {
+        names::PhiName::Phi(q) => q.0 == phi.0,
+        names::PhiName::None => false,
+    }
+}
+
+// Whether a text names a phi.
+fn names_phi(t: &[u8]) -> bool
+    ensures { λ r. ⌜ r ≡ isPhi (phiOf (now (t .entry))) ⌝ }
+{
+    match names::phi_name(t) {
+        names::PhiName::Phi(q) => true,
+        names::PhiName::None => false,
+    }
+}
+
+// Whether a text, its front trimmed, is `let ` .. `;`.
+fn is_let(t: &[u8]) -> bool
+    ensures { λ r. ⌜ r ≡ isLet (now (t .entry)) ⌝ }
+{
+    let n = t.len();
+    if n <= 4 {
+        return false;
+    }
+    if !lines::starts_with(t, b"let ") {
+        return false;
+    }
+    t[n - 1] == b';'
+}
+
+// Whether each piece between the commas names a phi.
+fn all_phis(s: &[u8]) -> bool
+    ensures { λ r. ⌜ r ≡ allPhis (partsOf 44 (now (s .entry))) ⌝ }
+{
+    let mut i = 0;
+    loop {
+        let e = lines::find_byte(s, i, b',');
+        if !names_phi(text::trim(lines::cut(s, i, e))) {
+            return false;
+        }
+        if e >= s.len() {
+            return true;
+        }
+        i = e + 1;
+    }
+}
+
+// Whether one of the pieces between the commas names a phi.
+fn any_phi(s: &[u8], phi: names::Phi) -> bool
+    ensures { λ r. ⌜ r ≡ anyPhi (phi .0) (partsOf 44 (now (s .entry))) ⌝ }
+{
+    let mut i = 0;
+    loop {
+        let e = lines::find_byte(s, i, b',');
+        if is_phi(names::phi_name(text::trim(lines::cut(s, i, e))), phi) {
+            return true;
+        }
+        if e >= s.len() {
+            return false;
+        }
+        i = e + 1;
+    }
+}
+
+// Whether a text, its front trimmed, is a declaration of phis alone.
+fn phi_decl(t: &[u8]) -> bool
+    ensures { λ r. ⌜ r ≡ phiDecl (now (t .entry)) ⌝ }
+{
+    if !is_let(t) {
+        return false;
+    }
+    all_phis(lines::cut(t, 4, t.len() - 1))
+}
+
+// The phi that a text, its front trimmed, stores.
+fn phi_store(t: &[u8]) -> names::PhiName
+    ensures { λ r. ⌜ r ≡ phiStore (now (t .entry)) ⌝ }
+{
+    if is_let(t) {
+        return names::PhiName::None;
+    }
+    match reading::assign_of(t) {
+        reading::Assign::Split(s) => names::phi_name(reading::left_of(t, s)),
+        reading::Assign::None => names::PhiName::None,
+    }
+}
+
+// The phi that a line stores.
+fn line_store(line: &[u8]) -> names::PhiName
+    ensures { λ r. ⌜ r ≡ phiStore (trimStart (now (line .entry))) ⌝ }
+{
+    phi_store(text::trim_start(line))
+}
+
+// Whether a text, its front trimmed, stores a phi or is a declaration of phis that has it.
+fn phi_own(t: &[u8], phi: names::Phi) -> bool
+    ensures { λ r. ⌜ r ≡ phiOwn (phi .0) (now (t .entry)) ⌝ }
+{
+    if is_phi(phi_store(t), phi) {
+        return true;
+    }
+    if !phi_decl(t) {
+        return false;
+    }
+    any_phi(lines::cut(t, 4, t.len() - 1), phi)
+}
+
+// Whether a line mentions a phi, and neither stores nor declares it.
+fn phi_reads(line: &[u8], phi: names::Phi) -> bool
+    ensures { λ r. ⌜ r ≡ phiReads (phi .0) (now (line .entry)) ⌝ }
+{
+    if words::count_phi(line, phi) == 0 {
+        return false;
+    }
+    !phi_own(text::trim_start(line), phi)
+}
+
+// Whether some line of a text reads a phi.
+fn phi_read(text: &[u8], phi: names::Phi) -> bool
+    ensures { λ r. ⌜ r ≡ phiRead (phi .0) (linesOf (now (text .entry))) ⌝ }
+{
+    let mut i = 0;
+    while i < text.len() {
+        let e = lines::find_byte(text, i, 10);
+        if phi_reads(lines::cut(text, i, e), phi) {
+            return true;
+        }
+        i = lines::after(text, e);
+    }
+    false
+}
+
+// Whether some line of a text stores a phi.
+fn phi_stored(text: &[u8], phi: names::Phi) -> bool
+    ensures { λ r. ⌜ r ≡ phiStored (phi .0) (linesOf (now (text .entry))) ⌝ }
+{
+    let mut i = 0;
+    while i < text.len() {
+        let e = lines::find_byte(text, i, 10);
+        if is_phi(line_store(lines::cut(text, i, e)), phi) {
+            return true;
+        }
+        i = lines::after(text, e);
+    }
+    false
+}
+
+// Whether a phi is dead: some line of a text stores it, and none reads it.
+fn dead_phi(text: &[u8], phi: names::Phi) -> bool
+    ensures { λ r. ⌜ r ≡ deadPhi (phi .0) (linesOf (now (text .entry))) ⌝ }
+{
+    if !phi_stored(text, phi) {
+        return false;
+    }
+    !phi_read(text, phi)
+}
+
+// Whether a name is that of a phi that is dead in a text.
+fn dead_by(name: names::PhiName, text: &[u8]) -> bool
+    ensures { λ r. ⌜ r ≡ deadBy name (linesOf (now (text .entry))) ⌝ }
+{
+    match name {
+        names::PhiName::Phi(q) => dead_phi(text, q),
+        names::PhiName::None => false,
+    }
+}
+
+// Whether some line of a text stores a phi that is dead.
+fn any_dead(text: &[u8]) -> bool
+    ensures { λ r. ⌜ r ≡ anyDead (linesOf (now (text .entry))) (linesOf (now (text .entry))) ⌝ }
+{
+    let mut i = 0;
+    while i < text.len() {
+        let e = lines::find_byte(text, i, 10);
+        if dead_by(line_store(lines::cut(text, i, e)), text) {
+            return true;
+        }
+        i = lines::after(text, e);
+    }
+    false
+}
+
+// Whether a text names a phi that is not dead.
+fn is_live(t: &[u8], text: &[u8]) -> bool
+    ensures { λ r. ⌜ r ≡ live (linesOf (now (text .entry))) (now (t .entry)) ⌝ }
+{
+    match names::phi_name(t) {
+        names::PhiName::Phi(q) => !dead_phi(text, q),
+        names::PhiName::None => false,
+    }
+}
+
+// Writes a declaration of phis anew, with its LF, without those that are dead; nothing where none is left.
+fn put_decl(body: &[u8], indent: &[u8], text: &[u8], out: &mut [u8], o: usize) -> usize
+    requires { ⌜ o + length (declText (now indent) (kept (live (linesOf (now text))) 3 (partsOf 44 (now body))) false) ≤ length (now out) ⌝ }
+    ensures { λ r. ⌜ Wrote (now (out .entry)) o (declText (now (indent .entry)) (kept (live (linesOf (now (text .entry)))) 3 (partsOf 44 (now (body .entry)))) false) (now (out .exit)) r ⌝ }
+{
+    let mut i = 0;
+    let mut p = o;
+    loop {
+        let e = lines::find_byte(body, i, b',');
+        let t = text::trim(lines::cut(body, i, e));
+        let s = is_live(t, text);
+        p = decls::print::put_part(indent, o < p, s, t, 3, out, p);
+        if e >= body.len() {
+            return decls::print::put_end(o < p, out, p);
+        }
+        i = e + 1;
+    }
+}
+
+// Whether a value has no effect, by either test. Of the scratch only as much is used as the value is long.
+fn no_effect(x: &[u8], scratch: &mut [u8]) -> bool
+    requires { ⌜ length (now x) ≤ length (now scratch) ⌝ }
+    ensures answer { λ r. ⌜ r ≡ pureIn plain (now (x .entry)) || phiRhsPure (now (x .entry)) ⌝ }
+    ensures memory { λ _. ⌜ drop (length (now (x .entry))) (now (scratch .exit)) ≡ drop (length (now (x .entry))) (now (scratch .entry)) ⌝ }
+{
+    if lexical::phi_rhs_pure(x) {
+        return true;
+    }
+    expr::is_pure(expr::purity(x, scratch))
+}
+
+// Writes a value as a statement.
+fn put_value(indent: &[u8], x: &[u8], out: &mut [u8], o: usize) -> usize
+    requires { ⌜ o + length (now indent ++ now x ++ 59 ∷ 10 ∷ []) ≤ length (now out) ⌝ }
+    ensures { λ r. ⌜ Wrote (now (out .entry)) o (now (indent .entry) ++ now (x .entry) ++ 59 ∷ 10 ∷ []) (now (out .exit)) r ⌝ }
+{
+    let p = lines::put(out, o, indent);
+    let q = lines::put(out, p, x);
+    lines::put(out, q, b";\n")
+}
+
+// Writes what is left of a store of a dead phi: nothing, or its value where it has an effect.
+fn put_store(t: &[u8], indent: &[u8], scratch: &mut [u8], out: &mut [u8], o: usize) -> usize
+    requires { ⌜ (isAssign (now t) ≡ true) × ((length (now t) ≤ length (now scratch)) × (o + length (storeText plain (now indent) (rightOf (now t))) ≤ length (now out))) ⌝ }
+    ensures answer { λ r. ⌜ Wrote (now (out .entry)) o (storeText plain (now (indent .entry)) (rightOf (now (t .entry)))) (now (out .exit)) r ⌝ }
+    ensures memory { λ _. ⌜ drop (length (now (t .entry))) (now (scratch .exit)) ≡ drop (length (now (t .entry))) (now (scratch .entry)) ⌝ }
+{
+    match reading::assign_of(t) {
+        reading::Assign::Split(s) => {
+            let x = reading::right_of(t, s);
+            if no_effect(x, scratch) {
+                return o;
+            }
+            put_value(indent, x, out, o)
+        }
+        reading::Assign::None => o,
+    }
+}
+
+// Writes a line as it is.
+fn put_whole(line: &[u8], out: &mut [u8], o: usize) -> usize
+    requires { ⌜ o + length (now line ++ 10 ∷ []) ≤ length (now out) ⌝ }
+    ensures { λ r. ⌜ Wrote (now (out .entry)) o (now (line .entry) ++ 10 ∷ []) (now (out .exit)) r ⌝ }
+{
+    let p = lines::put(out, o, line);
+    lines::put_byte(out, p, 10)
+}
+
+// Writes what a line becomes, in a text that has a dead phi.
+fn put_change(line: &[u8], text: &[u8], scratch: &mut [u8], out: &mut [u8], o: usize) -> usize
+    requires { ⌜ (length (now line) ≤ length (now scratch)) × (o + length (changeText plain (linesOf (now text)) (now line)) ≤ length (now out)) ⌝ }
+    ensures answer { λ r. ⌜ Wrote (now (out .entry)) o (changeText plain (linesOf (now (text .entry))) (now (line .entry))) (now (out .exit)) r ⌝ }
+    ensures memory { λ _. ⌜ drop (length (now (line .entry))) (now (scratch .exit)) ≡ drop (length (now (line .entry))) (now (scratch .entry)) ⌝ }
+{
+    let t = text::trim_start(line);
+    let indent = lines::cut(line, 0, text::trim_from(line));
+    if dead_by(phi_store(t), text) {
+        return put_store(t, indent, scratch, out, o);
+    }
+    if phi_decl(t) {
+        return put_decl(lines::cut(t, 4, t.len() - 1), indent, text, out, o);
+    }
+    put_whole(line, out, o)
+}
+
+// Writes what a line becomes; `some` says whether the text has a dead phi.
+fn put_line(
+    line: &[u8],
+    text: &[u8],
+    some: bool,
+    scratch: &mut [u8],
+    out: &mut [u8],
+    o: usize,
+) -> usize
+    requires { ⌜ (length (now line) ≤ length (now scratch)) × (o + length (lineText plain some (linesOf (now text)) (now line)) ≤ length (now out)) ⌝ }
+    ensures answer { λ r. ⌜ Wrote (now (out .entry)) o (lineText plain some (linesOf (now (text .entry))) (now (line .entry))) (now (out .exit)) r ⌝ }
+    ensures memory { λ _. ⌜ drop (length (now (line .entry))) (now (scratch .exit)) ≡ drop (length (now (line .entry))) (now (scratch .entry)) ⌝ }
+{
+    if some {
+        return put_change(line, text, scratch, out, o);
+    }
+    put_whole(line, out, o)
+}
+
+// Writes one round. Of the scratch only as much is used as the text is long.
+fn put_round(text: &[u8], scratch: &mut [u8], out: &mut [u8]) -> usize
+    requires { ⌜ (length (now text) ≤ length (now scratch)) × (length (unlines (round plain (linesOf (now text)))) ≤ length (now out)) ⌝ }
+    ensures answer { λ r. ⌜ Wrote (now (out .entry)) 0 (unlines (round plain (linesOf (now (text .entry))))) (now (out .exit)) r ⌝ }
+    ensures memory { λ _. ⌜ drop (length (now (text .entry))) (now (scratch .exit)) ≡ drop (length (now (text .entry))) (now (scratch .entry)) ⌝ }
+{
+    let some = any_dead(text);
+    let mut i = 0;
+    let mut o = 0;
+    while i < text.len() {
+        let e = lines::find_byte(text, i, 10);
+        o = put_line(lines::cut(text, i, e), text, some, scratch, out, o);
+        i = lines::after(text, e);
+    }
+    o
+}
+
+// Writes zeros over the first n bytes.
+fn wipe(s: &mut [u8], n: usize)
+    requires { ⌜ n ≤ length (now s) ⌝ }
+    ensures { λ _. ⌜ Wrote (now (s .entry)) 0 (replicate n 0) (now (s .exit)) n ⌝ }
+{
+    let mut i = 0;
+    while i < n {
+        s[i] = 0;
+        i += 1;
+    }
+}
+
+// The larger of two numbers.
+fn larger(a: usize, b: usize) -> usize
+    ensures { λ r. ⌜ r ≡ max a b ⌝ }
+{
+    if a < b {
+        return b;
+    }
+    a
+}
+
+// Stores of phis that nothing reads go, and their names leave the declarations, in three rounds: from the text to `first`, from there to
+// `second`, from there to `out`. The scratch is left with zeros, as far as it was of use.
+pub fn prune_dead_phis(
+    text: &[u8],
+    scratch: &mut [u8],
+    first: &mut [u8],
+    second: &mut [u8],
+    out: &mut [u8],
+) -> usize
+    requires { ⌜ (longest plain (now text) ≤ length (now scratch)) × ((length (unlines (round plain (linesOf (now text)))) ≤ length (now first)) × ((length (unlines (round plain (round plain (linesOf (now text))))) ≤ length (now second)) × (length (unlines (pruneDeadPhis plain (linesOf (now text)))) ≤ length (now out)))) ⌝ }
+    ensures answer { λ r. ⌜ Wrote (now (out .entry)) 0 (unlines (pruneDeadPhis plain (linesOf (now (text .entry))))) (now (out .exit)) r ⌝ }
+    ensures one { λ _. ⌜ Wrote (now (first .entry)) 0 (unlines (round plain (linesOf (now (text .entry))))) (now (first .exit)) (length (unlines (round plain (linesOf (now (text .entry)))))) ⌝ }
+    ensures two { λ _. ⌜ Wrote (now (second .entry)) 0 (unlines (round plain (round plain (linesOf (now (text .entry)))))) (now (second .exit)) (length (unlines (round plain (round plain (linesOf (now (text .entry))))))) ⌝ }
+    ensures memory { λ _. ⌜ Wrote (now (scratch .entry)) 0 (replicate (longest plain (now (text .entry))) 0) (now (scratch .exit)) (longest plain (now (text .entry))) ⌝ }
+{
+    let a = put_round(text, scratch, first);
+    let b = put_round(lines::cut(first, 0, a), scratch, second);
+    let n = put_round(lines::cut(second, 0, b), scratch, out);
+    wipe(scratch, larger(text.len(), larger(a, b)));
+    n
+}

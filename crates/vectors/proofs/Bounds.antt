@@ -46,11 +46,11 @@ lines-count t =
     ∙ length-map (linesOf (dropCr t)) (countOf 10)
 
 -- a pass that does not raise the weight: twice the text and one LF is room
-pub pass-room : (pass : List (List ℕ) → List (List ℕ)) → ((ls : List (List ℕ)) → weight (unlines (pass ls)) ≤ weight (unlines ls)) →
+pub pass-room : (pass : List (List ℕ) → List (List ℕ)) → ((ls : List (List ℕ)) → weight 0 (unlines (pass ls)) ≤ weight 0 (unlines ls)) →
     (t : List ℕ) → length (unlines (pass (linesOf t))) ≤ length t + length t + 1
 pass-room pass light t =
-    let a = length-weight (unlines (pass (linesOf t))) in
+    let a = length-weight 0 (unlines (pass (linesOf t))) in
     let b = light (linesOf t) in
-    let c = lines-weight t in
+    let c = lines-weight 0 t in
     let d = weight-twice t in
     omega arith

@@ -1,93 +1,21 @@
 -- `decls::prune_decls` meets its contract. Assumes nothing.
-use Prim.Native.Nat.{_-_}
-use native.Mathlib.Omega.{arith}
 use borrow.Author.Needs.{needs}
-use mathlib.Core.Path.{sym, _∙_}
-use mathlib.Core.Logic.{⊎-elim}
-use lib.ListN.{length}
-use Rattle.lines.proofs.OutLaws.{writing-length}
-use Rattle.decls.proofs.Writes.{PruneInv, prune-start, RunAt, run-same, run-new, prune-room, prune-on, prune-end}
+use Rattle.decls.proofs.SeenLaws.{zeros-most}
 use Rattle.decls.proofs.prune_decls.Statement.{statement}
 use Rattle.decls.proofs.prune_decls.Tie as tie
 
-abbrev Inv-loop : tie.InvT-loop
-Inv-loop text out₀ a₀ b₀ i₀ o₀ out a b i o = PruneInv text out₀ out a b i o
+slice-aggregate-prune-with : tie.Need-slice-aggregate-prune-with
+slice-aggregate-prune-with c = search needs
 
-abbrev μ-loop : tie.MeasureT-loop
-μ-loop text out₀ a₀ b₀ i₀ o₀ out a b i o = length text - i
+prune-with-requires : tie.Need-prune-with-requires
+prune-with-requires c κs = (zeros-most 1024, c .before .before .before .before .pre)
 
--- the region of the line, where the arms of the `if` meet
-mid : (c : tie.Joined1 Inv-loop μ-loop) → RunAt (c .before .before .before .before .before .before .before .before .before .args .text .now) (c .before .before .before .before .before .loop .a) (c .before .before .before .before .before .loop .b) (c .before .before .before .before .before .loop .i) (c .before .before .before .find-byte .result) (c .if1 .a) (c .if1 .b)
-mid c =
-    let h = c .before .before .before .before .before .loop .inv in
-    let k = c .before .before .before .before .loop-test .taken in
-    let f = c .before .before .before .find-byte in
-    let l = c .before .before .cut in
-    let y = sym (c .before .is-header .ensures) in
-    ⊎-elim
-    (λ w. rw (w .2, w .3) (run-new h (f .result) k (f .ensures) (l .result .now) (l .ensures) (w .1 .result) (w .1 .ensures) (y ∙ w .0 .taken)))
-    (λ w. rw (w .1, w .2) (run-same h (f .result) k (f .ensures) (l .result .now) (l .ensures) (y ∙ w .0 .left)))
-    (c .if1 .came)
+same-length : tie.Need-same-length
+same-length c = search needs
 
-region-end-requires : tie.Need-region-end-requires Inv-loop μ-loop
-region-end-requires c κs = search needs
-
-loop-holds : tie.Need-loop-holds Inv-loop μ-loop
-loop-holds c = prune-start _ _ _ (c .before .before .before .pre) (c .region-end .ensures)
-
-find-byte-requires : tie.Need-find-byte-requires Inv-loop μ-loop
-find-byte-requires c κs = search needs
-
-cut-requires : tie.Need-cut-requires Inv-loop μ-loop
-cut-requires c κs = search needs
-
-is-header-requires : tie.Need-is-header-requires Inv-loop μ-loop
-is-header-requires c κs = search needs
-
-region-end-requires-2 : tie.Need-region-end-requires-2 Inv-loop μ-loop
-region-end-requires-2 c κs = search needs
-
-cut-requires-2 : tie.Need-cut-requires-2 Inv-loop μ-loop
-cut-requires-2 c κs = search needs
-
-put-line-requires : tie.Need-put-line-requires Inv-loop μ-loop
-put-line-requires c κs =
-    let f = c .before .before .before .before .before .find-byte in
-    prune-room (c .before .before .before .before .before .before .before .loop .inv) (f .result) (c .before .before .before .before .before .before .loop-test .taken) (f .ensures) (c .before .before .before .before .cut .result .now) (c .before .before .before .before .cut .ensures) (mid (c .before .before)) (c .before .cut2 .result .now) (c .before .cut2 .ensures)
-
-after-requires : tie.Need-after-requires Inv-loop μ-loop
-after-requires c κs = search needs
-
-loop-less : tie.Need-loop-less Inv-loop μ-loop
-loop-less c = omega (arith, c .after .ensures, c .before .before .before .before .before .before .before .before .before .find-byte .ensures, c .before .before .before .before .before .before .before .before .before .before .loop-test .taken)
-
-loop-again : tie.Need-loop-again Inv-loop μ-loop
-loop-again c =
-    let f = c .before .before .before .before .before .before .before .before .before .find-byte in
-    prune-on (c .before .before .before .before .before .before .before .before .before .before .before .loop .inv) (f .result) (c .before .before .before .before .before .before .before .before .before .before .loop-test .taken) (f .ensures) (c .before .before .before .before .before .before .before .before .cut .result .now) (c .before .before .before .before .before .before .before .before .cut .ensures) (mid (c .before .before .before .before .before .before)) (c .before .before .before .before .before .cut2 .result .now) (c .before .before .before .before .before .cut2 .ensures) (c .before .before .before .put-line .ensures) (c .after .ensures)
-
-same-length : tie.Need-same-length Inv-loop μ-loop
-same-length c = writing-length (c .before .loop .inv .writing)
-
-returns : tie.Need-returns Inv-loop μ-loop
-returns c = prune-end (c .before .loop .inv) (c .loop-test .left)
+returns : tie.Need-returns
+returns c = search needs
 
 pub prune-decls-spec : {M : Type 1} → statement M
 prune-decls-spec =
-    tie.close
-    (tie.spec
-    Inv-loop
-    μ-loop
-    region-end-requires
-    loop-holds
-    find-byte-requires
-    cut-requires
-    is-header-requires
-    region-end-requires-2
-    cut-requires-2
-    put-line-requires
-    after-requires
-    loop-less
-    loop-again
-    same-length
-    returns)
+    tie.close (tie.spec slice-aggregate-prune-with prune-with-requires same-length returns)

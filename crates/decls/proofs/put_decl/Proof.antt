@@ -13,13 +13,13 @@ use Rattle.decls.proofs.put_decl.Statement.{statement}
 use Rattle.decls.proofs.put_decl.Tie as tie
 
 abbrev Inv-loop : tie.InvT-loop
-Inv-loop body indent region out₀ o i₀ p₀ out i p = DeclInv (stays (linesOf region)) 1 indent body out₀ out o i p
+Inv-loop body indent region m seen out₀ o i₀ p₀ out i p = DeclInv (stays (linesOf region)) 1 indent body out₀ out o i p
 
 abbrev μ-loop : tie.MeasureT-loop
-μ-loop body indent region out₀ o i₀ p₀ out i p = length body - i
+μ-loop body indent region m seen out₀ o i₀ p₀ out i p = length body - i
 
 loop-holds : tie.Need-loop-holds Inv-loop μ-loop
-loop-holds c = let s = c .before .before .before .before in let a = s .args in decl-start (stays (linesOf (a .region .now))) 1 (a .indent .now) (a .body .now) (a .out .now) (a .o) (s .pre)
+loop-holds c = let s = c .before .before .before .before .before in let a = s .args in decl-start (stays (linesOf (a .region .now))) 1 (a .indent .now) (a .body .now) (a .out .now) (a .o) (s .pre .1)
 
 find-byte-requires : tie.Need-find-byte-requires Inv-loop μ-loop
 find-byte-requires c κs = search needs
@@ -31,7 +31,7 @@ trim-requires : tie.Need-trim-requires Inv-loop μ-loop
 trim-requires c κs = search needs
 
 stays-in-requires : tie.Need-stays-in-requires Inv-loop μ-loop
-stays-in-requires c κs = search needs
+stays-in-requires c κs = c .before .before .before .before .before .before .before .before .before .pre .0
 
 put-part-requires : tie.Need-put-part-requires Inv-loop μ-loop
 put-part-requires c κs =

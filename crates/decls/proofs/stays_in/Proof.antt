@@ -12,18 +12,19 @@ reg-name-requires c κs = search needs
 enum-known-q : tie.Need-enum-known-q
 enum-known-q c = search needs
 
-uses-requires : tie.Need-uses-requires
-uses-requires c κs = search needs
+used-in-requires : tie.Need-used-in-requires
+used-in-requires c κs = search needs
 
 enum-told : tie.Need-enum-told
 enum-told c = search needs
 
 returns : tie.Need-returns
-returns c = c .uses .ensures ∙ sym (ap (staysBy (linesOf (c .before .before .before .before .before .before .before .args .region .now))) (sym (c .before .before .before .before .reg-name .ensures) ∙ c .before .before .q .given .1))
+returns c = c .used-in .ensures ∙ sym (ap (staysBy (linesOf (c .before .before .before .before .before .before .before .before .args .region .now))) (sym (c .before .before .before .before .reg-name .ensures) ∙ c .before .before .q .given .1))
 
 returns-2 : tie.Need-returns-2
-returns-2 c = sym (ap (staysBy (linesOf (c .before .before .before .before .before .args .region .now))) (sym (c .before .before .reg-name .ensures) ∙ c .enum-told .given .1))
+returns-2 c = sym (ap (staysBy (linesOf (c .before .before .before .before .before .before .args .region .now))) (sym (c .before .before .reg-name .ensures) ∙ c .enum-told .given .1))
 
 pub stays-in-spec : {M : Type 1} → statement M
 stays-in-spec =
-    tie.close (tie.spec reg-name-requires enum-known-q uses-requires enum-told returns returns-2)
+    tie.close
+    (tie.spec reg-name-requires enum-known-q used-in-requires enum-told returns returns-2)

@@ -3,7 +3,7 @@ use mathlib.Core.Path.{_≡_, refl, sym, ap, _∙_}
 use borrow.Author.Tests.{not-true, not-false}
 use Rattle.reading.specs.Reading.{plain}
 use Rattle.lines.specs.Lf.{linesOf}
-use Rattle.once.proofs.Decides.{drops-scratch, drops-loop, drops-read, drops-wanted, drops-pure}
+use Rattle.once.proofs.Decides.{drops-scratch, drops-loop, drops-read, drops-impure, drops-dead}
 use Rattle.once.proofs.store_drops.Statement.{statement}
 use Rattle.once.proofs.store_drops.Tie as tie
 use Rattle.once.proofs.store_drops.Reads as reads
@@ -13,45 +13,38 @@ use Rattle.once.proofs.pure_value.Reads as pure-value-reads
 use Rattle.once.proofs.scratch_at.Reads as scratch-at-reads
 use Rattle.words.proofs.count_reg.Reads as count-reg-reads
 
--- src/lib.rt:205:8
 scratch-at-requires : tie.Need-scratch-at-requires
 scratch-at-requires c κs = search needs
 
--- src/lib.rt:206:9
 returns : tie.Need-returns
 returns c = let a = c .before .before .before .before .before .before .args in (sym (drops-scratch plain (a .reg .0) (a .x .now) (a .p) (a .in-loop) (linesOf (a .below .now)) (a .paths .now) (sym (c .before .scratch-at .ensures) ∙ c .if1 .taken)), refl)
 
--- src/lib.rt:209:9
 returns-2 : tie.Need-returns-2
 returns-2 c = let a = c .before .before .before .before .before .before .before .args in (sym (drops-loop plain (a .reg .0) (a .x .now) (a .p) (a .in-loop) (linesOf (a .below .now)) (a .paths .now) (sym (c .before .before .scratch-at .ensures) ∙ c .before .if1 .left) (c .if2 .taken)), refl)
 
--- src/lib.rt:211:8
 count-reg-requires : tie.Need-count-reg-requires
 count-reg-requires c κs = search needs
 
--- src/lib.rt:212:9
 returns-3 : tie.Need-returns-3
 returns-3 c = let a = c .before .before .before .before .before .before .before .before .before .args in (sym (drops-read plain (a .reg .0) (a .x .now) (a .p) (a .in-loop) (linesOf (a .below .now)) (a .paths .now) (sym (c .before .before .before .before .scratch-at .ensures) ∙ c .before .before .before .if1 .left) (c .before .before .if2 .left) _ (c .before .count-reg .ensures) (c .if3 .taken)), refl)
 
--- src/lib.rt:214:9
-dead-below-requires : tie.Need-dead-below-requires
-dead-below-requires c κs = search needs
-
--- src/lib.rt:215:9
-returns-4 : tie.Need-returns-4
-returns-4 c = let a = c .before .before .before .before .before .before .before .before .before .before .before .args in (sym (drops-wanted plain (a .reg .0) (a .x .now) (a .p) (a .in-loop) (linesOf (a .below .now)) (a .paths .now) (sym (c .before .before .before .before .before .before .scratch-at .ensures) ∙ c .before .before .before .before .before .if1 .left) (c .before .before .before .before .if2 .left) _ (c .before .before .before .count-reg .ensures) (c .before .before .if3 .left) (sym (c .before .dead-below .ensures) ∙ not-true _ (c .if4 .taken))), refl)
-
--- src/lib.rt:217:5
 pure-value-requires : tie.Need-pure-value-requires
-pure-value-requires c κs = search needs
+pure-value-requires c κs = c .before .before .before .before .before .before .before .before .before .before .pre
 
--- src/lib.rt:200:1
 same-length : tie.Need-same-length
 same-length c = search needs
 
--- src/lib.rt:200:1
+returns-4 : tie.Need-returns-4
+returns-4 c = let a = c .before .before .before .before .before .before .before .before .before .before .before .before .before .before .args in (sym (drops-impure plain (a .reg .0) (a .x .now) (a .p) (a .in-loop) (linesOf (a .below .now)) (a .paths .now) (sym (c .before .before .before .before .before .before .before .before .before .scratch-at .ensures) ∙ c .before .before .before .before .before .before .before .before .if1 .left) (c .before .before .before .before .before .before .before .if2 .left) _ (c .before .before .before .before .before .before .count-reg .ensures) (c .before .before .before .before .before .if3 .left) (sym (c .before .before .before .pure-value .ensures .0) ∙ not-true _ (c .if4 .taken))), c .before .before .before .pure-value .ensures .1)
+
+dead-below-requires : tie.Need-dead-below-requires
+dead-below-requires c κs = search needs
+
+same-length-2 : tie.Need-same-length-2
+same-length-2 c = search needs
+
 returns-5 : tie.Need-returns-5
-returns-5 c = let a = c .before .before .before .before .before .before .before .before .before .before .before .before .before .before .before .args in (c .before .before .pure-value .ensures .0 ∙ drops-pure plain (a .reg .0) (a .x .now) (a .p) (a .in-loop) (linesOf (a .below .now)) (a .paths .now) (sym (c .before .before .before .before .before .before .before .before .before .before .scratch-at .ensures) ∙ c .before .before .before .before .before .before .before .before .before .if1 .left) (c .before .before .before .before .before .before .before .before .if2 .left) _ (c .before .before .before .before .before .before .before .count-reg .ensures) (c .before .before .before .before .before .before .if3 .left) (sym (c .before .before .before .before .before .dead-below .ensures) ∙ not-false _ (c .before .before .before .before .if4 .left)), c .before .before .pure-value .ensures .1)
+returns-5 c = let a = c .before .before .before .before .before .before .before .before .before .before .before .before .before .before .before .args in (c .dead-below .ensures ∙ drops-dead plain (a .reg .0) (a .x .now) (a .p) (a .in-loop) (linesOf (a .below .now)) (a .paths .now) (sym (c .before .before .before .before .before .before .before .before .before .before .scratch-at .ensures) ∙ c .before .before .before .before .before .before .before .before .before .if1 .left) (c .before .before .before .before .before .before .before .before .if2 .left) _ (c .before .before .before .before .before .before .before .count-reg .ensures) (c .before .before .before .before .before .before .if3 .left) (sym (c .before .before .before .before .pure-value .ensures .0) ∙ not-false _ (c .before .if4 .left)), c .before .before .before .before .pure-value .ensures .1)
 
 pub store-drops-spec : {M : Type 1} → statement M
 store-drops-spec =
@@ -62,8 +55,9 @@ store-drops-spec =
     returns-2
     count-reg-requires
     returns-3
-    dead-below-requires
-    returns-4
     pure-value-requires
     same-length
+    returns-4
+    dead-below-requires
+    same-length-2
     returns-5)

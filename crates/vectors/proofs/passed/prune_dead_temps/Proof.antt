@@ -38,7 +38,7 @@ returns-2 c = search needs
 
 -- src/passed.rt:14:5
 prune-dead-temps-requires : tie.Need-prune-dead-temps-requires
-prune-dead-temps-requires c κs = (omega (arith, c .before .before .if1 .left), omega (arith, pass-room (pruneDeadTemps plain) (temps-weight plain) (c .before .before .before .before .before .before .before .args .a .now), c .before .if2 .left))
+prune-dead-temps-requires c κs = (omega (arith, c .before .before .if1 .left), omega (arith, pass-room (pruneDeadTemps plain) (temps-weight 0 plain) (c .before .before .before .before .before .before .before .args .a .now), c .before .if2 .left))
 
 -- src/passed.rt:5:1
 same-length : tie.Need-same-length

@@ -20,7 +20,7 @@ returns c = search needs
 
 -- src/passed.rt:22:5
 prune-decls-requires : tie.Need-prune-decls-requires
-prune-decls-requires c κs = omega (arith, pass-room pruneDecls prune-weight (c .before .before .before .before .args .a .now), c .before .if1 .left)
+prune-decls-requires c κs = omega (arith, pass-room pruneDecls (prune-weight 0) (c .before .before .before .before .args .a .now), c .before .if1 .left)
 
 -- src/passed.rt:18:1
 same-length : tie.Need-same-length

@@ -1,0 +1,166 @@
+"""Made listings for the benchmark: each family is a way to go on, line after line, up to a size."""
+
+
+def function(name, body):
+    """A function with its declarations, as the decompiler prints one."""
+    return ["function %s(a, b) {" % name] + ["  " + line for line in body] + ["}"]
+
+
+def small_functions():
+    """Many small functions, each with a few registers, a call and a return."""
+    n = 0
+    while True:
+        yield from function("f%d" % n, [
+            "let r0, r1, r2, r3;",
+            "r0 = a;",
+            "r1 = \"sep%d\";" % (n % 7),
+            "r2 = g(r0, r1);",
+            "r3 = r2.length;",
+            "return r3;",
+        ])
+        n += 1
+
+
+def large_function():
+    """One function that goes on and on over 40 registers."""
+    yield "function main(a) {"
+    yield "  let " + ", ".join("r%d" % n for n in range(40)) + ";"
+    n = 0
+    while True:
+        k = n % 38
+        yield "  r%d = a.p%d;" % (k, n % 5)
+        yield "  r%d = r%d + %d;" % (k + 1, k, n)
+        yield "  out.put(r%d, r%d);" % (k + 1, k)
+        n += 1
+
+
+def long_declarations():
+    """Declarations of many registers, of which few are used."""
+    n = 0
+    while True:
+        yield "function d%d() {" % n
+        yield "  let " + ",".join("r%d" % (k + 100) for k in range(60)) + ";"
+        yield "  r%d = 1;" % (100 + n % 60)
+        yield "  use(r%d);" % (100 + n % 60)
+        yield "}"
+        n += 1
+
+
+def dead_stores():
+    """Stores that nothing reads."""
+    yield "function main() {"
+    n = 0
+    while True:
+        yield "  let r%d;" % n
+        yield "  r%d = %d;" % (n, n)
+        n += 1
+
+
+def call_chains():
+    """Values that all go into one call."""
+    n = 0
+    while True:
+        yield "function c%d(o) {" % n
+        yield "  let " + ", ".join("r%d" % k for k in range(12)) + ";"
+        for k in range(10):
+            yield "  r%d = o.item(%d);" % (k, k)
+        yield "  r10 = join(" + ", ".join("r%d" % k for k in range(10)) + ");"
+        yield "  r11 = new Map(r10);"
+        yield "  return r11.size();"
+        yield "}"
+        n += 1
+
+
+def deep_brackets():
+    """Arrays in arrays, and blocks in blocks."""
+    n = 0
+    while True:
+        yield "function b%d(a) {" % n
+        yield "  let r0, r1;"
+        yield "  r0 = " + "[" * 30 + "1" + "]" * 30 + ";"
+        for k in range(6):
+            yield "  " * (k + 1) + "if (a.k%d) {" % k
+        yield "  r1 = f(r0);"
+        for k in range(6):
+            yield "  " * (6 - k) + "}"
+        yield "  return r1;"
+        yield "}"
+        n += 1
+
+
+def temps():
+    """Declared temps, half of them read."""
+    n = 0
+    while True:
+        yield "function t%d(a) {" % n
+        yield "  let " + ", ".join("t%d" % (n * 8 + k) for k in range(8)) + ";"
+        for k in range(8):
+            yield "  t%d = %d;" % (n * 8 + k, k)
+        for k in range(0, 8, 2):
+            yield "  use(t%d);" % (n * 8 + k)
+        yield "}"
+        n += 1
+
+
+def phis():
+    """Declared phis, stored on two branches, half of them read."""
+    n = 0
+    while True:
+        yield "function p%d(a) {" % n
+        yield "  let phi%d, phi%d;" % (2 * n, 2 * n + 1)
+        yield "  if (a) {"
+        yield "    phi%d = 1;" % (2 * n)
+        yield "    phi%d = a.x;" % (2 * n + 1)
+        yield "  } else {"
+        yield "    phi%d = 2;" % (2 * n)
+        yield "  }"
+        yield "  return phi%d;" % (2 * n + 1)
+        yield "}"
+        n += 1
+
+
+def member_loads():
+    """Loads of members, and no call of them."""
+    yield "function main(a) {"
+    n = 0
+    while True:
+        yield "  r%d = obj%d.member%d;" % (n % 50, n % 9, n)
+        n += 1
+
+
+def comments_and_strings():
+    """Mostly comments and strings."""
+    n = 0
+    while True:
+        yield "// part %d: the columns are x; y; z { not a block } r%d = r1;" % (n, n)
+        yield "function s%d() {" % n
+        yield "  let r0; /* one string */"
+        yield "  r0 = \"a; b } c { r0 = r1; // no comment\" + 'd \\' e';"
+        yield "  /* r0 = 1; */ write(r0); // done"
+        yield "}"
+        n += 1
+
+
+FAMILIES = {
+    "small functions": small_functions,
+    "large function": large_function,
+    "long declarations": long_declarations,
+    "dead stores": dead_stores,
+    "call chains": call_chains,
+    "deep brackets": deep_brackets,
+    "temps": temps,
+    "phis": phis,
+    "member loads": member_loads,
+    "comments and strings": comments_and_strings,
+}
+
+
+def listing(name, size, most_lines=1024):
+    """The listing of a family, of at most so many bytes and lines."""
+    lines, length = [], 0
+    for line in FAMILIES[name]():
+        length += len(line) + 1
+        if length > size or len(lines) == most_lines:
+            break
+        lines.append(line)
+    return "".join(line + "\n" for line in lines).encode()

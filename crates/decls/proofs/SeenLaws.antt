@@ -1,0 +1,368 @@
+-- Laws of the table of the registers that lines use. Assumes nothing.
+use Prim.Native.Nat.{ℕ, zero, suc, _+_, _≤_, _<_, min}
+use mathlib.Core.Path.{_≡_, refl, sym, ap, _∙_}
+use mathlib.Core.Bool.{Bool, true, false, cond, not, _&&_, _||_}
+use mathlib.Core.List.{List, [], _∷_, _++_}
+use native.Mathlib.Omega.{arith}
+use native.Mathlib.Numerals.{add-one}
+use borrow.Author.Tests.{lt-ltb, le-ltb, ltb-true, ltb-false, eq-eqb, ne-eqb, eqb-true, eqb-false}
+use lib.Dec.{eqb, ltb}
+use lib.ListN.{length, drop, getD, set, replicate, length-set, drop-of-length-le}
+use lib.Seq.{drop-cons, getD-set-same, getD-set-other}
+use Rattle.lines.specs.Lf.{part, upTo, linesOf}
+use Rattle.lines.proofs.Tests.{no, or-true, or-false}
+use Rattle.lines.proofs.LfLaws.{lines-at, lines-end, part-more, part-none}
+use Rattle.text.specs.Class.{isName}
+use Rattle.text.specs.Trim.{trimOf}
+use Rattle.names.specs.Names.{regOf, regIs}
+use Rattle.names.specs.declared.RegName.{RegName}
+use Rattle.names.specs.declared.RegName.the-variants as name
+use Rattle.parse.specs.Parse.{isDecl, parseOf, textOf}
+use Rattle.parse.specs.declared.Line.{Line}
+use Rattle.parse.specs.declared.Line.the-variants as line
+use Rattle.words.specs.Runs.{flush, runsGo, runs, countBy, readsOf}
+use Rattle.reading.specs.Uses.{lineReads, storesBy, lineStores, lineUses, usedIn}
+use Rattle.decls.specs.Seen.{markName, markRuns, markStore, markLine, markLines, AtMost, Says, marksNow, markOf, tableOf}
+
+-- ---- a store past the end
+
+pub set-past : (d : List ℕ) (v m : ℕ) → length d ≤ v → d ≡ set d v m
+set-past [] v m h = refl
+set-past (x ∷ d) zero m h = absurd (omega arith)
+set-past (x ∷ d) (suc v) m h = ap (λ (l : List ℕ). x ∷ l) (set-past d v m (omega arith))
+
+-- ---- the table keeps its length
+
+pub name-length : (m : ℕ) (r : RegName) (d : List ℕ) → length (markName m r d) ≡ length d
+name-length m name.None d = refl
+name-length m (name.Reg q) d = length-set d (q .0) m
+
+runs-length : (m : ℕ) (rs : List (List ℕ)) (d : List ℕ) → length (markRuns m rs d) ≡ length d
+unfolding markRuns
+runs-length m [] d = refl
+runs-length m (r ∷ rs) d = runs-length m rs (markName m (regOf r) d) ∙ name-length m (regOf r) d
+
+store-length : (m : ℕ) (p : Line) (d : List ℕ) → length (markStore m p d) ≡ length d
+store-length m line.Decl d = refl
+store-length m (line.Store s) d = length-set d (s .reg .0) m
+store-length m line.Other d = refl
+
+pub line-length : (m : ℕ) (l : List ℕ) (d : List ℕ) → length (markLine m l d) ≡ length d
+unfolding markLine
+line-length m l d = runs-length m (runs (textOf l (parseOf l))) (markStore m (parseOf l) d) ∙ store-length m (parseOf l) d
+
+pub lines-length : (m : ℕ) (ls : List (List ℕ)) (d : List ℕ) → length (markLines m ls d) ≡ length d
+unfolding markLines
+lines-length m [] d = refl
+lines-length m (l ∷ ls) d = lines-length m ls (markLine m l d) ∙ line-length m l d
+
+-- ---- what stands at a register below the end
+
+-- one test after the other
+after : (a b c : Bool) → b || (a || c) ≡ (a || b) || c
+after true true c = refl
+after true false c = refl
+after false true c = refl
+after false false c = refl
+
+set-says : (m k v : ℕ) (d : List ℕ) → v < length d → eqb (getD (set d k m) v 0) m ≡ eqb k v || eqb (getD d v 0) m
+set-says m k v d h = go (eqb k v) refl
+  where
+    go : (t : Bool) → eqb k v ≡ t → eqb (getD (set d k m) v 0) m ≡ t || eqb (getD d v 0) m
+    go true e = let q : k ≡ v = eqb-true k v e in eq-eqb _ m (ap (λ (n : ℕ). getD (set d n m) v 0) q ∙ getD-set-same d v m 0 h)
+    go false e = ap (λ (n : ℕ). eqb n m) (getD-set-other d k v m 0 (λ q. eqb-false k v e (sym q)))
+
+name-says : (m v : ℕ) (r : RegName) (d : List ℕ) → v < length d → eqb (getD (markName m r d) v 0) m ≡ regIs v r || eqb (getD d v 0) m
+name-says m v name.None d h = refl
+name-says m v (name.Reg q) d h = set-says m (q .0) v d h
+
+runs-says : (m v : ℕ) (rs : List (List ℕ)) (d : List ℕ) → v < length d →
+    eqb (getD (markRuns m rs d) v 0) m ≡ ltb 0 (countBy (λ (r : List ℕ). regIs v (regOf r)) rs) || eqb (getD d v 0) m
+unfolding markRuns countBy
+runs-says m v [] d h = refl
+runs-says m v (r ∷ rs) d h =
+    runs-says m v rs (markName m (regOf r) d) (omega (arith, name-length m (regOf r) d))
+    ∙ ap (λ (b : Bool). ltb 0 (countBy (λ (r : List ℕ). regIs v (regOf r)) rs) || b) (name-says m v (regOf r) d h)
+    ∙ go (regIs v (regOf r)) (countBy (λ (r : List ℕ). regIs v (regOf r)) rs)
+  where
+    go : (a : Bool) (n : ℕ) → ltb 0 n || (a || eqb (getD d v 0) m) ≡ ltb 0 (cond a (suc n) n) || eqb (getD d v 0) m
+    go true n = let z : 0 < suc n = omega arith in or-true (ltb 0 n) ∙ sym (ap (λ (b : Bool). b || eqb (getD d v 0) m) (lt-ltb 0 (suc n) z))
+    go false n = refl
+
+store-says : (m v : ℕ) (p : Line) (d : List ℕ) → v < length d → eqb (getD (markStore m p d) v 0) m ≡ storesBy v p || eqb (getD d v 0) m
+store-says m v line.Decl d h = refl
+store-says m v (line.Store s) d h = set-says m (s .reg .0) v d h
+store-says m v line.Other d h = refl
+
+line-says : (m v : ℕ) (l d : List ℕ) → v < length d → eqb (getD (markLine m l d) v 0) m ≡ lineUses v l || eqb (getD d v 0) m
+unfolding markLine lineUses lineStores lineReads
+line-says m v l d h =
+    let p : Line = parseOf l in
+    runs-says m v (runs (textOf l p)) (markStore m p d) (omega (arith, store-length m p d))
+    ∙ ap (λ (b : Bool). ltb 0 (readsOf v (textOf l p)) || b) (store-says m v p d h)
+    ∙ after (storesBy v p) (ltb 0 (readsOf v (textOf l p))) (eqb (getD d v 0) m)
+
+lines-says : (m v : ℕ) (ls : List (List ℕ)) (d : List ℕ) → v < length d → eqb (getD (markLines m ls d) v 0) m ≡ usedIn v ls || eqb (getD d v 0) m
+unfolding markLines usedIn
+lines-says m v [] d h = refl
+lines-says m v (l ∷ ls) d h =
+    lines-says m v ls (markLine m l d) (omega (arith, line-length m l d))
+    ∙ ap (λ (b : Bool). usedIn v ls || b) (line-says m v l d h)
+    ∙ after (lineUses v l) (usedIn v ls) (eqb (getD d v 0) m)
+
+-- ---- no mark is above
+
+set-most : (m k v : ℕ) (d : List ℕ) → getD d v 0 ≤ m → getD (set d k m) v 0 ≤ m
+set-most m k v [] h = h
+set-most m zero zero (x ∷ d) h = omega arith
+set-most m zero (suc v) (x ∷ d) h = h
+set-most m (suc k) zero (x ∷ d) h = h
+set-most m (suc k) (suc v) (x ∷ d) h = set-most m k v d h
+
+name-most : (m : ℕ) (r : RegName) (d : List ℕ) → AtMost m d → AtMost m (markName m r d)
+name-most m name.None d h = h
+name-most m (name.Reg q) d h = λ v. set-most m (q .0) v d (h v)
+
+runs-most : (m : ℕ) (rs : List (List ℕ)) (d : List ℕ) → AtMost m d → AtMost m (markRuns m rs d)
+unfolding markRuns
+runs-most m [] d h = h
+runs-most m (r ∷ rs) d h = runs-most m rs (markName m (regOf r) d) (name-most m (regOf r) d h)
+
+store-most : (m : ℕ) (p : Line) (d : List ℕ) → AtMost m d → AtMost m (markStore m p d)
+store-most m line.Decl d h = h
+store-most m (line.Store s) d h = λ v. set-most m (s .reg .0) v d (h v)
+store-most m line.Other d h = h
+
+pub lines-most : (m : ℕ) (ls : List (List ℕ)) (d : List ℕ) → AtMost m d → AtMost m (markLines m ls d)
+unfolding markLines markLine
+lines-most m [] d h = h
+lines-most m (l ∷ ls) d h = lines-most m ls (markLine m l d) (runs-most m (runs (textOf l (parseOf l))) (markStore m (parseOf l) d) (store-most m (parseOf l) d h))
+
+-- ---- a table marked anew, with a mark above those that it has
+
+pub more-most : (n m : ℕ) (d : List ℕ) → n ≤ m → AtMost n d → AtMost m d
+more-most n m d k h = λ v. let z = h v in omega arith
+
+pub says-new : (n m : ℕ) (ls : List (List ℕ)) (d : List ℕ) → n < m → AtMost n d → Says m ls (markLines m ls d)
+says-new n m ls d k h = λ v l. let z = h v in let e : eqb (getD d v 0) m ≡ false = ne-eqb (getD d v 0) m (λ q. absurd (omega arith)) in lines-says m v ls d (omega (arith, lines-length m ls d)) ∙ rw e (or-false (usedIn v ls))
+
+-- ---- the loop over a text: the run from a to i is open
+
+pub record RunsInv (m : ℕ) (s d₀ d : List ℕ) (a i : ℕ) : Type 0 where
+  pub a≤ : a ≤ i
+  pub i≤ : i ≤ length s
+  pub long : length d ≡ length d₀
+  pub so-far : markRuns m (runsGo (drop i s) (part a i s)) d ≡ markRuns m (runs s) d₀
+
+runs-flush : (m : ℕ) (cur : List ℕ) (rs : List (List ℕ)) (d : List ℕ) → markRuns m (flush cur ++ rs) d ≡ markRuns m rs (markName m (regOf cur) d)
+unfolding markRuns regOf
+runs-flush m [] rs d = refl
+runs-flush m (x ∷ cur) rs d = refl
+
+go-name : (x : ℕ) (xs cur : List ℕ) → isName x ≡ true → runsGo (x ∷ xs) cur ≡ runsGo xs (cur ++ (x ∷ []))
+unfolding runsGo
+go-name x xs cur e = rw e
+
+go-gap : (x : ℕ) (xs cur : List ℕ) → isName x ≡ false → runsGo (x ∷ xs) cur ≡ flush cur ++ runsGo xs []
+unfolding runsGo
+go-gap x xs cur e = rw e
+
+pub runs-start : (m : ℕ) (s d : List ℕ) → RunsInv m s d d 0 0
+unfolding runs
+runs-start m s d = record { a≤ = omega arith; i≤ = omega arith; long = refl; so-far = refl }
+
+module _ {m : ℕ} {s d₀ d : List ℕ} {a i : ℕ} (h : RunsInv m s d₀ d a i) where
+  pub runs-name : i < length s → isName (getD s i 0) ≡ true → RunsInv m s d₀ d a (i + 1)
+  runs-name k e = record {
+    a≤ = omega (arith, h .a≤);
+    i≤ = omega arith;
+    long = h .long;
+    so-far =
+        ap (λ (c : List ℕ). markRuns m (runsGo (drop (i + 1) s) c) d) (part-more s a i (h .a≤) k)
+        ∙ ap (λ (n : ℕ). markRuns m (runsGo (drop n s) (part a i s ++ (getD s i 0 ∷ []))) d) (add-one i)
+        ∙ ap (λ (r : List (List ℕ)). markRuns m r d) (sym (go-name (getD s i 0) (drop (suc i) s) (part a i s) e))
+        ∙ ap (λ (l : List ℕ). markRuns m (runsGo l (part a i s)) d) (sym (drop-cons s i 0 k))
+        ∙ h .so-far;
+  }
+
+  pub runs-gap : i < length s → isName (getD s i 0) ≡ false → (w d′ : List ℕ) → w ≡ part a i s → d′ ≡ markName m (regOf w) d → RunsInv m s d₀ d′ (i + 1) (i + 1)
+  runs-gap k e w d′ p q = record {
+    a≤ = omega arith;
+    i≤ = omega arith;
+    long = ap length q ∙ name-length m (regOf w) d ∙ h .long;
+    so-far =
+        ap (λ (c : List ℕ). markRuns m (runsGo (drop (i + 1) s) c) d′) (part-none s (i + 1))
+        ∙ ap (λ (n : ℕ). markRuns m (runsGo (drop n s) []) d′) (add-one i)
+        ∙ ap (λ (l : List ℕ). markRuns m (runsGo (drop (suc i) s) []) l) (q ∙ ap (λ (c : List ℕ). markName m (regOf c) d) p)
+        ∙ sym (runs-flush m (part a i s) (runsGo (drop (suc i) s) []) d)
+        ∙ ap (λ (r : List (List ℕ)). markRuns m r d) (sym (go-gap (getD s i 0) (drop (suc i) s) (part a i s) e))
+        ∙ ap (λ (l : List ℕ). markRuns m (runsGo l (part a i s)) d) (sym (drop-cons s i 0 k))
+        ∙ h .so-far;
+  }
+
+  go-end : (cur : List ℕ) → markRuns m (runsGo [] cur) d ≡ markName m (regOf cur) d
+  unfolding runsGo markRuns regOf
+  go-end [] = refl
+  go-end (x ∷ cur) = refl
+
+  pub runs-end : length s ≤ i → (w d′ : List ℕ) → w ≡ part a i s → d′ ≡ markName m (regOf w) d → d′ ≡ markRuns m (runs s) d₀
+  runs-end k w d′ p q =
+      q ∙ ap (λ (c : List ℕ). markName m (regOf c) d) p ∙ sym (go-end (part a i s))
+      ∙ ap (λ (l : List ℕ). markRuns m (runsGo l (part a i s)) d) (sym (drop-of-length-le s k)) ∙ h .so-far
+
+-- ---- a line, read once
+
+pub line-marked : (m : ℕ) (l d d₁ d₂ t : List ℕ) (p : Line) → p ≡ parseOf l → d₁ ≡ markStore m p d → t ≡ textOf l p → d₂ ≡ markRuns m (runs t) d₁ → d₂ ≡ markLine m l d
+unfolding markLine
+line-marked m l d d₁ d₂ t p e x y z =
+    z ∙ ap (λ (c : List ℕ). markRuns m (runs c) d₁) (y ∙ ap (textOf l) e) ∙ ap (markRuns m (runs (textOf l (parseOf l)))) (x ∙ ap (λ (q : Line). markStore m q d) e)
+
+-- ---- the loop over lines: those from i on are still to be marked
+
+pub record LinesInv (m : ℕ) (s d₀ d : List ℕ) (i : ℕ) : Type 0 where
+  pub long : length d ≡ length d₀
+  pub so-far : markLines m (linesOf (drop i s)) d ≡ markLines m (linesOf s) d₀
+
+lines-cons : (m : ℕ) (l : List ℕ) (ls : List (List ℕ)) (d : List ℕ) → markLines m (l ∷ ls) d ≡ markLines m ls (markLine m l d)
+unfolding markLines
+lines-cons m l ls d = refl
+
+lines-none : (m : ℕ) (d : List ℕ) → markLines m [] d ≡ d
+unfolding markLines
+lines-none m d = refl
+
+pub lines-start : (m : ℕ) (s d : List ℕ) → LinesInv m s d d 0
+lines-start m s d = record { long = refl; so-far = refl }
+
+module _ {m : ℕ} {s d₀ d : List ℕ} {i : ℕ} (h : LinesInv m s d₀ d i) where
+  pub lines-on : (e j : ℕ) (l d′ : List ℕ) → i < length s → e ≡ i + upTo 10 (drop i s) → l ≡ part i e s → d′ ≡ markLine m l d → j ≡ min (e + 1) (length s) → LinesInv m s d₀ d′ j
+  lines-on e j l d′ k q p x z = record {
+    long = ap length x ∙ line-length m l d ∙ h .long;
+    so-far =
+        ap (λ (n : ℕ). markLines m (linesOf (drop n s)) d′) z
+        ∙ ap (markLines m (linesOf (drop (min (e + 1) (length s)) s))) (x ∙ ap (λ (c : List ℕ). markLine m c d) p)
+        ∙ sym (ap (λ (ls : List (List ℕ)). markLines m ls d) (lines-at s i e k q) ∙ lines-cons m (part i e s) (linesOf (drop (min (e + 1) (length s)) s)) d)
+        ∙ h .so-far;
+  }
+
+  pub lines-done : length s ≤ i → d ≡ markLines m (linesOf s) d₀
+  lines-done k = sym (lines-none m d) ∙ ap (λ (ls : List (List ℕ)). markLines m ls d) (sym (lines-end s i k)) ∙ h .so-far
+
+-- ---- a line that may mark its region
+
+module _ (l : List ℕ) (run : List (List ℕ)) (a m : ℕ) (d : List ℕ) where
+  pub once-same : marksNow l a m ≡ false → (m ≡ markOf l a m) × (d ≡ tableOf l run a m d)
+  unfolding markOf tableOf
+  once-same e = rw e (refl, refl)
+
+  pub once-new : marksNow l a m ≡ true → (a + 1 ≡ markOf l a m) × (markLines (a + 1) run d ≡ tableOf l run a m d)
+  unfolding markOf tableOf
+  once-new e = rw e (refl, refl)
+
+pub now-marked : (l : List ℕ) (a m : ℕ) → a < m → marksNow l a m ≡ false
+unfolding marksNow
+now-marked l a m h = rw (lt-ltb a m h)
+
+pub now-first : (l t : List ℕ) (a m : ℕ) (b : Bool) → m ≤ a → t ≡ trimOf l → isDecl t ≡ b → marksNow l a m ≡ b
+unfolding marksNow
+now-first l t a m b h z e = rw (le-ltb a m h) (sym (ap isDecl z) ∙ e)
+
+-- ---- a table with the last mark m: no mark is above it, and where the region that begins at a is marked, the table speaks of it
+
+pub record Marks (run : List (List ℕ)) (a m : ℕ) (d : List ℕ) : Type 0 where
+  pub most : AtMost m d
+  pub says : a < m → Says m run d
+
+-- a region is marked anew where the last mark is not above the place at which it begins
+marks-above : (l : List ℕ) (a m : ℕ) → marksNow l a m ≡ true → m ≤ a
+unfolding marksNow
+marks-above l a m e = go (ltb a m) refl
+  where
+    go : (b : Bool) → ltb a m ≡ b → m ≤ a
+    go true q = no (sym (now-marked l a m (ltb-true a m q)) ∙ e)
+    go false q = ltb-false a m q
+
+module _ {run : List (List ℕ)} {a m : ℕ} {d : List ℕ} (h : Marks run a m d) (l : List ℕ) where
+  fresh : m ≤ a → Marks run a (a + 1) (markLines (a + 1) run d)
+  fresh k = record {
+    most = lines-most (a + 1) run d (more-most m (a + 1) d (omega arith) (h .most));
+    says = λ _. says-new m (a + 1) run d (omega arith) (h .most);
+  }
+
+  marks-once : Marks run a (markOf l a m) (tableOf l run a m d)
+  marks-once = go (marksNow l a m) refl
+    where
+      go : (b : Bool) → marksNow l a m ≡ b → Marks run a (markOf l a m) (tableOf l run a m d)
+      go false e = let s = once-same l run a m d e in rw (sym (s .0), sym (s .1)) h
+      go true e = let s = once-new l run a m d e in rw (sym (s .0), sym (s .1)) (fresh (marks-above l a m e))
+
+mark-small : (l : List ℕ) (a m n : ℕ) → m ≤ n → a + 1 ≤ n → markOf l a m ≤ n
+unfolding markOf
+mark-small l a m n p q = go (marksNow l a m)
+  where
+    go : (b : Bool) → cond b (a + 1) m ≤ n
+    go true = q
+    go false = p
+
+table-length : (l : List ℕ) (run : List (List ℕ)) (a m : ℕ) (d : List ℕ) → length (tableOf l run a m d) ≡ length d
+unfolding tableOf
+table-length l run a m d = go (marksNow l a m)
+  where
+    go : (b : Bool) → length (cond b (markLines (a + 1) run d) d) ≡ length d
+    go true = lines-length (a + 1) run d
+    go false = refl
+
+-- after a declaration its region is marked
+mark-decl : (l : List ℕ) (a m : ℕ) → isDecl (trimOf l) ≡ true → a < markOf l a m
+unfolding markOf marksNow
+mark-decl l a m e = rw e (go (ltb a m) refl)
+  where
+    go : (b : Bool) → ltb a m ≡ b → a < cond (not b && true) (a + 1) m
+    go true q = ltb-true a m q
+    go false q = omega arith
+
+-- ---- the loop over a text: the part from a to b is the region of the line above, and m the last mark
+
+pub record TableInv (t d₀ d : List ℕ) (a b m i : ℕ) : Type 0 where
+  pub a≤ : a ≤ i
+  pub m≤ : m ≤ i
+  pub long : length d ≡ length d₀
+  pub marks : Marks (linesOf (part a b t)) a m d
+
+pub table-start : (t d : List ℕ) (b : ℕ) → AtMost 0 d → TableInv t d d 0 b 0 0
+table-start t d b h = record { a≤ = omega arith; m≤ = omega arith; long = refl; marks = record { most = h; says = λ k. absurd (omega arith) } }
+
+module _ {t d₀ d : List ℕ} {a b m i : ℕ} (h : TableInv t d₀ d a b m i) where
+  -- a region that begins here is not marked yet
+  pub table-new : (r : ℕ) → TableInv t d₀ d i r m i
+  table-new r = record {
+    a≤ = omega arith;
+    m≤ = h .m≤;
+    long = h .long;
+    marks = record { most = h .marks .most; says = λ k. absurd (omega (arith, h .m≤)) };
+  }
+
+  module _ (l run : List ℕ) (y : run ≡ part a b t) (m′ : ℕ) (d′ : List ℕ) (p : m′ ≡ markOf l a m) (q : d′ ≡ tableOf l (linesOf run) a m d) where
+    table-marks : Marks (linesOf (part a b t)) a m′ d′
+    table-marks = rw (p, q ∙ ap (λ (r : List ℕ). tableOf l (linesOf r) a m d) y) (marks-once (h .marks) l)
+
+    pub table-says : isDecl (trimOf l) ≡ true → Says m′ (linesOf run) d′
+    table-says e = rw y (table-marks .says (omega (arith, p, mark-decl l a m e)))
+
+    pub table-on : (e i′ : ℕ) → i < length t → e ≡ i + upTo 10 (drop i t) → i′ ≡ min (e + 1) (length t) → TableInv t d₀ d′ a b m′ i′
+    table-on e i′ k x z = record {
+      a≤ = omega (arith, h .a≤);
+      m≤ = omega (arith, p, mark-small l a m i′ (omega (arith, h .m≤)) (omega (arith, h .a≤)));
+      long = ap length q ∙ table-length l (linesOf run) a m d ∙ h .long;
+      marks = table-marks;
+    }
+
+-- ---- a table of zeros holds no mark
+
+pub zeros-most : (n : ℕ) → AtMost 0 (replicate n 0)
+zeros-most n = λ v. go n v
+  where
+    go : (n v : ℕ) → getD (replicate {A = ℕ} n 0) v 0 ≤ 0
+    go zero v = omega arith
+    go (suc n) zero = omega arith
+    go (suc n) (suc v) = go n v

@@ -1,0 +1,67 @@
+-- The table of the registers that lines use: what marking them leaves in it, and what it then says. Assumes nothing.
+use Prim.Native.Nat.{ℕ, _+_, _≤_, _<_}
+use mathlib.Core.Path.{_≡_}
+use mathlib.Core.Bool.{Bool, cond, not, _&&_}
+use mathlib.Core.List.{List, [], _∷_}
+use lib.Dec.{eqb, ltb}
+use lib.ListN.{length, getD, set}
+use Rattle.text.specs.Trim.{trimOf}
+use Rattle.names.specs.Names.{regOf}
+use Rattle.names.specs.declared.RegName.{RegName}
+use Rattle.names.specs.declared.RegName.the-variants as name
+use Rattle.parse.specs.Parse.{isDecl, parseOf, textOf}
+use Rattle.parse.specs.declared.Line.{Line}
+use Rattle.parse.specs.declared.Line.the-variants as line
+use Rattle.words.specs.Runs.{runs}
+use Rattle.reading.specs.Uses.{usedIn}
+
+-- the table d after the mark m of the register that a name is; a register past its end leaves it as it is
+abbrev pub markName : ℕ → RegName → List ℕ → List ℕ
+markName m name.None d = d
+markName m (name.Reg q) d = set d (q .0) m
+
+-- after the marks of the registers that runs name
+unfoldable pub markRuns : ℕ → List (List ℕ) → List ℕ → List ℕ
+markRuns m [] d = d
+markRuns m (r ∷ rs) d = markRuns m rs (markName m (regOf r) d)
+
+-- after the mark of the register that a line stores
+abbrev pub markStore : ℕ → Line → List ℕ → List ℕ
+markStore m line.Decl d = d
+markStore m (line.Store s) d = set d (s .reg .0) m
+markStore m line.Other d = d
+
+-- after the marks of the registers that a line uses
+unfoldable pub markLine : ℕ → List ℕ → List ℕ → List ℕ
+unfolding markRuns
+markLine m l d = markRuns m (runs (textOf l (parseOf l))) (markStore m (parseOf l) d)
+
+-- after those of lines
+unfoldable pub markLines : ℕ → List (List ℕ) → List ℕ → List ℕ
+unfolding markLine
+markLines m [] d = d
+markLines m (l ∷ ls) d = markLines m ls (markLine m l d)
+
+-- no mark of the table is above m
+abbrev pub AtMost : ℕ → List ℕ → Type 0
+AtMost m d = (v : ℕ) → getD d v 0 ≤ m
+
+-- of the registers below its end, the table has the mark m exactly at those that lines use
+abbrev pub Says : ℕ → List (List ℕ) → List ℕ → Type 0
+Says m ls d = (v : ℕ) → v < length d → eqb (getD d v 0) m ≡ usedIn v ls
+
+-- ---- the mark of a region is one more than the place a at which it begins; m is the last mark
+
+-- a line is a declaration, and its region is not marked yet
+unfoldable pub marksNow : List ℕ → ℕ → ℕ → Bool
+marksNow l a m = not (ltb a m) && isDecl (trimOf l)
+
+-- the last mark after it
+unfoldable pub markOf : List ℕ → ℕ → ℕ → ℕ
+unfolding marksNow
+markOf l a m = cond (marksNow l a m) (a + 1) m
+
+-- the table after it, where run is its region
+unfoldable pub tableOf : List ℕ → List (List ℕ) → ℕ → ℕ → List ℕ → List ℕ
+unfolding marksNow markLines
+tableOf l run a m d = cond (marksNow l a m) (markLines (a + 1) run d) d

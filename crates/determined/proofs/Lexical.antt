@@ -1,0 +1,29 @@
+-- Each public function of crate lexical: its contract fixes its outcome. Assumes nothing.
+use mathlib.Core.Path.{sym, _∙_}
+use Rattle.lines.proofs.OutLaws.{wrote-once}
+use Rattle.lexical.proofs as lexical
+use Rattle.determined.proofs.Outcomes.{Determined, fixed}
+
+pub token-at-fixed : Determined lexical.token_at.ended (λ κs z. z) lexical.token_at.Reads.ensures
+token-at-fixed = fixed lexical.token_at.Reads.Learnt (λ κs a x y l m. l ∙ sym m)
+
+pub no-tail-fixed : Determined lexical.no_tail.ended (λ κs z. z) lexical.no_tail.Reads.ensures
+no-tail-fixed = fixed lexical.no_tail.Reads.Learnt (λ κs a x y l m. l ∙ sym m)
+
+pub push-fixed : Determined lexical.push.ended (λ κs z. z) lexical.push.Reads.ensures
+push-fixed = fixed lexical.push.Reads.Learnt (λ κs a x y l m. l ∙ sym m)
+
+pub step-at-fixed : Determined lexical.step_at.ended (λ κs z. z) lexical.step_at.Reads.ensures
+step-at-fixed = fixed lexical.step_at.Reads.Learnt (λ κs a x y l m. l ∙ sym m)
+
+pub strip-lexical-fixed : Determined lexical.strip_lexical.ended (λ κs z. z) lexical.strip_lexical.Reads.ensures
+strip-lexical-fixed = fixed lexical.strip_lexical.Reads.Learnt (λ κs a x y l m. wrote-once l m)
+
+pub last-char-fixed : Determined lexical.last_char.ended (λ κs z. z) lexical.last_char.Reads.ensures
+last-char-fixed = fixed lexical.last_char.Reads.Learnt (λ κs a x y l m. l ∙ sym m)
+
+pub phi-rhs-pure-fixed : Determined lexical.phi_rhs_pure.ended (λ κs z. z) lexical.phi_rhs_pure.Reads.ensures
+phi-rhs-pure-fixed = fixed lexical.phi_rhs_pure.Reads.Learnt (λ κs a x y l m. l ∙ sym m)
+
+pub next-word-fixed : Determined lexical.next_word.ended (λ κs z. z) lexical.next_word.Reads.ensures
+next-word-fixed = fixed lexical.next_word.Reads.Learnt (λ κs a x y l m. l ∙ sym m)

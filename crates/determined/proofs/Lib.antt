@@ -1,0 +1,13 @@
+pub mod Outcomes
+pub mod Lines
+pub mod Text
+pub mod Names
+pub mod Parse
+pub mod Expr
+pub mod Words
+pub mod Lexical
+pub mod Place
+pub mod Reading
+pub mod Forms
+pub mod Decls
+pub mod Temps

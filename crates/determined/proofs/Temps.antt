@@ -1,0 +1,8 @@
+-- Each public function of crate temps: its contract fixes its outcome. Assumes nothing.
+use mathlib.Core.Path.{sym, _∙_}
+use Rattle.lines.proofs.OutLaws.{wrote-once}
+use Rattle.temps.proofs as temps
+use Rattle.determined.proofs.Outcomes.{Determined, fixed-by, one, more}
+
+pub prune-dead-temps-fixed : Determined temps.prune_dead_temps.ended (λ κs z. z) temps.prune_dead_temps.Reads.ensures
+prune-dead-temps-fixed = fixed-by temps.prune_dead_temps.Reads.Learnt (λ w κs a x. more w (one w)) (λ κs a x y l m. (l .1 ∙ sym (m .1), wrote-once (l .0) (m .0)))

@@ -1,0 +1,1 @@
+// What each public function's contract fixes: theorems alone.

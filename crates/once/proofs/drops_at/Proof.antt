@@ -1,0 +1,125 @@
+use borrow.Author.Needs.{needs}
+use mathlib.Core.Path.{refl, _∙_}
+use native.Mathlib.Omega.{arith}
+use Rattle.lines.proofs.LfLaws.{find-le}
+use Rattle.reading.specs.Reading.{plain}
+use Rattle.once.proofs.Blanks.{blank-less}
+use Rattle.once.proofs.Decides.{value-room}
+use Rattle.once.proofs.Fills.{first-end, first-short, first-line}
+use Rattle.once.proofs.drops_at.Statement.{statement}
+use Rattle.once.proofs.drops_at.Tie as tie
+use Rattle.once.proofs.drops_at.Reads as reads
+use Rattle.once.proofs.drops_at.Lts as lts
+use Rattle.lines.proofs.after.Reads as after-reads
+use Rattle.lines.proofs.find_byte.Reads as find-byte-reads
+use Rattle.once.proofs.line_drops.Reads as line-drops-reads
+
+-- src/lib.rt:342:9
+returns : tie.Need-returns
+returns c = let a = c .before .before .before .before .args in (first-end plain (a .text .now) (a .paths .now) (a .i) (a .k) (a .in-loop) (c .if1 .taken), refl)
+
+-- src/lib.rt:345:9
+returns-2 : tie.Need-returns-2
+returns-2 c = let a = c .before .before .before .before .before .args in (first-short plain (a .text .now) (a .paths .now) (a .i) (a .k) (a .in-loop) (c .if2 .taken), refl)
+
+-- src/lib.rt:347:9
+find-byte-requires : tie.Need-find-byte-requires
+find-byte-requires c κs = search needs
+
+-- src/lib.rt:348:9
+after-requires : tie.Need-after-requires
+after-requires c κs = search needs
+
+-- src/lib.rt:349:13
+add-n : tie.Need-add-n
+add-n c = search needs
+
+-- src/lib.rt:350:16
+sub-line-drops : tie.Need-sub-line-drops
+sub-line-drops c = search needs
+
+-- src/lib.rt:350:16
+part-line-drops-start : tie.Need-part-line-drops-start
+part-line-drops-start c = search needs
+
+-- src/lib.rt:350:16
+part-line-drops-end : tie.Need-part-line-drops-end
+part-line-drops-end c = let a = c .before .before .before .before .before .before .before .args in omega (arith, find-le 10 (a .text .now) (a .i) (c .before .find-byte .result) (omega (arith, c .before .before .before .if1 .left)) (c .before .find-byte .ensures))
+
+-- src/lib.rt:350:29
+sub-line-drops-2 : tie.Need-sub-line-drops-2
+sub-line-drops-2 c = search needs
+
+-- src/lib.rt:350:29
+part-line-drops-start-2 : tie.Need-part-line-drops-start-2
+part-line-drops-start-2 c = search needs
+
+-- src/lib.rt:350:29
+part-line-drops-end-2 : tie.Need-part-line-drops-end-2
+part-line-drops-end-2 c = search needs
+
+-- src/lib.rt:350:41
+mul-line-drops : tie.Need-mul-line-drops
+mul-line-drops c = search needs
+
+-- src/lib.rt:350:41
+sub-line-drops-3 : tie.Need-sub-line-drops-3
+sub-line-drops-3 c = search needs
+
+-- src/lib.rt:350:41
+part-line-drops-start-3 : tie.Need-part-line-drops-start-3
+part-line-drops-start-3 c = search needs
+
+-- src/lib.rt:350:41
+part-line-drops-end-3 : tie.Need-part-line-drops-end-3
+part-line-drops-end-3 c = search needs
+
+-- src/lib.rt:350:54
+mul-line-drops-2 : tie.Need-mul-line-drops-2
+mul-line-drops-2 c = search needs
+
+-- src/lib.rt:350:54
+shared-slice-read-line-drops : tie.Need-shared-slice-read-line-drops
+shared-slice-read-line-drops c = search needs
+
+-- src/lib.rt:350:5
+line-drops-requires : tie.Need-line-drops-requires
+line-drops-requires c κs = let a = c .before .before .before .before .before .before .before .before .before .before .before .before .args in blank-less (value-room (a .i) (c .before .before .before .before .before .before .find-byte .result) (a .text .now)) (c .before .before .before .before .before .before .before .before .before .before .before .before .pre)
+
+-- src/lib.rt:329:1
+same-length : tie.Need-same-length
+same-length c = search needs
+
+-- src/lib.rt:329:1
+returns-3 : tie.Need-returns-3
+returns-3 c =
+    let a = c .before .before .before .before .before .before .before .before .before .before .before .before .before .before .before .args in
+    let e = c .before .before .line-drops .ensures in
+    let f = c .before .before .before .before .before .before .before .before .before .find-byte in
+    let j = c .before .before .before .before .before .before .before .before .after in
+    (e .0 ∙ first-line plain (a .text .now) (a .paths .now) (a .i) (a .k) (a .in-loop) (f .result) (j .result) _ (omega (arith, c .before .before .before .before .before .before .before .before .before .before .before .if1 .left)) (f .ensures) (j .ensures) (omega (arith, c .before .before .before .before .before .before .before .before .before .before .if2 .left)) refl, e .1)
+
+pub drops-at-spec : {M : Type 1} → statement M
+drops-at-spec =
+    tie.close
+    (tie.spec
+    returns
+    returns-2
+    find-byte-requires
+    after-requires
+    add-n
+    sub-line-drops
+    part-line-drops-start
+    part-line-drops-end
+    sub-line-drops-2
+    part-line-drops-start-2
+    part-line-drops-end-2
+    mul-line-drops
+    sub-line-drops-3
+    part-line-drops-start-3
+    part-line-drops-end-3
+    mul-line-drops-2
+    shared-slice-read-line-drops
+    line-drops-requires
+    same-length
+    returns-3)

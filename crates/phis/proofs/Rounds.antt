@@ -1,0 +1,101 @@
+-- Laws of the three rounds: what one wrote is the text of the next, and the scratch after them. Assumes nothing.
+use Prim.Native.Nat.{ℕ, zero, suc, _+_, _-_, _≤_, _<_, max}
+use mathlib.Core.Path.{_≡_, refl, sym, ap, subst, _∙_}
+use mathlib.Core.List.{List, [], _∷_, _++_}
+use native.Mathlib.Omega.{arith}
+use native.Mathlib.Numerals.{add-one}
+use lib.ListN.{length, take, drop, set, replicate}
+use Rattle.lines.specs.Lf.{part, linesOf, unlines}
+use Rattle.lines.specs.Out.{putAt, Wrote}
+use Rattle.lines.proofs.OutLaws.{wrote-nil, wrote-more, wrote-as, wrote-part}
+use Rattle.reading.specs.Reading.{plain}
+use Rattle.phis.specs.Phis.{round, pruneDeadPhis}
+use Rattle.phis.specs.Rounds.{longest}
+use Rattle.phis.proofs.Writes.{drop-more}
+use Rattle.phis.proofs.Keeps.{round-reads}
+
+-- ---- wiping
+
+zeros-more : (i : ℕ) → replicate i 0 ++ (0 ∷ []) ≡ replicate {A = ℕ} (suc i) 0
+zeros-more zero = refl
+zeros-more (suc i) = ap (λ (l : List ℕ). 0 ∷ l) (zeros-more i)
+
+zeros-length : (n : ℕ) → length (replicate {A = ℕ} n 0) ≡ n
+zeros-length zero = refl
+zeros-length (suc n) = ap suc (zeros-length n)
+
+pub wipe-start : (d : List ℕ) → Wrote d 0 (replicate 0 0) d 0
+wipe-start d = wrote-nil d 0 (omega arith)
+
+pub wipe-on : {d₀ d : List ℕ} {i : ℕ} → i < length d → Wrote d₀ 0 (replicate i 0) d i → Wrote d₀ 0 (replicate (i + 1) 0) (set d i 0) (i + 1)
+wipe-on {d₀} {d} {i} h w = wrote-as (zeros-more i ∙ ap (λ (n : ℕ). replicate n 0) (sym (add-one i))) (wrote-more 0 w h)
+
+pub wipe-end : {d₀ d : List ℕ} {i n : ℕ} → i ≡ n → Wrote d₀ 0 (replicate i 0) d i → Wrote d₀ 0 (replicate n 0) d n
+wipe-end {d₀} {d} e w = subst (λ (k : ℕ). Wrote d₀ 0 (replicate k 0) d k) e w
+
+-- what was used of the scratch is no longer than what is wiped
+wiped : (n : ℕ) (c d d′ : List ℕ) → drop n d ≡ drop n c → length d ≡ length c → Wrote d 0 (replicate n 0) d′ n → Wrote c 0 (replicate n 0) d′ n
+unfolding putAt
+wiped n c d d′ e s w = record {
+  fits = omega (arith, w .fits);
+  place = w .place;
+  holds =
+      let z : 0 + length (replicate {A = ℕ} n 0) ≡ n = omega (arith, zeros-length n) in
+      w .holds ∙ ap (λ (k : ℕ). replicate n 0 ++ drop k d) z ∙ ap (λ (r : List ℕ). replicate n 0 ++ r) e ∙ ap (λ (k : ℕ). replicate n 0 ++ drop k c) (sym z);
+}
+
+-- ---- one round after the other
+
+-- x is what a round wrote
+module _ (t x d d′ : List ℕ) (r : ℕ) (w : Wrote d 0 (unlines (round plain (linesOf t))) d′ r) (z : x ≡ part 0 r d′) where
+  wrote-text : x ≡ unlines (round plain (linesOf t))
+  wrote-text = let q : r - 0 ≡ r = omega arith in z ∙ ap (λ (n : ℕ). take n d′) q ∙ wrote-part w
+
+  pub next-lines : linesOf x ≡ round plain (linesOf t)
+  next-lines = ap linesOf wrote-text ∙ round-reads plain t
+
+  pub next-length : length x ≡ length (unlines (round plain (linesOf t)))
+  next-length = ap length wrote-text
+
+-- the text and the place at another name
+pub written : {d xs d′ : List ℕ} {r : ℕ} (ys : List ℕ) → xs ≡ ys → Wrote d 0 xs d′ r → Wrote d 0 ys d′ (length ys)
+written ys e w = let v = wrote-as e w in record { fits = v .fits; place = omega arith; holds = v .holds }
+
+-- the second round reads what the first wrote, x, and the third what the second wrote, y
+module _ (t x y d d′ e e′ : List ℕ) (a b : ℕ) (w : Wrote d 0 (unlines (round plain (linesOf t))) d′ a) (z : x ≡ part 0 a d′) (v : Wrote e 0 (unlines (round plain (linesOf x))) e′ b) (u : y ≡ part 0 b e′) where
+  second-text : unlines (round plain (linesOf x)) ≡ unlines (round plain (round plain (linesOf t)))
+  second-text = ap (λ (ls : List (List ℕ)). unlines (round plain ls)) (next-lines t x d d′ a w z)
+
+  pub third-text : unlines (round plain (linesOf y)) ≡ unlines (pruneDeadPhis plain (linesOf t))
+  unfolding pruneDeadPhis
+  third-text = ap (λ (ls : List (List ℕ)). unlines (round plain ls)) (next-lines x y e e′ b v u ∙ ap (round plain) (next-lines t x d d′ a w z))
+
+  pub first-wrote : Wrote d 0 (unlines (round plain (linesOf t))) d′ (length (unlines (round plain (linesOf t))))
+  first-wrote = written (unlines (round plain (linesOf t))) refl w
+
+  pub second-wrote : Wrote e 0 (unlines (round plain (round plain (linesOf t)))) e′ (length (unlines (round plain (round plain (linesOf t)))))
+  second-wrote = written (unlines (round plain (round plain (linesOf t)))) second-text v
+
+  pub second-length : length y ≡ length (unlines (round plain (round plain (linesOf t))))
+  second-length = next-length x y e e′ b v u ∙ ap length second-text
+
+  -- how much is wiped
+  pub wiped-length : (m n : ℕ) → m ≡ max a b → n ≡ max (length t) m → n ≡ longest plain t
+  unfolding longest
+  wiped-length m n p q = omega (arith, w .place, v .place, ap length second-text)
+
+  -- the three texts fit
+  pub longest-fits : (length t ≤ longest plain t) × ((length x ≤ longest plain t) × (length y ≤ longest plain t))
+  unfolding longest
+  longest-fits = (omega arith, (omega (arith, next-length t x d d′ a w z), omega (arith, second-length)))
+
+-- the first text fits
+pub longest-first : (t : List ℕ) → (length t ≤ longest plain t) × (length (unlines (round plain (linesOf t))) ≤ longest plain t)
+unfolding longest
+longest-first t = (omega arith, omega arith)
+
+-- the scratch after three rounds that used n, m and k bytes of it, wiped
+pub scratch-end : (c c₁ c₂ c₃ d : List ℕ) (n m k w : ℕ) → drop n c₁ ≡ drop n c → drop m c₂ ≡ drop m c₁ → drop k c₃ ≡ drop k c₂ → length c₃ ≡ length c →
+    (n ≤ w) × ((m ≤ w) × (k ≤ w)) → Wrote c₃ 0 (replicate w 0) d w → Wrote c 0 (replicate w 0) d w
+scratch-end c c₁ c₂ c₃ d n m k w e f g s (p, (q, r)) v =
+    wiped w c c₃ d (drop-more k w c₃ c₂ r g ∙ drop-more m w c₂ c₁ q f ∙ drop-more n w c₁ c p e) s v

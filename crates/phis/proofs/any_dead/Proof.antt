@@ -1,0 +1,67 @@
+-- `phis::any_dead` meets its contract. Assumes nothing.
+use Prim.Native.Nat.{ℕ, _-_, _≤_}
+use native.Mathlib.Omega.{arith}
+use borrow.Author.Needs.{needs}
+use mathlib.Core.Path.{_≡_, sym, ap, _∙_}
+use mathlib.Core.List.{List}
+use lib.ListN.{length, drop}
+use Rattle.lines.specs.Lf.{linesOf}
+use Rattle.lines.proofs.Tests.{so}
+use Rattle.names.specs.declared.PhiName.{PhiName}
+use Rattle.phis.specs.Phis.{deadBy, anyDead}
+use Rattle.phis.proofs.Searches.{anyOne, storesDead, dead-any, line-hit, line-on, line-end}
+use Rattle.phis.proofs.any_dead.Statement.{statement}
+use Rattle.phis.proofs.any_dead.Tie as tie
+
+abbrev Inv-loop : tie.InvT-loop
+Inv-loop text i₀ i = (i ≤ length text) × (anyOne (λ (l : List ℕ). storesDead (linesOf text) l) (linesOf (drop i text)) ≡ anyDead (linesOf text) (linesOf text))
+
+abbrev μ-loop : tie.MeasureT-loop
+μ-loop text i₀ i = length text - i
+
+loop-holds : tie.Need-loop-holds Inv-loop μ-loop
+loop-holds c = (omega arith, sym (dead-any (linesOf (c .before .args .text .now)) (linesOf (c .before .args .text .now))))
+
+find-byte-requires : tie.Need-find-byte-requires Inv-loop μ-loop
+find-byte-requires c κs = search needs
+
+cut-requires : tie.Need-cut-requires Inv-loop μ-loop
+cut-requires c κs = search needs
+
+line-store-requires : tie.Need-line-store-requires Inv-loop μ-loop
+line-store-requires c κs = search needs
+
+dead-by-requires : tie.Need-dead-by-requires Inv-loop μ-loop
+dead-by-requires c κs = search needs
+
+returns : tie.Need-returns Inv-loop μ-loop
+returns c = sym (line-hit (λ (l : List ℕ). storesDead (linesOf (c .before .before .before .before .before .before .before .before .args .text .now)) l) (c .before .before .before .before .before .before .before .before .args .text .now) (c .before .before .before .before .before .before .loop .i) (c .before .before .before .before .find-byte .result) (c .before .before .before .before .before .loop-test .taken) (c .before .before .before .before .find-byte .ensures) (c .before .before .before .cut .result .now) (c .before .before .before .cut .ensures) (so (c .before .dead-by .ensures ∙ ap (λ (n : PhiName). deadBy n (linesOf (c .before .before .before .before .before .before .before .before .args .text .now))) (c .before .before .line-store .ensures)) (c .if1 .taken))) ∙ c .before .before .before .before .before .before .loop .inv .1
+
+after-requires : tie.Need-after-requires Inv-loop μ-loop
+after-requires c κs = search needs
+
+loop-less : tie.Need-loop-less Inv-loop μ-loop
+loop-less c = omega (arith, c .after .ensures, c .before .before .before .before .before .find-byte .ensures)
+
+loop-again : tie.Need-loop-again Inv-loop μ-loop
+loop-again c = (omega (arith, c .after .ensures), sym (line-on (λ (l : List ℕ). storesDead (linesOf (c .before .before .before .before .before .before .before .before .before .args .text .now)) l) (c .before .before .before .before .before .before .before .before .before .args .text .now) (c .before .before .before .before .before .before .before .loop .i) (c .before .before .before .before .before .find-byte .result) (c .before .before .before .before .before .before .loop-test .taken) (c .before .before .before .before .before .find-byte .ensures) (c .before .before .before .before .cut .result .now) (c .before .before .before .before .cut .ensures) (c .after .result) (c .after .ensures) (so (c .before .before .dead-by .ensures ∙ ap (λ (n : PhiName). deadBy n (linesOf (c .before .before .before .before .before .before .before .before .before .args .text .now))) (c .before .before .before .line-store .ensures)) (c .before .if1 .left))) ∙ c .before .before .before .before .before .before .before .loop .inv .1)
+
+returns-2 : tie.Need-returns-2 Inv-loop μ-loop
+returns-2 c = sym (line-end (λ (l : List ℕ). storesDead (linesOf (c .before .before .before .args .text .now)) l) (c .before .before .before .args .text .now) (c .before .loop .i) (c .loop-test .left)) ∙ c .before .loop .inv .1
+
+pub any-dead-spec : {M : Type 1} → statement M
+any-dead-spec =
+    tie.close
+    (tie.spec
+    Inv-loop
+    μ-loop
+    loop-holds
+    find-byte-requires
+    cut-requires
+    line-store-requires
+    dead-by-requires
+    returns
+    after-requires
+    loop-less
+    loop-again
+    returns-2)

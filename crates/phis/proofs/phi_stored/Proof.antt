@@ -1,0 +1,67 @@
+-- `phis::phi_stored` meets its contract. Assumes nothing.
+use Prim.Native.Nat.{ℕ, _-_, _≤_}
+use native.Mathlib.Omega.{arith}
+use borrow.Author.Needs.{needs}
+use mathlib.Core.Path.{_≡_, sym, ap, _∙_}
+use mathlib.Core.List.{List}
+use lib.ListN.{length, drop}
+use Rattle.lines.specs.Lf.{linesOf}
+use Rattle.lines.proofs.Tests.{so}
+use Rattle.names.specs.Names.{phiIs}
+use Rattle.phis.specs.Phis.{phiStored}
+use Rattle.phis.proofs.Searches.{anyOne, storesIt, stored-any, line-hit, line-on, line-end}
+use Rattle.phis.proofs.phi_stored.Statement.{statement}
+use Rattle.phis.proofs.phi_stored.Tie as tie
+
+abbrev Inv-loop : tie.InvT-loop
+Inv-loop text phi i₀ i = (i ≤ length text) × (anyOne (λ (l : List ℕ). storesIt (phi .0) l) (linesOf (drop i text)) ≡ phiStored (phi .0) (linesOf text))
+
+abbrev μ-loop : tie.MeasureT-loop
+μ-loop text phi i₀ i = length text - i
+
+loop-holds : tie.Need-loop-holds Inv-loop μ-loop
+loop-holds c = (omega arith, sym (stored-any (c .before .args .phi .0) (linesOf (c .before .args .text .now))))
+
+find-byte-requires : tie.Need-find-byte-requires Inv-loop μ-loop
+find-byte-requires c κs = search needs
+
+cut-requires : tie.Need-cut-requires Inv-loop μ-loop
+cut-requires c κs = search needs
+
+line-store-requires : tie.Need-line-store-requires Inv-loop μ-loop
+line-store-requires c κs = search needs
+
+is-phi-requires : tie.Need-is-phi-requires Inv-loop μ-loop
+is-phi-requires c κs = search needs
+
+returns : tie.Need-returns Inv-loop μ-loop
+returns c = sym (line-hit (λ (l : List ℕ). storesIt (c .before .before .before .before .before .before .before .before .args .phi .0) l) (c .before .before .before .before .before .before .before .before .args .text .now) (c .before .before .before .before .before .before .loop .i) (c .before .before .before .before .find-byte .result) (c .before .before .before .before .before .loop-test .taken) (c .before .before .before .before .find-byte .ensures) (c .before .before .before .cut .result .now) (c .before .before .before .cut .ensures) (so (c .before .is-phi .ensures ∙ ap (phiIs (c .before .before .before .before .before .before .before .before .args .phi .0)) (c .before .before .line-store .ensures)) (c .if1 .taken))) ∙ c .before .before .before .before .before .before .loop .inv .1
+
+after-requires : tie.Need-after-requires Inv-loop μ-loop
+after-requires c κs = search needs
+
+loop-less : tie.Need-loop-less Inv-loop μ-loop
+loop-less c = omega (arith, c .after .ensures, c .before .before .before .before .before .find-byte .ensures)
+
+loop-again : tie.Need-loop-again Inv-loop μ-loop
+loop-again c = (omega (arith, c .after .ensures), sym (line-on (λ (l : List ℕ). storesIt (c .before .before .before .before .before .before .before .before .before .args .phi .0) l) (c .before .before .before .before .before .before .before .before .before .args .text .now) (c .before .before .before .before .before .before .before .loop .i) (c .before .before .before .before .before .find-byte .result) (c .before .before .before .before .before .before .loop-test .taken) (c .before .before .before .before .before .find-byte .ensures) (c .before .before .before .before .cut .result .now) (c .before .before .before .before .cut .ensures) (c .after .result) (c .after .ensures) (so (c .before .before .is-phi .ensures ∙ ap (phiIs (c .before .before .before .before .before .before .before .before .before .args .phi .0)) (c .before .before .before .line-store .ensures)) (c .before .if1 .left))) ∙ c .before .before .before .before .before .before .before .loop .inv .1)
+
+returns-2 : tie.Need-returns-2 Inv-loop μ-loop
+returns-2 c = sym (line-end (λ (l : List ℕ). storesIt (c .before .before .before .args .phi .0) l) (c .before .before .before .args .text .now) (c .before .loop .i) (c .loop-test .left)) ∙ c .before .loop .inv .1
+
+pub phi-stored-spec : {M : Type 1} → statement M
+phi-stored-spec =
+    tie.close
+    (tie.spec
+    Inv-loop
+    μ-loop
+    loop-holds
+    find-byte-requires
+    cut-requires
+    line-store-requires
+    is-phi-requires
+    returns
+    after-requires
+    loop-less
+    loop-again
+    returns-2)

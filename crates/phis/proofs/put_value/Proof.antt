@@ -1,0 +1,31 @@
+-- `phis::put_value` meets its contract. Assumes nothing.
+use native.Mathlib.Omega.{arith}
+use borrow.Author.Needs.{needs}
+use mathlib.Core.List.{[], _∷_, _++_}
+use lib.ListN.{length-append}
+use Rattle.lines.proofs.OutLaws.{wrote-then, wrote-length}
+use Rattle.phis.proofs.put_value.Statement.{statement}
+use Rattle.phis.proofs.put_value.Tie as tie
+
+put-requires : tie.Need-put-requires
+put-requires c κs = omega (arith, c .before .before .before .before .pre, length-append (c .before .before .before .before .args .indent .now) (c .before .before .before .before .args .x .now), length-append (c .before .before .before .before .args .indent .now ++ c .before .before .before .before .args .x .now) (59 ∷ 10 ∷ []))
+
+put-requires-2 : tie.Need-put-requires-2
+put-requires-2 c κs = omega (arith, c .before .before .before .before .before .before .before .before .pre, length-append (c .before .before .before .before .before .before .before .before .args .indent .now) (c .before .before .before .before .before .before .before .before .args .x .now), length-append (c .before .before .before .before .before .before .before .before .args .indent .now ++ c .before .before .before .before .before .before .before .before .args .x .now) (59 ∷ 10 ∷ []), wrote-length (c .before .before .before .put .ensures), c .before .before .before .put .ensures .place)
+
+slice-aggregate-put : tie.Need-slice-aggregate-put
+slice-aggregate-put c = search needs
+
+put-requires-3 : tie.Need-put-requires-3
+put-requires-3 c κs = omega (arith, c .before .before .before .before .before .before .before .before .before .before .before .before .before .pre, length-append (c .before .before .before .before .before .before .before .before .before .before .before .before .before .args .indent .now) (c .before .before .before .before .before .before .before .before .before .before .before .before .before .args .x .now), length-append (c .before .before .before .before .before .before .before .before .before .before .before .before .before .args .indent .now ++ c .before .before .before .before .before .before .before .before .before .before .before .before .before .args .x .now) (59 ∷ 10 ∷ []), wrote-length (c .before .before .before .before .before .before .before .before .put .ensures), c .before .before .before .before .before .before .before .before .put .ensures .place, wrote-length (c .before .before .before .before .put2 .ensures), c .before .before .before .before .put2 .ensures .place)
+
+same-length : tie.Need-same-length
+same-length c = search needs
+
+returns : tie.Need-returns
+returns c = wrote-then (wrote-then (c .before .before .before .before .before .before .before .before .before .before .before .put .ensures) (c .before .before .before .before .before .before .before .put2 .ensures)) (c .before .before .put3 .ensures)
+
+pub put-value-spec : {M : Type 1} → statement M
+put-value-spec =
+    tie.close
+    (tie.spec put-requires put-requires-2 slice-aggregate-put put-requires-3 same-length returns)
