@@ -6,7 +6,7 @@ use mathlib.Core.List.{List, [], _∷_, _++_}
 use native.Mathlib.Omega.{arith}
 use lib.ListN.{length, take, drop}
 use Rattle.lines.specs.Lf.{upTo, linesOf, partsOf, unlines, same, lacks, noLf, all}
-use Rattle.lines.specs.Acts.{keep, become, gone, apply}
+use Rattle.lines.specs.Acts.{Act, keep, become, into, gone, act, apply}
 use Rattle.lines.proofs.Tests.{no, and-left, and-right, and-both}
 use Rattle.lines.proofs.LfLaws.{lines-noLf, lines-unlines, lacks-append, lacks-take, lacks-drop, parts-noLf}
 use Rattle.lines.proofs.ActLaws.{actNoLf, apply-noLf, apply-length}
@@ -139,6 +139,43 @@ gone-only R ls l h = go (deadBy (phiStore (trimStart l)) ls) (phiDecl (trimStart
         kept-none (live ls) 3 (partsOf 44 (bodyOf (trimStart l)))
         (sym (names-live ls (partsOf 44 (bodyOf (trimStart l)))) ∙ decl-gone (take (fromOf l) l) (livePhis ls (partsOf 44 (bodyOf (trimStart l)))) g)
     go false false g = stays g
+
+-- a line that neither stores a dead phi nor declares phis alone stays as it is
+pub keep-other : (R : Reading) (ls : List (List ℕ)) (l : List ℕ) → deadBy (phiStore (trimStart l)) ls ≡ false → phiDecl (trimStart l) ≡ false → phiAct R ls l ≡ keep
+unfolding phiAct
+keep-other R ls l a b = rw (a, b)
+
+-- no line's value goes into another line
+abbrev pub moves : Act → Bool
+moves keep = false
+moves (become x) = false
+moves (into n) = true
+moves gone = false
+
+decl-stays : (indent : List ℕ) (xs : List (List ℕ)) → moves (declAct indent xs) ≡ false
+unfolding declAct
+decl-stays indent [] = refl
+decl-stays indent (x ∷ xs) = refl
+
+pub none-into : (R : Reading) (ls : List (List ℕ)) (l : List ℕ) → moves (phiAct R ls l) ≡ false
+unfolding phiAct
+none-into R ls l = go (deadBy (phiStore (trimStart l)) ls) (phiDecl (trimStart l)) (pureIn R (rightOf (trimStart l)) || phiRhsPure (rightOf (trimStart l)))
+  where
+    go : (a b v : Bool) → moves (cond a (cond v gone (become (take (fromOf l) l ++ rightOf (trimStart l) ++ 59 ∷ []))) (cond b (declAct (take (fromOf l) l) (livePhis ls (partsOf 44 (bodyOf (trimStart l))))) keep)) ≡ false
+    go true b true = refl
+    go true b false = refl
+    go false true v = decl-stays (take (fromOf l) l) (livePhis ls (partsOf 44 (bodyOf (trimStart l))))
+    go false false v = refl
+
+-- where no phi is dead, nothing changes
+keep-all : (ls : List (List ℕ)) → apply (keeps ls) ls ≡ ls
+unfolding keeps apply act
+keep-all [] = refl
+keep-all (l ∷ ls) = ap (λ (r : List (List ℕ)). l ∷ r) (keep-all ls)
+
+pub none-dead : (R : Reading) (ls : List (List ℕ)) → anyDead ls ls ≡ false → round R ls ≡ ls
+unfolding round roundActs
+none-dead R ls e = rw e (keep-all ls)
 
 -- ---- a phi is looked for as it is printed: a text with leading zeros, as `phi007`, is never the text of a phi
 

@@ -3,4 +3,5 @@ pub mod Lines
 pub mod Writes
 pub mod Keeps
 pub mod Rounds
+pub mod Room
 pub mod Examples

@@ -61,33 +61,46 @@ module _ (t x d d′ : List ℕ) (r : ℕ) (w : Wrote d 0 (unlines (round plain 
 pub written : {d xs d′ : List ℕ} {r : ℕ} (ys : List ℕ) → xs ≡ ys → Wrote d 0 xs d′ r → Wrote d 0 ys d′ (length ys)
 written ys e w = let v = wrote-as e w in record { fits = v .fits; place = omega arith; holds = v .holds }
 
--- the second round reads what the first wrote, x, and the third what the second wrote, y
-module _ (t x y d d′ e e′ : List ℕ) (a b : ℕ) (w : Wrote d 0 (unlines (round plain (linesOf t))) d′ a) (z : x ≡ part 0 a d′) (v : Wrote e 0 (unlines (round plain (linesOf x))) e′ b) (u : y ≡ part 0 b e′) where
+-- the second round read what the first wrote, x, and the third what the second wrote, y
+pub record Passed (t x y d d′ e e′ : List ℕ) (a b : ℕ) : Type 0 where
+  pub first : Wrote d 0 (unlines (round plain (linesOf t))) d′ a
+  pub is-first : x ≡ part 0 a d′
+  pub second : Wrote e 0 (unlines (round plain (linesOf x))) e′ b
+  pub is-second : y ≡ part 0 b e′
+
+pub passed : (t x y : List ℕ) {d d′ e e′ : List ℕ} {a b : ℕ} → Wrote d 0 (unlines (round plain (linesOf t))) d′ a → x ≡ part 0 a d′ → Wrote e 0 (unlines (round plain (linesOf x))) e′ b → y ≡ part 0 b e′ →
+    Passed t x y d d′ e e′ a b
+passed t x y w z v u = record { first = w; is-first = z; second = v; is-second = u }
+
+module _ {t x y d d′ e e′ : List ℕ} {a b : ℕ} (h : Passed t x y d d′ e e′ a b) where
+  lines-first : linesOf x ≡ round plain (linesOf t)
+  lines-first = next-lines t x d d′ a (h .first) (h .is-first)
+
   second-text : unlines (round plain (linesOf x)) ≡ unlines (round plain (round plain (linesOf t)))
-  second-text = ap (λ (ls : List (List ℕ)). unlines (round plain ls)) (next-lines t x d d′ a w z)
+  second-text = ap (λ (ls : List (List ℕ)). unlines (round plain ls)) lines-first
 
   pub third-text : unlines (round plain (linesOf y)) ≡ unlines (pruneDeadPhis plain (linesOf t))
   unfolding pruneDeadPhis
-  third-text = ap (λ (ls : List (List ℕ)). unlines (round plain ls)) (next-lines x y e e′ b v u ∙ ap (round plain) (next-lines t x d d′ a w z))
+  third-text = ap (λ (ls : List (List ℕ)). unlines (round plain ls)) (next-lines x y e e′ b (h .second) (h .is-second) ∙ ap (round plain) lines-first)
 
   pub first-wrote : Wrote d 0 (unlines (round plain (linesOf t))) d′ (length (unlines (round plain (linesOf t))))
-  first-wrote = written (unlines (round plain (linesOf t))) refl w
+  first-wrote = written (unlines (round plain (linesOf t))) refl (h .first)
 
   pub second-wrote : Wrote e 0 (unlines (round plain (round plain (linesOf t)))) e′ (length (unlines (round plain (round plain (linesOf t)))))
-  second-wrote = written (unlines (round plain (round plain (linesOf t)))) second-text v
+  second-wrote = written (unlines (round plain (round plain (linesOf t)))) second-text (h .second)
 
   pub second-length : length y ≡ length (unlines (round plain (round plain (linesOf t))))
-  second-length = next-length x y e e′ b v u ∙ ap length second-text
+  second-length = next-length x y e e′ b (h .second) (h .is-second) ∙ ap length second-text
 
   -- how much is wiped
   pub wiped-length : (m n : ℕ) → m ≡ max a b → n ≡ max (length t) m → n ≡ longest plain t
   unfolding longest
-  wiped-length m n p q = omega (arith, w .place, v .place, ap length second-text)
+  wiped-length m n p q = omega (arith, h .first .place, h .second .place, ap length second-text)
 
   -- the three texts fit
   pub longest-fits : (length t ≤ longest plain t) × ((length x ≤ longest plain t) × (length y ≤ longest plain t))
   unfolding longest
-  longest-fits = (omega arith, (omega (arith, next-length t x d d′ a w z), omega (arith, second-length)))
+  longest-fits = (omega arith, (omega (arith, next-length t x d d′ a (h .first) (h .is-first)), omega (arith, second-length)))
 
 -- the first text fits
 pub longest-first : (t : List ℕ) → (length t ≤ longest plain t) × (length (unlines (round plain (linesOf t))) ≤ longest plain t)

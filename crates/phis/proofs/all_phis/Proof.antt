@@ -35,10 +35,18 @@ names-phi-requires : tie.Need-names-phi-requires Inv-loop μ-loop
 names-phi-requires c κs = search needs
 
 returns : tie.Need-returns Inv-loop μ-loop
-returns c = sym (ap not (piece-hit (λ (x : List ℕ). pieceOther x) (c .before .before .before .before .before .before .before .args .s .now) (c .before .before .before .before .before .loop .i) (c .before .before .before .before .find-byte .result) (c .before .before .before .before .before .loop .inv .0) (c .before .before .before .before .find-byte .ensures) (c .before .before .before .cut .result .now) (c .before .before .before .cut .ensures) (ap not (sym (c .before .names-phi .ensures ∙ ap (λ (l : List ℕ). isPhi (phiOf l)) (c .before .before .trim .ensures .0))) ∙ c .if1 .taken))) ∙ c .before .before .before .before .before .loop .inv .1
+returns c =
+    let loop = c .before .before .before .before .before .loop in
+    let find-byte = c .before .before .before .before .find-byte in
+    let cut = c .before .before .before .cut in
+    sym (ap not (piece-hit (λ (x : List ℕ). pieceOther x) (c .before .before .before .before .before .before .before .args .s .now) (loop .i) (find-byte .result) (loop .inv .0) (find-byte .ensures) (cut .result .now) (cut .ensures) (ap not (sym (c .before .names-phi .ensures ∙ ap (λ (l : List ℕ). isPhi (phiOf l)) (c .before .before .trim .ensures .0))) ∙ c .if1 .taken))) ∙ loop .inv .1
 
 returns-2 : tie.Need-returns-2 Inv-loop μ-loop
-returns-2 c = sym (ap not (piece-last (λ (x : List ℕ). pieceOther x) (c .before .before .before .before .before .before .before .before .args .s .now) (c .before .before .before .before .before .before .loop .i) (c .before .before .before .before .before .find-byte .result) (c .before .before .before .before .before .before .loop .inv .0) (c .before .before .before .before .before .find-byte .ensures) (c .before .before .before .before .cut .result .now) (c .before .before .before .before .cut .ensures) (c .if2 .taken) (ap not (sym (c .before .before .names-phi .ensures ∙ ap (λ (l : List ℕ). isPhi (phiOf l)) (c .before .before .before .trim .ensures .0))) ∙ c .before .if1 .left))) ∙ c .before .before .before .before .before .before .loop .inv .1
+returns-2 c =
+    let loop = c .before .before .before .before .before .before .loop in
+    let find-byte = c .before .before .before .before .before .find-byte in
+    let cut = c .before .before .before .before .cut in
+    sym (ap not (piece-last (λ (x : List ℕ). pieceOther x) (c .before .before .before .before .before .before .before .before .args .s .now) (loop .i) (find-byte .result) (loop .inv .0) (find-byte .ensures) (cut .result .now) (cut .ensures) (c .if2 .taken) (ap not (sym (c .before .before .names-phi .ensures ∙ ap (λ (l : List ℕ). isPhi (phiOf l)) (c .before .before .before .trim .ensures .0))) ∙ c .before .if1 .left))) ∙ loop .inv .1
 
 add-i : tie.Need-add-i Inv-loop μ-loop
 add-i c = omega arith
@@ -47,7 +55,11 @@ loop-less : tie.Need-loop-less Inv-loop μ-loop
 loop-less c = omega (arith, c .before .before .before .before .before .find-byte .ensures)
 
 loop-again : tie.Need-loop-again Inv-loop μ-loop
-loop-again c = (omega arith, sym (ap not (piece-on (λ (x : List ℕ). pieceOther x) (c .before .before .before .before .before .before .before .before .args .s .now) (c .before .before .before .before .before .before .loop .i) (c .before .before .before .before .before .find-byte .result) (c .before .before .before .before .before .before .loop .inv .0) (c .before .before .before .before .before .find-byte .ensures) (c .before .before .before .before .cut .result .now) (c .before .before .before .before .cut .ensures) (c .if2 .left) (ap not (sym (c .before .before .names-phi .ensures ∙ ap (λ (l : List ℕ). isPhi (phiOf l)) (c .before .before .before .trim .ensures .0))) ∙ c .before .if1 .left))) ∙ c .before .before .before .before .before .before .loop .inv .1)
+loop-again c =
+    let loop = c .before .before .before .before .before .before .loop in
+    let find-byte = c .before .before .before .before .before .find-byte in
+    let cut = c .before .before .before .before .cut in
+    (omega arith, sym (ap not (piece-on (λ (x : List ℕ). pieceOther x) (c .before .before .before .before .before .before .before .before .args .s .now) (loop .i) (find-byte .result) (loop .inv .0) (find-byte .ensures) (cut .result .now) (cut .ensures) (c .if2 .left) (ap not (sym (c .before .before .names-phi .ensures ∙ ap (λ (l : List ℕ). isPhi (phiOf l)) (c .before .before .before .trim .ensures .0))) ∙ c .before .if1 .left))) ∙ loop .inv .1)
 
 pub all-phis-spec : {M : Type 1} → statement M
 all-phis-spec =

@@ -37,10 +37,20 @@ is-phi-requires : tie.Need-is-phi-requires Inv-loop μ-loop
 is-phi-requires c κs = search needs
 
 returns : tie.Need-returns Inv-loop μ-loop
-returns c = sym (piece-hit (λ (x : List ℕ). pieceIs (c .before .before .before .before .before .before .before .before .args .phi .0) x) (c .before .before .before .before .before .before .before .before .args .s .now) (c .before .before .before .before .before .before .loop .i) (c .before .before .before .before .before .find-byte .result) (c .before .before .before .before .before .before .loop .inv .0) (c .before .before .before .before .before .find-byte .ensures) (c .before .before .before .before .cut .result .now) (c .before .before .before .before .cut .ensures) (sym (c .before .is-phi .ensures ∙ ap (phiIs (c .before .before .before .before .before .before .before .before .args .phi .0)) (c .before .before .phi-name .ensures ∙ ap phiOf (c .before .before .before .trim .ensures .0))) ∙ c .if1 .taken)) ∙ c .before .before .before .before .before .before .loop .inv .1
+returns c =
+    let a = c .before .before .before .before .before .before .before .before .args in
+    let loop = c .before .before .before .before .before .before .loop in
+    let find-byte = c .before .before .before .before .before .find-byte in
+    let cut = c .before .before .before .before .cut in
+    sym (piece-hit (λ (x : List ℕ). pieceIs (a .phi .0) x) (a .s .now) (loop .i) (find-byte .result) (loop .inv .0) (find-byte .ensures) (cut .result .now) (cut .ensures) (sym (c .before .is-phi .ensures ∙ ap (phiIs (a .phi .0)) (c .before .before .phi-name .ensures ∙ ap phiOf (c .before .before .before .trim .ensures .0))) ∙ c .if1 .taken)) ∙ loop .inv .1
 
 returns-2 : tie.Need-returns-2 Inv-loop μ-loop
-returns-2 c = sym (piece-last (λ (x : List ℕ). pieceIs (c .before .before .before .before .before .before .before .before .before .args .phi .0) x) (c .before .before .before .before .before .before .before .before .before .args .s .now) (c .before .before .before .before .before .before .before .loop .i) (c .before .before .before .before .before .before .find-byte .result) (c .before .before .before .before .before .before .before .loop .inv .0) (c .before .before .before .before .before .before .find-byte .ensures) (c .before .before .before .before .before .cut .result .now) (c .before .before .before .before .before .cut .ensures) (c .if2 .taken) (sym (c .before .before .is-phi .ensures ∙ ap (phiIs (c .before .before .before .before .before .before .before .before .before .args .phi .0)) (c .before .before .before .phi-name .ensures ∙ ap phiOf (c .before .before .before .before .trim .ensures .0))) ∙ c .before .if1 .left)) ∙ c .before .before .before .before .before .before .before .loop .inv .1
+returns-2 c =
+    let a = c .before .before .before .before .before .before .before .before .before .args in
+    let loop = c .before .before .before .before .before .before .before .loop in
+    let find-byte = c .before .before .before .before .before .before .find-byte in
+    let cut = c .before .before .before .before .before .cut in
+    sym (piece-last (λ (x : List ℕ). pieceIs (a .phi .0) x) (a .s .now) (loop .i) (find-byte .result) (loop .inv .0) (find-byte .ensures) (cut .result .now) (cut .ensures) (c .if2 .taken) (sym (c .before .before .is-phi .ensures ∙ ap (phiIs (a .phi .0)) (c .before .before .before .phi-name .ensures ∙ ap phiOf (c .before .before .before .before .trim .ensures .0))) ∙ c .before .if1 .left)) ∙ loop .inv .1
 
 add-i : tie.Need-add-i Inv-loop μ-loop
 add-i c = omega arith
@@ -49,7 +59,12 @@ loop-less : tie.Need-loop-less Inv-loop μ-loop
 loop-less c = omega (arith, c .before .before .before .before .before .before .find-byte .ensures)
 
 loop-again : tie.Need-loop-again Inv-loop μ-loop
-loop-again c = (omega arith, sym (piece-on (λ (x : List ℕ). pieceIs (c .before .before .before .before .before .before .before .before .before .args .phi .0) x) (c .before .before .before .before .before .before .before .before .before .args .s .now) (c .before .before .before .before .before .before .before .loop .i) (c .before .before .before .before .before .before .find-byte .result) (c .before .before .before .before .before .before .before .loop .inv .0) (c .before .before .before .before .before .before .find-byte .ensures) (c .before .before .before .before .before .cut .result .now) (c .before .before .before .before .before .cut .ensures) (c .if2 .left) (sym (c .before .before .is-phi .ensures ∙ ap (phiIs (c .before .before .before .before .before .before .before .before .before .args .phi .0)) (c .before .before .before .phi-name .ensures ∙ ap phiOf (c .before .before .before .before .trim .ensures .0))) ∙ c .before .if1 .left)) ∙ c .before .before .before .before .before .before .before .loop .inv .1)
+loop-again c =
+    let a = c .before .before .before .before .before .before .before .before .before .args in
+    let loop = c .before .before .before .before .before .before .before .loop in
+    let find-byte = c .before .before .before .before .before .before .find-byte in
+    let cut = c .before .before .before .before .before .cut in
+    (omega arith, sym (piece-on (λ (x : List ℕ). pieceIs (a .phi .0) x) (a .s .now) (loop .i) (find-byte .result) (loop .inv .0) (find-byte .ensures) (cut .result .now) (cut .ensures) (c .if2 .left) (sym (c .before .before .is-phi .ensures ∙ ap (phiIs (a .phi .0)) (c .before .before .before .phi-name .ensures ∙ ap phiOf (c .before .before .before .before .trim .ensures .0))) ∙ c .before .if1 .left)) ∙ loop .inv .1)
 
 pub any-phi-spec : {M : Type 1} → statement M
 any-phi-spec =

@@ -17,7 +17,9 @@ phi-rhs-pure-requires : tie.Need-phi-rhs-pure-requires
 phi-rhs-pure-requires c κs = search needs
 
 returns : tie.Need-returns
-returns c = (sym (ap (λ (b : Bool). pureIn plain (c .before .before .before .before .args .x .now) || b) (so (c .before .phi-rhs-pure .ensures) (c .if1 .taken)) ∙ or-true (pureIn plain (c .before .before .before .before .args .x .now))), refl)
+returns c =
+    let a = c .before .before .before .before .args in
+    (sym (ap (λ (b : Bool). pureIn plain (a .x .now) || b) (so (c .before .phi-rhs-pure .ensures) (c .if1 .taken)) ∙ or-true (pureIn plain (a .x .now))), refl)
 
 purity-requires : tie.Need-purity-requires
 purity-requires c κs = omega (arith, strip-length (c .before .before .before .before .before .args .x .now), c .before .before .before .before .before .pre)
@@ -29,7 +31,10 @@ same-length : tie.Need-same-length
 same-length c = search needs
 
 returns-2 : tie.Need-returns-2
-returns-2 c = (c .is-pure .ensures ∙ ap isPure (c .before .before .before .purity .ensures .0) ∙ sym (ap (λ (b : Bool). pureIn plain (c .before .before .before .before .before .before .before .before .before .args .x .now) || b) (so (c .before .before .before .before .before .before .phi-rhs-pure .ensures) (c .before .before .before .before .before .if1 .left)) ∙ or-false (pureIn plain (c .before .before .before .before .before .before .before .before .before .args .x .now))), put-past (stripComments (c .before .before .before .before .before .before .before .before .before .args .x .now)) (c .before .before .before .before .before .before .before .before .before .args .scratch .now) _ (length (c .before .before .before .before .before .before .before .before .before .args .x .now)) (strip-length (c .before .before .before .before .before .before .before .before .before .args .x .now)) (c .before .before .before .purity .ensures .1))
+returns-2 c =
+    let a = c .before .before .before .before .before .before .before .before .before .args in
+    let purity = c .before .before .before .purity in
+    (c .is-pure .ensures ∙ ap isPure (purity .ensures .0) ∙ sym (ap (λ (b : Bool). pureIn plain (a .x .now) || b) (so (c .before .before .before .before .before .before .phi-rhs-pure .ensures) (c .before .before .before .before .before .if1 .left)) ∙ or-false (pureIn plain (a .x .now))), put-past (stripComments (a .x .now)) (a .scratch .now) _ (length (a .x .now)) (strip-length (a .x .now)) (purity .ensures .1))
 
 pub no-effect-spec : {M : Type 1} → statement M
 no-effect-spec =

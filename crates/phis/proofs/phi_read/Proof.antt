@@ -31,7 +31,12 @@ phi-reads-requires : tie.Need-phi-reads-requires Inv-loop μ-loop
 phi-reads-requires c κs = search needs
 
 returns : tie.Need-returns Inv-loop μ-loop
-returns c = sym (line-hit (λ (l : List ℕ). phiReads (c .before .before .before .before .before .before .before .args .phi .0) l) (c .before .before .before .before .before .before .before .args .text .now) (c .before .before .before .before .before .loop .i) (c .before .before .before .find-byte .result) (c .before .before .before .before .loop-test .taken) (c .before .before .before .find-byte .ensures) (c .before .before .cut .result .now) (c .before .before .cut .ensures) (so (c .before .phi-reads .ensures) (c .if1 .taken))) ∙ c .before .before .before .before .before .loop .inv .1
+returns c =
+    let a = c .before .before .before .before .before .before .before .args in
+    let loop = c .before .before .before .before .before .loop in
+    let find-byte = c .before .before .before .find-byte in
+    let cut = c .before .before .cut in
+    sym (line-hit (λ (l : List ℕ). phiReads (a .phi .0) l) (a .text .now) (loop .i) (find-byte .result) (c .before .before .before .before .loop-test .taken) (find-byte .ensures) (cut .result .now) (cut .ensures) (so (c .before .phi-reads .ensures) (c .if1 .taken))) ∙ loop .inv .1
 
 after-requires : tie.Need-after-requires Inv-loop μ-loop
 after-requires c κs = search needs
@@ -40,10 +45,17 @@ loop-less : tie.Need-loop-less Inv-loop μ-loop
 loop-less c = omega (arith, c .after .ensures, c .before .before .before .before .find-byte .ensures)
 
 loop-again : tie.Need-loop-again Inv-loop μ-loop
-loop-again c = (omega (arith, c .after .ensures), sym (line-on (λ (l : List ℕ). phiReads (c .before .before .before .before .before .before .before .before .args .phi .0) l) (c .before .before .before .before .before .before .before .before .args .text .now) (c .before .before .before .before .before .before .loop .i) (c .before .before .before .before .find-byte .result) (c .before .before .before .before .before .loop-test .taken) (c .before .before .before .before .find-byte .ensures) (c .before .before .before .cut .result .now) (c .before .before .before .cut .ensures) (c .after .result) (c .after .ensures) (so (c .before .before .phi-reads .ensures) (c .before .if1 .left))) ∙ c .before .before .before .before .before .before .loop .inv .1)
+loop-again c =
+    let a = c .before .before .before .before .before .before .before .before .args in
+    let loop = c .before .before .before .before .before .before .loop in
+    let find-byte = c .before .before .before .before .find-byte in
+    let cut = c .before .before .before .cut in
+    (omega (arith, c .after .ensures), sym (line-on (λ (l : List ℕ). phiReads (a .phi .0) l) (a .text .now) (loop .i) (find-byte .result) (c .before .before .before .before .before .loop-test .taken) (find-byte .ensures) (cut .result .now) (cut .ensures) (c .after .result) (c .after .ensures) (so (c .before .before .phi-reads .ensures) (c .before .if1 .left))) ∙ loop .inv .1)
 
 returns-2 : tie.Need-returns-2 Inv-loop μ-loop
-returns-2 c = sym (line-end (λ (l : List ℕ). phiReads (c .before .before .before .args .phi .0) l) (c .before .before .before .args .text .now) (c .before .loop .i) (c .loop-test .left)) ∙ c .before .loop .inv .1
+returns-2 c =
+    let a = c .before .before .before .args in
+    sym (line-end (λ (l : List ℕ). phiReads (a .phi .0) l) (a .text .now) (c .before .loop .i) (c .loop-test .left)) ∙ c .before .loop .inv .1
 
 pub phi-read-spec : {M : Type 1} → statement M
 phi-read-spec =

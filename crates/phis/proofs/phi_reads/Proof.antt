@@ -14,7 +14,9 @@ count-phi-requires c κs = search needs
 
 returns : tie.Need-returns
 unfolding phiReads
-returns c = rw (phi-hits (c .before .before .before .args .phi .0) (omega arith) (c .before .before .before .args .line .now) (c .before .count-phi .result) (c .before .count-phi .ensures), c .if1 .taken)
+returns c =
+    let a = c .before .before .before .args in
+    rw (phi-hits (a .phi .0) (omega arith) (a .line .now) (c .before .count-phi .result) (c .before .count-phi .ensures), c .if1 .taken)
 
 trim-start-requires : tie.Need-trim-start-requires
 trim-start-requires c κs = search needs
@@ -24,7 +26,10 @@ phi-own-requires c κs = search needs
 
 returns-2 : tie.Need-returns-2
 unfolding phiReads
-returns-2 c = rw (phi-hits (c .before .before .before .before .before .args .phi .0) (omega arith) (c .before .before .before .before .before .args .line .now) (c .before .before .before .count-phi .result) (c .before .before .before .count-phi .ensures), lt-ltb 0 (c .before .before .before .count-phi .result) (omega (arith, c .before .before .if1 .left))) (ap not (c .phi-own .ensures ∙ ap (phiOwn (c .before .before .before .before .before .args .phi .0)) (c .before .trim-start .ensures)))
+returns-2 c =
+    let a = c .before .before .before .before .before .args in
+    let count-phi = c .before .before .before .count-phi in
+    rw (phi-hits (a .phi .0) (omega arith) (a .line .now) (count-phi .result) (count-phi .ensures), lt-ltb 0 (count-phi .result) (omega (arith, c .before .before .if1 .left))) (ap not (c .phi-own .ensures ∙ ap (phiOwn (a .phi .0)) (c .before .trim-start .ensures)))
 
 pub phi-reads-spec : {M : Type 1} → statement M
 phi-reads-spec =

@@ -29,11 +29,15 @@ enum-told : tie.Need-enum-told
 enum-told c = search needs
 
 returns-2 : tie.Need-returns-2
-returns-2 c = let w = assign-split (c .before .before .before .before .before .before .before .before .before .args .t .now) _ (sym (c .before .before .before .before .before .assign-of .ensures) ∙ c .before .before .before .s .given .1) in
-    c .phi-name .ensures ∙ sym (store-of (c .before .before .before .before .before .before .before .before .before .args .t .now) (c .before .left-of .result .now) (c .before .left-of .ensures ∙ w .is-left) (so (c .before .before .before .before .before .before .before .is-let .ensures) (c .before .before .before .before .before .before .if1 .left)) (w .assigns))
+returns-2 c =
+    let a = c .before .before .before .before .before .before .before .before .before .args in
+    let w = assign-split (a .t .now) _ (sym (c .before .before .before .before .before .assign-of .ensures) ∙ c .before .before .before .s .given .1) in
+    c .phi-name .ensures ∙ sym (store-of (a .t .now) (c .before .left-of .result .now) (c .before .left-of .ensures ∙ w .is-left) (so (c .before .before .before .before .before .before .before .is-let .ensures) (c .before .before .before .before .before .before .if1 .left)) (w .assigns))
 
 returns-3 : tie.Need-returns-3
-returns-3 c = sym (store-other (c .before .before .before .before .before .before .args .t .now) (so (c .before .before .before .before .is-let .ensures) (c .before .before .before .if1 .left)) (assign-not (c .before .before .before .before .before .before .args .t .now) (sym (c .before .before .assign-of .ensures) ∙ c .enum-told .given .1)))
+returns-3 c =
+    let a = c .before .before .before .before .before .before .args in
+    sym (store-other (a .t .now) (so (c .before .before .before .before .is-let .ensures) (c .before .before .before .if1 .left)) (assign-not (a .t .now) (sym (c .before .before .assign-of .ensures) ∙ c .enum-told .given .1)))
 
 pub phi-store-spec : {M : Type 1} → statement M
 phi-store-spec =

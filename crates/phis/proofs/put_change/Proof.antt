@@ -30,10 +30,18 @@ dead-by-requires : tie.Need-dead-by-requires
 dead-by-requires c κs = search needs
 
 put-store-requires : tie.Need-put-store-requires
-put-store-requires c κs = (
-  dead-assign (linesOf (c .before .before .before .before .before .before .before .before .before .before .before .before .args .text .now)) (c .before .before .before .before .before .before .before .trim-start .result .now) (ap (λ (n : PhiName). deadBy n (linesOf (c .before .before .before .before .before .before .before .before .before .before .before .before .args .text .now))) (sym (c .before .before .before .before .phi-store .ensures)) ∙ so (c .before .before .before .dead-by .ensures) (c .before .before .if1 .taken)),
-  (omega (arith, start-le (c .before .before .before .before .before .before .before .before .before .before .before .before .args .line .now) (c .before .before .before .before .before .before .before .trim-start .result .now) (c .before .before .before .before .before .before .before .trim-start .ensures), c .before .before .before .before .before .before .before .before .before .before .before .before .pre .0), omega (arith, c .before .before .before .before .before .before .before .before .before .before .before .before .pre .1, ap length (change-store plain (linesOf (c .before .before .before .before .before .before .before .before .before .before .before .before .args .text .now)) (c .before .before .before .before .before .before .before .before .before .before .before .before .args .line .now) (c .before .before .before .before .before .before .before .trim-start .result .now) (c .before .before .before .before .before .cut .result .now) (c .before .before .before .before .before .before .trim-from .result) (c .before .before .before .before .before .before .before .trim-start .ensures) (c .before .before .before .before .before .before .trim-from .ensures) (c .before .before .before .before .before .cut .ensures) (c .before .before .before .before .phi-store .result) (c .before .before .before .before .phi-store .ensures) (so (c .before .before .before .dead-by .ensures) (c .before .before .if1 .taken))))),
-)
+put-store-requires c κs =
+    let a = c .before .before .before .before .before .before .before .before .before .before .before .before .args in
+    let pre = c .before .before .before .before .before .before .before .before .before .before .before .before .pre in
+    let trim-start = c .before .before .before .before .before .before .before .trim-start in
+    let trim-from = c .before .before .before .before .before .before .trim-from in
+    let cut = c .before .before .before .before .before .cut in
+    let phi-store = c .before .before .before .before .phi-store in
+    let dead-by = c .before .before .before .dead-by in
+    let if1 = c .before .before .if1 in (
+      dead-assign (linesOf (a .text .now)) (trim-start .result .now) (ap (λ (n : PhiName). deadBy n (linesOf (a .text .now))) (sym (phi-store .ensures)) ∙ so (dead-by .ensures) (if1 .taken)),
+      (omega (arith, start-le (a .line .now) (trim-start .result .now) (trim-start .ensures), pre .0), omega (arith, pre .1, ap length (change-store plain (linesOf (a .text .now)) (a .line .now) (trim-start .result .now) (cut .result .now) (trim-from .result) (trim-start .ensures) (trim-from .ensures) (cut .ensures) (phi-store .result) (phi-store .ensures) (so (dead-by .ensures) (if1 .taken))))),
+    )
 
 same-length : tie.Need-same-length
 same-length c = search needs
@@ -42,7 +50,14 @@ same-length-2 : tie.Need-same-length-2
 same-length-2 c = search needs
 
 returns : tie.Need-returns
-returns c = (wrote-as (sym (change-store plain (linesOf (c .before .before .before .before .before .before .before .before .before .before .before .before .before .before .before .before .before .args .text .now)) (c .before .before .before .before .before .before .before .before .before .before .before .before .before .before .before .before .before .args .line .now) (c .before .before .before .before .before .before .before .before .before .before .before .before .trim-start .result .now) (c .before .before .before .before .before .before .before .before .before .before .cut .result .now) (c .before .before .before .before .before .before .before .before .before .before .before .trim-from .result) (c .before .before .before .before .before .before .before .before .before .before .before .before .trim-start .ensures) (c .before .before .before .before .before .before .before .before .before .before .before .trim-from .ensures) (c .before .before .before .before .before .before .before .before .before .before .cut .ensures) (c .before .before .before .before .before .before .before .before .before .phi-store .result) (c .before .before .before .before .before .before .before .before .before .phi-store .ensures) (so (c .before .before .before .before .before .before .before .before .dead-by .ensures) (c .before .before .before .before .before .before .before .if1 .taken)))) (c .before .before .before .before .put-store .ensures .0), drop-more (length (c .before .before .before .before .before .before .before .before .before .before .before .before .trim-start .result .now)) (length (c .before .before .before .before .before .before .before .before .before .before .before .before .before .before .before .before .before .args .line .now)) _ _ (start-le (c .before .before .before .before .before .before .before .before .before .before .before .before .before .before .before .before .before .args .line .now) (c .before .before .before .before .before .before .before .before .before .before .before .before .trim-start .result .now) (c .before .before .before .before .before .before .before .before .before .before .before .before .trim-start .ensures)) (c .before .before .before .before .put-store .ensures .1))
+returns c =
+    let a = c .before .before .before .before .before .before .before .before .before .before .before .before .before .before .before .before .before .args in
+    let trim-start = c .before .before .before .before .before .before .before .before .before .before .before .before .trim-start in
+    let trim-from = c .before .before .before .before .before .before .before .before .before .before .before .trim-from in
+    let cut = c .before .before .before .before .before .before .before .before .before .before .cut in
+    let phi-store = c .before .before .before .before .before .before .before .before .before .phi-store in
+    let put-store = c .before .before .before .before .put-store in
+    (wrote-as (sym (change-store plain (linesOf (a .text .now)) (a .line .now) (trim-start .result .now) (cut .result .now) (trim-from .result) (trim-start .ensures) (trim-from .ensures) (cut .ensures) (phi-store .result) (phi-store .ensures) (so (c .before .before .before .before .before .before .before .before .dead-by .ensures) (c .before .before .before .before .before .before .before .if1 .taken)))) (put-store .ensures .0), drop-more (length (trim-start .result .now)) (length (a .line .now)) _ _ (start-le (a .line .now) (trim-start .result .now) (trim-start .ensures)) (put-store .ensures .1))
 
 phi-decl-requires : tie.Need-phi-decl-requires
 phi-decl-requires c κs = search needs
@@ -54,22 +69,47 @@ cut-requires-2 : tie.Need-cut-requires-2
 cut-requires-2 c κs = search needs
 
 put-decl-requires : tie.Need-put-decl-requires
-put-decl-requires c κs = omega (arith, c .before .before .before .before .before .before .before .before .before .before .before .before .before .before .pre .1, ap length (change-decl plain (linesOf (c .before .before .before .before .before .before .before .before .before .before .before .before .before .before .args .text .now)) (c .before .before .before .before .before .before .before .before .before .before .before .before .before .before .args .line .now) (c .before .before .before .before .before .before .before .before .before .trim-start .result .now) (c .before .before .before .before .before .before .before .cut .result .now) (c .before .before .before .before .before .before .before .before .trim-from .result) (c .before .before .before .before .before .before .before .before .before .trim-start .ensures) (c .before .before .before .before .before .before .before .before .trim-from .ensures) (c .before .before .before .before .before .before .before .cut .ensures) (c .before .before .before .before .before .before .phi-store .result) (c .before .before .before .before .before .before .phi-store .ensures) (so (c .before .before .before .before .before .dead-by .ensures) (c .before .before .before .before .if1 .left)) (so (c .before .before .before .phi-decl .ensures) (c .before .before .if2 .taken)) (c .before .cut2 .result .now) (c .before .cut2 .ensures)))
+put-decl-requires c κs =
+    let a = c .before .before .before .before .before .before .before .before .before .before .before .before .before .before .args in
+    let trim-start = c .before .before .before .before .before .before .before .before .before .trim-start in
+    let trim-from = c .before .before .before .before .before .before .before .before .trim-from in
+    let cut = c .before .before .before .before .before .before .before .cut in
+    let phi-store = c .before .before .before .before .before .before .phi-store in
+    omega (arith, c .before .before .before .before .before .before .before .before .before .before .before .before .before .before .pre .1, ap length (change-decl plain (linesOf (a .text .now)) (a .line .now) (trim-start .result .now) (cut .result .now) (trim-from .result) (trim-start .ensures) (trim-from .ensures) (cut .ensures) (phi-store .result) (phi-store .ensures) (so (c .before .before .before .before .before .dead-by .ensures) (c .before .before .before .before .if1 .left)) (so (c .before .before .before .phi-decl .ensures) (c .before .before .if2 .taken)) (c .before .cut2 .result .now) (c .before .cut2 .ensures)))
 
 same-length-3 : tie.Need-same-length-3
 same-length-3 c = search needs
 
 returns-2 : tie.Need-returns-2
-returns-2 c = (wrote-as (sym (change-decl plain (linesOf (c .before .before .before .before .before .before .before .before .before .before .before .before .before .before .before .before .before .args .text .now)) (c .before .before .before .before .before .before .before .before .before .before .before .before .before .before .before .before .before .args .line .now) (c .before .before .before .before .before .before .before .before .before .before .before .before .trim-start .result .now) (c .before .before .before .before .before .before .before .before .before .before .cut .result .now) (c .before .before .before .before .before .before .before .before .before .before .before .trim-from .result) (c .before .before .before .before .before .before .before .before .before .before .before .before .trim-start .ensures) (c .before .before .before .before .before .before .before .before .before .before .before .trim-from .ensures) (c .before .before .before .before .before .before .before .before .before .before .cut .ensures) (c .before .before .before .before .before .before .before .before .before .phi-store .result) (c .before .before .before .before .before .before .before .before .before .phi-store .ensures) (so (c .before .before .before .before .before .before .before .before .dead-by .ensures) (c .before .before .before .before .before .before .before .if1 .left)) (so (c .before .before .before .before .before .before .phi-decl .ensures) (c .before .before .before .before .before .if2 .taken)) (c .before .before .before .before .cut2 .result .now) (c .before .before .before .before .cut2 .ensures))) (c .before .before .put-decl .ensures), refl)
+returns-2 c =
+    let a = c .before .before .before .before .before .before .before .before .before .before .before .before .before .before .before .before .before .args in
+    let trim-start = c .before .before .before .before .before .before .before .before .before .before .before .before .trim-start in
+    let trim-from = c .before .before .before .before .before .before .before .before .before .before .before .trim-from in
+    let cut = c .before .before .before .before .before .before .before .before .before .before .cut in
+    let phi-store = c .before .before .before .before .before .before .before .before .before .phi-store in
+    let cut2 = c .before .before .before .before .cut2 in
+    (wrote-as (sym (change-decl plain (linesOf (a .text .now)) (a .line .now) (trim-start .result .now) (cut .result .now) (trim-from .result) (trim-start .ensures) (trim-from .ensures) (cut .ensures) (phi-store .result) (phi-store .ensures) (so (c .before .before .before .before .before .before .before .before .dead-by .ensures) (c .before .before .before .before .before .before .before .if1 .left)) (so (c .before .before .before .before .before .before .phi-decl .ensures) (c .before .before .before .before .before .if2 .taken)) (cut2 .result .now) (cut2 .ensures))) (c .before .before .put-decl .ensures), refl)
 
 put-whole-requires : tie.Need-put-whole-requires
-put-whole-requires c κs = omega (arith, c .before .before .before .before .before .before .before .before .before .before .before .before .before .pre .1, ap length (change-keep plain (linesOf (c .before .before .before .before .before .before .before .before .before .before .before .before .before .args .text .now)) (c .before .before .before .before .before .before .before .before .before .before .before .before .before .args .line .now) (c .before .before .before .before .before .before .before .before .trim-start .result .now) (c .before .before .before .before .before .before .cut .result .now) (c .before .before .before .before .before .before .before .trim-from .result) (c .before .before .before .before .before .before .before .before .trim-start .ensures) (c .before .before .before .before .before .before .before .trim-from .ensures) (c .before .before .before .before .before .before .cut .ensures) (c .before .before .before .before .before .phi-store .result) (c .before .before .before .before .before .phi-store .ensures) (so (c .before .before .before .before .dead-by .ensures) (c .before .before .before .if1 .left)) (so (c .before .before .phi-decl .ensures) (c .before .if2 .left))))
+put-whole-requires c κs =
+    let a = c .before .before .before .before .before .before .before .before .before .before .before .before .before .args in
+    let trim-start = c .before .before .before .before .before .before .before .before .trim-start in
+    let trim-from = c .before .before .before .before .before .before .before .trim-from in
+    let cut = c .before .before .before .before .before .before .cut in
+    let phi-store = c .before .before .before .before .before .phi-store in
+    omega (arith, c .before .before .before .before .before .before .before .before .before .before .before .before .before .pre .1, ap length (change-keep plain (linesOf (a .text .now)) (a .line .now) (trim-start .result .now) (cut .result .now) (trim-from .result) (trim-start .ensures) (trim-from .ensures) (cut .ensures) (phi-store .result) (phi-store .ensures) (so (c .before .before .before .before .dead-by .ensures) (c .before .before .before .if1 .left)) (so (c .before .before .phi-decl .ensures) (c .before .if2 .left))))
 
 same-length-4 : tie.Need-same-length-4
 same-length-4 c = search needs
 
 returns-3 : tie.Need-returns-3
-returns-3 c = (wrote-as (sym (change-keep plain (linesOf (c .before .before .before .before .before .before .before .before .before .before .before .before .before .before .before .before .args .text .now)) (c .before .before .before .before .before .before .before .before .before .before .before .before .before .before .before .before .args .line .now) (c .before .before .before .before .before .before .before .before .before .before .before .trim-start .result .now) (c .before .before .before .before .before .before .before .before .before .cut .result .now) (c .before .before .before .before .before .before .before .before .before .before .trim-from .result) (c .before .before .before .before .before .before .before .before .before .before .before .trim-start .ensures) (c .before .before .before .before .before .before .before .before .before .before .trim-from .ensures) (c .before .before .before .before .before .before .before .before .before .cut .ensures) (c .before .before .before .before .before .before .before .before .phi-store .result) (c .before .before .before .before .before .before .before .before .phi-store .ensures) (so (c .before .before .before .before .before .before .before .dead-by .ensures) (c .before .before .before .before .before .before .if1 .left)) (so (c .before .before .before .before .before .phi-decl .ensures) (c .before .before .before .before .if2 .left)))) (c .before .before .put-whole .ensures), refl)
+returns-3 c =
+    let a = c .before .before .before .before .before .before .before .before .before .before .before .before .before .before .before .before .args in
+    let trim-start = c .before .before .before .before .before .before .before .before .before .before .before .trim-start in
+    let trim-from = c .before .before .before .before .before .before .before .before .before .before .trim-from in
+    let cut = c .before .before .before .before .before .before .before .before .before .cut in
+    let phi-store = c .before .before .before .before .before .before .before .before .phi-store in
+    (wrote-as (sym (change-keep plain (linesOf (a .text .now)) (a .line .now) (trim-start .result .now) (cut .result .now) (trim-from .result) (trim-start .ensures) (trim-from .ensures) (cut .ensures) (phi-store .result) (phi-store .ensures) (so (c .before .before .before .before .before .before .before .dead-by .ensures) (c .before .before .before .before .before .before .if1 .left)) (so (c .before .before .before .before .before .phi-decl .ensures) (c .before .before .before .before .if2 .left)))) (c .before .before .put-whole .ensures), refl)
 
 pub put-change-spec : {M : Type 1} → statement M
 put-change-spec =

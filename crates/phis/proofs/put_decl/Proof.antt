@@ -19,7 +19,9 @@ abbrev μ-loop : tie.MeasureT-loop
 μ-loop body indent text out₀ o i₀ p₀ out i p = length body - i
 
 loop-holds : tie.Need-loop-holds Inv-loop μ-loop
-loop-holds c = decl-start (live (linesOf (c .before .before .before .before .args .text .now))) 3 (c .before .before .before .before .args .indent .now) (c .before .before .before .before .args .body .now) (c .before .before .before .before .args .out .now) (c .before .before .before .before .args .o) (c .before .before .before .before .pre)
+loop-holds c =
+    let a = c .before .before .before .before .args in
+    decl-start (live (linesOf (a .text .now))) 3 (a .indent .now) (a .body .now) (a .out .now) (a .o) (c .before .before .before .before .pre)
 
 find-byte-requires : tie.Need-find-byte-requires Inv-loop μ-loop
 find-byte-requires c κs = search needs
@@ -34,16 +36,27 @@ is-live-requires : tie.Need-is-live-requires Inv-loop μ-loop
 is-live-requires c κs = search needs
 
 put-part-requires : tie.Need-put-part-requires Inv-loop μ-loop
-put-part-requires c κs = decl-room (c .before .before .before .before .before .loop .inv) (c .before .before .before .before .find-byte .result) (c .before .before .before .before .find-byte .ensures) (c .before .before .trim .result .now) (c .before .before .trim .ensures .0 ∙ ap trimOf (c .before .before .before .cut .ensures)) (c .before .is-live .result) (c .before .is-live .ensures)
+put-part-requires c κs =
+    let find-byte = c .before .before .before .before .find-byte in
+    let trim = c .before .before .trim in
+    decl-room (c .before .before .before .before .before .loop .inv) (find-byte .result) (find-byte .ensures) (trim .result .now) (trim .ensures .0 ∙ ap trimOf (c .before .before .before .cut .ensures)) (c .before .is-live .result) (c .before .is-live .ensures)
 
 put-end-requires : tie.Need-put-end-requires Inv-loop μ-loop
-put-end-requires c κs = decl-end-room (c .before .before .before .before .before .before .before .before .before .before .loop .inv) (c .before .before .before .before .before .before .before .before .before .find-byte .result) (c .before .before .before .before .before .before .before .before .before .find-byte .ensures) (c .before .before .before .before .before .before .before .trim .result .now) (c .before .before .before .before .before .before .before .trim .ensures .0 ∙ ap trimOf (c .before .before .before .before .before .before .before .before .cut .ensures)) (c .before .before .before .before .before .before .is-live .result) (c .before .before .before .before .before .before .is-live .ensures) (c .before .before .before .before .put-part .ensures) (c .before .if1 .taken)
+put-end-requires c κs =
+    let find-byte = c .before .before .before .before .before .before .before .before .before .find-byte in
+    let trim = c .before .before .before .before .before .before .before .trim in
+    let is-live = c .before .before .before .before .before .before .is-live in
+    decl-end-room (c .before .before .before .before .before .before .before .before .before .before .loop .inv) (find-byte .result) (find-byte .ensures) (trim .result .now) (trim .ensures .0 ∙ ap trimOf (c .before .before .before .before .before .before .before .before .cut .ensures)) (is-live .result) (is-live .ensures) (c .before .before .before .before .put-part .ensures) (c .before .if1 .taken)
 
 same-length : tie.Need-same-length Inv-loop μ-loop
 same-length c = omega (arith, writing-length (c .before .before .before .before .before .before .before .before .before .before .before .before .before .loop .inv .writing), wrote-length (c .before .before .before .before .before .before .before .put-part .ensures), wrote-length (c .before .before .put-end .ensures))
 
 returns : tie.Need-returns Inv-loop μ-loop
-returns c = decl-end (c .before .before .before .before .before .before .before .before .before .before .before .before .before .loop .inv) (c .before .before .before .before .before .before .before .before .before .before .before .before .find-byte .result) (c .before .before .before .before .before .before .before .before .before .before .before .before .find-byte .ensures) (c .before .before .before .before .before .before .before .before .before .before .trim .result .now) (c .before .before .before .before .before .before .before .before .before .before .trim .ensures .0 ∙ ap trimOf (c .before .before .before .before .before .before .before .before .before .before .before .cut .ensures)) (c .before .before .before .before .before .before .before .before .before .is-live .result) (c .before .before .before .before .before .before .before .before .before .is-live .ensures) (c .before .before .before .before .before .before .before .put-part .ensures) (c .before .before .before .before .if1 .taken) (c .before .before .put-end .ensures)
+returns c =
+    let find-byte = c .before .before .before .before .before .before .before .before .before .before .before .before .find-byte in
+    let trim = c .before .before .before .before .before .before .before .before .before .before .trim in
+    let is-live = c .before .before .before .before .before .before .before .before .before .is-live in
+    decl-end (c .before .before .before .before .before .before .before .before .before .before .before .before .before .loop .inv) (find-byte .result) (find-byte .ensures) (trim .result .now) (trim .ensures .0 ∙ ap trimOf (c .before .before .before .before .before .before .before .before .before .before .before .cut .ensures)) (is-live .result) (is-live .ensures) (c .before .before .before .before .before .before .before .put-part .ensures) (c .before .before .before .before .if1 .taken) (c .before .before .put-end .ensures)
 
 add-i : tie.Need-add-i Inv-loop μ-loop
 add-i c = omega arith
@@ -52,7 +65,11 @@ loop-less : tie.Need-loop-less Inv-loop μ-loop
 loop-less c = omega (arith, c .before .before .before .before .before .before .before .before .find-byte .ensures)
 
 loop-again : tie.Need-loop-again Inv-loop μ-loop
-loop-again c = decl-on (c .before .before .before .before .before .before .before .before .before .loop .inv) (c .before .before .before .before .before .before .before .before .find-byte .result) (c .before .before .before .before .before .before .before .before .find-byte .ensures) (c .before .before .before .before .before .before .trim .result .now) (c .before .before .before .before .before .before .trim .ensures .0 ∙ ap trimOf (c .before .before .before .before .before .before .before .cut .ensures)) (c .before .before .before .before .before .is-live .result) (c .before .before .before .before .before .is-live .ensures) (c .before .before .before .put-part .ensures) (c .if1 .left)
+loop-again c =
+    let find-byte = c .before .before .before .before .before .before .before .before .find-byte in
+    let trim = c .before .before .before .before .before .before .trim in
+    let is-live = c .before .before .before .before .before .is-live in
+    decl-on (c .before .before .before .before .before .before .before .before .before .loop .inv) (find-byte .result) (find-byte .ensures) (trim .result .now) (trim .ensures .0 ∙ ap trimOf (c .before .before .before .before .before .before .before .cut .ensures)) (is-live .result) (is-live .ensures) (c .before .before .before .put-part .ensures) (c .if1 .left)
 
 pub put-decl-spec : {M : Type 1} → statement M
 put-decl-spec =

@@ -18,7 +18,9 @@ any-dead-requires : tie.Need-any-dead-requires Inv-loop μ-loop
 any-dead-requires c κs = search needs
 
 loop-holds : tie.Need-loop-holds Inv-loop μ-loop
-loop-holds c = round-start _ _ _ _ (c .before .before .before .before .pre .0) (c .before .before .before .before .pre .1) (c .any-dead .ensures)
+loop-holds c =
+    let pre = c .before .before .before .before .pre in
+    round-start _ _ _ _ (pre .0) (pre .1) (c .any-dead .ensures)
 
 find-byte-requires : tie.Need-find-byte-requires Inv-loop μ-loop
 find-byte-requires c κs = search needs
@@ -27,7 +29,10 @@ cut-requires : tie.Need-cut-requires Inv-loop μ-loop
 cut-requires c κs = search needs
 
 put-line-requires : tie.Need-put-line-requires Inv-loop μ-loop
-put-line-requires c κs = round-room (c .before .before .before .before .before .loop .inv) (c .before .before .before .find-byte .result) (c .before .before .before .before .loop-test .taken) (c .before .before .before .find-byte .ensures) (c .before .before .cut .result .now) (c .before .before .cut .ensures)
+put-line-requires c κs =
+    let find-byte = c .before .before .before .find-byte in
+    let cut = c .before .before .cut in
+    round-room (c .before .before .before .before .before .loop .inv) (find-byte .result) (c .before .before .before .before .loop-test .taken) (find-byte .ensures) (cut .result .now) (cut .ensures)
 
 after-requires : tie.Need-after-requires Inv-loop μ-loop
 after-requires c κs = search needs
@@ -36,7 +41,11 @@ loop-less : tie.Need-loop-less Inv-loop μ-loop
 loop-less c = omega (arith, c .after .ensures, c .before .before .before .before .before .before .before .before .before .find-byte .ensures, c .before .before .before .before .before .before .before .before .before .before .loop-test .taken)
 
 loop-again : tie.Need-loop-again Inv-loop μ-loop
-loop-again c = round-on (c .before .before .before .before .before .before .before .before .before .before .before .loop .inv) (c .before .before .before .before .before .before .before .before .before .find-byte .result) (c .before .before .before .before .before .before .before .before .before .before .loop-test .taken) (c .before .before .before .before .before .before .before .before .before .find-byte .ensures) (c .before .before .before .before .before .before .before .before .cut .result .now) (c .before .before .before .before .before .before .before .before .cut .ensures) _ _ _ _ (c .before .before .before .before .before .put-line .ensures .0) (c .before .before .before .before .before .put-line .ensures .1) (c .before .before .before .before .before .put-line .kept .1 .1 .1 .0) (c .after .ensures)
+loop-again c =
+    let find-byte = c .before .before .before .before .before .before .before .before .before .find-byte in
+    let cut = c .before .before .before .before .before .before .before .before .cut in
+    let put-line = c .before .before .before .before .before .put-line in
+    round-on (c .before .before .before .before .before .before .before .before .before .before .before .loop .inv) (find-byte .result) (c .before .before .before .before .before .before .before .before .before .before .loop-test .taken) (find-byte .ensures) (cut .result .now) (cut .ensures) _ _ _ _ (put-line .ensures .0) (put-line .ensures .1) (put-line .kept .1 .1 .1 .0) (c .after .ensures)
 
 same-length : tie.Need-same-length Inv-loop μ-loop
 same-length c = c .before .loop .inv .same-scratch

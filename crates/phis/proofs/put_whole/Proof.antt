@@ -11,7 +11,9 @@ put-requires : tie.Need-put-requires
 put-requires c κs = omega (arith, c .before .before .before .pre, length-append (c .before .before .before .args .line .now) (10 ∷ []))
 
 put-byte-requires : tie.Need-put-byte-requires
-put-byte-requires c κs = omega (arith, c .before .before .before .before .before .before .before .pre, length-append (c .before .before .before .before .before .before .before .args .line .now) (10 ∷ []), wrote-length (c .before .before .before .put .ensures), c .before .before .before .put .ensures .place)
+put-byte-requires c κs =
+    let put = c .before .before .before .put in
+    omega (arith, c .before .before .before .before .before .before .before .pre, length-append (c .before .before .before .before .before .before .before .args .line .now) (10 ∷ []), wrote-length (put .ensures), put .ensures .place)
 
 same-length : tie.Need-same-length
 same-length c = search needs
