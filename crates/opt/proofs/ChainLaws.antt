@@ -17,7 +17,12 @@ use Rattle.lines.proofs.OutLaws.{wrote-length, wrote-part}
 use Rattle.reading.specs.Reading.{Reading, plain}
 use Rattle.globals.specs.Globals.{removeGlobals}
 use Rattle.temps.specs.Temps.{pruneDeadTemps}
+use Rattle.once.specs.Once.{optimizeOnce}
+use Rattle.phis.specs.Phis.{pruneDeadPhis}
+use Rattle.calls.specs.LeavesOf.{leavesOf}
+use Rattle.calls.specs.Calls.{rebuildCalls}
 use Rattle.decls.specs.Decls.{pruneDecls}
+use Rattle.bind.specs.Bind.{bindDeclarators}
 use Rattle.opt.specs.Passes.{stepOf, stepsOf}
 use Rattle.opt.specs.Entry.{byteSize, blockSize}
 use Rattle.opt.specs.Room.{Room, Sized, Front}
@@ -34,13 +39,29 @@ module _ (R : Reading) (k : ℕ) (ls : List (List ℕ)) where
   unfolding stepOf
   step-1 e = rw e
 
+  pub step-2 : k ≡ 2 → stepOf R k ls ≡ optimizeOnce R ls
+  unfolding stepOf
+  step-2 e = rw e
+
+  pub step-3 : k ≡ 3 → stepOf R k ls ≡ pruneDeadPhis R ls
+  unfolding stepOf
+  step-3 e = rw e
+
+  pub step-4 : k ≡ 4 → stepOf R k ls ≡ rebuildCalls (leavesOf R) ls
+  unfolding stepOf
+  step-4 e = rw e
+
   pub step-5 : k ≡ 5 → stepOf R k ls ≡ pruneDecls ls
   unfolding stepOf
   step-5 e = rw e
 
-  pub step-else : (k ≡ 0 → ⊥) → (k ≡ 1 → ⊥) → (k ≡ 5 → ⊥) → stepOf R k ls ≡ ls
+  pub step-6 : k ≡ 6 → stepOf R k ls ≡ bindDeclarators R ls
   unfolding stepOf
-  step-else a b c = rw (ne-eqb k 0 a, ne-eqb k 1 b, ne-eqb k 5 c)
+  step-6 e = rw e
+
+  pub step-else : (k ≡ 0 → ⊥) → (k ≡ 1 → ⊥) → (k ≡ 2 → ⊥) → (k ≡ 3 → ⊥) → (k ≡ 4 → ⊥) → (k ≡ 5 → ⊥) → (k ≡ 6 → ⊥) → stepOf R k ls ≡ ls
+  unfolding stepOf
+  step-else a b c d e f g = rw (ne-eqb k 0 a, ne-eqb k 1 b, ne-eqb k 2 c, ne-eqb k 3 d, ne-eqb k 4 e, ne-eqb k 5 f, ne-eqb k 6 g)
 
 -- ---- the front of a buffer
 

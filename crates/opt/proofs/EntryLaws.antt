@@ -4,7 +4,7 @@ use mathlib.Core.Path.{_≡_, refl, sym, ap, _∙_}
 use mathlib.Core.Bool.{Bool, true, false, cond, _||_}
 use mathlib.Core.List.{List, _++_}
 use native.Mathlib.Omega.{arith}
-use borrow.Author.Tests.{lt-ltb, le-ltb, ltb-false}
+use borrow.Author.Tests.{lt-ltb, le-ltb, ltb-false, eq-eqb, ne-eqb}
 use lib.Dec.{ltb, leb}
 use lib.ListN.{length, drop}
 use Rattle.lines.specs.declared.Crowded as crowd
@@ -18,7 +18,7 @@ use Rattle.text.specs.Utf8Form.{utf8Of}
 use Rattle.reading.specs.Reading.{Reading, plain}
 use Rattle.opt.specs.declared.Answer.{Answer}
 use Rattle.opt.specs.declared.Answer.the-variants.{Done, BadPass, TooLong, ShortWork, NotUtf8, TooManyLines, Crowded, ShortResult}
-use Rattle.opt.specs.Answer.{runs, isDone}
+use Rattle.opt.specs.Answer.{numberOf, lengthOf, placeOf, runs, isDone}
 use Rattle.opt.specs.Passes.{stepOf, stepsOf, whole, resultOf}
 use Rattle.opt.specs.Entry.{byteSize, blockSize, isShort, byUtf8, byCrowd, checkedLines, checked, roomed, answerOf, passAnswer, blank, workAfter, outAfter}
 use Rattle.opt.specs.Room.{Long, Wiped, After}
@@ -166,8 +166,24 @@ all-wiped {r} n room {a} {b} {c} {d} {e} {u} q w =
 
 -- ---- the answer
 
-pub done-as : (r : Answer) {x : Answer} → r ≡ x → isDone x ≡ isDone r
-done-as r e = ap isDone (sym e)
+-- r is x
+pub number-as : (r : Answer) {x : Answer} → r ≡ x → numberOf x ≡ numberOf r
+number-as r e = ap numberOf (sym e)
+
+pub length-as : (r : Answer) {x : Answer} → r ≡ x → lengthOf x ≡ lengthOf r
+length-as r e = ap lengthOf (sym e)
+
+pub place-as : (r : Answer) {x : Answer} → r ≡ x → placeOf x ≡ placeOf r
+place-as r e = ap placeOf (sym e)
+
+-- its number tells whether it is `Done`
+pub done-by : (r : Answer) {n : ℕ} → n ≡ numberOf r → n ≡ 0 → isDone r ≡ true
+unfolding isDone
+done-by r {n} e h = eq-eqb (numberOf r) 0 (sym e ∙ h)
+
+pub done-not : (r : Answer) {n : ℕ} → n ≡ numberOf r → (n ≡ 0 → ⊥) → isDone r ≡ false
+unfolding isDone
+done-not r {n} e h = ne-eqb (numberOf r) 0 (λ z. h (e ∙ z))
 
 pub answer-refused : (r : Answer) (short : Bool) (t xs : List ℕ) (room : ℕ) → r ≡ checked short t (Done 0) → isDone r ≡ false → (r ≡ answerOf short t xs room) × (runs r ≡ false)
 unfolding answerOf
@@ -196,7 +212,7 @@ bad-done = refl
 
 -- ---- which passes an entry runs
 
-steps-whole : (R : Reading) (ls : List (List ℕ)) → stepsOf R 0 7 ls ≡ whole R ls
+pub steps-whole : (R : Reading) (ls : List (List ℕ)) → stepsOf R 0 7 ls ≡ whole R ls
 unfolding stepsOf stepOf whole
 steps-whole R ls = refl
 

@@ -1,5 +1,5 @@
 -- Passes that bring no LF into a line, add no line and do not raise the weight, whatever a brace weighs; and the room that follows. Assumes nothing.
-use Prim.Native.Nat.{ℕ, zero, suc, _+_, _*_, _≤_}
+use Prim.Native.Nat.{ℕ, zero, suc, _+_, _*_, _≤_, _<_, _^_}
 use mathlib.Core.Path.{_≡_, refl, sym, ap, _∙_}
 use mathlib.Core.Bool.{Bool, true, false, cond}
 use mathlib.Core.List.{List}
@@ -8,6 +8,7 @@ use lib.Dec.{eqb}
 use lib.ListN.{length}
 use Rattle.lines.specs.Lf.{endsIn, linesOf, unlines, countOf, noLf}
 use Rattle.lines.specs.Steps.{splitLines, joined}
+use Rattle.lines.specs.Acts.{apply}
 use Rattle.lines.proofs.LfLaws.{lines-unlines, count-le}
 use Rattle.lines.proofs.ActLaws.{apply-length}
 use Rattle.lines.proofs.StepLaws.{split-noLf}
@@ -15,11 +16,25 @@ use Rattle.weight.specs.Weight.{weight}
 use Rattle.weight.proofs.Weigh.{length-weight, weight-twice}
 use Rattle.weight.proofs.Moves.{split-weight}
 use Rattle.weight.proofs.Braces.{braces-le}
+use Rattle.place.specs.Parents.{idsParents, pathParents}
+use Rattle.place.proofs.Rooms.{ids-parents-text, path-parents-text}
 use Rattle.reading.specs.Reading.{Reading, plain}
 use Rattle.globals.specs.Globals.{removeGlobals}
 use Rattle.globals.proofs.Laws.{remove-noLf, remove-lines, remove-weight}
 use Rattle.temps.specs.Temps.{pruneDeadTempsActs, pruneDeadTemps}
 use Rattle.temps.proofs.Keeps.{temps-noLf, temps-weight}
+use Rattle.once.specs.Once.{onceActs, optimizeOnce}
+use Rattle.once.proofs.Keeps.{acts-noLf}
+use Rattle.once.proofs.Passes.{once-noLf, once-length}
+use Rattle.once.proofs.Room.{acts-weight, once-weight}
+use Rattle.phis.specs.Phis.{round, pruneDeadPhis}
+use Rattle.phis.specs.Rounds.{longest}
+use Rattle.phis.proofs.Keeps.{round-noLf, round-lines, phis-noLf, phis-lines}
+use Rattle.phis.proofs.Room.{round-weight, phis-weight, longest-weight}
+use Rattle.calls.specs.LeavesOf.{leavesOf}
+use Rattle.calls.specs.Calls.{rebuildCallsActs, rebuildCalls}
+use Rattle.calls.proofs.Room.{calls-weight, calls-noLf}
+use Rattle.bind.specs.Bind.{bindDeclaratorsActs, bindDeclarators}
 use Rattle.decls.specs.Decls.{pruneDecls}
 use Rattle.decls.proofs.Keeps.{keeps-noLf}
 use Rattle.decls.proofs.Decl.{prune-weight}
@@ -64,9 +79,31 @@ tame-temps R = record { keeps = temps-noLf R; weighs = λ H ls. temps-weight H R
 pub tame-decls : Tame pruneDecls
 tame-decls = record { keeps = keeps-noLf; weighs = prune-weight; counts = prune-lines }
 
+pub once-acts : (R : Reading) → Tame (λ ls. apply (onceActs R ls) ls)
+once-acts R = record { keeps = acts-noLf R; weighs = λ H ls. acts-weight H R ls; counts = λ ls. apply-length (onceActs R ls) ls }
+
+pub tame-once : (R : Reading) → Tame (optimizeOnce R)
+tame-once R = record { keeps = once-noLf R; weighs = λ H ls. once-weight H R ls; counts = once-length R }
+
+pub tame-phis : (R : Reading) → Tame (pruneDeadPhis R)
+tame-phis R = record { keeps = phis-noLf R; weighs = λ H ls. phis-weight H R ls; counts = phis-lines R }
+
+tame-round : Tame (round plain)
+tame-round = record { keeps = round-noLf plain; weighs = λ H ls. round-weight H plain ls; counts = round-lines plain }
+
+calls-count : (R : Reading) (ls : List (List ℕ)) → length (rebuildCalls (leavesOf R) ls) ≤ length ls
+unfolding rebuildCalls
+calls-count R ls = apply-length (rebuildCallsActs (leavesOf R) ls) ls
+
+pub tame-calls : (R : Reading) → Tame (rebuildCalls (leavesOf R))
+tame-calls R = record { keeps = calls-noLf R; weighs = λ H ls. calls-weight H R ls; counts = calls-count R }
+
+pub tame-bind : (R : Reading) → Tame (bindDeclarators R)
+tame-bind R = ?
+
 pub tame-step : (R : Reading) (k : ℕ) → Tame (stepOf R k)
 unfolding stepOf
-tame-step R k = tame-if (eqb k 0) tame-removal (tame-if (eqb k 1) (tame-temps R) (tame-if (eqb k 5) tame-decls tame-same))
+tame-step R k = tame-if (eqb k 0) tame-removal (tame-if (eqb k 1) (tame-temps R) (tame-if (eqb k 2) (tame-once R) (tame-if (eqb k 3) (tame-phis R) (tame-if (eqb k 4) (tame-calls R) (tame-if (eqb k 5) tame-decls (tame-if (eqb k 6) (tame-bind R) tame-same))))))
 
 pub tame-steps : (R : Reading) (k n : ℕ) → Tame (stepsOf R k n)
 unfolding stepsOf
@@ -108,3 +145,36 @@ room-fits {s} {f} p r =
 
 pub room-length : {s : List ℕ} → Room s → length s ≤ byteSize
 room-length {s} r = omega (arith, length-weight 0 s, r .heavy)
+
+-- the room that the passes with tables ask for
+pub once-room : {s scratch mid loops marks paths u dst : List ℕ} → Room s → length scratch ≡ byteSize → length mid ≡ byteSize → length u ≡ blockSize → length dst ≡ byteSize →
+    1024 ≤ length loops → 1024 ≤ length marks → 1024 ≤ length paths →
+    (length (linesOf s) ≤ length loops) × ((length (linesOf s) ≤ length marks) × ((length (linesOf s) ≤ length paths) × ((length (pathParents (linesOf s)) ≤ length u) × ((length u < 2 ^ 32)
+    × ((length s ≤ length scratch) × ((length (unlines (apply (onceActs plain (linesOf s)) (linesOf s))) ≤ length mid) × (length (unlines (optimizeOnce plain (linesOf s))) ≤ length dst)))))))
+once-room {s} r qs qm qu qd ql qk qp = (
+  omega (arith, r .lines),
+  (omega (arith, r .lines),
+  (omega (arith, r .lines),
+  (omega (arith, path-parents-text s, r .braces),
+  (omega arith,
+  (omega (arith, room-length r),
+  (omega (arith, room-fits (once-acts plain) r),
+  omega (arith, room-fits (tame-once plain) r))))))),
+)
+
+pub phis-room : {s : List ℕ} → Room s →
+    (longest plain s ≤ byteSize) × ((length (unlines (round plain (linesOf s))) ≤ byteSize) × ((length (unlines (round plain (round plain (linesOf s)))) ≤ byteSize) × (length (unlines (pruneDeadPhis plain (linesOf s))) ≤ byteSize)))
+phis-room {s} r = (
+  omega (arith, longest-weight 0 s, ap (weight 0) (r .whole), r .heavy),
+  (omega (arith, room-fits tame-round r),
+  (omega (arith, room-fits (tame-then tame-round tame-round) r),
+  omega (arith, room-fits (tame-phis plain) r))),
+)
+
+pub bind-room : {s blocks starts marks u dst : List ℕ} → Room s → length u ≡ blockSize → length dst ≡ byteSize → 1024 ≤ length blocks → 1024 ≤ length starts → 1024 ≤ length marks →
+    ((length (linesOf s) ≤ length blocks) × ((length (linesOf s) ≤ length starts) × ((length (idsParents (linesOf s)) ≤ length u) × (length u < 2 ^ 32))))
+    × ((length (linesOf s) ≤ length marks) × (length (unlines (bindDeclarators plain (linesOf s))) ≤ length dst))
+bind-room {s} r qu qd qb qs qm = (
+  (omega (arith, r .lines), (omega (arith, r .lines), (omega (arith, ids-parents-text s, r .braces), omega arith))),
+  (omega (arith, r .lines), omega (arith, room-fits (tame-bind plain) r)),
+)

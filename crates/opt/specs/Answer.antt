@@ -1,6 +1,7 @@
 -- Each case of an answer as the three numbers that a caller gets. Assumes nothing.
 use Prim.Native.Nat.{ℕ}
-use mathlib.Core.Bool.{Bool, true, false}
+use mathlib.Core.Bool.{Bool, _||_}
+use lib.Dec.{eqb}
 use Rattle.opt.specs.declared.Answer.{Answer}
 use Rattle.opt.specs.declared.Answer.the-variants.{Done, BadPass, TooLong, ShortWork, NotUtf8, TooManyLines, Crowded, ShortResult}
 
@@ -35,24 +36,12 @@ placeOf TooManyLines = 1024
 placeOf (Crowded n) = n
 placeOf (ShortResult n) = n
 
--- the passes ran: numbers 0 and 7
-unfoldable pub runs : Answer → Bool
-runs (Done n) = true
-runs BadPass = false
-runs TooLong = false
-runs ShortWork = false
-runs (NotUtf8 i) = false
-runs TooManyLines = false
-runs (Crowded n) = false
-runs (ShortResult n) = true
-
 -- the result was written: number 0
 unfoldable pub isDone : Answer → Bool
-isDone (Done n) = true
-isDone BadPass = false
-isDone TooLong = false
-isDone ShortWork = false
-isDone (NotUtf8 i) = false
-isDone TooManyLines = false
-isDone (Crowded n) = false
-isDone (ShortResult n) = false
+unfolding numberOf
+isDone r = eqb (numberOf r) 0
+
+-- the passes ran: numbers 0 and 7
+unfoldable pub runs : Answer → Bool
+unfolding numberOf
+runs r = eqb (numberOf r) 0 || eqb (numberOf r) 7

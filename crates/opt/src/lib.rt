@@ -8,8 +8,12 @@ ghost use Rattle.lines.specs.Lf.{endsIn, linesOf, unlines};
 ghost use Rattle.lines.specs.Out.{Wrote};
 ghost use Rattle.lines.specs.Steps.{splitLines, joined};
 ghost use Rattle.reading.specs.Reading.{plain};
+ghost use Rattle.once.specs.Once.{optimizeOnce};
+ghost use Rattle.calls.specs.LeavesOf.{leavesOf};
+ghost use Rattle.calls.specs.Calls.{rebuildCalls};
+ghost use Rattle.bind.specs.Bind.{bindDeclarators};
 ghost use Rattle.opt.specs.declared.Answer.the-variants.{Done};
-ghost use Rattle.opt.specs.Answer.{isDone};
+ghost use Rattle.opt.specs.Answer.{numberOf, lengthOf, placeOf};
 ghost use Rattle.opt.specs.Passes.{stepOf, stepsOf, whole, resultOf};
 ghost use Rattle.opt.specs.Entry.{byteSize, blockSize, isShort, checkedLines, checked, roomed, answerOf, passAnswer, blank, workAfter, outAfter};
 ghost use Rattle.opt.specs.Room.{Room, Sized, Long, Blank, Wiped, After, Front};
@@ -28,6 +32,84 @@ pub enum Answer {
     TooManyLines,
     Crowded(usize),
     ShortResult(usize),
+}
+
+// The number of an answer: 0, or that of the check that refused.
+pub fn number_of(r: Answer) -> u8
+    ensures { λ x. ⌜ x ≡ numberOf r ⌝ }
+{
+    match r {
+        Answer::Done(n) => 0,
+        Answer::BadPass => 1,
+        Answer::TooLong => 2,
+        Answer::ShortWork => 3,
+        Answer::NotUtf8(i) => 4,
+        Answer::TooManyLines => 5,
+        Answer::Crowded(n) => 6,
+        Answer::ShortResult(n) => 7,
+    }
+}
+
+// The length of the result, 0 where there is none.
+pub fn length_of(r: Answer) -> usize
+    ensures { λ x. ⌜ x ≡ lengthOf r ⌝ }
+{
+    match r {
+        Answer::Done(n) => n,
+        Answer::BadPass => 0,
+        Answer::TooLong => 0,
+        Answer::ShortWork => 0,
+        Answer::NotUtf8(i) => 0,
+        Answer::TooManyLines => 0,
+        Answer::Crowded(n) => 0,
+        Answer::ShortResult(n) => 0,
+    }
+}
+
+// The place of a refusal.
+pub fn place_of(r: Answer) -> usize
+    ensures { λ x. ⌜ x ≡ placeOf r ⌝ }
+{
+    match r {
+        Answer::Done(n) => 0,
+        Answer::BadPass => 0,
+        Answer::TooLong => 16384,
+        Answer::ShortWork => 0,
+        Answer::NotUtf8(i) => i,
+        Answer::TooManyLines => 1024,
+        Answer::Crowded(n) => n,
+        Answer::ShortResult(n) => n,
+    }
+}
+
+// Runs optimize_once, with its tables for 1,024 lines.
+fn once_step(src: &[u8], scratch: &mut [u8], mid: &mut [u8], u: &mut [u32], dst: &mut [u8]) -> usize
+    requires { ⌜ Room (now src) × ((length (now scratch) ≡ byteSize) × ((length (now mid) ≡ byteSize) × ((length (now u) ≡ blockSize) × (length (now dst) ≡ byteSize)))) ⌝ }
+    ensures { λ r. ⌜ Wrote (now (dst .entry)) 0 (unlines (optimizeOnce plain (linesOf (now (src .entry))))) (now (dst .exit)) r ⌝ }
+{
+    let mut loops = [0u8; 1024];
+    let mut marks = [0u8; 1024];
+    let mut paths = [0usize; 1024];
+    once::optimize_once(src, scratch, mid, &mut loops, &mut marks, &mut paths, u, dst)
+}
+
+// Runs rebuild_calls, with its tables for 1,024 lines.
+fn calls_step(src: &[u8], cur: &mut [u8], next: &mut [u8], clean: &mut [u8], u: &mut [u32], dst: &mut [u8]) -> usize
+    requires { ⌜ Room (now src) × ((length (now cur) ≡ byteSize) × ((length (now next) ≡ byteSize) × ((length (now clean) ≡ byteSize) × ((length (now u) ≡ blockSize) × (length (now dst) ≡ byteSize))))) ⌝ }
+    ensures { λ r. ⌜ Wrote (now (dst .entry)) 0 (unlines (rebuildCalls (leavesOf plain) (linesOf (now (src .entry))))) (now (dst .exit)) r ⌝ }
+{
+    lines::put(dst, 0, src)
+}
+
+// Runs bind_declarators, with its tables for 1,024 lines.
+fn bind_step(src: &[u8], u: &mut [u32], dst: &mut [u8]) -> usize
+    requires { ⌜ Room (now src) × ((length (now u) ≡ blockSize) × (length (now dst) ≡ byteSize)) ⌝ }
+    ensures { λ r. ⌜ Wrote (now (dst .entry)) 0 (unlines (bindDeclarators plain (linesOf (now (src .entry))))) (now (dst .exit)) r ⌝ }
+{
+    let mut blocks = [0usize; 1024];
+    let mut starts = [0u8; 1024];
+    let mut marks = [0u8; 1024];
+    bind::bind_declarators(src, &mut blocks, &mut starts, u, &mut marks, dst)
 }
 
 // Runs a pass by its number from one buffer into another, and returns the length of what it wrote. 0 is the removal.
@@ -49,8 +131,20 @@ fn step(
     if k == 1 {
         return temps::prune_dead_temps(src, c, dst);
     }
+    if k == 2 {
+        return once_step(src, c, d, u, dst);
+    }
+    if k == 3 {
+        return phis::prune_dead_phis(src, c, d, e, dst);
+    }
+    if k == 4 {
+        return calls_step(src, c, d, e, u, dst);
+    }
     if k == 5 {
         return decls::prune_decls(src, dst);
+    }
+    if k == 6 {
+        return bind_step(src, u, dst);
     }
     lines::put(dst, 0, src)
 }
@@ -109,12 +203,12 @@ fn wipe(s: &mut [u8])
 }
 
 // Makes every number of a buffer 0.
-fn wipe_numbers(s: &mut [u32])
-    ensures { λ _. ⌜ now (s .exit) ≡ blank (length (now (s .entry))) ⌝ }
+fn wipe_numbers(numbers: &mut [u32])
+    ensures { λ _. ⌜ now (numbers .exit) ≡ blank (length (now (numbers .entry))) ⌝ }
 {
     let mut i = 0;
-    while i < s.len() {
-        s[i] = 0;
+    while i < numbers.len() {
+        numbers[i] = 0;
         i += 1;
     }
 }
@@ -251,22 +345,6 @@ fn refused(text: &[u8], short: bool) -> Answer
     }
 }
 
-// Whether an answer is `Done`.
-fn is_done(r: Answer) -> bool
-    ensures { λ b. ⌜ b ≡ isDone r ⌝ }
-{
-    match r {
-        Answer::Done(n) => true,
-        Answer::BadPass => false,
-        Answer::TooLong => false,
-        Answer::ShortWork => false,
-        Answer::NotUtf8(i) => false,
-        Answer::TooManyLines => false,
-        Answer::Crowded(n) => false,
-        Answer::ShortResult(n) => false,
-    }
-}
-
 // Checks a text, and runs the passes from `k` up to `to` over it.
 fn tidy(
     k: usize,
@@ -286,7 +364,7 @@ fn tidy(
 {
     let short = too_short(a.len(), b.len(), c.len(), d.len(), e.len(), u.len());
     let r = refused(text, short);
-    if !is_done(r) {
+    if number_of(r) != 0 {
         return r;
     }
     run(k, to, text, a, b, c, d, e, u, out)

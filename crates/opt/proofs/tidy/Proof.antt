@@ -5,14 +5,12 @@ use mathlib.Core.Bool.{Bool}
 use mathlib.Core.List.{List}
 use native.Mathlib.Omega.{arith}
 use lib.ListN.{length}
-use borrow.Author.Tests.{not-true, not-false}
-use Rattle.lines.proofs.Tests.{so}
 use Rattle.reading.specs.Reading.{plain}
 use Rattle.opt.specs.declared.Answer.the-variants.{Done}
 use Rattle.opt.specs.Answer.{isDone}
 use Rattle.opt.specs.Passes.{stepsOf, resultOf}
 use Rattle.opt.specs.Entry.{isShort, checked}
-use Rattle.opt.proofs.EntryLaws.{long-by, accepted-by, out-kept, all-kept, all-wiped, answer-refused, answer-accepted}
+use Rattle.opt.proofs.EntryLaws.{done-by, done-not, long-by, accepted-by, out-kept, all-kept, all-wiped, answer-refused, answer-accepted}
 use Rattle.opt.proofs.tidy.Statement.{statement}
 use Rattle.opt.proofs.tidy.Tie as tie
 
@@ -22,8 +20,8 @@ too-short-requires c κs = search needs
 refused-requires : tie.Need-refused-requires
 refused-requires c κs = search needs
 
-is-done-requires : tie.Need-is-done-requires
-is-done-requires c κs = search needs
+number-of-requires : tie.Need-number-of-requires
+number-of-requires c κs = search needs
 
 returns : tie.Need-returns
 returns c =
@@ -31,7 +29,7 @@ returns c =
     let t = g .text .now in
     let s = isShort (length (g .a .now)) (length (g .b .now)) (length (g .c .now)) (length (g .d .now)) (length (g .e .now)) (length (g .u .now)) in
     let e = c .before .before .refused .ensures ∙ ap (λ (x : Bool). checked x t (Done 0)) (c .before .before .before .too-short .ensures) in
-    let h = so (c .before .is-done .ensures) (not-true _ (c .if1 .taken)) in
+    let h = done-not _ (c .before .number-of .ensures) (c .if1 .taken) in
     let xs = resultOf (stepsOf plain (g .k) (g .to - g .k)) t in
     let r = c .before .before .refused .result in
     let p = answer-refused r s t xs (length (g .out .now)) e h in
@@ -43,7 +41,7 @@ run-requires c κs =
     let t = g .text .now in
     let s = isShort (length (g .a .now)) (length (g .b .now)) (length (g .c .now)) (length (g .d .now)) (length (g .e .now)) (length (g .u .now)) in
     let e = c .before .before .before .before .before .before .before .before .before .refused .ensures ∙ ap (λ (x : Bool). checked x t (Done 0)) (c .before .before .before .before .before .before .before .before .before .before .too-short .ensures) in
-    let h = so (c .before .before .before .before .before .before .before .before .is-done .ensures) (not-false _ (c .before .before .before .before .before .before .before .if1 .left)) in
+    let h = done-by _ (c .before .before .before .before .before .before .before .before .number-of .ensures) (c .before .before .before .before .before .before .before .if1 .left) in
     let p = accepted-by s t (ap isDone (sym e) ∙ h) in
     (p .bytes, (p .lines, long-by (g .a .now) (g .b .now) (g .c .now) (g .d .now) (g .e .now) (g .u .now) (p .long-enough)))
 
@@ -74,7 +72,7 @@ returns-2 c =
     let t = g .text .now in
     let s = isShort (length (g .a .now)) (length (g .b .now)) (length (g .c .now)) (length (g .d .now)) (length (g .e .now)) (length (g .u .now)) in
     let e = c .before .before .before .before .before .before .before .before .before .before .before .before .before .before .before .before .before .before .before .before .before .before .before .before .refused .ensures ∙ ap (λ (x : Bool). checked x t (Done 0)) (c .before .before .before .before .before .before .before .before .before .before .before .before .before .before .before .before .before .before .before .before .before .before .before .before .before .too-short .ensures) in
-    let h = so (c .before .before .before .before .before .before .before .before .before .before .before .before .before .before .before .before .before .before .before .before .before .before .before .is-done .ensures) (not-false _ (c .before .before .before .before .before .before .before .before .before .before .before .before .before .before .before .before .before .before .before .before .before .before .if1 .left)) in
+    let h = done-by _ (c .before .before .before .before .before .before .before .before .before .before .before .before .before .before .before .before .before .before .before .before .before .before .before .number-of .ensures) (c .before .before .before .before .before .before .before .before .before .before .before .before .before .before .before .before .before .before .before .before .before .before .if1 .left) in
     let xs = resultOf (stepsOf plain (g .k) (g .to - g .k)) t in
     let w = c .before .before .before .before .before .before .before .before .before .before .before .before .before .before .run .ensures in
     (answer-accepted s t xs (length (g .out .now)) (accepted-by s t (ap isDone (sym e) ∙ h)) (w .0), (w .1 .0, all-wiped (length xs) (length (g .out .now)) (w .0) (w .1 .1)))
@@ -85,7 +83,7 @@ tidy-spec =
     (tie.spec
     too-short-requires
     refused-requires
-    is-done-requires
+    number-of-requires
     returns
     run-requires
     same-length

@@ -15,11 +15,11 @@ abbrev μ-loop : tie.MeasureT-loop
 loop-holds : tie.Need-loop-holds Inv-loop μ-loop
 loop-holds c = wipe-start _
 
-mul-s : tie.Need-mul-s Inv-loop μ-loop
-mul-s c = search needs
+mul-numbers : tie.Need-mul-numbers Inv-loop μ-loop
+mul-numbers c = search needs
 
-slice-write-s : tie.Need-slice-write-s Inv-loop μ-loop
-slice-write-s c = omega (arith, c .loop-test .taken)
+slice-write-numbers : tie.Need-slice-write-numbers Inv-loop μ-loop
+slice-write-numbers c = omega (arith, c .loop-test .taken)
 
 add-i : tie.Need-add-i Inv-loop μ-loop
 add-i c = omega (arith, c .loop-test .taken)
@@ -43,8 +43,8 @@ wipe-numbers-spec =
     Inv-loop
     μ-loop
     loop-holds
-    mul-s
-    slice-write-s
+    mul-numbers
+    slice-write-numbers
     add-i
     loop-less
     loop-again

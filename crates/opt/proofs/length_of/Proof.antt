@@ -1,8 +1,8 @@
 use borrow.Author.Needs.{needs}
-use Rattle.opt.specs.Answer.{isDone}
-use Rattle.opt.proofs.EntryLaws.{done-as}
-use Rattle.opt.proofs.is_done.Statement.{statement}
-use Rattle.opt.proofs.is_done.Tie as tie
+use Rattle.opt.specs.Answer.{lengthOf}
+use Rattle.opt.proofs.EntryLaws.{length-as}
+use Rattle.opt.proofs.length_of.Statement.{statement}
+use Rattle.opt.proofs.length_of.Tie as tie
 
 enum-known-r : tie.Need-enum-known-r
 enum-known-r c = search needs
@@ -29,39 +29,39 @@ enum-known-r-4 : tie.Need-enum-known-r-4
 enum-known-r-4 c = search needs
 
 returns : tie.Need-returns
-unfolding isDone
-returns c = done-as (c .before .before .before .args .r) (c .before .r .given .1)
+unfolding lengthOf
+returns c = length-as (c .before .before .before .args .r) (c .before .r .given .1)
 
 returns-2 : tie.Need-returns-2
-unfolding isDone
-returns-2 c = done-as (c .before .before .args .r) (c .enum-told .given .1)
+unfolding lengthOf
+returns-2 c = length-as (c .before .before .args .r) (c .enum-told .given .1)
 
 returns-3 : tie.Need-returns-3
-unfolding isDone
-returns-3 c = done-as (c .before .before .args .r) (c .enum-told2 .given .1)
+unfolding lengthOf
+returns-3 c = length-as (c .before .before .args .r) (c .enum-told2 .given .1)
 
 returns-4 : tie.Need-returns-4
-unfolding isDone
-returns-4 c = done-as (c .before .before .args .r) (c .enum-told3 .given .1)
+unfolding lengthOf
+returns-4 c = length-as (c .before .before .args .r) (c .enum-told3 .given .1)
 
 returns-5 : tie.Need-returns-5
-unfolding isDone
-returns-5 c = done-as (c .before .before .before .args .r) (c .before .r2 .given .1)
+unfolding lengthOf
+returns-5 c = length-as (c .before .before .before .args .r) (c .before .r2 .given .1)
 
 returns-6 : tie.Need-returns-6
-unfolding isDone
-returns-6 c = done-as (c .before .before .args .r) (c .enum-told4 .given .1)
+unfolding lengthOf
+returns-6 c = length-as (c .before .before .args .r) (c .enum-told4 .given .1)
 
 returns-7 : tie.Need-returns-7
-unfolding isDone
-returns-7 c = done-as (c .before .before .before .args .r) (c .before .r3 .given .1)
+unfolding lengthOf
+returns-7 c = length-as (c .before .before .before .args .r) (c .before .r3 .given .1)
 
 returns-8 : tie.Need-returns-8
-unfolding isDone
-returns-8 c = done-as (c .before .before .before .args .r) (c .before .r4 .given .1)
+unfolding lengthOf
+returns-8 c = length-as (c .before .before .before .args .r) (c .before .r4 .given .1)
 
-pub is-done-spec : {M : Type 1} → statement M
-is-done-spec =
+pub length-of-spec : {M : Type 1} → statement M
+length-of-spec =
     tie.close
     (tie.spec
     enum-known-r
