@@ -78,6 +78,6 @@ unfolding optimizeOnce
 once-text t x e = ap (λ (s : List ℕ). unlines (pruneDecls (linesOf s))) e ∙ ap (λ (ls : List (List ℕ)). unlines (pruneDecls ls)) (mid-reads t)
 
 -- there are never more lines
-pub once-length : (R : Reading) (ls : List (List ℕ)) → length (optimizeOnce R ls) ≤ length ls
+pub once-lines : (R : Reading) (ls : List (List ℕ)) → length (optimizeOnce R ls) ≤ length ls
 unfolding optimizeOnce pruneDecls
-once-length R ls = omega (arith, apply-length (pruneDeclsActs (apply (onceActs R ls) ls)) (apply (onceActs R ls) ls), apply-length (onceActs R ls) ls)
+once-lines R ls = omega (arith, apply-length (pruneDeclsActs (apply (onceActs R ls) ls)) (apply (onceActs R ls) ls), apply-length (onceActs R ls) ls)

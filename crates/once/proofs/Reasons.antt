@@ -7,7 +7,7 @@ use borrow.Author.Tests.{eqb-true, not-true}
 use lib.Dec.{eqb}
 use lib.ListN.{take, drop}
 use Rattle.lines.specs.Acts.{Act, keep, become, into, gone}
-use Rattle.lines.proofs.Tests.{no, and-left, and-right}
+use Rattle.lines.proofs.Tests.{no, or-true, and-left, and-right}
 use Rattle.text.specs.declared.Span.{Span}
 use Rattle.parse.specs.Parse.{parseOf, textOf}
 use Rattle.parse.specs.declared.Line.{Line}
@@ -74,6 +74,13 @@ dropped-reason R d below h = go (parseOf (d .line)) refl h
         })) e
     go line.Other q e = no e
 
+-- and for each of them it goes
+pub reason-dropped : (R : Reading) (d : Spot) (below : List Spot) → Reason R d below → dropped R d below ≡ true
+unfolding dropped
+reason-dropped R d below (as-load r) = rw (r .reads, r .load)
+reason-dropped R d below (as-dead r) =
+    rw (r .reads, r .unwanted, r .pure, r .outside, r .own) (or-true (scratchAt (r .store .reg .0) (textOf (d .line) (line.Store (r .store))) (linesIn below)))
+
 -- ---- a line that goes into the next
 
 -- x is the line e with the value of d in the place of its register, which e reads once and nothing below e reads before it is stored again
@@ -91,7 +98,7 @@ pub record Taken (R : Reading) (d e : Spot) (below : List Spot) (x : List ℕ) :
   pub stands : x ≡ before ++ (textOf (d .line) (line.Store store) ++ behind)
 
 -- a replacement stands in the line
-pub record Within (rep x : List ℕ) : Type 0 where
+record Within (rep x : List ℕ) : Type 0 where
   pub before : List ℕ
   pub behind : List ℕ
   pub stands : x ≡ before ++ (rep ++ behind)
@@ -112,7 +119,7 @@ within from to l rep = go (glueLeft (take from l) rep || glueRight rep (drop to 
     go false = record { before = take from l; behind = drop to l; stands = append-assoc (take from l) rep (drop to l) }
 
 -- that there is a line says where the one hit stands
-pub record Found (v : ℕ) (l x : List ℕ) : Type 0 where
+record Found (v : ℕ) (l x : List ℕ) : Type 0 where
   pub span : Span
   pub at : regHit v l ≡ hit.One span
   pub is : firstOf (replaceReg v l x) l ≡ replacedAt (span .from) (span .to) l x
@@ -126,11 +133,11 @@ found-one v l x h = go (regHit v l) refl h
     go (hit.One w) q e = record { span = w; at = q; is = ap (λ (z : Hit). firstOf (replaceBy z l x) l) q }
 
 -- what a line that goes into the next says of the two
-pub record Forward (R : Reading) (run : List (List ℕ)) (d e : Spot) (below : List Spot) : Type 0 where
+record Forward (R : Reading) (run : List (List ℕ)) (d e : Spot) (below : List Spot) : Type 0 where
   pub stays : dropped R e below ≡ false
   pub taken : Taken R d e below (takenBy (d .line) (parseOf (d .line)) (e .line))
 
-pub forward-taken : (R : Reading) (run : List (List ℕ)) (d e : Spot) (below : List Spot) → forwards R run (d ∷ e ∷ below) ≡ true → Forward R run d e below
+forward-taken : (R : Reading) (run : List (List ℕ)) (d e : Spot) (below : List Spot) → forwards R run (d ∷ e ∷ below) ≡ true → Forward R run d e below
 unfolding forwards
 forward-taken R run d e below h = go (parseOf (d .line)) refl h
   where

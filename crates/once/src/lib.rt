@@ -360,7 +360,8 @@ fn drops_at(
     )
 }
 
-// The mark of a line in the region `run`, above the line at j: 1 where it goes, 2 where it would go into the next, else 0.
+// The mark of a line in the region `run`, above the line at j: 1 where it goes, as `goes` says, 2 where it would go into the next, else 0;
+// `next` says whether that one goes.
 fn mark_at(
     line: &[u8],
     text: &[u8],
@@ -425,16 +426,9 @@ fn fill_marks(
         let next = drops_at(text, j, paths, k + 1, g != 0, scratch);
         run = area_at(text, i, e, run);
         let h = lines::byte_at(loops, k);
-        marks[k] = mark_at(
-            lines::cut(text, i, e),
-            text,
-            j,
-            lines::cut(text, run.from, run.to),
-            h != 0,
-            goes,
-            next,
-            scratch,
-        );
+        let line = lines::cut(text, i, e);
+        let area = lines::cut(text, run.from, run.to);
+        marks[k] = mark_at(line, text, j, area, h != 0, goes, next, scratch);
         goes = next;
         k += 1;
         i = j;
