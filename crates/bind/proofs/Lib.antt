@@ -1,4 +1,6 @@
 pub mod CountLaws
 pub mod SiteLaws
 pub mod WalkLaws
+pub mod Cut
+pub mod Passes
 pub mod Examples

@@ -324,7 +324,7 @@ module _ (above : List (List ℕ)) (d : Spot) (below : List Spot) where
   mark-nil ms = refl
 
   -- where no name is bound, none is made
-  mark-none : (ps : List (List ℕ)) (ms : List Bool) → anyBound ps above d below ≡ false → markAll ps above d below ms ≡ ms
+  pub mark-none : (ps : List (List ℕ)) (ms : List Bool) → anyBound ps above d below ≡ false → markAll ps above d below ms ≡ ms
   unfolding markAll anyBound
   mark-none [] ms e = refl
   mark-none (p ∷ ps) ms e = go (regOf (trimOf p)) e (λ x. mark-none ps x)
@@ -355,7 +355,7 @@ module _ (f : ℕ → Bool) (above : List (List ℕ)) (d : Spot) (below : List S
       go name.None e = e
       go (name.Reg q) e = rw (w (q .0), e)
 
-  kept-is : (ps : List (List ℕ)) → kept (left f) 1 ps ≡ unbound ps above d below
+  pub kept-is : (ps : List (List ℕ)) → kept (left f) 1 ps ≡ unbound ps above d below
   unfolding kept unbound
   kept-is [] = refl
   kept-is (p ∷ ps) = go (regOf (trimOf p)) refl (kept-is ps)
@@ -663,7 +663,7 @@ module _ {t bs ss m₀ m d₀ d : List ℕ} {top end i k o : ℕ} (h : BindInv t
 
 -- ---- where the walk begins and ends
 
-in-spots : (ls : List (List ℕ)) (bs : List ℕ) (ss : List Bool) → length bs ≡ length ls → length ss ≡ length ls → linesIn (spotsOf ls bs ss) ≡ ls
+pub in-spots : (ls : List (List ℕ)) (bs : List ℕ) (ss : List Bool) → length bs ≡ length ls → length ss ≡ length ls → linesIn (spotsOf ls bs ss) ≡ ls
 unfolding spotsOf linesIn
 in-spots [] bs ss p q = refl
 in-spots (l ∷ ls) [] ss p q = absurd (omega arith)

@@ -157,7 +157,13 @@ fn stored_once(above: &[u8], below: &[u8], reg: names::Register) -> bool
 }
 
 // Whether the first use of a register below line `row` is a store of it, in that line's block, that starts a statement.
-fn store_first(below: &[u8], blocks: &[usize], starts: &[u8], row: usize, reg: names::Register) -> bool
+fn store_first(
+    below: &[u8],
+    blocks: &[usize],
+    starts: &[u8],
+    row: usize,
+    reg: names::Register,
+) -> bool
     requires { ⌜ (row + suc (length (linesOf (now below))) ≤ length (now blocks)) × (row + suc (length (linesOf (now below))) ≤ length (now starts)) ⌝ }
     ensures { λ r. ⌜ r ≡ storesAt (reg .0) (linesOf (now (below .entry))) (now (blocks .entry)) (now (starts .entry)) row (useRow (reg .0) (linesOf (now (below .entry)))) ⌝ }
 {
@@ -263,7 +269,14 @@ fn mark_names(body: &[u8], text: &[u8], s: Site, blocks: &[usize], starts: &[u8]
     let mut i = 0;
     loop {
         let e = lines::find_byte(body, i, b',');
-        mark_name(text, s, blocks, starts, text::trim(lines::cut(body, i, e)), marks);
+        mark_name(
+            text,
+            s,
+            blocks,
+            starts,
+            text::trim(lines::cut(body, i, e)),
+            marks,
+        );
         if e >= body.len() {
             return;
         }
