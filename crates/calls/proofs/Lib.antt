@@ -10,3 +10,8 @@ pub mod StepLaws
 pub mod WalkLaws
 pub mod Owners
 pub mod Texts
+pub mod Stacks
+pub mod Told
+pub mod Climbs
+pub mod Turns
+pub mod Wipes
