@@ -23,6 +23,7 @@ use Rattle.calls.specs.LeavesOf.{leavesOf}
 use Rattle.calls.specs.Calls.{rebuildCalls}
 use Rattle.decls.specs.Decls.{pruneDecls}
 use Rattle.bind.specs.Bind.{bindDeclarators}
+use Rattle.bind.proofs.Cut.{plain-by-line}
 use Rattle.opt.specs.Passes.{stepOf, stepsOf}
 use Rattle.opt.specs.Entry.{byteSize, blockSize}
 use Rattle.opt.specs.Room.{Room, Sized, Front}
@@ -127,7 +128,7 @@ module _ {k to : ℕ} {t a b c d e u : List ℕ} {n j : ℕ} (h : ChainInv k to 
           u-size = qu ∙ h .sized .u-size;
         };
         now-lines = stepOf plain j ls;
-        between = between-on (tame-step plain j) (h .between);
+        between = between-on (tame-step plain-by-line j) (h .between);
         front = record { fits = f .fits; is = f .is ∙ ap (λ (ms : List (List ℕ)). unlines (stepOf plain j ms)) g };
         so-far =
             ap (λ (i : ℕ). stepsOf plain i (to - (j + 1)) (stepOf plain j ls)) (add-one j)

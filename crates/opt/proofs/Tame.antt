@@ -5,7 +5,7 @@ use mathlib.Core.Bool.{Bool, true, false, cond}
 use mathlib.Core.List.{List}
 use native.Mathlib.Omega.{arith}
 use lib.Dec.{eqb}
-use lib.ListN.{length}
+use lib.ListN.{length, replicate, length-replicate}
 use Rattle.lines.specs.Lf.{endsIn, linesOf, unlines, countOf, noLf}
 use Rattle.lines.specs.Steps.{splitLines, joined}
 use Rattle.lines.specs.Acts.{apply}
@@ -29,12 +29,14 @@ use Rattle.once.proofs.Passes.{once-noLf, once-length}
 use Rattle.once.proofs.Room.{acts-weight, once-weight}
 use Rattle.phis.specs.Phis.{round, pruneDeadPhis}
 use Rattle.phis.specs.Rounds.{longest}
-use Rattle.phis.proofs.Keeps.{round-noLf, round-lines, phis-noLf, phis-lines}
+use Rattle.phis.proofs.Keeps.{phis-noLf, phis-lines}
 use Rattle.phis.proofs.Room.{round-weight, phis-weight, longest-weight}
 use Rattle.calls.specs.LeavesOf.{leavesOf}
 use Rattle.calls.specs.Calls.{rebuildCallsActs, rebuildCalls}
 use Rattle.calls.proofs.Room.{calls-weight, calls-noLf}
-use Rattle.bind.specs.Bind.{bindDeclaratorsActs, bindDeclarators}
+use Rattle.bind.specs.Bind.{bindDeclarators}
+use Rattle.bind.proofs.Cut.{ByLine, plain-by-line}
+use Rattle.bind.proofs.Passes as bind-laws
 use Rattle.decls.specs.Decls.{pruneDecls}
 use Rattle.decls.proofs.Keeps.{keeps-noLf}
 use Rattle.decls.proofs.Decl.{prune-weight}
@@ -88,9 +90,6 @@ tame-once R = record { keeps = once-noLf R; weighs = λ H ls. once-weight H R ls
 pub tame-phis : (R : Reading) → Tame (pruneDeadPhis R)
 tame-phis R = record { keeps = phis-noLf R; weighs = λ H ls. phis-weight H R ls; counts = phis-lines R }
 
-tame-round : Tame (round plain)
-tame-round = record { keeps = round-noLf plain; weighs = λ H ls. round-weight H plain ls; counts = round-lines plain }
-
 calls-count : (R : Reading) (ls : List (List ℕ)) → length (rebuildCalls (leavesOf R) ls) ≤ length ls
 unfolding rebuildCalls
 calls-count R ls = apply-length (rebuildCallsActs (leavesOf R) ls) ls
@@ -98,17 +97,26 @@ calls-count R ls = apply-length (rebuildCallsActs (leavesOf R) ls) ls
 pub tame-calls : (R : Reading) → Tame (rebuildCalls (leavesOf R))
 tame-calls R = record { keeps = calls-noLf R; weighs = λ H ls. calls-weight H R ls; counts = calls-count R }
 
-pub tame-bind : (R : Reading) → Tame (bindDeclarators R)
-tame-bind R = ?
+-- where lines are cleaned one by one, as in the plain reading
+pub tame-bind : {R : Reading} → ByLine R → Tame (bindDeclarators R)
+tame-bind {R} c = record { keeps = bind-laws.keeps-noLf c; weighs = bind-laws.bind-weight c; counts = bind-laws.bind-lines R }
 
-pub tame-step : (R : Reading) (k : ℕ) → Tame (stepOf R k)
+pub tame-step : {R : Reading} → ByLine R → (k : ℕ) → Tame (stepOf R k)
 unfolding stepOf
-tame-step R k = tame-if (eqb k 0) tame-removal (tame-if (eqb k 1) (tame-temps R) (tame-if (eqb k 2) (tame-once R) (tame-if (eqb k 3) (tame-phis R) (tame-if (eqb k 4) (tame-calls R) (tame-if (eqb k 5) tame-decls (tame-if (eqb k 6) (tame-bind R) tame-same))))))
+tame-step {R} c k =
+    tame-if (eqb k 0) tame-removal
+    (tame-if (eqb k 1) (tame-temps R)
+    (tame-if (eqb k 2) (tame-once R)
+    (tame-if (eqb k 3) (tame-phis R)
+    (tame-if (eqb k 4) (tame-calls R)
+    (tame-if (eqb k 5) tame-decls
+    (tame-if (eqb k 6) (tame-bind c)
+    tame-same))))))
 
-pub tame-steps : (R : Reading) (k n : ℕ) → Tame (stepsOf R k n)
+pub tame-steps : {R : Reading} → ByLine R → (k n : ℕ) → Tame (stepsOf R k n)
 unfolding stepsOf
-tame-steps R k zero = tame-same
-tame-steps R k (suc n) = tame-then (tame-step R k) (tame-steps R (suc k) n)
+tame-steps c k zero = tame-same
+tame-steps c k (suc n) = tame-then (tame-step c k) (tame-steps c (suc k) n)
 
 -- ---- lines between two passes over a text t
 
@@ -146,35 +154,75 @@ room-fits {s} {f} p r =
 pub room-length : {s : List ℕ} → Room s → length s ≤ byteSize
 room-length {s} r = omega (arith, length-weight 0 s, r .heavy)
 
--- the room that the passes with tables ask for
-pub once-room : {s scratch mid loops marks paths u dst : List ℕ} → Room s → length scratch ≡ byteSize → length mid ≡ byteSize → length u ≡ blockSize → length dst ≡ byteSize →
-    1024 ≤ length loops → 1024 ≤ length marks → 1024 ≤ length paths →
-    (length (linesOf s) ≤ length loops) × ((length (linesOf s) ≤ length marks) × ((length (linesOf s) ≤ length paths) × ((length (pathParents (linesOf s)) ≤ length u) × ((length u < 2 ^ 32)
-    × ((length s ≤ length scratch) × ((length (unlines (apply (onceActs plain (linesOf s)) (linesOf s))) ≤ length mid) × (length (unlines (optimizeOnce plain (linesOf s))) ≤ length dst)))))))
-once-room {s} r qs qm qu qd ql qk qp = (
+-- ---- the room that passes with tables and scratch ask for
+
+-- a table of n places
+pub table : (n : ℕ) → n ≤ length {A = ℕ} (replicate n 0)
+table n = omega (arith, length-replicate {A = ℕ} n 0)
+
+pub once-room : {s : List ℕ} {loops marks paths up scratch mid out : ℕ} → Room s → scratch ≡ byteSize → mid ≡ byteSize → up ≡ blockSize → out ≡ byteSize → 1024 ≤ loops → 1024 ≤ marks → 1024 ≤ paths →
+    (length (linesOf s) ≤ loops) × ((length (linesOf s) ≤ marks) × ((length (linesOf s) ≤ paths) × ((length (pathParents (linesOf s)) ≤ up) × ((up < 2 ^ 32)
+    × ((length s ≤ scratch) × ((length (unlines (apply (onceActs plain (linesOf s)) (linesOf s))) ≤ mid) × (length (unlines (optimizeOnce plain (linesOf s))) ≤ out)))))))
+once-room {s} r qs qm qu qo ql qk qp = (
   omega (arith, r .lines),
-  (omega (arith, r .lines),
-  (omega (arith, r .lines),
-  (omega (arith, path-parents-text s, r .braces),
-  (omega arith,
-  (omega (arith, room-length r),
-  (omega (arith, room-fits (once-acts plain) r),
-  omega (arith, room-fits (tame-once plain) r))))))),
+  (
+    omega (arith, r .lines),
+    (
+      omega (arith, r .lines),
+      (
+        omega (arith, path-parents-text s, r .braces),
+        (
+          omega arith,
+          (
+            omega (arith, room-length r),
+            (
+              omega (arith, room-fits (once-acts plain) r),
+              omega (arith, room-fits (tame-once plain) r),
+            ),
+          ),
+        ),
+      ),
+    ),
+  ),
 )
 
 pub phis-room : {s : List ℕ} → Room s →
     (longest plain s ≤ byteSize) × ((length (unlines (round plain (linesOf s))) ≤ byteSize) × ((length (unlines (round plain (round plain (linesOf s)))) ≤ byteSize) × (length (unlines (pruneDeadPhis plain (linesOf s))) ≤ byteSize)))
-phis-room {s} r = (
-  omega (arith, longest-weight 0 s, ap (weight 0) (r .whole), r .heavy),
-  (omega (arith, room-fits tame-round r),
-  (omega (arith, room-fits (tame-then tame-round tame-round) r),
-  omega (arith, room-fits (tame-phis plain) r))),
+phis-room {s} r =
+    let one : List (List ℕ) = round plain (linesOf s) in
+    let w = ap (weight 0) (r .whole) in
+    let v = round-weight 0 plain (linesOf s) in (
+      omega (arith, longest-weight 0 s, w, r .heavy),
+      (
+        omega (arith, length-weight 0 (unlines one), v, w, r .heavy),
+        (
+          omega (arith, length-weight 0 (unlines (round plain one)), round-weight 0 plain one, v, w, r .heavy),
+          omega (arith, room-fits (tame-phis plain) r),
+        ),
+      ),
+    )
+
+pub calls-room : {s : List ℕ} {owner blocks starts up stack cur next clean out : ℕ} → Room s → up ≡ blockSize → cur ≡ byteSize → next ≡ byteSize → clean ≡ byteSize → out ≡ byteSize →
+    1024 ≤ owner → 1024 ≤ blocks → 1024 ≤ starts → byteSize < stack →
+    ((length (linesOf s) ≤ owner) × ((length (linesOf s) ≤ blocks) × (length (linesOf s) ≤ starts)))
+    × (((length (idsParents (linesOf s)) ≤ up) × (up < 2 ^ 32))
+    × (((length s < stack) × ((length s ≤ cur) × ((length s ≤ next) × (length s ≤ clean))))
+    × (length (unlines (rebuildCalls (leavesOf plain) (linesOf s))) ≤ out)))
+calls-room {s} r qu qc qn ql qo ko kb ks kt = (
+  (omega (arith, r .lines), (omega (arith, r .lines), omega (arith, r .lines))),
+  (
+    (omega (arith, ids-parents-text s, r .braces), omega arith),
+    (
+      (omega (arith, room-length r), (omega (arith, room-length r), (omega (arith, room-length r), omega (arith, room-length r)))),
+      omega (arith, room-fits (tame-calls plain) r),
+    ),
+  ),
 )
 
-pub bind-room : {s blocks starts marks u dst : List ℕ} → Room s → length u ≡ blockSize → length dst ≡ byteSize → 1024 ≤ length blocks → 1024 ≤ length starts → 1024 ≤ length marks →
-    ((length (linesOf s) ≤ length blocks) × ((length (linesOf s) ≤ length starts) × ((length (idsParents (linesOf s)) ≤ length u) × (length u < 2 ^ 32))))
-    × ((length (linesOf s) ≤ length marks) × (length (unlines (bindDeclarators plain (linesOf s))) ≤ length dst))
-bind-room {s} r qu qd qb qs qm = (
+pub bind-room : {s : List ℕ} {blocks starts up marks out : ℕ} → Room s → up ≡ blockSize → out ≡ byteSize → 1024 ≤ blocks → 1024 ≤ starts → 1024 ≤ marks →
+    ((length (linesOf s) ≤ blocks) × ((length (linesOf s) ≤ starts) × ((length (idsParents (linesOf s)) ≤ up) × (up < 2 ^ 32))))
+    × ((length (linesOf s) ≤ marks) × (length (unlines (bindDeclarators plain (linesOf s))) ≤ out))
+bind-room {s} r qu qo qb qs qm = (
   (omega (arith, r .lines), (omega (arith, r .lines), (omega (arith, ids-parents-text s, r .braces), omega arith))),
-  (omega (arith, r .lines), omega (arith, room-fits (tame-bind plain) r)),
+  (omega (arith, r .lines), omega (arith, room-fits (tame-bind plain-by-line) r)),
 )

@@ -6,7 +6,7 @@ use mathlib.Core.List.{List, [], _∷_, _++_, append-nil}
 use native.Mathlib.Omega.{arith}
 use borrow.Author.Tests.{eqb-true, eqb-false, lt-ltb, le-ltb}
 use lib.Dec.{eqb, ltb}
-use lib.ListN.{length, drop, replicate, length-append}
+use lib.ListN.{length, take, drop, replicate, length-append}
 use Rattle.lines.specs.declared.Crowded.the-variants as crowd-is
 use Rattle.lines.specs.Lf.{endsIn, linesOf, unlines, countOf, noLf}
 use Rattle.lines.specs.Steps.{dropCr, splitLines, joined, overFrom}
@@ -26,13 +26,14 @@ use Rattle.calls.specs.LeavesOf.{leavesOf}
 use Rattle.calls.specs.Calls.{rebuildCalls}
 use Rattle.decls.specs.Decls.{pruneDecls}
 use Rattle.bind.specs.Bind.{bindDeclarators}
+use Rattle.bind.proofs.Cut.{ByLine}
 use Rattle.opt.specs.declared.Answer.{Answer}
 use Rattle.opt.specs.declared.Answer.the-variants.{Done, TooLong, ShortWork, TooManyLines, ShortResult}
 use Rattle.opt.specs.Answer.{numberOf, isDone}
 use Rattle.opt.specs.Passes.{stepOf, stepsOf, whole, resultOf}
 use Rattle.opt.specs.Entry.{byUtf8, byCrowd, checkedLines, checked, roomed, answerOf, outAfter}
 use Rattle.opt.proofs.Tame.{Tame, tame-step, tame-steps}
-use Rattle.opt.proofs.EntryLaws.{Accepted, answer-accepted, steps-whole, text-long, lines-many}
+use Rattle.opt.proofs.EntryLaws.{Accepted, answer-accepted, result-whole, text-long, lines-many}
 
 -- ---- what comes out
 
@@ -60,8 +61,10 @@ ended-or-none ls h e = go (eqb (length u) 0) refl
   where
     u : List ℕ
     u = unlines ls
+
     still : length (missingLf u) ≡ 0
     still = omega (arith, ap length (ap unlines (sym (lines-unlines ls h)) ∙ lines-text u), length-append u (missingLf u))
+
     go : (b : Bool) → eqb (length u) 0 ≡ b → length u ≡ 0
     go true q = eqb-true (length u) 0 q
     go false q = let m = ap length (missing-open u e (eqb-false (length u) 0 q)) in absurd (omega (arith, still))
@@ -80,7 +83,7 @@ joined-open ls h = rw (joined-by false ls h) (go (endsIn 10 (unlines ls)) refl)
 
 joined-ended : (ls : List (List ℕ)) (n : ℕ) → noLf ls ≡ true → 1 ≤ n → length (unlines ls) ≤ n → length (joined true ls) ≤ n
 unfolding joinedEnd
-joined-ended ls n h k l = rw (joined-by true ls h) (go (endsIn 10 (unlines ls)) refl _)
+joined-ended ls n h k l = rw (joined-by true ls h) (go (endsIn 10 (unlines ls)) refl (endsIn 10 (take (length (unlines ls) - 1) (unlines ls))))
   where
     go : (p : Bool) → endsIn 10 (unlines ls) ≡ p → (q : Bool) → cond p (cond q (length (unlines ls) - 1) (length (unlines ls))) (length (unlines ls) + 1) ≤ n
     go true e true = omega arith
@@ -93,22 +96,25 @@ result-twice f t p = go (endsIn 10 t) refl
   where
     ls : List (List ℕ)
     ls = f (splitLines t)
+
     clean : noLf ls ≡ true
     clean = p .keeps (splitLines t) (split-noLf t)
+
     light : length (unlines ls) ≤ weight 0 (unlines (splitLines t))
     light = omega (arith, length-weight 0 (unlines ls), p .weighs 0 (splitLines t))
+
     go : (e : Bool) → endsIn 10 t ≡ e → length (joined e ls) ≤ 2 * length t
     go true e =
         let q = ap (weight 0) (split-text t ∙ ap (λ (x : List ℕ). dropCr t ++ x) (missing-ended t e) ∙ append-nil (dropCr t)) in
         joined-ended ls (2 * length t) clean (omega (arith, ends-some t e)) (omega (arith, light, q, weight-twice (dropCr t), drop-le t))
     go false e = omega (arith, joined-open ls clean, light, split-weight 0 t, weight-twice t)
 
--- of both entries
-pub optimize-twice : (R : Reading) (t : List ℕ) → length (resultOf (stepsOf R 0 7) t) ≤ 2 * length t
-optimize-twice R t = result-twice (stepsOf R 0 7) t (tame-steps R 0 7)
+-- of both entries, for each reading that cleans lines one by one
+pub optimize-twice : {R : Reading} → ByLine R → (t : List ℕ) → length (resultOf (whole R) t) ≤ 2 * length t
+optimize-twice {R} c t = omega (arith, ap length (result-whole R t), result-twice (stepsOf R 0 7) t (tame-steps c 0 7))
 
-pub pass-twice : (R : Reading) (k : ℕ) (t : List ℕ) → length (resultOf (stepOf R k) t) ≤ 2 * length t
-pass-twice R k t = result-twice (stepOf R k) t (tame-step R k)
+pub pass-twice : {R : Reading} → ByLine R → (k : ℕ) (t : List ℕ) → length (resultOf (stepOf R k) t) ≤ 2 * length t
+pass-twice {R} c k t = result-twice (stepOf R k) t (tame-step c k)
 
 -- ---- the edges: one more is refused, the last that fits goes on to the next check
 

@@ -20,6 +20,7 @@ ghost use Rattle.opt.specs.Room.{Room, Sized, Long, Blank, Wiped, After,
 
 // How many bytes of each work buffer are used, and how many numbers.
 const BYTES: usize = 32769;
+
 const BLOCKS: usize = 16384;
 
 // What an entry answers: the length of the result, or why there is none.
@@ -90,15 +91,46 @@ fn once_step(src: &[u8], scratch: &mut [u8], mid: &mut [u8], u: &mut [u32], dst:
     let mut loops = [0u8; 1024];
     let mut marks = [0u8; 1024];
     let mut paths = [0usize; 1024];
-    once::optimize_once(src, scratch, mid, &mut loops, &mut marks, &mut paths, u, dst)
+    once::optimize_once(
+        src,
+        scratch,
+        mid,
+        &mut loops,
+        &mut marks,
+        &mut paths,
+        u,
+        dst,
+    )
 }
 
 // Runs rebuild_calls, with its tables for 1,024 lines.
-fn calls_step(src: &[u8], cur: &mut [u8], next: &mut [u8], clean: &mut [u8], u: &mut [u32], dst: &mut [u8]) -> usize
+fn calls_step(
+    src: &[u8],
+    cur: &mut [u8],
+    next: &mut [u8],
+    clean: &mut [u8],
+    u: &mut [u32],
+    dst: &mut [u8],
+) -> usize
     requires { ⌜ Room (now src) × ((length (now cur) ≡ byteSize) × ((length (now next) ≡ byteSize) × ((length (now clean) ≡ byteSize) × ((length (now u) ≡ blockSize) × (length (now dst) ≡ byteSize))))) ⌝ }
     ensures { λ r. ⌜ Wrote (now (dst .entry)) 0 (unlines (rebuildCalls (leavesOf plain) (linesOf (now (src .entry))))) (now (dst .exit)) r ⌝ }
 {
-    lines::put(dst, 0, src)
+    let mut owner = [0usize; 1024];
+    let mut blocks = [0usize; 1024];
+    let mut starts = [0u8; 1024];
+    let mut stack = [0u8; 32770];
+    calls::rebuild_calls(
+        src,
+        &mut owner,
+        &mut blocks,
+        &mut starts,
+        u,
+        &mut stack,
+        cur,
+        next,
+        clean,
+        dst,
+    )
 }
 
 // Runs bind_declarators, with its tables for 1,024 lines.
@@ -214,14 +246,7 @@ fn wipe_numbers(numbers: &mut [u32])
 }
 
 // Makes every work buffer 0.
-fn wipe_all(
-    a: &mut [u8],
-    b: &mut [u8],
-    c: &mut [u8],
-    d: &mut [u8],
-    e: &mut [u8],
-    u: &mut [u32],
-)
+fn wipe_all(a: &mut [u8], b: &mut [u8], c: &mut [u8], d: &mut [u8], e: &mut [u8], u: &mut [u32])
     requires { ⌜ (length (now a) ≡ byteSize) × Sized (now b) (now c) (now d) (now e) (now u) ⌝ }
     ensures { λ _. ⌜ Blank (now (a .exit)) (now (b .exit)) (now (c .exit)) (now (d .exit)) (now (e .exit)) (now (u .exit)) ⌝ }
 {
@@ -291,7 +316,18 @@ fn run(
 {
     let n = BYTES;
     let m = BLOCKS;
-    work(k, to, text, &mut a[..n], &mut b[..n], &mut c[..n], &mut d[..n], &mut e[..n], &mut u[..m], out)
+    work(
+        k,
+        to,
+        text,
+        &mut a[..n],
+        &mut b[..n],
+        &mut c[..n],
+        &mut d[..n],
+        &mut e[..n],
+        &mut u[..m],
+        out,
+    )
 }
 
 // Whether one of six work buffers, of these lengths, is shorter than its stated size.

@@ -1,6 +1,6 @@
 use borrow.Author.Needs.{needs}
 use native.Mathlib.Omega.{arith}
-use Rattle.opt.proofs.Tame.{bind-room}
+use Rattle.opt.proofs.Tame.{table, bind-room}
 use Rattle.opt.proofs.bind_step.Statement.{statement}
 use Rattle.opt.proofs.bind_step.Tie as tie
 
@@ -16,7 +16,7 @@ slice-aggregate-bind-declarators-3 c = search needs
 bind-declarators-requires : tie.Need-bind-declarators-requires
 bind-declarators-requires c κs =
     let p = c .before .before .before .before .before .before .before .before .pre in
-    bind-room (p .0) (p .1 .0) (p .1 .1)
+    bind-room (p .0) (p .1 .0) (p .1 .1) (table 1024) (table 1024) (table 1024)
 
 same-length : tie.Need-same-length
 same-length c = search needs

@@ -1,6 +1,6 @@
 use borrow.Author.Needs.{needs}
 use native.Mathlib.Omega.{arith}
-use Rattle.opt.proofs.Tame.{once-room, bind-room}
+use Rattle.opt.proofs.Tame.{table, once-room}
 use Rattle.opt.proofs.once_step.Statement.{statement}
 use Rattle.opt.proofs.once_step.Tie as tie
 
@@ -16,7 +16,7 @@ slice-aggregate-optimize-once-3 c = search needs
 optimize-once-requires : tie.Need-optimize-once-requires
 optimize-once-requires c κs =
     let p = c .before .before .before .before .before .before .before .before .before .before .before .before .pre in
-    once-room (p .0) (p .1 .0) (p .1 .1 .0) (p .1 .1 .1 .0) (p .1 .1 .1 .1)
+    once-room (p .0) (p .1 .0) (p .1 .1 .0) (p .1 .1 .1 .0) (p .1 .1 .1 .1) (table 1024) (table 1024) (table 1024)
 
 same-length : tie.Need-same-length
 same-length c = search needs

@@ -48,15 +48,19 @@ work-requires c κs =
     let a = c .before .before .before .before .before .before .before .before .before .before .before .before .before .before .before .args in
     let l = p .1 .1 in (
       p .0,
-      (p .1 .0,
-      (sym (stated 32769 (a .a .now) (l .a-long)),
-      record {
-        b-size = sym (stated 32769 (a .b .now) (l .b-long));
-        c-size = sym (stated 32769 (a .c .now) (l .c-long));
-        d-size = sym (stated 32769 (a .d .now) (l .d-long));
-        e-size = sym (stated 32769 (a .e .now) (l .e-long));
-        u-size = sym (stated 16384 (a .u .now) (l .u-long));
-      })),
+      (
+        p .1 .0,
+        (
+          sym (stated 32769 (a .a .now) (l .a-long)),
+          record {
+            b-size = sym (stated 32769 (a .b .now) (l .b-long));
+            c-size = sym (stated 32769 (a .c .now) (l .c-long));
+            d-size = sym (stated 32769 (a .d .now) (l .d-long));
+            e-size = sym (stated 32769 (a .e .now) (l .e-long));
+            u-size = sym (stated 16384 (a .u .now) (l .u-long));
+          },
+        ),
+      ),
     )
 
 same-length : tie.Need-same-length
@@ -86,15 +90,17 @@ returns c =
     let w = c .before .before .before .before .before .before .before .before .before .before .before .before .before .before .work .ensures in
     let z = w .1 .1 in (
       w .0,
-      (w .1 .0,
-      record {
-        a-wiped = wiped-part 32769 32769 (a .a .now) (z .a-blank);
-        b-wiped = wiped-part 32769 32769 (a .b .now) (z .b-blank);
-        c-wiped = wiped-part 32769 32769 (a .c .now) (z .c-blank);
-        d-wiped = wiped-part 32769 32769 (a .d .now) (z .d-blank);
-        e-wiped = wiped-part 32769 32769 (a .e .now) (z .e-blank);
-        u-wiped = wiped-part 16384 16384 (a .u .now) (z .u-blank);
-      }),
+      (
+        w .1 .0,
+        record {
+          a-wiped = wiped-part 32769 32769 (a .a .now) (z .a-blank);
+          b-wiped = wiped-part 32769 32769 (a .b .now) (z .b-blank);
+          c-wiped = wiped-part 32769 32769 (a .c .now) (z .c-blank);
+          d-wiped = wiped-part 32769 32769 (a .d .now) (z .d-blank);
+          e-wiped = wiped-part 32769 32769 (a .e .now) (z .e-blank);
+          u-wiped = wiped-part 16384 16384 (a .u .now) (z .u-blank);
+        },
+      ),
     )
 
 pub run-spec : {M : Type 1} → statement M

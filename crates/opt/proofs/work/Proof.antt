@@ -4,7 +4,7 @@ use mathlib.Core.Path.{sym, ap, _∙_}
 use mathlib.Core.List.{List}
 use lib.ListN.{length}
 use lib.Seq.{length-take-le}
-use Rattle.reading.specs.Reading.{plain}
+use Rattle.bind.proofs.Cut.{plain-by-line}
 use Rattle.opt.specs.Entry.{roomed, outAfter}
 use Rattle.opt.proofs.Tame.{tame-steps}
 use Rattle.opt.proofs.WorkLaws.{front-result}
@@ -65,7 +65,7 @@ returns : tie.Need-returns
 returns c =
     let a = c .before .before .before .before .before .before .before .before .before .before .before .before .before .before .before .before .before .before .before .before .before .before .before .before .before .before .before .before .before .before .before .before .before .before .before .before .before .before .before .before .before .before .before .before .before .before .before .before .before .before .before .before .args in
     let f = c .before .before .before .before .before .before .before .before .before .before .before .before .before .before .before .before .before .before .before .before .before .finish in
-    let q = front-result (a .text .now) (tame-steps plain (a .k) (a .to - a .k)) (c .before .before .before .before .before .before .before .before .before .before .before .before .before .before .before .before .before .before .before .before .before .before .before .before .before .before .before .before .before .before .before .before .before .before .before .before .before .chain .ensures) (c .before .before .before .before .before .before .before .before .before .before .before .before .before .before .before .before .before .before .before .before .before .before .before .before .ends-lf .ensures) in (
+    let q = front-result (a .text .now) (tame-steps plain-by-line (a .k) (a .to - a .k)) (c .before .before .before .before .before .before .before .before .before .before .before .before .before .before .before .before .before .before .before .before .before .before .before .before .before .before .before .before .before .before .before .before .before .before .before .before .before .chain .ensures) (c .before .before .before .before .before .before .before .before .before .before .before .before .before .before .before .before .before .before .before .before .before .before .before .before .ends-lf .ensures) in (
       f .ensures .0 ∙ ap (λ (x : List ℕ). roomed (length x) (length (a .out .now))) q,
       (f .ensures .1 ∙ ap (λ (x : List ℕ). outAfter (f .result) x (a .out .now)) q, c .before .before .before .before .before .before .before .before .before .before .before .before .wipe-all .ensures),
     )
