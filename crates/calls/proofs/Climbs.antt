@@ -4,7 +4,8 @@ use mathlib.Core.Path.{_≡_, refl, sym, ap, _∙_, subst}
 use mathlib.Core.Bool.{Bool, true, false, cond, not, _&&_, _||_}
 use mathlib.Core.List.{List, [], _∷_, _++_, append-assoc, append-nil}
 use native.Mathlib.Omega.{arith}
-use lib.Dec.{eqb}
+use borrow.Author.Tests.{ltb-true, ltb-false}
+use lib.Dec.{eqb, ltb}
 use lib.ListN.{length, take, drop, getD, set, length-set, length-append}
 use lib.Seq.{take-add, getD-take, getD-drop, take-set-le, drop-set-lt, length-take-le}
 use Rattle.lines.specs.Lf.{part, linesOf, unlines, lacks, noLf}
@@ -12,7 +13,7 @@ use Rattle.lines.specs.Acts.{Act, keep, become, into, gone, act, apply}
 use Rattle.lines.specs.Out.{Wrote}
 use Rattle.lines.proofs.LfLaws.{part-none, rest-of, lines-unlines}
 use Rattle.lines.proofs.OutLaws.{wrote-part, wrote-length}
-use Rattle.lines.proofs.Tests.{and-both}
+use Rattle.lines.proofs.Tests.{no, and-left, and-right, and-both}
 use Rattle.parse.specs.declared.Store.{Store}
 use Rattle.parse.specs.declared.Line.{Line}
 use Rattle.parse.specs.declared.Line.the-variants as line
@@ -235,7 +236,7 @@ module _ {t : List ℕ} {n i f : ℕ} {bs fs owner₀ stack : List ℕ} {m : ℕ
 module _ {t : List ℕ} {n i f : ℕ} {bs fs owner₀ stack : List ℕ} {m : ℕ} {cur₀ next₀ clean₀ owner cur next clean : List ℕ} {k p h c : ℕ} {over : Bool} {steps : ℕ}
     (v : Climb t n i f bs fs owner₀ stack m cur₀ next₀ clean₀ owner cur next clean k p h c over steps) where
   -- no step is left
-  pub climb-spent : 64 ≤ steps → Peaked t n owner₀ owner stack cur h c m
+  climb-spent : 64 ≤ steps → Peaked t n owner₀ owner stack cur h c m
   climb-spent z = go (v .left) (v .at)
     where
       go : (left : ℕ) → ClimbAt t n i f bs fs owner₀ stack m owner cur k p h c over steps left (v .rest) (v .back) (v .d) (v .took) (v .lines) (v .text) → Peaked t n owner₀ owner stack cur h c m
@@ -243,7 +244,7 @@ module _ {t : List ℕ} {n i f : ℕ} {bs fs owner₀ stack : List ℕ} {m : ℕ
       go (suc left) a = absurd (omega (arith, a .last))
 
   -- no row is left
-  pub climb-top : steps < 64 → k ≡ 0 → Peaked t n owner₀ owner stack cur h c m
+  climb-top : steps < 64 → k ≡ 0 → Peaked t n owner₀ owner stack cur h c m
   climb-top z e = go (v .left) (v .rest) (v .at)
     where
       go : (left : ℕ) (rest : List Row) → ClimbAt t n i f bs fs owner₀ stack m owner cur k p h c over steps left rest (v .back) (v .d) (v .took) (v .lines) (v .text) → Peaked t n owner₀ owner stack cur h c m
@@ -251,7 +252,7 @@ module _ {t : List ℕ} {n i f : ℕ} {bs fs owner₀ stack : List ℕ} {m : ℕ
       go (suc left) [] a = peak (v .ground) (v .same-owner) (v .same-cur) a (edge-top (a .walks))
       go (suc left) (r ∷ rs) a = absurd (omega (arith, a .many))
 
-  pub climb-turn : steps < 64 → (k ≡ 0 → ⊥) → Turning t n i f bs fs owner₀ stack m cur₀ next₀ clean₀ owner cur next clean k p h c over steps
+  climb-turn : steps < 64 → (k ≡ 0 → ⊥) → Turning t n i f bs fs owner₀ stack m cur₀ next₀ clean₀ owner cur next clean k p h c over steps
   climb-turn z e = go (v .left) (v .rest) (v .at)
     where
       go : (left : ℕ) (rest : List Row) → ClimbAt t n i f bs fs owner₀ stack m owner cur k p h c over steps left rest (v .back) (v .d) (v .took) (v .lines) (v .text) →
@@ -276,6 +277,20 @@ module _ {t : List ℕ} {n i f : ℕ} {bs fs owner₀ stack : List ℕ} {m : ℕ
             at = a;
           }
 
+module _ {t : List ℕ} {n i f : ℕ} {bs fs owner₀ stack : List ℕ} {m : ℕ} {cur₀ next₀ clean₀ owner cur next clean : List ℕ} {k p h c : ℕ} {over : Bool} {steps : ℕ}
+    (v : Climb t n i f bs fs owner₀ stack m cur₀ next₀ clean₀ owner cur next clean k p h c over steps) where
+  -- the loop's test, either way
+  pub climb-in : ltb 0 k && ltb steps 64 ≡ true → Turning t n i f bs fs owner₀ stack m cur₀ next₀ clean₀ owner cur next clean k p h c over steps
+  climb-in e = climb-turn v (ltb-true steps 64 (and-right (ltb 0 k) (ltb steps 64) e)) (λ z. omega (arith, ltb-true 0 k (and-left (ltb 0 k) (ltb steps 64) e)))
+
+  pub climb-out : ltb 0 k && ltb steps 64 ≡ false → Peaked t n owner₀ owner stack cur h c m
+  climb-out e = go (ltb 0 k) refl (ltb steps 64) refl e
+    where
+      go : (x : Bool) → ltb 0 k ≡ x → (y : Bool) → ltb steps 64 ≡ y → x && y ≡ false → Peaked t n owner₀ owner stack cur h c m
+      go x a false b z = climb-spent v (ltb-false steps 64 b)
+      go false a true b z = climb-top v (ltb-true steps 64 b) (let w = ltb-false 0 k a in omega arith)
+      go true a true b z = no (sym z)
+
 -- ---- in a turn
 
 module _ {t : List ℕ} {n i f : ℕ} {bs fs owner₀ stack : List ℕ} {m : ℕ} {cur₀ next₀ clean₀ owner cur next clean : List ℕ} {k p h c : ℕ} {over : Bool} {steps : ℕ}
@@ -290,6 +305,12 @@ module _ {t : List ℕ} {n i f : ℕ} {bs fs owner₀ stack : List ℕ} {m : ℕ
 
   one-less : k ≡ suc (k - 1)
   one-less = omega (arith, v .at .many)
+
+  pub row-some : 1 ≤ k
+  row-some = omega (arith, one-less)
+
+  pub step-some : steps < 64
+  step-some = omega (arith, v .at .last)
 
   index : length (linesIn (v .rest)) ≡ k - 1
   index = lines-many (v .rest) ∙ omega (arith, v .at .many)

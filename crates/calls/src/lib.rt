@@ -234,42 +234,35 @@ fn walk_up(
     let mut c = size;
     let mut over = top;
     let mut steps: usize = 0;
-    while steps < 64 {
-        if k == 0 {
-            break;
-        }
+    while (0 < k) & (steps < 64) {
         let q = line_back(text, p - 1);
+        let head = place::is_header(lines::cut(text, q, p - 1));
         if owner[k - 1] != 0 {
             if !is_ours(owner, k - 1, n) {
                 break;
             }
-            over = over | place::is_header(lines::cut(text, q, p - 1));
+            over = over | head;
             p = q;
             k -= 1;
             steps += 1;
         } else {
             let b = line_back(stack, h - 1);
-            let parse::Line::Store(s) = parse::parse(lines::cut(stack, b, h - 1)) else {
+            let x = lines::cut(stack, b, h - 1);
+            let parse::Line::Store(s) = parse::parse(x) else {
                 break
             };
             if !may_go(over, blocks, starts, k - 1, n) {
                 break;
             }
-            let v = parse::value_of(lines::cut(stack, b, h - 1), s);
-            let made = absorb(
-                lines::cut(cur, 0, c),
-                s.reg,
-                v,
-                lines::cut(text, below, text.len()),
-                lines::cut(text, p, i),
-                &owner[k..n],
-                clean,
-                next,
-            );
+            let v = parse::value_of(x, s);
+            let line = lines::cut(cur, 0, c);
+            let under = lines::cut(text, below, text.len());
+            let taken = lines::cut(text, p, i);
+            let made = absorb(line, s.reg, v, under, taken, &owner[k..n], clean, next);
             let Made::Line(m) = made else { break };
             c = lines::put(cur, 0, lines::cut(next, 0, m));
             owner[k - 1] = n - k + 1;
-            over = over | place::is_header(lines::cut(text, q, p - 1));
+            over = over | head;
             h = b;
             p = q;
             k -= 1;

@@ -170,10 +170,10 @@ fn phi_stored(text: &[u8], phi: names::Phi) -> bool
 fn dead_phi(text: &[u8], phi: names::Phi) -> bool
     ensures { λ r. ⌜ r ≡ deadPhi (phi .0) (linesOf (now (text .entry))) ⌝ }
 {
-    if !phi_stored(text, phi) {
+    if phi_read(text, phi) {
         return false;
     }
-    !phi_read(text, phi)
+    phi_stored(text, phi)
 }
 
 // Whether a name is that of a phi that is dead in a text.
