@@ -15,3 +15,4 @@ pub mod Told
 pub mod Climbs
 pub mod Turns
 pub mod Wipes
+pub mod Kept
