@@ -5,28 +5,26 @@ pub const BYTE: u8 = 165;
 
 pub const BLOCK: u32 = 2779096485;
 
-// Whether all bytes are b.
+// Whether all bytes are b. It does not stop at the first that is not: so it takes many at a time.
 fn all_are(s: &[u8], b: u8) -> bool {
+    let mut other = 0;
     let mut i = 0;
     while i < s.len() {
-        if s[i] != b {
-            return false;
-        }
+        other |= s[i] ^ b;
         i += 1;
     }
-    true
+    other == 0
 }
 
-// Whether the first blocks are 0, as many as are stated, and the others as they were.
-fn blocks_zeroed(s: &[u32], stated: usize) -> bool {
+// Whether all blocks are b.
+fn all_blocks_are(s: &[u32], b: u32) -> bool {
+    let mut other = 0;
     let mut i = 0;
     while i < s.len() {
-        if s[i] != if i < stated { 0 } else { BLOCK } {
-            return false;
-        }
+        other |= s[i] ^ b;
         i += 1;
     }
-    true
+    other == 0
 }
 
 // Whether a buffer is as it was from the byte `n` on.
@@ -44,5 +42,11 @@ pub fn as_fixed(s: &[u8], stated: usize, ran: bool) -> bool {
 
 // The same of blocks.
 pub fn blocks_as_fixed(s: &[u32], stated: usize, ran: bool) -> bool {
-    blocks_zeroed(s, if ran { stated } else { 0 })
+    if !ran {
+        return all_blocks_are(s, BLOCK);
+    }
+    if s.len() < stated {
+        return all_blocks_are(s, 0);
+    }
+    all_blocks_are(&s[..stated], 0) & all_blocks_are(&s[stated..], BLOCK)
 }

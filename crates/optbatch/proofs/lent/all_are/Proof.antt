@@ -6,19 +6,16 @@ use Rattle.optbatch.proofs.lent.all_are.Statement.{statement}
 use Rattle.optbatch.proofs.lent.all_are.Tie as tie
 
 abbrev Inv-loop : tie.InvT-loop
-Inv-loop s b i₀ i = Unit {0}
+Inv-loop s b other₀ i₀ other i = Unit {0}
 
 abbrev μ-loop : tie.MeasureT-loop
-μ-loop s b i₀ i = length s - i
+μ-loop s b other₀ i₀ other i = length s - i
 
 loop-holds : tie.Need-loop-holds Inv-loop μ-loop
 loop-holds c = tt
 
-shared-slice-read-if1 : tie.Need-shared-slice-read-if1 Inv-loop μ-loop
-shared-slice-read-if1 c = omega arith
-
-returns : tie.Need-returns Inv-loop μ-loop
-returns c = tt
+shared-slice-read-other : tie.Need-shared-slice-read-other Inv-loop μ-loop
+shared-slice-read-other c = omega arith
 
 add-i : tie.Need-add-i Inv-loop μ-loop
 add-i c = omega arith
@@ -29,8 +26,8 @@ loop-less c = omega arith
 loop-again : tie.Need-loop-again Inv-loop μ-loop
 loop-again c = tt
 
-returns-2 : tie.Need-returns-2 Inv-loop μ-loop
-returns-2 c = tt
+returns : tie.Need-returns Inv-loop μ-loop
+returns c = tt
 
 pub all-are-spec : {M : Type 1} → statement M
 all-are-spec =
@@ -39,9 +36,8 @@ all-are-spec =
     Inv-loop
     μ-loop
     loop-holds
-    shared-slice-read-if1
-    returns
+    shared-slice-read-other
     add-i
     loop-less
     loop-again
-    returns-2)
+    returns)
