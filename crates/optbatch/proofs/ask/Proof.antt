@@ -7,25 +7,25 @@ use Rattle.optbatch.proofs.ask.Statement.{statement}
 use Rattle.optbatch.proofs.ask.Tie as tie
 
 lent-of-requires : tie.Need-lent-of-requires
-lent-of-requires c κs = search needs
+lent-of-requires c κs = tt
 
 lent-of-requires-2 : tie.Need-lent-of-requires-2
-lent-of-requires-2 c κs = search needs
+lent-of-requires-2 c κs = tt
 
 lent-of-requires-3 : tie.Need-lent-of-requires-3
-lent-of-requires-3 c κs = search needs
+lent-of-requires-3 c κs = tt
 
 lent-of-requires-4 : tie.Need-lent-of-requires-4
-lent-of-requires-4 c κs = search needs
+lent-of-requires-4 c κs = tt
 
 lent-of-requires-5 : tie.Need-lent-of-requires-5
-lent-of-requires-5 c κs = search needs
+lent-of-requires-5 c κs = tt
 
 lent-of-requires-6 : tie.Need-lent-of-requires-6
-lent-of-requires-6 c κs = search needs
+lent-of-requires-6 c κs = tt
 
 room-of-requires : tie.Need-room-of-requires
-room-of-requires c κs = search needs
+room-of-requires c κs = tt
 
 slice-relend-prefix-run : tie.Need-slice-relend-prefix-run
 slice-relend-prefix-run c = search needs
@@ -70,7 +70,7 @@ slice-aggregate-run-7 : tie.Need-slice-aggregate-run-7
 slice-aggregate-run-7 c = sym (length-take-le _ _ (omega arith))
 
 run-requires : tie.Need-run-requires
-run-requires c κs = search needs
+run-requires c κs = tt
 
 same-length : tie.Need-same-length
 same-length c = search needs
@@ -94,7 +94,7 @@ same-length-7 : tie.Need-same-length-7
 same-length-7 c = search needs
 
 returns : tie.Need-returns
-returns c = search needs
+returns c = tt
 
 pub ask-spec : {M : Type 1} → statement M
 ask-spec =
