@@ -19,8 +19,8 @@
  *         3  prune_dead_phis       6  bind_declarators
  *
  *     Neither allocates, neither keeps anything between calls, and neither reads or writes memory
- *     other than what is lent to it. Calls in several threads are free of one another where they
- *     lend different buffers.
+ *     other than what is lent to it and its stack, of which calls took up to 100 KiB where it was
+ *     measured. Calls in several threads are free of one another where they lend different buffers.
  *
  * WHAT IS LENT
  *     Every buffer is a pointer and then its length, counted in elements.
