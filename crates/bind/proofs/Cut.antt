@@ -1,22 +1,20 @@
 -- Demand 3 for bind_declarators, for every reading that cleans lines one by one. Assumes nothing.
 use Prim.Native.Nat.{ℕ, zero, suc, _+_, _≤_, _<_}
 use mathlib.Core.Path.{_≡_, refl, sym, ap, _∙_}
-use mathlib.Core.Bool.{Bool, true, false, cond, not, _&&_, _||_}
+use mathlib.Core.Bool.{Bool, true, false, cond, not, _||_}
 use mathlib.Core.List.{List, [], _∷_, _++_, append-nil, map, map-append}
 use native.Mathlib.Omega.{arith}
-use borrow.Author.Tests.{eqb-true}
 use lib.Dec.{eqb}
 use lib.ListN.{length, take, drop, length-drop}
 use lib.Seq.{drop-nil}
-use Rattle.lines.specs.Lf.{among, partsOf}
 use Rattle.lines.specs.Acts.{Act, keep, become, apply}
 use Rattle.lines.proofs.ActLaws.{apply-append}
-use Rattle.lines.proofs.Tests.{no, and-left, and-right}
+use Rattle.lines.proofs.Tests.{no, and-right}
 use Rattle.text.specs.Trim.{fromOf, trimOf}
 use Rattle.names.specs.Names.{regOf}
 use Rattle.names.specs.declared.RegName.{RegName}
 use Rattle.names.specs.declared.RegName.the-variants as name
-use Rattle.lexical.specs.Lex.{stripLexical, lastOf}
+use Rattle.lexical.specs.Lex.{stripLexical}
 use Rattle.place.specs.Region.{isHeader, headed}
 use Rattle.place.specs.Blocks.{blocks, cleaned, own}
 use Rattle.place.specs.Starts.{blank, startsGo}
@@ -24,9 +22,8 @@ use Rattle.place.proofs.Blocks.{rename, renamed, blockBelow, nextBelow, blocks-
 use Rattle.place.proofs.Starts.{length-starts, startsBelow, starts-cut, header-shown}
 use Rattle.decls.specs.Decls.{declAct}
 use Rattle.reading.specs.Reading.{Reading, plain}
-use Rattle.reading.specs.Uses.{lineStores, lineUses, usedIn}
+use Rattle.reading.specs.Uses.{usedIn}
 use Rattle.bind.specs.Bind.{Spot, spotsOf, spots, linesIn, untilHead, declCount, storeCount, firstUse, storeAt, bound, boundBy, anyBound, unboundOne, unbound, mark, markOne, markAll, marked, piecesOf, promoted, bindAct, aboveIn, bindGo, bindDeclaratorsActs, bindDeclarators}
-use Rattle.bind.proofs.CountLaws.{blank-stores}
 
 -- ---- a mark is made for a line of the region
 

@@ -1,10 +1,9 @@
 -- What bind_declarators does to lines: no LF comes in, no weight is raised, and what each line becomes. Assumes nothing.
-use Prim.Native.Nat.{ℕ, zero, suc, _+_, _*_, _≤_, _<_}
+use Prim.Native.Nat.{ℕ, zero, suc, _+_, _*_, _≤_}
 use mathlib.Core.Path.{_≡_, refl, sym, ap, _∙_, subst}
-use mathlib.Core.Bool.{Bool, true, false, cond, not, _&&_, _||_}
+use mathlib.Core.Bool.{Bool, true, false, cond, not, _&&_}
 use mathlib.Core.List.{List, [], _∷_, _++_}
 use native.Mathlib.Omega.{arith}
-use lib.Dec.{eqb}
 use lib.ListN.{length, take, drop}
 use lib.Seq.{drop-nil}
 use Rattle.lines.specs.Lf.{linesOf, partsOf, unlines, lacks, noLf, all}
@@ -13,7 +12,7 @@ use Rattle.lines.proofs.Tests.{no, and-left, and-right, and-both}
 use Rattle.lines.proofs.LfLaws.{lines-unlines, lines-noLf, lacks-append, lacks-take, lacks-drop, parts-noLf}
 use Rattle.lines.proofs.ActLaws.{actNoLf, apply-noLf, apply-length}
 use Rattle.text.specs.Trim.{fromOf, trimOf}
-use Rattle.names.specs.Names.{regOf, regText}
+use Rattle.names.specs.Names.{regOf}
 use Rattle.names.specs.declared.RegName.{RegName}
 use Rattle.names.specs.declared.RegName.the-variants as name
 use Rattle.parse.specs.Parse.{letWord, bodyOf, isReg, allRegs, isDecl}
@@ -32,7 +31,7 @@ use Rattle.decls.proofs.Keeps.{lacks-trim, lacks-body, kept-noLf, decl-noLf}
 use Rattle.decls.proofs.Decl.{decl-parts, leftOut, regs-pay}
 use Rattle.reading.specs.Reading.{Reading, plain}
 use Rattle.reading.specs.Uses.{lineStores}
-use Rattle.bind.specs.Bind.{Spot, spotsOf, spots, linesIn, untilHead, firstUse, storeAt, bound, boundBy, anyBound, unboundOne, unbound, mark, markOne, markAll, marked, piecesOf, promoted, bindAct, aboveIn, bindGo, bindDeclaratorsActs, bindDeclarators}
+use Rattle.bind.specs.Bind.{Spot, spots, linesIn, untilHead, firstUse, storeAt, bound, boundBy, anyBound, unbound, mark, markOne, markAll, marked, piecesOf, promoted, bindAct, aboveIn, bindGo, bindDeclaratorsActs, bindDeclarators}
 use Rattle.bind.specs.Steps.{fails, left}
 use Rattle.bind.proofs.WalkLaws.{in-spots, kept-is, mark-none}
 use Rattle.bind.proofs.Cut.{ByLine, plain-by-line, clean-long, bound-store}

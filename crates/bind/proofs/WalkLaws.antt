@@ -7,7 +7,7 @@ use native.Mathlib.Omega.{arith}
 use borrow.Author.Tests.{leb-true, leb-false}
 use lib.Dec.{eqb, leb}
 use lib.ListN.{length, getD, set, take, drop, replicate, length-append, length-drop, length-replicate, take-append-drop}
-use lib.Seq.{drop-drop, drop-nil, take-add, take-all, take-at, getD-drop, append-snoc, set-append-left, getD-at}
+use lib.Seq.{drop-drop, drop-nil, take-add, take-all, getD-drop, append-snoc, set-append-left, getD-at}
 use Rattle.place.proofs.Blocks.{cleaned-length, length-ids}
 use Rattle.place.proofs.Starts.{length-starts}
 use Rattle.lines.specs.Lf.{part, upTo, cutOn, linesOf, partsOf, unlines}
@@ -23,7 +23,7 @@ use Rattle.names.specs.declared.RegName.{RegName}
 use Rattle.names.specs.declared.RegName.the-variants as name
 use Rattle.parse.specs.Parse.{bodyOf, isDecl}
 use Rattle.place.specs.Region.{isHeader, untilHeader, region, upHeader, regionLen}
-use Rattle.place.specs.Blocks.{blocks, cleaned, blockIds}
+use Rattle.place.specs.Blocks.{cleaned, blockIds}
 use Rattle.place.specs.Starts.{startsGo}
 use Rattle.place.specs.Fill.{Filled, flagsOf}
 use Rattle.place.proofs.Regions.{past, end-on, region-lines}
@@ -32,7 +32,7 @@ use Rattle.decls.specs.Decls.{declAct}
 use Rattle.decls.specs.Print.{bareName, one, kept, declText}
 use Rattle.decls.proofs.PrintLaws.{writing-fits, act-text}
 use Rattle.decls.proofs.Writes.{reg-bare}
-use Rattle.reading.specs.Reading.{Reading, plain}
+use Rattle.reading.specs.Reading.{plain}
 use Rattle.reading.specs.Uses.{lineStores, lineUses, usedIn}
 use Rattle.bind.specs.declared.Site.{Site}
 use Rattle.bind.specs.Bind.{Spot, spotsOf, spots, linesIn, untilHead, declCount, storeCount, firstUse, storeAt, bound, boundBy, anyBound, unboundOne, unbound, mark, markOne, markAll, marked, piecesOf, promoted, bindAct, aboveIn, bindGo, bindDeclaratorsActs, bindDeclarators}

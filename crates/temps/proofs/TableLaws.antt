@@ -5,7 +5,7 @@ use mathlib.Core.Bool.{Bool, true, false, cond, not, _&&_, _||_}
 use mathlib.Core.List.{List, [], _∷_, _++_}
 use native.Mathlib.Numerals.{add-one}
 use native.Mathlib.Omega.{arith}
-use borrow.Author.Tests.{lt-ltb, le-ltb, ltb-true, ltb-false, eq-eqb, eqb-true, eqb-false}
+use borrow.Author.Tests.{lt-ltb, le-ltb, ltb-true, ltb-false, eq-eqb, ne-eqb, eqb-true, eqb-false}
 use lib.Dec.{eqb, ltb}
 use lib.ListN.{length, drop, getD, set, replicate, length-set, drop-of-length-le}
 use lib.Seq.{drop-cons, getD-set-same, getD-set-other}
@@ -24,7 +24,7 @@ use Rattle.place.specs.Region.{varWord, constWord}
 use Rattle.words.specs.Runs.{flush, runsGo, runs, countBy, wordsOf}
 use Rattle.reading.specs.Assign.{isAssign, leftOf}
 use Rattle.temps.specs.Temps.{anyPiece, declares, tempReads, declaredIn, tempRead}
-use Rattle.temps.specs.Table.{slotOf, flagAt, flagPieces, flagDecl, flagDecls, skipAfter, flagRun, flagRuns, flagReads, flagLines, flagBy, Tells}
+use Rattle.temps.specs.Table.{slotOf, flagAt, flagPieces, flagDecl, flagDecls, skipAfter, flagRun, flagRuns, flagReads, flagLines, anyFlag, readsIf, flagBy, Tells, TellsOf}
 use Rattle.temps.specs.declared.table.Flag.{Flag}
 use Rattle.temps.specs.declared.table.Flag.the-variants as flag
 use Rattle.temps.proofs.TempLaws.{reads-bind, reads-words}
@@ -300,11 +300,47 @@ tells-declared ls k d e = λ x n p q h.
     ∙ decls-tell x n q ls (replicate k 0) (omega (arith, h, ap length e, decls-length ls (replicate k 0)))
     ∙ ap (λ (b : Bool). declaredIn x ls || b) (zeros-off k n) ∙ or-false (declaredIn x ls)
 
-pub tells-read : (ls : List (List ℕ)) (k : ℕ) (d : List ℕ) → d ≡ flagLines ls (replicate k 0) → Tells (λ (x : List ℕ). tempRead x ls) d
-tells-read ls k d e = λ x n p q h.
-    ap (λ (l : List ℕ). eqb (getD l n 0) 1) e
-    ∙ lines-tell x n q p ls (replicate k 0) (omega (arith, h, ap length e, lines-length ls (replicate k 0)))
+-- a flag that is set is one of them
+any-at : (d : List ℕ) (n : ℕ) → eqb (getD d n 0) 1 ≡ true → anyFlag d ≡ true
+unfolding anyFlag
+any-at [] n h = no h
+any-at (x ∷ d) zero h = rw h
+any-at (x ∷ d) (suc n) h = ap (λ (b : Bool). eqb x 1 || b) (any-at d n h) ∙ or-true (eqb x 1)
+
+pub used-by : (c : List ℕ) (ls : List (List ℕ)) (d : List ℕ) (b : Bool) → anyFlag c ≡ b → readsIf c ls d ≡ cond b (flagLines ls d) d
+unfolding readsIf
+used-by c ls d b e = rw e
+
+used-length : (c : List ℕ) (ls : List (List ℕ)) (d : List ℕ) → length (readsIf c ls d) ≡ length d
+unfolding readsIf
+used-length c ls d = go (anyFlag c)
+  where
+    go : (b : Bool) → length (cond b (flagLines ls d) d) ≡ length d
+    go true = lines-length ls d
+    go false = refl
+
+pub tells-read : (ls : List (List ℕ)) (k : ℕ) (c d : List ℕ) → c ≡ flagDecls ls (replicate k 0) → d ≡ readsIf c ls (replicate k 0) →
+    TellsOf (λ (x : List ℕ). declaredIn x ls) (λ (x : List ℕ). tempRead x ls) d
+tells-read ls k c d a e = λ x n p g q h.
+    let m : n < length (replicate {A = ℕ} k 0) = omega (arith, h, ap length e, used-length c ls (replicate k 0)) in
+    let t : eqb (getD c n 0) 1 ≡ true = tells-declared ls k c a x n p q (omega (arith, m, ap length a, decls-length ls (replicate k 0))) ∙ g in
+    ap (λ (l : List ℕ). eqb (getD l n 0) 1) (e ∙ used-by c ls (replicate k 0) true (any-at c n t))
+    ∙ lines-tell x n q p ls (replicate k 0) m
     ∙ ap (λ (b : Bool). tempRead x ls || b) (zeros-off k n) ∙ or-false (tempRead x ls)
+
+-- down a table, from the place i on
+module _ (s : List ℕ) (i : ℕ) where
+  pub any-here : i < length s → getD s i 0 ≡ 1 → anyFlag (drop i s) ≡ true
+  unfolding anyFlag
+  any-here h e = rw (drop-cons s i 0 h, eq-eqb (getD s i 0) 1 e)
+
+  pub any-on : i < length s → (getD s i 0 ≡ 1 → ⊥) → anyFlag (drop i s) ≡ anyFlag (drop (i + 1) s)
+  unfolding anyFlag
+  any-on h e = rw (add-one i, drop-cons s i 0 h, ne-eqb (getD s i 0) 1 e)
+
+  pub any-end : length s ≤ i → anyFlag (drop i s) ≡ false
+  unfolding anyFlag
+  any-end h = rw (drop-of-length-le s h)
 
 -- what it says of a temp
 flag-is : (a b : Bool) → flag.Is a ≡ flag.Is b → a ≡ b
@@ -321,11 +357,11 @@ flag-not b h = no (ap some h)
     some flag.Past = false
     some (flag.Is b) = true
 
-pub told : (f : List ℕ → Bool) (x d : List ℕ) (b : Bool) → Tells f d → isTemp x ≡ true → flagBy (slotOf x) d ≡ flag.Is b → b ≡ f x
-told f x d b t p h = go (slotOf x) refl h
+pub told : (f : List ℕ → Bool) (x d : List ℕ) (b : Bool) → ((n : ℕ) → slotOf x ≡ number.Of n → n < length d → eqb (getD d n 0) 1 ≡ f x) → flagBy (slotOf x) d ≡ flag.Is b → b ≡ f x
+told f x d b t h = go (slotOf x) refl h
   where
     at : (n : ℕ) → slotOf x ≡ number.Of n → (s : Bool) → ltb n (length d) ≡ s → cond s (flag.Is (eqb (getD d n 0) 1)) flag.Past ≡ flag.Is b → b ≡ f x
-    at n q true e h = sym (flag-is _ b h) ∙ t x n p q (ltb-true n (length d) e)
+    at n q true e h = sym (flag-is _ b h) ∙ t n q (ltb-true n (length d) e)
     at n q false e h = flag-not b h
 
     go : (s : Number) → slotOf x ≡ s → flagBy s d ≡ flag.Is b → b ≡ f x

@@ -1,7 +1,7 @@
 -- Tables of flags over the numbers of temps: what flagging leaves in them, and what they then say. Assumes nothing.
 use Prim.Native.Nat.{ℕ, _<_}
 use mathlib.Core.Path.{_≡_}
-use mathlib.Core.Bool.{Bool, true, cond, not, _&&_, _||_}
+use mathlib.Core.Bool.{Bool, true, false, cond, not, _&&_, _||_}
 use mathlib.Core.List.{List, [], _∷_}
 use lib.Dec.{eqb, ltb}
 use lib.ListN.{length, drop, getD, set}
@@ -74,6 +74,16 @@ unfolding flagReads
 flagLines [] d = d
 flagLines (l ∷ ls) d = flagLines ls (flagReads (trimOf l) d)
 
+-- some flag of a table is set
+unfoldable pub anyFlag : List ℕ → Bool
+anyFlag [] = false
+anyFlag (x ∷ d) = eqb x 1 || anyFlag d
+
+-- the table d after lines, where the table c of declared temps has a flag; else nothing will be asked of it
+unfoldable pub readsIf : List ℕ → List (List ℕ) → List ℕ → List ℕ
+unfolding anyFlag flagLines
+readsIf c ls d = cond (anyFlag c) (flagLines ls d) d
+
 -- ---- what a table says
 
 -- of a number: whether its flag is set, or that it is past the end
@@ -84,3 +94,7 @@ flagBy (number.Of n) d = cond (ltb n (length d)) (flag.Is (eqb (getD d n 0) 1)) 
 -- of the temps that have a number below its end, the table flags exactly those that pass a test
 abbrev pub Tells : (List ℕ → Bool) → List ℕ → Type 0
 Tells f d = (x : List ℕ) (n : ℕ) → isTemp x ≡ true → slotOf x ≡ number.Of n → n < length d → eqb (getD d n 0) 1 ≡ f x
+
+-- the same, of the temps that pass the test g
+abbrev pub TellsOf : (List ℕ → Bool) → (List ℕ → Bool) → List ℕ → Type 0
+TellsOf g f d = (x : List ℕ) (n : ℕ) → isTemp x ≡ true → g x ≡ true → slotOf x ≡ number.Of n → n < length d → eqb (getD d n 0) 1 ≡ f x

@@ -15,7 +15,7 @@ ghost use Rattle.reading.specs.Reading.{plain};
 ghost use Rattle.reading.specs.Assign.{isAssign, leftOf};
 ghost use Rattle.temps.specs.Temps.{anyPiece, declares, tempReads, declaredIn, tempRead, pruneDeadTemps};
 ghost use Rattle.temps.specs.Scratch.{tempGoes, tempText, scratchLine, tempScratch};
-ghost use Rattle.temps.specs.Table.{Tells};
+ghost use Rattle.temps.specs.Table.{Tells, TellsOf};
 
 // Whether one of the pieces between the commas, trimmed, is a name.
 fn any_piece(s: &[u8], name: &[u8]) -> bool
@@ -134,9 +134,10 @@ fn is_declared(text: &[u8], name: &[u8], declared: &[u8]) -> bool
     }
 }
 
-// Whether some line of a text reads a temp: the table says so, where it reaches to it.
+// Whether some line of a text reads a temp that is declared: the table says so, where it reaches to it.
 fn is_read(text: &[u8], name: &[u8], read: &[u8]) -> bool
-    requires { ⌜ (isTemp (now name) ≡ true) × (Tells (λ (x : List ℕ). tempRead x (linesOf (now text))) (now read)) ⌝ }
+    requires { ⌜ ((isTemp (now name) ≡ true) × (declaredIn (now name) (linesOf (now text)) ≡ true))
+        × (TellsOf (λ (x : List ℕ). declaredIn x (linesOf (now text))) (λ (x : List ℕ). tempRead x (linesOf (now text))) (now read)) ⌝ }
     ensures { λ r. ⌜ r ≡ tempRead (now (name .entry)) (linesOf (now (text .entry))) ⌝ }
 {
     match table::flag_of(name, read) {
@@ -148,7 +149,7 @@ fn is_read(text: &[u8], name: &[u8], read: &[u8]) -> bool
 // Whether a temp is dead: some line of a text declares it, and none reads it.
 fn is_dead(text: &[u8], name: &[u8], declared: &[u8], read: &[u8]) -> bool
     requires { ⌜ (isTemp (now name) ≡ true)
-        × ((Tells (λ (x : List ℕ). declaredIn x (linesOf (now text))) (now declared)) × (Tells (λ (x : List ℕ). tempRead x (linesOf (now text))) (now read))) ⌝ }
+        × ((Tells (λ (x : List ℕ). declaredIn x (linesOf (now text))) (now declared)) × (TellsOf (λ (x : List ℕ). declaredIn x (linesOf (now text))) (λ (x : List ℕ). tempRead x (linesOf (now text))) (now read))) ⌝ }
     ensures { λ r. ⌜ r ≡ declaredIn (now (name .entry)) (linesOf (now (text .entry))) && not (tempRead (now (name .entry)) (linesOf (now (text .entry)))) ⌝ }
 {
     if !is_declared(text, name, declared) {
@@ -160,7 +161,7 @@ fn is_dead(text: &[u8], name: &[u8], declared: &[u8], read: &[u8]) -> bool
 // Whether a line of a text goes. The value of a store of a temp is judged first, and left in `scratch` without its comments.
 fn goes(line: &[u8], text: &[u8], declared: &[u8], read: &[u8], scratch: &mut [u8]) -> bool
     requires { ⌜ (length (now line) ≤ length (now scratch))
-        × ((Tells (λ (x : List ℕ). declaredIn x (linesOf (now text))) (now declared)) × (Tells (λ (x : List ℕ). tempRead x (linesOf (now text))) (now read))) ⌝ }
+        × ((Tells (λ (x : List ℕ). declaredIn x (linesOf (now text))) (now declared)) × (TellsOf (λ (x : List ℕ). declaredIn x (linesOf (now text))) (λ (x : List ℕ). tempRead x (linesOf (now text))) (now read))) ⌝ }
     ensures answer { λ r. ⌜ r ≡ tempGoes plain (linesOf (now (text .entry))) (now (line .entry)) ⌝ }
     ensures memory { λ _. ⌜ now (scratch .exit) ≡ scratchLine (now (line .entry)) (now (scratch .entry)) ⌝ }
 {
@@ -191,7 +192,7 @@ fn put_line(
     o: usize,
 ) -> usize
     requires { ⌜ ((length (now line) ≤ length (now scratch))
-        × ((Tells (λ (x : List ℕ). declaredIn x (linesOf (now text))) (now declared)) × (Tells (λ (x : List ℕ). tempRead x (linesOf (now text))) (now read))))
+        × ((Tells (λ (x : List ℕ). declaredIn x (linesOf (now text))) (now declared)) × (TellsOf (λ (x : List ℕ). declaredIn x (linesOf (now text))) (λ (x : List ℕ). tempRead x (linesOf (now text))) (now read))))
         × (o + length (tempText plain (linesOf (now text)) (now line)) ≤ length (now out)) ⌝ }
     ensures answer { λ r. ⌜ Wrote (now (out .entry)) o (tempText plain (linesOf (now (text .entry))) (now (line .entry))) (now (out .exit)) r ⌝ }
     ensures memory { λ _. ⌜ now (scratch .exit) ≡ scratchLine (now (line .entry)) (now (scratch .entry)) ⌝ }
@@ -212,7 +213,7 @@ fn prune_with(
     out: &mut [u8],
 ) -> usize
     requires { ⌜ ((length (now text) ≤ length (now scratch))
-        × ((Tells (λ (x : List ℕ). declaredIn x (linesOf (now text))) (now declared)) × (Tells (λ (x : List ℕ). tempRead x (linesOf (now text))) (now read))))
+        × ((Tells (λ (x : List ℕ). declaredIn x (linesOf (now text))) (now declared)) × (TellsOf (λ (x : List ℕ). declaredIn x (linesOf (now text))) (λ (x : List ℕ). tempRead x (linesOf (now text))) (now read))))
         × (length (unlines (pruneDeadTemps plain (linesOf (now text)))) ≤ length (now out)) ⌝ }
     ensures answer { λ r. ⌜ Wrote (now (out .entry)) 0 (unlines (pruneDeadTemps plain (linesOf (now (text .entry))))) (now (out .exit)) r ⌝ }
     ensures memory { λ _. ⌜ now (scratch .exit) ≡ tempScratch (linesOf (now (text .entry))) (now (scratch .entry)) ⌝ }
@@ -237,6 +238,6 @@ pub fn prune_dead_temps(text: &[u8], scratch: &mut [u8], out: &mut [u8]) -> usiz
     let mut declared = [0u8; 1024];
     let mut read = [0u8; 1024];
     table::flag_decls(text, &mut declared);
-    table::flag_lines(text, &mut read);
+    table::flag_used(text, &declared, &mut read);
     prune_with(text, &declared, &read, scratch, out)
 }

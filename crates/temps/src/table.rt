@@ -4,7 +4,7 @@ ghost use mathlib.Core.Path.{_≡_};
 ghost use lib.ListN.{set};
 ghost use Rattle.lines.specs.Lf.{partsOf, linesOf};
 ghost use Rattle.words.specs.Runs.{runs};
-ghost use Rattle.temps.specs.Table.{slotOf, flagAt, flagPieces, flagDecl, flagDecls, skipAfter, flagRun, flagRuns, flagReads, flagLines, flagBy};
+ghost use Rattle.temps.specs.Table.{slotOf, flagAt, flagPieces, flagDecl, flagDecls, skipAfter, flagRun, flagRuns, flagReads, flagLines, anyFlag, readsIf, flagBy};
 
 // What a table says of a name: whether its flag is set, or that the table does not reach to it.
 pub enum Flag {
@@ -143,7 +143,7 @@ fn flag_reads(t: &[u8], table: &mut [u8])
 }
 
 // Sets the flags of the temps that some line of a text reads.
-pub fn flag_lines(text: &[u8], table: &mut [u8])
+fn flag_lines(text: &[u8], table: &mut [u8])
     ensures { λ _. ⌜ now (table .exit) ≡ flagLines (linesOf (now (text .entry))) (now (table .entry)) ⌝ }
 {
     let mut i = 0;
@@ -152,6 +152,30 @@ pub fn flag_lines(text: &[u8], table: &mut [u8])
         flag_reads(text::trim(lines::cut(text, i, e)), table);
         i = lines::after(text, e);
     }
+}
+
+// Whether some flag of a table is set.
+fn any_flag(table: &[u8]) -> bool
+    ensures { λ r. ⌜ r ≡ anyFlag (now (table .entry)) ⌝ }
+{
+    let mut i = 0;
+    while i < table.len() {
+        if table[i] == 1 {
+            return true;
+        }
+        i += 1;
+    }
+    false
+}
+
+// Sets the flags of the temps that some line of a text reads, where it declares one.
+pub fn flag_used(text: &[u8], declared: &[u8], table: &mut [u8])
+    ensures { λ _. ⌜ now (table .exit) ≡ readsIf (now (declared .entry)) (linesOf (now (text .entry))) (now (table .entry)) ⌝ }
+{
+    if !any_flag(declared) {
+        return;
+    }
+    flag_lines(text, table);
 }
 
 // What a table says of a name.

@@ -11,11 +11,14 @@ slice-aggregate-flag-decls c = search needs
 flag-decls-requires : tie.Need-flag-decls-requires
 flag-decls-requires c κs = search needs
 
-slice-aggregate-flag-lines : tie.Need-slice-aggregate-flag-lines
-slice-aggregate-flag-lines c = search needs
+slice-aggregate-flag-used : tie.Need-slice-aggregate-flag-used
+slice-aggregate-flag-used c = search needs
 
-flag-lines-requires : tie.Need-flag-lines-requires
-flag-lines-requires c κs = search needs
+slice-aggregate-flag-used-2 : tie.Need-slice-aggregate-flag-used-2
+slice-aggregate-flag-used-2 c = search needs
+
+flag-used-requires : tie.Need-flag-used-requires
+flag-used-requires c κs = search needs
 
 slice-aggregate-prune-with : tie.Need-slice-aggregate-prune-with
 slice-aggregate-prune-with c = search needs
@@ -25,9 +28,10 @@ slice-aggregate-prune-with-2 c = search needs
 
 prune-with-requires : tie.Need-prune-with-requires
 prune-with-requires c κs =
-    let s = c .before .before .before .before .before .before .before .before .before .before .before .before .before in
+    let s = c .before .before .before .before .before .before .before .before .before .before .before .before .before .before in
     let ls = linesOf (s .args .text .now) in
-    ((s .pre .0, (tells-declared ls 1024 _ (c .before .before .before .before .before .before .before .before .flag-decls .ensures), tells-read ls 1024 _ (c .before .before .before .before .before .flag-lines .ensures))), s .pre .1)
+    let d = c .before .before .before .before .before .before .before .before .before .flag-decls .ensures in
+    ((s .pre .0, (tells-declared ls 1024 _ d, tells-read ls 1024 _ _ d (c .before .before .before .before .before .flag-used .ensures))), s .pre .1)
 
 same-length : tie.Need-same-length
 same-length c = search needs
@@ -44,8 +48,9 @@ prune-dead-temps-spec =
     (tie.spec
     slice-aggregate-flag-decls
     flag-decls-requires
-    slice-aggregate-flag-lines
-    flag-lines-requires
+    slice-aggregate-flag-used
+    slice-aggregate-flag-used-2
+    flag-used-requires
     slice-aggregate-prune-with
     slice-aggregate-prune-with-2
     prune-with-requires
