@@ -235,22 +235,20 @@ fn walk_up(
     let mut over = top;
     let mut steps: usize = 0;
     while (0 < k) & (steps < 64) {
+        steps += 1;
         let q = line_back(text, p - 1);
-        let head = place::is_header(lines::cut(text, q, p - 1));
         if owner[k - 1] != 0 {
             if !is_ours(owner, k - 1, n) {
                 break;
             }
-            over = over | head;
+            over = over | place::is_header(lines::cut(text, q, p - 1));
             p = q;
             k -= 1;
-            steps += 1;
         } else {
             let b = line_back(stack, h - 1);
             let x = lines::cut(stack, b, h - 1);
-            let parse::Line::Store(s) = parse::parse(x) else {
-                break
-            };
+            let read = parse::parse(x);
+            let parse::Line::Store(s) = read else { break };
             if !may_go(over, blocks, starts, k - 1, n) {
                 break;
             }
@@ -262,11 +260,10 @@ fn walk_up(
             let Made::Line(m) = made else { break };
             c = lines::put(cur, 0, lines::cut(next, 0, m));
             owner[k - 1] = n - k + 1;
-            over = over | head;
+            over = over | place::is_header(lines::cut(text, q, p - 1));
             h = b;
             p = q;
             k -= 1;
-            steps += 1;
         }
     }
     Peak { height: h, size: c }

@@ -1,12 +1,10 @@
 -- Laws of running passes one after the other over the front of a buffer. Assumes nothing.
 use Prim.Native.Nat.{ℕ, suc, _+_, _-_, _≤_, _<_}
 use mathlib.Core.Path.{_≡_, refl, sym, ap, _∙_}
-use mathlib.Core.Bool.{true, false, cond}
-use mathlib.Core.List.{List, [], _++_}
+use mathlib.Core.List.{List}
 use native.Mathlib.Omega.{arith}
 use native.Mathlib.Numerals.{add-one}
 use borrow.Author.Tests.{eq-eqb, ne-eqb}
-use lib.Dec.{eqb}
 use lib.ListN.{length, take}
 use Rattle.lines.specs.Lf.{linesOf, unlines}
 use Rattle.lines.specs.Out.{Wrote}
@@ -25,9 +23,9 @@ use Rattle.decls.specs.Decls.{pruneDecls}
 use Rattle.bind.specs.Bind.{bindDeclarators}
 use Rattle.bind.proofs.Cut.{plain-by-line}
 use Rattle.opt.specs.Passes.{stepOf, stepsOf}
-use Rattle.opt.specs.Entry.{byteSize, blockSize}
+use Rattle.opt.specs.Entry.{byteSize}
 use Rattle.opt.specs.Room.{Room, Sized, Front}
-use Rattle.opt.proofs.Tame.{Tame, tame-step, Between, between-start, between-on, between-room}
+use Rattle.opt.proofs.Tame.{tame-step, Between, between-start, between-on, between-room}
 
 -- ---- which pass a number is
 

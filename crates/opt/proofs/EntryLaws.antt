@@ -1,23 +1,23 @@
 -- Laws of the checks, of what an answer leaves in the buffers, and of the passes that an entry runs. Assumes nothing.
-use Prim.Native.Nat.{ℕ, suc, _+_, _-_, _≤_, _<_}
+use Prim.Native.Nat.{ℕ, _+_, _-_, _≤_, _<_}
 use mathlib.Core.Path.{_≡_, refl, sym, ap, _∙_}
 use mathlib.Core.Bool.{Bool, true, false, cond, _||_}
 use mathlib.Core.List.{List, _++_}
 use native.Mathlib.Omega.{arith}
 use borrow.Author.Tests.{lt-ltb, le-ltb, ltb-false, eq-eqb, ne-eqb}
-use lib.Dec.{ltb, leb}
+use lib.Dec.{ltb}
 use lib.ListN.{length, drop}
 use Rattle.lines.specs.declared.Crowded as crowd
 use Rattle.lines.specs.declared.Crowded.the-variants as crowd-is
 use Rattle.lines.specs.Lf.{endsIn, within}
 use Rattle.lines.specs.Steps.{splitLines, joined, overFrom}
-use Rattle.lines.proofs.Tests.{no, is-in, is-below, is-above}
+use Rattle.lines.proofs.Tests.{no}
 use Rattle.text.specs.declared.Utf8 as utf8
 use Rattle.text.specs.declared.Utf8.the-variants as utf8-is
 use Rattle.text.specs.Utf8Form.{utf8Of}
-use Rattle.reading.specs.Reading.{Reading, plain}
+use Rattle.reading.specs.Reading.{Reading}
 use Rattle.opt.specs.declared.Answer.{Answer}
-use Rattle.opt.specs.declared.Answer.the-variants.{Done, BadPass, TooLong, ShortWork, NotUtf8, TooManyLines, Crowded, ShortResult}
+use Rattle.opt.specs.declared.Answer.the-variants.{Done, BadPass, TooLong, ShortWork, TooManyLines, Crowded, ShortResult}
 use Rattle.opt.specs.Answer.{numberOf, lengthOf, placeOf, runs, isDone}
 use Rattle.opt.specs.Passes.{stepOf, stepsOf, whole, resultOf}
 use Rattle.opt.specs.Entry.{byteSize, blockSize, isShort, byUtf8, byCrowd, checkedLines, checked, roomed, answerOf, passAnswer, blank, workAfter, outAfter}

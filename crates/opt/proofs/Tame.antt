@@ -1,13 +1,13 @@
 -- Passes that bring no LF into a line, add no line and do not raise the weight, whatever a brace weighs; and the room that follows. Assumes nothing.
-use Prim.Native.Nat.{ℕ, zero, suc, _+_, _*_, _≤_, _<_, _^_}
-use mathlib.Core.Path.{_≡_, refl, sym, ap, _∙_}
+use Prim.Native.Nat.{ℕ, zero, suc, _+_, _≤_, _<_, _^_}
+use mathlib.Core.Path.{_≡_, ap}
 use mathlib.Core.Bool.{Bool, true, false, cond}
 use mathlib.Core.List.{List}
 use native.Mathlib.Omega.{arith}
 use lib.Dec.{eqb}
 use lib.ListN.{length, replicate, length-replicate}
-use Rattle.lines.specs.Lf.{endsIn, linesOf, unlines, countOf, noLf}
-use Rattle.lines.specs.Steps.{splitLines, joined}
+use Rattle.lines.specs.Lf.{linesOf, unlines, noLf}
+use Rattle.lines.specs.Steps.{splitLines}
 use Rattle.lines.specs.Acts.{apply}
 use Rattle.lines.proofs.LfLaws.{lines-unlines, count-le}
 use Rattle.lines.proofs.ActLaws.{apply-length}
@@ -25,7 +25,7 @@ use Rattle.temps.specs.Temps.{pruneDeadTempsActs, pruneDeadTemps}
 use Rattle.temps.proofs.Keeps.{temps-noLf, temps-weight}
 use Rattle.once.specs.Once.{onceActs, optimizeOnce}
 use Rattle.once.proofs.Keeps.{acts-noLf}
-use Rattle.once.proofs.Passes.{once-noLf, once-length}
+use Rattle.once.proofs.Passes.{once-noLf, once-lines}
 use Rattle.once.proofs.Room.{acts-weight, once-weight}
 use Rattle.phis.specs.Phis.{round, pruneDeadPhis}
 use Rattle.phis.specs.Rounds.{longest}
@@ -41,7 +41,7 @@ use Rattle.decls.specs.Decls.{pruneDecls}
 use Rattle.decls.proofs.Keeps.{keeps-noLf}
 use Rattle.decls.proofs.Decl.{prune-weight}
 use Rattle.decls.proofs.Passes.{prune-lines}
-use Rattle.opt.specs.Passes.{stepOf, stepsOf, resultOf}
+use Rattle.opt.specs.Passes.{stepOf, stepsOf}
 use Rattle.opt.specs.Entry.{byteSize, blockSize}
 use Rattle.opt.specs.Room.{Room}
 
@@ -85,7 +85,7 @@ pub once-acts : (R : Reading) → Tame (λ ls. apply (onceActs R ls) ls)
 once-acts R = record { keeps = acts-noLf R; weighs = λ H ls. acts-weight H R ls; counts = λ ls. apply-length (onceActs R ls) ls }
 
 pub tame-once : (R : Reading) → Tame (optimizeOnce R)
-tame-once R = record { keeps = once-noLf R; weighs = λ H ls. once-weight H R ls; counts = once-length R }
+tame-once R = record { keeps = once-noLf R; weighs = λ H ls. once-weight H R ls; counts = once-lines R }
 
 pub tame-phis : (R : Reading) → Tame (pruneDeadPhis R)
 tame-phis R = record { keeps = phis-noLf R; weighs = λ H ls. phis-weight H R ls; counts = phis-lines R }

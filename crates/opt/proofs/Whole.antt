@@ -1,14 +1,14 @@
 -- Theorems over the entries: what `optimize` makes of a text, that no result is longer than twice its text, and the edges of the checks. Assumes nothing.
-use Prim.Native.Nat.{ℕ, suc, _+_, _-_, _*_, _≤_, _<_}
+use Prim.Native.Nat.{ℕ, suc, _+_, _-_, _*_, _≤_}
 use mathlib.Core.Path.{_≡_, refl, sym, ap, _∙_}
 use mathlib.Core.Bool.{Bool, true, false, cond}
 use mathlib.Core.List.{List, [], _∷_, _++_, append-nil}
 use native.Mathlib.Omega.{arith}
 use borrow.Author.Tests.{eqb-true, eqb-false, lt-ltb, le-ltb}
-use lib.Dec.{eqb, ltb}
+use lib.Dec.{eqb}
 use lib.ListN.{length, take, drop, replicate, length-append}
 use Rattle.lines.specs.declared.Crowded.the-variants as crowd-is
-use Rattle.lines.specs.Lf.{endsIn, linesOf, unlines, countOf, noLf}
+use Rattle.lines.specs.Lf.{endsIn, unlines, countOf, noLf}
 use Rattle.lines.specs.Steps.{dropCr, splitLines, joined, overFrom}
 use Rattle.lines.proofs.LfLaws.{lines-unlines}
 use Rattle.lines.proofs.StepLaws.{ends-some, missingLf, missing-ended, missing-open, lines-text, split-text, split-noLf, drop-le}

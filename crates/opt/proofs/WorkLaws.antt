@@ -1,13 +1,12 @@
 -- Laws of zeroing, of the last step, and of what both leave. Assumes nothing.
-use Prim.Native.Nat.{ℕ, _+_, _-_, _≤_, _<_}
+use Prim.Native.Nat.{ℕ, _+_, _≤_, _<_}
 use mathlib.Core.Path.{_≡_, refl, sym, ap, _∙_}
-use mathlib.Core.Bool.{Bool, true, false, cond}
-use mathlib.Core.List.{List, [], _++_, append-nil}
+use mathlib.Core.Bool.{Bool}
+use mathlib.Core.List.{List, _++_, append-nil}
 use native.Mathlib.Omega.{arith}
 use native.Mathlib.Nat.{zero-add}
 use borrow.Author.Tests.{lt-ltb, le-ltb}
 use borrow.Author.Fill.{fill-none, fill-more}
-use lib.Dec.{ltb}
 use lib.ListN.{length, take, drop, set, replicate, length-append, length-drop, length-replicate, drop-of-length-le}
 use lib.Seq.{length-take-le}
 use Rattle.lines.specs.Lf.{endsIn, linesOf, unlines}
@@ -15,11 +14,10 @@ use Rattle.lines.specs.Out.{putAt, Wrote}
 use Rattle.lines.specs.Steps.{splitLines, joined}
 use Rattle.lines.proofs.LfLaws.{lines-unlines}
 use Rattle.lines.proofs.StepLaws.{split-noLf}
-use Rattle.opt.specs.declared.Answer.{Answer}
 use Rattle.opt.specs.declared.Answer.the-variants.{Done, ShortResult}
 use Rattle.opt.specs.Answer.{isDone}
 use Rattle.opt.specs.Passes.{resultOf}
-use Rattle.opt.specs.Entry.{byteSize, blockSize, roomed, blank, outAfter}
+use Rattle.opt.specs.Entry.{roomed, blank, outAfter}
 use Rattle.opt.specs.Room.{Front}
 use Rattle.opt.proofs.Tame.{Tame}
 

@@ -2,7 +2,7 @@
 use Prim.Native.Nat.{ℕ}
 use mathlib.Core.Bool.{Bool, cond, _||_}
 use mathlib.Core.List.{List, _++_}
-use lib.Dec.{ltb, leb}
+use lib.Dec.{ltb}
 use lib.ListN.{length, drop, replicate}
 use Rattle.lines.specs.declared.Crowded as crowd
 use Rattle.lines.specs.declared.Crowded.the-variants as crowd-is

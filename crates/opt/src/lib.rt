@@ -1,10 +1,8 @@
 // The entries: all passes over a text, or one of them, in lent buffers.
 ghost use mathlib.Core.Path.{_≡_};
-ghost use mathlib.Core.Bool.{_||_};
-ghost use mathlib.Core.List.{_++_};
-ghost use Prim.Native.Nat.{ℕ, _≤_, _-_, _+_};
-ghost use lib.ListN.{length, take, drop};
-ghost use Rattle.lines.specs.Lf.{endsIn, linesOf, unlines};
+ghost use Prim.Native.Nat.{_≤_, _-_};
+ghost use lib.ListN.{length, take};
+ghost use Rattle.lines.specs.Lf.{linesOf, unlines};
 ghost use Rattle.lines.specs.Out.{Wrote};
 ghost use Rattle.lines.specs.Steps.{splitLines, joined};
 ghost use Rattle.reading.specs.Reading.{plain};
@@ -406,7 +404,8 @@ fn tidy(
     run(k, to, text, a, b, c, d, e, u, out)
 }
 
-// Removes the lines that declare globals from a text, runs the six passes over it, and writes the result.
+// Removes the lines that declare globals from a text, runs the six passes over it, and writes the result to the front of `out`. Of each of
+// the work buffers `a` to `e` 32,769 bytes are used, and of `u` 16,384 numbers: these are 0 afterwards where the passes ran.
 pub fn optimize(
     text: &[u8],
     a: &mut [u8],
@@ -424,7 +423,7 @@ pub fn optimize(
     tidy(0, 7, text, a, b, c, d, e, u, out)
 }
 
-// Runs one pass over a text, by its number from 1 to 6, and writes the result.
+// Runs one pass over a text, by its number from 1 to 6, with no removal, and writes the result to the front of `out`, in the same work buffers.
 pub fn run_pass(
     pass: usize,
     text: &[u8],

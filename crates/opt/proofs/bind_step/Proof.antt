@@ -1,5 +1,4 @@
 use borrow.Author.Needs.{needs}
-use native.Mathlib.Omega.{arith}
 use Rattle.opt.proofs.Tame.{table, bind-room}
 use Rattle.opt.proofs.bind_step.Statement.{statement}
 use Rattle.opt.proofs.bind_step.Tie as tie

@@ -1,5 +1,4 @@
 use borrow.Author.Needs.{needs}
-use native.Mathlib.Omega.{arith}
 use Rattle.opt.proofs.Tame.{table, once-room}
 use Rattle.opt.proofs.once_step.Statement.{statement}
 use Rattle.opt.proofs.once_step.Tie as tie

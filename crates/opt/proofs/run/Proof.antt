@@ -1,7 +1,4 @@
-use borrow.Author.Needs.{needs}
-use mathlib.Core.Path.{sym, ap, _∙_}
-use native.Mathlib.Omega.{arith}
-use lib.Seq.{length-take-le}
+use mathlib.Core.Path.{sym}
 use Rattle.opt.proofs.WorkLaws.{stated, same-part, wiped-part}
 use Rattle.opt.proofs.run.Statement.{statement}
 use Rattle.opt.proofs.run.Tie as tie

@@ -1,6 +1,5 @@
-use borrow.Author.Needs.{needs}
 use borrow.Author.Tests.{lt-ltb, le-ltb}
-use Rattle.opt.specs.Entry.{byteSize, blockSize}
+use Rattle.opt.specs.Entry.{byteSize}
 use Rattle.opt.proofs.too_short.Statement.{statement}
 use Rattle.opt.proofs.too_short.Tie as tie
 

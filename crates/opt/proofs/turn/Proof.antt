@@ -3,7 +3,6 @@ use mathlib.Core.Path.{sym}
 use native.Mathlib.Omega.{arith}
 use lib.ListN.{length-take}
 use lib.Seq.{length-take-le}
-use Rattle.lines.proofs.OutLaws.{wrote-length}
 use Rattle.opt.proofs.ChainLaws.{wrote-front, front-copied}
 use Rattle.opt.proofs.turn.Statement.{statement}
 use Rattle.opt.proofs.turn.Tie as tie
@@ -34,7 +33,6 @@ slice-aggregate-put c =
 put-requires : tie.Need-put-requires
 put-requires c κs =
     let p = c .before .before .before .before .before .before .before .before .before .before .before .before .before .before .before .before .before .before .before .before .before .before .before .before .before .pre .1 .1 in
-    let w = wrote-front (c .before .before .before .before .before .before .before .before .before .before .before .before .step .ensures) in
     omega (arith, length-take (c .before .before .before .before .before .before .before .before .before .before .before .before .step .result) (c .before .before .before .before .before .before .before .before .before .before .before .before .step .last .1 .1 .0), c .before .before .before .before .before .before .before .before .before .before .before .before .step .ensures .place, c .before .before .before .before .before .before .before .before .before .before .before .before .step .ensures .fits, p .0, p .1 .b-size)
 
 -- src/lib.rt:55:1
