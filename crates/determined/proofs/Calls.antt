@@ -9,6 +9,16 @@ rebuild-calls-fixed = fixed-by calls.rebuild_calls.Reads.Learnt (λ w κs a x. m
     let p = l .1 .1 .0 in
     let q = m .1 .1 .0 in
     let f = l .1 .1 .1 in
-    let g = m .1 .1 .1 in
-    (filled-once (l .1 .0) (m .1 .0) .0, (filled-once (p .0) (q .0) .0, (filled-once (p .1 .0) (q .1 .0) .0, (filled-once (p .1 .1) (q .1 .1) .0,
-    (wrote-once (f .0) (g .0) .0, (wrote-once (f .1 .0) (g .1 .0) .0, (wrote-once (f .1 .1 .0) (g .1 .1 .0) .0, (wrote-once (f .1 .1 .1) (g .1 .1 .1) .0, wrote-once (l .0) (m .0))))))))))
+    let g = m .1 .1 .1 in (
+      filled-once (l .1 .0) (m .1 .0) .0,
+      (
+        filled-once (p .0) (q .0) .0,
+        (
+          filled-once (p .1 .0) (q .1 .0) .0,
+          (
+            filled-once (p .1 .1) (q .1 .1) .0,
+            (wrote-once (f .0) (g .0) .0, (wrote-once (f .1 .0) (g .1 .0) .0, (wrote-once (f .1 .1 .0) (g .1 .1 .0) .0, (wrote-once (f .1 .1 .1) (g .1 .1 .1) .0, wrote-once (l .0) (m .0))))),
+          ),
+        ),
+      ),
+    ))

@@ -15,3 +15,6 @@ pub mod Once
 pub mod Phis
 pub mod Calls
 pub mod Bind
+pub mod Globals
+pub mod Opt
+pub mod Capi
