@@ -1,14 +1,14 @@
 -- A declaration of phis mentions no phi but those that it declares. Assumes nothing.
-use Prim.Native.Nat.{ℕ, zero, suc, _+_, _-_, _≤_, _<_, _^_}
+use Prim.Native.Nat.{ℕ, suc, _+_, _-_, _≤_, _<_, _^_}
 use mathlib.Core.Path.{_≡_, refl, sym, ap, _∙_}
 use mathlib.Core.Bool.{Bool, true, false, cond, not, _&&_, _||_}
 use mathlib.Core.List.{List, [], _∷_, _++_, append-nil, append-assoc}
 use native.Mathlib.Omega.{arith}
-use borrow.Author.Tests.{eq-eqb, eqb-true, ltb-true}
+use borrow.Author.Tests.{eq-eqb, eqb-true}
 use lib.Dec.{eqb, ltb}
-use lib.ListN.{length, take, drop, getD, take-append-drop, drop-of-length-le}
+use lib.ListN.{length, take, drop, take-append-drop, drop-of-length-le}
 use lib.Seq.{drop-cons, drop-drop}
-use Rattle.lines.specs.Lf.{part, cutOn, partsOf, prefixed, same, endsIn}
+use Rattle.lines.specs.Lf.{cutOn, partsOf, prefixed, same, endsIn}
 use Rattle.lines.proofs.Compare.{same-eq}
 use Rattle.lines.proofs.Tests.{no, and-left, and-right, and-false}
 use Rattle.text.specs.Class.{isName}

@@ -4,7 +4,7 @@ use mathlib.Core.Path.{_≡_, refl, sym, ap, _∙_}
 use mathlib.Core.Bool.{Bool, true, false, cond, not, _&&_, _||_}
 use mathlib.Core.List.{List, [], _∷_, _++_}
 use native.Mathlib.Omega.{arith}
-use lib.Dec.{eqb, ltb}
+use lib.Dec.{eqb}
 use lib.ListN.{length, take, drop, getD}
 use lib.Seq.{drop-cons}
 use borrow.Author.Tests.{ne-eqb}
@@ -12,13 +12,13 @@ use Rattle.lines.specs.Lf.{part, upTo, cutOn, linesOf, partsOf, prefixed, holds
 use Rattle.lines.proofs.Tests.{no, and-false}
 use Rattle.lines.proofs.LfLaws.{lines-first, rest-of}
 use Rattle.text.specs.Trim.{fromOf, toOf, trimStart, trimOf}
-use Rattle.names.specs.Names.{phiWord, phiText, decimal, phiOf, phiIs}
+use Rattle.names.specs.Names.{phiWord, phiText, decimal, phiOf}
 use Rattle.names.specs.declared.PhiName.{PhiName}
 use Rattle.names.specs.declared.PhiName.the-variants as name
 use Rattle.parse.specs.Parse.{bodyOf}
-use Rattle.words.specs.Hits.{hitHere, hitsGo, hits}
+use Rattle.words.specs.Hits.{hitsGo, hits}
 use Rattle.reading.specs.Assign.{unended, isAssign, leftOf}
-use Rattle.phis.specs.Phis.{isLet, isPhi, allPhis, phiDecl, phiStore, phiOwn, phiReads, deadBy, anyDead}
+use Rattle.phis.specs.Phis.{isLet, isPhi, allPhis, phiDecl, phiStore, phiReads, anyDead}
 use Rattle.phis.proofs.Searches.{anyOne, pieceOther, phis-all, piece-hit}
 
 -- ---- parts of a text

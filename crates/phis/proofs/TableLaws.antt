@@ -22,12 +22,12 @@ use Rattle.names.specs.declared.PhiName.the-variants as name
 use Rattle.names.proofs.Texts.{phi-text-value}
 use Rattle.parse.specs.Parse.{bodyOf}
 use Rattle.words.specs.Runs.{flush, runsGo, runs, countBy, wordsOf}
-use Rattle.words.specs.Hits.{hits}
 use Rattle.decls.proofs.SeenLaws.{set-past}
-use Rattle.phis.specs.Phis.{isLet, allPhis, phiDecl, anyPhi, phiStore, phiOwn, phiReads, phiRead, phiStored, deadPhi}
+use Rattle.phis.specs.Phis.{isLet, allPhis, phiDecl, phiStore, phiOwn, phiReads, phiRead, phiStored}
 use Rattle.phis.specs.Table.{noteStore, noteName, noteRuns, noteLine, noteLines, Tells}
 use Rattle.phis.proofs.Lines.{store-let, phi-hits}
 use Rattle.phis.proofs.Held.{held-store, held-reads}
+use Rattle.phis.proofs.TrimRuns.{go-name, go-gap}
 use Rattle.phis.proofs.DeclRuns.{decl-reads}
 
 -- ---- the table keeps its length
@@ -256,14 +256,6 @@ runs-flush : (own : PhiName) (cur : List ℕ) (rs : List (List ℕ)) (d : List �
 unfolding noteRuns phiOf
 runs-flush own [] rs d = refl
 runs-flush own (x ∷ cur) rs d = refl
-
-go-name : (x : ℕ) (xs cur : List ℕ) → isName x ≡ true → runsGo (x ∷ xs) cur ≡ runsGo xs (cur ++ (x ∷ []))
-unfolding runsGo
-go-name x xs cur e = rw e
-
-go-gap : (x : ℕ) (xs cur : List ℕ) → isName x ≡ false → runsGo (x ∷ xs) cur ≡ flush cur ++ runsGo xs []
-unfolding runsGo
-go-gap x xs cur e = rw e
 
 pub runs-start : (own : PhiName) (s d : List ℕ) → RunsInv own s d d 0 0
 unfolding runs

@@ -1,7 +1,7 @@
 -- The white space at the ends of a text is no part of its runs of name bytes. Assumes nothing.
-use Prim.Native.Nat.{ℕ, zero, suc, _+_, _-_, _≤_, _<_}
+use Prim.Native.Nat.{ℕ, zero, suc, _-_, _≤_, _<_}
 use mathlib.Core.Path.{_≡_, refl, sym, ap, _∙_}
-use mathlib.Core.Bool.{Bool, true, false, cond, not, _&&_, _||_}
+use mathlib.Core.Bool.{Bool, true, false, cond, not, _&&_}
 use mathlib.Core.List.{List, [], _∷_, _++_, append-nil, append-assoc}
 use native.Mathlib.Omega.{arith}
 use borrow.Author.Tests.{ne-eqb, eqb-true, leb-true, ltb-true, ltb-false, not-true}
@@ -33,17 +33,18 @@ high-name x h = rw (is-above 48 57 x (omega arith), is-above 65 90 x (omega arit
 mid-white : (x : ℕ) → 36 ≤ x → x ≤ 122 → isWhite x ≡ false
 unfolding isWhite
 mid-white x h k =
-    rw
-    (is-above 9 13 x (omega arith),
-    ne-eqb x 32 (λ e. absurd (omega arith)),
-    ne-eqb x 133 (λ e. absurd (omega arith)),
-    ne-eqb x 160 (λ e. absurd (omega arith)),
-    ne-eqb x 5760 (λ e. absurd (omega arith)),
-    is-below 8192 8202 x (omega arith),
-    is-below 8232 8233 x (omega arith),
-    ne-eqb x 8239 (λ e. absurd (omega arith)),
-    ne-eqb x 8287 (λ e. absurd (omega arith)),
-    ne-eqb x 12288 (λ e. absurd (omega arith)))
+    rw (
+      is-above 9 13 x (omega arith),
+      ne-eqb x 32 (λ e. absurd (omega arith)),
+      ne-eqb x 133 (λ e. absurd (omega arith)),
+      ne-eqb x 160 (λ e. absurd (omega arith)),
+      ne-eqb x 5760 (λ e. absurd (omega arith)),
+      is-below 8192 8202 x (omega arith),
+      is-below 8232 8233 x (omega arith),
+      ne-eqb x 8239 (λ e. absurd (omega arith)),
+      ne-eqb x 8287 (λ e. absurd (omega arith)),
+      ne-eqb x 12288 (λ e. absurd (omega arith)),
+    )
 
 white-name : (x : ℕ) → isWhite x ≡ true → isName x ≡ false
 white-name x h = go (ltb x 36) refl (ltb 122 x) refl

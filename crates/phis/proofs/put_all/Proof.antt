@@ -1,5 +1,4 @@
 -- `phis::put_all` meets its contract. Assumes nothing.
-use mathlib.Core.Path.{sym, _∙_}
 use Rattle.lines.proofs.Tests.{so}
 use Rattle.phis.proofs.Whole.{whole-room, whole-ended, whole-empty, whole-space, whole-open}
 use borrow.Author.Needs.{needs}

@@ -1,9 +1,9 @@
 -- `phis::put_round` meets its contract. Assumes nothing.
 use native.Mathlib.Omega.{arith}
-use mathlib.Core.Path.{refl, sym, ap}
+use mathlib.Core.Path.{refl, ap}
 use lib.ListN.{length}
 use borrow.Author.Tests.{not-true}
-use Rattle.lines.specs.Lf.{linesOf, unlines}
+use Rattle.lines.specs.Lf.{linesOf}
 use Rattle.lines.proofs.Tests.{so}
 use Rattle.lines.proofs.OutLaws.{wrote-as}
 use Rattle.phis.proofs.TableLaws.{table-tells}

@@ -1,22 +1,19 @@
 -- `phis::put_with` meets its contract. Assumes nothing.
 use Prim.Native.Nat.{_-_}
 use native.Mathlib.Omega.{arith}
-use mathlib.Core.Path.{refl, sym, ap}
-use mathlib.Core.Bool.{true}
+use mathlib.Core.Path.{refl, ap}
 use lib.ListN.{length}
 use borrow.Author.Tests.{not-true, not-false}
-use Rattle.lines.specs.Lf.{linesOf}
 use Rattle.lines.proofs.Tests.{so}
 use Rattle.lines.proofs.OutLaws.{wrote-as, writing-length}
-use Rattle.reading.specs.Reading.{plain}
-use Rattle.phis.proofs.Writes.{line-by, RoundInv, round-start, round-room, round-on, round-end}
+use Rattle.phis.proofs.Writes.{RoundInv, round-start, round-room, round-on, round-end}
 use Rattle.phis.proofs.Whole.{none-round}
 use borrow.Author.Needs.{needs}
 use Rattle.phis.proofs.put_with.Statement.{statement}
 use Rattle.phis.proofs.put_with.Tie as tie
 
 abbrev Inv-loop : tie.InvT-loop
-Inv-loop text table scratch₀ out₀ i₀ o₀ scratch out i o = RoundInv text true scratch₀ out₀ scratch out i o
+Inv-loop text table scratch₀ out₀ i₀ o₀ scratch out i o = RoundInv text scratch₀ out₀ scratch out i o
 
 abbrev μ-loop : tie.MeasureT-loop
 μ-loop text table scratch₀ out₀ i₀ o₀ scratch out i o = length text - i
@@ -34,7 +31,7 @@ returns : tie.Need-returns Inv-loop μ-loop
 returns c = (wrote-as (none-round (c .before .before .before .before .before .before .before .before .before .before .args .text .now) (so (c .before .before .before .before .before .any-dead .ensures) (not-true _ (c .before .before .before .before .if1 .taken)))) (c .before .before .put-all .ensures), refl)
 
 loop-holds : tie.Need-loop-holds Inv-loop μ-loop
-loop-holds c = let pre = c .before .before .before .before .before .before .pre in round-start _ _ _ _ (pre .1 .0) (pre .1 .1) (sym (so (c .before .any-dead .ensures) (not-false _ (c .if1 .left))))
+loop-holds c = let pre = c .before .before .before .before .before .before .pre in round-start _ _ _ (pre .1 .0) (pre .1 .1) (so (c .before .any-dead .ensures) (not-false _ (c .if1 .left)))
 
 find-byte-requires : tie.Need-find-byte-requires Inv-loop μ-loop
 find-byte-requires c κs = search needs
@@ -43,7 +40,7 @@ cut-requires : tie.Need-cut-requires Inv-loop μ-loop
 cut-requires c κs = search needs
 
 put-line-requires : tie.Need-put-line-requires Inv-loop μ-loop
-put-line-requires c κs = let a = c .before .before .before .before .before .before .before .before .before .before .before .before .args in let find-byte = c .before .before .before .find-byte in let cut = c .before .before .cut in let room = round-room (c .before .before .before .before .before .loop .inv) (find-byte .result) (c .before .before .before .before .loop-test .taken) (find-byte .ensures) (cut .result .now) (cut .ensures) in (c .before .before .before .before .before .before .before .before .before .before .before .before .pre .0, (room .0, omega (arith, room .1, ap length (line-by plain true (linesOf (a .text .now)) (cut .result .now) true refl))))
+put-line-requires c κs = let find-byte = c .before .before .before .find-byte in let cut = c .before .before .cut in (c .before .before .before .before .before .before .before .before .before .before .before .before .pre .0, round-room (c .before .before .before .before .before .loop .inv) (find-byte .result) (c .before .before .before .before .loop-test .taken) (find-byte .ensures) (cut .result .now) (cut .ensures))
 
 after-requires : tie.Need-after-requires Inv-loop μ-loop
 after-requires c κs = search needs
@@ -52,7 +49,7 @@ loop-less : tie.Need-loop-less Inv-loop μ-loop
 loop-less c = omega (arith, c .after .ensures, c .before .before .before .before .before .before .before .before .before .find-byte .ensures, c .before .before .before .before .before .before .before .before .before .before .loop-test .taken)
 
 loop-again : tie.Need-loop-again Inv-loop μ-loop
-loop-again c = let a = c .before .before .before .before .before .before .before .before .before .before .before .before .before .before .before .before .before .before .args in let find-byte = c .before .before .before .before .before .before .before .before .before .find-byte in let cut = c .before .before .before .before .before .before .before .before .cut in let put-line = c .before .before .before .before .before .put-line in round-on (c .before .before .before .before .before .before .before .before .before .before .before .loop .inv) (find-byte .result) (c .before .before .before .before .before .before .before .before .before .before .loop-test .taken) (find-byte .ensures) (cut .result .now) (cut .ensures) _ _ _ _ (wrote-as (sym (line-by plain true (linesOf (a .text .now)) (cut .result .now) true refl)) (put-line .ensures .0)) (put-line .ensures .1) (put-line .kept .1 .1 .1 .0) (c .after .ensures)
+loop-again c = let find-byte = c .before .before .before .before .before .before .before .before .before .find-byte in let cut = c .before .before .before .before .before .before .before .before .cut in let put-line = c .before .before .before .before .before .put-line in round-on (c .before .before .before .before .before .before .before .before .before .before .before .loop .inv) (find-byte .result) (c .before .before .before .before .before .before .before .before .before .before .loop-test .taken) (find-byte .ensures) (cut .result .now) (cut .ensures) _ _ _ _ (put-line .ensures .0) (put-line .ensures .1) (put-line .kept .1 .1 .1 .0) (c .after .ensures)
 
 same-length-2 : tie.Need-same-length-2 Inv-loop μ-loop
 same-length-2 c = c .before .loop .inv .same-scratch

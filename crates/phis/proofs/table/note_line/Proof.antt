@@ -1,5 +1,4 @@
 -- `phis::table::note_line` meets its contract. Assumes nothing.
-use mathlib.Core.Path.{sym, _∙_}
 use borrow.Author.Tests.{not-true, not-false}
 use Rattle.lines.proofs.Tests.{so}
 use Rattle.phis.proofs.TableLaws.{line-held, line-decl, line-noted}
