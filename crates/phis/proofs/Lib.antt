@@ -1,7 +1,12 @@
 pub mod Searches
 pub mod Lines
+pub mod Held
+pub mod TrimRuns
+pub mod DeclRuns
+pub mod TableLaws
 pub mod Writes
 pub mod Keeps
+pub mod Whole
 pub mod Rounds
 pub mod Room
 pub mod Examples

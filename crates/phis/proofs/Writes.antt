@@ -26,8 +26,8 @@ use Rattle.decls.specs.Print.{bareName, one, kept, declText}
 use Rattle.decls.proofs.PrintLaws.{after-bare, act-text}
 use Rattle.reading.specs.Reading.{Reading, plain, pureIn}
 use Rattle.reading.specs.Assign.{unended, isAssign, leftOf, rightOf}
-use Rattle.phis.specs.Phis.{isLet, phiDecl, phiStore, deadPhi, deadBy, anyDead, livePhi, livePhis, storeAct, phiAct, phiActs, keeps, roundActs, round}
-use Rattle.phis.specs.Rounds.{liveBy, live, storeText, changeText, lineText}
+use Rattle.phis.specs.Phis.{isLet, phiDecl, phiStore, deadPhi, deadBy, anyDead, livePhi, livePhis, storeAct, phiAct, phiActs, roundActs, round}
+use Rattle.phis.specs.Rounds.{liveBy, live, storeText, changeText}
 
 -- ---- the names that stay
 
@@ -102,10 +102,6 @@ module _ (R : Reading) (ls : List (List ℕ)) (l t indent : List ℕ) (a : ℕ) 
     unfolding changeText phiAct act unlines
     change-keep e d = rw (dead-is false e, sym (ap phiDecl z) ∙ d)
 
-pub line-by : (R : Reading) (b : Bool) (ls : List (List ℕ)) (l : List ℕ) (c : Bool) → b ≡ c → lineText R b ls l ≡ cond c (changeText R ls l) (l ++ 10 ∷ [])
-unfolding lineText
-line-by R b ls l c e = rw e
-
 -- ---- scratch
 
 -- a part is no longer than the whole
@@ -157,79 +153,69 @@ drop-more n m c d h e =
 
 -- ---- the lines that are still to come, as bytes
 
-unfoldable pub toGo : Reading → Bool → List (List ℕ) → List (List ℕ) → List ℕ
-toGo R b ls [] = []
-toGo R b ls (m ∷ ms) = lineText R b ls m ++ toGo R b ls ms
+unfoldable pub toGo : Reading → List (List ℕ) → List (List ℕ) → List ℕ
+toGo R ls [] = []
+toGo R ls (m ∷ ms) = changeText R ls m ++ toGo R ls ms
 
-go-change : (R : Reading) (ls ms : List (List ℕ)) → unlines (apply (phiActs R ls ms) ms) ≡ toGo R true ls ms
-unfolding phiActs apply toGo lineText changeText unlines
+go-change : (R : Reading) (ls ms : List (List ℕ)) → unlines (apply (phiActs R ls ms) ms) ≡ toGo R ls ms
+unfolding phiActs apply toGo changeText unlines
 go-change R ls [] = refl
 go-change R ls (m ∷ ms) =
     unlines-append (act (phiAct R ls m) m) (apply (phiActs R ls ms) ms)
     ∙ ap (λ (r : List ℕ). unlines (act (phiAct R ls m) m) ++ r) (go-change R ls ms)
 
-go-keep : (R : Reading) (ls ms : List (List ℕ)) → unlines (apply (keeps ms) ms) ≡ toGo R false ls ms
-unfolding keeps apply act toGo lineText unlines
-go-keep R ls [] = refl
-go-keep R ls (m ∷ ms) =
-    ap (λ (r : List ℕ). m ++ 10 ∷ r) (go-keep R ls ms) ∙ sym (append-assoc m (10 ∷ []) (toGo R false ls ms))
-
-go-all : (R : Reading) (ls : List (List ℕ)) (b : Bool) → b ≡ anyDead ls ls → unlines (round R ls) ≡ toGo R b ls ls
+go-all : (R : Reading) (ls : List (List ℕ)) → anyDead ls ls ≡ true → unlines (round R ls) ≡ toGo R ls ls
 unfolding round roundActs
-go-all R ls b e = rw (← e) (go b)
-  where
-    go : (c : Bool) → unlines (apply (cond c (phiActs R ls ls) (keeps ls)) ls) ≡ toGo R c ls ls
-    go true = go-change R ls ls
-    go false = go-keep R ls ls
+go-all R ls e = rw e (go-change R ls ls)
 
-go-line : (R : Reading) (b : Bool) (ls : List (List ℕ)) (m : List ℕ) (ms : List (List ℕ)) → toGo R b ls (m ∷ ms) ≡ lineText R b ls m ++ toGo R b ls ms
+go-line : (R : Reading) (ls : List (List ℕ)) (m : List ℕ) (ms : List (List ℕ)) → toGo R ls (m ∷ ms) ≡ changeText R ls m ++ toGo R ls ms
 unfolding toGo
-go-line R b ls m ms = refl
+go-line R ls m ms = refl
 
-go-none : (R : Reading) (b : Bool) (ls : List (List ℕ)) → toGo R b ls [] ≡ []
+go-none : (R : Reading) (ls : List (List ℕ)) → toGo R ls [] ≡ []
 unfolding toGo
-go-none R b ls = refl
+go-none R ls = refl
 
--- ---- the loop of a round
+-- ---- the loop of a round over a text that has a dead phi
 
-pub record RoundInv (t : List ℕ) (b : Bool) (c₀ d₀ c d : List ℕ) (i o : ℕ) : Type 0 where
+pub record RoundInv (t : List ℕ) (c₀ d₀ c d : List ℕ) (i o : ℕ) : Type 0 where
   pub room : length t ≤ length c
   pub i≤ : i ≤ length t
   pub same-scratch : length c ≡ length c₀
-  pub writing : Writing 0 (unlines (round plain (linesOf t))) (toGo plain b (linesOf t) (linesOf (drop i t))) d₀ d o
+  pub writing : Writing 0 (unlines (round plain (linesOf t))) (toGo plain (linesOf t) (linesOf (drop i t))) d₀ d o
   pub memory : drop (length t) c ≡ drop (length t) c₀
 
-pub round-start : (t : List ℕ) (b : Bool) (c d : List ℕ) → length t ≤ length c → length (unlines (round plain (linesOf t))) ≤ length d → b ≡ anyDead (linesOf t) (linesOf t) → RoundInv t b c d c d 0 0
-round-start t b c d h k e = record {
+pub round-start : (t : List ℕ) (c d : List ℕ) → length t ≤ length c → length (unlines (round plain (linesOf t))) ≤ length d → anyDead (linesOf t) (linesOf t) ≡ true → RoundInv t c d c d 0 0
+round-start t c d h k e = record {
   room = h;
   i≤ = omega arith;
   same-scratch = refl;
-  writing = writing-as (go-all plain (linesOf t) b e) (writing-start 0 (unlines (round plain (linesOf t))) d (omega arith));
+  writing = writing-as (go-all plain (linesOf t) e) (writing-start 0 (unlines (round plain (linesOf t))) d (omega arith));
   memory = refl;
 }
 
-module _ {t : List ℕ} {b : Bool} {c₀ d₀ c d : List ℕ} {i o : ℕ} (h : RoundInv t b c₀ d₀ c d i o) where
+module _ {t : List ℕ} {c₀ d₀ c d : List ℕ} {i o : ℕ} (h : RoundInv t c₀ d₀ c d i o) where
   module _ (e : ℕ) (k : i < length t) (q : e ≡ i + upTo 10 (drop i t)) (l : List ℕ) (z : l ≡ part i e t) where
     -- the next line and what follows it
-    next : Writing 0 (unlines (round plain (linesOf t))) (lineText plain b (linesOf t) l ++ toGo plain b (linesOf t) (linesOf (drop (min (e + 1) (length t)) t))) d₀ d o
+    next : Writing 0 (unlines (round plain (linesOf t))) (changeText plain (linesOf t) l ++ toGo plain (linesOf t) (linesOf (drop (min (e + 1) (length t)) t))) d₀ d o
     next =
         writing-as
-        (ap (λ (ms : List (List ℕ)). toGo plain b (linesOf t) ms) (lines-at t i e k q)
-        ∙ go-line plain b (linesOf t) _ _
-        ∙ ap (λ (m : List ℕ). lineText plain b (linesOf t) m ++ toGo plain b (linesOf t) (linesOf (drop (min (e + 1) (length t)) t))) (sym z))
+        (ap (λ (ms : List (List ℕ)). toGo plain (linesOf t) ms) (lines-at t i e k q)
+        ∙ go-line plain (linesOf t) _ _
+        ∙ ap (λ (m : List ℕ). changeText plain (linesOf t) m ++ toGo plain (linesOf t) (linesOf (drop (min (e + 1) (length t)) t))) (sym z))
         (h .writing)
 
     line-le : length l ≤ length t
     line-le = omega (arith, ap length z, part-le i e t)
 
-    pub round-room : (length l ≤ length c) × (o + length (lineText plain b (linesOf t) l) ≤ length d)
+    pub round-room : (length l ≤ length c) × (o + length (changeText plain (linesOf t) l) ≤ length d)
     round-room = (
       omega (arith, line-le, h .room),
-      omega (arith, writing-room next, length-append (lineText plain b (linesOf t) l) (toGo plain b (linesOf t) (linesOf (drop (min (e + 1) (length t)) t)))),
+      omega (arith, writing-room next, length-append (changeText plain (linesOf t) l) (toGo plain (linesOf t) (linesOf (drop (min (e + 1) (length t)) t)))),
     )
 
-    pub round-on : (c′ d′ : List ℕ) (r j : ℕ) → Wrote d o (lineText plain b (linesOf t) l) d′ r → drop (length l) c′ ≡ drop (length l) c → length c′ ≡ length c → j ≡ min (e + 1) (length t) →
-        RoundInv t b c₀ d₀ c′ d′ j r
+    pub round-on : (c′ d′ : List ℕ) (r j : ℕ) → Wrote d o (changeText plain (linesOf t) l) d′ r → drop (length l) c′ ≡ drop (length l) c → length c′ ≡ length c → j ≡ min (e + 1) (length t) →
+        RoundInv t c₀ d₀ c′ d′ j r
     round-on c′ d′ r j w m s x = record {
       room = omega (arith, h .room);
       i≤ = omega arith;
@@ -239,4 +225,4 @@ module _ {t : List ℕ} {b : Bool} {c₀ d₀ c d : List ℕ} {i o : ℕ} (h : R
     }
 
   pub round-end : length t ≤ i → Wrote d₀ 0 (unlines (round plain (linesOf t))) d o
-  round-end k = writing-end (writing-as (ap (λ (ms : List (List ℕ)). toGo plain b (linesOf t) ms) (lines-end t i k) ∙ go-none plain b (linesOf t)) (h .writing))
+  round-end k = writing-end (writing-as (ap (λ (ms : List (List ℕ)). toGo plain (linesOf t) ms) (lines-end t i k) ∙ go-none plain (linesOf t)) (h .writing))

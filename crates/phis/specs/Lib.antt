@@ -1,2 +1,3 @@
 pub mod Phis
 pub mod Rounds
+pub mod Table

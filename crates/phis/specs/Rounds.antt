@@ -30,11 +30,6 @@ unfoldable pub changeText : Reading → List (List ℕ) → List ℕ → List �
 unfolding phiAct act unlines
 changeText R ls l = unlines (act (phiAct R ls l) l)
 
--- the bytes that a line becomes; b says whether the text ls has a dead phi
-unfoldable pub lineText : Reading → Bool → List (List ℕ) → List ℕ → List ℕ
-unfolding changeText
-lineText R b ls l = cond b (changeText R ls l) (l ++ 10 ∷ [])
-
 -- how long the longest text is that a round reads
 unfoldable pub longest : Reading → List ℕ → ℕ
 unfolding round

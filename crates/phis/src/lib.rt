@@ -1,6 +1,8 @@
 // prune_dead_phis: stores of phis that nothing reads go, and their names leave the declarations.
+mod table;
+
 ghost use mathlib.Core.Path.{_≡_};
-ghost use mathlib.Core.Bool.{true, false, not, _||_};
+ghost use mathlib.Core.Bool.{true, false, _||_};
 ghost use mathlib.Core.List.{[], _∷_, _++_};
 ghost use Prim.Native.Nat.{_≤_, _+_, max};
 ghost use lib.ListN.{length, drop, replicate};
@@ -13,7 +15,8 @@ ghost use Rattle.decls.specs.Print.{kept, declText};
 ghost use Rattle.reading.specs.Reading.{plain, pureIn};
 ghost use Rattle.reading.specs.Assign.{isAssign, rightOf};
 ghost use Rattle.phis.specs.Phis.{isLet, isPhi, allPhis, phiDecl, anyPhi, phiStore, phiOwn, phiReads, phiRead, phiStored, deadPhi, deadBy, anyDead, round, pruneDeadPhis};
-ghost use Rattle.phis.specs.Rounds.{live, storeText, changeText, lineText, longest};
+ghost use Rattle.phis.specs.Table.{Tells};
+ghost use Rattle.phis.specs.Rounds.{live, storeText, changeText, longest};
 
 // Whether a name is that of a phi.
 fn is_phi(name: names::PhiName, phi: names::Phi) -> bool
@@ -110,6 +113,9 @@ fn phi_store(t: &[u8]) -> names::PhiName
 fn line_store(line: &[u8]) -> names::PhiName
     ensures { λ r. ⌜ r ≡ phiStore (trimStart (now (line .entry))) ⌝ }
 {
+    if !table::has_phi(line) {
+        return names::PhiName::None;
+    }
     phi_store(text::trim_start(line))
 }
 
@@ -167,7 +173,7 @@ fn phi_stored(text: &[u8], phi: names::Phi) -> bool
 }
 
 // Whether a phi is dead: some line of a text stores it, and none reads it.
-fn dead_phi(text: &[u8], phi: names::Phi) -> bool
+fn search_dead(text: &[u8], phi: names::Phi) -> bool
     ensures { λ r. ⌜ r ≡ deadPhi (phi .0) (linesOf (now (text .entry))) ⌝ }
 {
     if phi_read(text, phi) {
@@ -176,24 +182,38 @@ fn dead_phi(text: &[u8], phi: names::Phi) -> bool
     phi_stored(text, phi)
 }
 
+// The same: the table says so, where it reaches to the phi.
+fn dead_phi(text: &[u8], phi: names::Phi, table: &[u8]) -> bool
+    requires { ⌜ Tells (linesOf (now text)) (now table) ⌝ }
+    ensures { λ r. ⌜ r ≡ deadPhi (phi .0) (linesOf (now (text .entry))) ⌝ }
+{
+    let v = phi.0 as usize;
+    if v < table.len() {
+        return table[v] == 1;
+    }
+    search_dead(text, phi)
+}
+
 // Whether a name is that of a phi that is dead in a text.
-fn dead_by(name: names::PhiName, text: &[u8]) -> bool
+fn dead_by(name: names::PhiName, text: &[u8], table: &[u8]) -> bool
+    requires { ⌜ Tells (linesOf (now text)) (now table) ⌝ }
     ensures { λ r. ⌜ r ≡ deadBy name (linesOf (now (text .entry))) ⌝ }
 {
     match name {
-        names::PhiName::Phi(q) => dead_phi(text, q),
+        names::PhiName::Phi(q) => dead_phi(text, q, table),
         names::PhiName::None => false,
     }
 }
 
 // Whether some line of a text stores a phi that is dead.
-fn any_dead(text: &[u8]) -> bool
+fn any_dead(text: &[u8], table: &[u8]) -> bool
+    requires { ⌜ Tells (linesOf (now text)) (now table) ⌝ }
     ensures { λ r. ⌜ r ≡ anyDead (linesOf (now (text .entry))) (linesOf (now (text .entry))) ⌝ }
 {
     let mut i = 0;
     while i < text.len() {
         let e = lines::find_byte(text, i, 10);
-        if dead_by(line_store(lines::cut(text, i, e)), text) {
+        if dead_by(line_store(lines::cut(text, i, e)), text, table) {
             return true;
         }
         i = lines::after(text, e);
@@ -202,18 +222,26 @@ fn any_dead(text: &[u8]) -> bool
 }
 
 // Whether a text names a phi that is not dead.
-fn is_live(t: &[u8], text: &[u8]) -> bool
+fn is_live(t: &[u8], text: &[u8], table: &[u8]) -> bool
+    requires { ⌜ Tells (linesOf (now text)) (now table) ⌝ }
     ensures { λ r. ⌜ r ≡ live (linesOf (now (text .entry))) (now (t .entry)) ⌝ }
 {
     match names::phi_name(t) {
-        names::PhiName::Phi(q) => !dead_phi(text, q),
+        names::PhiName::Phi(q) => !dead_phi(text, q, table),
         names::PhiName::None => false,
     }
 }
 
 // Writes a declaration of phis anew, with its LF, without those that are dead; nothing where none is left.
-fn put_decl(body: &[u8], indent: &[u8], text: &[u8], out: &mut [u8], o: usize) -> usize
-    requires { ⌜ o + length (declText (now indent) (kept (live (linesOf (now text))) 3 (partsOf 44 (now body))) false) ≤ length (now out) ⌝ }
+fn put_decl(
+    body: &[u8],
+    indent: &[u8],
+    text: &[u8],
+    table: &[u8],
+    out: &mut [u8],
+    o: usize,
+) -> usize
+    requires { ⌜ (Tells (linesOf (now text)) (now table)) × (o + length (declText (now indent) (kept (live (linesOf (now text))) 3 (partsOf 44 (now body))) false) ≤ length (now out)) ⌝ }
     ensures { λ r. ⌜ Wrote (now (out .entry)) o (declText (now (indent .entry)) (kept (live (linesOf (now (text .entry)))) 3 (partsOf 44 (now (body .entry)))) false) (now (out .exit)) r ⌝ }
 {
     let mut i = 0;
@@ -221,7 +249,7 @@ fn put_decl(body: &[u8], indent: &[u8], text: &[u8], out: &mut [u8], o: usize) -
     loop {
         let e = lines::find_byte(body, i, b',');
         let t = text::trim(lines::cut(body, i, e));
-        let s = is_live(t, text);
+        let s = is_live(t, text, table);
         p = decls::print::put_part(indent, o < p, s, t, 3, out, p);
         if e >= body.len() {
             return decls::print::put_end(o < p, out, p);
@@ -280,39 +308,80 @@ fn put_whole(line: &[u8], out: &mut [u8], o: usize) -> usize
 }
 
 // Writes what a line becomes, in a text that has a dead phi.
-fn put_change(line: &[u8], text: &[u8], scratch: &mut [u8], out: &mut [u8], o: usize) -> usize
-    requires { ⌜ (length (now line) ≤ length (now scratch)) × (o + length (changeText plain (linesOf (now text)) (now line)) ≤ length (now out)) ⌝ }
+fn put_change(
+    line: &[u8],
+    text: &[u8],
+    table: &[u8],
+    scratch: &mut [u8],
+    out: &mut [u8],
+    o: usize,
+) -> usize
+    requires { ⌜ (Tells (linesOf (now text)) (now table)) × ((length (now line) ≤ length (now scratch)) × (o + length (changeText plain (linesOf (now text)) (now line)) ≤ length (now out))) ⌝ }
     ensures answer { λ r. ⌜ Wrote (now (out .entry)) o (changeText plain (linesOf (now (text .entry))) (now (line .entry))) (now (out .exit)) r ⌝ }
     ensures memory { λ _. ⌜ drop (length (now (line .entry))) (now (scratch .exit)) ≡ drop (length (now (line .entry))) (now (scratch .entry)) ⌝ }
 {
     let t = text::trim_start(line);
     let indent = lines::cut(line, 0, text::trim_from(line));
-    if dead_by(phi_store(t), text) {
+    if dead_by(phi_store(t), text, table) {
         return put_store(t, indent, scratch, out, o);
     }
     if phi_decl(t) {
-        return put_decl(lines::cut(t, 4, t.len() - 1), indent, text, out, o);
+        return put_decl(lines::cut(t, 4, t.len() - 1), indent, text, table, out, o);
     }
     put_whole(line, out, o)
 }
 
-// Writes what a line becomes; `some` says whether the text has a dead phi.
+// Writes what a line becomes, in a text that has a dead phi: a line without the letters `phi` stays.
 fn put_line(
     line: &[u8],
     text: &[u8],
-    some: bool,
+    table: &[u8],
     scratch: &mut [u8],
     out: &mut [u8],
     o: usize,
 ) -> usize
-    requires { ⌜ (length (now line) ≤ length (now scratch)) × (o + length (lineText plain some (linesOf (now text)) (now line)) ≤ length (now out)) ⌝ }
-    ensures answer { λ r. ⌜ Wrote (now (out .entry)) o (lineText plain some (linesOf (now (text .entry))) (now (line .entry))) (now (out .exit)) r ⌝ }
+    requires { ⌜ (Tells (linesOf (now text)) (now table)) × ((length (now line) ≤ length (now scratch)) × (o + length (changeText plain (linesOf (now text)) (now line)) ≤ length (now out))) ⌝ }
+    ensures answer { λ r. ⌜ Wrote (now (out .entry)) o (changeText plain (linesOf (now (text .entry))) (now (line .entry))) (now (out .exit)) r ⌝ }
     ensures memory { λ _. ⌜ drop (length (now (line .entry))) (now (scratch .exit)) ≡ drop (length (now (line .entry))) (now (scratch .entry)) ⌝ }
 {
-    if some {
-        return put_change(line, text, scratch, out, o);
+    if table::has_phi(line) {
+        return put_change(line, text, table, scratch, out, o);
     }
     put_whole(line, out, o)
+}
+
+// Writes the lines of a text as they are, each with its LF.
+fn put_all(text: &[u8], out: &mut [u8]) -> usize
+    requires { ⌜ length (unlines (linesOf (now text))) ≤ length (now out) ⌝ }
+    ensures { λ r. ⌜ Wrote (now (out .entry)) 0 (unlines (linesOf (now (text .entry)))) (now (out .exit)) r ⌝ }
+{
+    let p = lines::put(out, 0, text);
+    if lines::ends_lf(text) {
+        return p;
+    }
+    if text.len() == 0 {
+        return p;
+    }
+    lines::put_byte(out, p, 10)
+}
+
+// Writes one round, with its table. Of the scratch only as much is used as the text is long.
+fn put_with(text: &[u8], table: &[u8], scratch: &mut [u8], out: &mut [u8]) -> usize
+    requires { ⌜ (Tells (linesOf (now text)) (now table)) × ((length (now text) ≤ length (now scratch)) × (length (unlines (round plain (linesOf (now text)))) ≤ length (now out))) ⌝ }
+    ensures answer { λ r. ⌜ Wrote (now (out .entry)) 0 (unlines (round plain (linesOf (now (text .entry))))) (now (out .exit)) r ⌝ }
+    ensures memory { λ _. ⌜ drop (length (now (text .entry))) (now (scratch .exit)) ≡ drop (length (now (text .entry))) (now (scratch .entry)) ⌝ }
+{
+    if !any_dead(text, table) {
+        return put_all(text, out);
+    }
+    let mut i = 0;
+    let mut o = 0;
+    while i < text.len() {
+        let e = lines::find_byte(text, i, 10);
+        o = put_line(lines::cut(text, i, e), text, table, scratch, out, o);
+        i = lines::after(text, e);
+    }
+    o
 }
 
 // Writes one round. Of the scratch only as much is used as the text is long.
@@ -321,15 +390,12 @@ fn put_round(text: &[u8], scratch: &mut [u8], out: &mut [u8]) -> usize
     ensures answer { λ r. ⌜ Wrote (now (out .entry)) 0 (unlines (round plain (linesOf (now (text .entry))))) (now (out .exit)) r ⌝ }
     ensures memory { λ _. ⌜ drop (length (now (text .entry))) (now (scratch .exit)) ≡ drop (length (now (text .entry))) (now (scratch .entry)) ⌝ }
 {
-    let some = any_dead(text);
-    let mut i = 0;
-    let mut o = 0;
-    while i < text.len() {
-        let e = lines::find_byte(text, i, 10);
-        o = put_line(lines::cut(text, i, e), text, some, scratch, out, o);
-        i = lines::after(text, e);
+    if !table::has_phi(text) {
+        return put_all(text, out);
     }
-    o
+    let mut table = [0u8; 1024];
+    table::note_lines(text, &mut table);
+    put_with(text, &table, scratch, out)
 }
 
 // Writes zeros over the first n bytes.

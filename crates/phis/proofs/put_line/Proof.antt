@@ -1,21 +1,20 @@
 -- `phis::put_line` meets its contract. Assumes nothing.
 use native.Mathlib.Omega.{arith}
-use borrow.Author.Needs.{needs}
 use mathlib.Core.Path.{refl, sym, ap}
-use mathlib.Core.Bool.{true, false}
 use lib.ListN.{length}
 use Rattle.lines.specs.Lf.{linesOf}
+use Rattle.lines.proofs.Tests.{so}
 use Rattle.lines.proofs.OutLaws.{wrote-as}
-use Rattle.reading.specs.Reading.{plain}
-use Rattle.phis.proofs.Writes.{line-by}
+use Rattle.phis.proofs.Whole.{held-change}
+use borrow.Author.Needs.{needs}
 use Rattle.phis.proofs.put_line.Statement.{statement}
 use Rattle.phis.proofs.put_line.Tie as tie
 
+has-phi-requires : tie.Need-has-phi-requires
+has-phi-requires c κs = search needs
+
 put-change-requires : tie.Need-put-change-requires
-put-change-requires c κs =
-    let pre = c .before .before .before .before .before .before .before .pre in
-    let a = c .before .before .before .before .before .before .before .args in
-    (pre .0, omega (arith, pre .1, ap length (line-by plain (a .some) (linesOf (a .text .now)) (a .line .now) true (c .before .before .if1 .taken))))
+put-change-requires c κs = search needs
 
 same-length : tie.Need-same-length
 same-length c = search needs
@@ -24,28 +23,22 @@ same-length-2 : tie.Need-same-length-2
 same-length-2 c = search needs
 
 returns : tie.Need-returns
-returns c =
-    let a = c .before .before .before .before .before .before .before .before .before .before .before .before .args in
-    let put-change = c .before .before .before .before .put-change in
-    (wrote-as (sym (line-by plain (a .some) (linesOf (a .text .now)) (a .line .now) true (c .before .before .before .before .before .before .before .if1 .taken))) (put-change .ensures .0), put-change .ensures .1)
+returns c = search needs
 
 put-whole-requires : tie.Need-put-whole-requires
-put-whole-requires c κs =
-    let a = c .before .before .before .before .before .before .args in
-    omega (arith, c .before .before .before .before .before .before .pre .1, ap length (line-by plain (a .some) (linesOf (a .text .now)) (a .line .now) false (c .before .if1 .left)))
+put-whole-requires c κs = let a = c .before .before .before .before .before .before .before .before .args in omega (arith, c .before .before .before .before .before .before .before .before .pre .1 .1, ap length (held-change (linesOf (a .text .now)) (a .line .now) (so (c .before .before .has-phi .ensures) (c .before .if1 .left))))
 
 same-length-3 : tie.Need-same-length-3
 same-length-3 c = search needs
 
 returns-2 : tie.Need-returns-2
-returns-2 c =
-    let a = c .before .before .before .before .before .before .before .before .before .args in
-    (wrote-as (sym (line-by plain (a .some) (linesOf (a .text .now)) (a .line .now) false (c .before .before .before .before .if1 .left))) (c .before .before .put-whole .ensures), refl)
+returns-2 c = let a = c .before .before .before .before .before .before .before .before .before .before .before .args in (wrote-as (sym (held-change (linesOf (a .text .now)) (a .line .now) (so (c .before .before .before .before .before .has-phi .ensures) (c .before .before .before .before .if1 .left)))) (c .before .before .put-whole .ensures), refl)
 
 pub put-line-spec : {M : Type 1} → statement M
 put-line-spec =
     tie.close
     (tie.spec
+    has-phi-requires
     put-change-requires
     same-length
     same-length-2

@@ -1,75 +1,62 @@
 -- `phis::put_round` meets its contract. Assumes nothing.
-use Prim.Native.Nat.{_-_}
 use native.Mathlib.Omega.{arith}
-use borrow.Author.Needs.{needs}
+use mathlib.Core.Path.{refl, ap}
 use lib.ListN.{length}
-use Rattle.lines.proofs.OutLaws.{writing-length}
-use Rattle.phis.proofs.Writes.{RoundInv, round-start, round-room, round-on, round-end}
+use borrow.Author.Tests.{not-true}
+use Rattle.lines.specs.Lf.{linesOf}
+use Rattle.lines.proofs.Tests.{so}
+use Rattle.lines.proofs.OutLaws.{wrote-as}
+use Rattle.phis.proofs.TableLaws.{table-tells}
+use Rattle.phis.proofs.Whole.{held-round}
+use borrow.Author.Needs.{needs}
 use Rattle.phis.proofs.put_round.Statement.{statement}
 use Rattle.phis.proofs.put_round.Tie as tie
 
-abbrev Inv-loop : tie.InvT-loop
-Inv-loop text scratch₀ out₀ some i₀ o₀ scratch out i o = RoundInv text some scratch₀ out₀ scratch out i o
+has-phi-requires : tie.Need-has-phi-requires
+has-phi-requires c κs = search needs
 
-abbrev μ-loop : tie.MeasureT-loop
-μ-loop text scratch₀ out₀ some i₀ o₀ scratch out i o = length text - i
+put-all-requires : tie.Need-put-all-requires
+put-all-requires c κs = omega (arith, c .before .before .before .before .before .before .pre .1, ap length (held-round (c .before .before .before .before .before .before .args .text .now) (so (c .before .before .has-phi .ensures) (not-true _ (c .before .if1 .taken)))))
 
-any-dead-requires : tie.Need-any-dead-requires Inv-loop μ-loop
-any-dead-requires c κs = search needs
+same-length : tie.Need-same-length
+same-length c = search needs
 
-loop-holds : tie.Need-loop-holds Inv-loop μ-loop
-loop-holds c =
-    let pre = c .before .before .before .before .pre in
-    round-start _ _ _ _ (pre .0) (pre .1) (c .any-dead .ensures)
+returns : tie.Need-returns
+returns c = (wrote-as (held-round (c .before .before .before .before .before .before .before .before .before .args .text .now) (so (c .before .before .before .before .before .has-phi .ensures) (not-true _ (c .before .before .before .before .if1 .taken)))) (c .before .before .put-all .ensures), refl)
 
-find-byte-requires : tie.Need-find-byte-requires Inv-loop μ-loop
-find-byte-requires c κs = search needs
+slice-aggregate-note-lines : tie.Need-slice-aggregate-note-lines
+slice-aggregate-note-lines c = search needs
 
-cut-requires : tie.Need-cut-requires Inv-loop μ-loop
-cut-requires c κs = search needs
+note-lines-requires : tie.Need-note-lines-requires
+note-lines-requires c κs = search needs
 
-put-line-requires : tie.Need-put-line-requires Inv-loop μ-loop
-put-line-requires c κs =
-    let find-byte = c .before .before .before .find-byte in
-    let cut = c .before .before .cut in
-    round-room (c .before .before .before .before .before .loop .inv) (find-byte .result) (c .before .before .before .before .loop-test .taken) (find-byte .ensures) (cut .result .now) (cut .ensures)
+slice-aggregate-put-with : tie.Need-slice-aggregate-put-with
+slice-aggregate-put-with c = search needs
 
-after-requires : tie.Need-after-requires Inv-loop μ-loop
-after-requires c κs = search needs
+put-with-requires : tie.Need-put-with-requires
+put-with-requires c κs = (table-tells (linesOf (c .before .before .before .before .before .before .before .before .before .before .before .args .text .now)) 1024 _ (omega arith) (c .before .before .before .before .note-lines .ensures), c .before .before .before .before .before .before .before .before .before .before .before .pre)
 
-loop-less : tie.Need-loop-less Inv-loop μ-loop
-loop-less c = omega (arith, c .after .ensures, c .before .before .before .before .before .before .before .before .before .find-byte .ensures, c .before .before .before .before .before .before .before .before .before .before .loop-test .taken)
+same-length-2 : tie.Need-same-length-2
+same-length-2 c = search needs
 
-loop-again : tie.Need-loop-again Inv-loop μ-loop
-loop-again c =
-    let find-byte = c .before .before .before .before .before .before .before .before .before .find-byte in
-    let cut = c .before .before .before .before .before .before .before .before .cut in
-    let put-line = c .before .before .before .before .before .put-line in
-    round-on (c .before .before .before .before .before .before .before .before .before .before .before .loop .inv) (find-byte .result) (c .before .before .before .before .before .before .before .before .before .before .loop-test .taken) (find-byte .ensures) (cut .result .now) (cut .ensures) _ _ _ _ (put-line .ensures .0) (put-line .ensures .1) (put-line .kept .1 .1 .1 .0) (c .after .ensures)
+same-length-3 : tie.Need-same-length-3
+same-length-3 c = search needs
 
-same-length : tie.Need-same-length Inv-loop μ-loop
-same-length c = c .before .loop .inv .same-scratch
-
-same-length-2 : tie.Need-same-length-2 Inv-loop μ-loop
-same-length-2 c = writing-length (c .before .loop .inv .writing)
-
-returns : tie.Need-returns Inv-loop μ-loop
-returns c = (round-end (c .before .loop .inv) (c .loop-test .left), c .before .loop .inv .memory)
+returns-2 : tie.Need-returns-2
+returns-2 c = search needs
 
 pub put-round-spec : {M : Type 1} → statement M
 put-round-spec =
     tie.close
     (tie.spec
-    Inv-loop
-    μ-loop
-    any-dead-requires
-    loop-holds
-    find-byte-requires
-    cut-requires
-    put-line-requires
-    after-requires
-    loop-less
-    loop-again
+    has-phi-requires
+    put-all-requires
     same-length
+    returns
+    slice-aggregate-note-lines
+    note-lines-requires
+    slice-aggregate-put-with
+    put-with-requires
     same-length-2
-    returns)
+    same-length-3
+    returns-2)
