@@ -12,3 +12,4 @@ pub mod Room
 pub mod Examples
 pub mod NotedLaws
 pub mod NotedFills
+pub mod CallLaws

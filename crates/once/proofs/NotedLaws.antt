@@ -5,7 +5,7 @@ use mathlib.Core.Bool.{Bool, true, false, cond, not, _&&_, _||_}
 use mathlib.Core.List.{List, [], _∷_, _++_}
 use native.Mathlib.Omega.{arith}
 use native.Mathlib.Numerals.{add-one}
-use borrow.Author.Tests.{lt-ltb, le-ltb, ltb-true, ltb-false, eq-eqb, eqb-true, eqb-false}
+use borrow.Author.Tests.{lt-ltb, le-ltb, ltb-true, ltb-false, eqb-true, eqb-false}
 use lib.Dec.{eqb, ltb}
 use lib.ListN.{length, drop, getD, set, replicate, length-set, drop-of-length-le}
 use lib.Seq.{drop-cons, drop-drop, getD-set-same, getD-set-other}
@@ -24,9 +24,9 @@ use Rattle.place.specs.Region.{isHeader, untilHeader, region, regionAt}
 use Rattle.reading.specs.Uses.{lineReads, storesBy, lineStores, lineUses, usedIn}
 use Rattle.decls.specs.Seen.{markName, markRuns, markStore, markLine}
 use Rattle.decls.proofs.SeenLaws.{name-length, line-length, zeros-most}
-use Rattle.once.specs.Once.{Next, none, readCount, laterRead}
+use Rattle.once.specs.Once.{none, readCount, laterRead}
 use Rattle.once.specs.Tables.{nextIn}
-use Rattle.once.specs.Noted.{rowLines, quiet, NoneFrom, NoneBelow, bump, addName, addRuns, addLine, addLines, alone, OneIn, OneAt, OneOf}
+use Rattle.once.specs.Noted.{rowLines, quiet, NoneFrom, NoneBelow, bump, addName, addRuns, addLine, addLines, alone, OneAt, OneOf}
 
 -- ---- an entry that is above n stays above, where the marks are above
 

@@ -2,7 +2,7 @@
 use Prim.Native.Nat.{ℕ, _+_, _≤_}
 use mathlib.Core.Path.{_≡_}
 use mathlib.Core.Bool.{Bool, true, false, cond, not, _&&_, _||_}
-use mathlib.Core.List.{List, [], _∷_}
+use mathlib.Core.List.{List, [], _∷_, _++_}
 use lib.Dec.{eqb, ltb}
 use lib.ListN.{length, take, drop, replicate}
 use Rattle.parse.specs.Parse.{parseOf, textOf}
@@ -14,7 +14,7 @@ use Rattle.words.specs.declared.Hit.{Hit}
 use Rattle.words.specs.declared.Hit.the-variants as hit
 use Rattle.reading.specs.Reading.{Reading, pureIn}
 use Rattle.lines.specs.Acts.{Act, keep, become, into, gone}
-use Rattle.lines.specs.Lf.{part}
+use Rattle.lines.specs.Lf.{part, holds}
 use Rattle.text.specs.declared.Span.{Span}
 use Rattle.place.specs.Region.{isHeader, region, regionAt, regionLen}
 use Rattle.place.specs.Blocks.{top}
@@ -38,6 +38,13 @@ nextIn v (l ∷ ls) (p ∷ ps) =
     let more = nextIn v ls ps in
     let stored = cond (lineStores v l) (write p) more in
     cond (isHeader l) none (cond (ltb 0 (lineReads v l)) read stored)
+
+-- some line of the region holds the call of x, `x(`
+unfoldable pub anyCall : List ℕ → List (List ℕ) → Bool
+anyCall x [] = false
+anyCall x (l ∷ ls) =
+    let more = anyCall x ls in
+    cond (isHeader l) false (holds (x ++ 40 ∷ []) l || more)
 
 -- ---- the same tests on one line, over the lines below it and their numbers
 

@@ -17,7 +17,7 @@ ghost use Rattle.once.specs.Once.{deadBy, readCount, laterRead, firstOf,
 ghost use Rattle.words.specs.Hits.{regHit, replaceReg};
 ghost use Rattle.reading.specs.Reading.{plain, pureIn};
 ghost use Rattle.reading.specs.Uses.{lineReads};
-ghost use Rattle.once.specs.Tables.{readBelow, nextIn, Blank, hasHit, storeDrops, lineDrops, storeForwards, lineForwards, onceMarks, actBy, actsBy, firstDrops, firstTakes, markBy, marksOf, areaAt};
+ghost use Rattle.once.specs.Tables.{readBelow, anyCall, nextIn, Blank, hasHit, storeDrops, lineDrops, storeForwards, lineForwards, onceMarks, actBy, actsBy, firstDrops, firstTakes, markBy, marksOf, areaAt};
 ghost use Rattle.once.specs.Noted.{NoneFrom, NoneBelow, OneIn, OneAt, OneOf};
 ghost use Rattle.place.specs.Fill.{Filled, flagsOf};
 ghost use Rattle.place.specs.Loops.{insideLoop};
@@ -82,6 +82,36 @@ fn holds_call(s: &[u8], x: &[u8]) -> bool
     false
 }
 
+// The same; a line without `(` does not.
+fn line_calls(s: &[u8], x: &[u8]) -> bool
+    ensures { λ r. ⌜ r ≡ holds (now (x .entry) ++ 40 ∷ []) (now (s .entry)) ⌝ }
+{
+    let k = lines::find_byte(s, 0, b'(');
+    if k >= s.len() {
+        return false;
+    }
+    holds_call(s, x)
+}
+
+// Whether a line of the region holds `x(`.
+fn any_call(text: &[u8], x: &[u8]) -> bool
+    ensures { λ r. ⌜ r ≡ anyCall (now (x .entry)) (linesOf (now (text .entry))) ⌝ }
+{
+    let mut i = 0;
+    while i < text.len() {
+        let e = lines::find_byte(text, i, 10);
+        let line = lines::cut(text, i, e);
+        if place::is_header(line) {
+            return false;
+        }
+        if line_calls(line, x) {
+            return true;
+        }
+        i = lines::after(text, e);
+    }
+    false
+}
+
 // Whether a line changes an object: it stores the register that the object is, or mentions the name that it is.
 fn changes(line: &[u8], obj: &[u8]) -> bool
     requires { ⌜ isIdent (now obj) ≡ true ⌝ }
@@ -129,6 +159,9 @@ fn scratch_at(x: &[u8], reg: names::Register, below: &[u8]) -> bool
         return false;
     }
     if read_below(below, reg, false) {
+        return false;
+    }
+    if !any_call(below, x) {
         return false;
     }
     let k = lines::find_byte(x, 0, b'.');

@@ -1,6 +1,6 @@
 // Two tables over registers: of the last line that uses each one, and of how often the lines read it, up to 2.
 ghost use mathlib.Core.Path.{_≡_};
-ghost use lib.ListN.{length, set, getD};
+ghost use lib.ListN.{set, getD};
 ghost use Rattle.lines.specs.Lf.{linesOf};
 ghost use Rattle.names.specs.Names.{regOf};
 ghost use Rattle.words.specs.Runs.{runs};

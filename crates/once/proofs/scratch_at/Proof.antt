@@ -3,6 +3,7 @@ use mathlib.Core.Path.{_≡_, sym, ap, _∙_}
 use mathlib.Core.Bool.{true}
 use borrow.Author.Tests.{not-true, not-false}
 use Rattle.names.specs.Names.{isIdent}
+use Rattle.once.proofs.CallLaws.{any-none}
 use Rattle.once.proofs.Scratches.{member-object, object-at, scratch-no, scratch-live, scratch-called}
 use Rattle.once.proofs.Searches.{below-live}
 use Rattle.once.proofs.scratch_at.Statement.{statement}
@@ -32,6 +33,12 @@ returns-2 : tie.Need-returns-2
 returns-2 c = sym (scratch-live _ _ _ (sym (c .before .before .before .is-member .ensures) ∙ not-false _ (c .before .before .if1 .left)) (sym (below-live _ _) ∙ sym (c .before .read-below .ensures) ∙ c .if2 .taken))
 
 -- src/lib.rt:119:9
+any-call-requires : tie.Need-any-call-requires
+any-call-requires c κs = search needs
+
+returns-3 : tie.Need-returns-3
+returns-3 c = sym (sym (scratch-called _ _ _ (sym (c .before .before .before .before .before .is-member .ensures) ∙ not-false _ (c .before .before .before .before .if1 .left)) (sym (below-live _ _) ∙ sym (c .before .before .before .read-below .ensures) ∙ c .before .before .if2 .left)) ∙ any-none _ _ (sym (c .before .any-call .ensures) ∙ not-true _ (c .if3 .taken)))
+
 find-byte-requires : tie.Need-find-byte-requires
 find-byte-requires c κs = search needs
 
@@ -42,13 +49,13 @@ cut-requires c κs = search needs
 -- src/lib.rt:120:5
 called-below-requires : tie.Need-called-below-requires
 called-below-requires c κs =
-    let a = c .before .before .before .before .before .before .before .before .args in
+    let a = c .before .before .before .before .before .before .before .before .before .before .args in
     let o = c .cut .ensures ∙ object-at (a .x .now) (c .before .find-byte .result) (c .before .find-byte .ensures) in
-    (o, ap isIdent o ∙ member-object (a .x .now) (sym (c .before .before .before .before .before .is-member .ensures) ∙ not-false _ (c .before .before .before .before .if1 .left)))
+    (o, ap isIdent o ∙ member-object (a .x .now) (sym (c .before .before .before .before .before .before .before .is-member .ensures) ∙ not-false _ (c .before .before .before .before .before .before .if1 .left)))
 
 -- src/lib.rt:110:1
-returns-3 : tie.Need-returns-3
-returns-3 c = c .called-below .ensures ∙ scratch-called _ _ _ (sym (c .before .before .before .before .before .before .is-member .ensures) ∙ not-false _ (c .before .before .before .before .before .if1 .left)) (sym (below-live _ _) ∙ sym (c .before .before .before .before .read-below .ensures) ∙ c .before .before .before .if2 .left)
+returns-4 : tie.Need-returns-4
+returns-4 c = c .called-below .ensures ∙ scratch-called _ _ _ (sym (c .before .before .before .before .before .before .before .before .is-member .ensures) ∙ not-false _ (c .before .before .before .before .before .before .before .if1 .left)) (sym (below-live _ _) ∙ sym (c .before .before .before .before .before .before .read-below .ensures) ∙ c .before .before .before .before .before .if2 .left)
 
 pub scratch-at-spec : {M : Type 1} → statement M
 scratch-at-spec =
@@ -58,7 +65,9 @@ scratch-at-spec =
     returns
     read-below-requires
     returns-2
+    any-call-requires
+    returns-3
     find-byte-requires
     cut-requires
     called-below-requires
-    returns-3)
+    returns-4)
