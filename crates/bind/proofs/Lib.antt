@@ -1,4 +1,6 @@
 pub mod CountLaws
 pub mod SiteLaws
 pub mod WalkLaws
+pub mod IndexLaws
+pub mod ToldLaws
 pub mod Examples

@@ -1,4 +1,6 @@
 // bind_declarators: a register that is declared and stored once leaves its declaration, and its store becomes one.
+mod index;
+
 ghost use mathlib.Core.Path.{_≡_};
 ghost use mathlib.Core.Bool.{true, false, cond, _&&_};
 ghost use mathlib.Core.List.{[], _∷_, _++_};
