@@ -3,4 +3,5 @@ pub mod SiteLaws
 pub mod WalkLaws
 pub mod IndexLaws
 pub mod ToldLaws
+pub mod IndexWalk
 pub mod Examples
