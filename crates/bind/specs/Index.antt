@@ -10,14 +10,14 @@ use Rattle.text.specs.Trim.{trimOf}
 use Rattle.names.specs.Names.{regOf}
 use Rattle.names.specs.declared.RegName.{RegName}
 use Rattle.names.specs.declared.RegName.the-variants as name
-use Rattle.parse.specs.Parse.{parseOf, textOf}
+use Rattle.parse.specs.Parse.{isDecl, parseOf, textOf}
 use Rattle.parse.specs.declared.Line.{Line}
 use Rattle.parse.specs.declared.Line.the-variants as line
 use Rattle.words.specs.Runs.{runs}
 use Rattle.decls.specs.Seen.{markName}
 use Rattle.bind.specs.declared.Site.{Site}
 use Rattle.bind.specs.Bind.{piecesOf}
-use Rattle.bind.specs.Steps.{belowOf, boundAt, markRow}
+use Rattle.bind.specs.Steps.{belowOf, boundAt, markRow, Reach}
 
 -- ---- first stores: an entry below b is none of this region, and b stands for a register that is stored again, or read before it is stored
 
@@ -111,3 +111,11 @@ pub record Told (t : List ℕ) (s : Site) (bs ss d u : List ℕ) : Type 0 where
   pub fits : (v : ℕ) → getD u v 0 ≤ s .row + suc (length (belowOf t s))
   pub says : (v : ℕ) → v < length u → asked bs ss (s .top) (s .row) (getD d v 0) (getD u v 0) ≡ boundAt t s bs ss v
   pub row : (v : ℕ) → v < length u → boundAt t s bs ss v ≡ true → getD u v 0 ≡ suc (markRow t s v)
+
+-- and the tables reach far enough
+abbrev pub Ready : List ℕ → Site → List ℕ → List ℕ → List ℕ → List ℕ → Type 0
+Ready t s bs ss d u = (Reach t s bs ss) × (Told t s bs ss d u)
+
+-- the same, but of a trimmed line l that is a declaration alone
+abbrev pub ReadyFor : List ℕ → List ℕ → Site → List ℕ → List ℕ → List ℕ → List ℕ → Type 0
+ReadyFor l t s bs ss d u = (Reach t s bs ss) × (isDecl l ≡ true → Told t s bs ss d u)

@@ -20,10 +20,10 @@ use Rattle.lines.proofs.find_byte.Reads as find-byte-reads
 use Rattle.text.proofs.trim.Reads as trim-reads
 
 abbrev Inv-loop : tie.InvT-loop
-Inv-loop body text s blocks starts i₀ i = (i ≤ length body) × (anyPass (boundAt text s blocks starts) (partsOf 44 (drop i body)) ≡ anyPass (boundAt text s blocks starts) (partsOf 44 body))
+Inv-loop body text s blocks starts seen first i₀ i = (i ≤ length body) × (anyPass (boundAt text s blocks starts) (partsOf 44 (drop i body)) ≡ anyPass (boundAt text s blocks starts) (partsOf 44 body))
 
 abbrev μ-loop : tie.MeasureT-loop
-μ-loop body text s blocks starts i₀ i = length body - i
+μ-loop body text s blocks starts seen first i₀ i = length body - i
 
 -- src/lib.rt:228:5
 loop-holds : tie.Need-loop-holds Inv-loop μ-loop
@@ -43,17 +43,17 @@ trim-requires c κs = search needs
 
 -- src/lib.rt:230:12
 is-bound-requires : tie.Need-is-bound-requires Inv-loop μ-loop
-is-bound-requires c κs = c .before .before .before .before .before .before .before .before .pre
+is-bound-requires c κs = c .before .before .before .before .before .before .before .before .before .before .pre
 
 -- src/lib.rt:231:13
 returns : tie.Need-returns Inv-loop μ-loop
-returns c = let a = c .before .before .before .before .before .before .before .before .before .before .args in
+returns c = let a = c .before .before .before .before .before .before .before .before .before .before .before .before .args in
     let f = c .before .before .before .before .find-byte in
     sym (pass-hit (boundAt (a .text .now) (a .s) (a .blocks .now) (a .starts .now)) (a .body .now) (c .before .before .before .before .before .loop .i) (f .result) (c .before .before .before .before .before .loop .inv .0) (f .ensures) (c .before .is-bound .result) (c .before .is-bound .ensures ∙ ap (λ (t : List ℕ). passes (boundAt (a .text .now) (a .s) (a .blocks .now) (a .starts .now)) (regOf t)) (c .before .before .trim .ensures .0 ∙ ap trimOf (c .before .before .before .cut .ensures))) (c .if1 .taken)) ∙ c .before .before .before .before .before .loop .inv .1
 
 -- src/lib.rt:234:13
 returns-2 : tie.Need-returns-2 Inv-loop μ-loop
-returns-2 c = let a = c .before .before .before .before .before .before .before .before .before .before .before .args in
+returns-2 c = let a = c .before .before .before .before .before .before .before .before .before .before .before .before .before .args in
     let f = c .before .before .before .before .before .find-byte in
     sym (pass-last (boundAt (a .text .now) (a .s) (a .blocks .now) (a .starts .now)) (a .body .now) (c .before .before .before .before .before .before .loop .i) (f .result) (c .before .before .before .before .before .before .loop .inv .0) (f .ensures) (c .before .before .is-bound .result) (c .before .before .is-bound .ensures ∙ ap (λ (t : List ℕ). passes (boundAt (a .text .now) (a .s) (a .blocks .now) (a .starts .now)) (regOf t)) (c .before .before .before .trim .ensures .0 ∙ ap trimOf (c .before .before .before .before .cut .ensures))) (c .if2 .taken) (c .before .if1 .left)) ∙ c .before .before .before .before .before .before .loop .inv .1
 
@@ -67,7 +67,7 @@ loop-less c = omega (arith, c .before .before .before .before .before .find-byte
 
 -- src/lib.rt:228:5
 loop-again : tie.Need-loop-again Inv-loop μ-loop
-loop-again c = let a = c .before .before .before .before .before .before .before .before .before .before .before .args in
+loop-again c = let a = c .before .before .before .before .before .before .before .before .before .before .before .before .before .args in
     let f = c .before .before .before .before .before .find-byte in
     (omega arith, sym (pass-on (boundAt (a .text .now) (a .s) (a .blocks .now) (a .starts .now)) (a .body .now) (c .before .before .before .before .before .before .loop .i) (f .result) (c .before .before .before .before .before .before .loop .inv .0) (f .ensures) (c .before .before .is-bound .result) (c .before .before .is-bound .ensures ∙ ap (λ (t : List ℕ). passes (boundAt (a .text .now) (a .s) (a .blocks .now) (a .starts .now)) (regOf t)) (c .before .before .before .trim .ensures .0 ∙ ap trimOf (c .before .before .before .before .cut .ensures))) (c .if2 .left) (c .before .if1 .left)) ∙ c .before .before .before .before .before .before .loop .inv .1)
 

@@ -1,3 +1,4 @@
+-- `bind::index::ask` meets its contract. Assumes nothing.
 use borrow.Author.Needs.{needs}
 use Rattle.bind.proofs.IndexLaws.{ask-none, ask-above, ask-block, ask-start}
 use Rattle.bind.proofs.index.ask.Statement.{statement}

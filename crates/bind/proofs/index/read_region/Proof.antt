@@ -1,3 +1,4 @@
+-- `bind::index::read_region` meets its contract. Assumes nothing.
 use borrow.Author.Needs.{needs}
 use Rattle.bind.proofs.IndexLaws.{region-kept, region-read}
 use lib.ListN.{length}

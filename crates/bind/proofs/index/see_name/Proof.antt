@@ -1,3 +1,4 @@
+-- `bind::index::see_name` meets its contract. Assumes nothing.
 use borrow.Author.Needs.{needs}
 use mathlib.Core.Path.{sym, ap, _∙_}
 use Rattle.names.specs.declared.RegName.{RegName}

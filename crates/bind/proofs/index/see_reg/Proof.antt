@@ -1,3 +1,4 @@
+-- `bind::index::see_reg` meets its contract. Assumes nothing.
 use borrow.Author.Needs.{needs}
 use Rattle.decls.proofs.SeenLaws.{set-past}
 use Rattle.bind.proofs.IndexLaws.{again-past, again-low, again-high}
