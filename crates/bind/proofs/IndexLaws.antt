@@ -334,9 +334,10 @@ module _ {m b : ℕ} {s d₀ u₀ d u : List ℕ} {i : ℕ} (h : SeesInv m b s d
     }
 
   pub sees-done : length s ≤ i → (d ≡ seenLines m (linesOf s) d₀) × (u ≡ againLines m b (linesOf s) d₀ u₀)
-  sees-done w =
-      (sym (sees-nil m d) ∙ ap (λ (ls : List (List ℕ)). seenLines m ls d) (sym (lines-end s i w)) ∙ h .seen,
-      sym (agains-nil m b d u) ∙ ap (λ (ls : List (List ℕ)). againLines m b ls d u) (sym (lines-end s i w)) ∙ h .again)
+  sees-done w = (
+    sym (sees-nil m d) ∙ ap (λ (ls : List (List ℕ)). seenLines m ls d) (sym (lines-end s i w)) ∙ h .seen,
+    sym (agains-nil m b d u) ∙ ap (λ (ls : List (List ℕ)). againLines m b ls d u) (sym (lines-end s i w)) ∙ h .again,
+  )
 
 -- ---- a region, read where it begins
 
@@ -349,9 +350,10 @@ module _ (t : List ℕ) (a i e k : ℕ) (d u : List ℕ) where
       (d₁ ≡ seenAt t a i e d) × (u₂ ≡ firstAt t a i e k d u)
   unfolding seenAt firstAt
   region-read h run y {u₁} {u₂} {d₁} p q r =
-      let z = le-ltb a i h in
-      (q ∙ ap (λ (x : List ℕ). seenLines (a + 1) (linesOf x) d) y ∙ sym (rw z),
-      r ∙ ap (againLines (a + 1) (k + 1) (linesOf run) d) p ∙ ap (λ (x : List ℕ). againLines (a + 1) (k + 1) (linesOf x) d (useLines (k + 1) k (linesOf x) u)) y ∙ sym (rw z))
+      let z = le-ltb a i h in (
+        q ∙ ap (λ (x : List ℕ). seenLines (a + 1) (linesOf x) d) y ∙ sym (rw z),
+        r ∙ ap (againLines (a + 1) (k + 1) (linesOf run) d) p ∙ ap (λ (x : List ℕ). againLines (a + 1) (k + 1) (linesOf x) d (useLines (k + 1) k (linesOf x) u)) y ∙ sym (rw z),
+      )
 
   pub seen-at-length : length (seenAt t a i e d) ≡ length d
   unfolding seenAt

@@ -177,7 +177,15 @@ fn see_lines(text: &[u8], m: usize, b: usize, seen: &mut [usize], first: &mut [u
 }
 
 // Reads a region, from `a` to `e`, into the tables, where the line at `i`, in row `k`, is its first.
-pub fn read_region(text: &[u8], a: usize, i: usize, e: usize, k: usize, seen: &mut [usize], first: &mut [usize])
+pub fn read_region(
+    text: &[u8],
+    a: usize,
+    i: usize,
+    e: usize,
+    k: usize,
+    seen: &mut [usize],
+    first: &mut [usize],
+)
     requires { ⌜ (length (now seen) ≡ length (now first)) × ((a < 2 ^ 64 - 1) × ((k < 2 ^ 64 - 1) × (i ≤ a → k + length (linesOf (part a e (now text))) < 2 ^ 64))) ⌝ }
     ensures marked { λ _. ⌜ now (seen .exit) ≡ seenAt (now (text .entry)) a i e (now (seen .entry)) ⌝ }
     ensures again { λ _. ⌜ now (first .exit) ≡ firstAt (now (text .entry)) a i e k (now (seen .entry)) (now (first .entry)) ⌝ }

@@ -162,7 +162,13 @@ fn stored_once(above: &[u8], below: &[u8], reg: names::Register) -> bool
 }
 
 // Whether the first use of a register below line `row` is a store of it, in that line's block, that starts a statement.
-fn store_first(below: &[u8], blocks: &[usize], starts: &[u8], row: usize, reg: names::Register) -> bool
+fn store_first(
+    below: &[u8],
+    blocks: &[usize],
+    starts: &[u8],
+    row: usize,
+    reg: names::Register,
+) -> bool
     requires { ⌜ (row + suc (length (linesOf (now below))) ≤ length (now blocks)) × (row + suc (length (linesOf (now below))) ≤ length (now starts)) ⌝ }
     ensures { λ r. ⌜ r ≡ storesAt (reg .0) (linesOf (now (below .entry))) (now (blocks .entry)) (now (starts .entry)) row (useRow (reg .0) (linesOf (now (below .entry)))) ⌝ }
 {
@@ -203,7 +209,15 @@ fn bound(text: &[u8], s: Site, blocks: &[usize], starts: &[u8], reg: names::Regi
 }
 
 // Whether a register is bound that the line of a site declares: the index says so, where it reaches to the register.
-fn told(text: &[u8], s: Site, blocks: &[usize], starts: &[u8], seen: &[usize], first: &[usize], reg: names::Register) -> bool
+fn told(
+    text: &[u8],
+    s: Site,
+    blocks: &[usize],
+    starts: &[u8],
+    seen: &[usize],
+    first: &[usize],
+    reg: names::Register,
+) -> bool
     requires { ⌜ Ready (now text) s (now blocks) (now starts) (now seen) (now first) ⌝ }
     ensures { λ r. ⌜ r ≡ boundAt (now (text .entry)) s (now (blocks .entry)) (now (starts .entry)) (reg .0) ⌝ }
 {
@@ -228,7 +242,15 @@ fn store_row(text: &[u8], s: Site, first: &[usize], reg: names::Register) -> usi
 }
 
 // Whether a text names a register that is bound.
-fn is_bound(text: &[u8], s: Site, blocks: &[usize], starts: &[u8], seen: &[usize], first: &[usize], t: &[u8]) -> bool
+fn is_bound(
+    text: &[u8],
+    s: Site,
+    blocks: &[usize],
+    starts: &[u8],
+    seen: &[usize],
+    first: &[usize],
+    t: &[u8],
+) -> bool
     requires { ⌜ Ready (now text) s (now blocks) (now starts) (now seen) (now first) ⌝ }
     ensures { λ r. ⌜ r ≡ passes (boundAt (now (text .entry)) s (now (blocks .entry)) (now (starts .entry))) (regOf (now (t .entry))) ⌝ }
 {
@@ -239,7 +261,15 @@ fn is_bound(text: &[u8], s: Site, blocks: &[usize], starts: &[u8], seen: &[usize
 }
 
 // Whether a text names a register that is not bound.
-fn is_left(text: &[u8], s: Site, blocks: &[usize], starts: &[u8], seen: &[usize], first: &[usize], t: &[u8]) -> bool
+fn is_left(
+    text: &[u8],
+    s: Site,
+    blocks: &[usize],
+    starts: &[u8],
+    seen: &[usize],
+    first: &[usize],
+    t: &[u8],
+) -> bool
     requires { ⌜ Ready (now text) s (now blocks) (now starts) (now seen) (now first) ⌝ }
     ensures { λ r. ⌜ r ≡ left (boundAt (now (text .entry)) s (now (blocks .entry)) (now (starts .entry))) (now (t .entry)) ⌝ }
 {
@@ -250,14 +280,30 @@ fn is_left(text: &[u8], s: Site, blocks: &[usize], starts: &[u8], seen: &[usize]
 }
 
 // Whether some piece of a declaration is bound.
-fn any_bound(body: &[u8], text: &[u8], s: Site, blocks: &[usize], starts: &[u8], seen: &[usize], first: &[usize]) -> bool
+fn any_bound(
+    body: &[u8],
+    text: &[u8],
+    s: Site,
+    blocks: &[usize],
+    starts: &[u8],
+    seen: &[usize],
+    first: &[usize],
+) -> bool
     requires { ⌜ Ready (now text) s (now blocks) (now starts) (now seen) (now first) ⌝ }
     ensures { λ r. ⌜ r ≡ anyPass (boundAt (now (text .entry)) s (now (blocks .entry)) (now (starts .entry))) (partsOf 44 (now (body .entry))) ⌝ }
 {
     let mut i = 0;
     loop {
         let e = lines::find_byte(body, i, b',');
-        if is_bound(text, s, blocks, starts, seen, first, text::trim(lines::cut(body, i, e))) {
+        if is_bound(
+            text,
+            s,
+            blocks,
+            starts,
+            seen,
+            first,
+            text::trim(lines::cut(body, i, e)),
+        ) {
             return true;
         }
         if e >= body.len() {
@@ -268,7 +314,16 @@ fn any_bound(body: &[u8], text: &[u8], s: Site, blocks: &[usize], starts: &[u8],
 }
 
 // Marks the line of the store that becomes the declaration of a name, where the name is bound.
-fn mark_name(text: &[u8], s: Site, blocks: &[usize], starts: &[u8], seen: &[usize], first: &[usize], t: &[u8], marks: &mut [u8])
+fn mark_name(
+    text: &[u8],
+    s: Site,
+    blocks: &[usize],
+    starts: &[u8],
+    seen: &[usize],
+    first: &[usize],
+    t: &[u8],
+    marks: &mut [u8],
+)
     requires { ⌜ (Ready (now text) s (now blocks) (now starts) (now seen) (now first)) × (s .row + suc (length (belowOf (now text) s)) ≤ length (now marks)) ⌝ }
     ensures { λ _. ⌜ now (marks .exit) ≡ noted (boundAt (now (text .entry)) s (now (blocks .entry)) (now (starts .entry))) (markRow (now (text .entry)) s) (regOf (now (t .entry))) (now (marks .entry)) ⌝ }
 {
@@ -285,14 +340,32 @@ fn mark_name(text: &[u8], s: Site, blocks: &[usize], starts: &[u8], seen: &[usiz
 }
 
 // The same for each piece of a declaration.
-fn mark_names(body: &[u8], text: &[u8], s: Site, blocks: &[usize], starts: &[u8], seen: &[usize], first: &[usize], marks: &mut [u8])
+fn mark_names(
+    body: &[u8],
+    text: &[u8],
+    s: Site,
+    blocks: &[usize],
+    starts: &[u8],
+    seen: &[usize],
+    first: &[usize],
+    marks: &mut [u8],
+)
     requires { ⌜ (Ready (now text) s (now blocks) (now starts) (now seen) (now first)) × (s .row + suc (length (belowOf (now text) s)) ≤ length (now marks)) ⌝ }
     ensures { λ _. ⌜ now (marks .exit) ≡ notedAll (boundAt (now (text .entry)) s (now (blocks .entry)) (now (starts .entry))) (markRow (now (text .entry)) s) (partsOf 44 (now (body .entry))) (now (marks .entry)) ⌝ }
 {
     let mut i = 0;
     loop {
         let e = lines::find_byte(body, i, b',');
-        mark_name(text, s, blocks, starts, seen, first, text::trim(lines::cut(body, i, e)), marks);
+        mark_name(
+            text,
+            s,
+            blocks,
+            starts,
+            seen,
+            first,
+            text::trim(lines::cut(body, i, e)),
+            marks,
+        );
         if e >= body.len() {
             return;
         }
@@ -356,14 +429,30 @@ fn put_other(line: &[u8], m: u8, out: &mut [u8], o: usize) -> usize
 }
 
 // Whether a trimmed line is a declaration that gives up a name.
-fn gives_up(t: &[u8], text: &[u8], s: Site, blocks: &[usize], starts: &[u8], seen: &[usize], first: &[usize]) -> bool
+fn gives_up(
+    t: &[u8],
+    text: &[u8],
+    s: Site,
+    blocks: &[usize],
+    starts: &[u8],
+    seen: &[usize],
+    first: &[usize],
+) -> bool
     requires { ⌜ ReadyFor (now t) (now text) s (now blocks) (now starts) (now seen) (now first) ⌝ }
     ensures { λ r. ⌜ r ≡ isDecl (now (t .entry)) && anyPass (boundAt (now (text .entry)) s (now (blocks .entry)) (now (starts .entry))) (partsOf 44 (bodyOf (now (t .entry)))) ⌝ }
 {
     if !parse::is_decl(t) {
         return false;
     }
-    any_bound(lines::cut(t, 4, t.len() - 1), text, s, blocks, starts, seen, first)
+    any_bound(
+        lines::cut(t, 4, t.len() - 1),
+        text,
+        s,
+        blocks,
+        starts,
+        seen,
+        first,
+    )
 }
 
 // Writes what the line of a site becomes, and marks the stores that take up the names which it gives up.

@@ -59,8 +59,11 @@ put-requires-3 c κs = let a = c .before .before .before .before .before .before
 put-byte-requires : tie.Need-put-byte-requires
 put-byte-requires c κs = let a = c .before .before .before .before .before .before .before .before .before .before .before .before .before .before .before .before .before .before .before .args in
     let f = c .before .before .before .before .before .before .before .before .before .before .before .before .before .before .before .before .trim-from in
-    omega (arith, writing-fits (10 ∷ []) []
-    (writing-put (writing-put (writing-put (promoted-writing (a .line .now) (f .result) (f .ensures) (a .out .now) (a .o) (c .before .before .before .before .before .before .before .before .before .before .before .before .before .before .before .before .before .before .before .pre) (c .before .before .before .before .before .before .before .before .before .before .before .before .before .before .cut .result .now) (c .before .before .before .before .cut2 .result .now) (c .before .before .before .before .before .before .before .before .before .before .before .before .before .before .cut .ensures) (c .before .before .before .before .cut2 .ensures)) (c .before .before .before .before .before .before .before .before .before .before .before .before .before .put .ensures)) (c .before .before .before .before .before .before .before .before .put2 .ensures)) (c .before .before .before .put3 .ensures)))
+    omega (
+      arith,
+      writing-fits (10 ∷ []) []
+          (writing-put (writing-put (writing-put (promoted-writing (a .line .now) (f .result) (f .ensures) (a .out .now) (a .o) (c .before .before .before .before .before .before .before .before .before .before .before .before .before .before .before .before .before .before .before .pre) (c .before .before .before .before .before .before .before .before .before .before .before .before .before .before .cut .result .now) (c .before .before .before .before .cut2 .result .now) (c .before .before .before .before .before .before .before .before .before .before .before .before .before .before .cut .ensures) (c .before .before .before .before .cut2 .ensures)) (c .before .before .before .before .before .before .before .before .before .before .before .before .before .put .ensures)) (c .before .before .before .before .before .before .before .before .put2 .ensures)) (c .before .before .before .put3 .ensures)),
+    )
 
 -- src/lib.rt:303:1
 same-length : tie.Need-same-length
