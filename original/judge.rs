@@ -9,7 +9,7 @@ pub const MOST_LINES: usize = 1_024;
 pub const MOST_BRACKETS: usize = 64;
 pub const MOST_ROOM: u32 = 32_768;
 /// The number of lent work buffers.
-pub const WORK: u8 = 8;
+pub const WORK: u8 = 6;
 
 /// Not numbers of the table: the original would not end, and the original panicked.
 pub const SKIPPED: u8 = 255;

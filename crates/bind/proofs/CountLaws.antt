@@ -1,8 +1,8 @@
 -- Counting declarations and stores up to 2, and the first line that uses a register. Assumes nothing.
-use Prim.Native.Nat.{ℕ, zero, suc, _+_, _-_, _≤_, _<_, min}
+use Prim.Native.Nat.{ℕ, suc, _+_, _-_, _≤_, _<_, min}
 use mathlib.Core.Path.{_≡_, refl, sym, ap, _∙_}
-use mathlib.Core.Bool.{Bool, true, false, cond, not, _&&_}
-use mathlib.Core.List.{List, [], _∷_, _++_}
+use mathlib.Core.Bool.{Bool, true, false, cond, _&&_}
+use mathlib.Core.List.{List, [], _∷_}
 use native.Mathlib.Omega.{arith}
 use native.Mathlib.Numerals.{add-one}
 use borrow.Author.Tests.{eq-eqb, ne-eqb, eqb-true, eqb-false, ltb-true, ltb-false}
@@ -15,7 +15,7 @@ use Rattle.lines.proofs.Tests.{and-false, no}
 use Rattle.text.specs.Trim.{lead, fromOf, endWhite, toOf, trimOf}
 use Rattle.names.specs.Names.{regOf, regIs}
 use Rattle.parse.specs.Parse.{bodyOf, isDecl, storeIn, parseOf}
-use Rattle.reading.specs.Uses.{lineStores, lineUses, usedIn}
+use Rattle.reading.specs.Uses.{lineStores, lineUses}
 use Rattle.bind.specs.Bind.{pieceCount, declCount, storeCount}
 use Rattle.bind.specs.Steps.{useRow, storesAt}
 

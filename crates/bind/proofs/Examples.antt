@@ -1,7 +1,9 @@
 -- bind_declarators on some listings, as one table. What is expected is the original's answer. Assumes nothing.
 use Prim.Native.Nat.{ℕ}
 use mathlib.Core.Path.{_≡_, refl}
-use mathlib.Core.List.{List, [], _∷_, map}
+use mathlib.Core.Bool.{false}
+use mathlib.Core.List.{List, [], _∷_, _++_, map}
+use lib.ListN.{length}
 use Rattle.lines.specs.Lf.{upTo, countOf, prefixed, suffixed, same, holds, cutOn, linesOf, partsOf, unlines, lacks, noLf}
 use Rattle.lines.specs.Acts.{act, apply}
 use Rattle.text.specs.White.{isWhite}
@@ -51,3 +53,21 @@ rows =
 pub examples : map (λ (r : Row). bindDeclarators plain (r .lines)) rows ≡ map (λ (r : Row). r .result) rows
 unfolding rows upTo countOf prefixed suffixed same holds cutOn linesOf partsOf unlines lacks noLf act apply isWhite seqLen scan utf8Of whiteChar whiteHead whiteTail lead fromOf endWhite toOf trimOf numbered numberOf zeros decimalBy decimal numberAfter regOf phiOf isTemp isIdent allRegs isDecl storeIn parseOf textOf runsGo runs countBy upBy walk runHits hitsGo hits oneHit regHit afterNew asTarget glueLeft glueRight glued replacedAt replaceReg quoteLen patternLen commentLen lastOf tokenOf tokenAt lexGo stripLexical tailOf pushed grown stepOf isHeader headed regionsGo regions regionNext untilHeader region regionAt upHeader braceOf push count top stackAfter nextAfter blocksGo blocks cleaned mayAt depthAt depthAfter ownLine ownGo own startsAfter startsBy startsAbove startsGo isAssign leftOf rightOf assignOf lineReads lineStores lineUses usedIn commas declAct keepNames actOf actsGo pruneDeclsActs pruneDecls spotsOf spots linesIn untilHead pieceCount declCount storeCount firstUse bound anyBound unbound mark markAll piecesOf bindAct bindGo bindDeclaratorsActs bindDeclarators
 examples = refl
+
+-- ---- a tail that closes a brace which it did not open is outside the law of a cut
+
+-- `if (x) {`, and below it `var x;`; `  let r0;`; `}`; `  r0 = 1;`
+unfoldable pub upper : List (List ℕ)
+upper = (105 ∷ 102 ∷ 32 ∷ 40 ∷ 120 ∷ 41 ∷ 32 ∷ 123 ∷ []) ∷ []
+
+unfoldable pub tail : List (List ℕ)
+tail = (118 ∷ 97 ∷ 114 ∷ 32 ∷ 120 ∷ 59 ∷ []) ∷ (32 ∷ 32 ∷ 108 ∷ 101 ∷ 116 ∷ 32 ∷ 114 ∷ 48 ∷ 59 ∷ []) ∷ (125 ∷ []) ∷ (32 ∷ 32 ∷ 114 ∷ 48 ∷ 32 ∷ 61 ∷ 32 ∷ 49 ∷ 59 ∷ []) ∷ []
+
+pub outside : own (cleaned tail) ≡ false
+unfolding tail upTo countOf prefixed suffixed same holds cutOn linesOf partsOf unlines lacks noLf act apply isWhite seqLen scan utf8Of whiteChar whiteHead whiteTail lead fromOf endWhite toOf trimOf numbered numberOf zeros decimalBy decimal numberAfter regOf phiOf isTemp isIdent allRegs isDecl storeIn parseOf textOf runsGo runs countBy upBy walk runHits hitsGo hits oneHit regHit afterNew asTarget glueLeft glueRight glued replacedAt replaceReg quoteLen patternLen commentLen lastOf tokenOf tokenAt lexGo stripLexical tailOf pushed grown stepOf isHeader headed regionsGo regions regionNext untilHeader region regionAt upHeader braceOf push count top stackAfter nextAfter blocksGo blocks cleaned mayAt depthAt depthAfter ownLine ownGo own startsAfter startsBy startsAbove startsGo isAssign leftOf rightOf assignOf lineReads lineStores lineUses usedIn commas declAct keepNames actOf actsGo pruneDeclsActs pruneDecls spotsOf spots linesIn untilHead pieceCount declCount storeCount firstUse bound anyBound unbound mark markAll piecesOf bindAct bindGo bindDeclaratorsActs bindDeclarators
+outside = refl
+
+-- and there the two do not give the same: 5 lines and 4
+pub uncut : (length (bindDeclarators plain (upper ++ tail)) ≡ 5) × (length (bindDeclarators plain upper ++ bindDeclarators plain tail) ≡ 4)
+unfolding upper tail upTo countOf prefixed suffixed same holds cutOn linesOf partsOf unlines lacks noLf act apply isWhite seqLen scan utf8Of whiteChar whiteHead whiteTail lead fromOf endWhite toOf trimOf numbered numberOf zeros decimalBy decimal numberAfter regOf phiOf isTemp isIdent allRegs isDecl storeIn parseOf textOf runsGo runs countBy upBy walk runHits hitsGo hits oneHit regHit afterNew asTarget glueLeft glueRight glued replacedAt replaceReg quoteLen patternLen commentLen lastOf tokenOf tokenAt lexGo stripLexical tailOf pushed grown stepOf isHeader headed regionsGo regions regionNext untilHeader region regionAt upHeader braceOf push count top stackAfter nextAfter blocksGo blocks cleaned mayAt depthAt depthAfter ownLine ownGo own startsAfter startsBy startsAbove startsGo isAssign leftOf rightOf assignOf lineReads lineStores lineUses usedIn commas declAct keepNames actOf actsGo pruneDeclsActs pruneDecls spotsOf spots linesIn untilHead pieceCount declCount storeCount firstUse bound anyBound unbound mark markAll piecesOf bindAct bindGo bindDeclaratorsActs bindDeclarators
+uncut = (refl, refl)

@@ -4,4 +4,6 @@ pub mod WalkLaws
 pub mod IndexLaws
 pub mod ToldLaws
 pub mod IndexWalk
+pub mod Cut
+pub mod Passes
 pub mod Examples

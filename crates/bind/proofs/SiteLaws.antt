@@ -1,5 +1,5 @@
 -- One line and its region: which names are bound, the marks that they make, and what is written. Assumes nothing.
-use Prim.Native.Nat.{ℕ, zero, suc, _+_, _-_, _≤_, _<_}
+use Prim.Native.Nat.{ℕ, suc, _+_, _-_, _≤_, _<_}
 use mathlib.Core.Path.{_≡_, refl, sym, ap, _∙_}
 use mathlib.Core.Bool.{Bool, true, false, cond, not, _&&_, _||_}
 use mathlib.Core.List.{List, [], _∷_, _++_, append-assoc}
@@ -8,7 +8,7 @@ use borrow.Author.Tests.{eq-eqb, ne-eqb, ltb-true, ltb-false}
 use lib.Dec.{eqb, ltb}
 use lib.ListN.{length, getD, set, take, drop, length-set}
 use Rattle.lines.specs.Lf.{part, upTo, linesOf, partsOf}
-use Rattle.lines.proofs.Tests.{and-left, and-right, or-false, no}
+use Rattle.lines.proofs.Tests.{and-left, and-right}
 use Rattle.lines.proofs.LfLaws.{parts-at, parts-at-end, rest-of}
 use Rattle.lines.proofs.OutLaws.{Writing, writing-start, writing-as}
 use Rattle.text.specs.Trim.{fromOf, trimOf}

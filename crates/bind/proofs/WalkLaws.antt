@@ -7,7 +7,7 @@ use native.Mathlib.Omega.{arith}
 use borrow.Author.Tests.{leb-true, leb-false}
 use lib.Dec.{eqb, leb}
 use lib.ListN.{length, getD, set, take, drop, replicate, length-append, length-drop, length-replicate, take-append-drop}
-use lib.Seq.{drop-drop, drop-nil, take-add, take-all, take-at, getD-drop, append-snoc, set-append-left, getD-at}
+use lib.Seq.{drop-drop, drop-nil, take-add, take-all, getD-drop, append-snoc, set-append-left, getD-at}
 use Rattle.place.proofs.Blocks.{cleaned-length, length-ids}
 use Rattle.place.proofs.Starts.{length-starts}
 use Rattle.lines.specs.Lf.{part, upTo, cutOn, linesOf, partsOf, unlines}
@@ -23,7 +23,7 @@ use Rattle.names.specs.declared.RegName.{RegName}
 use Rattle.names.specs.declared.RegName.the-variants as name
 use Rattle.parse.specs.Parse.{bodyOf, isDecl}
 use Rattle.place.specs.Region.{isHeader, untilHeader, region, upHeader, regionLen}
-use Rattle.place.specs.Blocks.{blocks, cleaned, blockIds}
+use Rattle.place.specs.Blocks.{cleaned, blockIds}
 use Rattle.place.specs.Starts.{startsGo}
 use Rattle.place.specs.Fill.{Filled, flagsOf}
 use Rattle.place.proofs.Regions.{past, end-on, region-lines}
@@ -32,7 +32,7 @@ use Rattle.decls.specs.Decls.{declAct}
 use Rattle.decls.specs.Print.{bareName, one, kept, declText}
 use Rattle.decls.proofs.PrintLaws.{writing-fits, act-text}
 use Rattle.decls.proofs.Writes.{reg-bare}
-use Rattle.reading.specs.Reading.{Reading, plain}
+use Rattle.reading.specs.Reading.{plain}
 use Rattle.reading.specs.Uses.{lineStores, lineUses, usedIn}
 use Rattle.bind.specs.declared.Site.{Site}
 use Rattle.bind.specs.Bind.{Spot, spotsOf, spots, linesIn, untilHead, declCount, storeCount, firstUse, storeAt, bound, boundBy, anyBound, unboundOne, unbound, mark, markOne, markAll, marked, piecesOf, promoted, bindAct, aboveIn, bindGo, bindDeclaratorsActs, bindDeclarators}
@@ -324,7 +324,7 @@ module _ (above : List (List ℕ)) (d : Spot) (below : List Spot) where
   mark-nil ms = refl
 
   -- where no name is bound, none is made
-  mark-none : (ps : List (List ℕ)) (ms : List Bool) → anyBound ps above d below ≡ false → markAll ps above d below ms ≡ ms
+  pub mark-none : (ps : List (List ℕ)) (ms : List Bool) → anyBound ps above d below ≡ false → markAll ps above d below ms ≡ ms
   unfolding markAll anyBound
   mark-none [] ms e = refl
   mark-none (p ∷ ps) ms e = go (regOf (trimOf p)) e (λ x. mark-none ps x)
@@ -355,7 +355,7 @@ module _ (f : ℕ → Bool) (above : List (List ℕ)) (d : Spot) (below : List S
       go name.None e = e
       go (name.Reg q) e = rw (w (q .0), e)
 
-  kept-is : (ps : List (List ℕ)) → kept (left f) 1 ps ≡ unbound ps above d below
+  pub kept-is : (ps : List (List ℕ)) → kept (left f) 1 ps ≡ unbound ps above d below
   unfolding kept unbound
   kept-is [] = refl
   kept-is (p ∷ ps) = go (regOf (trimOf p)) refl (kept-is ps)
@@ -663,7 +663,7 @@ module _ {t bs ss m₀ m d₀ d : List ℕ} {top end i k o : ℕ} (h : BindInv t
 
 -- ---- where the walk begins and ends
 
-in-spots : (ls : List (List ℕ)) (bs : List ℕ) (ss : List Bool) → length bs ≡ length ls → length ss ≡ length ls → linesIn (spotsOf ls bs ss) ≡ ls
+pub in-spots : (ls : List (List ℕ)) (bs : List ℕ) (ss : List Bool) → length bs ≡ length ls → length ss ≡ length ls → linesIn (spotsOf ls bs ss) ≡ ls
 unfolding spotsOf linesIn
 in-spots [] bs ss p q = refl
 in-spots (l ∷ ls) [] ss p q = absurd (omega arith)

@@ -19,19 +19,20 @@ ghost use Rattle.place.specs.Fill.{Filled, flagsOf};
 ghost use Rattle.decls.specs.Seen.{AtMost};
 ghost use Rattle.decls.specs.Print.{kept, declText};
 ghost use Rattle.reading.specs.Reading.{plain};
+ghost use Rattle.reading.specs.Uses.{lineStores};
 ghost use Rattle.bind.specs.Bind.{spots, pieceCount, declCount, storeCount, promoted, bindDeclarators};
 ghost use Rattle.bind.specs.Index.{Ready, ReadyFor};
 ghost use Rattle.bind.specs.Steps.{lineOf, belowOf, useRow, storesAt, boundAt, markRow, passes, left, anyPass, noted, notedAll, otherText, siteText, siteMarks, bindMarks, Rows, Reach};
 
 // A line of the text and its region: the region begins at `top` and ends at `end`, the line goes from `from` to `to` and the one below
 // begins at `next`, and there are `row` lines above it.
-pub struct Site {
-    pub top: usize,
-    pub from: usize,
-    pub to: usize,
-    pub next: usize,
-    pub end: usize,
-    pub row: usize,
+struct Site {
+    top: usize,
+    from: usize,
+    to: usize,
+    next: usize,
+    end: usize,
+    row: usize,
 }
 
 // One more, where `b` says so, but no more than 2.
@@ -59,7 +60,6 @@ fn names_reg(t: &[u8], reg: names::Register) -> bool
 
 // How many of the pieces between the commas name a register, and `n` more; 2 stands for all above.
 fn count_pieces(body: &[u8], reg: names::Register, n: usize) -> usize
-    requires { ⌜ n ≤ 2 ⌝ }
     ensures { λ r. ⌜ r ≡ min (n + pieceCount (reg .0) (partsOf 44 (now (body .entry)))) 2 ⌝ }
 {
     let mut i = 0;
@@ -102,6 +102,17 @@ fn count_decls(text: &[u8], reg: names::Register, n: usize) -> usize
     m
 }
 
+// Whether a line stores a register.
+fn stores_reg(line: &[u8], reg: names::Register) -> bool
+    ensures { λ r. ⌜ r ≡ lineStores (reg .0) (now (line .entry)) ⌝ }
+{
+    match parse::parse(line) {
+        parse::Line::Decl => false,
+        parse::Line::Store(s) => s.reg.0 == reg.0,
+        parse::Line::Other => false,
+    }
+}
+
 // How often the lines of a text store a register, and `n` more; 2 stands for all above.
 fn count_stores(text: &[u8], reg: names::Register, n: usize) -> usize
     requires { ⌜ n ≤ 2 ⌝ }
@@ -111,17 +122,17 @@ fn count_stores(text: &[u8], reg: names::Register, n: usize) -> usize
     let mut m = n;
     while i < text.len() {
         let e = lines::find_byte(text, i, 10);
-        let u = reading::use_of(lines::cut(text, i, e), reg);
-        m = one_more(m, u.stores);
+        let s = stores_reg(lines::cut(text, i, e), reg);
+        m = one_more(m, s);
         i = lines::after(text, e);
     }
     m
 }
 
 // The first line that uses a register: how many lines stand above it, and where it begins.
-pub struct First {
-    pub row: usize,
-    pub place: usize,
+struct First {
+    row: usize,
+    place: usize,
 }
 
 // The first line of a text that reads or stores a register, or its end.
@@ -177,8 +188,7 @@ fn store_first(
         return false;
     }
     let e = lines::find_byte(below, f.place, 10);
-    let u = reading::use_of(lines::cut(below, f.place, e), reg);
-    if !u.stores {
+    if !stores_reg(lines::cut(below, f.place, e), reg) {
         return false;
     }
     let k = row + (f.row + 1);

@@ -12,6 +12,7 @@ use Rattle.lines.proofs.ActLaws.{apply-append}
 use Rattle.lines.proofs.Tests.{no}
 use Rattle.calls.specs.Leaves.{Leaves}
 use Rattle.calls.specs.Calls.{Item, Row, Walked, Step, end, skip, absorb, stop, pass, tries, settle, linesIn, linesOn, has, climb, made, onStep, itemsOf, actsUp, readLater, stepAt, walk, turn, rowsOf, rebuildCallsActs, rebuildCalls}
+use Rattle.calls.specs.Tables.{ownerOf}
 use Rattle.calls.proofs.Cut.{walk-step, acts-more, acts-length}
 
 -- ---- the stack: what the rows above make, the oldest first. A dropped row adds nothing.
@@ -20,11 +21,12 @@ unfoldable pub standing : List Row → List (List ℕ)
 standing [] = []
 standing (r ∷ rs) = standing rs ++ act (r .act) (r .item .line)
 
-unfoldable given : List Row → List (List ℕ)
+-- the lines of rows as they were given, the oldest first
+unfoldable pub given : List Row → List (List ℕ)
 given [] = []
 given (r ∷ rs) = given rs ++ (r .item .line ∷ [])
 
-given-length : (rs : List Row) → length (given rs) ≡ length rs
+pub given-length : (rs : List Row) → length (given rs) ≡ length rs
 unfolding given
 given-length [] = refl
 given-length (r ∷ rs) = length-append (given rs) (r .item .line ∷ []) ∙ omega (arith, given-length rs)
@@ -32,7 +34,7 @@ given-length (r ∷ rs) = length-append (given rs) (r .item .line ∷ []) ∙ om
 acts-given : (rs : List Row) → length (actsUp rs []) ≡ length (given rs)
 acts-given rs = acts-length rs [] ∙ omega (arith, given-length rs)
 
-apply-standing : (rs : List Row) → apply (actsUp rs []) (given rs) ≡ standing rs
+pub apply-standing : (rs : List Row) → apply (actsUp rs []) (given rs) ≡ standing rs
 unfolding actsUp given standing apply
 apply-standing [] = refl
 apply-standing (r ∷ rs) =
@@ -43,7 +45,7 @@ apply-standing (r ∷ rs) =
 
 -- the rows are those of the lines given
 module _ (L : Leaves) where
-  walk-given : (b : ℕ) (later : ℕ → Bool) (left : ℕ) (rs : List Row) (d : ℕ) (over : Bool) (cur took : List ℕ) (lines : List (List ℕ))
+  pub walk-given : (b : ℕ) (later : ℕ → Bool) (left : ℕ) (rs : List Row) (d : ℕ) (over : Bool) (cur took : List ℕ) (lines : List (List ℕ))
       → given (walk L b later left rs d over cur took lines .rows) ≡ given rs
   unfolding walk given
   walk-given b later zero rs d over cur took lines = refl
@@ -62,7 +64,7 @@ module _ (L : Leaves) where
       go skip q c k = ap (λ (w : Walked). given (w .rows)) (walk-step L b later left r rs d over cur took lines) ∙ rw q (ap (λ (g : List (List ℕ)). g ++ (r .item .line ∷ [])) c)
       go (absorb next) q c k = ap (λ (w : Walked). given (w .rows)) (walk-step L b later left r rs d over cur took lines) ∙ rw q (ap (λ (g : List (List ℕ)). g ++ (r .item .line ∷ [])) (k next))
 
-  turn-given : (x : Item) (below : List (List ℕ)) (rs : List Row) → given (turn L x below rs) ≡ given rs ++ (x .line ∷ [])
+  pub turn-given : (x : Item) (below : List (List ℕ)) (rs : List Row) → given (turn L x below rs) ≡ given rs ++ (x .line ∷ [])
   unfolding turn given
   turn-given x below rs = go (tries L (x .line) rs) refl
     where
@@ -92,12 +94,6 @@ module _ (L : Leaves) where
       ∙ apply-standing (rowsOf L (itemsOf ls (L .blocks ls)) [])
 
 -- ---- what was taken, read off the rows passed (the nearest to the walk's end first): a row is taken if its owner is the line the walk started from
-
-unfoldable pub ownerOf : Act → ℕ
-ownerOf keep = 0
-ownerOf (become t) = 0
-ownerOf (into n) = n
-ownerOf gone = 0
 
 -- the row e lines above the start stands at the head of `done`
 unfoldable pub takenLines : List Row → ℕ → List (List ℕ)

@@ -10,3 +10,9 @@ pub mod StepLaws
 pub mod WalkLaws
 pub mod Owners
 pub mod Texts
+pub mod Stacks
+pub mod Told
+pub mod Climbs
+pub mod Turns
+pub mod Wipes
+pub mod Kept

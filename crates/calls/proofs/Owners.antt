@@ -10,7 +10,7 @@ use Rattle.lines.specs.Acts.{Act, keep, become, into, gone, act}
 use Rattle.calls.specs.Leaves.{Leaves}
 use Rattle.calls.specs.Calls.{Item, Row, Walked, Step, end, skip, absorb, stop, pass, tries, settle, linesIn, linesOn, has, climb, made, onStep, readLater, stepAt, walk, turn, rowsOf}
 use Rattle.calls.proofs.Cut.{walk-step}
-use Rattle.calls.proofs.Edges.{ownerOf}
+use Rattle.calls.specs.Tables.{ownerOf}
 
 -- ---- the definition with the whole test
 module _ (L : Leaves) where
@@ -53,12 +53,12 @@ unfolding owned
 owned-more j [] q = q
 owned-more j (r ∷ rs) q = (omega (arith, q .0), owned-more (suc j) rs (q .1))
 
-made-owner : (took cur : List ℕ) → ownerOf (made took cur) ≡ 0
+pub made-owner : (took cur : List ℕ) → ownerOf (made took cur) ≡ 0
 unfolding made ownerOf
 made-owner [] cur = refl
 made-owner (d ∷ took) cur = refl
 
-keep-owner : ownerOf keep ≡ 0
+pub keep-owner : ownerOf keep ≡ 0
 unfolding ownerOf
 keep-owner = refl
 

@@ -2,3 +2,4 @@ pub mod Leaves
 pub mod LeavesOf
 pub mod Calls
 pub mod Steps
+pub mod Tables

@@ -1,18 +1,25 @@
 // rebuild_calls: the values of stores go back into the call that follows them.
 ghost use mathlib.Core.Path.{_≡_};
-ghost use mathlib.Core.Bool.{not, _&&_};
-ghost use Prim.Native.Nat.{_+_, _≤_};
-ghost use lib.ListN.{length};
-ghost use Rattle.lines.specs.Lf.{linesOf};
+ghost use mathlib.Core.Bool.{true, not, _&&_};
+ghost use mathlib.Core.List.{[], _∷_};
+ghost use Prim.Native.Nat.{_+_, _-_, _≤_, _<_, _^_};
+ghost use lib.Dec.{eqb};
+ghost use lib.ListN.{length, getD, replicate};
+ghost use Rattle.lines.specs.Lf.{linesOf, unlines};
 ghost use Rattle.lines.specs.Out.{Wrote};
 ghost use Rattle.words.specs.Hits.{replacedAt};
 ghost use Rattle.lexical.specs.Idents.{wordsIn};
 ghost use Rattle.forms.specs.Primary.{parenIfNeeded};
 ghost use Rattle.forms.specs.Breaks.{breaksWith};
 ghost use Rattle.reading.specs.Reading.{plain};
+ghost use Rattle.place.specs.Blocks.{blockIds, cleaned};
+ghost use Rattle.place.specs.Starts.{startsGo};
+ghost use Rattle.place.specs.Parents.{idsParents};
+ghost use Rattle.place.specs.Fill.{Filled, flagsOf};
 ghost use Rattle.calls.specs.LeavesOf.{isCall, isControlLine, contextOf, leavesOf};
-ghost use Rattle.calls.specs.Calls.{readLater, putBy};
+ghost use Rattle.calls.specs.Calls.{readLater, putBy, rebuildCallsActs, rebuildCalls};
 ghost use Rattle.calls.specs.Steps.{breaksDown, absorbStep, lineBack, PutAs};
+ghost use Rattle.calls.specs.Tables.{rowsAt, Keeps, Stands, Placed, Foot, Peaked, Ready, Turned, Rebuilt, ownersOf};
 
 // What putting a value into a line makes: a line of so many bytes, or nothing.
 pub enum Made {
@@ -165,4 +172,281 @@ fn line_back(s: &[u8], e: usize) -> usize
         j -= 1;
     }
     j
+}
+
+// Whether the line that a dropped line k went into has gone into line n itself.
+fn is_ours(owner: &[usize], k: usize, n: usize) -> bool
+    requires { ⌜ (k + getD (now owner) k 0 < n) × (n ≤ length (now owner)) ⌝ }
+    ensures { λ r. ⌜ r ≡ eqb (getD (now (owner .entry)) (k + getD (now (owner .entry)) k 0) 0) (n - (k + getD (now (owner .entry)) k 0)) ⌝ }
+{
+    let j = k + owner[k];
+    owner[j] == n - j
+}
+
+// Whether region, block and start of statement let line k go into line n.
+fn may_go(over: bool, blocks: &[usize], starts: &[u8], k: usize, n: usize) -> bool
+    requires { ⌜ (k < length (now blocks)) × ((n < length (now blocks)) × (k < length (now starts))) ⌝ }
+    ensures { λ r. ⌜ r ≡ not over && (eqb (getD (now (blocks .entry)) k 0) (getD (now (blocks .entry)) n 0) && eqb (getD (now (starts .entry)) k 0) 1) ⌝ }
+{
+    if over {
+        return false;
+    }
+    if blocks[k] != blocks[n] {
+        return false;
+    }
+    starts[k] == 1
+}
+
+// Where a walk ends: how many bytes of the stack still stand, and how long the line is that it made.
+struct Peak {
+    height: usize,
+    size: usize,
+}
+
+// Walks up from line n, which begins at i and stands at the front of `cur`: at most 64 lines, each a store whose value goes into it, or a
+// line that went into one of these before. `owner` gets the lines that go, and the others stand on the stack below `height`.
+fn walk_up(
+    text: &[u8],
+    i: usize,
+    below: usize,
+    n: usize,
+    blocks: &[usize],
+    starts: &[u8],
+    owner: &mut [usize],
+    stack: &[u8],
+    o: usize,
+    top: bool,
+    size: usize,
+    cur: &mut [u8],
+    next: &mut [u8],
+    clean: &mut [u8],
+) -> Peak
+    requires { ⌜ (Keeps (now text) n (rowsAt (now text) n) (now owner) (now stack) o)
+        × ((Stands (now text) n i below)
+        × ((Placed (now text) (now blocks) (now starts))
+        × ((Foot (now text) n top (now cur) size)
+        × ((o + size ≤ length (now cur)) × ((o + size ≤ length (now next)) × (o + size ≤ length (now clean))))))) ⌝ }
+    ensures { λ r. ⌜ Peaked (now (text .entry)) n (now (owner .entry)) (now (owner .exit)) (now (stack .entry)) (now (cur .exit)) (r .height) (r .size) (o + size) ⌝ }
+{
+    let mut k = n;
+    let mut p = i;
+    let mut h = o;
+    let mut c = size;
+    let mut over = top;
+    let mut steps: usize = 0;
+    while (0 < k) & (steps < 64) {
+        steps += 1;
+        let q = line_back(text, p - 1);
+        if owner[k - 1] != 0 {
+            if !is_ours(owner, k - 1, n) {
+                break;
+            }
+            over = over | place::is_header(lines::cut(text, q, p - 1));
+            p = q;
+            k -= 1;
+        } else {
+            let b = line_back(stack, h - 1);
+            let x = lines::cut(stack, b, h - 1);
+            let read = parse::parse(x);
+            let parse::Line::Store(s) = read else { break };
+            if !may_go(over, blocks, starts, k - 1, n) {
+                break;
+            }
+            let v = parse::value_of(x, s);
+            let line = lines::cut(cur, 0, c);
+            let under = lines::cut(text, below, text.len());
+            let taken = lines::cut(text, p, i);
+            let made = absorb(line, s.reg, v, under, taken, &owner[k..n], clean, next);
+            let Made::Line(m) = made else { break };
+            c = lines::put(cur, 0, lines::cut(next, 0, m));
+            owner[k - 1] = n - k + 1;
+            over = over | place::is_header(lines::cut(text, q, p - 1));
+            h = b;
+            p = q;
+            k -= 1;
+        }
+    }
+    Peak { height: h, size: c }
+}
+
+// Puts a line with its LF on a stack of the height o, and returns the height then.
+fn push_line(line: &[u8], stack: &mut [u8], o: usize) -> usize
+    requires { ⌜ o + length (unlines (now line ∷ [])) ≤ length (now stack) ⌝ }
+    ensures { λ r. ⌜ Wrote (now (stack .entry)) o (unlines (now (line .entry) ∷ [])) (now (stack .exit)) r ⌝ }
+{
+    let p = lines::put(stack, o, line);
+    lines::put_byte(stack, p, 10)
+}
+
+// Puts line n, which stands from i up to e, on the stack, with the values of the stores above that go into it.
+fn turn_line(
+    text: &[u8],
+    i: usize,
+    e: usize,
+    n: usize,
+    blocks: &[usize],
+    starts: &[u8],
+    owner: &mut [usize],
+    stack: &mut [u8],
+    o: usize,
+    cur: &mut [u8],
+    next: &mut [u8],
+    clean: &mut [u8],
+) -> usize
+    requires { ⌜ Ready (now text) n i e (now blocks) (now starts) (now owner) (now stack) o (now cur) (now next) (now clean) ⌝ }
+    ensures { λ r. ⌜ Turned (now (text .entry)) n (now (owner .entry)) (now (owner .exit)) (now (stack .exit)) o r ⌝ }
+{
+    owner[n] = 0;
+    if !takes(&text[i..e], starts[n] == 1) {
+        return push_line(&text[i..e], stack, o);
+    }
+    let size = lines::put(cur, 0, &text[i..e]);
+    let top = place::is_header(&text[i..e]);
+    let f = lines::after(text, e);
+    let w = walk_up(
+        text,
+        i,
+        f,
+        n,
+        blocks,
+        starts,
+        owner,
+        stack,
+        o,
+        top,
+        size,
+        cur,
+        next,
+        clean,
+    );
+    let h = w.height;
+    let m = w.size;
+    push_line(lines::cut(cur, 0, m), stack, h)
+}
+
+// Puts what becomes of all lines on the stack, and returns its height.
+fn rebuild_lines(
+    text: &[u8],
+    blocks: &[usize],
+    starts: &[u8],
+    owner: &mut [usize],
+    stack: &mut [u8],
+    cur: &mut [u8],
+    next: &mut [u8],
+    clean: &mut [u8],
+) -> usize
+    requires { ⌜ (Placed (now text) (now blocks) (now starts))
+        × ((length (linesOf (now text)) ≤ length (now owner)) × ((length (now text) < length (now stack))
+        × ((length (now text) ≤ length (now cur)) × ((length (now text) ≤ length (now next)) × (length (now text) ≤ length (now clean)))))) ⌝ }
+    ensures { λ r. ⌜ Rebuilt (now (text .entry)) (now (owner .entry)) (now (owner .exit)) (now (stack .exit)) r ⌝ }
+{
+    let mut i = 0;
+    let mut n = 0;
+    let mut o = 0;
+    while i < text.len() {
+        let e = lines::find_byte(text, i, 10);
+        o = turn_line(
+            text,
+            i,
+            e,
+            n,
+            blocks,
+            starts,
+            owner,
+            stack,
+            o,
+            cur,
+            next,
+            clean,
+        );
+        n += 1;
+        i = lines::after(text, e);
+    }
+    o
+}
+
+// Writes zeros over all of a buffer.
+fn wipe(s: &mut [u8])
+    ensures { λ _. ⌜ now (s .exit) ≡ replicate (length (now (s .entry))) 0 ⌝ }
+{
+    let mut i = 0;
+    while i < s.len() {
+        s[i] = 0;
+        i += 1;
+    }
+}
+
+// Writes what becomes of all lines, with a stack and three more buffers that are wiped at the end.
+fn rebuild_with(
+    text: &[u8],
+    blocks: &[usize],
+    starts: &[u8],
+    owner: &mut [usize],
+    stack: &mut [u8],
+    cur: &mut [u8],
+    next: &mut [u8],
+    clean: &mut [u8],
+    out: &mut [u8],
+) -> usize
+    requires { ⌜ (Placed (now text) (now blocks) (now starts))
+        × ((length (linesOf (now text)) ≤ length (now owner)) × ((length (now text) < length (now stack))
+        × ((length (now text) ≤ length (now cur)) × ((length (now text) ≤ length (now next)) × ((length (now text) ≤ length (now clean))
+        × (length (unlines (rebuildCalls (leavesOf plain) (linesOf (now text)))) ≤ length (now out))))))) ⌝ }
+    ensures answer { λ r. ⌜ Wrote (now (out .entry)) 0 (unlines (rebuildCalls (leavesOf plain) (linesOf (now (text .entry))))) (now (out .exit)) r ⌝ }
+    ensures owners { λ _. ⌜ Filled (now (owner .entry)) (ownersOf (rebuildCallsActs (leavesOf plain) (linesOf (now (text .entry))))) (now (owner .exit)) (length (linesOf (now (text .entry)))) ⌝ }
+    ensures scratch { λ _. ⌜ (now (stack .exit) ≡ replicate (length (now (stack .entry))) 0)
+        × ((now (cur .exit) ≡ replicate (length (now (cur .entry))) 0)
+        × ((now (next .exit) ≡ replicate (length (now (next .entry))) 0) × (now (clean .exit) ≡ replicate (length (now (clean .entry))) 0))) ⌝ }
+{
+    let o = rebuild_lines(text, blocks, starts, owner, stack, cur, next, clean);
+    let r = lines::put(out, 0, lines::cut(stack, 0, o));
+    wipe(stack);
+    wipe(cur);
+    wipe(next);
+    wipe(clean);
+    r
+}
+
+// The values of stores go back into the call that follows them. Each line is followed by one LF; `owner` gets for each line how far below it
+// the line stands that took it in, or 0, and the front of the four buffers before `out` is wiped.
+pub fn rebuild_calls(
+    text: &[u8],
+    owner: &mut [usize],
+    blocks: &mut [usize],
+    starts: &mut [u8],
+    up: &mut [u32],
+    stack: &mut [u8],
+    cur: &mut [u8],
+    next: &mut [u8],
+    clean: &mut [u8],
+    out: &mut [u8],
+) -> usize
+    requires { ⌜ ((length (linesOf (now text)) ≤ length (now owner)) × ((length (linesOf (now text)) ≤ length (now blocks)) × (length (linesOf (now text)) ≤ length (now starts))))
+        × (((length (idsParents (linesOf (now text))) ≤ length (now up)) × (length (now up) < 2 ^ 32))
+        × (((length (now text) < length (now stack)) × ((length (now text) ≤ length (now cur)) × ((length (now text) ≤ length (now next)) × (length (now text) ≤ length (now clean)))))
+        × (length (unlines (rebuildCalls (leavesOf plain) (linesOf (now text)))) ≤ length (now out)))) ⌝ }
+    ensures answer { λ r. ⌜ Wrote (now (out .entry)) 0 (unlines (rebuildCalls (leavesOf plain) (linesOf (now (text .entry))))) (now (out .exit)) r ⌝ }
+    ensures owners { λ _. ⌜ Filled (now (owner .entry)) (ownersOf (rebuildCallsActs (leavesOf plain) (linesOf (now (text .entry))))) (now (owner .exit)) (length (linesOf (now (text .entry)))) ⌝ }
+    ensures tables { λ _. ⌜ (Filled (now (blocks .entry)) (blockIds (linesOf (now (text .entry)))) (now (blocks .exit)) (length (linesOf (now (text .entry)))))
+        × ((Filled (now (starts .entry)) (flagsOf (startsGo (cleaned (linesOf (now (text .entry)))) true)) (now (starts .exit)) (length (linesOf (now (text .entry)))))
+        × (Filled (now (up .entry)) (idsParents (linesOf (now (text .entry)))) (now (up .exit)) (length (idsParents (linesOf (now (text .entry))))))) ⌝ }
+    ensures scratch { λ _. ⌜ (Wrote (now (stack .entry)) 0 (replicate (length (now (text .entry)) + 1) 0) (now (stack .exit)) (length (now (text .entry)) + 1))
+        × ((Wrote (now (cur .entry)) 0 (replicate (length (now (text .entry))) 0) (now (cur .exit)) (length (now (text .entry))))
+        × ((Wrote (now (next .entry)) 0 (replicate (length (now (text .entry))) 0) (now (next .exit)) (length (now (text .entry))))
+        × (Wrote (now (clean .entry)) 0 (replicate (length (now (text .entry))) 0) (now (clean .exit)) (length (now (text .entry)))))) ⌝ }
+{
+    let m = text.len();
+    let h = m + 1;
+    place::place_lines(text, blocks, starts, up);
+    rebuild_with(
+        text,
+        blocks,
+        starts,
+        owner,
+        &mut stack[..h],
+        &mut cur[..m],
+        &mut next[..m],
+        &mut clean[..m],
+        out,
+    )
 }

@@ -11,3 +11,10 @@ pub mod Reading
 pub mod Forms
 pub mod Decls
 pub mod Temps
+pub mod Once
+pub mod Phis
+pub mod Calls
+pub mod Bind
+pub mod Globals
+pub mod Opt
+pub mod Capi

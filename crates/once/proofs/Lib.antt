@@ -10,3 +10,5 @@ pub mod Keeps
 pub mod Passes
 pub mod Room
 pub mod Examples
+pub mod NotedLaws
+pub mod NotedFills

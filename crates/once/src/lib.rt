@@ -1,4 +1,6 @@
 // `optimize_once`: dead stores and scratch loads go, and a value that is read once on the next line goes there.
+mod noted;
+
 ghost use mathlib.Core.Path.{_≡_};
 ghost use mathlib.Core.Bool.{true, false};
 ghost use mathlib.Core.List.{[], _∷_, _++_};
@@ -11,10 +13,12 @@ ghost use Rattle.parse.specs.Parse.{parseOf};
 ghost use Rattle.lines.specs.Lf.{linesOf, unlines, prefixed, holds};
 ghost use Rattle.names.specs.Names.{regOf, isIdent};
 ghost use Rattle.once.specs.Scratch.{objectOf, isMember, changesBy, calledBelow, scratchAt};
-ghost use Rattle.once.specs.Once.{deadBy, readCount, firstOf, takenBy, onceActs, optimizeOnce};
+ghost use Rattle.once.specs.Once.{deadBy, readCount, laterRead, firstOf, takenBy, onceActs, optimizeOnce};
 ghost use Rattle.words.specs.Hits.{regHit, replaceReg};
 ghost use Rattle.reading.specs.Reading.{plain, pureIn};
+ghost use Rattle.reading.specs.Uses.{lineReads};
 ghost use Rattle.once.specs.Tables.{readBelow, nextIn, Blank, hasHit, storeDrops, lineDrops, storeForwards, lineForwards, onceMarks, actBy, actsBy, firstDrops, firstTakes, markBy, marksOf, areaAt};
+ghost use Rattle.once.specs.Noted.{NoneFrom, NoneBelow, OneIn, OneAt, OneOf};
 ghost use Rattle.place.specs.Fill.{Filled, flagsOf};
 ghost use Rattle.place.specs.Loops.{insideLoop};
 ghost use Rattle.place.specs.Paths.{blockPaths, tops};
@@ -202,7 +206,8 @@ fn pure_value(x: &[u8], scratch: &mut [u8]) -> bool
     expr::is_pure(p)
 }
 
-// Whether a store of a register with the value x, above `below`, goes: its block path is p, and those of the lines below are `paths`.
+// Whether a store of a register with the value x, above `below`, goes: its block path is p, and those of the lines below are `paths`;
+// `last` has the number of the last line that uses each register, and that of the store is `row`.
 fn store_drops(
     x: &[u8],
     reg: names::Register,
@@ -210,9 +215,11 @@ fn store_drops(
     paths: &[usize],
     p: usize,
     in_loop: bool,
+    last: &[usize],
+    row: usize,
     scratch: &mut [u8],
 ) -> bool
-    requires { ⌜ Blank (length (now x)) (now scratch) ⌝ }
+    requires { ⌜ (Blank (length (now x)) (now scratch)) × (NoneFrom row (linesOf (now below)) (now last)) ⌝ }
     ensures answer { λ r. ⌜ r ≡ storeDrops plain (reg .0) (now (x .entry)) p in_loop (linesOf (now (below .entry))) (now (paths .entry)) ⌝ }
     ensures memory { λ _. ⌜ now (scratch .exit) ≡ now (scratch .entry) ⌝ }
 {
@@ -228,19 +235,24 @@ fn store_drops(
     if !pure_value(x, scratch) {
         return false;
     }
+    if noted::is_quiet(last, row, reg) {
+        return true;
+    }
     dead_below(below, paths, p, reg)
 }
 
-// Whether a line goes.
+// Whether a line with the number `row` goes.
 fn line_drops(
     line: &[u8],
     below: &[u8],
     paths: &[usize],
     p: usize,
     in_loop: bool,
+    last: &[usize],
+    row: usize,
     scratch: &mut [u8],
 ) -> bool
-    requires { ⌜ Blank (length (now line)) (now scratch) ⌝ }
+    requires { ⌜ (Blank (length (now line)) (now scratch)) × (NoneFrom row (linesOf (now below)) (now last)) ⌝ }
     ensures answer { λ r. ⌜ r ≡ lineDrops plain (now (line .entry)) p in_loop (linesOf (now (below .entry))) (now (paths .entry)) ⌝ }
     ensures memory { λ _. ⌜ now (scratch .exit) ≡ now (scratch .entry) ⌝ }
 {
@@ -248,7 +260,7 @@ fn line_drops(
         parse::Line::Decl => false,
         parse::Line::Store(s) => {
             let x = parse::value_of(line, s);
-            store_drops(x, s.reg, below, paths, p, in_loop, scratch)
+            store_drops(x, s.reg, below, paths, p, in_loop, last, row, scratch)
         }
         parse::Line::Other => false,
     }
@@ -264,7 +276,32 @@ fn takes(line: &[u8], reg: names::Register) -> bool
     }
 }
 
-// Whether a store of a register with the value x, in the region `run`, goes into the next line, which goes itself where `gone` says so.
+// Whether a register is read below before it is stored again, in all lines with a number above `row`.
+fn later_read(below: &[u8], reg: names::Register, last: &[usize], row: usize) -> bool
+    requires { ⌜ NoneFrom row (linesOf (now below)) (now last) ⌝ }
+    ensures { λ r. ⌜ r ≡ laterRead (reg .0) (linesOf (now (below .entry))) ⌝ }
+{
+    if noted::is_quiet(last, row, reg) {
+        return false;
+    }
+    read_below(below, reg, true)
+}
+
+// Whether lines read a register once in all; `next` is one of them that does, where it is no header, and `reads` has how often all lines do.
+fn once_in(run: &[u8], reg: names::Register, next: &[u8], reads: &[usize]) -> bool
+    requires { ⌜ (OneIn (now next) (linesOf (now run)) (now reads)) × (lineReads (reg .0) (now next) ≡ 1) ⌝ }
+    ensures { λ r. ⌜ r ≡ eqb (readCount (reg .0) (linesOf (now (run .entry)))) 1 ⌝ }
+{
+    if noted::is_alone(reads, reg) {
+        if !place::is_header(next) {
+            return true;
+        }
+    }
+    read_once(run, reg)
+}
+
+// Whether a store of a register with the value x, in the region `run`, goes into the next line, which has the number `row` and goes itself
+// where `gone` says so.
 fn store_forwards(
     x: &[u8],
     reg: names::Register,
@@ -273,9 +310,12 @@ fn store_forwards(
     run: &[u8],
     in_loop: bool,
     gone: bool,
+    last: &[usize],
+    reads: &[usize],
+    row: usize,
     scratch: &mut [u8],
 ) -> bool
-    requires { ⌜ Blank (length (now x)) (now scratch) ⌝ }
+    requires { ⌜ (Blank (length (now x)) (now scratch)) × ((NoneFrom row (linesOf (now below)) (now last)) × (OneIn (now next) (linesOf (now run)) (now reads))) ⌝ }
     ensures answer { λ r. ⌜ r ≡ storeForwards plain (reg .0) (now (x .entry)) (linesOf (now (run .entry))) in_loop gone (now (next .entry)) (linesOf (now (below .entry))) ⌝ }
     ensures memory { λ _. ⌜ now (scratch .exit) ≡ now (scratch .entry) ⌝ }
 {
@@ -298,10 +338,10 @@ fn store_forwards(
     if !pure_value(x, scratch) {
         return false;
     }
-    if read_below(below, reg, true) {
+    if later_read(below, reg, last, row) {
         return false;
     }
-    read_once(run, reg)
+    once_in(run, reg, next, reads)
 }
 
 // Whether a line that stays goes into the next line.
@@ -312,9 +352,12 @@ fn line_forwards(
     run: &[u8],
     in_loop: bool,
     gone: bool,
+    last: &[usize],
+    reads: &[usize],
+    row: usize,
     scratch: &mut [u8],
 ) -> bool
-    requires { ⌜ Blank (length (now line)) (now scratch) ⌝ }
+    requires { ⌜ (Blank (length (now line)) (now scratch)) × ((NoneFrom row (linesOf (now below)) (now last)) × (OneIn (now next) (linesOf (now run)) (now reads))) ⌝ }
     ensures answer { λ r. ⌜ r ≡ lineForwards plain (now (line .entry)) (linesOf (now (run .entry))) in_loop gone (now (next .entry)) (linesOf (now (below .entry))) ⌝ }
     ensures memory { λ _. ⌜ now (scratch .exit) ≡ now (scratch .entry) ⌝ }
 {
@@ -322,7 +365,19 @@ fn line_forwards(
         parse::Line::Decl => false,
         parse::Line::Store(s) => {
             let x = parse::value_of(line, s);
-            store_forwards(x, s.reg, next, below, run, in_loop, gone, scratch)
+            store_forwards(
+                x,
+                s.reg,
+                next,
+                below,
+                run,
+                in_loop,
+                gone,
+                last,
+                reads,
+                row,
+                scratch,
+            )
         }
         parse::Line::Other => false,
     }
@@ -335,9 +390,10 @@ fn drops_at(
     paths: &[usize],
     k: usize,
     in_loop: bool,
+    last: &[usize],
     scratch: &mut [u8],
 ) -> bool
-    requires { ⌜ Blank (length (now text)) (now scratch) ⌝ }
+    requires { ⌜ (Blank (length (now text)) (now scratch)) × (NoneFrom (k + 1) (drop 1 (linesOf (drop i (now text)))) (now last)) ⌝ }
     ensures answer { λ r. ⌜ r ≡ firstDrops plain (linesOf (drop i (now (text .entry)))) (drop k (now (paths .entry))) in_loop ⌝ }
     ensures memory { λ _. ⌜ now (scratch .exit) ≡ now (scratch .entry) ⌝ }
 {
@@ -356,12 +412,14 @@ fn drops_at(
         &paths[n..],
         paths[k],
         in_loop,
+        last,
+        n,
         scratch,
     )
 }
 
 // The mark of a line in the region `run`, above the line at j: 1 where it goes, as `goes` says, 2 where it would go into the next, else 0;
-// `next` says whether that one goes.
+// `next` says whether that one goes, and `row` is the number of the line.
 fn mark_at(
     line: &[u8],
     text: &[u8],
@@ -370,9 +428,15 @@ fn mark_at(
     in_loop: bool,
     goes: bool,
     next: bool,
+    last: &[usize],
+    reads: &[usize],
+    row: usize,
     scratch: &mut [u8],
 ) -> u8
-    requires { ⌜ Blank (length (now line)) (now scratch) ⌝ }
+    requires { ⌜ (Blank (length (now line)) (now scratch))
+        × ((row ≤ j)
+        × ((NoneFrom (row + 1) (drop 1 (linesOf (drop j (now text)))) (now last))
+        × (OneAt (linesOf (drop j (now text))) (linesOf (now run)) (now reads)))) ⌝ }
     ensures answer { λ r. ⌜ r ≡ markBy goes (firstTakes plain (now (line .entry)) (linesOf (now (run .entry))) in_loop next (linesOf (drop j (now (text .entry))))) ⌝ }
     ensures memory { λ _. ⌜ now (scratch .exit) ≡ now (scratch .entry) ⌝ }
 {
@@ -384,7 +448,18 @@ fn mark_at(
     }
     let e = lines::find_byte(text, j, 10);
     let n = lines::after(text, e);
-    if line_forwards(line, &text[j..e], &text[n..], run, in_loop, next, scratch) {
+    if line_forwards(
+        line,
+        &text[j..e],
+        &text[n..],
+        run,
+        in_loop,
+        next,
+        last,
+        reads,
+        row + 1,
+        scratch,
+    ) {
         return 2;
     }
     0
@@ -401,6 +476,56 @@ fn area_at(text: &[u8], i: usize, e: usize, above: text::Span) -> text::Span
     above
 }
 
+// Writes the mark of each line, by tables of what the lines do with each register.
+fn mark_with(
+    text: &[u8],
+    paths: &[usize],
+    loops: &[u8],
+    last: &[usize],
+    reads: &[usize],
+    scratch: &mut [u8],
+    marks: &mut [u8],
+) -> usize
+    requires { ⌜ (Blank (length (now text)) (now scratch))
+        × ((length (linesOf (now text)) ≤ length (now marks)) × ((NoneBelow (linesOf (now text)) (now last)) × (OneOf (linesOf (now text)) (now reads)))) ⌝ }
+    ensures answer { λ r. ⌜ Filled (now (marks .entry)) (marksOf plain (linesOf (now (text .entry))) (now (paths .entry)) (now (loops .entry))) (now (marks .exit)) r ⌝ }
+    ensures memory { λ _. ⌜ now (scratch .exit) ≡ now (scratch .entry) ⌝ }
+{
+    let to = place::region_end(text, 0);
+    let f = lines::byte_at(loops, 0);
+    let mut goes = drops_at(text, 0, paths, 0, f != 0, last, scratch);
+    let mut run = text::Span { from: 0, to: to };
+    let mut i = 0;
+    let mut k = 0;
+    while i < text.len() {
+        let e = lines::find_byte(text, i, 10);
+        let j = lines::after(text, e);
+        let g = lines::byte_at(loops, k + 1);
+        let next = drops_at(text, j, paths, k + 1, g != 0, last, scratch);
+        run = area_at(text, i, e, run);
+        let h = lines::byte_at(loops, k);
+        let line = lines::cut(text, i, e);
+        let area = lines::cut(text, run.from, run.to);
+        marks[k] = mark_at(
+            line,
+            text,
+            j,
+            area,
+            h != 0,
+            goes,
+            next,
+            last,
+            reads,
+            k + 1,
+            scratch,
+        );
+        goes = next;
+        k += 1;
+        i = j;
+    }
+    k
+}
+
 // Writes the mark of each line; `paths` has the block paths of the lines, and `loops` whether each stands in a loop.
 fn fill_marks(
     text: &[u8],
@@ -413,27 +538,10 @@ fn fill_marks(
     ensures answer { λ r. ⌜ Filled (now (marks .entry)) (marksOf plain (linesOf (now (text .entry))) (now (paths .entry)) (now (loops .entry))) (now (marks .exit)) r ⌝ }
     ensures memory { λ _. ⌜ now (scratch .exit) ≡ now (scratch .entry) ⌝ }
 {
-    let to = place::region_end(text, 0);
-    let f = lines::byte_at(loops, 0);
-    let mut goes = drops_at(text, 0, paths, 0, f != 0, scratch);
-    let mut run = text::Span { from: 0, to: to };
-    let mut i = 0;
-    let mut k = 0;
-    while i < text.len() {
-        let e = lines::find_byte(text, i, 10);
-        let j = lines::after(text, e);
-        let g = lines::byte_at(loops, k + 1);
-        let next = drops_at(text, j, paths, k + 1, g != 0, scratch);
-        run = area_at(text, i, e, run);
-        let h = lines::byte_at(loops, k);
-        let line = lines::cut(text, i, e);
-        let area = lines::cut(text, run.from, run.to);
-        marks[k] = mark_at(line, text, j, area, h != 0, goes, next, scratch);
-        goes = next;
-        k += 1;
-        i = j;
-    }
-    k
+    let mut last = [0usize; 1024];
+    let mut reads = [0usize; 1024];
+    noted::note_lines(text, &mut last, &mut reads);
+    mark_with(text, paths, loops, &last, &reads, scratch, marks)
 }
 
 // Writes a line with its LF, and returns the place after it.

@@ -1,4 +1,5 @@
 pub mod TempLaws
 pub mod PassLaws
+pub mod TableLaws
 pub mod Keeps
 pub mod Examples

@@ -1,2 +1,3 @@
 pub mod Temps
 pub mod Scratch
+pub mod Table

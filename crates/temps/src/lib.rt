@@ -1,7 +1,10 @@
 // prune_dead_temps, over LF form.
+mod table;
+
 ghost use mathlib.Core.Path.{_≡_};
 ghost use mathlib.Core.Bool.{true, not, _&&_, _||_};
-ghost use Prim.Native.Nat.{_≤_, _+_};
+ghost use mathlib.Core.List.{List};
+ghost use Prim.Native.Nat.{ℕ, _≤_, _+_};
 ghost use lib.ListN.{length};
 ghost use Rattle.lines.specs.Lf.{partsOf, linesOf, unlines, prefixed, same};
 ghost use Rattle.lines.specs.Out.{Wrote};
@@ -12,6 +15,7 @@ ghost use Rattle.reading.specs.Reading.{plain};
 ghost use Rattle.reading.specs.Assign.{isAssign, leftOf};
 ghost use Rattle.temps.specs.Temps.{anyPiece, declares, tempReads, declaredIn, tempRead, pruneDeadTemps};
 ghost use Rattle.temps.specs.Scratch.{tempGoes, tempText, scratchLine, tempScratch};
+ghost use Rattle.temps.specs.Table.{Tells, TellsOf};
 
 // Whether one of the pieces between the commas, trimmed, is a name.
 fn any_piece(s: &[u8], name: &[u8]) -> bool
@@ -119,20 +123,45 @@ fn temp_read(text: &[u8], name: &[u8]) -> bool
     false
 }
 
+// Whether some line of a text declares a temp: the table says so, where it reaches to it.
+fn is_declared(text: &[u8], name: &[u8], declared: &[u8]) -> bool
+    requires { ⌜ (isTemp (now name) ≡ true) × (Tells (λ (x : List ℕ). declaredIn x (linesOf (now text))) (now declared)) ⌝ }
+    ensures { λ r. ⌜ r ≡ declaredIn (now (name .entry)) (linesOf (now (text .entry))) ⌝ }
+{
+    match table::flag_of(name, declared) {
+        table::Flag::Is(b) => b,
+        table::Flag::Past => declared_in(text, name),
+    }
+}
+
+// Whether some line of a text reads a temp that is declared: the table says so, where it reaches to it.
+fn is_read(text: &[u8], name: &[u8], read: &[u8]) -> bool
+    requires { ⌜ ((isTemp (now name) ≡ true) × (declaredIn (now name) (linesOf (now text)) ≡ true))
+        × (TellsOf (λ (x : List ℕ). declaredIn x (linesOf (now text))) (λ (x : List ℕ). tempRead x (linesOf (now text))) (now read)) ⌝ }
+    ensures { λ r. ⌜ r ≡ tempRead (now (name .entry)) (linesOf (now (text .entry))) ⌝ }
+{
+    match table::flag_of(name, read) {
+        table::Flag::Is(b) => b,
+        table::Flag::Past => temp_read(text, name),
+    }
+}
+
 // Whether a temp is dead: some line of a text declares it, and none reads it.
-fn is_dead(text: &[u8], name: &[u8]) -> bool
-    requires { ⌜ isTemp (now name) ≡ true ⌝ }
+fn is_dead(text: &[u8], name: &[u8], declared: &[u8], read: &[u8]) -> bool
+    requires { ⌜ (isTemp (now name) ≡ true)
+        × ((Tells (λ (x : List ℕ). declaredIn x (linesOf (now text))) (now declared)) × (TellsOf (λ (x : List ℕ). declaredIn x (linesOf (now text))) (λ (x : List ℕ). tempRead x (linesOf (now text))) (now read))) ⌝ }
     ensures { λ r. ⌜ r ≡ declaredIn (now (name .entry)) (linesOf (now (text .entry))) && not (tempRead (now (name .entry)) (linesOf (now (text .entry)))) ⌝ }
 {
-    if !declared_in(text, name) {
+    if !is_declared(text, name, declared) {
         return false;
     }
-    !temp_read(text, name)
+    !is_read(text, name, read)
 }
 
 // Whether a line of a text goes. The value of a store of a temp is judged first, and left in `scratch` without its comments.
-fn goes(line: &[u8], text: &[u8], scratch: &mut [u8]) -> bool
-    requires { ⌜ length (now line) ≤ length (now scratch) ⌝ }
+fn goes(line: &[u8], text: &[u8], declared: &[u8], read: &[u8], scratch: &mut [u8]) -> bool
+    requires { ⌜ (length (now line) ≤ length (now scratch))
+        × ((Tells (λ (x : List ℕ). declaredIn x (linesOf (now text))) (now declared)) × (TellsOf (λ (x : List ℕ). declaredIn x (linesOf (now text))) (λ (x : List ℕ). tempRead x (linesOf (now text))) (now read))) ⌝ }
     ensures answer { λ r. ⌜ r ≡ tempGoes plain (linesOf (now (text .entry))) (now (line .entry)) ⌝ }
     ensures memory { λ _. ⌜ now (scratch .exit) ≡ scratchLine (now (line .entry)) (now (scratch .entry)) ⌝ }
 {
@@ -146,23 +175,57 @@ fn goes(line: &[u8], text: &[u8], scratch: &mut [u8]) -> bool
             if !expr::is_pure(expr::purity(reading::right_of(t, s), scratch)) {
                 return false;
             }
-            is_dead(text, name)
+            is_dead(text, name, declared, read)
         }
         reading::Assign::None => false,
     }
 }
 
 // Writes what a line of a text becomes, and returns the place after it.
-fn put_line(line: &[u8], text: &[u8], scratch: &mut [u8], out: &mut [u8], o: usize) -> usize
-    requires { ⌜ (length (now line) ≤ length (now scratch)) × (o + length (tempText plain (linesOf (now text)) (now line)) ≤ length (now out)) ⌝ }
+fn put_line(
+    line: &[u8],
+    text: &[u8],
+    declared: &[u8],
+    read: &[u8],
+    scratch: &mut [u8],
+    out: &mut [u8],
+    o: usize,
+) -> usize
+    requires { ⌜ ((length (now line) ≤ length (now scratch))
+        × ((Tells (λ (x : List ℕ). declaredIn x (linesOf (now text))) (now declared)) × (TellsOf (λ (x : List ℕ). declaredIn x (linesOf (now text))) (λ (x : List ℕ). tempRead x (linesOf (now text))) (now read))))
+        × (o + length (tempText plain (linesOf (now text)) (now line)) ≤ length (now out)) ⌝ }
     ensures answer { λ r. ⌜ Wrote (now (out .entry)) o (tempText plain (linesOf (now (text .entry))) (now (line .entry))) (now (out .exit)) r ⌝ }
     ensures memory { λ _. ⌜ now (scratch .exit) ≡ scratchLine (now (line .entry)) (now (scratch .entry)) ⌝ }
 {
-    if goes(line, text, scratch) {
+    if goes(line, text, declared, read, scratch) {
         return o;
     }
     let p = lines::put(out, o, line);
     lines::put_byte(out, p, 10)
+}
+
+// The same as prune_dead_temps, with tables of the temps that the text declares and reads.
+fn prune_with(
+    text: &[u8],
+    declared: &[u8],
+    read: &[u8],
+    scratch: &mut [u8],
+    out: &mut [u8],
+) -> usize
+    requires { ⌜ ((length (now text) ≤ length (now scratch))
+        × ((Tells (λ (x : List ℕ). declaredIn x (linesOf (now text))) (now declared)) × (TellsOf (λ (x : List ℕ). declaredIn x (linesOf (now text))) (λ (x : List ℕ). tempRead x (linesOf (now text))) (now read))))
+        × (length (unlines (pruneDeadTemps plain (linesOf (now text)))) ≤ length (now out)) ⌝ }
+    ensures answer { λ r. ⌜ Wrote (now (out .entry)) 0 (unlines (pruneDeadTemps plain (linesOf (now (text .entry))))) (now (out .exit)) r ⌝ }
+    ensures memory { λ _. ⌜ now (scratch .exit) ≡ tempScratch (linesOf (now (text .entry))) (now (scratch .entry)) ⌝ }
+{
+    let mut i = 0;
+    let mut o = 0;
+    while i < text.len() {
+        let e = lines::find_byte(text, i, 10);
+        o = put_line(&text[i..e], text, declared, read, scratch, out, o);
+        i = lines::after(text, e);
+    }
+    o
 }
 
 // A store of a declared temp that nothing reads goes, where its value is pure. Each line is followed by one LF; the values of the stores
@@ -172,12 +235,9 @@ pub fn prune_dead_temps(text: &[u8], scratch: &mut [u8], out: &mut [u8]) -> usiz
     ensures answer { λ r. ⌜ Wrote (now (out .entry)) 0 (unlines (pruneDeadTemps plain (linesOf (now (text .entry))))) (now (out .exit)) r ⌝ }
     ensures memory { λ _. ⌜ now (scratch .exit) ≡ tempScratch (linesOf (now (text .entry))) (now (scratch .entry)) ⌝ }
 {
-    let mut i = 0;
-    let mut o = 0;
-    while i < text.len() {
-        let e = lines::find_byte(text, i, 10);
-        o = put_line(&text[i..e], text, scratch, out, o);
-        i = lines::after(text, e);
-    }
-    o
+    let mut declared = [0u8; 1024];
+    let mut read = [0u8; 1024];
+    table::flag_decls(text, &mut declared);
+    table::flag_used(text, &declared, &mut read);
+    prune_with(text, &declared, &read, scratch, out)
 }

@@ -1,23 +1,17 @@
 -- `bind::any_bound` meets its contract. Assumes nothing.
-use Rattle.bind.proofs.SiteLaws.{pass-on, pass-last, pass-hit}
-use Rattle.bind.specs.Steps.{boundAt, passes, anyPass}
-use Rattle.names.specs.Names.{regOf}
-use Rattle.text.specs.Trim.{trimOf}
-use Rattle.lines.specs.Lf.{partsOf}
-use lib.ListN.{length, drop}
+use Prim.Native.Nat.{ℕ, _-_, _≤_}
+use native.Mathlib.Omega.{arith}
+use borrow.Author.Needs.{needs}
 use mathlib.Core.List.{List}
 use mathlib.Core.Path.{_≡_, refl, sym, ap, _∙_}
-use borrow.Author.Needs.{needs}
-use native.Mathlib.Omega.{arith}
-use Prim.Native.Nat.{ℕ, _-_, _≤_}
+use lib.ListN.{length, drop}
+use Rattle.lines.specs.Lf.{partsOf}
+use Rattle.text.specs.Trim.{trimOf}
+use Rattle.names.specs.Names.{regOf}
+use Rattle.bind.specs.Steps.{boundAt, passes, anyPass}
+use Rattle.bind.proofs.SiteLaws.{pass-on, pass-last, pass-hit}
 use Rattle.bind.proofs.any_bound.Statement.{statement}
 use Rattle.bind.proofs.any_bound.Tie as tie
-use Rattle.bind.proofs.any_bound.Reads as reads
-use Rattle.bind.proofs.any_bound.Lts as lts
-use Rattle.bind.proofs.is_bound.Reads as is-bound-reads
-use Rattle.lines.proofs.cut.Reads as cut-reads
-use Rattle.lines.proofs.find_byte.Reads as find-byte-reads
-use Rattle.text.proofs.trim.Reads as trim-reads
 
 abbrev Inv-loop : tie.InvT-loop
 Inv-loop body text s blocks starts seen first i₀ i = (i ≤ length body) × (anyPass (boundAt text s blocks starts) (partsOf 44 (drop i body)) ≡ anyPass (boundAt text s blocks starts) (partsOf 44 body))
@@ -25,47 +19,37 @@ Inv-loop body text s blocks starts seen first i₀ i = (i ≤ length body) × (a
 abbrev μ-loop : tie.MeasureT-loop
 μ-loop body text s blocks starts seen first i₀ i = length body - i
 
--- src/lib.rt:228:5
 loop-holds : tie.Need-loop-holds Inv-loop μ-loop
 loop-holds c = (omega arith, refl)
 
--- src/lib.rt:229:13
 find-byte-requires : tie.Need-find-byte-requires Inv-loop μ-loop
 find-byte-requires c κs = search needs
 
--- src/lib.rt:230:57
 cut-requires : tie.Need-cut-requires Inv-loop μ-loop
 cut-requires c κs = search needs
 
--- src/lib.rt:230:46
 trim-requires : tie.Need-trim-requires Inv-loop μ-loop
 trim-requires c κs = search needs
 
--- src/lib.rt:230:12
 is-bound-requires : tie.Need-is-bound-requires Inv-loop μ-loop
 is-bound-requires c κs = c .before .before .before .before .before .before .before .before .before .before .pre
 
--- src/lib.rt:231:13
 returns : tie.Need-returns Inv-loop μ-loop
 returns c = let a = c .before .before .before .before .before .before .before .before .before .before .before .before .args in
     let f = c .before .before .before .before .find-byte in
     sym (pass-hit (boundAt (a .text .now) (a .s) (a .blocks .now) (a .starts .now)) (a .body .now) (c .before .before .before .before .before .loop .i) (f .result) (c .before .before .before .before .before .loop .inv .0) (f .ensures) (c .before .is-bound .result) (c .before .is-bound .ensures ∙ ap (λ (t : List ℕ). passes (boundAt (a .text .now) (a .s) (a .blocks .now) (a .starts .now)) (regOf t)) (c .before .before .trim .ensures .0 ∙ ap trimOf (c .before .before .before .cut .ensures))) (c .if1 .taken)) ∙ c .before .before .before .before .before .loop .inv .1
 
--- src/lib.rt:234:13
 returns-2 : tie.Need-returns-2 Inv-loop μ-loop
 returns-2 c = let a = c .before .before .before .before .before .before .before .before .before .before .before .before .before .args in
     let f = c .before .before .before .before .before .find-byte in
     sym (pass-last (boundAt (a .text .now) (a .s) (a .blocks .now) (a .starts .now)) (a .body .now) (c .before .before .before .before .before .before .loop .i) (f .result) (c .before .before .before .before .before .before .loop .inv .0) (f .ensures) (c .before .before .is-bound .result) (c .before .before .is-bound .ensures ∙ ap (λ (t : List ℕ). passes (boundAt (a .text .now) (a .s) (a .blocks .now) (a .starts .now)) (regOf t)) (c .before .before .before .trim .ensures .0 ∙ ap trimOf (c .before .before .before .before .cut .ensures))) (c .if2 .taken) (c .before .if1 .left)) ∙ c .before .before .before .before .before .before .loop .inv .1
 
--- src/lib.rt:236:13
 add-i : tie.Need-add-i Inv-loop μ-loop
 add-i c = omega arith
 
--- src/lib.rt:228:5
 loop-less : tie.Need-loop-less Inv-loop μ-loop
 loop-less c = omega (arith, c .before .before .before .before .before .find-byte .ensures)
 
--- src/lib.rt:228:5
 loop-again : tie.Need-loop-again Inv-loop μ-loop
 loop-again c = let a = c .before .before .before .before .before .before .before .before .before .before .before .before .before .args in
     let f = c .before .before .before .before .before .find-byte in

@@ -1,54 +1,38 @@
 -- `bind::bind_declarators` meets its contract. Assumes nothing.
-use Rattle.bind.proofs.WalkLaws.{rows-filled, table-count, cleared, filled-at}
-use Rattle.place.proofs.Fills.{filled-then, filled-length}
-use lib.ListN.{length}
-use Rattle.lines.specs.Lf.{linesOf}
-use mathlib.Core.Path.{sym, ap, _∙_}
 use native.Mathlib.Omega.{arith}
 use borrow.Author.Needs.{needs}
+use Rattle.lines.specs.Lf.{linesOf}
+use Rattle.place.proofs.Fills.{filled-then}
+use Rattle.bind.proofs.WalkLaws.{rows-filled, table-count, cleared, filled-at}
 use Rattle.bind.proofs.bind_declarators.Statement.{statement}
 use Rattle.bind.proofs.bind_declarators.Tie as tie
-use Rattle.bind.proofs.bind_declarators.Reads as reads
-use Rattle.bind.proofs.bind_declarators.Lts as lts
-use Rattle.bind.proofs.clear.Reads as clear-reads
-use Rattle.bind.proofs.walk.Reads as walk-reads
-use Rattle.place.proofs.place_lines.Reads as place-lines-reads
 
--- src/lib.rt:435:9
 place-lines-requires : tie.Need-place-lines-requires
 place-lines-requires c κs = search needs
 
--- src/lib.rt:436:5
 clear-requires : tie.Need-clear-requires
 clear-requires c κs = omega (arith, c .before .before .before .before .before .before .before .before .before .before .before .before .before .before .before .before .before .pre .1 .0, table-count (linesOf (c .before .before .before .before .before .before .before .before .before .before .before .before .before .before .before .before .before .args .text .now)) (c .before .before .before .before .before .before .before .place-lines .ensures .0))
 
--- src/lib.rt:437:5
 walk-requires : tie.Need-walk-requires
 walk-requires c κs = let a = c .before .before .before .before .before .before .before .before .before .before .before .before .before .before .before .before .before .before .before .before .before .before .before .before .args in
     let p = c .before .before .before .before .before .before .before .before .before .before .before .before .before .before .place-lines .ensures in
     (rows-filled (linesOf (a .text .now)) (p .0) (p .1 .0), (omega (arith, c .before .before .before .before .before .before .before .before .before .before .before .before .before .before .before .before .before .before .before .before .before .before .before .before .pre .1 .0, c .before .before .before .before .before .before .clear .ensures .place), (cleared (table-count (linesOf (a .text .now)) (p .0)) (c .before .before .before .before .before .before .clear .ensures), c .before .before .before .before .before .before .before .before .before .before .before .before .before .before .before .before .before .before .before .before .before .before .before .before .pre .1 .1)))
 
--- src/lib.rt:417:1
 same-length : tie.Need-same-length
 same-length c = search needs
 
--- src/lib.rt:417:1
 same-length-2 : tie.Need-same-length-2
 same-length-2 c = search needs
 
--- src/lib.rt:417:1
 same-length-3 : tie.Need-same-length-3
 same-length-3 c = search needs
 
--- src/lib.rt:417:1
 same-length-4 : tie.Need-same-length-4
 same-length-4 c = search needs
 
--- src/lib.rt:417:1
 same-length-5 : tie.Need-same-length-5
 same-length-5 c = search needs
 
--- src/lib.rt:417:1
 returns : tie.Need-returns
 returns c = let a = c .before .before .before .before .before .before .before .before .before .before .before .before .before .before .before .before .before .before .before .before .before .before .before .before .before .before .before .before .before .args in
     let p = c .before .before .before .before .before .before .before .before .before .before .before .before .before .before .before .before .before .before .before .place-lines .ensures in

@@ -1,62 +1,43 @@
 -- `bind::bound` meets its contract. Assumes nothing.
-use Rattle.bind.proofs.SiteLaws.{bound-decls, bound-stores, bound-used, bound-first, reach-at}
 use borrow.Author.Tests.{not-true, not-false}
-use mathlib.Core.Path.{sym, _∙_}
 use borrow.Author.Needs.{needs}
+use Rattle.bind.proofs.SiteLaws.{bound-decls, bound-stores, bound-used, bound-first, reach-at}
 use Rattle.bind.proofs.bound.Statement.{statement}
 use Rattle.bind.proofs.bound.Tie as tie
-use Rattle.bind.proofs.bound.Reads as reads
-use Rattle.bind.proofs.bound.Lts as lts
-use Rattle.bind.proofs.declared_once.Reads as declared-once-reads
-use Rattle.bind.proofs.store_first.Reads as store-first-reads
-use Rattle.bind.proofs.stored_once.Reads as stored-once-reads
-use Rattle.lines.proofs.cut.Reads as cut-reads
-use Rattle.reading.proofs.uses.Reads as uses-reads
 
--- src/lib.rt:186:9
 cut-requires : tie.Need-cut-requires
 cut-requires c κs = search needs
 
--- src/lib.rt:187:9
 cut-requires-2 : tie.Need-cut-requires-2
 cut-requires-2 c κs = search needs
 
--- src/lib.rt:188:30
 cut-requires-3 : tie.Need-cut-requires-3
 cut-requires-3 c κs = search needs
 
--- src/lib.rt:188:9
 declared-once-requires : tie.Need-declared-once-requires
 declared-once-requires c κs = search needs
 
--- src/lib.rt:189:9
 returns : tie.Need-returns
 returns c = let a = c .before .before .before .before .before .before .before .before .args in
     bound-decls (a .text .now) (a .s) (a .blocks .now) (a .starts .now) (a .reg .0) (c .before .before .before .before .cut .result .now) (c .before .before .cut3 .result .now) (c .before .before .before .cut2 .result .now) (c .before .before .before .before .cut .ensures) (c .before .before .cut3 .ensures) (c .before .before .before .cut2 .ensures) (c .before .declared-once .result) (c .before .declared-once .ensures) (not-true _ (c .if1 .taken))
 
--- src/lib.rt:191:9
 stored-once-requires : tie.Need-stored-once-requires
 stored-once-requires c κs = search needs
 
--- src/lib.rt:192:9
 returns-2 : tie.Need-returns-2
 returns-2 c = let a = c .before .before .before .before .before .before .before .before .before .before .args in
     bound-stores (a .text .now) (a .s) (a .blocks .now) (a .starts .now) (a .reg .0) (c .before .before .before .before .before .before .cut .result .now) (c .before .before .before .before .cut3 .result .now) (c .before .before .before .before .before .cut2 .result .now) (c .before .before .before .before .before .before .cut .ensures) (c .before .before .before .before .cut3 .ensures) (c .before .before .before .before .before .cut2 .ensures) (c .before .before .before .declared-once .result) (c .before .before .before .declared-once .ensures) (not-false _ (c .before .before .if1 .left)) (c .before .stored-once .result) (c .before .stored-once .ensures) (not-true _ (c .if2 .taken))
 
--- src/lib.rt:194:8
 uses-requires : tie.Need-uses-requires
 uses-requires c κs = search needs
 
--- src/lib.rt:195:9
 returns-3 : tie.Need-returns-3
 returns-3 c = let a = c .before .before .before .before .before .before .before .before .before .before .before .before .args in
     bound-used (a .text .now) (a .s) (a .blocks .now) (a .starts .now) (a .reg .0) (c .before .before .before .before .before .before .before .before .cut .result .now) (c .before .before .before .before .before .before .cut3 .result .now) (c .before .before .before .before .before .before .before .cut2 .result .now) (c .before .before .before .before .before .before .before .before .cut .ensures) (c .before .before .before .before .before .before .cut3 .ensures) (c .before .before .before .before .before .before .before .cut2 .ensures) (c .before .before .before .before .before .declared-once .result) (c .before .before .before .before .before .declared-once .ensures) (not-false _ (c .before .before .before .before .if1 .left)) (c .before .before .before .stored-once .result) (c .before .before .before .stored-once .ensures) (not-false _ (c .before .before .if2 .left)) (c .before .uses .result) (c .before .uses .ensures) (c .if3 .taken)
 
--- src/lib.rt:197:5
 store-first-requires : tie.Need-store-first-requires
 store-first-requires c κs = reach-at (c .before .before .before .before .before .before .before .before .before .before .before .before .args .text .now) (c .before .before .before .before .before .before .before .before .before .before .before .before .args .s) (c .before .before .before .before .before .before .before .before .before .before .before .before .args .blocks .now) (c .before .before .before .before .before .before .before .before .before .before .before .before .args .starts .now) (c .before .before .before .before .before .before .before .cut2 .result .now) (c .before .before .before .before .before .before .before .cut2 .ensures) (c .before .before .before .before .before .before .before .before .before .before .before .before .pre)
 
--- src/lib.rt:182:1
 returns-4 : tie.Need-returns-4
 returns-4 c = let a = c .before .before .before .before .before .before .before .before .before .before .before .before .before .args in
     bound-first (a .text .now) (a .s) (a .blocks .now) (a .starts .now) (a .reg .0) (c .before .before .before .before .before .before .before .before .before .cut .result .now) (c .before .before .before .before .before .before .before .cut3 .result .now) (c .before .before .before .before .before .before .before .before .cut2 .result .now) (c .before .before .before .before .before .before .before .before .before .cut .ensures) (c .before .before .before .before .before .before .before .cut3 .ensures) (c .before .before .before .before .before .before .before .before .cut2 .ensures) (c .before .before .before .before .before .before .declared-once .result) (c .before .before .before .before .before .before .declared-once .ensures) (not-false _ (c .before .before .before .before .before .if1 .left)) (c .before .before .before .before .stored-once .result) (c .before .before .before .before .stored-once .ensures) (not-false _ (c .before .before .before .if2 .left)) (c .before .before .uses .result) (c .before .before .uses .ensures) (c .before .if3 .left) (c .store-first .result) (c .store-first .ensures)

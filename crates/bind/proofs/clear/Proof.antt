@@ -1,12 +1,9 @@
 -- `bind::clear` meets its contract. Assumes nothing.
-use Rattle.bind.proofs.WalkLaws.{ClearInv, clear-start, clear-in, clear-on, clear-end, clear-length}
-use lib.ListN.{length, replicate}
+use Prim.Native.Nat.{_-_}
 use native.Mathlib.Omega.{arith}
-use Prim.Native.Nat.{_-_, _≤_}
+use Rattle.bind.proofs.WalkLaws.{ClearInv, clear-start, clear-in, clear-on, clear-end, clear-length}
 use Rattle.bind.proofs.clear.Statement.{statement}
 use Rattle.bind.proofs.clear.Tie as tie
-use Rattle.bind.proofs.clear.Reads as reads
-use Rattle.bind.proofs.clear.Lts as lts
 
 abbrev Inv-loop : tie.InvT-loop
 Inv-loop marks₀ n k₀ marks k = ClearInv marks₀ marks n k
@@ -14,31 +11,24 @@ Inv-loop marks₀ n k₀ marks k = ClearInv marks₀ marks n k
 abbrev μ-loop : tie.MeasureT-loop
 μ-loop marks₀ n k₀ marks k = n - k
 
--- src/lib.rt:370:5
 loop-holds : tie.Need-loop-holds Inv-loop μ-loop
 loop-holds c = clear-start (c .args .marks .now) (c .args .n) (c .pre)
 
--- src/lib.rt:371:9
 slice-write-marks : tie.Need-slice-write-marks Inv-loop μ-loop
 slice-write-marks c = clear-in (c .before .loop .inv) (c .loop-test .taken)
 
--- src/lib.rt:372:9
 add-k : tie.Need-add-k Inv-loop μ-loop
 add-k c = omega arith
 
--- src/lib.rt:370:5
 loop-less : tie.Need-loop-less Inv-loop μ-loop
 loop-less c = omega arith
 
--- src/lib.rt:370:5
 loop-again : tie.Need-loop-again Inv-loop μ-loop
 loop-again c = clear-on (c .before .loop .inv) (c .loop-test .taken)
 
--- src/lib.rt:365:1
 same-length : tie.Need-same-length Inv-loop μ-loop
 same-length c = clear-length (c .before .loop .inv)
 
--- src/lib.rt:365:1
 returns : tie.Need-returns Inv-loop μ-loop
 returns c = clear-end (c .before .loop .inv) (c .loop-test .left)
 

@@ -1,20 +1,14 @@
 -- `bind::count_decls` meets its contract. Assumes nothing.
-use Rattle.bind.proofs.CountLaws.{decls-on, decls-end}
-use Rattle.bind.specs.Bind.{declCount}
-use Rattle.lines.specs.Lf.{linesOf}
-use lib.ListN.{length, drop}
-use mathlib.Core.Path.{_≡_, refl}
-use borrow.Author.Needs.{needs}
-use native.Mathlib.Omega.{arith}
 use Prim.Native.Nat.{_+_, _-_, _≤_, min}
+use native.Mathlib.Omega.{arith}
+use borrow.Author.Needs.{needs}
+use mathlib.Core.Path.{_≡_, refl}
+use lib.ListN.{length, drop}
+use Rattle.lines.specs.Lf.{linesOf}
+use Rattle.bind.specs.Bind.{declCount}
+use Rattle.bind.proofs.CountLaws.{decls-on, decls-end}
 use Rattle.bind.proofs.count_decls.Statement.{statement}
 use Rattle.bind.proofs.count_decls.Tie as tie
-use Rattle.bind.proofs.count_decls.Reads as reads
-use Rattle.bind.proofs.count_decls.Lts as lts
-use Rattle.bind.proofs.line_decls.Reads as line-decls-reads
-use Rattle.lines.proofs.after.Reads as after-reads
-use Rattle.lines.proofs.cut.Reads as cut-reads
-use Rattle.lines.proofs.find_byte.Reads as find-byte-reads
 
 abbrev Inv-loop : tie.InvT-loop
 Inv-loop text reg n i₀ m₀ i m = (m ≤ 2) × ((i ≤ length text) × (min (m + declCount (reg .0) (linesOf (drop i text))) 2 ≡ min (n + declCount (reg .0) (linesOf text)) 2))
@@ -22,36 +16,28 @@ Inv-loop text reg n i₀ m₀ i m = (m ≤ 2) × ((i ≤ length text) × (min (m
 abbrev μ-loop : tie.MeasureT-loop
 μ-loop text reg n i₀ m₀ i m = length text - i
 
--- src/lib.rt:92:5
 loop-holds : tie.Need-loop-holds Inv-loop μ-loop
 loop-holds c = (c .before .pre, (omega arith, refl))
 
--- src/lib.rt:93:13
 find-byte-requires : tie.Need-find-byte-requires Inv-loop μ-loop
 find-byte-requires c κs = search needs
 
--- src/lib.rt:94:24
 cut-requires : tie.Need-cut-requires Inv-loop μ-loop
 cut-requires c κs = search needs
 
--- src/lib.rt:94:9
 line-decls-requires : tie.Need-line-decls-requires Inv-loop μ-loop
 line-decls-requires c κs = c .before .before .before .loop .inv .0
 
--- src/lib.rt:95:9
 after-requires : tie.Need-after-requires Inv-loop μ-loop
 after-requires c κs = search needs
 
--- src/lib.rt:92:5
 loop-less : tie.Need-loop-less Inv-loop μ-loop
 loop-less c = omega (arith, c .after .ensures, c .before .before .before .find-byte .ensures, c .before .before .before .before .loop-test .taken)
 
--- src/lib.rt:92:5
 loop-again : tie.Need-loop-again Inv-loop μ-loop
 loop-again c = let f = c .before .before .before .find-byte in
     (omega (arith, c .before .line-decls .ensures), (omega (arith, c .after .ensures), omega (arith, c .before .line-decls .ensures, decls-on (c .before .before .before .before .before .before .before .args .reg .0) (c .before .before .before .before .before .before .before .args .text .now) (c .before .before .before .before .before .loop .i) (f .result) (c .after .result) (c .before .before .before .before .loop-test .taken) (f .ensures) (c .after .ensures) (c .before .before .cut .result .now) (c .before .before .cut .ensures), c .before .before .before .before .before .loop .inv .1 .1)))
 
--- src/lib.rt:86:1
 returns : tie.Need-returns Inv-loop μ-loop
 returns c = omega (arith, c .before .loop .inv .0, decls-end (c .before .before .before .args .reg .0) (c .before .before .before .args .text .now) (c .before .loop .i) (c .loop-test .left), c .before .loop .inv .1 .1)
 

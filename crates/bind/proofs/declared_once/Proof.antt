@@ -1,29 +1,21 @@
 -- `bind::declared_once` meets its contract. Assumes nothing.
+use borrow.Author.Needs.{needs}
 use mathlib.Core.List.{[], _∷_}
 use Rattle.lines.specs.Lf.{linesOf}
 use Rattle.bind.specs.Bind.{declCount}
 use Rattle.bind.proofs.CountLaws.{once-three}
-use borrow.Author.Needs.{needs}
 use Rattle.bind.proofs.declared_once.Statement.{statement}
 use Rattle.bind.proofs.declared_once.Tie as tie
-use Rattle.bind.proofs.declared_once.Reads as reads
-use Rattle.bind.proofs.declared_once.Lts as lts
-use Rattle.bind.proofs.count_decls.Reads as count-decls-reads
-use Rattle.bind.proofs.line_decls.Reads as line-decls-reads
 
--- src/lib.rt:144:9
 count-decls-requires : tie.Need-count-decls-requires
 count-decls-requires c κs = search needs
 
--- src/lib.rt:145:9
 line-decls-requires : tie.Need-line-decls-requires
 line-decls-requires c κs = search needs
 
--- src/lib.rt:146:9
 count-decls-requires-2 : tie.Need-count-decls-requires-2
 count-decls-requires-2 c κs = search needs
 
--- src/lib.rt:141:1
 returns : tie.Need-returns
 returns c = let a = c .before .before .before .before .before .before .args in
     once-three (c .before .before .count-decls .result) (c .before .line-decls .result) (c .count-decls2 .result) (declCount (a .reg .0) (linesOf (a .above .now))) (declCount (a .reg .0) (a .line .now ∷ [])) (declCount (a .reg .0) (linesOf (a .below .now))) (c .before .before .count-decls .ensures) (c .before .line-decls .ensures) (c .count-decls2 .ensures)

@@ -1,20 +1,14 @@
 -- `bind::first_use` meets its contract. Assumes nothing.
-use Rattle.bind.proofs.CountLaws.{use-hit, use-on, use-end, rows-on}
-use Rattle.bind.specs.Steps.{useRow}
-use Rattle.lines.specs.Lf.{linesOf}
-use lib.ListN.{length, drop}
-use mathlib.Core.Path.{_≡_, refl, sym, _∙_}
-use borrow.Author.Needs.{needs}
-use native.Mathlib.Omega.{arith}
 use Prim.Native.Nat.{_+_, _-_, _≤_}
+use native.Mathlib.Omega.{arith}
+use borrow.Author.Needs.{needs}
+use mathlib.Core.Path.{_≡_, refl, sym, _∙_}
+use lib.ListN.{length, drop}
+use Rattle.lines.specs.Lf.{linesOf}
+use Rattle.bind.specs.Steps.{useRow}
+use Rattle.bind.proofs.CountLaws.{use-hit, use-on, use-end, rows-on}
 use Rattle.bind.proofs.first_use.Statement.{statement}
 use Rattle.bind.proofs.first_use.Tie as tie
-use Rattle.bind.proofs.first_use.Reads as reads
-use Rattle.bind.proofs.first_use.Lts as lts
-use Rattle.lines.proofs.after.Reads as after-reads
-use Rattle.lines.proofs.cut.Reads as cut-reads
-use Rattle.lines.proofs.find_byte.Reads as find-byte-reads
-use Rattle.reading.proofs.line_uses.Reads as line-uses-reads
 
 abbrev Inv-loop : tie.InvT-loop
 Inv-loop text reg i₀ k₀ i k = (i ≤ length text) × ((k ≤ i) × ((k + useRow (reg .0) (linesOf (drop i text)) ≡ useRow (reg .0) (linesOf text)) × (linesOf (drop i text) ≡ drop k (linesOf text))))
@@ -22,46 +16,36 @@ Inv-loop text reg i₀ k₀ i k = (i ≤ length text) × ((k ≤ i) × ((k + use
 abbrev μ-loop : tie.MeasureT-loop
 μ-loop text reg i₀ k₀ i k = length text - i
 
--- src/lib.rt:121:5
 loop-holds : tie.Need-loop-holds Inv-loop μ-loop
 loop-holds c = (omega arith, (omega arith, (omega arith, refl)))
 
--- src/lib.rt:122:13
 find-byte-requires : tie.Need-find-byte-requires Inv-loop μ-loop
 find-byte-requires c κs = search needs
 
--- src/lib.rt:123:31
 cut-requires : tie.Need-cut-requires Inv-loop μ-loop
 cut-requires c κs = search needs
 
--- src/lib.rt:123:12
 line-uses-requires : tie.Need-line-uses-requires Inv-loop μ-loop
 line-uses-requires c κs = search needs
 
--- src/lib.rt:124:13
 returns : tie.Need-returns Inv-loop μ-loop
 returns c = let f = c .before .before .before .find-byte in
     (omega (arith, c .before .before .before .before .before .loop .inv .1 .1 .0, use-hit (c .before .before .before .before .before .before .before .args .reg .0) (c .before .before .before .before .before .before .before .args .text .now) (c .before .before .before .before .before .loop .i) (f .result) _ (c .before .before .before .before .loop-test .taken) (f .ensures) refl (c .before .before .cut .result .now) (c .before .before .cut .ensures) (sym (c .before .line-uses .ensures) ∙ c .if1 .taken)), c .before .before .before .before .before .loop .inv .1 .1 .1)
 
--- src/lib.rt:126:9
 add-k : tie.Need-add-k Inv-loop μ-loop
 add-k c = omega arith
 
--- src/lib.rt:127:9
 after-requires : tie.Need-after-requires Inv-loop μ-loop
 after-requires c κs = search needs
 
--- src/lib.rt:121:5
 loop-less : tie.Need-loop-less Inv-loop μ-loop
 loop-less c = omega (arith, c .after .ensures, c .before .before .before .before .find-byte .ensures, c .before .before .before .before .before .loop-test .taken)
 
--- src/lib.rt:121:5
 loop-again : tie.Need-loop-again Inv-loop μ-loop
 loop-again c = let f = c .before .before .before .before .find-byte in
     let l = c .before .before .before .before .before .before .loop in
     (omega (arith, c .after .ensures), (omega (arith, c .after .ensures, f .ensures, l .inv .1 .0), (omega (arith, l .inv .1 .1 .0, use-on (c .before .before .before .before .before .before .before .before .args .reg .0) (c .before .before .before .before .before .before .before .before .args .text .now) (l .i) (f .result) (c .after .result) (c .before .before .before .before .before .loop-test .taken) (f .ensures) (c .after .ensures) (c .before .before .before .cut .result .now) (c .before .before .before .cut .ensures) (sym (c .before .before .line-uses .ensures) ∙ c .before .if1 .left)), rows-on (c .before .before .before .before .before .before .before .before .args .reg .0) (c .before .before .before .before .before .before .before .before .args .text .now) (l .i) (f .result) (c .after .result) (c .before .before .before .before .before .loop-test .taken) (f .ensures) (c .after .ensures) (c .before .before .before .cut .result .now) (c .before .before .before .cut .ensures) (l .k) (l .inv .1 .1 .1))))
 
--- src/lib.rt:115:1
 returns-2 : tie.Need-returns-2 Inv-loop μ-loop
 returns-2 c = (omega (arith, c .before .loop .inv .1 .1 .0, use-end (c .before .before .before .args .reg .0) (c .before .before .before .args .text .now) (c .before .loop .i) (c .loop-test .left)), c .before .loop .inv .1 .1 .1)
 

@@ -1,42 +1,30 @@
 -- `bind::gives_up` meets its contract. Assumes nothing.
-use Rattle.bind.proofs.SiteLaws.{gives-no, gives-yes}
-use Rattle.bind.specs.Steps.{boundAt}
-use Rattle.decls.proofs.Writes.{decl-long}
-use borrow.Author.Tests.{not-true, not-false}
-use mathlib.Core.Bool.{Bool, _&&_}
-use mathlib.Core.Path.{sym, ap, _∙_}
 use native.Mathlib.Omega.{arith}
+use borrow.Author.Tests.{not-true, not-false}
 use borrow.Author.Needs.{needs}
+use mathlib.Core.Path.{sym, _∙_}
+use Rattle.decls.proofs.Writes.{decl-long}
+use Rattle.bind.specs.Steps.{boundAt}
+use Rattle.bind.proofs.SiteLaws.{gives-no, gives-yes}
 use Rattle.bind.proofs.gives_up.Statement.{statement}
 use Rattle.bind.proofs.gives_up.Tie as tie
-use Rattle.bind.proofs.gives_up.Reads as reads
-use Rattle.bind.proofs.gives_up.Lts as lts
-use Rattle.bind.proofs.any_bound.Reads as any-bound-reads
-use Rattle.lines.proofs.cut.Reads as cut-reads
-use Rattle.parse.proofs.is_decl.Reads as is-decl-reads
 
--- src/lib.rt:332:9
 is-decl-requires : tie.Need-is-decl-requires
 is-decl-requires c κs = search needs
 
--- src/lib.rt:333:9
 returns : tie.Need-returns
 returns c = let a = c .before .before .before .before .before .before .before .before .args in
     gives-no (boundAt (a .text .now) (a .s) (a .blocks .now) (a .starts .now)) (a .t .now) (c .before .is-decl .result) (c .before .is-decl .ensures) (not-true _ (c .if1 .taken))
 
--- src/lib.rt:335:32
 sub-cut : tie.Need-sub-cut
 sub-cut c = omega (arith, decl-long _ (sym (c .before .is-decl .ensures) ∙ not-false _ (c .if1 .left)))
 
--- src/lib.rt:335:15
 cut-requires : tie.Need-cut-requires
 cut-requires c κs = search needs
 
--- src/lib.rt:335:5
 any-bound-requires : tie.Need-any-bound-requires
 any-bound-requires c κs = let p = c .before .before .before .before .before .before .before .before .before .pre in (p .0, p .1 (sym (c .before .before .is-decl .ensures) ∙ not-false _ (c .before .if1 .left)))
 
--- src/lib.rt:328:1
 returns-2 : tie.Need-returns-2
 returns-2 c = let a = c .before .before .before .before .before .before .before .before .before .before .args in
     gives-yes (boundAt (a .text .now) (a .s) (a .blocks .now) (a .starts .now)) (a .t .now) (c .before .before .before .is-decl .result) (c .before .before .before .is-decl .ensures) (not-false _ (c .before .before .if1 .left)) (c .before .cut .result .now) (c .before .cut .ensures) (c .any-bound .result) (c .any-bound .ensures)

@@ -1,37 +1,27 @@
 -- `bind::is_left` meets its contract. Assumes nothing.
-use Rattle.bind.specs.Steps.{boundAt, fails}
+use borrow.Author.Needs.{needs}
 use mathlib.Core.Bool.{not}
 use mathlib.Core.Path.{sym, ap, _∙_}
-use borrow.Author.Needs.{needs}
+use Rattle.bind.specs.Steps.{boundAt, fails}
 use Rattle.bind.proofs.is_left.Statement.{statement}
 use Rattle.bind.proofs.is_left.Tie as tie
-use Rattle.bind.proofs.is_left.Reads as reads
-use Rattle.bind.proofs.is_left.Lts as lts
-use Rattle.bind.proofs.told.Reads as told-reads
-use Rattle.names.proofs.reg_name.Reads as reg-name-reads
 
--- src/lib.rt:216:11
 reg-name-requires : tie.Need-reg-name-requires
 reg-name-requires c κs = search needs
 
--- src/lib.rt:217:29
 enum-known-q : tie.Need-enum-known-q
 enum-known-q c = search needs
 
--- src/lib.rt:217:36
 told-requires : tie.Need-told-requires
 told-requires c κs = search needs
 
--- src/lib.rt:218:33
 enum-told : tie.Need-enum-told
 enum-told c = search needs
 
--- src/lib.rt:212:1
 returns : tie.Need-returns
 returns c = let a = c .before .before .before .before .before .before .before .before .before .before .before .args in
     ap not (c .told .ensures) ∙ sym (ap (fails (boundAt (a .text .now) (a .s) (a .blocks .now) (a .starts .now))) (sym (c .before .before .before .before .reg-name .ensures) ∙ c .before .before .q .given .1))
 
--- src/lib.rt:212:1
 returns-2 : tie.Need-returns-2
 returns-2 c = let a = c .before .before .before .before .before .before .before .before .before .args in
     sym (ap (fails (boundAt (a .text .now) (a .s) (a .blocks .now) (a .starts .now))) (sym (c .before .before .reg-name .ensures) ∙ c .enum-told .given .1))

@@ -7,31 +7,21 @@ use mathlib.Core.Path.{sym, _∙_}
 use native.Mathlib.Omega.{arith}
 use Rattle.bind.proofs.mark_name.Statement.{statement}
 use Rattle.bind.proofs.mark_name.Tie as tie
-use Rattle.bind.proofs.mark_name.Reads as reads
-use Rattle.bind.proofs.mark_name.Lts as lts
-use Rattle.bind.proofs.store_row.Reads as store-row-reads
-use Rattle.bind.proofs.told.Reads as told-reads
-use Rattle.names.proofs.reg_name.Reads as reg-name-reads
 
--- src/lib.rt:275:11
 reg-name-requires : tie.Need-reg-name-requires
 reg-name-requires c κs = search needs
 
--- src/lib.rt:276:29
 enum-known-q : tie.Need-enum-known-q
 enum-known-q c = search needs
 
--- src/lib.rt:277:17
 told-requires : tie.Need-told-requires
 told-requires c κs = search needs
 
--- src/lib.rt:278:17
 returns : tie.Need-returns
 returns c =
     let a = c .before .before .before .before .before .before .before .before .before .before .before .before .before .args in
     noted-kept (boundAt (a .text .now) (a .s) (a .blocks .now) (a .starts .now)) (markRow (a .text .now) (a .s)) _ (a .marks .now) _ (sym (c .before .before .before .before .before .reg-name .ensures) ∙ c .before .before .before .q .given .1) (c .before .told .result) (c .before .told .ensures) (not-true _ (c .if1 .taken))
 
--- src/lib.rt:280:17
 store-row-requires : tie.Need-store-row-requires
 store-row-requires c κs =
     let a = c .before .before .before .before .before .before .before .before .before .before .before .before .before .args in
@@ -40,7 +30,6 @@ store-row-requires c κs =
     let y = not-false _ (c .if1 .left) in
     (λ h. p .0 .1 .row v h (sym (c .before .told .ensures) ∙ y), omega (arith, c .before .before .before .before .before .before .before .before .before .before .before .before .before .good, mark-lt (a .text .now) (a .s) (a .blocks .now) (a .starts .now) (a .marks .now) v (c .before .told .result) (c .before .told .ensures) y (p .1)))
 
--- src/lib.rt:281:13
 slice-write-marks : tie.Need-slice-write-marks
 slice-write-marks c =
     let a = c .before .before .before .before .before .before .before .before .before .before .before .before .before .before .args in
@@ -49,17 +38,14 @@ slice-write-marks c =
 enum-told : tie.Need-enum-told
 enum-told c = search needs
 
--- src/lib.rt:271:1
 same-length : tie.Need-same-length
 same-length c = search needs
 
--- src/lib.rt:271:1
 returns-2 : tie.Need-returns-2
 returns-2 c =
     let a = c .before .before .before .before .before .before .before .before .before .before .before .before .before .before .args in
     noted-new (boundAt (a .text .now) (a .s) (a .blocks .now) (a .starts .now)) (markRow (a .text .now) (a .s)) _ (a .marks .now) _ (sym (c .before .before .before .before .before .before .reg-name .ensures) ∙ c .before .before .before .before .q .given .1) (c .before .before .told .result) (c .before .before .told .ensures) (not-false _ (c .before .if1 .left)) _ (c .store-row .ensures)
 
--- src/lib.rt:271:1
 returns-3 : tie.Need-returns-3
 returns-3 c =
     let a = c .before .before .before .before .before .before .before .before .before .before .args in

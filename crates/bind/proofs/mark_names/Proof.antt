@@ -1,22 +1,16 @@
 -- `bind::mark_names` meets its contract. Assumes nothing.
-use Rattle.bind.proofs.SiteLaws.{noted-length, noted-on, noted-last}
-use Rattle.bind.specs.Steps.{boundAt, markRow, notedAll}
-use Rattle.names.specs.Names.{regOf}
-use Rattle.text.specs.Trim.{trimOf}
-use Rattle.lines.specs.Lf.{partsOf}
-use lib.ListN.{length, drop}
-use mathlib.Core.Path.{_≡_, refl, sym, ap, _∙_}
-use borrow.Author.Needs.{needs}
+use Prim.Native.Nat.{_-_, _≤_}
 use native.Mathlib.Omega.{arith}
-use Prim.Native.Nat.{ℕ, _-_, _≤_}
+use borrow.Author.Needs.{needs}
+use mathlib.Core.Path.{_≡_, refl, sym, ap, _∙_}
+use lib.ListN.{length, drop}
+use Rattle.lines.specs.Lf.{partsOf}
+use Rattle.text.specs.Trim.{trimOf}
+use Rattle.names.specs.Names.{regOf}
+use Rattle.bind.specs.Steps.{boundAt, markRow, notedAll}
+use Rattle.bind.proofs.SiteLaws.{noted-length, noted-on, noted-last}
 use Rattle.bind.proofs.mark_names.Statement.{statement}
 use Rattle.bind.proofs.mark_names.Tie as tie
-use Rattle.bind.proofs.mark_names.Reads as reads
-use Rattle.bind.proofs.mark_names.Lts as lts
-use Rattle.bind.proofs.mark_name.Reads as mark-name-reads
-use Rattle.lines.proofs.cut.Reads as cut-reads
-use Rattle.lines.proofs.find_byte.Reads as find-byte-reads
-use Rattle.text.proofs.trim.Reads as trim-reads
 
 abbrev Inv-loop : tie.InvT-loop
 Inv-loop body text s blocks starts seen first marks₀ i₀ marks i = (i ≤ length body) × ((length marks ≡ length marks₀) × (notedAll (boundAt text s blocks starts) (markRow text s) (partsOf 44 (drop i body)) marks ≡ notedAll (boundAt text s blocks starts) (markRow text s) (partsOf 44 body) marks₀))
@@ -24,46 +18,36 @@ Inv-loop body text s blocks starts seen first marks₀ i₀ marks i = (i ≤ len
 abbrev μ-loop : tie.MeasureT-loop
 μ-loop body text s blocks starts seen first marks₀ i₀ marks i = length body - i
 
--- src/lib.rt:264:5
 loop-holds : tie.Need-loop-holds Inv-loop μ-loop
 loop-holds c = (omega arith, (refl, refl))
 
--- src/lib.rt:265:13
 find-byte-requires : tie.Need-find-byte-requires Inv-loop μ-loop
 find-byte-requires c κs = search needs
 
--- src/lib.rt:266:55
 cut-requires : tie.Need-cut-requires Inv-loop μ-loop
 cut-requires c κs = search needs
 
--- src/lib.rt:266:44
 trim-requires : tie.Need-trim-requires Inv-loop μ-loop
 trim-requires c κs = search needs
 
--- src/lib.rt:266:9
 mark-name-requires : tie.Need-mark-name-requires Inv-loop μ-loop
 mark-name-requires c κs = (c .before .before .before .before .before .before .before .before .before .before .before .before .pre .0, omega (arith, c .before .before .before .before .before .before .before .before .before .before .before .before .pre .1, c .before .before .before .before .loop .inv .1 .0))
 
--- src/lib.rt:268:13
 same-length : tie.Need-same-length Inv-loop μ-loop
 same-length c = let a = c .before .before .before .before .before .before .before .before .before .before .before .before .before .before .before .before .args in
     ap length (c .before .before .before .mark-name .ensures) ∙ noted-length (boundAt (a .text .now) (a .s) (a .blocks .now) (a .starts .now)) (markRow (a .text .now) (a .s)) (regOf (c .before .before .before .before .before .trim .result .now)) (c .before .before .before .before .before .before .before .before .loop .marks) ∙ c .before .before .before .before .before .before .before .before .loop .inv .1 .0
 
--- src/lib.rt:268:13
 returns : tie.Need-returns Inv-loop μ-loop
 returns c = let a = c .before .before .before .before .before .before .before .before .before .before .before .before .before .before .before .before .args in
     let f = c .before .before .before .before .before .before .before .find-byte in
     sym (noted-last (boundAt (a .text .now) (a .s) (a .blocks .now) (a .starts .now)) (markRow (a .text .now) (a .s)) (a .body .now) (c .before .before .before .before .before .before .before .before .loop .i) (f .result) (c .before .before .before .before .before .before .before .before .loop .inv .0) (f .ensures) (c .before .before .before .before .before .trim .result .now) (c .before .before .before .before .before .trim .ensures .0 ∙ ap trimOf (c .before .before .before .before .before .before .cut .ensures)) (c .before .before .before .before .before .before .before .before .loop .marks) _ (c .before .before .before .mark-name .ensures) (c .if1 .taken)) ∙ c .before .before .before .before .before .before .before .before .loop .inv .1 .1
 
--- src/lib.rt:270:13
 add-i : tie.Need-add-i Inv-loop μ-loop
 add-i c = omega arith
 
--- src/lib.rt:264:5
 loop-less : tie.Need-loop-less Inv-loop μ-loop
 loop-less c = omega (arith, c .before .before .before .before .before .before .before .find-byte .ensures)
 
--- src/lib.rt:264:5
 loop-again : tie.Need-loop-again Inv-loop μ-loop
 loop-again c = let a = c .before .before .before .before .before .before .before .before .before .before .before .before .before .before .before .before .args in
     let f = c .before .before .before .before .before .before .before .find-byte in

@@ -1,30 +1,22 @@
 -- `bind::names_reg` meets its contract. Assumes nothing.
-use Rattle.names.specs.Names.{regIs}
-use mathlib.Core.Path.{sym, ap, _∙_}
 use borrow.Author.Needs.{needs}
+use mathlib.Core.Path.{sym, ap, _∙_}
+use Rattle.names.specs.Names.{regIs}
 use Rattle.bind.proofs.names_reg.Statement.{statement}
 use Rattle.bind.proofs.names_reg.Tie as tie
-use Rattle.bind.proofs.names_reg.Reads as reads
-use Rattle.bind.proofs.names_reg.Lts as lts
-use Rattle.names.proofs.reg_name.Reads as reg-name-reads
 
--- src/lib.rt:41:11
 reg-name-requires : tie.Need-reg-name-requires
 reg-name-requires c κs = search needs
 
--- src/lib.rt:42:29
 enum-known-q : tie.Need-enum-known-q
 enum-known-q c = search needs
 
--- src/lib.rt:43:33
 enum-told : tie.Need-enum-told
 enum-told c = search needs
 
--- src/lib.rt:38:1
 returns : tie.Need-returns
 returns c = sym (ap (regIs (c .before .before .before .before .before .before .before .args .reg .0)) (sym (c .before .before .before .before .before .reg-name .ensures) ∙ c .before .before .before .q .given .1))
 
--- src/lib.rt:38:1
 returns-2 : tie.Need-returns-2
 returns-2 c = sym (ap (regIs (c .before .before .before .before .args .reg .0)) (sym (c .before .before .reg-name .ensures) ∙ c .enum-told .given .1))
 

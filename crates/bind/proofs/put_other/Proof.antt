@@ -1,49 +1,37 @@
 -- `bind::put_other` meets its contract. Assumes nothing.
-use Rattle.bind.proofs.SiteLaws.{other-marked, plain-writing}
-use Rattle.decls.proofs.PrintLaws.{writing-fits}
-use Rattle.lines.proofs.OutLaws.{wrote-as, writing-put, writing-end}
-use lib.ListN.{length}
-use mathlib.Core.Path.{sym, ap}
-use mathlib.Core.List.{[], _∷_, _++_}
 use native.Mathlib.Omega.{arith}
 use borrow.Author.Needs.{needs}
+use mathlib.Core.Path.{sym, ap}
+use mathlib.Core.List.{[], _∷_, _++_}
+use lib.ListN.{length}
+use Rattle.lines.proofs.OutLaws.{wrote-as, writing-put, writing-end}
+use Rattle.decls.proofs.PrintLaws.{writing-fits}
+use Rattle.bind.proofs.SiteLaws.{other-marked, plain-writing}
 use Rattle.bind.proofs.put_other.Statement.{statement}
 use Rattle.bind.proofs.put_other.Tie as tie
-use Rattle.bind.proofs.put_other.Reads as reads
-use Rattle.bind.proofs.put_other.Lts as lts
-use Rattle.bind.proofs.put_promoted.Reads as put-promoted-reads
-use Rattle.lines.proofs.put.Reads as put-reads
-use Rattle.lines.proofs.put_byte.Reads as put-byte-reads
 
--- src/lib.rt:320:9
 put-promoted-requires : tie.Need-put-promoted-requires
 put-promoted-requires c κs = let a = c .before .before .before .before .args in
     omega (arith, c .before .before .before .before .pre, ap length (other-marked (a .line .now) (a .m) (c .before .if1 .taken)))
 
--- src/lib.rt:320:9
 same-length : tie.Need-same-length
 same-length c = search needs
 
--- src/lib.rt:320:9
 returns : tie.Need-returns
 returns c = let a = c .before .before .before .before .before .before .before .args in
     wrote-as (sym (other-marked (a .line .now) (a .m) (c .before .before .before .before .if1 .taken))) (c .before .before .put-promoted .ensures)
 
--- src/lib.rt:322:9
 put-requires : tie.Need-put-requires
 put-requires c κs = let a = c .before .before .before .before .args in
     writing-fits (a .line .now) (10 ∷ [] ++ []) (plain-writing (a .line .now) (a .m) (c .before .if1 .left) (a .out .now) (a .o) (c .before .before .before .before .pre))
 
--- src/lib.rt:323:5
 put-byte-requires : tie.Need-put-byte-requires
 put-byte-requires c κs = let a = c .before .before .before .before .before .before .before .before .args in
     omega (arith, writing-fits (10 ∷ []) [] (writing-put (plain-writing (a .line .now) (a .m) (c .before .before .before .before .before .if1 .left) (a .out .now) (a .o) (c .before .before .before .before .before .before .before .before .pre)) (c .before .before .before .put .ensures)))
 
--- src/lib.rt:315:1
 same-length-2 : tie.Need-same-length-2
 same-length-2 c = search needs
 
--- src/lib.rt:315:1
 returns-2 : tie.Need-returns-2
 returns-2 c = let a = c .before .before .before .before .before .before .before .before .before .before .before .args in
     writing-end (writing-put (writing-put (plain-writing (a .line .now) (a .m) (c .before .before .before .before .before .before .before .before .if1 .left) (a .out .now) (a .o) (c .before .before .before .before .before .before .before .before .before .before .before .pre)) (c .before .before .before .before .before .before .put .ensures)) (c .before .before .put-byte .ensures))

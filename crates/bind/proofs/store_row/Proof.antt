@@ -4,44 +4,31 @@ use native.Mathlib.Omega.{arith}
 use Rattle.bind.proofs.SiteLaws.{row-at}
 use Rattle.bind.proofs.store_row.Statement.{statement}
 use Rattle.bind.proofs.store_row.Tie as tie
-use Rattle.bind.proofs.store_row.Reads as reads
-use Rattle.bind.proofs.store_row.Lts as lts
-use Rattle.bind.proofs.first_use.Reads as first-use-reads
-use Rattle.lines.proofs.cut.Reads as cut-reads
 
--- src/lib.rt:224:16
 mul-result : tie.Need-mul-result
 mul-result c = search needs
 
--- src/lib.rt:224:16
 shared-slice-read-result : tie.Need-shared-slice-read-result
 shared-slice-read-result c = search needs
 
--- src/lib.rt:224:16
 sub-result : tie.Need-sub-result
 sub-result c = omega (arith, c .before .before .before .before .pre .0 (c .before .if1 .taken))
 
--- src/lib.rt:224:9
 returns : tie.Need-returns
 returns c = omega (arith, c .before .before .before .before .pre .0 (c .before .if1 .taken))
 
--- src/lib.rt:226:23
 cut-requires : tie.Need-cut-requires
 cut-requires c κs = search needs
 
--- src/lib.rt:226:9
 first-use-requires : tie.Need-first-use-requires
 first-use-requires c κs = search needs
 
--- src/lib.rt:227:14
 add-result : tie.Need-add-result
 add-result c = let a = c .before .before .before .before .before .before .args in omega (arith, c .before .before .before .before .before .before .pre .1, row-at (a .text .now) (a .s) (a .reg .0) (c .before .before .cut .result .now) (c .before .before .cut .ensures) (c .before .first-use .result .row) (c .before .first-use .ensures .0))
 
--- src/lib.rt:227:5
 add-result-2 : tie.Need-add-result-2
 add-result-2 c = let a = c .before .before .before .before .before .before .before .args in omega (arith, c .before .before .before .before .before .before .before .pre .1, row-at (a .text .now) (a .s) (a .reg .0) (c .before .before .before .cut .result .now) (c .before .before .before .cut .ensures) (c .before .before .first-use .result .row) (c .before .before .first-use .ensures .0))
 
--- src/lib.rt:218:1
 returns-2 : tie.Need-returns-2
 returns-2 c = let a = c .before .before .before .before .before .before .before .args in row-at (a .text .now) (a .s) (a .reg .0) (c .before .before .before .cut .result .now) (c .before .before .before .cut .ensures) (c .before .before .first-use .result .row) (c .before .before .first-use .ensures .0)
 

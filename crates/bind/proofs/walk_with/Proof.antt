@@ -9,15 +9,6 @@ use native.Mathlib.Omega.{arith}
 use Prim.Native.Nat.{_-_}
 use Rattle.bind.proofs.walk_with.Statement.{statement}
 use Rattle.bind.proofs.walk_with.Tie as tie
-use Rattle.bind.proofs.walk_with.Reads as reads
-use Rattle.bind.proofs.walk_with.Lts as lts
-use Rattle.bind.proofs.bind_line.Reads as bind-line-reads
-use Rattle.bind.proofs.index.read_region.Reads as read-region-reads
-use Rattle.lines.proofs.after.Reads as after-reads
-use Rattle.lines.proofs.cut.Reads as cut-reads
-use Rattle.lines.proofs.find_byte.Reads as find-byte-reads
-use Rattle.place.proofs.is_header.Reads as is-header-reads
-use Rattle.place.proofs.region_end.Reads as region-end-reads
 
 abbrev Inv-loop : tie.InvT-loop
 Inv-loop text blocks starts seen₀ first₀ marks₀ out₀ top₀ end₀ i₀ k₀ o₀ seen first marks out top end i k o = (BindInv text blocks starts marks₀ marks out₀ out top end i k o) × (IndexInv text seen₀ first₀ seen first top end i k)
@@ -40,38 +31,30 @@ mid c =
     (λ w. rw (w .1, w .2) (region-same (h .0) (f .result) k (f .ensures) (l .result .now) (l .ensures) (y ∙ w .0 .left), index-same (h .1) (f .result) k (f .ensures) (l .result .now) (l .ensures) (y ∙ w .0 .left)))
     (c .if1 .came)
 
--- src/lib.rt:430:9
 region-end-requires : tie.Need-region-end-requires Inv-loop μ-loop
 region-end-requires c κs = search needs
 
--- src/lib.rt:434:5
 loop-holds : tie.Need-loop-holds Inv-loop μ-loop
 loop-holds c =
     let a = c .before .before .before .before .before .before .before .before .args in
     let p = c .before .before .before .before .before .before .before .before .pre in
     (walk-start (a .text .now) (a .blocks .now) (a .starts .now) (a .marks .now) (a .out .now) (c .region-end .result) (p .1 .0) (p .1 .1 .0) (p .1 .1 .1 .0) (p .1 .1 .1 .1) (c .region-end .ensures), index-start (a .text .now) (a .seen .now) (a .first .now) (c .region-end .result) (p .0 .0) (p .0 .1 .0) (p .0 .1 .1))
 
--- src/lib.rt:435:13
 find-byte-requires : tie.Need-find-byte-requires Inv-loop μ-loop
 find-byte-requires c κs = search needs
 
--- src/lib.rt:436:29
 cut-requires : tie.Need-cut-requires Inv-loop μ-loop
 cut-requires c κs = search needs
 
--- src/lib.rt:436:12
 is-header-requires : tie.Need-is-header-requires Inv-loop μ-loop
 is-header-requires c κs = search needs
 
--- src/lib.rt:438:13
 region-end-requires-2 : tie.Need-region-end-requires-2 Inv-loop μ-loop
 region-end-requires-2 c κs = search needs
 
--- src/lib.rt:440:13
 after-requires : tie.Need-after-requires Inv-loop μ-loop
 after-requires c κs = search needs
 
--- src/lib.rt:441:9
 read-region-requires : tie.Need-read-region-requires Inv-loop μ-loop
 read-region-requires c κs =
     let f = c .before .before .before .before .before .before .find-byte in
@@ -81,7 +64,6 @@ read-region-requires c κs =
     let w = c .before .before .after in
     (m .1 .same, (omega (arith, m .0 .top≤, l), (omega (arith, c .before .before .before .before .before .before .before .before .before .before .before .before .before .before .before .before .before .good, walk-lt (h .0) l, walk-marked (h .0)), λ x. omega (arith, c .before .before .before .before .before .before .before .before .before .before .before .before .before .before .before .before .before .good, walk-marked (h .0), region-fits (m .0) l (f .ensures) (w .result) (w .ensures) (length (c .before .before .before .before .before .before .before .before .loop .marks)) (c .before .before .before .before .before .before .before .before .loop .k) (walk-marks (h .0) (f .result) l (f .ensures) (m .0) (w .result) (w .ensures)) x))))
 
--- src/lib.rt:450:9
 bind-line-requires : tie.Need-bind-line-requires Inv-loop μ-loop
 bind-line-requires c κs =
     let f = c .before .before .before .before .before .before .before .before .before .before .before .before .before .before .before .find-byte in
@@ -93,15 +75,12 @@ bind-line-requires c κs =
     let a = c .before .before .before .before .before .before .before .before .before .before .before .before .before .before .before .before .before .before .before .before .before .before .before .before .before .before .args in
     ((walk-reach (h .0) (f .result) l (f .ensures) (m .0) (w .result) (w .ensures), index-told (m .0) l (f .ensures) (w .result) (w .ensures) (m .1) (r .0) (r .1) (a .blocks .now) (a .starts .now)), (walk-marks (h .0) (f .result) l (f .ensures) (m .0) (w .result) (w .ensures), walk-room (h .0) (f .result) l (f .ensures) (m .0) (w .result) (w .ensures)))
 
--- src/lib.rt:452:9
 add-k : tie.Need-add-k Inv-loop μ-loop
 add-k c = omega (arith, c .before .before .before .before .before .before .before .before .before .before .before .before .before .before .before .before .before .before .before .before .before .before .before .before .before .before .before .before .before .before .before .good, walk-lt (c .before .before .before .before .before .before .before .before .before .before .before .before .before .before .before .before .before .before .before .before .before .before .loop .inv .0) (c .before .before .before .before .before .before .before .before .before .before .before .before .before .before .before .before .before .before .before .before .before .loop-test .taken), walk-marked (c .before .before .before .before .before .before .before .before .before .before .before .before .before .before .before .before .before .before .before .before .before .before .loop .inv .0))
 
--- src/lib.rt:434:5
 loop-less : tie.Need-loop-less Inv-loop μ-loop
 loop-less c = omega (arith, c .before .before .before .before .before .before .before .before .before .before .before .before .before .before .before .before .after .ensures, c .before .before .before .before .before .before .before .before .before .before .before .before .before .before .before .before .before .before .before .before .find-byte .ensures, c .before .before .before .before .before .before .before .before .before .before .before .before .before .before .before .before .before .before .before .before .before .loop-test .taken)
 
--- src/lib.rt:434:5
 loop-again : tie.Need-loop-again Inv-loop μ-loop
 loop-again c =
     let f = c .before .before .before .before .before .before .before .before .before .before .before .before .before .before .before .before .before .before .before .before .find-byte in
@@ -111,23 +90,18 @@ loop-again c =
     let r = c .before .before .before .before .before .before .before .before .before .before .before .before .before .read-region .ensures in
     (walk-on (c .before .before .before .before .before .before .before .before .before .before .before .before .before .before .before .before .before .before .before .before .before .before .loop .inv .0) (f .result) l (f .ensures) (m .0) (w .result) (w .ensures) (c .before .before .before .before .bind-line .ensures .0) (c .before .before .before .before .bind-line .ensures .1), index-on (m .0) l (f .ensures) (w .result) (w .ensures) (m .1) (r .0) (r .1))
 
--- src/lib.rt:412:1
 same-length : tie.Need-same-length Inv-loop μ-loop
 same-length c = c .before .loop .inv .1 .long-d
 
--- src/lib.rt:412:1
 same-length-2 : tie.Need-same-length-2 Inv-loop μ-loop
 same-length-2 c = c .before .loop .inv .1 .long-u
 
--- src/lib.rt:412:1
 same-length-3 : tie.Need-same-length-3 Inv-loop μ-loop
 same-length-3 c = walk-marked (c .before .loop .inv .0)
 
--- src/lib.rt:412:1
 same-length-4 : tie.Need-same-length-4 Inv-loop μ-loop
 same-length-4 c = walk-length (c .before .loop .inv .0)
 
--- src/lib.rt:412:1
 returns : tie.Need-returns Inv-loop μ-loop
 returns c = (walk-end (c .before .loop .inv .0) (c .loop-test .left), walk-filled (c .before .loop .inv .0) (c .loop-test .left))
 

@@ -5,6 +5,7 @@ use Rattle.lines.proofs.LfLaws.{find-le}
 use Rattle.reading.specs.Reading.{plain}
 use Rattle.once.proofs.Blanks.{blank-less}
 use Rattle.once.proofs.Decides.{value-room}
+use Rattle.once.proofs.NotedLaws.{none-rest}
 use Rattle.once.proofs.Fills.{first-end, first-short, first-line}
 use Rattle.once.proofs.drops_at.Statement.{statement}
 use Rattle.once.proofs.drops_at.Tie as tie
@@ -16,11 +17,11 @@ use Rattle.once.proofs.line_drops.Reads as line-drops-reads
 
 -- src/lib.rt:342:9
 returns : tie.Need-returns
-returns c = let a = c .before .before .before .before .args in (first-end plain (a .text .now) (a .paths .now) (a .i) (a .k) (a .in-loop) (c .if1 .taken), refl)
+returns c = let a = c .before .before .before .before .before .args in (first-end plain (a .text .now) (a .paths .now) (a .i) (a .k) (a .in-loop) (c .if1 .taken), refl)
 
 -- src/lib.rt:345:9
 returns-2 : tie.Need-returns-2
-returns-2 c = let a = c .before .before .before .before .before .args in (first-short plain (a .text .now) (a .paths .now) (a .i) (a .k) (a .in-loop) (c .if2 .taken), refl)
+returns-2 c = let a = c .before .before .before .before .before .before .args in (first-short plain (a .text .now) (a .paths .now) (a .i) (a .k) (a .in-loop) (c .if2 .taken), refl)
 
 -- src/lib.rt:347:9
 find-byte-requires : tie.Need-find-byte-requires
@@ -44,7 +45,7 @@ part-line-drops-start c = search needs
 
 -- src/lib.rt:350:16
 part-line-drops-end : tie.Need-part-line-drops-end
-part-line-drops-end c = let a = c .before .before .before .before .before .before .before .args in omega (arith, find-le 10 (a .text .now) (a .i) (c .before .find-byte .result) (omega (arith, c .before .before .before .if1 .left)) (c .before .find-byte .ensures))
+part-line-drops-end c = let a = c .before .before .before .before .before .before .before .before .args in omega (arith, find-le 10 (a .text .now) (a .i) (c .before .find-byte .result) (omega (arith, c .before .before .before .if1 .left)) (c .before .find-byte .ensures))
 
 -- src/lib.rt:350:29
 sub-line-drops-2 : tie.Need-sub-line-drops-2
@@ -84,7 +85,7 @@ shared-slice-read-line-drops c = search needs
 
 -- src/lib.rt:350:5
 line-drops-requires : tie.Need-line-drops-requires
-line-drops-requires c κs = let a = c .before .before .before .before .before .before .before .before .before .before .before .before .args in blank-less (value-room (a .i) (c .before .before .before .before .before .before .find-byte .result) (a .text .now)) (c .before .before .before .before .before .before .before .before .before .before .before .before .pre)
+line-drops-requires c κs = let a = c .before .before .before .before .before .before .before .before .before .before .before .before .before .args in (blank-less (value-room (a .i) (c .before .before .before .before .before .before .find-byte .result) (a .text .now)) (c .before .before .before .before .before .before .before .before .before .before .before .before .before .pre .0), none-rest (a .text .now) (a .i) (c .before .before .before .before .before .before .find-byte .result) (c .before .before .before .before .before .after .result) _ (a .last .now) (omega (arith, c .before .before .before .before .before .before .before .before .if1 .left)) (c .before .before .before .before .before .before .find-byte .ensures) (c .before .before .before .before .before .after .ensures) (c .before .before .before .before .before .before .before .before .before .before .before .before .before .pre .1))
 
 -- src/lib.rt:329:1
 same-length : tie.Need-same-length
@@ -93,7 +94,7 @@ same-length c = search needs
 -- src/lib.rt:329:1
 returns-3 : tie.Need-returns-3
 returns-3 c =
-    let a = c .before .before .before .before .before .before .before .before .before .before .before .before .before .before .before .args in
+    let a = c .before .before .before .before .before .before .before .before .before .before .before .before .before .before .before .before .args in
     let e = c .before .before .line-drops .ensures in
     let f = c .before .before .before .before .before .before .before .before .before .find-byte in
     let j = c .before .before .before .before .before .before .before .before .after in

@@ -1,149 +1,62 @@
-use borrow.Author.Needs.{needs}
-use Prim.Native.Nat.{_-_}
-use mathlib.Core.Path.{_≡_, refl, sym, ap, _∙_}
-use native.Mathlib.Omega.{arith}
 use lib.ListN.{length}
-use Rattle.lines.proofs.OutLaws.{writing-length}
-use Rattle.once.specs.Tables.{Blank}
-use Rattle.once.proofs.Blanks.{blank-less, blank-as}
-use Rattle.once.proofs.Decides.{value-room}
-use Rattle.once.proofs.Fills.{MarksInv, fill-start, fill-place, fill-on, fill-end}
+use Rattle.lines.specs.Lf.{linesOf}
+use Rattle.once.proofs.NotedLaws.{none-below, one-of}
+use borrow.Author.Needs.{needs}
 use Rattle.once.proofs.fill_marks.Statement.{statement}
 use Rattle.once.proofs.fill_marks.Tie as tie
 use Rattle.once.proofs.fill_marks.Reads as reads
 use Rattle.once.proofs.fill_marks.Lts as lts
-use Rattle.lines.proofs.after.Reads as after-reads
-use Rattle.lines.proofs.byte_at.Reads as byte-at-reads
-use Rattle.lines.proofs.cut.Reads as cut-reads
-use Rattle.lines.proofs.find_byte.Reads as find-byte-reads
-use Rattle.once.proofs.area_at.Reads as area-at-reads
-use Rattle.once.proofs.drops_at.Reads as drops-at-reads
-use Rattle.once.proofs.mark_at.Reads as mark-at-reads
-use Rattle.place.proofs.region_end.Reads as region-end-reads
+use Rattle.once.proofs.mark_with.Reads as mark-with-reads
+use Rattle.once.proofs.noted.note_lines.Reads as note-lines-reads
 
-abbrev Inv-loop : tie.InvT-loop
-Inv-loop text paths loops scratch₀ marks₀ to f goes₀ run₀ i₀ k₀ scratch marks goes run i k = (scratch ≡ scratch₀) × (Blank (length text) scratch × MarksInv text paths loops marks₀ marks i k goes run)
+-- src/lib.rt:531:29
+slice-aggregate-note-lines : tie.Need-slice-aggregate-note-lines
+slice-aggregate-note-lines c = search needs
 
-abbrev μ-loop : tie.MeasureT-loop
-μ-loop text paths loops scratch₀ marks₀ to f goes₀ run₀ i₀ k₀ scratch marks goes run i k = length text - i
+-- src/lib.rt:531:40
+slice-aggregate-note-lines-2 : tie.Need-slice-aggregate-note-lines-2
+slice-aggregate-note-lines-2 c = search needs
 
--- src/lib.rt:405:9
-region-end-requires : tie.Need-region-end-requires Inv-loop μ-loop
-region-end-requires c κs = search needs
+-- src/lib.rt:531:5
+note-lines-requires : tie.Need-note-lines-requires
+note-lines-requires c κs = search needs
 
--- src/lib.rt:406:9
-byte-at-requires : tie.Need-byte-at-requires Inv-loop μ-loop
-byte-at-requires c κs = search needs
+-- src/lib.rt:532:35
+slice-aggregate-mark-with : tie.Need-slice-aggregate-mark-with
+slice-aggregate-mark-with c = search needs
 
--- src/lib.rt:407:9
-drops-at-requires : tie.Need-drops-at-requires Inv-loop μ-loop
-drops-at-requires c κs = c .before .before .before .before .before .before .before .before .pre .0
+-- src/lib.rt:532:42
+slice-aggregate-mark-with-2 : tie.Need-slice-aggregate-mark-with-2
+slice-aggregate-mark-with-2 c = search needs
 
--- src/lib.rt:411:5
-loop-holds : tie.Need-loop-holds Inv-loop μ-loop
-loop-holds c =
-    let a = c .before .before .before .before .before .before .before .before .before .before .before .args in
-    (refl, (blank-as (c .before .before .drops-at .ensures .1) (c .before .before .before .before .before .before .before .before .before .before .before .pre .0), fill-start (a .text .now) (a .paths .now) (a .loops .now) (a .marks .now) (c .before .before .before .before .byte-at .result) (c .before .before .before .before .before .region-end .result) (c .before .before .drops-at .result) (c .before .before .before .before .before .before .before .before .before .before .before .pre .1) (c .before .before .before .before .before .region-end .ensures) (c .before .before .before .before .byte-at .ensures) (c .before .before .drops-at .ensures .0)))
+-- src/lib.rt:532:5
+mark-with-requires : tie.Need-mark-with-requires
+mark-with-requires c κs = let a = c .before .before .before .before .before .before .before .before .before .before .before .before .before .before .args in
+    let n = c .before .before .before .before .before .before .note-lines .ensures in
+    (c .before .before .before .before .before .before .before .before .before .before .before .before .before .before .pre .0, (c .before .before .before .before .before .before .before .before .before .before .before .before .before .before .pre .1, (none-below (linesOf (a .text .now)) _ _ (n .0), one-of (linesOf (a .text .now)) 1024 _ (n .1))))
 
--- src/lib.rt:412:13
-find-byte-requires : tie.Need-find-byte-requires Inv-loop μ-loop
-find-byte-requires c κs = search needs
+-- src/lib.rt:518:1
+same-length : tie.Need-same-length
+same-length c = search needs
 
--- src/lib.rt:413:13
-after-requires : tie.Need-after-requires Inv-loop μ-loop
-after-requires c κs = search needs
+-- src/lib.rt:518:1
+same-length-2 : tie.Need-same-length-2
+same-length-2 c = search needs
 
--- src/lib.rt:414:39
-add-byte-at : tie.Need-add-byte-at Inv-loop μ-loop
-add-byte-at c = omega (arith, c .before .before .before .loop .inv .1 .1 .k≤, c .before .before .loop-test .taken)
-
--- src/lib.rt:414:13
-byte-at-requires-2 : tie.Need-byte-at-requires-2 Inv-loop μ-loop
-byte-at-requires-2 c κs = search needs
-
--- src/lib.rt:415:45
-add-drops-at : tie.Need-add-drops-at Inv-loop μ-loop
-add-drops-at c = omega (arith, c .before .before .before .before .loop .inv .1 .1 .k≤, c .before .before .before .loop-test .taken)
-
--- src/lib.rt:415:13
-drops-at-requires-2 : tie.Need-drops-at-requires-2 Inv-loop μ-loop
-drops-at-requires-2 c κs = c .before .before .before .before .before .loop .inv .1 .0
-
--- src/lib.rt:416:9
-area-at-requires : tie.Need-area-at-requires Inv-loop μ-loop
-area-at-requires c κs = search needs
-
--- src/lib.rt:417:13
-byte-at-requires-3 : tie.Need-byte-at-requires-3 Inv-loop μ-loop
-byte-at-requires-3 c κs = search needs
-
--- src/lib.rt:418:28
-cut-requires : tie.Need-cut-requires Inv-loop μ-loop
-cut-requires c κs = search needs
-
--- src/lib.rt:418:61
-cut-requires-2 : tie.Need-cut-requires-2 Inv-loop μ-loop
-cut-requires-2 c κs = search needs
-
--- src/lib.rt:418:20
-mark-at-requires : tie.Need-mark-at-requires Inv-loop μ-loop
-mark-at-requires c κs = blank-less (let h = value-room (c .before .before .before .before .before .before .before .before .before .before .before .before .before .loop .i) (c .before .before .before .before .before .before .before .before .before .before .before .find-byte .result) (c .before .before .before .before .before .before .before .before .before .before .before .before .before .before .before .before .before .before .before .before .before .before .before .before .before .args .text .now) in let q = ap length (c .before .before .cut .ensures) in omega arith) (blank-as (c .before .before .before .before .before .before .before .drops-at2 .ensures .1) (c .before .before .before .before .before .before .before .before .before .before .before .before .before .loop .inv .1 .0))
-
--- src/lib.rt:418:9
-slice-write-marks : tie.Need-slice-write-marks Inv-loop μ-loop
-slice-write-marks c = fill-place (c .before .before .before .before .before .before .before .before .before .before .before .before .before .before .before .before .loop .inv .1 .1) (c .before .before .before .before .before .before .before .before .before .before .before .before .before .before .before .loop-test .taken) (c .before .before .before .before .before .before .before .before .before .before .before .before .before .before .find-byte .result) (c .before .before .before .before .before .before .before .before .before .before .before .before .before .after .result) (c .before .before .before .before .before .before .before .before .before .before .before .before .before .before .find-byte .ensures) (c .before .before .before .before .before .before .before .before .before .before .before .before .before .after .ensures) (c .before .before .before .before .before .before .byte-at3 .result) (c .before .before .before .before .before .before .before .before .before .before .before .before .byte-at2 .result) (c .before .before .before .before .before .before .before .before .before .before .drops-at2 .result) (c .before .before .before .before .before .before .before .area-at .result) (c .before .before .before .before .before .before .byte-at3 .ensures) (c .before .before .before .before .before .before .before .before .before .before .before .before .byte-at2 .ensures) (c .before .before .before .before .before .before .before .area-at .ensures) (c .before .before .before .before .before .before .before .before .before .before .drops-at2 .ensures .0)
-
--- src/lib.rt:420:9
-add-k : tie.Need-add-k Inv-loop μ-loop
-add-k c = omega (arith, c .before .before .before .before .before .before .before .before .before .before .before .before .before .before .before .before .loop .inv .1 .1 .k≤, c .before .before .before .before .before .before .before .before .before .before .before .before .before .before .before .loop-test .taken)
-
--- src/lib.rt:411:5
-loop-less : tie.Need-loop-less Inv-loop μ-loop
-loop-less c = omega (arith, c .before .before .before .before .before .before .before .before .before .before .before .before .before .after .ensures, c .before .before .before .before .before .before .before .before .before .before .before .before .before .before .find-byte .ensures, c .before .before .before .before .before .before .before .before .before .before .before .before .before .before .before .loop-test .taken)
-
--- src/lib.rt:411:5
-loop-again : tie.Need-loop-again Inv-loop μ-loop
-loop-again c =
-    let m = c .before .before .mark-at in
-    (m .ensures .1 ∙ c .before .before .before .before .before .before .before .before .before .before .drops-at2 .ensures .1 ∙ c .before .before .before .before .before .before .before .before .before .before .before .before .before .before .before .before .loop .inv .0, (blank-as (m .ensures .1 ∙ c .before .before .before .before .before .before .before .before .before .before .drops-at2 .ensures .1) (c .before .before .before .before .before .before .before .before .before .before .before .before .before .before .before .before .loop .inv .1 .0), fill-on (c .before .before .before .before .before .before .before .before .before .before .before .before .before .before .before .before .loop .inv .1 .1) (c .before .before .before .before .before .before .before .before .before .before .before .before .before .before .before .loop-test .taken) (c .before .before .before .before .before .before .before .before .before .before .before .before .before .before .find-byte .result) (c .before .before .before .before .before .before .before .before .before .before .before .before .before .after .result) (c .before .before .before .before .before .before .before .before .before .before .before .before .before .before .find-byte .ensures) (c .before .before .before .before .before .before .before .before .before .before .before .before .before .after .ensures) (c .before .before .before .before .before .before .byte-at3 .result) (c .before .before .before .before .before .before .before .before .before .before .before .before .byte-at2 .result) (c .before .before .before .before .before .before .before .before .before .before .drops-at2 .result) (c .before .before .before .before .before .before .before .area-at .result) (c .before .before .before .before .before .before .byte-at3 .ensures) (c .before .before .before .before .before .before .before .before .before .before .before .before .byte-at2 .ensures) (c .before .before .before .before .before .before .before .area-at .ensures) (c .before .before .before .before .before .before .before .before .before .before .drops-at2 .ensures .0) (c .before .before .before .before .before .cut .result .now) (c .before .before .before .before .cut2 .result .now) (m .result) (c .before .before .before .before .before .cut .ensures) (c .before .before .before .before .cut2 .ensures) (m .ensures .0)))
-
--- src/lib.rt:394:1
-same-length : tie.Need-same-length Inv-loop μ-loop
-same-length c = ap length (c .before .loop .inv .0 ∙ c .before .before .before .before .drops-at .ensures .1)
-
--- src/lib.rt:394:1
-same-length-2 : tie.Need-same-length-2 Inv-loop μ-loop
-same-length-2 c = writing-length (c .before .loop .inv .1 .1 .writing)
-
--- src/lib.rt:394:1
-returns : tie.Need-returns Inv-loop μ-loop
-returns c = (fill-end (c .before .loop .inv .1 .1) (c .loop-test .left), c .before .loop .inv .0 ∙ c .before .before .before .before .drops-at .ensures .1)
+-- src/lib.rt:518:1
+returns : tie.Need-returns
+returns c = search needs
 
 pub fill-marks-spec : {M : Type 1} → statement M
 fill-marks-spec =
     tie.close
     (tie.spec
-    Inv-loop
-    μ-loop
-    region-end-requires
-    byte-at-requires
-    drops-at-requires
-    loop-holds
-    find-byte-requires
-    after-requires
-    add-byte-at
-    byte-at-requires-2
-    add-drops-at
-    drops-at-requires-2
-    area-at-requires
-    byte-at-requires-3
-    cut-requires
-    cut-requires-2
-    mark-at-requires
-    slice-write-marks
-    add-k
-    loop-less
-    loop-again
+    slice-aggregate-note-lines
+    slice-aggregate-note-lines-2
+    note-lines-requires
+    slice-aggregate-mark-with
+    slice-aggregate-mark-with-2
+    mark-with-requires
     same-length
     same-length-2
     returns)

@@ -37,9 +37,9 @@ value-of-requires c κs = search needs
 -- src/lib.rt:287:13
 store-forwards-requires : tie.Need-store-forwards-requires
 store-forwards-requires c κs =
-    let a = c .before .before .before .before .before .before .before .before .before .before .before .args in
+    let a = c .before .before .before .before .before .before .before .before .before .before .before .before .before .args in
     let s = c .before .before .before .s .given .0 .0 in
-    blank-less (let h = value-room (s .from) (s .to) (a .line .now) in let q = ap length (c .before .value-of .ensures) in omega arith) (c .before .before .before .before .before .before .before .before .before .before .before .pre)
+    (blank-less (let h = value-room (s .from) (s .to) (a .line .now) in let q = ap length (c .before .value-of .ensures) in omega arith) (c .before .before .before .before .before .before .before .before .before .before .before .before .before .pre .0), c .before .before .before .before .before .before .before .before .before .before .before .before .before .pre .1)
 
 -- src/lib.rt:289:31
 enum-told-2 : tie.Need-enum-told-2
@@ -47,7 +47,7 @@ enum-told-2 c = search needs
 
 -- src/lib.rt:278:1
 returns : tie.Need-returns
-returns c = let a = c .before .before .before .before .before .before .before .before .args in (ap (forwardsBy plain (a .line .now) (linesOf (a .run .now)) (a .in-loop) (a .gone) (a .next .now) (linesOf (a .below .now))) (sym (c .enum-told .given .1)) ∙ forwards-at plain (a .line .now) (linesOf (a .run .now)) (a .in-loop) (a .gone) (a .next .now) (linesOf (a .below .now)) _ (c .before .before .parse .ensures), refl)
+returns c = let a = c .before .before .before .before .before .before .before .before .before .before .args in (ap (forwardsBy plain (a .line .now) (linesOf (a .run .now)) (a .in-loop) (a .gone) (a .next .now) (linesOf (a .below .now))) (sym (c .enum-told .given .1)) ∙ forwards-at plain (a .line .now) (linesOf (a .run .now)) (a .in-loop) (a .gone) (a .next .now) (linesOf (a .below .now)) _ (c .before .before .parse .ensures), refl)
 
 -- src/lib.rt:278:1
 same-length : tie.Need-same-length
@@ -57,7 +57,7 @@ same-length c = search needs
 returns-2 : tie.Need-returns-2
 unfolding textOf
 returns-2 c =
-    let a = c .before .before .before .before .before .before .before .before .before .before .before .before .before .before .args in
+    let a = c .before .before .before .before .before .before .before .before .before .before .before .before .before .before .before .before .args in
     let e = c .before .before .store-forwards .ensures in
     let s = c .before .before .before .before .before .before .s .given in (
       e .0
@@ -68,7 +68,7 @@ returns-2 c =
 
 -- src/lib.rt:278:1
 returns-3 : tie.Need-returns-3
-returns-3 c = let a = c .before .before .before .before .before .before .before .before .args in (ap (forwardsBy plain (a .line .now) (linesOf (a .run .now)) (a .in-loop) (a .gone) (a .next .now) (linesOf (a .below .now))) (sym (c .enum-told2 .given .1)) ∙ forwards-at plain (a .line .now) (linesOf (a .run .now)) (a .in-loop) (a .gone) (a .next .now) (linesOf (a .below .now)) _ (c .before .before .parse .ensures), refl)
+returns-3 c = let a = c .before .before .before .before .before .before .before .before .before .before .args in (ap (forwardsBy plain (a .line .now) (linesOf (a .run .now)) (a .in-loop) (a .gone) (a .next .now) (linesOf (a .below .now))) (sym (c .enum-told2 .given .1)) ∙ forwards-at plain (a .line .now) (linesOf (a .run .now)) (a .in-loop) (a .gone) (a .next .now) (linesOf (a .below .now)) _ (c .before .before .parse .ensures), refl)
 
 pub line-forwards-spec : {M : Type 1} → statement M
 line-forwards-spec =

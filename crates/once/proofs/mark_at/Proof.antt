@@ -1,10 +1,12 @@
 use borrow.Author.Needs.{needs}
 use mathlib.Core.Path.{refl, sym, _∙_}
 use native.Mathlib.Omega.{arith}
+use Prim.Native.Nat.{_<_}
 use lib.ListN.{length}
 use Rattle.lines.specs.Lf.{linesOf}
-use Rattle.lines.proofs.LfLaws.{find-le}
+use Rattle.lines.proofs.LfLaws.{find-le, lines-at}
 use Rattle.reading.specs.Reading.{plain}
+use Rattle.once.proofs.NotedLaws.{none-rest}
 use Rattle.once.proofs.Fills.{takes-end, takes-line, mark-stays}
 use Rattle.once.proofs.mark_at.Statement.{statement}
 use Rattle.once.proofs.mark_at.Tie as tie
@@ -20,7 +22,7 @@ returns c = search needs
 
 -- src/lib.rt:372:9
 returns-2 : tie.Need-returns-2
-returns-2 c = let a = c .before .before .before .before .before .before .args in (mark-stays (c .before .if1 .left) (takes-end plain (a .line .now) (linesOf (a .run .now)) (a .in-loop) (a .next) (a .text .now) (a .j) (c .if2 .taken)), refl)
+returns-2 c = let a = c .before .before .before .before .before .before .before .before .args in (mark-stays (c .before .if1 .left) (takes-end plain (a .line .now) (linesOf (a .run .now)) (a .in-loop) (a .next) (a .text .now) (a .j) (c .if2 .taken)), refl)
 
 -- src/lib.rt:374:9
 find-byte-requires : tie.Need-find-byte-requires
@@ -40,7 +42,7 @@ part-line-forwards-start c = search needs
 
 -- src/lib.rt:376:28
 part-line-forwards-end : tie.Need-part-line-forwards-end
-part-line-forwards-end c = let a = c .before .before .before .before .before .before .before .before .args in omega (arith, find-le 10 (a .text .now) (a .j) (c .before .find-byte .result) (omega (arith, c .before .before .if2 .left)) (c .before .find-byte .ensures))
+part-line-forwards-end c = let a = c .before .before .before .before .before .before .before .before .before .before .args in omega (arith, find-le 10 (a .text .now) (a .j) (c .before .find-byte .result) (omega (arith, c .before .before .if2 .left)) (c .before .find-byte .ensures))
 
 -- src/lib.rt:376:41
 sub-line-forwards-2 : tie.Need-sub-line-forwards-2
@@ -55,8 +57,16 @@ part-line-forwards-end-2 : tie.Need-part-line-forwards-end-2
 part-line-forwards-end-2 c = search needs
 
 -- src/lib.rt:376:8
+add-line-forwards : tie.Need-add-line-forwards
+add-line-forwards c = search needs
+
 line-forwards-requires : tie.Need-line-forwards-requires
-line-forwards-requires c κs = search needs
+line-forwards-requires c κs =
+    let a = c .before .before .before .before .before .before .before .before .before .before .before .before .before .args in
+    let f = c .before .before .before .before .find-byte in
+    let n = c .before .before .before .after in
+    let h : a .j < length (a .text .now) = omega (arith, c .before .before .before .before .before .if2 .left) in
+    (c .before .before .before .before .before .before .before .before .before .before .before .before .before .pre .0, (none-rest (a .text .now) (a .j) (f .result) (n .result) _ (a .last .now) h (f .ensures) (n .ensures) (c .before .before .before .before .before .before .before .before .before .before .before .before .before .pre .1 .1 .0), c .before .before .before .before .before .before .before .before .before .before .before .before .before .pre .1 .1 .1 _ _ (lines-at (a .text .now) (a .j) (f .result) h (f .ensures))))
 
 -- src/lib.rt:377:9
 same-length : tie.Need-same-length
@@ -65,7 +75,7 @@ same-length c = search needs
 -- src/lib.rt:377:9
 returns-3 : tie.Need-returns-3
 returns-3 c =
-    let a = c .before .before .before .before .before .before .before .before .before .before .before .before .before .before .before .args in
+    let a = c .before .before .before .before .before .before .before .before .before .before .before .before .before .before .before .before .before .args in
     let e = c .before .before .before .line-forwards .ensures in
     let f = c .before .before .before .before .before .before .before .before .find-byte in
     let n = c .before .before .before .before .before .before .before .after in
@@ -78,7 +88,7 @@ same-length-2 c = search needs
 -- src/lib.rt:354:1
 returns-4 : tie.Need-returns-4
 returns-4 c =
-    let a = c .before .before .before .before .before .before .before .before .before .before .before .before .before .before .before .args in
+    let a = c .before .before .before .before .before .before .before .before .before .before .before .before .before .before .before .before .before .args in
     let e = c .before .before .before .line-forwards .ensures in
     let f = c .before .before .before .before .before .before .before .before .find-byte in
     let n = c .before .before .before .before .before .before .before .after in
@@ -98,6 +108,7 @@ mark-at-spec =
     sub-line-forwards-2
     part-line-forwards-start-2
     part-line-forwards-end-2
+    add-line-forwards
     line-forwards-requires
     same-length
     returns-3

@@ -3,6 +3,8 @@ use mathlib.Core.Path.{_≡_, refl, sym, ap, _∙_}
 use borrow.Author.Tests.{not-true, not-false}
 use Rattle.reading.specs.Reading.{plain}
 use Rattle.lines.specs.Lf.{linesOf}
+use Rattle.once.specs.Once.{deadBy}
+use Rattle.once.proofs.NotedLaws.{unused-next}
 use Rattle.once.proofs.Decides.{drops-scratch, drops-loop, drops-read, drops-impure, drops-dead}
 use Rattle.once.proofs.store_drops.Statement.{statement}
 use Rattle.once.proofs.store_drops.Tie as tie
@@ -17,34 +19,43 @@ scratch-at-requires : tie.Need-scratch-at-requires
 scratch-at-requires c κs = search needs
 
 returns : tie.Need-returns
-returns c = let a = c .before .before .before .before .before .before .args in (sym (drops-scratch plain (a .reg .0) (a .x .now) (a .p) (a .in-loop) (linesOf (a .below .now)) (a .paths .now) (sym (c .before .scratch-at .ensures) ∙ c .if1 .taken)), refl)
+returns c = let a = c .before .before .before .before .before .before .before .args in (sym (drops-scratch plain (a .reg .0) (a .x .now) (a .p) (a .in-loop) (linesOf (a .below .now)) (a .paths .now) (sym (c .before .scratch-at .ensures) ∙ c .if1 .taken)), refl)
 
 returns-2 : tie.Need-returns-2
-returns-2 c = let a = c .before .before .before .before .before .before .before .args in (sym (drops-loop plain (a .reg .0) (a .x .now) (a .p) (a .in-loop) (linesOf (a .below .now)) (a .paths .now) (sym (c .before .before .scratch-at .ensures) ∙ c .before .if1 .left) (c .if2 .taken)), refl)
+returns-2 c = let a = c .before .before .before .before .before .before .before .before .args in (sym (drops-loop plain (a .reg .0) (a .x .now) (a .p) (a .in-loop) (linesOf (a .below .now)) (a .paths .now) (sym (c .before .before .scratch-at .ensures) ∙ c .before .if1 .left) (c .if2 .taken)), refl)
 
 count-reg-requires : tie.Need-count-reg-requires
 count-reg-requires c κs = search needs
 
 returns-3 : tie.Need-returns-3
-returns-3 c = let a = c .before .before .before .before .before .before .before .before .before .args in (sym (drops-read plain (a .reg .0) (a .x .now) (a .p) (a .in-loop) (linesOf (a .below .now)) (a .paths .now) (sym (c .before .before .before .before .scratch-at .ensures) ∙ c .before .before .before .if1 .left) (c .before .before .if2 .left) _ (c .before .count-reg .ensures) (c .if3 .taken)), refl)
+returns-3 c = let a = c .before .before .before .before .before .before .before .before .before .before .args in (sym (drops-read plain (a .reg .0) (a .x .now) (a .p) (a .in-loop) (linesOf (a .below .now)) (a .paths .now) (sym (c .before .before .before .before .scratch-at .ensures) ∙ c .before .before .before .if1 .left) (c .before .before .if2 .left) _ (c .before .count-reg .ensures) (c .if3 .taken)), refl)
 
 pure-value-requires : tie.Need-pure-value-requires
-pure-value-requires c κs = c .before .before .before .before .before .before .before .before .before .before .pre
+pure-value-requires c κs = c .before .before .before .before .before .before .before .before .before .before .before .pre .0
 
 same-length : tie.Need-same-length
 same-length c = search needs
 
 returns-4 : tie.Need-returns-4
-returns-4 c = let a = c .before .before .before .before .before .before .before .before .before .before .before .before .before .before .args in (sym (drops-impure plain (a .reg .0) (a .x .now) (a .p) (a .in-loop) (linesOf (a .below .now)) (a .paths .now) (sym (c .before .before .before .before .before .before .before .before .before .scratch-at .ensures) ∙ c .before .before .before .before .before .before .before .before .if1 .left) (c .before .before .before .before .before .before .before .if2 .left) _ (c .before .before .before .before .before .before .count-reg .ensures) (c .before .before .before .before .before .if3 .left) (sym (c .before .before .before .pure-value .ensures .0) ∙ not-true _ (c .if4 .taken))), c .before .before .before .pure-value .ensures .1)
+returns-4 c = let a = c .before .before .before .before .before .before .before .before .before .before .before .before .before .before .before .args in (sym (drops-impure plain (a .reg .0) (a .x .now) (a .p) (a .in-loop) (linesOf (a .below .now)) (a .paths .now) (sym (c .before .before .before .before .before .before .before .before .before .scratch-at .ensures) ∙ c .before .before .before .before .before .before .before .before .if1 .left) (c .before .before .before .before .before .before .before .if2 .left) _ (c .before .before .before .before .before .before .count-reg .ensures) (c .before .before .before .before .before .if3 .left) (sym (c .before .before .before .pure-value .ensures .0) ∙ not-true _ (c .if4 .taken))), c .before .before .before .pure-value .ensures .1)
 
-dead-below-requires : tie.Need-dead-below-requires
-dead-below-requires c κs = search needs
+is-quiet-requires : tie.Need-is-quiet-requires
+is-quiet-requires c κs = search needs
 
 same-length-2 : tie.Need-same-length-2
 same-length-2 c = search needs
 
 returns-5 : tie.Need-returns-5
-returns-5 c = let a = c .before .before .before .before .before .before .before .before .before .before .before .before .before .before .before .args in (c .dead-below .ensures ∙ drops-dead plain (a .reg .0) (a .x .now) (a .p) (a .in-loop) (linesOf (a .below .now)) (a .paths .now) (sym (c .before .before .before .before .before .before .before .before .before .before .scratch-at .ensures) ∙ c .before .before .before .before .before .before .before .before .before .if1 .left) (c .before .before .before .before .before .before .before .before .if2 .left) _ (c .before .before .before .before .before .before .before .count-reg .ensures) (c .before .before .before .before .before .before .if3 .left) (sym (c .before .before .before .before .pure-value .ensures .0) ∙ not-false _ (c .before .if4 .left)), c .before .before .before .before .pure-value .ensures .1)
+returns-5 c = let a = c .before .before .before .before .before .before .before .before .before .before .before .before .before .before .before .before .before .args in (sym (ap (deadBy (a .p)) (unused-next (a .reg .0) (linesOf (a .below .now)) (a .paths .now) (c .before .before .before .before .before .before .before .before .before .before .before .before .before .before .before .before .before .pre .1 (a .reg .0) (sym (c .before .is-quiet .ensures) ∙ c .if5 .taken)))) ∙ drops-dead plain (a .reg .0) (a .x .now) (a .p) (a .in-loop) (linesOf (a .below .now)) (a .paths .now) (sym (c .before .before .before .before .before .before .before .before .before .before .before .scratch-at .ensures) ∙ c .before .before .before .before .before .before .before .before .before .before .if1 .left) (c .before .before .before .before .before .before .before .before .before .if2 .left) _ (c .before .before .before .before .before .before .before .before .count-reg .ensures) (c .before .before .before .before .before .before .before .if3 .left) (sym (c .before .before .before .before .before .pure-value .ensures .0) ∙ not-false _ (c .before .before .if4 .left)), c .before .before .before .before .before .pure-value .ensures .1)
+
+dead-below-requires : tie.Need-dead-below-requires
+dead-below-requires c κs = search needs
+
+same-length-3 : tie.Need-same-length-3
+same-length-3 c = search needs
+
+returns-6 : tie.Need-returns-6
+returns-6 c = let a = c .before .before .before .before .before .before .before .before .before .before .before .before .before .before .before .before .before .before .args in (c .dead-below .ensures ∙ drops-dead plain (a .reg .0) (a .x .now) (a .p) (a .in-loop) (linesOf (a .below .now)) (a .paths .now) (sym (c .before .before .before .before .before .before .before .before .before .before .before .before .scratch-at .ensures) ∙ c .before .before .before .before .before .before .before .before .before .before .before .if1 .left) (c .before .before .before .before .before .before .before .before .before .before .if2 .left) _ (c .before .before .before .before .before .before .before .before .before .count-reg .ensures) (c .before .before .before .before .before .before .before .before .if3 .left) (sym (c .before .before .before .before .before .before .pure-value .ensures .0) ∙ not-false _ (c .before .before .before .if4 .left)), c .before .before .before .before .before .before .pure-value .ensures .1)
 
 pub store-drops-spec : {M : Type 1} → statement M
 store-drops-spec =
@@ -58,6 +69,9 @@ store-drops-spec =
     pure-value-requires
     same-length
     returns-4
-    dead-below-requires
+    is-quiet-requires
     same-length-2
-    returns-5)
+    returns-5
+    dead-below-requires
+    same-length-3
+    returns-6)

@@ -39,7 +39,7 @@ is-temp-name-requires c κs = search needs
 -- src/lib.rt:144:17
 returns : tie.Need-returns
 returns c =
-    let a = c .before .before .before .before .before .before .before .before .before .before .before .args in
+    let a = c .before .before .before .before .before .before .before .before .before .before .before .before .before .args in
     let p = c .before .before .before .before .before .before .before .trim .ensures .0 in
     let w = assign-split _ _ (sym (c .before .before .before .before .before .before .assign-of .ensures) ∙ c .before .before .before .before .s .given .1) in
     let q = c .before .before .left-of .ensures ∙ w .is-left in
@@ -53,9 +53,9 @@ right-of-requires c κs = search needs
 -- src/lib.rt:146:31
 purity-requires : tie.Need-purity-requires
 purity-requires c κs =
-    let a = c .before .before .before .before .before .before .before .before .before .before .before .before .before .args in
+    let a = c .before .before .before .before .before .before .before .before .before .before .before .before .before .before .before .args in
     let w = assign-split _ _ (sym (c .before .before .before .before .before .before .before .before .assign-of .ensures) ∙ c .before .before .before .before .before .before .s .given .1) in
-    omega (arith, c .before .before .before .before .before .before .before .before .before .before .before .before .before .pre, value-room (a .line .now) _ _ (c .before .before .before .before .before .before .before .before .before .trim .ensures .0) (c .before .right-of .ensures ∙ w .is-right))
+    omega (arith, c .before .before .before .before .before .before .before .before .before .before .before .before .before .before .before .pre .0, value-room (a .line .now) _ _ (c .before .before .before .before .before .before .before .before .before .trim .ensures .0) (c .before .right-of .ensures ∙ w .is-right))
 
 -- src/lib.rt:146:17
 is-pure-requires : tie.Need-is-pure-requires
@@ -68,7 +68,7 @@ same-length c = search needs
 -- src/lib.rt:147:17
 returns-2 : tie.Need-returns-2
 returns-2 c =
-    let a = c .before .before .before .before .before .before .before .before .before .before .before .before .before .before .before .before .before .before .args in
+    let a = c .before .before .before .before .before .before .before .before .before .before .before .before .before .before .before .before .before .before .before .before .args in
     let p = c .before .before .before .before .before .before .before .before .before .before .before .before .before .before .trim .ensures .0 in
     let w = assign-split _ _ (sym (c .before .before .before .before .before .before .before .before .before .before .before .before .before .assign-of .ensures) ∙ c .before .before .before .before .before .before .before .before .before .before .before .s .given .1) in
     let q = c .before .before .before .before .before .before .before .before .before .left-of .ensures ∙ w .is-left in
@@ -82,7 +82,7 @@ returns-2 c =
 
 -- src/lib.rt:149:13
 is-dead-requires : tie.Need-is-dead-requires
-is-dead-requires c κs = so (c .before .before .before .before .before .before .before .before .is-temp-name .ensures) (not-false _ (c .before .before .before .before .before .before .before .if1 .left))
+is-dead-requires c κs = (so (c .before .before .before .before .before .before .before .before .is-temp-name .ensures) (not-false _ (c .before .before .before .before .before .before .before .if1 .left)), c .before .before .before .before .before .before .before .before .before .before .before .before .before .before .before .before .before .before .before .before .pre .1)
 
 -- src/lib.rt:151:34
 enum-told : tie.Need-enum-told
@@ -95,7 +95,7 @@ same-length-2 c = search needs
 -- src/lib.rt:134:1
 returns-3 : tie.Need-returns-3
 returns-3 c =
-    let a = c .before .before .before .before .before .before .before .before .before .before .before .before .before .before .before .before .before .before .before .args in
+    let a = c .before .before .before .before .before .before .before .before .before .before .before .before .before .before .before .before .before .before .before .before .before .args in
     let p = c .before .before .before .before .before .before .before .before .before .before .before .before .before .before .before .trim .ensures .0 in
     let w = assign-split _ _ (sym (c .before .before .before .before .before .before .before .before .before .before .before .before .before .before .assign-of .ensures) ∙ c .before .before .before .before .before .before .before .before .before .before .before .before .s .given .1) in
     let q = c .before .before .before .before .before .before .before .before .before .before .left-of .ensures ∙ w .is-left in
@@ -110,7 +110,7 @@ returns-3 c =
 -- src/lib.rt:134:1
 returns-4 : tie.Need-returns-4
 returns-4 c =
-    let a = c .before .before .before .before .before .before .before .args in
+    let a = c .before .before .before .before .before .before .before .before .before .args in
     let p = c .before .before .before .trim .ensures .0 in
     let n = assign-not _ (sym (c .before .before .assign-of .ensures) ∙ c .enum-told .given .1) in
     (sym (goes-other plain (linesOf (a .text .now)) (a .line .now) _ p n), sym (scratch-other (a .scratch .now) (a .line .now) _ p n))

@@ -1,4 +1,4 @@
-use borrow.Author.Needs.{needs}
+-- `temps::is_dead` meets its contract. Assumes nothing.
 use mathlib.Core.Path.{ap}
 use mathlib.Core.Bool.{not}
 use borrow.Author.Tests.{not-true, not-false}
@@ -6,21 +6,17 @@ use Rattle.lines.proofs.Tests.{so}
 use Rattle.temps.proofs.is_dead.Statement.{statement}
 use Rattle.temps.proofs.is_dead.Tie as tie
 
--- src/lib.rt:127:9
-declared-in-requires : tie.Need-declared-in-requires
-declared-in-requires c κs = search needs
+is-declared-requires : tie.Need-is-declared-requires
+is-declared-requires c κs = let s = c .before .before .before .before in (s .pre .0, s .pre .1 .0)
 
--- src/lib.rt:128:9
 returns : tie.Need-returns
-returns c = rw (so (c .before .declared-in .ensures) (not-true _ (c .if1 .taken)))
+returns c = rw (so (c .before .is-declared .ensures) (not-true _ (c .if1 .taken)))
 
--- src/lib.rt:130:6
-temp-read-requires : tie.Need-temp-read-requires
-temp-read-requires c κs = search needs
+is-read-requires : tie.Need-is-read-requires
+is-read-requires c κs = let s = c .before .before .before .before .before .before in ((s .pre .0, so (c .before .is-declared .ensures) (not-false _ (c .if1 .left))), s .pre .1 .1)
 
--- src/lib.rt:123:1
 returns-2 : tie.Need-returns-2
-returns-2 c = rw (so (c .before .before .declared-in .ensures) (not-false _ (c .before .if1 .left))) (ap not (c .temp-read .ensures))
+returns-2 c = rw (so (c .before .before .is-declared .ensures) (not-false _ (c .before .if1 .left))) (ap not (c .is-read .ensures))
 
 pub is-dead-spec : {M : Type 1} → statement M
-is-dead-spec = tie.close (tie.spec declared-in-requires returns temp-read-requires returns-2)
+is-dead-spec = tie.close (tie.spec is-declared-requires returns is-read-requires returns-2)

@@ -1,84 +1,59 @@
+-- `temps::prune_dead_temps` meets its contract. Assumes nothing.
 use borrow.Author.Needs.{needs}
-use Prim.Native.Nat.{_-_}
-use native.Mathlib.Omega.{arith}
-use lib.ListN.{length}
-use Rattle.lines.proofs.LfLaws.{find-le}
-use Rattle.lines.proofs.OutLaws.{writing-length}
-use Rattle.temps.proofs.PassLaws.{TempInv, temp-start, temp-room, temp-on, temp-end, temp-memory}
+use Rattle.lines.specs.Lf.{linesOf}
+use Rattle.temps.proofs.TableLaws.{tells-declared, tells-read}
 use Rattle.temps.proofs.prune_dead_temps.Statement.{statement}
 use Rattle.temps.proofs.prune_dead_temps.Tie as tie
 
-abbrev Inv-loop : tie.InvT-loop
-Inv-loop text scratch₀ out₀ i₀ o₀ scratch out i o = TempInv text scratch₀ out₀ scratch out i o
+slice-aggregate-flag-decls : tie.Need-slice-aggregate-flag-decls
+slice-aggregate-flag-decls c = search needs
 
-abbrev μ-loop : tie.MeasureT-loop
-μ-loop text scratch₀ out₀ i₀ o₀ scratch out i o = length text - i
+flag-decls-requires : tie.Need-flag-decls-requires
+flag-decls-requires c κs = search needs
 
--- src/lib.rt:175:5
-loop-holds : tie.Need-loop-holds Inv-loop μ-loop
-loop-holds c = temp-start _ _ _ (c .before .before .before .pre .0) (c .before .before .before .pre .1)
+slice-aggregate-flag-used : tie.Need-slice-aggregate-flag-used
+slice-aggregate-flag-used c = search needs
 
--- src/lib.rt:176:13
-find-byte-requires : tie.Need-find-byte-requires Inv-loop μ-loop
-find-byte-requires c κs = search needs
+slice-aggregate-flag-used-2 : tie.Need-slice-aggregate-flag-used-2
+slice-aggregate-flag-used-2 c = search needs
 
--- src/lib.rt:177:22
-sub-put-line : tie.Need-sub-put-line Inv-loop μ-loop
-sub-put-line c = omega arith
+flag-used-requires : tie.Need-flag-used-requires
+flag-used-requires c κs = search needs
 
--- src/lib.rt:177:22
-part-put-line-start : tie.Need-part-put-line-start Inv-loop μ-loop
-part-put-line-start c = omega arith
+slice-aggregate-prune-with : tie.Need-slice-aggregate-prune-with
+slice-aggregate-prune-with c = search needs
 
--- src/lib.rt:177:22
-part-put-line-end : tie.Need-part-put-line-end Inv-loop μ-loop
-part-put-line-end c = omega (arith, find-le 10 (c .before .before .before .before .before .before .args .text .now) (c .before .before .loop .i) (c .find-byte .result) (c .before .before .loop .inv .i≤) (c .find-byte .ensures))
+slice-aggregate-prune-with-2 : tie.Need-slice-aggregate-prune-with-2
+slice-aggregate-prune-with-2 c = search needs
 
--- src/lib.rt:177:9
-put-line-requires : tie.Need-put-line-requires Inv-loop μ-loop
-put-line-requires c κs = temp-room (c .before .before .before .before .before .loop .inv) (c .before .before .before .find-byte .result) (c .before .before .before .before .loop-test .taken) (c .before .before .before .find-byte .ensures)
+prune-with-requires : tie.Need-prune-with-requires
+prune-with-requires c κs =
+    let s = c .before .before .before .before .before .before .before .before .before .before .before .before .before .before in
+    let ls = linesOf (s .args .text .now) in
+    let d = c .before .before .before .before .before .before .before .before .before .flag-decls .ensures in
+    ((s .pre .0, (tells-declared ls 1024 _ d, tells-read ls 1024 _ _ d (c .before .before .before .before .before .flag-used .ensures))), s .pre .1)
 
--- src/lib.rt:178:9
-after-requires : tie.Need-after-requires Inv-loop μ-loop
-after-requires c κs = search needs
+same-length : tie.Need-same-length
+same-length c = search needs
 
--- src/lib.rt:175:5
-loop-less : tie.Need-loop-less Inv-loop μ-loop
-loop-less c = omega (arith, c .after .ensures, c .before .before .before .before .before .before .before .before .before .find-byte .ensures, c .before .before .before .before .before .before .before .before .before .before .loop-test .taken)
+same-length-2 : tie.Need-same-length-2
+same-length-2 c = search needs
 
--- src/lib.rt:175:5
-loop-again : tie.Need-loop-again Inv-loop μ-loop
-loop-again c =
-    let p = c .before .before .before .before .before .put-line in
-    temp-on (c .before .before .before .before .before .before .before .before .before .before .before .loop .inv) (c .before .before .before .before .before .before .before .before .before .find-byte .result) (c .before .before .before .before .before .before .before .before .before .before .loop-test .taken) (c .before .before .before .before .before .before .before .before .before .find-byte .ensures) _ _ _ _ (p .ensures .0) (p .ensures .1) (p .kept .1 .1 .0) (c .after .ensures)
-
--- src/lib.rt:168:1
-same-length : tie.Need-same-length Inv-loop μ-loop
-same-length c = c .before .loop .inv .same-scratch
-
--- src/lib.rt:168:1
-same-length-2 : tie.Need-same-length-2 Inv-loop μ-loop
-same-length-2 c = writing-length (c .before .loop .inv .writing)
-
--- src/lib.rt:168:1
-returns : tie.Need-returns Inv-loop μ-loop
-returns c = (temp-end (c .before .loop .inv) (c .loop-test .left), temp-memory (c .before .loop .inv) (c .loop-test .left))
+returns : tie.Need-returns
+returns c = search needs
 
 pub prune-dead-temps-spec : {M : Type 1} → statement M
 prune-dead-temps-spec =
     tie.close
     (tie.spec
-    Inv-loop
-    μ-loop
-    loop-holds
-    find-byte-requires
-    sub-put-line
-    part-put-line-start
-    part-put-line-end
-    put-line-requires
-    after-requires
-    loop-less
-    loop-again
+    slice-aggregate-flag-decls
+    flag-decls-requires
+    slice-aggregate-flag-used
+    slice-aggregate-flag-used-2
+    flag-used-requires
+    slice-aggregate-prune-with
+    slice-aggregate-prune-with-2
+    prune-with-requires
     same-length
     same-length-2
     returns)

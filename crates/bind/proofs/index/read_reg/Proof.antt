@@ -4,38 +4,28 @@ use Rattle.decls.proofs.SeenLaws.{set-past}
 use Rattle.bind.proofs.IndexLaws.{read-low, read-high}
 use Rattle.bind.proofs.index.read_reg.Statement.{statement}
 use Rattle.bind.proofs.index.read_reg.Tie as tie
-use Rattle.bind.proofs.index.read_reg.Reads as reads
-use Rattle.bind.proofs.index.read_reg.Lts as lts
 
--- src/index.rt:19:9
 returns : tie.Need-returns
 returns c = set-past _ _ _ (c .if1 .taken)
 
--- src/index.rt:21:8
 mul-if2 : tie.Need-mul-if2
 mul-if2 c = search needs
 
--- src/index.rt:21:8
 slice-read-if2 : tie.Need-slice-read-if2
 slice-read-if2 c = search needs
 
--- src/index.rt:22:9
 returns-2 : tie.Need-returns-2
 returns-2 c = let a = c .before .before .before .args in read-high (a .b) (a .first .now) (a .reg .0) (c .if2 .taken)
 
--- src/index.rt:24:5
 mul-first : tie.Need-mul-first
 mul-first c = search needs
 
--- src/index.rt:24:5
 slice-write-first : tie.Need-slice-write-first
 slice-write-first c = search needs
 
--- src/index.rt:14:1
 same-length : tie.Need-same-length
 same-length c = search needs
 
--- src/index.rt:14:1
 returns-3 : tie.Need-returns-3
 returns-3 c = let a = c .before .before .before .args in read-low (a .b) (a .first .now) (a .reg .0) (c .if2 .left)
 

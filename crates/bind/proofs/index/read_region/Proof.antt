@@ -9,49 +9,34 @@ use Prim.Native.Nat.{ℕ}
 use Rattle.lines.specs.Lf.{linesOf}
 use Rattle.bind.proofs.index.read_region.Statement.{statement}
 use Rattle.bind.proofs.index.read_region.Tie as tie
-use Rattle.bind.proofs.index.read_region.Reads as reads
-use Rattle.bind.proofs.index.read_region.Lts as lts
-use Rattle.bind.proofs.index.see_lines.Reads as see-lines-reads
-use Rattle.bind.proofs.index.use_lines.Reads as use-lines-reads
-use Rattle.lines.proofs.cut.Reads as cut-reads
 
--- src/index.rt:186:9
 returns : tie.Need-returns
 returns c = let a = c .before .before .before .before .args in region-kept (a .text .now) (a .a) (a .i) (a .e) (a .k) (a .seen .now) (a .first .now) (c .if1 .taken)
 
--- src/index.rt:188:9
 cut-requires : tie.Need-cut-requires
 cut-requires c κs = search needs
 
--- src/index.rt:189:23
 add-use-lines : tie.Need-add-use-lines
 add-use-lines c = search needs
 
--- src/index.rt:189:5
 use-lines-requires : tie.Need-use-lines-requires
 use-lines-requires c κs = omega (arith, c .before .before .before .before .before .before .pre .1 .1 .1 (c .before .before .if1 .left), ap (λ (x : List ℕ). length (linesOf x)) (c .before .cut .ensures))
 
--- src/index.rt:190:23
 add-see-lines : tie.Need-add-see-lines
 add-see-lines c = search needs
 
--- src/index.rt:190:30
 add-see-lines-2 : tie.Need-add-see-lines-2
 add-see-lines-2 c = search needs
 
--- src/index.rt:190:5
 see-lines-requires : tie.Need-see-lines-requires
 see-lines-requires c κs = search needs
 
--- src/index.rt:180:1
 same-length : tie.Need-same-length
 same-length c = search needs
 
--- src/index.rt:180:1
 same-length-2 : tie.Need-same-length-2
 same-length-2 c = search needs
 
--- src/index.rt:180:1
 returns-2 : tie.Need-returns-2
 returns-2 c = let a = c .before .before .before .before .before .before .before .before .before .before .before .before .before .before .before .before .args in region-read (a .text .now) (a .a) (a .i) (a .e) (a .k) (a .seen .now) (a .first .now) (c .before .before .before .before .before .before .before .before .before .before .before .before .if1 .left) (c .before .before .before .before .before .before .before .before .before .before .before .cut .result .now) (c .before .before .before .before .before .before .before .before .before .before .before .cut .ensures) (c .before .before .before .before .before .before .before .before .before .use-lines .ensures) (c .before .before .before .before .see-lines .ensures .0) (c .before .before .before .before .see-lines .ensures .1)
 

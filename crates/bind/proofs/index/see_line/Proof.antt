@@ -7,46 +7,31 @@ use Rattle.decls.proofs.Writes.{decl-long}
 use Rattle.bind.proofs.IndexLaws.{see-other, see-decl}
 use Rattle.bind.proofs.index.see_line.Statement.{statement}
 use Rattle.bind.proofs.index.see_line.Tie as tie
-use Rattle.bind.proofs.index.see_line.Reads as reads
-use Rattle.bind.proofs.index.see_line.Lts as lts
-use Rattle.bind.proofs.index.see_pieces.Reads as see-pieces-reads
-use Rattle.lines.proofs.cut.Reads as cut-reads
-use Rattle.parse.proofs.is_decl.Reads as is-decl-reads
-use Rattle.text.proofs.trim.Reads as trim-reads
 
--- src/index.rt:158:9
 trim-requires : tie.Need-trim-requires
 trim-requires c κs = search needs
 
--- src/index.rt:159:9
 is-decl-requires : tie.Need-is-decl-requires
 is-decl-requires c κs = search needs
 
--- src/index.rt:160:9
 returns : tie.Need-returns
 returns c = let a = c .before .before .before .before .before .before .args in see-other (a .m) (a .b) (a .line .now) (c .before .before .trim .result .now) (c .before .before .trim .ensures .0) (a .seen .now) (a .first .now) (sym (c .before .is-decl .ensures) ∙ not-true _ (c .if1 .taken))
 
--- src/index.rt:162:33
 sub-cut : tie.Need-sub-cut
 sub-cut c = omega (arith, decl-long _ (sym (c .before .is-decl .ensures) ∙ not-false _ (c .if1 .left)))
 
--- src/index.rt:162:16
 cut-requires : tie.Need-cut-requires
 cut-requires c κs = search needs
 
--- src/index.rt:162:5
 see-pieces-requires : tie.Need-see-pieces-requires
 see-pieces-requires c κs = search needs
 
--- src/index.rt:153:1
 same-length : tie.Need-same-length
 same-length c = search needs
 
--- src/index.rt:153:1
 same-length-2 : tie.Need-same-length-2
 same-length-2 c = search needs
 
--- src/index.rt:153:1
 returns-2 : tie.Need-returns-2
 returns-2 c = let a = c .before .before .before .before .before .before .before .before .before .before .before .before .before .before .args in see-decl (a .m) (a .b) (a .line .now) (c .before .before .before .before .before .before .before .before .before .before .trim .result .now) (c .before .before .before .before .before .before .before .before .before .before .trim .ensures .0) (a .seen .now) (a .first .now) (sym (c .before .before .before .before .before .before .before .before .before .is-decl .ensures) ∙ not-false _ (c .before .before .before .before .before .before .before .before .if1 .left)) (c .before .before .before .before .before .before .before .cut .result .now) (c .before .before .before .before .before .before .before .cut .ensures) (c .before .before .before .before .see-pieces .ensures .0) (c .before .before .before .before .see-pieces .ensures .1)
 

@@ -6,12 +6,6 @@ use lib.ListN.{length}
 use Rattle.bind.proofs.IndexLaws.{SeesInv, sees-start, sees-on, sees-done}
 use Rattle.bind.proofs.index.see_lines.Statement.{statement}
 use Rattle.bind.proofs.index.see_lines.Tie as tie
-use Rattle.bind.proofs.index.see_lines.Reads as reads
-use Rattle.bind.proofs.index.see_lines.Lts as lts
-use Rattle.bind.proofs.index.see_line.Reads as see-line-reads
-use Rattle.lines.proofs.after.Reads as after-reads
-use Rattle.lines.proofs.cut.Reads as cut-reads
-use Rattle.lines.proofs.find_byte.Reads as find-byte-reads
 
 abbrev Inv-loop : tie.InvT-loop
 Inv-loop text m b seen₀ first₀ i₀ seen first i = SeesInv m b text seen₀ first₀ seen first i
@@ -19,43 +13,33 @@ Inv-loop text m b seen₀ first₀ i₀ seen first i = SeesInv m b text seen₀ 
 abbrev μ-loop : tie.MeasureT-loop
 μ-loop text m b seen₀ first₀ i₀ seen first i = length text - i
 
--- src/index.rt:172:5
 loop-holds : tie.Need-loop-holds Inv-loop μ-loop
 loop-holds c = let a = c .before .before .before .args in sees-start (a .m) (a .b) (a .text .now) (a .seen .now) (a .first .now)
 
--- src/index.rt:173:13
 find-byte-requires : tie.Need-find-byte-requires Inv-loop μ-loop
 find-byte-requires c κs = search needs
 
--- src/index.rt:174:18
 cut-requires : tie.Need-cut-requires Inv-loop μ-loop
 cut-requires c κs = search needs
 
--- src/index.rt:174:9
 see-line-requires : tie.Need-see-line-requires Inv-loop μ-loop
 see-line-requires c κs = omega (arith, c .before .before .before .before .before .before .before .before .before .pre, c .before .before .before .before .before .loop .inv .long-d, c .before .before .before .before .before .loop .inv .long-u)
 
--- src/index.rt:175:9
 after-requires : tie.Need-after-requires Inv-loop μ-loop
 after-requires c κs = search needs
 
--- src/index.rt:172:5
 loop-less : tie.Need-loop-less Inv-loop μ-loop
 loop-less c = omega (arith, c .after .ensures, c .before .before .before .before .before .before .before .before .before .find-byte .ensures, c .before .before .before .before .before .before .before .before .before .before .loop-test .taken)
 
--- src/index.rt:172:5
 loop-again : tie.Need-loop-again Inv-loop μ-loop
 loop-again c = sees-on (c .before .before .before .before .before .before .before .before .before .before .before .loop .inv) (c .before .before .before .before .before .before .before .before .before .find-byte .result) (c .after .result) (c .before .before .before .before .before .before .before .before .cut .result .now) (c .before .before .before .before .before .before .before .before .before .before .loop-test .taken) (c .before .before .before .before .before .before .before .before .before .find-byte .ensures) (c .before .before .before .before .before .before .before .before .cut .ensures) (c .after .ensures) (c .before .before .before .before .before .see-line .ensures .0) (c .before .before .before .before .before .see-line .ensures .1)
 
--- src/index.rt:166:1
 same-length : tie.Need-same-length Inv-loop μ-loop
 same-length c = c .before .loop .inv .long-d
 
--- src/index.rt:166:1
 same-length-2 : tie.Need-same-length-2 Inv-loop μ-loop
 same-length-2 c = c .before .loop .inv .long-u
 
--- src/index.rt:166:1
 returns : tie.Need-returns Inv-loop μ-loop
 returns c = sees-done (c .before .loop .inv) (c .loop-test .left)
 

@@ -6,39 +6,28 @@ use Rattle.decls.specs.Seen.{markName}
 use Rattle.bind.specs.Index.{againName}
 use Rattle.bind.proofs.index.see_name.Statement.{statement}
 use Rattle.bind.proofs.index.see_name.Tie as tie
-use Rattle.bind.proofs.index.see_name.Reads as reads
-use Rattle.bind.proofs.index.see_name.Lts as lts
-use Rattle.bind.proofs.index.see_reg.Reads as see-reg-reads
-use Rattle.names.proofs.reg_name.Reads as reg-name-reads
 
--- src/index.rt:128:11
 reg-name-requires : tie.Need-reg-name-requires
 reg-name-requires c κs = search needs
 
--- src/index.rt:129:29
 enum-known-q : tie.Need-enum-known-q
 enum-known-q c = search needs
 
--- src/index.rt:129:35
 see-reg-requires : tie.Need-see-reg-requires
 see-reg-requires c κs = search needs
 
 enum-told : tie.Need-enum-told
 enum-told c = search needs
 
--- src/index.rt:123:1
 same-length : tie.Need-same-length
 same-length c = search needs
 
--- src/index.rt:123:1
 same-length-2 : tie.Need-same-length-2
 same-length-2 c = search needs
 
--- src/index.rt:123:1
 returns : tie.Need-returns
 returns c = let a = c .before .before .before .before .before .before .before .before .before .before .before .before .before .before .args in (c .before .before .before .before .see-reg .ensures .0 ∙ sym (ap (λ (r : RegName). markName (a .m) r (a .seen .now)) (sym (c .before .before .before .before .before .before .before .before .before .before .reg-name .ensures) ∙ c .before .before .before .before .before .before .before .before .q .given .1)), c .before .before .before .before .see-reg .ensures .1 ∙ sym (ap (λ (r : RegName). againName (a .m) (a .b) r (a .seen .now) (a .first .now)) (sym (c .before .before .before .before .before .before .before .before .before .before .reg-name .ensures) ∙ c .before .before .before .before .before .before .before .before .q .given .1)))
 
--- src/index.rt:123:1
 returns-2 : tie.Need-returns-2
 returns-2 c = let a = c .before .before .before .before .before .before .args in (sym (ap (λ (r : RegName). markName (a .m) r (a .seen .now)) (sym (c .before .before .reg-name .ensures) ∙ c .enum-told .given .1)), sym (ap (λ (r : RegName). againName (a .m) (a .b) r (a .seen .now) (a .first .now)) (sym (c .before .before .reg-name .ensures) ∙ c .enum-told .given .1)))
 

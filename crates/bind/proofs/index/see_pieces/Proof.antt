@@ -8,12 +8,6 @@ use Rattle.text.specs.Trim.{trimOf}
 use Rattle.bind.proofs.IndexLaws.{SeeInv, see-start, see-long-d, see-long-u, see-on, see-last-d, see-last-u}
 use Rattle.bind.proofs.index.see_pieces.Statement.{statement}
 use Rattle.bind.proofs.index.see_pieces.Tie as tie
-use Rattle.bind.proofs.index.see_pieces.Reads as reads
-use Rattle.bind.proofs.index.see_pieces.Lts as lts
-use Rattle.bind.proofs.index.see_name.Reads as see-name-reads
-use Rattle.lines.proofs.cut.Reads as cut-reads
-use Rattle.lines.proofs.find_byte.Reads as find-byte-reads
-use Rattle.text.proofs.trim.Reads as trim-reads
 
 abbrev Inv-loop : tie.InvT-loop
 Inv-loop body m b seen₀ first₀ i₀ seen first i = SeeInv m b body seen₀ first₀ seen first i
@@ -21,47 +15,36 @@ Inv-loop body m b seen₀ first₀ i₀ seen first i = SeeInv m b body seen₀ f
 abbrev μ-loop : tie.MeasureT-loop
 μ-loop body m b seen₀ first₀ i₀ seen first i = length body - i
 
--- src/index.rt:141:5
 loop-holds : tie.Need-loop-holds Inv-loop μ-loop
 loop-holds c = let a = c .before .before .before .args in see-start (a .m) (a .b) (a .body .now) (a .seen .now) (a .first .now)
 
--- src/index.rt:142:13
 find-byte-requires : tie.Need-find-byte-requires Inv-loop μ-loop
 find-byte-requires c κs = search needs
 
--- src/index.rt:143:29
 cut-requires : tie.Need-cut-requires Inv-loop μ-loop
 cut-requires c κs = search needs
 
--- src/index.rt:143:18
 trim-requires : tie.Need-trim-requires Inv-loop μ-loop
 trim-requires c κs = search needs
 
--- src/index.rt:143:9
 see-name-requires : tie.Need-see-name-requires Inv-loop μ-loop
 see-name-requires c κs = omega (arith, c .before .before .before .before .before .before .before .before .before .pre, c .before .before .before .before .before .loop .inv .long-d, c .before .before .before .before .before .loop .inv .long-u)
 
--- src/index.rt:145:13
 same-length : tie.Need-same-length Inv-loop μ-loop
 same-length c = see-long-d (c .before .before .before .before .before .before .before .before .before .before .before .loop .inv) (c .before .before .before .before .before .before .before .before .before .before .find-byte .result) (c .before .before .before .before .before .before .before .before .before .before .find-byte .ensures) (c .before .before .before .before .before .before .before .before .trim .result .now) (c .before .before .before .before .before .before .before .before .trim .ensures .0 ∙ ap trimOf (c .before .before .before .before .before .before .before .before .before .cut .ensures)) (c .before .before .before .before .before .see-name .ensures .0) (c .before .before .before .before .before .see-name .ensures .1)
 
--- src/index.rt:145:13
 same-length-2 : tie.Need-same-length-2 Inv-loop μ-loop
 same-length-2 c = see-long-u (c .before .before .before .before .before .before .before .before .before .before .before .loop .inv) (c .before .before .before .before .before .before .before .before .before .before .find-byte .result) (c .before .before .before .before .before .before .before .before .before .before .find-byte .ensures) (c .before .before .before .before .before .before .before .before .trim .result .now) (c .before .before .before .before .before .before .before .before .trim .ensures .0 ∙ ap trimOf (c .before .before .before .before .before .before .before .before .before .cut .ensures)) (c .before .before .before .before .before .see-name .ensures .0) (c .before .before .before .before .before .see-name .ensures .1)
 
--- src/index.rt:145:13
 returns : tie.Need-returns Inv-loop μ-loop
 returns c = (see-last-d (c .before .before .before .before .before .before .before .before .before .before .before .loop .inv) (c .before .before .before .before .before .before .before .before .before .before .find-byte .result) (c .before .before .before .before .before .before .before .before .before .before .find-byte .ensures) (c .before .before .before .before .before .before .before .before .trim .result .now) (c .before .before .before .before .before .before .before .before .trim .ensures .0 ∙ ap trimOf (c .before .before .before .before .before .before .before .before .before .cut .ensures)) (c .before .before .before .before .before .see-name .ensures .0) (c .before .before .before .before .before .see-name .ensures .1) (c .if1 .taken), see-last-u (c .before .before .before .before .before .before .before .before .before .before .before .loop .inv) (c .before .before .before .before .before .before .before .before .before .before .find-byte .result) (c .before .before .before .before .before .before .before .before .before .before .find-byte .ensures) (c .before .before .before .before .before .before .before .before .trim .result .now) (c .before .before .before .before .before .before .before .before .trim .ensures .0 ∙ ap trimOf (c .before .before .before .before .before .before .before .before .before .cut .ensures)) (c .before .before .before .before .before .see-name .ensures .0) (c .before .before .before .before .before .see-name .ensures .1) (c .if1 .taken))
 
--- src/index.rt:147:13
 add-i : tie.Need-add-i Inv-loop μ-loop
 add-i c = omega arith
 
--- src/index.rt:141:5
 loop-less : tie.Need-loop-less Inv-loop μ-loop
 loop-less c = omega (arith, c .before .before .before .before .before .before .before .before .before .before .find-byte .ensures)
 
--- src/index.rt:141:5
 loop-again : tie.Need-loop-again Inv-loop μ-loop
 loop-again c = see-on (c .before .before .before .before .before .before .before .before .before .before .before .loop .inv) (c .before .before .before .before .before .before .before .before .before .before .find-byte .result) (c .before .before .before .before .before .before .before .before .before .before .find-byte .ensures) (c .before .before .before .before .before .before .before .before .trim .result .now) (c .before .before .before .before .before .before .before .before .trim .ensures .0 ∙ ap trimOf (c .before .before .before .before .before .before .before .before .before .cut .ensures)) (c .before .before .before .before .before .see-name .ensures .0) (c .before .before .before .before .before .see-name .ensures .1) (c .if1 .left)
 

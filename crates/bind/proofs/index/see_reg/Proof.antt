@@ -6,54 +6,40 @@ use mathlib.Core.Path.{refl}
 use native.Mathlib.Omega.{arith}
 use Rattle.bind.proofs.index.see_reg.Statement.{statement}
 use Rattle.bind.proofs.index.see_reg.Tie as tie
-use Rattle.bind.proofs.index.see_reg.Reads as reads
-use Rattle.bind.proofs.index.see_reg.Lts as lts
 
--- src/index.rt:112:9
 returns : tie.Need-returns
 returns c = let a = c .before .args in (set-past (a .seen .now) (a .reg .0) (a .m) (omega (arith, c .before .pre, c .if1 .taken)), again-past (a .m) (a .b) (a .reg .0) (a .seen .now) (a .first .now) (c .if1 .taken))
 
--- src/index.rt:114:13
 mul-x : tie.Need-mul-x
 mul-x c = search needs
 
--- src/index.rt:114:13
 slice-read-x : tie.Need-slice-read-x
 slice-read-x c = search needs
 
--- src/index.rt:115:5
 mul-seen : tie.Need-mul-seen
 mul-seen c = search needs
 
--- src/index.rt:115:5
 slice-write-seen : tie.Need-slice-write-seen
 slice-write-seen c = search needs
 
--- src/index.rt:117:9
 same-length : tie.Need-same-length
 same-length c = search needs
 
--- src/index.rt:117:9
 returns-2 : tie.Need-returns-2
 returns-2 c = let a = c .before .before .before .args in (refl, again-low (a .m) (a .b) (a .reg .0) (a .seen .now) (a .first .now) (c .if2 .taken))
 
--- src/index.rt:119:5
 mul-first : tie.Need-mul-first
 mul-first c = search needs
 
--- src/index.rt:119:5
 slice-write-first : tie.Need-slice-write-first
 slice-write-first c = search needs
 
--- src/index.rt:105:1
 same-length-2 : tie.Need-same-length-2
 same-length-2 c = search needs
 
--- src/index.rt:105:1
 same-length-3 : tie.Need-same-length-3
 same-length-3 c = search needs
 
--- src/index.rt:105:1
 returns-3 : tie.Need-returns-3
 returns-3 c = let a = c .before .before .before .args in (refl, again-high (a .m) (a .b) (a .reg .0) (a .seen .now) (a .first .now) (c .if2 .left))
 

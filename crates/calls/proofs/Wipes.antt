@@ -1,0 +1,76 @@
+-- Laws of the buffers that are wiped at the end, and of the tables as they are lent. Assumes nothing.
+use Prim.Native.Nat.{ℕ, suc, _+_, _-_, _≤_, _<_}
+use mathlib.Core.Path.{_≡_, refl, sym, ap, _∙_}
+use mathlib.Core.List.{List, [], _∷_, _++_}
+use native.Mathlib.Omega.{arith}
+use native.Mathlib.Numerals.{add-one}
+use lib.ListN.{length, take, drop, set, replicate, length-set, length-replicate, replicate-append-replicate}
+use lib.Seq.{take-suc-set, take-all, length-take-le}
+use Rattle.lines.specs.Lf.{part, linesOf, unlines}
+use Rattle.lines.specs.Out.{putAt, Wrote}
+use Rattle.place.specs.Blocks.{blockIds, cleaned}
+use Rattle.place.specs.Starts.{startsGo}
+use Rattle.place.specs.Fill.{Filled, flagsOf}
+use Rattle.place.proofs.Fills.{filled-take, filled-length}
+use Rattle.place.proofs.Lengths.{lengths}
+use Rattle.reading.specs.Reading.{plain}
+use Rattle.calls.specs.LeavesOf.{leavesOf}
+use Rattle.calls.specs.Calls.{rebuildCalls}
+use Rattle.calls.specs.Tables.{Placed, Rebuilt}
+
+-- ---- the loop that wipes
+
+pub record Wiping (s₀ s : List ℕ) (i : ℕ) : Type 0 where
+  pub same : length s ≡ length s₀
+  pub i≤ : i ≤ length s
+  pub zeros : take i s ≡ replicate i 0
+
+pub wiping-start : (s : List ℕ) → Wiping s s 0
+wiping-start s = record { same = refl; i≤ = omega arith; zeros = refl }
+
+pub wiping-on : {s₀ s : List ℕ} {i : ℕ} → Wiping s₀ s i → i < length s → Wiping s₀ (set s i 0) (i + 1)
+wiping-on {s₀} {s} {i} w h = record {
+  same = length-set s i 0 ∙ w .same;
+  i≤ = omega (arith, length-set s i 0);
+  zeros = ap (λ (k : ℕ). take k (set s i 0)) (add-one i) ∙ take-suc-set s i 0 h ∙ ap (λ (l : List ℕ). l ++ (0 ∷ [])) (w .zeros) ∙ replicate-append-replicate i 1 0;
+}
+
+pub wiping-end : {s₀ s : List ℕ} {i : ℕ} → Wiping s₀ s i → length s ≤ i → s ≡ replicate (length s₀) 0
+wiping-end {s₀} {s} {i} w h =
+    let e : i ≡ length s₀ = omega (arith, w .i≤, w .same) in
+    sym (take-all i s h) ∙ w .zeros ∙ ap (λ (k : ℕ). replicate k 0) e
+
+-- ---- the tables
+
+pub placed-by : {t b₀ b s₀ s : List ℕ} {r : ℕ} → length (linesOf t) ≤ length b₀ → length (linesOf t) ≤ length s₀ → Filled b₀ (blockIds (linesOf t)) b r → Filled s₀ (flagsOf (startsGo (cleaned (linesOf t)) mathlib.Core.Bool.true)) s r → Placed t b s
+placed-by {t} {b₀} {b} {s₀} {s} {r} h k f g =
+    let l = lengths (linesOf t) in
+    let n : length (linesOf t) ≡ r = sym (f .place ∙ l .by-block) in
+    record {
+      blocks-are = ap (λ (x : ℕ). take x b) n ∙ filled-take f;
+      starts-are = ap (λ (x : ℕ). take x s) n ∙ filled-take g;
+      blocks-many = omega (arith, filled-length f (omega (arith, l .by-block)), h);
+      starts-many = omega (arith, filled-length g (omega (arith, l .by-start)), k);
+    }
+
+pub filled-at : {d xs d′ : List ℕ} {r n : ℕ} → Filled d xs d′ r → length xs ≡ n → Filled d xs d′ n
+filled-at f e = record { place = sym e; holds = f .holds }
+
+-- ---- the stack at the end
+
+-- its lines, cut out of it
+pub rebuilt-text : {t owner owner′ stack : List ℕ} {r : ℕ} → Rebuilt t owner owner′ stack r → (x : List ℕ) → x ≡ part 0 r stack → x ≡ unlines (rebuildCalls (leavesOf plain) (linesOf t))
+rebuilt-text {stack = stack} {r = r} b x e = let z : r - 0 ≡ r = omega arith in e ∙ ap (λ (k : ℕ). take k stack) z ∙ b .lines
+
+-- the front of a buffer, wiped
+pub front-wiped : (d e : List ℕ) (n : ℕ) → n ≤ length d → e ≡ replicate (length (take n d)) 0 → Wrote d 0 (replicate n 0) (e ++ drop n d) n
+unfolding putAt
+front-wiped d e n h q =
+    let z : List ℕ = replicate n 0 in
+    let l : length z ≡ n = length-replicate n 0 in
+    let k : 0 + length z ≡ n = omega arith in
+    record {
+      fits = omega arith;
+      place = sym k;
+      holds = ap (λ (x : List ℕ). x ++ drop n d) (q ∙ ap (λ (j : ℕ). replicate j 0) (length-take-le n d h)) ∙ ap (λ (j : ℕ). replicate n 0 ++ drop j d) (sym k);
+    }

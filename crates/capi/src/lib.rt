@@ -1,0 +1,59 @@
+// The entries for C and Rust: include/optlines.h declares them.
+ghost use mathlib.Core.Path.{_≡_};
+ghost use Rattle.opt.specs.Answer.{numberOf, lengthOf, placeOf};
+ghost use Rattle.opt.specs.Entry.{outAfter};
+ghost use Rattle.opt.specs.Room.{After};
+ghost use Rattle.capi.specs.Called.{tidied, passed, tidyAnswer, onePassAnswer};
+
+// Runs all passes over a text. Returns the number of the answer, and stores its length and its place.
+#[no_mangle]
+pub extern "C" fn optlines_optimize(
+    text: &[u8],
+    a: &mut [u8],
+    b: &mut [u8],
+    c: &mut [u8],
+    d: &mut [u8],
+    e: &mut [u8],
+    u: &mut [u32],
+    out: &mut [u8],
+    size: &mut usize,
+    place: &mut usize,
+) -> u8
+    ensures number { λ r. ⌜ r ≡ numberOf (tidyAnswer (now (text .entry)) (now (a .entry)) (now (b .entry)) (now (c .entry)) (now (d .entry)) (now (e .entry)) (now (u .entry)) (now (out .entry))) ⌝ }
+    ensures size { λ _. ⌜ now (size .exit) ≡ lengthOf (tidyAnswer (now (text .entry)) (now (a .entry)) (now (b .entry)) (now (c .entry)) (now (d .entry)) (now (e .entry)) (now (u .entry)) (now (out .entry))) ⌝ }
+    ensures place { λ _. ⌜ now (place .exit) ≡ placeOf (tidyAnswer (now (text .entry)) (now (a .entry)) (now (b .entry)) (now (c .entry)) (now (d .entry)) (now (e .entry)) (now (u .entry)) (now (out .entry))) ⌝ }
+    ensures result { λ _. ⌜ now (out .exit) ≡ outAfter (tidyAnswer (now (text .entry)) (now (a .entry)) (now (b .entry)) (now (c .entry)) (now (d .entry)) (now (e .entry)) (now (u .entry)) (now (out .entry))) (tidied (now (text .entry))) (now (out .entry)) ⌝ }
+    ensures work { λ _. ⌜ After (tidyAnswer (now (text .entry)) (now (a .entry)) (now (b .entry)) (now (c .entry)) (now (d .entry)) (now (e .entry)) (now (u .entry)) (now (out .entry))) (now (a .entry)) (now (b .entry)) (now (c .entry)) (now (d .entry)) (now (e .entry)) (now (u .entry)) (now (a .exit)) (now (b .exit)) (now (c .exit)) (now (d .exit)) (now (e .exit)) (now (u .exit)) ⌝ }
+{
+    let answer = opt::optimize(text, a, b, c, d, e, u, out);
+    *size = opt::length_of(answer);
+    *place = opt::place_of(answer);
+    opt::number_of(answer)
+}
+
+// Runs one pass, 1 to 6, over a text. Returns the number of the answer, and stores its length and its place.
+#[no_mangle]
+pub extern "C" fn optlines_run_pass(
+    pass: usize,
+    text: &[u8],
+    a: &mut [u8],
+    b: &mut [u8],
+    c: &mut [u8],
+    d: &mut [u8],
+    e: &mut [u8],
+    u: &mut [u32],
+    out: &mut [u8],
+    size: &mut usize,
+    place: &mut usize,
+) -> u8
+    ensures number { λ r. ⌜ r ≡ numberOf (onePassAnswer pass (now (text .entry)) (now (a .entry)) (now (b .entry)) (now (c .entry)) (now (d .entry)) (now (e .entry)) (now (u .entry)) (now (out .entry))) ⌝ }
+    ensures size { λ _. ⌜ now (size .exit) ≡ lengthOf (onePassAnswer pass (now (text .entry)) (now (a .entry)) (now (b .entry)) (now (c .entry)) (now (d .entry)) (now (e .entry)) (now (u .entry)) (now (out .entry))) ⌝ }
+    ensures place { λ _. ⌜ now (place .exit) ≡ placeOf (onePassAnswer pass (now (text .entry)) (now (a .entry)) (now (b .entry)) (now (c .entry)) (now (d .entry)) (now (e .entry)) (now (u .entry)) (now (out .entry))) ⌝ }
+    ensures result { λ _. ⌜ now (out .exit) ≡ outAfter (onePassAnswer pass (now (text .entry)) (now (a .entry)) (now (b .entry)) (now (c .entry)) (now (d .entry)) (now (e .entry)) (now (u .entry)) (now (out .entry))) (passed pass (now (text .entry))) (now (out .entry)) ⌝ }
+    ensures work { λ _. ⌜ After (onePassAnswer pass (now (text .entry)) (now (a .entry)) (now (b .entry)) (now (c .entry)) (now (d .entry)) (now (e .entry)) (now (u .entry)) (now (out .entry))) (now (a .entry)) (now (b .entry)) (now (c .entry)) (now (d .entry)) (now (e .entry)) (now (u .entry)) (now (a .exit)) (now (b .exit)) (now (c .exit)) (now (d .exit)) (now (e .exit)) (now (u .exit)) ⌝ }
+{
+    let answer = opt::run_pass(pass, text, a, b, c, d, e, u, out);
+    *size = opt::length_of(answer);
+    *place = opt::place_of(answer);
+    opt::number_of(answer)
+}

@@ -1,0 +1,55 @@
+-- Each public function of crate opt: its contract fixes its outcome. Assumes nothing.
+use Prim.Native.Nat.{ℕ}
+use mathlib.Core.Path.{_≡_, ap, sym, _∙_}
+use mathlib.Core.List.{List}
+use denote.Ref.{now}
+use Rattle.reading.specs.Reading.{plain}
+use Rattle.opt.specs.declared.Answer.{Answer}
+use Rattle.opt.specs.Passes.{stepOf, whole, resultOf}
+use Rattle.opt.specs.Entry.{byteSize, blockSize, workAfter, outAfter}
+use Rattle.opt.specs.Room.{After}
+use Rattle.opt.proofs as opt
+use Rattle.determined.proofs.Outcomes.{Determined, fixed, fixed-by, one, more}
+
+-- the work buffers after one answer are the same, and then what is said of the rest
+pub after-once : {r₁ r₂ : Answer} {a b c d e u a₁ b₁ c₁ d₁ e₁ u₁ a₂ b₂ c₂ d₂ e₂ u₂ : List ℕ} {rest : Type 0} → r₁ ≡ r₂ → After r₁ a b c d e u a₁ b₁ c₁ d₁ e₁ u₁ →
+    After r₂ a b c d e u a₂ b₂ c₂ d₂ e₂ u₂ → rest → (a₁ ≡ a₂) × ((b₁ ≡ b₂) × ((c₁ ≡ c₂) × ((d₁ ≡ d₂) × ((e₁ ≡ e₂) × ((u₁ ≡ u₂) × rest)))))
+after-once {r₁} {r₂} {a} {b} {c} {d} {e} {u} p f g rest = (
+  f .a-after ∙ (ap (λ r. workAfter r byteSize a) p ∙ sym (g .a-after)),
+  (
+    f .b-after ∙ (ap (λ r. workAfter r byteSize b) p ∙ sym (g .b-after)),
+    (
+      f .c-after ∙ (ap (λ r. workAfter r byteSize c) p ∙ sym (g .c-after)),
+      (
+        f .d-after ∙ (ap (λ r. workAfter r byteSize d) p ∙ sym (g .d-after)),
+        (
+          f .e-after ∙ (ap (λ r. workAfter r byteSize e) p ∙ sym (g .e-after)),
+          (f .u-after ∙ (ap (λ r. workAfter r blockSize u) p ∙ sym (g .u-after)), rest),
+        ),
+      ),
+    ),
+  ),
+)
+
+-- and so is the result buffer
+out-once : {r₁ r₂ : Answer} (result d : List ℕ) {d₁ d₂ : List ℕ} → r₁ ≡ r₂ → d₁ ≡ outAfter r₁ result d → d₂ ≡ outAfter r₂ result d → d₁ ≡ d₂
+out-once result d p f g = f ∙ (ap (λ r. outAfter r result d) p ∙ sym g)
+
+pub number-of-fixed : Determined opt.number_of.ended (λ κs z. z) opt.number_of.Reads.ensures
+number-of-fixed = fixed opt.number_of.Reads.Learnt (λ κs a x y l m. l ∙ sym m)
+
+pub length-of-fixed : Determined opt.length_of.ended (λ κs z. z) opt.length_of.Reads.ensures
+length-of-fixed = fixed opt.length_of.Reads.Learnt (λ κs a x y l m. l ∙ sym m)
+
+pub place-of-fixed : Determined opt.place_of.ended (λ κs z. z) opt.place_of.Reads.ensures
+place-of-fixed = fixed opt.place_of.Reads.Learnt (λ κs a x y l m. l ∙ sym m)
+
+pub optimize-fixed : Determined opt.optimize.ended (λ κs z. z) opt.optimize.Reads.ensures
+optimize-fixed = fixed-by opt.optimize.Reads.Learnt (λ w κs a x. more w (one w)) (λ κs a x y l m.
+    let p = l .0 ∙ sym (m .0) in
+    after-once p (l .1 .1) (m .1 .1) (out-once (resultOf (whole plain) (now (a .0))) (now (a .1 .1 .1 .1 .1 .1 .1 .0)) p (l .1 .0) (m .1 .0), p))
+
+pub run-pass-fixed : Determined opt.run_pass.ended (λ κs z. z) opt.run_pass.Reads.ensures
+run-pass-fixed = fixed-by opt.run_pass.Reads.Learnt (λ w κs a x. more w (one w)) (λ κs a x y l m.
+    let p = l .0 ∙ sym (m .0) in
+    after-once p (l .1 .1) (m .1 .1) (out-once (resultOf (stepOf plain (a .0)) (now (a .1 .0))) (now (a .1 .1 .1 .1 .1 .1 .1 .1 .0)) p (l .1 .0) (m .1 .0), p))

@@ -1,0 +1,45 @@
+// The removal of lines that declare globals, over LF form.
+ghost use mathlib.Core.Path.{_≡_};
+ghost use Prim.Native.Nat.{_≤_, _+_};
+ghost use lib.ListN.{length};
+ghost use Rattle.lines.specs.Lf.{linesOf, unlines};
+ghost use Rattle.lines.specs.Out.{Wrote};
+ghost use Rattle.globals.specs.Globals.{isGlobals, globalsText, removeGlobals};
+
+// Whether a line declares globals.
+fn is_globals(line: &[u8]) -> bool
+    ensures { λ r. ⌜ r ≡ isGlobals (now (line .entry)) ⌝ }
+{
+    let t = text::trim(line);
+    if lines::starts_with(t, b"__runtime.DeclareGlobals(") {
+        return true;
+    }
+    lines::starts_with(t, b"__runtime.DeclareGlobalsForInterpreter(")
+}
+
+// Writes a line and its LF, but nothing of a line that declares globals, and returns the place after it.
+fn put_line(line: &[u8], out: &mut [u8], o: usize) -> usize
+    requires { ⌜ o + length (globalsText (now line)) ≤ length (now out) ⌝ }
+    ensures { λ r. ⌜ Wrote (now (out .entry)) o (globalsText (now (line .entry))) (now (out .exit)) r ⌝ }
+{
+    if is_globals(line) {
+        return o;
+    }
+    let p = lines::put(out, o, line);
+    lines::put_byte(out, p, 10)
+}
+
+// Lines that declare globals go, and the others stay. Each line is followed by one LF.
+pub fn remove_globals(text: &[u8], out: &mut [u8]) -> usize
+    requires { ⌜ length (unlines (removeGlobals (linesOf (now text)))) ≤ length (now out) ⌝ }
+    ensures { λ r. ⌜ Wrote (now (out .entry)) 0 (unlines (removeGlobals (linesOf (now (text .entry))))) (now (out .exit)) r ⌝ }
+{
+    let mut i = 0;
+    let mut o = 0;
+    while i < text.len() {
+        let e = lines::find_byte(text, i, 10);
+        o = put_line(&text[i..e], out, o);
+        i = lines::after(text, e);
+    }
+    o
+}

@@ -1,0 +1,142 @@
+-- Laws of running passes one after the other over the front of a buffer. Assumes nothing.
+use Prim.Native.Nat.{ℕ, suc, _+_, _-_, _≤_, _<_}
+use mathlib.Core.Path.{_≡_, refl, sym, ap, _∙_}
+use mathlib.Core.List.{List}
+use native.Mathlib.Omega.{arith}
+use native.Mathlib.Numerals.{add-one}
+use borrow.Author.Tests.{eq-eqb, ne-eqb}
+use lib.ListN.{length, take}
+use Rattle.lines.specs.Lf.{linesOf, unlines}
+use Rattle.lines.specs.Out.{Wrote}
+use Rattle.lines.specs.Steps.{splitLines}
+use Rattle.lines.proofs.LfLaws.{lines-unlines}
+use Rattle.lines.proofs.StepLaws.{split-room}
+use Rattle.lines.proofs.OutLaws.{wrote-length, wrote-part}
+use Rattle.reading.specs.Reading.{Reading, plain}
+use Rattle.globals.specs.Globals.{removeGlobals}
+use Rattle.temps.specs.Temps.{pruneDeadTemps}
+use Rattle.once.specs.Once.{optimizeOnce}
+use Rattle.phis.specs.Phis.{pruneDeadPhis}
+use Rattle.calls.specs.LeavesOf.{leavesOf}
+use Rattle.calls.specs.Calls.{rebuildCalls}
+use Rattle.decls.specs.Decls.{pruneDecls}
+use Rattle.bind.specs.Bind.{bindDeclarators}
+use Rattle.bind.proofs.Cut.{plain-by-line}
+use Rattle.opt.specs.Passes.{stepOf, stepsOf}
+use Rattle.opt.specs.Entry.{byteSize}
+use Rattle.opt.specs.Room.{Room, Sized, Front}
+use Rattle.opt.proofs.Tame.{tame-step, Between, between-start, between-on, between-room}
+
+-- ---- which pass a number is
+
+module _ (R : Reading) (k : ℕ) (ls : List (List ℕ)) where
+  pub step-0 : k ≡ 0 → stepOf R k ls ≡ removeGlobals ls
+  unfolding stepOf
+  step-0 e = rw (eq-eqb k 0 e)
+
+  pub step-1 : k ≡ 1 → stepOf R k ls ≡ pruneDeadTemps R ls
+  unfolding stepOf
+  step-1 e = rw e
+
+  pub step-2 : k ≡ 2 → stepOf R k ls ≡ optimizeOnce R ls
+  unfolding stepOf
+  step-2 e = rw e
+
+  pub step-3 : k ≡ 3 → stepOf R k ls ≡ pruneDeadPhis R ls
+  unfolding stepOf
+  step-3 e = rw e
+
+  pub step-4 : k ≡ 4 → stepOf R k ls ≡ rebuildCalls (leavesOf R) ls
+  unfolding stepOf
+  step-4 e = rw e
+
+  pub step-5 : k ≡ 5 → stepOf R k ls ≡ pruneDecls ls
+  unfolding stepOf
+  step-5 e = rw e
+
+  pub step-6 : k ≡ 6 → stepOf R k ls ≡ bindDeclarators R ls
+  unfolding stepOf
+  step-6 e = rw e
+
+  pub step-else : (k ≡ 0 → ⊥) → (k ≡ 1 → ⊥) → (k ≡ 2 → ⊥) → (k ≡ 3 → ⊥) → (k ≡ 4 → ⊥) → (k ≡ 5 → ⊥) → (k ≡ 6 → ⊥) → stepOf R k ls ≡ ls
+  unfolding stepOf
+  step-else a b c d e f g = rw (ne-eqb k 0 a, ne-eqb k 1 b, ne-eqb k 2 c, ne-eqb k 3 d, ne-eqb k 4 e, ne-eqb k 5 f, ne-eqb k 6 g)
+
+-- ---- the front of a buffer
+
+pub wrote-front : {d xs d′ : List ℕ} {r : ℕ} → Wrote d 0 xs d′ r → Front d′ r xs
+wrote-front w = record { fits = omega (arith, w .fits, w .place, wrote-length w); is = wrote-part w }
+
+-- what stands at the front of b is written to the front of a
+pub front-copied : {a b a′ xs : List ℕ} {n r : ℕ} → Front b n xs → Wrote a 0 (take n b) a′ r → Front a′ r xs
+front-copied {a} {b} {a′} {xs} {n} {r} f w = let g = wrote-front w in record { fits = g .fits; is = g .is ∙ f .is }
+
+-- ---- the loop of `chain`
+
+pub record ChainInv (k to : ℕ) (t a b c d e u : List ℕ) (n j : ℕ) : Type 0 where
+  pub short : length t ≤ 16384
+  pub a-size : length a ≡ byteSize
+  pub sized : Sized b c d e u
+  pub now-lines : List (List ℕ)
+  pub between : Between t now-lines
+  pub front : Front a n (unlines now-lines)
+  pub so-far : stepsOf plain j (to - j) now-lines ≡ stepsOf plain k (to - k) (splitLines t)
+
+pub split-fits : (t a : List ℕ) → length t ≤ 16384 → length a ≡ byteSize → length (unlines (splitLines t)) ≤ length a
+split-fits t a h q = omega (arith, split-room t)
+
+pub chain-start : (k to : ℕ) {t a a′ b c d e u : List ℕ} {n : ℕ} → length t ≤ 16384 → length (splitLines t) ≤ 1024 → length a ≡ byteSize → Sized b c d e u →
+    Wrote a 0 (unlines (splitLines t)) a′ n → ChainInv k to t a′ b c d e u n k
+chain-start k to {t} {a} h l q s w = record {
+  short = h;
+  a-size = wrote-length w ∙ q;
+  sized = s;
+  now-lines = splitLines t;
+  between = between-start t l;
+  front = wrote-front w;
+  so-far = refl;
+}
+
+steps-more : (R : Reading) (j m : ℕ) (ls : List (List ℕ)) → stepsOf R j (suc m) ls ≡ stepsOf R (suc j) m (stepOf R j ls)
+unfolding stepsOf
+steps-more R j m ls = refl
+
+steps-none : (R : Reading) (j : ℕ) (ls : List (List ℕ)) → stepsOf R j 0 ls ≡ ls
+unfolding stepsOf
+steps-none R j ls = refl
+
+module _ {k to : ℕ} {t a b c d e u : List ℕ} {n j : ℕ} (h : ChainInv k to t a b c d e u n j) where
+  pub chain-room : Room (take n a)
+  chain-room = rw (h .front .is) (between-room (h .short) (h .between))
+
+  pub chain-on : {a′ b′ c′ d′ e′ u′ : List ℕ} {r : ℕ} → j < to → length a′ ≡ length a → length b′ ≡ length b → length c′ ≡ length c → length d′ ≡ length d → length e′ ≡ length e → length u′ ≡ length u →
+      Front a′ r (unlines (stepOf plain j (linesOf (take n a)))) → ChainInv k to t a′ b′ c′ d′ e′ u′ r (j + 1)
+  chain-on {a′} {r = r} l qa qb qc qd qe qu f =
+      let ls : List (List ℕ) = h .now-lines in
+      let g : linesOf (take n a) ≡ ls = ap linesOf (h .front .is) ∙ lines-unlines ls (h .between .clean) in
+      let z : to - j ≡ suc (to - (j + 1)) = omega arith in
+      record {
+        short = h .short;
+        a-size = qa ∙ h .a-size;
+        sized = record {
+          b-size = qb ∙ h .sized .b-size;
+          c-size = qc ∙ h .sized .c-size;
+          d-size = qd ∙ h .sized .d-size;
+          e-size = qe ∙ h .sized .e-size;
+          u-size = qu ∙ h .sized .u-size;
+        };
+        now-lines = stepOf plain j ls;
+        between = between-on (tame-step plain-by-line j) (h .between);
+        front = record { fits = f .fits; is = f .is ∙ ap (λ (ms : List (List ℕ)). unlines (stepOf plain j ms)) g };
+        so-far =
+            ap (λ (i : ℕ). stepsOf plain i (to - (j + 1)) (stepOf plain j ls)) (add-one j)
+            ∙ sym (steps-more plain j (to - (j + 1)) ls)
+            ∙ ap (λ (m : ℕ). stepsOf plain j m ls) (sym z)
+            ∙ h .so-far;
+      }
+
+  pub chain-end : to ≤ j → Front a n (unlines (stepsOf plain k (to - k) (splitLines t)))
+  chain-end l =
+      let z : to - j ≡ 0 = omega arith in
+      let g : h .now-lines ≡ stepsOf plain k (to - k) (splitLines t) = sym (ap (λ (m : ℕ). stepsOf plain j m (h .now-lines)) z ∙ steps-none plain j (h .now-lines)) ∙ h .so-far in
+      record { fits = h .front .fits; is = h .front .is ∙ ap unlines g }

@@ -1,0 +1,5 @@
+pub mod Tame
+pub mod ChainLaws
+pub mod WorkLaws
+pub mod EntryLaws
+pub mod Whole

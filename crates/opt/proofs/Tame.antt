@@ -1,0 +1,228 @@
+-- Passes that bring no LF into a line, add no line and do not raise the weight, whatever a brace weighs; and the room that follows. Assumes nothing.
+use Prim.Native.Nat.{ℕ, zero, suc, _+_, _≤_, _<_, _^_}
+use mathlib.Core.Path.{_≡_, ap}
+use mathlib.Core.Bool.{Bool, true, false, cond}
+use mathlib.Core.List.{List}
+use native.Mathlib.Omega.{arith}
+use lib.Dec.{eqb}
+use lib.ListN.{length, replicate, length-replicate}
+use Rattle.lines.specs.Lf.{linesOf, unlines, noLf}
+use Rattle.lines.specs.Steps.{splitLines}
+use Rattle.lines.specs.Acts.{apply}
+use Rattle.lines.proofs.LfLaws.{lines-unlines, count-le}
+use Rattle.lines.proofs.ActLaws.{apply-length}
+use Rattle.lines.proofs.StepLaws.{split-noLf}
+use Rattle.weight.specs.Weight.{weight}
+use Rattle.weight.proofs.Weigh.{length-weight, weight-twice}
+use Rattle.weight.proofs.Moves.{split-weight}
+use Rattle.weight.proofs.Braces.{braces-le}
+use Rattle.place.specs.Parents.{idsParents, pathParents}
+use Rattle.place.proofs.Rooms.{ids-parents-text, path-parents-text}
+use Rattle.reading.specs.Reading.{Reading, plain}
+use Rattle.globals.specs.Globals.{removeGlobals}
+use Rattle.globals.proofs.Laws.{remove-noLf, remove-lines, remove-weight}
+use Rattle.temps.specs.Temps.{pruneDeadTempsActs, pruneDeadTemps}
+use Rattle.temps.proofs.Keeps.{temps-noLf, temps-weight}
+use Rattle.once.specs.Once.{onceActs, optimizeOnce}
+use Rattle.once.proofs.Keeps.{acts-noLf}
+use Rattle.once.proofs.Passes.{once-noLf, once-lines}
+use Rattle.once.proofs.Room.{acts-weight, once-weight}
+use Rattle.phis.specs.Phis.{round, pruneDeadPhis}
+use Rattle.phis.specs.Rounds.{longest}
+use Rattle.phis.proofs.Keeps.{phis-noLf, phis-lines}
+use Rattle.phis.proofs.Room.{round-weight, phis-weight, longest-weight}
+use Rattle.calls.specs.LeavesOf.{leavesOf}
+use Rattle.calls.specs.Calls.{rebuildCallsActs, rebuildCalls}
+use Rattle.calls.proofs.Room.{calls-weight, calls-noLf}
+use Rattle.bind.specs.Bind.{bindDeclarators}
+use Rattle.bind.proofs.Cut.{ByLine, plain-by-line}
+use Rattle.bind.proofs.Passes as bind-laws
+use Rattle.decls.specs.Decls.{pruneDecls}
+use Rattle.decls.proofs.Keeps.{keeps-noLf}
+use Rattle.decls.proofs.Decl.{prune-weight}
+use Rattle.decls.proofs.Passes.{prune-lines}
+use Rattle.opt.specs.Passes.{stepOf, stepsOf}
+use Rattle.opt.specs.Entry.{byteSize, blockSize}
+use Rattle.opt.specs.Room.{Room}
+
+pub record Tame (f : List (List ℕ) → List (List ℕ)) : Type 0 where
+  pub keeps : (ls : List (List ℕ)) → noLf ls ≡ true → noLf (f ls) ≡ true
+  pub weighs : (H : ℕ) (ls : List (List ℕ)) → weight H (unlines (f ls)) ≤ weight H (unlines ls)
+  pub counts : (ls : List (List ℕ)) → length (f ls) ≤ length ls
+
+pub tame-same : Tame (λ ls. ls)
+tame-same = record { keeps = λ ls h. h; weighs = λ H ls. omega arith; counts = λ ls. omega arith }
+
+-- one after the other
+pub tame-then : {f g : List (List ℕ) → List (List ℕ)} → Tame f → Tame g → Tame (λ ls. g (f ls))
+tame-then {f} {g} p q = record {
+  keeps = λ ls h. q .keeps (f ls) (p .keeps ls h);
+  weighs = λ H ls. omega (arith, q .weighs H (f ls), p .weighs H ls);
+  counts = λ ls. omega (arith, q .counts (f ls), p .counts ls);
+}
+
+-- one or the other
+tame-if : {f g : List (List ℕ) → List (List ℕ)} (b : Bool) → Tame f → Tame g → Tame (λ ls. cond b (f ls) (g ls))
+tame-if true p q = p
+tame-if false p q = q
+
+-- ---- each pass
+
+pub tame-removal : Tame removeGlobals
+tame-removal = record { keeps = remove-noLf; weighs = remove-weight; counts = remove-lines }
+
+temps-count : (R : Reading) (ls : List (List ℕ)) → length (pruneDeadTemps R ls) ≤ length ls
+unfolding pruneDeadTemps
+temps-count R ls = apply-length (pruneDeadTempsActs R ls) ls
+
+pub tame-temps : (R : Reading) → Tame (pruneDeadTemps R)
+tame-temps R = record { keeps = temps-noLf R; weighs = λ H ls. temps-weight H R ls; counts = temps-count R }
+
+pub tame-decls : Tame pruneDecls
+tame-decls = record { keeps = keeps-noLf; weighs = prune-weight; counts = prune-lines }
+
+pub once-acts : (R : Reading) → Tame (λ ls. apply (onceActs R ls) ls)
+once-acts R = record { keeps = acts-noLf R; weighs = λ H ls. acts-weight H R ls; counts = λ ls. apply-length (onceActs R ls) ls }
+
+pub tame-once : (R : Reading) → Tame (optimizeOnce R)
+tame-once R = record { keeps = once-noLf R; weighs = λ H ls. once-weight H R ls; counts = once-lines R }
+
+pub tame-phis : (R : Reading) → Tame (pruneDeadPhis R)
+tame-phis R = record { keeps = phis-noLf R; weighs = λ H ls. phis-weight H R ls; counts = phis-lines R }
+
+calls-count : (R : Reading) (ls : List (List ℕ)) → length (rebuildCalls (leavesOf R) ls) ≤ length ls
+unfolding rebuildCalls
+calls-count R ls = apply-length (rebuildCallsActs (leavesOf R) ls) ls
+
+pub tame-calls : (R : Reading) → Tame (rebuildCalls (leavesOf R))
+tame-calls R = record { keeps = calls-noLf R; weighs = λ H ls. calls-weight H R ls; counts = calls-count R }
+
+-- where lines are cleaned one by one, as in the plain reading
+pub tame-bind : {R : Reading} → ByLine R → Tame (bindDeclarators R)
+tame-bind {R} c = record { keeps = bind-laws.keeps-noLf c; weighs = bind-laws.bind-weight c; counts = bind-laws.bind-lines R }
+
+pub tame-step : {R : Reading} → ByLine R → (k : ℕ) → Tame (stepOf R k)
+unfolding stepOf
+tame-step {R} c k =
+    tame-if (eqb k 0) tame-removal
+    (tame-if (eqb k 1) (tame-temps R)
+    (tame-if (eqb k 2) (tame-once R)
+    (tame-if (eqb k 3) (tame-phis R)
+    (tame-if (eqb k 4) (tame-calls R)
+    (tame-if (eqb k 5) tame-decls
+    (tame-if (eqb k 6) (tame-bind c)
+    tame-same))))))
+
+pub tame-steps : {R : Reading} → ByLine R → (k n : ℕ) → Tame (stepsOf R k n)
+unfolding stepsOf
+tame-steps c k zero = tame-same
+tame-steps c k (suc n) = tame-then (tame-step c k) (tame-steps c (suc k) n)
+
+-- ---- lines between two passes over a text t
+
+pub record Between (t : List ℕ) (ls : List (List ℕ)) : Type 0 where
+  pub clean : noLf ls ≡ true
+  pub light : (H : ℕ) → weight H (unlines ls) ≤ weight H t + 1
+  pub few : length ls ≤ 1024
+
+pub between-start : (t : List ℕ) → length (splitLines t) ≤ 1024 → Between t (splitLines t)
+between-start t h = record { clean = split-noLf t; light = λ H. split-weight H t; few = h }
+
+pub between-on : {t : List ℕ} {ls : List (List ℕ)} {f : List (List ℕ) → List (List ℕ)} → Tame f → Between t ls → Between t (f ls)
+between-on {t} {ls} {f} p w = record {
+  clean = p .keeps ls (w .clean);
+  light = λ H. omega (arith, p .weighs H ls, w .light H);
+  few = omega (arith, p .counts ls, w .few);
+}
+
+-- they have room: at most twice the text and one LF, 1,024 lines, and no more `{` than the text
+pub between-room : {t : List ℕ} {ls : List (List ℕ)} → length t ≤ 16384 → Between t ls → Room (unlines ls)
+between-room {t} {ls} h w =
+    let e = lines-unlines ls (w .clean) in
+    record {
+      whole = ap unlines e;
+      heavy = omega (arith, w .light 0, weight-twice t);
+      lines = omega (arith, ap length e, w .few);
+      braces = omega (arith, braces-le (unlines ls) t 1 (w .light), count-le 123 t);
+    }
+
+-- and so has what a pass makes of them
+pub room-fits : {s : List ℕ} {f : List (List ℕ) → List (List ℕ)} → Tame f → Room s → length (unlines (f (linesOf s))) ≤ byteSize
+room-fits {s} {f} p r =
+    omega (arith, length-weight 0 (unlines (f (linesOf s))), p .weighs 0 (linesOf s), ap (weight 0) (r .whole), r .heavy)
+
+pub room-length : {s : List ℕ} → Room s → length s ≤ byteSize
+room-length {s} r = omega (arith, length-weight 0 s, r .heavy)
+
+-- ---- the room that passes with tables and scratch ask for
+
+-- a table of n places
+pub table : (n : ℕ) → n ≤ length {A = ℕ} (replicate n 0)
+table n = omega (arith, length-replicate {A = ℕ} n 0)
+
+pub once-room : {s : List ℕ} {loops marks paths up scratch mid out : ℕ} → Room s → scratch ≡ byteSize → mid ≡ byteSize → up ≡ blockSize → out ≡ byteSize → 1024 ≤ loops → 1024 ≤ marks → 1024 ≤ paths →
+    (length (linesOf s) ≤ loops) × ((length (linesOf s) ≤ marks) × ((length (linesOf s) ≤ paths) × ((length (pathParents (linesOf s)) ≤ up) × ((up < 2 ^ 32)
+    × ((length s ≤ scratch) × ((length (unlines (apply (onceActs plain (linesOf s)) (linesOf s))) ≤ mid) × (length (unlines (optimizeOnce plain (linesOf s))) ≤ out)))))))
+once-room {s} r qs qm qu qo ql qk qp = (
+  omega (arith, r .lines),
+  (
+    omega (arith, r .lines),
+    (
+      omega (arith, r .lines),
+      (
+        omega (arith, path-parents-text s, r .braces),
+        (
+          omega arith,
+          (
+            omega (arith, room-length r),
+            (
+              omega (arith, room-fits (once-acts plain) r),
+              omega (arith, room-fits (tame-once plain) r),
+            ),
+          ),
+        ),
+      ),
+    ),
+  ),
+)
+
+pub phis-room : {s : List ℕ} → Room s →
+    (longest plain s ≤ byteSize) × ((length (unlines (round plain (linesOf s))) ≤ byteSize) × ((length (unlines (round plain (round plain (linesOf s)))) ≤ byteSize) × (length (unlines (pruneDeadPhis plain (linesOf s))) ≤ byteSize)))
+phis-room {s} r =
+    let one : List (List ℕ) = round plain (linesOf s) in
+    let w = ap (weight 0) (r .whole) in
+    let v = round-weight 0 plain (linesOf s) in (
+      omega (arith, longest-weight 0 s, w, r .heavy),
+      (
+        omega (arith, length-weight 0 (unlines one), v, w, r .heavy),
+        (
+          omega (arith, length-weight 0 (unlines (round plain one)), round-weight 0 plain one, v, w, r .heavy),
+          omega (arith, room-fits (tame-phis plain) r),
+        ),
+      ),
+    )
+
+pub calls-room : {s : List ℕ} {owner blocks starts up stack cur next clean out : ℕ} → Room s → up ≡ blockSize → cur ≡ byteSize → next ≡ byteSize → clean ≡ byteSize → out ≡ byteSize →
+    1024 ≤ owner → 1024 ≤ blocks → 1024 ≤ starts → byteSize < stack →
+    ((length (linesOf s) ≤ owner) × ((length (linesOf s) ≤ blocks) × (length (linesOf s) ≤ starts)))
+    × (((length (idsParents (linesOf s)) ≤ up) × (up < 2 ^ 32))
+    × (((length s < stack) × ((length s ≤ cur) × ((length s ≤ next) × (length s ≤ clean))))
+    × (length (unlines (rebuildCalls (leavesOf plain) (linesOf s))) ≤ out)))
+calls-room {s} r qu qc qn ql qo ko kb ks kt = (
+  (omega (arith, r .lines), (omega (arith, r .lines), omega (arith, r .lines))),
+  (
+    (omega (arith, ids-parents-text s, r .braces), omega arith),
+    (
+      (omega (arith, room-length r), (omega (arith, room-length r), (omega (arith, room-length r), omega (arith, room-length r)))),
+      omega (arith, room-fits (tame-calls plain) r),
+    ),
+  ),
+)
+
+pub bind-room : {s : List ℕ} {blocks starts up marks out : ℕ} → Room s → up ≡ blockSize → out ≡ byteSize → 1024 ≤ blocks → 1024 ≤ starts → 1024 ≤ marks →
+    ((length (linesOf s) ≤ blocks) × ((length (linesOf s) ≤ starts) × ((length (idsParents (linesOf s)) ≤ up) × (up < 2 ^ 32))))
+    × ((length (linesOf s) ≤ marks) × (length (unlines (bindDeclarators plain (linesOf s))) ≤ out))
+bind-room {s} r qu qo qb qs qm = (
+  (omega (arith, r .lines), (omega (arith, r .lines), (omega (arith, ids-parents-text s, r .braces), omega arith))),
+  (omega (arith, r .lines), omega (arith, room-fits (tame-bind plain-by-line) r)),
+)

@@ -1,0 +1,151 @@
+-- Theorems over the entries: what `optimize` makes of a text, that no result is longer than twice its text, and the edges of the checks. Assumes nothing.
+use Prim.Native.Nat.{ℕ, suc, _+_, _-_, _*_, _≤_}
+use mathlib.Core.Path.{_≡_, refl, sym, ap, _∙_}
+use mathlib.Core.Bool.{Bool, true, false, cond}
+use mathlib.Core.List.{List, [], _∷_, _++_, append-nil}
+use native.Mathlib.Omega.{arith}
+use borrow.Author.Tests.{eqb-true, eqb-false, lt-ltb, le-ltb}
+use lib.Dec.{eqb}
+use lib.ListN.{length, take, drop, replicate, length-append}
+use Rattle.lines.specs.declared.Crowded.the-variants as crowd-is
+use Rattle.lines.specs.Lf.{endsIn, unlines, countOf, noLf}
+use Rattle.lines.specs.Steps.{dropCr, splitLines, joined, overFrom}
+use Rattle.lines.proofs.LfLaws.{lines-unlines}
+use Rattle.lines.proofs.StepLaws.{ends-some, missingLf, missing-ended, missing-open, lines-text, split-text, split-noLf, drop-le}
+use Rattle.lines.proofs.JoinLaws.{joinedEnd, joined-length}
+use Rattle.weight.specs.Weight.{weight}
+use Rattle.weight.proofs.Weigh.{length-weight, weight-twice}
+use Rattle.weight.proofs.Moves.{split-weight}
+use Rattle.text.specs.Utf8Form.{utf8Of}
+use Rattle.globals.specs.Globals.{removeGlobals}
+use Rattle.reading.specs.Reading.{Reading, plain}
+use Rattle.temps.specs.Temps.{pruneDeadTemps}
+use Rattle.once.specs.Once.{optimizeOnce}
+use Rattle.phis.specs.Phis.{pruneDeadPhis}
+use Rattle.calls.specs.LeavesOf.{leavesOf}
+use Rattle.calls.specs.Calls.{rebuildCalls}
+use Rattle.decls.specs.Decls.{pruneDecls}
+use Rattle.bind.specs.Bind.{bindDeclarators}
+use Rattle.bind.proofs.Cut.{ByLine}
+use Rattle.opt.specs.declared.Answer.{Answer}
+use Rattle.opt.specs.declared.Answer.the-variants.{Done, TooLong, ShortWork, TooManyLines, ShortResult}
+use Rattle.opt.specs.Answer.{numberOf, isDone}
+use Rattle.opt.specs.Passes.{stepOf, stepsOf, whole, resultOf}
+use Rattle.opt.specs.Entry.{byUtf8, byCrowd, checkedLines, checked, roomed, answerOf, outAfter}
+use Rattle.opt.proofs.Tame.{Tame, tame-step, tame-steps}
+use Rattle.opt.proofs.EntryLaws.{Accepted, answer-accepted, result-whole, text-long, lines-many}
+
+-- ---- what comes out
+
+-- the text is split, DeclareGlobals lines are removed, the six passes follow in their order, and the lines are joined
+pub result-composed : (R : Reading) (t : List ℕ) →
+    resultOf (whole R) t ≡ joined (endsIn 10 t) (bindDeclarators R (pruneDecls (rebuildCalls (leavesOf R) (pruneDeadPhis R (optimizeOnce R (pruneDeadTemps R (removeGlobals (splitLines t))))))))
+unfolding resultOf whole
+result-composed R t = refl
+
+-- where no check refuses a text and the result buffer d is long enough, the answer is the result's length, and the result stands at the front of d
+pub optimize-whole : (short : Bool) (t d : List ℕ) → Accepted short t → length (resultOf (whole plain) t) ≤ length d →
+    (answerOf short t (resultOf (whole plain) t) (length d) ≡ Done (length (resultOf (whole plain) t)))
+    × (outAfter (Done (length (resultOf (whole plain) t))) (resultOf (whole plain) t) d ≡ resultOf (whole plain) t ++ drop (length (resultOf (whole plain) t)) d)
+unfolding outAfter isDone numberOf
+optimize-whole short t d p h =
+    let n : ℕ = length (resultOf (whole plain) t) in
+    let q : Done n ≡ roomed n (length d) = rw (le-ltb (length d) n h) in
+    (sym (answer-accepted short t (resultOf (whole plain) t) (length d) p q), refl)
+
+-- ---- no result is longer than twice its text
+
+-- lines with an LF after each end in one, or there are none
+ended-or-none : (ls : List (List ℕ)) → noLf ls ≡ true → endsIn 10 (unlines ls) ≡ false → length (unlines ls) ≡ 0
+ended-or-none ls h e = go (eqb (length u) 0) refl
+  where
+    u : List ℕ
+    u = unlines ls
+
+    still : length (missingLf u) ≡ 0
+    still = omega (arith, ap length (ap unlines (sym (lines-unlines ls h)) ∙ lines-text u), length-append u (missingLf u))
+
+    go : (b : Bool) → eqb (length u) 0 ≡ b → length u ≡ 0
+    go true q = eqb-true (length u) 0 q
+    go false q = let m = ap length (missing-open u e (eqb-false (length u) 0 q)) in absurd (omega (arith, still))
+
+-- joined without a last LF, or with one
+joined-by : (e : Bool) (ls : List (List ℕ)) → noLf ls ≡ true → length (joined e ls) ≡ joinedEnd e (unlines ls)
+joined-by e ls h = ap (λ (ms : List (List ℕ)). length (joined e ms)) (sym (lines-unlines ls h)) ∙ joined-length e (unlines ls)
+
+joined-open : (ls : List (List ℕ)) → noLf ls ≡ true → length (joined false ls) ≤ length (unlines ls) - 1
+unfolding joinedEnd
+joined-open ls h = rw (joined-by false ls h) (go (endsIn 10 (unlines ls)) refl)
+  where
+    go : (p : Bool) → endsIn 10 (unlines ls) ≡ p → cond p (length (unlines ls) - 1) (length (unlines ls)) ≤ length (unlines ls) - 1
+    go true q = omega arith
+    go false q = omega (arith, ended-or-none ls h q)
+
+joined-ended : (ls : List (List ℕ)) (n : ℕ) → noLf ls ≡ true → 1 ≤ n → length (unlines ls) ≤ n → length (joined true ls) ≤ n
+unfolding joinedEnd
+joined-ended ls n h k l = rw (joined-by true ls h) (go (endsIn 10 (unlines ls)) refl (endsIn 10 (take (length (unlines ls) - 1) (unlines ls))))
+  where
+    go : (p : Bool) → endsIn 10 (unlines ls) ≡ p → (q : Bool) → cond p (cond q (length (unlines ls) - 1) (length (unlines ls))) (length (unlines ls) + 1) ≤ n
+    go true e true = omega arith
+    go true e false = omega arith
+    go false e q = omega (arith, ended-or-none ls h e)
+
+pub result-twice : (f : List (List ℕ) → List (List ℕ)) (t : List ℕ) → Tame f → length (resultOf f t) ≤ 2 * length t
+unfolding resultOf
+result-twice f t p = go (endsIn 10 t) refl
+  where
+    ls : List (List ℕ)
+    ls = f (splitLines t)
+
+    clean : noLf ls ≡ true
+    clean = p .keeps (splitLines t) (split-noLf t)
+
+    light : length (unlines ls) ≤ weight 0 (unlines (splitLines t))
+    light = omega (arith, length-weight 0 (unlines ls), p .weighs 0 (splitLines t))
+
+    go : (e : Bool) → endsIn 10 t ≡ e → length (joined e ls) ≤ 2 * length t
+    go true e =
+        let q = ap (weight 0) (split-text t ∙ ap (λ (x : List ℕ). dropCr t ++ x) (missing-ended t e) ∙ append-nil (dropCr t)) in
+        joined-ended ls (2 * length t) clean (omega (arith, ends-some t e)) (omega (arith, light, q, weight-twice (dropCr t), drop-le t))
+    go false e = omega (arith, joined-open ls clean, light, split-weight 0 t, weight-twice t)
+
+-- of both entries, for each reading that cleans lines one by one
+pub optimize-twice : {R : Reading} → ByLine R → (t : List ℕ) → length (resultOf (whole R) t) ≤ 2 * length t
+optimize-twice {R} c t = omega (arith, ap length (result-whole R t), result-twice (stepsOf R 0 7) t (tame-steps c 0 7))
+
+pub pass-twice : {R : Reading} → ByLine R → (k : ℕ) (t : List ℕ) → length (resultOf (stepOf R k) t) ≤ 2 * length t
+pass-twice {R} c k t = result-twice (stepOf R k) t (tame-step c k)
+
+-- ---- the edges: one more is refused, the last that fits goes on to the next check
+
+module _ (short : Bool) (t xs : List ℕ) (room : ℕ) where
+  pub bytes-over : length t ≡ 16385 → answerOf short t xs room ≡ TooLong
+  unfolding answerOf
+  bytes-over e = sym (text-long t (roomed (length xs) room) short (omega arith))
+
+  pub bytes-edge : length t ≡ 16384 → answerOf short t xs room ≡ cond short ShortWork (byUtf8 (utf8Of t) (checkedLines t (roomed (length xs) room)))
+  unfolding answerOf checked
+  bytes-edge e = rw (le-ltb 16384 (length t) (omega arith))
+
+pub lines-over : (t : List ℕ) (x : Answer) → length (splitLines t) ≡ 1025 → checkedLines t x ≡ TooManyLines
+lines-over t x e = sym (lines-many t x (omega arith))
+
+pub lines-edge : (t : List ℕ) (x : Answer) → length (splitLines t) ≡ 1024 → checkedLines t x ≡ byCrowd (overFrom 64 91 0 (splitLines t)) x
+unfolding checkedLines
+lines-edge t x e = rw (le-ltb 1024 (length (splitLines t)) (omega arith))
+
+-- 64 brackets on a line pass, 65 do not
+pub brackets-edge : overFrom 64 91 0 (replicate 64 91 ∷ []) ≡ crowd-is.Nowhere
+unfolding overFrom countOf
+brackets-edge = refl
+
+pub brackets-over : overFrom 64 91 0 ([] ∷ replicate 65 91 ∷ []) ≡ crowd-is.At 1
+unfolding overFrom countOf
+brackets-over = refl
+
+-- a result buffer of exactly the length passes
+pub room-edge : (n : ℕ) → roomed n n ≡ Done n
+room-edge n = rw (le-ltb n n (omega arith))
+
+pub room-over : (n : ℕ) → roomed (suc n) n ≡ ShortResult (suc n)
+room-over n = rw (lt-ltb n (suc n) (omega arith))

@@ -1,0 +1,92 @@
+-- Laws of zeroing, of the last step, and of what both leave. Assumes nothing.
+use Prim.Native.Nat.{ℕ, _+_, _≤_, _<_}
+use mathlib.Core.Path.{_≡_, refl, sym, ap, _∙_}
+use mathlib.Core.Bool.{Bool}
+use mathlib.Core.List.{List, _++_, append-nil}
+use native.Mathlib.Omega.{arith}
+use native.Mathlib.Nat.{zero-add}
+use borrow.Author.Tests.{lt-ltb, le-ltb}
+use borrow.Author.Fill.{fill-none, fill-more}
+use lib.ListN.{length, take, drop, set, replicate, length-append, length-drop, length-replicate, drop-of-length-le}
+use lib.Seq.{length-take-le}
+use Rattle.lines.specs.Lf.{endsIn, linesOf, unlines}
+use Rattle.lines.specs.Out.{putAt, Wrote}
+use Rattle.lines.specs.Steps.{splitLines, joined}
+use Rattle.lines.proofs.LfLaws.{lines-unlines}
+use Rattle.lines.proofs.StepLaws.{split-noLf}
+use Rattle.opt.specs.declared.Answer.the-variants.{Done, ShortResult}
+use Rattle.opt.specs.Answer.{isDone}
+use Rattle.opt.specs.Passes.{resultOf}
+use Rattle.opt.specs.Entry.{roomed, blank, outAfter}
+use Rattle.opt.specs.Room.{Front}
+use Rattle.opt.proofs.Tame.{Tame}
+
+-- ---- the loop of `wipe`: the first i places are 0
+
+pub record WipeInv (d s : List ℕ) (i : ℕ) : Type 0 where
+  pub i≤ : i ≤ length d
+  pub is : s ≡ replicate i 0 ++ drop i d
+
+pub wipe-start : (d : List ℕ) → WipeInv d d 0
+wipe-start d = record { i≤ = omega arith; is = fill-none d 0 }
+
+module _ {d s : List ℕ} {i : ℕ} (h : WipeInv d s i) where
+  pub wipe-length : length s ≡ length d
+  wipe-length = omega (arith, h .i≤, ap length (h .is), length-append (replicate i 0) (drop i d), length-replicate {A = ℕ} i 0, length-drop i d)
+
+  pub wipe-more : i < length s → WipeInv d (set s i 0) (i + 1)
+  wipe-more l = record {
+    i≤ = omega (arith, wipe-length);
+    is = ap (λ (x : List ℕ). set x i 0) (h .is) ∙ fill-more i 0 d (omega (arith, wipe-length));
+  }
+
+  pub wipe-end : length s ≤ i → s ≡ blank (length d)
+  unfolding blank
+  wipe-end l =
+      let q : i ≡ length d = omega (arith, wipe-length, h .i≤) in
+      h .is
+      ∙ ap (λ (x : List ℕ). replicate i 0 ++ x) (drop-of-length-le d {i = i} (omega arith))
+      ∙ append-nil (replicate i 0)
+      ∙ ap (λ (n : ℕ). replicate n 0) q
+
+pub blank-as : {d′ : List ℕ} (d : List ℕ) (n : ℕ) → length d ≡ n → d′ ≡ blank (length d) → d′ ≡ blank n
+blank-as d n q e = e ∙ ap blank q
+
+pub blank-length : (n : ℕ) → length (blank n) ≡ n
+unfolding blank
+blank-length n = length-replicate {A = ℕ} n 0
+
+-- ---- the last step
+
+pub roomed-short : (n room : ℕ) {m : ℕ} → m ≡ n → room < m → ShortResult m ≡ roomed n room
+roomed-short n room e l = rw (e, lt-ltb room n (omega arith))
+
+pub roomed-done : (n room : ℕ) {m : ℕ} → m ≡ 0 + n → n ≤ room → Done m ≡ roomed n room
+roomed-done n room {m} e l = let q : m ≡ n = omega arith in rw (q, le-ltb room n l)
+
+pub out-short : (n : ℕ) (xs d : List ℕ) → d ≡ outAfter (ShortResult n) xs d
+unfolding outAfter isDone
+out-short n xs d = refl
+
+pub out-done : {d xs d′ : List ℕ} {r : ℕ} → Wrote d 0 xs d′ r → d′ ≡ outAfter (Done r) xs d
+unfolding outAfter isDone putAt
+out-done {d} {xs} w = w .holds ∙ ap (λ (n : ℕ). take 0 d ++ xs ++ drop n d) (zero-add (length xs))
+
+-- what the lines that a pass made are joined to is the result
+pub front-result : {f : List (List ℕ) → List (List ℕ)} (t : List ℕ) {a : List ℕ} {n : ℕ} {e : Bool} → Tame f → Front a n (unlines (f (splitLines t))) → e ≡ endsIn 10 t →
+    joined e (linesOf (take n a)) ≡ resultOf f t
+unfolding resultOf
+front-result {f} t {a} {n} p h q =
+    ap (λ (b : Bool). joined b (linesOf (take n a))) q
+    ∙ ap (joined (endsIn 10 t)) (ap linesOf (h .is) ∙ lines-unlines (f (splitLines t)) (p .keeps (splitLines t) (split-noLf t)))
+
+-- ---- the stated part of a longer buffer
+
+pub stated : (n : ℕ) (d : List ℕ) → n ≤ length d → n ≡ length (take n d)
+stated n d h = sym (length-take-le n d h)
+
+pub same-part : (n : ℕ) (d xs : List ℕ) → n ≤ length d → length xs ≡ length (take n d) → length (xs ++ drop n d) ≡ length d
+same-part n d xs h q = omega (arith, length-append xs (drop n d), length-drop n d, stated n d h)
+
+pub wiped-part : (n m : ℕ) (d : List ℕ) {xs : List ℕ} → xs ≡ blank m → xs ++ drop n d ≡ blank m ++ drop n d
+wiped-part n m d e = ap (λ (x : List ℕ). x ++ drop n d) e

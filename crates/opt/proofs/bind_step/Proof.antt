@@ -1,0 +1,39 @@
+use borrow.Author.Needs.{needs}
+use Rattle.opt.proofs.Tame.{table, bind-room}
+use Rattle.opt.proofs.bind_step.Statement.{statement}
+use Rattle.opt.proofs.bind_step.Tie as tie
+
+slice-aggregate-bind-declarators : tie.Need-slice-aggregate-bind-declarators
+slice-aggregate-bind-declarators c = search needs
+
+slice-aggregate-bind-declarators-2 : tie.Need-slice-aggregate-bind-declarators-2
+slice-aggregate-bind-declarators-2 c = search needs
+
+slice-aggregate-bind-declarators-3 : tie.Need-slice-aggregate-bind-declarators-3
+slice-aggregate-bind-declarators-3 c = search needs
+
+bind-declarators-requires : tie.Need-bind-declarators-requires
+bind-declarators-requires c κs =
+    let p = c .before .before .before .before .before .before .before .before .pre in
+    bind-room (p .0) (p .1 .0) (p .1 .1) (table 1024) (table 1024) (table 1024)
+
+same-length : tie.Need-same-length
+same-length c = search needs
+
+same-length-2 : tie.Need-same-length-2
+same-length-2 c = search needs
+
+returns : tie.Need-returns
+returns c = c .before .before .before .before .before .before .before .bind-declarators .ensures .0
+
+pub bind-step-spec : {M : Type 1} → statement M
+bind-step-spec =
+    tie.close
+    (tie.spec
+    slice-aggregate-bind-declarators
+    slice-aggregate-bind-declarators-2
+    slice-aggregate-bind-declarators-3
+    bind-declarators-requires
+    same-length
+    same-length-2
+    returns)

@@ -1,0 +1,55 @@
+use borrow.Author.Needs.{needs}
+use Rattle.opt.proofs.Tame.{table, calls-room}
+use Rattle.opt.proofs.calls_step.Statement.{statement}
+use Rattle.opt.proofs.calls_step.Tie as tie
+
+slice-aggregate-rebuild-calls : tie.Need-slice-aggregate-rebuild-calls
+slice-aggregate-rebuild-calls c = search needs
+
+slice-aggregate-rebuild-calls-2 : tie.Need-slice-aggregate-rebuild-calls-2
+slice-aggregate-rebuild-calls-2 c = search needs
+
+slice-aggregate-rebuild-calls-3 : tie.Need-slice-aggregate-rebuild-calls-3
+slice-aggregate-rebuild-calls-3 c = search needs
+
+slice-aggregate-rebuild-calls-4 : tie.Need-slice-aggregate-rebuild-calls-4
+slice-aggregate-rebuild-calls-4 c = search needs
+
+rebuild-calls-requires : tie.Need-rebuild-calls-requires
+rebuild-calls-requires c κs =
+    let p = c .before .before .before .before .before .before .before .before .before .before .before .before .before .before .before .pre in
+    calls-room (p .0) (p .1 .1 .1 .1 .0) (p .1 .0) (p .1 .1 .0) (p .1 .1 .1 .0) (p .1 .1 .1 .1 .1) (table 1024) (table 1024) (table 1024) (table 32770)
+
+same-length : tie.Need-same-length
+same-length c = search needs
+
+same-length-2 : tie.Need-same-length-2
+same-length-2 c = search needs
+
+same-length-3 : tie.Need-same-length-3
+same-length-3 c = search needs
+
+same-length-4 : tie.Need-same-length-4
+same-length-4 c = search needs
+
+same-length-5 : tie.Need-same-length-5
+same-length-5 c = search needs
+
+returns : tie.Need-returns
+returns c = c .before .before .before .before .before .before .before .before .before .before .before .before .before .before .rebuild-calls .ensures .0
+
+pub calls-step-spec : {M : Type 1} → statement M
+calls-step-spec =
+    tie.close
+    (tie.spec
+    slice-aggregate-rebuild-calls
+    slice-aggregate-rebuild-calls-2
+    slice-aggregate-rebuild-calls-3
+    slice-aggregate-rebuild-calls-4
+    rebuild-calls-requires
+    same-length
+    same-length-2
+    same-length-3
+    same-length-4
+    same-length-5
+    returns)

@@ -1,0 +1,71 @@
+use borrow.Author.Needs.{needs}
+use Rattle.opt.proofs.WorkLaws.{blank-as}
+use Rattle.opt.proofs.wipe_all.Statement.{statement}
+use Rattle.opt.proofs.wipe_all.Tie as tie
+
+wipe-requires : tie.Need-wipe-requires
+wipe-requires c κs = search needs
+
+wipe-requires-2 : tie.Need-wipe-requires-2
+wipe-requires-2 c κs = search needs
+
+wipe-requires-3 : tie.Need-wipe-requires-3
+wipe-requires-3 c κs = search needs
+
+wipe-requires-4 : tie.Need-wipe-requires-4
+wipe-requires-4 c κs = search needs
+
+wipe-requires-5 : tie.Need-wipe-requires-5
+wipe-requires-5 c κs = search needs
+
+wipe-numbers-requires : tie.Need-wipe-numbers-requires
+wipe-numbers-requires c κs = search needs
+
+same-length : tie.Need-same-length
+same-length c = search needs
+
+same-length-2 : tie.Need-same-length-2
+same-length-2 c = search needs
+
+same-length-3 : tie.Need-same-length-3
+same-length-3 c = search needs
+
+same-length-4 : tie.Need-same-length-4
+same-length-4 c = search needs
+
+same-length-5 : tie.Need-same-length-5
+same-length-5 c = search needs
+
+same-length-6 : tie.Need-same-length-6
+same-length-6 c = search needs
+
+returns : tie.Need-returns
+returns c =
+    let p = c .before .before .before .before .before .before .before .before .before .before .before .before .before .before .before .before .before .before .before .before .before .before .before .before .before .before .before .before .before .before .pre in
+    let g = c .before .before .before .before .before .before .before .before .before .before .before .before .before .before .before .before .before .before .before .before .before .before .before .before .before .before .before .before .before .before .args in
+    record {
+      a-blank = blank-as (g .a .now) _ (p .0) (c .before .before .before .before .before .before .before .before .before .before .before .before .before .before .before .before .before .before .before .before .before .before .wipe .ensures);
+      b-blank = blank-as (g .b .now) _ (p .1 .b-size) (c .before .before .before .before .before .before .before .before .before .before .before .before .before .before .before .before .before .before .wipe2 .ensures);
+      c-blank = blank-as (g .c .now) _ (p .1 .c-size) (c .before .before .before .before .before .before .before .before .before .before .before .before .before .before .wipe3 .ensures);
+      d-blank = blank-as (g .d .now) _ (p .1 .d-size) (c .before .before .before .before .before .before .before .before .before .before .wipe4 .ensures);
+      e-blank = blank-as (g .e .now) _ (p .1 .e-size) (c .before .before .before .before .before .before .wipe5 .ensures);
+      u-blank = blank-as (g .u .now) _ (p .1 .u-size) (c .before .before .wipe-numbers .ensures);
+    }
+
+pub wipe-all-spec : {M : Type 1} → statement M
+wipe-all-spec =
+    tie.close
+    (tie.spec
+    wipe-requires
+    wipe-requires-2
+    wipe-requires-3
+    wipe-requires-4
+    wipe-requires-5
+    wipe-numbers-requires
+    same-length
+    same-length-2
+    same-length-3
+    same-length-4
+    same-length-5
+    same-length-6
+    returns)

@@ -1,0 +1,47 @@
+-- Each case of an answer as the three numbers that a caller gets. Assumes nothing.
+use Prim.Native.Nat.{ℕ}
+use mathlib.Core.Bool.{Bool, _||_}
+use lib.Dec.{eqb}
+use Rattle.opt.specs.declared.Answer.{Answer}
+use Rattle.opt.specs.declared.Answer.the-variants.{Done, BadPass, TooLong, ShortWork, NotUtf8, TooManyLines, Crowded, ShortResult}
+
+unfoldable pub numberOf : Answer → ℕ
+numberOf (Done n) = 0
+numberOf BadPass = 1
+numberOf TooLong = 2
+numberOf ShortWork = 3
+numberOf (NotUtf8 i) = 4
+numberOf TooManyLines = 5
+numberOf (Crowded n) = 6
+numberOf (ShortResult n) = 7
+
+-- a refusal has length 0
+unfoldable pub lengthOf : Answer → ℕ
+lengthOf (Done n) = n
+lengthOf BadPass = 0
+lengthOf TooLong = 0
+lengthOf ShortWork = 0
+lengthOf (NotUtf8 i) = 0
+lengthOf TooManyLines = 0
+lengthOf (Crowded n) = 0
+lengthOf (ShortResult n) = 0
+
+unfoldable pub placeOf : Answer → ℕ
+placeOf (Done n) = 0
+placeOf BadPass = 0
+placeOf TooLong = 16384
+placeOf ShortWork = 0
+placeOf (NotUtf8 i) = i
+placeOf TooManyLines = 1024
+placeOf (Crowded n) = n
+placeOf (ShortResult n) = n
+
+-- the result was written: number 0
+unfoldable pub isDone : Answer → Bool
+unfolding numberOf
+isDone r = eqb (numberOf r) 0
+
+-- the passes ran: numbers 0 and 7
+unfoldable pub runs : Answer → Bool
+unfolding numberOf
+runs r = eqb (numberOf r) 0 || eqb (numberOf r) 7

@@ -1,0 +1,77 @@
+-- What the entries answer, and what stands in the lent buffers afterwards. Assumes nothing.
+use Prim.Native.Nat.{ℕ}
+use mathlib.Core.Bool.{Bool, cond, _||_}
+use mathlib.Core.List.{List, _++_}
+use lib.Dec.{ltb}
+use lib.ListN.{length, drop, replicate}
+use Rattle.lines.specs.declared.Crowded as crowd
+use Rattle.lines.specs.declared.Crowded.the-variants as crowd-is
+use Rattle.lines.specs.Lf.{within}
+use Rattle.lines.specs.Steps.{splitLines, overFrom}
+use Rattle.text.specs.declared.Utf8 as utf8
+use Rattle.text.specs.declared.Utf8.the-variants as utf8-is
+use Rattle.text.specs.Utf8Form.{utf8Of}
+use Rattle.opt.specs.declared.Answer.{Answer}
+use Rattle.opt.specs.declared.Answer.the-variants.{Done, BadPass, TooLong, ShortWork, NotUtf8, TooManyLines, Crowded, ShortResult}
+use Rattle.opt.specs.Answer.{runs, isDone}
+
+-- the stated size of each of the five work buffers of bytes, and of the one of numbers
+abbrev pub byteSize : ℕ
+byteSize = 32769
+
+abbrev pub blockSize : ℕ
+blockSize = 16384
+
+-- a lent work buffer is shorter than its stated size: the lengths of the six
+abbrev pub isShort : ℕ → ℕ → ℕ → ℕ → ℕ → ℕ → Bool
+isShort a b c d e u = ltb a byteSize || (ltb b byteSize || (ltb c byteSize || (ltb d byteSize || (ltb e byteSize || ltb u blockSize))))
+
+-- ---- the checks, in their order; `fine` where none refuses
+
+abbrev pub byUtf8 : utf8.Utf8 → Answer → Answer
+byUtf8 utf8-is.Valid fine = fine
+byUtf8 (utf8-is.Bad i) fine = NotUtf8 i
+
+abbrev pub byCrowd : crowd.Crowded → Answer → Answer
+byCrowd crowd-is.Nowhere fine = fine
+byCrowd (crowd-is.At n) fine = Crowded n
+
+-- by its lines
+unfoldable pub checkedLines : List ℕ → Answer → Answer
+checkedLines t fine = cond (ltb 1024 (length (splitLines t))) TooManyLines (byCrowd (overFrom 64 91 0 (splitLines t)) fine)
+
+unfoldable pub checked : Bool → List ℕ → Answer → Answer
+unfolding checkedLines
+checked short t fine =
+    cond (ltb 16384 (length t)) TooLong
+    (cond short ShortWork
+    (byUtf8 (utf8Of t) (checkedLines t fine)))
+
+-- the result is n bytes long, and the result buffer `room`
+abbrev pub roomed : ℕ → ℕ → Answer
+roomed n room = cond (ltb room n) (ShortResult n) (Done n)
+
+-- `short`: whether a work buffer is too short; t: the text; result: what it becomes; room: the length of the result buffer
+unfoldable pub answerOf : Bool → List ℕ → List ℕ → ℕ → Answer
+unfolding checked
+answerOf short t result room = checked short t (roomed (length result) room)
+
+-- and of the pass entry
+unfoldable pub passAnswer : ℕ → Bool → List ℕ → List ℕ → ℕ → Answer
+unfolding answerOf
+passAnswer k short t result room = cond (within 1 6 k) (answerOf short t result room) BadPass
+
+-- ---- memory
+
+unfoldable pub blank : ℕ → List ℕ
+blank n = replicate n 0
+
+-- a work buffer d whose first n places are used: these are 0 where the passes ran, and the rest is as it was
+unfoldable pub workAfter : Answer → ℕ → List ℕ → List ℕ
+unfolding runs blank
+workAfter r n d = cond (runs r) (blank n ++ drop n d) d
+
+-- the result buffer d: the result at its front where it was written, and the rest is as it was
+unfoldable pub outAfter : Answer → List ℕ → List ℕ → List ℕ
+unfolding isDone
+outAfter r result d = cond (isDone r) (result ++ drop (length result) d) d

@@ -1,0 +1,4 @@
+pub mod Answer
+pub mod Passes
+pub mod Entry
+pub mod Room

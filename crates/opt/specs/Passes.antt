@@ -1,0 +1,42 @@
+-- The passes by number, all of them in order, and the text that comes out. Assumes nothing.
+use Prim.Native.Nat.{ℕ, zero, suc}
+use mathlib.Core.Bool.{cond}
+use mathlib.Core.List.{List}
+use lib.Dec.{eqb}
+use Rattle.lines.specs.Lf.{endsIn}
+use Rattle.lines.specs.Steps.{splitLines, joined}
+use Rattle.globals.specs.Globals.{removeGlobals}
+use Rattle.reading.specs.Reading.{Reading}
+use Rattle.temps.specs.Temps.{pruneDeadTemps}
+use Rattle.once.specs.Once.{optimizeOnce}
+use Rattle.phis.specs.Phis.{pruneDeadPhis}
+use Rattle.calls.specs.Calls.{rebuildCalls}
+use Rattle.calls.specs.LeavesOf.{leavesOf}
+use Rattle.decls.specs.Decls.{pruneDecls}
+use Rattle.bind.specs.Bind.{bindDeclarators}
+
+-- what step k makes of the lines: 0 is the removal, 1 to 6 are the passes, and another number changes nothing
+unfoldable pub stepOf : Reading → ℕ → List (List ℕ) → List (List ℕ)
+stepOf R k ls =
+    cond (eqb k 0) (removeGlobals ls)
+    (cond (eqb k 1) (pruneDeadTemps R ls)
+    (cond (eqb k 2) (optimizeOnce R ls)
+    (cond (eqb k 3) (pruneDeadPhis R ls)
+    (cond (eqb k 4) (rebuildCalls (leavesOf R) ls)
+    (cond (eqb k 5) (pruneDecls ls)
+    (cond (eqb k 6) (bindDeclarators R ls)
+    ls))))))
+
+-- n steps from step k on
+unfoldable pub stepsOf : Reading → ℕ → ℕ → List (List ℕ) → List (List ℕ)
+unfolding stepOf
+stepsOf R k zero ls = ls
+stepsOf R k (suc n) ls = stepsOf R (suc k) n (stepOf R k ls)
+
+-- the removal, and the six passes in their order
+unfoldable pub whole : Reading → List (List ℕ) → List (List ℕ)
+whole R ls = bindDeclarators R (pruneDecls (rebuildCalls (leavesOf R) (pruneDeadPhis R (optimizeOnce R (pruneDeadTemps R (removeGlobals ls))))))
+
+-- the text that a text becomes, where its lines become others
+unfoldable pub resultOf : (List (List ℕ) → List (List ℕ)) → List ℕ → List ℕ
+resultOf f t = joined (endsIn 10 t) (f (splitLines t))

@@ -1,0 +1,449 @@
+// The entries: all passes over a text, or one of them, in lent buffers.
+ghost use mathlib.Core.Path.{_≡_};
+ghost use Prim.Native.Nat.{_≤_, _-_};
+ghost use lib.ListN.{length, take};
+ghost use Rattle.lines.specs.Lf.{linesOf, unlines};
+ghost use Rattle.lines.specs.Out.{Wrote};
+ghost use Rattle.lines.specs.Steps.{splitLines, joined};
+ghost use Rattle.reading.specs.Reading.{plain};
+ghost use Rattle.once.specs.Once.{optimizeOnce};
+ghost use Rattle.calls.specs.LeavesOf.{leavesOf};
+ghost use Rattle.calls.specs.Calls.{rebuildCalls};
+ghost use Rattle.bind.specs.Bind.{bindDeclarators};
+ghost use Rattle.opt.specs.declared.Answer.the-variants.{Done};
+ghost use Rattle.opt.specs.Answer.{numberOf, lengthOf, placeOf};
+ghost use Rattle.opt.specs.Passes.{stepOf, stepsOf, whole, resultOf};
+ghost use Rattle.opt.specs.Entry.{byteSize, blockSize, isShort, checkedLines, checked, roomed, answerOf, passAnswer, blank, workAfter, outAfter};
+ghost use Rattle.opt.specs.Room.{Room, Sized, Long, Blank, Wiped, After, Front};
+
+// How many bytes of each work buffer are used, and how many numbers.
+const BYTES: usize = 32769;
+
+const BLOCKS: usize = 16384;
+
+// What an entry answers: the length of the result, or why there is none.
+pub enum Answer {
+    Done(usize),
+    BadPass,
+    TooLong,
+    ShortWork,
+    NotUtf8(usize),
+    TooManyLines,
+    Crowded(usize),
+    ShortResult(usize),
+}
+
+// The number of an answer: 0, or that of the check that refused.
+pub fn number_of(r: Answer) -> u8
+    ensures { λ x. ⌜ x ≡ numberOf r ⌝ }
+{
+    match r {
+        Answer::Done(n) => 0,
+        Answer::BadPass => 1,
+        Answer::TooLong => 2,
+        Answer::ShortWork => 3,
+        Answer::NotUtf8(i) => 4,
+        Answer::TooManyLines => 5,
+        Answer::Crowded(n) => 6,
+        Answer::ShortResult(n) => 7,
+    }
+}
+
+// The length of the result, 0 where there is none.
+pub fn length_of(r: Answer) -> usize
+    ensures { λ x. ⌜ x ≡ lengthOf r ⌝ }
+{
+    match r {
+        Answer::Done(n) => n,
+        Answer::BadPass => 0,
+        Answer::TooLong => 0,
+        Answer::ShortWork => 0,
+        Answer::NotUtf8(i) => 0,
+        Answer::TooManyLines => 0,
+        Answer::Crowded(n) => 0,
+        Answer::ShortResult(n) => 0,
+    }
+}
+
+// The place of a refusal.
+pub fn place_of(r: Answer) -> usize
+    ensures { λ x. ⌜ x ≡ placeOf r ⌝ }
+{
+    match r {
+        Answer::Done(n) => 0,
+        Answer::BadPass => 0,
+        Answer::TooLong => 16384,
+        Answer::ShortWork => 0,
+        Answer::NotUtf8(i) => i,
+        Answer::TooManyLines => 1024,
+        Answer::Crowded(n) => n,
+        Answer::ShortResult(n) => n,
+    }
+}
+
+// Runs optimize_once, with its tables for 1,024 lines.
+fn once_step(src: &[u8], scratch: &mut [u8], mid: &mut [u8], u: &mut [u32], dst: &mut [u8]) -> usize
+    requires { ⌜ Room (now src) × ((length (now scratch) ≡ byteSize) × ((length (now mid) ≡ byteSize) × ((length (now u) ≡ blockSize) × (length (now dst) ≡ byteSize)))) ⌝ }
+    ensures { λ r. ⌜ Wrote (now (dst .entry)) 0 (unlines (optimizeOnce plain (linesOf (now (src .entry))))) (now (dst .exit)) r ⌝ }
+{
+    let mut loops = [0u8; 1024];
+    let mut marks = [0u8; 1024];
+    let mut paths = [0usize; 1024];
+    once::optimize_once(
+        src,
+        scratch,
+        mid,
+        &mut loops,
+        &mut marks,
+        &mut paths,
+        u,
+        dst,
+    )
+}
+
+// Runs rebuild_calls, with its tables for 1,024 lines.
+fn calls_step(
+    src: &[u8],
+    cur: &mut [u8],
+    next: &mut [u8],
+    clean: &mut [u8],
+    u: &mut [u32],
+    dst: &mut [u8],
+) -> usize
+    requires { ⌜ Room (now src) × ((length (now cur) ≡ byteSize) × ((length (now next) ≡ byteSize) × ((length (now clean) ≡ byteSize) × ((length (now u) ≡ blockSize) × (length (now dst) ≡ byteSize))))) ⌝ }
+    ensures { λ r. ⌜ Wrote (now (dst .entry)) 0 (unlines (rebuildCalls (leavesOf plain) (linesOf (now (src .entry))))) (now (dst .exit)) r ⌝ }
+{
+    let mut owner = [0usize; 1024];
+    let mut blocks = [0usize; 1024];
+    let mut starts = [0u8; 1024];
+    let mut stack = [0u8; 32770];
+    calls::rebuild_calls(
+        src,
+        &mut owner,
+        &mut blocks,
+        &mut starts,
+        u,
+        &mut stack,
+        cur,
+        next,
+        clean,
+        dst,
+    )
+}
+
+// Runs bind_declarators, with its tables for 1,024 lines.
+fn bind_step(src: &[u8], u: &mut [u32], dst: &mut [u8]) -> usize
+    requires { ⌜ Room (now src) × ((length (now u) ≡ blockSize) × (length (now dst) ≡ byteSize)) ⌝ }
+    ensures { λ r. ⌜ Wrote (now (dst .entry)) 0 (unlines (bindDeclarators plain (linesOf (now (src .entry))))) (now (dst .exit)) r ⌝ }
+{
+    let mut blocks = [0usize; 1024];
+    let mut starts = [0u8; 1024];
+    let mut marks = [0u8; 1024];
+    bind::bind_declarators(src, &mut blocks, &mut starts, u, &mut marks, dst)
+}
+
+// Runs a pass by its number from one buffer into another, and returns the length of what it wrote. 0 is the removal.
+fn step(
+    k: usize,
+    src: &[u8],
+    dst: &mut [u8],
+    c: &mut [u8],
+    d: &mut [u8],
+    e: &mut [u8],
+    u: &mut [u32],
+) -> usize
+    requires { ⌜ Room (now src) × Sized (now dst) (now c) (now d) (now e) (now u) ⌝ }
+    ensures { λ r. ⌜ Wrote (now (dst .entry)) 0 (unlines (stepOf plain k (linesOf (now (src .entry))))) (now (dst .exit)) r ⌝ }
+{
+    if k == 0 {
+        return globals::remove_globals(src, dst);
+    }
+    if k == 1 {
+        return temps::prune_dead_temps(src, c, dst);
+    }
+    if k == 2 {
+        return once_step(src, c, d, u, dst);
+    }
+    if k == 3 {
+        return phis::prune_dead_phis(src, c, d, e, dst);
+    }
+    if k == 4 {
+        return calls_step(src, c, d, e, u, dst);
+    }
+    if k == 5 {
+        return decls::prune_decls(src, dst);
+    }
+    if k == 6 {
+        return bind_step(src, u, dst);
+    }
+    lines::put(dst, 0, src)
+}
+
+// Runs a pass by its number over the first `n` bytes of a buffer, and returns how many they are then.
+fn turn(
+    k: usize,
+    n: usize,
+    a: &mut [u8],
+    b: &mut [u8],
+    c: &mut [u8],
+    d: &mut [u8],
+    e: &mut [u8],
+    u: &mut [u32],
+) -> usize
+    requires { ⌜ (n ≤ length (now a)) × (Room (take n (now a)) × ((length (now a) ≡ byteSize) × Sized (now b) (now c) (now d) (now e) (now u))) ⌝ }
+    ensures { λ r. ⌜ Front (now (a .exit)) r (unlines (stepOf plain k (linesOf (take n (now (a .entry)))))) ⌝ }
+{
+    let r = step(k, &a[..n], b, c, d, e, u);
+    lines::put(a, 0, &b[..r])
+}
+
+// Writes the lines of a text into a buffer, runs the passes from `k` up to `to` over them, and returns how many bytes they are then.
+fn chain(
+    k: usize,
+    to: usize,
+    text: &[u8],
+    a: &mut [u8],
+    b: &mut [u8],
+    c: &mut [u8],
+    d: &mut [u8],
+    e: &mut [u8],
+    u: &mut [u32],
+) -> usize
+    requires { ⌜ (length (now text) ≤ 16384) × ((length (splitLines (now text)) ≤ 1024) × ((length (now a) ≡ byteSize) × Sized (now b) (now c) (now d) (now e) (now u))) ⌝ }
+    ensures { λ r. ⌜ Front (now (a .exit)) r (unlines (stepsOf plain k (to - k) (splitLines (now (text .entry))))) ⌝ }
+{
+    let mut n = lines::split_lines(text, a);
+    let mut j = k;
+    while j < to {
+        n = turn(j, n, a, b, c, d, e, u);
+        j += 1;
+    }
+    n
+}
+
+// Makes every byte of a buffer 0.
+fn wipe(s: &mut [u8])
+    ensures { λ _. ⌜ now (s .exit) ≡ blank (length (now (s .entry))) ⌝ }
+{
+    let mut i = 0;
+    while i < s.len() {
+        s[i] = 0;
+        i += 1;
+    }
+}
+
+// Makes every number of a buffer 0.
+fn wipe_numbers(numbers: &mut [u32])
+    ensures { λ _. ⌜ now (numbers .exit) ≡ blank (length (now (numbers .entry))) ⌝ }
+{
+    let mut i = 0;
+    while i < numbers.len() {
+        numbers[i] = 0;
+        i += 1;
+    }
+}
+
+// Makes every work buffer 0.
+fn wipe_all(a: &mut [u8], b: &mut [u8], c: &mut [u8], d: &mut [u8], e: &mut [u8], u: &mut [u32])
+    requires { ⌜ (length (now a) ≡ byteSize) × Sized (now b) (now c) (now d) (now e) (now u) ⌝ }
+    ensures { λ _. ⌜ Blank (now (a .exit)) (now (b .exit)) (now (c .exit)) (now (d .exit)) (now (e .exit)) (now (u .exit)) ⌝ }
+{
+    wipe(a);
+    wipe(b);
+    wipe(c);
+    wipe(d);
+    wipe(e);
+    wipe_numbers(u);
+}
+
+// Joins the lines of `lf` into the result buffer, where it is long enough.
+fn finish(lf: &[u8], ended: bool, out: &mut [u8]) -> Answer
+    ensures answer { λ r. ⌜ r ≡ roomed (length (joined ended (linesOf (now (lf .entry))))) (length (now (out .entry))) ⌝ }
+    ensures memory { λ r. ⌜ now (out .exit) ≡ outAfter r (joined ended (linesOf (now (lf .entry)))) (now (out .entry)) ⌝ }
+{
+    let n = lines::joined_len(lf, ended);
+    if out.len() < n {
+        return Answer::ShortResult(n);
+    }
+    let m = lines::join_lines(lf, ended, out);
+    Answer::Done(m)
+}
+
+// Runs the passes from `k` up to `to` over a text, in work buffers of the stated sizes, and leaves these 0.
+fn work(
+    k: usize,
+    to: usize,
+    text: &[u8],
+    a: &mut [u8],
+    b: &mut [u8],
+    c: &mut [u8],
+    d: &mut [u8],
+    e: &mut [u8],
+    u: &mut [u32],
+    out: &mut [u8],
+) -> Answer
+    requires { ⌜ (length (now text) ≤ 16384) × ((length (splitLines (now text)) ≤ 1024) × ((length (now a) ≡ byteSize) × Sized (now b) (now c) (now d) (now e) (now u))) ⌝ }
+    ensures answer { λ r. ⌜ r ≡ roomed (length (resultOf (stepsOf plain k (to - k)) (now (text .entry)))) (length (now (out .entry))) ⌝ }
+    ensures memory { λ r. ⌜ (now (out .exit) ≡ outAfter r (resultOf (stepsOf plain k (to - k)) (now (text .entry))) (now (out .entry)))
+        × Blank (now (a .exit)) (now (b .exit)) (now (c .exit)) (now (d .exit)) (now (e .exit)) (now (u .exit)) ⌝ }
+{
+    let n = chain(k, to, text, a, b, c, d, e, u);
+    let ended = lines::ends_lf(text);
+    let r = finish(&a[..n], ended, out);
+    wipe_all(a, b, c, d, e, u);
+    r
+}
+
+// The same over the front of longer work buffers.
+fn run(
+    k: usize,
+    to: usize,
+    text: &[u8],
+    a: &mut [u8],
+    b: &mut [u8],
+    c: &mut [u8],
+    d: &mut [u8],
+    e: &mut [u8],
+    u: &mut [u32],
+    out: &mut [u8],
+) -> Answer
+    requires { ⌜ (length (now text) ≤ 16384) × ((length (splitLines (now text)) ≤ 1024) × Long (now a) (now b) (now c) (now d) (now e) (now u)) ⌝ }
+    ensures answer { λ r. ⌜ r ≡ roomed (length (resultOf (stepsOf plain k (to - k)) (now (text .entry)))) (length (now (out .entry))) ⌝ }
+    ensures memory { λ r. ⌜ (now (out .exit) ≡ outAfter r (resultOf (stepsOf plain k (to - k)) (now (text .entry))) (now (out .entry)))
+        × Wiped (now (a .entry)) (now (b .entry)) (now (c .entry)) (now (d .entry)) (now (e .entry)) (now (u .entry)) (now (a .exit)) (now (b .exit)) (now (c .exit)) (now (d .exit)) (now (e .exit)) (now (u .exit)) ⌝ }
+{
+    let n = BYTES;
+    let m = BLOCKS;
+    work(
+        k,
+        to,
+        text,
+        &mut a[..n],
+        &mut b[..n],
+        &mut c[..n],
+        &mut d[..n],
+        &mut e[..n],
+        &mut u[..m],
+        out,
+    )
+}
+
+// Whether one of six work buffers, of these lengths, is shorter than its stated size.
+fn too_short(a: usize, b: usize, c: usize, d: usize, e: usize, u: usize) -> bool
+    ensures { λ r. ⌜ r ≡ isShort a b c d e u ⌝ }
+{
+    if a < BYTES {
+        return true;
+    }
+    if b < BYTES {
+        return true;
+    }
+    if c < BYTES {
+        return true;
+    }
+    if d < BYTES {
+        return true;
+    }
+    if e < BYTES {
+        return true;
+    }
+    u < BLOCKS
+}
+
+// Why a text is refused by its lines, or `Done` where it is not.
+fn refused_lines(text: &[u8]) -> Answer
+    ensures { λ r. ⌜ r ≡ checkedLines (now (text .entry)) (Done 0) ⌝ }
+{
+    if lines::count_lines(text) > 1024 {
+        return Answer::TooManyLines;
+    }
+    match lines::crowded_line(text, 64) {
+        lines::Crowded::At(n) => Answer::Crowded(n),
+        lines::Crowded::Nowhere => Answer::Done(0),
+    }
+}
+
+// Why a text is refused, or `Done` where it is not. The checks stand in their order.
+fn refused(text: &[u8], short: bool) -> Answer
+    ensures { λ r. ⌜ r ≡ checked short (now (text .entry)) (Done 0) ⌝ }
+{
+    if text.len() > 16384 {
+        return Answer::TooLong;
+    }
+    if short {
+        return Answer::ShortWork;
+    }
+    match text::check_utf8(text) {
+        text::Utf8::Bad(i) => Answer::NotUtf8(i),
+        text::Utf8::Valid => refused_lines(text),
+    }
+}
+
+// Checks a text, and runs the passes from `k` up to `to` over it.
+fn tidy(
+    k: usize,
+    to: usize,
+    text: &[u8],
+    a: &mut [u8],
+    b: &mut [u8],
+    c: &mut [u8],
+    d: &mut [u8],
+    e: &mut [u8],
+    u: &mut [u32],
+    out: &mut [u8],
+) -> Answer
+    ensures answer { λ r. ⌜ r ≡ answerOf (isShort (length (now (a .entry))) (length (now (b .entry))) (length (now (c .entry))) (length (now (d .entry))) (length (now (e .entry))) (length (now (u .entry)))) (now (text .entry)) (resultOf (stepsOf plain k (to - k)) (now (text .entry))) (length (now (out .entry))) ⌝ }
+    ensures memory { λ r. ⌜ (now (out .exit) ≡ outAfter r (resultOf (stepsOf plain k (to - k)) (now (text .entry))) (now (out .entry)))
+        × After r (now (a .entry)) (now (b .entry)) (now (c .entry)) (now (d .entry)) (now (e .entry)) (now (u .entry)) (now (a .exit)) (now (b .exit)) (now (c .exit)) (now (d .exit)) (now (e .exit)) (now (u .exit)) ⌝ }
+{
+    let short = too_short(a.len(), b.len(), c.len(), d.len(), e.len(), u.len());
+    let r = refused(text, short);
+    if number_of(r) != 0 {
+        return r;
+    }
+    run(k, to, text, a, b, c, d, e, u, out)
+}
+
+// Removes the lines that declare globals from a text, runs the six passes over it, and writes the result to the front of `out`. Of each of
+// the work buffers `a` to `e` 32,769 bytes are used, and of `u` 16,384 numbers: these are 0 afterwards where the passes ran.
+pub fn optimize(
+    text: &[u8],
+    a: &mut [u8],
+    b: &mut [u8],
+    c: &mut [u8],
+    d: &mut [u8],
+    e: &mut [u8],
+    u: &mut [u32],
+    out: &mut [u8],
+) -> Answer
+    ensures answer { λ r. ⌜ r ≡ answerOf (isShort (length (now (a .entry))) (length (now (b .entry))) (length (now (c .entry))) (length (now (d .entry))) (length (now (e .entry))) (length (now (u .entry)))) (now (text .entry)) (resultOf (whole plain) (now (text .entry))) (length (now (out .entry))) ⌝ }
+    ensures memory { λ r. ⌜ (now (out .exit) ≡ outAfter r (resultOf (whole plain) (now (text .entry))) (now (out .entry)))
+        × After r (now (a .entry)) (now (b .entry)) (now (c .entry)) (now (d .entry)) (now (e .entry)) (now (u .entry)) (now (a .exit)) (now (b .exit)) (now (c .exit)) (now (d .exit)) (now (e .exit)) (now (u .exit)) ⌝ }
+{
+    tidy(0, 7, text, a, b, c, d, e, u, out)
+}
+
+// Runs one pass over a text, by its number from 1 to 6, with no removal, and writes the result to the front of `out`, in the same work buffers.
+pub fn run_pass(
+    pass: usize,
+    text: &[u8],
+    a: &mut [u8],
+    b: &mut [u8],
+    c: &mut [u8],
+    d: &mut [u8],
+    e: &mut [u8],
+    u: &mut [u32],
+    out: &mut [u8],
+) -> Answer
+    ensures answer { λ r. ⌜ r ≡ passAnswer pass (isShort (length (now (a .entry))) (length (now (b .entry))) (length (now (c .entry))) (length (now (d .entry))) (length (now (e .entry))) (length (now (u .entry)))) (now (text .entry)) (resultOf (stepOf plain pass) (now (text .entry))) (length (now (out .entry))) ⌝ }
+    ensures memory { λ r. ⌜ (now (out .exit) ≡ outAfter r (resultOf (stepOf plain pass) (now (text .entry))) (now (out .entry)))
+        × After r (now (a .entry)) (now (b .entry)) (now (c .entry)) (now (d .entry)) (now (e .entry)) (now (u .entry)) (now (a .exit)) (now (b .exit)) (now (c .exit)) (now (d .exit)) (now (e .exit)) (now (u .exit)) ⌝ }
+{
+    if pass < 1 {
+        return Answer::BadPass;
+    }
+    if pass > 6 {
+        return Answer::BadPass;
+    }
+    tidy(pass, pass + 1, text, a, b, c, d, e, u, out)
+}

@@ -1,0 +1,62 @@
+-- `temps::table::flag_decls` meets its contract. Assumes nothing.
+use Prim.Native.Nat.{_-_}
+use native.Mathlib.Omega.{arith}
+use borrow.Author.Needs.{needs}
+use lib.ListN.{length}
+use Rattle.temps.specs.Table.{flagDecls}
+use Rattle.temps.proofs.TableLaws.{FlagInv, flag-start, decls-on, decls-done}
+use Rattle.temps.proofs.table.flag_decls.Statement.{statement}
+use Rattle.temps.proofs.table.flag_decls.Tie as tie
+
+abbrev Inv-loop : tie.InvT-loop
+Inv-loop text table₀ i₀ table i = FlagInv flagDecls text table₀ table i
+
+abbrev μ-loop : tie.MeasureT-loop
+μ-loop text table₀ i₀ table i = length text - i
+
+loop-holds : tie.Need-loop-holds Inv-loop μ-loop
+loop-holds c = flag-start flagDecls _ _
+
+find-byte-requires : tie.Need-find-byte-requires Inv-loop μ-loop
+find-byte-requires c κs = search needs
+
+cut-requires : tie.Need-cut-requires Inv-loop μ-loop
+cut-requires c κs = search needs
+
+trim-requires : tie.Need-trim-requires Inv-loop μ-loop
+trim-requires c κs = search needs
+
+flag-decl-requires : tie.Need-flag-decl-requires Inv-loop μ-loop
+flag-decl-requires c κs = search needs
+
+after-requires : tie.Need-after-requires Inv-loop μ-loop
+after-requires c κs = search needs
+
+loop-less : tie.Need-loop-less Inv-loop μ-loop
+loop-less c = omega (arith, c .after .ensures, c .before .before .before .before .before .before .before .find-byte .ensures, c .before .before .before .before .before .before .before .before .loop-test .taken)
+
+loop-again : tie.Need-loop-again Inv-loop μ-loop
+loop-again c = decls-on (c .before .before .before .before .before .before .before .before .before .loop .inv) (c .before .before .before .before .before .before .before .find-byte .result) (c .after .result) (c .before .before .before .before .before .before .cut .result .now) (c .before .before .before .before .before .trim .result .now) _ (c .before .before .before .before .before .before .before .before .loop-test .taken) (c .before .before .before .before .before .before .before .find-byte .ensures) (c .before .before .before .before .before .before .cut .ensures) (c .before .before .before .before .before .trim .ensures .0) (c .before .before .before .flag-decl .ensures) (c .after .ensures)
+
+same-length : tie.Need-same-length Inv-loop μ-loop
+same-length c = c .before .loop .inv .long
+
+returns : tie.Need-returns Inv-loop μ-loop
+returns c = decls-done (c .before .loop .inv) (c .loop-test .left)
+
+pub flag-decls-spec : {M : Type 1} → statement M
+flag-decls-spec =
+    tie.close
+    (tie.spec
+    Inv-loop
+    μ-loop
+    loop-holds
+    find-byte-requires
+    cut-requires
+    trim-requires
+    flag-decl-requires
+    after-requires
+    loop-less
+    loop-again
+    same-length
+    returns)

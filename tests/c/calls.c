@@ -1,0 +1,218 @@
+/*
+ * Calls the library from C: every number with its place, the order of the checks, the limits from
+ * both sides, the passes, and every lent byte after each call. Says what fails; status 1 where
+ * something does.
+ */
+#include "optlines.h"
+#include <stdio.h>
+#include <string.h>
+
+enum { SPARE = 8, FILLED = 0xA5, ROOM = 2 * OPTLINES_TEXT };
+static const uint32_t FILLED_BLOCK = 0xA5A5A5A5;
+
+/* What is lent, each with some room behind what is stated. */
+static uint8_t work[5][OPTLINES_BYTES + SPARE], out[ROOM + SPARE];
+static uint32_t blocks[OPTLINES_BLOCKS + SPARE];
+
+struct call {
+    size_t pass; /* 0: all of them */
+    const uint8_t *text;
+    size_t text_length;
+    int shorter; /* 0, or which work buffer, from 1, is one element short */
+    size_t room;
+};
+
+struct answer {
+    uint8_t number;
+    size_t length, place;
+};
+
+static int calls, failures;
+
+static void fail(const char *name, const char *what)
+{
+    printf("tests/c: %s: %s\n", name, what);
+    failures++;
+}
+
+static void fill(void)
+{
+    memset(work, FILLED, sizeof work);
+    memset(out, FILLED, sizeof out);
+    for (size_t i = 0; i < OPTLINES_BLOCKS + SPARE; i++)
+        blocks[i] = FILLED_BLOCK;
+}
+
+static size_t lent(int which, int shorter)
+{
+    size_t stated = which == 6 ? OPTLINES_BLOCKS : OPTLINES_BYTES;
+    return which == shorter ? stated - 1 : stated + SPARE;
+}
+
+static struct answer ask(struct call q)
+{
+    struct answer r = { 255, 1, 1 };
+    size_t n[7];
+    for (int i = 1; i < 7; i++)
+        n[i] = lent(i, q.shorter);
+    if (q.pass == 0)
+        r.number = optlines_optimize(q.text, q.text_length, work[0], n[1], work[1], n[2], work[2], n[3],
+            work[3], n[4], work[4], n[5], blocks, n[6], out, q.room, &r.length, &r.place);
+    else
+        r.number = optlines_run_pass(q.pass, q.text, q.text_length, work[0], n[1], work[1], n[2], work[2], n[3],
+            work[3], n[4], work[4], n[5], blocks, n[6], out, q.room, &r.length, &r.place);
+    calls++;
+    return r;
+}
+
+static int all(const uint8_t *s, size_t from, size_t to, uint8_t b)
+{
+    while (from < to && s[from] == b)
+        from++;
+    return from >= to;
+}
+
+/* Whether the work buffers are as they should be: zeros as far as stated where the passes ran. */
+static int work_is(int ran)
+{
+    size_t zeros = ran ? OPTLINES_BYTES : 0, zero_blocks = ran ? OPTLINES_BLOCKS : 0;
+    for (int i = 0; i < 5; i++)
+        if (!all(work[i], 0, zeros, 0) || !all(work[i], zeros, sizeof work[i], FILLED))
+            return 0;
+    for (size_t i = 0; i < OPTLINES_BLOCKS + SPARE; i++)
+        if (blocks[i] != (i < zero_blocks ? 0 : FILLED_BLOCK))
+            return 0;
+    return 1;
+}
+
+static void expect(const char *name, struct call q, struct answer want, const char *result)
+{
+    fill();
+    struct answer got = ask(q);
+    if (got.number != want.number)
+        fail(name, "another number");
+    if (got.length != want.length)
+        fail(name, "another length");
+    if (got.place != want.place)
+        fail(name, "another place");
+    if (got.length > ROOM || (result && memcmp(out, result, want.length) != 0))
+        fail(name, "another result");
+    else if (!all(out, got.length, sizeof out, FILLED))
+        fail(name, "the result buffer is changed beyond the length");
+    if (!work_is(got.number == OPTLINES_DONE || got.number == OPTLINES_SHORT_RESULT))
+        fail(name, "a work buffer is not as it should be");
+}
+
+static struct call text_of(size_t pass, const char *text)
+{
+    return (struct call) { pass, (const uint8_t *)text, strlen(text), 0, ROOM };
+}
+
+static void becomes(const char *name, size_t pass, const char *text, const char *result)
+{
+    expect(name, text_of(pass, text), (struct answer) { OPTLINES_DONE, strlen(result), 0 }, result);
+}
+
+static void refused(const char *name, struct call q, uint8_t number, size_t place)
+{
+    expect(name, q, (struct answer) { number, 0, place }, NULL);
+}
+
+static const char sample[] = "function f(a) {\n  let r0, r1, r2;\n  r0 = a;\n  r1 = g(r0);\n  return r1;\n}\n";
+static const char tidy[] = "function f(a) {\n  let r1 = g(a);\n  return r1;\n}\n";
+
+/* Texts at a limit and one beyond it. */
+static char full[OPTLINES_TEXT + 1], many[OPTLINES_LINES + 1], crowd[OPTLINES_BRACKETS + 4];
+
+static void results(void)
+{
+    becomes("the sample", 0, sample, tidy);
+    becomes("an empty text", 0, "", "");
+    becomes("a text that ends in two LF", 0, "a\n\n", "a\n");
+    becomes("pass 1", 1, "let t1;\nt1 = 5;\nuse(t2);\n", "let t1;\nuse(t2);\n");
+    becomes("pass 2", 2, "r0 = a;\nr1 = r0;\nr2 = r1;\nuse(r2);\n", "r0 = a;\nr1 = r0;\nuse(r1);\n");
+    becomes("pass 3", 3, "phi1 = 2;\nphi2 = a;\nuse(phi2);\n", "phi2 = a;\nuse(phi2);\n");
+    becomes("pass 4", 4, "r3 = greet;\nr4 = 1;\nr3 = r3(r4);\nuse(r3);\n", "use(greet(1));\n");
+    becomes("pass 5", 5, "let r007, r1, r2;\nuse(r7, r1);\n", "let r7, r1;\nuse(r7, r1);\n");
+    becomes("pass 6", 6, "var x;\n  let r0;\n}\n  r0 = 1;\n", "var x;\n}\n  let r0 = 1;\n");
+}
+
+static void limits(void)
+{
+    struct call q = { 0, (const uint8_t *)full, OPTLINES_TEXT, 0, ROOM };
+    memset(full, 'x', sizeof full);
+    expect("16,384 bytes", q, (struct answer) { OPTLINES_DONE, OPTLINES_TEXT, 0 }, full);
+    q.text_length = OPTLINES_TEXT + 1;
+    refused("16,385 bytes", q, OPTLINES_TOO_LONG, OPTLINES_TEXT);
+
+    memset(many, '\n', sizeof many);
+    q = (struct call) { 0, (const uint8_t *)many, OPTLINES_LINES, 0, ROOM };
+    expect("1,024 lines", q, (struct answer) { OPTLINES_DONE, OPTLINES_LINES - 1, 0 }, many);
+    q.text_length = OPTLINES_LINES + 1;
+    refused("1,025 lines", q, OPTLINES_TOO_MANY_LINES, OPTLINES_LINES);
+
+    memset(crowd, '[', sizeof crowd);
+    memcpy(crowd, "a\n", 2);
+    q = (struct call) { 0, (const uint8_t *)crowd, 2 + OPTLINES_BRACKETS, 0, ROOM };
+    expect("64 brackets", q, (struct answer) { OPTLINES_DONE, 2 + OPTLINES_BRACKETS, 0 }, crowd);
+    q.text_length++;
+    refused("65 brackets", q, OPTLINES_CROWDED, 1);
+
+    q = text_of(0, sample);
+    q.room = strlen(tidy);
+    expect("a result buffer of just the length", q, (struct answer) { OPTLINES_DONE, strlen(tidy), 0 }, tidy);
+    q.room--;
+    refused("a result buffer one byte short", q, OPTLINES_SHORT_RESULT, strlen(tidy));
+}
+
+static void order(void)
+{
+    struct call q = { 7, (const uint8_t *)full, OPTLINES_TEXT + 1, 1, 0 };
+    refused("pass 7", text_of(7, sample), OPTLINES_BAD_PASS, 0);
+    refused("the largest number as a pass", text_of((size_t)-1, sample), OPTLINES_BAD_PASS, 0);
+    memset(full, 0xFF, sizeof full);
+    refused("1 before 2 and 3", q, OPTLINES_BAD_PASS, 0);
+    q.pass = 0;
+    refused("2 before 3 and 4", q, OPTLINES_TOO_LONG, OPTLINES_TEXT);
+    q.pass = 6;
+    refused("2 from the pass entry", q, OPTLINES_TOO_LONG, OPTLINES_TEXT);
+    q.text_length = 3;
+    for (q.shorter = 1; q.shorter < 7; q.shorter++)
+        refused("3 before 4", q, OPTLINES_SHORT_WORK, 0);
+    memset(full, '\n', OPTLINES_LINES + 1);
+    memset(full + OPTLINES_LINES + 1, '[', OPTLINES_BRACKETS + 1);
+    q = (struct call) { 0, (const uint8_t *)full, OPTLINES_LINES + OPTLINES_BRACKETS + 3, 0, 0 };
+    refused("4 before 5", q, OPTLINES_NOT_UTF8, OPTLINES_LINES + OPTLINES_BRACKETS + 2);
+    q.text_length--;
+    refused("5 before 6", q, OPTLINES_TOO_MANY_LINES, OPTLINES_LINES);
+    q.text += 1 + OPTLINES_LINES - 7;
+    q.text_length -= 1 + OPTLINES_LINES - 7;
+    refused("6 before 7", q, OPTLINES_CROWDED, 7);
+    refused("a surrogate", text_of(0, "ab\xED\xA0\x80"), OPTLINES_NOT_UTF8, 2);
+}
+
+/* Null pointers where the length is 0. */
+static void nulls(void)
+{
+    struct answer r = { 255, 1, 1 };
+    refused("no result buffer", (struct call) { 0, (const uint8_t *)sample, strlen(sample), 0, 0 }, OPTLINES_SHORT_RESULT, strlen(tidy));
+    expect("no text", (struct call) { 0, NULL, 0, 0, 0 }, (struct answer) { OPTLINES_DONE, 0, 0 }, "");
+    r.number = optlines_optimize(NULL, 0, NULL, 0, NULL, 0, NULL, 0, NULL, 0, NULL, 0, NULL, 0, NULL, 0, &r.length, &r.place);
+    calls++;
+    if (r.number != OPTLINES_SHORT_WORK || r.length != 0 || r.place != 0)
+        fail("nothing lent", "another answer");
+    r.number = optlines_run_pass(0, NULL, 0, NULL, 0, NULL, 0, NULL, 0, NULL, 0, NULL, 0, NULL, 0, NULL, 0, &r.length, &r.place);
+    calls++;
+    if (r.number != OPTLINES_BAD_PASS || r.length != 0 || r.place != 0)
+        fail("pass 0", "another answer");
+}
+
+int main(void)
+{
+    results();
+    limits();
+    order();
+    nulls();
+    printf("tests/c: %d calls, %d failures\n", calls, failures);
+    return failures != 0;
+}
