@@ -1,7 +1,7 @@
 -- The index of a region in the walk down the lines. Assumes nothing.
-use Prim.Native.Nat.{ℕ, zero, suc, _+_, _-_, _≤_, _<_, min}
+use Prim.Native.Nat.{ℕ, suc, _+_, _-_, _≤_, _<_, min}
 use mathlib.Core.Path.{_≡_, refl, sym, ap, _∙_, subst}
-use mathlib.Core.Bool.{Bool, true, false, cond}
+use mathlib.Core.Bool.{Bool, true, false}
 use mathlib.Core.List.{List, [], _∷_, _++_}
 use native.Mathlib.Omega.{arith}
 use borrow.Author.Tests.{ltb-true, ltb-false}
@@ -10,18 +10,17 @@ use lib.ListN.{length, getD, take, drop, length-append}
 use lib.Seq.{drop-drop, take-add}
 use Rattle.lines.specs.Lf.{part, upTo, linesOf}
 use Rattle.lines.proofs.LfLaws.{lines-at, part-none}
-use Rattle.lines.proofs.Tests.{no}
 use Rattle.text.specs.Trim.{trimOf}
 use Rattle.parse.specs.Parse.{isDecl}
-use Rattle.place.specs.Region.{isHeader, untilHeader, region, regionLen}
+use Rattle.place.specs.Region.{isHeader, untilHeader, region}
 use Rattle.place.proofs.Regions.{region-at}
 use Rattle.decls.specs.Seen.{AtMost}
 use Rattle.bind.specs.declared.Site.{Site}
-use Rattle.bind.specs.Steps.{aboveOf, lineOf, belowOf, boundAt}
+use Rattle.bind.specs.Steps.{lineOf, boundAt}
 use Rattle.bind.specs.Index.{seenLines, againLines, useLines, seenAt, firstAt, Told}
 use Rattle.bind.proofs.IndexLaws.{seen-at-length, first-at-length}
 use Rattle.bind.proofs.ToldLaws.{Entry, Tells, tells-new, entry-says, seen-most, first-most}
-use Rattle.bind.proofs.WalkLaws.{Whole, above-more, below-lines, RegionAt, lines-none}
+use Rattle.bind.proofs.WalkLaws.{above-more, below-lines, RegionAt, lines-none}
 
 -- the loop: the tables tell of the region from top to end, where its first line is above i
 pub record IndexInv (t d₀ u₀ d u : List ℕ) (top end i k : ℕ) : Type 0 where
@@ -196,16 +195,16 @@ module _ {t : List ℕ} {us : List (List ℕ)} {top end i e : ℕ} (g : RegionAt
     abbrev site : Site
     site = record { top = top; from = i; to = e; next = j; end = end; row = k }
 
-    defined-is : (bs ss : List ℕ) (v : ℕ) → isDecl (trimOf (part i e t)) ≡ true → v < length u′ → Entry v top (index-read .start) (linesOf (part top i t) ++ (part i e t ∷ linesOf (part j end t))) (getD d′ v 0) (getD u′ v 0)
-    defined-is bs ss v dc w = subst (λ (ls : List (List ℕ)). Entry v top (index-read .start) ls (getD d′ v 0) (getD u′ v 0)) region-is (index-read .tells v w)
+    entry-here : (v : ℕ) → v < length u′ → Entry v top (index-read .start) (linesOf (part top i t) ++ (part i e t ∷ linesOf (part j end t))) (getD d′ v 0) (getD u′ v 0)
+    entry-here v w = subst (λ (ls : List (List ℕ)). Entry v top (index-read .start) ls (getD d′ v 0) (getD u′ v 0)) region-is (index-read .tells v w)
 
     pub index-told : (bs ss : List ℕ) → isDecl (trimOf (lineOf t site)) ≡ true → Told t site bs ss d′ u′
     unfolding boundAt
     index-told bs ss dc = record {
       same = index-read .same;
       fits = index-read .most-u;
-      says = λ v w. entry-says v top (index-read .start) k (linesOf (part top i t)) (part i e t) (linesOf (part j end t)) bs ss (getD d′ v 0) (getD u′ v 0) (defined-is bs ss v dc w) dc (index-read .rows) .0;
-      row = λ v w. entry-says v top (index-read .start) k (linesOf (part top i t)) (part i e t) (linesOf (part j end t)) bs ss (getD d′ v 0) (getD u′ v 0) (defined-is bs ss v dc w) dc (index-read .rows) .1;
+      says = λ v w. entry-says v top (index-read .start) k (linesOf (part top i t)) (part i e t) (linesOf (part j end t)) bs ss (getD d′ v 0) (getD u′ v 0) (entry-here v w) dc (index-read .rows) .0;
+      row = λ v w. entry-says v top (index-read .start) k (linesOf (part top i t)) (part i e t) (linesOf (part j end t)) bs ss (getD d′ v 0) (getD u′ v 0) (entry-here v w) dc (index-read .rows) .1;
     }
 
     pub index-on : IndexInv t d₀ u₀ d′ u′ top end j (k + 1)

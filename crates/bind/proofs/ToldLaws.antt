@@ -8,7 +8,7 @@ use borrow.Author.Tests.{lt-ltb, le-ltb, ltb-true, ltb-false, eq-eqb, ne-eqb, eq
 use lib.Dec.{eqb, ltb}
 use lib.ListN.{length, getD, set}
 use lib.Seq.{getD-set-same, getD-set-other}
-use Rattle.lines.specs.Lf.{part, linesOf, partsOf}
+use Rattle.lines.specs.Lf.{partsOf}
 use Rattle.lines.proofs.Tests.{no, and-false}
 use Rattle.text.specs.Trim.{trimOf}
 use Rattle.names.specs.Names.{regOf, regIs}
@@ -24,7 +24,7 @@ use Rattle.decls.proofs.SeenLaws.{name-length}
 use Rattle.bind.specs.Bind.{pieceCount, declCount, storeCount, piecesOf}
 use Rattle.bind.specs.Steps.{useRow, storesAt}
 use Rattle.bind.specs.Index.{afterStore, afterRead, readName, readRuns, storeLine, useLine, useLines, againReg, againName, seenPieces, againPieces, seenLines, againLines, asked}
-use Rattle.bind.proofs.CountLaws.{decl-cons, store-cons}
+use Rattle.bind.proofs.CountLaws.{piece-cons, piece-nil, decl-cons, decl-nil, store-cons, store-nil, use-here, use-next, use-nil}
 use Rattle.bind.proofs.IndexLaws.{read-length, store-length, use-length, uses-length, again-length, seen-pieces-length, again-pieces-length, agains-length}
 
 -- ---- the entry of register v, step by step
@@ -121,9 +121,9 @@ uses-is v l = refl
 
 -- ---- lines
 
-use-nil : (v b k x : ℕ) → useAt v b k [] x ≡ x
+at-nil : (v b k x : ℕ) → useAt v b k [] x ≡ x
 unfolding useAt
-use-nil v b k x = refl
+at-nil v b k x = refl
 
 use-cons : (v b k : ℕ) (l : List ℕ) (ls : List (List ℕ)) (x y : ℕ) → lineAt v b (k + 1) l x ≡ y → useAt v b k (l ∷ ls) x ≡ useAt v b (k + 1) ls y
 unfolding useAt
@@ -136,17 +136,13 @@ use-append v b k (l ∷ xs) ys x =
     let z : k + 1 + length xs ≡ k + suc (length xs) = omega arith in
     use-append v b (k + 1) xs ys (lineAt v b (k + 1) l x) ∙ ap (λ (n : ℕ). useAt v b n ys (useAt v b (k + 1) xs (lineAt v b (k + 1) l x))) z
 
-store-nil : (v : ℕ) → storeCount v [] ≡ 0
-unfolding storeCount
-store-nil v = refl
-
 same-either : (t : Bool) (x : ℕ) → cond t x x ≡ x
 same-either true x = refl
 same-either false x = refl
 
 -- an entry of the region stays until the next store
 use-high : (v b k : ℕ) (ls : List (List ℕ)) (x : ℕ) → b ≤ x → useAt v b k ls x ≡ cond (ltb 0 (storeCount v ls)) b x
-use-high v b k [] x h = let z : storeCount v [] ≤ 0 = omega (arith, store-nil v) in use-nil v b k x ∙ sym (rw (le-ltb 0 (storeCount v []) z))
+use-high v b k [] x h = let z : storeCount v [] ≤ 0 = omega (arith, store-nil v) in at-nil v b k x ∙ sym (rw (le-ltb 0 (storeCount v []) z))
 use-high v b k (l ∷ ls) x h = go (lineStores v l) refl (λ y g. use-high v b (k + 1) ls y g)
   where
     go : (s : Bool) → lineStores v l ≡ s → ((y : ℕ) → b ≤ y → useAt v b (k + 1) ls y ≡ cond (ltb 0 (storeCount v ls)) b y) → useAt v b k (l ∷ ls) x ≡ cond (ltb 0 (storeCount v (l ∷ ls))) b x
@@ -162,14 +158,6 @@ use-high v b k (l ∷ ls) x h = go (lineStores v l) refl (λ y g. use-high v b (
 abbrev firstOf : ℕ → ℕ → ℕ → List (List ℕ) → ℕ
 firstOf v b k ls = cond (lineStores v (getD ls (useRow v ls) []) && eqb (storeCount v ls) 1) (k + 1 + useRow v ls) b
 
-row-here : (v : ℕ) (l : List ℕ) (ls : List (List ℕ)) → lineUses v l ≡ true → useRow v (l ∷ ls) ≡ 0
-unfolding useRow
-row-here v l ls e = rw e
-
-row-next : (v : ℕ) (l : List ℕ) (ls : List (List ℕ)) → lineUses v l ≡ false → useRow v (l ∷ ls) ≡ suc (useRow v ls)
-unfolding useRow
-row-next v l ls e = rw e
-
 used-cons : (v : ℕ) (l : List ℕ) (ls : List (List ℕ)) → usedIn v (l ∷ ls) ≡ lineUses v l || usedIn v ls
 unfolding usedIn
 used-cons v l ls = refl
@@ -179,13 +167,13 @@ unfolding usedIn
 used-nil v = refl
 
 use-low : (v b k : ℕ) (ls : List (List ℕ)) (x : ℕ) → b ≤ k + 1 → x < b → useAt v b k ls x ≡ cond (usedIn v ls) (firstOf v b k ls) x
-use-low v b k [] x g h = use-nil v b k x ∙ sym (rw (used-nil v))
+use-low v b k [] x g h = at-nil v b k x ∙ sym (rw (used-nil v))
 use-low v b k (l ∷ ls) x g h = go (lineStores v l) (ltb 0 (lineReads v l)) refl refl (use-low v b (k + 1) ls x (omega arith) h)
   where
     first-here : lineUses v l ≡ true → (s : Bool) → lineStores v l ≡ s → firstOf v b k (l ∷ ls) ≡ cond (s && eqb (storeCount v (l ∷ ls)) 1) (k + 1) b
     first-here e s f =
         let z : k + 1 + 0 ≡ k + 1 = omega arith in
-        ap (λ (n : ℕ). cond (lineStores v (getD (l ∷ ls) n []) && eqb (storeCount v (l ∷ ls)) 1) (k + 1 + n) b) (row-here v l ls e) ∙ rw (f, z)
+        ap (λ (n : ℕ). cond (lineStores v (getD (l ∷ ls) n []) && eqb (storeCount v (l ∷ ls)) 1) (k + 1 + n) b) (use-here v l ls e) ∙ rw (f, z)
 
     once : (n m : ℕ) → m ≡ suc n → cond (ltb 0 n) b (k + 1) ≡ cond (eqb m 1) (k + 1) b
     once zero m e = sym (rw (eq-eqb m 1 (omega (arith, e))))
@@ -209,7 +197,7 @@ use-low v b k (l ∷ ls) x g h = go (lineStores v l) (ltb 0 (lineReads v l)) ref
         let z : storeCount v (l ∷ ls) ≡ storeCount v ls = omega (arith, store-cons v l ls false (sym e)) in
         let w : k + 1 + suc (useRow v ls) ≡ k + 1 + 1 + useRow v ls = omega arith in
         use-cons v b k l ls x x (at-none v b (k + 1) l x e f) ∙ i
-        ∙ sym (rw (used-cons v l ls, y, row-next v l ls y, z, w))
+        ∙ sym (rw (used-cons v l ls, y, use-next v l ls y, z, w))
 
 -- ---- declarations
 
@@ -240,14 +228,6 @@ again-at m b v (name.Reg q) d u h = go (eqb (q .0) v) refl
 -- how often a register was named that has an entry below m, or not
 abbrev times : Bool → ℕ
 times t = cond t 0 1
-
-piece-is : (v : ℕ) (p : List ℕ) (ps : List (List ℕ)) (a : Bool) → regIs v (regOf (trimOf p)) ≡ a → pieceCount v (p ∷ ps) ≡ cond a (suc (pieceCount v ps)) (pieceCount v ps)
-unfolding pieceCount
-piece-is v p ps a e = rw e
-
-piece-nil : (v : ℕ) → pieceCount v [] ≡ 0
-unfolding pieceCount
-piece-nil v = refl
 
 over : (n b x : ℕ) → 1 < n → cond (ltb 1 n) b x ≡ b
 over n b x h = rw (lt-ltb 1 n h)
@@ -296,13 +276,6 @@ one-again true false b x = refl
 one-again false true b x = refl
 one-again false false b x = refl
 
-one-more : (v : ℕ) (p : List ℕ) (ps : List (List ℕ)) → pieceCount v (p ∷ ps) ≡ cond (regIs v (regOf (trimOf p))) 1 0 + pieceCount v ps
-one-more v p ps = piece-is v p ps (regIs v (regOf (trimOf p))) refl ∙ go (regIs v (regOf (trimOf p)))
-  where
-    go : (a : Bool) → cond a (suc (pieceCount v ps)) (pieceCount v ps) ≡ cond a 1 0 + pieceCount v ps
-    go true = omega arith
-    go false = omega arith
-
 pieces-seen : (m v : ℕ) (ps : List (List ℕ)) (d : List ℕ) → v < length d → ltb (getD (seenPieces m ps d) v 0) m ≡ cond (ltb 0 (pieceCount v ps)) false (ltb (getD d v 0) m)
 unfolding seenPieces
 pieces-seen m v [] d h = let z : pieceCount v [] ≤ 0 = omega (arith, piece-nil v) in sym (rw (le-ltb 0 (pieceCount v []) z))
@@ -310,7 +283,7 @@ pieces-seen m v (p ∷ ps) d h =
     pieces-seen m v ps (markName m (regOf (trimOf p)) d) (omega (arith, name-length m (regOf (trimOf p)) d))
     ∙ ap (λ (t : Bool). cond (ltb 0 (pieceCount v ps)) false t) (seen-at m v (regOf (trimOf p)) d h ∙ one-is (regIs v (regOf (trimOf p))) (ltb (getD d v 0) m))
     ∙ seen-more (ltb (getD d v 0) m) (cond (regIs v (regOf (trimOf p))) 1 0) (pieceCount v ps)
-    ∙ ap (λ (n : ℕ). cond (ltb 0 n) false (ltb (getD d v 0) m)) (sym (one-more v p ps))
+    ∙ ap (λ (n : ℕ). cond (ltb 0 n) false (ltb (getD d v 0) m)) (sym (piece-cons v p ps (regIs v (regOf (trimOf p))) refl))
 
 pieces-again : (m b v : ℕ) (ps : List (List ℕ)) (d u : List ℕ) → v < length d → v < length u → getD (againPieces m b ps d u) v 0 ≡ cond (ltb 1 (times (ltb (getD d v 0) m) + pieceCount v ps)) b (getD u v 0)
 unfolding againPieces
@@ -325,7 +298,7 @@ pieces-again m b v (p ∷ ps) d u g h =
     ∙ ap (λ (y : ℕ). cond (ltb 1 (times (cond (ltb 0 (cond (regIs v (regOf (trimOf p))) 1 0)) false (ltb (getD d v 0) m)) + pieceCount v ps)) b y)
     (again-at m b v (regOf (trimOf p)) d u h ∙ one-again (regIs v (regOf (trimOf p))) (ltb (getD d v 0) m) b (getD u v 0))
     ∙ twice-more (ltb (getD d v 0) m) (cond (regIs v (regOf (trimOf p))) 1 0) (pieceCount v ps) b (getD u v 0)
-    ∙ ap (λ (n : ℕ). cond (ltb 1 (times (ltb (getD d v 0) m) + n)) b (getD u v 0)) (sym (one-more v p ps))
+    ∙ ap (λ (n : ℕ). cond (ltb 1 (times (ltb (getD d v 0) m) + n)) b (getD u v 0)) (sym (piece-cons v p ps (regIs v (regOf (trimOf p))) refl))
 
 decl-more : (v : ℕ) (l : List ℕ) (ls : List (List ℕ)) → declCount v (l ∷ ls) ≡ pieceCount v (piecesOf l) + declCount v ls
 unfolding declCount piecesOf
@@ -334,10 +307,6 @@ decl-more v l ls = go (isDecl (trimOf l))
     go : (t : Bool) → cond t (pieceCount v (partsOf 44 (bodyOf (trimOf l)))) 0 + declCount v ls ≡ pieceCount v (cond t (partsOf 44 (bodyOf (trimOf l))) []) + declCount v ls
     go true = refl
     go false = omega (arith, piece-nil v)
-
-decl-nil : (v : ℕ) → declCount v [] ≡ 0
-unfolding declCount
-decl-nil v = refl
 
 lines-seen : (m v : ℕ) (ls : List (List ℕ)) (d : List ℕ) → v < length d → ltb (getD (seenLines m ls d) v 0) m ≡ cond (ltb 0 (declCount v ls)) false (ltb (getD d v 0) m)
 unfolding seenLines
@@ -424,17 +393,13 @@ unused-stores v (l ∷ ls) e =
     let g : lineStores v l ≡ false = or-left (lineStores v l) (ltb 0 (lineReads v l)) (sym (uses-is v l) ∙ or-left (lineUses v l) (usedIn v ls) f) in
     omega (arith, store-cons v l ls false (sym g), unused-stores v ls (or-right (lineUses v l) (usedIn v ls) f))
 
-row-nil : (v : ℕ) → useRow v [] ≡ 0
-unfolding useRow
-row-nil v = refl
-
 row-le : (v : ℕ) (ls : List (List ℕ)) → useRow v ls ≤ length ls
-row-le v [] = let n = row-nil v in omega arith
+row-le v [] = let n = use-nil v in omega arith
 row-le v (l ∷ ls) = go (lineUses v l) refl (row-le v ls)
   where
     go : (t : Bool) → lineUses v l ≡ t → useRow v ls ≤ length ls → useRow v (l ∷ ls) ≤ suc (length ls)
-    go true e h = let n = row-here v l ls e in omega arith
-    go false e h = let n = row-next v l ls e in omega arith
+    go true e h = let n = use-here v l ls e in omega arith
+    go false e h = let n = use-next v l ls e in omega arith
 
 -- either entry is no more than n
 cond-le : (t : Bool) (x y n : ℕ) → x ≤ n → y ≤ n → cond t x y ≤ n

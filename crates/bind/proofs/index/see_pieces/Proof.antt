@@ -2,7 +2,7 @@
 use borrow.Author.Needs.{needs}
 use Prim.Native.Nat.{_-_}
 use native.Mathlib.Omega.{arith}
-use mathlib.Core.Path.{sym, ap, _∙_}
+use mathlib.Core.Path.{ap, _∙_}
 use lib.ListN.{length}
 use Rattle.text.specs.Trim.{trimOf}
 use Rattle.bind.proofs.IndexLaws.{SeeInv, see-start, see-long-d, see-long-u, see-on, see-last-d, see-last-u}
