@@ -38,12 +38,12 @@ once-two a b x y p q = once-by b (x + y) (λ h. omega arith) (λ h. omega arith)
 
 -- ---- pieces
 
-piece-cons : (v : ℕ) (p : List ℕ) (ps : List (List ℕ)) (b : Bool) → b ≡ regIs v (regOf (trimOf p)) → pieceCount v (p ∷ ps) ≡ cond b 1 0 + pieceCount v ps
+pub piece-cons : (v : ℕ) (p : List ℕ) (ps : List (List ℕ)) (b : Bool) → b ≡ regIs v (regOf (trimOf p)) → pieceCount v (p ∷ ps) ≡ cond b 1 0 + pieceCount v ps
 unfolding pieceCount
 piece-cons v p ps true e = rw (← e) (omega arith)
 piece-cons v p ps false e = rw (← e) (omega arith)
 
-piece-nil : (v : ℕ) → pieceCount v [] ≡ 0
+pub piece-nil : (v : ℕ) → pieceCount v [] ≡ 0
 unfolding pieceCount
 piece-nil v = refl
 
@@ -71,7 +71,7 @@ pub decl-cons : (v : ℕ) (l : List ℕ) (ls : List (List ℕ)) → declCount v 
 unfolding declCount
 decl-cons v l ls = omega arith
 
-decl-nil : (v : ℕ) → declCount v [] ≡ 0
+pub decl-nil : (v : ℕ) → declCount v [] ≡ 0
 unfolding declCount
 decl-nil v = refl
 
@@ -82,21 +82,21 @@ unfolding storeCount
 store-cons v l ls true e = rw (← e) (omega arith)
 store-cons v l ls false e = rw (← e) (omega arith)
 
-store-nil : (v : ℕ) → storeCount v [] ≡ 0
+pub store-nil : (v : ℕ) → storeCount v [] ≡ 0
 unfolding storeCount
 store-nil v = refl
 
 -- ---- the first use
 
-use-here : (v : ℕ) (l : List ℕ) (ls : List (List ℕ)) → lineUses v l ≡ true → useRow v (l ∷ ls) ≡ 0
+pub use-here : (v : ℕ) (l : List ℕ) (ls : List (List ℕ)) → lineUses v l ≡ true → useRow v (l ∷ ls) ≡ 0
 unfolding useRow
 use-here v l ls e = rw e
 
-use-next : (v : ℕ) (l : List ℕ) (ls : List (List ℕ)) → lineUses v l ≡ false → useRow v (l ∷ ls) ≡ suc (useRow v ls)
+pub use-next : (v : ℕ) (l : List ℕ) (ls : List (List ℕ)) → lineUses v l ≡ false → useRow v (l ∷ ls) ≡ suc (useRow v ls)
 unfolding useRow
 use-next v l ls e = rw e
 
-use-nil : (v : ℕ) → useRow v [] ≡ 0
+pub use-nil : (v : ℕ) → useRow v [] ≡ 0
 unfolding useRow
 use-nil v = refl
 

@@ -1,6 +1,9 @@
 pub mod CountLaws
 pub mod SiteLaws
 pub mod WalkLaws
+pub mod IndexLaws
+pub mod ToldLaws
+pub mod IndexWalk
 pub mod Cut
 pub mod Passes
 pub mod Examples

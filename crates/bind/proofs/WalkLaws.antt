@@ -173,7 +173,7 @@ module _ (t : List ℕ) (a i e j : ℕ) (p : a ≤ i) (h : i < length t) (q : e 
       ∙ ap (λ (l : List ℕ). part a i t ++ take (j - i) l) (drop-drop (i - a) a t ∙ ap (λ (n : ℕ). drop n t) y)
 
   module _ (g : Whole (part a i t)) where
-    above-more : linesOf (part a j t) ≡ linesOf (part a i t) ++ (part i e t ∷ [])
+    pub above-more : linesOf (part a j t) ≡ linesOf (part a i t) ++ (part i e t ∷ [])
     above-more =
         let d = length-drop i t in
         ap linesOf part-two ∙ g (part i j t)
@@ -524,7 +524,7 @@ pub record RegionAt (t : List ℕ) (us : List (List ℕ)) (i e top end : ℕ) : 
   pub above : Like (cond (isHeader (part i e t)) [] us) (linesOf (part top i t))
   pub whole : Whole (part top i t)
 
-lines-none : linesOf [] ≡ []
+pub lines-none : linesOf [] ≡ []
 unfolding linesOf
 lines-none = refl
 

@@ -1,2 +1,3 @@
 pub mod Bind
 pub mod Steps
+pub mod Index

@@ -1,4 +1,6 @@
 // bind_declarators: a register that is declared and stored once leaves its declaration, and its store becomes one.
+mod index;
+
 ghost use mathlib.Core.Path.{_≡_};
 ghost use mathlib.Core.Bool.{true, false, cond, _&&_};
 ghost use mathlib.Core.List.{[], _∷_, _++_};
@@ -7,16 +9,19 @@ ghost use lib.Dec.{eqb};
 ghost use lib.ListN.{length, getD, take, drop, replicate};
 ghost use Rattle.lines.specs.Lf.{linesOf, partsOf, unlines};
 ghost use Rattle.lines.specs.Out.{Wrote};
+ghost use Rattle.text.specs.Trim.{trimOf};
 ghost use Rattle.names.specs.Names.{regOf, regIs};
 ghost use Rattle.parse.specs.Parse.{bodyOf, isDecl};
 ghost use Rattle.place.specs.Blocks.{blockIds, cleaned};
 ghost use Rattle.place.specs.Starts.{startsGo};
 ghost use Rattle.place.specs.Parents.{idsParents};
 ghost use Rattle.place.specs.Fill.{Filled, flagsOf};
+ghost use Rattle.decls.specs.Seen.{AtMost};
 ghost use Rattle.decls.specs.Print.{kept, declText};
 ghost use Rattle.reading.specs.Reading.{plain};
 ghost use Rattle.reading.specs.Uses.{lineStores};
 ghost use Rattle.bind.specs.Bind.{spots, pieceCount, declCount, storeCount, promoted, bindDeclarators};
+ghost use Rattle.bind.specs.Index.{Ready, ReadyFor};
 ghost use Rattle.bind.specs.Steps.{lineOf, belowOf, useRow, storesAt, boundAt, markRow, passes, left, anyPass, noted, notedAll, otherText, siteText, siteMarks, bindMarks, Rows, Reach};
 
 // A line of the text and its region: the region begins at `top` and ends at `end`, the line goes from `from` to `to` and the one below
@@ -213,37 +218,102 @@ fn bound(text: &[u8], s: Site, blocks: &[usize], starts: &[u8], reg: names::Regi
     store_first(below, blocks, starts, s.row, reg)
 }
 
+// Whether a register is bound that the line of a site declares: the index says so, where it reaches to the register.
+fn told(
+    text: &[u8],
+    s: Site,
+    blocks: &[usize],
+    starts: &[u8],
+    seen: &[usize],
+    first: &[usize],
+    reg: names::Register,
+) -> bool
+    requires { ⌜ Ready (now text) s (now blocks) (now starts) (now seen) (now first) ⌝ }
+    ensures { λ r. ⌜ r ≡ boundAt (now (text .entry)) s (now (blocks .entry)) (now (starts .entry)) (reg .0) ⌝ }
+{
+    let v = reg.0 as usize;
+    if v < first.len() {
+        return index::ask(blocks, starts, s.top, s.row, seen[v], first[v]);
+    }
+    bound(text, s, blocks, starts, reg)
+}
+
+// The row of the store that becomes the declaration of a register.
+fn store_row(text: &[u8], s: Site, first: &[usize], reg: names::Register) -> usize
+    requires { ⌜ (reg .0 < length (now first) → getD (now first) (reg .0) 0 ≡ suc (markRow (now text) s (reg .0))) × (markRow (now text) s (reg .0) < 2 ^ 64) ⌝ }
+    ensures { λ r. ⌜ r ≡ markRow (now (text .entry)) s (reg .0) ⌝ }
+{
+    let v = reg.0 as usize;
+    if v < first.len() {
+        return first[v] - 1;
+    }
+    let f = first_use(lines::cut(text, s.next, s.end), reg);
+    s.row + (f.row + 1)
+}
+
 // Whether a text names a register that is bound.
-fn is_bound(text: &[u8], s: Site, blocks: &[usize], starts: &[u8], t: &[u8]) -> bool
-    requires { ⌜ Reach (now text) s (now blocks) (now starts) ⌝ }
+fn is_bound(
+    text: &[u8],
+    s: Site,
+    blocks: &[usize],
+    starts: &[u8],
+    seen: &[usize],
+    first: &[usize],
+    t: &[u8],
+) -> bool
+    requires { ⌜ Ready (now text) s (now blocks) (now starts) (now seen) (now first) ⌝ }
     ensures { λ r. ⌜ r ≡ passes (boundAt (now (text .entry)) s (now (blocks .entry)) (now (starts .entry))) (regOf (now (t .entry))) ⌝ }
 {
     match names::reg_name(t) {
-        names::RegName::Reg(q) => bound(text, s, blocks, starts, q),
+        names::RegName::Reg(q) => told(text, s, blocks, starts, seen, first, q),
         names::RegName::None => false,
     }
 }
 
 // Whether a text names a register that is not bound.
-fn is_left(text: &[u8], s: Site, blocks: &[usize], starts: &[u8], t: &[u8]) -> bool
-    requires { ⌜ Reach (now text) s (now blocks) (now starts) ⌝ }
+fn is_left(
+    text: &[u8],
+    s: Site,
+    blocks: &[usize],
+    starts: &[u8],
+    seen: &[usize],
+    first: &[usize],
+    t: &[u8],
+) -> bool
+    requires { ⌜ Ready (now text) s (now blocks) (now starts) (now seen) (now first) ⌝ }
     ensures { λ r. ⌜ r ≡ left (boundAt (now (text .entry)) s (now (blocks .entry)) (now (starts .entry))) (now (t .entry)) ⌝ }
 {
     match names::reg_name(t) {
-        names::RegName::Reg(q) => !bound(text, s, blocks, starts, q),
+        names::RegName::Reg(q) => !told(text, s, blocks, starts, seen, first, q),
         names::RegName::None => false,
     }
 }
 
 // Whether some piece of a declaration is bound.
-fn any_bound(body: &[u8], text: &[u8], s: Site, blocks: &[usize], starts: &[u8]) -> bool
-    requires { ⌜ Reach (now text) s (now blocks) (now starts) ⌝ }
+fn any_bound(
+    body: &[u8],
+    text: &[u8],
+    s: Site,
+    blocks: &[usize],
+    starts: &[u8],
+    seen: &[usize],
+    first: &[usize],
+) -> bool
+    requires { ⌜ Ready (now text) s (now blocks) (now starts) (now seen) (now first) ⌝ }
     ensures { λ r. ⌜ r ≡ anyPass (boundAt (now (text .entry)) s (now (blocks .entry)) (now (starts .entry))) (partsOf 44 (now (body .entry))) ⌝ }
 {
     let mut i = 0;
     loop {
         let e = lines::find_byte(body, i, b',');
-        if is_bound(text, s, blocks, starts, text::trim(lines::cut(body, i, e))) {
+        if is_bound(
+            text,
+            s,
+            blocks,
+            starts,
+            seen,
+            first,
+            text::trim(lines::cut(body, i, e)),
+        ) {
             return true;
         }
         if e >= body.len() {
@@ -254,17 +324,25 @@ fn any_bound(body: &[u8], text: &[u8], s: Site, blocks: &[usize], starts: &[u8])
 }
 
 // Marks the line of the store that becomes the declaration of a name, where the name is bound.
-fn mark_name(text: &[u8], s: Site, blocks: &[usize], starts: &[u8], t: &[u8], marks: &mut [u8])
-    requires { ⌜ (Reach (now text) s (now blocks) (now starts)) × (s .row + suc (length (belowOf (now text) s)) ≤ length (now marks)) ⌝ }
+fn mark_name(
+    text: &[u8],
+    s: Site,
+    blocks: &[usize],
+    starts: &[u8],
+    seen: &[usize],
+    first: &[usize],
+    t: &[u8],
+    marks: &mut [u8],
+)
+    requires { ⌜ (Ready (now text) s (now blocks) (now starts) (now seen) (now first)) × (s .row + suc (length (belowOf (now text) s)) ≤ length (now marks)) ⌝ }
     ensures { λ _. ⌜ now (marks .exit) ≡ noted (boundAt (now (text .entry)) s (now (blocks .entry)) (now (starts .entry))) (markRow (now (text .entry)) s) (regOf (now (t .entry))) (now (marks .entry)) ⌝ }
 {
     match names::reg_name(t) {
         names::RegName::Reg(q) => {
-            if !bound(text, s, blocks, starts, q) {
+            if !told(text, s, blocks, starts, seen, first, q) {
                 return;
             }
-            let f = first_use(lines::cut(text, s.next, s.end), q);
-            let k = s.row + (f.row + 1);
+            let k = store_row(text, s, first, q);
             marks[k] = 1;
         }
         names::RegName::None => {}
@@ -272,8 +350,17 @@ fn mark_name(text: &[u8], s: Site, blocks: &[usize], starts: &[u8], t: &[u8], ma
 }
 
 // The same for each piece of a declaration.
-fn mark_names(body: &[u8], text: &[u8], s: Site, blocks: &[usize], starts: &[u8], marks: &mut [u8])
-    requires { ⌜ (Reach (now text) s (now blocks) (now starts)) × (s .row + suc (length (belowOf (now text) s)) ≤ length (now marks)) ⌝ }
+fn mark_names(
+    body: &[u8],
+    text: &[u8],
+    s: Site,
+    blocks: &[usize],
+    starts: &[u8],
+    seen: &[usize],
+    first: &[usize],
+    marks: &mut [u8],
+)
+    requires { ⌜ (Ready (now text) s (now blocks) (now starts) (now seen) (now first)) × (s .row + suc (length (belowOf (now text) s)) ≤ length (now marks)) ⌝ }
     ensures { λ _. ⌜ now (marks .exit) ≡ notedAll (boundAt (now (text .entry)) s (now (blocks .entry)) (now (starts .entry))) (markRow (now (text .entry)) s) (partsOf 44 (now (body .entry))) (now (marks .entry)) ⌝ }
 {
     let mut i = 0;
@@ -284,6 +371,8 @@ fn mark_names(body: &[u8], text: &[u8], s: Site, blocks: &[usize], starts: &[u8]
             s,
             blocks,
             starts,
+            seen,
+            first,
             text::trim(lines::cut(body, i, e)),
             marks,
         );
@@ -302,10 +391,12 @@ fn put_decl(
     s: Site,
     blocks: &[usize],
     starts: &[u8],
+    seen: &[usize],
+    first: &[usize],
     out: &mut [u8],
     o: usize,
 ) -> usize
-    requires { ⌜ (Reach (now text) s (now blocks) (now starts))
+    requires { ⌜ (Ready (now text) s (now blocks) (now starts) (now seen) (now first))
         × (o + length (declText (now indent) (kept (left (boundAt (now text) s (now blocks) (now starts))) 1 (partsOf 44 (now body))) false) ≤ length (now out)) ⌝ }
     ensures { λ r. ⌜ Wrote (now (out .entry)) o (declText (now (indent .entry)) (kept (left (boundAt (now (text .entry)) s (now (blocks .entry)) (now (starts .entry)))) 1 (partsOf 44 (now (body .entry)))) false) (now (out .exit)) r ⌝ }
 {
@@ -314,7 +405,7 @@ fn put_decl(
     loop {
         let e = lines::find_byte(body, i, b',');
         let t = text::trim(lines::cut(body, i, e));
-        let l = is_left(text, s, blocks, starts, t);
+        let l = is_left(text, s, blocks, starts, seen, first, t);
         p = decls::print::put_part(indent, o < p, l, t, 1, out, p);
         if e >= body.len() {
             return decls::print::put_end(o < p, out, p);
@@ -348,14 +439,30 @@ fn put_other(line: &[u8], m: u8, out: &mut [u8], o: usize) -> usize
 }
 
 // Whether a trimmed line is a declaration that gives up a name.
-fn gives_up(t: &[u8], text: &[u8], s: Site, blocks: &[usize], starts: &[u8]) -> bool
-    requires { ⌜ Reach (now text) s (now blocks) (now starts) ⌝ }
+fn gives_up(
+    t: &[u8],
+    text: &[u8],
+    s: Site,
+    blocks: &[usize],
+    starts: &[u8],
+    seen: &[usize],
+    first: &[usize],
+) -> bool
+    requires { ⌜ ReadyFor (now t) (now text) s (now blocks) (now starts) (now seen) (now first) ⌝ }
     ensures { λ r. ⌜ r ≡ isDecl (now (t .entry)) && anyPass (boundAt (now (text .entry)) s (now (blocks .entry)) (now (starts .entry))) (partsOf 44 (bodyOf (now (t .entry)))) ⌝ }
 {
     if !parse::is_decl(t) {
         return false;
     }
-    any_bound(lines::cut(t, 4, t.len() - 1), text, s, blocks, starts)
+    any_bound(
+        lines::cut(t, 4, t.len() - 1),
+        text,
+        s,
+        blocks,
+        starts,
+        seen,
+        first,
+    )
 }
 
 // Writes what the line of a site becomes, and marks the stores that take up the names which it gives up.
@@ -364,11 +471,13 @@ fn bind_line(
     s: Site,
     blocks: &[usize],
     starts: &[u8],
+    seen: &[usize],
+    first: &[usize],
     marks: &mut [u8],
     out: &mut [u8],
     o: usize,
 ) -> usize
-    requires { ⌜ (Reach (now text) s (now blocks) (now starts))
+    requires { ⌜ (ReadyFor (trimOf (lineOf (now text) s)) (now text) s (now blocks) (now starts) (now seen) (now first))
         × ((s .row + suc (length (belowOf (now text) s)) ≤ length (now marks))
         × (o + length (siteText (boundAt (now text) s (now blocks) (now starts)) (lineOf (now text) s) (getD (now marks) (s .row) 0)) ≤ length (now out))) ⌝ }
     ensures answer { λ r. ⌜ Wrote (now (out .entry)) o (siteText (boundAt (now (text .entry)) s (now (blocks .entry)) (now (starts .entry))) (lineOf (now (text .entry)) s) (getD (now (marks .entry)) (s .row) 0)) (now (out .exit)) r ⌝ }
@@ -376,14 +485,14 @@ fn bind_line(
 {
     let line = lines::cut(text, s.from, s.to);
     let t = text::trim(line);
-    if !gives_up(t, text, s, blocks, starts) {
+    if !gives_up(t, text, s, blocks, starts, seen, first) {
         let row = s.row;
         return put_other(line, marks[row], out, o);
     }
     let body = lines::cut(t, 4, t.len() - 1);
-    mark_names(body, text, s, blocks, starts, marks);
+    mark_names(body, text, s, blocks, starts, seen, first, marks);
     let indent = lines::cut(line, 0, text::trim_from(line));
-    put_decl(body, indent, text, s, blocks, starts, out, o)
+    put_decl(body, indent, text, s, blocks, starts, seen, first, out, o)
 }
 
 // Makes the first `n` entries 0.
@@ -398,12 +507,21 @@ fn clear(marks: &mut [u8], n: usize)
     }
 }
 
-// The walk down the lines, with the tables of blocks and starts, and with no line marked.
-fn walk(text: &[u8], blocks: &[usize], starts: &[u8], marks: &mut [u8], out: &mut [u8]) -> usize
-    requires { ⌜ (Rows (spots plain (linesOf (now text))) (now blocks) (now starts))
+// The walk down the lines, with the tables of blocks and starts, with no line marked, and with an index that is empty.
+fn walk_with(
+    text: &[u8],
+    blocks: &[usize],
+    starts: &[u8],
+    seen: &mut [usize],
+    first: &mut [usize],
+    marks: &mut [u8],
+    out: &mut [u8],
+) -> usize
+    requires { ⌜ ((length (now seen) ≡ length (now first)) × ((AtMost 0 (now seen)) × (AtMost 0 (now first))))
+        × ((Rows (spots plain (linesOf (now text))) (now blocks) (now starts))
         × ((length (linesOf (now text)) ≤ length (now marks))
         × ((take (length (linesOf (now text))) (now marks) ≡ replicate (length (linesOf (now text))) 0)
-        × (length (unlines (bindDeclarators plain (linesOf (now text)))) ≤ length (now out)))) ⌝ }
+        × (length (unlines (bindDeclarators plain (linesOf (now text)))) ≤ length (now out))))) ⌝ }
     ensures answer { λ r. ⌜ Wrote (now (out .entry)) 0 (unlines (bindDeclarators plain (linesOf (now (text .entry))))) (now (out .exit)) r ⌝ }
     ensures memory { λ _. ⌜ Filled (now (marks .entry)) (flagsOf (bindMarks plain (linesOf (now (text .entry))))) (now (marks .exit)) (length (linesOf (now (text .entry)))) ⌝ }
 {
@@ -419,6 +537,7 @@ fn walk(text: &[u8], blocks: &[usize], starts: &[u8], marks: &mut [u8], out: &mu
             end = place::region_end(text, i);
         }
         let next = lines::after(text, e);
+        index::read_region(text, top, i, end, k, seen, first);
         let s = Site {
             top,
             from: i,
@@ -427,11 +546,25 @@ fn walk(text: &[u8], blocks: &[usize], starts: &[u8], marks: &mut [u8], out: &mu
             end,
             row: k,
         };
-        o = bind_line(text, s, blocks, starts, marks, out, o);
+        o = bind_line(text, s, blocks, starts, seen, first, marks, out, o);
         i = next;
         k += 1;
     }
     o
+}
+
+// The same with an index of its own.
+fn walk(text: &[u8], blocks: &[usize], starts: &[u8], marks: &mut [u8], out: &mut [u8]) -> usize
+    requires { ⌜ (Rows (spots plain (linesOf (now text))) (now blocks) (now starts))
+        × ((length (linesOf (now text)) ≤ length (now marks))
+        × ((take (length (linesOf (now text))) (now marks) ≡ replicate (length (linesOf (now text))) 0)
+        × (length (unlines (bindDeclarators plain (linesOf (now text)))) ≤ length (now out)))) ⌝ }
+    ensures answer { λ r. ⌜ Wrote (now (out .entry)) 0 (unlines (bindDeclarators plain (linesOf (now (text .entry))))) (now (out .exit)) r ⌝ }
+    ensures memory { λ _. ⌜ Filled (now (marks .entry)) (flagsOf (bindMarks plain (linesOf (now (text .entry))))) (now (marks .exit)) (length (linesOf (now (text .entry)))) ⌝ }
+{
+    let mut seen = [0usize; 1024];
+    let mut first = [0usize; 1024];
+    walk_with(text, blocks, starts, &mut seen, &mut first, marks, out)
 }
 
 // A register that is declared once and stored once, with that store its first use, on a later line of its region and block that starts a

@@ -1,0 +1,393 @@
+-- The index of a region: the code's steps leave in its tables what the definitions say. Assumes nothing.
+use Prim.Native.Nat.{ℕ, zero, suc, _+_, _-_, _^_, _≤_, _<_, min}
+use mathlib.Core.Path.{_≡_, refl, sym, ap, _∙_}
+use mathlib.Core.Bool.{Bool, true, false, cond}
+use mathlib.Core.List.{List, [], _∷_, _++_}
+use native.Mathlib.Omega.{arith}
+use native.Mathlib.Numerals.{add-one}
+use borrow.Author.Tests.{lt-ltb, le-ltb, eq-eqb, ne-eqb}
+use lib.Dec.{eqb, ltb}
+use lib.ListN.{length, drop, getD, set, length-set, drop-of-length-le}
+use lib.Seq.{drop-cons}
+use Rattle.lines.specs.Lf.{part, upTo, linesOf, partsOf}
+use Rattle.lines.proofs.LfLaws.{lines-at, lines-end, parts-at, parts-at-end, part-more, part-none}
+use Rattle.text.specs.Class.{isName}
+use Rattle.text.specs.Trim.{trimOf}
+use Rattle.names.specs.Names.{regOf}
+use Rattle.names.specs.declared.RegName.{RegName}
+use Rattle.names.specs.declared.RegName.the-variants as name
+use Rattle.parse.specs.Parse.{bodyOf, isDecl, parseOf, textOf}
+use Rattle.parse.specs.declared.Line.{Line}
+use Rattle.parse.specs.declared.Line.the-variants as line
+use Rattle.words.specs.Runs.{flush, runsGo, runs}
+use Rattle.decls.specs.Seen.{markName}
+use Rattle.decls.proofs.SeenLaws.{set-past, name-length}
+use Rattle.bind.specs.Bind.{piecesOf}
+use Rattle.bind.specs.Index.{afterStore, afterRead, readName, readRuns, storeLine, useLine, useLines, againReg, againName, seenPieces, againPieces, seenLines, againLines, seenAt, firstAt, asked}
+
+-- ---- one register
+
+set-same : (u : List ℕ) (v : ℕ) → u ≡ set u v (getD u v 0)
+set-same [] v = refl
+set-same (x ∷ u) zero = refl
+set-same (x ∷ u) (suc v) = ap (λ (l : List ℕ). x ∷ l) (set-same u v)
+
+module _ (b : ℕ) (u : List ℕ) (v : ℕ) where
+  pub read-low : getD u v 0 < b → set u v b ≡ set u v (afterRead b (getD u v 0))
+  read-low h = sym (rw (lt-ltb (getD u v 0) b h))
+
+  pub read-high : b ≤ getD u v 0 → u ≡ set u v (afterRead b (getD u v 0))
+  read-high h = set-same u v ∙ sym (rw (le-ltb (getD u v 0) b h))
+
+  pub store-low : (c : ℕ) → getD u v 0 < b → set u v c ≡ set u v (afterStore b c (getD u v 0))
+  store-low c h = sym (rw (lt-ltb (getD u v 0) b h))
+
+  pub store-high : (c : ℕ) → b ≤ getD u v 0 → set u v b ≡ set u v (afterStore b c (getD u v 0))
+  store-high c h = sym (rw (le-ltb (getD u v 0) b h))
+
+module _ (m b v : ℕ) (d u : List ℕ) where
+  pub again-past : length u ≤ v → u ≡ againReg m b v d u
+  again-past h = go (ltb (getD d v 0) m)
+    where
+      go : (t : Bool) → u ≡ cond t u (set u v b)
+      go true = refl
+      go false = set-past u v b h
+
+  pub again-low : getD d v 0 < m → u ≡ againReg m b v d u
+  again-low h = sym (rw (lt-ltb (getD d v 0) m h))
+
+  pub again-high : m ≤ getD d v 0 → set u v b ≡ againReg m b v d u
+  again-high h = sym (rw (le-ltb (getD d v 0) m h))
+
+-- ---- the tables keep their lengths
+
+pub read-length : (b : ℕ) (r : RegName) (u : List ℕ) → length (readName b r u) ≡ length u
+read-length b name.None u = refl
+read-length b (name.Reg q) u = length-set u (q .0) (afterRead b (getD u (q .0) 0))
+
+runs-length : (b : ℕ) (rs : List (List ℕ)) (u : List ℕ) → length (readRuns b rs u) ≡ length u
+unfolding readRuns
+runs-length b [] u = refl
+runs-length b (r ∷ rs) u = runs-length b rs (readName b (regOf r) u) ∙ read-length b (regOf r) u
+
+pub store-length : (b c : ℕ) (p : Line) (u : List ℕ) → length (storeLine b c p u) ≡ length u
+store-length b c line.Decl u = refl
+store-length b c (line.Store s) u = length-set u (s .reg .0) (afterStore b c (getD u (s .reg .0) 0))
+store-length b c line.Other u = refl
+
+pub use-length : (b c : ℕ) (l u : List ℕ) → length (useLine b c l u) ≡ length u
+unfolding useLine
+use-length b c l u = runs-length b (runs (textOf l (parseOf l))) (storeLine b c (parseOf l) u) ∙ store-length b c (parseOf l) u
+
+pub uses-length : (b k : ℕ) (ls : List (List ℕ)) (u : List ℕ) → length (useLines b k ls u) ≡ length u
+unfolding useLines
+uses-length b k [] u = refl
+uses-length b k (l ∷ ls) u = uses-length b (k + 1) ls (useLine b (k + 1) l u) ∙ use-length b (k + 1) l u
+
+pub again-length : (m b : ℕ) (r : RegName) (d u : List ℕ) → length (againName m b r d u) ≡ length u
+again-length m b name.None d u = refl
+again-length m b (name.Reg q) d u = go (ltb (getD d (q .0) 0) m)
+  where
+    go : (t : Bool) → length (cond t u (set u (q .0) b)) ≡ length u
+    go true = refl
+    go false = length-set u (q .0) b
+
+pub seen-pieces-length : (m : ℕ) (ps : List (List ℕ)) (d : List ℕ) → length (seenPieces m ps d) ≡ length d
+unfolding seenPieces
+seen-pieces-length m [] d = refl
+seen-pieces-length m (p ∷ ps) d = seen-pieces-length m ps (markName m (regOf (trimOf p)) d) ∙ name-length m (regOf (trimOf p)) d
+
+pub again-pieces-length : (m b : ℕ) (ps : List (List ℕ)) (d u : List ℕ) → length (againPieces m b ps d u) ≡ length u
+unfolding againPieces
+again-pieces-length m b [] d u = refl
+again-pieces-length m b (p ∷ ps) d u = again-pieces-length m b ps (markName m (regOf (trimOf p)) d) (againName m b (regOf (trimOf p)) d u) ∙ again-length m b (regOf (trimOf p)) d u
+
+pub seen-length : (m : ℕ) (ls : List (List ℕ)) (d : List ℕ) → length (seenLines m ls d) ≡ length d
+unfolding seenLines
+seen-length m [] d = refl
+seen-length m (l ∷ ls) d = seen-length m ls (seenPieces m (piecesOf l) d) ∙ seen-pieces-length m (piecesOf l) d
+
+pub agains-length : (m b : ℕ) (ls : List (List ℕ)) (d u : List ℕ) → length (againLines m b ls d u) ≡ length u
+unfolding againLines
+agains-length m b [] d u = refl
+agains-length m b (l ∷ ls) d u = agains-length m b ls (seenPieces m (piecesOf l) d) (againPieces m b (piecesOf l) d u) ∙ again-pieces-length m b (piecesOf l) d u
+
+-- ---- the loop over a text: the run from a to i is open
+
+pub record ReadInv (b : ℕ) (s u₀ u : List ℕ) (a i : ℕ) : Type 0 where
+  pub a≤ : a ≤ i
+  pub i≤ : i ≤ length s
+  pub long : length u ≡ length u₀
+  pub so-far : readRuns b (runsGo (drop i s) (part a i s)) u ≡ readRuns b (runs s) u₀
+
+runs-flush : (b : ℕ) (cur : List ℕ) (rs : List (List ℕ)) (u : List ℕ) → readRuns b (flush cur ++ rs) u ≡ readRuns b rs (readName b (regOf cur) u)
+unfolding readRuns regOf
+runs-flush b [] rs u = refl
+runs-flush b (x ∷ cur) rs u = refl
+
+go-name : (x : ℕ) (xs cur : List ℕ) → isName x ≡ true → runsGo (x ∷ xs) cur ≡ runsGo xs (cur ++ (x ∷ []))
+unfolding runsGo
+go-name x xs cur e = rw e
+
+go-gap : (x : ℕ) (xs cur : List ℕ) → isName x ≡ false → runsGo (x ∷ xs) cur ≡ flush cur ++ runsGo xs []
+unfolding runsGo
+go-gap x xs cur e = rw e
+
+go-end : (b : ℕ) (cur u : List ℕ) → readRuns b (runsGo [] cur) u ≡ readName b (regOf cur) u
+unfolding runsGo readRuns regOf
+go-end b [] u = refl
+go-end b (x ∷ cur) u = refl
+
+pub read-start : (b : ℕ) (s u : List ℕ) → ReadInv b s u u 0 0
+unfolding runs
+read-start b s u = record { a≤ = omega arith; i≤ = omega arith; long = refl; so-far = refl }
+
+module _ {b : ℕ} {s u₀ u : List ℕ} {a i : ℕ} (h : ReadInv b s u₀ u a i) where
+  pub read-on : i < length s → isName (getD s i 0) ≡ true → ReadInv b s u₀ u a (i + 1)
+  read-on k e = record {
+    a≤ = omega (arith, h .a≤);
+    i≤ = omega arith;
+    long = h .long;
+    so-far =
+        ap (λ (c : List ℕ). readRuns b (runsGo (drop (i + 1) s) c) u) (part-more s a i (h .a≤) k)
+        ∙ ap (λ (n : ℕ). readRuns b (runsGo (drop n s) (part a i s ++ (getD s i 0 ∷ []))) u) (add-one i)
+        ∙ ap (λ (r : List (List ℕ)). readRuns b r u) (sym (go-name (getD s i 0) (drop (suc i) s) (part a i s) e))
+        ∙ ap (λ (l : List ℕ). readRuns b (runsGo l (part a i s)) u) (sym (drop-cons s i 0 k))
+        ∙ h .so-far;
+  }
+
+  pub read-gap : i < length s → isName (getD s i 0) ≡ false → (w u′ : List ℕ) → w ≡ part a i s → u′ ≡ readName b (regOf w) u → ReadInv b s u₀ u′ (i + 1) (i + 1)
+  read-gap k e w u′ p q = record {
+    a≤ = omega arith;
+    i≤ = omega arith;
+    long = ap length q ∙ read-length b (regOf w) u ∙ h .long;
+    so-far =
+        ap (λ (c : List ℕ). readRuns b (runsGo (drop (i + 1) s) c) u′) (part-none s (i + 1))
+        ∙ ap (λ (n : ℕ). readRuns b (runsGo (drop n s) []) u′) (add-one i)
+        ∙ ap (λ (l : List ℕ). readRuns b (runsGo (drop (suc i) s) []) l) (q ∙ ap (λ (c : List ℕ). readName b (regOf c) u) p)
+        ∙ sym (runs-flush b (part a i s) (runsGo (drop (suc i) s) []) u)
+        ∙ ap (λ (r : List (List ℕ)). readRuns b r u) (sym (go-gap (getD s i 0) (drop (suc i) s) (part a i s) e))
+        ∙ ap (λ (l : List ℕ). readRuns b (runsGo l (part a i s)) u) (sym (drop-cons s i 0 k))
+        ∙ h .so-far;
+  }
+
+  pub read-end : length s ≤ i → (w u′ : List ℕ) → w ≡ part a i s → u′ ≡ readName b (regOf w) u → u′ ≡ readRuns b (runs s) u₀
+  read-end k w u′ p q =
+      q ∙ ap (λ (c : List ℕ). readName b (regOf c) u) p ∙ sym (go-end b (part a i s) u)
+      ∙ ap (λ (l : List ℕ). readRuns b (runsGo l (part a i s)) u) (sym (drop-of-length-le s k)) ∙ h .so-far
+
+-- ---- a line, read once
+
+pub line-used : (b c : ℕ) (l u u₁ u₂ t : List ℕ) (p : Line) → p ≡ parseOf l → u₁ ≡ storeLine b c p u → t ≡ textOf l p → u₂ ≡ readRuns b (runs t) u₁ → u₂ ≡ useLine b c l u
+unfolding useLine
+line-used b c l u u₁ u₂ t p e x y z =
+    z ∙ ap (λ (r : List ℕ). readRuns b (runs r) u₁) (y ∙ ap (textOf l) e) ∙ ap (readRuns b (runs (textOf l (parseOf l)))) (x ∙ ap (λ (q : Line). storeLine b c q u) e)
+
+-- ---- the loop over lines: those from i on are still to be read, and the first of them has the row k
+
+pub record UsesInv (b n : ℕ) (s u₀ u : List ℕ) (i k : ℕ) : Type 0 where
+  pub long : length u ≡ length u₀
+  pub count : k + length (linesOf (drop i s)) ≡ n + length (linesOf s)
+  pub so-far : useLines b k (linesOf (drop i s)) u ≡ useLines b n (linesOf s) u₀
+
+uses-cons : (b k : ℕ) (l : List ℕ) (ls : List (List ℕ)) (u : List ℕ) → useLines b k (l ∷ ls) u ≡ useLines b (k + 1) ls (useLine b (k + 1) l u)
+unfolding useLines
+uses-cons b k l ls u = refl
+
+uses-none : (b k : ℕ) (u : List ℕ) → useLines b k [] u ≡ u
+unfolding useLines
+uses-none b k u = refl
+
+pub uses-start : (b n : ℕ) (s u : List ℕ) → UsesInv b n s u u 0 n
+uses-start b n s u = record { long = refl; count = refl; so-far = refl }
+
+module _ {b n : ℕ} {s u₀ u : List ℕ} {i k : ℕ} (h : UsesInv b n s u₀ u i k) where
+  pub uses-room : i < length s → n + length (linesOf s) < 2 ^ 64 → k + 1 < 2 ^ 64
+  uses-room l w = omega (arith, h .count, ap length (lines-at s i (i + upTo 10 (drop i s)) l refl))
+
+  pub uses-on : (e j : ℕ) (l u′ : List ℕ) → i < length s → e ≡ i + upTo 10 (drop i s) → l ≡ part i e s → u′ ≡ useLine b (k + 1) l u → j ≡ min (e + 1) (length s) → UsesInv b n s u₀ u′ j (k + 1)
+  uses-on e j l u′ w q p x z = record {
+    long = ap length x ∙ use-length b (k + 1) l u ∙ h .long;
+    count = let r = ap (λ (m : ℕ). length (linesOf (drop m s))) z in omega (arith, r, h .count, ap length (lines-at s i e w q));
+    so-far =
+        ap (λ (m : ℕ). useLines b (k + 1) (linesOf (drop m s)) u′) z
+        ∙ ap (useLines b (k + 1) (linesOf (drop (min (e + 1) (length s)) s))) (x ∙ ap (λ (c : List ℕ). useLine b (k + 1) c u) p)
+        ∙ sym (ap (λ (ls : List (List ℕ)). useLines b k ls u) (lines-at s i e w q) ∙ uses-cons b k (part i e s) (linesOf (drop (min (e + 1) (length s)) s)) u)
+        ∙ h .so-far;
+  }
+
+  pub uses-done : length s ≤ i → u ≡ useLines b n (linesOf s) u₀
+  uses-done w = sym (uses-none b k u) ∙ ap (λ (ls : List (List ℕ)). useLines b k ls u) (sym (lines-end s i w)) ∙ h .so-far
+
+-- ---- the loop over the pieces of a declaration: those from i on are still to be seen
+
+pub record SeeInv (m b : ℕ) (s d₀ u₀ d u : List ℕ) (i : ℕ) : Type 0 where
+  pub i≤ : i ≤ length s
+  pub long-d : length d ≡ length d₀
+  pub long-u : length u ≡ length u₀
+  pub seen : seenPieces m (partsOf 44 (drop i s)) d ≡ seenPieces m (partsOf 44 s) d₀
+  pub again : againPieces m b (partsOf 44 (drop i s)) d u ≡ againPieces m b (partsOf 44 s) d₀ u₀
+
+pub see-start : (m b : ℕ) (s d u : List ℕ) → SeeInv m b s d u d u 0
+see-start m b s d u = record { i≤ = omega arith; long-d = refl; long-u = refl; seen = refl; again = refl }
+
+seen-cons : (m : ℕ) (p : List ℕ) (ps : List (List ℕ)) (d : List ℕ) → seenPieces m (p ∷ ps) d ≡ seenPieces m ps (markName m (regOf (trimOf p)) d)
+unfolding seenPieces
+seen-cons m p ps d = refl
+
+again-cons : (m b : ℕ) (p : List ℕ) (ps : List (List ℕ)) (d u : List ℕ) → againPieces m b (p ∷ ps) d u ≡ againPieces m b ps (markName m (regOf (trimOf p)) d) (againName m b (regOf (trimOf p)) d u)
+unfolding againPieces
+again-cons m b p ps d u = refl
+
+seen-nil : (m : ℕ) (d : List ℕ) → seenPieces m [] d ≡ d
+unfolding seenPieces
+seen-nil m d = refl
+
+again-nil : (m b : ℕ) (d u : List ℕ) → againPieces m b [] d u ≡ u
+unfolding againPieces
+again-nil m b d u = refl
+
+module _ {m b : ℕ} {s d₀ u₀ d u : List ℕ} {i : ℕ} (h : SeeInv m b s d₀ u₀ d u i) (e : ℕ) (q : e ≡ i + upTo 44 (drop i s)) (t : List ℕ) (z : t ≡ trimOf (part i e s)) {d′ u′ : List ℕ} (x : d′ ≡ markName m (regOf t) d) (y : u′ ≡ againName m b (regOf t) d u) where
+  pub see-long-d : length d′ ≡ length d₀
+  see-long-d = ap length x ∙ name-length m (regOf t) d ∙ h .long-d
+
+  pub see-long-u : length u′ ≡ length u₀
+  see-long-u = ap length y ∙ again-length m b (regOf t) d u ∙ h .long-u
+
+  here-d : markName m (regOf (trimOf (part i e s))) d ≡ d′
+  here-d = ap (λ (r : List ℕ). markName m (regOf r) d) (sym z) ∙ sym x
+
+  here-u : againName m b (regOf (trimOf (part i e s))) d u ≡ u′
+  here-u = ap (λ (r : List ℕ). againName m b (regOf r) d u) (sym z) ∙ sym y
+
+  pub see-on : e < length s → SeeInv m b s d₀ u₀ d′ u′ (e + 1)
+  see-on l = record {
+    i≤ = omega arith;
+    long-d = see-long-d;
+    long-u = see-long-u;
+    seen = sym (ap (λ (ps : List (List ℕ)). seenPieces m ps d) (parts-at 44 s i e (h .i≤) q l) ∙ seen-cons m (part i e s) (partsOf 44 (drop (e + 1) s)) d ∙ ap (seenPieces m (partsOf 44 (drop (e + 1) s))) here-d) ∙ h .seen;
+    again =
+        sym (ap (λ (ps : List (List ℕ)). againPieces m b ps d u) (parts-at 44 s i e (h .i≤) q l) ∙ again-cons m b (part i e s) (partsOf 44 (drop (e + 1) s)) d u
+        ∙ ap (λ (c : List ℕ). againPieces m b (partsOf 44 (drop (e + 1) s)) c (againName m b (regOf (trimOf (part i e s))) d u)) here-d ∙ ap (againPieces m b (partsOf 44 (drop (e + 1) s)) d′) here-u)
+        ∙ h .again;
+  }
+
+  pub see-last-d : length s ≤ e → d′ ≡ seenPieces m (partsOf 44 s) d₀
+  see-last-d l = sym (ap (λ (ps : List (List ℕ)). seenPieces m ps d) (parts-at-end 44 s i e (h .i≤) q l) ∙ seen-cons m (part i e s) [] d ∙ seen-nil m _ ∙ here-d) ∙ h .seen
+
+  pub see-last-u : length s ≤ e → u′ ≡ againPieces m b (partsOf 44 s) d₀ u₀
+  see-last-u l = sym (ap (λ (ps : List (List ℕ)). againPieces m b ps d u) (parts-at-end 44 s i e (h .i≤) q l) ∙ again-cons m b (part i e s) [] d u ∙ again-nil m b _ _ ∙ here-u) ∙ h .again
+
+-- ---- a line
+
+module _ (m b : ℕ) (l t : List ℕ) (z : t ≡ trimOf l) (d u : List ℕ) where
+  pub see-other : isDecl t ≡ false → (d ≡ seenPieces m (piecesOf l) d) × (u ≡ againPieces m b (piecesOf l) d u)
+  unfolding piecesOf seenPieces againPieces
+  see-other e = let y : isDecl (trimOf l) ≡ false = ap isDecl (sym z) ∙ e in (sym (rw y), sym (rw y))
+
+  pub see-decl : isDecl t ≡ true → (body : List ℕ) → body ≡ bodyOf t → {d′ u′ : List ℕ} → d′ ≡ seenPieces m (partsOf 44 body) d → u′ ≡ againPieces m b (partsOf 44 body) d u → (d′ ≡ seenPieces m (piecesOf l) d) × (u′ ≡ againPieces m b (piecesOf l) d u)
+  unfolding piecesOf
+  see-decl e body x {d′} {u′} p q =
+      let y : piecesOf l ≡ partsOf 44 body = rw (← z, e, x) in
+      (p ∙ ap (λ (ps : List (List ℕ)). seenPieces m ps d) (sym y), q ∙ ap (λ (ps : List (List ℕ)). againPieces m b ps d u) (sym y))
+
+-- ---- the loop over lines
+
+pub record SeesInv (m b : ℕ) (s d₀ u₀ d u : List ℕ) (i : ℕ) : Type 0 where
+  pub long-d : length d ≡ length d₀
+  pub long-u : length u ≡ length u₀
+  pub seen : seenLines m (linesOf (drop i s)) d ≡ seenLines m (linesOf s) d₀
+  pub again : againLines m b (linesOf (drop i s)) d u ≡ againLines m b (linesOf s) d₀ u₀
+
+pub sees-start : (m b : ℕ) (s d u : List ℕ) → SeesInv m b s d u d u 0
+sees-start m b s d u = record { long-d = refl; long-u = refl; seen = refl; again = refl }
+
+sees-cons : (m : ℕ) (l : List ℕ) (ls : List (List ℕ)) (d : List ℕ) → seenLines m (l ∷ ls) d ≡ seenLines m ls (seenPieces m (piecesOf l) d)
+unfolding seenLines
+sees-cons m l ls d = refl
+
+agains-cons : (m b : ℕ) (l : List ℕ) (ls : List (List ℕ)) (d u : List ℕ) → againLines m b (l ∷ ls) d u ≡ againLines m b ls (seenPieces m (piecesOf l) d) (againPieces m b (piecesOf l) d u)
+unfolding againLines
+agains-cons m b l ls d u = refl
+
+sees-nil : (m : ℕ) (d : List ℕ) → seenLines m [] d ≡ d
+unfolding seenLines
+sees-nil m d = refl
+
+agains-nil : (m b : ℕ) (d u : List ℕ) → againLines m b [] d u ≡ u
+unfolding againLines
+agains-nil m b d u = refl
+
+module _ {m b : ℕ} {s d₀ u₀ d u : List ℕ} {i : ℕ} (h : SeesInv m b s d₀ u₀ d u i) where
+  module _ (e j : ℕ) (l : List ℕ) (w : i < length s) (q : e ≡ i + upTo 10 (drop i s)) (p : l ≡ part i e s) (z : j ≡ min (e + 1) (length s)) where
+    lines-here : linesOf (drop i s) ≡ l ∷ linesOf (drop j s)
+    lines-here = lines-at s i e w q ∙ rw (← p, ← z)
+
+    pub sees-on : {d′ u′ : List ℕ} → d′ ≡ seenPieces m (piecesOf l) d → u′ ≡ againPieces m b (piecesOf l) d u → SeesInv m b s d₀ u₀ d′ u′ j
+    sees-on {d′} {u′} x y = record {
+      long-d = ap length x ∙ seen-pieces-length m (piecesOf l) d ∙ h .long-d;
+      long-u = ap length y ∙ again-pieces-length m b (piecesOf l) d u ∙ h .long-u;
+      seen = ap (seenLines m (linesOf (drop j s))) x ∙ sym (ap (λ (ls : List (List ℕ)). seenLines m ls d) lines-here ∙ sees-cons m l (linesOf (drop j s)) d) ∙ h .seen;
+      again =
+          ap (λ (c : List ℕ). againLines m b (linesOf (drop j s)) c u′) x ∙ ap (againLines m b (linesOf (drop j s)) (seenPieces m (piecesOf l) d)) y
+          ∙ sym (ap (λ (ls : List (List ℕ)). againLines m b ls d u) lines-here ∙ agains-cons m b l (linesOf (drop j s)) d u) ∙ h .again;
+    }
+
+  pub sees-done : length s ≤ i → (d ≡ seenLines m (linesOf s) d₀) × (u ≡ againLines m b (linesOf s) d₀ u₀)
+  sees-done w = (
+    sym (sees-nil m d) ∙ ap (λ (ls : List (List ℕ)). seenLines m ls d) (sym (lines-end s i w)) ∙ h .seen,
+    sym (agains-nil m b d u) ∙ ap (λ (ls : List (List ℕ)). againLines m b ls d u) (sym (lines-end s i w)) ∙ h .again,
+  )
+
+-- ---- a region, read where it begins
+
+module _ (t : List ℕ) (a i e k : ℕ) (d u : List ℕ) where
+  pub region-kept : a < i → (d ≡ seenAt t a i e d) × (u ≡ firstAt t a i e k d u)
+  unfolding seenAt firstAt
+  region-kept h = let z = lt-ltb a i h in (sym (rw z), sym (rw z))
+
+  pub region-read : i ≤ a → (run : List ℕ) → run ≡ part a e t → {u₁ u₂ d₁ : List ℕ} → u₁ ≡ useLines (k + 1) k (linesOf run) u → d₁ ≡ seenLines (a + 1) (linesOf run) d → u₂ ≡ againLines (a + 1) (k + 1) (linesOf run) d u₁ →
+      (d₁ ≡ seenAt t a i e d) × (u₂ ≡ firstAt t a i e k d u)
+  unfolding seenAt firstAt
+  region-read h run y {u₁} {u₂} {d₁} p q r =
+      let z = le-ltb a i h in (
+        q ∙ ap (λ (x : List ℕ). seenLines (a + 1) (linesOf x) d) y ∙ sym (rw z),
+        r ∙ ap (againLines (a + 1) (k + 1) (linesOf run) d) p ∙ ap (λ (x : List ℕ). againLines (a + 1) (k + 1) (linesOf x) d (useLines (k + 1) k (linesOf x) u)) y ∙ sym (rw z),
+      )
+
+  pub seen-at-length : length (seenAt t a i e d) ≡ length d
+  unfolding seenAt
+  seen-at-length = go (ltb a i)
+    where
+      go : (b : Bool) → length (cond b d (seenLines (a + 1) (linesOf (part a e t)) d)) ≡ length d
+      go true = refl
+      go false = seen-length (a + 1) (linesOf (part a e t)) d
+
+  pub first-at-length : length (firstAt t a i e k d u) ≡ length u
+  unfolding firstAt
+  first-at-length = go (ltb a i)
+    where
+      go : (b : Bool) → length (cond b u (againLines (a + 1) (k + 1) (linesOf (part a e t)) d (useLines (k + 1) k (linesOf (part a e t)) u))) ≡ length u
+      go true = refl
+      go false = agains-length (a + 1) (k + 1) (linesOf (part a e t)) d (useLines (k + 1) k (linesOf (part a e t)) u) ∙ uses-length (k + 1) k (linesOf (part a e t)) u
+
+-- ---- the question, arm by arm
+
+module _ (bs ss : List ℕ) (a k x y : ℕ) where
+  pub ask-none : x ≤ a → false ≡ asked bs ss a k x y
+  unfolding asked
+  ask-none h = sym (rw (le-ltb a x h))
+
+  module _ (h : a < x) where
+    pub ask-above : y ≤ k + 1 → false ≡ asked bs ss a k x y
+    unfolding asked
+    ask-above g = sym (rw (lt-ltb a x h, le-ltb (k + 1) y g))
+
+    module _ (g : k + 1 < y) where
+      pub ask-block : (getD bs (y - 1) 0 ≡ getD bs k 0 → ⊥) → false ≡ asked bs ss a k x y
+      unfolding asked
+      ask-block n = sym (rw (lt-ltb a x h, lt-ltb (k + 1) y g, ne-eqb _ _ n))
+
+      pub ask-start : getD bs (y - 1) 0 ≡ getD bs k 0 → eqb (getD ss (y - 1) 0) 1 ≡ asked bs ss a k x y
+      unfolding asked
+      ask-start n = sym (rw (lt-ltb a x h, lt-ltb (k + 1) y g, eq-eqb _ _ n))

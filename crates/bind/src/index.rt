@@ -1,0 +1,217 @@
+// The index of a region, two tables over registers: `seen` holds a mark at each one that a declaration names, and `first` the row of the line
+// that stores it first, and one more.
+ghost use mathlib.Core.Path.{_≡_};
+ghost use Prim.Native.Nat.{_+_, _-_, _≤_, _<_, _^_};
+ghost use lib.ListN.{length, set, getD};
+ghost use Rattle.lines.specs.Lf.{part, linesOf, partsOf};
+ghost use Rattle.names.specs.Names.{regOf};
+ghost use Rattle.words.specs.Runs.{runs};
+ghost use Rattle.decls.specs.Seen.{markName};
+ghost use Rattle.bind.specs.Bind.{piecesOf};
+ghost use Rattle.bind.specs.Index.{afterStore, afterRead, readName, readRuns, storeLine, useLine, useLines, againReg, againName, seenPieces, againPieces, seenLines, againLines, seenAt, firstAt, asked};
+
+// Notes that a line reads a register.
+fn read_reg(reg: names::Register, b: usize, first: &mut [usize])
+    ensures { λ _. ⌜ now (first .exit) ≡ set (now (first .entry)) (reg .0) (afterRead b (getD (now (first .entry)) (reg .0) 0)) ⌝ }
+{
+    let v = reg.0 as usize;
+    if first.len() <= v {
+        return;
+    }
+    if first[v] >= b {
+        return;
+    }
+    first[v] = b;
+}
+
+// The same of the register that a text names.
+fn read_name(t: &[u8], b: usize, first: &mut [usize])
+    ensures { λ _. ⌜ now (first .exit) ≡ readName b (regOf (now (t .entry))) (now (first .entry)) ⌝ }
+{
+    match names::reg_name(t) {
+        names::RegName::Reg(q) => read_reg(q, b, first),
+        names::RegName::None => {}
+    }
+}
+
+// The same of all registers that a text reads.
+fn read_runs(s: &[u8], b: usize, first: &mut [usize])
+    ensures { λ _. ⌜ now (first .exit) ≡ readRuns b (runs (now (s .entry))) (now (first .entry)) ⌝ }
+{
+    let mut a = 0;
+    let mut i = 0;
+    while i < s.len() {
+        if text::is_name_byte(s[i]) {
+            i += 1;
+        } else {
+            read_name(lines::cut(s, a, i), b, first);
+            i += 1;
+            a = i;
+        }
+    }
+    read_name(lines::cut(s, a, i), b, first);
+}
+
+// Notes that a line stores a register; `c` is one more than its row.
+fn store_reg(reg: names::Register, b: usize, c: usize, first: &mut [usize])
+    ensures { λ _. ⌜ now (first .exit) ≡ set (now (first .entry)) (reg .0) (afterStore b c (getD (now (first .entry)) (reg .0) 0)) ⌝ }
+{
+    let v = reg.0 as usize;
+    if first.len() <= v {
+        return;
+    }
+    if first[v] < b {
+        first[v] = c;
+        return;
+    }
+    first[v] = b;
+}
+
+// Notes the register that a line stores.
+fn store_line(p: parse::Line, b: usize, c: usize, first: &mut [usize])
+    ensures { λ _. ⌜ now (first .exit) ≡ storeLine b c p (now (first .entry)) ⌝ }
+{
+    match p {
+        parse::Line::Decl => {}
+        parse::Line::Store(s) => store_reg(s.reg, b, c, first),
+        parse::Line::Other => {}
+    }
+}
+
+// Notes the registers that a line stores and reads.
+fn use_line(line: &[u8], b: usize, c: usize, first: &mut [usize])
+    ensures { λ _. ⌜ now (first .exit) ≡ useLine b c (now (line .entry)) (now (first .entry)) ⌝ }
+{
+    let p = parse::parse(line);
+    store_line(p, b, c, first);
+    read_runs(parse::text_of(line, p), b, first);
+}
+
+// The same of the lines of a text, of which the first has the row `n`.
+fn use_lines(text: &[u8], b: usize, n: usize, first: &mut [usize])
+    requires { ⌜ n + length (linesOf (now text)) < 2 ^ 64 ⌝ }
+    ensures { λ _. ⌜ now (first .exit) ≡ useLines b n (linesOf (now (text .entry))) (now (first .entry)) ⌝ }
+{
+    let mut i = 0;
+    let mut k = n;
+    while i < text.len() {
+        let e = lines::find_byte(text, i, 10);
+        use_line(lines::cut(text, i, e), b, k + 1, first);
+        k += 1;
+        i = lines::after(text, e);
+    }
+}
+
+// Marks a register that a declaration names; one that has a mark already is `b` in the other table.
+fn see_reg(reg: names::Register, m: usize, b: usize, seen: &mut [usize], first: &mut [usize])
+    requires { ⌜ length (now seen) ≡ length (now first) ⌝ }
+    ensures marked { λ _. ⌜ now (seen .exit) ≡ set (now (seen .entry)) (reg .0) m ⌝ }
+    ensures again { λ _. ⌜ now (first .exit) ≡ againReg m b (reg .0) (now (seen .entry)) (now (first .entry)) ⌝ }
+{
+    let v = reg.0 as usize;
+    if first.len() <= v {
+        return;
+    }
+    let x = seen[v];
+    seen[v] = m;
+    if x < m {
+        return;
+    }
+    first[v] = b;
+}
+
+// The same of the register that a text names.
+fn see_name(t: &[u8], m: usize, b: usize, seen: &mut [usize], first: &mut [usize])
+    requires { ⌜ length (now seen) ≡ length (now first) ⌝ }
+    ensures marked { λ _. ⌜ now (seen .exit) ≡ markName m (regOf (now (t .entry))) (now (seen .entry)) ⌝ }
+    ensures again { λ _. ⌜ now (first .exit) ≡ againName m b (regOf (now (t .entry))) (now (seen .entry)) (now (first .entry)) ⌝ }
+{
+    match names::reg_name(t) {
+        names::RegName::Reg(q) => see_reg(q, m, b, seen, first),
+        names::RegName::None => {}
+    }
+}
+
+// The same of the pieces of a declaration.
+fn see_pieces(body: &[u8], m: usize, b: usize, seen: &mut [usize], first: &mut [usize])
+    requires { ⌜ length (now seen) ≡ length (now first) ⌝ }
+    ensures marked { λ _. ⌜ now (seen .exit) ≡ seenPieces m (partsOf 44 (now (body .entry))) (now (seen .entry)) ⌝ }
+    ensures again { λ _. ⌜ now (first .exit) ≡ againPieces m b (partsOf 44 (now (body .entry))) (now (seen .entry)) (now (first .entry)) ⌝ }
+{
+    let mut i = 0;
+    loop {
+        let e = lines::find_byte(body, i, b',');
+        see_name(text::trim(lines::cut(body, i, e)), m, b, seen, first);
+        if e >= body.len() {
+            return;
+        }
+        i = e + 1;
+    }
+}
+
+// The same of a line, where it is a declaration.
+fn see_line(line: &[u8], m: usize, b: usize, seen: &mut [usize], first: &mut [usize])
+    requires { ⌜ length (now seen) ≡ length (now first) ⌝ }
+    ensures marked { λ _. ⌜ now (seen .exit) ≡ seenPieces m (piecesOf (now (line .entry))) (now (seen .entry)) ⌝ }
+    ensures again { λ _. ⌜ now (first .exit) ≡ againPieces m b (piecesOf (now (line .entry))) (now (seen .entry)) (now (first .entry)) ⌝ }
+{
+    let t = text::trim(line);
+    if !parse::is_decl(t) {
+        return;
+    }
+    see_pieces(lines::cut(t, 4, t.len() - 1), m, b, seen, first);
+}
+
+// The same of the lines of a text.
+fn see_lines(text: &[u8], m: usize, b: usize, seen: &mut [usize], first: &mut [usize])
+    requires { ⌜ length (now seen) ≡ length (now first) ⌝ }
+    ensures marked { λ _. ⌜ now (seen .exit) ≡ seenLines m (linesOf (now (text .entry))) (now (seen .entry)) ⌝ }
+    ensures again { λ _. ⌜ now (first .exit) ≡ againLines m b (linesOf (now (text .entry))) (now (seen .entry)) (now (first .entry)) ⌝ }
+{
+    let mut i = 0;
+    while i < text.len() {
+        let e = lines::find_byte(text, i, 10);
+        see_line(lines::cut(text, i, e), m, b, seen, first);
+        i = lines::after(text, e);
+    }
+}
+
+// Reads a region, from `a` to `e`, into the tables, where the line at `i`, in row `k`, is its first.
+pub fn read_region(
+    text: &[u8],
+    a: usize,
+    i: usize,
+    e: usize,
+    k: usize,
+    seen: &mut [usize],
+    first: &mut [usize],
+)
+    requires { ⌜ (length (now seen) ≡ length (now first)) × ((a < 2 ^ 64 - 1) × ((k < 2 ^ 64 - 1) × (i ≤ a → k + length (linesOf (part a e (now text))) < 2 ^ 64))) ⌝ }
+    ensures marked { λ _. ⌜ now (seen .exit) ≡ seenAt (now (text .entry)) a i e (now (seen .entry)) ⌝ }
+    ensures again { λ _. ⌜ now (first .exit) ≡ firstAt (now (text .entry)) a i e k (now (seen .entry)) (now (first .entry)) ⌝ }
+{
+    if a < i {
+        return;
+    }
+    let region = lines::cut(text, a, e);
+    use_lines(region, k + 1, k, first);
+    see_lines(region, a + 1, k + 1, seen, first);
+}
+
+// Whether a register is bound, by its entries `x` and `y`: its declaration stands in row `k`, and the region of that begins at `a`.
+pub fn ask(blocks: &[usize], starts: &[u8], a: usize, k: usize, x: usize, y: usize) -> bool
+    requires { ⌜ ((k + 1 ≤ length (now blocks)) × (y ≤ length (now blocks))) × (y ≤ length (now starts)) ⌝ }
+    ensures { λ r. ⌜ r ≡ asked (now (blocks .entry)) (now (starts .entry)) a k x y ⌝ }
+{
+    if x <= a {
+        return false;
+    }
+    if y <= k + 1 {
+        return false;
+    }
+    let n = y - 1;
+    if blocks[n] != blocks[k] {
+        return false;
+    }
+    starts[n] == 1
+}
