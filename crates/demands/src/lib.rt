@@ -1,0 +1,1 @@
+// Demand 3 for the three passes that promise it, as one theorem: theorems alone.
