@@ -2,9 +2,12 @@
 use mathlib.Core.Path.{_≡_, refl, sym, ap, _∙_}
 use mathlib.Core.List.{List, [], _∷_}
 use mathlib.Core.Bool.{Bool, true, false, cond, not}
-use Prim.Native.Nat.{ℕ, _<_}
+use Prim.Native.Nat.{ℕ, _≤_, _<_}
+use native.Mathlib.Omega.{arith}
+use borrow.Author.Tests.{ne-eqb}
 use lib.Dec.{T, eqb, eqb→eq}
 use lib.ListN.{getD, length}
+use Rattle.lines.proofs.Tests.{is-in, is-above, is-out}
 use Rattle.text.specs.Class.{isName, isQuote, opensPattern, classOf}
 use Rattle.text.proofs.Table.{every, at}
 
@@ -50,3 +53,17 @@ class-quote = by 2 (λ (b : ℕ). isQuote b) tt
 pub class-opens : (b : ℕ) → b < 256 → eqb (classOf b) 3 ≡ opensPattern b
 unfolding is classes
 class-opens = by 3 (λ (b : ℕ). opensPattern b) tt
+
+-- the bytes that need no table: the digits and the small letters belong to a name ..
+pub name-digit : (b : ℕ) → 48 ≤ b → b ≤ 57 → isName b ≡ true
+name-digit b l h = simp (is-in 48 57 b l h)
+
+pub name-small : (b : ℕ) → 97 ≤ b → b ≤ 122 → isName b ≡ true
+name-small b l h = simp (is-above 48 57 b (omega arith), is-above 65 90 b (omega arith), is-in 97 122 b l h)
+
+-- .. and what is outside of all ranges to none, nor is it a quote
+pub no-name : (b : ℕ) → (48 ≤ b → 57 < b) → (65 ≤ b → 90 < b) → (97 ≤ b → 122 < b) → (b ≡ 95 → ⊥) → (b ≡ 36 → ⊥) → isName b ≡ false
+no-name b d u l s m = simp (is-out 48 57 b d, is-out 65 90 b u, is-out 97 122 b l, ne-eqb b 95 s, ne-eqb b 36 m)
+
+pub no-quote : (b : ℕ) → (b ≡ 34 → ⊥) → (b ≡ 39 → ⊥) → (b ≡ 96 → ⊥) → isQuote b ≡ false
+no-quote b x y z = simp (ne-eqb b 34 x, ne-eqb b 39 y, ne-eqb b 96 z)

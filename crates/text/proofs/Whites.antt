@@ -12,7 +12,8 @@ use lib.Seq.{drop-cons, getD-drop, slice, slice-cons, slice-empty}
 use Rattle.text.specs.White.{isWhite}
 use Rattle.text.specs.Utf8Form.{seqLen}
 use Rattle.text.specs.Trim.{whiteChar, whiteHead, whiteTail, point}
-use Rattle.text.proofs.Rows.{padded, seqLen-fits}
+use Rattle.lines.proofs.Tests.{is-below, is-above}
+use Rattle.text.proofs.Rows.{padded, lead1, seqLen-fits}
 
 pub white-yes : (l : List ℕ) → seqLen l ≡ length l → whiteChar l ≡ isWhite (point l)
 unfolding whiteChar
@@ -175,3 +176,46 @@ head-le s i h =
     let d = length-drop i s in
     let k = head-le′ (drop i s) (omega arith) in
     omega arith
+
+-- ---- an ASCII byte is a character by itself, and ends no longer one
+
+pub ascii-alone : (a : ℕ) (l : List ℕ) → a < 0x80 → seqLen (a ∷ l) ≡ 1
+ascii-alone a l h = padded a l ∙ lead1 a (getD l 0 0) (getD l 1 0) (getD l 2 0) h
+
+ascii-one : (a : ℕ) → a < 0x80 → whiteChar (a ∷ []) ≡ isWhite a
+ascii-one a h = white-yes (a ∷ []) (ascii-alone a [] h)
+
+-- above the space no ASCII byte is white space
+pub ascii-dark : (a : ℕ) → 32 < a → a < 0x80 → isWhite a ≡ false
+unfolding isWhite
+ascii-dark a l h =
+    simp (is-above 9 13 a (omega arith), ne-eqb a 32 (omega arith), ne-eqb a 133 (omega arith), ne-eqb a 160 (omega arith), ne-eqb a 5760 (omega arith), is-below 8192 8202 a (omega arith), is-below 8232 8233 a (omega arith), ne-eqb a 8239 (omega arith), ne-eqb a 8287 (omega arith), ne-eqb a 12288 (omega arith))
+
+pub head-ascii : (s : List ℕ) (i a : ℕ) → i < length s → a ≡ getD s i 0 → a < 0x80 → whiteHead (drop i s) ≡ cond (isWhite a) 1 0
+head-ascii s i a h ea low =
+    head-at s i a (getD s (i + 1) 0) (getD s (i + 2) 0) h ea refl refl
+    ∙ simp (ascii-one a low, longer (getD s (i + 1) 0 ∷ []) (omega arith), longer (getD s (i + 1) 0 ∷ getD s (i + 2) 0 ∷ []) (omega arith))
+  where
+    longer : (l : List ℕ) → 0 < length l → whiteChar (a ∷ l) ≡ false
+    longer l p = white-no (a ∷ l) (λ q. let k = ascii-alone a l low in omega arith)
+
+-- no sequence has an ASCII byte after its first
+no-end2 : (x c : ℕ) → c < 0x80 → seqLen (x ∷ c ∷ []) ≡ seqLen (x ∷ [])
+unfolding seqLen
+no-end2 x c h =
+    simp (is-below 0x80 0xBF c h, is-below 0xA0 0xBF c (omega arith), is-below 0x80 0x9F c h, is-below 0x90 0xBF c (omega arith), is-below 0x80 0x8F c h)
+
+no-end3 : (x y c : ℕ) → c < 0x80 → seqLen (x ∷ y ∷ c ∷ []) ≡ seqLen (x ∷ y ∷ [])
+unfolding seqLen
+no-end3 x y c h = simp (is-below 0x80 0xBF c h)
+
+pub tail-ascii : (s : List ℕ) (e c : ℕ) → 0 < e → e ≤ length s → c ≡ cond (leb 1 e) (getD s (e - 1) 0) 0 → c < 0x80 → whiteTail s e ≡ cond (isWhite c) 1 0
+tail-ascii s e c h fits ec low =
+    tail-at s e (cond (leb 3 e) (getD s (e - 3) 0) 0) (cond (leb 2 e) (getD s (e - 2) 0) 0) c h fits ec refl refl
+    ∙ simp (ascii-one c low, two (cond (leb 2 e) (getD s (e - 2) 0) 0), three (cond (leb 3 e) (getD s (e - 3) 0) 0) (cond (leb 2 e) (getD s (e - 2) 0) 0))
+  where
+    two : (x : ℕ) → whiteChar (x ∷ c ∷ []) ≡ false
+    two x = white-no (x ∷ c ∷ []) (λ q. let k = seqLen-fits (x ∷ []) in let j = no-end2 x c low in omega arith)
+
+    three : (x y : ℕ) → whiteChar (x ∷ y ∷ c ∷ []) ≡ false
+    three x y = white-no (x ∷ y ∷ c ∷ []) (λ q. let k = seqLen-fits (x ∷ y ∷ []) in let j = no-end3 x y c low in omega arith)

@@ -278,18 +278,25 @@ fn class(b: u8) -> u8
     CLASSES[b as usize]
 }
 
-// Whether a byte belongs to a name.
+// Whether a byte belongs to a name. The bytes that are most of a text are answered before the table, which is copied at each use.
 pub fn is_name_byte(b: u8) -> bool
     ensures { λ r. ⌜ r ≡ isName b ⌝ }
 {
-    class(b) == 1
+    match b {
+        b'a'..=b'z' | b'0'..=b'9' => true,
+        0..=b'#' | b'%'..=b'/' | b':'..=b'@' => false,
+        _ => class(b) == 1,
+    }
 }
 
-// Whether a byte is one of the three quotes.
+// Whether a byte is one of the three quotes. All but `"` to `'` and the bytes after `_` are answered before the table.
 pub fn is_quote(b: u8) -> bool
     ensures { λ r. ⌜ r ≡ isQuote b ⌝ }
 {
-    class(b) == 2
+    match b {
+        0..=b'!' | b'('..=b'_' | b'a'..=255 => false,
+        _ => class(b) == 2,
+    }
 }
 
 // Whether a `/` after this byte starts a pattern.
@@ -380,11 +387,14 @@ fn byte(s: &[u8], i: usize) -> u32
 pub fn seq_at(s: &[u8], i: usize) -> usize
     ensures { λ r. ⌜ r ≡ seqLen (drop i (now (s .entry))) ⌝ }
 {
-    if i < s.len() {
-        seq_len(byte(s, i), byte(s, i + 1), byte(s, i + 2), byte(s, i + 3))
-    } else {
-        0
+    if i >= s.len() {
+        return 0;
     }
+    let a = byte(s, i);
+    if a < 0x80 {
+        return 1;
+    }
+    seq_len(a, byte(s, i + 1), byte(s, i + 2), byte(s, i + 3))
 }
 
 // Whether a text is UTF-8, and where it is not.
@@ -433,8 +443,8 @@ fn white3(a: u32, b: u32, c: u32) -> bool
     }
 }
 
-// The length of the white space at a place, or 0.
-fn white_at(s: &[u8], i: usize) -> usize
+// The length of the white space at a place, or 0, by one, two and three bytes.
+fn wide_at(s: &[u8], i: usize) -> usize
     requires { ⌜ i < length (now s) ⌝ }
     ensures { λ r. ⌜ r ≡ whiteHead (drop i (now (s .entry))) ⌝ }
 {
@@ -460,8 +470,8 @@ fn back(s: &[u8], e: usize, k: usize) -> u32
     if k <= e { byte(s, e - k) } else { 0 }
 }
 
-// The length of the white space before a place, or 0.
-fn white_before(s: &[u8], e: usize) -> usize
+// The length of the white space before a place, or 0, by one, two and three bytes.
+fn wide_before(s: &[u8], e: usize) -> usize
     requires { ⌜ (0 < e) × (e ≤ length (now s)) ⌝ }
     ensures { λ r. ⌜ r ≡ whiteTail (now (s .entry)) e ⌝ }
 {
@@ -478,6 +488,41 @@ fn white_before(s: &[u8], e: usize) -> usize
         return 3;
     }
     0
+}
+
+// 1 where an ASCII byte is white space, else 0.
+fn white_ascii(a: u32) -> usize
+    requires { ⌜ a < 0x80 ⌝ }
+    ensures { λ r. ⌜ r ≡ cond (isWhite a) 1 0 ⌝ }
+{
+    if 32 < a {
+        return 0;
+    }
+    if is_white(a) { 1 } else { 0 }
+}
+
+// The length of the white space at a place, or 0: an ASCII byte is decided alone.
+fn white_at(s: &[u8], i: usize) -> usize
+    requires { ⌜ i < length (now s) ⌝ }
+    ensures { λ r. ⌜ r ≡ whiteHead (drop i (now (s .entry))) ⌝ }
+{
+    let a = byte(s, i);
+    if a < 0x80 {
+        return white_ascii(a);
+    }
+    wide_at(s, i)
+}
+
+// The length of the white space before a place, or 0: an ASCII byte is decided alone.
+fn white_before(s: &[u8], e: usize) -> usize
+    requires { ⌜ (0 < e) × (e ≤ length (now s)) ⌝ }
+    ensures { λ r. ⌜ r ≡ whiteTail (now (s .entry)) e ⌝ }
+{
+    let c = back(s, e, 1);
+    if c < 0x80 {
+        return white_ascii(c);
+    }
+    wide_before(s, e)
 }
 
 // Where a text begins without the white space at its front.
