@@ -1,13 +1,15 @@
 -- The white space at the ends of a list, one at a time.
 -- Assumes nothing.
 use mathlib.Core.Path.{_≡_, refl, sym, ap, _∙_}
+use mathlib.Core.Bool.{Bool, cond}
 use mathlib.Core.List.{List, [], _∷_}
 use Prim.Native.Nat.{ℕ, zero, suc, _+_, _-_, _≤_, _<_}
 use native.Mathlib.Omega.{arith}
+use lib.Dec.{leb}
 use lib.ListN.{length, getD, drop, take, length-drop}
 use lib.Seq.{drop-cons, drop-drop, take-all}
 use Rattle.text.specs.Trim.{whiteHead, whiteTail, lead, endWhite, orOn, fromOf, toOf, toEnd, trimStart, trimOf}
-use Rattle.text.proofs.Whites.{head-le, tail-le}
+use Rattle.text.proofs.Whites.{head-le, tail-le, head-ascii, tail-ascii, ascii-dark}
 
 -- ---- the front
 
@@ -108,3 +110,17 @@ toEnd-le l =
 pub trim-part : (l : List ℕ) → trimOf l ≡ take (toEnd l - fromOf l) (drop (fromOf l) l)
 unfolding trimOf
 trim-part l = let q : toOf (trimStart l) ≡ toEnd l - fromOf l = omega arith in ap (λ (n : ℕ). take n (drop (fromOf l) l)) q
+
+-- ---- ends that tell at once: an ASCII byte above the space
+
+pub front-dark : (s : List ℕ) (a : ℕ) → a ≡ getD s 0 0 → 32 < a → a < 0x80 → fromOf s ≡ 0
+unfolding fromOf
+front-dark [] a e g h = absurd (omega arith)
+front-dark (x ∷ xs) a e g h =
+    front-stop (x ∷ xs) 0 (omega arith) (head-ascii (x ∷ xs) 0 a (omega arith) e h ∙ ap (λ (t : Bool). cond t 1 0) (ascii-dark a g h))
+
+pub back-dark : (s : List ℕ) (c : ℕ) → c ≡ cond (leb 1 (length s)) (getD s (length s - 1) 0) 0 → 32 < c → c < 0x80 → toOf s ≡ length s
+unfolding toOf
+back-dark [] c e g h = absurd (omega arith)
+back-dark (x ∷ xs) c e g h =
+    back-stop (x ∷ xs) (length (x ∷ xs)) (omega arith) (tail-ascii (x ∷ xs) (length (x ∷ xs)) c (omega arith) (omega arith) e h ∙ ap (λ (t : Bool). cond t 1 0) (ascii-dark c g h))

@@ -525,8 +525,8 @@ fn white_before(s: &[u8], e: usize) -> usize
     wide_before(s, e)
 }
 
-// Where a text begins without the white space at its front.
-pub fn trim_from(s: &[u8]) -> usize
+// Where a text begins without the white space at its front, byte by byte.
+fn skip_front(s: &[u8]) -> usize
     ensures { λ r. ⌜ r ≡ fromOf (now (s .entry)) ⌝ }
 {
     let mut i = 0;
@@ -540,8 +540,8 @@ pub fn trim_from(s: &[u8]) -> usize
     i
 }
 
-// Where a text ends without the white space at its back.
-pub fn trim_to(s: &[u8]) -> usize
+// Where a text ends without the white space at its back, byte by byte.
+fn skip_back(s: &[u8]) -> usize
     ensures { λ r. ⌜ r ≡ toOf (now (s .entry)) ⌝ }
 {
     let mut e = s.len();
@@ -553,6 +553,33 @@ pub fn trim_to(s: &[u8]) -> usize
         e -= n;
     }
     e
+}
+
+// Where a text begins without the white space at its front: at once, where its first byte tells.
+pub fn trim_from(s: &[u8]) -> usize
+    ensures { λ r. ⌜ r ≡ fromOf (now (s .entry)) ⌝ }
+{
+    let a = byte(s, 0);
+    if 32 < a {
+        if a < 0x80 {
+            return 0;
+        }
+    }
+    skip_front(s)
+}
+
+// Where a text ends without the white space at its back: at once, where its last byte tells.
+pub fn trim_to(s: &[u8]) -> usize
+    ensures { λ r. ⌜ r ≡ toOf (now (s .entry)) ⌝ }
+{
+    let n = s.len();
+    let c = back(s, n, 1);
+    if 32 < c {
+        if c < 0x80 {
+            return n;
+        }
+    }
+    skip_back(s)
 }
 
 // The part of a text after the white space at its front.
