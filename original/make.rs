@@ -144,19 +144,36 @@ fn requests(wire: &mut Wire, seed: u64, count: u64) -> Option<()> {
     (0..count).try_for_each(|index| write(wire, &maker.request(index)))
 }
 
+/// Each text of up to that many tokens of an alphabet, for each of the passes.
+fn all_texts(wire: &mut Wire, alphabet: &[&str], tokens: u64, passes: &[u8]) -> Option<()> {
+    let count = (0..=tokens as u32).map(|n| (alphabet.len() as u64).pow(n)).sum();
+    (0..count).try_for_each(|index| {
+        let text = texts::counted(alphabet, index).into_bytes();
+        passes.iter().try_for_each(|&pass| write(wire, &Asked { pass, short: 0, room: MOST_ROOM, text: text.clone() }))
+    })
+}
+
 fn number(word: Option<&String>) -> u64 {
-    let usage = "make SEED COUNT | make leaves SEED COUNT [FUNCTION..]";
+    let usage = "make SEED COUNT | make leaves SEED COUNT [FUNCTION..] | make all ALPHABET TOKENS [PASS..]";
     word.and_then(|w| w.parse().ok()).unwrap_or_else(|| wire::usage(usage))
+}
+
+/// The numbers from the third word on.
+fn numbers(words: &[String]) -> Vec<u8> {
+    words.iter().skip(3).map(|w| number(Some(w)) as u8).collect()
 }
 
 fn main() {
     let words: Vec<String> = std::env::args().skip(1).collect();
     let mut wire = Wire::new();
     // None where the reader has gone away: nothing is left to do then
-    let _ = if words.first().is_some_and(|w| w == "leaves") {
-        let functions: Vec<u8> = words[1..].iter().skip(2).map(|w| number(Some(w)) as u8).collect();
-        asking::requests(&mut wire, number(words.get(1)), number(words.get(2)), &functions)
-    } else {
-        requests(&mut wire, number(words.first()), number(words.get(1)))
+    let _ = match words.first().map(String::as_str) {
+        Some("leaves") => asking::requests(&mut wire, number(words.get(1)), number(words.get(2)), &numbers(&words)),
+        Some("all") => {
+            let passes = if words.len() > 3 { numbers(&words) } else { (0..=6).collect() };
+            let name = words.get(1).map_or("", String::as_str);
+            all_texts(&mut wire, texts::alphabet(name).unwrap_or_else(|| wire::usage("alphabets: characters, words, lines")), number(words.get(2)), &passes)
+        }
+        _ => requests(&mut wire, number(words.first()), number(words.get(1))),
     };
 }

@@ -57,10 +57,24 @@ pub fn soup(random: &mut Random, tokens: usize) -> String {
     (0..random.between(1, tokens)).map(|_| random.pick(TOKENS)).collect()
 }
 
-/// The text of that number over three alphabets in turn: the shortest first, none left out.
+/// The text of that number over three alphabets in turn.
 pub fn short(number: u64) -> String {
-    let alphabet = [CHARACTERS, WORDS, LINES][(number % 3) as usize];
-    let (mut rest, base) = (number / 3, alphabet.len() as u64);
+    counted([CHARACTERS, WORDS, LINES][(number % 3) as usize], number / 3)
+}
+
+/// An alphabet by its name.
+pub fn alphabet(name: &str) -> Option<&'static [&'static str]> {
+    match name {
+        "characters" => Some(CHARACTERS),
+        "words" => Some(WORDS),
+        "lines" => Some(LINES),
+        _ => None,
+    }
+}
+
+/// The text of that number over an alphabet: the shortest first, none left out.
+pub fn counted(alphabet: &[&str], number: u64) -> String {
+    let (mut rest, base) = (number, alphabet.len() as u64);
     let mut out = String::new();
     while rest > 0 {
         rest -= 1;
