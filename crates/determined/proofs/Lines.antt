@@ -38,6 +38,12 @@ put-byte-fixed = fixed lines.put_byte.Reads.Learnt (λ κs a x y l m. wrote-once
 pub put-fixed : Determined lines.put.ended (λ κs z. z) lines.put.Reads.ensures
 put-fixed = fixed lines.put.Reads.Learnt (λ κs a x y l m. wrote-once l m)
 
+pub put-line-fixed : Determined lines.put_line.ended (λ κs z. z) lines.put_line.Reads.ensures
+put-line-fixed = fixed lines.put_line.Reads.Learnt (λ κs a x y l m. wrote-once l m)
+
+pub wipe-fixed : Determined lines.wipe.ended (λ κs z. z) lines.wipe.Reads.ensures
+wipe-fixed = fixed lines.wipe.Reads.Learnt (λ κs a x y l m. wrote-once l m)
+
 pub ends-lf-fixed : Determined lines.ends_lf.ended (λ κs z. z) lines.ends_lf.Reads.ensures
 ends-lf-fixed = fixed lines.ends_lf.Reads.Learnt (λ κs a x y l m. l ∙ sym m)
 

@@ -1,11 +1,11 @@
 -- Laws of `Wrote`. Assumes nothing.
-use Prim.Native.Nat.{ℕ, suc, _+_, _-_, _≤_, _<_}
-use mathlib.Core.Path.{_≡_, refl, sym, ap, _∙_}
+use Prim.Native.Nat.{ℕ, zero, suc, _+_, _-_, _≤_, _<_}
+use mathlib.Core.Path.{_≡_, refl, sym, ap, subst, _∙_}
 use mathlib.Core.List.{List, [], _∷_, _++_, append-assoc, append-nil}
 use native.Mathlib.Omega.{arith}
 use native.Mathlib.Nat.{add-zero, add-assoc}
 use native.Mathlib.Numerals.{add-one}
-use lib.ListN.{length, take, drop, getD, set, length-append, length-take, length-drop, take-append-drop}
+use lib.ListN.{length, take, drop, getD, set, replicate, length-append, length-take, length-drop, take-append-drop}
 use lib.Seq.{slice, take-suc, drop-append-le, set-split, append-snoc, take-at, drop-at, drop-drop, length-take-le, take-all}
 use Rattle.lines.specs.Out.{putAt, Wrote}
 
@@ -146,3 +146,18 @@ module _ {t d₀ d : List ℕ} {o j p : ℕ} (h : PutInv t d₀ d o j p) where
 
   pub put-end : length t ≤ j → Wrote d₀ o t d p
   put-end l = wrote-as (take-all j t l) (h .wrote)
+
+-- ---- the loop of `wipe`
+
+zeros-more : (i : ℕ) → replicate i 0 ++ (0 ∷ []) ≡ replicate {A = ℕ} (suc i) 0
+zeros-more zero = refl
+zeros-more (suc i) = ap (λ (l : List ℕ). 0 ∷ l) (zeros-more i)
+
+pub wipe-start : (d : List ℕ) → Wrote d 0 (replicate 0 0) d 0
+wipe-start d = wrote-nil d 0 (omega arith)
+
+pub wipe-on : {d₀ d : List ℕ} {i : ℕ} → i < length d → Wrote d₀ 0 (replicate i 0) d i → Wrote d₀ 0 (replicate (i + 1) 0) (set d i 0) (i + 1)
+wipe-on {d₀} {d} {i} h w = wrote-as (zeros-more i ∙ ap (λ (n : ℕ). replicate n 0) (sym (add-one i))) (wrote-more 0 w h)
+
+pub wipe-end : {d₀ d : List ℕ} {i n : ℕ} → i ≡ n → Wrote d₀ 0 (replicate i 0) d i → Wrote d₀ 0 (replicate n 0) d n
+wipe-end {d₀} {d} e w = subst (λ (k : ℕ). Wrote d₀ 0 (replicate k 0) d k) e w

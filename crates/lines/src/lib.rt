@@ -1,8 +1,8 @@
 // Bytes and parts of them, LF form, writing into a lent buffer, and the first and the last step.
 ghost use mathlib.Core.Path.{_≡_};
-ghost use mathlib.Core.List.{[], _∷_};
+ghost use mathlib.Core.List.{[], _∷_, _++_};
 ghost use Prim.Native.Nat.{ℕ, min, _≤_, _<_, _+_};
-ghost use lib.ListN.{getD, drop, length};
+ghost use lib.ListN.{getD, drop, length, replicate};
 ghost use Rattle.lines.specs.Lf.{part, upTo, countOf, prefixed, suffixed, same, holds, endsIn, linesOf, unlines};
 ghost use Rattle.lines.specs.Out.{Wrote};
 ghost use Rattle.lines.specs.Steps.{splitLines, joined, overFrom};
@@ -148,6 +148,27 @@ pub fn put(out: &mut [u8], o: usize, t: &[u8]) -> usize
         j += 1;
     }
     p
+}
+
+// Writes a line with its LF at `o`, and returns the place after it.
+pub fn put_line(out: &mut [u8], o: usize, line: &[u8]) -> usize
+    requires { ⌜ o + length (now line ++ 10 ∷ []) ≤ length (now out) ⌝ }
+    ensures { λ r. ⌜ Wrote (now (out .entry)) o (now (line .entry) ++ 10 ∷ []) (now (out .exit)) r ⌝ }
+{
+    let p = put(out, o, line);
+    put_byte(out, p, 10)
+}
+
+// Writes zeros over the first `n` bytes.
+pub fn wipe(s: &mut [u8], n: usize)
+    requires { ⌜ n ≤ length (now s) ⌝ }
+    ensures { λ _. ⌜ Wrote (now (s .entry)) 0 (replicate n 0) (now (s .exit)) n ⌝ }
+{
+    let mut i = 0;
+    while i < n {
+        s[i] = 0;
+        i += 1;
+    }
 }
 
 // Whether the last byte is an LF.
