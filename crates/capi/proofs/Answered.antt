@@ -2,9 +2,9 @@
 use Prim.Native.Nat.{ℕ}
 use mathlib.Core.Path.{_≡_, _∙_, ap, subst}
 use mathlib.Core.List.{List}
-use Rattle.opt.specs.declared.Answer.{Answer}
-use Rattle.opt.specs.Answer.{numberOf, lengthOf, placeOf}
-use Rattle.opt.specs.Entry.{outAfter}
+use Rattle.limits.specs.declared.Answer.{Answer}
+use Rattle.limits.specs.Answer.{numberOf, lengthOf, placeOf}
+use Rattle.limits.specs.Entry.{outAfter}
 use Rattle.opt.specs.Room.{After}
 
 -- r the answer that came, x the one that is right; n, l and p what is handed on; s the result, o the result buffer, a to u the work buffers

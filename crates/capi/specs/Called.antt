@@ -3,9 +3,9 @@ use Prim.Native.Nat.{ℕ}
 use mathlib.Core.List.{List}
 use lib.ListN.{length}
 use Rattle.reading.specs.Reading.{plain}
-use Rattle.opt.specs.declared.Answer.{Answer}
+use Rattle.limits.specs.declared.Answer.{Answer}
 use Rattle.opt.specs.Passes.{stepOf, whole, resultOf}
-use Rattle.opt.specs.Entry.{isShort, answerOf, passAnswer}
+use Rattle.limits.specs.Entry.{isShort, answerOf, passAnswer}
 
 -- what a text becomes by all passes, and by one of them
 abbrev pub tidied : List ℕ → List ℕ

@@ -1,7 +1,7 @@
 // The entries for C and Rust: include/optlines.h declares them.
 ghost use mathlib.Core.Path.{_≡_};
-ghost use Rattle.opt.specs.Answer.{numberOf, lengthOf, placeOf};
-ghost use Rattle.opt.specs.Entry.{outAfter};
+ghost use Rattle.limits.specs.Answer.{numberOf, lengthOf, placeOf};
+ghost use Rattle.limits.specs.Entry.{outAfter};
 ghost use Rattle.opt.specs.Room.{After};
 ghost use Rattle.capi.specs.Called.{tidied, passed, tidyAnswer, onePassAnswer};
 
@@ -26,9 +26,9 @@ pub extern "C" fn optlines_optimize(
     ensures work { λ _. ⌜ After (tidyAnswer (now (text .entry)) (now (a .entry)) (now (b .entry)) (now (c .entry)) (now (d .entry)) (now (e .entry)) (now (u .entry)) (now (out .entry))) (now (a .entry)) (now (b .entry)) (now (c .entry)) (now (d .entry)) (now (e .entry)) (now (u .entry)) (now (a .exit)) (now (b .exit)) (now (c .exit)) (now (d .exit)) (now (e .exit)) (now (u .exit)) ⌝ }
 {
     let answer = opt::optimize(text, a, b, c, d, e, u, out);
-    *size = opt::length_of(answer);
-    *place = opt::place_of(answer);
-    opt::number_of(answer)
+    *size = limits::length_of(answer);
+    *place = limits::place_of(answer);
+    limits::number_of(answer)
 }
 
 // Runs one pass, 1 to 6, over a text. Returns the number of the answer, and stores its length and its place.
@@ -53,7 +53,7 @@ pub extern "C" fn optlines_run_pass(
     ensures work { λ _. ⌜ After (onePassAnswer pass (now (text .entry)) (now (a .entry)) (now (b .entry)) (now (c .entry)) (now (d .entry)) (now (e .entry)) (now (u .entry)) (now (out .entry))) (now (a .entry)) (now (b .entry)) (now (c .entry)) (now (d .entry)) (now (e .entry)) (now (u .entry)) (now (a .exit)) (now (b .exit)) (now (c .exit)) (now (d .exit)) (now (e .exit)) (now (u .exit)) ⌝ }
 {
     let answer = opt::run_pass(pass, text, a, b, c, d, e, u, out);
-    *size = opt::length_of(answer);
-    *place = opt::place_of(answer);
-    opt::number_of(answer)
+    *size = limits::length_of(answer);
+    *place = limits::place_of(answer);
+    limits::number_of(answer)
 }

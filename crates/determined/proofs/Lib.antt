@@ -16,5 +16,6 @@ pub mod Phis
 pub mod Calls
 pub mod Bind
 pub mod Globals
+pub mod Limits
 pub mod Opt
 pub mod Capi

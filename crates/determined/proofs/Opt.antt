@@ -4,12 +4,13 @@ use mathlib.Core.Path.{_≡_, ap, sym, _∙_}
 use mathlib.Core.List.{List}
 use denote.Ref.{now}
 use Rattle.reading.specs.Reading.{plain}
-use Rattle.opt.specs.declared.Answer.{Answer}
+use Rattle.limits.specs.declared.Answer.{Answer}
 use Rattle.opt.specs.Passes.{stepOf, whole, resultOf}
-use Rattle.opt.specs.Entry.{byteSize, blockSize, workAfter, outAfter}
+use Rattle.limits.specs.Entry.{byteSize, blockSize, workAfter}
 use Rattle.opt.specs.Room.{After}
 use Rattle.opt.proofs as opt
-use Rattle.determined.proofs.Outcomes.{Determined, fixed, fixed-by, one, more}
+use Rattle.determined.proofs.Outcomes.{Determined, fixed-by, one, more}
+use Rattle.determined.proofs.Limits.{out-once}
 
 -- the work buffers after one answer are the same, and then what is said of the rest
 pub after-once : {r₁ r₂ : Answer} {a b c d e u a₁ b₁ c₁ d₁ e₁ u₁ a₂ b₂ c₂ d₂ e₂ u₂ : List ℕ} {rest : Type 0} → r₁ ≡ r₂ → After r₁ a b c d e u a₁ b₁ c₁ d₁ e₁ u₁ →
@@ -30,19 +31,6 @@ after-once {r₁} {r₂} {a} {b} {c} {d} {e} {u} p f g rest = (
     ),
   ),
 )
-
--- and so is the result buffer
-out-once : {r₁ r₂ : Answer} (result d : List ℕ) {d₁ d₂ : List ℕ} → r₁ ≡ r₂ → d₁ ≡ outAfter r₁ result d → d₂ ≡ outAfter r₂ result d → d₁ ≡ d₂
-out-once result d p f g = f ∙ (ap (λ r. outAfter r result d) p ∙ sym g)
-
-pub number-of-fixed : Determined opt.number_of.ended (λ κs z. z) opt.number_of.Reads.ensures
-number-of-fixed = fixed opt.number_of.Reads.Learnt (λ κs a x y l m. l ∙ sym m)
-
-pub length-of-fixed : Determined opt.length_of.ended (λ κs z. z) opt.length_of.Reads.ensures
-length-of-fixed = fixed opt.length_of.Reads.Learnt (λ κs a x y l m. l ∙ sym m)
-
-pub place-of-fixed : Determined opt.place_of.ended (λ κs z. z) opt.place_of.Reads.ensures
-place-of-fixed = fixed opt.place_of.Reads.Learnt (λ κs a x y l m. l ∙ sym m)
 
 pub optimize-fixed : Determined opt.optimize.ended (λ κs z. z) opt.optimize.Reads.ensures
 optimize-fixed = fixed-by opt.optimize.Reads.Learnt (λ w κs a x. more w (one w)) (λ κs a x y l m.

@@ -23,7 +23,7 @@ use Rattle.decls.specs.Decls.{pruneDecls}
 use Rattle.bind.specs.Bind.{bindDeclarators}
 use Rattle.bind.proofs.Cut.{plain-by-line}
 use Rattle.opt.specs.Passes.{stepOf, stepsOf}
-use Rattle.opt.specs.Entry.{byteSize}
+use Rattle.limits.specs.Entry.{byteSize}
 use Rattle.opt.specs.Room.{Room, Sized, Front}
 use Rattle.opt.proofs.Tame.{tame-step, Between, between-start, between-on, between-room}
 

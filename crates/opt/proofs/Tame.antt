@@ -42,7 +42,7 @@ use Rattle.decls.proofs.Keeps.{keeps-noLf}
 use Rattle.decls.proofs.Decl.{prune-weight}
 use Rattle.decls.proofs.Passes.{prune-lines}
 use Rattle.opt.specs.Passes.{stepOf, stepsOf}
-use Rattle.opt.specs.Entry.{byteSize, blockSize}
+use Rattle.limits.specs.Entry.{byteSize, blockSize}
 use Rattle.opt.specs.Room.{Room}
 
 pub record Tame (f : List (List ℕ) → List (List ℕ)) : Type 0 where

@@ -27,13 +27,14 @@ use Rattle.calls.specs.Calls.{rebuildCalls}
 use Rattle.decls.specs.Decls.{pruneDecls}
 use Rattle.bind.specs.Bind.{bindDeclarators}
 use Rattle.bind.proofs.Cut.{ByLine}
-use Rattle.opt.specs.declared.Answer.{Answer}
-use Rattle.opt.specs.declared.Answer.the-variants.{Done, TooLong, ShortWork, TooManyLines, ShortResult}
-use Rattle.opt.specs.Answer.{numberOf, isDone}
+use Rattle.limits.specs.declared.Answer.{Answer}
+use Rattle.limits.specs.declared.Answer.the-variants.{Done, TooLong, ShortWork, TooManyLines, ShortResult}
+use Rattle.limits.specs.Answer.{numberOf, isDone}
 use Rattle.opt.specs.Passes.{stepOf, stepsOf, whole, resultOf}
-use Rattle.opt.specs.Entry.{byUtf8, byCrowd, checkedLines, checked, roomed, answerOf, outAfter}
+use Rattle.limits.specs.Entry.{byUtf8, byCrowd, checkedLines, checked, roomed, answerOf, outAfter}
 use Rattle.opt.proofs.Tame.{Tame, tame-step, tame-steps}
-use Rattle.opt.proofs.EntryLaws.{Accepted, answer-accepted, result-whole, text-long, lines-many}
+use Rattle.limits.proofs.AnswerLaws.{Accepted, answer-accepted, text-long, lines-many}
+use Rattle.opt.proofs.EntryLaws.{result-whole}
 
 -- ---- what comes out
 

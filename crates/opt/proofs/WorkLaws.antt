@@ -14,10 +14,10 @@ use Rattle.lines.specs.Out.{putAt, Wrote}
 use Rattle.lines.specs.Steps.{splitLines, joined}
 use Rattle.lines.proofs.LfLaws.{lines-unlines}
 use Rattle.lines.proofs.StepLaws.{split-noLf}
-use Rattle.opt.specs.declared.Answer.the-variants.{Done, ShortResult}
-use Rattle.opt.specs.Answer.{isDone}
+use Rattle.limits.specs.declared.Answer.the-variants.{Done, ShortResult}
+use Rattle.limits.specs.Answer.{isDone}
 use Rattle.opt.specs.Passes.{resultOf}
-use Rattle.opt.specs.Entry.{roomed, blank, outAfter}
+use Rattle.limits.specs.Entry.{roomed, blank, outAfter}
 use Rattle.opt.specs.Room.{Front}
 use Rattle.opt.proofs.Tame.{Tame}
 
@@ -57,20 +57,6 @@ unfolding blank
 blank-length n = length-replicate {A = ℕ} n 0
 
 -- ---- the last step
-
-pub roomed-short : (n room : ℕ) {m : ℕ} → m ≡ n → room < m → ShortResult m ≡ roomed n room
-roomed-short n room e l = rw (e, lt-ltb room n (omega arith))
-
-pub roomed-done : (n room : ℕ) {m : ℕ} → m ≡ 0 + n → n ≤ room → Done m ≡ roomed n room
-roomed-done n room {m} e l = let q : m ≡ n = omega arith in rw (q, le-ltb room n l)
-
-pub out-short : (n : ℕ) (xs d : List ℕ) → d ≡ outAfter (ShortResult n) xs d
-unfolding outAfter isDone
-out-short n xs d = refl
-
-pub out-done : {d xs d′ : List ℕ} {r : ℕ} → Wrote d 0 xs d′ r → d′ ≡ outAfter (Done r) xs d
-unfolding outAfter isDone putAt
-out-done {d} {xs} w = w .holds ∙ ap (λ (n : ℕ). take 0 d ++ xs ++ drop n d) (zero-add (length xs))
 
 -- what the lines that a pass made are joined to is the result
 pub front-result : {f : List (List ℕ) → List (List ℕ)} (t : List ℕ) {a : List ℕ} {n : ℕ} {e : Bool} → Tame f → Front a n (unlines (f (splitLines t))) → e ≡ endsIn 10 t →

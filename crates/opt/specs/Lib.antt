@@ -1,4 +1,2 @@
-pub mod Answer
 pub mod Passes
-pub mod Entry
 pub mod Room

@@ -5,8 +5,8 @@ use mathlib.Core.List.{List, _++_}
 use lib.ListN.{length, take, drop}
 use Rattle.lines.specs.Lf.{linesOf, unlines, countOf}
 use Rattle.weight.specs.Weight.{weight}
-use Rattle.opt.specs.declared.Answer.{Answer}
-use Rattle.opt.specs.Entry.{byteSize, blockSize, blank, workAfter}
+use Rattle.limits.specs.declared.Answer.{Answer}
+use Rattle.limits.specs.Entry.{byteSize, blockSize, blank, workAfter}
 
 -- bytes that stand between two passes: lines each followed by one LF, within the bounds of the buffers
 pub record Room (s : List ℕ) : Type 0 where

@@ -10,76 +10,9 @@ ghost use Rattle.once.specs.Once.{optimizeOnce};
 ghost use Rattle.calls.specs.LeavesOf.{leavesOf};
 ghost use Rattle.calls.specs.Calls.{rebuildCalls};
 ghost use Rattle.bind.specs.Bind.{bindDeclarators};
-ghost use Rattle.opt.specs.declared.Answer.the-variants.{Done};
-ghost use Rattle.opt.specs.Answer.{numberOf, lengthOf, placeOf};
 ghost use Rattle.opt.specs.Passes.{stepOf, stepsOf, whole, resultOf};
-ghost use Rattle.opt.specs.Entry.{byteSize, blockSize, isShort, checkedLines, checked, roomed, answerOf, passAnswer, blank, workAfter, outAfter};
+ghost use Rattle.limits.specs.Entry.{byteSize, blockSize, isShort, roomed, answerOf, passAnswer, blank, outAfter};
 ghost use Rattle.opt.specs.Room.{Room, Sized, Long, Blank, Wiped, After, Front};
-
-// How many bytes of each work buffer are used, and how many numbers.
-const BYTES: usize = 32769;
-
-const BLOCKS: usize = 16384;
-
-// What an entry answers: the length of the result, or why there is none.
-pub enum Answer {
-    Done(usize),
-    BadPass,
-    TooLong,
-    ShortWork,
-    NotUtf8(usize),
-    TooManyLines,
-    Crowded(usize),
-    ShortResult(usize),
-}
-
-// The number of an answer: 0, or that of the check that refused.
-pub fn number_of(r: Answer) -> u8
-    ensures { λ x. ⌜ x ≡ numberOf r ⌝ }
-{
-    match r {
-        Answer::Done(n) => 0,
-        Answer::BadPass => 1,
-        Answer::TooLong => 2,
-        Answer::ShortWork => 3,
-        Answer::NotUtf8(i) => 4,
-        Answer::TooManyLines => 5,
-        Answer::Crowded(n) => 6,
-        Answer::ShortResult(n) => 7,
-    }
-}
-
-// The length of the result, 0 where there is none.
-pub fn length_of(r: Answer) -> usize
-    ensures { λ x. ⌜ x ≡ lengthOf r ⌝ }
-{
-    match r {
-        Answer::Done(n) => n,
-        Answer::BadPass => 0,
-        Answer::TooLong => 0,
-        Answer::ShortWork => 0,
-        Answer::NotUtf8(i) => 0,
-        Answer::TooManyLines => 0,
-        Answer::Crowded(n) => 0,
-        Answer::ShortResult(n) => 0,
-    }
-}
-
-// The place of a refusal.
-pub fn place_of(r: Answer) -> usize
-    ensures { λ x. ⌜ x ≡ placeOf r ⌝ }
-{
-    match r {
-        Answer::Done(n) => 0,
-        Answer::BadPass => 0,
-        Answer::TooLong => 16384,
-        Answer::ShortWork => 0,
-        Answer::NotUtf8(i) => i,
-        Answer::TooManyLines => 1024,
-        Answer::Crowded(n) => n,
-        Answer::ShortResult(n) => n,
-    }
-}
 
 // Runs optimize_once, with its tables for 1,024 lines.
 fn once_step(src: &[u8], scratch: &mut [u8], mid: &mut [u8], u: &mut [u32], dst: &mut [u8]) -> usize
@@ -256,19 +189,6 @@ fn wipe_all(a: &mut [u8], b: &mut [u8], c: &mut [u8], d: &mut [u8], e: &mut [u8]
     wipe_numbers(u);
 }
 
-// Joins the lines of `lf` into the result buffer, where it is long enough.
-fn finish(lf: &[u8], ended: bool, out: &mut [u8]) -> Answer
-    ensures answer { λ r. ⌜ r ≡ roomed (length (joined ended (linesOf (now (lf .entry))))) (length (now (out .entry))) ⌝ }
-    ensures memory { λ r. ⌜ now (out .exit) ≡ outAfter r (joined ended (linesOf (now (lf .entry)))) (now (out .entry)) ⌝ }
-{
-    let n = lines::joined_len(lf, ended);
-    if out.len() < n {
-        return Answer::ShortResult(n);
-    }
-    let m = lines::join_lines(lf, ended, out);
-    Answer::Done(m)
-}
-
 // Runs the passes from `k` up to `to` over a text, in work buffers of the stated sizes, and leaves these 0.
 fn work(
     k: usize,
@@ -281,7 +201,7 @@ fn work(
     e: &mut [u8],
     u: &mut [u32],
     out: &mut [u8],
-) -> Answer
+) -> limits::Answer
     requires { ⌜ (length (now text) ≤ 16384) × ((length (splitLines (now text)) ≤ 1024) × ((length (now a) ≡ byteSize) × Sized (now b) (now c) (now d) (now e) (now u))) ⌝ }
     ensures answer { λ r. ⌜ r ≡ roomed (length (resultOf (stepsOf plain k (to - k)) (now (text .entry)))) (length (now (out .entry))) ⌝ }
     ensures memory { λ r. ⌜ (now (out .exit) ≡ outAfter r (resultOf (stepsOf plain k (to - k)) (now (text .entry))) (now (out .entry)))
@@ -289,7 +209,7 @@ fn work(
 {
     let n = chain(k, to, text, a, b, c, d, e, u);
     let ended = lines::ends_lf(text);
-    let r = finish(&a[..n], ended, out);
+    let r = limits::finish(&a[..n], ended, out);
     wipe_all(a, b, c, d, e, u);
     r
 }
@@ -306,14 +226,14 @@ fn run(
     e: &mut [u8],
     u: &mut [u32],
     out: &mut [u8],
-) -> Answer
+) -> limits::Answer
     requires { ⌜ (length (now text) ≤ 16384) × ((length (splitLines (now text)) ≤ 1024) × Long (now a) (now b) (now c) (now d) (now e) (now u)) ⌝ }
     ensures answer { λ r. ⌜ r ≡ roomed (length (resultOf (stepsOf plain k (to - k)) (now (text .entry)))) (length (now (out .entry))) ⌝ }
     ensures memory { λ r. ⌜ (now (out .exit) ≡ outAfter r (resultOf (stepsOf plain k (to - k)) (now (text .entry))) (now (out .entry)))
         × Wiped (now (a .entry)) (now (b .entry)) (now (c .entry)) (now (d .entry)) (now (e .entry)) (now (u .entry)) (now (a .exit)) (now (b .exit)) (now (c .exit)) (now (d .exit)) (now (e .exit)) (now (u .exit)) ⌝ }
 {
-    let n = BYTES;
-    let m = BLOCKS;
+    let n = limits::BYTES;
+    let m = limits::BLOCKS;
     work(
         k,
         to,
@@ -328,57 +248,6 @@ fn run(
     )
 }
 
-// Whether one of six work buffers, of these lengths, is shorter than its stated size.
-fn too_short(a: usize, b: usize, c: usize, d: usize, e: usize, u: usize) -> bool
-    ensures { λ r. ⌜ r ≡ isShort a b c d e u ⌝ }
-{
-    if a < BYTES {
-        return true;
-    }
-    if b < BYTES {
-        return true;
-    }
-    if c < BYTES {
-        return true;
-    }
-    if d < BYTES {
-        return true;
-    }
-    if e < BYTES {
-        return true;
-    }
-    u < BLOCKS
-}
-
-// Why a text is refused by its lines, or `Done` where it is not.
-fn refused_lines(text: &[u8]) -> Answer
-    ensures { λ r. ⌜ r ≡ checkedLines (now (text .entry)) (Done 0) ⌝ }
-{
-    if lines::count_lines(text) > 1024 {
-        return Answer::TooManyLines;
-    }
-    match lines::crowded_line(text, 64) {
-        lines::Crowded::At(n) => Answer::Crowded(n),
-        lines::Crowded::Nowhere => Answer::Done(0),
-    }
-}
-
-// Why a text is refused, or `Done` where it is not. The checks stand in their order.
-fn refused(text: &[u8], short: bool) -> Answer
-    ensures { λ r. ⌜ r ≡ checked short (now (text .entry)) (Done 0) ⌝ }
-{
-    if text.len() > 16384 {
-        return Answer::TooLong;
-    }
-    if short {
-        return Answer::ShortWork;
-    }
-    match text::check_utf8(text) {
-        text::Utf8::Bad(i) => Answer::NotUtf8(i),
-        text::Utf8::Valid => refused_lines(text),
-    }
-}
-
 // Checks a text, and runs the passes from `k` up to `to` over it.
 fn tidy(
     k: usize,
@@ -391,14 +260,14 @@ fn tidy(
     e: &mut [u8],
     u: &mut [u32],
     out: &mut [u8],
-) -> Answer
+) -> limits::Answer
     ensures answer { λ r. ⌜ r ≡ answerOf (isShort (length (now (a .entry))) (length (now (b .entry))) (length (now (c .entry))) (length (now (d .entry))) (length (now (e .entry))) (length (now (u .entry)))) (now (text .entry)) (resultOf (stepsOf plain k (to - k)) (now (text .entry))) (length (now (out .entry))) ⌝ }
     ensures memory { λ r. ⌜ (now (out .exit) ≡ outAfter r (resultOf (stepsOf plain k (to - k)) (now (text .entry))) (now (out .entry)))
         × After r (now (a .entry)) (now (b .entry)) (now (c .entry)) (now (d .entry)) (now (e .entry)) (now (u .entry)) (now (a .exit)) (now (b .exit)) (now (c .exit)) (now (d .exit)) (now (e .exit)) (now (u .exit)) ⌝ }
 {
-    let short = too_short(a.len(), b.len(), c.len(), d.len(), e.len(), u.len());
-    let r = refused(text, short);
-    if number_of(r) != 0 {
+    let short = limits::too_short(a.len(), b.len(), c.len(), d.len(), e.len(), u.len());
+    let r = limits::refused(text, short);
+    if limits::number_of(r) != 0 {
         return r;
     }
     run(k, to, text, a, b, c, d, e, u, out)
@@ -415,7 +284,7 @@ pub fn optimize(
     e: &mut [u8],
     u: &mut [u32],
     out: &mut [u8],
-) -> Answer
+) -> limits::Answer
     ensures answer { λ r. ⌜ r ≡ answerOf (isShort (length (now (a .entry))) (length (now (b .entry))) (length (now (c .entry))) (length (now (d .entry))) (length (now (e .entry))) (length (now (u .entry)))) (now (text .entry)) (resultOf (whole plain) (now (text .entry))) (length (now (out .entry))) ⌝ }
     ensures memory { λ r. ⌜ (now (out .exit) ≡ outAfter r (resultOf (whole plain) (now (text .entry))) (now (out .entry)))
         × After r (now (a .entry)) (now (b .entry)) (now (c .entry)) (now (d .entry)) (now (e .entry)) (now (u .entry)) (now (a .exit)) (now (b .exit)) (now (c .exit)) (now (d .exit)) (now (e .exit)) (now (u .exit)) ⌝ }
@@ -434,16 +303,16 @@ pub fn run_pass(
     e: &mut [u8],
     u: &mut [u32],
     out: &mut [u8],
-) -> Answer
+) -> limits::Answer
     ensures answer { λ r. ⌜ r ≡ passAnswer pass (isShort (length (now (a .entry))) (length (now (b .entry))) (length (now (c .entry))) (length (now (d .entry))) (length (now (e .entry))) (length (now (u .entry)))) (now (text .entry)) (resultOf (stepOf plain pass) (now (text .entry))) (length (now (out .entry))) ⌝ }
     ensures memory { λ r. ⌜ (now (out .exit) ≡ outAfter r (resultOf (stepOf plain pass) (now (text .entry))) (now (out .entry)))
         × After r (now (a .entry)) (now (b .entry)) (now (c .entry)) (now (d .entry)) (now (e .entry)) (now (u .entry)) (now (a .exit)) (now (b .exit)) (now (c .exit)) (now (d .exit)) (now (e .exit)) (now (u .exit)) ⌝ }
 {
     if pass < 1 {
-        return Answer::BadPass;
+        return limits::Answer::BadPass;
     }
     if pass > 6 {
-        return Answer::BadPass;
+        return limits::Answer::BadPass;
     }
     tidy(pass, pass + 1, text, a, b, c, d, e, u, out)
 }

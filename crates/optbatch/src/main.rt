@@ -7,7 +7,7 @@ ghost use Prim.Native.Nat.{_≤_};
 ghost use lib.ListN.{length};
 use libc::STDIN_FILENO;
 use libc::STDOUT_FILENO;
-use opt::Answer;
+use limits::Answer;
 use wire::Asked;
 use wire::Request;
 
@@ -141,15 +141,15 @@ fn answer(q: Request, text: &[u8]) -> bool {
         &mut u,
         &mut out,
     );
-    let number = opt::number_of(got);
-    let n = opt::length_of(got);
+    let number = limits::number_of(got);
+    let n = limits::length_of(got);
     let ran = (number == 0) | (number == 7);
     let memory = work_fixed(ran, &a, &b, &c, &d, &e, &u) & lent::kept_from(&out, n);
     wire::write_answer(
         STDOUT_FILENO,
         number,
         memory,
-        opt::place_of(got),
+        limits::place_of(got),
         lines::cut(&out, 0, n),
     )
 }

@@ -3,7 +3,7 @@ ghost use mathlib.Core.Path.{_≡_};
 ghost use lib.ListN.{length};
 use libc::STDIN_FILENO;
 use libc::STDOUT_FILENO;
-use opt::Answer;
+use limits::Answer;
 
 // Room for a text: one byte more than is taken, so that a longer text is seen.
 fn text_room() -> [u8; 16385]
@@ -28,15 +28,15 @@ fn block_room() -> [u32; 16384]
 
 // Writes what came of a text.
 fn say(answer: Answer, out: &[u8]) {
-    let number = opt::number_of(answer);
+    let number = limits::number_of(answer);
     if number == 0 {
-        io::write_all(STDOUT_FILENO, lines::cut(out, 0, opt::length_of(answer)));
+        io::write_all(STDOUT_FILENO, lines::cut(out, 0, limits::length_of(answer)));
         return;
     }
     io::write_all(STDOUT_FILENO, b"refused ");
     io::print_decimal(STDOUT_FILENO, number as u64);
     io::write_all(STDOUT_FILENO, b" ");
-    io::print_decimal(STDOUT_FILENO, opt::place_of(answer) as u64);
+    io::print_decimal(STDOUT_FILENO, limits::place_of(answer) as u64);
     io::write_all(STDOUT_FILENO, b"\n");
 }
 

@@ -4,10 +4,11 @@ use mathlib.Core.Path.{_∙_}
 use lib.ListN.{length}
 use Rattle.lines.proofs.Tests.{is-in, is-below, is-above}
 use Rattle.reading.specs.Reading.{plain}
-use Rattle.opt.specs.declared.Answer.the-variants.{BadPass}
+use Rattle.limits.specs.declared.Answer.the-variants.{BadPass}
 use Rattle.opt.specs.Passes.{stepOf, resultOf}
-use Rattle.opt.specs.Entry.{isShort}
-use Rattle.opt.proofs.EntryLaws.{pass-bad, pass-good, bad-runs, bad-done, out-kept, all-kept, result-one}
+use Rattle.limits.specs.Entry.{isShort}
+use Rattle.limits.proofs.AnswerLaws.{pass-bad, pass-good, bad-runs, bad-done, out-kept}
+use Rattle.opt.proofs.EntryLaws.{all-kept, result-one}
 use Rattle.opt.proofs.run_pass.Statement.{statement}
 use Rattle.opt.proofs.run_pass.Tie as tie
 

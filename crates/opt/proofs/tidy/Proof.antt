@@ -4,11 +4,12 @@ use mathlib.Core.Path.{sym, ap, _∙_}
 use mathlib.Core.Bool.{Bool}
 use lib.ListN.{length}
 use Rattle.reading.specs.Reading.{plain}
-use Rattle.opt.specs.declared.Answer.the-variants.{Done}
-use Rattle.opt.specs.Answer.{isDone}
+use Rattle.limits.specs.declared.Answer.the-variants.{Done}
+use Rattle.limits.specs.Answer.{isDone}
 use Rattle.opt.specs.Passes.{stepsOf, resultOf}
-use Rattle.opt.specs.Entry.{isShort, checked}
-use Rattle.opt.proofs.EntryLaws.{done-by, done-not, long-by, accepted-by, out-kept, all-kept, all-wiped, answer-refused, answer-accepted}
+use Rattle.limits.specs.Entry.{isShort, checked}
+use Rattle.limits.proofs.AnswerLaws.{done-by, done-not, accepted-by, out-kept, answer-refused, answer-accepted}
+use Rattle.opt.proofs.EntryLaws.{long-by, all-kept, all-wiped}
 use Rattle.opt.proofs.tidy.Statement.{statement}
 use Rattle.opt.proofs.tidy.Tie as tie
 

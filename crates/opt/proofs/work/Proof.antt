@@ -5,7 +5,7 @@ use mathlib.Core.List.{List}
 use lib.ListN.{length}
 use lib.Seq.{length-take-le}
 use Rattle.bind.proofs.Cut.{plain-by-line}
-use Rattle.opt.specs.Entry.{roomed, outAfter}
+use Rattle.limits.specs.Entry.{roomed, outAfter}
 use Rattle.opt.proofs.Tame.{tame-steps}
 use Rattle.opt.proofs.WorkLaws.{front-result}
 use Rattle.opt.proofs.work.Statement.{statement}

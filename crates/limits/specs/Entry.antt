@@ -11,9 +11,9 @@ use Rattle.lines.specs.Steps.{splitLines, overFrom}
 use Rattle.text.specs.declared.Utf8 as utf8
 use Rattle.text.specs.declared.Utf8.the-variants as utf8-is
 use Rattle.text.specs.Utf8Form.{utf8Of}
-use Rattle.opt.specs.declared.Answer.{Answer}
-use Rattle.opt.specs.declared.Answer.the-variants.{Done, BadPass, TooLong, ShortWork, NotUtf8, TooManyLines, Crowded, ShortResult}
-use Rattle.opt.specs.Answer.{runs, isDone}
+use Rattle.limits.specs.declared.Answer.{Answer}
+use Rattle.limits.specs.declared.Answer.the-variants.{Done, BadPass, TooLong, ShortWork, NotUtf8, TooManyLines, Crowded, ShortResult}
+use Rattle.limits.specs.Answer.{runs, isDone}
 
 -- the stated size of each of the five work buffers of bytes, and of the one of numbers
 abbrev pub byteSize : ℕ

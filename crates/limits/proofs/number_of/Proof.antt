@@ -1,8 +1,8 @@
 use borrow.Author.Needs.{needs}
-use Rattle.opt.specs.Answer.{numberOf}
-use Rattle.opt.proofs.EntryLaws.{number-as}
-use Rattle.opt.proofs.number_of.Statement.{statement}
-use Rattle.opt.proofs.number_of.Tie as tie
+use Rattle.limits.specs.Answer.{numberOf}
+use Rattle.limits.proofs.AnswerLaws.{number-as}
+use Rattle.limits.proofs.number_of.Statement.{statement}
+use Rattle.limits.proofs.number_of.Tie as tie
 
 enum-known-r : tie.Need-enum-known-r
 enum-known-r c = search needs

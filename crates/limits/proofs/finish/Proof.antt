@@ -1,9 +1,9 @@
 use borrow.Author.Needs.{needs}
 use native.Mathlib.Omega.{arith}
 use Rattle.lines.proofs.OutLaws.{wrote-length}
-use Rattle.opt.proofs.WorkLaws.{roomed-short, roomed-done, out-short, out-done}
-use Rattle.opt.proofs.finish.Statement.{statement}
-use Rattle.opt.proofs.finish.Tie as tie
+use Rattle.limits.proofs.AnswerLaws.{roomed-short, roomed-done, out-short, out-done}
+use Rattle.limits.proofs.finish.Statement.{statement}
+use Rattle.limits.proofs.finish.Tie as tie
 
 joined-len-requires : tie.Need-joined-len-requires
 joined-len-requires c κs = search needs

@@ -1,10 +1,10 @@
 use borrow.Author.Needs.{needs}
 use mathlib.Core.Path.{sym, _∙_}
 use native.Mathlib.Omega.{arith}
-use Rattle.opt.specs.declared.Answer.the-variants.{Done}
-use Rattle.opt.proofs.EntryLaws.{lines-many, lines-few}
-use Rattle.opt.proofs.refused_lines.Statement.{statement}
-use Rattle.opt.proofs.refused_lines.Tie as tie
+use Rattle.limits.specs.declared.Answer.the-variants.{Done}
+use Rattle.limits.proofs.AnswerLaws.{lines-many, lines-few}
+use Rattle.limits.proofs.refused_lines.Statement.{statement}
+use Rattle.limits.proofs.refused_lines.Tie as tie
 
 count-lines-requires : tie.Need-count-lines-requires
 count-lines-requires c κs = search needs

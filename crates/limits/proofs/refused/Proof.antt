@@ -1,9 +1,9 @@
 use borrow.Author.Needs.{needs}
 use mathlib.Core.Path.{sym, _∙_}
-use Rattle.opt.specs.declared.Answer.the-variants.{Done}
-use Rattle.opt.proofs.EntryLaws.{text-long, work-short, text-read}
-use Rattle.opt.proofs.refused.Statement.{statement}
-use Rattle.opt.proofs.refused.Tie as tie
+use Rattle.limits.specs.declared.Answer.the-variants.{Done}
+use Rattle.limits.proofs.AnswerLaws.{text-long, work-short, text-read}
+use Rattle.limits.proofs.refused.Statement.{statement}
+use Rattle.limits.proofs.refused.Tie as tie
 
 returns : tie.Need-returns
 returns c = text-long (c .before .before .args .text .now) (Done 0) _ (c .if1 .taken)

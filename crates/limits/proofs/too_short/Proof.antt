@@ -1,7 +1,7 @@
 use borrow.Author.Tests.{lt-ltb, le-ltb}
-use Rattle.opt.specs.Entry.{byteSize}
-use Rattle.opt.proofs.too_short.Statement.{statement}
-use Rattle.opt.proofs.too_short.Tie as tie
+use Rattle.limits.specs.Entry.{byteSize}
+use Rattle.limits.proofs.too_short.Statement.{statement}
+use Rattle.limits.proofs.too_short.Tie as tie
 
 returns : tie.Need-returns
 returns c = rw (lt-ltb (c .before .args .a) byteSize (c .if1 .taken))

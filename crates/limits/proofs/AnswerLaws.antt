@@ -1,0 +1,182 @@
+-- Laws of the checks, of the answer, and of what an answer leaves. Assumes nothing.
+use Prim.Native.Nat.{ℕ, _+_, _-_, _≤_, _<_}
+use mathlib.Core.Path.{_≡_, refl, sym, ap, _∙_}
+use mathlib.Core.Bool.{Bool, true, false, cond, _||_}
+use mathlib.Core.List.{List, _++_}
+use native.Mathlib.Omega.{arith}
+use borrow.Author.Tests.{lt-ltb, le-ltb, ltb-false, eq-eqb, ne-eqb}
+use lib.Dec.{ltb}
+use native.Mathlib.Nat.{zero-add}
+use lib.ListN.{length, take, drop}
+use Rattle.lines.specs.declared.Crowded as crowd
+use Rattle.lines.specs.declared.Crowded.the-variants as crowd-is
+use Rattle.lines.specs.Lf.{endsIn, within}
+use Rattle.lines.specs.Out.{putAt, Wrote}
+use Rattle.lines.specs.Steps.{splitLines, joined, overFrom}
+use Rattle.lines.proofs.Tests.{no}
+use Rattle.text.specs.declared.Utf8 as utf8
+use Rattle.text.specs.declared.Utf8.the-variants as utf8-is
+use Rattle.text.specs.Utf8Form.{utf8Of}
+use Rattle.limits.specs.declared.Answer.{Answer}
+use Rattle.limits.specs.declared.Answer.the-variants.{Done, BadPass, TooLong, ShortWork, TooManyLines, Crowded, ShortResult}
+use Rattle.limits.specs.Answer.{numberOf, lengthOf, placeOf, runs, isDone}
+use Rattle.limits.specs.Entry.{byteSize, blockSize, isShort, byUtf8, byCrowd, checkedLines, checked, roomed, answerOf, passAnswer, blank, workAfter, outAfter}
+
+-- ---- one check after the other
+
+module _ (t : List ℕ) (fine : Answer) where
+  pub lines-many : 1024 < length (splitLines t) → TooManyLines ≡ checkedLines t fine
+  unfolding checkedLines
+  lines-many h = rw (lt-ltb 1024 (length (splitLines t)) h)
+
+  pub lines-few : length (splitLines t) ≤ 1024 → {x : crowd.Crowded} → overFrom 64 91 0 (splitLines t) ≡ x → byCrowd x fine ≡ checkedLines t fine
+  unfolding checkedLines
+  lines-few h e = rw (le-ltb 1024 (length (splitLines t)) h, e)
+
+  module _ (short : Bool) where
+    pub text-long : 16384 < length t → TooLong ≡ checked short t fine
+    unfolding checked
+    text-long h = rw (lt-ltb 16384 (length t) h)
+
+    pub work-short : length t ≤ 16384 → short ≡ true → ShortWork ≡ checked short t fine
+    unfolding checked
+    work-short h e = rw (le-ltb 16384 (length t) h, e)
+
+    pub text-read : length t ≤ 16384 → short ≡ false → {x : utf8.Utf8} → utf8Of t ≡ x → byUtf8 x (checkedLines t fine) ≡ checked short t fine
+    unfolding checked
+    text-read h e q = rw (le-ltb 16384 (length t) h, e, q)
+
+-- ---- a text that no check refuses, and one that a check refuses
+
+abbrev tests : Bool → Bool → utf8.Utf8 → Bool → crowd.Crowded → Answer → Answer
+tests p s v q o x = cond p TooLong (cond s ShortWork (byUtf8 v (cond q TooManyLines (byCrowd o x))))
+
+record Passed (p s : Bool) (v : utf8.Utf8) (q : Bool) (o : crowd.Crowded) : Type 0 where
+  not-long : p ≡ false
+  not-short : s ≡ false
+  not-many : q ≡ false
+  same : (x : Answer) → tests p s v q o x ≡ x
+
+passed-by : (p s : Bool) (v : utf8.Utf8) (q : Bool) (o : crowd.Crowded) → isDone (tests p s v q o (Done 0)) ≡ true → Passed p s v q o
+unfolding isDone
+passed-by true s v q o h = no h
+passed-by false true v q o h = no h
+passed-by false false (utf8-is.Bad i) q o h = no h
+passed-by false false utf8-is.Valid true o h = no h
+passed-by false false utf8-is.Valid false (crowd-is.At n) h = no h
+passed-by false false utf8-is.Valid false crowd-is.Nowhere h = record { not-long = refl; not-short = refl; not-many = refl; same = λ x. refl }
+
+stopped-by : (p s : Bool) (v : utf8.Utf8) (q : Bool) (o : crowd.Crowded) → isDone (tests p s v q o (Done 0)) ≡ false → (x : Answer) →
+    (tests p s v q o x ≡ tests p s v q o (Done 0)) × (runs (tests p s v q o (Done 0)) ≡ false)
+unfolding isDone runs
+stopped-by true s v q o h x = (refl, refl)
+stopped-by false true v q o h x = (refl, refl)
+stopped-by false false (utf8-is.Bad i) q o h x = (refl, refl)
+stopped-by false false utf8-is.Valid true o h x = (refl, refl)
+stopped-by false false utf8-is.Valid false (crowd-is.At n) h x = (refl, refl)
+stopped-by false false utf8-is.Valid false crowd-is.Nowhere h x = no (sym h)
+
+pub record Accepted (short : Bool) (t : List ℕ) : Type 0 where
+  pub long-enough : short ≡ false
+  pub bytes : length t ≤ 16384
+  pub lines : length (splitLines t) ≤ 1024
+  pub same : (x : Answer) → checked short t x ≡ x
+
+pub accepted-by : (short : Bool) (t : List ℕ) → isDone (checked short t (Done 0)) ≡ true → Accepted short t
+unfolding checked checkedLines
+accepted-by short t h =
+    let p = passed-by (ltb 16384 (length t)) short (utf8Of t) (ltb 1024 (length (splitLines t))) (overFrom 64 91 0 (splitLines t)) h in
+    record {
+      long-enough = p .not-short;
+      bytes = ltb-false 16384 (length t) (p .not-long);
+      lines = ltb-false 1024 (length (splitLines t)) (p .not-many);
+      same = p .same;
+    }
+
+pub refused-by : (short : Bool) (t : List ℕ) → isDone (checked short t (Done 0)) ≡ false → (x : Answer) → (checked short t x ≡ checked short t (Done 0)) × (runs (checked short t (Done 0)) ≡ false)
+unfolding checked checkedLines
+refused-by short t h x = stopped-by (ltb 16384 (length t)) short (utf8Of t) (ltb 1024 (length (splitLines t))) (overFrom 64 91 0 (splitLines t)) h x
+
+-- ---- what an answer leaves
+
+pub work-kept : (r : Answer) (n : ℕ) (d : List ℕ) → runs r ≡ false → d ≡ workAfter r n d
+unfolding workAfter
+work-kept r n d h = rw h
+
+pub out-kept : (r : Answer) (xs d : List ℕ) → isDone r ≡ false → d ≡ outAfter r xs d
+unfolding outAfter
+out-kept r xs d h = rw h
+
+pub roomed-runs : (n room : ℕ) → runs (roomed n room) ≡ true
+unfolding runs
+roomed-runs n room = go (ltb room n)
+  where
+    go : (b : Bool) → runs (cond b (ShortResult n) (Done n)) ≡ true
+    go true = refl
+    go false = refl
+
+pub work-wiped : (r : Answer) (n : ℕ) (d : List ℕ) {d′ : List ℕ} → runs r ≡ true → d′ ≡ blank n ++ drop n d → d′ ≡ workAfter r n d
+unfolding workAfter
+work-wiped r n d h e = rw h e
+
+-- ---- the answer
+
+-- r is x
+pub number-as : (r : Answer) {x : Answer} → r ≡ x → numberOf x ≡ numberOf r
+number-as r e = ap numberOf (sym e)
+
+pub length-as : (r : Answer) {x : Answer} → r ≡ x → lengthOf x ≡ lengthOf r
+length-as r e = ap lengthOf (sym e)
+
+pub place-as : (r : Answer) {x : Answer} → r ≡ x → placeOf x ≡ placeOf r
+place-as r e = ap placeOf (sym e)
+
+-- its number tells whether it is `Done`
+pub done-by : (r : Answer) {n : ℕ} → n ≡ numberOf r → n ≡ 0 → isDone r ≡ true
+unfolding isDone
+done-by r {n} e h = eq-eqb (numberOf r) 0 (sym e ∙ h)
+
+pub done-not : (r : Answer) {n : ℕ} → n ≡ numberOf r → (n ≡ 0 → ⊥) → isDone r ≡ false
+unfolding isDone
+done-not r {n} e h = ne-eqb (numberOf r) 0 (λ z. h (e ∙ z))
+
+pub answer-refused : (r : Answer) (short : Bool) (t xs : List ℕ) (room : ℕ) → r ≡ checked short t (Done 0) → isDone r ≡ false → (r ≡ answerOf short t xs room) × (runs r ≡ false)
+unfolding answerOf
+answer-refused r short t xs room e h = let p = refused-by short t (ap isDone (sym e) ∙ h) (roomed (length xs) room) in (e ∙ sym (p .0), ap runs e ∙ p .1)
+
+pub answer-accepted : {r : Answer} (short : Bool) (t xs : List ℕ) (room : ℕ) → Accepted short t → r ≡ roomed (length xs) room → r ≡ answerOf short t xs room
+unfolding answerOf
+answer-accepted short t xs room p e = e ∙ sym (p .same (roomed (length xs) room))
+
+module _ (k : ℕ) (short : Bool) (t xs : List ℕ) (room : ℕ) where
+  pub pass-bad : within 1 6 k ≡ false → BadPass ≡ passAnswer k short t xs room
+  unfolding passAnswer
+  pass-bad h = rw h
+
+  pub pass-good : within 1 6 k ≡ true → answerOf short t xs room ≡ passAnswer k short t xs room
+  unfolding passAnswer
+  pass-good h = rw h
+
+pub bad-runs : runs BadPass ≡ false
+unfolding runs
+bad-runs = refl
+
+pub bad-done : isDone BadPass ≡ false
+unfolding isDone
+bad-done = refl
+
+-- ---- the last step
+
+pub roomed-short : (n room : ℕ) {m : ℕ} → m ≡ n → room < m → ShortResult m ≡ roomed n room
+roomed-short n room e l = rw (e, lt-ltb room n (omega arith))
+
+pub roomed-done : (n room : ℕ) {m : ℕ} → m ≡ 0 + n → n ≤ room → Done m ≡ roomed n room
+roomed-done n room {m} e l = let q : m ≡ n = omega arith in rw (q, le-ltb room n l)
+
+pub out-short : (n : ℕ) (xs d : List ℕ) → d ≡ outAfter (ShortResult n) xs d
+unfolding outAfter isDone
+out-short n xs d = refl
+
+pub out-done : {d xs d′ : List ℕ} {r : ℕ} → Wrote d 0 xs d′ r → d′ ≡ outAfter (Done r) xs d
+unfolding outAfter isDone putAt
+out-done {d} {xs} w = w .holds ∙ ap (λ (n : ℕ). take 0 d ++ xs ++ drop n d) (zero-add (length xs))

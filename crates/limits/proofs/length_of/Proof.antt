@@ -1,0 +1,82 @@
+use borrow.Author.Needs.{needs}
+use Rattle.limits.specs.Answer.{lengthOf}
+use Rattle.limits.proofs.AnswerLaws.{length-as}
+use Rattle.limits.proofs.length_of.Statement.{statement}
+use Rattle.limits.proofs.length_of.Tie as tie
+
+enum-known-r : tie.Need-enum-known-r
+enum-known-r c = search needs
+
+enum-told : tie.Need-enum-told
+enum-told c = search needs
+
+enum-told-2 : tie.Need-enum-told-2
+enum-told-2 c = search needs
+
+enum-told-3 : tie.Need-enum-told-3
+enum-told-3 c = search needs
+
+enum-known-r-2 : tie.Need-enum-known-r-2
+enum-known-r-2 c = search needs
+
+enum-told-4 : tie.Need-enum-told-4
+enum-told-4 c = search needs
+
+enum-known-r-3 : tie.Need-enum-known-r-3
+enum-known-r-3 c = search needs
+
+enum-known-r-4 : tie.Need-enum-known-r-4
+enum-known-r-4 c = search needs
+
+returns : tie.Need-returns
+unfolding lengthOf
+returns c = length-as (c .before .before .before .args .r) (c .before .r .given .1)
+
+returns-2 : tie.Need-returns-2
+unfolding lengthOf
+returns-2 c = length-as (c .before .before .args .r) (c .enum-told .given .1)
+
+returns-3 : tie.Need-returns-3
+unfolding lengthOf
+returns-3 c = length-as (c .before .before .args .r) (c .enum-told2 .given .1)
+
+returns-4 : tie.Need-returns-4
+unfolding lengthOf
+returns-4 c = length-as (c .before .before .args .r) (c .enum-told3 .given .1)
+
+returns-5 : tie.Need-returns-5
+unfolding lengthOf
+returns-5 c = length-as (c .before .before .before .args .r) (c .before .r2 .given .1)
+
+returns-6 : tie.Need-returns-6
+unfolding lengthOf
+returns-6 c = length-as (c .before .before .args .r) (c .enum-told4 .given .1)
+
+returns-7 : tie.Need-returns-7
+unfolding lengthOf
+returns-7 c = length-as (c .before .before .before .args .r) (c .before .r3 .given .1)
+
+returns-8 : tie.Need-returns-8
+unfolding lengthOf
+returns-8 c = length-as (c .before .before .before .args .r) (c .before .r4 .given .1)
+
+pub length-of-spec : {M : Type 1} → statement M
+length-of-spec =
+    tie.close
+    (tie.spec
+    enum-known-r
+    enum-told
+    enum-told-2
+    enum-told-3
+    enum-known-r-2
+    enum-told-4
+    enum-known-r-3
+    enum-known-r-4
+    returns
+    returns-2
+    returns-3
+    returns-4
+    returns-5
+    returns-6
+    returns-7
+    returns-8)
