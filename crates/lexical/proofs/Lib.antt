@@ -3,6 +3,7 @@ pub mod EndLaws
 pub mod TokenLaws
 pub mod TailLaws
 pub mod LexLaws
+pub mod PlainLaws
 pub mod PhiLaws
 pub mod WordLaws
 pub mod Examples

@@ -1,12 +1,15 @@
 // Cleaning a line: comments go, and a literal leaves `S`; what is read from a cleaned line.
 ghost use mathlib.Core.Path.{_≡_};
 ghost use mathlib.Core.List.{[]};
-ghost use mathlib.Core.Bool.{false};
+ghost use mathlib.Core.Bool.{false, cond};
 ghost use Prim.Native.Nat.{_+_, _≤_};
 ghost use lib.ListN.{length, drop};
+ghost use Rattle.lines.specs.Lf.{part};
 ghost use Rattle.lines.specs.Out.{Wrote};
+ghost use Rattle.text.specs.White.{isWhite};
 ghost use Rattle.text.specs.Trim.{point, whiteChar};
 ghost use Rattle.lexical.specs.Lex.{quoteLen, patternLen, commentLen, patternAfter, token, tokenAt, leaves, lastOf, stripLexical, tailOf, lastAfter, pushed, grown, stepOf};
+ghost use Rattle.lexical.specs.Plain.{isPlain, plainLen, lowLast};
 ghost use Rattle.lexical.specs.Phi.{phiRhsPure, sees, seesAll};
 ghost use Rattle.lexical.specs.Idents.{charLen, joins, noWord, nextWord};
 
@@ -253,6 +256,89 @@ pub fn step_at(s: &[u8], i: usize, tail: Tail) -> Step
         next: i + token.size,
         kind,
         tail: grow(tail, kind, b),
+    }
+}
+
+// Whether a byte is plain: below 123, and no LF, no quote and no `/`. It is kept as it is, and is no brace.
+fn is_plain(b: u8) -> bool
+    ensures { λ r. ⌜ r ≡ isPlain b ⌝ }
+{
+    if 97 <= b {
+        return b < 123;
+    }
+    if b == 32 {
+        return true;
+    }
+    if 48 <= b {
+        return b < 96;
+    }
+    if 40 <= b {
+        return b < 47;
+    }
+    !((b == 10) | ((b == 34) | (b == 39)))
+}
+
+// Where the plain bytes from `i` on end.
+pub fn plain_end(s: &[u8], i: usize) -> usize
+    ensures { λ r. ⌜ r ≡ i + plainLen (drop i (now (s .entry))) ⌝ }
+{
+    let mut j = i;
+    while j < s.len() {
+        if !is_plain(s[j]) {
+            return j;
+        }
+        j += 1;
+    }
+    j
+}
+
+// The last character that is no white space, once the byte `b` below 128 stands after a text with this last one.
+fn low_after(last: u16, b: u8) -> u16
+    ensures { λ r. ⌜ r ≡ cond (isWhite b) last b ⌝ }
+{
+    if text::is_white(b as u32) {
+        return last;
+    }
+    b as u16
+}
+
+// The last character that is no white space, once the bytes from `i` to `j`, all below 128, stand after a text with this last one.
+fn low_last(s: &[u8], i: usize, j: usize, last: u16) -> u16
+    requires { ⌜ j ≤ length (now s) ⌝ }
+    ensures { λ r. ⌜ r ≡ lowLast last (part i j (now (s .entry))) ⌝ }
+{
+    let mut k = j;
+    while i < k {
+        let b = s[k - 1];
+        if !text::is_white(b as u32) {
+            return b as u16;
+        }
+        k -= 1;
+    }
+    last
+}
+
+// The tail once the plain bytes from `i` to `j` stand after the text.
+pub fn plain_tail(s: &[u8], i: usize, j: usize, t: Tail) -> Tail
+    requires { ⌜ j ≡ i + plainLen (drop i (now s)) ⌝ }
+    ensures { λ r. ⌜ r ≡ grown t (part i j (now (s .entry))) ⌝ }
+{
+    if i == j {
+        return t;
+    }
+    let b = s[j - 1];
+    if j - i == 1 {
+        return push(t, b);
+    }
+    let a = s[j - 2];
+    let last3 = low_last(s, i, j - 2, t.last);
+    let last2 = low_after(last3, a);
+    Tail {
+        byte: b,
+        byte2: a,
+        last: low_after(last2, b),
+        last2,
+        last3,
     }
 }
 

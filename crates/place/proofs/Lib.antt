@@ -7,6 +7,7 @@ pub mod Paths
 pub mod Fills
 pub mod Parents
 pub mod Starts
+pub mod Plains
 pub mod Tables
 pub mod Walks
 pub mod Nests

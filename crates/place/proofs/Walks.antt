@@ -14,8 +14,10 @@ use Rattle.lines.proofs.LfLaws.{lines-at, lines-end}
 use Rattle.lines.proofs.OutLaws.{Writing, writing-start, writing-as, writing-room}
 use Rattle.lexical.specs.declared.Step.{Step}
 use Rattle.lexical.specs.declared.Tail.{Tail}
-use Rattle.lexical.specs.Lex.{lastOf, leaves, lexGo, stripLexical, tailOf, stepOf}
+use Rattle.lexical.specs.Lex.{lastOf, leaves, lexGo, stripLexical, tailOf, grown, stepOf}
+use Rattle.lexical.specs.Plain.{plainLen}
 use Rattle.lexical.proofs.LexLaws.{LexAt, lex-start, lex-next, lex-on, lex-end}
+use Rattle.lexical.proofs.PlainLaws.{plain-take, lex-plain}
 use Rattle.place.specs.Blocks.{Brace, braceOf, cleaned, blockIds}
 use Rattle.place.specs.Starts.{startsAfter, startsBy, startsGo}
 use Rattle.place.specs.Fill.{Filled, flagsOf}
@@ -23,6 +25,7 @@ use Rattle.place.specs.Parents.{curBy, upsBy, Room, Moved, notesGo, flat
 use Rattle.place.proofs.Blocks.{cleaned-length}
 use Rattle.place.proofs.Fills.{entry-on, entry-end, flags-length, filled-as}
 use Rattle.place.proofs.Parents.{moved-none, moved-then, moved-as, room-as, room-first, room-then, room-length, ids-notes}
+use Rattle.place.proofs.Plains.{moved-run}
 use Rattle.place.proofs.Tables.{LinesInv, lines-start, lines-place, lines-room, lines-on, lines-done}
 use Rattle.place.proofs.Starts.{lex-keeps, length-starts, Bytes, bytes-strip, after-by}
 
@@ -77,11 +80,28 @@ module _ {line : List ℕ} {c : ℕ} {u₀ : List ℕ} {n : ℕ} {u : List ℕ} 
       moved = moved-as (sym (braces-append (h .out) (leaves (s .kind) (getD line i 0)))) (moved-then (h .moved) v);
     }
 
+  known : m ≤ length u
+  known = let p = rest-room (h .lex) in room-then (braces (h .out)) (braces (p .0)) (p .1) (h .moved) .known
+
+  -- over plain bytes
+  pub walk-plain : (j : ℕ) → j ≡ i + plainLen (drop i line) → (v : Tail) → v ≡ grown t (part i j line) → WalkInv line c u₀ n u j v k m
+  walk-plain j q v e = record {
+    room = h .room;
+    out = h .out ++ part i j line;
+    lex = lex-plain (h .lex) j q v e;
+    moved = moved-as (sym (braces-append (h .out) (part i j line))) (moved-then (h .moved) (moved-run (part i j line) k u m (plain-take (drop i line) (j - i) (omega arith)) known));
+  }
+
   pub walk-done : length line ≤ i → Moved (idsPost line) c u₀ n k u m × (t .last ≡ lastOf (stripLexical line))
   unfolding idsPost tailOf
   walk-done l =
       let e = lex-end (h .lex) l in
       (moved-as (ap braces e) (h .moved), ap (λ (x : Tail). x .last) (h .lex .tail) ∙ ap lastOf e)
+
+-- from the end of the plain bytes at its head
+pub walk-head : (line : List ℕ) (c : ℕ) (u : List ℕ) (n j : ℕ) (t v : Tail) → Room (idsPost line) c u n → t ≡ tailOf [] → j ≡ plainLen line → v ≡ grown t (part 0 j line) →
+    WalkInv line c u n u j v c n
+walk-head line c u n j t v r e q w = walk-plain (walk-start line c u n t r e) j (omega arith) v w
 
 -- ---- a test of the last character
 

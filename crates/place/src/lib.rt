@@ -6,6 +6,7 @@ ghost use Prim.Native.Nat.{_≤_, _<_, _+_, _-_, _^_};
 ghost use lib.ListN.{take, drop, length, replicate};
 ghost use Rattle.lines.specs.Lf.{linesOf, endsIn};
 ghost use Rattle.lexical.specs.Lex.{lastOf, leaves, stripLexical};
+ghost use Rattle.lexical.specs.Plain.{plainLen};
 ghost use Rattle.place.specs.Region.{isHeader, regionNext, regionLen};
 ghost use Rattle.place.specs.Blocks.{opens, closes, braceOf, blockIds, cleaned};
 ghost use Rattle.place.specs.Paths.{pathCloses, blockPaths, tops};
@@ -155,14 +156,14 @@ pub struct At {
     pub last: u16,
 }
 
-// The braces of a line as `block_ids` counts them, from the block `block`, with `n` blocks known.
-pub fn walk_line(line: &[u8], block: u32, up: &mut [u32], n: usize) -> At
-    requires { ⌜ Room (idsPost (now line)) block (now up) n ⌝ }
+// The braces of a line as `block_ids` counts them, from the block `block`, with `n` blocks known; the line begins with `k` plain bytes.
+fn walk_from(line: &[u8], k: usize, block: u32, up: &mut [u32], n: usize) -> At
+    requires { ⌜ (k ≡ plainLen (now line)) × Room (idsPost (now line)) block (now up) n ⌝ }
     ensures { λ r. ⌜ (Moved (idsPost (now (line .entry))) block (now (up .entry)) n (r .block) (now (up .exit)) (r .next))
         × (r .last ≡ lastOf (stripLexical (now (line .entry)))) ⌝ }
 {
-    let mut i = 0;
-    let mut tail = lexical::no_tail();
+    let mut i = k;
+    let mut tail = lexical::plain_tail(line, 0, k, lexical::no_tail());
     let mut c = block;
     let mut m = n;
     while i < line.len() {
@@ -172,14 +173,23 @@ pub fn walk_line(line: &[u8], block: u32, up: &mut [u32], n: usize) -> At
         let x = left(kind, b, c, up, m);
         c = x.block;
         m = x.next;
-        tail = step.tail;
-        i = step.next;
+        i = lexical::plain_end(line, step.next);
+        tail = lexical::plain_tail(line, step.next, i, step.tail);
     }
     At {
         block: c,
         next: m,
         last: tail.last,
     }
+}
+
+// The braces of a line as `block_ids` counts them, from the block `block`, with `n` blocks known.
+pub fn walk_line(line: &[u8], block: u32, up: &mut [u32], n: usize) -> At
+    requires { ⌜ Room (idsPost (now line)) block (now up) n ⌝ }
+    ensures { λ r. ⌜ (Moved (idsPost (now (line .entry))) block (now (up .entry)) n (r .block) (now (up .exit)) (r .next))
+        × (r .last ≡ lastOf (stripLexical (now (line .entry)))) ⌝ }
+{
+    walk_from(line, lexical::plain_end(line, 0), block, up, n)
 }
 
 // Whether the line below may begin a statement: where a cleaned line is blank, whether that one might, and else whether it ends in
@@ -208,11 +218,12 @@ pub fn place_lines(text: &[u8], blocks: &mut [usize], starts: &mut [u8], up: &mu
     let mut n = 0;
     let mut st = true;
     while i < text.len() {
-        let e = lines::find_byte(text, i, 10);
+        let p = lexical::plain_end(text, i);
+        let e = lines::find_byte(text, p, 10);
         blocks[k] = wide(c);
         starts[k] = flag(st);
         k += 1;
-        let x = walk_line(&text[i..e], c, up, n);
+        let x = walk_from(&text[i..e], p - i, c, up, n);
         c = x.block;
         n = x.next;
         st = starts_after(x.last, st);

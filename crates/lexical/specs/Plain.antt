@@ -1,0 +1,21 @@
+-- Plain bytes: a line leaves them as they are, and none of them is a brace. Assumes nothing.
+use Prim.Native.Nat.{ℕ, suc}
+use mathlib.Core.Bool.{Bool, cond, not, _&&_}
+use mathlib.Core.List.{List, [], _∷_}
+use lib.Dec.{leb}
+use Rattle.lines.specs.Lf.{among}
+use Rattle.text.specs.White.{isWhite}
+
+-- below 123, and no LF, no quote and no `/`
+abbrev pub isPlain : ℕ → Bool
+isPlain b = leb b 122 && not (among (10 ∷ 34 ∷ 39 ∷ 47 ∷ 96 ∷ []) b)
+
+-- how many plain bytes stand at the head of a text
+unfoldable pub plainLen : List ℕ → ℕ
+plainLen [] = 0
+plainLen (x ∷ xs) = cond (isPlain x) (suc (plainLen xs)) 0
+
+-- the last character, once bytes below 128 stand after a text with this last one
+unfoldable pub lowLast : ℕ → List ℕ → ℕ
+lowLast last [] = last
+lowLast last (b ∷ bs) = lowLast (cond (isWhite b) last b) bs
