@@ -14,14 +14,14 @@ use Rattle.text.specs.Trim.{fromOf, trimOf}
 use Rattle.names.specs.Names.{regOf}
 use Rattle.names.specs.declared.RegName.{RegName}
 use Rattle.names.specs.declared.RegName.the-variants as name
-use Rattle.lexical.specs.Lex.{stripLexical}
 use Rattle.place.specs.Region.{isHeader, headed}
 use Rattle.place.specs.Blocks.{blocks, cleaned, own}
-use Rattle.place.specs.Starts.{blank, startsGo}
+use Rattle.place.specs.Starts.{startsGo}
 use Rattle.place.proofs.Blocks.{rename, renamed, blockBelow, nextBelow, blocks-cut, below-lt, same-renamed, length-blocks}
-use Rattle.place.proofs.Starts.{length-starts, startsBelow, starts-cut, header-shown}
+use Rattle.place.proofs.Starts.{length-starts, startsBelow, starts-cut}
 use Rattle.decls.specs.Decls.{declAct}
 use Rattle.reading.specs.Reading.{Reading, plain}
+use Rattle.reading.proofs.ByLine.{ByLine}
 use Rattle.reading.specs.Uses.{usedIn}
 use Rattle.bind.specs.Bind.{Spot, spotsOf, spots, linesIn, untilHead, declCount, storeCount, firstUse, storeAt, bound, boundBy, anyBound, unboundOne, unbound, mark, markOne, markAll, marked, piecesOf, promoted, bindAct, aboveIn, bindGo, bindDeclaratorsActs, bindDeclarators}
 
@@ -217,21 +217,6 @@ alike-header t d l ls [] a b ss e = none
 alike-header t d l ls (x ∷ bs) a b ss e = each refl refl (λ f. no (sym f ∙ e)) (alike-renamed t d ls bs ss)
 
 -- ---- the law
-
--- a reading that cleans each line by itself, and leaves of a header something that is not blank
-pub record ByLine (R : Reading) : Type 0 where
-  pub one : List ℕ → List ℕ
-  pub is : (ls : List (List ℕ)) → R .clean ls ≡ map one ls
-  pub shown : (l : List ℕ) → isHeader l ≡ true → blank (one l) ≡ false
-
-cleaned-map : (ls : List (List ℕ)) → cleaned ls ≡ map stripLexical ls
-unfolding cleaned
-cleaned-map [] = refl
-cleaned-map (l ∷ ls) = ap (λ (r : List (List ℕ)). stripLexical l ∷ r) (cleaned-map ls)
-
--- the Rust's is one
-pub plain-by-line : ByLine plain
-plain-by-line = record { one = stripLexical; is = cleaned-map; shown = header-shown }
 
 map-length : (f : List ℕ → List ℕ) (xs : List (List ℕ)) → length (map f xs) ≡ length xs
 map-length f [] = refl

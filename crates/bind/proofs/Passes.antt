@@ -34,7 +34,8 @@ use Rattle.reading.specs.Uses.{lineStores}
 use Rattle.bind.specs.Bind.{Spot, spots, linesIn, untilHead, firstUse, storeAt, bound, boundBy, anyBound, unbound, mark, markOne, markAll, marked, piecesOf, promoted, bindAct, aboveIn, bindGo, bindDeclaratorsActs, bindDeclarators}
 use Rattle.bind.specs.Steps.{fails, left}
 use Rattle.bind.proofs.WalkLaws.{in-spots, kept-is, mark-none}
-use Rattle.bind.proofs.Cut.{ByLine, plain-by-line, clean-long, bound-store}
+use Rattle.reading.proofs.ByLine.{ByLine, plain-by-line}
+use Rattle.bind.proofs.Cut.{clean-long, bound-store}
 
 -- ---- what becomes of a line
 

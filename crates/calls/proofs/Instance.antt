@@ -7,33 +7,18 @@ use mathlib.Core.Bool.{Bool, true, false, cond}
 use mathlib.Core.List.{List, [], _∷_, _++_, map, map-append, reverse, reverseAux, reverse-reverse}
 use lib.Dec.{eqb}
 use lib.ListN.{length}
-use Rattle.lexical.specs.Lex.{stripLexical}
 use Rattle.place.specs.Region.{isHeader, headed}
 use Rattle.place.specs.Blocks.{blocks, cleaned, own}
-use Rattle.place.specs.Starts.{blank, startsAbove}
-use Rattle.place.proofs.Starts.{starts-far, header-shown}
+use Rattle.place.specs.Starts.{startsAbove}
+use Rattle.place.proofs.Starts.{starts-far}
 use Rattle.place.proofs.Blocks.{rename, blockBelow, nextBelow, blocks-cut, below-lt, same-renamed, length-blocks}
 use Rattle.place.proofs.Blocks as numbers
 use Rattle.reading.specs.Reading.{Reading, plain}
+use Rattle.reading.proofs.ByLine.{ByLine, plain-by-line}
 use Rattle.calls.specs.LeavesOf.{startsBy, blocksBy, leavesOf}
 use Rattle.calls.specs.Calls.{rebuildCallsActs, rebuildCalls}
 use Rattle.calls.proofs.Headers.{header-other}
 use Rattle.calls.proofs.Cut as cut
-
--- a reading that cleans each line by itself, and leaves of a header something that is not blank
-pub record ByLine (R : Reading) : Type 0 where
-  pub one : List ℕ → List ℕ
-  pub is : (ls : List (List ℕ)) → R .clean ls ≡ map one ls
-  pub shown : (l : List ℕ) → isHeader l ≡ true → blank (one l) ≡ false
-
-cleaned-map : (ls : List (List ℕ)) → cleaned ls ≡ map stripLexical ls
-unfolding cleaned
-cleaned-map [] = refl
-cleaned-map (l ∷ ls) = ap (λ (r : List (List ℕ)). stripLexical l ∷ r) (cleaned-map ls)
-
--- the Rust's is one
-pub plain-by-line : ByLine plain
-plain-by-line = record { one = stripLexical; is = cleaned-map; shown = header-shown }
 
 map-onto : (f : List ℕ → List ℕ) (xs ys : List (List ℕ)) → map f (reverseAux xs ys) ≡ reverseAux (map f xs) (map f ys)
 map-onto f [] ys = refl

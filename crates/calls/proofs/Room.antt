@@ -24,10 +24,10 @@ use Rattle.parse.proofs.ParseLaws.{parse-place}
 use Rattle.words.specs.declared.Hit.{Hit}
 use Rattle.words.specs.declared.Hit.the-variants as hit
 use Rattle.words.specs.Hits.{regHit, glueLeft, glueRight, glued, replacedAt, replaceBy, replaceReg}
-use Rattle.words.proofs.Places.{Stands, hit-stands, replace-hit, replace-lacks}
+use Rattle.words.proofs.Places.{Stands, around, hit-stands, replace-hit, replace-lacks}
 use Rattle.weight.specs.Weight.{spaced, extra, weight}
 use Rattle.weight.proofs.Weigh.{weight-append, weight-part, weight-line, nothing}
-use Rattle.weight.proofs.Moves.{bracketed, absorb-le}
+use Rattle.weight.proofs.Moves.{bracketed, absorb-le, glued-is, not-spaced}
 use Rattle.forms.specs.Primary.{bare, parenIfNeeded}
 use Rattle.forms.proofs.PrimaryLaws.{paren-length, paren-lacks}
 use Rattle.reading.specs.Reading.{Reading}
@@ -126,28 +126,6 @@ put-is R cur v value next q = go (contextOf cur v) q
     go operand k = put-by cur v value next false k
 
 -- ---- weight: H is what each `{` weighs more than another byte
-
-glued-is : (before rep after : List ℕ) → glued before rep after ≡ bracketed (glueLeft before rep || glueRight rep after) rep
-unfolding glued
-glued-is before rep after = go (glueLeft before rep || glueRight rep after)
-  where
-    go : (t : Bool) → cond t (40 ∷ rep ++ 41 ∷ []) rep ≡ bracketed t rep
-    go true = refl
-    go false = refl
-
--- the line around the one hit
-around : (cur : List ℕ) (v : ℕ) (w : Span) → Stands v cur w → cur ≡ take (w .from) cur ++ (regText v ++ drop (w .to) cur)
-around cur v w s =
-    let n : w .from + (w .to - w .from) ≡ w .to = omega (arith, s .size) in
-    let d : drop (w .from) cur ≡ regText v ++ drop (w .to) cur =
-    sym (take-append-drop (w .to - w .from) (drop (w .from) cur))
-    ∙ ap (λ (x : List ℕ). x ++ drop (w .to - w .from) (drop (w .from) cur)) (s .text)
-    ∙ ap (λ (x : List ℕ). regText v ++ x) (drop-drop (w .to - w .from) (w .from) cur ∙ ap (λ (k : ℕ). drop k cur) n) in
-    sym (take-append-drop (w .from) cur) ∙ ap (λ (x : List ℕ). take (w .from) cur ++ x) d
-
-not-spaced : (v : ℕ) → spaced (regText v) ≡ false
-unfolding spaced
-not-spaced v = refl
 
 module _ (H : ℕ) where
   paren-weight : (v : List ℕ) (b : Bool) → weight H (parenIfNeeded v b) ≤ weight H v + 2

@@ -6,6 +6,7 @@ use mathlib.Core.List.{List, _++_}
 use Rattle.place.specs.Region.{headed}
 use Rattle.place.specs.Blocks.{own, cleaned}
 use Rattle.reading.specs.Reading.{plain}
+use Rattle.reading.proofs.ByLine.{plain-by-line}
 use Rattle.calls.proofs.Instance as calls
 use Rattle.decls.proofs.Passes as decls
 use Rattle.bind.proofs.Cut as bind
@@ -21,6 +22,6 @@ pub data Cuts : ℕ → Type 0 where
 pub cut-pass : {k : ℕ} → Cuts k → (upper tail : List (List ℕ)) → headed tail ≡ true → own (cleaned tail) ≡ true →
     stepOf plain k (upper ++ tail) ≡ stepOf plain k upper ++ stepOf plain k tail
 unfolding stepOf
-cut-pass rebuilds upper tail h o = calls.calls-cut calls.plain-by-line upper tail h o
+cut-pass rebuilds upper tail h o = calls.calls-cut plain-by-line upper tail h o
 cut-pass prunes upper tail h o = decls.cut-law upper tail h
-cut-pass binds upper tail h o = bind.bind-cut bind.plain-by-line upper tail h o
+cut-pass binds upper tail h o = bind.bind-cut plain-by-line upper tail h o

@@ -44,6 +44,9 @@ put-line-fixed = fixed lines.put_line.Reads.Learnt (λ κs a x y l m. wrote-once
 pub wipe-fixed : Determined lines.wipe.ended (λ κs z. z) lines.wipe.Reads.ensures
 wipe-fixed = fixed lines.wipe.Reads.Learnt (λ κs a x y l m. wrote-once l m)
 
+pub wipe-numbers-fixed : Determined lines.wipe_numbers.ended (λ κs z. z) lines.wipe_numbers.Reads.ensures
+wipe-numbers-fixed = fixed lines.wipe_numbers.Reads.Learnt (λ κs a x y l m. l ∙ sym m)
+
 pub ends-lf-fixed : Determined lines.ends_lf.ended (λ κs z. z) lines.ends_lf.Reads.ensures
 ends-lf-fixed = fixed lines.ends_lf.Reads.Learnt (λ κs a x y l m. l ∙ sym m)
 

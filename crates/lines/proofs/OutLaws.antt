@@ -5,7 +5,7 @@ use mathlib.Core.List.{List, [], _∷_, _++_, append-assoc, append-nil}
 use native.Mathlib.Omega.{arith}
 use native.Mathlib.Nat.{add-zero, add-assoc}
 use native.Mathlib.Numerals.{add-one}
-use lib.ListN.{length, take, drop, getD, set, replicate, length-append, length-take, length-drop, take-append-drop}
+use lib.ListN.{length, take, drop, getD, set, replicate, length-append, length-take, length-drop, take-append-drop, drop-of-length-le}
 use lib.Seq.{slice, take-suc, drop-append-le, set-split, append-snoc, take-at, drop-at, drop-drop, length-take-le, take-all}
 use Rattle.lines.specs.Out.{putAt, Wrote}
 
@@ -161,3 +161,8 @@ wipe-on {d₀} {d} {i} h w = wrote-as (zeros-more i ∙ ap (λ (n : ℕ). replic
 
 pub wipe-end : {d₀ d : List ℕ} {i n : ℕ} → i ≡ n → Wrote d₀ 0 (replicate i 0) d i → Wrote d₀ 0 (replicate n 0) d n
 wipe-end {d₀} {d} e w = subst (λ (k : ℕ). Wrote d₀ 0 (replicate k 0) d k) e w
+
+-- what is written over all of a buffer is all that it holds
+pub wrote-whole : {d xs d′ : List ℕ} {r : ℕ} → Wrote d 0 xs d′ r → length xs ≡ length d → d′ ≡ xs
+unfolding putAt
+wrote-whole {d} {xs} w e = w .holds ∙ ap (λ (l : List ℕ). xs ++ l) (drop-of-length-le d {i = 0 + length xs} (omega arith)) ∙ append-nil xs

@@ -171,6 +171,17 @@ pub fn wipe(s: &mut [u8], n: usize)
     }
 }
 
+// Writes zeros over all of a buffer of numbers.
+pub fn wipe_numbers(numbers: &mut [u32])
+    ensures { λ _. ⌜ now (numbers .exit) ≡ replicate (length (now (numbers .entry))) 0 ⌝ }
+{
+    let mut i = 0;
+    while i < numbers.len() {
+        numbers[i] = 0;
+        i += 1;
+    }
+}
+
 // Whether the last byte is an LF.
 pub fn ends_lf(text: &[u8]) -> bool
     ensures { λ r. ⌜ r ≡ endsIn 10 (now (text .entry)) ⌝ }

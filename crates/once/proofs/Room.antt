@@ -23,10 +23,10 @@ use Rattle.place.proofs.Nests.{length-loops}
 use Rattle.words.specs.Hits.{regHit, glueLeft, glueRight, glued, replacedAt, replaceBy, replaceReg}
 use Rattle.words.specs.declared.Hit.{Hit}
 use Rattle.words.specs.declared.Hit.the-variants as hit
-use Rattle.words.proofs.Places.{Stands, hit-stands}
+use Rattle.words.proofs.Places.{hit-stands, around}
 use Rattle.weight.specs.Weight.{spaced, weight}
 use Rattle.weight.proofs.Weigh.{weight-take, weight-rest}
-use Rattle.weight.proofs.Moves.{bracketed, absorb-le, credit, due, Fits, ended, kept, became, sent, dropped, fits-weight}
+use Rattle.weight.proofs.Moves.{bracketed, absorb-le, glued-is, not-spaced, credit, due, Fits, ended, kept, became, sent, dropped, fits-weight}
 use Rattle.decls.proofs.Decl.{prune-weight}
 use Rattle.reading.specs.Reading.{Reading}
 use Rattle.once.specs.Once as once
@@ -35,28 +35,6 @@ use Rattle.once.proofs.Searches.{lines-in}
 use Rattle.once.proofs.Marks.{forwards-stays}
 
 -- ---- a line with a value in the place of a register
-
-glued-is : (before rep after : List ℕ) → glued before rep after ≡ bracketed (glueLeft before rep || glueRight rep after) rep
-unfolding glued
-glued-is before rep after = go (glueLeft before rep || glueRight rep after)
-  where
-    go : (t : Bool) → cond t (40 ∷ rep ++ 41 ∷ []) rep ≡ bracketed t rep
-    go true = refl
-    go false = refl
-
--- the line around the one hit
-around : (l : List ℕ) (v : ℕ) (w : Span) → Stands v l w → l ≡ take (w .from) l ++ (regText v ++ drop (w .to) l)
-around l v w s =
-    let n : w .from + (w .to - w .from) ≡ w .to = omega (arith, s .size) in
-    let d : drop (w .from) l ≡ regText v ++ drop (w .to) l =
-    sym (take-append-drop (w .to - w .from) (drop (w .from) l))
-    ∙ ap (λ (x : List ℕ). x ++ drop (w .to - w .from) (drop (w .from) l)) (s .text)
-    ∙ ap (λ (x : List ℕ). regText v ++ x) (drop-drop (w .to - w .from) (w .from) l ∙ ap (λ (k : ℕ). drop k l) n) in
-    sym (take-append-drop (w .from) l) ∙ ap (λ (x : List ℕ). take (w .from) l ++ x) d
-
-not-spaced : (v : ℕ) → spaced (regText v) ≡ false
-unfolding spaced
-not-spaced v = refl
 
 due-credit : (k : ℕ) (ds : List ℕ) → k ≤ due (credit 0 k ds)
 unfolding credit due

@@ -6,12 +6,12 @@ use mathlib.Core.List.{List, _++_, append-nil}
 use native.Mathlib.Omega.{arith}
 use native.Mathlib.Nat.{zero-add}
 use borrow.Author.Tests.{lt-ltb, le-ltb}
-use borrow.Author.Fill.{fill-none, fill-more}
 use lib.ListN.{length, take, drop, set, replicate, length-append, length-drop, length-replicate, drop-of-length-le}
 use lib.Seq.{length-take-le}
 use Rattle.lines.specs.Lf.{endsIn, linesOf, unlines}
 use Rattle.lines.specs.Out.{putAt, Wrote}
 use Rattle.lines.specs.Steps.{splitLines, joined}
+use Rattle.lines.proofs.OutLaws.{wrote-whole}
 use Rattle.lines.proofs.LfLaws.{lines-unlines}
 use Rattle.lines.proofs.StepLaws.{split-noLf}
 use Rattle.limits.specs.declared.Answer.the-variants.{Done, ShortResult}
@@ -21,36 +21,15 @@ use Rattle.limits.specs.Entry.{roomed, blank, outAfter}
 use Rattle.opt.specs.Room.{Front}
 use Rattle.opt.proofs.Tame.{Tame}
 
--- ---- the loop of `wipe`: the first i places are 0
+-- ---- zeroing
 
-pub record WipeInv (d s : List ℕ) (i : ℕ) : Type 0 where
-  pub i≤ : i ≤ length d
-  pub is : s ≡ replicate i 0 ++ drop i d
+pub wiped-all : {d d′ : List ℕ} {n r : ℕ} → length d ≡ n → Wrote d 0 (replicate n 0) d′ r → d′ ≡ blank n
+unfolding blank
+wiped-all {n = n} e w = wrote-whole w (length-replicate {A = ℕ} n 0 ∙ sym e)
 
-pub wipe-start : (d : List ℕ) → WipeInv d d 0
-wipe-start d = record { i≤ = omega arith; is = fill-none d 0 }
-
-module _ {d s : List ℕ} {i : ℕ} (h : WipeInv d s i) where
-  pub wipe-length : length s ≡ length d
-  wipe-length = omega (arith, h .i≤, ap length (h .is), length-append (replicate i 0) (drop i d), length-replicate {A = ℕ} i 0, length-drop i d)
-
-  pub wipe-more : i < length s → WipeInv d (set s i 0) (i + 1)
-  wipe-more l = record {
-    i≤ = omega (arith, wipe-length);
-    is = ap (λ (x : List ℕ). set x i 0) (h .is) ∙ fill-more i 0 d (omega (arith, wipe-length));
-  }
-
-  pub wipe-end : length s ≤ i → s ≡ blank (length d)
-  unfolding blank
-  wipe-end l =
-      let q : i ≡ length d = omega (arith, wipe-length, h .i≤) in
-      h .is
-      ∙ ap (λ (x : List ℕ). replicate i 0 ++ x) (drop-of-length-le d {i = i} (omega arith))
-      ∙ append-nil (replicate i 0)
-      ∙ ap (λ (n : ℕ). replicate n 0) q
-
-pub blank-as : {d′ : List ℕ} (d : List ℕ) (n : ℕ) → length d ≡ n → d′ ≡ blank (length d) → d′ ≡ blank n
-blank-as d n q e = e ∙ ap blank q
+pub wiped-numbers : {d d′ : List ℕ} {n : ℕ} → length d ≡ n → d′ ≡ replicate (length d) 0 → d′ ≡ blank n
+unfolding blank
+wiped-numbers e w = w ∙ ap (λ (n : ℕ). replicate n 0) e
 
 pub blank-length : (n : ℕ) → length (blank n) ≡ n
 unfolding blank

@@ -154,39 +154,17 @@ fn chain(
     n
 }
 
-// Makes every byte of a buffer 0.
-fn wipe(s: &mut [u8])
-    ensures { λ _. ⌜ now (s .exit) ≡ blank (length (now (s .entry))) ⌝ }
-{
-    let mut i = 0;
-    while i < s.len() {
-        s[i] = 0;
-        i += 1;
-    }
-}
-
-// Makes every number of a buffer 0.
-fn wipe_numbers(numbers: &mut [u32])
-    ensures { λ _. ⌜ now (numbers .exit) ≡ blank (length (now (numbers .entry))) ⌝ }
-{
-    let mut i = 0;
-    while i < numbers.len() {
-        numbers[i] = 0;
-        i += 1;
-    }
-}
-
 // Makes every work buffer 0.
 fn wipe_all(a: &mut [u8], b: &mut [u8], c: &mut [u8], d: &mut [u8], e: &mut [u8], u: &mut [u32])
     requires { ⌜ (length (now a) ≡ byteSize) × Sized (now b) (now c) (now d) (now e) (now u) ⌝ }
     ensures { λ _. ⌜ Blank (now (a .exit)) (now (b .exit)) (now (c .exit)) (now (d .exit)) (now (e .exit)) (now (u .exit)) ⌝ }
 {
-    wipe(a);
-    wipe(b);
-    wipe(c);
-    wipe(d);
-    wipe(e);
-    wipe_numbers(u);
+    lines::wipe(a, limits::BYTES);
+    lines::wipe(b, limits::BYTES);
+    lines::wipe(c, limits::BYTES);
+    lines::wipe(d, limits::BYTES);
+    lines::wipe(e, limits::BYTES);
+    lines::wipe_numbers(u);
 }
 
 // Runs the passes from `k` up to `to` over a text, in work buffers of the stated sizes, and leaves these 0.

@@ -25,7 +25,8 @@ use Rattle.lexical.specs.Phi.{phiRhsPure}
 use Rattle.decls.specs.Print.{bareName, one, kept, declText}
 use Rattle.decls.proofs.PrintLaws.{after-bare, act-text}
 use Rattle.reading.specs.Reading.{Reading, plain, pureIn}
-use Rattle.reading.specs.Assign.{unended, isAssign, leftOf, rightOf}
+use Rattle.reading.specs.Assign.{isAssign, leftOf, rightOf}
+use Rattle.reading.proofs.AssignLaws.{part-le, right-le}
 use Rattle.phis.specs.Phis.{isLet, phiDecl, phiStore, deadPhi, deadBy, anyDead, livePhi, livePhis, storeAct, phiAct, phiActs, roundActs, round}
 use Rattle.phis.specs.Rounds.{liveBy, live, storeText, changeText}
 
@@ -103,19 +104,6 @@ module _ (R : Reading) (ls : List (List ℕ)) (l t indent : List ℕ) (a : ℕ) 
     change-keep e d = rw (dead-is false e, sym (ap phiDecl z) ∙ d)
 
 -- ---- scratch
-
--- a part is no longer than the whole
-part-le : (a e : ℕ) (s : List ℕ) → length (part a e s) ≤ length s
-part-le a e s = omega (arith, length-take (e - a) (drop a s), length-drop a s)
-
-trim-le : (s : List ℕ) → length (trimOf s) ≤ length s
-trim-le s = omega (arith, ap length (trim-part s), part-le (fromOf s) (toEnd s) s)
-
-right-le : (t : List ℕ) → length (rightOf t) ≤ length t
-unfolding rightOf
-right-le t =
-    let k : ℕ = suc (upTo 61 (unended t)) in
-    omega (arith, trim-le (drop k (unended t)), length-drop k (unended t), length-take (length t - 1) t)
 
 pub start-le : (l t : List ℕ) → t ≡ trimStart l → length t ≤ length l
 start-le l t z = omega (arith, ap length z, length-drop (fromOf l) l)

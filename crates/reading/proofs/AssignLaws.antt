@@ -166,3 +166,18 @@ assign-not t h = go (isAssign t) h
     go : (b : Bool) → cond b (splitAt (upTo 61 (unended t)) (unended t)) None ≡ None → b ≡ false
     go true g = let z : _≡_ {A = ℕ} 0 1 = cc in absurd (omega arith)
     go false g = refl
+
+-- ---- lengths
+
+-- a part is no longer than the whole
+pub part-le : (a e : ℕ) (s : List ℕ) → length (part a e s) ≤ length s
+part-le a e s = omega (arith, length-take (e - a) (drop a s), length-drop a s)
+
+pub trim-le : (s : List ℕ) → length (trimOf s) ≤ length s
+trim-le s = omega (arith, ap length (trim-part s), part-le (fromOf s) (toEnd s) s)
+
+pub right-le : (t : List ℕ) → length (rightOf t) ≤ length t
+unfolding rightOf
+right-le t =
+    let k : ℕ = suc (upTo 61 (unended t)) in
+    omega (arith, trim-le (drop k (unended t)), length-drop k (unended t), length-take (length t - 1) t)

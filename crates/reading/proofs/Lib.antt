@@ -1,2 +1,3 @@
 pub mod UseLaws
 pub mod AssignLaws
+pub mod ByLine

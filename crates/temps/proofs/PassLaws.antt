@@ -18,7 +18,8 @@ use Rattle.names.specs.Names.{isTemp}
 use Rattle.expr.specs.Comments.{stripComments}
 use Rattle.expr.proofs.CommentLaws.{strip-length}
 use Rattle.reading.specs.Reading.{Reading, plain, pureIn}
-use Rattle.reading.specs.Assign.{unended, isAssign, leftOf, rightOf}
+use Rattle.reading.specs.Assign.{isAssign, leftOf, rightOf}
+use Rattle.reading.proofs.AssignLaws.{part-le, trim-le, right-le}
 use Rattle.temps.specs.Temps.{declaredIn, tempRead, deadTemp, tempAct, tempActs, pruneDeadTempsActs, pruneDeadTemps}
 use Rattle.temps.specs.Scratch.{tempGoes, tempText, scratchLine, tempScratch}
 
@@ -59,19 +60,6 @@ module _ (d l t : List ℕ) (p : t ≡ trimOf l) where
 pub text-by : (R : Reading) (ls : List (List ℕ)) (l : List ℕ) (b : Bool) → tempGoes R ls l ≡ b → tempText R ls l ≡ cond b [] (l ++ 10 ∷ [])
 unfolding tempText
 text-by R ls l b e = rw e
-
--- a part is no longer than the whole
-part-le : (a e : ℕ) (s : List ℕ) → length (part a e s) ≤ length s
-part-le a e s = omega (arith, length-take (e - a) (drop a s), length-drop a s)
-
-trim-le : (s : List ℕ) → length (trimOf s) ≤ length s
-trim-le s = omega (arith, ap length (trim-part s), part-le (fromOf s) (toEnd s) s)
-
-right-le : (t : List ℕ) → length (rightOf t) ≤ length t
-unfolding rightOf
-right-le t =
-    let k : ℕ = suc (upTo 61 (unended t)) in
-    omega (arith, trim-le (drop k (unended t)), length-drop k (unended t), length-take (length t - 1) t)
 
 -- a value without its comments fits where its line does
 pub value-room : (l t v : List ℕ) → t ≡ trimOf l → v ≡ rightOf t → length (stripComments v) ≤ length l

@@ -1,7 +1,7 @@
 -- What the other passes do to the weight: drop bytes, put a value for a name, promote a store, cut a text into lines. Assumes nothing.
 use Prim.Native.Nat.{ℕ, zero, suc, _+_, _-_, _*_, _≤_, _<_}
 use mathlib.Core.Path.{_≡_, refl, sym, ap, _∙_}
-use mathlib.Core.Bool.{Bool, true, false, cond, _&&_}
+use mathlib.Core.Bool.{Bool, true, false, cond, _&&_, _||_}
 use mathlib.Core.List.{List, [], _∷_, _++_, append-assoc}
 use native.Mathlib.Omega.{arith}
 use borrow.Author.Tests.{eqb-true, ne-eqb}
@@ -13,6 +13,8 @@ use Rattle.text.specs.Trim.{whiteChar, whiteHead, lead, fromOf, orOn}
 use Rattle.lines.specs.Lf.{unlines, linesOf, cutOn, prefixed}
 use Rattle.lines.specs.Steps.{dropCr, splitLines}
 use Rattle.parse.specs.Parse.{letWord}
+use Rattle.names.specs.Names.{regText}
+use Rattle.words.specs.Hits.{glueLeft, glueRight, glued}
 use Rattle.lines.specs.Acts.{Act, keep, become, into, gone, act, apply}
 use Rattle.weight.specs.Weight.{spaced, extra, weight}
 use Rattle.weight.proofs.Weigh.{extra-le, length-weight, weight-twice, weight-append, weight-cut, weight-swap, weight-line, nothing}
@@ -191,3 +193,19 @@ fits-pays {H} {ds} (dropped {l = l} f) =
 pub fits-weight : {H : ℕ} {acts : List Act} {ls : List (List ℕ)} → Fits H [] acts ls → weight H (unlines (apply acts ls)) ≤ weight H (unlines ls)
 unfolding sum
 fits-weight f = let r = pays (fits-pays f) in omega arith
+
+-- ---- a value in the place of a register
+
+-- a value that would be glued stands in brackets
+pub glued-is : (before rep after : List ℕ) → glued before rep after ≡ bracketed (glueLeft before rep || glueRight rep after) rep
+unfolding glued
+glued-is before rep after = go (glueLeft before rep || glueRight rep after)
+  where
+    go : (t : Bool) → cond t (40 ∷ rep ++ 41 ∷ []) rep ≡ bracketed t rep
+    go true = refl
+    go false = refl
+
+-- a register is no white space
+pub not-spaced : (v : ℕ) → spaced (regText v) ≡ false
+unfolding spaced
+not-spaced v = refl

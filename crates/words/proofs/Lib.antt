@@ -2,3 +2,4 @@ pub mod RunLaws
 pub mod HitLaws
 pub mod Places
 pub mod Glue
+pub mod Walk

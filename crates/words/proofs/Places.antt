@@ -6,7 +6,7 @@ use mathlib.Core.List.{List, [], _∷_, _++_}
 use native.Mathlib.Numerals.{add-one}
 use native.Mathlib.Omega.{arith}
 use borrow.Author.Tests.{le-ltb, lt-ltb}
-use lib.ListN.{length, take, drop, getD, length-append, length-take, length-drop}
+use lib.ListN.{length, take, drop, getD, length-append, length-take, length-drop, take-append-drop}
 use lib.Seq.{drop-drop, take-append-seam}
 use Rattle.lines.specs.Lf.{part, prefixed, same, lacks, all}
 use Rattle.lines.proofs.LfLaws.{lacks-append, lacks-take, lacks-drop}
@@ -154,3 +154,13 @@ replace-lacks from to l rep h k =
     lacks-append (take from l ++ glued (take from l) rep (drop to l)) (drop to l)
     (lacks-append (take from l) (glued (take from l) rep (drop to l)) (lacks-take from l h) (glued-lacks (take from l) rep (drop to l) k))
     (lacks-drop to l h)
+
+-- the line around the one hit
+pub around : (l : List ℕ) (v : ℕ) (w : Span) → Stands v l w → l ≡ take (w .from) l ++ (regText v ++ drop (w .to) l)
+around l v w s =
+    let n : w .from + (w .to - w .from) ≡ w .to = omega (arith, s .size) in
+    let d : drop (w .from) l ≡ regText v ++ drop (w .to) l =
+    sym (take-append-drop (w .to - w .from) (drop (w .from) l))
+    ∙ ap (λ (x : List ℕ). x ++ drop (w .to - w .from) (drop (w .from) l)) (s .text)
+    ∙ ap (λ (x : List ℕ). regText v ++ x) (drop-drop (w .to - w .from) (w .from) l ∙ ap (λ (k : ℕ). drop k l) n) in
+    sym (take-append-drop (w .from) l) ∙ ap (λ (x : List ℕ). take (w .from) l ++ x) d

@@ -1,5 +1,5 @@
 use borrow.Author.Needs.{needs}
-use Rattle.opt.proofs.WorkLaws.{blank-as}
+use Rattle.opt.proofs.WorkLaws.{wiped-all, wiped-numbers}
 use Rattle.opt.proofs.wipe_all.Statement.{statement}
 use Rattle.opt.proofs.wipe_all.Tie as tie
 
@@ -44,12 +44,12 @@ returns c =
     let p = c .before .before .before .before .before .before .before .before .before .before .before .before .before .before .before .before .before .before .before .before .before .before .before .before .before .before .before .before .before .before .pre in
     let g = c .before .before .before .before .before .before .before .before .before .before .before .before .before .before .before .before .before .before .before .before .before .before .before .before .before .before .before .before .before .before .args in
     record {
-      a-blank = blank-as (g .a .now) _ (p .0) (c .before .before .before .before .before .before .before .before .before .before .before .before .before .before .before .before .before .before .before .before .before .before .wipe .ensures);
-      b-blank = blank-as (g .b .now) _ (p .1 .b-size) (c .before .before .before .before .before .before .before .before .before .before .before .before .before .before .before .before .before .before .wipe2 .ensures);
-      c-blank = blank-as (g .c .now) _ (p .1 .c-size) (c .before .before .before .before .before .before .before .before .before .before .before .before .before .before .wipe3 .ensures);
-      d-blank = blank-as (g .d .now) _ (p .1 .d-size) (c .before .before .before .before .before .before .before .before .before .before .wipe4 .ensures);
-      e-blank = blank-as (g .e .now) _ (p .1 .e-size) (c .before .before .before .before .before .before .wipe5 .ensures);
-      u-blank = blank-as (g .u .now) _ (p .1 .u-size) (c .before .before .wipe-numbers .ensures);
+      a-blank = wiped-all (p .0) (c .before .before .before .before .before .before .before .before .before .before .before .before .before .before .before .before .before .before .before .before .before .before .wipe .ensures);
+      b-blank = wiped-all (p .1 .b-size) (c .before .before .before .before .before .before .before .before .before .before .before .before .before .before .before .before .before .before .wipe2 .ensures);
+      c-blank = wiped-all (p .1 .c-size) (c .before .before .before .before .before .before .before .before .before .before .before .before .before .before .wipe3 .ensures);
+      d-blank = wiped-all (p .1 .d-size) (c .before .before .before .before .before .before .before .before .before .before .wipe4 .ensures);
+      e-blank = wiped-all (p .1 .e-size) (c .before .before .before .before .before .before .wipe5 .ensures);
+      u-blank = wiped-numbers (p .1 .u-size) (c .before .before .wipe-numbers .ensures);
     }
 
 pub wipe-all-spec : {M : Type 1} → statement M
