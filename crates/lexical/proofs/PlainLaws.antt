@@ -6,11 +6,13 @@ use mathlib.Core.List.{List, [], _∷_, _++_, append-nil}
 use native.Mathlib.Omega.{arith}
 use borrow.Author.Tests.{ne-eqb, leb-true, le-leb, lt-leb, ltb-true, ltb-false}
 use lib.Dec.{leb, ltb, eqb}
-use lib.ListN.{length, take, drop, getD, length-drop}
+use lib.ListN.{length, take, drop, getD, length-append, length-drop}
 use lib.Seq.{drop-drop, getD-drop, append-snoc}
 use Rattle.lines.specs.Lf.{part, all, prefixed}
 use Rattle.lines.proofs.Tests.{no, and-true, or-false, and-left, and-right}
+use Rattle.lines.specs.Out.{Wrote}
 use Rattle.lines.proofs.LfLaws.{part-more}
+use Rattle.lines.proofs.OutLaws.{wrote-then, wrote-length}
 use Rattle.text.specs.White.{isWhite}
 use Rattle.lexical.specs.declared.Kind.the-variants.{Kept, Literal, Gone}
 use Rattle.lexical.specs.declared.Tail.{Tail}
@@ -18,7 +20,7 @@ use Rattle.lexical.specs.Lex.{quoteLen, patternLen, commentLen, patternA
 use Rattle.lexical.specs.Plain.{isPlain, plainLen, lowLast}
 use Rattle.lexical.proofs.EndLaws.{ends, ends-on, ends-none, cons-at}
 use Rattle.lexical.proofs.TailLaws.{after-low, grown-tail}
-use Rattle.lexical.proofs.LexLaws.{LexAt}
+use Rattle.lexical.proofs.LexLaws.{LexAt, lex-room, StripInv}
 
 -- ---- the test of a byte
 
@@ -143,6 +145,25 @@ lex-plain {s} {out} {i} {t} h j q u e =
       so-far =
           rw (n, q) (ap (λ (m : List ℕ). lexGo m 0 (out ++ take (plainLen (drop i s)) (drop i s))) (sym (drop-drop (plainLen (drop i s)) i s)) ∙ sym (lex-run (drop i s) out) ∙ h .so-far);
     }
+
+-- the loop of `strip_lexical`
+module _ {s d₀ d : List ℕ} {o p i : ℕ} {t : Tail} (h : StripInv s d₀ o d p i t) (j : ℕ) (q : j ≡ ends plainLen s i) where
+  pub strip-to : j ≤ length s
+  strip-to = omega (arith, plain-le (drop i s), length-drop i s, h .lex .i≤)
+
+  pub strip-room : p + length (part i j s) ≤ length d
+  strip-room =
+      omega (
+        arith,
+        lex-room (lex-plain (h .lex) j q (grown t (part i j s)) refl),
+        length-append (h .done) (part i j s),
+        wrote-length (h .wrote),
+        h .wrote .place,
+        h .room,
+      )
+
+  pub strip-plain : (v : Tail) (d′ : List ℕ) (p′ : ℕ) → v ≡ grown t (part i j s) → Wrote d p (part i j s) d′ p′ → StripInv s d₀ o d′ p′ j v
+  strip-plain v d′ p′ e w = record { room = h .room; done = h .done ++ part i j s; lex = lex-plain (h .lex) j q v e; wrote = wrote-then (h .wrote) w }
 
 -- ---- the digest
 

@@ -363,12 +363,19 @@ pub fn strip_lexical(s: &[u8], out: &mut [u8], o: usize) -> usize
     let mut i = 0;
     let mut tail = no_tail();
     while i < s.len() {
-        let b = s[i];
-        let step = step_at(s, i, tail);
-        let kind = step.kind;
-        p = put_left(out, p, kind, b);
-        tail = step.tail;
-        i = step.next;
+        let j = plain_end(s, i);
+        if i < j {
+            p = lines::put(out, p, &s[i..j]);
+            tail = plain_tail(s, i, j, tail);
+            i = j;
+        } else {
+            let b = s[i];
+            let step = step_at(s, i, tail);
+            let kind = step.kind;
+            p = put_left(out, p, kind, b);
+            tail = step.tail;
+            i = step.next;
+        }
     }
     p
 }

@@ -1,14 +1,15 @@
 -- Regions as runs of lines: a region's bytes are its lines, and a header looks at nothing above it. Assumes nothing.
 use Prim.Native.Nat.{ℕ, zero, suc, _+_, _-_, _≤_, _<_, min}
 use mathlib.Core.Path.{_≡_, refl, sym, ap, _∙_}
-use mathlib.Core.Bool.{Bool, true, false, cond}
+use mathlib.Core.Bool.{Bool, true, false, cond, _||_}
 use mathlib.Core.List.{List, [], _∷_, _++_}
 use native.Mathlib.Omega.{arith}
 use borrow.Author.Tests.{eqb-true, leb-true, leb-false, ltb-true, ltb-false}
 use lib.Dec.{eqb, leb, ltb}
-use lib.ListN.{length, take, drop, length-take, length-drop, drop-of-length-le}
+use lib.ListN.{length, getD, take, drop, length-take, length-drop, drop-of-length-le}
 use lib.Seq.{drop-cons, drop-drop, take-all, take-nil, take-append-add, length-take-le}
 use Rattle.lines.specs.Lf.{part, upTo, linesOf, lacks}
+use Rattle.lines.proofs.Tests.{no, eqb-sym}
 use Rattle.lines.proofs.LfLaws.{upTo-le, lines-first, lines-line, drop-min}
 use Rattle.place.specs.Region.{isHeader, untilHeader, region, regionAt, upHeader, regionLen}
 
@@ -200,3 +201,20 @@ module _ (h : List ℕ) (t : List (List ℕ)) (e : isHeader h ≡ true) where
   pub at-header : (run run′ : List (List ℕ)) → regionAt h t run ≡ regionAt h t run′
   unfolding regionAt
   at-header run run′ = rw e
+
+-- ---- the first byte of a header
+
+four : (a b c d : Bool) → a || (b || (c || d)) ≡ false → (a ≡ false) × ((b ≡ false) × ((c ≡ false) × (d ≡ false)))
+four false false false false e = (refl, (refl, (refl, refl)))
+four true b c d e = no (sym e)
+four false true c d e = no (sym e)
+four false false true d e = no (sym e)
+four false false false true e = no (sym e)
+
+-- a line that begins with none of `f`, `l`, `c` and `v` is no header
+pub no-head : (l : List ℕ) (x : ℕ) → x ≡ getD l 0 0 → eqb x 102 || (eqb x 108 || (eqb x 99 || eqb x 118)) ≡ false → false ≡ isHeader l
+unfolding isHeader
+no-head [] x q e = refl
+no-head (y ∷ l) x q e =
+    let f = four (eqb x 102) (eqb x 108) (eqb x 99) (eqb x 118) e in
+    rw (← q, eqb-sym 102 x ∙ f .0, eqb-sym 108 x ∙ f .1 .0, eqb-sym 99 x ∙ f .1 .1 .0, eqb-sym 118 x ∙ f .1 .1 .1)

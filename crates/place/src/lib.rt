@@ -22,6 +22,10 @@ pub struct Region(pub usize);
 pub fn is_header(line: &[u8]) -> bool
     ensures { λ r. ⌜ r ≡ isHeader (now (line .entry)) ⌝ }
 {
+    let x = lines::byte_at(line, 0);
+    if !((x == b'f') | ((x == b'l') | ((x == b'c') | (x == b'v')))) {
+        return false;
+    }
     !lines::starts_with(line, b"let phi")
         & (lines::starts_with(line, b"function ")
             | (lines::starts_with(line, b"var ")
