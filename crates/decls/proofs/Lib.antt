@@ -1,5 +1,8 @@
 pub mod PrintLaws
+pub mod TrimRuns
 pub mod SeenLaws
+pub mod Whole
+pub mod Lacks
 pub mod Writes
 pub mod Passes
 pub mod Keeps

@@ -22,6 +22,7 @@ use Rattle.parse.specs.declared.Line.{Line}
 use Rattle.parse.specs.declared.Line.the-variants as line
 use Rattle.words.specs.Runs.{flush, runsGo, runs, countBy, readsOf}
 use Rattle.reading.specs.Uses.{lineReads, storesBy, lineStores, lineUses, usedIn}
+use Rattle.decls.proofs.TrimRuns.{go-name, go-gap}
 use Rattle.decls.specs.Seen.{markName, markRuns, markStore, markLine, markLines, AtMost, Says, marksNow, markOf, tableOf}
 
 -- ---- a store past the end
@@ -158,14 +159,6 @@ runs-flush : (m : ℕ) (cur : List ℕ) (rs : List (List ℕ)) (d : List ℕ) �
 unfolding markRuns regOf
 runs-flush m [] rs d = refl
 runs-flush m (x ∷ cur) rs d = refl
-
-go-name : (x : ℕ) (xs cur : List ℕ) → isName x ≡ true → runsGo (x ∷ xs) cur ≡ runsGo xs (cur ++ (x ∷ []))
-unfolding runsGo
-go-name x xs cur e = rw e
-
-go-gap : (x : ℕ) (xs cur : List ℕ) → isName x ≡ false → runsGo (x ∷ xs) cur ≡ flush cur ++ runsGo xs []
-unfolding runsGo
-go-gap x xs cur e = rw e
 
 pub runs-start : (m : ℕ) (s d : List ℕ) → RunsInv m s d d 0 0
 unfolding runs

@@ -1,16 +1,17 @@
 -- Laws of texts without the letters `phi`: they store, declare and mention no phi. Assumes nothing.
-use Prim.Native.Nat.{ℕ, zero, suc, _+_, _-_, _<_}
+use Prim.Native.Nat.{ℕ, zero, suc, _+_, _-_, min}
 use mathlib.Core.Path.{_≡_, refl, sym, ap, _∙_}
 use mathlib.Core.Bool.{Bool, true, false, cond, not, _&&_, _||_}
 use mathlib.Core.List.{List, [], _∷_, _++_}
 use native.Mathlib.Omega.{arith}
 use lib.Dec.{eqb}
-use lib.ListN.{length, take, drop, getD}
-use lib.Seq.{drop-cons}
-use borrow.Author.Tests.{ne-eqb}
-use Rattle.lines.specs.Lf.{part, upTo, cutOn, linesOf, partsOf, prefixed, holds}
-use Rattle.lines.proofs.Tests.{no, and-false}
-use Rattle.lines.proofs.LfLaws.{lines-first, rest-of}
+use lib.ListN.{length, take, drop}
+use lib.Seq.{drop-drop}
+use borrow.Author.Tests.{not-true}
+use Rattle.lines.specs.Lf.{part, upTo, linesOf, partsOf, prefixed, holds, all}
+use Rattle.lines.proofs.Tests.{no, and-false, and-left, and-right, eqb-sym}
+use Rattle.lines.proofs.LfLaws.{rest-of, drop-min}
+use Rattle.lines.proofs.Compare.{hold-here}
 use Rattle.text.specs.Trim.{fromOf, toOf, trimStart, trimOf}
 use Rattle.names.specs.Names.{phiWord, phiText, decimal, phiOf}
 use Rattle.names.specs.declared.PhiName.{PhiName}
@@ -18,8 +19,9 @@ use Rattle.names.specs.declared.PhiName.the-variants as name
 use Rattle.parse.specs.Parse.{bodyOf}
 use Rattle.words.specs.Hits.{hitsGo, hits}
 use Rattle.reading.specs.Assign.{unended, isAssign, leftOf}
+use Rattle.decls.proofs.Lacks.{lines-lack}
 use Rattle.phis.specs.Phis.{isLet, isPhi, allPhis, phiDecl, phiStore, phiReads, anyDead}
-use Rattle.phis.proofs.Searches.{anyOne, pieceOther, phis-all, piece-hit}
+use Rattle.phis.proofs.Searches.{pieceOther, phis-all, piece-hit}
 
 -- ---- parts of a text
 
@@ -114,35 +116,37 @@ module _ (l : List ℕ) (h : holds phiWord l ≡ false) where
 
 -- ---- a text: none of its lines holds the letters
 
-lines-held : (s : List ℕ) → holds phiWord s ≡ false → anyOne (holds phiWord) (linesOf s) ≡ false
-unfolding linesOf anyOne holds prefixed cutOn
-lines-held [] h = refl
-lines-held (x ∷ s) h = go (eqb x 10) (linesOf s) (lines-held s (held-rest x s h)) (lines-first (x ∷ s) (omega arith))
-  where
-    front : List (List ℕ) → List ℕ
-    front [] = []
-    front (l ∷ ls) = l
-
-    cut : List ℕ
-    cut = take (upTo 10 (x ∷ s)) (x ∷ s)
-
-    first : (l : List ℕ) (ls : List (List ℕ)) → l ∷ ls ≡ cut ∷ linesOf (drop (suc (upTo 10 (x ∷ s))) (x ∷ s)) → holds phiWord l ≡ false
-    first l ls e = ap (λ (ms : List (List ℕ)). holds phiWord (front ms)) e ∙ held-take (upTo 10 (x ∷ s)) (x ∷ s) h
-
-    go : (b : Bool) (ms : List (List ℕ)) → anyOne (holds phiWord) ms ≡ false → cutOn b x ms ≡ cut ∷ linesOf (drop (suc (upTo 10 (x ∷ s))) (x ∷ s)) → anyOne (holds phiWord) (cutOn b x ms) ≡ false
-    go true ms k e = k
-    go false [] k e = rw (first (x ∷ []) [] e)
-    go false (m ∷ ms) k e = rw (first (x ∷ m) ms e) (or-off (holds phiWord m) (anyOne (holds phiWord) ms) k .1)
-
-lines-none : (ls ms : List (List ℕ)) → anyOne (holds phiWord) ms ≡ false → anyDead ls ms ≡ false
-unfolding anyDead anyOne
+lines-none : (ls ms : List (List ℕ)) → all (λ (l : List ℕ). not (holds phiWord l)) ms ≡ true → anyDead ls ms ≡ false
+unfolding anyDead
 lines-none ls [] h = refl
-lines-none ls (m ∷ ms) h = let e = or-off (holds phiWord m) (anyOne (holds phiWord) ms) h in rw (held-store m (e .0)) (lines-none ls ms (e .1))
+lines-none ls (m ∷ ms) h = rw (held-store m (not-true _ (and-left (not (holds phiWord m)) _ h))) (lines-none ls ms (and-right (not (holds phiWord m)) _ h))
 
 pub held-dead : (t : List ℕ) → holds phiWord t ≡ false → anyDead (linesOf t) (linesOf t) ≡ false
-held-dead t h = lines-none (linesOf t) (linesOf t) (lines-held t h)
+held-dead t h = lines-none (linesOf t) (linesOf t) (lines-lack (holds phiWord) held-rest held-take t h)
 
--- a text that begins with another letter
-pub not-here : (s : List ℕ) (i : ℕ) → (getD s i 0 ≡ 112 → ⊥) → i < length s → prefixed phiWord (part i (length s) s) ≡ false
-unfolding prefixed
-not-here s i h k = ap (prefixed phiWord) (rest-of s i ∙ drop-cons s i 0 k) ∙ rw (ne-eqb 112 (getD s i 0) (λ e. h (sym e)))
+-- ---- the search
+
+hold-on : (l : List ℕ) → prefixed phiWord l ≡ false → holds phiWord l ≡ holds phiWord (drop 1 l)
+unfolding holds
+hold-on [] e = refl
+hold-on (x ∷ l) e = rw e
+
+up-held : (l : List ℕ) → holds phiWord (drop (upTo 112 l) l) ≡ holds phiWord l
+unfolding upTo holds prefixed
+up-held [] = refl
+up-held (x ∷ l) = go (eqb x 112) refl (up-held l)
+  where
+    go : (b : Bool) → eqb x 112 ≡ b → holds phiWord (drop (upTo 112 l) l) ≡ holds phiWord l → holds phiWord (drop (cond b 0 (suc (upTo 112 l))) (x ∷ l)) ≡ holds phiWord (x ∷ l)
+    go true e on = refl
+    go false e on = rw (eqb-sym 112 x, e) on
+
+-- j is the place of the next `p`, and t the text from there on
+module _ (s : List ℕ) (i j : ℕ) (q : j ≡ i + upTo 112 (drop i s)) (t : List ℕ) (z : t ≡ part j (length s) s) where
+  find-held : holds phiWord t ≡ holds phiWord (drop i s)
+  find-held = ap (holds phiWord) (z ∙ rest-of s j ∙ ap (λ (n : ℕ). drop n s) q ∙ sym (drop-drop (upTo 112 (drop i s)) i s)) ∙ up-held (drop i s)
+
+  pub find-hit : prefixed phiWord t ≡ true → holds phiWord (drop i s) ≡ true
+  find-hit e = sym find-held ∙ ap (holds phiWord) (z ∙ rest-of s j) ∙ hold-here phiWord s j (ap (prefixed phiWord) (sym z) ∙ e)
+
+  pub find-on : (k : ℕ) → k ≡ min (j + 1) (length s) → prefixed phiWord t ≡ false → holds phiWord (drop i s) ≡ holds phiWord (drop k s)
+  find-on k y e = sym find-held ∙ hold-on t e ∙ ap (holds phiWord) (ap (drop 1) (z ∙ rest-of s j) ∙ drop-drop 1 j s ∙ sym (drop-min (j + 1) s) ∙ ap (λ (n : ℕ). drop n s) (sym y))

@@ -1,7 +1,6 @@
 pub mod Searches
 pub mod Lines
 pub mod Held
-pub mod TrimRuns
 pub mod DeclRuns
 pub mod TableLaws
 pub mod Writes

@@ -1,6 +1,7 @@
 -- Laws of the three rounds: what one wrote is the text of the next, and the scratch after them. Assumes nothing.
 use Prim.Native.Nat.{ℕ, zero, suc, _+_, _-_, _≤_, _<_, max}
 use mathlib.Core.Path.{_≡_, refl, sym, ap, subst, _∙_}
+use mathlib.Core.Bool.{Bool, false}
 use mathlib.Core.List.{List, [], _∷_, _++_}
 use native.Mathlib.Omega.{arith}
 use native.Mathlib.Numerals.{add-one}
@@ -9,10 +10,10 @@ use Rattle.lines.specs.Lf.{part, linesOf, unlines}
 use Rattle.lines.specs.Out.{putAt, Wrote}
 use Rattle.lines.proofs.OutLaws.{wrote-nil, wrote-more, wrote-as, wrote-part}
 use Rattle.reading.specs.Reading.{plain}
-use Rattle.phis.specs.Phis.{round, pruneDeadPhis}
+use Rattle.phis.specs.Phis.{anyDead, round, pruneDeadPhis}
 use Rattle.phis.specs.Rounds.{longest}
 use Rattle.phis.proofs.Writes.{drop-more}
-use Rattle.phis.proofs.Keeps.{round-reads}
+use Rattle.phis.proofs.Keeps.{round-reads, none-dead}
 
 -- ---- wiping
 
@@ -56,6 +57,10 @@ module _ (t x d d′ : List ℕ) (r : ℕ) (w : Wrote d 0 (unlines (round plain 
 
   pub next-length : length x ≡ length (unlines (round plain (linesOf t)))
   next-length = ap length wrote-text
+
+  -- nothing is dead in it where nothing was dead before
+  pub next-calm : (b : Bool) → b ≡ anyDead (linesOf t) (linesOf t) → b ≡ false → anyDead (linesOf x) (linesOf x) ≡ false
+  next-calm b q e = let k = sym q ∙ e in ap (λ (ls : List (List ℕ)). anyDead ls ls) (next-lines ∙ none-dead plain (linesOf t) k) ∙ k
 
 -- the text and the place at another name
 pub written : {d xs d′ : List ℕ} {r : ℕ} (ys : List ℕ) → xs ≡ ys → Wrote d 0 xs d′ r → Wrote d 0 ys d′ (length ys)

@@ -27,7 +27,7 @@ use Rattle.phis.specs.Phis.{isLet, allPhis, phiDecl, phiStore, phiOwn, p
 use Rattle.phis.specs.Table.{noteStore, noteName, noteRuns, noteLine, noteLines, Tells}
 use Rattle.phis.proofs.Lines.{store-let, phi-hits}
 use Rattle.phis.proofs.Held.{held-store, held-reads}
-use Rattle.phis.proofs.TrimRuns.{go-name, go-gap}
+use Rattle.decls.proofs.TrimRuns.{go-name, go-gap}
 use Rattle.phis.proofs.DeclRuns.{decl-reads}
 
 -- ---- the table keeps its length

@@ -2,14 +2,14 @@
 mod table;
 
 ghost use mathlib.Core.Path.{_≡_};
-ghost use mathlib.Core.Bool.{true, false, _||_};
+ghost use mathlib.Core.Bool.{true, false, _&&_, _||_};
 ghost use mathlib.Core.List.{[], _∷_, _++_};
 ghost use Prim.Native.Nat.{_≤_, _+_, max};
 ghost use lib.ListN.{length, drop, replicate};
-ghost use Rattle.lines.specs.Lf.{partsOf, linesOf, unlines};
+ghost use Rattle.lines.specs.Lf.{holds, partsOf, linesOf, unlines};
 ghost use Rattle.lines.specs.Out.{Wrote};
 ghost use Rattle.text.specs.Trim.{trimStart};
-ghost use Rattle.names.specs.Names.{phiOf, phiIs};
+ghost use Rattle.names.specs.Names.{phiWord, phiOf, phiIs};
 ghost use Rattle.lexical.specs.Phi.{phiRhsPure};
 ghost use Rattle.decls.specs.Print.{kept, declText};
 ghost use Rattle.reading.specs.Reading.{plain, pureIn};
@@ -350,29 +350,25 @@ fn put_line(
     put_whole(line, out, o)
 }
 
-// Writes the lines of a text as they are, each with its LF.
-fn put_all(text: &[u8], out: &mut [u8]) -> usize
-    requires { ⌜ length (unlines (linesOf (now text))) ≤ length (now out) ⌝ }
-    ensures { λ r. ⌜ Wrote (now (out .entry)) 0 (unlines (linesOf (now (text .entry)))) (now (out .exit)) r ⌝ }
-{
-    let p = lines::put(out, 0, text);
-    if lines::ends_lf(text) {
-        return p;
-    }
-    if text.len() == 0 {
-        return p;
-    }
-    lines::put_byte(out, p, 10)
+// Where what a round wrote ends, and whether it found a dead phi.
+struct Round {
+    end: usize,
+    dead: bool,
 }
 
 // Writes one round, with its table. Of the scratch only as much is used as the text is long.
-fn put_with(text: &[u8], table: &[u8], scratch: &mut [u8], out: &mut [u8]) -> usize
+fn put_with(text: &[u8], table: &[u8], scratch: &mut [u8], out: &mut [u8]) -> Round
     requires { ⌜ (Tells (linesOf (now text)) (now table)) × ((length (now text) ≤ length (now scratch)) × (length (unlines (round plain (linesOf (now text)))) ≤ length (now out))) ⌝ }
-    ensures answer { λ r. ⌜ Wrote (now (out .entry)) 0 (unlines (round plain (linesOf (now (text .entry))))) (now (out .exit)) r ⌝ }
+    ensures answer { λ r. ⌜ Wrote (now (out .entry)) 0 (unlines (round plain (linesOf (now (text .entry))))) (now (out .exit)) (r .end) ⌝ }
+    ensures found { λ r. ⌜ r .dead ≡ anyDead (linesOf (now (text .entry))) (linesOf (now (text .entry))) ⌝ }
     ensures memory { λ _. ⌜ drop (length (now (text .entry))) (now (scratch .exit)) ≡ drop (length (now (text .entry))) (now (scratch .entry)) ⌝ }
 {
     if !any_dead(text, table) {
-        return put_all(text, out);
+        let p = decls::print::put_lines(text, out, 0);
+        return Round {
+            end: p,
+            dead: false,
+        };
     }
     let mut i = 0;
     let mut o = 0;
@@ -381,17 +377,33 @@ fn put_with(text: &[u8], table: &[u8], scratch: &mut [u8], out: &mut [u8]) -> us
         o = put_line(lines::cut(text, i, e), text, table, scratch, out, o);
         i = lines::after(text, e);
     }
-    o
+    Round { end: o, dead: true }
 }
 
-// Writes one round. Of the scratch only as much is used as the text is long.
-fn put_round(text: &[u8], scratch: &mut [u8], out: &mut [u8]) -> usize
-    requires { ⌜ (length (now text) ≤ length (now scratch)) × (length (unlines (round plain (linesOf (now text)))) ≤ length (now out)) ⌝ }
-    ensures answer { λ r. ⌜ Wrote (now (out .entry)) 0 (unlines (round plain (linesOf (now (text .entry))))) (now (out .exit)) r ⌝ }
+// Whether a round may find a dead phi, where the one before found one.
+fn may_change(text: &[u8], dead: bool) -> bool
+    ensures { λ r. ⌜ r ≡ dead && holds phiWord (now (text .entry)) ⌝ }
+{
+    if dead {
+        return table::has_phi(text);
+    }
+    false
+}
+
+// Writes one round; `dead` is false where it is known that no phi is dead. Of the scratch only as much is used as the text is long.
+fn put_round(text: &[u8], dead: bool, scratch: &mut [u8], out: &mut [u8]) -> Round
+    requires { ⌜ (dead ≡ false → anyDead (linesOf (now text)) (linesOf (now text)) ≡ false)
+        × ((length (now text) ≤ length (now scratch)) × (length (unlines (round plain (linesOf (now text)))) ≤ length (now out))) ⌝ }
+    ensures answer { λ r. ⌜ Wrote (now (out .entry)) 0 (unlines (round plain (linesOf (now (text .entry))))) (now (out .exit)) (r .end) ⌝ }
+    ensures found { λ r. ⌜ r .dead ≡ anyDead (linesOf (now (text .entry))) (linesOf (now (text .entry))) ⌝ }
     ensures memory { λ _. ⌜ drop (length (now (text .entry))) (now (scratch .exit)) ≡ drop (length (now (text .entry))) (now (scratch .entry)) ⌝ }
 {
-    if !table::has_phi(text) {
-        return put_all(text, out);
+    if !may_change(text, dead) {
+        let p = decls::print::put_lines(text, out, 0);
+        return Round {
+            end: p,
+            dead: false,
+        };
     }
     let mut table = [0u8; 1024];
     table::note_lines(text, &mut table);
@@ -435,9 +447,9 @@ pub fn prune_dead_phis(
     ensures two { λ _. ⌜ Wrote (now (second .entry)) 0 (unlines (round plain (round plain (linesOf (now (text .entry)))))) (now (second .exit)) (length (unlines (round plain (round plain (linesOf (now (text .entry))))))) ⌝ }
     ensures memory { λ _. ⌜ Wrote (now (scratch .entry)) 0 (replicate (longest plain (now (text .entry))) 0) (now (scratch .exit)) (longest plain (now (text .entry))) ⌝ }
 {
-    let a = put_round(text, scratch, first);
-    let b = put_round(lines::cut(first, 0, a), scratch, second);
-    let n = put_round(lines::cut(second, 0, b), scratch, out);
-    wipe(scratch, larger(text.len(), larger(a, b)));
-    n
+    let a = put_round(text, true, scratch, first);
+    let b = put_round(lines::cut(first, 0, a.end), a.dead, scratch, second);
+    let c = put_round(lines::cut(second, 0, b.end), b.dead, scratch, out);
+    wipe(scratch, larger(text.len(), larger(a.end, b.end)));
+    c.end
 }

@@ -17,14 +17,11 @@ pub fn has_phi(s: &[u8]) -> bool
 {
     let mut i = 0;
     while i < s.len() {
-        if s[i] == b'p' {
-            if lines::starts_with(lines::cut(s, i, s.len()), b"phi") {
-                return true;
-            }
-            i += 1;
-        } else {
-            i += 1;
+        let j = lines::find_byte(s, i, b'p');
+        if lines::starts_with(lines::cut(s, j, s.len()), b"phi") {
+            return true;
         }
+        i = lines::after(s, j);
     }
     false
 }

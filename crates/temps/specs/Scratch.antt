@@ -1,14 +1,21 @@
 -- What `prune_dead_temps` asks of one line, the bytes that it makes of it, and what it leaves in its scratch. Assumes nothing.
 use Prim.Native.Nat.{ℕ}
-use mathlib.Core.Bool.{Bool, cond, _&&_}
+use mathlib.Core.Bool.{Bool, false, cond, _&&_, _||_}
 use mathlib.Core.List.{List, [], _∷_, _++_}
+use lib.Dec.{eqb}
+use lib.ListN.{getD}
 use Rattle.lines.specs.Out.{putAt}
 use Rattle.text.specs.Trim.{trimOf}
-use Rattle.names.specs.Names.{isTemp}
+use Rattle.names.specs.Names.{isDigit, isTemp}
 use Rattle.expr.specs.Comments.{stripComments}
 use Rattle.reading.specs.Reading.{Reading, pureIn}
 use Rattle.reading.specs.Assign.{isAssign, leftOf, rightOf}
 use Rattle.temps.specs.Temps.{deadTemp}
+
+-- a digit stands after a `t` somewhere: without that no temp is named
+unfoldable pub tempIn : List ℕ → Bool
+tempIn [] = false
+tempIn (x ∷ xs) = (eqb 116 x && isDigit (getD xs 0 0)) || tempIn xs
 
 -- a line is a store of a temp, so that its value is judged
 unfoldable pub tempStore : List ℕ → Bool

@@ -5,16 +5,17 @@ ghost use mathlib.Core.Path.{_≡_};
 ghost use mathlib.Core.Bool.{true, not, _&&_, _||_};
 ghost use mathlib.Core.List.{List};
 ghost use Prim.Native.Nat.{ℕ, _≤_, _+_};
-ghost use lib.ListN.{length};
+ghost use lib.Dec.{eqb};
+ghost use lib.ListN.{length, getD};
 ghost use Rattle.lines.specs.Lf.{partsOf, linesOf, unlines, prefixed, same};
 ghost use Rattle.lines.specs.Out.{Wrote};
-ghost use Rattle.names.specs.Names.{isTemp};
+ghost use Rattle.names.specs.Names.{isDigit, isTemp};
 ghost use Rattle.parse.specs.Parse.{letWord};
 ghost use Rattle.place.specs.Region.{varWord, constWord};
 ghost use Rattle.reading.specs.Reading.{plain};
 ghost use Rattle.reading.specs.Assign.{isAssign, leftOf};
 ghost use Rattle.temps.specs.Temps.{anyPiece, declares, tempReads, declaredIn, tempRead, pruneDeadTemps};
-ghost use Rattle.temps.specs.Scratch.{tempGoes, tempText, scratchLine, tempScratch};
+ghost use Rattle.temps.specs.Scratch.{tempIn, tempGoes, tempText, scratchLine, tempScratch};
 ghost use Rattle.temps.specs.Table.{Tells, TellsOf};
 
 // Whether one of the pieces between the commas, trimmed, is a name.
@@ -228,9 +229,8 @@ fn prune_with(
     o
 }
 
-// A store of a declared temp that nothing reads goes, where its value is pure. Each line is followed by one LF; the values of the stores
-// of temps are left in `scratch`, one over the other, without their comments.
-pub fn prune_dead_temps(text: &[u8], scratch: &mut [u8], out: &mut [u8]) -> usize
+// The same as prune_dead_temps, with tables.
+fn prune_tables(text: &[u8], scratch: &mut [u8], out: &mut [u8]) -> usize
     requires { ⌜ (length (now text) ≤ length (now scratch)) × (length (unlines (pruneDeadTemps plain (linesOf (now text)))) ≤ length (now out)) ⌝ }
     ensures answer { λ r. ⌜ Wrote (now (out .entry)) 0 (unlines (pruneDeadTemps plain (linesOf (now (text .entry))))) (now (out .exit)) r ⌝ }
     ensures memory { λ _. ⌜ now (scratch .exit) ≡ tempScratch (linesOf (now (text .entry))) (now (scratch .entry)) ⌝ }
@@ -240,4 +240,40 @@ pub fn prune_dead_temps(text: &[u8], scratch: &mut [u8], out: &mut [u8]) -> usiz
     table::flag_decls(text, &mut declared);
     table::flag_used(text, &declared, &mut read);
     prune_with(text, &declared, &read, scratch, out)
+}
+
+// Whether a text begins with a `t` and a digit.
+fn temp_front(t: &[u8]) -> bool
+    ensures { λ r. ⌜ r ≡ eqb 116 (getD (now (t .entry)) 0 0) && isDigit (getD (now (t .entry)) 1 0) ⌝ }
+{
+    let d = lines::byte_at(t, 1);
+    (b't' == lines::byte_at(t, 0)) & ((b'0' <= d) & (d <= b'9'))
+}
+
+// Whether a digit stands after a `t` somewhere.
+fn has_temp(s: &[u8]) -> bool
+    ensures { λ r. ⌜ r ≡ tempIn (now (s .entry)) ⌝ }
+{
+    let mut i = 0;
+    while i < s.len() {
+        let j = lines::find_byte(s, i, b't');
+        if temp_front(lines::cut(s, j, s.len())) {
+            return true;
+        }
+        i = lines::after(s, j);
+    }
+    false
+}
+
+// A store of a declared temp that nothing reads goes, where its value is pure. Each line is followed by one LF; the values of the stores
+// of temps are left in `scratch`, one over the other, without their comments. A text that names no temp stays as it is.
+pub fn prune_dead_temps(text: &[u8], scratch: &mut [u8], out: &mut [u8]) -> usize
+    requires { ⌜ (length (now text) ≤ length (now scratch)) × (length (unlines (pruneDeadTemps plain (linesOf (now text)))) ≤ length (now out)) ⌝ }
+    ensures answer { λ r. ⌜ Wrote (now (out .entry)) 0 (unlines (pruneDeadTemps plain (linesOf (now (text .entry))))) (now (out .exit)) r ⌝ }
+    ensures memory { λ _. ⌜ now (scratch .exit) ≡ tempScratch (linesOf (now (text .entry))) (now (scratch .entry)) ⌝ }
+{
+    if !has_temp(text) {
+        return decls::print::put_lines(text, out, 0);
+    }
+    prune_tables(text, scratch, out)
 }

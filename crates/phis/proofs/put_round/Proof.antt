@@ -1,28 +1,33 @@
 -- `phis::put_round` meets its contract. Assumes nothing.
 use native.Mathlib.Omega.{arith}
-use mathlib.Core.Path.{refl, ap}
+use mathlib.Core.Path.{refl, sym, ap}
 use lib.ListN.{length}
 use borrow.Author.Tests.{not-true}
 use Rattle.lines.specs.Lf.{linesOf}
 use Rattle.lines.proofs.Tests.{so}
 use Rattle.lines.proofs.OutLaws.{wrote-as}
 use Rattle.phis.proofs.TableLaws.{table-tells}
-use Rattle.phis.proofs.Whole.{held-round}
+use Rattle.phis.proofs.Whole.{none-round, calm-dead}
 use borrow.Author.Needs.{needs}
 use Rattle.phis.proofs.put_round.Statement.{statement}
 use Rattle.phis.proofs.put_round.Tie as tie
 
-has-phi-requires : tie.Need-has-phi-requires
-has-phi-requires c κs = search needs
+may-change-requires : tie.Need-may-change-requires
+may-change-requires c κs = search needs
 
-put-all-requires : tie.Need-put-all-requires
-put-all-requires c κs = omega (arith, c .before .before .before .before .before .before .pre .1, ap length (held-round (c .before .before .before .before .before .before .args .text .now) (so (c .before .before .has-phi .ensures) (not-true _ (c .before .if1 .taken)))))
+put-lines-requires : tie.Need-put-lines-requires
+put-lines-requires c κs =
+    let a = c .before .before .before .before .before .before in
+    omega (arith, a .pre .1 .1, ap length (none-round (a .args .text .now) (calm-dead (a .args .text .now) (a .args .dead) (a .pre .0) (so (c .before .before .may-change .ensures) (not-true _ (c .before .if1 .taken))))))
 
 same-length : tie.Need-same-length
 same-length c = search needs
 
 returns : tie.Need-returns
-returns c = (wrote-as (held-round (c .before .before .before .before .before .before .before .before .before .args .text .now) (so (c .before .before .before .before .before .has-phi .ensures) (not-true _ (c .before .before .before .before .if1 .taken)))) (c .before .before .put-all .ensures), refl)
+returns c =
+    let a = c .before .before .before .before .before .before .before .before .before in
+    let k = calm-dead (a .args .text .now) (a .args .dead) (a .pre .0) (so (c .before .before .before .before .before .may-change .ensures) (not-true _ (c .before .before .before .before .if1 .taken))) in
+    (wrote-as (none-round (a .args .text .now) k) (c .before .before .put-lines .ensures), (sym k, refl))
 
 slice-aggregate-note-lines : tie.Need-slice-aggregate-note-lines
 slice-aggregate-note-lines c = search needs
@@ -34,7 +39,7 @@ slice-aggregate-put-with : tie.Need-slice-aggregate-put-with
 slice-aggregate-put-with c = search needs
 
 put-with-requires : tie.Need-put-with-requires
-put-with-requires c κs = (table-tells (linesOf (c .before .before .before .before .before .before .before .before .before .before .before .args .text .now)) 1024 _ (omega arith) (c .before .before .before .before .note-lines .ensures), c .before .before .before .before .before .before .before .before .before .before .before .pre)
+put-with-requires c κs = (table-tells (linesOf (c .before .before .before .before .before .before .before .before .before .before .before .args .text .now)) 1024 _ (omega arith) (c .before .before .before .before .note-lines .ensures), c .before .before .before .before .before .before .before .before .before .before .before .pre .1)
 
 same-length-2 : tie.Need-same-length-2
 same-length-2 c = search needs
@@ -49,8 +54,8 @@ pub put-round-spec : {M : Type 1} → statement M
 put-round-spec =
     tie.close
     (tie.spec
-    has-phi-requires
-    put-all-requires
+    may-change-requires
+    put-lines-requires
     same-length
     returns
     slice-aggregate-note-lines

@@ -1,7 +1,7 @@
 -- `phis::put_with` meets its contract. Assumes nothing.
 use Prim.Native.Nat.{_-_}
 use native.Mathlib.Omega.{arith}
-use mathlib.Core.Path.{refl, ap}
+use mathlib.Core.Path.{refl, sym, ap}
 use lib.ListN.{length}
 use borrow.Author.Tests.{not-true, not-false}
 use Rattle.lines.proofs.Tests.{so}
@@ -21,14 +21,14 @@ abbrev μ-loop : tie.MeasureT-loop
 any-dead-requires : tie.Need-any-dead-requires Inv-loop μ-loop
 any-dead-requires c κs = c .before .before .before .before .pre .0
 
-put-all-requires : tie.Need-put-all-requires Inv-loop μ-loop
-put-all-requires c κs = omega (arith, c .before .before .before .before .before .before .before .pre .1 .1, ap length (none-round (c .before .before .before .before .before .before .before .args .text .now) (so (c .before .before .any-dead .ensures) (not-true _ (c .before .if1 .taken)))))
+put-lines-requires : tie.Need-put-lines-requires Inv-loop μ-loop
+put-lines-requires c κs = omega (arith, c .before .before .before .before .before .before .before .pre .1 .1, ap length (none-round (c .before .before .before .before .before .before .before .args .text .now) (so (c .before .before .any-dead .ensures) (not-true _ (c .before .if1 .taken)))))
 
 same-length : tie.Need-same-length Inv-loop μ-loop
 same-length c = search needs
 
 returns : tie.Need-returns Inv-loop μ-loop
-returns c = (wrote-as (none-round (c .before .before .before .before .before .before .before .before .before .before .args .text .now) (so (c .before .before .before .before .before .any-dead .ensures) (not-true _ (c .before .before .before .before .if1 .taken)))) (c .before .before .put-all .ensures), refl)
+returns c = (wrote-as (none-round (c .before .before .before .before .before .before .before .before .before .before .args .text .now) (so (c .before .before .before .before .before .any-dead .ensures) (not-true _ (c .before .before .before .before .if1 .taken)))) (c .before .before .put-lines .ensures), (sym (so (c .before .before .before .before .before .any-dead .ensures) (not-true _ (c .before .before .before .before .if1 .taken))), refl))
 
 loop-holds : tie.Need-loop-holds Inv-loop μ-loop
 loop-holds c = let pre = c .before .before .before .before .before .before .pre in round-start _ _ _ (pre .1 .0) (pre .1 .1) (so (c .before .any-dead .ensures) (not-false _ (c .if1 .left)))
@@ -58,7 +58,7 @@ same-length-3 : tie.Need-same-length-3 Inv-loop μ-loop
 same-length-3 c = writing-length (c .before .loop .inv .writing)
 
 returns-2 : tie.Need-returns-2 Inv-loop μ-loop
-returns-2 c = (round-end (c .before .loop .inv) (c .loop-test .left), c .before .loop .inv .memory)
+returns-2 c = (round-end (c .before .loop .inv) (c .loop-test .left), (sym (so (c .before .before .before .any-dead .ensures) (not-false _ (c .before .before .if1 .left))), c .before .loop .inv .memory))
 
 pub put-with-spec : {M : Type 1} → statement M
 put-with-spec =
@@ -67,7 +67,7 @@ put-with-spec =
     Inv-loop
     μ-loop
     any-dead-requires
-    put-all-requires
+    put-lines-requires
     same-length
     returns
     loop-holds

@@ -1,59 +1,60 @@
--- `temps::prune_dead_temps` meets its contract. Assumes nothing.
 use borrow.Author.Needs.{needs}
-use Rattle.lines.specs.Lf.{linesOf}
-use Rattle.temps.proofs.TableLaws.{tells-declared, tells-read}
+use native.Mathlib.Omega.{arith}
+use mathlib.Core.Path.{ap}
+use lib.ListN.{length}
+use borrow.Author.Tests.{not-true}
+use Rattle.lines.proofs.Tests.{so}
+use Rattle.lines.proofs.OutLaws.{wrote-as}
+use Rattle.temps.proofs.Lacks.{lack-text, lack-scratch}
 use Rattle.temps.proofs.prune_dead_temps.Statement.{statement}
 use Rattle.temps.proofs.prune_dead_temps.Tie as tie
+use Rattle.temps.proofs.prune_dead_temps.Reads as reads
+use Rattle.temps.proofs.prune_dead_temps.Lts as lts
+use Rattle.decls.proofs.print.put_lines.Reads as put-lines-reads
+use Rattle.temps.proofs.has_temp.Reads as has-temp-reads
+use Rattle.temps.proofs.prune_tables.Reads as prune-tables-reads
 
-slice-aggregate-flag-decls : tie.Need-slice-aggregate-flag-decls
-slice-aggregate-flag-decls c = search needs
+-- src/lib.rt:275:9
+has-temp-requires : tie.Need-has-temp-requires
+has-temp-requires c κs = search needs
 
-flag-decls-requires : tie.Need-flag-decls-requires
-flag-decls-requires c κs = search needs
+-- src/lib.rt:276:9
+put-lines-requires : tie.Need-put-lines-requires
+put-lines-requires c κs = omega (arith, c .before .before .before .before .before .before .pre .1, ap length (lack-text (c .before .before .before .before .before .before .args .text .now) (so (c .before .before .has-temp .ensures) (not-true _ (c .before .if1 .taken)))))
 
-slice-aggregate-flag-used : tie.Need-slice-aggregate-flag-used
-slice-aggregate-flag-used c = search needs
-
-slice-aggregate-flag-used-2 : tie.Need-slice-aggregate-flag-used-2
-slice-aggregate-flag-used-2 c = search needs
-
-flag-used-requires : tie.Need-flag-used-requires
-flag-used-requires c κs = search needs
-
-slice-aggregate-prune-with : tie.Need-slice-aggregate-prune-with
-slice-aggregate-prune-with c = search needs
-
-slice-aggregate-prune-with-2 : tie.Need-slice-aggregate-prune-with-2
-slice-aggregate-prune-with-2 c = search needs
-
-prune-with-requires : tie.Need-prune-with-requires
-prune-with-requires c κs =
-    let s = c .before .before .before .before .before .before .before .before .before .before .before .before .before .before in
-    let ls = linesOf (s .args .text .now) in
-    let d = c .before .before .before .before .before .before .before .before .before .flag-decls .ensures in
-    ((s .pre .0, (tells-declared ls 1024 _ d, tells-read ls 1024 _ _ d (c .before .before .before .before .before .flag-used .ensures))), s .pre .1)
-
+-- src/lib.rt:276:9
 same-length : tie.Need-same-length
 same-length c = search needs
 
+-- src/lib.rt:276:9
+returns : tie.Need-returns
+returns c = let k = so (c .before .before .before .before .before .has-temp .ensures) (not-true _ (c .before .before .before .before .if1 .taken)) in (wrote-as (lack-text (c .before .before .before .before .before .before .before .before .before .args .text .now) k) (c .before .before .put-lines .ensures), lack-scratch (c .before .before .before .before .before .before .before .before .before .args .text .now) k (c .before .before .before .before .before .before .before .before .before .args .scratch .now))
+
+-- src/lib.rt:278:5
+prune-tables-requires : tie.Need-prune-tables-requires
+prune-tables-requires c κs = search needs
+
+-- src/lib.rt:270:1
 same-length-2 : tie.Need-same-length-2
 same-length-2 c = search needs
 
-returns : tie.Need-returns
-returns c = search needs
+-- src/lib.rt:270:1
+same-length-3 : tie.Need-same-length-3
+same-length-3 c = search needs
+
+-- src/lib.rt:270:1
+returns-2 : tie.Need-returns-2
+returns-2 c = search needs
 
 pub prune-dead-temps-spec : {M : Type 1} → statement M
 prune-dead-temps-spec =
     tie.close
     (tie.spec
-    slice-aggregate-flag-decls
-    flag-decls-requires
-    slice-aggregate-flag-used
-    slice-aggregate-flag-used-2
-    flag-used-requires
-    slice-aggregate-prune-with
-    slice-aggregate-prune-with-2
-    prune-with-requires
+    has-temp-requires
+    put-lines-requires
     same-length
+    returns
+    prune-tables-requires
     same-length-2
-    returns)
+    same-length-3
+    returns-2)

@@ -1,61 +1,67 @@
--- `phis::table::has_phi` meets its contract. Assumes nothing.
 use Prim.Native.Nat.{_-_}
-use mathlib.Core.Path.{_≡_, refl, sym, ap, _∙_}
+use mathlib.Core.Path.{_≡_, refl, sym, _∙_}
 use native.Mathlib.Omega.{arith}
 use lib.ListN.{length, drop}
-use Rattle.lines.specs.Lf.{prefixed, holds}
-use Rattle.names.specs.Names.{phiWord}
-use Rattle.lines.proofs.Tests.{so}
-use Rattle.lines.proofs.Compare.{hold-here, hold-on, hold-end}
-use Rattle.phis.proofs.Held.{not-here}
 use borrow.Author.Needs.{needs}
+use Rattle.lines.specs.Lf.{holds}
+use Rattle.lines.proofs.Tests.{so}
+use Rattle.lines.proofs.Compare.{hold-end}
+use Rattle.names.specs.Names.{phiWord}
+use Rattle.phis.proofs.Held.{find-hit, find-on}
 use Rattle.phis.proofs.table.has_phi.Statement.{statement}
 use Rattle.phis.proofs.table.has_phi.Tie as tie
+use Rattle.phis.proofs.table.has_phi.Reads as reads
+use Rattle.phis.proofs.table.has_phi.Lts as lts
+use Rattle.lines.proofs.after.Reads as after-reads
+use Rattle.lines.proofs.cut.Reads as cut-reads
+use Rattle.lines.proofs.find_byte.Reads as find-byte-reads
+use Rattle.lines.proofs.starts_with.Reads as starts-with-reads
 
 abbrev Inv-loop : tie.InvT-loop
-Inv-loop s i₀ t3 i = holds phiWord (drop i s) ≡ holds phiWord s
+Inv-loop s i₀ t4 i = holds phiWord (drop i s) ≡ holds phiWord s
 
 abbrev μ-loop : tie.MeasureT-loop
-μ-loop s i₀ t3 i = length s - i
+μ-loop s i₀ t4 i = length s - i
 
+-- src/table.rt:19:5
 loop-holds : tie.Need-loop-holds Inv-loop μ-loop
 loop-holds c = refl
 
-shared-slice-read-if1 : tie.Need-shared-slice-read-if1 Inv-loop μ-loop
-shared-slice-read-if1 c = search needs
+-- src/table.rt:20:13
+find-byte-requires : tie.Need-find-byte-requires Inv-loop μ-loop
+find-byte-requires c κs = search needs
 
+-- src/table.rt:21:31
 cut-requires : tie.Need-cut-requires Inv-loop μ-loop
 cut-requires c κs = search needs
 
+-- src/table.rt:21:58
 slice-aggregate-starts-with : tie.Need-slice-aggregate-starts-with Inv-loop μ-loop
 slice-aggregate-starts-with c = search needs
 
+-- src/table.rt:21:12
 starts-with-requires : tie.Need-starts-with-requires Inv-loop μ-loop
 starts-with-requires c κs = search needs
 
+-- src/table.rt:22:13
 returns : tie.Need-returns Inv-loop μ-loop
-returns c = let a = c .before .before .before .before .before .before .before .before .before .args in let l = c .before .before .before .before .before .before .before .loop in sym (hold-here phiWord (a .s .now) (l .i) (ap (prefixed phiWord) (sym (c .before .before .before .cut .ensures)) ∙ so (c .before .starts-with .ensures) (c .if2 .taken))) ∙ l .inv
+returns c = sym (find-hit (c .before .before .before .before .before .before .before .before .args .s .now) (c .before .before .before .before .before .before .loop .i) (c .before .before .before .before .find-byte .result) (c .before .before .before .before .find-byte .ensures) (c .before .before .before .cut .result .now) (c .before .before .before .cut .ensures) (so (c .before .starts-with .ensures) (c .if1 .taken))) ∙ c .before .before .before .before .before .before .loop .inv
 
-add-i : tie.Need-add-i Inv-loop μ-loop
-add-i c = omega arith
+-- src/table.rt:24:9
+after-requires : tie.Need-after-requires Inv-loop μ-loop
+after-requires c κs = search needs
 
+-- src/table.rt:19:5
 loop-less : tie.Need-loop-less Inv-loop μ-loop
-loop-less c = omega arith
+loop-less c = omega (arith, c .after .ensures, c .before .before .before .before .before .find-byte .ensures, c .before .before .before .before .before .before .loop-test .taken)
 
+-- src/table.rt:19:5
 loop-again : tie.Need-loop-again Inv-loop μ-loop
-loop-again c = let a = c .before .before .before .before .before .before .before .before .before .args in let l = c .before .before .before .before .before .before .before .loop in sym (hold-on phiWord (a .s .now) (l .i) (c .before .before .before .before .before .before .loop-test .taken) (ap (prefixed phiWord) (sym (c .before .before .before .cut .ensures)) ∙ so (c .before .starts-with .ensures) (c .if2 .left))) ∙ l .inv
+loop-again c = sym (find-on (c .before .before .before .before .before .before .before .before .before .args .s .now) (c .before .before .before .before .before .before .before .loop .i) (c .before .before .before .before .before .find-byte .result) (c .before .before .before .before .before .find-byte .ensures) (c .before .before .before .before .cut .result .now) (c .before .before .before .before .cut .ensures) (c .after .result) (c .after .ensures) (so (c .before .before .starts-with .ensures) (c .before .if1 .left))) ∙ c .before .before .before .before .before .before .before .loop .inv
 
-add-i-2 : tie.Need-add-i-2 Inv-loop μ-loop
-add-i-2 c = omega arith
-
-loop-less-2 : tie.Need-loop-less-2 Inv-loop μ-loop
-loop-less-2 c = omega arith
-
-loop-again-2 : tie.Need-loop-again-2 Inv-loop μ-loop
-loop-again-2 c = let a = c .before .before .before .before .before .args in let l = c .before .before .before .loop in sym (hold-on phiWord (a .s .now) (l .i) (c .before .before .loop-test .taken) (not-here (a .s .now) (l .i) (c .if1 .left) (c .before .before .loop-test .taken))) ∙ l .inv
-
+-- src/table.rt:15:1
 returns-2 : tie.Need-returns-2 Inv-loop μ-loop
-returns-2 c = let a = c .before .before .before .args in let l = c .before .loop in sym (hold-end phiWord (a .s .now) (l .i) (c .loop-test .left)) ∙ l .inv
+returns-2 c = sym (hold-end phiWord (c .before .before .before .args .s .now) (c .before .loop .i) (c .loop-test .left)) ∙ c .before .loop .inv
 
 pub has-phi-spec : {M : Type 1} → statement M
 has-phi-spec =
@@ -64,15 +70,12 @@ has-phi-spec =
     Inv-loop
     μ-loop
     loop-holds
-    shared-slice-read-if1
+    find-byte-requires
     cut-requires
     slice-aggregate-starts-with
     starts-with-requires
     returns
-    add-i
+    after-requires
     loop-less
     loop-again
-    add-i-2
-    loop-less-2
-    loop-again-2
     returns-2)

@@ -1,12 +1,12 @@
--- `phis::put_all` meets its contract. Assumes nothing.
+-- `decls::print::put_lines` meets its contract. Assumes nothing.
 use Rattle.lines.proofs.Tests.{so}
-use Rattle.phis.proofs.Whole.{whole-room, whole-ended, whole-empty, whole-space, whole-open}
+use Rattle.decls.proofs.Whole.{whole-room, whole-ended, whole-empty, whole-space, whole-open}
 use borrow.Author.Needs.{needs}
-use Rattle.phis.proofs.put_all.Statement.{statement}
-use Rattle.phis.proofs.put_all.Tie as tie
+use Rattle.decls.proofs.print.put_lines.Statement.{statement}
+use Rattle.decls.proofs.print.put_lines.Tie as tie
 
 put-requires : tie.Need-put-requires
-put-requires c κs = whole-room _ _ (c .before .before .before .pre)
+put-requires c κs = whole-room _ _ _ (c .before .before .before .pre)
 
 ends-lf-requires : tie.Need-ends-lf-requires
 ends-lf-requires c κs = search needs
@@ -32,8 +32,8 @@ same-length-3 c = search needs
 returns-3 : tie.Need-returns-3
 returns-3 c = whole-open (c .before .before .before .before .before .before .before .before .before .put .ensures) (so (c .before .before .before .before .before .before .ends-lf .ensures) (c .before .before .before .before .before .if1 .left)) (c .before .before .before .before .if2 .left) (c .before .before .put-byte .ensures)
 
-pub put-all-spec : {M : Type 1} → statement M
-put-all-spec =
+pub put-lines-spec : {M : Type 1} → statement M
+put-lines-spec =
     tie.close
     (tie.spec
     put-requires
