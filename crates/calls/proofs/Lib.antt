@@ -6,6 +6,7 @@ pub mod Instance
 pub mod Room
 pub mod Sent
 pub mod Listings
+pub mod Signs
 pub mod StepLaws
 pub mod WalkLaws
 pub mod Owners

@@ -135,6 +135,12 @@ module _ (f : List ℕ → Bool) where
         let z : suc j ≡ m = omega arith in
         down-at false a ∙ ap (λ (n : ℕ). breaksDown f (linesOf (drop n s)) (drop (suc j) os)) (sym p) ∙ ap (λ (n : ℕ). breaksDown f (linesOf (drop r s)) (drop n os)) z
 
+-- by the words of the value, cleaned
+pub down-clean : (value clean : List ℕ) → clean ≡ stripLexical value → (ls : List (List ℕ)) (os : List ℕ) (k : Bool) →
+    k ≡ breaksDown (breaksWith value (wordsIn clean)) ls os → k ≡ breaksDown (breaks value) ls os
+unfolding breaks
+down-clean value clean e ls os k c = c ∙ ap (λ (t : List ℕ). breaksDown (breaksWith value (wordsIn t)) ls os) e
+
 -- ---- putting a value in
 
 -- what was written at the front of a buffer, cut out of it
@@ -188,18 +194,14 @@ module _ (R : Reading) (cur : List ℕ) (v : ℕ) (value : List ℕ) (below take
       unfolding absorbStep
       absorb-later h = rw (← a, eq-eqb n 1 z, ← b, h)
 
-      module _ (h : l ≡ false) (clean : List ℕ) (e : clean ≡ stripLexical value) (k : Bool) (c : k ≡ breaksDown (breaksWith value (wordsIn clean)) taken owner) where
-        broken : k ≡ breaksDown (breaks value) taken owner
-        unfolding breaks
-        broken = c ∙ ap (λ (t : List ℕ). breaksDown (breaksWith value (wordsIn t)) taken owner) e
-
+      module _ (h : l ≡ false) (k : Bool) (c : k ≡ breaksDown (breaks value) taken owner) where
         pub absorb-breaks : k ≡ true → absorbStep R cur v value below taken owner ≡ end
         unfolding absorbStep
-        absorb-breaks q = rw (← a, eq-eqb n 1 z, ← b, h, ← broken, q)
+        absorb-breaks q = rw (← a, eq-eqb n 1 z, ← b, h, ← c, q)
 
         pub absorb-puts : k ≡ false → absorbStep R cur v value below taken owner ≡ putBy (leavesOf R) (contextOf cur v) cur v value
         unfolding absorbStep
-        absorb-puts q = rw (← a, eq-eqb n 1 z, ← b, h, ← broken, q)
+        absorb-puts q = rw (← a, eq-eqb n 1 z, ← b, h, ← c, q)
 
 pub put-step : {e d e′ d′ : List ℕ} {s t : Step} {r : Made} → s ≡ t → PutAs e d t e′ d′ r → PutAs e d s e′ d′ r
 put-step q p = rw q p

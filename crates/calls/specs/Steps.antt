@@ -5,6 +5,7 @@ use mathlib.Core.Bool.{Bool, true, false, cond, not, _&&_, _||_}
 use mathlib.Core.List.{List, [], _∷_}
 use lib.Dec.{eqb}
 use lib.ListN.{length, getD}
+use Rattle.lines.specs.Lf.{holds}
 use Rattle.lines.specs.Out.{Wrote}
 use Rattle.calls.specs.declared.Made.{Made}
 use Rattle.calls.specs.declared.Made.the-variants as made
@@ -13,6 +14,14 @@ use Rattle.reading.specs.Reading.{Reading}
 use Rattle.reading.specs.Uses.{lineReads}
 use Rattle.calls.specs.LeavesOf.{contextOf, leavesOf}
 use Rattle.calls.specs.Calls.{Step, end, skip, absorb, readLater, putBy}
+
+-- a byte stands second in a word that a condition or a loop begins with
+abbrev pub isSecond : ℕ → Bool
+isSecond x = ((eqb x 104 || eqb x 111) || eqb x 102) || eqb x 119
+
+-- a line without the white space at its front may be one that a condition or a loop begins: by its second byte, a `:` or a `}`
+unfoldable pub mayControl : List ℕ → Bool
+mayControl t = isSecond (getD t 1 0) || (holds (58 ∷ []) t || holds (125 ∷ []) t)
 
 -- one of the lines whose owner stands just below them all passes a test; an owner is told by how far below it stands
 unfoldable pub breaksDown : (List ℕ → Bool) → List (List ℕ) → List ℕ → Bool

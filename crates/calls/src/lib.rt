@@ -2,7 +2,7 @@
 ghost use mathlib.Core.Path.{_≡_};
 ghost use mathlib.Core.Bool.{true, not, _&&_};
 ghost use mathlib.Core.List.{[], _∷_};
-ghost use Prim.Native.Nat.{_+_, _-_, _≤_, _<_, _^_};
+ghost use Prim.Native.Nat.{_+_, _-_, _%_, _≤_, _<_, _^_};
 ghost use lib.Dec.{eqb};
 ghost use lib.ListN.{length, getD, replicate};
 ghost use Rattle.lines.specs.Lf.{linesOf, unlines};
@@ -10,21 +10,53 @@ ghost use Rattle.lines.specs.Out.{Wrote};
 ghost use Rattle.words.specs.Hits.{replacedAt};
 ghost use Rattle.lexical.specs.Idents.{wordsIn};
 ghost use Rattle.forms.specs.Primary.{parenIfNeeded};
-ghost use Rattle.forms.specs.Breaks.{breaksWith};
+ghost use Rattle.forms.specs.Control.{isControl};
+ghost use Rattle.forms.specs.Breaks.{breaksWith, breaks};
 ghost use Rattle.reading.specs.Reading.{plain};
+ghost use Rattle.reading.specs.Uses.{lineReads, lineStores};
 ghost use Rattle.place.specs.Blocks.{blockIds, cleaned};
 ghost use Rattle.place.specs.Starts.{startsGo};
 ghost use Rattle.place.specs.Parents.{idsParents};
 ghost use Rattle.place.specs.Fill.{Filled, flagsOf};
 ghost use Rattle.calls.specs.LeavesOf.{isCall, isControlLine, contextOf, leavesOf};
 ghost use Rattle.calls.specs.Calls.{readLater, putBy, rebuildCallsActs, rebuildCalls};
-ghost use Rattle.calls.specs.Steps.{breaksDown, absorbStep, lineBack, PutAs};
+ghost use Rattle.calls.specs.Steps.{isSecond, mayControl, breaksDown, absorbStep, lineBack, PutAs};
 ghost use Rattle.calls.specs.Tables.{rowsAt, Keeps, Stands, Placed, Foot, Peaked, Ready, Turned, Rebuilt, ownersOf};
 
 // What putting a value into a line makes: a line of so many bytes, or nothing.
 pub enum Made {
     Line(usize),
     Nothing,
+}
+
+// Whether a byte stands second in a word that a condition or a loop begins with.
+fn is_second(x: u8) -> bool
+    ensures { λ r. ⌜ r ≡ isSecond x ⌝ }
+{
+    (x == b'h') | (x == b'o') | (x == b'f') | (x == b'w')
+}
+
+// Whether a line, its front trimmed, may be one that a condition or a loop begins: by its second byte, a `:` or a `}`.
+fn may_control(t: &[u8]) -> bool
+    ensures { λ r. ⌜ r ≡ mayControl (now (t .entry)) ⌝ }
+{
+    if is_second(lines::byte_at(t, 1)) {
+        return true;
+    }
+    if lines::contains(t, b":") {
+        return true;
+    }
+    lines::contains(t, b"}")
+}
+
+// Whether a line, its front trimmed, is one that a condition or a loop begins.
+fn is_control(t: &[u8]) -> bool
+    ensures { λ r. ⌜ r ≡ isControl (now (t .entry)) ⌝ }
+{
+    if !may_control(t) {
+        return false;
+    }
+    forms::is_control_header(t)
 }
 
 // Whether a line that `starts` a statement is a call line that may take values in.
@@ -37,7 +69,27 @@ fn takes(line: &[u8], starts: bool) -> bool
     if !lines::contains(line, b"(") {
         return false;
     }
-    !forms::is_control_header(text::trim_start(line))
+    !is_control(text::trim_start(line))
+}
+
+// The last digit of a register.
+fn last_digit(reg: names::Register) -> u8
+    ensures { λ r. ⌜ r ≡ 48 + reg .0 % 10 ⌝ }
+{
+    48 + (reg.0 % 10) as u8
+}
+
+// What a line does with a register: nothing, where it lacks the register's last digit.
+fn use_in(line: &[u8], reg: names::Register) -> reading::Use
+    ensures { λ r. ⌜ (r .reads ≡ lineReads (reg .0) (now (line .entry))) × (r .stores ≡ lineStores (reg .0) (now (line .entry))) ⌝ }
+{
+    if lines::find_byte(line, 0, last_digit(reg)) >= line.len() {
+        return reading::Use {
+            reads: 0,
+            stores: false,
+        };
+    }
+    reading::use_of(line, reg)
 }
 
 // Whether a line below reads a register, in this region and up to the next store of it, whose own reads count.
@@ -50,7 +102,7 @@ fn read_later(below: &[u8], reg: names::Register) -> bool
         if place::is_header(&below[i..e]) {
             return false;
         }
-        let u = reading::use_of(&below[i..e], reg);
+        let u = use_in(&below[i..e], reg);
         if u.reads != 0 {
             return true;
         }
@@ -92,6 +144,18 @@ fn breaks_taken(value: &[u8], clean: &[u8], text: &[u8], owner: &[usize]) -> boo
         i = lines::after(text, e);
     }
     false
+}
+
+// The same of a value that is not cleaned yet; it is cleaned where there are lines above.
+fn breaks_above(value: &[u8], text: &[u8], owner: &[usize], clean: &mut [u8]) -> bool
+    requires { ⌜ length (now value) ≤ length (now clean) ⌝ }
+    ensures { λ r. ⌜ r ≡ breaksDown (breaks (now (value .entry))) (linesOf (now (text .entry))) (now (owner .entry)) ⌝ }
+{
+    if text.len() == 0 {
+        return false;
+    }
+    let n = lexical::strip_lexical(value, clean, 0);
+    breaks_taken(value, lines::cut(clean, 0, n), text, owner)
 }
 
 // Writes a line with a value in the place of a hit, in parentheses where it needs them, and returns the place after it; the value so
@@ -153,8 +217,7 @@ fn absorb(
     if read_later(below, reg) {
         return Made::Nothing;
     }
-    let n = lexical::strip_lexical(value, clean, 0);
-    if breaks_taken(value, lines::cut(clean, 0, n), taken, owner) {
+    if breaks_above(value, taken, owner, clean) {
         return Made::Nothing;
     }
     put_in(line, reg, value, clean, out)
@@ -164,9 +227,10 @@ fn absorb(
 fn line_back(s: &[u8], e: usize) -> usize
     ensures { λ r. ⌜ r ≡ lineBack (now (s .entry)) e ⌝ }
 {
-    let mut j = e;
+    let t = lines::cut(s, 0, e);
+    let mut j = t.len();
     while 0 < j {
-        if lines::byte_at(s, j - 1) == 10 {
+        if t[j - 1] == 10 {
             return j;
         }
         j -= 1;

@@ -1,83 +1,60 @@
-use borrow.Author.Needs.{needs}
-use native.Mathlib.Omega.{arith}
-use mathlib.Core.Path.{refl, sym, _∙_}
+use mathlib.Core.Path.{refl}
 use Rattle.lines.specs.Lf.{linesOf}
-use Rattle.lines.proofs.OutLaws.{wrote-length}
-use Rattle.lexical.proofs.LexLaws.{strip-length}
 use Rattle.reading.specs.Reading.{plain}
-use Rattle.calls.proofs.StepLaws.{front-is, as-end, put-after, put-step, absorb-reads, absorb-later, absorb-breaks, absorb-puts}
+use Rattle.calls.proofs.StepLaws.{as-end, put-after, put-step, absorb-reads, absorb-later, absorb-breaks, absorb-puts}
+use borrow.Author.Needs.{needs}
 use Rattle.calls.proofs.absorb.Statement.{statement}
 use Rattle.calls.proofs.absorb.Tie as tie
 use Rattle.calls.proofs.absorb.Reads as reads
 use Rattle.calls.proofs.absorb.Lts as lts
-use Rattle.calls.proofs.breaks_taken.Reads as breaks-taken-reads
+use Rattle.calls.proofs.breaks_above.Reads as breaks-above-reads
 use Rattle.calls.proofs.put_in.Reads as put-in-reads
 use Rattle.calls.proofs.read_later.Reads as read-later-reads
-use Rattle.lexical.proofs.strip_lexical.Reads as strip-lexical-reads
-use Rattle.lines.proofs.cut.Reads as cut-reads
 use Rattle.reading.proofs.use_of.Reads as use-of-reads
 
--- src/lib.rt:126:9
+-- src/lib.rt:213:9
 use-of-requires : tie.Need-use-of-requires
 use-of-requires c κs = search needs
 
--- src/lib.rt:128:9
+-- src/lib.rt:215:9
 returns : tie.Need-returns
-returns c =
-    let a = c .before .before .before .before .before .before .before .before .before .before .args in
-    as-end refl (absorb-reads plain (a .line .now) (a .reg .0) (a .value .now) (linesOf (a .below .now)) (linesOf (a .taken .now)) (a .owner .now) _ (c .before .before .use-of .ensures .0) (c .if1 .taken))
+returns c = let a = c .before .before .before .before .before .before .before .before .before .before .args in as-end refl (absorb-reads plain (a .line .now) (a .reg .0) (a .value .now) (linesOf (a .below .now)) (linesOf (a .taken .now)) (a .owner .now) _ (c .before .before .use-of .ensures .0) (c .if1 .taken))
 
--- src/lib.rt:130:8
+-- src/lib.rt:217:8
 read-later-requires : tie.Need-read-later-requires
 read-later-requires c κs = search needs
 
--- src/lib.rt:131:9
+-- src/lib.rt:218:9
 returns-2 : tie.Need-returns-2
-returns-2 c =
-    let a = c .before .before .before .before .before .before .before .before .before .before .before .before .args in
-    as-end refl (absorb-later plain (a .line .now) (a .reg .0) (a .value .now) (linesOf (a .below .now)) (linesOf (a .taken .now)) (a .owner .now) _ (c .before .before .before .before .use-of .ensures .0) (c .before .before .if1 .left) _ (c .before .read-later .ensures) (c .if2 .taken))
+returns-2 c = let a = c .before .before .before .before .before .before .before .before .before .before .before .before .args in as-end refl (absorb-later plain (a .line .now) (a .reg .0) (a .value .now) (linesOf (a .below .now)) (linesOf (a .taken .now)) (a .owner .now) _ (c .before .before .before .before .use-of .ensures .0) (c .before .before .if1 .left) _ (c .before .read-later .ensures) (c .if2 .taken))
 
--- src/lib.rt:133:9
-strip-lexical-requires : tie.Need-strip-lexical-requires
-strip-lexical-requires c κs = omega (arith, c .before .before .before .before .before .before .before .before .before .before .before .before .before .pre .0, strip-length (c .before .before .before .before .before .before .before .before .before .before .before .before .before .args .value .now))
+-- src/lib.rt:220:8
+breaks-above-requires : tie.Need-breaks-above-requires
+breaks-above-requires c κs = search needs
 
--- src/lib.rt:134:28
-cut-requires : tie.Need-cut-requires
-cut-requires c κs = search needs
-
--- src/lib.rt:134:8
-breaks-taken-requires : tie.Need-breaks-taken-requires
-breaks-taken-requires c κs = search needs
-
--- src/lib.rt:135:9
+-- src/lib.rt:221:9
 same-length : tie.Need-same-length
 same-length c = search needs
 
--- src/lib.rt:135:9
+-- src/lib.rt:221:9
 returns-3 : tie.Need-returns-3
-returns-3 c =
-    let a = c .before .before .before .before .before .before .before .before .before .before .before .before .before .before .before .before .before .before .before .before .args in
-    let s = c .before .before .before .before .before .before .strip-lexical .ensures in
-    as-end (wrote-length s) (absorb-breaks plain (a .line .now) (a .reg .0) (a .value .now) (linesOf (a .below .now)) (linesOf (a .taken .now)) (a .owner .now) _ (c .before .before .before .before .before .before .before .before .before .before .before .before .use-of .ensures .0) (c .before .before .before .before .before .before .before .before .before .before .if1 .left) _ (c .before .before .before .before .before .before .before .before .before .read-later .ensures) (c .before .before .before .before .before .before .before .before .if2 .left) _ (front-is s (c .before .before .cut .ensures)) _ (c .before .breaks-taken .ensures) (c .if3 .taken))
+returns-3 c = let a = c .before .before .before .before .before .before .before .before .before .before .before .before .before .before .before .before .before .args in as-end (c .before .before .before .breaks-above .kept .1 .1 .1 .0) (absorb-breaks plain (a .line .now) (a .reg .0) (a .value .now) (linesOf (a .below .now)) (linesOf (a .taken .now)) (a .owner .now) _ (c .before .before .before .before .before .before .before .before .before .use-of .ensures .0) (c .before .before .before .before .before .before .before .if1 .left) _ (c .before .before .before .before .before .before .read-later .ensures) (c .before .before .before .before .before .if2 .left) _ (c .before .before .before .breaks-above .ensures) (c .if3 .taken))
 
--- src/lib.rt:137:5
+-- src/lib.rt:223:5
 put-in-requires : tie.Need-put-in-requires
 put-in-requires c κs = search needs
 
--- src/lib.rt:122:1
+-- src/lib.rt:200:1
 same-length-2 : tie.Need-same-length-2
 same-length-2 c = search needs
 
--- src/lib.rt:122:1
+-- src/lib.rt:200:1
 same-length-3 : tie.Need-same-length-3
 same-length-3 c = search needs
 
--- src/lib.rt:122:1
+-- src/lib.rt:200:1
 returns-4 : tie.Need-returns-4
-returns-4 c =
-    let a = c .before .before .before .before .before .before .before .before .before .before .before .before .before .before .before .before .before .before .before .before .before .before .before .before .before .before .before .args in
-    let s = c .before .before .before .before .before .before .before .before .before .before .before .before .before .strip-lexical .ensures in
-    put-step (absorb-puts plain (a .line .now) (a .reg .0) (a .value .now) (linesOf (a .below .now)) (linesOf (a .taken .now)) (a .owner .now) _ (c .before .before .before .before .before .before .before .before .before .before .before .before .before .before .before .before .before .before .before .use-of .ensures .0) (c .before .before .before .before .before .before .before .before .before .before .before .before .before .before .before .before .before .if1 .left) _ (c .before .before .before .before .before .before .before .before .before .before .before .before .before .before .before .before .read-later .ensures) (c .before .before .before .before .before .before .before .before .before .before .before .before .before .before .before .if2 .left) _ (front-is s (c .before .before .before .before .before .before .before .before .before .cut .ensures)) _ (c .before .before .before .before .before .before .before .before .breaks-taken .ensures) (c .before .before .before .before .before .before .before .if3 .left)) (put-after (wrote-length s) (c .before .before .before .before .put-in .ensures))
+returns-4 c = let a = c .before .before .before .before .before .before .before .before .before .before .before .before .before .before .before .before .before .before .before .before .before .before .before .before .args in put-step (absorb-puts plain (a .line .now) (a .reg .0) (a .value .now) (linesOf (a .below .now)) (linesOf (a .taken .now)) (a .owner .now) _ (c .before .before .before .before .before .before .before .before .before .before .before .before .before .before .before .before .use-of .ensures .0) (c .before .before .before .before .before .before .before .before .before .before .before .before .before .before .if1 .left) _ (c .before .before .before .before .before .before .before .before .before .before .before .before .before .read-later .ensures) (c .before .before .before .before .before .before .before .before .before .before .before .before .if2 .left) _ (c .before .before .before .before .before .before .before .before .before .before .breaks-above .ensures) (c .before .before .before .before .before .before .before .if3 .left)) (put-after (c .before .before .before .before .before .before .before .before .before .before .breaks-above .kept .1 .1 .1 .0) (c .before .before .before .before .put-in .ensures))
 
 pub absorb-spec : {M : Type 1} → statement M
 absorb-spec =
@@ -87,9 +64,7 @@ absorb-spec =
     returns
     read-later-requires
     returns-2
-    strip-lexical-requires
-    cut-requires
-    breaks-taken-requires
+    breaks-above-requires
     same-length
     returns-3
     put-in-requires

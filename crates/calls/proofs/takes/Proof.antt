@@ -7,7 +7,7 @@ use Rattle.calls.proofs.takes.Statement.{statement}
 use Rattle.calls.proofs.takes.Tie as tie
 use Rattle.calls.proofs.takes.Reads as reads
 use Rattle.calls.proofs.takes.Lts as lts
-use Rattle.forms.proofs.is_control_header.Reads as is-control-header-reads
+use Rattle.calls.proofs.is_control.Reads as is-control-reads
 use Rattle.lines.proofs.contains.Reads as contains-reads
 use Rattle.text.proofs.trim_start.Reads as trim-start-reads
 
@@ -32,12 +32,12 @@ trim-start-requires : tie.Need-trim-start-requires
 trim-start-requires c κs = search needs
 
 -- src/lib.rt:33:6
-is-control-header-requires : tie.Need-is-control-header-requires
-is-control-header-requires c κs = search needs
+is-control-requires : tie.Need-is-control-requires
+is-control-requires c κs = search needs
 
 -- src/lib.rt:24:1
 returns-3 : tie.Need-returns-3
-returns-3 c = let a = c .before .before .before .before .before .before .before .args in takes-rest (a .line .now) (a .starts) (not-false _ (c .before .before .before .before .before .if1 .left)) (so (c .before .before .before .contains .ensures) (not-false _ (c .before .before .if2 .left))) _ (c .before .trim-start .ensures) _ (c .is-control-header .ensures)
+returns-3 c = let a = c .before .before .before .before .before .before .before .args in takes-rest (a .line .now) (a .starts) (not-false _ (c .before .before .before .before .before .if1 .left)) (so (c .before .before .before .contains .ensures) (not-false _ (c .before .before .if2 .left))) _ (c .before .trim-start .ensures) _ (c .is-control .ensures)
 
 pub takes-spec : {M : Type 1} → statement M
 takes-spec =
@@ -48,5 +48,5 @@ takes-spec =
     contains-requires
     returns-2
     trim-start-requires
-    is-control-header-requires
+    is-control-requires
     returns-3)
