@@ -39,7 +39,7 @@ same-length c = wrote-length (c .before .loop .inv .1)
 returns : tie.Need-returns Inv-loop μ-loop
 returns c =
     let l = c .before .loop in
-    let n = length (c .before .before .before .args .numbers .now) in
+    let n = length (c .before .before .args .numbers .now) in
     let q : l .i ≡ n = omega (arith, c .loop-test .left, l .inv .0, wrote-length (l .inv .1)) in
     wrote-whole (wipe-end q (l .inv .1)) (length-replicate {A = ℕ} n 0)
 
