@@ -15,7 +15,7 @@ use Rattle.parse.specs.declared.Line.the-variants as line
 use Rattle.words.specs.Runs.{readsOf}
 use Rattle.words.specs.Hits.{regHit}
 use Rattle.reading.specs.Reading.{Reading, pureIn}
-use Rattle.reading.specs.Uses.{lineReads, lineStores}
+use Rattle.reading.specs.Uses.{lineReads, storesBy, lineStores}
 use Rattle.once.specs.Scratch.{scratchAt}
 use Rattle.once.specs.Once.{Next, deadBy, readCount, laterRead}
 use Rattle.once.specs.Tables.{nextIn, storeDrops, dropsBy, lineDrops, hasHit, storeForwards, forwardsBy, lineForwards}
@@ -50,6 +50,16 @@ pub drops-at : (R : Reading) (l : List ℕ) (p : ℕ) (b : Bool) (ls : List (Lis
 unfolding lineDrops
 drops-at R l p b ls ps k q = ap (dropsBy R l p b ls ps) q
 
+-- ---- a line that is read already
+
+pub stores-read : (v : ℕ) (l : List ℕ) (k : Line) → k ≡ parseOf l → storesBy v k ≡ lineStores v l
+unfolding lineStores
+stores-read v l k q = ap (storesBy v) q
+
+pub reads-read : (v : ℕ) (l : List ℕ) (k : Line) (t : List ℕ) → k ≡ parseOf l → t ≡ textOf l k → readsOf v t ≡ lineReads v l
+unfolding lineReads
+reads-read v l k t q p = ap (λ (u : List ℕ). readsOf v u) (p ∙ ap (textOf l) q)
+
 -- ---- a store that goes into the next line
 
 module _ (R : Reading) (v : ℕ) (x : List ℕ) (run : List (List ℕ)) (b goes : Bool) (e : List ℕ) (ls : List (List ℕ)) where
@@ -73,16 +83,16 @@ module _ (R : Reading) (v : ℕ) (x : List ℕ) (run : List (List ℕ)) (b goes 
         forwards-reads h = rw (o, g, s, sym m, ne-eqb n 1 h)
 
         module _ (z : n ≡ 1) where
-          pub forwards-hit : hasHit (regHit v e) ≡ false → storeForwards R v x run b goes e ls ≡ false
+          pub forwards-impure : pureIn R x ≡ false → storeForwards R v x run b goes e ls ≡ false
           unfolding storeForwards
-          forwards-hit h = rw (o, g, s, sym m, eq-eqb n 1 z, h, and-false (eqb (readCount v run) 1), and-false (pureIn R x), and-false (not (laterRead v ls)))
+          forwards-impure h = rw (o, g, s, sym m, eq-eqb n 1 z, h, and-false (not (laterRead v ls)))
 
-          module _ (t : hasHit (regHit v e) ≡ true) where
-            pub forwards-impure : pureIn R x ≡ false → storeForwards R v x run b goes e ls ≡ false
+          module _ (y : pureIn R x ≡ true) where
+            pub forwards-hit : hasHit (regHit v e) ≡ false → storeForwards R v x run b goes e ls ≡ false
             unfolding storeForwards
-            forwards-impure h = rw (o, g, s, sym m, eq-eqb n 1 z, h, and-false (not (laterRead v ls)))
+            forwards-hit h = rw (o, g, s, sym m, eq-eqb n 1 z, y, h, and-false (eqb (readCount v run) 1), and-false (not (laterRead v ls)))
 
-            module _ (y : pureIn R x ≡ true) where
+            module _ (t : hasHit (regHit v e) ≡ true) where
               pub forwards-later : laterRead v ls ≡ true → storeForwards R v x run b goes e ls ≡ false
               unfolding storeForwards
               forwards-later h = rw (o, g, s, sym m, eq-eqb n 1 z, h)

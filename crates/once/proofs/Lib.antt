@@ -13,3 +13,4 @@ pub mod Examples
 pub mod NotedLaws
 pub mod NotedFills
 pub mod CallLaws
+pub mod CalmLaws

@@ -24,8 +24,8 @@ use Rattle.place.specs.Region.{isHeader, untilHeader, region, regionAt}
 use Rattle.reading.specs.Uses.{lineReads, storesBy, lineStores, lineUses, usedIn}
 use Rattle.decls.specs.Seen.{markName, markRuns, markStore, markLine}
 use Rattle.decls.proofs.SeenLaws.{name-length, line-length, zeros-most}
-use Rattle.once.specs.Once.{none, readCount, laterRead}
-use Rattle.once.specs.Tables.{nextIn}
+use Rattle.once.specs.Once.{none, readCount}
+use Rattle.once.specs.Tables.{nextIn, readBelow}
 use Rattle.once.specs.Noted.{rowLines, quiet, NoneFrom, NoneBelow, bump, addName, addRuns, addLine, addLines, alone, OneAt, OneOf}
 
 -- ---- an entry that is above n stays above, where the marks are above
@@ -176,10 +176,14 @@ unused-next v (l ∷ ls) (p ∷ ps) h = let u = unused-cons v l ls h in rw (u .0
     go true = refl
     go false = refl
 
-pub unused-later : (v : ℕ) (ls : List (List ℕ)) → usedIn v ls ≡ false → laterRead v ls ≡ false
-unfolding laterRead
-unused-later v [] h = refl
-unused-later v (l ∷ ls) h = let u = unused-cons v l ls h in rw (u .0, u .1 .0, unused-later v ls (u .1 .1)) refl
+pub unused-below : (far : Bool) (v : ℕ) (ls : List (List ℕ)) → usedIn v ls ≡ false → readBelow far v ls ≡ false
+unfolding readBelow
+unused-below far v [] h = refl
+unused-below far v (l ∷ ls) h = let u = unused-cons v l ls h in rw (u .0, u .1 .0, unused-below far v ls (u .1 .1)) (go (not far && isHeader l))
+  where
+    go : (b : Bool) → cond b false false ≡ false
+    go true = refl
+    go false = refl
 
 -- ---- how often, up to 2
 

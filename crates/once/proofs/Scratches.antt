@@ -9,7 +9,7 @@ use borrow.Author.Tests.{lt-ltb, le-ltb}
 use lib.Dec.{eqb, ltb, eqb·suc-zero}
 use lib.ListN.{length, take, drop, getD}
 use Rattle.lines.specs.Lf.{part, upTo, prefixed, holds, linesOf}
-use Rattle.lines.proofs.Tests.{no, and-left, and-right, and-both, and-true, eqb-sym}
+use Rattle.lines.proofs.Tests.{no, and-left, and-right, and-both, and-true, and-false, eqb-sym}
 use Rattle.lines.proofs.LfLaws.{rest-of, lines-at, lines-end}
 use Rattle.lines.proofs.Compare.{hold-end}
 use Rattle.names.specs.Names.{regOf, isIdent, isDigit, allNames}
@@ -137,6 +137,11 @@ called-end x s i h = ap (calledBelow x) (lines-end s i h)
 -- ---- the whole test
 
 module _ (v : ℕ) (x : List ℕ) (ls : List (List ℕ)) where
+  -- no call, no scratch load
+  pub scratch-calm : calledBelow x ls ≡ false → scratchAt v x ls ≡ false
+  unfolding scratchAt
+  scratch-calm h = rw h (ap (_&&_ (isMember x)) (and-false (not (liveBelow v ls))) ∙ and-false (isMember x))
+
   pub scratch-no : isMember x ≡ false → scratchAt v x ls ≡ false
   unfolding scratchAt
   scratch-no h = rw h

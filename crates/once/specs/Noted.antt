@@ -1,6 +1,6 @@
 -- Two tables over registers, of the last line that uses each one and of how often lines read it: what the lines leave in them, and what they then say.
 -- Assumes nothing.
-use Prim.Native.Nat.{ℕ, _+_}
+use Prim.Native.Nat.{ℕ, _+_, _≤_}
 use mathlib.Core.Path.{_≡_}
 use mathlib.Core.Bool.{Bool, true, false, cond, not, _&&_}
 use mathlib.Core.List.{List, [], _∷_}
@@ -9,7 +9,9 @@ use lib.ListN.{length, drop, getD, set}
 use Rattle.names.specs.Names.{regOf}
 use Rattle.names.specs.declared.RegName.{RegName}
 use Rattle.names.specs.declared.RegName.the-variants as name
+use Rattle.lines.specs.Lf.{part, upTo, lacks}
 use Rattle.parse.specs.Parse.{parseOf, textOf}
+use Rattle.parse.specs.declared.Line.{Line}
 use Rattle.words.specs.Runs.{runs}
 use Rattle.place.specs.Region.{isHeader}
 use Rattle.reading.specs.Uses.{lineReads, usedIn}
@@ -77,3 +79,19 @@ OneAt ls run d = (e : List ℕ) (rest : List (List ℕ)) → ls ≡ e ∷ rest �
 -- of all lines: what is read once by the table is
 abbrev pub OneOf : List (List ℕ) → List ℕ → Type 0
 OneOf ls d = (v : ℕ) → alone v d ≡ true → readCount v ls ≡ 1
+
+-- ---- calls
+
+-- a text of at most c bytes holds no `(`
+abbrev pub CalmIn : List ℕ → ℕ → Type 0
+CalmIn s c = length s ≤ c → lacks 40 s ≡ true
+
+-- so of every rest of a text
+abbrev pub Calm : List ℕ → ℕ → Type 0
+Calm s c = (j : ℕ) → CalmIn (drop j s) c
+
+-- ---- a line that is read already
+
+-- the line at i ends at e, and is read as p
+abbrev pub LineAt : List ℕ → ℕ → ℕ → Line → Type 0
+LineAt s i e p = (e ≡ i + upTo 10 (drop i s)) × (p ≡ parseOf (part i e s))

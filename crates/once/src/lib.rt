@@ -16,9 +16,9 @@ ghost use Rattle.once.specs.Scratch.{objectOf, isMember, changesBy, call
 ghost use Rattle.once.specs.Once.{deadBy, readCount, laterRead, firstOf, takenBy, onceActs, optimizeOnce};
 ghost use Rattle.words.specs.Hits.{regHit, replaceReg};
 ghost use Rattle.reading.specs.Reading.{plain, pureIn};
-ghost use Rattle.reading.specs.Uses.{lineReads};
+ghost use Rattle.reading.specs.Uses.{lineReads, storesBy};
 ghost use Rattle.once.specs.Tables.{readBelow, anyCall, nextIn, Blank, hasHit, storeDrops, lineDrops, storeForwards, lineForwards, onceMarks, actBy, actsBy, firstDrops, firstTakes, markBy, marksOf, areaAt};
-ghost use Rattle.once.specs.Noted.{NoneFrom, NoneBelow, OneIn, OneAt, OneOf};
+ghost use Rattle.once.specs.Noted.{NoneFrom, NoneBelow, OneIn, OneAt, OneOf, CalmIn, Calm, LineAt};
 ghost use Rattle.place.specs.Fill.{Filled, flagsOf};
 ghost use Rattle.place.specs.Loops.{insideLoop};
 ghost use Rattle.place.specs.Paths.{blockPaths, tops};
@@ -112,6 +112,20 @@ fn any_call(text: &[u8], x: &[u8]) -> bool
     false
 }
 
+// How many bytes stand after the last `(`.
+fn calm_len(text: &[u8]) -> usize
+    ensures { λ r. ⌜ Calm (now (text .entry)) r ⌝ }
+{
+    let mut i = text.len();
+    while 0 < i {
+        if text[i - 1] == b'(' {
+            return text.len() - i;
+        }
+        i -= 1;
+    }
+    text.len()
+}
+
 // Whether a line changes an object: it stores the register that the object is, or mentions the name that it is.
 fn changes(line: &[u8], obj: &[u8]) -> bool
     requires { ⌜ isIdent (now obj) ≡ true ⌝ }
@@ -151,14 +165,36 @@ fn called_below(text: &[u8], x: &[u8], obj: &[u8]) -> bool
     false
 }
 
-// Whether a store of a register with the value x, above `below`, is a scratch load.
-fn scratch_at(x: &[u8], reg: names::Register, below: &[u8]) -> bool
+// Whether a register is read below before it is stored again, in all lines with a number above `row`, or down to the end of the region.
+fn later_read(below: &[u8], reg: names::Register, far: bool, last: &[usize], row: usize) -> bool
+    requires { ⌜ NoneFrom row (linesOf (now below)) (now last) ⌝ }
+    ensures { λ r. ⌜ r ≡ readBelow far (reg .0) (linesOf (now (below .entry))) ⌝ }
+{
+    if noted::is_quiet(last, row, reg) {
+        return false;
+    }
+    read_below(below, reg, far)
+}
+
+// Whether a store of a register with the value x, above `below`, is a scratch load; no `(` stands in a rest of at most `calm` bytes.
+fn scratch_at(
+    x: &[u8],
+    reg: names::Register,
+    below: &[u8],
+    last: &[usize],
+    row: usize,
+    calm: usize,
+) -> bool
+    requires { ⌜ (NoneFrom row (linesOf (now below)) (now last)) × (CalmIn (now below) calm) ⌝ }
     ensures { λ r. ⌜ r ≡ scratchAt (reg .0) (now (x .entry)) (linesOf (now (below .entry))) ⌝ }
 {
+    if below.len() <= calm {
+        return false;
+    }
     if !is_member(x) {
         return false;
     }
-    if read_below(below, reg, false) {
+    if later_read(below, reg, false, last, row) {
         return false;
     }
     if !any_call(below, x) {
@@ -250,13 +286,14 @@ fn store_drops(
     in_loop: bool,
     last: &[usize],
     row: usize,
+    calm: usize,
     scratch: &mut [u8],
 ) -> bool
-    requires { ⌜ (Blank (length (now x)) (now scratch)) × (NoneFrom row (linesOf (now below)) (now last)) ⌝ }
+    requires { ⌜ (Blank (length (now x)) (now scratch)) × ((NoneFrom row (linesOf (now below)) (now last)) × (CalmIn (now below) calm)) ⌝ }
     ensures answer { λ r. ⌜ r ≡ storeDrops plain (reg .0) (now (x .entry)) p in_loop (linesOf (now (below .entry))) (now (paths .entry)) ⌝ }
     ensures memory { λ _. ⌜ now (scratch .exit) ≡ now (scratch .entry) ⌝ }
 {
-    if scratch_at(x, reg, below) {
+    if scratch_at(x, reg, below, last, row, calm) {
         return true;
     }
     if in_loop {
@@ -274,27 +311,40 @@ fn store_drops(
     dead_below(below, paths, p, reg)
 }
 
-// Whether a line with the number `row` goes.
+// Whether a line with the number `row`, read as q, goes.
 fn line_drops(
     line: &[u8],
+    q: parse::Line,
     below: &[u8],
     paths: &[usize],
     p: usize,
     in_loop: bool,
     last: &[usize],
     row: usize,
+    calm: usize,
     scratch: &mut [u8],
 ) -> bool
-    requires { ⌜ (Blank (length (now line)) (now scratch)) × (NoneFrom row (linesOf (now below)) (now last)) ⌝ }
+    requires { ⌜ (q ≡ parseOf (now line)) × ((Blank (length (now line)) (now scratch)) × ((NoneFrom row (linesOf (now below)) (now last)) × (CalmIn (now below) calm))) ⌝ }
     ensures answer { λ r. ⌜ r ≡ lineDrops plain (now (line .entry)) p in_loop (linesOf (now (below .entry))) (now (paths .entry)) ⌝ }
     ensures memory { λ _. ⌜ now (scratch .exit) ≡ now (scratch .entry) ⌝ }
 {
-    match parse::parse(line) {
+    match q {
         parse::Line::Decl => false,
         parse::Line::Store(s) => {
             let x = parse::value_of(line, s);
-            store_drops(x, s.reg, below, paths, p, in_loop, last, row, scratch)
+            store_drops(x, s.reg, below, paths, p, in_loop, last, row, calm, scratch)
         }
+        parse::Line::Other => false,
+    }
+}
+
+// Whether a line that is read already stores a register.
+fn stores_in(p: parse::Line, reg: names::Register) -> bool
+    ensures { λ r. ⌜ r ≡ storesBy (reg .0) p ⌝ }
+{
+    match p {
+        parse::Line::Decl => false,
+        parse::Line::Store(s) => s.reg.0 == reg.0,
         parse::Line::Other => false,
     }
 }
@@ -307,17 +357,6 @@ fn takes(line: &[u8], reg: names::Register) -> bool
         words::Hit::One(w) => true,
         words::Hit::Not => false,
     }
-}
-
-// Whether a register is read below before it is stored again, in all lines with a number above `row`.
-fn later_read(below: &[u8], reg: names::Register, last: &[usize], row: usize) -> bool
-    requires { ⌜ NoneFrom row (linesOf (now below)) (now last) ⌝ }
-    ensures { λ r. ⌜ r ≡ laterRead (reg .0) (linesOf (now (below .entry))) ⌝ }
-{
-    if noted::is_quiet(last, row, reg) {
-        return false;
-    }
-    read_below(below, reg, true)
 }
 
 // Whether lines read a register once in all; `next` is one of them that does, where it is no header, and `reads` has how often all lines do.
@@ -333,12 +372,13 @@ fn once_in(run: &[u8], reg: names::Register, next: &[u8], reads: &[usize]) -> bo
     read_once(run, reg)
 }
 
-// Whether a store of a register with the value x, in the region `run`, goes into the next line, which has the number `row` and goes itself
-// where `gone` says so.
+// Whether a store of a register with the value x, in the region `run`, goes into the next line, which is read as q, has the number `row`, and
+// goes itself where `gone` says so.
 fn store_forwards(
     x: &[u8],
     reg: names::Register,
     next: &[u8],
+    q: parse::Line,
     below: &[u8],
     run: &[u8],
     in_loop: bool,
@@ -348,7 +388,7 @@ fn store_forwards(
     row: usize,
     scratch: &mut [u8],
 ) -> bool
-    requires { ⌜ (Blank (length (now x)) (now scratch)) × ((NoneFrom row (linesOf (now below)) (now last)) × (OneIn (now next) (linesOf (now run)) (now reads))) ⌝ }
+    requires { ⌜ (q ≡ parseOf (now next)) × ((Blank (length (now x)) (now scratch)) × ((NoneFrom row (linesOf (now below)) (now last)) × (OneIn (now next) (linesOf (now run)) (now reads)))) ⌝ }
     ensures answer { λ r. ⌜ r ≡ storeForwards plain (reg .0) (now (x .entry)) (linesOf (now (run .entry))) in_loop gone (now (next .entry)) (linesOf (now (below .entry))) ⌝ }
     ensures memory { λ _. ⌜ now (scratch .exit) ≡ now (scratch .entry) ⌝ }
 {
@@ -358,29 +398,30 @@ fn store_forwards(
     if gone {
         return false;
     }
-    let u = reading::use_of(next, reg);
-    if u.stores {
+    if stores_in(q, reg) {
         return false;
     }
-    if u.reads != 1 {
-        return false;
-    }
-    if !takes(next, reg) {
+    if words::count_reg(parse::text_of(next, q), reg) != 1 {
         return false;
     }
     if !pure_value(x, scratch) {
         return false;
     }
-    if later_read(below, reg, last, row) {
+    if !takes(next, reg) {
+        return false;
+    }
+    if later_read(below, reg, true, last, row) {
         return false;
     }
     once_in(run, reg, next, reads)
 }
 
-// Whether a line that stays goes into the next line.
+// Whether a line that stays, read as p, goes into the next line, read as q.
 fn line_forwards(
     line: &[u8],
+    p: parse::Line,
     next: &[u8],
+    q: parse::Line,
     below: &[u8],
     run: &[u8],
     in_loop: bool,
@@ -390,11 +431,13 @@ fn line_forwards(
     row: usize,
     scratch: &mut [u8],
 ) -> bool
-    requires { ⌜ (Blank (length (now line)) (now scratch)) × ((NoneFrom row (linesOf (now below)) (now last)) × (OneIn (now next) (linesOf (now run)) (now reads))) ⌝ }
+    requires { ⌜ (p ≡ parseOf (now line))
+        × ((q ≡ parseOf (now next))
+        × ((Blank (length (now line)) (now scratch)) × ((NoneFrom row (linesOf (now below)) (now last)) × (OneIn (now next) (linesOf (now run)) (now reads))))) ⌝ }
     ensures answer { λ r. ⌜ r ≡ lineForwards plain (now (line .entry)) (linesOf (now (run .entry))) in_loop gone (now (next .entry)) (linesOf (now (below .entry))) ⌝ }
     ensures memory { λ _. ⌜ now (scratch .exit) ≡ now (scratch .entry) ⌝ }
 {
-    match parse::parse(line) {
+    match p {
         parse::Line::Decl => false,
         parse::Line::Store(s) => {
             let x = parse::value_of(line, s);
@@ -402,6 +445,7 @@ fn line_forwards(
                 x,
                 s.reg,
                 next,
+                q,
                 below,
                 run,
                 in_loop,
@@ -416,17 +460,21 @@ fn line_forwards(
     }
 }
 
-// Whether the line at i goes; its block path stands in `paths` at k, and those of the lines below after it.
+// Whether the line from i to e, read as p, goes; its block path stands in `paths` at k, and those of the lines below after it.
 fn drops_at(
     text: &[u8],
     i: usize,
+    e: usize,
+    p: parse::Line,
     paths: &[usize],
     k: usize,
     in_loop: bool,
     last: &[usize],
+    calm: usize,
     scratch: &mut [u8],
 ) -> bool
-    requires { ⌜ (Blank (length (now text)) (now scratch)) × (NoneFrom (k + 1) (drop 1 (linesOf (drop i (now text)))) (now last)) ⌝ }
+    requires { ⌜ (LineAt (now text) i e p)
+        × ((Blank (length (now text)) (now scratch)) × ((NoneFrom (k + 1) (drop 1 (linesOf (drop i (now text)))) (now last)) × (Calm (now text) calm))) ⌝ }
     ensures answer { λ r. ⌜ r ≡ firstDrops plain (linesOf (drop i (now (text .entry)))) (drop k (now (paths .entry))) in_loop ⌝ }
     ensures memory { λ _. ⌜ now (scratch .exit) ≡ now (scratch .entry) ⌝ }
 {
@@ -436,27 +484,31 @@ fn drops_at(
     if k >= paths.len() {
         return false;
     }
-    let e = lines::find_byte(text, i, 10);
     let j = lines::after(text, e);
     let n = k + 1;
     line_drops(
         &text[i..e],
+        p,
         &text[j..],
         &paths[n..],
         paths[k],
         in_loop,
         last,
         n,
+        calm,
         scratch,
     )
 }
 
-// The mark of a line in the region `run`, above the line at j: 1 where it goes, as `goes` says, 2 where it would go into the next, else 0;
+// The mark of a line, read as p, in the region `run`, above the line from j to e, read as q: 1 where it goes, as `goes` says, 2 where it would go into the next, else 0;
 // `next` says whether that one goes, and `row` is the number of the line.
 fn mark_at(
     line: &[u8],
+    p: parse::Line,
     text: &[u8],
     j: usize,
+    e: usize,
+    q: parse::Line,
     run: &[u8],
     in_loop: bool,
     goes: bool,
@@ -466,10 +518,12 @@ fn mark_at(
     row: usize,
     scratch: &mut [u8],
 ) -> u8
-    requires { ⌜ (Blank (length (now line)) (now scratch))
+    requires { ⌜ (p ≡ parseOf (now line))
+        × ((LineAt (now text) j e q)
+        × ((Blank (length (now line)) (now scratch))
         × ((row ≤ j)
         × ((NoneFrom (row + 1) (drop 1 (linesOf (drop j (now text)))) (now last))
-        × (OneAt (linesOf (drop j (now text))) (linesOf (now run)) (now reads)))) ⌝ }
+        × (OneAt (linesOf (drop j (now text))) (linesOf (now run)) (now reads)))))) ⌝ }
     ensures answer { λ r. ⌜ r ≡ markBy goes (firstTakes plain (now (line .entry)) (linesOf (now (run .entry))) in_loop next (linesOf (drop j (now (text .entry))))) ⌝ }
     ensures memory { λ _. ⌜ now (scratch .exit) ≡ now (scratch .entry) ⌝ }
 {
@@ -479,11 +533,12 @@ fn mark_at(
     if j >= text.len() {
         return 0;
     }
-    let e = lines::find_byte(text, j, 10);
     let n = lines::after(text, e);
     if line_forwards(
         line,
+        p,
         &text[j..e],
+        q,
         &text[n..],
         run,
         in_loop,
@@ -516,33 +571,40 @@ fn mark_with(
     loops: &[u8],
     last: &[usize],
     reads: &[usize],
+    calm: usize,
     scratch: &mut [u8],
     marks: &mut [u8],
 ) -> usize
     requires { ⌜ (Blank (length (now text)) (now scratch))
-        × ((length (linesOf (now text)) ≤ length (now marks)) × ((NoneBelow (linesOf (now text)) (now last)) × (OneOf (linesOf (now text)) (now reads)))) ⌝ }
+        × ((length (linesOf (now text)) ≤ length (now marks)) × ((NoneBelow (linesOf (now text)) (now last)) × ((OneOf (linesOf (now text)) (now reads)) × (Calm (now text) calm)))) ⌝ }
     ensures answer { λ r. ⌜ Filled (now (marks .entry)) (marksOf plain (linesOf (now (text .entry))) (now (paths .entry)) (now (loops .entry))) (now (marks .exit)) r ⌝ }
     ensures memory { λ _. ⌜ now (scratch .exit) ≡ now (scratch .entry) ⌝ }
 {
     let to = place::region_end(text, 0);
     let f = lines::byte_at(loops, 0);
-    let mut goes = drops_at(text, 0, paths, 0, f != 0, last, scratch);
+    let mut e = lines::find_byte(text, 0, 10);
+    let mut p = parse::parse(lines::cut(text, 0, e));
+    let mut goes = drops_at(text, 0, e, p, paths, 0, f != 0, last, calm, scratch);
     let mut run = text::Span { from: 0, to: to };
     let mut i = 0;
     let mut k = 0;
     while i < text.len() {
-        let e = lines::find_byte(text, i, 10);
         let j = lines::after(text, e);
+        let n = lines::find_byte(text, j, 10);
+        let q = parse::parse(lines::cut(text, j, n));
         let g = lines::byte_at(loops, k + 1);
-        let next = drops_at(text, j, paths, k + 1, g != 0, last, scratch);
+        let next = drops_at(text, j, n, q, paths, k + 1, g != 0, last, calm, scratch);
         run = area_at(text, i, e, run);
         let h = lines::byte_at(loops, k);
         let line = lines::cut(text, i, e);
         let area = lines::cut(text, run.from, run.to);
         marks[k] = mark_at(
             line,
+            p,
             text,
             j,
+            n,
+            q,
             area,
             h != 0,
             goes,
@@ -553,6 +615,8 @@ fn mark_with(
             scratch,
         );
         goes = next;
+        p = q;
+        e = n;
         k += 1;
         i = j;
     }
@@ -574,7 +638,8 @@ fn fill_marks(
     let mut last = [0usize; 1024];
     let mut reads = [0usize; 1024];
     noted::note_lines(text, &mut last, &mut reads);
-    mark_with(text, paths, loops, &last, &reads, scratch, marks)
+    let calm = calm_len(text);
+    mark_with(text, paths, loops, &last, &reads, calm, scratch, marks)
 }
 
 // Writes a line with its LF, and returns the place after it.

@@ -4,6 +4,7 @@ use native.Mathlib.Omega.{arith}
 use Rattle.lines.proofs.LfLaws.{find-le}
 use Rattle.reading.specs.Reading.{plain}
 use Rattle.once.proofs.Blanks.{blank-less}
+use Rattle.once.proofs.CalmLaws.{calm-rest}
 use Rattle.once.proofs.Decides.{value-room}
 use Rattle.once.proofs.NotedLaws.{none-rest}
 use Rattle.once.proofs.Fills.{first-end, first-short, first-line}
@@ -12,93 +13,90 @@ use Rattle.once.proofs.drops_at.Tie as tie
 use Rattle.once.proofs.drops_at.Reads as reads
 use Rattle.once.proofs.drops_at.Lts as lts
 use Rattle.lines.proofs.after.Reads as after-reads
-use Rattle.lines.proofs.find_byte.Reads as find-byte-reads
 use Rattle.once.proofs.line_drops.Reads as line-drops-reads
 
--- src/lib.rt:342:9
+-- src/lib.rt:475:9
 returns : tie.Need-returns
 returns c = let a = c .before .before .before .before .before .args in (first-end plain (a .text .now) (a .paths .now) (a .i) (a .k) (a .in-loop) (c .if1 .taken), refl)
 
--- src/lib.rt:345:9
+-- src/lib.rt:478:9
 returns-2 : tie.Need-returns-2
 returns-2 c = let a = c .before .before .before .before .before .before .args in (first-short plain (a .text .now) (a .paths .now) (a .i) (a .k) (a .in-loop) (c .if2 .taken), refl)
 
--- src/lib.rt:347:9
-find-byte-requires : tie.Need-find-byte-requires
-find-byte-requires c κs = search needs
-
--- src/lib.rt:348:9
+-- src/lib.rt:480:9
 after-requires : tie.Need-after-requires
 after-requires c κs = search needs
 
--- src/lib.rt:349:13
+-- src/lib.rt:481:13
 add-n : tie.Need-add-n
 add-n c = search needs
 
--- src/lib.rt:350:16
+-- src/lib.rt:483:9
 sub-line-drops : tie.Need-sub-line-drops
 sub-line-drops c = search needs
 
--- src/lib.rt:350:16
+-- src/lib.rt:483:9
 part-line-drops-start : tie.Need-part-line-drops-start
 part-line-drops-start c = search needs
 
--- src/lib.rt:350:16
+-- src/lib.rt:483:9
 part-line-drops-end : tie.Need-part-line-drops-end
-part-line-drops-end c = let a = c .before .before .before .before .before .before .before .before .args in omega (arith, find-le 10 (a .text .now) (a .i) (c .before .find-byte .result) (omega (arith, c .before .before .before .if1 .left)) (c .before .find-byte .ensures))
+part-line-drops-end c = let a = c .before .before .before .before .before .before .before .args in omega (arith, find-le 10 (a .text .now) (a .i) (a .e) (omega (arith, c .before .before .if1 .left)) (c .before .before .before .before .before .before .before .pre .0 .0))
 
--- src/lib.rt:350:29
+-- src/lib.rt:485:9
 sub-line-drops-2 : tie.Need-sub-line-drops-2
 sub-line-drops-2 c = search needs
 
--- src/lib.rt:350:29
+-- src/lib.rt:485:9
 part-line-drops-start-2 : tie.Need-part-line-drops-start-2
 part-line-drops-start-2 c = search needs
 
--- src/lib.rt:350:29
+-- src/lib.rt:485:9
 part-line-drops-end-2 : tie.Need-part-line-drops-end-2
 part-line-drops-end-2 c = search needs
 
--- src/lib.rt:350:41
+-- src/lib.rt:486:9
 mul-line-drops : tie.Need-mul-line-drops
 mul-line-drops c = search needs
 
--- src/lib.rt:350:41
+-- src/lib.rt:486:9
 sub-line-drops-3 : tie.Need-sub-line-drops-3
 sub-line-drops-3 c = search needs
 
--- src/lib.rt:350:41
+-- src/lib.rt:486:9
 part-line-drops-start-3 : tie.Need-part-line-drops-start-3
 part-line-drops-start-3 c = search needs
 
--- src/lib.rt:350:41
+-- src/lib.rt:486:9
 part-line-drops-end-3 : tie.Need-part-line-drops-end-3
 part-line-drops-end-3 c = search needs
 
--- src/lib.rt:350:54
+-- src/lib.rt:487:9
 mul-line-drops-2 : tie.Need-mul-line-drops-2
 mul-line-drops-2 c = search needs
 
--- src/lib.rt:350:54
+-- src/lib.rt:487:9
 shared-slice-read-line-drops : tie.Need-shared-slice-read-line-drops
 shared-slice-read-line-drops c = search needs
 
--- src/lib.rt:350:5
+-- src/lib.rt:482:5
 line-drops-requires : tie.Need-line-drops-requires
-line-drops-requires c κs = let a = c .before .before .before .before .before .before .before .before .before .before .before .before .before .args in (blank-less (value-room (a .i) (c .before .before .before .before .before .before .find-byte .result) (a .text .now)) (c .before .before .before .before .before .before .before .before .before .before .before .before .before .pre .0), none-rest (a .text .now) (a .i) (c .before .before .before .before .before .before .find-byte .result) (c .before .before .before .before .before .after .result) _ (a .last .now) (omega (arith, c .before .before .before .before .before .before .before .before .if1 .left)) (c .before .before .before .before .before .before .find-byte .ensures) (c .before .before .before .before .before .after .ensures) (c .before .before .before .before .before .before .before .before .before .before .before .before .before .pre .1))
+line-drops-requires c κs =
+    let a = c .before .before .before .before .before .before .before .before .before .before .before .before .args in
+    let j = c .before .before .before .before .before .after in
+    (c .before .before .before .before .before .before .before .before .before .before .before .before .pre .0 .1, (blank-less (value-room (a .i) (a .e) (a .text .now)) (c .before .before .before .before .before .before .before .before .before .before .before .before .pre .1 .0), (none-rest (a .text .now) (a .i) (a .e) (j .result) _ (a .last .now) (omega (arith, c .before .before .before .before .before .before .before .if1 .left)) (c .before .before .before .before .before .before .before .before .before .before .before .before .pre .0 .0) (j .ensures) (c .before .before .before .before .before .before .before .before .before .before .before .before .pre .1 .1 .0), calm-rest (a .text .now) (a .calm) (j .result) (c .before .before .before .before .before .before .before .before .before .before .before .before .pre .1 .1 .1))))
 
--- src/lib.rt:329:1
+-- src/lib.rt:457:1
 same-length : tie.Need-same-length
 same-length c = search needs
 
--- src/lib.rt:329:1
+-- src/lib.rt:457:1
 returns-3 : tie.Need-returns-3
 returns-3 c =
-    let a = c .before .before .before .before .before .before .before .before .before .before .before .before .before .before .before .before .args in
+    let a = c .before .before .before .before .before .before .before .before .before .before .before .before .before .before .before .args in
     let e = c .before .before .line-drops .ensures in
-    let f = c .before .before .before .before .before .before .before .before .before .find-byte in
     let j = c .before .before .before .before .before .before .before .before .after in
-    (e .0 ∙ first-line plain (a .text .now) (a .paths .now) (a .i) (a .k) (a .in-loop) (f .result) (j .result) _ (omega (arith, c .before .before .before .before .before .before .before .before .before .before .before .if1 .left)) (f .ensures) (j .ensures) (omega (arith, c .before .before .before .before .before .before .before .before .before .before .if2 .left)) refl, e .1)
+    (e .0 ∙ first-line plain (a .text .now) (a .paths .now) (a .i) (a .k) (a .in-loop) (a .e) (j .result) _ (omega (arith, c .before .before .before .before .before .before .before .before .before .before .if1 .left)) (c .before .before .before .before .before .before .before .before .before .before .before .before .before .before .before .pre .0 .0) (j .ensures) (omega (arith, c .before .before .before .before .before .before .before .before .before .if2 .left)) refl, e .1)
 
 pub drops-at-spec : {M : Type 1} → statement M
 drops-at-spec =
@@ -106,7 +104,6 @@ drops-at-spec =
     (tie.spec
     returns
     returns-2
-    find-byte-requires
     after-requires
     add-n
     sub-line-drops

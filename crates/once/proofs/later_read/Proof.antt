@@ -1,6 +1,5 @@
 use mathlib.Core.Path.{sym, _∙_}
-use Rattle.once.proofs.NotedLaws.{unused-later}
-use Rattle.once.proofs.Searches.{below-later}
+use Rattle.once.proofs.NotedLaws.{unused-below}
 use borrow.Author.Needs.{needs}
 use Rattle.once.proofs.later_read.Statement.{statement}
 use Rattle.once.proofs.later_read.Tie as tie
@@ -15,7 +14,7 @@ is-quiet-requires c κs = search needs
 
 -- src/lib.rt:285:9
 returns : tie.Need-returns
-returns c = sym (unused-later _ _ (c .before .before .before .before .pre (c .before .before .before .before .args .reg .0) (sym (c .before .is-quiet .ensures) ∙ c .if1 .taken)))
+returns c = sym (unused-below _ _ _ (c .before .before .before .before .pre (c .before .before .before .before .args .reg .0) (sym (c .before .is-quiet .ensures) ∙ c .if1 .taken)))
 
 -- src/lib.rt:287:5
 read-below-requires : tie.Need-read-below-requires
@@ -23,7 +22,7 @@ read-below-requires c κs = search needs
 
 -- src/lib.rt:280:1
 returns-2 : tie.Need-returns-2
-returns-2 c = c .read-below .ensures ∙ below-later _ _
+returns-2 c = c .read-below .ensures
 
 pub later-read-spec : {M : Type 1} → statement M
 later-read-spec = tie.close (tie.spec is-quiet-requires returns read-below-requires returns-2)

@@ -16,7 +16,7 @@ use Rattle.once.proofs.scratch_at.Reads as scratch-at-reads
 use Rattle.words.proofs.count_reg.Reads as count-reg-reads
 
 scratch-at-requires : tie.Need-scratch-at-requires
-scratch-at-requires c κs = search needs
+scratch-at-requires c κs = c .before .before .before .before .before .pre .1
 
 returns : tie.Need-returns
 returns c = let a = c .before .before .before .before .before .before .before .args in (sym (drops-scratch plain (a .reg .0) (a .x .now) (a .p) (a .in-loop) (linesOf (a .below .now)) (a .paths .now) (sym (c .before .scratch-at .ensures) ∙ c .if1 .taken)), refl)
@@ -46,7 +46,7 @@ same-length-2 : tie.Need-same-length-2
 same-length-2 c = search needs
 
 returns-5 : tie.Need-returns-5
-returns-5 c = let a = c .before .before .before .before .before .before .before .before .before .before .before .before .before .before .before .before .before .args in (sym (ap (deadBy (a .p)) (unused-next (a .reg .0) (linesOf (a .below .now)) (a .paths .now) (c .before .before .before .before .before .before .before .before .before .before .before .before .before .before .before .before .before .pre .1 (a .reg .0) (sym (c .before .is-quiet .ensures) ∙ c .if5 .taken)))) ∙ drops-dead plain (a .reg .0) (a .x .now) (a .p) (a .in-loop) (linesOf (a .below .now)) (a .paths .now) (sym (c .before .before .before .before .before .before .before .before .before .before .before .scratch-at .ensures) ∙ c .before .before .before .before .before .before .before .before .before .before .if1 .left) (c .before .before .before .before .before .before .before .before .before .if2 .left) _ (c .before .before .before .before .before .before .before .before .count-reg .ensures) (c .before .before .before .before .before .before .before .if3 .left) (sym (c .before .before .before .before .before .pure-value .ensures .0) ∙ not-false _ (c .before .before .if4 .left)), c .before .before .before .before .before .pure-value .ensures .1)
+returns-5 c = let a = c .before .before .before .before .before .before .before .before .before .before .before .before .before .before .before .before .before .args in (sym (ap (deadBy (a .p)) (unused-next (a .reg .0) (linesOf (a .below .now)) (a .paths .now) (c .before .before .before .before .before .before .before .before .before .before .before .before .before .before .before .before .before .pre .1 .0 (a .reg .0) (sym (c .before .is-quiet .ensures) ∙ c .if5 .taken)))) ∙ drops-dead plain (a .reg .0) (a .x .now) (a .p) (a .in-loop) (linesOf (a .below .now)) (a .paths .now) (sym (c .before .before .before .before .before .before .before .before .before .before .before .scratch-at .ensures) ∙ c .before .before .before .before .before .before .before .before .before .before .if1 .left) (c .before .before .before .before .before .before .before .before .before .if2 .left) _ (c .before .before .before .before .before .before .before .before .count-reg .ensures) (c .before .before .before .before .before .before .before .if3 .left) (sym (c .before .before .before .before .before .pure-value .ensures .0) ∙ not-false _ (c .before .before .if4 .left)), c .before .before .before .before .before .pure-value .ensures .1)
 
 dead-below-requires : tie.Need-dead-below-requires
 dead-below-requires c κs = search needs
