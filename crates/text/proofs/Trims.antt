@@ -1,13 +1,15 @@
 -- The white space at the ends of a list, one at a time.
 -- Assumes nothing.
 use mathlib.Core.Path.{_≡_, refl, sym, ap, _∙_}
-use mathlib.Core.Bool.{Bool, cond}
+use mathlib.Core.Bool.{Bool, true, false, cond}
 use mathlib.Core.List.{List, [], _∷_}
 use Prim.Native.Nat.{ℕ, zero, suc, _+_, _-_, _≤_, _<_}
 use native.Mathlib.Omega.{arith}
-use lib.Dec.{leb}
-use lib.ListN.{length, getD, drop, take, length-drop}
-use lib.Seq.{drop-cons, drop-drop, take-all}
+use borrow.Author.Tests.{ltb-true, ltb-false, le-leb}
+use lib.Dec.{leb, ltb}
+use lib.ListN.{length, getD, drop, take, length-drop, drop-of-length-le}
+use Rattle.text.specs.White.{isWhite}
+use lib.Seq.{drop-cons, drop-drop, getD-drop, take-all}
 use Rattle.text.specs.Trim.{whiteHead, whiteTail, lead, endWhite, orOn, fromOf, toOf, toEnd, trimStart, trimOf}
 use Rattle.text.proofs.Whites.{head-le, tail-le, head-ascii, tail-ascii, ascii-dark}
 
@@ -111,16 +113,39 @@ pub trim-part : (l : List ℕ) → trimOf l ≡ take (toEnd l - fromOf l) (drop 
 unfolding trimOf
 trim-part l = let q : toOf (trimStart l) ≡ toEnd l - fromOf l = omega arith in ap (λ (n : ℕ). take n (drop (fromOf l) l)) q
 
--- ---- ends that tell at once: an ASCII byte above the space
+-- ---- spaces, and then a byte that tells: an ASCII byte above the space
 
-pub front-dark : (s : List ℕ) (a : ℕ) → a ≡ getD s 0 0 → 32 < a → a < 0x80 → fromOf s ≡ 0
+abbrev oneIf : Bool → ℕ
+oneIf t = cond t 1 0
+
+dark : (a : ℕ) → 32 < a → a < 0x80 → oneIf (isWhite a) ≡ 0
+dark a g h = ap oneIf (ascii-dark a g h)
+
+space : oneIf (isWhite 32) ≡ 1
+unfolding isWhite
+space = refl
+
+pub front-space : (s : List ℕ) (i : ℕ) → i < length s → getD s i 0 ≡ 32 → fromOf (drop i s) ≡ 1 + fromOf (drop (i + 1) s)
 unfolding fromOf
-front-dark [] a e g h = absurd (omega arith)
-front-dark (x ∷ xs) a e g h =
-    front-stop (x ∷ xs) 0 (omega arith) (head-ascii (x ∷ xs) 0 a (omega arith) e h ∙ ap (λ (t : Bool). cond t 1 0) (ascii-dark a g h))
+front-space s i h e = front-on s i h 1 (head-ascii s i 32 h (sym e) (omega arith) ∙ space) (λ z. omega arith)
 
-pub back-dark : (s : List ℕ) (c : ℕ) → c ≡ cond (leb 1 (length s)) (getD s (length s - 1) 0) 0 → 32 < c → c < 0x80 → toOf s ≡ length s
-unfolding toOf
-back-dark [] c e g h = absurd (omega arith)
-back-dark (x ∷ xs) c e g h =
-    back-stop (x ∷ xs) (length (x ∷ xs)) (omega arith) (tail-ascii (x ∷ xs) (length (x ∷ xs)) c (omega arith) (omega arith) e h ∙ ap (λ (t : Bool). cond t 1 0) (ascii-dark c g h))
+pub front-told : (s : List ℕ) (i a : ℕ) → i ≤ length s → fromOf s ≡ i + fromOf (drop i s) → a ≡ getD s i 0 → 32 < a → a < 0x80 → i ≡ fromOf s
+unfolding fromOf
+front-told s i a l f e g h =
+    let k : i < length s = inside (ltb i (length s)) refl in
+    let z = front-stop s i k (head-ascii s i a k e h ∙ dark a g h) in
+    omega arith
+  where
+    inside : (t : Bool) → ltb i (length s) ≡ t → i < length s
+    inside true q = ltb-true i (length s) q
+    inside false q =
+        let n : i ≡ i + 0 = omega arith in
+        let z : getD s i 0 ≡ 0 = ap (λ (k : ℕ). getD s k 0) n ∙ sym (getD-drop i s 0 0) ∙ ap (λ (x : List ℕ). getD x 0 0) (drop-of-length-le s (ltb-false i (length s) q)) in
+        absurd (omega arith)
+
+pub back-space : (s : List ℕ) (e : ℕ) → 0 < e → e ≤ length s → getD s (e - 1) 0 ≡ 32 → endWhite s 0 e ≡ endWhite s 0 (e - 1)
+back-space s e h l q = back-on s e 1 h (tail-ascii s e 32 h l (sym (ap (λ (t : Bool). cond t (getD s (e - 1) 0) 0) (le-leb 1 e h) ∙ q)) (omega arith) ∙ space) (λ z. omega arith)
+
+pub back-told : (s : List ℕ) (e c : ℕ) → e ≤ length s → toOf s ≡ endWhite s 0 e → c ≡ cond (leb 1 e) (getD s (e - 1) 0) 0 → 32 < c → c < 0x80 → e ≡ toOf s
+back-told s zero c l f q g h = absurd (omega arith)
+back-told s (suc n) c l f q g h = sym (f ∙ back-stop s (suc n) (omega arith) (tail-ascii s (suc n) c (omega arith) l q h ∙ dark c g h))

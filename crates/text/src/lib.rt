@@ -2,10 +2,10 @@
 ghost use mathlib.Core.Path.{_≡_};
 ghost use mathlib.Core.List.{[], _∷_};
 ghost use mathlib.Core.Bool.{cond, _&&_};
-ghost use Prim.Native.Nat.{_≤_, _<_, _-_};
+ghost use Prim.Native.Nat.{_≤_, _<_, _+_, _-_};
 ghost use lib.ListN.{getD, take, drop, length};
 ghost use lib.Dec.{leb};
-ghost use Rattle.text.specs.Trim.{whiteChar, whiteHead, whiteTail, fromOf, toOf, toEnd, trimOf};
+ghost use Rattle.text.specs.Trim.{whiteChar, whiteHead, whiteTail, fromOf, endWhite, toOf, toEnd, trimOf};
 ghost use Rattle.lines.specs.Lf.{within, part};
 ghost use Rattle.text.specs.Class.{isName, isQuote, opensPattern, classOf};
 ghost use Rattle.text.specs.White.{isWhite};
@@ -555,28 +555,57 @@ fn skip_back(s: &[u8]) -> usize
     e
 }
 
-// Where a text begins without the white space at its front: at once, where its first byte tells.
+// How many spaces a text begins with; they are white space.
+fn spaces(s: &[u8]) -> usize
+    ensures { λ r. ⌜ (r ≤ length (now (s .entry))) × (fromOf (now (s .entry)) ≡ r + fromOf (drop r (now (s .entry)))) ⌝ }
+{
+    let mut i = 0;
+    while i < s.len() {
+        if s[i] != 32 {
+            return i;
+        }
+        i += 1;
+    }
+    i
+}
+
+// Where a text begins without the white space at its front: after its spaces, where the byte behind them tells.
 pub fn trim_from(s: &[u8]) -> usize
     ensures { λ r. ⌜ r ≡ fromOf (now (s .entry)) ⌝ }
 {
-    let a = byte(s, 0);
+    let i = spaces(s);
+    let a = byte(s, i);
     if 32 < a {
         if a < 0x80 {
-            return 0;
+            return i;
         }
     }
     skip_front(s)
 }
 
-// Where a text ends without the white space at its back: at once, where its last byte tells.
+// Where the spaces at the end of a text begin; they are white space.
+fn spaces_back(s: &[u8]) -> usize
+    ensures { λ r. ⌜ (r ≤ length (now (s .entry))) × (toOf (now (s .entry)) ≡ endWhite (now (s .entry)) 0 r) ⌝ }
+{
+    let mut e = s.len();
+    while 0 < e {
+        if s[e - 1] != 32 {
+            return e;
+        }
+        e -= 1;
+    }
+    e
+}
+
+// Where a text ends without the white space at its back: before its spaces, where the byte in front of them tells.
 pub fn trim_to(s: &[u8]) -> usize
     ensures { λ r. ⌜ r ≡ toOf (now (s .entry)) ⌝ }
 {
-    let n = s.len();
-    let c = back(s, n, 1);
+    let e = spaces_back(s);
+    let c = back(s, e, 1);
     if 32 < c {
         if c < 0x80 {
-            return n;
+            return e;
         }
     }
     skip_back(s)
@@ -586,7 +615,7 @@ pub fn trim_to(s: &[u8]) -> usize
 pub fn trim_start(s: &[u8]) -> &[u8]
     ensures { λ r. ⌜ now r ≡ drop (fromOf (now (s .entry))) (now (s .entry)) ⌝ }
 {
-    let a = trim_from(s);
+    let a = skip_front(s);
     &s[a..]
 }
 
@@ -594,7 +623,7 @@ pub fn trim_start(s: &[u8]) -> &[u8]
 pub fn trim_end(s: &[u8]) -> &[u8]
     ensures { λ r. ⌜ now r ≡ take (toOf (now (s .entry))) (now (s .entry)) ⌝ }
 {
-    let e = trim_to(s);
+    let e = skip_back(s);
     &s[..e]
 }
 
@@ -603,7 +632,10 @@ pub fn trim(s: &[u8]) -> &[u8]
     ensures { λ r. ⌜ (now r ≡ trimOf (now (s .entry)))
         × (now r ≡ part (fromOf (now (s .entry))) (toEnd (now (s .entry))) (now (s .entry))) ⌝ }
 {
-    trim_end(trim_start(s))
+    let w = trim_span(s);
+    let a = w.from;
+    let e = w.to;
+    &s[a..e]
 }
 
 pub struct Span {

@@ -8,11 +8,11 @@ use Rattle.text.proofs.trim_end.Statement.{statement}
 use Rattle.text.proofs.trim_end.Tie as tie
 use Rattle.text.proofs.trim_end.Reads as reads
 use Rattle.text.proofs.trim_end.Lts as lts
-use Rattle.text.proofs.trim_to.Reads as trim-to-reads
+use Rattle.text.proofs.skip_back.Reads as skip-back-reads
 
 -- src/lib.rt:232:9
-trim-to-requires : tie.Need-trim-to-requires
-trim-to-requires c κs = search needs
+skip-back-requires : tie.Need-skip-back-requires
+skip-back-requires c κs = search needs
 
 -- src/lib.rt:233:5
 slice-aggregate-result : tie.Need-slice-aggregate-result
@@ -20,7 +20,7 @@ slice-aggregate-result c = sym (length-take-le _ (c .before .before .before .arg
 
 -- src/lib.rt:229:1
 returns : tie.Need-returns
-returns c = ap (λ n. take n (c .before .before .before .args .s .now)) (c .before .trim-to .ensures)
+returns c = ap (λ n. take n (c .before .before .before .args .s .now)) (c .before .skip-back .ensures)
 
 pub trim-end-spec : {M : Type 1} → statement M
-trim-end-spec = tie.close (tie.spec trim-to-requires slice-aggregate-result returns)
+trim-end-spec = tie.close (tie.spec skip-back-requires slice-aggregate-result returns)

@@ -7,11 +7,11 @@ use Rattle.text.proofs.trim_start.Statement.{statement}
 use Rattle.text.proofs.trim_start.Tie as tie
 use Rattle.text.proofs.trim_start.Reads as reads
 use Rattle.text.proofs.trim_start.Lts as lts
-use Rattle.text.proofs.trim_from.Reads as trim-from-reads
+use Rattle.text.proofs.skip_front.Reads as skip-front-reads
 
 -- src/lib.rt:225:9
-trim-from-requires : tie.Need-trim-from-requires
-trim-from-requires c κs = search needs
+skip-front-requires : tie.Need-skip-front-requires
+skip-front-requires c κs = search needs
 
 -- src/lib.rt:226:5
 sub-result : tie.Need-sub-result
@@ -27,8 +27,8 @@ part-result-end c = search needs
 
 -- src/lib.rt:222:1
 returns : tie.Need-returns
-returns c = rest-of (c .before .before .before .args .s .now) _ ∙ ap (λ n. drop n (c .before .before .before .args .s .now)) (c .before .trim-from .ensures)
+returns c = rest-of (c .before .before .before .args .s .now) _ ∙ ap (λ n. drop n (c .before .before .before .args .s .now)) (c .before .skip-front .ensures)
 
 pub trim-start-spec : {M : Type 1} → statement M
 trim-start-spec =
-    tie.close (tie.spec trim-from-requires sub-result part-result-start part-result-end returns)
+    tie.close (tie.spec skip-front-requires sub-result part-result-start part-result-end returns)

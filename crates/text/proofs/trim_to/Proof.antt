@@ -1,5 +1,4 @@
-use mathlib.Core.Path.{sym}
-use Rattle.text.proofs.Trims.{back-dark}
+use Rattle.text.proofs.Trims.{back-told}
 use borrow.Author.Needs.{needs}
 use Rattle.text.proofs.trim_to.Statement.{statement}
 use Rattle.text.proofs.trim_to.Tie as tie
@@ -7,22 +6,28 @@ use Rattle.text.proofs.trim_to.Reads as reads
 use Rattle.text.proofs.trim_to.Lts as lts
 use Rattle.text.proofs.back.Reads as back-reads
 use Rattle.text.proofs.skip_back.Reads as skip-back-reads
+use Rattle.text.proofs.spaces_back.Reads as spaces-back-reads
 
--- src/lib.rt:576:9
+-- src/lib.rt:604:9
+spaces-back-requires : tie.Need-spaces-back-requires
+spaces-back-requires c κs = search needs
+
+-- src/lib.rt:605:9
 back-requires : tie.Need-back-requires
 back-requires c κs = search needs
 
--- src/lib.rt:579:13
+-- src/lib.rt:608:13
 returns : tie.Need-returns
-returns c = sym (back-dark _ _ (c .before .before .back .ensures) (c .before .if1 .taken) (c .if2 .taken))
+returns c = let k = c .before .before .before .spaces-back .ensures in back-told _ _ _ (k .0) (k .1) (c .before .before .back .ensures) (c .before .if1 .taken) (c .if2 .taken)
 
--- src/lib.rt:582:5
+-- src/lib.rt:611:5
 skip-back-requires : tie.Need-skip-back-requires
 skip-back-requires c κs = search needs
 
--- src/lib.rt:572:1
+-- src/lib.rt:601:1
 returns-2 : tie.Need-returns-2
 returns-2 c = search needs
 
 pub trim-to-spec : {M : Type 1} → statement M
-trim-to-spec = tie.close (tie.spec back-requires returns skip-back-requires returns-2)
+trim-to-spec =
+    tie.close (tie.spec spaces-back-requires back-requires returns skip-back-requires returns-2)
