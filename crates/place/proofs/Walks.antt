@@ -12,12 +12,13 @@ use Rattle.lines.specs.Lf.{part, upTo, linesOf}
 use Rattle.lines.proofs.Tests.{or-false}
 use Rattle.lines.proofs.LfLaws.{lines-at, lines-end}
 use Rattle.lines.proofs.OutLaws.{Writing, writing-start, writing-as, writing-room}
+use Rattle.text.specs.Trim.{toOf, endWhite}
 use Rattle.lexical.specs.declared.Step.{Step}
 use Rattle.lexical.specs.declared.Tail.{Tail}
 use Rattle.lexical.specs.Lex.{lastOf, leaves, lexGo, stripLexical, tailOf, grown, stepOf}
-use Rattle.lexical.specs.Plain.{plainLen}
+use Rattle.lexical.specs.Plain.{plainLen, lowLast}
 use Rattle.lexical.proofs.LexLaws.{LexAt, lex-start, lex-next, lex-on, lex-end}
-use Rattle.lexical.proofs.PlainLaws.{plain-take, lex-plain}
+use Rattle.lexical.proofs.PlainLaws.{plain-take, lex-plain, last-run}
 use Rattle.place.specs.Blocks.{Brace, braceOf, cleaned, blockIds}
 use Rattle.place.specs.Starts.{startsAfter, startsBy, startsGo}
 use Rattle.place.specs.Fill.{Filled, flagsOf}
@@ -102,6 +103,19 @@ module _ {line : List ℕ} {c : ℕ} {u₀ : List ℕ} {n : ℕ} {u : List ℕ} 
 pub walk-head : (line : List ℕ) (c : ℕ) (u : List ℕ) (n j : ℕ) (t v : Tail) → Room (idsPost line) c u n → t ≡ tailOf [] → j ≡ plainLen line → v ≡ grown t (part 0 j line) →
     WalkInv line c u n u j v c n
 walk-head line c u n j t v r e q w = walk-plain (walk-start line c u n t r e) j (omega arith) v w
+
+no-last : tailOf [] .last ≡ 256
+unfolding tailOf lastOf toOf endWhite
+no-last = refl
+
+-- a line of plain bytes alone
+pub walk-whole : (line : List ℕ) (c : ℕ) (u : List ℕ) (n j : ℕ) {r : ℕ} → Room (idsPost line) c u n → j ≡ plainLen line → j ≡ length line → r ≡ lowLast 256 (part 0 j line) →
+    Moved (idsPost line) c u n c u n × (r ≡ lastOf (stripLexical line))
+walk-whole line c u n j {r} h q z e =
+    let v : Tail = grown (tailOf []) (part 0 j line) in
+    let d = walk-done (walk-head line c u n j (tailOf []) v h refl q refl) (omega arith) in
+    let l = last-run (tailOf []) (part 0 j line) (plain-take line (j - 0) (omega arith)) in
+    (d .0, e ∙ ap (λ (a : ℕ). lowLast a (part 0 j line)) (sym no-last) ∙ sym l ∙ d .1)
 
 -- ---- a test of the last character
 

@@ -166,6 +166,13 @@ fn walk_from(line: &[u8], k: usize, block: u32, up: &mut [u32], n: usize) -> At
     ensures { λ r. ⌜ (Moved (idsPost (now (line .entry))) block (now (up .entry)) n (r .block) (now (up .exit)) (r .next))
         × (r .last ≡ lastOf (stripLexical (now (line .entry)))) ⌝ }
 {
+    if k == line.len() {
+        return At {
+            block,
+            next: n,
+            last: lexical::low_last(line, 0, k, 256),
+        };
+    }
     let mut i = k;
     let mut tail = lexical::plain_tail(line, 0, k, lexical::no_tail());
     let mut c = block;

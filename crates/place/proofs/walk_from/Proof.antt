@@ -1,11 +1,12 @@
 use Prim.Native.Nat.{_-_}
 use native.Mathlib.Omega.{arith}
 use lib.ListN.{length}
-use Rattle.place.proofs.Walks.{WalkInv, walk-head, walk-plain, walk-room, walk-less, walk-on, walk-length, walk-done}
+use Rattle.place.proofs.Walks.{WalkInv, walk-head, walk-whole, walk-plain, walk-room, walk-less, walk-on, walk-length, walk-done}
 use Rattle.place.proofs.walk_from.Statement.{statement}
 use Rattle.place.proofs.walk_from.Tie as tie
 use Rattle.place.proofs.walk_from.Reads as reads
 use Rattle.place.proofs.walk_from.Lts as lts
+use Rattle.lexical.proofs.low_last.Reads as low-last-reads
 use Rattle.lexical.proofs.no_tail.Reads as no-tail-reads
 use Rattle.lexical.proofs.plain_end.Reads as plain-end-reads
 use Rattle.lexical.proofs.plain_tail.Reads as plain-tail-reads
@@ -18,14 +19,20 @@ Inv-loop line k block up₀ n i₀ tail₀ c₀ m₀ up i tail c m = WalkInv lin
 abbrev μ-loop : tie.MeasureT-loop
 μ-loop line k block up₀ n i₀ tail₀ c₀ m₀ up i tail c m = length line - i
 
+low-last-requires : tie.Need-low-last-requires Inv-loop μ-loop
+low-last-requires c κs = omega (arith, c .if1 .taken)
+
+returns : tie.Need-returns Inv-loop μ-loop
+returns c = let a = c .before .before .before .before in walk-whole (a .args .line .now) (a .args .block) (a .args .up .now) (a .args .n) (a .args .k) (a .pre .1) (a .pre .0) (c .before .if1 .taken) (c .low-last .ensures)
+
 no-tail-requires : tie.Need-no-tail-requires Inv-loop μ-loop
 no-tail-requires c κs = tt
 
 plain-tail-requires : tie.Need-plain-tail-requires Inv-loop μ-loop
-plain-tail-requires c κs = omega (arith, c .before .before .before .pre .0)
+plain-tail-requires c κs = omega (arith, c .before .before .before .before .pre .0)
 
 loop-holds : tie.Need-loop-holds Inv-loop μ-loop
-loop-holds c = let a = c .before .before .before .before in walk-head (a .args .line .now) (a .args .block) (a .args .up .now) (a .args .n) (a .args .k) (c .before .no-tail .result) (c .plain-tail .result) (a .pre .1) (c .before .no-tail .ensures) (a .pre .0) (c .plain-tail .ensures)
+loop-holds c = let a = c .before .before .before .before .before in walk-head (a .args .line .now) (a .args .block) (a .args .up .now) (a .args .n) (a .args .k) (c .before .no-tail .result) (c .plain-tail .result) (a .pre .1) (c .before .no-tail .ensures) (a .pre .0) (c .plain-tail .ensures)
 
 shared-slice-read-b : tie.Need-shared-slice-read-b Inv-loop μ-loop
 shared-slice-read-b c = omega arith
@@ -51,8 +58,8 @@ loop-again c = let w = walk-on (c .before .before .before .before .before .befor
 same-length : tie.Need-same-length Inv-loop μ-loop
 same-length c = walk-length (c .before .loop .inv)
 
-returns : tie.Need-returns Inv-loop μ-loop
-returns c = walk-done (c .before .loop .inv) (c .loop-test .left)
+returns-2 : tie.Need-returns-2 Inv-loop μ-loop
+returns-2 c = walk-done (c .before .loop .inv) (c .loop-test .left)
 
 pub walk-from-spec : {M : Type 1} → statement M
 walk-from-spec =
@@ -60,6 +67,8 @@ walk-from-spec =
     (tie.spec
     Inv-loop
     μ-loop
+    low-last-requires
+    returns
     no-tail-requires
     plain-tail-requires
     loop-holds
@@ -71,4 +80,4 @@ walk-from-spec =
     loop-less
     loop-again
     same-length
-    returns)
+    returns-2)
