@@ -172,7 +172,8 @@ unfolding grown
 grown-append t [] b = refl
 grown-append t (x ∷ a) b = grown-append (pushed t x) a b
 
-last-run : (t : Tail) (l : List ℕ) → all isPlain l ≡ true → grown t l .last ≡ lowLast (t .last) l
+-- the last character after plain bytes
+pub last-run : (t : Tail) (l : List ℕ) → all isPlain l ≡ true → grown t l .last ≡ lowLast (t .last) l
 unfolding grown pushed lowLast
 last-run t [] h = refl
 last-run t (b ∷ bs) h =

@@ -303,7 +303,7 @@ fn low_after(last: u16, b: u8) -> u16
 }
 
 // The last character that is no white space, once the bytes from `i` to `j`, all below 128, stand after a text with this last one.
-fn low_last(s: &[u8], i: usize, j: usize, last: u16) -> u16
+pub fn low_last(s: &[u8], i: usize, j: usize, last: u16) -> u16
     requires { ⌜ j ≤ length (now s) ⌝ }
     ensures { λ r. ⌜ r ≡ lowLast last (part i j (now (s .entry))) ⌝ }
 {

@@ -1,23 +1,31 @@
 -- The loops of `walk_line` and `place_lines`. Assumes nothing.
 use Prim.Native.Nat.{ℕ, zero, suc, _+_, _-_, _≤_, _<_, _^_, min}
 use mathlib.Core.Path.{_≡_, refl, sym, ap, _∙_}
-use mathlib.Core.Bool.{Bool, true, false, cond, _||_}
+use mathlib.Core.Bool.{Bool, true, false, cond, _&&_, _||_}
 use mathlib.Core.List.{List, [], _∷_, _++_, append-assoc}
 use native.Mathlib.Omega.{arith}
-use borrow.Author.Tests.{eq-eqb, ne-eqb, ltb-true, ltb-false}
+use borrow.Author.Tests.{eq-eqb, ne-eqb, eqb-true, ltb-true, ltb-false}
 use lib.ListN.{length, getD, set, take, drop, length-take, List·getD-eq-default}
 use lib.Seq.{getD-take, getD-drop}
 use lib.Dec.{eqb, ltb}
 use Rattle.lines.specs.Lf.{part, upTo, linesOf}
-use Rattle.lines.proofs.Tests.{or-false}
+use Rattle.lines.proofs.Tests.{or-false, and-left, and-right}
 use Rattle.lines.proofs.LfLaws.{lines-at, lines-end}
 use Rattle.lines.proofs.OutLaws.{Writing, writing-start, writing-as, writing-room}
+use Rattle.text.specs.White.{isWhite}
+use Rattle.text.specs.Class.{isQuote}
+use Rattle.text.specs.Trim.{toOf, endWhite}
+use Rattle.lexical.specs.declared.Kind.{Kind}
+use Rattle.lexical.specs.declared.Kind.the-variants.{Kept}
+use Rattle.lexical.specs.declared.Token.{Token}
 use Rattle.lexical.specs.declared.Step.{Step}
 use Rattle.lexical.specs.declared.Tail.{Tail}
-use Rattle.lexical.specs.Lex.{lastOf, leaves, lexGo, stripLexical, tailOf, grown, stepOf}
-use Rattle.lexical.specs.Plain.{plainLen}
-use Rattle.lexical.proofs.LexLaws.{LexAt, lex-start, lex-next, lex-on, lex-end}
-use Rattle.lexical.proofs.PlainLaws.{plain-take, lex-plain}
+use Rattle.lexical.specs.Lex.{lastOf, token, tokenAt, leaves, lexGo, stripLexical, tailOf, pushed, grown, stepOf}
+use Rattle.lexical.specs.Plain.{plainLen, lowLast}
+use Rattle.lexical.proofs.TokenLaws.{token-kept}
+use Rattle.lexical.proofs.TailLaws.{after-low}
+use Rattle.lexical.proofs.LexLaws.{head-at, LexAt, lex-start, lex-next, lex-on, lex-end}
+use Rattle.lexical.proofs.PlainLaws.{plain-take, lex-plain, last-run}
 use Rattle.place.specs.Blocks.{Brace, braceOf, cleaned, blockIds}
 use Rattle.place.specs.Starts.{startsAfter, startsBy, startsGo}
 use Rattle.place.specs.Fill.{Filled, flagsOf}
@@ -102,6 +110,77 @@ module _ {line : List ℕ} {c : ℕ} {u₀ : List ℕ} {n : ℕ} {u : List ℕ} 
 pub walk-head : (line : List ℕ) (c : ℕ) (u : List ℕ) (n j : ℕ) (t v : Tail) → Room (idsPost line) c u n → t ≡ tailOf [] → j ≡ plainLen line → v ≡ grown t (part 0 j line) →
     WalkInv line c u n u j v c n
 walk-head line c u n j t v r e q w = walk-plain (walk-start line c u n t r e) j (omega arith) v w
+
+no-last : tailOf [] .last ≡ 256
+unfolding tailOf lastOf toOf endWhite
+no-last = refl
+
+-- a line of plain bytes alone
+pub walk-whole : (line : List ℕ) (c : ℕ) (u : List ℕ) (n j : ℕ) {r : ℕ} → Room (idsPost line) c u n → j ≡ plainLen line → j ≡ length line → r ≡ lowLast 256 (part 0 j line) →
+    Moved (idsPost line) c u n c u n × (r ≡ lastOf (stripLexical line))
+walk-whole line c u n j {r} h q z e =
+    let v : Tail = grown (tailOf []) (part 0 j line) in
+    let d = walk-done (walk-head line c u n j (tailOf []) v h refl q refl) (omega arith) in
+    let l = last-run (tailOf []) (part 0 j line) (plain-take line (j - 0) (omega arith)) in
+    (d .0, e ∙ ap (λ (a : ℕ). lowLast a (part 0 j line)) (sym no-last) ∙ sym l ∙ d .1)
+
+-- what a brace is not
+brace-is : (b : ℕ) → eqb b 123 || eqb b 125 ≡ true → ((b ≡ 47 → ⊥) × (isQuote b ≡ false)) × ((isWhite b ≡ false) × (b < 128))
+unfolding isWhite
+brace-is b h = go (eqb b 123) refl h
+  where
+    at : (d : ℕ) → b ≡ d → ((d ≡ 47 → ⊥) × (isQuote d ≡ false)) × ((isWhite d ≡ false) × (d < 128)) → ((b ≡ 47 → ⊥) × (isQuote b ≡ false)) × ((isWhite b ≡ false) × (b < 128))
+    at d e f = rw e f
+
+    go : (t : Bool) → eqb b 123 ≡ t → t || eqb b 125 ≡ true → ((b ≡ 47 → ⊥) × (isQuote b ≡ false)) × ((isWhite b ≡ false) × (b < 128))
+    go true e f = at 123 (eqb-true b 123 e) ((omega arith, refl), (refl, omega arith))
+    go false e f = at 125 (eqb-true b 125 f) ((omega arith, refl), (refl, omega arith))
+
+-- a line that is plain up to a brace at its end
+module _ (line : List ℕ) (c : ℕ) (u : List ℕ) (n j : ℕ) (h : Room (idsPost line) c u n) (q : j ≡ plainLen line)
+    (w : eqb (j + 1) (length line) && (eqb (getD line j 0) 123 || eqb (getD line j 0) 125) ≡ true) where
+  z : j + 1 ≡ length line
+  z = eqb-true (j + 1) (length line) (and-left (eqb (j + 1) (length line)) _ w)
+
+  y : eqb (getD line j 0) 123 || eqb (getD line j 0) 125 ≡ true
+  y = and-right (eqb (j + 1) (length line)) _ w
+
+  abbrev v : Tail
+  v = grown (tailOf []) (part 0 j line)
+
+  at-brace : WalkInv line c u n u j v c n
+  at-brace = walk-head line c u n j (tailOf []) v h refl q refl
+
+  abbrev s : Step
+  s = stepOf j v (drop j line)
+
+  one : tokenAt (v .last) (drop j line) ≡ token 1 Kept
+  one = let f = brace-is (getD line j 0) y in token-kept (v .last) line j (omega (arith, z)) (f .0 .0) (f .0 .1)
+
+  kind-is : s .kind ≡ Kept
+  unfolding stepOf
+  kind-is = ap (λ (k : Token). k .kind) one
+
+  next-is : s .next ≡ j + 1
+  unfolding stepOf
+  next-is = ap (λ (k : Token). j + k .size) one
+
+  last-is : s .tail .last ≡ getD line j 0
+  unfolding stepOf grown pushed
+  last-is = let f = brace-is (getD line j 0) y in rw (one, head-at line j, after-low (getD line j 0) (f .1 .1) v, f .1 .0)
+
+  braces-are : braces (leaves (s .kind) (getD line j 0)) ≡ braceOf (getD line j 0) ∷ []
+  unfolding braces
+  braces-are = ap (λ (k : Kind). braces (leaves k (getD line j 0))) kind-is
+
+  pub brace-room : Room (braceOf (getD line j 0) ∷ []) c u n
+  brace-room = room-as braces-are (walk-room at-brace s refl (omega (arith, z)))
+
+  pub brace-done : {b m : ℕ} {u′ : List ℕ} → Moved (braceOf (getD line j 0) ∷ []) c u n b u′ m → Moved (idsPost line) c u n b u′ m × (getD line j 0 ≡ lastOf (stripLexical line))
+  brace-done m =
+      let x = walk-on at-brace s refl (omega (arith, z)) (moved-as (sym braces-are) m) in
+      let d = walk-done x (omega (arith, next-is, z)) in
+      (d .0, sym last-is ∙ d .1)
 
 -- ---- a test of the last character
 

@@ -160,8 +160,8 @@ pub struct At {
     pub last: u16,
 }
 
-// The braces of a line as `block_ids` counts them, from the block `block`, with `n` blocks known; the line begins with `k` plain bytes.
-fn walk_from(line: &[u8], k: usize, block: u32, up: &mut [u32], n: usize) -> At
+// The braces of a line, token by token, from the block `block`, with `n` blocks known; the line begins with `k` plain bytes.
+fn walk_tokens(line: &[u8], k: usize, block: u32, up: &mut [u32], n: usize) -> At
     requires { ⌜ (k ≡ plainLen (now line)) × Room (idsPost (now line)) block (now up) n ⌝ }
     ensures { λ r. ⌜ (Moved (idsPost (now (line .entry))) block (now (up .entry)) n (r .block) (now (up .exit)) (r .next))
         × (r .last ≡ lastOf (stripLexical (now (line .entry)))) ⌝ }
@@ -185,6 +185,31 @@ fn walk_from(line: &[u8], k: usize, block: u32, up: &mut [u32], n: usize) -> At
         next: m,
         last: tail.last,
     }
+}
+
+// The same, where most lines need no tokens: they are plain, or they end in a brace and are plain before it.
+fn walk_from(line: &[u8], k: usize, block: u32, up: &mut [u32], n: usize) -> At
+    requires { ⌜ (k ≡ plainLen (now line)) × Room (idsPost (now line)) block (now up) n ⌝ }
+    ensures { λ r. ⌜ (Moved (idsPost (now (line .entry))) block (now (up .entry)) n (r .block) (now (up .exit)) (r .next))
+        × (r .last ≡ lastOf (stripLexical (now (line .entry)))) ⌝ }
+{
+    if k == line.len() {
+        return At {
+            block,
+            next: n,
+            last: lexical::low_last(line, 0, k, 256),
+        };
+    }
+    let b = line[k];
+    if (k + 1 == line.len()) & ((b == b'{') | (b == b'}')) {
+        let x = brace(b, block, up, n);
+        return At {
+            block: x.block,
+            next: x.next,
+            last: b as u16,
+        };
+    }
+    walk_tokens(line, k, block, up, n)
 }
 
 // The braces of a line as `block_ids` counts them, from the block `block`, with `n` blocks known.

@@ -1,74 +1,60 @@
-use Prim.Native.Nat.{_-_}
+use borrow.Author.Needs.{needs}
 use native.Mathlib.Omega.{arith}
-use lib.ListN.{length}
-use Rattle.place.proofs.Walks.{WalkInv, walk-head, walk-plain, walk-room, walk-less, walk-on, walk-length, walk-done}
+use Rattle.lexical.proofs.PlainLaws.{plain-le}
+use Rattle.place.proofs.Walks.{walk-whole, brace-room, brace-done}
 use Rattle.place.proofs.walk_from.Statement.{statement}
 use Rattle.place.proofs.walk_from.Tie as tie
 use Rattle.place.proofs.walk_from.Reads as reads
 use Rattle.place.proofs.walk_from.Lts as lts
-use Rattle.lexical.proofs.no_tail.Reads as no-tail-reads
-use Rattle.lexical.proofs.plain_end.Reads as plain-end-reads
-use Rattle.lexical.proofs.plain_tail.Reads as plain-tail-reads
-use Rattle.lexical.proofs.step_at.Reads as step-at-reads
-use Rattle.place.proofs.left.Reads as left-reads
+use Rattle.lexical.proofs.low_last.Reads as low-last-reads
+use Rattle.place.proofs.brace.Reads as brace-reads
+use Rattle.place.proofs.walk_tokens.Reads as walk-tokens-reads
 
-abbrev Inv-loop : tie.InvT-loop
-Inv-loop line k block up₀ n i₀ tail₀ c₀ m₀ up i tail c m = WalkInv line block up₀ n up i tail c m
+low-last-requires : tie.Need-low-last-requires
+low-last-requires c κs = search needs
 
-abbrev μ-loop : tie.MeasureT-loop
-μ-loop line k block up₀ n i₀ tail₀ c₀ m₀ up i tail c m = length line - i
+returns : tie.Need-returns
+returns c = let a = c .before .before .before .before in walk-whole (a .args .line .now) (a .args .block) (a .args .up .now) (a .args .n) (a .args .k) (a .pre .1) (a .pre .0) (c .before .if1 .taken) (c .low-last .ensures)
 
-no-tail-requires : tie.Need-no-tail-requires Inv-loop μ-loop
-no-tail-requires c κs = tt
+shared-slice-read-b : tie.Need-shared-slice-read-b
+shared-slice-read-b c = let a = c .before .before .before .before in omega (arith, a .pre .0, plain-le (a .args .line .now), c .before .if1 .left)
 
-plain-tail-requires : tie.Need-plain-tail-requires Inv-loop μ-loop
-plain-tail-requires c κs = omega (arith, c .before .before .before .pre .0)
+add-if2 : tie.Need-add-if2
+add-if2 c = let a = c .before .before .before .before in omega (arith, a .pre .0, plain-le (a .args .line .now), c .before .if1 .left)
 
-loop-holds : tie.Need-loop-holds Inv-loop μ-loop
-loop-holds c = let a = c .before .before .before .before in walk-head (a .args .line .now) (a .args .block) (a .args .up .now) (a .args .n) (a .args .k) (c .before .no-tail .result) (c .plain-tail .result) (a .pre .1) (c .before .no-tail .ensures) (a .pre .0) (c .plain-tail .ensures)
+brace-requires : tie.Need-brace-requires
+brace-requires c κs = let a = c .before .before .before .before .before .before in brace-room (a .args .line .now) (a .args .block) (a .args .up .now) (a .args .n) (a .args .k) (a .pre .1) (a .pre .0) (c .before .if2 .taken)
 
-shared-slice-read-b : tie.Need-shared-slice-read-b Inv-loop μ-loop
-shared-slice-read-b c = omega arith
+cast-t20 : tie.Need-cast-t20
+cast-t20 c = let a = c .before .before .before .before .before .before .before .before .before in omega (arith, c .before .before .before .before .before .shared-slice-known2 .given (a .args .k))
 
-step-at-requires : tie.Need-step-at-requires Inv-loop μ-loop
-step-at-requires c κs = tt
+same-length : tie.Need-same-length
+same-length c = search needs
 
-left-requires : tie.Need-left-requires Inv-loop μ-loop
-left-requires c κs = walk-room (c .before .before .before .before .loop .inv) (c .before .step-at .result) (c .before .step-at .ensures) (c .before .before .before .loop-test .taken)
+returns-2 : tie.Need-returns-2
+returns-2 c = let a = c .before .before .before .before .before .before .before .before .before in brace-done (a .args .line .now) (a .args .block) (a .args .up .now) (a .args .n) (a .args .k) (a .pre .1) (a .pre .0) (c .before .before .before .before .if2 .taken) (c .before .before .brace .ensures)
 
-plain-end-requires : tie.Need-plain-end-requires Inv-loop μ-loop
-plain-end-requires c κs = tt
+walk-tokens-requires : tie.Need-walk-tokens-requires
+walk-tokens-requires c κs = search needs
 
-plain-tail-requires-2 : tie.Need-plain-tail-requires-2 Inv-loop μ-loop
-plain-tail-requires-2 c κs = c .plain-end .ensures
+same-length-2 : tie.Need-same-length-2
+same-length-2 c = search needs
 
-loop-less : tie.Need-loop-less Inv-loop μ-loop
-loop-less c = let m = walk-less (c .before .before .before .before .before .before .before .before .before .loop .inv) (c .before .before .before .before .before .before .step-at .result) (c .before .before .before .before .before .before .step-at .ensures) (c .before .before .before .before .before .before .before .before .loop-test .taken) in omega (arith, c .before .plain-end .ensures)
-
-loop-again : tie.Need-loop-again Inv-loop μ-loop
-loop-again c = let w = walk-on (c .before .before .before .before .before .before .before .before .before .loop .inv) (c .before .before .before .before .before .before .step-at .result) (c .before .before .before .before .before .before .step-at .ensures) (c .before .before .before .before .before .before .before .before .loop-test .taken) (c .before .before .before .before .left .ensures) in walk-plain w (c .before .plain-end .result) (c .before .plain-end .ensures) (c .plain-tail2 .result) (c .plain-tail2 .ensures)
-
-same-length : tie.Need-same-length Inv-loop μ-loop
-same-length c = walk-length (c .before .loop .inv)
-
-returns : tie.Need-returns Inv-loop μ-loop
-returns c = walk-done (c .before .loop .inv) (c .loop-test .left)
+returns-3 : tie.Need-returns-3
+returns-3 c = search needs
 
 pub walk-from-spec : {M : Type 1} → statement M
 walk-from-spec =
     tie.close
     (tie.spec
-    Inv-loop
-    μ-loop
-    no-tail-requires
-    plain-tail-requires
-    loop-holds
+    low-last-requires
+    returns
     shared-slice-read-b
-    step-at-requires
-    left-requires
-    plain-end-requires
-    plain-tail-requires-2
-    loop-less
-    loop-again
+    add-if2
+    brace-requires
+    cast-t20
     same-length
-    returns)
+    returns-2
+    walk-tokens-requires
+    same-length-2
+    returns-3)

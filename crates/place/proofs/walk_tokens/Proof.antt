@@ -1,0 +1,74 @@
+use Prim.Native.Nat.{_-_}
+use native.Mathlib.Omega.{arith}
+use lib.ListN.{length}
+use Rattle.place.proofs.Walks.{WalkInv, walk-head, walk-plain, walk-room, walk-less, walk-on, walk-length, walk-done}
+use Rattle.place.proofs.walk_tokens.Statement.{statement}
+use Rattle.place.proofs.walk_tokens.Tie as tie
+use Rattle.place.proofs.walk_tokens.Reads as reads
+use Rattle.place.proofs.walk_tokens.Lts as lts
+use Rattle.lexical.proofs.no_tail.Reads as no-tail-reads
+use Rattle.lexical.proofs.plain_end.Reads as plain-end-reads
+use Rattle.lexical.proofs.plain_tail.Reads as plain-tail-reads
+use Rattle.lexical.proofs.step_at.Reads as step-at-reads
+use Rattle.place.proofs.left.Reads as left-reads
+
+abbrev Inv-loop : tie.InvT-loop
+Inv-loop line k block up₀ n i₀ tail₀ c₀ m₀ up i tail c m = WalkInv line block up₀ n up i tail c m
+
+abbrev μ-loop : tie.MeasureT-loop
+μ-loop line k block up₀ n i₀ tail₀ c₀ m₀ up i tail c m = length line - i
+
+no-tail-requires : tie.Need-no-tail-requires Inv-loop μ-loop
+no-tail-requires c κs = tt
+
+plain-tail-requires : tie.Need-plain-tail-requires Inv-loop μ-loop
+plain-tail-requires c κs = omega (arith, c .before .before .before .pre .0)
+
+loop-holds : tie.Need-loop-holds Inv-loop μ-loop
+loop-holds c = let a = c .before .before .before .before in walk-head (a .args .line .now) (a .args .block) (a .args .up .now) (a .args .n) (a .args .k) (c .before .no-tail .result) (c .plain-tail .result) (a .pre .1) (c .before .no-tail .ensures) (a .pre .0) (c .plain-tail .ensures)
+
+shared-slice-read-b : tie.Need-shared-slice-read-b Inv-loop μ-loop
+shared-slice-read-b c = omega arith
+
+step-at-requires : tie.Need-step-at-requires Inv-loop μ-loop
+step-at-requires c κs = tt
+
+left-requires : tie.Need-left-requires Inv-loop μ-loop
+left-requires c κs = walk-room (c .before .before .before .before .loop .inv) (c .before .step-at .result) (c .before .step-at .ensures) (c .before .before .before .loop-test .taken)
+
+plain-end-requires : tie.Need-plain-end-requires Inv-loop μ-loop
+plain-end-requires c κs = tt
+
+plain-tail-requires-2 : tie.Need-plain-tail-requires-2 Inv-loop μ-loop
+plain-tail-requires-2 c κs = c .plain-end .ensures
+
+loop-less : tie.Need-loop-less Inv-loop μ-loop
+loop-less c = let m = walk-less (c .before .before .before .before .before .before .before .before .before .loop .inv) (c .before .before .before .before .before .before .step-at .result) (c .before .before .before .before .before .before .step-at .ensures) (c .before .before .before .before .before .before .before .before .loop-test .taken) in omega (arith, c .before .plain-end .ensures)
+
+loop-again : tie.Need-loop-again Inv-loop μ-loop
+loop-again c = let w = walk-on (c .before .before .before .before .before .before .before .before .before .loop .inv) (c .before .before .before .before .before .before .step-at .result) (c .before .before .before .before .before .before .step-at .ensures) (c .before .before .before .before .before .before .before .before .loop-test .taken) (c .before .before .before .before .left .ensures) in walk-plain w (c .before .plain-end .result) (c .before .plain-end .ensures) (c .plain-tail2 .result) (c .plain-tail2 .ensures)
+
+same-length : tie.Need-same-length Inv-loop μ-loop
+same-length c = walk-length (c .before .loop .inv)
+
+returns : tie.Need-returns Inv-loop μ-loop
+returns c = walk-done (c .before .loop .inv) (c .loop-test .left)
+
+pub walk-tokens-spec : {M : Type 1} → statement M
+walk-tokens-spec =
+    tie.close
+    (tie.spec
+    Inv-loop
+    μ-loop
+    no-tail-requires
+    plain-tail-requires
+    loop-holds
+    shared-slice-read-b
+    step-at-requires
+    left-requires
+    plain-end-requires
+    plain-tail-requires-2
+    loop-less
+    loop-again
+    same-length
+    returns)
