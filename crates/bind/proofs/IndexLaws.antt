@@ -1,22 +1,23 @@
 -- The index of a region: the code's steps leave in its tables what the definitions say. Assumes nothing.
 use Prim.Native.Nat.{ℕ, zero, suc, _+_, _-_, _^_, _≤_, _<_, min}
 use mathlib.Core.Path.{_≡_, refl, sym, ap, _∙_}
-use mathlib.Core.Bool.{Bool, true, false, cond}
+use mathlib.Core.Bool.{Bool, true, false, cond, not, _&&_}
 use mathlib.Core.List.{List, [], _∷_, _++_}
 use native.Mathlib.Omega.{arith}
 use native.Mathlib.Numerals.{add-one}
 use borrow.Author.Tests.{lt-ltb, le-ltb, eq-eqb, ne-eqb}
 use lib.Dec.{eqb, ltb}
-use lib.ListN.{length, drop, getD, set, length-set, drop-of-length-le}
+use lib.ListN.{length, take, drop, getD, set, length-set, drop-of-length-le}
 use lib.Seq.{drop-cons}
-use Rattle.lines.specs.Lf.{part, upTo, linesOf, partsOf}
+use Rattle.lines.specs.Lf.{part, upTo, prefixed, endsIn, linesOf, partsOf}
 use Rattle.lines.proofs.LfLaws.{lines-at, lines-end, parts-at, parts-at-end, part-more, part-none}
 use Rattle.text.specs.Class.{isName}
-use Rattle.text.specs.Trim.{trimOf}
+use Rattle.text.specs.Trim.{fromOf, trimOf}
 use Rattle.names.specs.Names.{regOf}
 use Rattle.names.specs.declared.RegName.{RegName}
 use Rattle.names.specs.declared.RegName.the-variants as name
-use Rattle.parse.specs.Parse.{bodyOf, isDecl, parseOf, textOf}
+use Rattle.parse.specs.Parse.{bodyOf, isDecl, storeBy, splitStore, storeIn, parseOf, textOf}
+use Rattle.parse.specs.declared.Store.{Store}
 use Rattle.parse.specs.declared.Line.{Line}
 use Rattle.parse.specs.declared.Line.the-variants as line
 use Rattle.words.specs.Runs.{flush, runsGo, runs}
@@ -178,46 +179,124 @@ module _ {b : ℕ} {s u₀ u : List ℕ} {a i : ℕ} (h : ReadInv b s u₀ u a i
 
 -- ---- a line, read once
 
-pub line-used : (b c : ℕ) (l u u₁ u₂ t : List ℕ) (p : Line) → p ≡ parseOf l → u₁ ≡ storeLine b c p u → t ≡ textOf l p → u₂ ≡ readRuns b (runs t) u₁ → u₂ ≡ useLine b c l u
-unfolding useLine
-line-used b c l u u₁ u₂ t p e x y z =
-    z ∙ ap (λ (r : List ℕ). readRuns b (runs r) u₁) (y ∙ ap (textOf l) e) ∙ ap (readRuns b (runs (textOf l (parseOf l)))) (x ∙ ap (λ (q : Line). storeLine b c q u) e)
+pub store-used : (b c : ℕ) (l u u₁ u₂ t : List ℕ) (p : Store) → u₁ ≡ set u (p .reg .0) (afterStore b c (getD u (p .reg .0) 0)) → t ≡ part (p .from) (p .to) l → u₂ ≡ readRuns b (runs t) u₁ →
+    u₂ ≡ readRuns b (runs (part (p .from) (p .to) l)) (storeLine b c (line.Store p) u)
+store-used b c l u u₁ u₂ t p x y z = z ∙ ap (λ (r : List ℕ). readRuns b (runs r) u₁) y ∙ ap (readRuns b (runs (part (p .from) (p .to) l))) x
 
--- ---- the loop over lines: those from i on are still to be read, and the first of them has the row k
+-- a text that does not begin with `r` names no register
+pub no-front : (b : ℕ) (t u : List ℕ) (x : ℕ) → x ≡ getD t 0 0 → (x ≡ 114 → ⊥) → u ≡ readName b (regOf t) u
+unfolding regOf prefixed
+no-front b [] u x e n = refl
+no-front b (y ∷ t) u x e n = sym (rw (ne-eqb 114 y (λ z. n (e ∙ sym z))) refl)
 
-pub record UsesInv (b n : ℕ) (s u₀ u : List ℕ) (i k : ℕ) : Type 0 where
-  pub long : length u ≡ length u₀
-  pub count : k + length (linesOf (drop i s)) ≡ n + length (linesOf s)
-  pub so-far : useLines b k (linesOf (drop i s)) u ≡ useLines b n (linesOf s) u₀
+-- what is no store is none of a declaration
+store-decl : (a : ℕ) (t : List ℕ) → storeIn a t ≡ line.Decl → ⊥
+unfolding storeIn
+store-decl a t e = go (endsIn 59 t) e
+  where
+    by : (r : RegName) (n : ℕ) (x : List ℕ) → storeBy r n x ≡ line.Decl → ⊥
+    by name.None n x e = let z : _≡_ {A = ℕ} 0 1 = cc in absurd (omega arith)
+    by (name.Reg q) n x e = let z : _≡_ {A = ℕ} 0 1 = cc in absurd (omega arith)
 
-uses-cons : (b k : ℕ) (l : List ℕ) (ls : List (List ℕ)) (u : List ℕ) → useLines b k (l ∷ ls) u ≡ useLines b (k + 1) ls (useLine b (k + 1) l u)
-unfolding useLines
-uses-cons b k l ls u = refl
+    split : (c : Bool) (r : RegName) (n : ℕ) (x : List ℕ) → cond c (storeBy r n x) line.Other ≡ line.Decl → ⊥
+    split true r n x e = by r n x e
+    split false r n x e = let z : _≡_ {A = ℕ} 0 1 = cc in absurd (omega arith)
 
-uses-none : (b k : ℕ) (u : List ℕ) → useLines b k [] u ≡ u
-unfolding useLines
-uses-none b k u = refl
+    go : (c : Bool) → cond c (splitStore a (take (length t - 1) t)) line.Other ≡ line.Decl → ⊥
+    go true e =
+        let u = take (length t - 1) t in
+        split (ltb (upTo 61 u) (length u) && not (eqb (getD u (upTo 61 u + 1) 0) 61)) (regOf (trimOf (take (upTo 61 u) u))) (a + (upTo 61 u + 1)) (drop (upTo 61 u + 1) u) e
+    go false e = let z : _≡_ {A = ℕ} 0 1 = cc in absurd (omega arith)
 
-pub uses-start : (b n : ℕ) (s u : List ℕ) → UsesInv b n s u u 0 n
-uses-start b n s u = record { long = refl; count = refl; so-far = refl }
+module _ (m b c : ℕ) (l d u : List ℕ) where
+  pub line-decl : parseOf l ≡ line.Decl → isDecl (trimOf l) ≡ true
+  unfolding parseOf
+  line-decl e = go (isDecl (trimOf l)) e
+    where
+      go : (t : Bool) → cond t line.Decl (storeIn (fromOf l) (trimOf l)) ≡ line.Decl → t ≡ true
+      go true e = refl
+      go false e = absurd (store-decl (fromOf l) (trimOf l) e)
 
-module _ {b n : ℕ} {s u₀ u : List ℕ} {i k : ℕ} (h : UsesInv b n s u₀ u i k) where
-  pub uses-room : i < length s → n + length (linesOf s) < 2 ^ 64 → k + 1 < 2 ^ 64
-  uses-room l w = omega (arith, h .count, ap length (lines-at s i (i + upTo 10 (drop i s)) l refl))
+  pub read-decl : parseOf l ≡ line.Decl → {d′ u′ : List ℕ} → d′ ≡ seenPieces m (piecesOf l) d → u′ ≡ againPieces m b (piecesOf l) d u →
+      (d′ ≡ seenPieces m (piecesOf l) d) × (u′ ≡ againPieces m b (piecesOf l) d (useLine b c l u))
+  unfolding useLine textOf runs runsGo readRuns
+  read-decl e x y = (x, y ∙ ap (againPieces m b (piecesOf l) d) (sym (rw e refl)))
 
-  pub uses-on : (e j : ℕ) (l u′ : List ℕ) → i < length s → e ≡ i + upTo 10 (drop i s) → l ≡ part i e s → u′ ≡ useLine b (k + 1) l u → j ≡ min (e + 1) (length s) → UsesInv b n s u₀ u′ j (k + 1)
-  uses-on e j l u′ w q p x z = record {
-    long = ap length x ∙ use-length b (k + 1) l u ∙ h .long;
-    count = let r = ap (λ (m : ℕ). length (linesOf (drop m s))) z in omega (arith, r, h .count, ap length (lines-at s i e w q));
-    so-far =
-        ap (λ (m : ℕ). useLines b (k + 1) (linesOf (drop m s)) u′) z
-        ∙ ap (useLines b (k + 1) (linesOf (drop (min (e + 1) (length s)) s))) (x ∙ ap (λ (c : List ℕ). useLine b (k + 1) c u) p)
-        ∙ sym (ap (λ (ls : List (List ℕ)). useLines b k ls u) (lines-at s i e w q) ∙ uses-cons b k (part i e s) (linesOf (drop (min (e + 1) (length s)) s)) u)
-        ∙ h .so-far;
-  }
+  -- a line that is read as anything else declares nothing
+  pieces-none : (p : Line) → (p ≡ line.Decl → ⊥) → parseOf l ≡ p → piecesOf l ≡ []
+  unfolding parseOf piecesOf
+  pieces-none p n e = go (isDecl (trimOf l)) e
+    where
+      go : (t : Bool) → cond t line.Decl (storeIn (fromOf l) (trimOf l)) ≡ p → cond t (partsOf 44 (bodyOf (trimOf l))) [] ≡ []
+      go true e = absurd (n (sym e))
+      go false e = refl
 
-  pub uses-done : length s ≤ i → u ≡ useLines b n (linesOf s) u₀
-  uses-done w = sym (uses-none b k u) ∙ ap (λ (ls : List (List ℕ)). useLines b k ls u) (sym (lines-end s i w)) ∙ h .so-far
+  read-else : (p : Line) → (p ≡ line.Decl → ⊥) → parseOf l ≡ p → {u′ : List ℕ} → u′ ≡ readRuns b (runs (textOf l p)) (storeLine b c p u) →
+      (d ≡ seenPieces m (piecesOf l) d) × (u′ ≡ againPieces m b (piecesOf l) d (useLine b c l u))
+  unfolding useLine seenPieces againPieces
+  read-else p n e x = rw (pieces-none p n e, e) (refl, x)
+
+  pub read-store : (s : Store) → parseOf l ≡ line.Store s → {u′ : List ℕ} → u′ ≡ readRuns b (runs (part (s .from) (s .to) l)) (storeLine b c (line.Store s) u) →
+      (d ≡ seenPieces m (piecesOf l) d) × (u′ ≡ againPieces m b (piecesOf l) d (useLine b c l u))
+  unfolding textOf
+  read-store s e x = read-else (line.Store s) (λ q. let z : _≡_ {A = ℕ} 0 1 = cc in absurd (omega arith)) e x
+
+  pub read-other : parseOf l ≡ line.Other → {u′ : List ℕ} → u′ ≡ readRuns b (runs l) u →
+      (d ≡ seenPieces m (piecesOf l) d) × (u′ ≡ againPieces m b (piecesOf l) d (useLine b c l u))
+  unfolding textOf
+  read-other e x = read-else line.Other (λ q. let z : _≡_ {A = ℕ} 0 1 = cc in absurd (omega arith)) e x
+
+-- ---- an entry b stays, so that it is the same whether it is put before lines are read or after
+
+set-over : (f : ℕ → ℕ) (b : ℕ) → f b ≡ b → (u : List ℕ) (v w : ℕ) → set (set u v b) w (f (getD (set u v b) w 0)) ≡ set (set u w (f (getD u w 0))) v b
+set-over f b e [] v w = refl
+set-over f b e (x ∷ u) zero zero = ap (λ (y : ℕ). y ∷ u) e
+set-over f b e (x ∷ u) zero (suc w) = refl
+set-over f b e (x ∷ u) (suc v) zero = refl
+set-over f b e (x ∷ u) (suc v) (suc w) = ap (λ (y : List ℕ). x ∷ y) (set-over f b e u v w)
+
+module _ (b v : ℕ) where
+  same-low : ltb b b ≡ false
+  same-low = le-ltb b b (omega arith)
+
+  name-over : (r : RegName) (u : List ℕ) → readName b r (set u v b) ≡ set (readName b r u) v b
+  name-over name.None u = refl
+  name-over (name.Reg q) u = set-over (afterRead b) b (rw same-low refl) u v (q .0)
+
+  runs-over : (rs : List (List ℕ)) (u : List ℕ) → readRuns b rs (set u v b) ≡ set (readRuns b rs u) v b
+  unfolding readRuns
+  runs-over [] u = refl
+  runs-over (r ∷ rs) u = ap (readRuns b rs) (name-over (regOf r) u) ∙ runs-over rs (readName b (regOf r) u)
+
+  store-over : (c : ℕ) (p : Line) (u : List ℕ) → storeLine b c p (set u v b) ≡ set (storeLine b c p u) v b
+  store-over c line.Decl u = refl
+  store-over c (line.Store s) u = set-over (afterStore b c) b (rw same-low refl) u v (s .reg .0)
+  store-over c line.Other u = refl
+
+  use-over : (c : ℕ) (l u : List ℕ) → useLine b c l (set u v b) ≡ set (useLine b c l u) v b
+  unfolding useLine
+  use-over c l u = ap (readRuns b (runs (textOf l (parseOf l)))) (store-over c (parseOf l) u) ∙ runs-over (runs (textOf l (parseOf l))) (storeLine b c (parseOf l) u)
+
+  uses-over : (k : ℕ) (ls : List (List ℕ)) (u : List ℕ) → useLines b k ls (set u v b) ≡ set (useLines b k ls u) v b
+  unfolding useLines
+  uses-over k [] u = refl
+  uses-over k (l ∷ ls) u = ap (useLines b (k + 1) ls) (use-over (k + 1) l u) ∙ uses-over (k + 1) ls (useLine b (k + 1) l u)
+
+module _ (m b k : ℕ) (ls : List (List ℕ)) where
+  again-over : (r : RegName) (d u : List ℕ) → useLines b k ls (againName m b r d u) ≡ againName m b r d (useLines b k ls u)
+  again-over name.None d u = refl
+  again-over (name.Reg q) d u = go (ltb (getD d (q .0) 0) m)
+    where
+      go : (t : Bool) → useLines b k ls (cond t u (set u (q .0) b)) ≡ cond t (useLines b k ls u) (set (useLines b k ls u) (q .0) b)
+      go true = refl
+      go false = uses-over b (q .0) k ls u
+
+  pieces-over : (ps : List (List ℕ)) (d u : List ℕ) → useLines b k ls (againPieces m b ps d u) ≡ againPieces m b ps d (useLines b k ls u)
+  unfolding againPieces
+  pieces-over [] d u = refl
+  pieces-over (p ∷ ps) d u =
+      pieces-over ps (markName m (regOf (trimOf p)) d) (againName m b (regOf (trimOf p)) d u)
+      ∙ ap (againPieces m b ps (markName m (regOf (trimOf p)) d)) (again-over (regOf (trimOf p)) d u)
 
 -- ---- the loop over the pieces of a declaration: those from i on are still to be seen
 
@@ -281,62 +360,65 @@ module _ {m b : ℕ} {s d₀ u₀ d u : List ℕ} {i : ℕ} (h : SeeInv m b s d�
 -- ---- a line
 
 module _ (m b : ℕ) (l t : List ℕ) (z : t ≡ trimOf l) (d u : List ℕ) where
-  pub see-other : isDecl t ≡ false → (d ≡ seenPieces m (piecesOf l) d) × (u ≡ againPieces m b (piecesOf l) d u)
-  unfolding piecesOf seenPieces againPieces
-  see-other e = let y : isDecl (trimOf l) ≡ false = ap isDecl (sym z) ∙ e in (sym (rw y), sym (rw y))
-
   pub see-decl : isDecl t ≡ true → (body : List ℕ) → body ≡ bodyOf t → {d′ u′ : List ℕ} → d′ ≡ seenPieces m (partsOf 44 body) d → u′ ≡ againPieces m b (partsOf 44 body) d u → (d′ ≡ seenPieces m (piecesOf l) d) × (u′ ≡ againPieces m b (piecesOf l) d u)
   unfolding piecesOf
   see-decl e body x {d′} {u′} p q =
       let y : piecesOf l ≡ partsOf 44 body = rw (← z, e, x) in
       (p ∙ ap (λ (ps : List (List ℕ)). seenPieces m ps d) (sym y), q ∙ ap (λ (ps : List (List ℕ)). againPieces m b ps d u) (sym y))
 
--- ---- the loop over lines
+-- ---- the loop over lines: those from i on are still to be read, and the first of them has the row k
 
-pub record SeesInv (m b : ℕ) (s d₀ u₀ d u : List ℕ) (i : ℕ) : Type 0 where
+pub record ReadsInv (m b n : ℕ) (s d₀ u₀ d u : List ℕ) (i k : ℕ) : Type 0 where
   pub long-d : length d ≡ length d₀
   pub long-u : length u ≡ length u₀
+  pub count : k + length (linesOf (drop i s)) ≡ n + length (linesOf s)
   pub seen : seenLines m (linesOf (drop i s)) d ≡ seenLines m (linesOf s) d₀
-  pub again : againLines m b (linesOf (drop i s)) d u ≡ againLines m b (linesOf s) d₀ u₀
+  pub again : againLines m b (linesOf (drop i s)) d (useLines b k (linesOf (drop i s)) u) ≡ againLines m b (linesOf s) d₀ (useLines b n (linesOf s) u₀)
 
-pub sees-start : (m b : ℕ) (s d u : List ℕ) → SeesInv m b s d u d u 0
-sees-start m b s d u = record { long-d = refl; long-u = refl; seen = refl; again = refl }
+pub reads-start : (m b n : ℕ) (s d u : List ℕ) → ReadsInv m b n s d u d u 0 n
+reads-start m b n s d u = record { long-d = refl; long-u = refl; count = refl; seen = refl; again = refl }
 
 sees-cons : (m : ℕ) (l : List ℕ) (ls : List (List ℕ)) (d : List ℕ) → seenLines m (l ∷ ls) d ≡ seenLines m ls (seenPieces m (piecesOf l) d)
 unfolding seenLines
 sees-cons m l ls d = refl
 
-agains-cons : (m b : ℕ) (l : List ℕ) (ls : List (List ℕ)) (d u : List ℕ) → againLines m b (l ∷ ls) d u ≡ againLines m b ls (seenPieces m (piecesOf l) d) (againPieces m b (piecesOf l) d u)
-unfolding againLines
-agains-cons m b l ls d u = refl
+reads-cons : (m b k : ℕ) (l : List ℕ) (ls : List (List ℕ)) (d u : List ℕ) →
+    againLines m b (l ∷ ls) d (useLines b k (l ∷ ls) u) ≡ againLines m b ls (seenPieces m (piecesOf l) d) (useLines b (k + 1) ls (againPieces m b (piecesOf l) d (useLine b (k + 1) l u)))
+unfolding againLines useLines
+reads-cons m b k l ls d u = ap (againLines m b ls (seenPieces m (piecesOf l) d)) (sym (pieces-over m b (k + 1) ls (piecesOf l) d (useLine b (k + 1) l u)))
 
 sees-nil : (m : ℕ) (d : List ℕ) → seenLines m [] d ≡ d
 unfolding seenLines
 sees-nil m d = refl
 
-agains-nil : (m b : ℕ) (d u : List ℕ) → againLines m b [] d u ≡ u
-unfolding againLines
-agains-nil m b d u = refl
+reads-nil : (m b k : ℕ) (d u : List ℕ) → againLines m b [] d (useLines b k [] u) ≡ u
+unfolding againLines useLines
+reads-nil m b k d u = refl
 
-module _ {m b : ℕ} {s d₀ u₀ d u : List ℕ} {i : ℕ} (h : SeesInv m b s d₀ u₀ d u i) where
+module _ {m b n : ℕ} {s d₀ u₀ d u : List ℕ} {i k : ℕ} (h : ReadsInv m b n s d₀ u₀ d u i k) where
+  pub reads-room : i < length s → n + length (linesOf s) < 2 ^ 64 → k + 1 < 2 ^ 64
+  reads-room l w = omega (arith, h .count, ap length (lines-at s i (i + upTo 10 (drop i s)) l refl))
+
   module _ (e j : ℕ) (l : List ℕ) (w : i < length s) (q : e ≡ i + upTo 10 (drop i s)) (p : l ≡ part i e s) (z : j ≡ min (e + 1) (length s)) where
     lines-here : linesOf (drop i s) ≡ l ∷ linesOf (drop j s)
     lines-here = lines-at s i e w q ∙ rw (← p, ← z)
 
-    pub sees-on : {d′ u′ : List ℕ} → d′ ≡ seenPieces m (piecesOf l) d → u′ ≡ againPieces m b (piecesOf l) d u → SeesInv m b s d₀ u₀ d′ u′ j
-    sees-on {d′} {u′} x y = record {
+    pub reads-on : {d′ u′ : List ℕ} → d′ ≡ seenPieces m (piecesOf l) d → u′ ≡ againPieces m b (piecesOf l) d (useLine b (k + 1) l u) → ReadsInv m b n s d₀ u₀ d′ u′ j (k + 1)
+    reads-on {d′} {u′} x y = record {
       long-d = ap length x ∙ seen-pieces-length m (piecesOf l) d ∙ h .long-d;
-      long-u = ap length y ∙ again-pieces-length m b (piecesOf l) d u ∙ h .long-u;
+      long-u = ap length y ∙ again-pieces-length m b (piecesOf l) d (useLine b (k + 1) l u) ∙ use-length b (k + 1) l u ∙ h .long-u;
+      count = omega (arith, h .count, ap length lines-here);
       seen = ap (seenLines m (linesOf (drop j s))) x ∙ sym (ap (λ (ls : List (List ℕ)). seenLines m ls d) lines-here ∙ sees-cons m l (linesOf (drop j s)) d) ∙ h .seen;
       again =
-          ap (λ (c : List ℕ). againLines m b (linesOf (drop j s)) c u′) x ∙ ap (againLines m b (linesOf (drop j s)) (seenPieces m (piecesOf l) d)) y
-          ∙ sym (ap (λ (ls : List (List ℕ)). againLines m b ls d u) lines-here ∙ agains-cons m b l (linesOf (drop j s)) d u) ∙ h .again;
+          ap (λ (c : List ℕ). againLines m b (linesOf (drop j s)) c (useLines b (k + 1) (linesOf (drop j s)) u′)) x
+          ∙ ap (λ (c : List ℕ). againLines m b (linesOf (drop j s)) (seenPieces m (piecesOf l) d) (useLines b (k + 1) (linesOf (drop j s)) c)) y
+          ∙ sym (ap (λ (ls : List (List ℕ)). againLines m b ls d (useLines b k ls u)) lines-here ∙ reads-cons m b k l (linesOf (drop j s)) d u) ∙ h .again;
     }
 
-  pub sees-done : length s ≤ i → (d ≡ seenLines m (linesOf s) d₀) × (u ≡ againLines m b (linesOf s) d₀ u₀)
-  sees-done w = (
+  pub reads-done : length s ≤ i → (d ≡ seenLines m (linesOf s) d₀) × (u ≡ againLines m b (linesOf s) d₀ (useLines b n (linesOf s) u₀))
+  reads-done w = (
     sym (sees-nil m d) ∙ ap (λ (ls : List (List ℕ)). seenLines m ls d) (sym (lines-end s i w)) ∙ h .seen,
-    sym (agains-nil m b d u) ∙ ap (λ (ls : List (List ℕ)). againLines m b ls d u) (sym (lines-end s i w)) ∙ h .again,
+    sym (reads-nil m b k d u) ∙ ap (λ (ls : List (List ℕ)). againLines m b ls d (useLines b k ls u)) (sym (lines-end s i w)) ∙ h .again,
   )
 
 -- ---- a region, read where it begins
@@ -346,13 +428,13 @@ module _ (t : List ℕ) (a i e k : ℕ) (d u : List ℕ) where
   unfolding seenAt firstAt
   region-kept h = let z = lt-ltb a i h in (sym (rw z), sym (rw z))
 
-  pub region-read : i ≤ a → (run : List ℕ) → run ≡ part a e t → {u₁ u₂ d₁ : List ℕ} → u₁ ≡ useLines (k + 1) k (linesOf run) u → d₁ ≡ seenLines (a + 1) (linesOf run) d → u₂ ≡ againLines (a + 1) (k + 1) (linesOf run) d u₁ →
-      (d₁ ≡ seenAt t a i e d) × (u₂ ≡ firstAt t a i e k d u)
+  pub region-read : i ≤ a → (run : List ℕ) → run ≡ part a e t → {u₁ d₁ : List ℕ} → d₁ ≡ seenLines (a + 1) (linesOf run) d → u₁ ≡ againLines (a + 1) (k + 1) (linesOf run) d (useLines (k + 1) k (linesOf run) u) →
+      (d₁ ≡ seenAt t a i e d) × (u₁ ≡ firstAt t a i e k d u)
   unfolding seenAt firstAt
-  region-read h run y {u₁} {u₂} {d₁} p q r =
+  region-read h run y {u₁} {d₁} q r =
       let z = le-ltb a i h in (
         q ∙ ap (λ (x : List ℕ). seenLines (a + 1) (linesOf x) d) y ∙ sym (rw z),
-        r ∙ ap (againLines (a + 1) (k + 1) (linesOf run) d) p ∙ ap (λ (x : List ℕ). againLines (a + 1) (k + 1) (linesOf x) d (useLines (k + 1) k (linesOf x) u)) y ∙ sym (rw z),
+        r ∙ ap (λ (x : List ℕ). againLines (a + 1) (k + 1) (linesOf x) d (useLines (k + 1) k (linesOf x) u)) y ∙ sym (rw z),
       )
 
   pub seen-at-length : length (seenAt t a i e d) ≡ length d

@@ -1,17 +1,18 @@
 -- One line and its region: which names are bound, the marks that they make, and what is written. Assumes nothing.
-use Prim.Native.Nat.{ℕ, suc, _+_, _-_, _≤_, _<_}
+use Prim.Native.Nat.{ℕ, zero, suc, _+_, _-_, _≤_, _<_}
 use mathlib.Core.Path.{_≡_, refl, sym, ap, _∙_}
 use mathlib.Core.Bool.{Bool, true, false, cond, not, _&&_, _||_}
 use mathlib.Core.List.{List, [], _∷_, _++_, append-assoc}
 use native.Mathlib.Omega.{arith}
-use borrow.Author.Tests.{eq-eqb, ne-eqb, ltb-true, ltb-false}
+use borrow.Author.Tests.{eq-eqb, ne-eqb, eqb-true, ltb-true, ltb-false}
 use lib.Dec.{eqb, ltb}
 use lib.ListN.{length, getD, set, take, drop, length-set}
-use Rattle.lines.specs.Lf.{part, upTo, linesOf, partsOf}
-use Rattle.lines.proofs.Tests.{and-left, and-right}
+use lib.Seq.{getD-drop}
+use Rattle.lines.specs.Lf.{part, upTo, prefixed, linesOf, partsOf}
+use Rattle.lines.proofs.Tests.{no, and-left, and-right}
 use Rattle.lines.proofs.LfLaws.{parts-at, parts-at-end, rest-of}
 use Rattle.lines.proofs.OutLaws.{Writing, writing-start, writing-as}
-use Rattle.text.specs.Trim.{fromOf, trimOf}
+use Rattle.text.specs.Trim.{fromOf, toOf, trimOf}
 use Rattle.names.specs.Names.{regOf}
 use Rattle.names.specs.declared.Register.{Register}
 use Rattle.names.specs.declared.RegName.{RegName}
@@ -148,6 +149,32 @@ other-plain l m e = rw (ne-eqb m 1 e)
 -- a line that stays, and its LF
 pub plain-writing : (l : List ℕ) (m : ℕ) → (m ≡ 1 → ⊥) → (d : List ℕ) (o : ℕ) → o + length (otherText l m) ≤ length d → Writing o (otherText l m) (l ++ (10 ∷ [] ++ [])) d d o
 plain-writing l m e d o h = writing-as (other-plain l m e) (writing-start o (otherText l m) d h)
+
+-- ---- a line that does not begin with `l` is no declaration
+
+decl-front : (t : List ℕ) → isDecl t ≡ true → (0 < length t) × (getD t 0 0 ≡ 108)
+unfolding isDecl prefixed
+decl-front [] e = no e
+decl-front (x ∷ xs) e =
+    let p = and-left (prefixed letWord (x ∷ xs)) _ (and-right (ltb 4 (suc (length xs))) _ e) in
+    (omega arith, sym (eqb-true 108 x (and-left (eqb 108 x) _ p)))
+
+trim-front : (n : ℕ) (l : List ℕ) → 0 < length (take n l) → getD (take n l) 0 0 ≡ getD l 0 0
+trim-front zero l h = absurd (omega arith)
+trim-front (suc n) [] h = refl
+trim-front (suc n) (x ∷ l) h = refl
+
+pub front-other : (f : ℕ → Bool) (l line : List ℕ) → line ≡ l → (a : ℕ) → a ≡ fromOf line → (x : ℕ) → x ≡ getD line a 0 → (x ≡ 108 → ⊥) → false ≡ isDecl (trimOf l) && anyPass f (partsOf 44 (bodyOf (trimOf l)))
+unfolding trimOf
+front-other f l line e a q x y n = go (isDecl (trimOf l)) refl
+  where
+    go : (t : Bool) → isDecl (trimOf l) ≡ t → false ≡ t && anyPass f (partsOf 44 (bodyOf (trimOf l)))
+    go true h =
+        let p = decl-front (trimOf l) h in
+        let r = drop (fromOf l) l in
+        let z : fromOf l + 0 ≡ a = omega (arith, ap fromOf e, q) in
+        absurd (n (y ∙ ap (λ (k : List ℕ). getD k a 0) e ∙ ap (λ (k : ℕ). getD l k 0) (sym z) ∙ sym (getD-drop (fromOf l) l 0 0) ∙ sym (trim-front (toOf r) r (p .0)) ∙ p .1))
+    go false h = refl
 
 -- ---- a line: t is the line trimmed
 

@@ -1,10 +1,14 @@
 // The index of a region, two tables over registers: `seen` holds a mark at each one that a declaration names, and `first` the row of the line
 // that stores it first, and one more.
 ghost use mathlib.Core.Path.{_≡_};
+ghost use mathlib.Core.Bool.{true};
 ghost use Prim.Native.Nat.{_+_, _-_, _≤_, _<_, _^_};
 ghost use lib.ListN.{length, set, getD};
 ghost use Rattle.lines.specs.Lf.{part, linesOf, partsOf};
+ghost use Rattle.text.specs.Trim.{trimOf};
 ghost use Rattle.names.specs.Names.{regOf};
+ghost use Rattle.parse.specs.Parse.{isDecl};
+ghost use Rattle.parse.specs.declared.Line.the-variants.{Store};
 ghost use Rattle.words.specs.Runs.{runs};
 ghost use Rattle.decls.specs.Seen.{markName};
 ghost use Rattle.bind.specs.Bind.{piecesOf};
@@ -28,6 +32,9 @@ fn read_reg(reg: names::Register, b: usize, first: &mut [usize])
 fn read_name(t: &[u8], b: usize, first: &mut [usize])
     ensures { λ _. ⌜ now (first .exit) ≡ readName b (regOf (now (t .entry))) (now (first .entry)) ⌝ }
 {
+    if lines::byte_at(t, 0) != b'r' {
+        return;
+    }
     match names::reg_name(t) {
         names::RegName::Reg(q) => read_reg(q, b, first),
         names::RegName::None => {}
@@ -67,39 +74,12 @@ fn store_reg(reg: names::Register, b: usize, c: usize, first: &mut [usize])
     first[v] = b;
 }
 
-// Notes the register that a line stores.
-fn store_line(p: parse::Line, b: usize, c: usize, first: &mut [usize])
-    ensures { λ _. ⌜ now (first .exit) ≡ storeLine b c p (now (first .entry)) ⌝ }
+// Notes the registers that a store reads, and the one that it stores.
+fn use_store(line: &[u8], s: parse::Store, b: usize, c: usize, first: &mut [usize])
+    ensures { λ _. ⌜ now (first .exit) ≡ readRuns b (runs (part (s .from) (s .to) (now (line .entry)))) (storeLine b c (Store s) (now (first .entry))) ⌝ }
 {
-    match p {
-        parse::Line::Decl => {}
-        parse::Line::Store(s) => store_reg(s.reg, b, c, first),
-        parse::Line::Other => {}
-    }
-}
-
-// Notes the registers that a line stores and reads.
-fn use_line(line: &[u8], b: usize, c: usize, first: &mut [usize])
-    ensures { λ _. ⌜ now (first .exit) ≡ useLine b c (now (line .entry)) (now (first .entry)) ⌝ }
-{
-    let p = parse::parse(line);
-    store_line(p, b, c, first);
-    read_runs(parse::text_of(line, p), b, first);
-}
-
-// The same of the lines of a text, of which the first has the row `n`.
-fn use_lines(text: &[u8], b: usize, n: usize, first: &mut [usize])
-    requires { ⌜ n + length (linesOf (now text)) < 2 ^ 64 ⌝ }
-    ensures { λ _. ⌜ now (first .exit) ≡ useLines b n (linesOf (now (text .entry))) (now (first .entry)) ⌝ }
-{
-    let mut i = 0;
-    let mut k = n;
-    while i < text.len() {
-        let e = lines::find_byte(text, i, 10);
-        use_line(lines::cut(text, i, e), b, k + 1, first);
-        k += 1;
-        i = lines::after(text, e);
-    }
+    store_reg(s.reg, b, c, first);
+    read_runs(parse::value_of(line, s), b, first);
 }
 
 // Marks a register that a declaration names; one that has a mark already is `b` in the other table.
@@ -149,29 +129,42 @@ fn see_pieces(body: &[u8], m: usize, b: usize, seen: &mut [usize], first: &mut [
     }
 }
 
-// The same of a line, where it is a declaration.
-fn see_line(line: &[u8], m: usize, b: usize, seen: &mut [usize], first: &mut [usize])
-    requires { ⌜ length (now seen) ≡ length (now first) ⌝ }
+// The same of a line that is a declaration.
+fn see_decl(line: &[u8], m: usize, b: usize, seen: &mut [usize], first: &mut [usize])
+    requires { ⌜ (isDecl (trimOf (now line)) ≡ true) × (length (now seen) ≡ length (now first)) ⌝ }
     ensures marked { λ _. ⌜ now (seen .exit) ≡ seenPieces m (piecesOf (now (line .entry))) (now (seen .entry)) ⌝ }
     ensures again { λ _. ⌜ now (first .exit) ≡ againPieces m b (piecesOf (now (line .entry))) (now (seen .entry)) (now (first .entry)) ⌝ }
 {
     let t = text::trim(line);
-    if !parse::is_decl(t) {
-        return;
-    }
     see_pieces(lines::cut(t, 4, t.len() - 1), m, b, seen, first);
 }
 
-// The same of the lines of a text.
-fn see_lines(text: &[u8], m: usize, b: usize, seen: &mut [usize], first: &mut [usize])
+// Notes the registers that a line stores and reads, or declares; `c` is one more than its row.
+fn read_line(line: &[u8], m: usize, b: usize, c: usize, seen: &mut [usize], first: &mut [usize])
     requires { ⌜ length (now seen) ≡ length (now first) ⌝ }
+    ensures marked { λ _. ⌜ now (seen .exit) ≡ seenPieces m (piecesOf (now (line .entry))) (now (seen .entry)) ⌝ }
+    ensures again { λ _. ⌜ now (first .exit) ≡ againPieces m b (piecesOf (now (line .entry))) (now (seen .entry)) (useLine b c (now (line .entry)) (now (first .entry))) ⌝ }
+{
+    let p = parse::parse(line);
+    match p {
+        parse::Line::Decl => see_decl(line, m, b, seen, first),
+        parse::Line::Store(s) => use_store(line, s, b, c, first),
+        parse::Line::Other => read_runs(line, b, first),
+    }
+}
+
+// The same of the lines of a text, of which the first has the row `n`.
+fn read_lines(text: &[u8], m: usize, b: usize, n: usize, seen: &mut [usize], first: &mut [usize])
+    requires { ⌜ (length (now seen) ≡ length (now first)) × (n + length (linesOf (now text)) < 2 ^ 64) ⌝ }
     ensures marked { λ _. ⌜ now (seen .exit) ≡ seenLines m (linesOf (now (text .entry))) (now (seen .entry)) ⌝ }
-    ensures again { λ _. ⌜ now (first .exit) ≡ againLines m b (linesOf (now (text .entry))) (now (seen .entry)) (now (first .entry)) ⌝ }
+    ensures again { λ _. ⌜ now (first .exit) ≡ againLines m b (linesOf (now (text .entry))) (now (seen .entry)) (useLines b n (linesOf (now (text .entry))) (now (first .entry))) ⌝ }
 {
     let mut i = 0;
+    let mut k = n;
     while i < text.len() {
         let e = lines::find_byte(text, i, 10);
-        see_line(lines::cut(text, i, e), m, b, seen, first);
+        read_line(lines::cut(text, i, e), m, b, k + 1, seen, first);
+        k += 1;
         i = lines::after(text, e);
     }
 }
@@ -193,9 +186,7 @@ pub fn read_region(
     if a < i {
         return;
     }
-    let region = lines::cut(text, a, e);
-    use_lines(region, k + 1, k, first);
-    see_lines(region, a + 1, k + 1, seen, first);
+    read_lines(lines::cut(text, a, e), a + 1, k + 1, k, seen, first);
 }
 
 // Whether a register is bound, by its entries `x` and `y`: its declaration stands in row `k`, and the region of that begins at `a`.

@@ -465,8 +465,8 @@ fn gives_up(
     )
 }
 
-// Writes what the line of a site becomes, and marks the stores that take up the names which it gives up.
-fn bind_line(
+// Writes what the line of a site becomes, and marks the stores that take up the names which it gives up, where it may be a declaration.
+fn bind_decl(
     text: &[u8],
     s: Site,
     blocks: &[usize],
@@ -493,6 +493,32 @@ fn bind_line(
     mark_names(body, text, s, blocks, starts, seen, first, marks);
     let indent = lines::cut(line, 0, text::trim_from(line));
     put_decl(body, indent, text, s, blocks, starts, seen, first, out, o)
+}
+
+// The same of any line: one that does not begin with `l` gives up no name.
+fn bind_line(
+    text: &[u8],
+    s: Site,
+    blocks: &[usize],
+    starts: &[u8],
+    seen: &[usize],
+    first: &[usize],
+    marks: &mut [u8],
+    out: &mut [u8],
+    o: usize,
+) -> usize
+    requires { ⌜ (ReadyFor (trimOf (lineOf (now text) s)) (now text) s (now blocks) (now starts) (now seen) (now first))
+        × ((s .row + suc (length (belowOf (now text) s)) ≤ length (now marks))
+        × (o + length (siteText (boundAt (now text) s (now blocks) (now starts)) (lineOf (now text) s) (getD (now marks) (s .row) 0)) ≤ length (now out))) ⌝ }
+    ensures answer { λ r. ⌜ Wrote (now (out .entry)) o (siteText (boundAt (now (text .entry)) s (now (blocks .entry)) (now (starts .entry))) (lineOf (now (text .entry)) s) (getD (now (marks .entry)) (s .row) 0)) (now (out .exit)) r ⌝ }
+    ensures memory { λ _. ⌜ now (marks .exit) ≡ siteMarks (boundAt (now (text .entry)) s (now (blocks .entry)) (now (starts .entry))) (markRow (now (text .entry)) s) (lineOf (now (text .entry)) s) (now (marks .entry)) ⌝ }
+{
+    let line = lines::cut(text, s.from, s.to);
+    if lines::byte_at(line, text::trim_from(line)) != b'l' {
+        let row = s.row;
+        return put_other(line, marks[row], out, o);
+    }
+    bind_decl(text, s, blocks, starts, seen, first, marks, out, o)
 }
 
 // Makes the first `n` entries 0.
