@@ -1,6 +1,9 @@
 pub mod PrintLaws
 pub mod TrimRuns
 pub mod SeenLaws
+pub mod LineRuns
+pub mod Fronts
+pub mod Chunks
 pub mod Whole
 pub mod Lacks
 pub mod Writes

@@ -21,9 +21,11 @@ use Rattle.parse.specs.Parse.{isDecl, parseOf, textOf}
 use Rattle.parse.specs.declared.Line.{Line}
 use Rattle.parse.specs.declared.Line.the-variants as line
 use Rattle.words.specs.Runs.{flush, runsGo, runs, countBy, readsOf}
+use Rattle.place.specs.Region.{isHeader, untilHeader, region, upHeader, regionLen}
+use Rattle.place.proofs.Regions.{past, end-stop, end-on, end-end, region-at}
 use Rattle.reading.specs.Uses.{lineReads, storesBy, lineStores, lineUses, usedIn}
 use Rattle.decls.proofs.TrimRuns.{go-name, go-gap}
-use Rattle.decls.specs.Seen.{markName, markRuns, markStore, markLine, markLines, AtMost, Says, marksNow, markOf, tableOf}
+use Rattle.decls.specs.Seen.{markName, markRuns, markStore, markLine, markLines, AtMost, Says}
 
 -- ---- a store past the end
 
@@ -155,7 +157,7 @@ pub record RunsInv (m : ℕ) (s d₀ d : List ℕ) (a i : ℕ) : Type 0 where
   pub long : length d ≡ length d₀
   pub so-far : markRuns m (runsGo (drop i s) (part a i s)) d ≡ markRuns m (runs s) d₀
 
-runs-flush : (m : ℕ) (cur : List ℕ) (rs : List (List ℕ)) (d : List ℕ) → markRuns m (flush cur ++ rs) d ≡ markRuns m rs (markName m (regOf cur) d)
+pub runs-flush : (m : ℕ) (cur : List ℕ) (rs : List (List ℕ)) (d : List ℕ) → markRuns m (flush cur ++ rs) d ≡ markRuns m rs (markName m (regOf cur) d)
 unfolding markRuns regOf
 runs-flush m [] rs d = refl
 runs-flush m (x ∷ cur) rs d = refl
@@ -210,144 +212,158 @@ unfolding markLine
 line-marked m l d d₁ d₂ t p e x y z =
     z ∙ ap (λ (c : List ℕ). markRuns m (runs c) d₁) (y ∙ ap (textOf l) e) ∙ ap (markRuns m (runs (textOf l (parseOf l)))) (x ∙ ap (λ (q : Line). markStore m q d) e)
 
--- ---- the loop over lines: those from i on are still to be marked
+-- ---- the loop over a region after its first line: the lines from j on, up to the next header, are still to be marked; it began at k, with the table d₀
 
-pub record LinesInv (m : ℕ) (s d₀ d : List ℕ) (i : ℕ) : Type 0 where
+pub record RegionInv (m : ℕ) (t d₀ d : List ℕ) (a k j : ℕ) : Type 0 where
+  pub a≤ : a ≤ j
+  pub j≤ : j ≤ length t
   pub long : length d ≡ length d₀
-  pub so-far : markLines m (linesOf (drop i s)) d ≡ markLines m (linesOf s) d₀
+  pub ends : j + upHeader 0 (drop j t) ≡ a + regionLen (drop a t)
+  pub so-far : markLines m (untilHeader (linesOf (drop j t))) d ≡ markLines m (untilHeader (linesOf (drop k t))) d₀
 
-lines-cons : (m : ℕ) (l : List ℕ) (ls : List (List ℕ)) (d : List ℕ) → markLines m (l ∷ ls) d ≡ markLines m ls (markLine m l d)
-unfolding markLines
-lines-cons m l ls d = refl
+mark-first : (m : ℕ) (l : List ℕ) (ls : List (List ℕ)) (d : List ℕ) → markLines m (region (l ∷ ls)) d ≡ markLines m (untilHeader ls) (markLine m l d)
+unfolding markLines region
+mark-first m l ls d = refl
 
-lines-none : (m : ℕ) (d : List ℕ) → markLines m [] d ≡ d
-unfolding markLines
-lines-none m d = refl
+mark-next : (m : ℕ) (l : List ℕ) (ls : List (List ℕ)) (d : List ℕ) → isHeader l ≡ false → markLines m (untilHeader (l ∷ ls)) d ≡ markLines m (untilHeader ls) (markLine m l d)
+unfolding markLines untilHeader
+mark-next m l ls d e = rw e
 
-pub lines-start : (m : ℕ) (s d : List ℕ) → LinesInv m s d d 0
-lines-start m s d = record { long = refl; so-far = refl }
+mark-stop : (m : ℕ) (l : List ℕ) (ls : List (List ℕ)) (d : List ℕ) → isHeader l ≡ true → markLines m (untilHeader (l ∷ ls)) d ≡ d
+unfolding markLines untilHeader
+mark-stop m l ls d e = rw e
 
-module _ {m : ℕ} {s d₀ d : List ℕ} {i : ℕ} (h : LinesInv m s d₀ d i) where
-  pub lines-on : (e j : ℕ) (l d′ : List ℕ) → i < length s → e ≡ i + upTo 10 (drop i s) → l ≡ part i e s → d′ ≡ markLine m l d → j ≡ min (e + 1) (length s) → LinesInv m s d₀ d′ j
-  lines-on e j l d′ k q p x z = record {
-    long = ap length x ∙ line-length m l d ∙ h .long;
-    so-far =
-        ap (λ (n : ℕ). markLines m (linesOf (drop n s)) d′) z
-        ∙ ap (markLines m (linesOf (drop (min (e + 1) (length s)) s))) (x ∙ ap (λ (c : List ℕ). markLine m c d) p)
-        ∙ sym (ap (λ (ls : List (List ℕ)). markLines m ls d) (lines-at s i e k q) ∙ lines-cons m (part i e s) (linesOf (drop (min (e + 1) (length s)) s)) d)
-        ∙ h .so-far;
-  }
+mark-none : (m : ℕ) (d : List ℕ) → (markLines m (untilHeader []) d ≡ d) × (markLines m (region []) d ≡ d)
+unfolding markLines untilHeader region
+mark-none m d = (refl, refl)
 
-  pub lines-done : length s ≤ i → d ≡ markLines m (linesOf s) d₀
-  lines-done k = sym (lines-none m d) ∙ ap (λ (ls : List (List ℕ)). markLines m ls d) (sym (lines-end s i k)) ∙ h .so-far
+-- past the end there is no line
+pub region-none : (m : ℕ) (t d : List ℕ) (a : ℕ) → length t ≤ a → d ≡ markLines m (region (linesOf (drop a t))) d
+region-none m t d a h = sym (ap (λ (ls : List (List ℕ)). markLines m (region ls) d) (lines-end t a h) ∙ mark-none m d .1)
 
--- ---- a line that may mark its region
+-- the first line, from a up to e, and the rest
+module _ (m : ℕ) (t d d′ : List ℕ) (a e k : ℕ) (l : List ℕ) (h : a < length t) (q : e ≡ a + upTo 10 (drop a t)) (z : k ≡ min (e + 1) (length t)) where
+  pub region-start : RegionInv m t d′ d′ a k k
+  region-start = record { a≤ = omega arith; j≤ = omega arith; long = refl; ends = past t a e k q (omega arith) z; so-far = refl }
 
-module _ (l : List ℕ) (run : List (List ℕ)) (a m : ℕ) (d : List ℕ) where
-  pub once-same : marksNow l a m ≡ false → (m ≡ markOf l a m) × (d ≡ tableOf l run a m d)
-  unfolding markOf tableOf
-  once-same e = rw e (refl, refl)
+  pub region-first : l ≡ part a e t → d′ ≡ markLine m l d → markLines m (untilHeader (linesOf (drop k t))) d′ ≡ markLines m (region (linesOf (drop a t))) d
+  region-first p x =
+      ap (λ (n : ℕ). markLines m (untilHeader (linesOf (drop n t))) d′) z
+      ∙ ap (markLines m (untilHeader (linesOf (drop (min (e + 1) (length t)) t)))) (x ∙ ap (λ (c : List ℕ). markLine m c d) p)
+      ∙ sym (ap (λ (ls : List (List ℕ)). markLines m (region ls) d) (lines-at t a e h q) ∙ mark-first m (part a e t) (linesOf (drop (min (e + 1) (length t)) t)) d)
 
-  pub once-new : marksNow l a m ≡ true → (a + 1 ≡ markOf l a m) × (markLines (a + 1) run d ≡ tableOf l run a m d)
-  unfolding markOf tableOf
-  once-new e = rw e (refl, refl)
+module _ {m : ℕ} {t d₀ d : List ℕ} {a b j : ℕ} (h : RegionInv m t d₀ d a b j) where
+  module _ (f : ℕ) (l : List ℕ) (k : j < length t) (q : f ≡ j + upTo 10 (drop j t)) (p : l ≡ part j f t) where
+    pub region-stop : isHeader l ≡ true → (j ≡ a + regionLen (drop a t)) × (d ≡ markLines m (untilHeader (linesOf (drop b t))) d₀)
+    region-stop e = (
+      omega (arith, h .ends, end-stop t j f k q (ap isHeader (sym p) ∙ e)),
+      sym (ap (λ (ls : List (List ℕ)). markLines m (untilHeader ls) d) (lines-at t j f k q) ∙ mark-stop m (part j f t) (linesOf (drop (min (f + 1) (length t)) t)) d (ap isHeader (sym p) ∙ e)) ∙ h .so-far,
+    )
 
-pub now-marked : (l : List ℕ) (a m : ℕ) → a < m → marksNow l a m ≡ false
-unfolding marksNow
-now-marked l a m h = rw (lt-ltb a m h)
+    pub region-on : isHeader l ≡ false → (d′ : List ℕ) (j′ : ℕ) → d′ ≡ markLine m l d → j′ ≡ min (f + 1) (length t) → RegionInv m t d₀ d′ a b j′
+    region-on e d′ j′ x z = record {
+      a≤ = omega (arith, h .a≤);
+      j≤ = omega arith;
+      long = ap length x ∙ line-length m l d ∙ h .long;
+      ends = past t j f j′ q (omega arith) z ∙ ap (λ (n : ℕ). j + n) (sym (end-on t j f k q (ap isHeader (sym p) ∙ e))) ∙ h .ends;
+      so-far =
+          ap (λ (n : ℕ). markLines m (untilHeader (linesOf (drop n t))) d′) z
+          ∙ ap (markLines m (untilHeader (linesOf (drop (min (f + 1) (length t)) t)))) (x ∙ ap (λ (c : List ℕ). markLine m c d) p)
+          ∙ sym (ap (λ (ls : List (List ℕ)). markLines m (untilHeader ls) d) (lines-at t j f k q) ∙ mark-next m (part j f t) (linesOf (drop (min (f + 1) (length t)) t)) d (ap isHeader (sym p) ∙ e))
+          ∙ h .so-far;
+    }
 
-pub now-first : (l t : List ℕ) (a m : ℕ) (b : Bool) → m ≤ a → t ≡ trimOf l → isDecl t ≡ b → marksNow l a m ≡ b
-unfolding marksNow
-now-first l t a m b h z e = rw (le-ltb a m h) (sym (ap isDecl z) ∙ e)
+  pub region-end : length t ≤ j → (j ≡ a + regionLen (drop a t)) × (d ≡ markLines m (untilHeader (linesOf (drop b t))) d₀)
+  region-end k = (
+    omega (arith, h .ends, end-end t j k),
+    sym (ap (λ (ls : List (List ℕ)). markLines m (untilHeader ls) d) (lines-end t j k) ∙ mark-none m d .0) ∙ h .so-far,
+  )
 
--- ---- a table with the last mark m: no mark is above it, and where the region that begins at a is marked, the table speaks of it
+-- ---- a table with the last mark m: no mark is above it, and where the region that begins at a is marked, the table speaks of it, and it ends at b
 
-pub record Marks (run : List (List ℕ)) (a m : ℕ) (d : List ℕ) : Type 0 where
+pub record Marks (t : List ℕ) (a b m : ℕ) (d : List ℕ) : Type 0 where
   pub most : AtMost m d
-  pub says : a < m → Says m run d
+  pub says : a < m → Says m (region (linesOf (drop a t))) d
+  pub ends : a < m → b ≡ a + regionLen (drop a t)
 
--- a region is marked anew where the last mark is not above the place at which it begins
-marks-above : (l : List ℕ) (a m : ℕ) → marksNow l a m ≡ true → m ≤ a
-unfolding marksNow
-marks-above l a m e = go (ltb a m) refl
-  where
-    go : (b : Bool) → ltb a m ≡ b → m ≤ a
-    go true q = no (sym (now-marked l a m (ltb-true a m q)) ∙ e)
-    go false q = ltb-false a m q
-
-module _ {run : List (List ℕ)} {a m : ℕ} {d : List ℕ} (h : Marks run a m d) (l : List ℕ) where
-  fresh : m ≤ a → Marks run a (a + 1) (markLines (a + 1) run d)
-  fresh k = record {
-    most = lines-most (a + 1) run d (more-most m (a + 1) d (omega arith) (h .most));
-    says = λ _. says-new m (a + 1) run d (omega arith) (h .most);
-  }
-
-  marks-once : Marks run a (markOf l a m) (tableOf l run a m d)
-  marks-once = go (marksNow l a m) refl
+-- after its region is marked, where that was not done yet
+module _ {t : List ℕ} {a b m : ℕ} {d : List ℕ} (h : Marks t a b m d) (m′ b′ : ℕ) (d′ : List ℕ) (p : m′ ≡ cond (ltb a m) m (a + 1)) (q : b′ ≡ cond (ltb a m) b (a + regionLen (drop a t)))
+    (r : d′ ≡ cond (ltb a m) d (markLines (a + 1) (region (linesOf (drop a t))) d)) where
+  marks-once : Marks t a b′ m′ d′
+  marks-once = go (ltb a m) refl p q r
     where
-      go : (b : Bool) → marksNow l a m ≡ b → Marks run a (markOf l a m) (tableOf l run a m d)
-      go false e = let s = once-same l run a m d e in rw (sym (s .0), sym (s .1)) h
-      go true e = let s = once-new l run a m d e in rw (sym (s .0), sym (s .1)) (fresh (marks-above l a m e))
+      go : (x : Bool) → ltb a m ≡ x → m′ ≡ cond x m (a + 1) → b′ ≡ cond x b (a + regionLen (drop a t)) → d′ ≡ cond x d (markLines (a + 1) (region (linesOf (drop a t))) d) → Marks t a b′ m′ d′
+      go true e u v w = rw (u, v, w) h
+      go false e u v w =
+          let k = ltb-false a m e in
+          rw (u, w)
+          (record {
+            most = lines-most (a + 1) (region (linesOf (drop a t))) d (more-most m (a + 1) d (omega arith) (h .most));
+            says = λ _. says-new m (a + 1) (region (linesOf (drop a t))) d (omega arith) (h .most);
+            ends = λ _. v;
+          })
 
-mark-small : (l : List ℕ) (a m n : ℕ) → m ≤ n → a + 1 ≤ n → markOf l a m ≤ n
-unfolding markOf
-mark-small l a m n p q = go (marksNow l a m)
-  where
-    go : (b : Bool) → cond b (a + 1) m ≤ n
-    go true = q
-    go false = p
+  -- it is
+  mark-above : a < m′
+  mark-above = go (ltb a m) refl p
+    where
+      go : (x : Bool) → ltb a m ≡ x → m′ ≡ cond x m (a + 1) → a < m′
+      go true e u = let k = ltb-true a m e in omega arith
+      go false e u = omega arith
 
-table-length : (l : List ℕ) (run : List (List ℕ)) (a m : ℕ) (d : List ℕ) → length (tableOf l run a m d) ≡ length d
-unfolding tableOf
-table-length l run a m d = go (marksNow l a m)
-  where
-    go : (b : Bool) → length (cond b (markLines (a + 1) run d) d) ≡ length d
-    go true = lines-length (a + 1) run d
-    go false = refl
+  mark-small : (n : ℕ) → m ≤ n → a + 1 ≤ n → m′ ≤ n
+  mark-small n x y = go (ltb a m) p
+    where
+      go : (x : Bool) → m′ ≡ cond x m (a + 1) → m′ ≤ n
+      go true u = omega arith
+      go false u = omega arith
 
--- after a declaration its region is marked
-mark-decl : (l : List ℕ) (a m : ℕ) → isDecl (trimOf l) ≡ true → a < markOf l a m
-unfolding markOf marksNow
-mark-decl l a m e = rw e (go (ltb a m) refl)
-  where
-    go : (b : Bool) → ltb a m ≡ b → a < cond (not b && true) (a + 1) m
-    go true q = ltb-true a m q
-    go false q = omega arith
+  mark-length : length d′ ≡ length d
+  mark-length = go (ltb a m) r
+    where
+      go : (x : Bool) → d′ ≡ cond x d (markLines (a + 1) (region (linesOf (drop a t))) d) → length d′ ≡ length d
+      go true w = ap length w
+      go false w = ap length w ∙ lines-length (a + 1) (region (linesOf (drop a t))) d
 
--- ---- the loop over a text: the part from a to b is the region of the line above, and m the last mark
+-- ---- the loop over a text: a is the place at which the region of the line above begins, and m the last mark
 
 pub record TableInv (t d₀ d : List ℕ) (a b m i : ℕ) : Type 0 where
   pub a≤ : a ≤ i
   pub m≤ : m ≤ i
   pub long : length d ≡ length d₀
-  pub marks : Marks (linesOf (part a b t)) a m d
+  pub marks : Marks t a b m d
 
-pub table-start : (t d : List ℕ) (b : ℕ) → AtMost 0 d → TableInv t d d 0 b 0 0
-table-start t d b h = record { a≤ = omega arith; m≤ = omega arith; long = refl; marks = record { most = h; says = λ k. absurd (omega arith) } }
+pub table-start : (t d : List ℕ) → AtMost 0 d → TableInv t d d 0 0 0 0
+table-start t d h = record { a≤ = omega arith; m≤ = omega arith; long = refl; marks = record { most = h; says = λ k. absurd (omega arith); ends = λ k. absurd (omega arith) } }
 
 module _ {t d₀ d : List ℕ} {a b m i : ℕ} (h : TableInv t d₀ d a b m i) where
   -- a region that begins here is not marked yet
-  pub table-new : (r : ℕ) → TableInv t d₀ d i r m i
-  table-new r = record {
+  pub table-new : TableInv t d₀ d i b m i
+  table-new = record {
     a≤ = omega arith;
     m≤ = h .m≤;
     long = h .long;
-    marks = record { most = h .marks .most; says = λ k. absurd (omega (arith, h .m≤)) };
+    marks = record { most = h .marks .most; says = λ k. absurd (omega (arith, h .m≤)); ends = λ k. absurd (omega (arith, h .m≤)) };
   }
 
-  module _ (l run : List ℕ) (y : run ≡ part a b t) (m′ : ℕ) (d′ : List ℕ) (p : m′ ≡ markOf l a m) (q : d′ ≡ tableOf l (linesOf run) a m d) where
-    table-marks : Marks (linesOf (part a b t)) a m′ d′
-    table-marks = rw (p, q ∙ ap (λ (r : List ℕ). tableOf l (linesOf r) a m d) y) (marks-once (h .marks) l)
+  -- a line that marks nothing
+  pub table-pass : (e i′ : ℕ) → i < length t → e ≡ i + upTo 10 (drop i t) → i′ ≡ min (e + 1) (length t) → TableInv t d₀ d a b m i′
+  table-pass e i′ k x z = record { a≤ = omega (arith, h .a≤); m≤ = omega (arith, h .m≤); long = h .long; marks = h .marks }
 
-    pub table-says : isDecl (trimOf l) ≡ true → Says m′ (linesOf run) d′
-    table-says e = rw y (table-marks .says (omega (arith, p, mark-decl l a m e)))
+  module _ (m′ b′ : ℕ) (d′ : List ℕ) (p : m′ ≡ cond (ltb a m) m (a + 1)) (q : b′ ≡ cond (ltb a m) b (a + regionLen (drop a t))) (r : d′ ≡ cond (ltb a m) d (markLines (a + 1) (region (linesOf (drop a t))) d)) where
+    -- the region is that part
+    pub table-region : (run : List ℕ) → run ≡ part a b′ t → linesOf run ≡ region (linesOf (drop a t))
+    table-region run y = ap linesOf y ∙ region-at t a b′ (marks-once (h .marks) m′ b′ d′ p q r .ends (mark-above (h .marks) m′ b′ d′ p q r))
 
-    pub table-on : (e i′ : ℕ) → i < length t → e ≡ i + upTo 10 (drop i t) → i′ ≡ min (e + 1) (length t) → TableInv t d₀ d′ a b m′ i′
+    pub table-says : (run : List ℕ) → run ≡ part a b′ t → Says m′ (linesOf run) d′
+    table-says run y = rw (table-region run y) (marks-once (h .marks) m′ b′ d′ p q r .says (mark-above (h .marks) m′ b′ d′ p q r))
+
+    pub table-on : (e i′ : ℕ) → i < length t → e ≡ i + upTo 10 (drop i t) → i′ ≡ min (e + 1) (length t) → TableInv t d₀ d′ a b′ m′ i′
     table-on e i′ k x z = record {
       a≤ = omega (arith, h .a≤);
-      m≤ = omega (arith, p, mark-small l a m i′ (omega (arith, h .m≤)) (omega (arith, h .a≤)));
-      long = ap length q ∙ table-length l (linesOf run) a m d ∙ h .long;
-      marks = table-marks;
+      m≤ = mark-small (h .marks) m′ b′ d′ p q r i′ (omega (arith, h .m≤)) (omega (arith, h .a≤));
+      long = mark-length (h .marks) m′ b′ d′ p q r ∙ h .long;
+      marks = marks-once (h .marks) m′ b′ d′ p q r;
     }
 
 -- ---- a table of zeros holds no mark

@@ -30,7 +30,7 @@ low-name x h = rw (is-below 48 57 x (omega arith), is-below 65 90 x (omega arith
 high-name : (x : ℕ) → 122 < x → isName x ≡ false
 high-name x h = rw (is-above 48 57 x (omega arith), is-above 65 90 x (omega arith), is-above 97 122 x (omega arith), ne-eqb x 95 (λ e. absurd (omega arith)), ne-eqb x 36 (λ e. absurd (omega arith)))
 
-mid-white : (x : ℕ) → 36 ≤ x → x ≤ 122 → isWhite x ≡ false
+pub mid-white : (x : ℕ) → 33 ≤ x → x < 128 → isWhite x ≡ false
 unfolding isWhite
 mid-white x h k =
     rw (
@@ -52,7 +52,7 @@ white-name x h = go (ltb x 36) refl (ltb 122 x) refl
     go : (a : Bool) → ltb x 36 ≡ a → (b : Bool) → ltb 122 x ≡ b → isName x ≡ false
     go true p b q = low-name x (ltb-true x 36 p)
     go false p true q = high-name x (ltb-true 122 x q)
-    go false p false q = no (sym (mid-white x (ltb-false x 36 p) (ltb-false 122 x q)) ∙ h)
+    go false p false q = let a = ltb-false x 36 p in let b = ltb-false 122 x q in no (sym (mid-white x (omega arith) (omega arith)) ∙ h)
 
 -- the ranges of a row are from 128 on
 abbrev high : List (ℕ × ℕ) → Bool

@@ -2,7 +2,7 @@
 use Prim.Native.Nat.{ℕ, _+_, _-_, _≤_, _<_, min}
 use mathlib.Core.Path.{_≡_, refl, sym, ap, _∙_}
 use mathlib.Core.Bool.{true, false, cond}
-use mathlib.Core.List.{List, [], _∷_, _++_}
+use mathlib.Core.List.{List, [], _∷_, _++_, append-assoc}
 use native.Mathlib.Omega.{arith}
 use borrow.Author.Tests.{ltb-true}
 use lib.Dec.{ltb}
@@ -11,7 +11,7 @@ use Rattle.lines.specs.Lf.{part, upTo, linesOf, partsOf, unlines}
 use Rattle.lines.specs.Acts.{act, apply}
 use Rattle.lines.specs.Out.{Wrote}
 use Rattle.lines.proofs.Tests.{and-left}
-use Rattle.lines.proofs.LfLaws.{lines-at, lines-end}
+use Rattle.lines.proofs.LfLaws.{lines-at, lines-end, part-none}
 use Rattle.lines.proofs.ActLaws.{unlines-append}
 use Rattle.lines.proofs.OutLaws.{Writing, writing-start, writing-as, writing-put, writing-end}
 use Rattle.text.specs.Trim.{fromOf, trimOf}
@@ -21,12 +21,12 @@ use Rattle.names.specs.declared.RegName.{RegName}
 use Rattle.names.specs.declared.RegName.the-variants as name
 use Rattle.names.proofs.Texts.{reg-number}
 use Rattle.parse.specs.Parse.{bodyOf, isDecl}
-use Rattle.place.specs.Region.{isHeader, region, regionAt, regionLen}
-use Rattle.place.proofs.Regions.{region-at}
+use Rattle.place.specs.Region.{isHeader, region, regionAt}
 use Rattle.reading.specs.Uses.{usedIn}
 use Rattle.decls.specs.Decls.{keepOne, staysBy, stays, keepNames, actOf, lineText, actsGo, pruneDeclsActs, pruneDecls}
 use Rattle.decls.specs.Print.{bareName, one, kept, declText}
 use Rattle.decls.proofs.PrintLaws.{after-bare, writing-fits, act-text}
+use Rattle.decls.proofs.Chunks.{chunk-open, chunk-shut, chunk-none}
 
 -- ---- the names that stay
 
@@ -75,10 +75,6 @@ module _ (run : List (List ℕ)) (l t : List ℕ) (z : t ≡ trimOf l) where
       ∙ ap (λ (x : List ℕ). declText x (kept (stays run) 1 (partsOf 44 (bodyOf (trimOf l)))) false) i
       ∙ ap (λ (x : List ℕ). declText indent (kept (stays run) 1 (partsOf 44 (bodyOf x))) false) (sym z)
 
-  -- a line that stays, and its LF, are to come
-  pub keep-writing : (d : List ℕ) (o : ℕ) → o + length (lineText run l) ≤ length d → isDecl t ≡ false → Writing o (lineText run l) (l ++ (10 ∷ [] ++ [])) d d o
-  keep-writing d o r e = writing-as (line-keep run l (sym (ap isDecl z) ∙ e)) (writing-start o (lineText run l) d r)
-
 -- ---- the lines, one after the other
 
 -- what is written of lines; `run` is the region of the line above
@@ -97,20 +93,28 @@ go-all : (ls : List (List ℕ)) → goText ls (region ls) ≡ unlines (pruneDecl
 unfolding goText pruneDecls pruneDeclsActs
 go-all ls = refl
 
--- the loop: the lines from i on are still to come, and the part from a to b is the region of the line above
-pub record PruneInv (t d₀ d : List ℕ) (a b i o : ℕ) : Type 0 where
+-- the loop: the lines from c up to i stay and are yet to be written, those from i on are still to come, and a is where the region of the line above begins
+pub record PruneInv (t d₀ d : List ℕ) (a c i o : ℕ) : Type 0 where
+  pub c≤ : c ≤ i
   pub i≤ : i ≤ length t
-  pub writing : Writing 0 (unlines (pruneDecls (linesOf t))) (goText (linesOf (drop i t)) (linesOf (part a b t))) d₀ d o
+  pub held : List ℕ
+  pub ahead : i < length t → held ≡ part c i t
+  pub shut : length t ≤ i → held ≡ unlines (linesOf (part c (length t) t))
+  pub writing : Writing 0 (unlines (pruneDecls (linesOf t))) (held ++ goText (linesOf (drop i t)) (region (linesOf (drop a t)))) d₀ d o
 
-pub prune-start : (t d : List ℕ) (b : ℕ) → length (unlines (pruneDecls (linesOf t))) ≤ length d → b ≡ 0 + regionLen (drop 0 t) → PruneInv t d d 0 b 0 0
-prune-start t d b h q = record {
+pub prune-start : (t d : List ℕ) → length (unlines (pruneDecls (linesOf t))) ≤ length d → PruneInv t d d 0 0 0 0
+prune-start t d h = record {
+  c≤ = omega arith;
   i≤ = omega arith;
-  writing = writing-as (sym (go-all (linesOf t)) ∙ ap (λ (r : List (List ℕ)). goText (linesOf t) r) (sym (region-at t 0 b q))) (writing-start 0 (unlines (pruneDecls (linesOf t))) d (omega arith));
+  held = [];
+  ahead = λ _. sym (part-none t 0);
+  shut = λ k. chunk-none t 0 k;
+  writing = writing-as (sym (go-all (linesOf t))) (writing-start 0 (unlines (pruneDecls (linesOf t))) d (omega arith));
 }
 
--- the part from a′ to b′ is the region of the line from i to e
-pub record RunAt (t : List ℕ) (a b i e a′ b′ : ℕ) : Type 0 where
-  pub lines : linesOf (part a′ b′ t) ≡ regionAt (part i e t) (linesOf (drop (min (e + 1) (length t)) t)) (linesOf (part a b t))
+-- the region of the line from i to e begins at a′
+pub record RunAt (t : List ℕ) (a i e a′ : ℕ) : Type 0 where
+  pub lines : region (linesOf (drop a′ t)) ≡ regionAt (part i e t) (linesOf (drop (min (e + 1) (length t)) t)) (region (linesOf (drop a t)))
 
 at-same : (l : List ℕ) (ls run : List (List ℕ)) → isHeader l ≡ false → run ≡ regionAt l ls run
 unfolding regionAt
@@ -120,33 +124,81 @@ at-new : (l : List ℕ) (ls run : List (List ℕ)) → isHeader l ≡ true → r
 unfolding regionAt region
 at-new l ls run e = rw e
 
-module _ {t d₀ d : List ℕ} {a b i o : ℕ} (h : PruneInv t d₀ d a b i o) (e : ℕ) (k : i < length t) (q : e ≡ i + upTo 10 (drop i t)) (l : List ℕ) (z : l ≡ part i e t) where
-  pub run-same : isHeader l ≡ false → RunAt t a b i e a b
-  run-same n = record { lines = at-same (part i e t) (linesOf (drop (min (e + 1) (length t)) t)) (linesOf (part a b t)) (ap isHeader (sym z) ∙ n) }
+module _ {t d₀ d : List ℕ} {a c i o : ℕ} (h : PruneInv t d₀ d a c i o) (e : ℕ) (k : i < length t) (q : e ≡ i + upTo 10 (drop i t)) (l : List ℕ) (z : l ≡ part i e t) where
+  pub run-same : isHeader l ≡ false → RunAt t a i e a
+  run-same n = record { lines = at-same (part i e t) (linesOf (drop (min (e + 1) (length t)) t)) (region (linesOf (drop a t))) (ap isHeader (sym z) ∙ n) }
 
-  pub run-new : (r : ℕ) → r ≡ i + regionLen (drop i t) → isHeader l ≡ true → RunAt t a b i e i r
-  run-new r y n = record {
-    lines = region-at t i r y ∙ ap region (lines-at t i e k q) ∙ at-new (part i e t) (linesOf (drop (min (e + 1) (length t)) t)) (linesOf (part a b t)) (ap isHeader (sym z) ∙ n);
+  pub run-new : isHeader l ≡ true → RunAt t a i e i
+  run-new n = record {
+    lines = ap region (lines-at t i e k q) ∙ at-new (part i e t) (linesOf (drop (min (e + 1) (length t)) t)) (region (linesOf (drop a t))) (ap isHeader (sym z) ∙ n);
   }
 
-  module _ {a′ b′ : ℕ} (m : RunAt t a b i e a′ b′) (run : List ℕ) (y : run ≡ part a′ b′ t) where
-    text-at : goText (linesOf (drop i t)) (linesOf (part a b t)) ≡ lineText (linesOf run) l ++ goText (linesOf (drop (min (e + 1) (length t)) t)) (linesOf (part a′ b′ t))
+  module _ {a′ : ℕ} (m : RunAt t a i e a′) where
+    -- what is to come of the region and the lines after the line
+    abbrev to-come : List ℕ
+    to-come = goText (linesOf (drop (min (e + 1) (length t)) t)) (region (linesOf (drop a′ t)))
+
+    text-at : goText (linesOf (drop i t)) (region (linesOf (drop a t))) ≡ lineText (region (linesOf (drop a′ t))) l ++ to-come
     text-at =
-        ap (λ (ls : List (List ℕ)). goText ls (linesOf (part a b t))) (lines-at t i e k q)
-        ∙ go-cons (part i e t) (linesOf (drop (min (e + 1) (length t)) t)) (linesOf (part a b t))
+        ap (λ (ls : List (List ℕ)). goText ls (region (linesOf (drop a t)))) (lines-at t i e k q)
+        ∙ go-cons (part i e t) (linesOf (drop (min (e + 1) (length t)) t)) (region (linesOf (drop a t)))
         ∙ ap (λ (r : List (List ℕ)). lineText r (part i e t) ++ goText (linesOf (drop (min (e + 1) (length t)) t)) r) (sym (m .lines))
-        ∙ ap (λ (r : List ℕ). lineText (linesOf r) (part i e t) ++ goText (linesOf (drop (min (e + 1) (length t)) t)) (linesOf (part a′ b′ t))) (sym y)
-        ∙ ap (λ (r : List ℕ). lineText (linesOf run) r ++ goText (linesOf (drop (min (e + 1) (length t)) t)) (linesOf (part a′ b′ t))) (sym z)
+        ∙ ap (λ (r : List ℕ). lineText (region (linesOf (drop a′ t))) r ++ to-come) (sym z)
 
-    pub prune-room : o + length (lineText (linesOf run) l) ≤ length d
-    prune-room = writing-fits (lineText (linesOf run) l) _ (writing-as text-at (h .writing))
-
-    pub prune-on : {d′ : List ℕ} {o′ i′ : ℕ} → Wrote d o (lineText (linesOf run) l) d′ o′ → i′ ≡ min (e + 1) (length t) → PruneInv t d₀ d′ a′ b′ i′ o′
-    prune-on {d′} {o′} {i′} v x = record {
+    -- a line that is no declaration is held too
+    pub prune-pass : isDecl (trimOf l) ≡ false → (i′ : ℕ) → i′ ≡ min (e + 1) (length t) → PruneInv t d₀ d a′ c i′ o
+    prune-pass n i′ x = record {
+      c≤ = omega (arith, h .c≤);
       i≤ = omega arith;
-      writing = writing-as (ap (λ (n : ℕ). goText (linesOf (drop n t)) (linesOf (part a′ b′ t))) (sym x)) (writing-put (writing-as text-at (h .writing)) v);
+      held = part c i t ++ (part i e t ++ 10 ∷ []);
+      ahead = λ y. chunk-open t c i e i′ (h .c≤) k q x y;
+      shut = λ y. chunk-shut t c i e i′ (h .c≤) k q x y;
+      writing =
+          rw x
+          (writing-as
+          (ap (λ (r : List ℕ). r ++ goText (linesOf (drop i t)) (region (linesOf (drop a t)))) (h .ahead k)
+          ∙ ap (λ (r : List ℕ). part c i t ++ r) (text-at ∙ ap (λ (r : List ℕ). r ++ to-come) (line-keep (region (linesOf (drop a′ t))) l n ∙ ap (λ (r : List ℕ). r ++ 10 ∷ []) z))
+          ∙ sym (append-assoc (part c i t) (part i e t ++ 10 ∷ []) to-come))
+          (h .writing));
     }
 
-pub prune-end : {t d₀ d : List ℕ} {a b i o : ℕ} → PruneInv t d₀ d a b i o → length t ≤ i → Wrote d₀ 0 (unlines (pruneDecls (linesOf t))) d o
-prune-end {t} {d₀} {d} {a} {b} {i} {o} h k =
-    writing-end (writing-as (ap (λ (ls : List (List ℕ)). goText ls (linesOf (part a b t))) (lines-end t i k) ∙ go-nil (linesOf (part a b t))) (h .writing))
+    -- before a declaration what is held is written; x is that
+    module _ (x : List ℕ) (y : x ≡ part c i t) where
+      held-writing : Writing 0 (unlines (pruneDecls (linesOf t))) (x ++ (lineText (region (linesOf (drop a′ t))) l ++ to-come)) d₀ d o
+      held-writing = writing-as (ap (λ (r : List ℕ). r ++ goText (linesOf (drop i t)) (region (linesOf (drop a t)))) (h .ahead k ∙ sym y) ∙ ap (λ (r : List ℕ). x ++ r) text-at) (h .writing)
+
+      pub held-room : o + length x ≤ length d
+      held-room = writing-fits x _ held-writing
+
+      -- then the declaration; run is its region
+      module _ {d₁ : List ℕ} {p : ℕ} (v : Wrote d o x d₁ p) (run : List ℕ) (s : linesOf run ≡ region (linesOf (drop a′ t))) where
+        decl-writing : Writing 0 (unlines (pruneDecls (linesOf t))) (lineText (linesOf run) l ++ to-come) d₀ d₁ p
+        decl-writing = writing-as (ap (λ (r : List (List ℕ)). lineText r l ++ to-come) (sym s)) (writing-put held-writing v)
+
+        pub prune-room : p + length (lineText (linesOf run) l) ≤ length d₁
+        prune-room = writing-fits (lineText (linesOf run) l) _ decl-writing
+
+        pub prune-on : {d₂ : List ℕ} {r i′ : ℕ} → Wrote d₁ p (lineText (linesOf run) l) d₂ r → i′ ≡ min (e + 1) (length t) → PruneInv t d₀ d₂ a′ i′ i′ r
+        prune-on {d₂} {r} {i′} w f = record {
+          c≤ = omega arith;
+          i≤ = omega arith;
+          held = [];
+          ahead = λ _. sym (part-none t i′);
+          shut = λ y. chunk-none t i′ y;
+          writing = rw f (writing-put decl-writing w);
+        }
+
+-- at the end what is held is all that is to come; x is the text from c on
+module _ {t d₀ d : List ℕ} {a c i o : ℕ} (h : PruneInv t d₀ d a c i o) (k : length t ≤ i) (x : List ℕ) (y : x ≡ part c (length t) t) where
+  end-writing : Writing 0 (unlines (pruneDecls (linesOf t))) (unlines (linesOf x) ++ []) d₀ d o
+  end-writing =
+      writing-as
+      (ap (λ (r : List ℕ). r ++ goText (linesOf (drop i t)) (region (linesOf (drop a t)))) (h .shut k ∙ ap (λ (r : List ℕ). unlines (linesOf r)) (sym y))
+      ∙ ap (λ (r : List ℕ). unlines (linesOf x) ++ r) (ap (λ (ls : List (List ℕ)). goText ls (region (linesOf (drop a t)))) (lines-end t i k) ∙ go-nil (region (linesOf (drop a t)))))
+      (h .writing)
+
+  pub end-room : o + length (unlines (linesOf x)) ≤ length d
+  end-room = writing-fits (unlines (linesOf x)) [] end-writing
+
+  pub prune-end : {d′ : List ℕ} {r : ℕ} → Wrote d o (unlines (linesOf x)) d′ r → Wrote d₀ 0 (unlines (pruneDecls (linesOf t))) d′ r
+  prune-end v = writing-end (writing-put end-writing v)

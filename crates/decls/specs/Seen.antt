@@ -1,15 +1,14 @@
 -- The table of the registers that lines use: what marking them leaves in it, and what it then says. Assumes nothing.
-use Prim.Native.Nat.{ℕ, _+_, _≤_, _<_}
+use Prim.Native.Nat.{ℕ, _≤_, _<_}
 use mathlib.Core.Path.{_≡_}
 use mathlib.Core.Bool.{Bool, cond, not, _&&_}
 use mathlib.Core.List.{List, [], _∷_}
 use lib.Dec.{eqb, ltb}
 use lib.ListN.{length, getD, set}
-use Rattle.text.specs.Trim.{trimOf}
 use Rattle.names.specs.Names.{regOf}
 use Rattle.names.specs.declared.RegName.{RegName}
 use Rattle.names.specs.declared.RegName.the-variants as name
-use Rattle.parse.specs.Parse.{isDecl, parseOf, textOf}
+use Rattle.parse.specs.Parse.{parseOf, textOf}
 use Rattle.parse.specs.declared.Line.{Line}
 use Rattle.parse.specs.declared.Line.the-variants as line
 use Rattle.words.specs.Runs.{runs}
@@ -50,18 +49,13 @@ AtMost m d = (v : ℕ) → getD d v 0 ≤ m
 abbrev pub Says : ℕ → List (List ℕ) → List ℕ → Type 0
 Says m ls d = (v : ℕ) → v < length d → eqb (getD d v 0) m ≡ usedIn v ls
 
--- ---- the mark of a region is one more than the place a at which it begins; m is the last mark
+-- ---- the front of a line
 
--- a line is a declaration, and its region is not marked yet
-unfoldable pub marksNow : List ℕ → ℕ → ℕ → Bool
-marksNow l a m = not (ltb a m) && isDecl (trimOf l)
+-- the first byte of a text that is no space, or 0
+unfoldable pub frontOf : List ℕ → ℕ
+frontOf [] = 0
+frontOf (x ∷ xs) = cond (eqb x 32) (frontOf xs) x
 
--- the last mark after it
-unfoldable pub markOf : List ℕ → ℕ → ℕ → ℕ
-unfolding marksNow
-markOf l a m = cond (marksNow l a m) (a + 1) m
-
--- the table after it, where run is its region
-unfoldable pub tableOf : List ℕ → List (List ℕ) → ℕ → ℕ → List ℕ → List ℕ
-unfolding marksNow markLines
-tableOf l run a m d = cond (marksNow l a m) (markLines (a + 1) run d) d
+-- a byte that no declaration has for its first: below 128, no white space, and no `l`
+abbrev pub noDecl : ℕ → Bool
+noDecl b = ltb 32 b && (ltb b 128 && not (eqb b 108))

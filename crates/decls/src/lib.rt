@@ -54,37 +54,34 @@ fn put_decl(
     }
 }
 
-// Writes what a line of a region becomes.
+// Writes what a declaration of a region becomes.
 fn put_line(line: &[u8], region: &[u8], m: usize, seen: &[usize], out: &mut [u8], o: usize) -> usize
-    requires { ⌜ (isDecl (trimOf (now line)) ≡ true → Says m (linesOf (now region)) (now seen))
-        × (o + length (lineText (linesOf (now region)) (now line)) ≤ length (now out)) ⌝ }
+    requires { ⌜ (isDecl (trimOf (now line)) ≡ true) × ((Says m (linesOf (now region)) (now seen))
+        × (o + length (lineText (linesOf (now region)) (now line)) ≤ length (now out))) ⌝ }
     ensures { λ r. ⌜ Wrote (now (out .entry)) o (lineText (linesOf (now (region .entry))) (now (line .entry))) (now (out .exit)) r ⌝ }
 {
     let t = text::trim(line);
-    if parse::is_decl(t) {
-        let a = text::trim_from(line);
-        return put_decl(
-            &t[4..t.len() - 1],
-            lines::cut(line, 0, a),
-            region,
-            m,
-            seen,
-            out,
-            o,
-        );
-    }
-    let p = lines::put(out, o, line);
-    lines::put_byte(out, p, 10)
+    let a = text::trim_from(line);
+    put_decl(
+        &t[4..t.len() - 1],
+        lines::cut(line, 0, a),
+        region,
+        m,
+        seen,
+        out,
+        o,
+    )
 }
 
-// The same as prune_decls, with a table of registers that holds no mark.
+// The same as prune_decls, with a table of registers that holds no mark. The lines from `c` on stay as they are, and are yet to be written.
 fn prune_with(text: &[u8], seen: &mut [usize], out: &mut [u8]) -> usize
     requires { ⌜ (AtMost 0 (now seen)) × (length (unlines (pruneDecls (linesOf (now text)))) ≤ length (now out)) ⌝ }
     ensures { λ r. ⌜ Wrote (now (out .entry)) 0 (unlines (pruneDecls (linesOf (now (text .entry))))) (now (out .exit)) r ⌝ }
 {
     let mut a = 0;
-    let mut b = place::region_end(text, 0);
+    let mut b = 0;
     let mut m = 0;
+    let mut c = 0;
     let mut i = 0;
     let mut o = 0;
     while i < text.len() {
@@ -92,14 +89,20 @@ fn prune_with(text: &[u8], seen: &mut [usize], out: &mut [u8]) -> usize
         let line = lines::cut(text, i, e);
         if place::is_header(line) {
             a = i;
-            b = place::region_end(text, i);
         }
-        let region = lines::cut(text, a, b);
-        m = seen::mark_once(line, region, a, m, seen);
-        o = put_line(line, region, m, seen, out, o);
-        i = lines::after(text, e);
+        if seen::declares(line) {
+            let k = seen::mark_once(text, a, b, m, seen);
+            m = k.mark;
+            b = k.end;
+            let p = lines::put(out, o, lines::cut(text, c, i));
+            o = put_line(line, lines::cut(text, a, b), m, seen, out, p);
+            i = lines::after(text, e);
+            c = i;
+        } else {
+            i = lines::after(text, e);
+        }
     }
-    o
+    print::put_lines(lines::cut(text, c, text.len()), out, o)
 }
 
 // Writes the lines of a text without the declared registers that their region neither reads nor stores.

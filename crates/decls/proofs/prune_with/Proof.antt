@@ -1,26 +1,37 @@
--- `decls::prune_with` meets its contract. Assumes nothing.
 use Prim.Native.Nat.{_-_}
 use native.Mathlib.Omega.{arith}
 use borrow.Author.Needs.{needs}
 use mathlib.Core.Path.{sym, _∙_}
 use mathlib.Core.Logic.{⊎-elim}
 use lib.ListN.{length}
+use Rattle.lines.proofs.Tests.{so}
 use Rattle.lines.proofs.OutLaws.{writing-length}
-use Rattle.decls.proofs.Writes.{PruneInv, prune-start, RunAt, run-same, run-new, prune-room, prune-on, prune-end}
-use Rattle.decls.proofs.SeenLaws.{TableInv, table-start, table-new, table-says, table-on}
+use Rattle.decls.proofs.Writes.{PruneInv, prune-start, RunAt, run-same, run-new, prune-pass, held-room, prune-room, prune-on, end-room, prune-end}
+use Rattle.decls.proofs.SeenLaws.{TableInv, table-start, table-new, table-pass, table-region, table-says, table-on}
 use Rattle.decls.proofs.prune_with.Statement.{statement}
 use Rattle.decls.proofs.prune_with.Tie as tie
+use Rattle.decls.proofs.prune_with.Reads as reads
+use Rattle.decls.proofs.prune_with.Lts as lts
+use Rattle.decls.proofs.print.put_lines.Reads as put-lines-reads
+use Rattle.decls.proofs.put_line.Reads as put-line-reads
+use Rattle.decls.proofs.seen.declares.Reads as declares-reads
+use Rattle.decls.proofs.seen.mark_once.Reads as mark-once-reads
+use Rattle.lines.proofs.after.Reads as after-reads
+use Rattle.lines.proofs.cut.Reads as cut-reads
+use Rattle.lines.proofs.find_byte.Reads as find-byte-reads
+use Rattle.lines.proofs.put.Reads as put-reads
+use Rattle.place.proofs.is_header.Reads as is-header-reads
 
 abbrev Inv-loop : tie.InvT-loop
-Inv-loop text seen₀ out₀ a₀ b₀ m₀ i₀ o₀ seen out a b m i o = (PruneInv text out₀ out a b i o) × (TableInv text seen₀ seen a b m i)
+Inv-loop text seen₀ out₀ a₀ b₀ m₀ c₀ i₀ o₀ seen out a b m c i o = (PruneInv text out₀ out a c i o) × (TableInv text seen₀ seen a b m i)
 
 abbrev μ-loop : tie.MeasureT-loop
-μ-loop text seen₀ out₀ a₀ b₀ m₀ i₀ o₀ seen out a b m i o = length text - i
+μ-loop text seen₀ out₀ a₀ b₀ m₀ c₀ i₀ o₀ seen out a b m c i o = length text - i
 
 -- the region of the line, where the arms of the `if` meet
 mid : (c : tie.Joined1 Inv-loop μ-loop) →
-    (RunAt (c .before .before .before .before .before .before .before .before .before .before .args .text .now) (c .before .before .before .before .before .loop .a) (c .before .before .before .before .before .loop .b) (c .before .before .before .before .before .loop .i) (c .before .before .before .find-byte .result) (c .if1 .a) (c .if1 .b))
-    × (TableInv (c .before .before .before .before .before .before .before .before .before .before .args .text .now) (c .before .before .before .before .before .before .before .before .before .before .args .seen .now) (c .before .before .before .before .before .loop .seen) (c .if1 .a) (c .if1 .b) (c .before .before .before .before .before .loop .m) (c .before .before .before .before .before .loop .i))
+    (RunAt (c .before .before .before .before .before .before .before .before .before .args .text .now) (c .before .before .before .before .before .loop .a) (c .before .before .before .before .before .loop .i) (c .before .before .before .find-byte .result) (c .if1 .a))
+    × (TableInv (c .before .before .before .before .before .before .before .before .before .args .text .now) (c .before .before .before .before .before .before .before .before .before .args .seen .now) (c .before .before .before .before .before .loop .seen) (c .if1 .a) (c .before .before .before .before .before .loop .b) (c .before .before .before .before .before .loop .m) (c .before .before .before .before .before .loop .i))
 mid c =
     let h = c .before .before .before .before .before .loop .inv in
     let k = c .before .before .before .before .loop-test .taken in
@@ -28,70 +39,120 @@ mid c =
     let l = c .before .before .cut in
     let y = sym (c .before .is-header .ensures) in
     ⊎-elim
-    (λ w. rw (w .2, w .3) (run-new (h .0) (f .result) k (f .ensures) (l .result .now) (l .ensures) (w .1 .result) (w .1 .ensures) (y ∙ w .0 .taken), table-new (h .1) (w .1 .result)))
-    (λ w. rw (w .1, w .2) (run-same (h .0) (f .result) k (f .ensures) (l .result .now) (l .ensures) (y ∙ w .0 .left), h .1))
+    (λ w. rw (w .1) (run-new (h .0) (f .result) k (f .ensures) (l .result .now) (l .ensures) (y ∙ w .0 .taken), table-new (h .1)))
+    (λ w. rw (w .1) (run-same (h .0) (f .result) k (f .ensures) (l .result .now) (l .ensures) (y ∙ w .0 .left), h .1))
     (c .if1 .came)
 
-region-end-requires : tie.Need-region-end-requires Inv-loop μ-loop
-region-end-requires c κs = search needs
-
+-- src/lib.rt:87:5
 loop-holds : tie.Need-loop-holds Inv-loop μ-loop
-loop-holds c = (prune-start _ _ _ (c .before .before .before .before .pre .1) (c .region-end .ensures), table-start _ _ _ (c .before .before .before .before .pre .0))
+loop-holds c = (prune-start _ _ (c .before .before .before .pre .1), table-start _ _ (c .before .before .before .pre .0))
 
+-- src/lib.rt:88:13
 find-byte-requires : tie.Need-find-byte-requires Inv-loop μ-loop
 find-byte-requires c κs = search needs
 
+-- src/lib.rt:89:13
 cut-requires : tie.Need-cut-requires Inv-loop μ-loop
 cut-requires c κs = search needs
 
+-- src/lib.rt:90:12
 is-header-requires : tie.Need-is-header-requires Inv-loop μ-loop
 is-header-requires c κs = search needs
 
-region-end-requires-2 : tie.Need-region-end-requires-2 Inv-loop μ-loop
-region-end-requires-2 c κs = search needs
+-- src/lib.rt:93:12
+declares-requires : tie.Need-declares-requires Inv-loop μ-loop
+declares-requires c κs = search needs
 
+-- src/lib.rt:94:17
+mark-once-requires : tie.Need-mark-once-requires Inv-loop μ-loop
+mark-once-requires c κs = omega (arith, mid (c .before .before .before) .1 .a≤, c .before .before .before .before .before .before .before .loop-test .taken)
+
+-- src/lib.rt:97:40
 cut-requires-2 : tie.Need-cut-requires-2 Inv-loop μ-loop
 cut-requires-2 c κs = search needs
 
-mark-once-requires : tie.Need-mark-once-requires Inv-loop μ-loop
-mark-once-requires c κs = omega (arith, mid (c .before .before) .1 .a≤, c .before .before .before .before .before .before .loop-test .taken)
+-- src/lib.rt:97:17
+put-requires : tie.Need-put-requires Inv-loop μ-loop
+put-requires c κs = let f = c .before .before .before .before .before .before .before .before .before .before .before .find-byte in let l = c .before .before .before .before .before .before .before .before .before .before .cut in held-room (c .before .before .before .before .before .before .before .before .before .before .before .before .before .loop .inv .0) (f .result) (c .before .before .before .before .before .before .before .before .before .before .before .before .loop-test .taken) (f .ensures) (l .result .now) (l .ensures) (mid (c .before .before .before .before .before .before .before .before) .0) (c .cut2 .result .now) (c .cut2 .ensures)
 
+-- src/lib.rt:98:32
+cut-requires-3 : tie.Need-cut-requires-3 Inv-loop μ-loop
+cut-requires-3 c κs = search needs
+
+-- src/lib.rt:98:13
 put-line-requires : tie.Need-put-line-requires Inv-loop μ-loop
 put-line-requires c κs =
-    let h = mid (c .before .before .before .before .before .before .before) in
-    let f = c .before .before .before .before .before .before .before .before .before .before .find-byte in
-    let l = c .before .before .before .before .before .before .before .before .before .cut in
-    let r = c .before .before .before .before .before .before .cut2 in
-    let k = c .before .before .before .before .mark-once in (
-      table-says (h .1) (l .result .now) (r .result .now) (r .ensures) (k .result) _ (k .ensures .0) (k .ensures .1),
-      prune-room (c .before .before .before .before .before .before .before .before .before .before .before .before .loop .inv .0) (f .result) (c .before .before .before .before .before .before .before .before .before .before .before .loop-test .taken) (f .ensures) (l .result .now) (l .ensures) (h .0) (r .result .now) (r .ensures),
+    let h = mid (c .before .before .before .before .before .before .before .before .before .before .before .before .before .before) in
+    let f = c .before .before .before .before .before .before .before .before .before .before .before .before .before .before .before .before .before .find-byte in
+    let l = c .before .before .before .before .before .before .before .before .before .before .before .before .before .before .before .before .cut in
+    let k = c .before .before .before .before .before .before .before .before .before .before .mark-once in
+    let x = c .before .before .before .before .before .before .cut2 in
+    let r = c .before .before .cut3 in (
+      so (c .before .before .before .before .before .before .before .before .before .before .before .before .before .declares .ensures) (c .before .before .before .before .before .before .before .before .before .before .before .before .if2 .taken),
+      (
+        table-says (h .1) (k .result .mark) (k .result .end) _ (k .ensures .0 .0) (k .ensures .0 .1) (k .ensures .1) (r .result .now) (r .ensures),
+        prune-room (c .before .before .before .before .before .before .before .before .before .before .before .before .before .before .before .before .before .before .before .loop .inv .0) (f .result) (c .before .before .before .before .before .before .before .before .before .before .before .before .before .before .before .before .before .before .loop-test .taken) (f .ensures) (l .result .now) (l .ensures) (h .0) (x .result .now) (x .ensures) (c .before .before .before .before .before .put .ensures) (r .result .now) (table-region (h .1) (k .result .mark) (k .result .end) _ (k .ensures .0 .0) (k .ensures .0 .1) (k .ensures .1) (r .result .now) (r .ensures)),
+      ),
     )
 
+-- src/lib.rt:99:13
 after-requires : tie.Need-after-requires Inv-loop μ-loop
 after-requires c κs = search needs
 
+-- src/lib.rt:87:5
 loop-less : tie.Need-loop-less Inv-loop μ-loop
-loop-less c = omega (arith, c .after .ensures, c .before .before .before .before .before .before .before .before .before .before .before .before .before .before .find-byte .ensures, c .before .before .before .before .before .before .before .before .before .before .before .before .before .before .before .loop-test .taken)
+loop-less c = omega (arith, c .after .ensures, c .before .before .before .before .before .before .before .before .before .before .before .before .before .before .before .before .before .before .before .before .before .find-byte .ensures, c .before .before .before .before .before .before .before .before .before .before .before .before .before .before .before .before .before .before .before .before .before .before .loop-test .taken)
 
+-- src/lib.rt:87:5
 loop-again : tie.Need-loop-again Inv-loop μ-loop
 loop-again c =
-    let h = mid (c .before .before .before .before .before .before .before .before .before .before .before) in
-    let f = c .before .before .before .before .before .before .before .before .before .before .before .before .before .before .find-byte in
-    let l = c .before .before .before .before .before .before .before .before .before .before .before .before .before .cut in
-    let r = c .before .before .before .before .before .before .before .before .before .before .cut2 in
-    let k = c .before .before .before .before .before .before .before .before .mark-once in (
-      prune-on (c .before .before .before .before .before .before .before .before .before .before .before .before .before .before .before .before .loop .inv .0) (f .result) (c .before .before .before .before .before .before .before .before .before .before .before .before .before .before .before .loop-test .taken) (f .ensures) (l .result .now) (l .ensures) (h .0) (r .result .now) (r .ensures) (c .before .before .before .put-line .ensures) (c .after .ensures),
-      table-on (h .1) (l .result .now) (r .result .now) (r .ensures) (k .result) _ (k .ensures .0) (k .ensures .1) (f .result) (c .after .result) (c .before .before .before .before .before .before .before .before .before .before .before .before .before .before .before .loop-test .taken) (f .ensures) (c .after .ensures),
+    let h = mid (c .before .before .before .before .before .before .before .before .before .before .before .before .before .before .before .before .before .before) in
+    let f = c .before .before .before .before .before .before .before .before .before .before .before .before .before .before .before .before .before .before .before .before .before .find-byte in
+    let l = c .before .before .before .before .before .before .before .before .before .before .before .before .before .before .before .before .before .before .before .before .cut in
+    let k = c .before .before .before .before .before .before .before .before .before .before .before .before .before .before .mark-once in
+    let x = c .before .before .before .before .before .before .before .before .before .before .cut2 in
+    let r = c .before .before .before .before .before .before .cut3 in (
+      prune-on (c .before .before .before .before .before .before .before .before .before .before .before .before .before .before .before .before .before .before .before .before .before .before .before .loop .inv .0) (f .result) (c .before .before .before .before .before .before .before .before .before .before .before .before .before .before .before .before .before .before .before .before .before .before .loop-test .taken) (f .ensures) (l .result .now) (l .ensures) (h .0) (x .result .now) (x .ensures) (c .before .before .before .before .before .before .before .before .before .put .ensures) (r .result .now) (table-region (h .1) (k .result .mark) (k .result .end) _ (k .ensures .0 .0) (k .ensures .0 .1) (k .ensures .1) (r .result .now) (r .ensures)) (c .before .before .before .put-line .ensures) (c .after .ensures),
+      table-on (h .1) (k .result .mark) (k .result .end) _ (k .ensures .0 .0) (k .ensures .0 .1) (k .ensures .1) (f .result) (c .after .result) (c .before .before .before .before .before .before .before .before .before .before .before .before .before .before .before .before .before .before .before .before .before .before .loop-test .taken) (f .ensures) (c .after .ensures),
     )
 
+-- src/lib.rt:102:13
+after-requires-2 : tie.Need-after-requires-2 Inv-loop μ-loop
+after-requires-2 c κs = search needs
+
+-- src/lib.rt:87:5
+loop-less-2 : tie.Need-loop-less-2 Inv-loop μ-loop
+loop-less-2 c = omega (arith, c .after2 .ensures, c .before .before .before .before .before .before .find-byte .ensures, c .before .before .before .before .before .before .before .loop-test .taken)
+
+-- src/lib.rt:87:5
+loop-again-2 : tie.Need-loop-again-2 Inv-loop μ-loop
+loop-again-2 c =
+    let h = mid (c .before .before .before) in
+    let f = c .before .before .before .before .before .before .find-byte in
+    let l = c .before .before .before .before .before .cut in (
+      prune-pass (c .before .before .before .before .before .before .before .before .loop .inv .0) (f .result) (c .before .before .before .before .before .before .before .loop-test .taken) (f .ensures) (l .result .now) (l .ensures) (h .0) (so (c .before .before .declares .ensures) (c .before .if2 .left)) (c .after2 .result) (c .after2 .ensures),
+      table-pass (h .1) (f .result) (c .after2 .result) (c .before .before .before .before .before .before .before .loop-test .taken) (f .ensures) (c .after2 .ensures),
+    )
+
+-- src/lib.rt:105:22
+cut-requires-4 : tie.Need-cut-requires-4 Inv-loop μ-loop
+cut-requires-4 c κs = search needs
+
+-- src/lib.rt:105:5
+put-lines-requires : tie.Need-put-lines-requires Inv-loop μ-loop
+put-lines-requires c κs = end-room (c .before .before .before .loop .inv .0) (c .before .before .loop-test .left) (c .before .cut4 .result .now) (c .before .cut4 .ensures)
+
+-- src/lib.rt:77:1
 same-length : tie.Need-same-length Inv-loop μ-loop
-same-length c = c .before .loop .inv .1 .long
+same-length c = c .before .before .before .before .before .before .loop .inv .1 .long
 
+-- src/lib.rt:77:1
 same-length-2 : tie.Need-same-length-2 Inv-loop μ-loop
-same-length-2 c = writing-length (c .before .loop .inv .0 .writing)
+same-length-2 c = c .before .before .put-lines .kept .1 .0 ∙ writing-length (c .before .before .before .before .before .before .loop .inv .0 .writing)
 
+-- src/lib.rt:77:1
 returns : tie.Need-returns Inv-loop μ-loop
-returns c = prune-end (c .before .loop .inv .0) (c .loop-test .left)
+returns c = prune-end (c .before .before .before .before .before .before .loop .inv .0) (c .before .before .before .before .before .loop-test .left) (c .before .before .before .before .cut4 .result .now) (c .before .before .before .before .cut4 .ensures) (c .before .before .put-lines .ensures)
 
 pub prune-with-spec : {M : Type 1} → statement M
 prune-with-spec =
@@ -99,18 +160,24 @@ prune-with-spec =
     (tie.spec
     Inv-loop
     μ-loop
-    region-end-requires
     loop-holds
     find-byte-requires
     cut-requires
     is-header-requires
-    region-end-requires-2
-    cut-requires-2
+    declares-requires
     mark-once-requires
+    cut-requires-2
+    put-requires
+    cut-requires-3
     put-line-requires
     after-requires
     loop-less
     loop-again
+    after-requires-2
+    loop-less-2
+    loop-again-2
+    cut-requires-4
+    put-lines-requires
     same-length
     same-length-2
     returns)
