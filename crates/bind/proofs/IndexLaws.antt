@@ -21,6 +21,7 @@ use Rattle.parse.specs.declared.Store.{Store}
 use Rattle.parse.specs.declared.Line.{Line}
 use Rattle.parse.specs.declared.Line.the-variants as line
 use Rattle.words.specs.Runs.{flush, runsGo, runs}
+use Rattle.words.proofs.Walk.{Walk, walk-start, walk-name, walk-gap, walk-end}
 use Rattle.decls.specs.Seen.{markName}
 use Rattle.decls.proofs.SeenLaws.{set-past, name-length}
 use Rattle.bind.specs.Bind.{piecesOf}
@@ -116,66 +117,33 @@ agains-length m b (l ∷ ls) d u = agains-length m b ls (seenPieces m (piecesOf 
 -- ---- the loop over a text: the run from a to i is open
 
 pub record ReadInv (b : ℕ) (s u₀ u : List ℕ) (a i : ℕ) : Type 0 where
-  pub a≤ : a ≤ i
-  pub i≤ : i ≤ length s
   pub long : length u ≡ length u₀
-  pub so-far : readRuns b (runsGo (drop i s) (part a i s)) u ≡ readRuns b (runs s) u₀
+  pub walk : Walk (readRuns b) s u₀ u a i
 
 runs-flush : (b : ℕ) (cur : List ℕ) (rs : List (List ℕ)) (u : List ℕ) → readRuns b (flush cur ++ rs) u ≡ readRuns b rs (readName b (regOf cur) u)
 unfolding readRuns regOf
 runs-flush b [] rs u = refl
 runs-flush b (x ∷ cur) rs u = refl
 
-go-name : (x : ℕ) (xs cur : List ℕ) → isName x ≡ true → runsGo (x ∷ xs) cur ≡ runsGo xs (cur ++ (x ∷ []))
-unfolding runsGo
-go-name x xs cur e = rw e
-
-go-gap : (x : ℕ) (xs cur : List ℕ) → isName x ≡ false → runsGo (x ∷ xs) cur ≡ flush cur ++ runsGo xs []
-unfolding runsGo
-go-gap x xs cur e = rw e
-
-go-end : (b : ℕ) (cur u : List ℕ) → readRuns b (runsGo [] cur) u ≡ readName b (regOf cur) u
-unfolding runsGo readRuns regOf
-go-end b [] u = refl
-go-end b (x ∷ cur) u = refl
+runs-none : (b : ℕ) (u : List ℕ) → readRuns b [] u ≡ u
+unfolding readRuns
+runs-none b u = refl
 
 pub read-start : (b : ℕ) (s u : List ℕ) → ReadInv b s u u 0 0
-unfolding runs
-read-start b s u = record { a≤ = omega arith; i≤ = omega arith; long = refl; so-far = refl }
+read-start b s u = record { long = refl; walk = walk-start (readRuns b) s u }
 
 module _ {b : ℕ} {s u₀ u : List ℕ} {a i : ℕ} (h : ReadInv b s u₀ u a i) where
   pub read-on : i < length s → isName (getD s i 0) ≡ true → ReadInv b s u₀ u a (i + 1)
-  read-on k e = record {
-    a≤ = omega (arith, h .a≤);
-    i≤ = omega arith;
-    long = h .long;
-    so-far =
-        ap (λ (c : List ℕ). readRuns b (runsGo (drop (i + 1) s) c) u) (part-more s a i (h .a≤) k)
-        ∙ ap (λ (n : ℕ). readRuns b (runsGo (drop n s) (part a i s ++ (getD s i 0 ∷ []))) u) (add-one i)
-        ∙ ap (λ (r : List (List ℕ)). readRuns b r u) (sym (go-name (getD s i 0) (drop (suc i) s) (part a i s) e))
-        ∙ ap (λ (l : List ℕ). readRuns b (runsGo l (part a i s)) u) (sym (drop-cons s i 0 k))
-        ∙ h .so-far;
-  }
+  read-on k e = record { long = h .long; walk = walk-name (h .walk) k e }
 
   pub read-gap : i < length s → isName (getD s i 0) ≡ false → (w u′ : List ℕ) → w ≡ part a i s → u′ ≡ readName b (regOf w) u → ReadInv b s u₀ u′ (i + 1) (i + 1)
   read-gap k e w u′ p q = record {
-    a≤ = omega arith;
-    i≤ = omega arith;
     long = ap length q ∙ read-length b (regOf w) u ∙ h .long;
-    so-far =
-        ap (λ (c : List ℕ). readRuns b (runsGo (drop (i + 1) s) c) u′) (part-none s (i + 1))
-        ∙ ap (λ (n : ℕ). readRuns b (runsGo (drop n s) []) u′) (add-one i)
-        ∙ ap (λ (l : List ℕ). readRuns b (runsGo (drop (suc i) s) []) l) (q ∙ ap (λ (c : List ℕ). readName b (regOf c) u) p)
-        ∙ sym (runs-flush b (part a i s) (runsGo (drop (suc i) s) []) u)
-        ∙ ap (λ (r : List (List ℕ)). readRuns b r u) (sym (go-gap (getD s i 0) (drop (suc i) s) (part a i s) e))
-        ∙ ap (λ (l : List ℕ). readRuns b (runsGo l (part a i s)) u) (sym (drop-cons s i 0 k))
-        ∙ h .so-far;
+    walk = walk-gap (readRuns b) (λ (c x : List ℕ). readName b (regOf c) x) (runs-flush b) (h .walk) k e w p q;
   }
 
   pub read-end : length s ≤ i → (w u′ : List ℕ) → w ≡ part a i s → u′ ≡ readName b (regOf w) u → u′ ≡ readRuns b (runs s) u₀
-  read-end k w u′ p q =
-      q ∙ ap (λ (c : List ℕ). readName b (regOf c) u) p ∙ sym (go-end b (part a i s) u)
-      ∙ ap (λ (l : List ℕ). readRuns b (runsGo l (part a i s)) u) (sym (drop-of-length-le s k)) ∙ h .so-far
+  read-end k w u′ p q = walk-end (readRuns b) (λ (c x : List ℕ). readName b (regOf c) x) (runs-flush b) (runs-none b) (h .walk) k w p q
 
 -- ---- a line, read once
 

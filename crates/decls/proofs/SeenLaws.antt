@@ -23,8 +23,8 @@ use Rattle.parse.specs.declared.Line.the-variants as line
 use Rattle.words.specs.Runs.{flush, runsGo, runs, countBy, readsOf}
 use Rattle.place.specs.Region.{isHeader, untilHeader, region, upHeader, regionLen}
 use Rattle.place.proofs.Regions.{past, end-stop, end-on, end-end, region-at}
+use Rattle.words.proofs.Walk.{Walk, walk-start, walk-name, walk-gap, walk-end}
 use Rattle.reading.specs.Uses.{lineReads, storesBy, lineStores, lineUses, usedIn}
-use Rattle.decls.proofs.TrimRuns.{go-name, go-gap}
 use Rattle.decls.specs.Seen.{markName, markRuns, markStore, markLine, markLines, AtMost, Says}
 
 -- ---- a store past the end
@@ -152,58 +152,33 @@ says-new n m ls d k h = λ v l. let z = h v in let e : eqb (getD d v 0) m ≡ fa
 -- ---- the loop over a text: the run from a to i is open
 
 pub record RunsInv (m : ℕ) (s d₀ d : List ℕ) (a i : ℕ) : Type 0 where
-  pub a≤ : a ≤ i
-  pub i≤ : i ≤ length s
   pub long : length d ≡ length d₀
-  pub so-far : markRuns m (runsGo (drop i s) (part a i s)) d ≡ markRuns m (runs s) d₀
+  pub walk : Walk (markRuns m) s d₀ d a i
 
 pub runs-flush : (m : ℕ) (cur : List ℕ) (rs : List (List ℕ)) (d : List ℕ) → markRuns m (flush cur ++ rs) d ≡ markRuns m rs (markName m (regOf cur) d)
 unfolding markRuns regOf
 runs-flush m [] rs d = refl
 runs-flush m (x ∷ cur) rs d = refl
 
+runs-none : (m : ℕ) (d : List ℕ) → markRuns m [] d ≡ d
+unfolding markRuns
+runs-none m d = refl
+
 pub runs-start : (m : ℕ) (s d : List ℕ) → RunsInv m s d d 0 0
-unfolding runs
-runs-start m s d = record { a≤ = omega arith; i≤ = omega arith; long = refl; so-far = refl }
+runs-start m s d = record { long = refl; walk = walk-start (markRuns m) s d }
 
 module _ {m : ℕ} {s d₀ d : List ℕ} {a i : ℕ} (h : RunsInv m s d₀ d a i) where
   pub runs-name : i < length s → isName (getD s i 0) ≡ true → RunsInv m s d₀ d a (i + 1)
-  runs-name k e = record {
-    a≤ = omega (arith, h .a≤);
-    i≤ = omega arith;
-    long = h .long;
-    so-far =
-        ap (λ (c : List ℕ). markRuns m (runsGo (drop (i + 1) s) c) d) (part-more s a i (h .a≤) k)
-        ∙ ap (λ (n : ℕ). markRuns m (runsGo (drop n s) (part a i s ++ (getD s i 0 ∷ []))) d) (add-one i)
-        ∙ ap (λ (r : List (List ℕ)). markRuns m r d) (sym (go-name (getD s i 0) (drop (suc i) s) (part a i s) e))
-        ∙ ap (λ (l : List ℕ). markRuns m (runsGo l (part a i s)) d) (sym (drop-cons s i 0 k))
-        ∙ h .so-far;
-  }
+  runs-name k e = record { long = h .long; walk = walk-name (h .walk) k e }
 
   pub runs-gap : i < length s → isName (getD s i 0) ≡ false → (w d′ : List ℕ) → w ≡ part a i s → d′ ≡ markName m (regOf w) d → RunsInv m s d₀ d′ (i + 1) (i + 1)
   runs-gap k e w d′ p q = record {
-    a≤ = omega arith;
-    i≤ = omega arith;
     long = ap length q ∙ name-length m (regOf w) d ∙ h .long;
-    so-far =
-        ap (λ (c : List ℕ). markRuns m (runsGo (drop (i + 1) s) c) d′) (part-none s (i + 1))
-        ∙ ap (λ (n : ℕ). markRuns m (runsGo (drop n s) []) d′) (add-one i)
-        ∙ ap (λ (l : List ℕ). markRuns m (runsGo (drop (suc i) s) []) l) (q ∙ ap (λ (c : List ℕ). markName m (regOf c) d) p)
-        ∙ sym (runs-flush m (part a i s) (runsGo (drop (suc i) s) []) d)
-        ∙ ap (λ (r : List (List ℕ)). markRuns m r d) (sym (go-gap (getD s i 0) (drop (suc i) s) (part a i s) e))
-        ∙ ap (λ (l : List ℕ). markRuns m (runsGo l (part a i s)) d) (sym (drop-cons s i 0 k))
-        ∙ h .so-far;
+    walk = walk-gap (markRuns m) (λ (c x : List ℕ). markName m (regOf c) x) (runs-flush m) (h .walk) k e w p q;
   }
 
-  go-end : (cur : List ℕ) → markRuns m (runsGo [] cur) d ≡ markName m (regOf cur) d
-  unfolding runsGo markRuns regOf
-  go-end [] = refl
-  go-end (x ∷ cur) = refl
-
   pub runs-end : length s ≤ i → (w d′ : List ℕ) → w ≡ part a i s → d′ ≡ markName m (regOf w) d → d′ ≡ markRuns m (runs s) d₀
-  runs-end k w d′ p q =
-      q ∙ ap (λ (c : List ℕ). markName m (regOf c) d) p ∙ sym (go-end (part a i s))
-      ∙ ap (λ (l : List ℕ). markRuns m (runsGo l (part a i s)) d) (sym (drop-of-length-le s k)) ∙ h .so-far
+  runs-end k w d′ p q = walk-end (markRuns m) (λ (c x : List ℕ). markName m (regOf c) x) (runs-flush m) (runs-none m) (h .walk) k w p q
 
 -- ---- a line, read once
 

@@ -17,6 +17,7 @@ use Rattle.text.specs.Trim.{whiteChar, whiteHead, whiteTail, orOn, lead, fromOf
 use Rattle.names.specs.Names.{allNames}
 use Rattle.names.proofs.Digits.{all-append}
 use Rattle.words.specs.Runs.{flush, runsGo, runs}
+use Rattle.words.proofs.Walk.{go-name, go-gap}
 
 -- no name bytes
 abbrev pub gap : List ℕ → Bool
@@ -164,14 +165,6 @@ unfolding toOf
 back-gap l = let z : length l ≤ length l - 0 = omega arith in end-gap l 0 (length l) (ap gap (drop-of-length-le l z))
 
 -- ---- runs
-
-pub go-name : (x : ℕ) (xs cur : List ℕ) → isName x ≡ true → runsGo (x ∷ xs) cur ≡ runsGo xs (cur ++ (x ∷ []))
-unfolding runsGo
-go-name x xs cur e = rw e
-
-pub go-gap : (x : ℕ) (xs cur : List ℕ) → isName x ≡ false → runsGo (x ∷ xs) cur ≡ flush cur ++ runsGo xs []
-unfolding runsGo
-go-gap x xs cur e = rw e
 
 front-runs : (w s : List ℕ) → gap w ≡ true → runsGo (w ++ s) [] ≡ runsGo s []
 front-runs [] s h = refl

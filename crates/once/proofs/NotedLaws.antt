@@ -22,6 +22,7 @@ use Rattle.parse.specs.declared.Line.the-variants as line
 use Rattle.words.specs.Runs.{flush, runsGo, runs, countBy, readsOf}
 use Rattle.place.specs.Region.{isHeader, untilHeader, region, regionAt}
 use Rattle.reading.specs.Uses.{lineReads, storesBy, lineStores, lineUses, usedIn}
+use Rattle.words.proofs.Walk.{Walk, walk-start, walk-name, walk-gap, walk-end}
 use Rattle.decls.specs.Seen.{markName, markRuns, markStore, markLine}
 use Rattle.decls.proofs.SeenLaws.{name-length, line-length, zeros-most}
 use Rattle.once.specs.Once.{none, readCount}
@@ -374,63 +375,33 @@ alone-as v d h = rw (lt-ltb v (length d) h)
 -- the loop over a text: the run from a to i is open
 
 pub record AddsInv (s d₀ d : List ℕ) (a i : ℕ) : Type 0 where
-  pub a≤ : a ≤ i
   pub long : length d ≡ length d₀
-  pub so-far : addRuns (runsGo (drop i s) (part a i s)) d ≡ addRuns (runs s) d₀
+  pub walk : Walk addRuns s d₀ d a i
 
 adds-flush : (cur : List ℕ) (rs : List (List ℕ)) (d : List ℕ) → addRuns (flush cur ++ rs) d ≡ addRuns rs (addName (regOf cur) d)
 unfolding addRuns regOf
 adds-flush [] rs d = refl
 adds-flush (x ∷ cur) rs d = refl
 
-go-name : (x : ℕ) (xs cur : List ℕ) → isName x ≡ true → runsGo (x ∷ xs) cur ≡ runsGo xs (cur ++ (x ∷ []))
-unfolding runsGo
-go-name x xs cur e = rw e
-
-go-gap : (x : ℕ) (xs cur : List ℕ) → isName x ≡ false → runsGo (x ∷ xs) cur ≡ flush cur ++ runsGo xs []
-unfolding runsGo
-go-gap x xs cur e = rw e
+adds-none : (d : List ℕ) → addRuns [] d ≡ d
+unfolding addRuns
+adds-none d = refl
 
 pub adds-start : (s d : List ℕ) → AddsInv s d d 0 0
-unfolding runs
-adds-start s d = record { a≤ = omega arith; long = refl; so-far = refl }
+adds-start s d = record { long = refl; walk = walk-start addRuns s d }
 
 module _ {s d₀ d : List ℕ} {a i : ℕ} (h : AddsInv s d₀ d a i) where
   pub adds-name : i < length s → isName (getD s i 0) ≡ true → AddsInv s d₀ d a (i + 1)
-  adds-name k e = record {
-    a≤ = omega (arith, h .a≤);
-    long = h .long;
-    so-far =
-        ap (λ (c : List ℕ). addRuns (runsGo (drop (i + 1) s) c) d) (part-more s a i (h .a≤) k)
-        ∙ ap (λ (n : ℕ). addRuns (runsGo (drop n s) (part a i s ++ (getD s i 0 ∷ []))) d) (add-one i)
-        ∙ ap (λ (r : List (List ℕ)). addRuns r d) (sym (go-name (getD s i 0) (drop (suc i) s) (part a i s) e))
-        ∙ ap (λ (l : List ℕ). addRuns (runsGo l (part a i s)) d) (sym (drop-cons s i 0 k))
-        ∙ h .so-far;
-  }
+  adds-name k e = record { long = h .long; walk = walk-name (h .walk) k e }
 
   pub adds-gap : i < length s → isName (getD s i 0) ≡ false → (w d′ : List ℕ) → w ≡ part a i s → d′ ≡ addName (regOf w) d → AddsInv s d₀ d′ (i + 1) (i + 1)
   adds-gap k e w d′ p q = record {
-    a≤ = omega arith;
     long = ap length q ∙ add-length (regOf w) d ∙ h .long;
-    so-far =
-        ap (λ (c : List ℕ). addRuns (runsGo (drop (i + 1) s) c) d′) (part-none s (i + 1))
-        ∙ ap (λ (n : ℕ). addRuns (runsGo (drop n s) []) d′) (add-one i)
-        ∙ ap (λ (l : List ℕ). addRuns (runsGo (drop (suc i) s) []) l) (q ∙ ap (λ (c : List ℕ). addName (regOf c) d) p)
-        ∙ sym (adds-flush (part a i s) (runsGo (drop (suc i) s) []) d)
-        ∙ ap (λ (r : List (List ℕ)). addRuns r d) (sym (go-gap (getD s i 0) (drop (suc i) s) (part a i s) e))
-        ∙ ap (λ (l : List ℕ). addRuns (runsGo l (part a i s)) d) (sym (drop-cons s i 0 k))
-        ∙ h .so-far;
+    walk = walk-gap addRuns (λ (c x : List ℕ). addName (regOf c) x) adds-flush (h .walk) k e w p q;
   }
 
-  adds-last : (cur : List ℕ) → addRuns (runsGo [] cur) d ≡ addName (regOf cur) d
-  unfolding runsGo addRuns regOf
-  adds-last [] = refl
-  adds-last (x ∷ cur) = refl
-
   pub adds-end : length s ≤ i → (w d′ : List ℕ) → w ≡ part a i s → d′ ≡ addName (regOf w) d → d′ ≡ addRuns (runs s) d₀
-  adds-end k w d′ p q =
-      q ∙ ap (λ (c : List ℕ). addName (regOf c) d) p ∙ sym (adds-last (part a i s))
-      ∙ ap (λ (l : List ℕ). addRuns (runsGo l (part a i s)) d) (sym (drop-of-length-le s k)) ∙ h .so-far
+  adds-end k w d′ p q = walk-end addRuns (λ (c x : List ℕ). addName (regOf c) x) adds-flush adds-none (h .walk) k w p q
 
 -- a line, read once
 pub line-added : (l d d₁ t : List ℕ) (p : Line) → p ≡ parseOf l → t ≡ textOf l p → d₁ ≡ addRuns (runs t) d → d₁ ≡ addLine l d

@@ -26,7 +26,8 @@ use Rattle.words.proofs.RunLaws.{count-append}
 use Rattle.phis.specs.Phis.{isLet, isPhi, allPhis, phiDecl, anyPhi, phiStore, phiOwn, phiReads}
 use Rattle.phis.proofs.Lines.{let-long, phi-hits}
 use Rattle.phis.proofs.Held.{or-off}
-use Rattle.decls.proofs.TrimRuns.{go-gap, back-runs, name-runs, start-runs, trim-runs}
+use Rattle.words.proofs.Walk.{go-gap}
+use Rattle.decls.proofs.TrimRuns.{back-runs, name-runs, start-runs, trim-runs}
 
 -- ---- the runs of a text, piece by piece
 

@@ -22,12 +22,12 @@ use Rattle.names.specs.declared.PhiName.the-variants as name
 use Rattle.names.proofs.Texts.{phi-text-value}
 use Rattle.parse.specs.Parse.{bodyOf}
 use Rattle.words.specs.Runs.{flush, runsGo, runs, countBy, wordsOf}
+use Rattle.words.proofs.Walk.{Walk, walk-start, walk-name, walk-gap, walk-end}
 use Rattle.decls.proofs.SeenLaws.{set-past}
 use Rattle.phis.specs.Phis.{isLet, allPhis, phiDecl, phiStore, phiOwn, phiReads, phiRead, phiStored}
 use Rattle.phis.specs.Table.{noteStore, noteName, noteRuns, noteLine, noteLines, Tells}
 use Rattle.phis.proofs.Lines.{store-let, phi-hits}
 use Rattle.phis.proofs.Held.{held-store, held-reads}
-use Rattle.decls.proofs.TrimRuns.{go-name, go-gap}
 use Rattle.phis.proofs.DeclRuns.{decl-reads}
 
 -- ---- the table keeps its length
@@ -247,64 +247,34 @@ read-by own r d v b e f = rw (e, f)
 -- ---- the loop over a text: the run from a to i is open
 
 pub record RunsInv (own : PhiName) (s d₀ d : List ℕ) (a i : ℕ) : Type 0 where
-  pub a≤ : a ≤ i
-  pub i≤ : i ≤ length s
   pub long : length d ≡ length d₀
-  pub so-far : noteRuns own (runsGo (drop i s) (part a i s)) d ≡ noteRuns own (runs s) d₀
+  pub walk : Walk (noteRuns own) s d₀ d a i
 
 runs-flush : (own : PhiName) (cur : List ℕ) (rs : List (List ℕ)) (d : List ℕ) → noteRuns own (flush cur ++ rs) d ≡ noteRuns own rs (noteName own cur (phiOf cur) d)
 unfolding noteRuns phiOf
 runs-flush own [] rs d = refl
 runs-flush own (x ∷ cur) rs d = refl
 
+runs-none : (own : PhiName) (d : List ℕ) → noteRuns own [] d ≡ d
+unfolding noteRuns
+runs-none own d = refl
+
 pub runs-start : (own : PhiName) (s d : List ℕ) → RunsInv own s d d 0 0
-unfolding runs
-runs-start own s d = record { a≤ = omega arith; i≤ = omega arith; long = refl; so-far = refl }
+runs-start own s d = record { long = refl; walk = walk-start (noteRuns own) s d }
 
 module _ {own : PhiName} {s d₀ d : List ℕ} {a i : ℕ} (h : RunsInv own s d₀ d a i) where
   pub runs-name : i < length s → isName (getD s i 0) ≡ true → RunsInv own s d₀ d a (i + 1)
-  runs-name k e = record {
-    a≤ = omega (arith, h .a≤);
-    i≤ = omega arith;
-    long = h .long;
-    so-far =
-        ap (λ (c : List ℕ). noteRuns own (runsGo (drop (i + 1) s) c) d) (part-more s a i (h .a≤) k)
-        ∙ ap (λ (n : ℕ). noteRuns own (runsGo (drop n s) (part a i s ++ (getD s i 0 ∷ []))) d) (add-one i)
-        ∙ ap (λ (r : List (List ℕ)). noteRuns own r d) (sym (go-name (getD s i 0) (drop (suc i) s) (part a i s) e))
-        ∙ ap (λ (l : List ℕ). noteRuns own (runsGo l (part a i s)) d) (sym (drop-cons s i 0 k))
-        ∙ h .so-far;
-  }
+  runs-name k e = record { long = h .long; walk = walk-name (h .walk) k e }
 
   module _ (w d′ : List ℕ) (p : w ≡ part a i s) (q : d′ ≡ noteName own w (phiOf w) d) where
     pub run-long : length d′ ≡ length d₀
     run-long = ap length q ∙ name-length own w (phiOf w) d ∙ h .long
 
-    run-noted : d′ ≡ noteName own (part a i s) (phiOf (part a i s)) d
-    run-noted = q ∙ ap (λ (c : List ℕ). noteName own c (phiOf c) d) p
-
     pub runs-gap : i < length s → isName (getD s i 0) ≡ false → RunsInv own s d₀ d′ (i + 1) (i + 1)
-    runs-gap k e = record {
-      a≤ = omega arith;
-      i≤ = omega arith;
-      long = run-long;
-      so-far =
-          ap (λ (c : List ℕ). noteRuns own (runsGo (drop (i + 1) s) c) d′) (part-none s (i + 1))
-          ∙ ap (λ (n : ℕ). noteRuns own (runsGo (drop n s) []) d′) (add-one i)
-          ∙ ap (noteRuns own (runsGo (drop (suc i) s) [])) run-noted
-          ∙ sym (runs-flush own (part a i s) (runsGo (drop (suc i) s) []) d)
-          ∙ ap (λ (r : List (List ℕ)). noteRuns own r d) (sym (go-gap (getD s i 0) (drop (suc i) s) (part a i s) e))
-          ∙ ap (λ (l : List ℕ). noteRuns own (runsGo l (part a i s)) d) (sym (drop-cons s i 0 k))
-          ∙ h .so-far;
-    }
-
-    go-end : (cur : List ℕ) → noteRuns own (runsGo [] cur) d ≡ noteName own cur (phiOf cur) d
-    unfolding runsGo noteRuns phiOf
-    go-end [] = refl
-    go-end (x ∷ cur) = refl
+    runs-gap k e = record { long = run-long; walk = walk-gap (noteRuns own) (λ (c x : List ℕ). noteName own c (phiOf c) x) (runs-flush own) (h .walk) k e w p q }
 
     pub runs-end : length s ≤ i → d′ ≡ noteRuns own (runs s) d₀
-    runs-end k =
-        run-noted ∙ sym (go-end (part a i s)) ∙ ap (λ (l : List ℕ). noteRuns own (runsGo l (part a i s)) d) (sym (drop-of-length-le s k)) ∙ h .so-far
+    runs-end k = walk-end (noteRuns own) (λ (c x : List ℕ). noteName own c (phiOf c) x) (runs-flush own) (runs-none own) (h .walk) k w p q
 
 -- ---- a line
 

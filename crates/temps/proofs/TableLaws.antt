@@ -22,6 +22,7 @@ use Rattle.names.proofs.Texts.{after-number, after-read, after-copied}
 use Rattle.parse.specs.Parse.{letWord, bodyOf}
 use Rattle.place.specs.Region.{varWord, constWord}
 use Rattle.words.specs.Runs.{flush, runsGo, runs, countBy, wordsOf}
+use Rattle.words.proofs.Walk.{go-name, go-gap, go-none}
 use Rattle.reading.specs.Assign.{isAssign, leftOf}
 use Rattle.temps.specs.Temps.{anyPiece, declares, tempReads, declaredIn, tempRead}
 use Rattle.temps.specs.Table.{slotOf, flagAt, flagPieces, flagDecl, flagDecls, skipAfter, flagRun, flagRuns, flagReads, flagLines, anyFlag, readsIf, flagBy, Tells, TellsOf}
@@ -522,18 +523,6 @@ runs-last : (x cur : List ℕ) (k : Bool) (d : List ℕ) → flagRuns x (flush c
 unfolding flagRuns
 runs-last x [] k d = run-empty x [] d k refl .1
 runs-last x (y ∷ cur) k d = refl
-
-go-name : (x : ℕ) (xs cur : List ℕ) → isName x ≡ true → runsGo (x ∷ xs) cur ≡ runsGo xs (cur ++ (x ∷ []))
-unfolding runsGo
-go-name x xs cur e = rw e
-
-go-gap : (x : ℕ) (xs cur : List ℕ) → isName x ≡ false → runsGo (x ∷ xs) cur ≡ flush cur ++ runsGo xs []
-unfolding runsGo
-go-gap x xs cur e = rw e
-
-go-none : (cur : List ℕ) → runsGo [] cur ≡ flush cur
-unfolding runsGo
-go-none cur = refl
 
 pub runs-start : (x s d : List ℕ) (k : Bool) → RunsInv x s d d k k 0 0
 unfolding runs
