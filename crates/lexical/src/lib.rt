@@ -319,7 +319,7 @@ pub fn low_last(s: &[u8], i: usize, j: usize, last: u16) -> u16
 }
 
 // The tail once the plain bytes from `i` to `j` stand after the text.
-pub fn plain_tail(s: &[u8], i: usize, j: usize, t: Tail) -> Tail
+fn run_tail(s: &[u8], i: usize, j: usize, t: Tail) -> Tail
     requires { ⌜ j ≡ i + plainLen (drop i (now s)) ⌝ }
     ensures { λ r. ⌜ r ≡ grown t (part i j (now (s .entry))) ⌝ }
 {
@@ -340,6 +340,13 @@ pub fn plain_tail(s: &[u8], i: usize, j: usize, t: Tail) -> Tail
         last2,
         last3,
     }
+}
+
+// The tail once the plain bytes from `i` on stand after the text.
+pub fn plain_tail(s: &[u8], i: usize, t: Tail) -> Tail
+    ensures { λ r. ⌜ r ≡ grown t (part i (i + plainLen (drop i (now (s .entry)))) (now (s .entry))) ⌝ }
+{
+    run_tail(s, i, plain_end(s, i), t)
 }
 
 // Writes what a token leaves that begins with `b`.
@@ -366,7 +373,7 @@ pub fn strip_lexical(s: &[u8], out: &mut [u8], o: usize) -> usize
         let j = plain_end(s, i);
         if i < j {
             p = lines::put(out, p, &s[i..j]);
-            tail = plain_tail(s, i, j, tail);
+            tail = run_tail(s, i, j, tail);
             i = j;
         } else {
             let b = s[i];

@@ -167,7 +167,7 @@ fn walk_tokens(line: &[u8], k: usize, block: u32, up: &mut [u32], n: usize) -> A
         × (r .last ≡ lastOf (stripLexical (now (line .entry)))) ⌝ }
 {
     let mut i = k;
-    let mut tail = lexical::plain_tail(line, 0, k, lexical::no_tail());
+    let mut tail = lexical::plain_tail(line, 0, lexical::no_tail());
     let mut c = block;
     let mut m = n;
     while i < line.len() {
@@ -178,7 +178,7 @@ fn walk_tokens(line: &[u8], k: usize, block: u32, up: &mut [u32], n: usize) -> A
         c = x.block;
         m = x.next;
         i = lexical::plain_end(line, step.next);
-        tail = lexical::plain_tail(line, step.next, i, step.tail);
+        tail = lexical::plain_tail(line, step.next, step.tail);
     }
     At {
         block: c,

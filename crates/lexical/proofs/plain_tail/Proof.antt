@@ -1,69 +1,26 @@
--- `lexical::plain_tail` meets its contract. Assumes nothing.
+use Prim.Native.Nat.{ℕ}
+use mathlib.Core.Path.{ap, _∙_}
+use Rattle.lines.specs.Lf.{part}
+use Rattle.lexical.specs.Lex.{grown}
 use borrow.Author.Needs.{needs}
-use native.Mathlib.Omega.{arith}
-use mathlib.Core.Path.{_∙_}
-use Rattle.lexical.proofs.PlainLaws.{plain-in, tail-none, tail-one, tail-run}
 use Rattle.lexical.proofs.plain_tail.Statement.{statement}
 use Rattle.lexical.proofs.plain_tail.Tie as tie
 use Rattle.lexical.proofs.plain_tail.Reads as reads
 use Rattle.lexical.proofs.plain_tail.Lts as lts
-use Rattle.lexical.proofs.low_after.Reads as low-after-reads
-use Rattle.lexical.proofs.low_last.Reads as low-last-reads
-use Rattle.lexical.proofs.push.Reads as push-reads
+use Rattle.lexical.proofs.plain_end.Reads as plain-end-reads
+use Rattle.lexical.proofs.run_tail.Reads as run-tail-reads
 
+-- src/lib.rt:349:20
+plain-end-requires : tie.Need-plain-end-requires
+plain-end-requires c κs = search needs
+
+-- src/lib.rt:349:5
+run-tail-requires : tie.Need-run-tail-requires
+run-tail-requires c κs = search needs
+
+-- src/lib.rt:346:1
 returns : tie.Need-returns
-returns c = let a = c .before .before in tail-none (a .args .s .now) (a .args .i) (a .args .j) (a .pre) (a .args .t) (c .if1 .taken)
-
-sub-b : tie.Need-sub-b
-sub-b c = search needs
-
-shared-slice-read-b : tie.Need-shared-slice-read-b
-shared-slice-read-b c = let a = c .before .before .before in omega (arith, plain-in (a .args .s .now) (a .args .i) (a .args .j) (a .pre) (c .before .if1 .left))
-
-sub-if2 : tie.Need-sub-if2
-sub-if2 c = search needs
-
-push-requires : tie.Need-push-requires
-push-requires c κs = search needs
-
-returns-2 : tie.Need-returns-2
-returns-2 c = let a = c .before .before .before .before .before in c .push .ensures ∙ tail-one (a .args .s .now) (a .args .i) (a .args .j) (a .pre) (a .args .t) (c .before .before .before .if1 .left) (c .before .if2 .taken)
-
-sub-a : tie.Need-sub-a
-sub-a c = search needs
-
-shared-slice-read-a : tie.Need-shared-slice-read-a
-shared-slice-read-a c = let a = c .before .before .before .before .before in omega (arith, plain-in (a .args .s .now) (a .args .i) (a .args .j) (a .pre) (c .before .before .before .if1 .left))
-
-sub-low-last : tie.Need-sub-low-last
-sub-low-last c = search needs
-
-low-last-requires : tie.Need-low-last-requires
-low-last-requires c κs = let a = c .before .before .before .before .before in omega (arith, plain-in (a .args .s .now) (a .args .i) (a .args .j) (a .pre) (c .before .before .before .if1 .left))
-
-low-after-requires : tie.Need-low-after-requires
-low-after-requires c κs = search needs
-
-low-after-requires-2 : tie.Need-low-after-requires-2
-low-after-requires-2 c κs = search needs
-
-returns-3 : tie.Need-returns-3
-returns-3 c = let a = c .before .before .before .before .before .before .before .before in tail-run (a .args .s .now) (a .args .i) (a .args .j) (a .pre) (a .args .t) (c .before .before .before .before .before .before .if1 .left) (c .before .before .before .before .if2 .left) (c .before .before .low-last .ensures) (c .before .low-after .ensures) (c .low-after2 .ensures)
+returns c = let g = c .before .before .before .args in c .run-tail .ensures ∙ ap (λ (j : ℕ). grown (g .t) (part (g .i) j (g .s .now))) (c .before .plain-end .ensures)
 
 pub plain-tail-spec : {M : Type 1} → statement M
-plain-tail-spec =
-    tie.close
-    (tie.spec
-    returns
-    sub-b
-    shared-slice-read-b
-    sub-if2
-    push-requires
-    returns-2
-    sub-a
-    shared-slice-read-a
-    sub-low-last
-    low-last-requires
-    low-after-requires
-    low-after-requires-2
-    returns-3)
+plain-tail-spec = tie.close (tie.spec plain-end-requires run-tail-requires returns)

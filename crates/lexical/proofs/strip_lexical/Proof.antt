@@ -11,7 +11,7 @@ use Rattle.lexical.proofs.strip_lexical.Reads as reads
 use Rattle.lexical.proofs.strip_lexical.Lts as lts
 use Rattle.lexical.proofs.no_tail.Reads as no-tail-reads
 use Rattle.lexical.proofs.plain_end.Reads as plain-end-reads
-use Rattle.lexical.proofs.plain_tail.Reads as plain-tail-reads
+use Rattle.lexical.proofs.run_tail.Reads as run-tail-reads
 use Rattle.lexical.proofs.put_left.Reads as put-left-reads
 use Rattle.lexical.proofs.step_at.Reads as step-at-reads
 use Rattle.lines.proofs.put.Reads as put-reads
@@ -43,14 +43,14 @@ part-put-end c = omega (arith, strip-to (c .before .before .before .before .loop
 put-requires : tie.Need-put-requires Inv-loop μ-loop
 put-requires c κs = strip-room (c .before .before .before .before .before .loop .inv) (c .before .before .before .plain-end .result) (c .before .before .before .plain-end .ensures)
 
-plain-tail-requires : tie.Need-plain-tail-requires Inv-loop μ-loop
-plain-tail-requires c κs = c .before .before .before .before .before .before .plain-end .ensures
+run-tail-requires : tie.Need-run-tail-requires Inv-loop μ-loop
+run-tail-requires c κs = c .before .before .before .before .before .before .plain-end .ensures
 
 loop-less : tie.Need-loop-less Inv-loop μ-loop
 loop-less c = omega (arith, c .before .before .before .before .before .before .if1 .taken, strip-to (c .before .before .before .before .before .before .before .before .before .loop .inv) (c .before .before .before .before .before .before .before .plain-end .result) (c .before .before .before .before .before .before .before .plain-end .ensures))
 
 loop-again : tie.Need-loop-again Inv-loop μ-loop
-loop-again c = strip-plain (c .before .before .before .before .before .before .before .before .before .loop .inv) (c .before .before .before .before .before .before .before .plain-end .result) (c .before .before .before .before .before .before .before .plain-end .ensures) (c .plain-tail .result) _ _ (c .plain-tail .ensures) (c .before .before .before .put .ensures)
+loop-again c = strip-plain (c .before .before .before .before .before .before .before .before .before .loop .inv) (c .before .before .before .before .before .before .before .plain-end .result) (c .before .before .before .before .before .before .before .plain-end .ensures) (c .run-tail .result) _ _ (c .run-tail .ensures) (c .before .before .before .put .ensures)
 
 shared-slice-read-b : tie.Need-shared-slice-read-b Inv-loop μ-loop
 shared-slice-read-b c = omega arith
@@ -86,7 +86,7 @@ strip-lexical-spec =
     part-put-start
     part-put-end
     put-requires
-    plain-tail-requires
+    run-tail-requires
     loop-less
     loop-again
     shared-slice-read-b

@@ -1,6 +1,9 @@
-use Prim.Native.Nat.{_-_}
+use Prim.Native.Nat.{ℕ, _-_}
+use mathlib.Core.Path.{sym, ap, _∙_}
 use native.Mathlib.Omega.{arith}
 use lib.ListN.{length}
+use Rattle.lines.specs.Lf.{part}
+use Rattle.lexical.specs.Lex.{grown}
 use Rattle.place.proofs.Walks.{WalkInv, walk-head, walk-plain, walk-room, walk-less, walk-on, walk-length, walk-done}
 use Rattle.place.proofs.walk_tokens.Statement.{statement}
 use Rattle.place.proofs.walk_tokens.Tie as tie
@@ -22,10 +25,10 @@ no-tail-requires : tie.Need-no-tail-requires Inv-loop μ-loop
 no-tail-requires c κs = tt
 
 plain-tail-requires : tie.Need-plain-tail-requires Inv-loop μ-loop
-plain-tail-requires c κs = omega (arith, c .before .before .before .pre .0)
+plain-tail-requires c κs = tt
 
 loop-holds : tie.Need-loop-holds Inv-loop μ-loop
-loop-holds c = let a = c .before .before .before .before in walk-head (a .args .line .now) (a .args .block) (a .args .up .now) (a .args .n) (a .args .k) (c .before .no-tail .result) (c .plain-tail .result) (a .pre .1) (c .before .no-tail .ensures) (a .pre .0) (c .plain-tail .ensures)
+loop-holds c = let a = c .before .before .before .before in walk-head (a .args .line .now) (a .args .block) (a .args .up .now) (a .args .n) (a .args .k) (c .before .no-tail .result) (c .plain-tail .result) (a .pre .1) (c .before .no-tail .ensures) (a .pre .0) (c .plain-tail .ensures ∙ ap (λ (x : ℕ). grown (c .before .no-tail .result) (part 0 x (a .args .line .now))) (omega (arith, a .pre .0)))
 
 shared-slice-read-b : tie.Need-shared-slice-read-b Inv-loop μ-loop
 shared-slice-read-b c = omega arith
@@ -40,13 +43,13 @@ plain-end-requires : tie.Need-plain-end-requires Inv-loop μ-loop
 plain-end-requires c κs = tt
 
 plain-tail-requires-2 : tie.Need-plain-tail-requires-2 Inv-loop μ-loop
-plain-tail-requires-2 c κs = c .plain-end .ensures
+plain-tail-requires-2 c κs = tt
 
 loop-less : tie.Need-loop-less Inv-loop μ-loop
 loop-less c = let m = walk-less (c .before .before .before .before .before .before .before .before .before .loop .inv) (c .before .before .before .before .before .before .step-at .result) (c .before .before .before .before .before .before .step-at .ensures) (c .before .before .before .before .before .before .before .before .loop-test .taken) in omega (arith, c .before .plain-end .ensures)
 
 loop-again : tie.Need-loop-again Inv-loop μ-loop
-loop-again c = let w = walk-on (c .before .before .before .before .before .before .before .before .before .loop .inv) (c .before .before .before .before .before .before .step-at .result) (c .before .before .before .before .before .before .step-at .ensures) (c .before .before .before .before .before .before .before .before .loop-test .taken) (c .before .before .before .before .left .ensures) in walk-plain w (c .before .plain-end .result) (c .before .plain-end .ensures) (c .plain-tail2 .result) (c .plain-tail2 .ensures)
+loop-again c = let w = walk-on (c .before .before .before .before .before .before .before .before .before .loop .inv) (c .before .before .before .before .before .before .step-at .result) (c .before .before .before .before .before .before .step-at .ensures) (c .before .before .before .before .before .before .before .before .loop-test .taken) (c .before .before .before .before .left .ensures) in walk-plain w (c .before .plain-end .result) (c .before .plain-end .ensures) (c .plain-tail2 .result) (c .plain-tail2 .ensures ∙ ap (λ (x : ℕ). grown (c .before .before .before .before .before .before .step-at .result .tail) (part (c .before .before .before .before .before .before .step-at .result .next) x (c .before .before .before .before .before .before .before .before .before .before .args .line .now))) (sym (c .before .plain-end .ensures)))
 
 same-length : tie.Need-same-length Inv-loop μ-loop
 same-length c = walk-length (c .before .loop .inv)
