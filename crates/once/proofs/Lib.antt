@@ -14,3 +14,4 @@ pub mod NotedLaws
 pub mod NotedFills
 pub mod CallLaws
 pub mod CalmLaws
+pub mod KindLaws

@@ -1,6 +1,6 @@
 -- Two tables over registers, of the last line that uses each one and of how often lines read it: what the lines leave in them, and what they then say.
 -- Assumes nothing.
-use Prim.Native.Nat.{ℕ, _+_, _≤_}
+use Prim.Native.Nat.{ℕ, suc, _+_, _≤_}
 use mathlib.Core.Path.{_≡_}
 use mathlib.Core.Bool.{Bool, true, false, cond, not, _&&_}
 use mathlib.Core.List.{List, [], _∷_}
@@ -12,6 +12,7 @@ use Rattle.names.specs.declared.RegName.the-variants as name
 use Rattle.lines.specs.Lf.{part, upTo, lacks}
 use Rattle.parse.specs.Parse.{parseOf, textOf}
 use Rattle.parse.specs.declared.Line.{Line}
+use Rattle.parse.specs.declared.Line.the-variants as line
 use Rattle.words.specs.Runs.{runs}
 use Rattle.place.specs.Region.{isHeader}
 use Rattle.reading.specs.Uses.{lineReads, usedIn}
@@ -95,3 +96,29 @@ Calm s c = (j : ℕ) → CalmIn (drop j s) c
 -- the line at i ends at e, and is read as p
 abbrev pub LineAt : List ℕ → ℕ → ℕ → Line → Type 0
 LineAt s i e p = (e ≡ i + upTo 10 (drop i s)) × (p ≡ parseOf (part i e s))
+
+-- ---- what lines are
+
+-- a number for it; that of a store says nothing
+abbrev pub kindOf : Line → ℕ
+kindOf line.Decl = 1
+kindOf (line.Store s) = 0
+kindOf line.Other = 2
+
+-- the table d after the lines ls, which follow k others
+unfoldable pub kindLines : ℕ → List (List ℕ) → List ℕ → List ℕ
+kindLines k [] d = d
+kindLines k (l ∷ ls) d = kindLines (k + 1) ls (set d k (kindOf (parseOf l)))
+
+-- that of the first line
+abbrev pub firstKind : List (List ℕ) → ℕ
+firstKind [] = 0
+firstKind (l ∷ ls) = kindOf (parseOf l)
+
+-- a number is that of a line, where it is not 0
+abbrev pub KindIs : List ℕ → ℕ → Type 0
+KindIs l m = (n : ℕ) → m ≡ suc n → kindOf (parseOf l) ≡ suc n
+
+-- and a table has those of lines
+abbrev pub KindsOf : List (List ℕ) → List ℕ → Type 0
+KindsOf ls d = (k n : ℕ) → getD d k 0 ≡ suc n → firstKind (drop k ls) ≡ suc n

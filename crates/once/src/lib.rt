@@ -18,7 +18,7 @@ ghost use Rattle.words.specs.Hits.{regHit, replaceReg};
 ghost use Rattle.reading.specs.Reading.{plain, pureIn};
 ghost use Rattle.reading.specs.Uses.{lineReads, storesBy};
 ghost use Rattle.once.specs.Tables.{readBelow, anyCall, nextIn, Blank, hasHit, storeDrops, lineDrops, storeForwards, lineForwards, onceMarks, actBy, actsBy, firstDrops, firstTakes, markBy, marksOf, areaAt};
-ghost use Rattle.once.specs.Noted.{NoneFrom, NoneBelow, OneIn, OneAt, OneOf, CalmIn, Calm, LineAt};
+ghost use Rattle.once.specs.Noted.{NoneFrom, NoneBelow, OneIn, OneAt, OneOf, CalmIn, Calm, LineAt, KindsOf};
 ghost use Rattle.place.specs.Fill.{Filled, flagsOf};
 ghost use Rattle.place.specs.Loops.{insideLoop};
 ghost use Rattle.place.specs.Paths.{blockPaths, tops};
@@ -564,7 +564,7 @@ fn area_at(text: &[u8], i: usize, e: usize, above: text::Span) -> text::Span
     above
 }
 
-// Writes the mark of each line, by tables of what the lines do with each register.
+// Writes the mark of each line, by tables of what the lines do with each register and of what they are.
 fn mark_with(
     text: &[u8],
     paths: &[usize],
@@ -572,11 +572,12 @@ fn mark_with(
     last: &[usize],
     reads: &[usize],
     calm: usize,
+    kinds: &[u8],
     scratch: &mut [u8],
     marks: &mut [u8],
 ) -> usize
     requires { ⌜ (Blank (length (now text)) (now scratch))
-        × ((length (linesOf (now text)) ≤ length (now marks)) × ((NoneBelow (linesOf (now text)) (now last)) × ((OneOf (linesOf (now text)) (now reads)) × (Calm (now text) calm)))) ⌝ }
+        × ((length (linesOf (now text)) ≤ length (now marks)) × ((NoneBelow (linesOf (now text)) (now last)) × ((OneOf (linesOf (now text)) (now reads)) × ((Calm (now text) calm) × (KindsOf (linesOf (now text)) (now kinds)))))) ⌝ }
     ensures answer { λ r. ⌜ Filled (now (marks .entry)) (marksOf plain (linesOf (now (text .entry))) (now (paths .entry)) (now (loops .entry))) (now (marks .exit)) r ⌝ }
     ensures memory { λ _. ⌜ now (scratch .exit) ≡ now (scratch .entry) ⌝ }
 {
@@ -591,7 +592,7 @@ fn mark_with(
     while i < text.len() {
         let j = lines::after(text, e);
         let n = lines::find_byte(text, j, 10);
-        let q = parse::parse(lines::cut(text, j, n));
+        let q = noted::parse_at(lines::cut(text, j, n), k + 1, kinds);
         let g = lines::byte_at(loops, k + 1);
         let next = drops_at(text, j, n, q, paths, k + 1, g != 0, last, calm, scratch);
         run = area_at(text, i, e, run);
@@ -637,9 +638,20 @@ fn fill_marks(
 {
     let mut last = [0usize; 1024];
     let mut reads = [0usize; 1024];
-    noted::note_lines(text, &mut last, &mut reads);
+    let mut kinds = [0u8; 1024];
+    noted::note_lines(text, &mut last, &mut reads, &mut kinds);
     let calm = calm_len(text);
-    mark_with(text, paths, loops, &last, &reads, calm, scratch, marks)
+    mark_with(
+        text,
+        paths,
+        loops,
+        &last,
+        &reads,
+        calm,
+        &kinds,
+        scratch,
+        marks,
+    )
 }
 
 // Writes a line with its LF, and returns the place after it.
