@@ -15,7 +15,7 @@ use Rattle.lines.proofs.StepLaws.{ends-more, missingLf, lines-text}
 
 -- ---- the place of a byte
 
-up-at : (b : ℕ) (l : List ℕ) → upTo b l < length l → getD l (upTo b l) 0 ≡ b
+pub up-at : (b : ℕ) (l : List ℕ) → upTo b l < length l → getD l (upTo b l) 0 ≡ b
 unfolding upTo
 up-at b [] h = absurd (omega arith)
 up-at b (x ∷ l) h = go (eqb x b) refl h (up-at b l)

@@ -4,6 +4,7 @@ pub mod SeenLaws
 pub mod LineRuns
 pub mod Fronts
 pub mod Chunks
+pub mod MarkRuns
 pub mod Whole
 pub mod Lacks
 pub mod Writes

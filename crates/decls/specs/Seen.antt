@@ -1,17 +1,18 @@
 -- The table of the registers that lines use: what marking them leaves in it, and what it then says. Assumes nothing.
-use Prim.Native.Nat.{ℕ, _≤_, _<_}
+use Prim.Native.Nat.{ℕ, zero, suc, _≤_, _<_}
 use mathlib.Core.Path.{_≡_}
-use mathlib.Core.Bool.{Bool, cond, not, _&&_}
+use mathlib.Core.Bool.{Bool, false, cond, not, _&&_}
 use mathlib.Core.List.{List, [], _∷_}
 use lib.Dec.{eqb, ltb}
-use lib.ListN.{length, getD, set}
+use lib.ListN.{length, take, drop, getD, set}
+use Rattle.text.specs.Class.{isName}
 use Rattle.names.specs.Names.{regOf}
 use Rattle.names.specs.declared.RegName.{RegName}
 use Rattle.names.specs.declared.RegName.the-variants as name
 use Rattle.parse.specs.Parse.{parseOf, textOf}
 use Rattle.parse.specs.declared.Line.{Line}
 use Rattle.parse.specs.declared.Line.the-variants as line
-use Rattle.words.specs.Runs.{runs}
+use Rattle.words.specs.Runs.{runLen, runs}
 use Rattle.reading.specs.Uses.{usedIn}
 
 -- the table d after the mark m of the register that a name is; a register past its end leaves it as it is
@@ -23,6 +24,18 @@ markName m (name.Reg q) d = set d (q .0) m
 unfoldable pub markRuns : ℕ → List (List ℕ) → List ℕ → List ℕ
 markRuns m [] d = d
 markRuns m (r ∷ rs) d = markRuns m rs (markName m (regOf r) d)
+
+-- a name byte stands just before the place i
+abbrev pub nameBefore : ℕ → List ℕ → Bool
+nameBefore zero s = false
+nameBefore (suc i) s = isName (getD s i 0)
+
+-- the run of name bytes at the front of a text, and at the place i
+abbrev pub runOf : List ℕ → List ℕ
+runOf l = take (runLen l) l
+
+abbrev pub runAt : ℕ → List ℕ → List ℕ
+runAt i s = runOf (drop i s)
 
 -- after the mark of the register that a line stores
 abbrev pub markStore : ℕ → Line → List ℕ → List ℕ

@@ -11,7 +11,7 @@ ghost use Rattle.parse.specs.Parse.{isDecl};
 ghost use Rattle.words.specs.Runs.{runs};
 ghost use Rattle.place.specs.Region.{region, regionLen};
 ghost use Rattle.reading.specs.Uses.{usedIn};
-ghost use Rattle.decls.specs.Seen.{markName, markRuns, markLine, markLines, Says, frontOf, noDecl};
+ghost use Rattle.decls.specs.Seen.{nameBefore, runAt, markName, markRuns, markLine, markLines, Says, frontOf, noDecl};
 
 // Puts a mark at a register, where the table reaches to it.
 fn mark_reg(reg: names::Register, m: usize, seen: &mut [usize])
@@ -34,22 +34,45 @@ fn mark_name(t: &[u8], m: usize, seen: &mut [usize])
     }
 }
 
-// Marks the registers that a text reads.
+// Marks the register that the run of name bytes at a place names.
+fn mark_run(s: &[u8], i: usize, m: usize, seen: &mut [usize])
+    ensures { λ _. ⌜ now (seen .exit) ≡ markName m (regOf (runAt i (now (s .entry)))) (now (seen .entry)) ⌝ }
+{
+    let mut j = i;
+    while j < s.len() {
+        if !text::is_name_byte(s[j]) {
+            mark_name(lines::cut(s, i, j), m, seen);
+            return;
+        }
+        j += 1;
+    }
+    mark_name(lines::cut(s, i, j), m, seen);
+}
+
+// The same, where no name byte stands before the place.
+fn mark_at(s: &[u8], i: usize, m: usize, seen: &mut [usize])
+    ensures { λ _. ⌜ now (seen .exit) ≡ cond (nameBefore i (now (s .entry))) (now (seen .entry)) (markName m (regOf (runAt i (now (s .entry)))) (now (seen .entry))) ⌝ }
+{
+    if i == 0 {
+        mark_run(s, i, m, seen);
+        return;
+    }
+    if text::is_name_byte(lines::byte_at(s, i - 1)) {
+        return;
+    }
+    mark_run(s, i, m, seen);
+}
+
+// Marks the registers that a text reads: the runs that begin with `r` are looked at.
 fn mark_runs(s: &[u8], m: usize, seen: &mut [usize])
     ensures { λ _. ⌜ now (seen .exit) ≡ markRuns m (runs (now (s .entry))) (now (seen .entry)) ⌝ }
 {
-    let mut a = 0;
     let mut i = 0;
     while i < s.len() {
-        if text::is_name_byte(s[i]) {
-            i += 1;
-        } else {
-            mark_name(lines::cut(s, a, i), m, seen);
-            i += 1;
-            a = i;
-        }
+        let j = lines::find_byte(s, i, b'r');
+        mark_at(s, j, m, seen);
+        i = lines::after(s, j);
     }
-    mark_name(lines::cut(s, a, i), m, seen);
 }
 
 // The first byte of a text that is no space, or 0.
