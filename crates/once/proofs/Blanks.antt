@@ -1,24 +1,13 @@
 -- Laws of scratch that is wiped after use. Assumes nothing.
 use Prim.Native.Nat.{ℕ, zero, suc, _+_, _-_, _≤_, _<_}
-use mathlib.Core.Path.{_≡_, refl, sym, ap, subst, _∙_}
+use mathlib.Core.Path.{_≡_, refl, sym, ap, _∙_}
 use mathlib.Core.List.{List, [], _∷_, _++_}
 use native.Mathlib.Omega.{arith}
-use native.Mathlib.Numerals.{add-one}
-use lib.ListN.{length, take, drop, set, replicate, take-append-drop}
+use lib.ListN.{length, take, drop, replicate, take-append-drop}
 use lib.Seq.{take-take, drop-drop, drop-append-add}
 use Rattle.lines.specs.Out.{putAt, Wrote}
-use Rattle.lines.proofs.OutLaws.{wrote-nil, wrote-more, wrote-as, wrote-length, wrote-part}
+use Rattle.lines.proofs.OutLaws.{wrote-length, wrote-part}
 use Rattle.once.specs.Tables.{Blank}
-
-zeros-more : (i : ℕ) → replicate i 0 ++ (0 ∷ []) ≡ replicate {A = ℕ} (suc i) 0
-zeros-more zero = refl
-zeros-more (suc i) = ap (λ (l : List ℕ). 0 ∷ l) (zeros-more i)
-
-pub wipe-start : (d : List ℕ) → Wrote d 0 (replicate 0 0) d 0
-wipe-start d = wrote-nil d 0 (omega arith)
-
-pub wipe-on : {d₀ d : List ℕ} {i : ℕ} → i < length d → Wrote d₀ 0 (replicate i 0) d i → Wrote d₀ 0 (replicate (i + 1) 0) (set d i 0) (i + 1)
-wipe-on {d₀} {d} {i} h w = wrote-as (zeros-more i ∙ ap (λ (n : ℕ). replicate n 0) (sym (add-one i))) (wrote-more 0 w h)
 
 zeros-length : (n : ℕ) → length (replicate {A = ℕ} n 0) ≡ n
 zeros-length zero = refl
@@ -63,6 +52,3 @@ blank-as e b = rw e b
 -- scratch that was wiped is blank
 pub blank-wiped : {n : ℕ} {d₀ d : List ℕ} → Wrote d₀ 0 (replicate n 0) d n → Blank n d
 blank-wiped {n} {d₀} {d} w = record { room = omega (arith, wrote-length w, w .fits, zeros-length n); zeros = wrote-part w }
-
-pub wipe-end : {d₀ d : List ℕ} {i n : ℕ} → i ≡ n → Wrote d₀ 0 (replicate i 0) d i → Wrote d₀ 0 (replicate n 0) d n
-wipe-end {d₀} {d} e w = subst (λ (k : ℕ). Wrote d₀ 0 (replicate k 0) d k) e w

@@ -252,18 +252,6 @@ fn read_once(text: &[u8], reg: names::Register) -> bool
     n == 1
 }
 
-// Writes zeros over the first n bytes.
-fn wipe(s: &mut [u8], n: usize)
-    requires { ⌜ n ≤ length (now s) ⌝ }
-    ensures { λ _. ⌜ Wrote (now (s .entry)) 0 (replicate n 0) (now (s .exit)) n ⌝ }
-{
-    let mut i = 0;
-    while i < n {
-        s[i] = 0;
-        i += 1;
-    }
-}
-
 // Whether a value is pure. Scratch that held zeros holds zeros again.
 fn pure_value(x: &[u8], scratch: &mut [u8]) -> bool
     requires { ⌜ Blank (length (now x)) (now scratch) ⌝ }
@@ -271,7 +259,7 @@ fn pure_value(x: &[u8], scratch: &mut [u8]) -> bool
     ensures memory { λ _. ⌜ now (scratch .exit) ≡ now (scratch .entry) ⌝ }
 {
     let p = expr::purity(x, scratch);
-    wipe(scratch, x.len());
+    lines::wipe(scratch, x.len());
     expr::is_pure(p)
 }
 
@@ -757,7 +745,7 @@ fn decide(
         × ((Filled (now (paths .entry)) (tops (blockPaths (linesOf (now (text .entry))))) (now (paths .exit)) (length (tops (blockPaths (linesOf (now (text .entry)))))))
         × (Filled (now (up .entry)) (pathParents (linesOf (now (text .entry)))) (now (up .exit)) (length (pathParents (linesOf (now (text .entry)))))))) ⌝ }
 {
-    wipe(scratch, text.len());
+    lines::wipe(scratch, text.len());
     let n = place::inside_loop(text, loops);
     let k = place::block_paths(text, paths, up);
     fill_marks(text, &paths[0..k], &loops[0..n], scratch, marks)

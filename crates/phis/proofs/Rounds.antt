@@ -1,14 +1,13 @@
 -- Laws of the three rounds: what one wrote is the text of the next, and the scratch after them. Assumes nothing.
 use Prim.Native.Nat.{ℕ, zero, suc, _+_, _-_, _≤_, _<_, max}
-use mathlib.Core.Path.{_≡_, refl, sym, ap, subst, _∙_}
+use mathlib.Core.Path.{_≡_, refl, sym, ap, _∙_}
 use mathlib.Core.Bool.{Bool, false}
 use mathlib.Core.List.{List, [], _∷_, _++_}
 use native.Mathlib.Omega.{arith}
-use native.Mathlib.Numerals.{add-one}
 use lib.ListN.{length, take, drop, set, replicate}
 use Rattle.lines.specs.Lf.{part, linesOf, unlines}
 use Rattle.lines.specs.Out.{putAt, Wrote}
-use Rattle.lines.proofs.OutLaws.{wrote-nil, wrote-more, wrote-as, wrote-part}
+use Rattle.lines.proofs.OutLaws.{wrote-as, wrote-part}
 use Rattle.reading.specs.Reading.{plain}
 use Rattle.phis.specs.Phis.{anyDead, round, pruneDeadPhis}
 use Rattle.phis.specs.Rounds.{longest}
@@ -17,22 +16,9 @@ use Rattle.phis.proofs.Keeps.{round-reads, none-dead}
 
 -- ---- wiping
 
-zeros-more : (i : ℕ) → replicate i 0 ++ (0 ∷ []) ≡ replicate {A = ℕ} (suc i) 0
-zeros-more zero = refl
-zeros-more (suc i) = ap (λ (l : List ℕ). 0 ∷ l) (zeros-more i)
-
 zeros-length : (n : ℕ) → length (replicate {A = ℕ} n 0) ≡ n
 zeros-length zero = refl
 zeros-length (suc n) = ap suc (zeros-length n)
-
-pub wipe-start : (d : List ℕ) → Wrote d 0 (replicate 0 0) d 0
-wipe-start d = wrote-nil d 0 (omega arith)
-
-pub wipe-on : {d₀ d : List ℕ} {i : ℕ} → i < length d → Wrote d₀ 0 (replicate i 0) d i → Wrote d₀ 0 (replicate (i + 1) 0) (set d i 0) (i + 1)
-wipe-on {d₀} {d} {i} h w = wrote-as (zeros-more i ∙ ap (λ (n : ℕ). replicate n 0) (sym (add-one i))) (wrote-more 0 w h)
-
-pub wipe-end : {d₀ d : List ℕ} {i n : ℕ} → i ≡ n → Wrote d₀ 0 (replicate i 0) d i → Wrote d₀ 0 (replicate n 0) d n
-wipe-end {d₀} {d} e w = subst (λ (k : ℕ). Wrote d₀ 0 (replicate k 0) d k) e w
 
 -- what was used of the scratch is no longer than what is wiped
 wiped : (n : ℕ) (c d d′ : List ℕ) → drop n d ≡ drop n c → length d ≡ length c → Wrote d 0 (replicate n 0) d′ n → Wrote c 0 (replicate n 0) d′ n

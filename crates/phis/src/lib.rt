@@ -298,15 +298,6 @@ fn put_store(t: &[u8], indent: &[u8], scratch: &mut [u8], out: &mut [u8], o: usi
     }
 }
 
-// Writes a line as it is.
-fn put_whole(line: &[u8], out: &mut [u8], o: usize) -> usize
-    requires { ⌜ o + length (now line ++ 10 ∷ []) ≤ length (now out) ⌝ }
-    ensures { λ r. ⌜ Wrote (now (out .entry)) o (now (line .entry) ++ 10 ∷ []) (now (out .exit)) r ⌝ }
-{
-    let p = lines::put(out, o, line);
-    lines::put_byte(out, p, 10)
-}
-
 // Writes what a line becomes, in a text that has a dead phi.
 fn put_change(
     line: &[u8],
@@ -328,7 +319,7 @@ fn put_change(
     if phi_decl(t) {
         return put_decl(lines::cut(t, 4, t.len() - 1), indent, text, table, out, o);
     }
-    put_whole(line, out, o)
+    lines::put_line(out, o, line)
 }
 
 // Writes what a line becomes, in a text that has a dead phi: a line without the letters `phi` stays.
@@ -347,7 +338,7 @@ fn put_line(
     if table::has_phi(line) {
         return put_change(line, text, table, scratch, out, o);
     }
-    put_whole(line, out, o)
+    lines::put_line(out, o, line)
 }
 
 // Where what a round wrote ends, and whether it found a dead phi.
@@ -410,18 +401,6 @@ fn put_round(text: &[u8], dead: bool, scratch: &mut [u8], out: &mut [u8]) -> Rou
     put_with(text, &table, scratch, out)
 }
 
-// Writes zeros over the first n bytes.
-fn wipe(s: &mut [u8], n: usize)
-    requires { ⌜ n ≤ length (now s) ⌝ }
-    ensures { λ _. ⌜ Wrote (now (s .entry)) 0 (replicate n 0) (now (s .exit)) n ⌝ }
-{
-    let mut i = 0;
-    while i < n {
-        s[i] = 0;
-        i += 1;
-    }
-}
-
 // The larger of two numbers.
 fn larger(a: usize, b: usize) -> usize
     ensures { λ r. ⌜ r ≡ max a b ⌝ }
@@ -450,6 +429,6 @@ pub fn prune_dead_phis(
     let a = put_round(text, true, scratch, first);
     let b = put_round(lines::cut(first, 0, a.end), a.dead, scratch, second);
     let c = put_round(lines::cut(second, 0, b.end), b.dead, scratch, out);
-    wipe(scratch, larger(text.len(), larger(a.end, b.end)));
+    lines::wipe(scratch, larger(text.len(), larger(a.end, b.end)));
     c.end
 }

@@ -10,7 +10,7 @@ use Rattle.once.proofs.decide.Tie as tie
 use Rattle.once.proofs.decide.Reads as reads
 use Rattle.once.proofs.decide.Lts as lts
 use Rattle.once.proofs.fill_marks.Reads as fill-marks-reads
-use Rattle.once.proofs.wipe.Reads as wipe-reads
+use Rattle.lines.proofs.wipe.Reads as wipe-reads
 use Rattle.place.proofs.block_paths.Reads as block-paths-reads
 use Rattle.place.proofs.inside_loop.Reads as inside-loop-reads
 

@@ -11,7 +11,7 @@ use Rattle.once.proofs.pure_value.Reads as reads
 use Rattle.once.proofs.pure_value.Lts as lts
 use Rattle.expr.proofs.is_pure.Reads as is-pure-reads
 use Rattle.expr.proofs.purity.Reads as purity-reads
-use Rattle.once.proofs.wipe.Reads as wipe-reads
+use Rattle.lines.proofs.wipe.Reads as wipe-reads
 
 -- src/lib.rt:194:9
 purity-requires : tie.Need-purity-requires

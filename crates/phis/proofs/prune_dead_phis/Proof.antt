@@ -10,7 +10,8 @@ use Rattle.lines.proofs.Tests.{no}
 use Rattle.lines.proofs.OutLaws.{wrote-as}
 use Rattle.reading.specs.Reading.{plain}
 use Rattle.phis.specs.Phis.{round}
-use Rattle.phis.proofs.Rounds.{passed, next-calm, wipe-end, next-lines, next-length, longest-first, longest-fits, third-text, first-wrote, second-wrote, wiped-length, scratch-end}
+use Rattle.lines.proofs.OutLaws.{wipe-end}
+use Rattle.phis.proofs.Rounds.{passed, next-calm, next-lines, next-length, longest-first, longest-fits, third-text, first-wrote, second-wrote, wiped-length, scratch-end}
 use Rattle.phis.proofs.prune_dead_phis.Statement.{statement}
 use Rattle.phis.proofs.prune_dead_phis.Tie as tie
 

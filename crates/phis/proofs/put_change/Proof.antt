@@ -90,8 +90,8 @@ returns-2 c =
     let cut2 = c .before .before .before .before .cut2 in
     (wrote-as (sym (change-decl plain (linesOf (a .text .now)) (a .line .now) (trim-start .result .now) (cut .result .now) (trim-from .result) (trim-start .ensures) (trim-from .ensures) (cut .ensures) (phi-store .result) (phi-store .ensures) (so (c .before .before .before .before .before .before .before .before .dead-by .ensures) (c .before .before .before .before .before .before .before .if1 .left)) (so (c .before .before .before .before .before .before .phi-decl .ensures) (c .before .before .before .before .before .if2 .taken)) (cut2 .result .now) (cut2 .ensures))) (c .before .before .put-decl .ensures), refl)
 
-put-whole-requires : tie.Need-put-whole-requires
-put-whole-requires c κs =
+put-line-requires : tie.Need-put-line-requires
+put-line-requires c κs =
     let a = c .before .before .before .before .before .before .before .before .before .before .before .before .before .before .args in
     let trim-start = c .before .before .before .before .before .before .before .before .trim-start in
     let trim-from = c .before .before .before .before .before .before .before .trim-from in
@@ -109,7 +109,7 @@ returns-3 c =
     let trim-from = c .before .before .before .before .before .before .before .before .before .before .trim-from in
     let cut = c .before .before .before .before .before .before .before .before .before .cut in
     let phi-store = c .before .before .before .before .before .before .before .before .phi-store in
-    (wrote-as (sym (change-keep plain (linesOf (a .text .now)) (a .line .now) (trim-start .result .now) (cut .result .now) (trim-from .result) (trim-start .ensures) (trim-from .ensures) (cut .ensures) (phi-store .result) (phi-store .ensures) (so (c .before .before .before .before .before .before .before .dead-by .ensures) (c .before .before .before .before .before .before .if1 .left)) (so (c .before .before .before .before .before .phi-decl .ensures) (c .before .before .before .before .if2 .left)))) (c .before .before .put-whole .ensures), refl)
+    (wrote-as (sym (change-keep plain (linesOf (a .text .now)) (a .line .now) (trim-start .result .now) (cut .result .now) (trim-from .result) (trim-start .ensures) (trim-from .ensures) (cut .ensures) (phi-store .result) (phi-store .ensures) (so (c .before .before .before .before .before .before .before .dead-by .ensures) (c .before .before .before .before .before .before .if1 .left)) (so (c .before .before .before .before .before .phi-decl .ensures) (c .before .before .before .before .if2 .left)))) (c .before .before .put-line .ensures), refl)
 
 pub put-change-spec : {M : Type 1} → statement M
 put-change-spec =
@@ -130,6 +130,6 @@ put-change-spec =
     put-decl-requires
     same-length-3
     returns-2
-    put-whole-requires
+    put-line-requires
     same-length-4
     returns-3)
