@@ -27,3 +27,12 @@ phi-rhs-pure-fixed = fixed lexical.phi_rhs_pure.Reads.Learnt (λ κs a x y l m. 
 
 pub next-word-fixed : Determined lexical.next_word.ended (λ κs z. z) lexical.next_word.Reads.ensures
 next-word-fixed = fixed lexical.next_word.Reads.Learnt (λ κs a x y l m. l ∙ sym m)
+
+pub plain-end-fixed : Determined lexical.plain_end.ended (λ κs z. z) lexical.plain_end.Reads.ensures
+plain-end-fixed = fixed lexical.plain_end.Reads.Learnt (λ κs a x y l m. l ∙ sym m)
+
+pub plain-tail-fixed : Determined lexical.plain_tail.ended (λ κs z. z) lexical.plain_tail.Reads.ensures
+plain-tail-fixed = fixed lexical.plain_tail.Reads.Learnt (λ κs a x y l m. l ∙ sym m)
+
+pub low-last-fixed : Determined lexical.low_last.ended (λ κs z. z) lexical.low_last.Reads.ensures
+low-last-fixed = fixed lexical.low_last.Reads.Learnt (λ κs a x y l m. l ∙ sym m)

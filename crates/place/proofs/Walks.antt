@@ -251,3 +251,7 @@ module _ {t d₀ d s₀ s u₀ u : List ℕ} {i k c n : ℕ} {st : Bool} (h : Pl
         filled-as (ids-notes (linesOf t)) (p .0),
         (entry-end (ap (λ (ls : List (List ℕ)). flagsOf (startsGo (cleaned ls) st)) (lines-end t i q)) (h .starts), p .1),
       )
+
+-- the tail after plain bytes, by the place where they end
+pub tail-to : (line : List ℕ) (i j : ℕ) (t : Tail) {v : Tail} → j ≡ i + plainLen (drop i line) → v ≡ grown t (part i (i + plainLen (drop i line)) line) → v ≡ grown t (part i j line)
+tail-to line i j t e w = w ∙ ap (λ (x : ℕ). grown t (part i x line)) (sym e)

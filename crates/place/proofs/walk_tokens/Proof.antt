@@ -1,10 +1,7 @@
-use Prim.Native.Nat.{ℕ, _-_}
-use mathlib.Core.Path.{sym, ap, _∙_}
+use Prim.Native.Nat.{_-_}
 use native.Mathlib.Omega.{arith}
 use lib.ListN.{length}
-use Rattle.lines.specs.Lf.{part}
-use Rattle.lexical.specs.Lex.{grown}
-use Rattle.place.proofs.Walks.{WalkInv, walk-head, walk-plain, walk-room, walk-less, walk-on, walk-length, walk-done}
+use Rattle.place.proofs.Walks.{WalkInv, walk-head, walk-plain, walk-room, walk-less, walk-on, walk-length, walk-done, tail-to}
 use Rattle.place.proofs.walk_tokens.Statement.{statement}
 use Rattle.place.proofs.walk_tokens.Tie as tie
 use Rattle.place.proofs.walk_tokens.Reads as reads
@@ -28,7 +25,7 @@ plain-tail-requires : tie.Need-plain-tail-requires Inv-loop μ-loop
 plain-tail-requires c κs = tt
 
 loop-holds : tie.Need-loop-holds Inv-loop μ-loop
-loop-holds c = let a = c .before .before .before .before in walk-head (a .args .line .now) (a .args .block) (a .args .up .now) (a .args .n) (a .args .k) (c .before .no-tail .result) (c .plain-tail .result) (a .pre .1) (c .before .no-tail .ensures) (a .pre .0) (c .plain-tail .ensures ∙ ap (λ (x : ℕ). grown (c .before .no-tail .result) (part 0 x (a .args .line .now))) (omega (arith, a .pre .0)))
+loop-holds c = let a = c .before .before .before .before in walk-head (a .args .line .now) (a .args .block) (a .args .up .now) (a .args .n) (a .args .k) (c .before .no-tail .result) (c .plain-tail .result) (a .pre .1) (c .before .no-tail .ensures) (a .pre .0) (tail-to (a .args .line .now) 0 (a .args .k) (c .before .no-tail .result) (omega (arith, a .pre .0)) (c .plain-tail .ensures))
 
 shared-slice-read-b : tie.Need-shared-slice-read-b Inv-loop μ-loop
 shared-slice-read-b c = omega arith
@@ -49,7 +46,7 @@ loop-less : tie.Need-loop-less Inv-loop μ-loop
 loop-less c = let m = walk-less (c .before .before .before .before .before .before .before .before .before .loop .inv) (c .before .before .before .before .before .before .step-at .result) (c .before .before .before .before .before .before .step-at .ensures) (c .before .before .before .before .before .before .before .before .loop-test .taken) in omega (arith, c .before .plain-end .ensures)
 
 loop-again : tie.Need-loop-again Inv-loop μ-loop
-loop-again c = let w = walk-on (c .before .before .before .before .before .before .before .before .before .loop .inv) (c .before .before .before .before .before .before .step-at .result) (c .before .before .before .before .before .before .step-at .ensures) (c .before .before .before .before .before .before .before .before .loop-test .taken) (c .before .before .before .before .left .ensures) in walk-plain w (c .before .plain-end .result) (c .before .plain-end .ensures) (c .plain-tail2 .result) (c .plain-tail2 .ensures ∙ ap (λ (x : ℕ). grown (c .before .before .before .before .before .before .step-at .result .tail) (part (c .before .before .before .before .before .before .step-at .result .next) x (c .before .before .before .before .before .before .before .before .before .before .args .line .now))) (sym (c .before .plain-end .ensures)))
+loop-again c = let w = walk-on (c .before .before .before .before .before .before .before .before .before .loop .inv) (c .before .before .before .before .before .before .step-at .result) (c .before .before .before .before .before .before .step-at .ensures) (c .before .before .before .before .before .before .before .before .loop-test .taken) (c .before .before .before .before .left .ensures) in walk-plain w (c .before .plain-end .result) (c .before .plain-end .ensures) (c .plain-tail2 .result) (tail-to _ _ _ (c .before .before .before .before .before .before .step-at .result .tail) (c .before .plain-end .ensures) (c .plain-tail2 .ensures))
 
 same-length : tie.Need-same-length Inv-loop μ-loop
 same-length c = walk-length (c .before .loop .inv)
