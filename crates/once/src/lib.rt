@@ -585,16 +585,14 @@ fn mark_with(
         let next = drops_at(text, j, n, q, paths, k + 1, g != 0, last, calm, scratch);
         run = area_at(text, i, e, run);
         let h = lines::byte_at(loops, k);
-        let line = lines::cut(text, i, e);
-        let area = lines::cut(text, run.from, run.to);
         marks[k] = mark_at(
-            line,
+            lines::cut(text, i, e),
             p,
             text,
             j,
             n,
             q,
-            area,
+            lines::cut(text, run.from, run.to),
             h != 0,
             goes,
             next,
