@@ -17,7 +17,7 @@ use Rattle.names.specs.declared.RegName.{RegName}
 use Rattle.names.specs.declared.RegName.the-variants as name
 use Rattle.words.specs.Runs.{upBy, runLen, runsGo, runs}
 use Rattle.decls.specs.Seen.{nameBefore, runOf, runAt, markName, markRuns}
-use Rattle.decls.proofs.TrimRuns.{go-name, go-gap}
+use Rattle.words.proofs.Walk.{go-name, go-gap}
 use Rattle.decls.proofs.SeenLaws.{name-length, runs-flush}
 use Rattle.decls.proofs.Chunks.{up-at}
 
