@@ -383,9 +383,9 @@ unfolding addRuns regOf
 adds-flush [] rs d = refl
 adds-flush (x ∷ cur) rs d = refl
 
-adds-none : (d : List ℕ) → addRuns [] d ≡ d
+adds-empty : (d : List ℕ) → addRuns [] d ≡ d
 unfolding addRuns
-adds-none d = refl
+adds-empty d = refl
 
 pub adds-start : (s d : List ℕ) → AddsInv s d d 0 0
 adds-start s d = record { long = refl; walk = walk-start addRuns s d }
@@ -401,7 +401,7 @@ module _ {s d₀ d : List ℕ} {a i : ℕ} (h : AddsInv s d₀ d a i) where
   }
 
   pub adds-end : length s ≤ i → (w d′ : List ℕ) → w ≡ part a i s → d′ ≡ addName (regOf w) d → d′ ≡ addRuns (runs s) d₀
-  adds-end k w d′ p q = walk-end addRuns (λ (c x : List ℕ). addName (regOf c) x) adds-flush adds-none (h .walk) k w p q
+  adds-end k w d′ p q = walk-end addRuns (λ (c x : List ℕ). addName (regOf c) x) adds-flush adds-empty (h .walk) k w p q
 
 -- a line, read once
 pub line-added : (l d d₁ t : List ℕ) (p : Line) → p ≡ parseOf l → t ≡ textOf l p → d₁ ≡ addRuns (runs t) d → d₁ ≡ addLine l d
