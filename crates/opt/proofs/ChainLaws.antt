@@ -21,7 +21,7 @@ use Rattle.calls.specs.LeavesOf.{leavesOf}
 use Rattle.calls.specs.Calls.{rebuildCalls}
 use Rattle.decls.specs.Decls.{pruneDecls}
 use Rattle.bind.specs.Bind.{bindDeclarators}
-use Rattle.bind.proofs.Cut.{plain-by-line}
+use Rattle.reading.proofs.ByLine.{plain-by-line}
 use Rattle.opt.specs.Passes.{stepOf, stepsOf}
 use Rattle.limits.specs.Entry.{byteSize}
 use Rattle.opt.specs.Room.{Room, Sized, Front}

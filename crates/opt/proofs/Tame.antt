@@ -35,7 +35,7 @@ use Rattle.calls.specs.LeavesOf.{leavesOf}
 use Rattle.calls.specs.Calls.{rebuildCallsActs, rebuildCalls}
 use Rattle.calls.proofs.Room.{calls-weight, calls-noLf}
 use Rattle.bind.specs.Bind.{bindDeclarators}
-use Rattle.bind.proofs.Cut.{ByLine, plain-by-line}
+use Rattle.reading.proofs.ByLine.{ByLine, plain-by-line}
 use Rattle.bind.proofs.Passes as bind-laws
 use Rattle.decls.specs.Decls.{pruneDecls}
 use Rattle.decls.proofs.Keeps.{keeps-noLf}

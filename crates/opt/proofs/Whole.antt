@@ -26,7 +26,7 @@ use Rattle.calls.specs.LeavesOf.{leavesOf}
 use Rattle.calls.specs.Calls.{rebuildCalls}
 use Rattle.decls.specs.Decls.{pruneDecls}
 use Rattle.bind.specs.Bind.{bindDeclarators}
-use Rattle.bind.proofs.Cut.{ByLine}
+use Rattle.reading.proofs.ByLine.{ByLine}
 use Rattle.limits.specs.declared.Answer.{Answer}
 use Rattle.limits.specs.declared.Answer.the-variants.{Done, TooLong, ShortWork, TooManyLines, ShortResult}
 use Rattle.limits.specs.Answer.{numberOf, isDone}

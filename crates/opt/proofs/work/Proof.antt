@@ -4,7 +4,7 @@ use mathlib.Core.Path.{sym, ap, _∙_}
 use mathlib.Core.List.{List}
 use lib.ListN.{length}
 use lib.Seq.{length-take-le}
-use Rattle.bind.proofs.Cut.{plain-by-line}
+use Rattle.reading.proofs.ByLine.{plain-by-line}
 use Rattle.limits.specs.Entry.{roomed, outAfter}
 use Rattle.opt.proofs.Tame.{tame-steps}
 use Rattle.opt.proofs.WorkLaws.{front-result}
