@@ -27,9 +27,9 @@ pub wiped-all : {d d′ : List ℕ} {n r : ℕ} → length d ≡ n → Wrote d 0
 unfolding blank
 wiped-all {n = n} e w = wrote-whole w (length-replicate {A = ℕ} n 0 ∙ sym e)
 
-pub wiped-numbers : {d d′ : List ℕ} {n : ℕ} → length d ≡ n → d′ ≡ replicate (length d) 0 → d′ ≡ blank n
+pub wiped-numbers : (d : List ℕ) {d′ : List ℕ} {n : ℕ} → length d ≡ n → d′ ≡ replicate (length d) 0 → d′ ≡ blank n
 unfolding blank
-wiped-numbers e w = w ∙ ap (λ (n : ℕ). replicate n 0) e
+wiped-numbers d e w = w ∙ ap (λ (n : ℕ). replicate n 0) e
 
 pub blank-length : (n : ℕ) → length (blank n) ≡ n
 unfolding blank

@@ -1,3 +1,4 @@
+use native.Mathlib.Omega.{arith}
 use borrow.Author.Needs.{needs}
 use Rattle.opt.proofs.WorkLaws.{wiped-all, wiped-numbers}
 use Rattle.opt.proofs.wipe_all.Statement.{statement}
@@ -16,7 +17,7 @@ wipe-requires-4 : tie.Need-wipe-requires-4
 wipe-requires-4 c κs = search needs
 
 wipe-requires-5 : tie.Need-wipe-requires-5
-wipe-requires-5 c κs = search needs
+wipe-requires-5 c κs = omega arith
 
 wipe-numbers-requires : tie.Need-wipe-numbers-requires
 wipe-numbers-requires c κs = search needs
@@ -49,7 +50,7 @@ returns c =
       c-blank = wiped-all (p .1 .c-size) (c .before .before .before .before .before .before .before .before .before .before .before .before .before .before .wipe3 .ensures);
       d-blank = wiped-all (p .1 .d-size) (c .before .before .before .before .before .before .before .before .before .before .wipe4 .ensures);
       e-blank = wiped-all (p .1 .e-size) (c .before .before .before .before .before .before .wipe5 .ensures);
-      u-blank = wiped-numbers (p .1 .u-size) (c .before .before .wipe-numbers .ensures);
+      u-blank = wiped-numbers (g .u .now) (p .1 .u-size) (c .before .before .wipe-numbers .ensures);
     }
 
 pub wipe-all-spec : {M : Type 1} → statement M
