@@ -1,5 +1,5 @@
 -- Each public function of crate lines: its contract fixes its outcome. Assumes nothing.
-use mathlib.Core.Path.{sym, _∙_}
+use mathlib.Core.Path.{refl, sym, _∙_}
 use denote.Ref.{now}
 use Rattle.lines.proofs.OutLaws.{wrote-once}
 use Rattle.lines.proofs as lines
@@ -42,10 +42,10 @@ pub put-line-fixed : Determined lines.put_line.ended (λ κs z. z) lines.put_lin
 put-line-fixed = fixed lines.put_line.Reads.Learnt (λ κs a x y l m. wrote-once l m)
 
 pub wipe-fixed : Determined lines.wipe.ended (λ κs z. z) lines.wipe.Reads.ensures
-wipe-fixed = fixed lines.wipe.Reads.Learnt (λ κs a x y l m. wrote-once l m)
+wipe-fixed = fixed lines.wipe.Reads.Learnt (λ κs a x y l m. (wrote-once l m .0, refl))
 
 pub wipe-numbers-fixed : Determined lines.wipe_numbers.ended (λ κs z. z) lines.wipe_numbers.Reads.ensures
-wipe-numbers-fixed = fixed lines.wipe_numbers.Reads.Learnt (λ κs a x y l m. l ∙ sym m)
+wipe-numbers-fixed = fixed lines.wipe_numbers.Reads.Learnt (λ κs a x y l m. (l ∙ sym m, refl))
 
 pub ends-lf-fixed : Determined lines.ends_lf.ended (λ κs z. z) lines.ends_lf.Reads.ensures
 ends-lf-fixed = fixed lines.ends_lf.Reads.Learnt (λ κs a x y l m. l ∙ sym m)
