@@ -12,6 +12,7 @@ use lib.ListN.{length, drop, getD, set, length-drop, drop-of-length-le}
 use lib.Seq.{drop-cons, drop-drop, getD-drop}
 use Rattle.lines.specs.Lf.{prefixed, lacks}
 use Rattle.lines.proofs.Tests.{no, and-true, and-false, and-left, and-right}
+use Rattle.lines.proofs.LfLaws.{lacks-cons, lacks-with}
 use Rattle.lines.proofs.OutLaws.{Writing, writing-as, writing-room, writing-put, wrote-byte}
 use Rattle.expr.specs.Comments.{strip, stripComments, noComment}
 
@@ -135,18 +136,6 @@ strip-length s =
     (λ a b t r h. omega arith)
     s false
 
-lacks-cons : (b a : ℕ) (s : List ℕ) → lacks b (a ∷ s) ≡ true → (eqb a b ≡ false) × (lacks b s ≡ true)
-unfolding lacks
-lacks-cons b a s h = go (eqb a b) h
-  where
-    go : (t : Bool) → cond t false (lacks b s) ≡ true → (t ≡ false) × (lacks b s ≡ true)
-    go true h = no h
-    go false h = (refl, h)
-
-lacks-with : (b a : ℕ) (s : List ℕ) → eqb a b ≡ false → lacks b s ≡ true → lacks b (a ∷ s) ≡ true
-unfolding lacks
-lacks-with b a s e h = rw e h
-
 -- it has no byte that the text has not, but the space
 pub strip-lacks : (b : ℕ) (s : List ℕ) → lacks b s ≡ true → (b ≡ 32 → ⊥) → lacks b (stripComments s) ≡ true
 unfolding stripComments lacks
@@ -154,8 +143,8 @@ strip-lacks b s h n =
     strip-by (λ (t r : List ℕ). lacks b t ≡ true → lacks b r ≡ true)
     (λ t k. refl)
     (λ a t r f k. f (lacks-cons b a t k .1))
-    (λ a t r f k. lacks-with b a r (lacks-cons b a t k .0) (f (lacks-cons b a t k .1)))
-    (λ a c t r f k. lacks-with b 32 r (ne-eqb 32 b (λ e. n (sym e))) (f (lacks-cons b c t (lacks-cons b a (c ∷ t) k .1) .1)))
+    (λ a t r f k. lacks-with b a r false (lacks-cons b a t k .0) ∙ f (lacks-cons b a t k .1))
+    (λ a c t r f k. lacks-with b 32 r false (ne-eqb 32 b (λ e. n (sym e))) ∙ f (lacks-cons b c t (lacks-cons b a (c ∷ t) k .1) .1))
     s false h
 
 -- ---- a text that is cut has nothing more to cut

@@ -101,6 +101,15 @@ split-count t e =
     ∙ count-append 10 t (missingLf t)
     ∙ ap (λ (k : ℕ). countOf 10 t + k) (missing-count t ∙ ap length e)
 
+-- and no other byte
+missing-other : (b : ℕ) → eqb 10 b ≡ false → (t : List ℕ) → countOf b (missingLf t) ≡ 0
+unfolding missingLf countOf
+missing-other b k t = go (ltb 0 (length t) && not (endsIn 10 t))
+  where
+    go : (x : Bool) → countOf b (cond x (10 ∷ []) []) ≡ 0
+    go true = rw k
+    go false = refl
+
 -- ---- the first crowded line
 
 module _ (most b : ℕ) where
@@ -115,6 +124,20 @@ module _ (most b : ℕ) where
   pub over-start : eqb 13 b ≡ false → (t : List ℕ) → overFrom most b 0 (linesOf t) ≡ overFrom most b 0 (splitLines t)
   unfolding splitLines
   over-start h t = sym (over-counts 0 (linesOf (dropCr t)) (linesOf t) (drop-counts b h t))
+
+  -- lines that hold no more than `most` in all
+  over-few : (n : ℕ) (ls : List (List ℕ)) → countOf b (unlines ls) ≤ most → overFrom most b n ls ≡ Nowhere
+  unfolding overFrom unlines
+  over-few n [] h = refl
+  over-few n (l ∷ ls) h =
+      let e = count-append b l (10 ∷ unlines ls) in
+      let f = count-append b (10 ∷ []) (unlines ls) in
+      rw (le-ltb most (countOf b l) (omega arith)) (over-few (suc n) ls (omega arith))
+
+  pub over-none : eqb 13 b ≡ false → eqb 10 b ≡ false → (t : List ℕ) → countOf b t ≤ most → overFrom most b 0 (splitLines t) ≡ Nowhere
+  over-none h k t m =
+      sym (over-start h t)
+      ∙ over-few 0 (linesOf t) (omega (arith, ap (countOf b) (lines-text t), count-append b t (missingLf t), missing-other b k t))
 
   over-case : (n : ℕ) (l : List ℕ) (ls : List (List ℕ)) (t : Bool) → ltb most (countOf b l) ≡ t → overFrom most b n (l ∷ ls) ≡ cond t (At n) (overFrom most b (suc n) ls)
   unfolding overFrom

@@ -256,6 +256,26 @@ unfolding noLf
 noLf-append [] ys p q = q
 noLf-append (x ∷ xs) ys p q = and-both (and-left (lacks 10 x) (noLf xs) p) (noLf-append xs ys (and-right (lacks 10 x) (noLf xs) p) q)
 
+-- a byte in front, and the rest
+pub lacks-cons : (b x : ℕ) (xs : List ℕ) → lacks b (x ∷ xs) ≡ true → (eqb x b ≡ false) × (lacks b xs ≡ true)
+unfolding lacks
+lacks-cons b x xs h = go (eqb x b) h
+  where
+    go : (t : Bool) → cond t false (lacks b xs) ≡ true → (t ≡ false) × (lacks b xs ≡ true)
+    go true h = no h
+    go false h = (refl, h)
+
+pub lacks-with : (b x : ℕ) (xs : List ℕ) (t : Bool) → eqb x b ≡ t → lacks b (x ∷ xs) ≡ cond t false (lacks b xs)
+unfolding lacks
+lacks-with b x xs t e = rw e
+
+module _ (b : ℕ) (s : List ℕ) (j : ℕ) (h : j < length s) where
+  pub lacks-here : getD s j 0 ≡ b → lacks b (drop j s) ≡ false
+  lacks-here e = rw (drop-cons s j 0 h) (lacks-with b _ _ true (eq-eqb (getD s j 0) b e))
+
+  pub lacks-on : (getD s j 0 ≡ b → ⊥) → lacks b (drop j s) ≡ lacks b (drop (j + 1) s)
+  lacks-on n = rw (add-one j, drop-cons s j 0 h) (lacks-with b _ _ false (ne-eqb (getD s j 0) b n))
+
 pub lacks-append : (xs ys : List ℕ) → lacks 10 xs ≡ true → lacks 10 ys ≡ true → lacks 10 (xs ++ ys) ≡ true
 unfolding lacks
 lacks-append [] ys p q = q

@@ -2,7 +2,7 @@
 use Prim.Native.Nat.{ℕ, suc, _+_, _-_, _≤_, _<_}
 use mathlib.Core.Path.{_≡_, refl, sym, ap, _∙_}
 use mathlib.Core.Bool.{Bool, true, false, cond, not, _&&_}
-use mathlib.Core.List.{List, [], _∷_, _++_}
+use mathlib.Core.List.{List, [], _∷_, _++_, append-nil}
 use native.Mathlib.Omega.{arith}
 use native.Mathlib.Numerals.{add-one}
 use borrow.Author.Tests.{eqb-true, lt-ltb}
@@ -10,9 +10,9 @@ use lib.Dec.{eqb, ltb}
 use lib.ListN.{length, drop, getD, length-append, drop-of-length-le}
 use lib.Seq.{drop-cons}
 use Rattle.lines.proofs.Tests.{no, and-false, eqb-sym}
-use Rattle.lines.proofs.LfLaws.{lines-first, lines-noLf}
-use Rattle.lines.proofs.OutLaws.{Writing, writing-start, writing-as, writing-put, writing-room}
-use Rattle.lines.specs.Lf.{prefixed, endsIn, cutOn, linesOf, unlines, noLf}
+use Rattle.lines.proofs.LfLaws.{lines-first, lines-noLf, lacks-cons}
+use Rattle.lines.proofs.OutLaws.{Writing, writing-start, writing-as, writing-put, writing-room, writing-end}
+use Rattle.lines.specs.Lf.{prefixed, endsIn, cutOn, linesOf, unlines, lacks, noLf}
 use Rattle.lines.specs.Out.{Wrote}
 use Rattle.lines.specs.Steps.{dropCr, splitLines}
 
@@ -135,6 +135,13 @@ pub split-text : (t : List ℕ) → unlines (splitLines t) ≡ dropCr t ++ missi
 unfolding splitLines
 split-text t = lines-text (dropCr t) ∙ ap (λ (l : List ℕ). dropCr t ++ l) (drop-missing t)
 
+-- the same, by what a last line lacks
+pub split-by : (t : List ℕ) {xs : List ℕ} → missingLf t ≡ xs → dropCr t ++ xs ≡ unlines (splitLines t)
+split-by t e = sym (split-text t ∙ ap (λ (l : List ℕ). dropCr t ++ l) e)
+
+pub split-whole : (t : List ℕ) → missingLf t ≡ [] → dropCr t ≡ unlines (splitLines t)
+split-whole t e = sym (append-nil (dropCr t)) ∙ split-by t e
+
 -- no line of it holds an LF
 pub split-noLf : (t : List ℕ) → noLf (splitLines t) ≡ true
 unfolding splitLines
@@ -144,14 +151,22 @@ split-noLf t = lines-noLf (dropCr t)
 pub split-room : (t : List ℕ) → length (unlines (splitLines t)) ≤ suc (length t)
 split-room t = omega (arith, ap length (split-text t), length-append (dropCr t) (missingLf t), drop-le t, missing-le t)
 
--- ---- the loop of `split_lines`
+-- where the text has no CR nothing goes
+pub drop-none : (t : List ℕ) → lacks 13 t ≡ true → dropCr t ≡ t
+unfolding dropCr
+drop-none [] h = refl
+drop-none (x ∷ xs) h =
+    let l = lacks-cons 13 x xs h in
+    drop-case x xs false (ap (λ (q : Bool). q && prefixed (10 ∷ []) xs) (l .0)) ∙ ap (λ (r : List ℕ). x ∷ r) (drop-none xs (l .1))
 
--- what the first step still has to write, from the place i on
+-- ---- the loop of `put_bytes`
+
+-- what is still to be written, from the place i on
 abbrev pub Splitting : List ℕ → ℕ → List ℕ → List ℕ → ℕ → Type 0
-Splitting t i d₀ d o = Writing 0 (unlines (splitLines t)) (dropCr (drop i t) ++ missingLf t) d₀ d o
+Splitting t i d₀ d o = Writing 0 (dropCr t) (dropCr (drop i t)) d₀ d o
 
-pub splitting-start : (t d : List ℕ) → length (unlines (splitLines t)) ≤ length d → Splitting t 0 d d 0
-splitting-start t d h = writing-as (split-text t) (writing-start 0 (unlines (splitLines t)) d (omega arith))
+pub splitting-start : (t d : List ℕ) → length (dropCr t) ≤ length d → Splitting t 0 d d 0
+splitting-start t d h = writing-start 0 (dropCr t) d (omega arith)
 
 -- at a byte: a CR before an LF goes, and any other byte is written
 drop-at : (t : List ℕ) (i : ℕ) (b : Bool) → i < length t → prefixed (13 ∷ 10 ∷ []) (drop i t) ≡ b → dropCr (drop i t) ≡ cond b (dropCr (drop (i + 1) t)) (getD t i 0 ∷ dropCr (drop (i + 1) t))
@@ -162,10 +177,10 @@ drop-at t i b h e =
 
 module _ (t : List ℕ) (i : ℕ) {d₀ d : List ℕ} {o : ℕ} (w : Splitting t i d₀ d o) where
   pub splitting-cr : i < length t → prefixed (13 ∷ 10 ∷ []) (drop i t) ≡ true → Splitting t (i + 1) d₀ d o
-  splitting-cr h e = writing-as (ap (λ (l : List ℕ). l ++ missingLf t) (drop-at t i true h e)) w
+  splitting-cr h e = writing-as (drop-at t i true h e) w
 
-  splitting-byte : i < length t → prefixed (13 ∷ 10 ∷ []) (drop i t) ≡ false → Writing 0 (unlines (splitLines t)) (getD t i 0 ∷ dropCr (drop (i + 1) t) ++ missingLf t) d₀ d o
-  splitting-byte h e = writing-as (ap (λ (l : List ℕ). l ++ missingLf t) (drop-at t i false h e)) w
+  splitting-byte : i < length t → prefixed (13 ∷ 10 ∷ []) (drop i t) ≡ false → Writing 0 (dropCr t) (getD t i 0 ∷ dropCr (drop (i + 1) t)) d₀ d o
+  splitting-byte h e = writing-as (drop-at t i false h e) w
 
   pub splitting-room : i < length t → prefixed (13 ∷ 10 ∷ []) (drop i t) ≡ false → o < length d
   splitting-room h e = omega (arith, writing-room (splitting-byte h e))
@@ -173,7 +188,7 @@ module _ (t : List ℕ) (i : ℕ) {d₀ d : List ℕ} {o : ℕ} (w : Splitting t
   pub splitting-put : {d′ : List ℕ} {r : ℕ} → i < length t → prefixed (13 ∷ 10 ∷ []) (drop i t) ≡ false → Wrote d o (getD t i 0 ∷ []) d′ r → Splitting t (i + 1) d₀ d′ r
   splitting-put h e v = writing-put (splitting-byte h e) v
 
-  -- past the end only the LF that a last line lacks is left
-  pub splitting-last : length t ≤ i → Writing 0 (unlines (splitLines t)) (missingLf t) d₀ d o
+  -- past the end nothing is left
+  pub splitting-last : length t ≤ i → Wrote d₀ 0 (dropCr t) d o
   unfolding dropCr
-  splitting-last h = writing-as (ap (λ (l : List ℕ). dropCr l ++ missingLf t) (drop-of-length-le t h)) w
+  splitting-last h = writing-end (writing-as (ap dropCr (drop-of-length-le t h)) w)

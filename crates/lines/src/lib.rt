@@ -3,9 +3,9 @@ ghost use mathlib.Core.Path.{_≡_};
 ghost use mathlib.Core.List.{[], _∷_, _++_};
 ghost use Prim.Native.Nat.{ℕ, min, _≤_, _<_, _+_};
 ghost use lib.ListN.{getD, drop, length, replicate};
-ghost use Rattle.lines.specs.Lf.{part, upTo, countOf, prefixed, suffixed, same, holds, endsIn, linesOf, unlines};
+ghost use Rattle.lines.specs.Lf.{part, upTo, countOf, lacks, prefixed, suffixed, same, holds, endsIn, linesOf, unlines};
 ghost use Rattle.lines.specs.Out.{Wrote};
-ghost use Rattle.lines.specs.Steps.{splitLines, joined, overFrom};
+ghost use Rattle.lines.specs.Steps.{dropCr, splitLines, joined, overFrom};
 
 // The byte at a place, or 0 past the end.
 pub fn byte_at(s: &[u8], i: usize) -> u8
@@ -72,6 +72,23 @@ pub fn count_byte(s: &[u8], b: u8) -> usize
         }
     }
     n
+}
+
+// Whether no byte is `b`. It goes on to the end, so that the compiler compares many bytes at a time.
+fn lacks(s: &[u8], b: u8) -> bool
+    ensures { λ r. ⌜ r ≡ lacks b (now (s .entry)) ⌝ }
+{
+    let mut none = true;
+    let mut i = 0;
+    while i < s.len() {
+        if s[i] == b {
+            none = false;
+            i += 1;
+        } else {
+            i += 1;
+        }
+    }
+    none
 }
 
 // Whether `p` stands at the front.
@@ -203,10 +220,10 @@ fn cr_lf(s: &[u8], i: usize) -> bool
     byte_at(s, i + 1) == 10
 }
 
-// Writes the lines of a text, each followed by one LF, and returns the place after them.
-pub fn split_lines(text: &[u8], out: &mut [u8]) -> usize
-    requires { ⌜ length (unlines (splitLines (now text))) ≤ length (now out) ⌝ }
-    ensures { λ r. ⌜ Wrote (now (out .entry)) 0 (unlines (splitLines (now (text .entry)))) (now (out .exit)) r ⌝ }
+// Writes a text without each CR that stands before an LF, byte by byte, and returns the place after it.
+fn put_bytes(text: &[u8], out: &mut [u8]) -> usize
+    requires { ⌜ length (dropCr (now text)) ≤ length (now out) ⌝ }
+    ensures { λ r. ⌜ Wrote (now (out .entry)) 0 (dropCr (now (text .entry))) (now (out .exit)) r ⌝ }
 {
     let mut i = 0;
     let mut o = 0;
@@ -218,6 +235,26 @@ pub fn split_lines(text: &[u8], out: &mut [u8]) -> usize
             i += 1;
         }
     }
+    o
+}
+
+// The same: a text without CR is written at once.
+fn put_bare(text: &[u8], out: &mut [u8]) -> usize
+    requires { ⌜ length (dropCr (now text)) ≤ length (now out) ⌝ }
+    ensures { λ r. ⌜ Wrote (now (out .entry)) 0 (dropCr (now (text .entry))) (now (out .exit)) r ⌝ }
+{
+    if lacks(text, 13) {
+        return put(out, 0, text);
+    }
+    put_bytes(text, out)
+}
+
+// Writes the lines of a text, each followed by one LF, and returns the place after them.
+pub fn split_lines(text: &[u8], out: &mut [u8]) -> usize
+    requires { ⌜ length (unlines (splitLines (now text))) ≤ length (now out) ⌝ }
+    ensures { λ r. ⌜ Wrote (now (out .entry)) 0 (unlines (splitLines (now (text .entry)))) (now (out .exit)) r ⌝ }
+{
+    let o = put_bare(text, out);
     if ends_lf(text) {
         return o;
     }
@@ -247,21 +284,32 @@ pub enum Crowded {
     Nowhere,
 }
 
-// The first line with more than `most` bytes `[`.
-pub fn crowded_line(text: &[u8], most: usize) -> Crowded
-    ensures { λ r. ⌜ r ≡ overFrom most 91 0 (splitLines (now (text .entry))) ⌝ }
+// The first line with more than `most` bytes `b`.
+fn first_over(text: &[u8], most: usize, b: u8) -> Crowded
+    ensures { λ r. ⌜ r ≡ overFrom most b 0 (linesOf (now (text .entry))) ⌝ }
 {
     let mut n = 0;
     let mut i = 0;
     while i < text.len() {
         let e = find_byte(text, i, 10);
-        if most < count_byte(&text[i..e], b'[') {
+        if most < count_byte(&text[i..e], b) {
             return Crowded::At(n);
         }
         n += 1;
         i = after(text, e);
     }
     Crowded::Nowhere
+}
+
+// The first line with more than `most` bytes `[`: none, where the whole text has no more.
+pub fn crowded_line(text: &[u8], most: usize) -> Crowded
+    ensures { λ r. ⌜ r ≡ overFrom most 91 0 (splitLines (now (text .entry))) ⌝ }
+{
+    let b = b'[';
+    if count_byte(text, b) <= most {
+        return Crowded::Nowhere;
+    }
+    first_over(text, most, b)
 }
 
 // How long the lines of `lf` are when joined, the last LF settled.

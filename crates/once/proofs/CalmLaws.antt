@@ -11,25 +11,13 @@ use lib.ListN.{length, drop, getD, length-drop, drop-of-length-le}
 use lib.Seq.{drop-cons}
 use Rattle.lines.specs.Lf.{all, part, upTo, lacks, cutOn, linesOf, holds}
 use Rattle.lines.proofs.Tests.{no, and-left, and-right, and-both}
-use Rattle.lines.proofs.LfLaws.{rest-of}
+use Rattle.lines.proofs.LfLaws.{rest-of, lacks-cons, lacks-with}
 use Rattle.place.specs.Region.{isHeader}
 use Rattle.once.specs.Tables.{anyCall}
 use Rattle.once.specs.Noted.{CalmIn, Calm}
 use Rattle.once.proofs.CallLaws.{no-call}
 
 -- ---- lines without `(`
-
-lacks-cons : (b a : ℕ) (s : List ℕ) → lacks b (a ∷ s) ≡ true → (eqb a b ≡ false) × (lacks b s ≡ true)
-unfolding lacks
-lacks-cons b a s h = go (eqb a b) h
-  where
-    go : (t : Bool) → cond t false (lacks b s) ≡ true → (t ≡ false) × (lacks b s ≡ true)
-    go true k = no k
-    go false k = (refl, k)
-
-lacks-with : (b a : ℕ) (s : List ℕ) → eqb a b ≡ false → lacks b s ≡ true → lacks b (a ∷ s) ≡ true
-unfolding lacks
-lacks-with b a s e h = rw e h
 
 up-lacks : (b : ℕ) (s : List ℕ) → lacks b s ≡ true → length s ≤ upTo b s
 unfolding upTo
@@ -40,7 +28,7 @@ calm-cut : (t : Bool) (a : ℕ) (ls : List (List ℕ)) → eqb a 40 ≡ false �
 unfolding cutOn lacks
 calm-cut true a ls e h = h
 calm-cut false a [] e h = rw e refl
-calm-cut false a (l ∷ ls) e h = and-both (lacks-with 40 a l e (and-left (lacks 40 l) _ h)) (and-right (lacks 40 l) _ h)
+calm-cut false a (l ∷ ls) e h = and-both (lacks-with 40 a l false e ∙ and-left (lacks 40 l) _ h) (and-right (lacks 40 l) _ h)
 
 calm-lines : (s : List ℕ) → lacks 40 s ≡ true → all (lacks 40) (linesOf s) ≡ true
 unfolding linesOf
@@ -84,7 +72,7 @@ calm-less s i z p n h j q = go (ltb (i - 1) j) refl
     at : lacks 40 (drop (i - 1) s) ≡ true
     at =
         let k : i - 1 < length s = omega arith in
-        ap (lacks 40) (drop-cons s (i - 1) 0 k) ∙ lacks-with 40 (getD s (i - 1) 0) (drop (suc (i - 1)) s) (ne-eqb (getD s (i - 1) 0) 40 n) (h (suc (i - 1)) (omega arith))
+        ap (lacks 40) (drop-cons s (i - 1) 0 k) ∙ lacks-with 40 (getD s (i - 1) 0) (drop (suc (i - 1)) s) false (ne-eqb (getD s (i - 1) 0) 40 n) ∙ h (suc (i - 1)) (omega arith)
 
     go : (b : Bool) → ltb (i - 1) j ≡ b → lacks 40 (drop j s) ≡ true
     go true e = let k = ltb-true (i - 1) j e in h j (omega arith)

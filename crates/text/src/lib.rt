@@ -6,10 +6,10 @@ ghost use Prim.Native.Nat.{_≤_, _<_, _+_, _-_};
 ghost use lib.ListN.{getD, take, drop, length};
 ghost use lib.Dec.{leb};
 ghost use Rattle.text.specs.Trim.{whiteChar, whiteHead, whiteTail, fromOf, endWhite, toOf, toEnd, trimOf};
-ghost use Rattle.lines.specs.Lf.{within, part};
+ghost use Rattle.lines.specs.Lf.{within, all, part};
 ghost use Rattle.text.specs.Class.{isName, isQuote, opensPattern, classOf};
 ghost use Rattle.text.specs.White.{isWhite};
-ghost use Rattle.text.specs.Utf8Form.{seqLen, utf8Of};
+ghost use Rattle.text.specs.Utf8Form.{seqLen, utf8Of, isAscii};
 
 // The class of each byte: 1 a byte of a name, 2 a quote, 3 one after which `/` starts a pattern, 0 any other.
 const CLASSES: [u8; 256] = [
@@ -397,8 +397,25 @@ pub fn seq_at(s: &[u8], i: usize) -> usize
     seq_len(a, byte(s, i + 1), byte(s, i + 2), byte(s, i + 3))
 }
 
-// Whether a text is UTF-8, and where it is not.
-pub fn check_utf8(text: &[u8]) -> Utf8
+// Whether every byte is one of ASCII. It goes on to the end, so that the compiler looks at many bytes at a time.
+fn is_ascii(s: &[u8]) -> bool
+    ensures { λ r. ⌜ r ≡ all isAscii (now (s .entry)) ⌝ }
+{
+    let mut low = true;
+    let mut i = 0;
+    while i < s.len() {
+        if s[i] < 0x80 {
+            i += 1;
+        } else {
+            low = false;
+            i += 1;
+        }
+    }
+    low
+}
+
+// Whether a text is UTF-8, and where it is not, sequence by sequence.
+fn scan_utf8(text: &[u8]) -> Utf8
     ensures { λ r. ⌜ r ≡ utf8Of (now (text .entry)) ⌝ }
 {
     let mut i = 0;
@@ -410,6 +427,16 @@ pub fn check_utf8(text: &[u8]) -> Utf8
         i += n;
     }
     Utf8::Valid
+}
+
+// The same: a text of ASCII is.
+pub fn check_utf8(text: &[u8]) -> Utf8
+    ensures { λ r. ⌜ r ≡ utf8Of (now (text .entry)) ⌝ }
+{
+    if is_ascii(text) {
+        return Utf8::Valid;
+    }
+    scan_utf8(text)
 }
 
 // Whether one, two or three bytes are a character, and it is white space.

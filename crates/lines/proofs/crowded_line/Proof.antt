@@ -1,78 +1,26 @@
 -- `lines::crowded_line` meets its contract. Assumes nothing.
-use Prim.Native.Nat.{_-_, _≤_}
 use native.Mathlib.Omega.{arith}
+use mathlib.Core.Path.{refl, sym, _∙_}
+use Rattle.lines.proofs.Counts.{over-start, over-none}
 use borrow.Author.Needs.{needs}
-use mathlib.Core.Path.{_≡_, refl, sym, _∙_}
-use lib.ListN.{length, drop}
-use Rattle.lines.specs.Lf.{linesOf}
-use Rattle.lines.specs.Steps.{splitLines, overFrom}
-use Rattle.lines.proofs.LfLaws.{find-le}
-use Rattle.lines.proofs.Counts.{over-start, over-here, over-on, over-end}
 use Rattle.lines.proofs.crowded_line.Statement.{statement}
 use Rattle.lines.proofs.crowded_line.Tie as tie
 use Rattle.lines.proofs.crowded_line.Reads as reads
 use Rattle.lines.proofs.crowded_line.Lts as lts
-use Rattle.lines.proofs.after.Reads as after-reads
 use Rattle.lines.proofs.count_byte.Reads as count-byte-reads
-use Rattle.lines.proofs.find_byte.Reads as find-byte-reads
+use Rattle.lines.proofs.first_over.Reads as first-over-reads
 
-abbrev Inv-loop : tie.InvT-loop
-Inv-loop text most n₀ i₀ n i = (n ≤ i) × ((i ≤ length text) × (overFrom most 91 n (linesOf (drop i text)) ≡ overFrom most 91 0 (splitLines text)))
-
-abbrev μ-loop : tie.MeasureT-loop
-μ-loop text most n₀ i₀ n i = length text - i
-
-loop-holds : tie.Need-loop-holds Inv-loop μ-loop
-loop-holds c = (omega arith, (omega arith, over-start (c .before .args .most) 91 refl (c .before .args .text .now)))
-
-find-byte-requires : tie.Need-find-byte-requires Inv-loop μ-loop
-find-byte-requires c κs = search needs
-
-sub-count-byte : tie.Need-sub-count-byte Inv-loop μ-loop
-sub-count-byte c = omega arith
-
-part-count-byte-start : tie.Need-part-count-byte-start Inv-loop μ-loop
-part-count-byte-start c = omega arith
-
-part-count-byte-end : tie.Need-part-count-byte-end Inv-loop μ-loop
-part-count-byte-end c = let l = c .before .before .loop in omega (arith, find-le 10 (c .before .before .before .before .args .text .now) (l .i) (c .find-byte .result) (omega arith) (c .find-byte .ensures))
-
-count-byte-requires : tie.Need-count-byte-requires Inv-loop μ-loop
+count-byte-requires : tie.Need-count-byte-requires
 count-byte-requires c κs = search needs
 
-returns : tie.Need-returns Inv-loop μ-loop
-returns c = let a = c .before .before .before .before .before .before .before .args in let l = c .before .before .before .before .before .loop in sym (over-here (a .most) 91 (a .text .now) (l .n) (l .i) (c .before .before .before .find-byte .result) (c .before .before .before .before .loop-test .taken) (c .before .before .before .find-byte .ensures) (omega (arith, c .if1 .taken, c .before .count-byte .ensures))) ∙ l .inv .1 .1
+returns : tie.Need-returns
+returns c = let a = c .before .before .before .args in sym (over-none (a .most) 91 refl refl (a .text .now) (omega (arith, c .if1 .taken, c .before .count-byte .ensures)))
 
-add-n : tie.Need-add-n Inv-loop μ-loop
-add-n c = omega arith
+first-over-requires : tie.Need-first-over-requires
+first-over-requires c κs = search needs
 
-after-requires : tie.Need-after-requires Inv-loop μ-loop
-after-requires c κs = search needs
-
-loop-less : tie.Need-loop-less Inv-loop μ-loop
-loop-less c = omega (arith, c .after .ensures, c .before .before .before .before .find-byte .ensures, c .before .before .before .before .before .loop-test .taken)
-
-loop-again : tie.Need-loop-again Inv-loop μ-loop
-loop-again c = let a = c .before .before .before .before .before .before .before .before .args in let l = c .before .before .before .before .before .before .loop in let r = c .after .ensures in (omega (arith, r, c .before .before .before .before .find-byte .ensures, c .before .before .before .before .before .loop-test .taken), (omega arith, rw r (sym (over-on (a .most) 91 (a .text .now) (l .n) (l .i) (c .before .before .before .before .find-byte .result) (c .before .before .before .before .before .loop-test .taken) (c .before .before .before .before .find-byte .ensures) (omega (arith, c .before .if1 .left, c .before .before .count-byte .ensures))) ∙ l .inv .1 .1)))
-
-returns-2 : tie.Need-returns-2 Inv-loop μ-loop
-returns-2 c = let a = c .before .before .before .args in let l = c .before .loop in sym (over-end (a .most) 91 (a .text .now) (l .n) (l .i) (c .loop-test .left)) ∙ l .inv .1 .1
+returns-2 : tie.Need-returns-2
+returns-2 c = let a = c .before .before .before .before .args in c .first-over .ensures ∙ over-start (a .most) 91 refl (a .text .now)
 
 pub crowded-line-spec : {M : Type 1} → statement M
-crowded-line-spec =
-    tie.close
-    (tie.spec
-    Inv-loop
-    μ-loop
-    loop-holds
-    find-byte-requires
-    sub-count-byte
-    part-count-byte-start
-    part-count-byte-end
-    count-byte-requires
-    returns
-    add-n
-    after-requires
-    loop-less
-    loop-again
-    returns-2)
+crowded-line-spec = tie.close (tie.spec count-byte-requires returns first-over-requires returns-2)

@@ -1,100 +1,57 @@
 -- `lines::split_lines` meets its contract. Assumes nothing.
-use Prim.Native.Nat.{_-_}
 use native.Mathlib.Omega.{arith}
+use mathlib.Core.Path.{sym, ap, _∙_}
+use mathlib.Core.List.{[], _∷_, _++_}
+use lib.ListN.{length, length-append}
+use Rattle.lines.specs.Steps.{dropCr}
+use Rattle.lines.proofs.OutLaws.{wrote-as, wrote-then, wrote-length}
+use Rattle.lines.proofs.StepLaws.{missingLf, missing-ended, missing-empty, missing-open, split-text, split-by, split-whole}
 use borrow.Author.Needs.{needs}
-use mathlib.Core.Path.{sym, _∙_}
-use lib.ListN.{length}
-use Rattle.lines.proofs.OutLaws.{writing-as, writing-put, writing-room, writing-end, writing-length, wrote-length}
-use Rattle.lines.proofs.StepLaws.{Splitting, splitting-start, splitting-cr, splitting-room, splitting-put, splitting-last, missing-ended, missing-empty, missing-open}
 use Rattle.lines.proofs.split_lines.Statement.{statement}
 use Rattle.lines.proofs.split_lines.Tie as tie
 use Rattle.lines.proofs.split_lines.Reads as reads
 use Rattle.lines.proofs.split_lines.Lts as lts
-use Rattle.lines.proofs.cr_lf.Reads as cr-lf-reads
 use Rattle.lines.proofs.ends_lf.Reads as ends-lf-reads
+use Rattle.lines.proofs.put_bare.Reads as put-bare-reads
 use Rattle.lines.proofs.put_byte.Reads as put-byte-reads
 
-abbrev Inv-loop : tie.InvT-loop
-Inv-loop text out₀ i₀ o₀ out i o = Splitting text i out₀ out o
+put-bare-requires : tie.Need-put-bare-requires
+put-bare-requires c κs = let t = c .before .before .before .args .text .now in omega (arith, c .before .before .before .pre, ap length (split-text t), length-append (dropCr t) (missingLf t))
 
-abbrev μ-loop : tie.MeasureT-loop
-μ-loop text out₀ i₀ o₀ out i o = length text - i
-
-loop-holds : tie.Need-loop-holds Inv-loop μ-loop
-loop-holds c = splitting-start _ _ (c .before .before .pre)
-
-cr-lf-requires : tie.Need-cr-lf-requires Inv-loop μ-loop
-cr-lf-requires c κs = search needs
-
-add-i : tie.Need-add-i Inv-loop μ-loop
-add-i c = omega arith
-
-loop-less : tie.Need-loop-less Inv-loop μ-loop
-loop-less c = omega arith
-
-loop-again : tie.Need-loop-again Inv-loop μ-loop
-loop-again c = let l = c .before .before .before .loop in splitting-cr _ (l .i) (l .inv) (c .before .before .loop-test .taken) (sym (c .before .cr-lf .ensures) ∙ c .if1 .taken)
-
-shared-slice-read-put-byte : tie.Need-shared-slice-read-put-byte Inv-loop μ-loop
-shared-slice-read-put-byte c = omega arith
-
-put-byte-requires : tie.Need-put-byte-requires Inv-loop μ-loop
-put-byte-requires c κs = let l = c .before .before .before .before .before .loop in splitting-room (c .before .before .before .before .before .before .before .before .args .text .now) (l .i) (l .inv) (c .before .before .before .before .loop-test .taken) (sym (c .before .before .before .cr-lf .ensures) ∙ c .before .before .if1 .left)
-
-add-i-2 : tie.Need-add-i-2 Inv-loop μ-loop
-add-i-2 c = omega arith
-
-loop-less-2 : tie.Need-loop-less-2 Inv-loop μ-loop
-loop-less-2 c = omega arith
-
-loop-again-2 : tie.Need-loop-again-2 Inv-loop μ-loop
-loop-again-2 c = let l = c .before .before .before .before .before .before .before .before .loop in splitting-put (c .before .before .before .before .before .before .before .before .before .before .before .args .text .now) (l .i) (l .inv) (c .before .before .before .before .before .before .before .loop-test .taken) (sym (c .before .before .before .before .before .before .cr-lf .ensures) ∙ c .before .before .before .before .before .if1 .left) (c .before .before .put-byte .ensures)
-
-ends-lf-requires : tie.Need-ends-lf-requires Inv-loop μ-loop
+ends-lf-requires : tie.Need-ends-lf-requires
 ends-lf-requires c κs = search needs
 
-same-length : tie.Need-same-length Inv-loop μ-loop
-same-length c = writing-length (c .before .before .before .loop .inv)
+same-length : tie.Need-same-length
+same-length c = search needs
 
-returns : tie.Need-returns Inv-loop μ-loop
-returns c = let t = c .before .before .before .before .before .before .args .text .now in let l = c .before .before .before .loop in writing-end (writing-as (missing-ended t (sym (c .before .ends-lf .ensures) ∙ c .if2 .taken)) (splitting-last t (l .i) (l .inv) (c .before .before .loop-test .left)))
+returns : tie.Need-returns
+returns c = let t = c .before .before .before .before .before .before .before .before .args .text .now in wrote-as (split-whole t (missing-ended t (sym (c .before .ends-lf .ensures) ∙ c .if1 .taken))) (c .before .before .before .before .put-bare .ensures)
 
-same-length-2 : tie.Need-same-length-2 Inv-loop μ-loop
-same-length-2 c = writing-length (c .before .before .before .before .loop .inv)
+same-length-2 : tie.Need-same-length-2
+same-length-2 c = search needs
 
-returns-2 : tie.Need-returns-2 Inv-loop μ-loop
-returns-2 c = let t = c .before .before .before .before .before .before .before .args .text .now in let l = c .before .before .before .before .loop in writing-end (writing-as (missing-empty t (c .if3 .taken)) (splitting-last t (l .i) (l .inv) (c .before .before .before .loop-test .left)))
+returns-2 : tie.Need-returns-2
+returns-2 c = let t = c .before .before .before .before .before .before .before .before .before .args .text .now in wrote-as (split-whole t (missing-empty t (c .if2 .taken))) (c .before .before .before .before .before .put-bare .ensures)
 
-put-byte-requires-2 : tie.Need-put-byte-requires-2 Inv-loop μ-loop
-put-byte-requires-2 c κs = let t = c .before .before .before .before .before .before .before .before .args .text .now in let l = c .before .before .before .before .before .loop in omega (arith, writing-room (writing-as (missing-open t (sym (c .before .before .before .ends-lf .ensures) ∙ c .before .before .if2 .left) (c .before .if3 .left)) (splitting-last t (l .i) (l .inv) (c .before .before .before .before .loop-test .left))))
+put-byte-requires : tie.Need-put-byte-requires
+put-byte-requires c κs = let t = c .before .before .before .before .before .before .before .before .before .before .args .text .now in let w = c .before .before .before .before .before .before .put-bare .ensures in omega (arith, c .before .before .before .before .before .before .before .before .before .before .pre, w .place, wrote-length w, ap length (split-by t (missing-open t (sym (c .before .before .before .ends-lf .ensures) ∙ c .before .before .if1 .left) (c .before .if2 .left))), length-append (dropCr t) (10 ∷ []))
 
-same-length-3 : tie.Need-same-length-3 Inv-loop μ-loop
-same-length-3 c = wrote-length (c .before .before .put-byte2 .ensures) ∙ writing-length (c .before .before .before .before .before .before .before .before .loop .inv)
+same-length-3 : tie.Need-same-length-3
+same-length-3 c = search needs
 
-returns-3 : tie.Need-returns-3 Inv-loop μ-loop
-returns-3 c = let t = c .before .before .before .before .before .before .before .before .before .before .before .args .text .now in let l = c .before .before .before .before .before .before .before .before .loop in writing-end (writing-put (writing-as (missing-open t (sym (c .before .before .before .before .before .before .ends-lf .ensures) ∙ c .before .before .before .before .before .if2 .left) (c .before .before .before .before .if3 .left)) (splitting-last t (l .i) (l .inv) (c .before .before .before .before .before .before .before .loop-test .left))) (c .before .before .put-byte2 .ensures))
+returns-3 : tie.Need-returns-3
+returns-3 c = let t = c .before .before .before .before .before .before .before .before .before .before .before .before .before .args .text .now in wrote-as (split-by t (missing-open t (sym (c .before .before .before .before .before .before .ends-lf .ensures) ∙ c .before .before .before .before .before .if1 .left) (c .before .before .before .before .if2 .left))) (wrote-then (c .before .before .before .before .before .before .before .before .before .put-bare .ensures) (c .before .before .put-byte .ensures))
 
 pub split-lines-spec : {M : Type 1} → statement M
 split-lines-spec =
     tie.close
     (tie.spec
-    Inv-loop
-    μ-loop
-    loop-holds
-    cr-lf-requires
-    add-i
-    loop-less
-    loop-again
-    shared-slice-read-put-byte
-    put-byte-requires
-    add-i-2
-    loop-less-2
-    loop-again-2
+    put-bare-requires
     ends-lf-requires
     same-length
     returns
     same-length-2
     returns-2
-    put-byte-requires-2
+    put-byte-requires
     same-length-3
     returns-3)
