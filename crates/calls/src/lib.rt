@@ -2,7 +2,7 @@
 ghost use mathlib.Core.Path.{_≡_};
 ghost use mathlib.Core.Bool.{true, not, _&&_};
 ghost use mathlib.Core.List.{[], _∷_};
-ghost use Prim.Native.Nat.{_+_, _-_, _%_, _≤_, _<_, _^_};
+ghost use Prim.Native.Nat.{_+_, _-_, _≤_, _<_, _^_};
 ghost use lib.Dec.{eqb};
 ghost use lib.ListN.{length, getD, replicate};
 ghost use Rattle.lines.specs.Lf.{linesOf, unlines};
@@ -72,26 +72,6 @@ fn takes(line: &[u8], starts: bool) -> bool
     !is_control(text::trim_start(line))
 }
 
-// The last digit of a register.
-fn last_digit(reg: names::Register) -> u8
-    ensures { λ r. ⌜ r ≡ 48 + reg .0 % 10 ⌝ }
-{
-    48 + (reg.0 % 10) as u8
-}
-
-// What a line does with a register: nothing, where it lacks the register's last digit.
-fn use_in(line: &[u8], reg: names::Register) -> reading::Use
-    ensures { λ r. ⌜ (r .reads ≡ lineReads (reg .0) (now (line .entry))) × (r .stores ≡ lineStores (reg .0) (now (line .entry))) ⌝ }
-{
-    if lines::find_byte(line, 0, last_digit(reg)) >= line.len() {
-        return reading::Use {
-            reads: 0,
-            stores: false,
-        };
-    }
-    reading::use_of(line, reg)
-}
-
 // Whether a line below reads a register, in this region and up to the next store of it, whose own reads count.
 fn read_later(below: &[u8], reg: names::Register) -> bool
     ensures { λ r. ⌜ r ≡ readLater (leavesOf plain) (reg .0) (linesOf (now (below .entry))) ⌝ }
@@ -102,7 +82,7 @@ fn read_later(below: &[u8], reg: names::Register) -> bool
         if place::is_header(&below[i..e]) {
             return false;
         }
-        let u = use_in(&below[i..e], reg);
+        let u = reading::use_of(&below[i..e], reg);
         if u.reads != 0 {
             return true;
         }

@@ -1,7 +1,7 @@
 -- Laws of LF form and of cutting. Assumes nothing.
 use Prim.Native.Nat.{ℕ, zero, suc, _+_, _-_, _≤_, _<_, min}
 use mathlib.Core.Path.{_≡_, refl, sym, ap, _∙_}
-use mathlib.Core.Bool.{Bool, true, false, cond}
+use mathlib.Core.Bool.{Bool, true, false, cond, not, _||_}
 use mathlib.Core.List.{List, [], _∷_, _++_}
 use native.Mathlib.Omega.{arith}
 use native.Mathlib.Numerals.{add-one}
@@ -47,6 +47,17 @@ pub find-le : (b : ℕ) (s : List ℕ) (i e : ℕ) → i ≤ length s → e ≡ 
 find-le b s i e h q = omega (arith, upTo-le b (drop i s), length-drop i s)
 
 -- ---- how many
+
+-- none stands before the first
+pub count-skip : (b : ℕ) (l : List ℕ) → countOf b (drop (upTo b l) l) ≡ countOf b l
+unfolding countOf upTo
+count-skip b [] = refl
+count-skip b (x ∷ xs) = go (eqb x b) refl (count-skip b xs)
+  where
+    go : (t : Bool) → eqb x b ≡ t → countOf b (drop (upTo b xs) xs) ≡ countOf b xs →
+        countOf b (drop (cond t 0 (suc (upTo b xs))) (x ∷ xs)) ≡ cond t (suc (countOf b xs)) (countOf b xs)
+    go true e h = rw e refl
+    go false e h = h
 
 pub count-le : (b : ℕ) (l : List ℕ) → countOf b l ≤ length l
 unfolding countOf
@@ -268,6 +279,52 @@ lacks-cons b x xs h = go (eqb x b) h
 pub lacks-with : (b x : ℕ) (xs : List ℕ) (t : Bool) → eqb x b ≡ t → lacks b (x ∷ xs) ≡ cond t false (lacks b xs)
 unfolding lacks
 lacks-with b x xs t e = rw e
+
+-- the first b is past bytes that lack it
+pub up-skip : (b n : ℕ) (l : List ℕ) → n ≤ length l → lacks b (take n l) ≡ true → upTo b l ≡ n + upTo b (drop n l)
+unfolding upTo
+up-skip b zero l h k = omega arith
+up-skip b (suc n) [] h k = absurd (omega arith)
+up-skip b (suc n) (x ∷ xs) h k =
+    let u = lacks-cons b x (take n xs) k in
+    rw (u .0) (let r = up-skip b n xs (omega arith) (u .1) in omega arith)
+
+-- eight tests at once
+lacks-eight : (b x₀ x₁ x₂ x₃ x₄ x₅ x₆ x₇ : ℕ) →
+    not (eqb x₀ b || (eqb x₁ b || (eqb x₂ b || (eqb x₃ b || (eqb x₄ b || (eqb x₅ b || (eqb x₆ b || eqb x₇ b))))))) ≡ lacks b (x₀ ∷ x₁ ∷ x₂ ∷ x₃ ∷ x₄ ∷ x₅ ∷ x₆ ∷ x₇ ∷ [])
+unfolding lacks
+lacks-eight b x₀ x₁ x₂ x₃ x₄ x₅ x₆ x₇ = go (eqb x₀ b) (eqb x₁ b) (eqb x₂ b) (eqb x₃ b) (eqb x₄ b) (eqb x₅ b) (eqb x₆ b) (eqb x₇ b)
+  where
+    go : (a c d e f g h i : Bool) → not (a || (c || (d || (e || (f || (g || (h || i))))))) ≡
+        cond a false (cond c false (cond d false (cond e false (cond f false (cond g false (cond h false (cond i false true)))))))
+    go true c d e f g h i = refl
+    go false true d e f g h i = refl
+    go false false true e f g h i = refl
+    go false false false true f g h i = refl
+    go false false false false true g h i = refl
+    go false false false false false true h i = refl
+    go false false false false false false true i = refl
+    go false false false false false false false true = refl
+    go false false false false false false false false = refl
+
+eight-of : (b : ℕ) (l : List ℕ) → 8 ≤ length l →
+    not (eqb (getD l 0 0) b || (eqb (getD l 1 0) b || (eqb (getD l 2 0) b || (eqb (getD l 3 0) b || (eqb (getD l 4 0) b || (eqb (getD l 5 0) b || (eqb (getD l 6 0) b || eqb (getD l 7 0) b))))))) ≡ lacks b (take 8 l)
+eight-of b [] h = absurd (omega arith)
+eight-of b (x₀ ∷ []) h = absurd (omega arith)
+eight-of b (x₀ ∷ x₁ ∷ []) h = absurd (omega arith)
+eight-of b (x₀ ∷ x₁ ∷ x₂ ∷ []) h = absurd (omega arith)
+eight-of b (x₀ ∷ x₁ ∷ x₂ ∷ x₃ ∷ []) h = absurd (omega arith)
+eight-of b (x₀ ∷ x₁ ∷ x₂ ∷ x₃ ∷ x₄ ∷ []) h = absurd (omega arith)
+eight-of b (x₀ ∷ x₁ ∷ x₂ ∷ x₃ ∷ x₄ ∷ x₅ ∷ []) h = absurd (omega arith)
+eight-of b (x₀ ∷ x₁ ∷ x₂ ∷ x₃ ∷ x₄ ∷ x₅ ∷ x₆ ∷ []) h = absurd (omega arith)
+eight-of b (x₀ ∷ x₁ ∷ x₂ ∷ x₃ ∷ x₄ ∷ x₅ ∷ x₆ ∷ x₇ ∷ l) h = lacks-eight b x₀ x₁ x₂ x₃ x₄ x₅ x₆ x₇
+
+pub eight-at : (b : ℕ) (s : List ℕ) (j : ℕ) → j + 8 ≤ length s →
+    not (eqb (getD s j 0) b || (eqb (getD s (j + 1) 0) b || (eqb (getD s (j + 2) 0) b || (eqb (getD s (j + 3) 0) b || (eqb (getD s (j + 4) 0) b || (eqb (getD s (j + 5) 0) b || (eqb (getD s (j + 6) 0) b || eqb (getD s (j + 7) 0) b))))))) ≡ lacks b (take 8 (drop j s))
+eight-at b s j h =
+    let z : getD (drop j s) 0 0 ≡ getD s j 0 = getD-drop j s 0 0 ∙ ap (λ (k : ℕ). getD s k 0) (omega arith) in
+    let g : (k : ℕ) → getD (drop j s) k 0 ≡ getD s (j + k) 0 = λ k. getD-drop j s k 0 in
+    rw (sym z, sym (g 1), sym (g 2), sym (g 3), sym (g 4), sym (g 5), sym (g 6), sym (g 7)) (eight-of b (drop j s) (omega (arith, length-drop j s)))
 
 module _ (b : ℕ) (s : List ℕ) (j : ℕ) (h : j < length s) where
   pub lacks-here : getD s j 0 ≡ b → lacks b (drop j s) ≡ false

@@ -2,7 +2,7 @@
 ghost use mathlib.Core.Path.{_≡_};
 ghost use mathlib.Core.List.{[], _∷_, _++_};
 ghost use Prim.Native.Nat.{ℕ, min, _≤_, _<_, _+_};
-ghost use lib.ListN.{getD, drop, length, replicate};
+ghost use lib.ListN.{getD, take, drop, length, replicate};
 ghost use Rattle.lines.specs.Lf.{part, upTo, countOf, lacks, prefixed, suffixed, same, holds, endsIn, linesOf, unlines};
 ghost use Rattle.lines.specs.Out.{Wrote};
 ghost use Rattle.lines.specs.Steps.{dropCr, splitLines, joined, overFrom};
@@ -43,8 +43,8 @@ pub fn cut(s: &[u8], a: usize, e: usize) -> &[u8]
     &s[from..to]
 }
 
-// The place of the first `b` from `i` on, or the end.
-pub fn find_byte(s: &[u8], i: usize, b: u8) -> usize
+// The place of the first `b` from `i` on, or the end, byte by byte.
+fn find_one(s: &[u8], i: usize, b: u8) -> usize
     ensures { λ r. ⌜ r ≡ i + upTo b (drop i (now (s .entry))) ⌝ }
 {
     let mut j = i;
@@ -57,12 +57,44 @@ pub fn find_byte(s: &[u8], i: usize, b: u8) -> usize
     j
 }
 
-// How many bytes `b` there are.
+// Whether none of the eight bytes at a place is `b`; the compiler compares them at once.
+fn lacks_eight(s: &[u8], j: usize, b: u8) -> bool
+    requires { ⌜ j + 8 ≤ length (now s) ⌝ }
+    ensures { λ r. ⌜ r ≡ lacks b (take 8 (drop j (now (s .entry)))) ⌝ }
+{
+    !((s[j] == b)
+        | ((s[j + 1] == b)
+            | ((s[j + 2] == b)
+                | ((s[j + 3] == b)
+                    | ((s[j + 4] == b)
+                        | ((s[j + 5] == b) | ((s[j + 6] == b) | (s[j + 7] == b))))))))
+}
+
+// The place of the first `b` from `i` on, or the end: by eight bytes, as long as these lack it.
+pub fn find_byte(s: &[u8], i: usize, b: u8) -> usize
+    ensures { λ r. ⌜ r ≡ i + upTo b (drop i (now (s .entry))) ⌝ }
+{
+    if s.len() < 8 {
+        return find_one(s, i, b);
+    }
+    let n = s.len() - 7;
+    let mut j = i;
+    while j < n {
+        if lacks_eight(s, j, b) {
+            j += 8;
+        } else {
+            return find_one(s, j, b);
+        }
+    }
+    find_one(s, j, b)
+}
+
+// How many bytes `b` there are, counted from the first.
 pub fn count_byte(s: &[u8], b: u8) -> usize
     ensures { λ r. ⌜ r ≡ countOf b (now (s .entry)) ⌝ }
 {
     let mut n = 0;
-    let mut i = 0;
+    let mut i = find_byte(s, 0, b);
     while i < s.len() {
         if s[i] == b {
             n += 1;

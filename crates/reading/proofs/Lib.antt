@@ -1,3 +1,4 @@
 pub mod UseLaws
 pub mod AssignLaws
 pub mod ByLine
+mod Digits

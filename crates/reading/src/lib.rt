@@ -1,5 +1,6 @@
 // What a line reads and stores, and the two sides of an assignment.
 ghost use mathlib.Core.Path.{_≡_};
+ghost use Prim.Native.Nat.{_+_, _%_};
 ghost use Rattle.lines.specs.Lf.{part, linesOf};
 ghost use Rattle.reading.specs.Uses.{lineReads, storesBy, lineStores, lineUses, usedIn};
 ghost use Rattle.reading.specs.Assign.{sidesOf, assignOf};
@@ -32,8 +33,8 @@ fn stores_in(p: parse::Line, reg: names::Register) -> bool
     }
 }
 
-// What a line does with a register.
-pub fn use_of(line: &[u8], reg: names::Register) -> Use
+// What a line does with a register, by reading it.
+fn use_read(line: &[u8], reg: names::Register) -> Use
     ensures { λ r. ⌜ (r .reads ≡ lineReads (reg .0) (now (line .entry))) × (r .stores ≡ lineStores (reg .0) (now (line .entry))) ⌝ }
 {
     let p = parse::parse(line);
@@ -43,6 +44,26 @@ pub fn use_of(line: &[u8], reg: names::Register) -> Use
         reads: n,
         stores: s,
     }
+}
+
+// The last digit of a register.
+fn last_digit(reg: names::Register) -> u8
+    ensures { λ r. ⌜ r ≡ 48 + reg .0 % 10 ⌝ }
+{
+    48 + (reg.0 % 10) as u8
+}
+
+// What a line does with a register: nothing, where it lacks the register's last digit.
+pub fn use_of(line: &[u8], reg: names::Register) -> Use
+    ensures { λ r. ⌜ (r .reads ≡ lineReads (reg .0) (now (line .entry))) × (r .stores ≡ lineStores (reg .0) (now (line .entry))) ⌝ }
+{
+    if lines::find_byte(line, 0, last_digit(reg)) >= line.len() {
+        return Use {
+            reads: 0,
+            stores: false,
+        };
+    }
+    use_read(line, reg)
 }
 
 // Whether a line reads or stores a register.

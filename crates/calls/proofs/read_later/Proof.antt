@@ -17,7 +17,7 @@ use Rattle.calls.proofs.read_later.Lts as lts
 use Rattle.lines.proofs.after.Reads as after-reads
 use Rattle.lines.proofs.find_byte.Reads as find-byte-reads
 use Rattle.place.proofs.is_header.Reads as is-header-reads
-use Rattle.calls.proofs.use_in.Reads as use-in-reads
+use Rattle.reading.proofs.use_of.Reads as use-of-reads
 
 abbrev Inv-loop : tie.InvT-loop
 Inv-loop below reg i₀ i = (i ≤ length below) × (readLater (leavesOf plain) (reg .0) (linesOf (drop i below)) ≡ readLater (leavesOf plain) (reg .0) (linesOf below))
@@ -57,27 +57,27 @@ returns c =
     sym (later-header plain _ _ (l .i) (f .result) (c .before .before .before .before .loop-test .taken) (f .ensures) (so (c .before .is-header .ensures) (c .if1 .taken))) ∙ l .inv .1
 
 -- src/lib.rt:46:33
-sub-use-in : tie.Need-sub-use-in Inv-loop μ-loop
-sub-use-in c = omega (arith, c .before .before .before .find-byte .ensures)
+sub-use-of : tie.Need-sub-use-of Inv-loop μ-loop
+sub-use-of c = omega (arith, c .before .before .before .find-byte .ensures)
 
 -- src/lib.rt:46:33
-part-use-in-start : tie.Need-part-use-in-start Inv-loop μ-loop
-part-use-in-start c = omega (arith, c .before .before .before .find-byte .ensures)
+part-use-of-start : tie.Need-part-use-of-start Inv-loop μ-loop
+part-use-of-start c = omega (arith, c .before .before .before .find-byte .ensures)
 
 -- src/lib.rt:46:33
-part-use-in-end : tie.Need-part-use-in-end Inv-loop μ-loop
-part-use-in-end c = omega (arith, find-le 10 (c .before .before .before .before .before .before .before .args .below .now) (c .before .before .before .before .before .loop .i) (c .before .before .before .find-byte .result) (c .before .before .before .before .before .loop .inv .0) (c .before .before .before .find-byte .ensures))
+part-use-of-end : tie.Need-part-use-of-end Inv-loop μ-loop
+part-use-of-end c = omega (arith, find-le 10 (c .before .before .before .before .before .before .before .args .below .now) (c .before .before .before .before .before .loop .i) (c .before .before .before .find-byte .result) (c .before .before .before .before .before .loop .inv .0) (c .before .before .before .find-byte .ensures))
 
 -- src/lib.rt:46:13
-use-in-requires : tie.Need-use-in-requires Inv-loop μ-loop
-use-in-requires c κs = search needs
+use-of-requires : tie.Need-use-of-requires Inv-loop μ-loop
+use-of-requires c κs = search needs
 
 -- src/lib.rt:48:13
 returns-2 : tie.Need-returns-2 Inv-loop μ-loop
 returns-2 c =
     let l = c .before .before .before .before .before .before .before .before .before .loop in
     let f = c .before .before .before .before .before .before .before .find-byte in
-    let u = c .before .before .use-in .ensures in
+    let u = c .before .before .use-of .ensures in
     sym (later-read plain _ _ (l .i) (f .result) (c .before .before .before .before .before .before .before .before .loop-test .taken) (f .ensures) (so (c .before .before .before .before .before .is-header .ensures) (c .before .before .before .before .if1 .left)) _ (u .0) (c .if2 .taken)) ∙ l .inv .1
 
 -- src/lib.rt:51:13
@@ -85,7 +85,7 @@ returns-3 : tie.Need-returns-3 Inv-loop μ-loop
 returns-3 c =
     let l = c .before .before .before .before .before .before .before .before .before .before .loop in
     let f = c .before .before .before .before .before .before .before .before .find-byte in
-    let u = c .before .before .before .use-in .ensures in
+    let u = c .before .before .before .use-of .ensures in
     sym (later-store plain _ _ (l .i) (f .result) (c .before .before .before .before .before .before .before .before .before .loop-test .taken) (f .ensures) (so (c .before .before .before .before .before .before .is-header .ensures) (c .before .before .before .before .before .if1 .left)) _ (u .0) (c .before .if2 .left) _ (u .1) (c .if3 .taken)) ∙ l .inv .1
 
 -- src/lib.rt:53:9
@@ -101,7 +101,7 @@ loop-again : tie.Need-loop-again Inv-loop μ-loop
 loop-again c =
     let l = c .before .before .before .before .before .before .before .before .before .before .before .loop in
     let f = c .before .before .before .before .before .before .before .before .before .find-byte in
-    let u = c .before .before .before .before .use-in .ensures in
+    let u = c .before .before .before .before .use-of .ensures in
     (omega (arith, c .after .ensures), sym (later-on plain _ _ (l .i) (f .result) (c .before .before .before .before .before .before .before .before .before .before .loop-test .taken) (f .ensures) (so (c .before .before .before .before .before .before .before .is-header .ensures) (c .before .before .before .before .before .before .if1 .left)) _ (u .0) (c .before .before .if2 .left) _ (u .1) (c .before .if3 .left) _ (c .after .ensures)) ∙ l .inv .1)
 
 -- src/lib.rt:37:1
@@ -121,10 +121,10 @@ read-later-spec =
     part-is-header-end
     is-header-requires
     returns
-    sub-use-in
-    part-use-in-start
-    part-use-in-end
-    use-in-requires
+    sub-use-of
+    part-use-of-start
+    part-use-of-end
+    use-of-requires
     returns-2
     returns-3
     after-requires

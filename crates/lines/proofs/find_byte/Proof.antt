@@ -1,29 +1,45 @@
 -- `lines::find_byte` meets its contract. Assumes nothing.
-use Prim.Native.Nat.{_+_, _-_, _≤_}
+use Prim.Native.Nat.{ℕ, _+_, _-_}
 use native.Mathlib.Omega.{arith}
-use mathlib.Core.Path.{_≡_, refl}
-use lib.ListN.{length, drop}
+use borrow.Author.Needs.{needs}
+use mathlib.Core.Path.{_≡_, refl, sym, ap, _∙_}
+use lib.ListN.{length, drop, length-drop}
+use lib.Seq.{drop-drop}
 use Rattle.lines.specs.Lf.{upTo}
-use Rattle.lines.proofs.LfLaws.{find-here, find-on, find-end}
+use Rattle.lines.proofs.LfLaws.{up-skip}
 use Rattle.lines.proofs.find_byte.Statement.{statement}
 use Rattle.lines.proofs.find_byte.Tie as tie
 use Rattle.lines.proofs.find_byte.Reads as reads
 use Rattle.lines.proofs.find_byte.Lts as lts
+use Rattle.lines.proofs.find_one.Reads as find-one-reads
+use Rattle.lines.proofs.lacks_eight.Reads as lacks-eight-reads
 
 abbrev Inv-loop : tie.InvT-loop
-Inv-loop s i b j₀ j = (i ≤ j) × (j + upTo b (drop j s) ≡ i + upTo b (drop i s))
+Inv-loop s i b n j₀ j = j + upTo b (drop j s) ≡ i + upTo b (drop i s)
 
 abbrev μ-loop : tie.MeasureT-loop
-μ-loop s i b j₀ j = length s - j
+μ-loop s i b n j₀ j = n - j
 
-loop-holds : tie.Need-loop-holds Inv-loop μ-loop
-loop-holds c = (omega arith, refl)
-
-shared-slice-read-if1 : tie.Need-shared-slice-read-if1 Inv-loop μ-loop
-shared-slice-read-if1 c = omega arith
+find-one-requires : tie.Need-find-one-requires Inv-loop μ-loop
+find-one-requires c κs = search needs
 
 returns : tie.Need-returns Inv-loop μ-loop
-returns c = let a = c .before .before .before .before .args in omega (arith, find-here (a .b) (a .s .now) (c .before .before .before .loop .j) (c .before .before .loop-test .taken) (c .if1 .taken), c .before .before .before .loop .inv .1)
+returns c = search needs
+
+sub-n : tie.Need-sub-n Inv-loop μ-loop
+sub-n c = omega arith
+
+loop-holds : tie.Need-loop-holds Inv-loop μ-loop
+loop-holds c = refl
+
+lacks-eight-requires : tie.Need-lacks-eight-requires Inv-loop μ-loop
+lacks-eight-requires c κs = omega arith
+
+find-one-requires-2 : tie.Need-find-one-requires-2 Inv-loop μ-loop
+find-one-requires-2 c κs = search needs
+
+returns-2 : tie.Need-returns-2 Inv-loop μ-loop
+returns-2 c = c .find-one2 .ensures ∙ c .before .before .before .before .loop .inv
 
 add-j : tie.Need-add-j Inv-loop μ-loop
 add-j c = omega arith
@@ -32,10 +48,13 @@ loop-less : tie.Need-loop-less Inv-loop μ-loop
 loop-less c = omega arith
 
 loop-again : tie.Need-loop-again Inv-loop μ-loop
-loop-again c = let a = c .before .before .before .before .args in (omega arith, omega (arith, find-on (a .b) (a .s .now) (c .before .before .before .loop .j) (c .before .before .loop-test .taken) (c .if1 .left), c .before .before .before .loop .inv .1))
+loop-again c = let a = c .before .before .before .before .before .before .args in let l = c .before .before .before .loop in omega (arith, l .inv, up-skip (a .b) 8 (drop (l .j) (a .s .now)) (omega (arith, length-drop (l .j) (a .s .now))) (sym (c .before .lacks-eight .ensures) ∙ c .if2 .taken), ap (upTo (a .b)) (drop-drop 8 (l .j) (a .s .now)))
 
-returns-2 : tie.Need-returns-2 Inv-loop μ-loop
-returns-2 c = let a = c .before .before .args in omega (arith, find-end (a .b) (a .s .now) (c .before .loop .j) (c .loop-test .left), c .before .loop .inv .1)
+find-one-requires-3 : tie.Need-find-one-requires-3 Inv-loop μ-loop
+find-one-requires-3 c κs = search needs
+
+returns-3 : tie.Need-returns-3 Inv-loop μ-loop
+returns-3 c = c .find-one3 .ensures ∙ c .before .before .loop .inv
 
 pub find-byte-spec : {M : Type 1} → statement M
 find-byte-spec =
@@ -43,10 +62,15 @@ find-byte-spec =
     (tie.spec
     Inv-loop
     μ-loop
-    loop-holds
-    shared-slice-read-if1
+    find-one-requires
     returns
+    sub-n
+    loop-holds
+    lacks-eight-requires
     add-j
     loop-less
     loop-again
-    returns-2)
+    find-one-requires-2
+    returns-2
+    find-one-requires-3
+    returns-3)

@@ -1,41 +1,30 @@
+-- `reading::use_of` meets its contract. Assumes nothing.
+use native.Mathlib.Omega.{arith}
+use Rattle.reading.proofs.Digits.{lacks-digit}
 use borrow.Author.Needs.{needs}
-use mathlib.Core.Path.{_≡_, _∙_}
-use Rattle.reading.proofs.UseLaws.{reads-of, stores-of}
 use Rattle.reading.proofs.use_of.Statement.{statement}
 use Rattle.reading.proofs.use_of.Tie as tie
 use Rattle.reading.proofs.use_of.Reads as reads
 use Rattle.reading.proofs.use_of.Lts as lts
-use Rattle.parse.proofs.parse.Reads as parse-reads
-use Rattle.parse.proofs.text_of.Reads as text-of-reads
-use Rattle.reading.proofs.stores_in.Reads as stores-in-reads
-use Rattle.words.proofs.count_reg.Reads as count-reg-reads
+use Rattle.reading.proofs.last_digit.Reads as last-digit-reads
+use Rattle.lines.proofs.find_byte.Reads as find-byte-reads
+use Rattle.reading.proofs.use_read.Reads as use-read-reads
 
--- src/lib.rt:39:9
-parse-requires : tie.Need-parse-requires
-parse-requires c κs = search needs
+last-digit-requires : tie.Need-last-digit-requires
+last-digit-requires c κs = search needs
 
--- src/lib.rt:40:30
-text-of-requires : tie.Need-text-of-requires
-text-of-requires c κs = search needs
+find-byte-requires : tie.Need-find-byte-requires
+find-byte-requires c κs = search needs
 
--- src/lib.rt:40:9
-count-reg-requires : tie.Need-count-reg-requires
-count-reg-requires c κs = search needs
-
--- src/lib.rt:41:9
-stores-in-requires : tie.Need-stores-in-requires
-stores-in-requires c κs = search needs
-
--- src/lib.rt:36:1
 returns : tie.Need-returns
-returns c =
-    let a = c .before .before .before .before .before .args in
-    let p = c .before .before .before .parse in (
-      c .before .count-reg .ensures ∙ reads-of (a .reg .0) (a .line .now) (p .result) (p .ensures) _ (c .before .before .text-of .ensures),
-      c .stores-in .ensures ∙ stores-of (a .reg .0) (a .line .now) (p .result) (p .ensures),
-    )
+returns c = lacks-digit _ _ _ (c .before .before .last-digit .ensures) (omega (arith, c .before .find-byte .ensures, c .if1 .taken))
+
+use-read-requires : tie.Need-use-read-requires
+use-read-requires c κs = search needs
+
+returns-2 : tie.Need-returns-2
+returns-2 c = search needs
 
 pub use-of-spec : {M : Type 1} → statement M
 use-of-spec =
-    tie.close
-    (tie.spec parse-requires text-of-requires count-reg-requires stores-in-requires returns)
+    tie.close (tie.spec last-digit-requires find-byte-requires returns use-read-requires returns-2)
