@@ -1,11 +1,11 @@
 -- Names as texts: what is read of what is printed, and the bytes that names are made of. Assumes nothing.
-use Prim.Native.Nat.{ℕ, _+_, _^_, _≤_, _<_}
+use Prim.Native.Nat.{ℕ, _+_, _-_, _*_, _^_, _≤_, _<_}
 use mathlib.Core.Path.{_≡_, refl, sym, ap, _∙_}
 use mathlib.Core.Bool.{Bool, true, false, cond, not, _&&_}
 use mathlib.Core.List.{List, [], _∷_, _++_}
 use native.Mathlib.Omega.{arith}
-use borrow.Author.Tests.{le-ltb, lt-ltb, eq-eqb}
-use lib.Dec.{ltb}
+use borrow.Author.Tests.{le-ltb, lt-ltb, leb-true, eq-eqb, ne-eqb}
+use lib.Dec.{ltb, leb}
 use lib.ListN.{length, drop, getD}
 use lib.Seq.{drop-drop, drop-append-seam}
 use Rattle.lines.specs.Lf.{prefixed, same}
@@ -17,7 +17,7 @@ use Rattle.names.specs.declared.Number.{Number}
 use Rattle.names.specs.declared.Number.the-variants as number
 use Rattle.names.specs.declared.RegName.the-variants as reg
 use Rattle.names.specs.declared.PhiName.the-variants as phi
-use Rattle.names.specs.Names.{isDigit, allDigits, numberOf, zeros, decimal, numberAfter, regWord, phiWord, tempWord, regBy, regOf, phiBy, phiOf, isTemp, regText, phiText, regIs, allNames, isIdent}
+use Rattle.names.specs.Names.{isDigit, allDigits, numbered, numberOf, zeros, decimal, numberAfter, regWord, phiWord, tempWord, regBy, regOf, phiBy, phiOf, isTemp, regText, phiText, regIs, allNames, isIdent}
 use Rattle.names.proofs.Digits.{number-read, all-append, all-more}
 use Rattle.lines.proofs.Compare.{same-eq}
 use Rattle.names.proofs.Equal.{front-append, front-of}
@@ -70,6 +70,32 @@ reg-by s = either regBy (prefixed regWord s) (numberOf (drop 1 s))
 reg-of : (n : Number) (q : Register) → regBy n ≡ reg.Reg q → n ≡ number.Of (q .0)
 reg-of (number.Of m) q e = let z : m ≡ q .0 = cc in ap number.Of z
 reg-of number.None q e = let z : _≡_ {A = ℕ} 0 1 = cc in absurd (omega arith)
+
+-- a text that does not begin with `r` names none
+pub reg-first : (s : List ℕ) → (getD s 0 0 ≡ 114 → ⊥) → regOf s ≡ reg.None
+unfolding regOf prefixed
+reg-first [] n = refl
+reg-first (x ∷ s) n = rw (ne-eqb 114 x (λ e. n (sym e)))
+
+-- one digit behind it
+pub reg-two : (s : List ℕ) → length s ≡ 2 → getD s 0 0 ≡ 114 → regOf s ≡ regBy (numberOf (getD s 1 0 ∷ []))
+unfolding regOf prefixed
+reg-two [] h e = absurd (omega arith)
+reg-two (x ∷ []) h e = absurd (omega arith)
+reg-two (x ∷ y ∷ []) h e = rw (eq-eqb 114 x (sym e))
+reg-two (x ∷ y ∷ z ∷ s) h e = absurd (omega arith)
+
+-- what one byte is as a number
+pub digit-other : (d : ℕ) → isDigit d ≡ false → regBy (numberOf (d ∷ [])) ≡ reg.None
+unfolding numberOf numbered
+digit-other d e = rw e
+
+pub digit-is : (d : ℕ) → isDigit d ≡ true → regBy (numberOf (d ∷ [])) ≡ reg.Reg (record { 0 = d - 48 })
+unfolding numberOf numbered
+digit-is d e =
+    let hi = leb-true d 57 (and-right (leb 48 d) (leb d 57) e) in
+    let v : 0 * 10 + (d - 48) ≡ d - 48 = omega arith in
+    rw (e, v, lt-ltb (d - 48) (2 ^ 64) (omega arith))
 
 pub reg-number : (s : List ℕ) (q : Register) → regOf s ≡ reg.Reg q → numberAfter regWord s ≡ number.Of (q .0)
 reg-number s q e = reg-of (numberAfter regWord s) q (sym (reg-by s) ∙ e)

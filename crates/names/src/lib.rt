@@ -1,8 +1,8 @@
 // The names of registers, phis and temps.
 ghost use mathlib.Core.Path.{_≡_};
-ghost use mathlib.Core.List.{_++_};
+ghost use mathlib.Core.List.{[], _∷_, _++_};
 ghost use Rattle.lines.specs.Lf.{same};
-ghost use Rattle.names.specs.Names.{allDigits, numberOf, zeros, decimal, numberAfter, regOf, phiOf, isTemp, regText, phiText, isIdent};
+ghost use Rattle.names.specs.Names.{allDigits, numberOf, zeros, decimal, numberAfter, regBy, regOf, phiOf, isTemp, regText, phiText, isIdent};
 
 // A register, a phi: numbers of their own, so that a table of one cannot be asked with another.
 pub struct Register(pub u64);
@@ -81,14 +81,40 @@ fn number_after(s: &[u8], p: &[u8]) -> Number
     read_number(lines::cut(s, p.len(), s.len()))
 }
 
+// The register whose number is one digit.
+fn digit_name(d: u8) -> RegName
+    ensures { λ r. ⌜ r ≡ regBy (numberOf (d ∷ [])) ⌝ }
+{
+    if d < b'0' {
+        return RegName::None;
+    }
+    if b'9' < d {
+        return RegName::None;
+    }
+    RegName::Reg(Register((d - b'0') as u64))
+}
+
 // The register that a text names.
-pub fn reg_name(s: &[u8]) -> RegName
+fn long_name(s: &[u8]) -> RegName
     ensures { λ r. ⌜ r ≡ regOf (now (s .entry)) ⌝ }
 {
     match number_after(s, b"r") {
         Number::Of(n) => RegName::Reg(Register(n)),
         Number::None => RegName::None,
     }
+}
+
+// The same: most texts do not begin with `r`, or have one digit.
+pub fn reg_name(s: &[u8]) -> RegName
+    ensures { λ r. ⌜ r ≡ regOf (now (s .entry)) ⌝ }
+{
+    if lines::byte_at(s, 0) != b'r' {
+        return RegName::None;
+    }
+    if s.len() == 2 {
+        return digit_name(s[1]);
+    }
+    long_name(s)
 }
 
 // The phi that a text names.

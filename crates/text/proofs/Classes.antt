@@ -61,6 +61,9 @@ name-digit b l h = simp (is-in 48 57 b l h)
 pub name-small : (b : ℕ) → 97 ≤ b → b ≤ 122 → isName b ≡ true
 name-small b l h = simp (is-above 48 57 b (omega arith), is-above 65 90 b (omega arith), is-in 97 122 b l h)
 
+pub name-capital : (b : ℕ) → 65 ≤ b → b ≤ 90 → isName b ≡ true
+name-capital b l h = simp (is-above 48 57 b (omega arith), is-in 65 90 b l h)
+
 -- .. and what is outside of all ranges to none, nor is it a quote
 pub no-name : (b : ℕ) → (48 ≤ b → 57 < b) → (65 ≤ b → 90 < b) → (97 ≤ b → 122 < b) → (b ≡ 95 → ⊥) → (b ≡ 36 → ⊥) → isName b ≡ false
 no-name b d u l s m = simp (is-out 48 57 b d, is-out 65 90 b u, is-out 97 122 b l, ne-eqb b 95 s, ne-eqb b 36 m)

@@ -1,13 +1,15 @@
 -- The white space at the ends of a list, one at a time.
 -- Assumes nothing.
 use mathlib.Core.Path.{_≡_, refl, sym, ap, _∙_}
-use mathlib.Core.Bool.{Bool, true, false, cond}
+use mathlib.Core.Bool.{Bool, true, false, cond, _&&_}
 use mathlib.Core.List.{List, [], _∷_}
 use Prim.Native.Nat.{ℕ, zero, suc, _+_, _-_, _≤_, _<_}
 use native.Mathlib.Omega.{arith}
+use native.Mathlib.Nat.{zero-add}
 use borrow.Author.Tests.{ltb-true, ltb-false, le-leb}
 use lib.Dec.{leb, ltb}
 use lib.ListN.{length, getD, drop, take, length-drop, drop-of-length-le}
+use Rattle.lines.proofs.Tests.{and-left, and-right}
 use Rattle.text.specs.White.{isWhite}
 use lib.Seq.{drop-cons, drop-drop, getD-drop, take-all}
 use Rattle.text.specs.Trim.{whiteHead, whiteTail, lead, endWhite, orOn, fromOf, toOf, toEnd, trimStart, trimOf}
@@ -149,3 +151,12 @@ back-space s e h l q = back-on s e 1 h (tail-ascii s e 32 h l (sym (ap (λ (t : 
 pub back-told : (s : List ℕ) (e c : ℕ) → e ≤ length s → toOf s ≡ endWhite s 0 e → c ≡ cond (leb 1 e) (getD s (e - 1) 0) 0 → 32 < c → c < 0x80 → e ≡ toOf s
 back-told s zero c l f q g h = absurd (omega arith)
 back-told s (suc n) c l f q g h = sym (f ∙ back-stop s (suc n) (omega arith) (tail-ascii s (suc n) c (omega arith) l q h ∙ dark c g h))
+
+-- a text that begins and ends so has no white space at its ends
+pub span-told : (s : List ℕ) (a c : ℕ) → a ≡ getD s 0 0 → c ≡ cond (leb 1 (length s)) (getD s (length s - 1) 0) 0 →
+    (ltb 32 a && ltb a 0x80) ≡ true → (ltb 32 c && ltb c 0x80) ≡ true → (0 ≡ fromOf s) × (length s ≡ toEnd s)
+unfolding toOf
+span-told s a c ea ec ha hc =
+    let f : 0 ≡ fromOf s = front-told s 0 a (omega arith) (omega arith) ea (ltb-true 32 a (and-left (ltb 32 a) (ltb a 0x80) ha)) (ltb-true a 0x80 (and-right (ltb 32 a) (ltb a 0x80) ha)) in
+    let t : length s ≡ toOf s = back-told s (length s) c (omega arith) refl ec (ltb-true 32 c (and-left (ltb 32 c) (ltb c 0x80) hc)) (ltb-true c 0x80 (and-right (ltb 32 c) (ltb c 0x80) hc)) in
+    (f, t ∙ sym (zero-add (toOf s)) ∙ ap (λ (n : ℕ). n + toOf (drop n s)) f)

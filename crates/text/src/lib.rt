@@ -278,13 +278,13 @@ fn class(b: u8) -> u8
     CLASSES[b as usize]
 }
 
-// Whether a byte belongs to a name. The bytes that are most of a text are answered before the table, which is copied at each use.
+// Whether a byte belongs to a name. All but `$`, `_` and the backtick are answered before the table, which is copied at each use.
 pub fn is_name_byte(b: u8) -> bool
     ensures { λ r. ⌜ r ≡ isName b ⌝ }
 {
     match b {
-        b'a'..=b'z' | b'0'..=b'9' => true,
-        0..=b'#' | b'%'..=b'/' | b':'..=b'@' => false,
+        b'a'..=b'z' | b'0'..=b'9' | b'A'..=b'Z' => true,
+        0..=b'#' | b'%'..=b'/' | b':'..=b'@' | b'['..=b'^' | b'{'..=255 => false,
         _ => class(b) == 1,
     }
 }
@@ -671,10 +671,25 @@ pub struct Span {
 }
 
 // The places at which a text begins and ends without the white space at its ends.
-pub fn trim_span(s: &[u8]) -> Span
+fn span_by(s: &[u8]) -> Span
     ensures { λ r. ⌜ (r .from ≡ fromOf (now (s .entry))) × (r .to ≡ toEnd (now (s .entry))) ⌝ }
 {
     let a = trim_from(s);
     let n = trim_to(&s[a..]);
     Span { from: a, to: a + n }
+}
+
+// The same: most texts begin and end with a byte that tells that there is none.
+pub fn trim_span(s: &[u8]) -> Span
+    ensures { λ r. ⌜ (r .from ≡ fromOf (now (s .entry))) × (r .to ≡ toEnd (now (s .entry))) ⌝ }
+{
+    let n = s.len();
+    let a = byte(s, 0);
+    let c = back(s, n, 1);
+    if (32 < a) & (a < 0x80) {
+        if (32 < c) & (c < 0x80) {
+            return Span { from: 0, to: n };
+        }
+    }
+    span_by(s)
 }

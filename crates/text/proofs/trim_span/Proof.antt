@@ -1,53 +1,29 @@
-use mathlib.Core.Path.{_≡_, refl, sym, ap, _∙_}
-use native.Mathlib.Omega.{arith}
-use Prim.Native.Nat.{_-_}
-use lib.ListN.{length, take, drop}
-use Rattle.text.specs.Trim.{fromOf, toOf}
-use Rattle.text.proofs.Trims.{fromOf-le, toEnd-le, rest-of}
+-- `text::trim_span` meets its contract. Assumes nothing.
+use Rattle.text.proofs.Trims.{span-told}
 use borrow.Author.Needs.{needs}
 use Rattle.text.proofs.trim_span.Statement.{statement}
 use Rattle.text.proofs.trim_span.Tie as tie
 use Rattle.text.proofs.trim_span.Reads as reads
 use Rattle.text.proofs.trim_span.Lts as lts
-use Rattle.text.proofs.trim_from.Reads as trim-from-reads
-use Rattle.text.proofs.trim_to.Reads as trim-to-reads
+use Rattle.text.proofs.back.Reads as back-reads
+use Rattle.text.proofs.byte.Reads as byte-reads
+use Rattle.text.proofs.span_by.Reads as span-by-reads
 
--- src/lib.rt:251:9
-trim-from-requires : tie.Need-trim-from-requires
-trim-from-requires c κs = search needs
+byte-requires : tie.Need-byte-requires
+byte-requires c κs = search needs
 
--- src/lib.rt:252:21
-sub-trim-to : tie.Need-sub-trim-to
-sub-trim-to c = omega (arith, fromOf-le (c .before .before .args .s .now))
+back-requires : tie.Need-back-requires
+back-requires c κs = search needs
 
--- src/lib.rt:252:21
-part-trim-to-start : tie.Need-part-trim-to-start
-part-trim-to-start c = omega (arith, fromOf-le (c .before .before .args .s .now))
-
--- src/lib.rt:252:21
-part-trim-to-end : tie.Need-part-trim-to-end
-part-trim-to-end c = search needs
-
--- src/lib.rt:252:9
-trim-to-requires : tie.Need-trim-to-requires
-trim-to-requires c κs = search needs
-
--- src/lib.rt:255:13
-add-t5 : tie.Need-add-t5
-add-t5 c = let s = c .before .before .before .before .args .s .now in let a = c .before .before .trim-from .result in let q : toOf (take (length s - a) (drop a s)) ≡ toOf (drop (fromOf s) s) = ap toOf (rest-of s a ∙ ap (λ n. drop n s) (c .before .before .trim-from .ensures)) in omega (arith, toEnd-le s)
-
--- src/lib.rt:248:1
 returns : tie.Need-returns
-returns c = let s = c .before .before .before .before .args .s .now in let a = c .before .before .trim-from .result in let q : toOf (take (length s - a) (drop a s)) ≡ toOf (drop (fromOf s) s) = ap toOf (rest-of s a ∙ ap (λ n. drop n s) (c .before .before .trim-from .ensures)) in (c .before .before .trim-from .ensures, omega arith)
+returns c = span-told (c .before .before .before .before .before .args .s .now) _ _ (c .before .before .before .byte .ensures) (c .before .before .back .ensures) (c .before .if1 .taken) (c .if2 .taken)
+
+span-by-requires : tie.Need-span-by-requires
+span-by-requires c κs = search needs
+
+returns-2 : tie.Need-returns-2
+returns-2 c = search needs
 
 pub trim-span-spec : {M : Type 1} → statement M
 trim-span-spec =
-    tie.close
-    (tie.spec
-    trim-from-requires
-    sub-trim-to
-    part-trim-to-start
-    part-trim-to-end
-    trim-to-requires
-    add-t5
-    returns)
+    tie.close (tie.spec byte-requires back-requires returns span-by-requires returns-2)
