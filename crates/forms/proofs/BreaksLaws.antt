@@ -1,13 +1,15 @@
 -- Laws of what a line writes, and of the words of a cleaned value. Assumes nothing.
-use Prim.Native.Nat.{ℕ, _+_, _≤_, _<_}
+use Prim.Native.Nat.{ℕ, suc, _+_, _≤_, _<_}
 use mathlib.Core.Path.{_≡_, refl, sym, ap, _∙_}
-use mathlib.Core.Bool.{Bool, true, false, _&&_, _||_, or-assoc}
+use mathlib.Core.Bool.{Bool, true, false, cond, _&&_, _||_, or-assoc}
 use mathlib.Core.List.{List, [], _∷_, _++_}
+use native.Mathlib.Omega.{arith}
 use borrow.Author.Tests.{lt-ltb, le-ltb}
 use lib.Dec.{eqb}
-use lib.ListN.{length, drop, drop-of-length-le}
+use lib.ListN.{length, drop, getD, length-drop, drop-of-length-le}
+use lib.Seq.{drop-drop}
 use Rattle.lines.specs.Lf.{part, prefixed, holds}
-use Rattle.lines.proofs.Tests.{or-true}
+use Rattle.lines.proofs.Tests.{no, or-true, eqb-sym}
 use Rattle.lines.proofs.LfLaws.{rest-of}
 use Rattle.text.specs.declared.Span.{Span}
 use Rattle.lexical.specs.declared.Word.{Word}
@@ -21,7 +23,7 @@ use Rattle.parse.specs.declared.Store.{Store}
 use Rattle.parse.specs.declared.Line.{Line}
 use Rattle.parse.specs.declared.Line.the-variants as line
 use Rattle.words.specs.Runs.{readsOf}
-use Rattle.forms.specs.Breaks.{writesHere, writes, writesAny, breaksBy, breaksWith, breaks}
+use Rattle.forms.specs.Breaks.{writesHere, writes, startLen, writesAny, breaksBy, breaksWith, breaks}
 
 -- ---- a name, and what stands round it
 
@@ -83,6 +85,71 @@ module _ (n l : List ℕ) (i : ℕ) where
 
   pub writes-at : i < length l → (b : Bool) → writesHere n (part i (length l) l) ≡ b → writes n (drop i l) ≡ b || writes n (drop (i + 1) l)
   writes-at h b e = rw (← e, rest-of l i, cons-at l i h) (writes-cons n _ _)
+
+-- ---- the places that `writes_word` looks at
+
+start-le : (b : ℕ) (l : List ℕ) → startLen b l ≤ length l
+unfolding startLen
+start-le b [] = omega arith
+start-le b (x ∷ xs) = go (eqb x b || eqb x 43) (start-le b xs)
+  where
+    go : (t : Bool) → startLen b xs ≤ length xs → cond t 0 (suc (startLen b xs)) ≤ suc (length xs)
+    go true h = omega arith
+    go false h = omega arith
+
+start-cons : (b x : ℕ) (xs : List ℕ) (t : Bool) → (eqb x b || eqb x 43) ≡ t → startLen b (x ∷ xs) ≡ cond t 0 (suc (startLen b xs))
+unfolding startLen
+start-cons b x xs t e = rw e
+
+module _ (b : ℕ) (l : List ℕ) (j : ℕ) where
+  pub start-here : j < length l → (eqb (getD l j 0) b || eqb (getD l j 0) 43) ≡ true → startLen b (drop j l) ≡ 0
+  start-here h e = rw (cons-at l j h) (start-cons b _ _ true e)
+
+  pub start-on : j < length l → (eqb (getD l j 0) b || eqb (getD l j 0) 43) ≡ false → startLen b (drop j l) ≡ suc (startLen b (drop (j + 1) l))
+  start-on h e = rw (cons-at l j h) (start-cons b _ _ false e)
+
+  pub start-end : length l ≤ j → startLen b (drop j l) ≡ 0
+  unfolding startLen
+  start-end h = rw (drop-of-length-le l h)
+
+  pub start-fits : (k : ℕ) → j ≤ length l → k ≡ j + startLen b (drop j l) → k ≤ length l
+  start-fits k h e = omega (arith, start-le b (drop j l), length-drop j l)
+
+-- nothing is written at a byte that is neither the first of the name nor a `+`
+here-not : (b x : ℕ) (n xs : List ℕ) → (eqb x b || eqb x 43) ≡ false → writesHere (b ∷ n) (x ∷ xs) ≡ false
+unfolding writesHere prefixed
+here-not b x n xs e = go (eqb x b) (eqb x 43) refl refl e
+  where
+    go : (s t : Bool) → eqb x b ≡ s → eqb x 43 ≡ t → s || t ≡ false → writesHere (b ∷ n) (x ∷ xs) ≡ false
+    go true t p q h = no (sym h)
+    go false true p q h = no (sym h)
+    go false false p q h = rw (eqb-sym b x ∙ p, eqb-sym 43 x ∙ q)
+
+skip-starts : (b : ℕ) (n l : List ℕ) → writes (b ∷ n) (drop (startLen b l) l) ≡ writes (b ∷ n) l
+unfolding startLen
+skip-starts b n [] = refl
+skip-starts b n (x ∷ xs) = go (eqb x b || eqb x 43) refl (skip-starts b n xs)
+  where
+    go : (t : Bool) → (eqb x b || eqb x 43) ≡ t → writes (b ∷ n) (drop (startLen b xs) xs) ≡ writes (b ∷ n) xs →
+        writes (b ∷ n) (drop (cond t 0 (suc (startLen b xs))) (x ∷ xs)) ≡ writes (b ∷ n) (x ∷ xs)
+    go true e h = refl
+    go false e h = h ∙ sym (writes-cons (b ∷ n) x xs ∙ ap (λ (t : Bool). t || writes (b ∷ n) xs) (here-not b x n xs e))
+
+-- so the search goes on at the next such byte
+pub writes-skip : (n l : List ℕ) (j k : ℕ) → 0 < length n → k ≡ j + startLen (getD n 0 0) (drop j l) → writes n (drop k l) ≡ writes n (drop j l)
+writes-skip [] l j k h e = absurd (omega arith)
+writes-skip (b ∷ n) l j k h e =
+    ap (λ (m : ℕ). writes (b ∷ n) (drop m l)) e ∙ ap (writes (b ∷ n)) (sym (drop-drop (startLen b (drop j l)) j l)) ∙ skip-starts b n (drop j l)
+
+-- a name without bytes
+pub writes-empty : (n l : List ℕ) → length n ≡ 0 → (holds (32 ∷ 61 ∷ []) l || holds (43 ∷ 43 ∷ []) l) ≡ writes n l
+unfolding writes
+writes-empty [] l h = ap (λ (t : Bool). holds (32 ∷ 61 ∷ []) l || t) (twice (holds (43 ∷ 43 ∷ []) l))
+  where
+    twice : (t : Bool) → t ≡ t || t
+    twice true = refl
+    twice false = refl
+writes-empty (x ∷ n) l h = absurd (omega arith)
 
 -- ---- the loop of `writes_any`
 

@@ -1,8 +1,8 @@
 -- `breaks_dependency`: a line that was taken in writes what a value needs. Assumes nothing.
-use Prim.Native.Nat.{ℕ}
-use mathlib.Core.Bool.{Bool, false, _||_}
+use Prim.Native.Nat.{ℕ, suc}
+use mathlib.Core.Bool.{Bool, false, cond, _||_}
 use mathlib.Core.List.{List, [], _∷_, _++_}
-use lib.Dec.{ltb}
+use lib.Dec.{eqb, ltb}
 use Rattle.lines.specs.Lf.{prefixed, holds}
 use Rattle.parse.specs.Parse.{parseOf}
 use Rattle.parse.specs.declared.Line.{Line}
@@ -22,6 +22,11 @@ writesHere n l = writesBy (λ (p : List ℕ). prefixed p l) n
 -- `name =`, `name++` or `++name` stands in the line
 unfoldable pub writes : List ℕ → List ℕ → Bool
 writes n l = writesBy (λ (p : List ℕ). holds p l) n
+
+-- how many bytes stand before the first that is b or `+`
+unfoldable pub startLen : ℕ → List ℕ → ℕ
+startLen b [] = 0
+startLen b (x ∷ xs) = cond (eqb x b || eqb x 43) 0 (suc (startLen b xs))
 
 -- one of the words is written
 unfoldable pub writesAny : List (List ℕ) → List ℕ → Bool

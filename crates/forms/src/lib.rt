@@ -4,13 +4,13 @@ ghost use mathlib.Core.Path.{_≡_};
 ghost use mathlib.Core.Bool.{cond, _||_};
 ghost use mathlib.Core.List.{[], _∷_, _++_};
 ghost use Prim.Native.Nat.{suc, _+_, _≤_, _<_, _^_};
-ghost use lib.ListN.{length};
+ghost use lib.ListN.{length, drop};
 ghost use Rattle.lines.specs.Lf.{among, partsOf, prefixed};
 ghost use Rattle.lines.specs.Out.{Wrote};
 ghost use Rattle.lexical.specs.Idents.{wordsIn};
 ghost use Rattle.forms.specs.Control.{isControl};
 ghost use Rattle.forms.specs.Primary.{allIdents, isPlainRef, keyword, isOperator, bareGo, isPrimary, bare, parenIfNeeded};
-ghost use Rattle.forms.specs.Breaks.{writesHere, writes, writesAny, breaksWith};
+ghost use Rattle.forms.specs.Breaks.{writesHere, writes, startLen, writesAny, breaksWith};
 
 // Whether a line, its front trimmed, is one that a condition or a loop begins.
 pub fn is_control_header(t: &[u8]) -> bool
@@ -202,18 +202,44 @@ fn writes_here(name: &[u8], l: &[u8]) -> bool
     lines::starts_with(lines::cut(l, 2, l.len()), name)
 }
 
-// Whether `name =`, `name++` or `++name` stands in a line.
-fn writes(name: &[u8], line: &[u8]) -> bool
+// The place of the first byte from `i` on that is `b` or `+`, or the end.
+fn find_start(line: &[u8], i: usize, b: u8) -> usize
+    ensures { λ r. ⌜ r ≡ i + startLen b (drop i (now (line .entry))) ⌝ }
+{
+    let mut j = i;
+    while j < line.len() {
+        if (line[j] == b) | (line[j] == b'+') {
+            return j;
+        }
+        j += 1;
+    }
+    j
+}
+
+// Whether `name =`, `name++` or `++name` stands in a line: where its first byte does, or a `+`.
+fn writes_word(name: &[u8], line: &[u8]) -> bool
+    requires { ⌜ 0 < length (now name) ⌝ }
     ensures { λ r. ⌜ r ≡ writes (now (name .entry)) (now (line .entry)) ⌝ }
 {
-    let mut i = 0;
+    let b = name[0];
+    let mut i = find_start(line, 0, b);
     while i < line.len() {
         if writes_here(name, &line[i..]) {
             return true;
         }
-        i += 1;
+        i = find_start(line, i + 1, b);
     }
     false
+}
+
+// The same of any name; one without bytes is written by ` =` and `++`.
+fn writes(name: &[u8], line: &[u8]) -> bool
+    ensures { λ r. ⌜ r ≡ writes (now (name .entry)) (now (line .entry)) ⌝ }
+{
+    if name.len() == 0 {
+        return lines::contains(line, b" =") | lines::contains(line, b"++");
+    }
+    writes_word(name, line)
 }
 
 // Whether a line writes one of the words of a cleaned text.
