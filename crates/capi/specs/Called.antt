@@ -4,7 +4,9 @@ use mathlib.Core.List.{List}
 use lib.ListN.{length}
 use Rattle.reading.specs.Reading.{plain}
 use Rattle.limits.specs.declared.Answer.{Answer}
-use Rattle.opt.specs.Passes.{stepOf, whole, resultOf}
+use Rattle.steps.specs.Step.{stepOf}
+use Rattle.passes.specs.Passes.{resultOf}
+use Rattle.opt.specs.Whole.{whole}
 use Rattle.limits.specs.Entry.{isShort, answerOf, passAnswer}
 
 -- what a text becomes by all passes, and by one of them

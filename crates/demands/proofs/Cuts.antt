@@ -10,7 +10,7 @@ use Rattle.reading.proofs.ByLine.{plain-by-line}
 use Rattle.calls.proofs.Instance as calls
 use Rattle.decls.proofs.Passes as decls
 use Rattle.bind.proofs.Cut as bind
-use Rattle.opt.specs.Passes.{stepOf}
+use Rattle.steps.specs.Step.{stepOf}
 
 -- the passes rebuild_calls, prune_decls and bind_declarators, by their numbers
 pub data Cuts : ℕ → Type 0 where

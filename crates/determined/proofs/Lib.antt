@@ -17,5 +17,7 @@ pub mod Calls
 pub mod Bind
 pub mod Globals
 pub mod Limits
+pub mod Steps
+pub mod Passes
 pub mod Opt
 pub mod Capi

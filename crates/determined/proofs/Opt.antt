@@ -5,7 +5,9 @@ use mathlib.Core.List.{List}
 use denote.Ref.{now}
 use Rattle.reading.specs.Reading.{plain}
 use Rattle.limits.specs.declared.Answer.{Answer}
-use Rattle.opt.specs.Passes.{stepOf, whole, resultOf}
+use Rattle.steps.specs.Step.{stepOf}
+use Rattle.passes.specs.Passes.{resultOf}
+use Rattle.opt.specs.Whole.{whole}
 use Rattle.limits.specs.Entry.{byteSize, blockSize, workAfter}
 use Rattle.opt.specs.Room.{After}
 use Rattle.opt.proofs as opt

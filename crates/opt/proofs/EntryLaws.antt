@@ -1,27 +1,24 @@
 -- Laws of the sizes, of what an answer leaves in all buffers, and of the passes that an entry runs. Assumes nothing.
-use Prim.Native.Nat.{ℕ, _+_, _-_, _≤_, _<_}
+use Prim.Native.Nat.{ℕ, _+_, _-_, _≤_}
 use mathlib.Core.Path.{_≡_, refl, sym, ap, _∙_}
-use mathlib.Core.Bool.{Bool, true, false, cond, _||_}
+use mathlib.Core.Bool.{Bool, true, false, _||_}
 use mathlib.Core.List.{List, _++_}
 use native.Mathlib.Omega.{arith}
-use borrow.Author.Tests.{lt-ltb, le-ltb, ltb-false, eq-eqb, ne-eqb}
+use borrow.Author.Tests.{ltb-false}
 use lib.Dec.{ltb}
-use lib.ListN.{length, drop}
-use Rattle.lines.specs.declared.Crowded as crowd
-use Rattle.lines.specs.declared.Crowded.the-variants as crowd-is
-use Rattle.lines.specs.Lf.{endsIn, within}
-use Rattle.lines.specs.Steps.{splitLines, joined, overFrom}
+use lib.ListN.{length, take, drop, length-append, length-drop}
+use lib.Seq.{length-take-le}
+use Rattle.lines.specs.Lf.{endsIn}
+use Rattle.lines.specs.Steps.{splitLines, joined}
 use Rattle.lines.proofs.Tests.{no}
-use Rattle.text.specs.declared.Utf8 as utf8
-use Rattle.text.specs.declared.Utf8.the-variants as utf8-is
-use Rattle.text.specs.Utf8Form.{utf8Of}
 use Rattle.reading.specs.Reading.{Reading}
 use Rattle.limits.specs.declared.Answer.{Answer}
-use Rattle.limits.specs.declared.Answer.the-variants.{Done, BadPass, TooLong, ShortWork, TooManyLines, Crowded, ShortResult}
-use Rattle.limits.specs.Answer.{numberOf, lengthOf, placeOf, runs, isDone}
+use Rattle.limits.specs.Answer.{runs}
 use Rattle.limits.proofs.AnswerLaws.{work-kept, work-wiped, roomed-runs}
-use Rattle.opt.specs.Passes.{stepOf, stepsOf, whole, resultOf}
-use Rattle.limits.specs.Entry.{byteSize, blockSize, isShort, byUtf8, byCrowd, checkedLines, checked, roomed, answerOf, passAnswer, blank, workAfter, outAfter}
+use Rattle.steps.specs.Step.{stepOf}
+use Rattle.passes.specs.Passes.{stepsOf, resultOf}
+use Rattle.opt.specs.Whole.{whole}
+use Rattle.limits.specs.Entry.{byteSize, blockSize, isShort, roomed, blank}
 use Rattle.opt.specs.Room.{Long, Wiped, After}
 
 -- ---- the sizes
@@ -45,6 +42,17 @@ long-by a b c d e u h =
       e-long = ltb-false (length e) byteSize (t .0);
       u-long = ltb-false (length u) blockSize (t .1);
     }
+
+-- ---- the stated part of a longer buffer
+
+pub stated : (n : ℕ) (d : List ℕ) → n ≤ length d → n ≡ length (take n d)
+stated n d h = sym (length-take-le n d h)
+
+pub same-part : (n : ℕ) (d xs : List ℕ) → n ≤ length d → length xs ≡ length (take n d) → length (xs ++ drop n d) ≡ length d
+same-part n d xs h q = omega (arith, length-append xs (drop n d), length-drop n d, stated n d h)
+
+pub wiped-part : (n m : ℕ) (d : List ℕ) {xs : List ℕ} → xs ≡ blank m → xs ++ drop n d ≡ blank m ++ drop n d
+wiped-part n m d e = ap (λ (x : List ℕ). x ++ drop n d) e
 
 -- ---- what an answer leaves
 

@@ -1,5 +1,2 @@
-pub mod Tame
-pub mod ChainLaws
-pub mod WorkLaws
 pub mod EntryLaws
 pub mod Whole

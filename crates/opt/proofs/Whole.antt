@@ -30,9 +30,12 @@ use Rattle.reading.proofs.ByLine.{ByLine}
 use Rattle.limits.specs.declared.Answer.{Answer}
 use Rattle.limits.specs.declared.Answer.the-variants.{Done, TooLong, ShortWork, TooManyLines, ShortResult}
 use Rattle.limits.specs.Answer.{numberOf, isDone}
-use Rattle.opt.specs.Passes.{stepOf, stepsOf, whole, resultOf}
+use Rattle.steps.specs.Step.{stepOf}
+use Rattle.passes.specs.Passes.{stepsOf, resultOf}
+use Rattle.opt.specs.Whole.{whole}
 use Rattle.limits.specs.Entry.{byUtf8, byCrowd, checkedLines, checked, roomed, answerOf, outAfter}
-use Rattle.opt.proofs.Tame.{Tame, tame-step, tame-steps}
+use Rattle.steps.proofs.Tame.{Tame, tame-step}
+use Rattle.passes.proofs.Between.{tame-steps}
 use Rattle.limits.proofs.AnswerLaws.{Accepted, answer-accepted, text-long, lines-many}
 use Rattle.opt.proofs.EntryLaws.{result-whole}
 

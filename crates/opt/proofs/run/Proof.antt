@@ -1,5 +1,6 @@
 use mathlib.Core.Path.{sym}
-use Rattle.opt.proofs.WorkLaws.{stated, same-part, wiped-part}
+use native.Mathlib.Omega.{arith}
+use Rattle.opt.proofs.EntryLaws.{stated, same-part, wiped-part}
 use Rattle.opt.proofs.run.Statement.{statement}
 use Rattle.opt.proofs.run.Tie as tie
 
@@ -34,10 +35,10 @@ slice-aggregate-work-5 : tie.Need-slice-aggregate-work-5
 slice-aggregate-work-5 c = stated 32769 (c .before .before .before .before .before .before .before .before .before .before .before .before .before .args .e .now) (c .before .before .before .before .before .before .before .before .before .before .before .before .before .pre .1 .1 .e-long)
 
 slice-relend-prefix-work-6 : tie.Need-slice-relend-prefix-work-6
-slice-relend-prefix-work-6 c = c .before .before .before .before .before .before .before .before .before .before .before .before .before .pre .1 .1 .u-long
+slice-relend-prefix-work-6 c = omega (arith, c .before .before .before .before .before .before .before .before .before .before .before .before .before .pre .1 .1 .u-long)
 
 slice-aggregate-work-6 : tie.Need-slice-aggregate-work-6
-slice-aggregate-work-6 c = stated 16384 (c .before .before .before .before .before .before .before .before .before .before .before .before .before .before .args .u .now) (c .before .before .before .before .before .before .before .before .before .before .before .before .before .before .pre .1 .1 .u-long)
+slice-aggregate-work-6 c = stated _ (c .before .before .before .before .before .before .before .before .before .before .before .before .before .before .args .u .now) (omega (arith, c .before .before .before .before .before .before .before .before .before .before .before .before .before .before .pre .1 .1 .u-long))
 
 work-requires : tie.Need-work-requires
 work-requires c κs =

@@ -5,7 +5,8 @@ use lib.ListN.{length}
 use Rattle.lines.proofs.Tests.{is-in, is-below, is-above}
 use Rattle.reading.specs.Reading.{plain}
 use Rattle.limits.specs.declared.Answer.the-variants.{BadPass}
-use Rattle.opt.specs.Passes.{stepOf, resultOf}
+use Rattle.steps.specs.Step.{stepOf}
+use Rattle.passes.specs.Passes.{resultOf}
 use Rattle.limits.specs.Entry.{isShort}
 use Rattle.limits.proofs.AnswerLaws.{pass-bad, pass-good, bad-runs, bad-done, out-kept}
 use Rattle.opt.proofs.EntryLaws.{all-kept, result-one}

@@ -1,7 +1,8 @@
 use borrow.Author.Needs.{needs}
-use Rattle.opt.proofs.Tame.{table, bind-room}
-use Rattle.opt.proofs.bind_step.Statement.{statement}
-use Rattle.opt.proofs.bind_step.Tie as tie
+use Rattle.steps.proofs.Tame.{table, bind-room}
+use Rattle.steps.proofs.StepLaws.{bind-left}
+use Rattle.steps.proofs.bind_step.Statement.{statement}
+use Rattle.steps.proofs.bind_step.Tie as tie
 
 slice-aggregate-bind-declarators : tie.Need-slice-aggregate-bind-declarators
 slice-aggregate-bind-declarators c = search needs
@@ -24,7 +25,7 @@ same-length-2 : tie.Need-same-length-2
 same-length-2 c = search needs
 
 returns : tie.Need-returns
-returns c = c .before .before .before .before .before .before .before .bind-declarators .ensures .0
+returns c = let p = c .before .before .before .before .before .before .before .bind-declarators .ensures in (p .0, bind-left _ (p .1 .0 .1 .1))
 
 pub bind-step-spec : {M : Type 1} → statement M
 bind-step-spec =

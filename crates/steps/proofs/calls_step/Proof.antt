@@ -1,7 +1,8 @@
 use borrow.Author.Needs.{needs}
-use Rattle.opt.proofs.Tame.{table, calls-room}
-use Rattle.opt.proofs.calls_step.Statement.{statement}
-use Rattle.opt.proofs.calls_step.Tie as tie
+use Rattle.steps.proofs.Tame.{table, calls-room}
+use Rattle.steps.proofs.StepLaws.{calls-left}
+use Rattle.steps.proofs.calls_step.Statement.{statement}
+use Rattle.steps.proofs.calls_step.Tie as tie
 
 slice-aggregate-rebuild-calls : tie.Need-slice-aggregate-rebuild-calls
 slice-aggregate-rebuild-calls c = search needs
@@ -36,7 +37,7 @@ same-length-5 : tie.Need-same-length-5
 same-length-5 c = search needs
 
 returns : tie.Need-returns
-returns c = c .before .before .before .before .before .before .before .before .before .before .before .before .before .before .rebuild-calls .ensures .0
+returns c = let p = c .before .before .before .before .before .before .before .before .before .before .before .before .before .before .rebuild-calls .ensures in (p .0, calls-left _ (p .1 .1 .1 .1 .0) (p .1 .1 .1 .1 .1 .0) (p .1 .1 .1 .1 .1 .1) (p .1 .1 .0 .1 .1))
 
 pub calls-step-spec : {M : Type 1} → statement M
 calls-step-spec =

@@ -1,21 +1,17 @@
--- Passes that bring no LF into a line, add no line and do not raise the weight, whatever a brace weighs; and the room that follows. Assumes nothing.
-use Prim.Native.Nat.{ℕ, zero, suc, _+_, _≤_, _<_, _^_}
+-- Passes that bring no LF into a line, add no line and do not raise the weight, whatever a brace weighs; and the room that each then has. Assumes nothing.
+use Prim.Native.Nat.{ℕ, _≤_, _<_, _^_}
 use mathlib.Core.Path.{_≡_, ap}
 use mathlib.Core.Bool.{Bool, true, false, cond}
 use mathlib.Core.List.{List}
 use native.Mathlib.Omega.{arith}
 use lib.Dec.{eqb}
-use lib.ListN.{length, replicate, length-replicate}
+use lib.ListN.{length, replicate, length-append, length-replicate}
 use Rattle.lines.specs.Lf.{linesOf, unlines, noLf}
-use Rattle.lines.specs.Steps.{splitLines}
 use Rattle.lines.specs.Acts.{apply}
-use Rattle.lines.proofs.LfLaws.{lines-unlines, count-le}
 use Rattle.lines.proofs.ActLaws.{apply-length}
-use Rattle.lines.proofs.StepLaws.{split-noLf}
+use Rattle.lines.proofs.StepLaws.{missingLf, lines-text}
 use Rattle.weight.specs.Weight.{weight}
-use Rattle.weight.proofs.Weigh.{length-weight, weight-twice}
-use Rattle.weight.proofs.Moves.{split-weight}
-use Rattle.weight.proofs.Braces.{braces-le}
+use Rattle.weight.proofs.Weigh.{length-weight}
 use Rattle.place.specs.Parents.{idsParents, pathParents}
 use Rattle.place.proofs.Rooms.{ids-parents-text, path-parents-text}
 use Rattle.reading.specs.Reading.{Reading, plain}
@@ -41,9 +37,9 @@ use Rattle.decls.specs.Decls.{pruneDecls}
 use Rattle.decls.proofs.Keeps.{keeps-noLf}
 use Rattle.decls.proofs.Decl.{prune-weight}
 use Rattle.decls.proofs.Passes.{prune-lines}
-use Rattle.opt.specs.Passes.{stepOf, stepsOf}
+use Rattle.steps.specs.Step.{stepOf}
 use Rattle.limits.specs.Entry.{byteSize, blockSize}
-use Rattle.opt.specs.Room.{Room}
+use Rattle.steps.specs.Bounds.{Bounded}
 
 pub record Tame (f : List (List ℕ) → List (List ℕ)) : Type 0 where
   pub keeps : (ls : List (List ℕ)) → noLf ls ≡ true → noLf (f ls) ≡ true
@@ -113,46 +109,19 @@ tame-step {R} c k =
     (tame-if (eqb k 6) (tame-bind c)
     tame-same))))))
 
-pub tame-steps : {R : Reading} → ByLine R → (k n : ℕ) → Tame (stepsOf R k n)
-unfolding stepsOf
-tame-steps c k zero = tame-same
-tame-steps c k (suc n) = tame-then (tame-step c k) (tame-steps c (suc k) n)
+-- ---- the room that a text within bounds has
 
--- ---- lines between two passes over a text t
-
-pub record Between (t : List ℕ) (ls : List (List ℕ)) : Type 0 where
-  pub clean : noLf ls ≡ true
-  pub light : (H : ℕ) → weight H (unlines ls) ≤ weight H t + 1
-  pub few : length ls ≤ 1024
-
-pub between-start : (t : List ℕ) → length (splitLines t) ≤ 1024 → Between t (splitLines t)
-between-start t h = record { clean = split-noLf t; light = λ H. split-weight H t; few = h }
-
-pub between-on : {t : List ℕ} {ls : List (List ℕ)} {f : List (List ℕ) → List (List ℕ)} → Tame f → Between t ls → Between t (f ls)
-between-on {t} {ls} {f} p w = record {
-  clean = p .keeps ls (w .clean);
-  light = λ H. omega (arith, p .weighs H ls, w .light H);
-  few = omega (arith, p .counts ls, w .few);
-}
-
--- they have room: at most twice the text and one LF, 1,024 lines, and no more `{` than the text
-pub between-room : {t : List ℕ} {ls : List (List ℕ)} → length t ≤ 16384 → Between t ls → Room (unlines ls)
-between-room {t} {ls} h w =
-    let e = lines-unlines ls (w .clean) in
-    record {
-      whole = ap unlines e;
-      heavy = omega (arith, w .light 0, weight-twice t);
-      lines = omega (arith, ap length e, w .few);
-      braces = omega (arith, braces-le (unlines ls) t 1 (w .light), count-le 123 t);
-    }
-
--- and so has what a pass makes of them
-pub room-fits : {s : List ℕ} {f : List (List ℕ) → List (List ℕ)} → Tame f → Room s → length (unlines (f (linesOf s))) ≤ byteSize
+-- what a pass makes of it
+pub room-fits : {s : List ℕ} {f : List (List ℕ) → List (List ℕ)} → Tame f → Bounded s → length (unlines (f (linesOf s))) ≤ byteSize
 room-fits {s} {f} p r =
-    omega (arith, length-weight 0 (unlines (f (linesOf s))), p .weighs 0 (linesOf s), ap (weight 0) (r .whole), r .heavy)
+    omega (arith, length-weight 0 (unlines (f (linesOf s))), p .weighs 0 (linesOf s), r .heavy)
 
-pub room-length : {s : List ℕ} → Room s → length s ≤ byteSize
-room-length {s} r = omega (arith, length-weight 0 s, r .heavy)
+-- the lines as they are
+pub room-lines : {s : List ℕ} → Bounded s → length (unlines (linesOf s)) ≤ byteSize
+room-lines r = room-fits tame-same r
+
+pub room-length : {s : List ℕ} → Bounded s → length s ≤ byteSize
+room-length {s} r = omega (arith, room-lines r, ap length (lines-text s), length-append s (missingLf s))
 
 -- ---- the room that passes with tables and scratch ask for
 
@@ -160,7 +129,7 @@ room-length {s} r = omega (arith, length-weight 0 s, r .heavy)
 pub table : (n : ℕ) → n ≤ length {A = ℕ} (replicate n 0)
 table n = omega (arith, length-replicate {A = ℕ} n 0)
 
-pub once-room : {s : List ℕ} {loops marks paths up scratch mid out : ℕ} → Room s → scratch ≡ byteSize → mid ≡ byteSize → up ≡ blockSize → out ≡ byteSize → 1024 ≤ loops → 1024 ≤ marks → 1024 ≤ paths →
+pub once-room : {s : List ℕ} {loops marks paths up scratch mid out : ℕ} → Bounded s → scratch ≡ byteSize → mid ≡ byteSize → up ≡ blockSize → out ≡ byteSize → 1024 ≤ loops → 1024 ≤ marks → 1024 ≤ paths →
     (length (linesOf s) ≤ loops) × ((length (linesOf s) ≤ marks) × ((length (linesOf s) ≤ paths) × ((length (pathParents (linesOf s)) ≤ up) × ((up < 2 ^ 32)
     × ((length s ≤ scratch) × ((length (unlines (apply (onceActs plain (linesOf s)) (linesOf s))) ≤ mid) × (length (unlines (optimizeOnce plain (linesOf s))) ≤ out)))))))
 once-room {s} r qs qm qu qo ql qk qp = (
@@ -186,23 +155,22 @@ once-room {s} r qs qm qu qo ql qk qp = (
   ),
 )
 
-pub phis-room : {s : List ℕ} → Room s →
+pub phis-room : {s : List ℕ} → Bounded s →
     (longest plain s ≤ byteSize) × ((length (unlines (round plain (linesOf s))) ≤ byteSize) × ((length (unlines (round plain (round plain (linesOf s)))) ≤ byteSize) × (length (unlines (pruneDeadPhis plain (linesOf s))) ≤ byteSize)))
 phis-room {s} r =
     let one : List (List ℕ) = round plain (linesOf s) in
-    let w = ap (weight 0) (r .whole) in
     let v = round-weight 0 plain (linesOf s) in (
-      omega (arith, longest-weight 0 s, w, r .heavy),
+      omega (arith, longest-weight 0 s, r .heavy),
       (
-        omega (arith, length-weight 0 (unlines one), v, w, r .heavy),
+        omega (arith, length-weight 0 (unlines one), v, r .heavy),
         (
-          omega (arith, length-weight 0 (unlines (round plain one)), round-weight 0 plain one, v, w, r .heavy),
+          omega (arith, length-weight 0 (unlines (round plain one)), round-weight 0 plain one, v, r .heavy),
           omega (arith, room-fits (tame-phis plain) r),
         ),
       ),
     )
 
-pub calls-room : {s : List ℕ} {owner blocks starts up stack cur next clean out : ℕ} → Room s → up ≡ blockSize → cur ≡ byteSize → next ≡ byteSize → clean ≡ byteSize → out ≡ byteSize →
+pub calls-room : {s : List ℕ} {owner blocks starts up stack cur next clean out : ℕ} → Bounded s → up ≡ blockSize → cur ≡ byteSize → next ≡ byteSize → clean ≡ byteSize → out ≡ byteSize →
     1024 ≤ owner → 1024 ≤ blocks → 1024 ≤ starts → byteSize < stack →
     ((length (linesOf s) ≤ owner) × ((length (linesOf s) ≤ blocks) × (length (linesOf s) ≤ starts)))
     × (((length (idsParents (linesOf s)) ≤ up) × (up < 2 ^ 32))
@@ -219,7 +187,7 @@ calls-room {s} r qu qc qn ql qo ko kb ks kt = (
   ),
 )
 
-pub bind-room : {s : List ℕ} {blocks starts up marks out : ℕ} → Room s → up ≡ blockSize → out ≡ byteSize → 1024 ≤ blocks → 1024 ≤ starts → 1024 ≤ marks →
+pub bind-room : {s : List ℕ} {blocks starts up marks out : ℕ} → Bounded s → up ≡ blockSize → out ≡ byteSize → 1024 ≤ blocks → 1024 ≤ starts → 1024 ≤ marks →
     ((length (linesOf s) ≤ blocks) × ((length (linesOf s) ≤ starts) × ((length (idsParents (linesOf s)) ≤ up) × (up < 2 ^ 32))))
     × ((length (linesOf s) ≤ marks) × (length (unlines (bindDeclarators plain (linesOf s))) ≤ out))
 bind-room {s} r qu qo qb qs qm = (

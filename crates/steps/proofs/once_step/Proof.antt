@@ -1,7 +1,8 @@
 use borrow.Author.Needs.{needs}
-use Rattle.opt.proofs.Tame.{table, once-room}
-use Rattle.opt.proofs.once_step.Statement.{statement}
-use Rattle.opt.proofs.once_step.Tie as tie
+use Rattle.steps.proofs.Tame.{table, once-room}
+use Rattle.steps.proofs.StepLaws.{once-left}
+use Rattle.steps.proofs.once_step.Statement.{statement}
+use Rattle.steps.proofs.once_step.Tie as tie
 
 slice-aggregate-optimize-once : tie.Need-slice-aggregate-optimize-once
 slice-aggregate-optimize-once c = search needs
@@ -30,7 +31,7 @@ same-length-4 : tie.Need-same-length-4
 same-length-4 c = search needs
 
 returns : tie.Need-returns
-returns c = c .before .before .before .before .before .before .before .before .before .before .before .optimize-once .ensures .0
+returns c = let p = c .before .before .before .before .before .before .before .before .before .before .before .optimize-once .ensures in (p .0, once-left _ (p .1 .0) (p .1 .1 .0) (p .1 .1 .1 .1 .1 .1))
 
 pub once-step-spec : {M : Type 1} → statement M
 once-step-spec =

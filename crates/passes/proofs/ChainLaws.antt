@@ -4,7 +4,6 @@ use mathlib.Core.Path.{_≡_, refl, sym, ap, _∙_}
 use mathlib.Core.List.{List}
 use native.Mathlib.Omega.{arith}
 use native.Mathlib.Numerals.{add-one}
-use borrow.Author.Tests.{eq-eqb, ne-eqb}
 use lib.ListN.{length, take}
 use Rattle.lines.specs.Lf.{linesOf, unlines}
 use Rattle.lines.specs.Out.{Wrote}
@@ -13,54 +12,14 @@ use Rattle.lines.proofs.LfLaws.{lines-unlines}
 use Rattle.lines.proofs.StepLaws.{split-room}
 use Rattle.lines.proofs.OutLaws.{wrote-length, wrote-part}
 use Rattle.reading.specs.Reading.{Reading, plain}
-use Rattle.globals.specs.Globals.{removeGlobals}
-use Rattle.temps.specs.Temps.{pruneDeadTemps}
-use Rattle.once.specs.Once.{optimizeOnce}
-use Rattle.phis.specs.Phis.{pruneDeadPhis}
-use Rattle.calls.specs.LeavesOf.{leavesOf}
-use Rattle.calls.specs.Calls.{rebuildCalls}
-use Rattle.decls.specs.Decls.{pruneDecls}
-use Rattle.bind.specs.Bind.{bindDeclarators}
 use Rattle.reading.proofs.ByLine.{plain-by-line}
-use Rattle.opt.specs.Passes.{stepOf, stepsOf}
+use Rattle.steps.specs.Step.{stepOf}
+use Rattle.steps.specs.Bounds.{Bounded, Sized}
+use Rattle.steps.proofs.Tame.{tame-step}
+use Rattle.passes.specs.Passes.{stepsOf}
 use Rattle.limits.specs.Entry.{byteSize}
-use Rattle.opt.specs.Room.{Room, Sized, Front}
-use Rattle.opt.proofs.Tame.{tame-step, Between, between-start, between-on, between-room}
-
--- ---- which pass a number is
-
-module _ (R : Reading) (k : ℕ) (ls : List (List ℕ)) where
-  pub step-0 : k ≡ 0 → stepOf R k ls ≡ removeGlobals ls
-  unfolding stepOf
-  step-0 e = rw (eq-eqb k 0 e)
-
-  pub step-1 : k ≡ 1 → stepOf R k ls ≡ pruneDeadTemps R ls
-  unfolding stepOf
-  step-1 e = rw e
-
-  pub step-2 : k ≡ 2 → stepOf R k ls ≡ optimizeOnce R ls
-  unfolding stepOf
-  step-2 e = rw e
-
-  pub step-3 : k ≡ 3 → stepOf R k ls ≡ pruneDeadPhis R ls
-  unfolding stepOf
-  step-3 e = rw e
-
-  pub step-4 : k ≡ 4 → stepOf R k ls ≡ rebuildCalls (leavesOf R) ls
-  unfolding stepOf
-  step-4 e = rw e
-
-  pub step-5 : k ≡ 5 → stepOf R k ls ≡ pruneDecls ls
-  unfolding stepOf
-  step-5 e = rw e
-
-  pub step-6 : k ≡ 6 → stepOf R k ls ≡ bindDeclarators R ls
-  unfolding stepOf
-  step-6 e = rw e
-
-  pub step-else : (k ≡ 0 → ⊥) → (k ≡ 1 → ⊥) → (k ≡ 2 → ⊥) → (k ≡ 3 → ⊥) → (k ≡ 4 → ⊥) → (k ≡ 5 → ⊥) → (k ≡ 6 → ⊥) → stepOf R k ls ≡ ls
-  unfolding stepOf
-  step-else a b c d e f g = rw (ne-eqb k 0 a, ne-eqb k 1 b, ne-eqb k 2 c, ne-eqb k 3 d, ne-eqb k 4 e, ne-eqb k 5 f, ne-eqb k 6 g)
+use Rattle.passes.specs.Buffers.{Front}
+use Rattle.passes.proofs.Between.{Between, between-start, between-on, between-room}
 
 -- ---- the front of a buffer
 
@@ -106,7 +65,7 @@ unfolding stepsOf
 steps-none R j ls = refl
 
 module _ {k to : ℕ} {t a b c d e u : List ℕ} {n j : ℕ} (h : ChainInv k to t a b c d e u n j) where
-  pub chain-room : Room (take n a)
+  pub chain-room : Bounded (take n a)
   chain-room = rw (h .front .is) (between-room (h .short) (h .between))
 
   pub chain-on : {a′ b′ c′ d′ e′ u′ : List ℕ} {r : ℕ} → j < to → length a′ ≡ length a → length b′ ≡ length b → length c′ ≡ length c → length d′ ≡ length d → length e′ ≡ length e → length u′ ≡ length u →

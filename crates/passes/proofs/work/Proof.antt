@@ -1,15 +1,16 @@
 use borrow.Author.Needs.{needs}
 use Prim.Native.Nat.{ℕ, _-_}
-use mathlib.Core.Path.{sym, ap, _∙_}
+use mathlib.Core.Path.{ap, _∙_}
 use mathlib.Core.List.{List}
+use native.Mathlib.Omega.{arith}
 use lib.ListN.{length}
 use lib.Seq.{length-take-le}
 use Rattle.reading.proofs.ByLine.{plain-by-line}
 use Rattle.limits.specs.Entry.{roomed, outAfter}
-use Rattle.opt.proofs.Tame.{tame-steps}
-use Rattle.opt.proofs.WorkLaws.{front-result}
-use Rattle.opt.proofs.work.Statement.{statement}
-use Rattle.opt.proofs.work.Tie as tie
+use Rattle.passes.proofs.Between.{tame-steps}
+use Rattle.passes.proofs.WorkLaws.{front-result}
+use Rattle.passes.proofs.work.Statement.{statement}
+use Rattle.passes.proofs.work.Tie as tie
 
 chain-requires : tie.Need-chain-requires
 chain-requires c κs = c .before .before .before .before .before .before .before .before .before .before .before .before .before .before .pre
@@ -18,10 +19,10 @@ ends-lf-requires : tie.Need-ends-lf-requires
 ends-lf-requires c κs = search needs
 
 slice-reshare-prefix-finish : tie.Need-slice-reshare-prefix-finish
-slice-reshare-prefix-finish c = c .before .before .before .before .before .before .before .before .before .before .before .before .before .chain .ensures .fits
+slice-reshare-prefix-finish c = omega (arith, c .before .before .before .before .before .before .before .before .before .before .before .before .before .chain .ensures .fits)
 
 slice-aggregate-finish : tie.Need-slice-aggregate-finish
-slice-aggregate-finish c = sym (length-take-le _ _ (c .before .before .before .before .before .before .before .before .before .before .before .before .before .before .chain .ensures .fits))
+slice-aggregate-finish c = let f = c .before .before .before .before .before .before .before .before .before .before .before .before .before .before .chain in omega (arith, length-take-le (f .result) (f .last .1 .1 .1 .0) (f .ensures .fits))
 
 finish-requires : tie.Need-finish-requires
 finish-requires c κs = search needs

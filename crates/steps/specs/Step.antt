@@ -1,10 +1,8 @@
--- The passes by number, all of them in order, and the text that comes out. Assumes nothing.
-use Prim.Native.Nat.{ℕ, zero, suc}
+-- The passes by number. Assumes nothing.
+use Prim.Native.Nat.{ℕ}
 use mathlib.Core.Bool.{cond}
 use mathlib.Core.List.{List}
 use lib.Dec.{eqb}
-use Rattle.lines.specs.Lf.{endsIn}
-use Rattle.lines.specs.Steps.{splitLines, joined}
 use Rattle.globals.specs.Globals.{removeGlobals}
 use Rattle.reading.specs.Reading.{Reading}
 use Rattle.temps.specs.Temps.{pruneDeadTemps}
@@ -26,17 +24,3 @@ stepOf R k ls =
     (cond (eqb k 5) (pruneDecls ls)
     (cond (eqb k 6) (bindDeclarators R ls)
     ls))))))
-
--- n steps from step k on
-unfoldable pub stepsOf : Reading → ℕ → ℕ → List (List ℕ) → List (List ℕ)
-unfolding stepOf
-stepsOf R k zero ls = ls
-stepsOf R k (suc n) ls = stepsOf R (suc k) n (stepOf R k ls)
-
--- the removal, and the six passes in their order
-unfoldable pub whole : Reading → List (List ℕ) → List (List ℕ)
-whole R ls = bindDeclarators R (pruneDecls (rebuildCalls (leavesOf R) (pruneDeadPhis R (optimizeOnce R (pruneDeadTemps R (removeGlobals ls))))))
-
--- the text that a text becomes, where its lines become others
-unfoldable pub resultOf : (List (List ℕ) → List (List ℕ)) → List ℕ → List ℕ
-resultOf f t = joined (endsIn 10 t) (f (splitLines t))

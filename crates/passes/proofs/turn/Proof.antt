@@ -3,65 +3,52 @@ use mathlib.Core.Path.{sym}
 use native.Mathlib.Omega.{arith}
 use lib.ListN.{length-take}
 use lib.Seq.{length-take-le}
-use Rattle.opt.proofs.ChainLaws.{wrote-front, front-copied}
-use Rattle.opt.proofs.turn.Statement.{statement}
-use Rattle.opt.proofs.turn.Tie as tie
+use Rattle.passes.proofs.ChainLaws.{wrote-front, front-copied}
+use Rattle.passes.proofs.turn.Statement.{statement}
+use Rattle.passes.proofs.turn.Tie as tie
 
--- src/lib.rt:68:21
 slice-reshare-prefix-step : tie.Need-slice-reshare-prefix-step
 slice-reshare-prefix-step c = search needs
 
--- src/lib.rt:68:21
 slice-aggregate-step : tie.Need-slice-aggregate-step
 slice-aggregate-step c = sym (length-take-le (c .before .before .before .before .before .before .before .args .n) (c .before .before .before .before .before .before .before .args .a .now) (c .before .before .before .before .before .before .before .pre .0))
 
--- src/lib.rt:68:9
 step-requires : tie.Need-step-requires
 step-requires c κs = (c .before .before .before .before .before .before .before .before .before .before .before .before .pre .1 .0, c .before .before .before .before .before .before .before .before .before .before .before .before .pre .1 .1 .1)
 
--- src/lib.rt:69:22
 slice-reshare-prefix-put : tie.Need-slice-reshare-prefix-put
 slice-reshare-prefix-put c = search needs
 
--- src/lib.rt:69:22
 slice-aggregate-put : tie.Need-slice-aggregate-put
 slice-aggregate-put c =
-    let w = wrote-front (c .before .before .before .before .before .before .before .before .before .before .before .before .step .ensures) in
+    let w = wrote-front (c .before .before .before .before .before .before .before .before .before .before .before .before .step .ensures .0) in
     sym (length-take-le (c .before .before .before .before .before .before .before .before .before .before .before .before .step .result) (c .before .before .before .before .before .before .before .before .before .before .before .before .step .last .1 .1 .0) (w .fits))
 
--- src/lib.rt:69:5
 put-requires : tie.Need-put-requires
 put-requires c κs =
     let p = c .before .before .before .before .before .before .before .before .before .before .before .before .before .before .before .before .before .before .before .before .before .before .before .before .before .pre .1 .1 in
-    omega (arith, length-take (c .before .before .before .before .before .before .before .before .before .before .before .before .step .result) (c .before .before .before .before .before .before .before .before .before .before .before .before .step .last .1 .1 .0), c .before .before .before .before .before .before .before .before .before .before .before .before .step .ensures .place, c .before .before .before .before .before .before .before .before .before .before .before .before .step .ensures .fits, p .0, p .1 .b-size)
+    omega (arith, length-take (c .before .before .before .before .before .before .before .before .before .before .before .before .step .result) (c .before .before .before .before .before .before .before .before .before .before .before .before .step .last .1 .1 .0), c .before .before .before .before .before .before .before .before .before .before .before .before .step .ensures .0 .place, c .before .before .before .before .before .before .before .before .before .before .before .before .step .ensures .0 .fits, p .0, p .1 .b-size)
 
--- src/lib.rt:55:1
 same-length : tie.Need-same-length
 same-length c = search needs
 
--- src/lib.rt:55:1
 same-length-2 : tie.Need-same-length-2
 same-length-2 c = search needs
 
--- src/lib.rt:55:1
 same-length-3 : tie.Need-same-length-3
 same-length-3 c = search needs
 
--- src/lib.rt:55:1
 same-length-4 : tie.Need-same-length-4
 same-length-4 c = search needs
 
--- src/lib.rt:55:1
 same-length-5 : tie.Need-same-length-5
 same-length-5 c = search needs
 
--- src/lib.rt:55:1
 same-length-6 : tie.Need-same-length-6
 same-length-6 c = search needs
 
--- src/lib.rt:55:1
 returns : tie.Need-returns
-returns c = front-copied (wrote-front (c .before .before .before .before .before .before .before .before .before .before .before .before .before .before .before .step .ensures)) (c .before .before .put .ensures)
+returns c = front-copied (wrote-front (c .before .before .before .before .before .before .before .before .before .before .before .before .before .before .before .step .ensures .0)) (c .before .before .put .ensures)
 
 pub turn-spec : {M : Type 1} → statement M
 turn-spec =

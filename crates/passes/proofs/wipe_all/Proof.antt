@@ -1,8 +1,8 @@
 use native.Mathlib.Omega.{arith}
 use borrow.Author.Needs.{needs}
-use Rattle.opt.proofs.WorkLaws.{wiped-all, wiped-numbers}
-use Rattle.opt.proofs.wipe_all.Statement.{statement}
-use Rattle.opt.proofs.wipe_all.Tie as tie
+use Rattle.passes.proofs.WorkLaws.{wiped-all, wiped-numbers}
+use Rattle.passes.proofs.wipe_all.Statement.{statement}
+use Rattle.passes.proofs.wipe_all.Tie as tie
 
 wipe-requires : tie.Need-wipe-requires
 wipe-requires c κs = search needs

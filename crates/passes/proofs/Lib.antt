@@ -1,0 +1,3 @@
+pub mod Between
+pub mod ChainLaws
+pub mod WorkLaws

@@ -1,0 +1,92 @@
+// The passes one after the other, over work buffers of the stated sizes.
+ghost use mathlib.Core.Path.{_≡_};
+ghost use Prim.Native.Nat.{_≤_, _-_};
+ghost use lib.ListN.{length, take};
+ghost use Rattle.lines.specs.Lf.{linesOf, unlines};
+ghost use Rattle.lines.specs.Steps.{splitLines};
+ghost use Rattle.reading.specs.Reading.{plain};
+ghost use Rattle.limits.specs.Entry.{byteSize, roomed, outAfter};
+ghost use Rattle.steps.specs.Step.{stepOf};
+ghost use Rattle.steps.specs.Bounds.{Bounded, Sized};
+ghost use Rattle.passes.specs.Passes.{stepsOf, resultOf};
+ghost use Rattle.passes.specs.Buffers.{Front, Blank};
+
+// Runs a pass by its number over the first `n` bytes of a buffer, and returns how many they are then.
+fn turn(
+    k: usize,
+    n: usize,
+    a: &mut [u8],
+    b: &mut [u8],
+    c: &mut [u8],
+    d: &mut [u8],
+    e: &mut [u8],
+    u: &mut [u32],
+) -> usize
+    requires { ⌜ (n ≤ length (now a)) × (Bounded (take n (now a)) × ((length (now a) ≡ byteSize) × Sized (now b) (now c) (now d) (now e) (now u))) ⌝ }
+    ensures { λ r. ⌜ Front (now (a .exit)) r (unlines (stepOf plain k (linesOf (take n (now (a .entry)))))) ⌝ }
+{
+    let r = steps::step(k, &a[..n], b, c, d, e, u);
+    lines::put(a, 0, &b[..r])
+}
+
+// Writes the lines of a text into a buffer, runs the passes from `k` up to `to` over them, and returns how many bytes they are then.
+fn chain(
+    k: usize,
+    to: usize,
+    text: &[u8],
+    a: &mut [u8],
+    b: &mut [u8],
+    c: &mut [u8],
+    d: &mut [u8],
+    e: &mut [u8],
+    u: &mut [u32],
+) -> usize
+    requires { ⌜ (length (now text) ≤ 16384) × ((length (splitLines (now text)) ≤ 1024) × ((length (now a) ≡ byteSize) × Sized (now b) (now c) (now d) (now e) (now u))) ⌝ }
+    ensures { λ r. ⌜ Front (now (a .exit)) r (unlines (stepsOf plain k (to - k) (splitLines (now (text .entry))))) ⌝ }
+{
+    let mut n = lines::split_lines(text, a);
+    let mut j = k;
+    while j < to {
+        n = turn(j, n, a, b, c, d, e, u);
+        j += 1;
+    }
+    n
+}
+
+// Makes every work buffer 0.
+fn wipe_all(a: &mut [u8], b: &mut [u8], c: &mut [u8], d: &mut [u8], e: &mut [u8], u: &mut [u32])
+    requires { ⌜ (length (now a) ≡ byteSize) × Sized (now b) (now c) (now d) (now e) (now u) ⌝ }
+    ensures { λ _. ⌜ Blank (now (a .exit)) (now (b .exit)) (now (c .exit)) (now (d .exit)) (now (e .exit)) (now (u .exit)) ⌝ }
+{
+    lines::wipe(a, limits::BYTES);
+    lines::wipe(b, limits::BYTES);
+    lines::wipe(c, limits::BYTES);
+    lines::wipe(d, limits::BYTES);
+    lines::wipe(e, limits::BYTES);
+    lines::wipe_numbers(u);
+}
+
+// Runs the passes from `k` up to `to` over a text, in work buffers of the stated sizes, and leaves these 0.
+pub fn work(
+    k: usize,
+    to: usize,
+    text: &[u8],
+    a: &mut [u8],
+    b: &mut [u8],
+    c: &mut [u8],
+    d: &mut [u8],
+    e: &mut [u8],
+    u: &mut [u32],
+    out: &mut [u8],
+) -> limits::Answer
+    requires { ⌜ (length (now text) ≤ 16384) × ((length (splitLines (now text)) ≤ 1024) × ((length (now a) ≡ byteSize) × Sized (now b) (now c) (now d) (now e) (now u))) ⌝ }
+    ensures answer { λ r. ⌜ r ≡ roomed (length (resultOf (stepsOf plain k (to - k)) (now (text .entry)))) (length (now (out .entry))) ⌝ }
+    ensures memory { λ r. ⌜ (now (out .exit) ≡ outAfter r (resultOf (stepsOf plain k (to - k)) (now (text .entry))) (now (out .entry)))
+        × Blank (now (a .exit)) (now (b .exit)) (now (c .exit)) (now (d .exit)) (now (e .exit)) (now (u .exit)) ⌝ }
+{
+    let n = chain(k, to, text, a, b, c, d, e, u);
+    let ended = lines::ends_lf(text);
+    let r = limits::finish(&a[..n], ended, out);
+    wipe_all(a, b, c, d, e, u);
+    r
+}

@@ -1,0 +1,2 @@
+pub mod Tame
+pub mod StepLaws

@@ -1,0 +1,135 @@
+// The passes by number: the work buffers are split among the tables and the scratch that each asks for.
+ghost use mathlib.Core.Path.{_≡_};
+ghost use Prim.Native.Nat.{_≤_};
+ghost use lib.ListN.{length};
+ghost use Rattle.lines.specs.Lf.{linesOf, unlines};
+ghost use Rattle.lines.specs.Out.{Wrote};
+ghost use Rattle.reading.specs.Reading.{plain};
+ghost use Rattle.once.specs.Once.{optimizeOnce};
+ghost use Rattle.calls.specs.LeavesOf.{leavesOf};
+ghost use Rattle.calls.specs.Calls.{rebuildCalls};
+ghost use Rattle.bind.specs.Bind.{bindDeclarators};
+ghost use Rattle.limits.specs.Entry.{byteSize, blockSize};
+ghost use Rattle.steps.specs.Step.{stepOf};
+ghost use Rattle.steps.specs.Bounds.{Bounded, Sized};
+ghost use Rattle.steps.specs.Left.{leftC, leftD, leftE, leftU, Left};
+
+// Runs optimize_once, with its tables for 1,024 lines.
+fn once_step(src: &[u8], scratch: &mut [u8], mid: &mut [u8], u: &mut [u32], dst: &mut [u8]) -> usize
+    requires { ⌜ Bounded (now src) × ((length (now scratch) ≡ byteSize) × ((length (now mid) ≡ byteSize) × ((length (now u) ≡ blockSize) × (length (now dst) ≡ byteSize)))) ⌝ }
+    ensures { λ r. ⌜ Wrote (now (dst .entry)) 0 (unlines (optimizeOnce plain (linesOf (now (src .entry))))) (now (dst .exit)) r ⌝ }
+    ensures memory { λ _. ⌜ (now (scratch .exit) ≡ leftC 2 (now (src .entry)) (now (scratch .entry))) × ((now (mid .exit) ≡ leftD 2 (now (src .entry)) (now (mid .entry)))
+        × (now (u .exit) ≡ leftU 2 (now (src .entry)) (now (u .entry)))) ⌝ }
+{
+    let mut loops = [0u8; 1024];
+    let mut marks = [0u8; 1024];
+    let mut paths = [0usize; 1024];
+    once::optimize_once(
+        src,
+        scratch,
+        mid,
+        &mut loops,
+        &mut marks,
+        &mut paths,
+        u,
+        dst,
+    )
+}
+
+// Runs rebuild_calls, with its tables for 1,024 lines.
+fn calls_step(
+    src: &[u8],
+    cur: &mut [u8],
+    next: &mut [u8],
+    clean: &mut [u8],
+    u: &mut [u32],
+    dst: &mut [u8],
+) -> usize
+    requires { ⌜ Bounded (now src) × ((length (now cur) ≡ byteSize) × ((length (now next) ≡ byteSize) × ((length (now clean) ≡ byteSize) × ((length (now u) ≡ blockSize) × (length (now dst) ≡ byteSize))))) ⌝ }
+    ensures { λ r. ⌜ Wrote (now (dst .entry)) 0 (unlines (rebuildCalls (leavesOf plain) (linesOf (now (src .entry))))) (now (dst .exit)) r ⌝ }
+    ensures memory { λ _. ⌜ (now (cur .exit) ≡ leftC 4 (now (src .entry)) (now (cur .entry))) × ((now (next .exit) ≡ leftD 4 (now (src .entry)) (now (next .entry)))
+        × ((now (clean .exit) ≡ leftE 4 (now (src .entry)) (now (clean .entry))) × (now (u .exit) ≡ leftU 4 (now (src .entry)) (now (u .entry))))) ⌝ }
+{
+    let mut owner = [0usize; 1024];
+    let mut blocks = [0usize; 1024];
+    let mut starts = [0u8; 1024];
+    let mut stack = [0u8; 32770];
+    calls::rebuild_calls(
+        src,
+        &mut owner,
+        &mut blocks,
+        &mut starts,
+        u,
+        &mut stack,
+        cur,
+        next,
+        clean,
+        dst,
+    )
+}
+
+// Runs bind_declarators, with its tables for 1,024 lines.
+fn bind_step(src: &[u8], u: &mut [u32], dst: &mut [u8]) -> usize
+    requires { ⌜ Bounded (now src) × ((length (now u) ≡ blockSize) × (length (now dst) ≡ byteSize)) ⌝ }
+    ensures { λ r. ⌜ Wrote (now (dst .entry)) 0 (unlines (bindDeclarators plain (linesOf (now (src .entry))))) (now (dst .exit)) r ⌝ }
+    ensures memory { λ _. ⌜ now (u .exit) ≡ leftU 6 (now (src .entry)) (now (u .entry)) ⌝ }
+{
+    let mut blocks = [0usize; 1024];
+    let mut starts = [0u8; 1024];
+    let mut marks = [0u8; 1024];
+    bind::bind_declarators(src, &mut blocks, &mut starts, u, &mut marks, dst)
+}
+
+// Writes the lines of a text as they are, each followed by one LF.
+fn copy_lines(src: &[u8], dst: &mut [u8]) -> usize
+    requires { ⌜ length (unlines (linesOf (now src))) ≤ length (now dst) ⌝ }
+    ensures { λ r. ⌜ Wrote (now (dst .entry)) 0 (unlines (linesOf (now (src .entry)))) (now (dst .exit)) r ⌝ }
+{
+    let o = lines::put(dst, 0, src);
+    if lines::ends_lf(src) {
+        return o;
+    }
+    if src.len() == 0 {
+        return o;
+    }
+    lines::put_byte(dst, o, 10)
+}
+
+// Runs a pass by its number from one buffer into another, and returns the length of what it wrote: 0 is the removal, and another number than
+// 1 to 6 changes nothing. The other buffers are scratch.
+pub fn step(
+    k: usize,
+    src: &[u8],
+    dst: &mut [u8],
+    c: &mut [u8],
+    d: &mut [u8],
+    e: &mut [u8],
+    u: &mut [u32],
+) -> usize
+    requires { ⌜ Bounded (now src) × Sized (now dst) (now c) (now d) (now e) (now u) ⌝ }
+    ensures { λ r. ⌜ Wrote (now (dst .entry)) 0 (unlines (stepOf plain k (linesOf (now (src .entry))))) (now (dst .exit)) r ⌝ }
+    ensures memory { λ _. ⌜ Left k (now (src .entry)) (now (c .entry)) (now (d .entry)) (now (e .entry)) (now (u .entry)) (now (c .exit)) (now (d .exit)) (now (e .exit)) (now (u .exit)) ⌝ }
+{
+    if k == 0 {
+        return globals::remove_globals(src, dst);
+    }
+    if k == 1 {
+        return temps::prune_dead_temps(src, c, dst);
+    }
+    if k == 2 {
+        return once_step(src, c, d, u, dst);
+    }
+    if k == 3 {
+        return phis::prune_dead_phis(src, c, d, e, dst);
+    }
+    if k == 4 {
+        return calls_step(src, c, d, e, u, dst);
+    }
+    if k == 5 {
+        return decls::prune_decls(src, dst);
+    }
+    if k == 6 {
+        return bind_step(src, u, dst);
+    }
+    copy_lines(src, dst)
+}
