@@ -102,7 +102,7 @@ fn prune_with(text: &[u8], seen: &mut [usize], out: &mut [u8]) -> usize
             i = lines::after(text, e);
         }
     }
-    print::put_lines(lines::cut(text, c, text.len()), out, o)
+    lines::put_lines(lines::cut(text, c, text.len()), out, o)
 }
 
 // Writes the lines of a text without the declared registers that their region neither reads nor stores.

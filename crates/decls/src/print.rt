@@ -3,7 +3,6 @@ ghost use mathlib.Core.Path.{_≡_};
 ghost use mathlib.Core.List.{[], _∷_};
 ghost use Prim.Native.Nat.{_≤_, _+_};
 ghost use lib.ListN.{length};
-ghost use Rattle.lines.specs.Lf.{linesOf, unlines};
 ghost use Rattle.lines.specs.Out.{Wrote};
 ghost use Rattle.decls.specs.Print.{bareName, one, leadOf, endOf, named};
 
@@ -58,19 +57,4 @@ pub fn put_end(some: bool, out: &mut [u8], o: usize) -> usize
         return lines::put(out, o, b";\n");
     }
     o
-}
-
-// Writes the lines of a text as they are, each with its LF.
-pub fn put_lines(text: &[u8], out: &mut [u8], o: usize) -> usize
-    requires { ⌜ o + length (unlines (linesOf (now text))) ≤ length (now out) ⌝ }
-    ensures { λ r. ⌜ Wrote (now (out .entry)) o (unlines (linesOf (now (text .entry)))) (now (out .exit)) r ⌝ }
-{
-    let p = lines::put(out, o, text);
-    if lines::ends_lf(text) {
-        return p;
-    }
-    if text.len() == 0 {
-        return p;
-    }
-    lines::put_byte(out, p, 10)
 }

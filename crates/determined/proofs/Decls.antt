@@ -17,6 +17,3 @@ put-part-fixed = fixed decls.print.put_part.Reads.Learnt (λ κs a x y l m. wrot
 
 pub put-end-fixed : Determined decls.print.put_end.ended (λ κs z. z) decls.print.put_end.Reads.ensures
 put-end-fixed = fixed decls.print.put_end.Reads.Learnt (λ κs a x y l m. wrote-once l m)
-
-pub put-lines-fixed : Determined decls.print.put_lines.ended (λ κs z. z) decls.print.put_lines.Reads.ensures
-put-lines-fixed = fixed decls.print.put_lines.Reads.Learnt (λ κs a x y l m. wrote-once l m)

@@ -64,3 +64,6 @@ joined-len-fixed = fixed lines.joined_len.Reads.Learnt (λ κs a x y l m. l ∙ 
 
 pub join-lines-fixed : Determined lines.join_lines.ended (λ κs z. z) lines.join_lines.Reads.ensures
 join-lines-fixed = fixed lines.join_lines.Reads.Learnt (λ κs a x y l m. wrote-once l m)
+
+pub put-lines-fixed : Determined lines.put_lines.ended (λ κs z. z) lines.put_lines.Reads.ensures
+put-lines-fixed = fixed lines.put_lines.Reads.Learnt (λ κs a x y l m. wrote-once l m)

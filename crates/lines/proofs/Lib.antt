@@ -3,6 +3,7 @@ pub mod LfLaws
 pub mod Compare
 pub mod OutLaws
 pub mod StepLaws
+mod Whole
 pub mod Counts
 pub mod JoinLaws
 pub mod ActLaws

@@ -208,6 +208,21 @@ pub fn put_line(out: &mut [u8], o: usize, line: &[u8]) -> usize
     put_byte(out, p, 10)
 }
 
+// Writes a text as it is at `o`, each line with its LF, and returns the place after it.
+pub fn put_lines(text: &[u8], out: &mut [u8], o: usize) -> usize
+    requires { ⌜ o + length (unlines (linesOf (now text))) ≤ length (now out) ⌝ }
+    ensures { λ r. ⌜ Wrote (now (out .entry)) o (unlines (linesOf (now (text .entry)))) (now (out .exit)) r ⌝ }
+{
+    let p = put(out, o, text);
+    if ends_lf(text) {
+        return p;
+    }
+    if text.len() == 0 {
+        return p;
+    }
+    put_byte(out, p, 10)
+}
+
 // Writes zeros over the first `n` bytes.
 pub fn wipe(s: &mut [u8], n: usize)
     requires { ⌜ n ≤ length (now s) ⌝ }

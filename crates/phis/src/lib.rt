@@ -355,7 +355,7 @@ fn put_with(text: &[u8], table: &[u8], scratch: &mut [u8], out: &mut [u8]) -> Ro
     ensures memory { λ _. ⌜ drop (length (now (text .entry))) (now (scratch .exit)) ≡ drop (length (now (text .entry))) (now (scratch .entry)) ⌝ }
 {
     if !any_dead(text, table) {
-        let p = decls::print::put_lines(text, out, 0);
+        let p = lines::put_lines(text, out, 0);
         return Round {
             end: p,
             dead: false,
@@ -390,7 +390,7 @@ fn put_round(text: &[u8], dead: bool, scratch: &mut [u8], out: &mut [u8]) -> Rou
     ensures memory { λ _. ⌜ drop (length (now (text .entry))) (now (scratch .exit)) ≡ drop (length (now (text .entry))) (now (scratch .entry)) ⌝ }
 {
     if !may_change(text, dead) {
-        let p = decls::print::put_lines(text, out, 0);
+        let p = lines::put_lines(text, out, 0);
         return Round {
             end: p,
             dead: false,

@@ -1,14 +1,13 @@
 -- Laws of the passes by number: which pass a number is, and what it leaves in the work buffers. Assumes nothing.
 use Prim.Native.Nat.{ℕ, _+_}
 use mathlib.Core.Path.{_≡_, refl, sym, ap, _∙_}
-use mathlib.Core.List.{List, [], _++_, append-nil}
+use mathlib.Core.List.{List, _++_}
 use native.Mathlib.Omega.{arith}
 use borrow.Author.Tests.{eq-eqb, ne-eqb}
 use lib.ListN.{length, drop, replicate}
 use Rattle.lines.specs.Lf.{linesOf, unlines}
 use Rattle.lines.specs.Out.{putAt, Wrote}
 use Rattle.lines.specs.Acts.{apply}
-use Rattle.lines.proofs.StepLaws.{missingLf, lines-text}
 use Rattle.place.specs.Fill.{Filled}
 use Rattle.place.specs.Parents.{idsParents, pathParents}
 use Rattle.reading.specs.Reading.{Reading, plain}
@@ -59,14 +58,6 @@ module _ (R : Reading) (k : ℕ) (ls : List (List ℕ)) where
   pub step-else : (k ≡ 0 → ⊥) → (k ≡ 1 → ⊥) → (k ≡ 2 → ⊥) → (k ≡ 3 → ⊥) → (k ≡ 4 → ⊥) → (k ≡ 5 → ⊥) → (k ≡ 6 → ⊥) → stepOf R k ls ≡ ls
   unfolding stepOf
   step-else a b c d e f g = rw (ne-eqb k 0 a, ne-eqb k 1 b, ne-eqb k 2 c, ne-eqb k 3 d, ne-eqb k 4 e, ne-eqb k 5 f, ne-eqb k 6 g)
-
--- ---- the lines as they are
-
-pub lines-by : (t : List ℕ) {xs : List ℕ} → missingLf t ≡ xs → t ++ xs ≡ unlines (linesOf t)
-lines-by t e = sym (lines-text t ∙ ap (λ (l : List ℕ). t ++ l) e)
-
-pub lines-whole : (t : List ℕ) → missingLf t ≡ [] → t ≡ unlines (linesOf t)
-lines-whole t e = sym (append-nil t) ∙ lines-by t e
 
 -- ---- what a pass leaves
 

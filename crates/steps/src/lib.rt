@@ -80,21 +80,6 @@ fn bind_step(src: &[u8], u: &mut [u32], dst: &mut [u8]) -> usize
     bind::bind_declarators(src, &mut blocks, &mut starts, u, &mut marks, dst)
 }
 
-// Writes the lines of a text as they are, each followed by one LF.
-fn copy_lines(src: &[u8], dst: &mut [u8]) -> usize
-    requires { ⌜ length (unlines (linesOf (now src))) ≤ length (now dst) ⌝ }
-    ensures { λ r. ⌜ Wrote (now (dst .entry)) 0 (unlines (linesOf (now (src .entry)))) (now (dst .exit)) r ⌝ }
-{
-    let o = lines::put(dst, 0, src);
-    if lines::ends_lf(src) {
-        return o;
-    }
-    if src.len() == 0 {
-        return o;
-    }
-    lines::put_byte(dst, o, 10)
-}
-
 // Runs a pass by its number from one buffer into another, and returns the length of what it wrote: 0 is the removal, and another number than
 // 1 to 6 changes nothing. The other buffers are scratch.
 pub fn step(
@@ -131,5 +116,5 @@ pub fn step(
     if k == 6 {
         return bind_step(src, u, dst);
     }
-    copy_lines(src, dst)
+    lines::put_lines(src, dst, 0)
 }

@@ -273,7 +273,7 @@ pub fn prune_dead_temps(text: &[u8], scratch: &mut [u8], out: &mut [u8]) -> usiz
     ensures memory { λ _. ⌜ now (scratch .exit) ≡ tempScratch (linesOf (now (text .entry))) (now (scratch .entry)) ⌝ }
 {
     if !has_temp(text) {
-        return decls::print::put_lines(text, out, 0);
+        return lines::put_lines(text, out, 0);
     }
     prune_tables(text, scratch, out)
 }

@@ -12,7 +12,7 @@ use Rattle.decls.proofs.prune_with.Statement.{statement}
 use Rattle.decls.proofs.prune_with.Tie as tie
 use Rattle.decls.proofs.prune_with.Reads as reads
 use Rattle.decls.proofs.prune_with.Lts as lts
-use Rattle.decls.proofs.print.put_lines.Reads as put-lines-reads
+use Rattle.lines.proofs.put_lines.Reads as put-lines-reads
 use Rattle.decls.proofs.put_line.Reads as put-line-reads
 use Rattle.decls.proofs.seen.declares.Reads as declares-reads
 use Rattle.decls.proofs.seen.mark_once.Reads as mark-once-reads

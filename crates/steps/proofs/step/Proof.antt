@@ -108,14 +108,14 @@ same-length-19 c = search needs
 returns-7 : tie.Need-returns-7
 returns-7 c = let p = c .before .before .before .before .bind-step .ensures in (wrote-as (ap unlines (sym (step-6 plain (c .before .before .before .before .before .before .before .before .before .before .before .before .before .before .before .before .before .before .before .before .args .k) (linesOf (c .before .before .before .before .before .before .before .before .before .before .before .before .before .before .before .before .before .before .before .before .args .src .now)) (c .before .before .before .before .before .before .before .if7 .taken)))) (p .0), left-as (c .before .before .before .before .before .before .before .if7 .taken) (left-6 (p .1)))
 
-copy-lines-requires : tie.Need-copy-lines-requires
-copy-lines-requires c κs = let p = c .before .before .before .before .before .before .before .before .before .before .before .before .before .before .pre in omega (arith, room-lines (p .0), p .1 .b-size)
+put-lines-requires : tie.Need-put-lines-requires
+put-lines-requires c κs = let p = c .before .before .before .before .before .before .before .before .before .before .before .before .before .before .pre in omega (arith, room-lines (p .0), p .1 .b-size)
 
 same-length-20 : tie.Need-same-length-20
 same-length-20 c = search needs
 
 returns-8 : tie.Need-returns-8
-returns-8 c = (wrote-as (ap unlines (sym (step-else plain (c .before .before .before .before .before .before .before .before .before .before .before .before .before .before .before .before .before .args .k) (linesOf (c .before .before .before .before .before .before .before .before .before .before .before .before .before .before .before .before .before .args .src .now)) (c .before .before .before .before .before .before .before .before .before .before .if1 .left) (c .before .before .before .before .before .before .before .before .before .if2 .left) (c .before .before .before .before .before .before .before .before .if3 .left) (c .before .before .before .before .before .before .before .if4 .left) (c .before .before .before .before .before .before .if5 .left) (c .before .before .before .before .before .if6 .left) (c .before .before .before .before .if7 .left)))) (c .before .before .copy-lines .ensures), left-else (c .before .before .before .before .before .before .before .before .before .if2 .left) (c .before .before .before .before .before .before .before .before .if3 .left) (c .before .before .before .before .before .before .before .if4 .left) (c .before .before .before .before .before .before .if5 .left) (c .before .before .before .before .if7 .left))
+returns-8 c = (wrote-as (ap unlines (sym (step-else plain (c .before .before .before .before .before .before .before .before .before .before .before .before .before .before .before .before .before .args .k) (linesOf (c .before .before .before .before .before .before .before .before .before .before .before .before .before .before .before .before .before .args .src .now)) (c .before .before .before .before .before .before .before .before .before .before .if1 .left) (c .before .before .before .before .before .before .before .before .before .if2 .left) (c .before .before .before .before .before .before .before .before .if3 .left) (c .before .before .before .before .before .before .before .if4 .left) (c .before .before .before .before .before .before .if5 .left) (c .before .before .before .before .before .if6 .left) (c .before .before .before .before .if7 .left)))) (c .before .before .put-lines .ensures), left-else (c .before .before .before .before .before .before .before .before .before .if2 .left) (c .before .before .before .before .before .before .before .before .if3 .left) (c .before .before .before .before .before .before .before .if4 .left) (c .before .before .before .before .before .before .if5 .left) (c .before .before .before .before .if7 .left))
 
 pub step-spec : {M : Type 1} → statement M
 step-spec =
@@ -154,6 +154,6 @@ step-spec =
     same-length-18
     same-length-19
     returns-7
-    copy-lines-requires
+    put-lines-requires
     same-length-20
     returns-8)

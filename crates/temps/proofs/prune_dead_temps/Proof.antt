@@ -10,7 +10,7 @@ use Rattle.temps.proofs.prune_dead_temps.Statement.{statement}
 use Rattle.temps.proofs.prune_dead_temps.Tie as tie
 use Rattle.temps.proofs.prune_dead_temps.Reads as reads
 use Rattle.temps.proofs.prune_dead_temps.Lts as lts
-use Rattle.decls.proofs.print.put_lines.Reads as put-lines-reads
+use Rattle.lines.proofs.put_lines.Reads as put-lines-reads
 use Rattle.temps.proofs.has_temp.Reads as has-temp-reads
 use Rattle.temps.proofs.prune_tables.Reads as prune-tables-reads
 

@@ -1,9 +1,9 @@
--- `decls::print::put_lines` meets its contract. Assumes nothing.
+-- `lines::put_lines` meets its contract. Assumes nothing.
 use Rattle.lines.proofs.Tests.{so}
-use Rattle.decls.proofs.Whole.{whole-room, whole-ended, whole-empty, whole-space, whole-open}
+use Rattle.lines.proofs.Whole.{whole-room, whole-ended, whole-empty, whole-space, whole-open}
 use borrow.Author.Needs.{needs}
-use Rattle.decls.proofs.print.put_lines.Statement.{statement}
-use Rattle.decls.proofs.print.put_lines.Tie as tie
+use Rattle.lines.proofs.put_lines.Statement.{statement}
+use Rattle.lines.proofs.put_lines.Tie as tie
 
 put-requires : tie.Need-put-requires
 put-requires c κs = whole-room _ _ _ (c .before .before .before .pre)
