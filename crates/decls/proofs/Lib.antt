@@ -5,7 +5,6 @@ pub mod LineRuns
 pub mod Fronts
 pub mod Chunks
 pub mod MarkRuns
-pub mod Lacks
 pub mod Writes
 pub mod Passes
 pub mod Keeps
