@@ -1,14 +1,14 @@
 -- Laws of what becomes of one line. Assumes nothing.
-use Prim.Native.Nat.{ℕ, suc, _+_, _-_, _≤_, _<_}
+use Prim.Native.Nat.{ℕ, _≤_}
 use mathlib.Core.Path.{_≡_, refl, sym, ap, _∙_}
-use mathlib.Core.Bool.{Bool, true, false, cond, not, _&&_, _||_}
-use mathlib.Core.List.{List, [], _∷_, _++_}
+use mathlib.Core.Bool.{Bool, true, false, not, _&&_}
+use mathlib.Core.List.{List, _∷_}
 use native.Mathlib.Omega.{arith}
 use lib.Dec.{eqb, ltb}
 use lib.ListN.{length, length-take, length-drop}
 use Rattle.lines.specs.Lf.{part}
-use borrow.Author.Tests.{eq-eqb, ne-eqb}
-use Rattle.lines.proofs.Tests.{and-false, and-true}
+use borrow.Author.Tests.{eq-eqb, ne-eqb, eqb-true, lt-ltb, not-true}
+use Rattle.lines.proofs.Tests.{no, and-false, and-true, and-right}
 use Rattle.parse.specs.Parse.{parseOf, textOf}
 use Rattle.parse.specs.declared.Line.{Line}
 use Rattle.parse.specs.declared.Line.the-variants as line
@@ -16,9 +16,10 @@ use Rattle.words.specs.Runs.{readsOf}
 use Rattle.words.specs.Hits.{regHit}
 use Rattle.reading.specs.Reading.{Reading, pureIn}
 use Rattle.reading.specs.Uses.{lineReads, storesBy, lineStores}
-use Rattle.once.specs.Scratch.{scratchAt}
-use Rattle.once.specs.Once.{Next, deadBy, readCount, laterRead}
+use Rattle.once.specs.Scratch.{isMember, liveBelow, scratchAt}
+use Rattle.once.specs.Once.{deadBy, readCount, laterRead}
 use Rattle.once.specs.Tables.{nextIn, storeDrops, dropsBy, lineDrops, hasHit, storeForwards, forwardsBy, lineForwards}
+use Rattle.once.specs.Noted.{sentTo}
 
 -- ---- a store that goes
 
@@ -27,7 +28,16 @@ module _ (R : Reading) (v : ℕ) (x : List ℕ) (p : ℕ) (b : Bool) (ls : List 
   unfolding storeDrops
   drops-scratch h = rw h
 
+  -- what the next use reads is wanted
+  pub drops-live : liveBelow v ls ≡ true → deadBy p (nextIn v ls ps) ≡ false → storeDrops R v x p b ls ps ≡ false
+  unfolding storeDrops scratchAt
+  drops-live h d = rw (h, d, and-false (isMember x))
+
   module _ (s : scratchAt v x ls ≡ false) where
+    pub drops-kept : deadBy p (nextIn v ls ps) ≡ false → storeDrops R v x p b ls ps ≡ false
+    unfolding storeDrops
+    drops-kept h = rw (s, h)
+
     pub drops-loop : b ≡ true → storeDrops R v x p b ls ps ≡ false
     unfolding storeDrops
     drops-loop h = rw (s, h, and-false (pureIn R x), and-false (deadBy p (nextIn v ls ps)))
@@ -67,6 +77,21 @@ module _ (R : Reading) (v : ℕ) (x : List ℕ) (run : List (List ℕ)) (b goes 
   unfolding storeForwards
   forwards-loop h = rw h
 
+  -- the next line does not read it, or stores it, or it is read again
+  pub forwards-unsent : sentTo v (e ∷ ls) ≡ false → storeForwards R v x run b goes e ls ≡ false
+  unfolding storeForwards sentTo
+  forwards-unsent h =
+      ap (λ (t : Bool). not b && (not goes && t)) (go (lineStores v e) (eqb (lineReads v e) 1) refl (laterRead v ls) h)
+      ∙ ap (λ (t : Bool). not b && t) (and-false (not goes))
+      ∙ and-false (not b)
+    where
+      go : (s c : Bool) → eqb (lineReads v e) 1 ≡ c → (l : Bool) → not s && (ltb 0 (lineReads v e) && not l) ≡ false →
+          not s && (c && (not l && (pureIn R x && (eqb (readCount v run) 1 && hasHit (regHit v e))))) ≡ false
+      go true c q l z = refl
+      go false false q l z = refl
+      go false true q true z = refl
+      go false true q false z = let n = eqb-true (lineReads v e) 1 q in no (sym z ∙ rw (lt-ltb 0 (lineReads v e) (omega arith)))
+
   module _ (o : b ≡ false) where
     pub forwards-gone : goes ≡ true → storeForwards R v x run b goes e ls ≡ false
     unfolding storeForwards
@@ -100,6 +125,11 @@ module _ (R : Reading) (v : ℕ) (x : List ℕ) (run : List (List ℕ)) (b goes 
               pub forwards-once : laterRead v ls ≡ false → eqb (readCount v run) 1 ≡ storeForwards R v x run b goes e ls
               unfolding storeForwards
               forwards-once h = rw (o, g, s, sym m, eq-eqb n 1 z, t, y, h, and-true (eqb (readCount v run) 1))
+
+-- where the value may go into the next line, it is not read again
+pub sent-later : (v : ℕ) (e : List ℕ) (ls : List (List ℕ)) → sentTo v (e ∷ ls) ≡ true → laterRead v ls ≡ false
+unfolding sentTo
+sent-later v e ls h = not-true (laterRead v ls) (and-right (ltb 0 (lineReads v e)) (not (laterRead v ls)) (and-right (not (lineStores v e)) (ltb 0 (lineReads v e) && not (laterRead v ls)) h))
 
 pub forwards-at : (R : Reading) (l : List ℕ) (run : List (List ℕ)) (b goes : Bool) (e : List ℕ) (ls : List (List ℕ)) (k : Line) → k ≡ parseOf l →
     forwardsBy R l run b goes e ls k ≡ lineForwards R l run b goes e ls

@@ -14,4 +14,6 @@ pub mod NotedLaws
 pub mod NotedFills
 pub mod CallLaws
 pub mod CalmLaws
-pub mod KindLaws
+pub mod NextLaws
+pub mod BackLaws
+pub mod NoteFills

@@ -1,8 +1,8 @@
--- Two tables over registers, of the last line that uses each one and of how often lines read it: what the lines leave in them, and what they then say.
--- Assumes nothing.
-use Prim.Native.Nat.{ℕ, suc, _+_, _≤_}
+-- Tables over registers, of the next lines that read and store each one and of how often lines read it, and one over lines, of what each is and of
+-- what becomes of what it stores: what lines leave in them, and what they then say. Assumes nothing.
+use Prim.Native.Nat.{ℕ, suc, _+_, _-_, _≤_}
 use mathlib.Core.Path.{_≡_}
-use mathlib.Core.Bool.{Bool, true, false, cond, not, _&&_}
+use mathlib.Core.Bool.{Bool, true, false, cond, not, _&&_, _||_}
 use mathlib.Core.List.{List, [], _∷_}
 use lib.Dec.{eqb, ltb}
 use lib.ListN.{length, drop, getD, set}
@@ -10,33 +10,52 @@ use Rattle.names.specs.Names.{regOf}
 use Rattle.names.specs.declared.RegName.{RegName}
 use Rattle.names.specs.declared.RegName.the-variants as name
 use Rattle.lines.specs.Lf.{part, upTo, lacks}
-use Rattle.parse.specs.Parse.{parseOf, textOf}
+use Rattle.parse.specs.Parse.{parseOf}
+use Rattle.parse.specs.declared.Store.{Store}
 use Rattle.parse.specs.declared.Line.{Line}
 use Rattle.parse.specs.declared.Line.the-variants as line
 use Rattle.words.specs.Runs.{runs}
 use Rattle.place.specs.Region.{isHeader}
-use Rattle.reading.specs.Uses.{lineReads, usedIn}
-use Rattle.decls.specs.Seen.{markLine}
-use Rattle.once.specs.Once.{readCount}
+use Rattle.reading.specs.Uses.{lineReads, lineStores}
+use Rattle.decls.specs.Seen.{markName}
+use Rattle.once.specs.Scratch.{liveBelow}
+use Rattle.once.specs.Once.{deadBy, readCount, laterRead}
+use Rattle.once.specs.Tables.{nextIn}
 
--- ---- the last line that uses a register: its number, the first line having the number 1
+-- ---- the next lines that use a register. The number of a line is how many lines there are from it on
 
--- the table d after the lines ls, which follow k others
-unfoldable pub rowLines : ℕ → List (List ℕ) → List ℕ → List ℕ
-rowLines k [] d = d
-rowLines k (l ∷ ls) d = rowLines (k + 1) ls (markLine (k + 1) l d)
+-- the number of the first line that passes a test, or 0
+unfoldable pub firstBy : (List ℕ → Bool) → List (List ℕ) → ℕ
+firstBy f [] = 0
+firstBy f (l ∷ ls) = cond (f l) (suc (length ls)) (firstBy f ls)
 
--- it says that no line with a number above k uses register v
-unfoldable pub quiet : ℕ → ℕ → List ℕ → Bool
-quiet k v d = ltb v (length d) && not (ltb k (getD d v 0))
+-- of the first line that reads register v
+abbrev pub readFrom : ℕ → List (List ℕ) → ℕ
+readFrom v ls = firstBy (λ (l : List ℕ). ltb 0 (lineReads v l)) ls
 
--- what it says is so of the lines ls, which follow k others
-abbrev pub NoneFrom : ℕ → List (List ℕ) → List ℕ → Type 0
-NoneFrom k ls d = (v : ℕ) → quiet k v d ≡ true → usedIn v ls ≡ false
+-- of the first line that stores it
+abbrev pub storeFrom : ℕ → List (List ℕ) → ℕ
+storeFrom v ls = firstBy (λ (l : List ℕ). lineStores v l) ls
 
--- and of all lines
-abbrev pub NoneBelow : List (List ℕ) → List ℕ → Type 0
-NoneBelow ls d = (k : ℕ) → NoneFrom k (drop k ls) d
+-- of the first header
+abbrev pub headFrom : List (List ℕ) → ℕ
+headFrom ls = firstBy (λ (l : List ℕ). isHeader l) ls
+
+-- of the second line that reads register v
+unfoldable pub farFrom : ℕ → List (List ℕ) → ℕ
+unfolding firstBy
+farFrom v [] = 0
+farFrom v (l ∷ ls) = cond (ltb 0 (lineReads v l)) (readFrom v ls) (farFrom v ls)
+
+-- the table f of the second reads, where n has the first ones, after a read of the register that a name is in the line with the number m
+abbrev pub farName : ℕ → RegName → List ℕ → List ℕ → List ℕ
+farName m name.None n f = f
+farName m (name.Reg q) n f = cond (eqb (getD n (q .0) 0) m) f (set f (q .0) (getD n (q .0) 0))
+
+-- both tables, the first reads and the second ones, after the reads of the registers that runs name
+unfoldable pub readRuns : ℕ → List (List ℕ) → List ℕ × List ℕ → List ℕ × List ℕ
+readRuns m [] d = d
+readRuns m (r ∷ rs) d = readRuns m rs (markName m (regOf r) (d .0), farName m (regOf r) (d .0) (d .1))
 
 -- ---- how often lines read a register, up to 2
 
@@ -53,17 +72,6 @@ addName (name.Reg q) d = set d (q .0) (bump (getD d (q .0) 0))
 unfoldable pub addRuns : List (List ℕ) → List ℕ → List ℕ
 addRuns [] d = d
 addRuns (r ∷ rs) d = addRuns rs (addName (regOf r) d)
-
--- after those of a line
-unfoldable pub addLine : List ℕ → List ℕ → List ℕ
-unfolding addRuns
-addLine l d = addRuns (runs (textOf l (parseOf l))) d
-
--- after those of lines
-unfoldable pub addLines : List (List ℕ) → List ℕ → List ℕ
-unfolding addLine
-addLines [] d = d
-addLines (l ∷ ls) d = addLines ls (addLine l d)
 
 -- it says that register v is read once
 unfoldable pub alone : ℕ → List ℕ → Bool
@@ -97,28 +105,91 @@ Calm s c = (j : ℕ) → CalmIn (drop j s) c
 abbrev pub LineAt : List ℕ → ℕ → ℕ → Line → Type 0
 LineAt s i e p = (e ≡ i + upTo 10 (drop i s)) × (p ≡ parseOf (part i e s))
 
--- ---- what lines are
+-- ---- where a line begins
 
--- a number for it; that of a store says nothing
-abbrev pub kindOf : Line → ℕ
-kindOf line.Decl = 1
-kindOf (line.Store s) = 0
-kindOf line.Other = 2
+-- a line of a text begins at r: an LF stands before it, where anything does
+abbrev pub Begins : List ℕ → ℕ → Type 0
+Begins s r = (k : ℕ) → r ≡ suc k → getD s k 0 ≡ 10
 
--- the table d after the lines ls, which follow k others
-unfoldable pub kindLines : ℕ → List (List ℕ) → List ℕ → List ℕ
-kindLines k [] d = d
-kindLines k (l ∷ ls) d = kindLines (k + 1) ls (set d k (kindOf (parseOf l)))
+-- the line that ends at e begins at r
+abbrev pub StartOf : List ℕ → ℕ → ℕ → Type 0
+StartOf s e r = (e ≡ r + upTo 10 (drop r s)) × Begins s r
 
--- that of the first line
-abbrev pub firstKind : List (List ℕ) → ℕ
-firstKind [] = 0
-firstKind (l ∷ ls) = kindOf (parseOf l)
+-- ---- the note of a line: what it is, and what the lines below do with the register that it stores. 0 says nothing
 
--- a number is that of a line, where it is not 0
+-- the line with k above it, and the one with the number s, are in one block path
+abbrev pub samePath : List ℕ → ℕ → ℕ → Bool
+samePath ps k s = not (ltb (length ps) s) && eqb (getD ps k 0) (getD ps (length ps - s) 0)
+
+-- that of a store above m lines, by the numbers of the first and the second line that read its register, of the first that stores it, and of
+-- the first header: 3 and 4 where a line of the region reads it next, 4 where that is the next line, and it is not read again; 5 where a line
+-- stores it next that reads it too, or in another block path; 6 where nothing wants its value
+abbrev pub noteBy : ℕ → ℕ → ℕ → ℕ → ℕ → Bool → ℕ
+noteBy r f s h m same =
+    cond (ltb h r && ltb s r) (cond (eqb r m && not (ltb s f)) 4 3)
+    (cond (ltb h r && eqb s r) 5
+    (cond (ltb h s) (cond same 6 5)
+    (cond (eqb r m) 0 6)))
+
+-- the same by tables of these numbers; ps are the block paths of all lines, and k lines are above
+abbrev pub storeNote : ℕ → List ℕ → ℕ → ℕ → ℕ → List ℕ → List ℕ → List ℕ → ℕ
+storeNote v ps k m h near far stores =
+    cond (ltb v (length near) && (ltb v (length far) && ltb v (length stores)))
+    (noteBy (getD near v 0) (getD far v 0) (getD stores v 0) h m (samePath ps k (getD stores v 0))) 0
+
+-- that of a line, as it was read: 1 and 2 say that it is a declaration, or none of the two
+abbrev pub lineNote : Line → List ℕ → ℕ → ℕ → ℕ → List ℕ → List ℕ → List ℕ → ℕ
+lineNote line.Decl ps k m h near far stores = 1
+lineNote (line.Store s) ps k m h near far stores = storeNote (s .reg .0) ps k m h near far stores
+lineNote line.Other ps k m h near far stores = 2
+
+-- what a note says of a line is so
 abbrev pub KindIs : List ℕ → ℕ → Type 0
-KindIs l m = (n : ℕ) → m ≡ suc n → kindOf (parseOf l) ≡ suc n
+KindIs l m = (m ≡ 1 → line.Decl ≡ parseOf l) × (m ≡ 2 → line.Other ≡ parseOf l)
 
--- and a table has those of lines
-abbrev pub KindsOf : List (List ℕ) → List ℕ → Type 0
-KindsOf ls d = (k n : ℕ) → getD d k 0 ≡ suc n → firstKind (drop k ls) ≡ suc n
+-- the value of a store is read next in the region
+abbrev pub readNext : ℕ → Bool
+readNext m = eqb m 3 || eqb m 4
+
+-- what a note says of a store of register v in block path p, above the lines ls with the block paths ps, is so: whether the value is read, and
+-- whether it is dead
+pub record DropIs (v p : ℕ) (ls : List (List ℕ)) (ps : List ℕ) (m : ℕ) : Type 0 where
+  pub live : readNext m ≡ true → (liveBelow v ls ≡ true) × (deadBy p (nextIn v ls ps) ≡ false)
+  pub kept : m ≡ 5 → (liveBelow v ls ≡ false) × (deadBy p (nextIn v ls ps) ≡ false)
+  pub dead : m ≡ 6 → (liveBelow v ls ≡ false) × (deadBy p (nextIn v ls ps) ≡ true)
+
+-- the first line reads register v and does not store it, and it is not read again below
+unfoldable pub sentTo : ℕ → List (List ℕ) → Bool
+sentTo v [] = false
+sentTo v (e ∷ ls) = not (lineStores v e) && (ltb 0 (lineReads v e) && not (laterRead v ls))
+
+-- the value of a store does not go into the next line
+abbrev pub noSend : ℕ → Bool
+noSend m = ltb 2 m && not (eqb m 4)
+
+-- what a note says of a store of register v above the lines ls is so: whether its value may go into the next line
+pub record SendIs (v : ℕ) (ls : List (List ℕ)) (m : ℕ) : Type 0 where
+  pub sent : m ≡ 4 → sentTo v ls ≡ true
+  pub stays : noSend m ≡ true → sentTo v ls ≡ false
+
+-- so of the register that a line stores
+abbrev pub DropBy : List ℕ → ℕ → List (List ℕ) → List ℕ → ℕ → Type 0
+DropBy l p ls ps m = (s : Store) → parseOf l ≡ line.Store s → DropIs (s .reg .0) p ls ps m
+
+abbrev pub SendBy : List ℕ → List (List ℕ) → ℕ → Type 0
+SendBy l ls m = (s : Store) → parseOf l ≡ line.Store s → SendIs (s .reg .0) ls m
+
+-- all that a note says
+pub record NoteIs (l : List ℕ) (p : ℕ) (ls : List (List ℕ)) (ps : List ℕ) (m : ℕ) : Type 0 where
+  pub kind : KindIs l m
+  pub drops : DropBy l p ls ps m
+  pub sends : SendBy l ls m
+
+-- the first line, or an empty one
+abbrev pub firstLine : List (List ℕ) → List ℕ
+firstLine [] = []
+firstLine (l ∷ ls) = l
+
+-- a table has notes of lines with the block paths ps
+abbrev pub NotesOf : List (List ℕ) → List ℕ → List ℕ → Type 0
+NotesOf ls ps d = (k : ℕ) → NoteIs (firstLine (drop k ls)) (getD ps k 0) (drop (k + 1) ls) (drop (k + 1) ps) (getD d k 0)

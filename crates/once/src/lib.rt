@@ -6,19 +6,19 @@ ghost use mathlib.Core.Bool.{true, false};
 ghost use mathlib.Core.List.{[], _∷_, _++_};
 ghost use Prim.Native.Nat.{_≤_, _<_, _+_, _^_};
 ghost use lib.Dec.{eqb};
-ghost use lib.ListN.{length, drop, replicate};
+ghost use lib.ListN.{length, drop, getD, replicate};
 ghost use Rattle.lines.specs.Out.{Wrote};
 ghost use Rattle.lines.specs.Acts.{act, apply};
 ghost use Rattle.parse.specs.Parse.{parseOf};
 ghost use Rattle.lines.specs.Lf.{linesOf, unlines, prefixed, holds};
 ghost use Rattle.names.specs.Names.{regOf, isIdent};
-ghost use Rattle.once.specs.Scratch.{objectOf, isMember, changesBy, calledBelow, scratchAt};
+ghost use Rattle.once.specs.Scratch.{objectOf, isMember, liveBelow, changesBy, calledBelow, scratchAt};
 ghost use Rattle.once.specs.Once.{deadBy, readCount, laterRead, firstOf, takenBy, onceActs, optimizeOnce};
 ghost use Rattle.words.specs.Hits.{regHit, replaceReg};
 ghost use Rattle.reading.specs.Reading.{plain, pureIn};
 ghost use Rattle.reading.specs.Uses.{lineReads, storesBy};
 ghost use Rattle.once.specs.Tables.{readBelow, anyCall, nextIn, Blank, hasHit, storeDrops, lineDrops, storeForwards, lineForwards, onceMarks, actBy, actsBy, firstDrops, firstTakes, markBy, marksOf, areaAt};
-ghost use Rattle.once.specs.Noted.{NoneFrom, NoneBelow, OneIn, OneAt, OneOf, CalmIn, Calm, LineAt, KindsOf};
+ghost use Rattle.once.specs.Noted.{OneIn, OneAt, OneOf, CalmIn, Calm, LineAt, DropIs, DropBy, SendIs, SendBy, firstLine, NotesOf};
 ghost use Rattle.place.specs.Fill.{Filled, flagsOf};
 ghost use Rattle.place.specs.Loops.{insideLoop};
 ghost use Rattle.place.specs.Paths.{blockPaths, tops};
@@ -165,27 +165,34 @@ fn called_below(text: &[u8], x: &[u8], obj: &[u8]) -> bool
     false
 }
 
-// Whether a register is read below before it is stored again, in all lines with a number above `row`, or down to the end of the region.
-fn later_read(below: &[u8], reg: names::Register, far: bool, last: &[usize], row: usize) -> bool
-    requires { ⌜ NoneFrom row (linesOf (now below)) (now last) ⌝ }
-    ensures { λ r. ⌜ r ≡ readBelow far (reg .0) (linesOf (now (below .entry))) ⌝ }
+// Whether a register is read before it is stored again, down to the end of the region; the note of the store above may say so.
+fn live_below(below: &[u8], reg: names::Register, note: u8) -> bool
+    requires { ⌜ (note ≡ 5 → liveBelow (reg .0) (linesOf (now below)) ≡ false) × (note ≡ 6 → liveBelow (reg .0) (linesOf (now below)) ≡ false) ⌝ }
+    ensures { λ r. ⌜ r ≡ liveBelow (reg .0) (linesOf (now (below .entry))) ⌝ }
 {
-    if noted::is_quiet(last, row, reg) {
+    if note == 5 {
         return false;
     }
-    read_below(below, reg, far)
+    if note == 6 {
+        return false;
+    }
+    read_below(below, reg, false)
 }
 
-// Whether a store of a register with the value x, above `below`, is a scratch load; no `(` stands in a rest of at most `calm` bytes.
-fn scratch_at(
-    x: &[u8],
-    reg: names::Register,
-    below: &[u8],
-    last: &[usize],
-    row: usize,
-    calm: usize,
-) -> bool
-    requires { ⌜ (NoneFrom row (linesOf (now below)) (now last)) × (CalmIn (now below) calm) ⌝ }
+// Whether a register is read below the next line before it is stored again; the note of the store above may say that it is not.
+fn later_read(below: &[u8], reg: names::Register, note: u8) -> bool
+    requires { ⌜ (note ≡ 4 → laterRead (reg .0) (linesOf (now below)) ≡ false) ⌝ }
+    ensures { λ r. ⌜ r ≡ laterRead (reg .0) (linesOf (now (below .entry))) ⌝ }
+{
+    if note == 4 {
+        return false;
+    }
+    read_below(below, reg, true)
+}
+
+// Whether a store of a register with the value x and a note, above `below`, is a scratch load; no `(` stands in a rest of at most `calm` bytes.
+fn scratch_at(x: &[u8], reg: names::Register, below: &[u8], note: u8, calm: usize) -> bool
+    requires { ⌜ ((note ≡ 5 → liveBelow (reg .0) (linesOf (now below)) ≡ false) × (note ≡ 6 → liveBelow (reg .0) (linesOf (now below)) ≡ false)) × (CalmIn (now below) calm) ⌝ }
     ensures { λ r. ⌜ r ≡ scratchAt (reg .0) (now (x .entry)) (linesOf (now (below .entry))) ⌝ }
 {
     if below.len() <= calm {
@@ -194,7 +201,7 @@ fn scratch_at(
     if !is_member(x) {
         return false;
     }
-    if later_read(below, reg, false, last, row) {
+    if live_below(below, reg, note) {
         return false;
     }
     if !any_call(below, x) {
@@ -264,7 +271,7 @@ fn pure_value(x: &[u8], scratch: &mut [u8]) -> bool
 }
 
 // Whether a store of a register with the value x, above `below`, goes: its block path is p, and those of the lines below are `paths`;
-// `last` has the number of the last line that uses each register, and that of the store is `row`.
+// its note is `note`.
 fn store_drops(
     x: &[u8],
     reg: names::Register,
@@ -272,19 +279,24 @@ fn store_drops(
     paths: &[usize],
     p: usize,
     in_loop: bool,
-    last: &[usize],
-    row: usize,
+    note: u8,
     calm: usize,
     scratch: &mut [u8],
 ) -> bool
-    requires { ⌜ (Blank (length (now x)) (now scratch)) × ((NoneFrom row (linesOf (now below)) (now last)) × (CalmIn (now below) calm)) ⌝ }
+    requires { ⌜ (Blank (length (now x)) (now scratch)) × ((DropIs (reg .0) p (linesOf (now below)) (now paths) note) × (CalmIn (now below) calm)) ⌝ }
     ensures answer { λ r. ⌜ r ≡ storeDrops plain (reg .0) (now (x .entry)) p in_loop (linesOf (now (below .entry))) (now (paths .entry)) ⌝ }
     ensures memory { λ _. ⌜ now (scratch .exit) ≡ now (scratch .entry) ⌝ }
 {
-    if scratch_at(x, reg, below, last, row, calm) {
+    if (note == 3) | (note == 4) {
+        return false;
+    }
+    if scratch_at(x, reg, below, note, calm) {
         return true;
     }
     if in_loop {
+        return false;
+    }
+    if note == 5 {
         return false;
     }
     if words::count_reg(x, reg) != 0 {
@@ -293,13 +305,13 @@ fn store_drops(
     if !pure_value(x, scratch) {
         return false;
     }
-    if noted::is_quiet(last, row, reg) {
+    if note == 6 {
         return true;
     }
     dead_below(below, paths, p, reg)
 }
 
-// Whether a line with the number `row`, read as q, goes.
+// Whether a line with a note, read as q, goes.
 fn line_drops(
     line: &[u8],
     q: parse::Line,
@@ -307,12 +319,11 @@ fn line_drops(
     paths: &[usize],
     p: usize,
     in_loop: bool,
-    last: &[usize],
-    row: usize,
+    note: u8,
     calm: usize,
     scratch: &mut [u8],
 ) -> bool
-    requires { ⌜ (q ≡ parseOf (now line)) × ((Blank (length (now line)) (now scratch)) × ((NoneFrom row (linesOf (now below)) (now last)) × (CalmIn (now below) calm))) ⌝ }
+    requires { ⌜ (q ≡ parseOf (now line)) × ((Blank (length (now line)) (now scratch)) × ((DropBy (now line) p (linesOf (now below)) (now paths) note) × (CalmIn (now below) calm))) ⌝ }
     ensures answer { λ r. ⌜ r ≡ lineDrops plain (now (line .entry)) p in_loop (linesOf (now (below .entry))) (now (paths .entry)) ⌝ }
     ensures memory { λ _. ⌜ now (scratch .exit) ≡ now (scratch .entry) ⌝ }
 {
@@ -320,7 +331,7 @@ fn line_drops(
         parse::Line::Decl => false,
         parse::Line::Store(s) => {
             let x = parse::value_of(line, s);
-            store_drops(x, s.reg, below, paths, p, in_loop, last, row, calm, scratch)
+            store_drops(x, s.reg, below, paths, p, in_loop, note, calm, scratch)
         }
         parse::Line::Other => false,
     }
@@ -360,8 +371,8 @@ fn once_in(run: &[u8], reg: names::Register, next: &[u8], reads: &[usize]) -> bo
     read_once(run, reg)
 }
 
-// Whether a store of a register with the value x, in the region `run`, goes into the next line, which is read as q, has the number `row`, and
-// goes itself where `gone` says so.
+// Whether a store of a register with the value x and a note, in the region `run`, goes into the next line, which is read as q, and goes itself
+// where `gone` says so.
 fn store_forwards(
     x: &[u8],
     reg: names::Register,
@@ -371,12 +382,11 @@ fn store_forwards(
     run: &[u8],
     in_loop: bool,
     gone: bool,
-    last: &[usize],
     reads: &[usize],
-    row: usize,
+    note: u8,
     scratch: &mut [u8],
 ) -> bool
-    requires { ⌜ (q ≡ parseOf (now next)) × ((Blank (length (now x)) (now scratch)) × ((NoneFrom row (linesOf (now below)) (now last)) × (OneIn (now next) (linesOf (now run)) (now reads)))) ⌝ }
+    requires { ⌜ (q ≡ parseOf (now next)) × ((Blank (length (now x)) (now scratch)) × ((SendIs (reg .0) (now next ∷ linesOf (now below)) note) × (OneIn (now next) (linesOf (now run)) (now reads)))) ⌝ }
     ensures answer { λ r. ⌜ r ≡ storeForwards plain (reg .0) (now (x .entry)) (linesOf (now (run .entry))) in_loop gone (now (next .entry)) (linesOf (now (below .entry))) ⌝ }
     ensures memory { λ _. ⌜ now (scratch .exit) ≡ now (scratch .entry) ⌝ }
 {
@@ -384,6 +394,9 @@ fn store_forwards(
         return false;
     }
     if gone {
+        return false;
+    }
+    if (2 < note) & (note != 4) {
         return false;
     }
     if stores_in(q, reg) {
@@ -398,13 +411,13 @@ fn store_forwards(
     if !takes(next, reg) {
         return false;
     }
-    if later_read(below, reg, true, last, row) {
+    if later_read(below, reg, note) {
         return false;
     }
     once_in(run, reg, next, reads)
 }
 
-// Whether a line that stays, read as p, goes into the next line, read as q.
+// Whether a line with a note that stays, read as p, goes into the next line, read as q.
 fn line_forwards(
     line: &[u8],
     p: parse::Line,
@@ -414,14 +427,13 @@ fn line_forwards(
     run: &[u8],
     in_loop: bool,
     gone: bool,
-    last: &[usize],
     reads: &[usize],
-    row: usize,
+    note: u8,
     scratch: &mut [u8],
 ) -> bool
     requires { ⌜ (p ≡ parseOf (now line))
         × ((q ≡ parseOf (now next))
-        × ((Blank (length (now line)) (now scratch)) × ((NoneFrom row (linesOf (now below)) (now last)) × (OneIn (now next) (linesOf (now run)) (now reads))))) ⌝ }
+        × ((Blank (length (now line)) (now scratch)) × ((SendBy (now line) (now next ∷ linesOf (now below)) note) × (OneIn (now next) (linesOf (now run)) (now reads))))) ⌝ }
     ensures answer { λ r. ⌜ r ≡ lineForwards plain (now (line .entry)) (linesOf (now (run .entry))) in_loop gone (now (next .entry)) (linesOf (now (below .entry))) ⌝ }
     ensures memory { λ _. ⌜ now (scratch .exit) ≡ now (scratch .entry) ⌝ }
 {
@@ -438,9 +450,8 @@ fn line_forwards(
                 run,
                 in_loop,
                 gone,
-                last,
                 reads,
-                row,
+                note,
                 scratch,
             )
         }
@@ -448,7 +459,7 @@ fn line_forwards(
     }
 }
 
-// Whether the line from i to e, read as p, goes; its block path stands in `paths` at k, and those of the lines below after it.
+// Whether the line from i to e, read as p, with a note, goes; its block path stands in `paths` at k, and those of the lines below after it.
 fn drops_at(
     text: &[u8],
     i: usize,
@@ -457,12 +468,13 @@ fn drops_at(
     paths: &[usize],
     k: usize,
     in_loop: bool,
-    last: &[usize],
+    note: u8,
     calm: usize,
     scratch: &mut [u8],
 ) -> bool
     requires { ⌜ (LineAt (now text) i e p)
-        × ((Blank (length (now text)) (now scratch)) × ((NoneFrom (k + 1) (drop 1 (linesOf (drop i (now text)))) (now last)) × (Calm (now text) calm))) ⌝ }
+        × ((Blank (length (now text)) (now scratch))
+        × ((DropBy (firstLine (linesOf (drop i (now text)))) (getD (now paths) k 0) (drop 1 (linesOf (drop i (now text)))) (drop (k + 1) (now paths)) note) × (Calm (now text) calm))) ⌝ }
     ensures answer { λ r. ⌜ r ≡ firstDrops plain (linesOf (drop i (now (text .entry)))) (drop k (now (paths .entry))) in_loop ⌝ }
     ensures memory { λ _. ⌜ now (scratch .exit) ≡ now (scratch .entry) ⌝ }
 {
@@ -481,15 +493,14 @@ fn drops_at(
         &paths[n..],
         paths[k],
         in_loop,
-        last,
-        n,
+        note,
         calm,
         scratch,
     )
 }
 
 // The mark of a line, read as p, in the region `run`, above the line from j to e, read as q: 1 where it goes, as `goes` says, 2 where it would go into the next, else 0;
-// `next` says whether that one goes, and `row` is the number of the line.
+// `next` says whether that one goes, and `note` is that of the line.
 fn mark_at(
     line: &[u8],
     p: parse::Line,
@@ -501,17 +512,14 @@ fn mark_at(
     in_loop: bool,
     goes: bool,
     next: bool,
-    last: &[usize],
     reads: &[usize],
-    row: usize,
+    note: u8,
     scratch: &mut [u8],
 ) -> u8
     requires { ⌜ (p ≡ parseOf (now line))
         × ((LineAt (now text) j e q)
         × ((Blank (length (now line)) (now scratch))
-        × ((row ≤ j)
-        × ((NoneFrom (row + 1) (drop 1 (linesOf (drop j (now text)))) (now last))
-        × (OneAt (linesOf (drop j (now text))) (linesOf (now run)) (now reads)))))) ⌝ }
+        × ((SendBy (now line) (linesOf (drop j (now text))) note) × (OneAt (linesOf (drop j (now text))) (linesOf (now run)) (now reads))))) ⌝ }
     ensures answer { λ r. ⌜ r ≡ markBy goes (firstTakes plain (now (line .entry)) (linesOf (now (run .entry))) in_loop next (linesOf (drop j (now (text .entry))))) ⌝ }
     ensures memory { λ _. ⌜ now (scratch .exit) ≡ now (scratch .entry) ⌝ }
 {
@@ -531,9 +539,8 @@ fn mark_at(
         run,
         in_loop,
         next,
-        last,
         reads,
-        row + 1,
+        note,
         scratch,
     ) {
         return 2;
@@ -557,15 +564,14 @@ fn mark_with(
     text: &[u8],
     paths: &[usize],
     loops: &[u8],
-    last: &[usize],
     reads: &[usize],
     calm: usize,
-    kinds: &[u8],
+    notes: &[u8],
     scratch: &mut [u8],
     marks: &mut [u8],
 ) -> usize
     requires { ⌜ (Blank (length (now text)) (now scratch))
-        × ((length (linesOf (now text)) ≤ length (now marks)) × ((NoneBelow (linesOf (now text)) (now last)) × ((OneOf (linesOf (now text)) (now reads)) × ((Calm (now text) calm) × (KindsOf (linesOf (now text)) (now kinds)))))) ⌝ }
+        × ((length (linesOf (now text)) ≤ length (now marks)) × ((OneOf (linesOf (now text)) (now reads)) × ((Calm (now text) calm) × (NotesOf (linesOf (now text)) (now paths) (now notes))))) ⌝ }
     ensures answer { λ r. ⌜ Filled (now (marks .entry)) (marksOf plain (linesOf (now (text .entry))) (now (paths .entry)) (now (loops .entry))) (now (marks .exit)) r ⌝ }
     ensures memory { λ _. ⌜ now (scratch .exit) ≡ now (scratch .entry) ⌝ }
 {
@@ -573,16 +579,18 @@ fn mark_with(
     let f = lines::byte_at(loops, 0);
     let mut e = lines::find_byte(text, 0, 10);
     let mut p = parse::parse(lines::cut(text, 0, e));
-    let mut goes = drops_at(text, 0, e, p, paths, 0, f != 0, last, calm, scratch);
+    let d = lines::byte_at(notes, 0);
+    let mut goes = drops_at(text, 0, e, p, paths, 0, f != 0, d, calm, scratch);
     let mut run = text::Span { from: 0, to: to };
     let mut i = 0;
     let mut k = 0;
     while i < text.len() {
         let j = lines::after(text, e);
         let n = lines::find_byte(text, j, 10);
-        let q = noted::parse_at(lines::cut(text, j, n), k + 1, kinds);
+        let c = lines::byte_at(notes, k + 1);
+        let q = noted::parse_at(lines::cut(text, j, n), c);
         let g = lines::byte_at(loops, k + 1);
-        let next = drops_at(text, j, n, q, paths, k + 1, g != 0, last, calm, scratch);
+        let next = drops_at(text, j, n, q, paths, k + 1, g != 0, c, calm, scratch);
         run = area_at(text, i, e, run);
         let h = lines::byte_at(loops, k);
         marks[k] = mark_at(
@@ -596,9 +604,8 @@ fn mark_with(
             h != 0,
             goes,
             next,
-            last,
             reads,
-            k + 1,
+            lines::byte_at(notes, k),
             scratch,
         );
         goes = next;
@@ -618,26 +625,26 @@ fn fill_marks(
     scratch: &mut [u8],
     marks: &mut [u8],
 ) -> usize
-    requires { ⌜ (Blank (length (now text)) (now scratch)) × (length (linesOf (now text)) ≤ length (now marks)) ⌝ }
+    requires { ⌜ (Blank (length (now text)) (now scratch)) × ((length (linesOf (now text)) ≤ length (now marks)) × (length (now paths) ≡ length (linesOf (now text)))) ⌝ }
     ensures answer { λ r. ⌜ Filled (now (marks .entry)) (marksOf plain (linesOf (now (text .entry))) (now (paths .entry)) (now (loops .entry))) (now (marks .exit)) r ⌝ }
     ensures memory { λ _. ⌜ now (scratch .exit) ≡ now (scratch .entry) ⌝ }
 {
-    let mut last = [0usize; 1024];
+    let mut near = [0usize; 1024];
+    let mut far = [0usize; 1024];
+    let mut stores = [0usize; 1024];
     let mut reads = [0usize; 1024];
-    let mut kinds = [0u8; 1024];
-    noted::note_lines(text, &mut last, &mut reads, &mut kinds);
-    let calm = calm_len(text);
-    mark_with(
+    let mut notes = [0u8; 1024];
+    noted::note_lines(
         text,
         paths,
-        loops,
-        &last,
-        &reads,
-        calm,
-        &kinds,
-        scratch,
-        marks,
-    )
+        &mut near,
+        &mut far,
+        &mut stores,
+        &mut reads,
+        &mut notes,
+    );
+    let calm = calm_len(text);
+    mark_with(text, paths, loops, &reads, calm, &notes, scratch, marks)
 }
 
 // Writes a line with its LF, and returns the place after it.

@@ -1,12 +1,27 @@
-// Two tables over registers, of the last line that uses each one, and of how often the lines read it, up to 2; and one over lines, of what each is.
+// Tables over registers, of the next lines that read and store each one, and of how often the lines read it, up to 2; and one over lines, of what
+// each is and of what becomes of what it stores. The number of a line is how many lines there are from it on.
 ghost use mathlib.Core.Path.{_≡_};
-ghost use lib.ListN.{set, getD};
+ghost use mathlib.Core.Bool.{cond};
+ghost use Prim.Native.Nat.{_<_};
+ghost use lib.ListN.{length, set, getD};
+ghost use lib.Dec.{eqb};
 ghost use Rattle.lines.specs.Lf.{linesOf};
 ghost use Rattle.names.specs.Names.{regOf};
-ghost use Rattle.parse.specs.Parse.{parseOf};
+ghost use Rattle.parse.specs.Parse.{parseOf, textOf};
 ghost use Rattle.words.specs.Runs.{runs};
-ghost use Rattle.decls.specs.Seen.{markName, markRuns, markStore, markLine};
-ghost use Rattle.once.specs.Noted.{bump, addName, addRuns, addLine, addLines, rowLines, quiet, alone, kindOf, kindLines, KindIs};
+ghost use Rattle.place.specs.Region.{isHeader};
+ghost use Rattle.decls.specs.Seen.{markName, markStore, AtMost};
+ghost use Rattle.once.specs.Noted.{bump, addName, addRuns, alone, OneOf, farName, readRuns, StartOf, samePath, storeNote, lineNote, KindIs, NotesOf};
+
+// The entry of a table, or 0 past its end.
+fn entry(d: &[usize], i: usize) -> usize
+    ensures { λ r. ⌜ r ≡ getD (now (d .entry)) i 0 ⌝ }
+{
+    if i < d.len() {
+        return d[i];
+    }
+    0
+}
 
 // Puts the number m of a line at a register, where the table reaches to it.
 fn put_row(reg: names::Register, m: usize, last: &mut [usize])
@@ -17,6 +32,21 @@ fn put_row(reg: names::Register, m: usize, last: &mut [usize])
         return;
     }
     last[v] = m;
+}
+
+// Puts the number of the next line that reads a register, by the table `near`, where it is not m itself, and the table reaches to it.
+fn put_far(reg: names::Register, m: usize, near: &[usize], far: &mut [usize])
+    ensures { λ _. ⌜ now (far .exit) ≡ cond (eqb (getD (now (near .entry)) (reg .0) 0) m) (now (far .entry)) (set (now (far .entry)) (reg .0) (getD (now (near .entry)) (reg .0) 0)) ⌝ }
+{
+    let v = reg.0 as usize;
+    let r = entry(near, v);
+    if r == m {
+        return;
+    }
+    if far.len() <= v {
+        return;
+    }
+    far[v] = r;
 }
 
 // Counts a read of a register, where the table reaches to it.
@@ -35,13 +65,15 @@ fn add_read(reg: names::Register, reads: &mut [usize])
 }
 
 // Notes the register that a text names, as read by the line with the number m.
-fn note_name(t: &[u8], m: usize, last: &mut [usize], reads: &mut [usize])
-    ensures rows { λ _. ⌜ now (last .exit) ≡ markName m (regOf (now (t .entry))) (now (last .entry)) ⌝ }
+fn note_name(t: &[u8], m: usize, near: &mut [usize], far: &mut [usize], reads: &mut [usize])
+    ensures rows { λ _. ⌜ now (near .exit) ≡ markName m (regOf (now (t .entry))) (now (near .entry)) ⌝ }
+    ensures seconds { λ _. ⌜ now (far .exit) ≡ farName m (regOf (now (t .entry))) (now (near .entry)) (now (far .entry)) ⌝ }
     ensures counts { λ _. ⌜ now (reads .exit) ≡ addName (regOf (now (t .entry))) (now (reads .entry)) ⌝ }
 {
     match names::reg_name(t) {
         names::RegName::Reg(q) => {
-            put_row(q, m, last);
+            put_far(q, m, near, far);
+            put_row(q, m, near);
             add_read(q, reads)
         }
         names::RegName::None => {}
@@ -49,8 +81,8 @@ fn note_name(t: &[u8], m: usize, last: &mut [usize], reads: &mut [usize])
 }
 
 // Notes the registers that a text reads.
-fn note_runs(s: &[u8], m: usize, last: &mut [usize], reads: &mut [usize])
-    ensures rows { λ _. ⌜ now (last .exit) ≡ markRuns m (runs (now (s .entry))) (now (last .entry)) ⌝ }
+fn note_runs(s: &[u8], m: usize, near: &mut [usize], far: &mut [usize], reads: &mut [usize])
+    ensures rows { λ _. ⌜ (now (near .exit), now (far .exit)) ≡ readRuns m (runs (now (s .entry))) (now (near .entry), now (far .entry)) ⌝ }
     ensures counts { λ _. ⌜ now (reads .exit) ≡ addRuns (runs (now (s .entry))) (now (reads .entry)) ⌝ }
 {
     let mut a = 0;
@@ -59,12 +91,12 @@ fn note_runs(s: &[u8], m: usize, last: &mut [usize], reads: &mut [usize])
         if text::is_name_byte(s[i]) {
             i += 1;
         } else {
-            note_name(lines::cut(s, a, i), m, last, reads);
+            note_name(lines::cut(s, a, i), m, near, far, reads);
             i += 1;
             a = i;
         }
     }
-    note_name(lines::cut(s, a, i), m, last, reads);
+    note_name(lines::cut(s, a, i), m, near, far, reads);
 }
 
 // Notes the register that a line stores.
@@ -78,72 +110,171 @@ fn note_store(p: parse::Line, m: usize, last: &mut [usize])
     }
 }
 
-// What a line is, as a number: 0 where it is a store.
-fn kind_of(p: parse::Line) -> u8
-    ensures { λ r. ⌜ r ≡ kindOf p ⌝ }
+// Notes the registers that a line with the number m, read as p, reads and stores.
+fn note_line(
+    line: &[u8],
+    p: parse::Line,
+    m: usize,
+    near: &mut [usize],
+    far: &mut [usize],
+    stores: &mut [usize],
+    reads: &mut [usize],
+)
+    ensures rows { λ _. ⌜ (now (near .exit), now (far .exit)) ≡ readRuns m (runs (textOf (now (line .entry)) p)) (now (near .entry), now (far .entry)) ⌝ }
+    ensures stores { λ _. ⌜ now (stores .exit) ≡ markStore m p (now (stores .entry)) ⌝ }
+    ensures counts { λ _. ⌜ now (reads .exit) ≡ addRuns (runs (textOf (now (line .entry)) p)) (now (reads .entry)) ⌝ }
+{
+    note_store(p, m, stores);
+    note_runs(parse::text_of(line, p), m, near, far, reads);
+}
+
+// Whether the line with k above it, and the one with the number s, are in one block path.
+fn same_path(paths: &[usize], k: usize, s: usize) -> bool
+    ensures { λ r. ⌜ r ≡ samePath (now (paths .entry)) k s ⌝ }
+{
+    let n = paths.len();
+    if n < s {
+        return false;
+    }
+    entry(paths, k) == entry(paths, n - s)
+}
+
+// The note of a store of a register with k lines above it and m below it, where h is the number of the next header.
+fn store_note(
+    reg: names::Register,
+    paths: &[usize],
+    k: usize,
+    m: usize,
+    h: usize,
+    near: &[usize],
+    far: &[usize],
+    stores: &[usize],
+) -> u8
+    ensures { λ r. ⌜ r ≡ storeNote (reg .0) (now (paths .entry)) k m h (now (near .entry)) (now (far .entry)) (now (stores .entry)) ⌝ }
+{
+    let v = reg.0 as usize;
+    if near.len() <= v {
+        return 0;
+    }
+    if far.len() <= v {
+        return 0;
+    }
+    if stores.len() <= v {
+        return 0;
+    }
+    let r = near[v];
+    let s = stores[v];
+    if (h < r) & (s < r) {
+        if (r == m) & !(s < far[v]) {
+            return 4;
+        }
+        return 3;
+    }
+    if (h < r) & (s == r) {
+        return 5;
+    }
+    if h < s {
+        if same_path(paths, k, s) {
+            return 6;
+        }
+        return 5;
+    }
+    if r == m {
+        return 0;
+    }
+    6
+}
+
+// The note of a line, read as p.
+fn line_note(
+    p: parse::Line,
+    paths: &[usize],
+    k: usize,
+    m: usize,
+    h: usize,
+    near: &[usize],
+    far: &[usize],
+    stores: &[usize],
+) -> u8
+    ensures { λ r. ⌜ r ≡ lineNote p (now (paths .entry)) k m h (now (near .entry)) (now (far .entry)) (now (stores .entry)) ⌝ }
 {
     match p {
         parse::Line::Decl => 1,
-        parse::Line::Store(_) => 0,
+        parse::Line::Store(s) => store_note(s.reg, paths, k, m, h, near, far, stores),
         parse::Line::Other => 2,
     }
 }
 
-// Puts what the line with k above it is, where the table reaches to it.
-fn put_kind(p: parse::Line, k: usize, kinds: &mut [u8])
-    ensures { λ _. ⌜ now (kinds .exit) ≡ set (now (kinds .entry)) k (kindOf p) ⌝ }
+// Puts the note x of the line with k above it, where the table reaches to it.
+fn put_note(k: usize, x: u8, notes: &mut [u8])
+    ensures { λ _. ⌜ now (notes .exit) ≡ set (now (notes .entry)) k x ⌝ }
 {
-    if kinds.len() <= k {
+    if notes.len() <= k {
         return;
     }
-    kinds[k] = kind_of(p);
+    notes[k] = x;
 }
 
-// Notes what a line with k above it is, and the registers that it uses.
-fn note_line(
-    line: &[u8],
-    k: usize,
-    m: usize,
-    last: &mut [usize],
+// Where the line begins that ends at e, before an LF.
+fn line_start(text: &[u8], e: usize) -> usize
+    requires { ⌜ (e < length (now text)) × (getD (now text) e 0 ≡ 10) ⌝ }
+    ensures { λ r. ⌜ StartOf (now (text .entry)) e r ⌝ }
+{
+    let mut i = e;
+    while 0 < i {
+        if text[i - 1] == 10 {
+            return i;
+        }
+        i -= 1;
+    }
+    i
+}
+
+// The number of the next header from a line with the number m on, where h is that below it.
+fn head_at(line: &[u8], m: usize, h: usize) -> usize
+    ensures { λ r. ⌜ r ≡ cond (isHeader (now (line .entry))) m h ⌝ }
+{
+    if place::is_header(line) {
+        return m;
+    }
+    h
+}
+
+// Notes what lines are, the registers that they use, and what becomes of what they store, from the last to the first; the tables hold zeros, and
+// `paths` has the block paths of the lines.
+pub fn note_lines(
+    text: &[u8],
+    paths: &[usize],
+    near: &mut [usize],
+    far: &mut [usize],
+    stores: &mut [usize],
     reads: &mut [usize],
-    kinds: &mut [u8],
+    notes: &mut [u8],
 )
-    ensures rows { λ _. ⌜ now (last .exit) ≡ markLine m (now (line .entry)) (now (last .entry)) ⌝ }
-    ensures counts { λ _. ⌜ now (reads .exit) ≡ addLine (now (line .entry)) (now (reads .entry)) ⌝ }
-    ensures kinds { λ _. ⌜ now (kinds .exit) ≡ set (now (kinds .entry)) k (kindOf (parseOf (now (line .entry)))) ⌝ }
+    requires { ⌜ (length (now paths) ≡ length (linesOf (now text)))
+        × ((AtMost 0 (now near)) × ((AtMost 0 (now far)) × ((AtMost 0 (now stores)) × ((AtMost 0 (now reads)) × (AtMost 0 (now notes)))))) ⌝ }
+    ensures counts { λ _. ⌜ OneOf (linesOf (now (text .entry))) (now (reads .exit)) ⌝ }
+    ensures notes { λ _. ⌜ NotesOf (linesOf (now (text .entry))) (now (paths .entry)) (now (notes .exit)) ⌝ }
 {
-    let p = parse::parse(line);
-    put_kind(p, k, kinds);
-    note_store(p, m, last);
-    note_runs(parse::text_of(line, p), m, last, reads);
-}
-
-// Notes what lines are, and the registers that they use; the first line has the number 1.
-pub fn note_lines(text: &[u8], last: &mut [usize], reads: &mut [usize], kinds: &mut [u8])
-    ensures rows { λ _. ⌜ now (last .exit) ≡ rowLines 0 (linesOf (now (text .entry))) (now (last .entry)) ⌝ }
-    ensures counts { λ _. ⌜ now (reads .exit) ≡ addLines (linesOf (now (text .entry))) (now (reads .entry)) ⌝ }
-    ensures kinds { λ _. ⌜ now (kinds .exit) ≡ kindLines 0 (linesOf (now (text .entry))) (now (kinds .entry)) ⌝ }
-{
-    let mut i = 0;
-    let mut k = 0;
-    while i < text.len() {
-        let e = lines::find_byte(text, i, 10);
-        let line = lines::cut(text, i, e);
-        note_line(line, k, k + 1, last, reads, kinds);
-        k += 1;
-        i = lines::after(text, e);
+    if !lines::ends_lf(text) {
+        return;
     }
-}
-
-// Whether the table says that no line with a number above k uses a register.
-pub fn is_quiet(last: &[usize], k: usize, reg: names::Register) -> bool
-    ensures { λ r. ⌜ r ≡ quiet k (reg .0) (now (last .entry)) ⌝ }
-{
-    let v = reg.0 as usize;
-    if last.len() <= v {
-        return false;
+    let n = paths.len();
+    let mut i = text.len();
+    let mut m = 0;
+    let mut h = 0;
+    while 0 < i {
+        let e = i - 1;
+        let a = line_start(text, e);
+        let line = lines::cut(text, a, e);
+        let p = parse::parse(line);
+        let k = n - (m + 1);
+        put_note(k, line_note(p, paths, k, m, h, near, far, stores), notes);
+        m += 1;
+        note_line(line, p, m, near, far, stores, reads);
+        h = head_at(line, m, h);
+        i = a;
     }
-    !(k < last[v])
 }
 
 // Whether the table says that a register is read once in all.
@@ -157,16 +288,15 @@ pub fn is_alone(reads: &[usize], reg: names::Register) -> bool
     reads[v] == 1
 }
 
-// What a line with k above it is: by the table, where it says so.
-pub fn parse_at(line: &[u8], k: usize, kinds: &[u8]) -> parse::Line
-    requires { ⌜ KindIs (now line) (getD (now kinds) k 0) ⌝ }
+// What a line is: by its note, where that says so.
+pub fn parse_at(line: &[u8], note: u8) -> parse::Line
+    requires { ⌜ KindIs (now line) note ⌝ }
     ensures { λ r. ⌜ r ≡ parseOf (now (line .entry)) ⌝ }
 {
-    let d = lines::byte_at(kinds, k);
-    if d == 1 {
+    if note == 1 {
         return parse::Line::Decl;
     }
-    if d == 2 {
+    if note == 2 {
         return parse::Line::Other;
     }
     parse::parse(line)

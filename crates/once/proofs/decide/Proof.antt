@@ -2,6 +2,7 @@ use borrow.Author.Needs.{needs}
 use mathlib.Core.Path.{ap, _∙_}
 use native.Mathlib.Omega.{arith}
 use lib.ListN.{length}
+use Rattle.place.proofs.Paths.{length-tops}
 use Rattle.lines.specs.Lf.{linesOf}
 use Rattle.once.proofs.Blanks.{blank-wiped}
 use Rattle.once.proofs.Passes.{filled-part, filled-to, filled-le, wrote-same, marks-filled}
@@ -52,7 +53,7 @@ part-fill-marks-end-2 c = omega (arith, filled-le (c .before .before .before .be
 
 -- src/lib.rt:551:5
 fill-marks-requires : tie.Need-fill-marks-requires
-fill-marks-requires c κs = (blank-wiped (c .before .before .before .before .before .before .before .before .before .before .before .before .before .before .before .before .before .before .before .wipe .ensures), c .before .before .before .before .before .before .before .before .before .before .before .before .before .before .before .before .before .before .before .before .before .before .before .before .before .before .before .pre .1 .0)
+fill-marks-requires c κs = let a = c .before .before .before .before .before .before .before .before .before .before .before .before .before .before .before .before .before .before .before .before .before .before .before .before .before .before .before .args in (blank-wiped (c .before .before .before .before .before .before .before .before .before .before .before .before .before .before .before .before .before .before .before .wipe .ensures), (c .before .before .before .before .before .before .before .before .before .before .before .before .before .before .before .before .before .before .before .before .before .before .before .before .before .before .before .pre .1 .0, ap length (filled-part (c .before .before .before .before .before .before .before .before .before .before .block-paths .ensures .0)) ∙ length-tops (linesOf (a .text .now))))
 
 -- src/lib.rt:529:1
 same-length : tie.Need-same-length

@@ -2,7 +2,7 @@ use borrow.Author.Needs.{needs}
 use Rattle.parse.specs.Parse.{textOf}
 use Prim.Native.Nat.{ℕ}
 use mathlib.Core.List.{List}
-use mathlib.Core.Path.{_≡_, refl, sym, ap, _∙_}
+use mathlib.Core.Path.{refl, sym, ap, _∙_}
 use native.Mathlib.Omega.{arith}
 use lib.ListN.{length}
 use Rattle.reading.specs.Reading.{plain}
@@ -17,53 +17,49 @@ use Rattle.once.proofs.line_forwards.Lts as lts
 use Rattle.once.proofs.store_forwards.Reads as store-forwards-reads
 use Rattle.parse.proofs.value_of.Reads as value-of-reads
 
--- src/lib.rt:434:30
+-- src/lib.rt:441:30
 enum-told : tie.Need-enum-told
 enum-told c = search needs
 
--- src/lib.rt:435:28
+-- src/lib.rt:442:28
 enum-known-p : tie.Need-enum-known-p
 enum-known-p c = search needs
 
--- src/lib.rt:436:17
+-- src/lib.rt:443:17
 value-of-requires : tie.Need-value-of-requires
 value-of-requires c κs = search needs
 
--- src/lib.rt:437:13
+-- src/lib.rt:444:13
 store-forwards-requires : tie.Need-store-forwards-requires
 store-forwards-requires c κs =
-    let a = c .before .before .before .before .before .before .before .before .before .before .before .before .args in
+    let a = c .before .before .before .before .before .before .before .before .before .before .before .args in
     let s = c .before .before .before .p .given .0 .0 in
-    (c .before .before .before .before .before .before .before .before .before .before .before .before .pre .1 .0, (blank-less (let h = value-room (s .from) (s .to) (a .line .now) in let q = ap length (c .before .value-of .ensures) in omega arith) (c .before .before .before .before .before .before .before .before .before .before .before .before .pre .1 .1 .0), c .before .before .before .before .before .before .before .before .before .before .before .before .pre .1 .1 .1))
+    (c .before .before .before .before .before .before .before .before .before .before .before .pre .1 .0, (blank-less (let h = value-room (s .from) (s .to) (a .line .now) in let q = ap length (c .before .value-of .ensures) in omega arith) (c .before .before .before .before .before .before .before .before .before .before .before .pre .1 .1 .0), (c .before .before .before .before .before .before .before .before .before .before .before .pre .1 .1 .1 .0 s (sym (c .before .before .before .before .before .before .before .before .before .before .before .pre .0) ∙ c .before .before .before .p .given .1), c .before .before .before .before .before .before .before .before .before .before .before .pre .1 .1 .1 .1)))
 
--- src/lib.rt:452:31
+-- src/lib.rt:458:31
 enum-told-2 : tie.Need-enum-told-2
 enum-told-2 c = search needs
 
--- src/lib.rt:413:1
+-- src/lib.rt:421:1
 returns : tie.Need-returns
-returns c = let a = c .before .before .before .before .before .before .before .before .before .args in (ap (forwardsBy plain (a .line .now) (linesOf (a .run .now)) (a .in-loop) (a .gone) (a .next .now) (linesOf (a .below .now))) (sym (c .enum-told .given .1)) ∙ forwards-at plain (a .line .now) (linesOf (a .run .now)) (a .in-loop) (a .gone) (a .next .now) (linesOf (a .below .now)) _ (c .before .before .before .before .before .before .before .before .before .pre .0), refl)
+returns c = let a = c .before .before .before .before .before .before .before .before .args in (ap (forwardsBy plain (a .line .now) (linesOf (a .run .now)) (a .in-loop) (a .gone) (a .next .now) (linesOf (a .below .now))) (sym (c .enum-told .given .1)) ∙ forwards-at plain (a .line .now) (linesOf (a .run .now)) (a .in-loop) (a .gone) (a .next .now) (linesOf (a .below .now)) _ (c .before .before .before .before .before .before .before .before .pre .0), refl)
 
--- src/lib.rt:413:1
+-- src/lib.rt:421:1
 same-length : tie.Need-same-length
 same-length c = search needs
 
--- src/lib.rt:413:1
+-- src/lib.rt:421:1
 returns-2 : tie.Need-returns-2
 unfolding textOf
 returns-2 c =
-    let a = c .before .before .before .before .before .before .before .before .before .before .before .before .before .before .before .args in
+    let a = c .before .before .before .before .before .before .before .before .before .before .before .before .before .before .args in
     let e = c .before .before .store-forwards .ensures in
-    let s = c .before .before .before .before .before .before .p .given in (
-      e .0
-          ∙ ap (λ (x : List ℕ). storeForwards plain (s .0 .0 .reg .0) x (linesOf (a .run .now)) (a .in-loop) (a .gone) (a .next .now) (linesOf (a .below .now))) (c .before .before .before .before .value-of .ensures)
-          ∙ ap (forwardsBy plain (a .line .now) (linesOf (a .run .now)) (a .in-loop) (a .gone) (a .next .now) (linesOf (a .below .now))) (sym (s .1)) ∙ forwards-at plain (a .line .now) (linesOf (a .run .now)) (a .in-loop) (a .gone) (a .next .now) (linesOf (a .below .now)) _ (c .before .before .before .before .before .before .before .before .before .before .before .before .before .before .before .pre .0),
-      e .1,
-    )
+    let s = c .before .before .before .before .before .before .p .given in
+    (e .0 ∙ ap (λ (x : List ℕ). storeForwards plain (s .0 .0 .reg .0) x (linesOf (a .run .now)) (a .in-loop) (a .gone) (a .next .now) (linesOf (a .below .now))) (c .before .before .before .before .value-of .ensures) ∙ ap (forwardsBy plain (a .line .now) (linesOf (a .run .now)) (a .in-loop) (a .gone) (a .next .now) (linesOf (a .below .now))) (sym (s .1)) ∙ forwards-at plain (a .line .now) (linesOf (a .run .now)) (a .in-loop) (a .gone) (a .next .now) (linesOf (a .below .now)) _ (c .before .before .before .before .before .before .before .before .before .before .before .before .before .before .pre .0), e .1)
 
--- src/lib.rt:413:1
+-- src/lib.rt:421:1
 returns-3 : tie.Need-returns-3
-returns-3 c = let a = c .before .before .before .before .before .before .before .before .before .args in (ap (forwardsBy plain (a .line .now) (linesOf (a .run .now)) (a .in-loop) (a .gone) (a .next .now) (linesOf (a .below .now))) (sym (c .enum-told2 .given .1)) ∙ forwards-at plain (a .line .now) (linesOf (a .run .now)) (a .in-loop) (a .gone) (a .next .now) (linesOf (a .below .now)) _ (c .before .before .before .before .before .before .before .before .before .pre .0), refl)
+returns-3 c = let a = c .before .before .before .before .before .before .before .before .args in (ap (forwardsBy plain (a .line .now) (linesOf (a .run .now)) (a .in-loop) (a .gone) (a .next .now) (linesOf (a .below .now))) (sym (c .enum-told2 .given .1)) ∙ forwards-at plain (a .line .now) (linesOf (a .run .now)) (a .in-loop) (a .gone) (a .next .now) (linesOf (a .below .now)) _ (c .before .before .before .before .before .before .before .before .pre .0), refl)
 
 pub line-forwards-spec : {M : Type 1} → statement M
 line-forwards-spec =

@@ -6,7 +6,7 @@ use lib.ListN.{length}
 use Rattle.lines.specs.Lf.{linesOf}
 use Rattle.lines.proofs.LfLaws.{find-le, lines-at}
 use Rattle.reading.specs.Reading.{plain}
-use Rattle.once.proofs.NotedLaws.{none-rest}
+use Rattle.once.proofs.NotedFills.{send-rest}
 use Rattle.once.proofs.Fills.{takes-end, takes-line, mark-stays}
 use Rattle.once.proofs.mark_at.Statement.{statement}
 use Rattle.once.proofs.mark_at.Tie as tie
@@ -15,77 +15,73 @@ use Rattle.once.proofs.mark_at.Lts as lts
 use Rattle.lines.proofs.after.Reads as after-reads
 use Rattle.once.proofs.line_forwards.Reads as line-forwards-reads
 
--- src/lib.rt:524:9
+-- src/lib.rt:527:9
 returns : tie.Need-returns
 returns c = (rw (c .if1 .taken) refl, refl)
 
--- src/lib.rt:527:9
+-- src/lib.rt:530:9
 returns-2 : tie.Need-returns-2
-returns-2 c = let a = c .before .before .before .before .before .before .before .before .args in (mark-stays (c .before .if1 .left) (takes-end plain (a .line .now) (linesOf (a .run .now)) (a .in-loop) (a .next) (a .text .now) (a .j) (c .if2 .taken)), refl)
+returns-2 c = let a = c .before .before .before .before .before .before .before .args in (mark-stays (c .before .if1 .left) (takes-end plain (a .line .now) (linesOf (a .run .now)) (a .in-loop) (a .next) (a .text .now) (a .j) (c .if2 .taken)), refl)
 
--- src/lib.rt:529:9
+-- src/lib.rt:532:9
 after-requires : tie.Need-after-requires
 after-requires c κs = search needs
 
--- src/lib.rt:533:9
+-- src/lib.rt:536:9
 sub-line-forwards : tie.Need-sub-line-forwards
 sub-line-forwards c = search needs
 
--- src/lib.rt:533:9
+-- src/lib.rt:536:9
 part-line-forwards-start : tie.Need-part-line-forwards-start
 part-line-forwards-start c = search needs
 
--- src/lib.rt:533:9
+-- src/lib.rt:536:9
 part-line-forwards-end : tie.Need-part-line-forwards-end
-part-line-forwards-end c = let a = c .before .before .before .before .before .before .before .before .before .args in omega (arith, find-le 10 (a .text .now) (a .j) (a .e) (omega (arith, c .before .if2 .left)) (c .before .before .before .before .before .before .before .before .before .pre .1 .0 .0))
+part-line-forwards-end c = let a = c .before .before .before .before .before .before .before .before .args in omega (arith, find-le 10 (a .text .now) (a .j) (a .e) (omega (arith, c .before .if2 .left)) (c .before .before .before .before .before .before .before .before .pre .1 .0 .0))
 
--- src/lib.rt:535:9
+-- src/lib.rt:538:9
 sub-line-forwards-2 : tie.Need-sub-line-forwards-2
 sub-line-forwards-2 c = search needs
 
--- src/lib.rt:535:9
+-- src/lib.rt:538:9
 part-line-forwards-start-2 : tie.Need-part-line-forwards-start-2
 part-line-forwards-start-2 c = search needs
 
--- src/lib.rt:535:9
+-- src/lib.rt:538:9
 part-line-forwards-end-2 : tie.Need-part-line-forwards-end-2
 part-line-forwards-end-2 c = search needs
 
--- src/lib.rt:541:9
-add-line-forwards : tie.Need-add-line-forwards
-add-line-forwards c = search needs
-
--- src/lib.rt:530:8
+-- src/lib.rt:533:8
 line-forwards-requires : tie.Need-line-forwards-requires
 line-forwards-requires c κs =
-    let a = c .before .before .before .before .before .before .before .before .before .before .before .before .args in
+    let a = c .before .before .before .before .before .before .before .before .before .before .before .args in
     let n = c .before .before .before .after in
     let h : a .j < length (a .text .now) = omega (arith, c .before .before .before .before .if2 .left) in
-    (c .before .before .before .before .before .before .before .before .before .before .before .before .pre .0, (c .before .before .before .before .before .before .before .before .before .before .before .before .pre .1 .0 .1, (c .before .before .before .before .before .before .before .before .before .before .before .before .pre .1 .1 .0, (none-rest (a .text .now) (a .j) (a .e) (n .result) _ (a .last .now) h (c .before .before .before .before .before .before .before .before .before .before .before .before .pre .1 .0 .0) (n .ensures) (c .before .before .before .before .before .before .before .before .before .before .before .before .pre .1 .1 .1 .1 .0), c .before .before .before .before .before .before .before .before .before .before .before .before .pre .1 .1 .1 .1 .1 _ _ (lines-at (a .text .now) (a .j) (a .e) h (c .before .before .before .before .before .before .before .before .before .before .before .before .pre .1 .0 .0))))))
+    (c .before .before .before .before .before .before .before .before .before .before .before .pre .0, (c .before .before .before .before .before .before .before .before .before .before .before .pre .1 .0 .1, (c .before .before .before .before .before .before .before .before .before .before .before .pre .1 .1 .0, (send-rest (a .text .now) (a .line .now) (a .j) (a .e) (n .result) (a .note) h (c .before .before .before .before .before .before .before .before .before .before .before .pre .1 .0 .0) (n .ensures) (c .before .before .before .before .before .before .before .before .before .before .before .pre .1 .1 .1 .0), c .before .before .before .before .before .before .before .before .before .before .before .pre .1 .1 .1 .1 _ _ (lines-at (a .text .now) (a .j) (a .e) h (c .before .before .before .before .before .before .before .before .before .before .before .pre .1 .0 .0))))))
 
--- src/lib.rt:544:9
+-- src/lib.rt:546:9
 same-length : tie.Need-same-length
 same-length c = search needs
 
--- src/lib.rt:544:9
+-- src/lib.rt:546:9
 returns-3 : tie.Need-returns-3
 returns-3 c =
-    let a = c .before .before .before .before .before .before .before .before .before .before .before .before .before .before .before .before .args in
+    let a = c .before .before .before .before .before .before .before .before .before .before .before .before .before .before .before .args in
     let e = c .before .before .before .line-forwards .ensures in
     let n = c .before .before .before .before .before .before .before .after in
-    (mark-stays (c .before .before .before .before .before .before .before .before .before .if1 .left) (sym (takes-line plain (a .line .now) (linesOf (a .run .now)) (a .in-loop) (a .next) (a .text .now) (a .j) (a .e) (n .result) (omega (arith, c .before .before .before .before .before .before .before .before .if2 .left)) (c .before .before .before .before .before .before .before .before .before .before .before .before .before .before .before .before .pre .1 .0 .0) (n .ensures)) ∙ sym (e .0) ∙ c .if3 .taken), e .1)
+    (mark-stays (c .before .before .before .before .before .before .before .before .before .if1 .left) (sym (takes-line plain (a .line .now) (linesOf (a .run .now)) (a .in-loop) (a .next) (a .text .now) (a .j) (a .e) (n .result) (omega (arith, c .before .before .before .before .before .before .before .before .if2 .left)) (c .before .before .before .before .before .before .before .before .before .before .before .before .before .before .before .pre .1 .0 .0) (n .ensures)) ∙ sym (e .0) ∙ c .if3 .taken), e .1)
 
--- src/lib.rt:498:1
+-- src/lib.rt:504:1
 same-length-2 : tie.Need-same-length-2
 same-length-2 c = search needs
 
--- src/lib.rt:498:1
+-- src/lib.rt:504:1
 returns-4 : tie.Need-returns-4
 returns-4 c =
-    let a = c .before .before .before .before .before .before .before .before .before .before .before .before .before .before .before .before .args in
+    let a = c .before .before .before .before .before .before .before .before .before .before .before .before .before .before .before .args in
     let e = c .before .before .before .line-forwards .ensures in
     let n = c .before .before .before .before .before .before .before .after in
-    (mark-stays (c .before .before .before .before .before .before .before .before .before .if1 .left) (sym (takes-line plain (a .line .now) (linesOf (a .run .now)) (a .in-loop) (a .next) (a .text .now) (a .j) (a .e) (n .result) (omega (arith, c .before .before .before .before .before .before .before .before .if2 .left)) (c .before .before .before .before .before .before .before .before .before .before .before .before .before .before .before .before .pre .1 .0 .0) (n .ensures)) ∙ sym (e .0) ∙ c .if3 .left), e .1)
+    (mark-stays (c .before .before .before .before .before .before .before .before .before .if1 .left) (sym (takes-line plain (a .line .now) (linesOf (a .run .now)) (a .in-loop) (a .next) (a .text .now) (a .j) (a .e) (n .result) (omega (arith, c .before .before .before .before .before .before .before .before .if2 .left)) (c .before .before .before .before .before .before .before .before .before .before .before .before .before .before .before .pre .1 .0 .0) (n .ensures)) ∙ sym (e .0) ∙ c .if3 .left), e .1)
 
 pub mark-at-spec : {M : Type 1} → statement M
 mark-at-spec =
@@ -100,7 +96,6 @@ mark-at-spec =
     sub-line-forwards-2
     part-line-forwards-start-2
     part-line-forwards-end-2
-    add-line-forwards
     line-forwards-requires
     same-length
     returns-3
