@@ -3,7 +3,7 @@ pub mod LfLaws
 pub mod Compare
 pub mod OutLaws
 pub mod StepLaws
-pub mod Lacks
+pub mod Lacking
 mod Whole
 pub mod Counts
 pub mod JoinLaws

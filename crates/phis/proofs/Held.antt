@@ -19,7 +19,7 @@ use Rattle.names.specs.declared.PhiName.the-variants as name
 use Rattle.parse.specs.Parse.{bodyOf}
 use Rattle.words.specs.Hits.{hitsGo, hits}
 use Rattle.reading.specs.Assign.{unended, isAssign, leftOf}
-use Rattle.lines.proofs.Lacks.{lines-lack}
+use Rattle.lines.proofs.Lacking.{lines-lack}
 use Rattle.phis.specs.Phis.{isLet, isPhi, allPhis, phiDecl, phiStore, phiReads, anyDead}
 use Rattle.phis.proofs.Searches.{pieceOther, phis-all, piece-hit}
 

@@ -15,7 +15,7 @@ use Rattle.text.specs.Trim.{fromOf, toOf, trimStart, trimOf}
 use Rattle.names.specs.Names.{isDigit, allDigits, isTemp}
 use Rattle.reading.specs.Reading.{Reading, plain}
 use Rattle.reading.specs.Assign.{unended, isAssign, leftOf}
-use Rattle.lines.proofs.Lacks.{lines-lack}
+use Rattle.lines.proofs.Lacking.{lines-lack}
 use Rattle.temps.specs.Temps.{tempAct, tempActs, pruneDeadTempsActs, pruneDeadTemps}
 use Rattle.temps.specs.Scratch.{tempIn, scratchLine, tempScratch}
 
