@@ -18,7 +18,8 @@ ghost use Rattle.words.specs.Hits.{regHit, replaceReg};
 ghost use Rattle.reading.specs.Reading.{plain, pureIn};
 ghost use Rattle.reading.specs.Uses.{lineReads, storesBy};
 ghost use Rattle.once.specs.Tables.{readBelow, anyCall, nextIn, Blank, hasHit, storeDrops, lineDrops, storeForwards, lineForwards, onceMarks, actBy, actsBy, firstDrops, firstTakes, markBy, marksOf, areaAt};
-ghost use Rattle.once.specs.Noted.{OneIn, OneAt, OneOf, CalmIn, Calm, LineAt, DropIs, DropBy, SendIs, SendBy, firstLine, NotesOf};
+ghost use Rattle.once.specs.Noted.{OneIn, OneAt, OneOf, CalmIn, Calm, LineAt, DropIs, DropBy, SendIs, SendBy, firstLine, NotesOf, EndsOf};
+ghost use Rattle.decls.specs.Seen.{AtMost};
 ghost use Rattle.place.specs.Fill.{Filled, flagsOf};
 ghost use Rattle.place.specs.Loops.{insideLoop};
 ghost use Rattle.place.specs.Paths.{blockPaths, tops};
@@ -567,11 +568,12 @@ fn mark_with(
     reads: &[usize],
     calm: usize,
     notes: &[u8],
+    ends: &[usize],
     scratch: &mut [u8],
     marks: &mut [u8],
 ) -> usize
     requires { ⌜ (Blank (length (now text)) (now scratch))
-        × ((length (linesOf (now text)) ≤ length (now marks)) × ((OneOf (linesOf (now text)) (now reads)) × ((Calm (now text) calm) × (NotesOf (linesOf (now text)) (now paths) (now notes))))) ⌝ }
+        × ((length (linesOf (now text)) ≤ length (now marks)) × ((OneOf (linesOf (now text)) (now reads)) × ((Calm (now text) calm) × ((NotesOf (linesOf (now text)) (now paths) (now notes)) × (EndsOf (now text) (now ends)))))) ⌝ }
     ensures answer { λ r. ⌜ Filled (now (marks .entry)) (marksOf plain (linesOf (now (text .entry))) (now (paths .entry)) (now (loops .entry))) (now (marks .exit)) r ⌝ }
     ensures memory { λ _. ⌜ now (scratch .exit) ≡ now (scratch .entry) ⌝ }
 {
@@ -586,7 +588,7 @@ fn mark_with(
     let mut k = 0;
     while i < text.len() {
         let j = lines::after(text, e);
-        let n = lines::find_byte(text, j, 10);
+        let n = noted::end_at(text, j, k + 1, ends);
         let c = lines::byte_at(notes, k + 1);
         let q = noted::parse_at(lines::cut(text, j, n), c);
         let g = lines::byte_at(loops, k + 1);
@@ -624,10 +626,12 @@ fn fill_marks(
     loops: &[u8],
     scratch: &mut [u8],
     marks: &mut [u8],
+    ends: &mut [usize],
 ) -> usize
-    requires { ⌜ (Blank (length (now text)) (now scratch)) × ((length (linesOf (now text)) ≤ length (now marks)) × (length (now paths) ≡ length (linesOf (now text)))) ⌝ }
+    requires { ⌜ (Blank (length (now text)) (now scratch))
+        × ((length (linesOf (now text)) ≤ length (now marks)) × ((length (now paths) ≡ length (linesOf (now text))) × (AtMost 0 (now ends)))) ⌝ }
     ensures answer { λ r. ⌜ Filled (now (marks .entry)) (marksOf plain (linesOf (now (text .entry))) (now (paths .entry)) (now (loops .entry))) (now (marks .exit)) r ⌝ }
-    ensures memory { λ _. ⌜ now (scratch .exit) ≡ now (scratch .entry) ⌝ }
+    ensures memory { λ _. ⌜ (now (scratch .exit) ≡ now (scratch .entry)) × (EndsOf (now (text .entry)) (now (ends .exit))) ⌝ }
 {
     let mut near = [0usize; 1024];
     let mut far = [0usize; 1024];
@@ -642,9 +646,20 @@ fn fill_marks(
         &mut stores,
         &mut reads,
         &mut notes,
+        ends,
     );
     let calm = calm_len(text);
-    mark_with(text, paths, loops, &reads, calm, &notes, scratch, marks)
+    mark_with(
+        text,
+        paths,
+        loops,
+        &reads,
+        calm,
+        &notes,
+        ends,
+        scratch,
+        marks,
+    )
 }
 
 // Writes a line with its LF, and returns the place after it.
@@ -705,9 +720,9 @@ fn put_act(line: &[u8], above: &[u8], m: u8, n: u8, given: bool, out: &mut [u8],
     put_whole(line, out, o)
 }
 
-// Writes what becomes of lines by their marks.
-fn put_acts(text: &[u8], marks: &[u8], out: &mut [u8]) -> usize
-    requires { ⌜ length (unlines (apply (actsBy (linesOf (now text)) (now marks) false []) (linesOf (now text)))) ≤ length (now out) ⌝ }
+// Writes what becomes of lines by their marks; `ends` has the places after the lines.
+fn put_acts(text: &[u8], marks: &[u8], ends: &[usize], out: &mut [u8]) -> usize
+    requires { ⌜ (EndsOf (now text) (now ends)) × (length (unlines (apply (actsBy (linesOf (now text)) (now marks) false []) (linesOf (now text)))) ≤ length (now out)) ⌝ }
     ensures { λ r. ⌜ Wrote (now (out .entry)) 0 (unlines (apply (actsBy (linesOf (now (text .entry))) (now (marks .entry)) false []) (linesOf (now (text .entry))))) (now (out .exit)) r ⌝ }
 {
     let mut i = 0;
@@ -717,7 +732,7 @@ fn put_acts(text: &[u8], marks: &[u8], out: &mut [u8]) -> usize
     let mut a = 0;
     let mut b = 0;
     while i < text.len() {
-        let e = lines::find_byte(text, i, 10);
+        let e = noted::end_at(text, i, k, ends);
         let m = lines::byte_at(marks, k);
         let n = lines::byte_at(marks, k + 1);
         o = put_act(&text[i..e], lines::cut(text, a, b), m, n, given, out, o);
@@ -730,7 +745,7 @@ fn put_acts(text: &[u8], marks: &[u8], out: &mut [u8]) -> usize
     o
 }
 
-// Fills the tables of a text: which lines stand in a loop, their block paths, and what becomes of them.
+// Fills the tables of a text: which lines stand in a loop, their block paths, what becomes of them, and where they end.
 fn decide(
     text: &[u8],
     scratch: &mut [u8],
@@ -738,22 +753,24 @@ fn decide(
     marks: &mut [u8],
     paths: &mut [usize],
     up: &mut [u32],
+    ends: &mut [usize],
 ) -> usize
     requires { ⌜ (length (linesOf (now text)) ≤ length (now loops))
         × ((length (linesOf (now text)) ≤ length (now marks))
         × ((length (linesOf (now text)) ≤ length (now paths))
         × ((length (pathParents (linesOf (now text))) ≤ length (now up))
-        × ((length (now up) < 2 ^ 32) × (length (now text) ≤ length (now scratch)))))) ⌝ }
+        × ((length (now up) < 2 ^ 32) × ((length (now text) ≤ length (now scratch)) × (AtMost 0 (now ends))))))) ⌝ }
     ensures answer { λ r. ⌜ Filled (now (marks .entry)) (onceMarks plain (linesOf (now (text .entry)))) (now (marks .exit)) r ⌝ }
     ensures memory { λ _. ⌜ (Wrote (now (scratch .entry)) 0 (replicate (length (now (text .entry))) 0) (now (scratch .exit)) (length (now (text .entry))))
         × ((Filled (now (loops .entry)) (flagsOf (insideLoop (linesOf (now (text .entry))))) (now (loops .exit)) (length (flagsOf (insideLoop (linesOf (now (text .entry)))))))
         × ((Filled (now (paths .entry)) (tops (blockPaths (linesOf (now (text .entry))))) (now (paths .exit)) (length (tops (blockPaths (linesOf (now (text .entry)))))))
         × (Filled (now (up .entry)) (pathParents (linesOf (now (text .entry)))) (now (up .exit)) (length (pathParents (linesOf (now (text .entry)))))))) ⌝ }
+    ensures ends { λ _. ⌜ EndsOf (now (text .entry)) (now (ends .exit)) ⌝ }
 {
     lines::wipe(scratch, text.len());
     let n = place::inside_loop(text, loops);
     let k = place::block_paths(text, paths, up);
-    fill_marks(text, &paths[0..k], &loops[0..n], scratch, marks)
+    fill_marks(text, &paths[0..k], &loops[0..n], scratch, marks, ends)
 }
 
 // Writes the lines of a text without dead stores and scratch loads, with each value that is read once, on the next line, in that line, and
@@ -784,7 +801,8 @@ pub fn optimize_once(
         × ((Filled (now (paths .entry)) (tops (blockPaths (linesOf (now (text .entry))))) (now (paths .exit)) (length (tops (blockPaths (linesOf (now (text .entry)))))))
         × (Filled (now (up .entry)) (pathParents (linesOf (now (text .entry)))) (now (up .exit)) (length (pathParents (linesOf (now (text .entry)))))))))) ⌝ }
 {
-    let n = decide(text, scratch, loops, marks, paths, up);
-    let m = put_acts(text, &marks[0..n], mid);
+    let mut ends = [0usize; 1024];
+    let n = decide(text, scratch, loops, marks, paths, up, &mut ends);
+    let m = put_acts(text, &marks[0..n], &ends, mid);
     decls::prune_decls(&mid[0..m], out)
 }

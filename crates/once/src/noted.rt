@@ -2,16 +2,16 @@
 // each is and of what becomes of what it stores. The number of a line is how many lines there are from it on.
 ghost use mathlib.Core.Path.{_≡_};
 ghost use mathlib.Core.Bool.{cond};
-ghost use Prim.Native.Nat.{_<_};
-ghost use lib.ListN.{length, set, getD};
+ghost use Prim.Native.Nat.{_+_, _<_};
+ghost use lib.ListN.{length, drop, set, getD};
 ghost use lib.Dec.{eqb};
-ghost use Rattle.lines.specs.Lf.{linesOf};
+ghost use Rattle.lines.specs.Lf.{upTo, linesOf};
 ghost use Rattle.names.specs.Names.{regOf};
 ghost use Rattle.parse.specs.Parse.{parseOf, textOf};
 ghost use Rattle.words.specs.Runs.{runs};
 ghost use Rattle.place.specs.Region.{isHeader};
 ghost use Rattle.decls.specs.Seen.{markName, markStore, AtMost};
-ghost use Rattle.once.specs.Noted.{bump, addName, addRuns, alone, OneOf, farName, readRuns, StartOf, samePath, storeNote, lineNote, KindIs, NotesOf};
+ghost use Rattle.once.specs.Noted.{bump, addName, addRuns, alone, OneOf, farName, readRuns, StartOf, samePath, storeNote, lineNote, KindIs, NotesOf, EndIs, EndsOf};
 
 // The entry of a table, or 0 past its end.
 fn entry(d: &[usize], i: usize) -> usize
@@ -215,6 +215,16 @@ fn put_note(k: usize, x: u8, notes: &mut [u8])
     notes[k] = x;
 }
 
+// Puts the place x after the line with k above it, where the table reaches to it.
+fn put_end(k: usize, x: usize, ends: &mut [usize])
+    ensures { λ _. ⌜ now (ends .exit) ≡ set (now (ends .entry)) k x ⌝ }
+{
+    if ends.len() <= k {
+        return;
+    }
+    ends[k] = x;
+}
+
 // Where the line begins that ends at e, before an LF.
 fn line_start(text: &[u8], e: usize) -> usize
     requires { ⌜ (e < length (now text)) × (getD (now text) e 0 ≡ 10) ⌝ }
@@ -250,11 +260,13 @@ pub fn note_lines(
     stores: &mut [usize],
     reads: &mut [usize],
     notes: &mut [u8],
+    ends: &mut [usize],
 )
     requires { ⌜ (length (now paths) ≡ length (linesOf (now text)))
-        × ((AtMost 0 (now near)) × ((AtMost 0 (now far)) × ((AtMost 0 (now stores)) × ((AtMost 0 (now reads)) × (AtMost 0 (now notes)))))) ⌝ }
+        × ((AtMost 0 (now near)) × ((AtMost 0 (now far)) × ((AtMost 0 (now stores)) × ((AtMost 0 (now reads)) × ((AtMost 0 (now notes)) × (AtMost 0 (now ends))))))) ⌝ }
     ensures counts { λ _. ⌜ OneOf (linesOf (now (text .entry))) (now (reads .exit)) ⌝ }
     ensures notes { λ _. ⌜ NotesOf (linesOf (now (text .entry))) (now (paths .entry)) (now (notes .exit)) ⌝ }
+    ensures ends { λ _. ⌜ EndsOf (now (text .entry)) (now (ends .exit)) ⌝ }
 {
     if !lines::ends_lf(text) {
         return;
@@ -270,6 +282,7 @@ pub fn note_lines(
         let p = parse::parse(line);
         let k = n - (m + 1);
         put_note(k, line_note(p, paths, k, m, h, near, far, stores), notes);
+        put_end(k, i, ends);
         m += 1;
         note_line(line, p, m, near, far, stores, reads);
         h = head_at(line, m, h);
@@ -286,6 +299,18 @@ pub fn is_alone(reads: &[usize], reg: names::Register) -> bool
         return false;
     }
     reads[v] == 1
+}
+
+// Where the line ends that begins at j and has k above it: by the table, where it says so.
+pub fn end_at(text: &[u8], j: usize, k: usize, ends: &[usize]) -> usize
+    requires { ⌜ EndIs (now text) j (getD (now ends) k 0) ⌝ }
+    ensures { λ r. ⌜ r ≡ j + upTo 10 (drop j (now (text .entry))) ⌝ }
+{
+    let e = entry(ends, k);
+    if e == 0 {
+        return lines::find_byte(text, j, 10);
+    }
+    e - 1
 }
 
 // What a line is: by its note, where that says so.
