@@ -360,7 +360,7 @@ fn takes(line: &[u8], reg: names::Register) -> bool
 }
 
 // Whether lines read a register once in all; `next` is one of them that does, where it is no header, and `reads` has how often all lines do.
-fn once_in(run: &[u8], reg: names::Register, next: &[u8], reads: &[usize]) -> bool
+fn once_in(run: &[u8], reg: names::Register, next: &[u8], reads: &[u8]) -> bool
     requires { ⌜ (OneIn (now next) (linesOf (now run)) (now reads)) × (lineReads (reg .0) (now next) ≡ 1) ⌝ }
     ensures { λ r. ⌜ r ≡ eqb (readCount (reg .0) (linesOf (now (run .entry)))) 1 ⌝ }
 {
@@ -383,7 +383,7 @@ fn store_forwards(
     run: &[u8],
     in_loop: bool,
     gone: bool,
-    reads: &[usize],
+    reads: &[u8],
     note: u8,
     scratch: &mut [u8],
 ) -> bool
@@ -428,7 +428,7 @@ fn line_forwards(
     run: &[u8],
     in_loop: bool,
     gone: bool,
-    reads: &[usize],
+    reads: &[u8],
     note: u8,
     scratch: &mut [u8],
 ) -> bool
@@ -513,7 +513,7 @@ fn mark_at(
     in_loop: bool,
     goes: bool,
     next: bool,
-    reads: &[usize],
+    reads: &[u8],
     note: u8,
     scratch: &mut [u8],
 ) -> u8
@@ -565,7 +565,7 @@ fn mark_with(
     text: &[u8],
     paths: &[usize],
     loops: &[u8],
-    reads: &[usize],
+    reads: &[u8],
     calm: usize,
     notes: &[u8],
     ends: &[usize],
@@ -633,10 +633,10 @@ fn fill_marks(
     ensures answer { λ r. ⌜ Filled (now (marks .entry)) (marksOf plain (linesOf (now (text .entry))) (now (paths .entry)) (now (loops .entry))) (now (marks .exit)) r ⌝ }
     ensures memory { λ _. ⌜ (now (scratch .exit) ≡ now (scratch .entry)) × (EndsOf (now (text .entry)) (now (ends .exit))) ⌝ }
 {
-    let mut near = [0usize; 1024];
-    let mut far = [0usize; 1024];
-    let mut stores = [0usize; 1024];
-    let mut reads = [0usize; 1024];
+    let mut near = [0u32; 1024];
+    let mut far = [0u32; 1024];
+    let mut stores = [0u32; 1024];
+    let mut reads = [0u8; 1024];
     let mut notes = [0u8; 1024];
     noted::note_lines(
         text,
@@ -667,8 +667,7 @@ fn put_whole(line: &[u8], out: &mut [u8], o: usize) -> usize
     requires { ⌜ o + length (unlines (now line ∷ [])) ≤ length (now out) ⌝ }
     ensures { λ r. ⌜ Wrote (now (out .entry)) o (unlines (now (line .entry) ∷ [])) (now (out .exit)) r ⌝ }
 {
-    let p = lines::put(out, o, line);
-    lines::put_byte(out, p, 10)
+    lines::put_line(out, o, line)
 }
 
 // Writes a line with a value in the place of a register, where it can take it.
