@@ -1,5 +1,5 @@
-// Tables over registers, of the next lines that read and store each one, and of how often the lines read it, up to 2; and one over lines, of what
-// each is and of what becomes of what it stores. The number of a line is how many lines there are from it on.
+// Tables over registers, of the next lines that read and store each one, and of how often the lines read it, up to 2; and over lines, of what each
+// is and what becomes of what it stores, and of where it ends. The number of a line is how many lines there are from it on.
 ghost use mathlib.Core.Path.{_≡_};
 ghost use mathlib.Core.Bool.{cond};
 ghost use Prim.Native.Nat.{_+_, _-_, _≤_, _<_};
