@@ -23,10 +23,10 @@ use Rattle.place.specs.Region.{isHeader}
 use Rattle.reading.specs.Uses.{lineReads, storesBy, lineStores}
 use Rattle.decls.specs.Seen.{markName, markStore, AtMost}
 use Rattle.decls.proofs.SeenLaws.{set-past, name-length}
-use Rattle.once.specs.Noted.{firstBy, farFrom, farName, readRuns, addRuns, Begins, StartOf, lineNote, NoteIs, firstLine, NotesOf}
+use Rattle.once.specs.Noted.{firstBy, farFrom, farName, readRuns, addRuns, Begins, StartOf, lineNote, NoteIs, firstLine, NotesOf, EndsOf}
 use Rattle.once.proofs.NotedLaws.{Counts, counts-none, counts-on, runs-long}
 use Rattle.once.proofs.NextLaws.{first-le, Nexts, note-is, note-nothing}
-use Rattle.once.proofs.BackLaws.{begins-lf, rows-back, line-back}
+use Rattle.once.proofs.BackLaws.{begins-lf, rows-back, line-back, ends-none, ends-put}
 
 -- ---- what stands at a register below the end
 
@@ -181,28 +181,33 @@ notes-put us ps d k x n h = λ j. go j (eqb j k) refl
 
 -- ---- the loop: the lines from i on are in the tables, there are m of them, and h is the number of the first header
 
-pub record NoteInv (t ps near far stores reads notes : List ℕ) (i m h : ℕ) : Type 0 where
+pub record NoteInv (t ps near far stores reads notes ends : List ℕ) (i m h : ℕ) : Type 0 where
   pub i≤ : i ≤ length t
   pub front : Begins t i
   pub count : m ≡ length (linesOf (drop i t))
   pub nexts : Nexts (linesOf (drop i t)) h near far stores
   pub counts : Counts (linesOf (drop i t)) reads
   pub noted : NotesOf (linesOf t) ps notes
+  pub last : Begins t (length t)
+  pub ended : EndsOf t ends
 
-pub note-start : (t ps near far stores reads notes : List ℕ) → endsIn 10 t ≡ true → AtMost 0 near → AtMost 0 far → AtMost 0 stores → AtMost 0 reads → AtMost 0 notes →
-    NoteInv t ps near far stores reads notes (length t) 0 0
-note-start t ps near far stores reads notes e a b c d n =
+pub note-start : (t ps near far stores reads notes ends : List ℕ) → endsIn 10 t ≡ true → AtMost 0 near → AtMost 0 far → AtMost 0 stores → AtMost 0 reads → AtMost 0 notes → AtMost 0 ends →
+    NoteInv t ps near far stores reads notes ends (length t) 0 0
+note-start t ps near far stores reads notes ends e a b c d n o =
+    let l : Begins t (length t) = begins-lf t (length t) (eqb-true (getD t (length t - 1) 0) 10 e) in
     let z = lines-end t (length t) (omega arith) in
     record {
       i≤ = omega arith;
-      front = begins-lf t (length t) (eqb-true (getD t (length t - 1) 0) 10 e);
+      front = l;
       count = sym (ap (λ (ls : List (List ℕ)). length ls) z);
       nexts = subst (λ (ls : List (List ℕ)). Nexts ls 0 near far stores) (sym z) (nexts-none 0 near far stores refl a b c);
       counts = subst (λ (ls : List (List ℕ)). Counts ls reads) (sym z) (counts-none reads d);
       noted = notes-none (linesOf t) ps notes n;
+      last = l;
+      ended = ends-none t ends o;
     }
 
-module _ {t ps near far stores reads notes : List ℕ} {i m h : ℕ} (v : NoteInv t ps near far stores reads notes i m h) (k : 0 < i) where
+module _ {t ps near far stores reads notes ends : List ℕ} {i m h : ℕ} (v : NoteInv t ps near far stores reads notes ends i m h) (k : 0 < i) where
   -- the line above ends at an LF
   pub note-lf : (i - 1 < length t) × (getD t (i - 1) 0 ≡ 10)
   note-lf = (omega (arith, v .i≤), v .front (i - 1) (omega arith))
@@ -221,11 +226,11 @@ module _ {t ps near far stores reads notes : List ℕ} {i m h : ℕ} (v : NoteIn
     pub note-row : m + 1 ≤ length ps
     note-row = let z = rows-above .0 in omega arith
 
-    pub note-on : (l : List ℕ) (p : Line) (j x : ℕ) (near′ far′ stores′ reads′ notes′ : List ℕ) (h′ : ℕ) → l ≡ part a (i - 1) t → p ≡ parseOf l → j ≡ length ps - (m + 1) →
-        x ≡ lineNote p ps j m h near far stores → notes′ ≡ set notes j x →
+    pub note-on : (l : List ℕ) (p : Line) (j x : ℕ) (near′ far′ stores′ reads′ notes′ ends′ : List ℕ) (h′ : ℕ) → l ≡ part a (i - 1) t → p ≡ parseOf l → j ≡ length ps - (m + 1) →
+        x ≡ lineNote p ps j m h near far stores → notes′ ≡ set notes j x → ends′ ≡ set ends j i →
         (near′, far′) ≡ readRuns (m + 1) (runs (textOf l p)) (near, far) → stores′ ≡ markStore (m + 1) p stores → reads′ ≡ addRuns (runs (textOf l p)) reads → h′ ≡ cond (isHeader l) (m + 1) h →
-        NoteInv t ps near′ far′ stores′ reads′ notes′ a (m + 1) h′
-    note-on l p j x near′ far′ stores′ reads′ notes′ h′ e q w u g y s r o =
+        NoteInv t ps near′ far′ stores′ reads′ notes′ ends′ a (m + 1) h′
+    note-on l p j x near′ far′ stores′ reads′ notes′ ends′ h′ e q w u g g′ y s r o =
         let ls : List (List ℕ) = linesOf (drop i t) in
         let c : linesOf (drop a t) ≡ l ∷ ls = line-above ∙ ap (λ (b : List ℕ). b ∷ ls) (sym e) in
         let d : drop j (linesOf t) ≡ l ∷ ls = ap (λ (b : ℕ). drop b (linesOf t)) (w ∙ ap (λ (b : ℕ). b - (m + 1)) n) ∙ rows-above .1 ∙ c in
@@ -240,10 +245,12 @@ module _ {t ps near far stores reads notes : List ℕ} {i m h : ℕ} (v : NoteIn
           nexts = rw c (nexts-on l ls p h (m + 1) h′ near far stores near′ far′ stores′ q one y s o (v .nexts));
           counts = rw c (counts-on l ls p reads reads′ q r (v .counts));
           noted = rw g (notes-put (linesOf t) ps notes j x (rw (d, d′) (note-is l ls ps j h near far stores (v .nexts) (omega arith) p x q (u ∙ ap (λ (b : ℕ). lineNote p ps j b h near far stores) f))) (v .noted));
+          last = v .last;
+          ended = rw g′ (ends-put t ends j i a (v .last) (omega (arith, b .0, v .i≤)) k (b .0) (d ∙ sym c) (v .ended));
         }
 
-pub counts-of : {t ps near far stores reads notes : List ℕ} {i m h : ℕ} → NoteInv t ps near far stores reads notes i m h → i ≤ 0 → Counts (linesOf t) reads
-counts-of {t} {ps} {near} {far} {stores} {reads} {notes} {i} v z = subst (λ (j : ℕ). Counts (linesOf (drop j t)) reads) (let y : i ≡ 0 = omega arith in y) (v .counts)
+pub counts-of : {t ps near far stores reads notes ends : List ℕ} {i m h : ℕ} → NoteInv t ps near far stores reads notes ends i m h → i ≤ 0 → Counts (linesOf t) reads
+counts-of {t} {ps} {near} {far} {stores} {reads} {notes} {ends} {i} v z = subst (λ (j : ℕ). Counts (linesOf (drop j t)) reads) (let y : i ≡ 0 = omega arith in y) (v .counts)
 
 -- ---- the loop over the runs of a text: the run from a to i is open; n and f are the tables of the first and the second reads
 

@@ -9,7 +9,7 @@ use lib.ListN.{length, drop, getD, set}
 use Rattle.names.specs.Names.{regOf}
 use Rattle.names.specs.declared.RegName.{RegName}
 use Rattle.names.specs.declared.RegName.the-variants as name
-use Rattle.lines.specs.Lf.{part, upTo, lacks}
+use Rattle.lines.specs.Lf.{part, upTo, lacks, linesOf}
 use Rattle.parse.specs.Parse.{parseOf}
 use Rattle.parse.specs.declared.Store.{Store}
 use Rattle.parse.specs.declared.Line.{Line}
@@ -114,6 +114,14 @@ Begins s r = (k : ℕ) → r ≡ suc k → getD s k 0 ≡ 10
 -- the line that ends at e begins at r
 abbrev pub StartOf : List ℕ → ℕ → ℕ → Type 0
 StartOf s e r = (e ≡ r + upTo 10 (drop r s)) × Begins s r
+
+-- the line that begins at j ends just before the place m, where that is not 0
+abbrev pub EndIs : List ℕ → ℕ → ℕ → Type 0
+EndIs s j m = (e : ℕ) → m ≡ suc e → e ≡ j + upTo 10 (drop j s)
+
+-- a table has the places after the lines of a text
+abbrev pub EndsOf : List ℕ → List ℕ → Type 0
+EndsOf s d = (k j : ℕ) → linesOf (drop j s) ≡ drop k (linesOf s) → EndIs s j (getD d k 0)
 
 -- ---- the note of a line: what it is, and what the lines below do with the register that it stores. 0 says nothing
 

@@ -18,7 +18,8 @@ ghost use Rattle.words.specs.Hits.{regHit, replaceReg};
 ghost use Rattle.reading.specs.Reading.{plain, pureIn};
 ghost use Rattle.reading.specs.Uses.{lineReads, storesBy};
 ghost use Rattle.once.specs.Tables.{readBelow, anyCall, nextIn, Blank, hasHit, storeDrops, lineDrops, storeForwards, lineForwards, onceMarks, actBy, actsBy, firstDrops, firstTakes, markBy, marksOf, areaAt};
-ghost use Rattle.once.specs.Noted.{OneIn, OneAt, OneOf, CalmIn, Calm, LineAt, DropIs, DropBy, SendIs, SendBy, firstLine, NotesOf};
+ghost use Rattle.once.specs.Noted.{OneIn, OneAt, OneOf, CalmIn, Calm, LineAt, DropIs, DropBy, SendIs, SendBy, firstLine, NotesOf, EndsOf};
+ghost use Rattle.decls.specs.Seen.{AtMost};
 ghost use Rattle.place.specs.Fill.{Filled, flagsOf};
 ghost use Rattle.place.specs.Loops.{insideLoop};
 ghost use Rattle.place.specs.Paths.{blockPaths, tops};
@@ -359,7 +360,7 @@ fn takes(line: &[u8], reg: names::Register) -> bool
 }
 
 // Whether lines read a register once in all; `next` is one of them that does, where it is no header, and `reads` has how often all lines do.
-fn once_in(run: &[u8], reg: names::Register, next: &[u8], reads: &[usize]) -> bool
+fn once_in(run: &[u8], reg: names::Register, next: &[u8], reads: &[u8]) -> bool
     requires { ⌜ (OneIn (now next) (linesOf (now run)) (now reads)) × (lineReads (reg .0) (now next) ≡ 1) ⌝ }
     ensures { λ r. ⌜ r ≡ eqb (readCount (reg .0) (linesOf (now (run .entry)))) 1 ⌝ }
 {
@@ -382,7 +383,7 @@ fn store_forwards(
     run: &[u8],
     in_loop: bool,
     gone: bool,
-    reads: &[usize],
+    reads: &[u8],
     note: u8,
     scratch: &mut [u8],
 ) -> bool
@@ -427,7 +428,7 @@ fn line_forwards(
     run: &[u8],
     in_loop: bool,
     gone: bool,
-    reads: &[usize],
+    reads: &[u8],
     note: u8,
     scratch: &mut [u8],
 ) -> bool
@@ -512,7 +513,7 @@ fn mark_at(
     in_loop: bool,
     goes: bool,
     next: bool,
-    reads: &[usize],
+    reads: &[u8],
     note: u8,
     scratch: &mut [u8],
 ) -> u8
@@ -564,14 +565,15 @@ fn mark_with(
     text: &[u8],
     paths: &[usize],
     loops: &[u8],
-    reads: &[usize],
+    reads: &[u8],
     calm: usize,
     notes: &[u8],
+    ends: &[usize],
     scratch: &mut [u8],
     marks: &mut [u8],
 ) -> usize
     requires { ⌜ (Blank (length (now text)) (now scratch))
-        × ((length (linesOf (now text)) ≤ length (now marks)) × ((OneOf (linesOf (now text)) (now reads)) × ((Calm (now text) calm) × (NotesOf (linesOf (now text)) (now paths) (now notes))))) ⌝ }
+        × ((length (linesOf (now text)) ≤ length (now marks)) × ((OneOf (linesOf (now text)) (now reads)) × ((Calm (now text) calm) × ((NotesOf (linesOf (now text)) (now paths) (now notes)) × (EndsOf (now text) (now ends)))))) ⌝ }
     ensures answer { λ r. ⌜ Filled (now (marks .entry)) (marksOf plain (linesOf (now (text .entry))) (now (paths .entry)) (now (loops .entry))) (now (marks .exit)) r ⌝ }
     ensures memory { λ _. ⌜ now (scratch .exit) ≡ now (scratch .entry) ⌝ }
 {
@@ -586,7 +588,7 @@ fn mark_with(
     let mut k = 0;
     while i < text.len() {
         let j = lines::after(text, e);
-        let n = lines::find_byte(text, j, 10);
+        let n = noted::end_at(text, j, k + 1, ends);
         let c = lines::byte_at(notes, k + 1);
         let q = noted::parse_at(lines::cut(text, j, n), c);
         let g = lines::byte_at(loops, k + 1);
@@ -624,15 +626,17 @@ fn fill_marks(
     loops: &[u8],
     scratch: &mut [u8],
     marks: &mut [u8],
+    ends: &mut [usize],
 ) -> usize
-    requires { ⌜ (Blank (length (now text)) (now scratch)) × ((length (linesOf (now text)) ≤ length (now marks)) × (length (now paths) ≡ length (linesOf (now text)))) ⌝ }
+    requires { ⌜ (Blank (length (now text)) (now scratch))
+        × ((length (linesOf (now text)) ≤ length (now marks)) × ((length (now paths) ≡ length (linesOf (now text))) × (AtMost 0 (now ends)))) ⌝ }
     ensures answer { λ r. ⌜ Filled (now (marks .entry)) (marksOf plain (linesOf (now (text .entry))) (now (paths .entry)) (now (loops .entry))) (now (marks .exit)) r ⌝ }
-    ensures memory { λ _. ⌜ now (scratch .exit) ≡ now (scratch .entry) ⌝ }
+    ensures memory { λ _. ⌜ (now (scratch .exit) ≡ now (scratch .entry)) × (EndsOf (now (text .entry)) (now (ends .exit))) ⌝ }
 {
-    let mut near = [0usize; 1024];
-    let mut far = [0usize; 1024];
-    let mut stores = [0usize; 1024];
-    let mut reads = [0usize; 1024];
+    let mut near = [0u32; 1024];
+    let mut far = [0u32; 1024];
+    let mut stores = [0u32; 1024];
+    let mut reads = [0u8; 1024];
     let mut notes = [0u8; 1024];
     noted::note_lines(
         text,
@@ -642,9 +646,20 @@ fn fill_marks(
         &mut stores,
         &mut reads,
         &mut notes,
+        ends,
     );
     let calm = calm_len(text);
-    mark_with(text, paths, loops, &reads, calm, &notes, scratch, marks)
+    mark_with(
+        text,
+        paths,
+        loops,
+        &reads,
+        calm,
+        &notes,
+        ends,
+        scratch,
+        marks,
+    )
 }
 
 // Writes a line with its LF, and returns the place after it.
@@ -652,8 +667,7 @@ fn put_whole(line: &[u8], out: &mut [u8], o: usize) -> usize
     requires { ⌜ o + length (unlines (now line ∷ [])) ≤ length (now out) ⌝ }
     ensures { λ r. ⌜ Wrote (now (out .entry)) o (unlines (now (line .entry) ∷ [])) (now (out .exit)) r ⌝ }
 {
-    let p = lines::put(out, o, line);
-    lines::put_byte(out, p, 10)
+    lines::put_line(out, o, line)
 }
 
 // Writes a line with a value in the place of a register, where it can take it.
@@ -705,9 +719,9 @@ fn put_act(line: &[u8], above: &[u8], m: u8, n: u8, given: bool, out: &mut [u8],
     put_whole(line, out, o)
 }
 
-// Writes what becomes of lines by their marks.
-fn put_acts(text: &[u8], marks: &[u8], out: &mut [u8]) -> usize
-    requires { ⌜ length (unlines (apply (actsBy (linesOf (now text)) (now marks) false []) (linesOf (now text)))) ≤ length (now out) ⌝ }
+// Writes what becomes of lines by their marks; `ends` has the places after the lines.
+fn put_acts(text: &[u8], marks: &[u8], ends: &[usize], out: &mut [u8]) -> usize
+    requires { ⌜ (EndsOf (now text) (now ends)) × (length (unlines (apply (actsBy (linesOf (now text)) (now marks) false []) (linesOf (now text)))) ≤ length (now out)) ⌝ }
     ensures { λ r. ⌜ Wrote (now (out .entry)) 0 (unlines (apply (actsBy (linesOf (now (text .entry))) (now (marks .entry)) false []) (linesOf (now (text .entry))))) (now (out .exit)) r ⌝ }
 {
     let mut i = 0;
@@ -717,7 +731,7 @@ fn put_acts(text: &[u8], marks: &[u8], out: &mut [u8]) -> usize
     let mut a = 0;
     let mut b = 0;
     while i < text.len() {
-        let e = lines::find_byte(text, i, 10);
+        let e = noted::end_at(text, i, k, ends);
         let m = lines::byte_at(marks, k);
         let n = lines::byte_at(marks, k + 1);
         o = put_act(&text[i..e], lines::cut(text, a, b), m, n, given, out, o);
@@ -730,7 +744,7 @@ fn put_acts(text: &[u8], marks: &[u8], out: &mut [u8]) -> usize
     o
 }
 
-// Fills the tables of a text: which lines stand in a loop, their block paths, and what becomes of them.
+// Fills the tables of a text: which lines stand in a loop, their block paths, what becomes of them, and where they end.
 fn decide(
     text: &[u8],
     scratch: &mut [u8],
@@ -738,22 +752,24 @@ fn decide(
     marks: &mut [u8],
     paths: &mut [usize],
     up: &mut [u32],
+    ends: &mut [usize],
 ) -> usize
     requires { ⌜ (length (linesOf (now text)) ≤ length (now loops))
         × ((length (linesOf (now text)) ≤ length (now marks))
         × ((length (linesOf (now text)) ≤ length (now paths))
         × ((length (pathParents (linesOf (now text))) ≤ length (now up))
-        × ((length (now up) < 2 ^ 32) × (length (now text) ≤ length (now scratch)))))) ⌝ }
+        × ((length (now up) < 2 ^ 32) × ((length (now text) ≤ length (now scratch)) × (AtMost 0 (now ends))))))) ⌝ }
     ensures answer { λ r. ⌜ Filled (now (marks .entry)) (onceMarks plain (linesOf (now (text .entry)))) (now (marks .exit)) r ⌝ }
     ensures memory { λ _. ⌜ (Wrote (now (scratch .entry)) 0 (replicate (length (now (text .entry))) 0) (now (scratch .exit)) (length (now (text .entry))))
         × ((Filled (now (loops .entry)) (flagsOf (insideLoop (linesOf (now (text .entry))))) (now (loops .exit)) (length (flagsOf (insideLoop (linesOf (now (text .entry)))))))
         × ((Filled (now (paths .entry)) (tops (blockPaths (linesOf (now (text .entry))))) (now (paths .exit)) (length (tops (blockPaths (linesOf (now (text .entry)))))))
         × (Filled (now (up .entry)) (pathParents (linesOf (now (text .entry)))) (now (up .exit)) (length (pathParents (linesOf (now (text .entry)))))))) ⌝ }
+    ensures ends { λ _. ⌜ EndsOf (now (text .entry)) (now (ends .exit)) ⌝ }
 {
     lines::wipe(scratch, text.len());
     let n = place::inside_loop(text, loops);
     let k = place::block_paths(text, paths, up);
-    fill_marks(text, &paths[0..k], &loops[0..n], scratch, marks)
+    fill_marks(text, &paths[0..k], &loops[0..n], scratch, marks, ends)
 }
 
 // Writes the lines of a text without dead stores and scratch loads, with each value that is read once, on the next line, in that line, and
@@ -784,7 +800,8 @@ pub fn optimize_once(
         × ((Filled (now (paths .entry)) (tops (blockPaths (linesOf (now (text .entry))))) (now (paths .exit)) (length (tops (blockPaths (linesOf (now (text .entry)))))))
         × (Filled (now (up .entry)) (pathParents (linesOf (now (text .entry)))) (now (up .exit)) (length (pathParents (linesOf (now (text .entry)))))))))) ⌝ }
 {
-    let n = decide(text, scratch, loops, marks, paths, up);
-    let m = put_acts(text, &marks[0..n], mid);
+    let mut ends = [0usize; 1024];
+    let n = decide(text, scratch, loops, marks, paths, up, &mut ends);
+    let m = put_acts(text, &marks[0..n], &ends, mid);
     decls::prune_decls(&mid[0..m], out)
 }

@@ -1,17 +1,17 @@
-// Tables over registers, of the next lines that read and store each one, and of how often the lines read it, up to 2; and one over lines, of what
-// each is and of what becomes of what it stores. The number of a line is how many lines there are from it on.
+// Tables over registers, of the next lines that read and store each one, and of how often the lines read it, up to 2; and over lines, of what each
+// is and what becomes of what it stores, and of where it ends. The number of a line is how many lines there are from it on.
 ghost use mathlib.Core.Path.{_≡_};
 ghost use mathlib.Core.Bool.{cond};
-ghost use Prim.Native.Nat.{_<_};
-ghost use lib.ListN.{length, set, getD};
+ghost use Prim.Native.Nat.{_+_, _-_, _≤_, _<_};
+ghost use lib.ListN.{length, drop, set, getD};
 ghost use lib.Dec.{eqb};
-ghost use Rattle.lines.specs.Lf.{linesOf};
+ghost use Rattle.lines.specs.Lf.{upTo, linesOf};
 ghost use Rattle.names.specs.Names.{regOf};
 ghost use Rattle.parse.specs.Parse.{parseOf, textOf};
 ghost use Rattle.words.specs.Runs.{runs};
 ghost use Rattle.place.specs.Region.{isHeader};
 ghost use Rattle.decls.specs.Seen.{markName, markStore, AtMost};
-ghost use Rattle.once.specs.Noted.{bump, addName, addRuns, alone, OneOf, farName, readRuns, StartOf, samePath, storeNote, lineNote, KindIs, NotesOf};
+ghost use Rattle.once.specs.Noted.{bump, addName, addRuns, alone, OneOf, farName, readRuns, StartOf, samePath, storeNote, lineNote, KindIs, NotesOf, EndIs, EndsOf};
 
 // The entry of a table, or 0 past its end.
 fn entry(d: &[usize], i: usize) -> usize
@@ -23,8 +23,18 @@ fn entry(d: &[usize], i: usize) -> usize
     0
 }
 
+// The same of a table of line numbers.
+fn number_at(d: &[u32], i: usize) -> u32
+    ensures { λ r. ⌜ r ≡ getD (now (d .entry)) i 0 ⌝ }
+{
+    if i < d.len() {
+        return d[i];
+    }
+    0
+}
+
 // Puts the number m of a line at a register, where the table reaches to it.
-fn put_row(reg: names::Register, m: usize, last: &mut [usize])
+fn put_row(reg: names::Register, m: u32, last: &mut [u32])
     ensures { λ _. ⌜ now (last .exit) ≡ set (now (last .entry)) (reg .0) m ⌝ }
 {
     let v = reg.0 as usize;
@@ -35,11 +45,11 @@ fn put_row(reg: names::Register, m: usize, last: &mut [usize])
 }
 
 // Puts the number of the next line that reads a register, by the table `near`, where it is not m itself, and the table reaches to it.
-fn put_far(reg: names::Register, m: usize, near: &[usize], far: &mut [usize])
+fn put_far(reg: names::Register, m: u32, near: &[u32], far: &mut [u32])
     ensures { λ _. ⌜ now (far .exit) ≡ cond (eqb (getD (now (near .entry)) (reg .0) 0) m) (now (far .entry)) (set (now (far .entry)) (reg .0) (getD (now (near .entry)) (reg .0) 0)) ⌝ }
 {
     let v = reg.0 as usize;
-    let r = entry(near, v);
+    let r = number_at(near, v);
     if r == m {
         return;
     }
@@ -50,7 +60,7 @@ fn put_far(reg: names::Register, m: usize, near: &[usize], far: &mut [usize])
 }
 
 // Counts a read of a register, where the table reaches to it.
-fn add_read(reg: names::Register, reads: &mut [usize])
+fn add_read(reg: names::Register, reads: &mut [u8])
     ensures { λ _. ⌜ now (reads .exit) ≡ set (now (reads .entry)) (reg .0) (bump (getD (now (reads .entry)) (reg .0) 0)) ⌝ }
 {
     let v = reg.0 as usize;
@@ -65,7 +75,7 @@ fn add_read(reg: names::Register, reads: &mut [usize])
 }
 
 // Notes the register that a text names, as read by the line with the number m.
-fn note_name(t: &[u8], m: usize, near: &mut [usize], far: &mut [usize], reads: &mut [usize])
+fn note_name(t: &[u8], m: u32, near: &mut [u32], far: &mut [u32], reads: &mut [u8])
     ensures rows { λ _. ⌜ now (near .exit) ≡ markName m (regOf (now (t .entry))) (now (near .entry)) ⌝ }
     ensures seconds { λ _. ⌜ now (far .exit) ≡ farName m (regOf (now (t .entry))) (now (near .entry)) (now (far .entry)) ⌝ }
     ensures counts { λ _. ⌜ now (reads .exit) ≡ addName (regOf (now (t .entry))) (now (reads .entry)) ⌝ }
@@ -81,7 +91,7 @@ fn note_name(t: &[u8], m: usize, near: &mut [usize], far: &mut [usize], reads: &
 }
 
 // Notes the registers that a text reads.
-fn note_runs(s: &[u8], m: usize, near: &mut [usize], far: &mut [usize], reads: &mut [usize])
+fn note_runs(s: &[u8], m: u32, near: &mut [u32], far: &mut [u32], reads: &mut [u8])
     ensures rows { λ _. ⌜ (now (near .exit), now (far .exit)) ≡ readRuns m (runs (now (s .entry))) (now (near .entry), now (far .entry)) ⌝ }
     ensures counts { λ _. ⌜ now (reads .exit) ≡ addRuns (runs (now (s .entry))) (now (reads .entry)) ⌝ }
 {
@@ -100,7 +110,7 @@ fn note_runs(s: &[u8], m: usize, near: &mut [usize], far: &mut [usize], reads: &
 }
 
 // Notes the register that a line stores.
-fn note_store(p: parse::Line, m: usize, last: &mut [usize])
+fn note_store(p: parse::Line, m: u32, last: &mut [u32])
     ensures { λ _. ⌜ now (last .exit) ≡ markStore m p (now (last .entry)) ⌝ }
 {
     match p {
@@ -114,11 +124,11 @@ fn note_store(p: parse::Line, m: usize, last: &mut [usize])
 fn note_line(
     line: &[u8],
     p: parse::Line,
-    m: usize,
-    near: &mut [usize],
-    far: &mut [usize],
-    stores: &mut [usize],
-    reads: &mut [usize],
+    m: u32,
+    near: &mut [u32],
+    far: &mut [u32],
+    stores: &mut [u32],
+    reads: &mut [u8],
 )
     ensures rows { λ _. ⌜ (now (near .exit), now (far .exit)) ≡ readRuns m (runs (textOf (now (line .entry)) p)) (now (near .entry), now (far .entry)) ⌝ }
     ensures stores { λ _. ⌜ now (stores .exit) ≡ markStore m p (now (stores .entry)) ⌝ }
@@ -129,14 +139,15 @@ fn note_line(
 }
 
 // Whether the line with k above it, and the one with the number s, are in one block path.
-fn same_path(paths: &[usize], k: usize, s: usize) -> bool
+fn same_path(paths: &[usize], k: usize, s: u32) -> bool
     ensures { λ r. ⌜ r ≡ samePath (now (paths .entry)) k s ⌝ }
 {
+    let t = s as usize;
     let n = paths.len();
-    if n < s {
+    if n < t {
         return false;
     }
-    entry(paths, k) == entry(paths, n - s)
+    entry(paths, k) == entry(paths, n - t)
 }
 
 // The note of a store of a register with k lines above it and m below it, where h is the number of the next header.
@@ -144,11 +155,11 @@ fn store_note(
     reg: names::Register,
     paths: &[usize],
     k: usize,
-    m: usize,
-    h: usize,
-    near: &[usize],
-    far: &[usize],
-    stores: &[usize],
+    m: u32,
+    h: u32,
+    near: &[u32],
+    far: &[u32],
+    stores: &[u32],
 ) -> u8
     ensures { λ r. ⌜ r ≡ storeNote (reg .0) (now (paths .entry)) k m h (now (near .entry)) (now (far .entry)) (now (stores .entry)) ⌝ }
 {
@@ -190,11 +201,11 @@ fn line_note(
     p: parse::Line,
     paths: &[usize],
     k: usize,
-    m: usize,
-    h: usize,
-    near: &[usize],
-    far: &[usize],
-    stores: &[usize],
+    m: u32,
+    h: u32,
+    near: &[u32],
+    far: &[u32],
+    stores: &[u32],
 ) -> u8
     ensures { λ r. ⌜ r ≡ lineNote p (now (paths .entry)) k m h (now (near .entry)) (now (far .entry)) (now (stores .entry)) ⌝ }
 {
@@ -215,6 +226,24 @@ fn put_note(k: usize, x: u8, notes: &mut [u8])
     notes[k] = x;
 }
 
+// Puts the place x after the line with k above it, where the table reaches to it.
+fn put_end(k: usize, x: usize, ends: &mut [usize])
+    ensures { λ _. ⌜ now (ends .exit) ≡ set (now (ends .entry)) k x ⌝ }
+{
+    if ends.len() <= k {
+        return;
+    }
+    ends[k] = x;
+}
+
+// How many of n lines stand above one with m below it.
+fn row_of(n: usize, m: u32) -> usize
+    requires { ⌜ m + 1 ≤ n ⌝ }
+    ensures { λ r. ⌜ r ≡ n - (m + 1) ⌝ }
+{
+    n - (m as usize + 1)
+}
+
 // Where the line begins that ends at e, before an LF.
 fn line_start(text: &[u8], e: usize) -> usize
     requires { ⌜ (e < length (now text)) × (getD (now text) e 0 ≡ 10) ⌝ }
@@ -231,7 +260,7 @@ fn line_start(text: &[u8], e: usize) -> usize
 }
 
 // The number of the next header from a line with the number m on, where h is that below it.
-fn head_at(line: &[u8], m: usize, h: usize) -> usize
+fn head_at(line: &[u8], m: u32, h: u32) -> u32
     ensures { λ r. ⌜ r ≡ cond (isHeader (now (line .entry))) m h ⌝ }
 {
     if place::is_header(line) {
@@ -245,21 +274,26 @@ fn head_at(line: &[u8], m: usize, h: usize) -> usize
 pub fn note_lines(
     text: &[u8],
     paths: &[usize],
-    near: &mut [usize],
-    far: &mut [usize],
-    stores: &mut [usize],
-    reads: &mut [usize],
+    near: &mut [u32],
+    far: &mut [u32],
+    stores: &mut [u32],
+    reads: &mut [u8],
     notes: &mut [u8],
+    ends: &mut [usize],
 )
     requires { ⌜ (length (now paths) ≡ length (linesOf (now text)))
-        × ((AtMost 0 (now near)) × ((AtMost 0 (now far)) × ((AtMost 0 (now stores)) × ((AtMost 0 (now reads)) × (AtMost 0 (now notes)))))) ⌝ }
+        × ((AtMost 0 (now near)) × ((AtMost 0 (now far)) × ((AtMost 0 (now stores)) × ((AtMost 0 (now reads)) × ((AtMost 0 (now notes)) × (AtMost 0 (now ends))))))) ⌝ }
     ensures counts { λ _. ⌜ OneOf (linesOf (now (text .entry))) (now (reads .exit)) ⌝ }
     ensures notes { λ _. ⌜ NotesOf (linesOf (now (text .entry))) (now (paths .entry)) (now (notes .exit)) ⌝ }
+    ensures ends { λ _. ⌜ EndsOf (now (text .entry)) (now (ends .exit)) ⌝ }
 {
     if !lines::ends_lf(text) {
         return;
     }
     let n = paths.len();
+    if 4294967295 < n {
+        return;
+    }
     let mut i = text.len();
     let mut m = 0;
     let mut h = 0;
@@ -268,8 +302,9 @@ pub fn note_lines(
         let a = line_start(text, e);
         let line = lines::cut(text, a, e);
         let p = parse::parse(line);
-        let k = n - (m + 1);
+        let k = row_of(n, m);
         put_note(k, line_note(p, paths, k, m, h, near, far, stores), notes);
+        put_end(k, i, ends);
         m += 1;
         note_line(line, p, m, near, far, stores, reads);
         h = head_at(line, m, h);
@@ -278,7 +313,7 @@ pub fn note_lines(
 }
 
 // Whether the table says that a register is read once in all.
-pub fn is_alone(reads: &[usize], reg: names::Register) -> bool
+pub fn is_alone(reads: &[u8], reg: names::Register) -> bool
     ensures { λ r. ⌜ r ≡ alone (reg .0) (now (reads .entry)) ⌝ }
 {
     let v = reg.0 as usize;
@@ -286,6 +321,18 @@ pub fn is_alone(reads: &[usize], reg: names::Register) -> bool
         return false;
     }
     reads[v] == 1
+}
+
+// Where the line ends that begins at j and has k above it: by the table, where it says so.
+pub fn end_at(text: &[u8], j: usize, k: usize, ends: &[usize]) -> usize
+    requires { ⌜ EndIs (now text) j (getD (now ends) k 0) ⌝ }
+    ensures { λ r. ⌜ r ≡ j + upTo 10 (drop j (now (text .entry))) ⌝ }
+{
+    let e = entry(ends, k);
+    if e == 0 {
+        return lines::find_byte(text, j, 10);
+    }
+    e - 1
 }
 
 // What a line is: by its note, where that says so.

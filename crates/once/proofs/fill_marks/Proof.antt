@@ -8,55 +8,59 @@ use Rattle.once.proofs.calm_len.Reads as calm-len-reads
 use Rattle.once.proofs.mark_with.Reads as mark-with-reads
 use Rattle.once.proofs.noted.note_lines.Reads as note-lines-reads
 
--- src/lib.rt:640:9
+-- src/lib.rt:644:9
 slice-aggregate-note-lines : tie.Need-slice-aggregate-note-lines
 slice-aggregate-note-lines c = search needs
 
--- src/lib.rt:641:9
+-- src/lib.rt:645:9
 slice-aggregate-note-lines-2 : tie.Need-slice-aggregate-note-lines-2
 slice-aggregate-note-lines-2 c = search needs
 
--- src/lib.rt:642:9
+-- src/lib.rt:646:9
 slice-aggregate-note-lines-3 : tie.Need-slice-aggregate-note-lines-3
 slice-aggregate-note-lines-3 c = search needs
 
--- src/lib.rt:643:9
+-- src/lib.rt:647:9
 slice-aggregate-note-lines-4 : tie.Need-slice-aggregate-note-lines-4
 slice-aggregate-note-lines-4 c = search needs
 
--- src/lib.rt:644:9
+-- src/lib.rt:648:9
 slice-aggregate-note-lines-5 : tie.Need-slice-aggregate-note-lines-5
 slice-aggregate-note-lines-5 c = search needs
 
--- src/lib.rt:637:5
+-- src/lib.rt:641:5
 note-lines-requires : tie.Need-note-lines-requires
-note-lines-requires c κs = (c .before .before .before .before .before .before .before .before .before .before .pre .1 .1, (zeros-most 1024, (zeros-most 1024, (zeros-most 1024, (zeros-most 1024, zeros-most 1024)))))
+note-lines-requires c κs = (c .before .before .before .before .before .before .before .before .before .before .before .before .pre .1 .1 .0, (zeros-most 1024, (zeros-most 1024, (zeros-most 1024, (zeros-most 1024, (zeros-most 1024, c .before .before .before .before .before .before .before .before .before .before .before .before .pre .1 .1 .1))))))
 
--- src/lib.rt:646:9
+-- src/lib.rt:651:9
 calm-len-requires : tie.Need-calm-len-requires
 calm-len-requires c κs = search needs
 
--- src/lib.rt:647:35
+-- src/lib.rt:656:9
 slice-aggregate-mark-with : tie.Need-slice-aggregate-mark-with
 slice-aggregate-mark-with c = search needs
 
--- src/lib.rt:647:49
+-- src/lib.rt:658:9
 slice-aggregate-mark-with-2 : tie.Need-slice-aggregate-mark-with-2
 slice-aggregate-mark-with-2 c = search needs
 
--- src/lib.rt:647:5
+-- src/lib.rt:652:5
 mark-with-requires : tie.Need-mark-with-requires
-mark-with-requires c κs = let n = c .before .before .before .before .before .before .before .before .before .before .note-lines .ensures in (c .before .before .before .before .before .before .before .before .before .before .before .before .before .before .before .before .before .before .before .before .before .pre .0, (c .before .before .before .before .before .before .before .before .before .before .before .before .before .before .before .before .before .before .before .before .before .pre .1 .0, (n .0, (c .before .before .before .before .calm-len .ensures, n .1))))
+mark-with-requires c κs = let n = c .before .before .before .before .before .before .before .before .before .before .before .before .before .note-lines .ensures in (c .before .before .before .before .before .before .before .before .before .before .before .before .before .before .before .before .before .before .before .before .before .before .before .before .before .before .pre .0, (c .before .before .before .before .before .before .before .before .before .before .before .before .before .before .before .before .before .before .before .before .before .before .before .before .before .before .pre .1 .0, (n .0, (c .before .before .before .before .before .calm-len .ensures, n .1))))
 
--- src/lib.rt:621:1
+-- src/lib.rt:623:1
 same-length : tie.Need-same-length
 same-length c = search needs
 
--- src/lib.rt:621:1
+-- src/lib.rt:623:1
 same-length-2 : tie.Need-same-length-2
 same-length-2 c = search needs
 
--- src/lib.rt:621:1
+-- src/lib.rt:623:1
+same-length-3 : tie.Need-same-length-3
+same-length-3 c = search needs
+
+-- src/lib.rt:623:1
 returns : tie.Need-returns
 returns c = search needs
 
@@ -76,4 +80,5 @@ fill-marks-spec =
     mark-with-requires
     same-length
     same-length-2
+    same-length-3
     returns)

@@ -1,30 +1,23 @@
 use borrow.Author.Needs.{needs}
 use native.Mathlib.Omega.{arith}
-use mathlib.Core.Path.{_≡_, sym, ap, _∙_}
-use Rattle.lines.proofs.OutLaws.{wrote-as, wrote-then, wrote-length}
-use Rattle.once.proofs.Writes.{line-is, line-long}
+use mathlib.Core.Path.{ap}
+use lib.ListN.{length}
+use Rattle.lines.proofs.OutLaws.{wrote-as}
+use Rattle.once.proofs.Writes.{line-is}
 use Rattle.once.proofs.put_whole.Statement.{statement}
 use Rattle.once.proofs.put_whole.Tie as tie
 use Rattle.once.proofs.put_whole.Reads as reads
 use Rattle.once.proofs.put_whole.Lts as lts
-use Rattle.lines.proofs.put.Reads as put-reads
-use Rattle.lines.proofs.put_byte.Reads as put-byte-reads
+use Rattle.lines.proofs.put_line.Reads as put-line-reads
 
--- src/lib.rt:300:9
-put-requires : tie.Need-put-requires
-put-requires c κs = omega (arith, c .before .before .before .pre, line-long (c .before .before .before .args .line .now))
+put-line-requires : tie.Need-put-line-requires
+put-line-requires c κs = omega (arith, c .before .before .before .pre, ap length (line-is (c .before .before .before .args .line .now)))
 
--- src/lib.rt:301:5
-put-byte-requires : tie.Need-put-byte-requires
-put-byte-requires c κs = omega (arith, c .before .before .before .before .before .before .before .pre, line-long (c .before .before .before .before .before .before .before .args .line .now), c .before .before .before .put .ensures .place, wrote-length (c .before .before .before .put .ensures))
-
--- src/lib.rt:296:1
 same-length : tie.Need-same-length
 same-length c = search needs
 
--- src/lib.rt:296:1
 returns : tie.Need-returns
-returns c = wrote-as (line-is _) (wrote-then (c .before .before .before .before .before .before .put .ensures) (c .before .before .put-byte .ensures))
+returns c = wrote-as (line-is _) (c .before .before .put-line .ensures)
 
 pub put-whole-spec : {M : Type 1} → statement M
-put-whole-spec = tie.close (tie.spec put-requires put-byte-requires same-length returns)
+put-whole-spec = tie.close (tie.spec put-line-requires same-length returns)

@@ -12,10 +12,6 @@ returns : tie.Need-returns
 returns c = set-past _ _ _ (c .if1 .taken)
 
 -- src/noted.rt:29:13
-mul-n : tie.Need-mul-n
-mul-n c = search needs
-
--- src/noted.rt:29:13
 slice-read-n : tie.Need-slice-read-n
 slice-read-n c = search needs
 
@@ -26,10 +22,6 @@ returns-2 c = read-full _ _ (omega arith) (c .if2 .taken)
 -- src/noted.rt:33:16
 add-reads : tie.Need-add-reads
 add-reads c = search needs
-
--- src/noted.rt:33:5
-mul-reads : tie.Need-mul-reads
-mul-reads c = search needs
 
 -- src/noted.rt:33:5
 slice-write-reads : tie.Need-slice-write-reads
@@ -48,11 +40,9 @@ add-read-spec =
     tie.close
     (tie.spec
     returns
-    mul-n
     slice-read-n
     returns-2
     add-reads
-    mul-reads
     slice-write-reads
     same-length
     returns-3)

@@ -10,10 +10,6 @@ returns : tie.Need-returns
 returns c = alone-past _ _ (c .if1 .taken)
 
 -- src/noted.rt:125:5
-mul-result : tie.Need-mul-result
-mul-result c = search needs
-
--- src/noted.rt:125:5
 shared-slice-read-result : tie.Need-shared-slice-read-result
 shared-slice-read-result c = search needs
 
@@ -22,4 +18,4 @@ returns-2 : tie.Need-returns-2
 returns-2 c = alone-as _ _ (c .before .if1 .left)
 
 pub is-alone-spec : {M : Type 1} → statement M
-is-alone-spec = tie.close (tie.spec returns mul-result shared-slice-read-result returns-2)
+is-alone-spec = tie.close (tie.spec returns shared-slice-read-result returns-2)
