@@ -80,9 +80,8 @@ fn bind_step(src: &[u8], u: &mut [u32], dst: &mut [u8]) -> usize
     bind::bind_declarators(src, &mut blocks, &mut starts, u, &mut marks, dst)
 }
 
-// Runs a pass by its number from one buffer into another, and returns the length of what it wrote: 0 is the removal, and another number than
-// 1 to 6 changes nothing. The other buffers are scratch.
-pub fn step(
+// Runs a pass by its number as `step` does, for a number that is not 6.
+fn other_step(
     k: usize,
     src: &[u8],
     dst: &mut [u8],
@@ -91,7 +90,7 @@ pub fn step(
     e: &mut [u8],
     u: &mut [u32],
 ) -> usize
-    requires { ⌜ Bounded (now src) × Sized (now dst) (now c) (now d) (now e) (now u) ⌝ }
+    requires { ⌜ (k ≡ 6 → ⊥) × (Bounded (now src) × Sized (now dst) (now c) (now d) (now e) (now u)) ⌝ }
     ensures { λ r. ⌜ Wrote (now (dst .entry)) 0 (unlines (stepOf plain k (linesOf (now (src .entry))))) (now (dst .exit)) r ⌝ }
     ensures memory { λ _. ⌜ Left k (now (src .entry)) (now (c .entry)) (now (d .entry)) (now (e .entry)) (now (u .entry)) (now (c .exit)) (now (d .exit)) (now (e .exit)) (now (u .exit)) ⌝ }
 {
@@ -113,8 +112,26 @@ pub fn step(
     if k == 5 {
         return decls::prune_decls(src, dst);
     }
+    lines::put_lines(src, dst, 0)
+}
+
+// Runs a pass by its number from one buffer into another, and returns the length of what it wrote: 0 is the removal, and another number than
+// 1 to 6 changes nothing. The other buffers are scratch.
+pub fn step(
+    k: usize,
+    src: &[u8],
+    dst: &mut [u8],
+    c: &mut [u8],
+    d: &mut [u8],
+    e: &mut [u8],
+    u: &mut [u32],
+) -> usize
+    requires { ⌜ Bounded (now src) × Sized (now dst) (now c) (now d) (now e) (now u) ⌝ }
+    ensures { λ r. ⌜ Wrote (now (dst .entry)) 0 (unlines (stepOf plain k (linesOf (now (src .entry))))) (now (dst .exit)) r ⌝ }
+    ensures memory { λ _. ⌜ Left k (now (src .entry)) (now (c .entry)) (now (d .entry)) (now (e .entry)) (now (u .entry)) (now (c .exit)) (now (d .exit)) (now (e .exit)) (now (u .exit)) ⌝ }
+{
     if k == 6 {
         return bind_step(src, u, dst);
     }
-    lines::put_lines(src, dst, 0)
+    other_step(k, src, dst, c, d, e, u)
 }

@@ -1,37 +1,33 @@
 use borrow.Author.Needs.{needs}
 use mathlib.Core.Path.{sym, ap}
-use native.Mathlib.Omega.{arith}
 use Rattle.lines.specs.Lf.{linesOf, unlines}
 use Rattle.lines.proofs.OutLaws.{wrote-as}
 use Rattle.reading.specs.Reading.{plain}
-use Rattle.steps.proofs.Tame.{tame-removal, tame-temps, tame-decls, room-fits, room-lines, room-length, phis-room}
-use Rattle.steps.proofs.StepLaws.{step-0, step-1, step-2, step-3, step-4, step-5, step-6, step-else, left-0, left-1, left-2, left-3, left-4, left-5, left-6, left-else, left-as}
+use Rattle.steps.proofs.StepLaws.{step-6, left-6, left-as}
 use Rattle.steps.proofs.step.Statement.{statement}
 use Rattle.steps.proofs.step.Tie as tie
 
-remove-globals-requires : tie.Need-remove-globals-requires
-remove-globals-requires c κs = let p = c .before .before .before .before .before .before .before .before .pre in omega (arith, room-fits tame-removal (p .0), p .1 .b-size)
+bind-step-requires : tie.Need-bind-step-requires
+bind-step-requires c κs = let p = c .before .before .before .before .before .before .before .before .before .pre in (p .0, (p .1 .u-size, p .1 .b-size))
 
 same-length : tie.Need-same-length
 same-length c = search needs
 
-returns : tie.Need-returns
-returns c = let p = c .before .before .remove-globals .ensures in (wrote-as (ap unlines (sym (step-0 plain (c .before .before .before .before .before .before .before .before .before .before .before .args .k) (linesOf (c .before .before .before .before .before .before .before .before .before .before .before .args .src .now)) (c .before .before .before .before .if1 .taken)))) (p), left-as (c .before .before .before .before .if1 .taken) left-0)
-
-prune-dead-temps-requires : tie.Need-prune-dead-temps-requires
-prune-dead-temps-requires c κs = let p = c .before .before .before .before .before .before .before .before .before .before .pre in (omega (arith, room-length (p .0), p .1 .c-size), omega (arith, room-fits (tame-temps plain) (p .0), p .1 .b-size))
-
 same-length-2 : tie.Need-same-length-2
 same-length-2 c = search needs
 
+returns : tie.Need-returns
+returns c =
+    let p = c .before .before .before .before .bind-step .ensures in
+    let g = c .before .before .before .before .before .before .before .before .before .before .before .before .before .before .args in
+    let q = c .before .before .before .before .before .before .before .if1 .taken in
+    (wrote-as (ap unlines (sym (step-6 plain (g .k) (linesOf (g .src .now)) q))) (p .0), left-as q (left-6 (p .1)))
+
+other-step-requires : tie.Need-other-step-requires
+other-step-requires c κs = (c .before .before .before .before .before .if1 .left, c .before .before .before .before .before .before .before .before .before .before .before .before .pre)
+
 same-length-3 : tie.Need-same-length-3
 same-length-3 c = search needs
-
-returns-2 : tie.Need-returns-2
-returns-2 c = let p = c .before .before .before .before .prune-dead-temps .ensures in (wrote-as (ap unlines (sym (step-1 plain (c .before .before .before .before .before .before .before .before .before .before .before .before .before .before .before .args .k) (linesOf (c .before .before .before .before .before .before .before .before .before .before .before .before .before .before .before .args .src .now)) (c .before .before .before .before .before .before .before .if2 .taken)))) (p .0), left-as (c .before .before .before .before .before .before .before .if2 .taken) (left-1 (p .1)))
-
-once-step-requires : tie.Need-once-step-requires
-once-step-requires c κs = let p = c .before .before .before .before .before .before .before .before .before .before .before .before .before .pre in (p .0, (p .1 .c-size, (p .1 .d-size, (p .1 .u-size, p .1 .b-size))))
 
 same-length-4 : tie.Need-same-length-4
 same-length-4 c = search needs
@@ -45,115 +41,21 @@ same-length-6 c = search needs
 same-length-7 : tie.Need-same-length-7
 same-length-7 c = search needs
 
-returns-3 : tie.Need-returns-3
-returns-3 c = let p = c .before .before .before .before .before .before .before .before .once-step .ensures in (wrote-as (ap unlines (sym (step-2 plain (c .before .before .before .before .before .before .before .before .before .before .before .before .before .before .before .before .before .before .before .before .before .before .args .k) (linesOf (c .before .before .before .before .before .before .before .before .before .before .before .before .before .before .before .before .before .before .before .before .before .before .args .src .now)) (c .before .before .before .before .before .before .before .before .before .before .before .before .before .if3 .taken)))) (p .0), left-as (c .before .before .before .before .before .before .before .before .before .before .before .before .before .if3 .taken) (left-2 (p .1)))
-
-prune-dead-phis-requires : tie.Need-prune-dead-phis-requires
-prune-dead-phis-requires c κs = let p = c .before .before .before .before .before .before .before .before .before .before .before .before .before .before .pre in let q = phis-room (p .0) in (omega (arith, q .0, p .1 .c-size), (omega (arith, q .1 .0, p .1 .d-size), (omega (arith, q .1 .1 .0, p .1 .e-size), omega (arith, q .1 .1 .1, p .1 .b-size))))
-
-same-length-8 : tie.Need-same-length-8
-same-length-8 c = search needs
-
-same-length-9 : tie.Need-same-length-9
-same-length-9 c = search needs
-
-same-length-10 : tie.Need-same-length-10
-same-length-10 c = search needs
-
-same-length-11 : tie.Need-same-length-11
-same-length-11 c = search needs
-
-returns-4 : tie.Need-returns-4
-returns-4 c = let p = c .before .before .before .before .before .before .before .before .prune-dead-phis .ensures in (wrote-as (ap unlines (sym (step-3 plain (c .before .before .before .before .before .before .before .before .before .before .before .before .before .before .before .before .before .before .before .before .before .before .before .args .k) (linesOf (c .before .before .before .before .before .before .before .before .before .before .before .before .before .before .before .before .before .before .before .before .before .before .before .args .src .now)) (c .before .before .before .before .before .before .before .before .before .before .before .before .before .if4 .taken)))) (p .0), left-as (c .before .before .before .before .before .before .before .before .before .before .before .before .before .if4 .taken) (left-3 (p .1 .1 .1) (p .1 .0) (p .1 .1 .0)))
-
-calls-step-requires : tie.Need-calls-step-requires
-calls-step-requires c κs = let p = c .before .before .before .before .before .before .before .before .before .before .before .before .before .before .before .before .pre in (p .0, (p .1 .c-size, (p .1 .d-size, (p .1 .e-size, (p .1 .u-size, p .1 .b-size)))))
-
-same-length-12 : tie.Need-same-length-12
-same-length-12 c = search needs
-
-same-length-13 : tie.Need-same-length-13
-same-length-13 c = search needs
-
-same-length-14 : tie.Need-same-length-14
-same-length-14 c = search needs
-
-same-length-15 : tie.Need-same-length-15
-same-length-15 c = search needs
-
-same-length-16 : tie.Need-same-length-16
-same-length-16 c = search needs
-
-returns-5 : tie.Need-returns-5
-returns-5 c = let p = c .before .before .before .before .before .before .before .before .before .before .calls-step .ensures in (wrote-as (ap unlines (sym (step-4 plain (c .before .before .before .before .before .before .before .before .before .before .before .before .before .before .before .before .before .before .before .before .before .before .before .before .before .before .before .args .k) (linesOf (c .before .before .before .before .before .before .before .before .before .before .before .before .before .before .before .before .before .before .before .before .before .before .before .before .before .before .before .args .src .now)) (c .before .before .before .before .before .before .before .before .before .before .before .before .before .before .before .before .if5 .taken)))) (p .0), left-as (c .before .before .before .before .before .before .before .before .before .before .before .before .before .before .before .before .if5 .taken) (left-4 (p .1)))
-
-prune-decls-requires : tie.Need-prune-decls-requires
-prune-decls-requires c κs = let p = c .before .before .before .before .before .before .before .before .before .before .before .before .before .pre in omega (arith, room-fits tame-decls (p .0), p .1 .b-size)
-
-same-length-17 : tie.Need-same-length-17
-same-length-17 c = search needs
-
-returns-6 : tie.Need-returns-6
-returns-6 c = let p = c .before .before .prune-decls .ensures in (wrote-as (ap unlines (sym (step-5 plain (c .before .before .before .before .before .before .before .before .before .before .before .before .before .before .before .before .args .k) (linesOf (c .before .before .before .before .before .before .before .before .before .before .before .before .before .before .before .before .args .src .now)) (c .before .before .before .before .if6 .taken)))) (p), left-as (c .before .before .before .before .if6 .taken) left-5)
-
-bind-step-requires : tie.Need-bind-step-requires
-bind-step-requires c κs = let p = c .before .before .before .before .before .before .before .before .before .before .before .before .before .before .before .pre in (p .0, (p .1 .u-size, p .1 .b-size))
-
-same-length-18 : tie.Need-same-length-18
-same-length-18 c = search needs
-
-same-length-19 : tie.Need-same-length-19
-same-length-19 c = search needs
-
-returns-7 : tie.Need-returns-7
-returns-7 c = let p = c .before .before .before .before .bind-step .ensures in (wrote-as (ap unlines (sym (step-6 plain (c .before .before .before .before .before .before .before .before .before .before .before .before .before .before .before .before .before .before .before .before .args .k) (linesOf (c .before .before .before .before .before .before .before .before .before .before .before .before .before .before .before .before .before .before .before .before .args .src .now)) (c .before .before .before .before .before .before .before .if7 .taken)))) (p .0), left-as (c .before .before .before .before .before .before .before .if7 .taken) (left-6 (p .1)))
-
-put-lines-requires : tie.Need-put-lines-requires
-put-lines-requires c κs = let p = c .before .before .before .before .before .before .before .before .before .before .before .before .before .before .pre in omega (arith, room-lines (p .0), p .1 .b-size)
-
-same-length-20 : tie.Need-same-length-20
-same-length-20 c = search needs
-
-returns-8 : tie.Need-returns-8
-returns-8 c = (wrote-as (ap unlines (sym (step-else plain (c .before .before .before .before .before .before .before .before .before .before .before .before .before .before .before .before .before .args .k) (linesOf (c .before .before .before .before .before .before .before .before .before .before .before .before .before .before .before .before .before .args .src .now)) (c .before .before .before .before .before .before .before .before .before .before .if1 .left) (c .before .before .before .before .before .before .before .before .before .if2 .left) (c .before .before .before .before .before .before .before .before .if3 .left) (c .before .before .before .before .before .before .before .if4 .left) (c .before .before .before .before .before .before .if5 .left) (c .before .before .before .before .before .if6 .left) (c .before .before .before .before .if7 .left)))) (c .before .before .put-lines .ensures), left-else (c .before .before .before .before .before .before .before .before .before .if2 .left) (c .before .before .before .before .before .before .before .before .if3 .left) (c .before .before .before .before .before .before .before .if4 .left) (c .before .before .before .before .before .before .if5 .left) (c .before .before .before .before .if7 .left))
+returns-2 : tie.Need-returns-2
+returns-2 c = c .before .before .before .before .before .before .before .before .before .before .other-step .ensures
 
 pub step-spec : {M : Type 1} → statement M
 step-spec =
     tie.close
     (tie.spec
-    remove-globals-requires
+    bind-step-requires
     same-length
-    returns
-    prune-dead-temps-requires
     same-length-2
+    returns
+    other-step-requires
     same-length-3
-    returns-2
-    once-step-requires
     same-length-4
     same-length-5
     same-length-6
     same-length-7
-    returns-3
-    prune-dead-phis-requires
-    same-length-8
-    same-length-9
-    same-length-10
-    same-length-11
-    returns-4
-    calls-step-requires
-    same-length-12
-    same-length-13
-    same-length-14
-    same-length-15
-    same-length-16
-    returns-5
-    prune-decls-requires
-    same-length-17
-    returns-6
-    bind-step-requires
-    same-length-18
-    same-length-19
-    returns-7
-    put-lines-requires
-    same-length-20
-    returns-8)
+    returns-2)
