@@ -27,7 +27,7 @@ pub wrote-front : {d xs d′ : List ℕ} {r : ℕ} → Wrote d 0 xs d′ r → F
 wrote-front w = record { fits = omega (arith, w .fits, w .place, wrote-length w); is = wrote-part w }
 
 -- what stands at the front of b is written to the front of a
-pub front-copied : {a b a′ xs : List ℕ} {n r : ℕ} → Front b n xs → Wrote a 0 (take n b) a′ r → Front a′ r xs
+front-copied : {a b a′ xs : List ℕ} {n r : ℕ} → Front b n xs → Wrote a 0 (take n b) a′ r → Front a′ r xs
 front-copied {a} {b} {a′} {xs} {n} {r} f w = let g = wrote-front w in record { fits = g .fits; is = g .is ∙ f .is }
 
 -- ---- the loop of `chain`
@@ -68,17 +68,19 @@ module _ {k to : ℕ} {t a b c d e u : List ℕ} {n j : ℕ} (h : ChainInv k to 
   pub chain-room : Bounded (take n a)
   chain-room = rw (h .front .is) (between-room (h .short) (h .between))
 
-  pub chain-on : {a′ b′ c′ d′ e′ u′ : List ℕ} {r : ℕ} → j < to → length a′ ≡ length a → length b′ ≡ length b → length c′ ≡ length c → length d′ ≡ length d → length e′ ≡ length e → length u′ ≡ length u →
-      Front a′ r (unlines (stepOf plain j (linesOf (take n a)))) → ChainInv k to t a′ b′ c′ d′ e′ u′ r (j + 1)
-  chain-on {a′} {r = r} l qa qb qc qd qe qu f =
+  -- a pass from the front of a into b, and what it wrote back to the front of a
+  pub chain-on : {a′ b′ c′ d′ e′ u′ : List ℕ} {r m : ℕ} → j < to → Wrote b 0 (unlines (stepOf plain j (linesOf (take n a)))) b′ r → length c′ ≡ length c → length d′ ≡ length d → length e′ ≡ length e → length u′ ≡ length u →
+      Wrote a 0 (take r b′) a′ m → ChainInv k to t a′ b′ c′ d′ e′ u′ m (j + 1)
+  chain-on l w qc qd qe qu v =
+      let f = front-copied (wrote-front w) v in
       let ls : List (List ℕ) = h .now-lines in
       let g : linesOf (take n a) ≡ ls = ap linesOf (h .front .is) ∙ lines-unlines ls (h .between .clean) in
       let z : to - j ≡ suc (to - (j + 1)) = omega arith in
       record {
         short = h .short;
-        a-size = qa ∙ h .a-size;
+        a-size = wrote-length v ∙ h .a-size;
         sized = record {
-          b-size = qb ∙ h .sized .b-size;
+          b-size = wrote-length w ∙ h .sized .b-size;
           c-size = qc ∙ h .sized .c-size;
           d-size = qd ∙ h .sized .d-size;
           e-size = qe ∙ h .sized .e-size;

@@ -1,7 +1,6 @@
 -- Laws of zeroing, and of the last step. Assumes nothing.
 use Prim.Native.Nat.{ℕ}
 use mathlib.Core.Path.{_≡_, sym, ap, _∙_}
-use mathlib.Core.Bool.{Bool}
 use mathlib.Core.List.{List}
 use lib.ListN.{length, take, replicate, length-replicate}
 use Rattle.lines.specs.Lf.{endsIn, linesOf, unlines}
@@ -10,7 +9,8 @@ use Rattle.lines.specs.Steps.{splitLines, joined}
 use Rattle.lines.proofs.OutLaws.{wrote-whole}
 use Rattle.lines.proofs.LfLaws.{lines-unlines}
 use Rattle.lines.proofs.StepLaws.{split-noLf}
-use Rattle.limits.specs.Entry.{blank}
+use Rattle.limits.specs.declared.Answer.{Answer}
+use Rattle.limits.specs.Entry.{roomed, outAfter, blank}
 use Rattle.steps.proofs.Tame.{Tame}
 use Rattle.passes.specs.Passes.{resultOf}
 use Rattle.passes.specs.Buffers.{Front}
@@ -27,10 +27,16 @@ wiped-numbers d e w = w ∙ ap (λ (n : ℕ). replicate n 0) e
 
 -- ---- the last step
 
--- what the lines that a pass made are joined to is the result
-pub front-result : {f : List (List ℕ) → List (List ℕ)} (t : List ℕ) {a : List ℕ} {n : ℕ} {e : Bool} → Tame f → Front a n (unlines (f (splitLines t))) → e ≡ endsIn 10 t →
-    joined e (linesOf (take n a)) ≡ resultOf f t
-unfolding resultOf
-front-result {f} t {a} {n} p h q =
-    ap (λ (b : Bool). joined b (linesOf (take n a))) q
-    ∙ ap (joined (endsIn 10 t)) (ap linesOf (h .is) ∙ lines-unlines (f (splitLines t)) (p .keeps (splitLines t) (split-noLf t)))
+-- the lines that passes made of a text stand at the front of a: they are joined to the result
+module _ {f : List (List ℕ) → List (List ℕ)} (t : List ℕ) {a : List ℕ} {n : ℕ} (p : Tame f) (h : Front a n (unlines (f (splitLines t)))) where
+  front-result : joined (endsIn 10 t) (linesOf (take n a)) ≡ resultOf f t
+  unfolding resultOf
+  front-result = ap (joined (endsIn 10 t)) (ap linesOf (h .is) ∙ lines-unlines (f (splitLines t)) (p .keeps (splitLines t) (split-noLf t)))
+
+  -- r is the answer, and d the result buffer
+  module _ (r : Answer) (d : List ℕ) where
+    pub front-answer : r ≡ roomed (length (joined (endsIn 10 t) (linesOf (take n a)))) (length d) → r ≡ roomed (length (resultOf f t)) (length d)
+    front-answer e = e ∙ ap (λ (x : List ℕ). roomed (length x) (length d)) front-result
+
+    pub front-out : {d′ : List ℕ} → d′ ≡ outAfter r (joined (endsIn 10 t) (linesOf (take n a))) d → d′ ≡ outAfter r (resultOf f t) d
+    front-out e = e ∙ ap (λ (x : List ℕ). outAfter r x d) front-result

@@ -2,32 +2,13 @@
 ghost use mathlib.Core.Path.{_≡_};
 ghost use Prim.Native.Nat.{_≤_, _-_};
 ghost use lib.ListN.{length, take};
-ghost use Rattle.lines.specs.Lf.{linesOf, unlines};
-ghost use Rattle.lines.specs.Steps.{splitLines};
+ghost use Rattle.lines.specs.Lf.{endsIn, linesOf, unlines};
+ghost use Rattle.lines.specs.Steps.{splitLines, joined};
 ghost use Rattle.reading.specs.Reading.{plain};
 ghost use Rattle.limits.specs.Entry.{byteSize, roomed, outAfter};
-ghost use Rattle.steps.specs.Step.{stepOf};
-ghost use Rattle.steps.specs.Bounds.{Bounded, Sized};
+ghost use Rattle.steps.specs.Bounds.{Sized};
 ghost use Rattle.passes.specs.Passes.{stepsOf, resultOf};
 ghost use Rattle.passes.specs.Buffers.{Front, Blank};
-
-// Runs a pass by its number over the first `n` bytes of a buffer, and returns how many they are then.
-fn turn(
-    k: usize,
-    n: usize,
-    a: &mut [u8],
-    b: &mut [u8],
-    c: &mut [u8],
-    d: &mut [u8],
-    e: &mut [u8],
-    u: &mut [u32],
-) -> usize
-    requires { ⌜ (n ≤ length (now a)) × (Bounded (take n (now a)) × ((length (now a) ≡ byteSize) × Sized (now b) (now c) (now d) (now e) (now u))) ⌝ }
-    ensures { λ r. ⌜ Front (now (a .exit)) r (unlines (stepOf plain k (linesOf (take n (now (a .entry)))))) ⌝ }
-{
-    let r = steps::step(k, &a[..n], b, c, d, e, u);
-    lines::put(a, 0, &b[..r])
-}
 
 // Writes the lines of a text into a buffer, runs the passes from `k` up to `to` over them, and returns how many bytes they are then.
 fn chain(
@@ -47,7 +28,8 @@ fn chain(
     let mut n = lines::split_lines(text, a);
     let mut j = k;
     while j < to {
-        n = turn(j, n, a, b, c, d, e, u);
+        let r = steps::step(j, &a[..n], b, c, d, e, u);
+        n = lines::put(a, 0, &b[..r]);
         j += 1;
     }
     n
@@ -64,6 +46,30 @@ fn wipe_all(a: &mut [u8], b: &mut [u8], c: &mut [u8], d: &mut [u8], e: &mut [u8]
     lines::wipe(d, limits::BYTES);
     lines::wipe(e, limits::BYTES);
     lines::wipe_numbers(u);
+}
+
+// Joins the lines in the first `n` bytes of a buffer into the result buffer, with a last LF where the text has one, and makes every work
+// buffer 0.
+fn close(
+    n: usize,
+    text: &[u8],
+    a: &mut [u8],
+    b: &mut [u8],
+    c: &mut [u8],
+    d: &mut [u8],
+    e: &mut [u8],
+    u: &mut [u32],
+    out: &mut [u8],
+) -> limits::Answer
+    requires { ⌜ (n ≤ length (now a)) × ((length (now a) ≡ byteSize) × Sized (now b) (now c) (now d) (now e) (now u)) ⌝ }
+    ensures answer { λ r. ⌜ r ≡ roomed (length (joined (endsIn 10 (now (text .entry))) (linesOf (take n (now (a .entry)))))) (length (now (out .entry))) ⌝ }
+    ensures memory { λ r. ⌜ (now (out .exit) ≡ outAfter r (joined (endsIn 10 (now (text .entry))) (linesOf (take n (now (a .entry))))) (now (out .entry)))
+        × Blank (now (a .exit)) (now (b .exit)) (now (c .exit)) (now (d .exit)) (now (e .exit)) (now (u .exit)) ⌝ }
+{
+    let ended = lines::ends_lf(text);
+    let r = limits::finish(&a[..n], ended, out);
+    wipe_all(a, b, c, d, e, u);
+    r
 }
 
 // Runs the passes from `k` up to `to` over a text, in work buffers of the stated sizes, and leaves these 0.
@@ -85,8 +91,5 @@ pub fn work(
         × Blank (now (a .exit)) (now (b .exit)) (now (c .exit)) (now (d .exit)) (now (e .exit)) (now (u .exit)) ⌝ }
 {
     let n = chain(k, to, text, a, b, c, d, e, u);
-    let ended = lines::ends_lf(text);
-    let r = limits::finish(&a[..n], ended, out);
-    wipe_all(a, b, c, d, e, u);
-    r
+    close(n, text, a, b, c, d, e, u, out)
 }

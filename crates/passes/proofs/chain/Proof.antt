@@ -1,7 +1,9 @@
 use Prim.Native.Nat.{_-_}
 use mathlib.Core.Path.{sym, _∙_}
 use native.Mathlib.Omega.{arith}
-use Rattle.passes.proofs.ChainLaws.{ChainInv, split-fits, chain-start, chain-room, chain-on, chain-end}
+use lib.ListN.{length-take}
+use lib.Seq.{length-take-le}
+use Rattle.passes.proofs.ChainLaws.{ChainInv, wrote-front, split-fits, chain-start, chain-room, chain-on, chain-end}
 use Rattle.passes.proofs.chain.Statement.{statement}
 use Rattle.passes.proofs.chain.Tie as tie
 
@@ -17,19 +19,38 @@ split-lines-requires c κs = split-fits (c .before .before .before .before .befo
 loop-holds : tie.Need-loop-holds Inv-loop μ-loop
 loop-holds c = let p = c .before .before .before .before .before .before .before .before .before .before .before .pre in chain-start _ _ (p .0) (p .1 .0) (p .1 .1 .0) (p .1 .1 .1) (c .before .before .split-lines .ensures)
 
-turn-requires : tie.Need-turn-requires Inv-loop μ-loop
-turn-requires c κs = let h = c .before .before .before .before .before .before .before .loop .inv in (h .front .fits, (chain-room h, (h .a-size, h .sized)))
+slice-reshare-prefix-step : tie.Need-slice-reshare-prefix-step Inv-loop μ-loop
+slice-reshare-prefix-step c = c .before .loop .inv .front .fits
+
+slice-aggregate-step : tie.Need-slice-aggregate-step Inv-loop μ-loop
+slice-aggregate-step c = let h = c .before .before .loop in sym (length-take-le (h .n) (h .a) (h .inv .front .fits))
+
+step-requires : tie.Need-step-requires Inv-loop μ-loop
+step-requires c κs = let h = c .before .before .before .before .before .before .before .loop .inv in (chain-room h, h .sized)
+
+slice-reshare-prefix-put : tie.Need-slice-reshare-prefix-put Inv-loop μ-loop
+slice-reshare-prefix-put c = wrote-front (c .before .before .before .before .before .before .before .before .before .before .before .step .ensures .0) .fits
+
+slice-aggregate-put : tie.Need-slice-aggregate-put Inv-loop μ-loop
+slice-aggregate-put c = let f = c .before .before .before .before .before .before .before .before .before .before .before .before .step in sym (length-take-le (f .result) (f .last .1 .1 .0) (wrote-front (f .ensures .0) .fits))
+
+put-requires : tie.Need-put-requires Inv-loop μ-loop
+put-requires c κs =
+    let h = c .before .before .before .before .before .before .before .before .before .before .before .before .before .before .before .before .before .before .before .before .loop .inv in
+    let f = c .before .before .before .before .before .before .before .before .before .before .before .before .step in
+    omega (arith, length-take (f .result) (f .last .1 .1 .0), f .ensures .0 .place, f .ensures .0 .fits, h .a-size, h .sized .b-size)
 
 add-j : tie.Need-add-j Inv-loop μ-loop
-add-j c = omega (arith, c .before .before .before .before .before .before .before .before .before .before .before .before .before .before .before .before .before .before .before .loop-test .taken)
+add-j c = omega (arith, c .before .before .before .before .before .before .before .before .before .before .before .before .before .before .before .before .before .before .before .before .before .before .loop-test .taken, c .before .before .before .before .before .before .before .before .before .before .before .before .before .before .before .before .before .before .before .before .before .before .before .before .before .before .before .before .before .before .before .before .before .before .before .fits .to)
 
 loop-less : tie.Need-loop-less Inv-loop μ-loop
-loop-less c = omega (arith, c .before .before .before .before .before .before .before .before .before .before .before .before .before .before .before .before .before .before .before .loop-test .taken)
+loop-less c = omega (arith, c .before .before .before .before .before .before .before .before .before .before .before .before .before .before .before .before .before .before .before .before .before .before .loop-test .taken)
 
 loop-again : tie.Need-loop-again Inv-loop μ-loop
 loop-again c =
-    let q = c .before .before .before .before .before .before .before .before .before .before .before .before .turn .kept in
-    chain-on (c .before .before .before .before .before .before .before .before .before .before .before .before .before .before .before .before .before .before .before .before .loop .inv) (c .before .before .before .before .before .before .before .before .before .before .before .before .before .before .before .before .before .before .before .loop-test .taken) (q .1 .1 .0) (q .1 .1 .1 .0) (q .1 .1 .1 .1 .0) (q .1 .1 .1 .1 .1 .0) (q .1 .1 .1 .1 .1 .1 .0) (q .1 .1 .1 .1 .1 .1 .1 .0) (c .before .before .before .before .before .before .before .before .before .before .before .before .turn .ensures)
+    let f = c .before .before .before .before .before .before .before .before .before .before .before .before .before .before .before .step in
+    let q = f .kept in
+    chain-on (c .before .before .before .before .before .before .before .before .before .before .before .before .before .before .before .before .before .before .before .before .before .before .before .loop .inv) (c .before .before .before .before .before .before .before .before .before .before .before .before .before .before .before .before .before .before .before .before .before .before .loop-test .taken) (f .ensures .0) (q .1 .1 .1 .0) (q .1 .1 .1 .1 .0) (q .1 .1 .1 .1 .1 .0) (q .1 .1 .1 .1 .1 .1 .0) (c .before .before .put .ensures)
 
 same-length : tie.Need-same-length Inv-loop μ-loop
 same-length c = c .before .loop .inv .a-size ∙ sym (c .before .before .before .before .before .before .before .before .before .before .before .before .before .pre .1 .1 .0)
@@ -60,7 +81,12 @@ chain-spec =
     μ-loop
     split-lines-requires
     loop-holds
-    turn-requires
+    slice-reshare-prefix-step
+    slice-aggregate-step
+    step-requires
+    slice-reshare-prefix-put
+    slice-aggregate-put
+    put-requires
     add-j
     loop-less
     loop-again
