@@ -2,6 +2,7 @@
 ghost use mathlib.Core.Path.{_≡_};
 ghost use Prim.Native.Nat.{_≤_, _-_};
 ghost use lib.ListN.{length};
+ghost use Rattle.lines.specs.Lf.{within};
 ghost use Rattle.lines.specs.Steps.{splitLines};
 ghost use Rattle.reading.specs.Reading.{plain};
 ghost use Rattle.limits.specs.Entry.{isShort, roomed, answerOf, passAnswer, outAfter};
@@ -88,6 +89,13 @@ pub fn optimize(
     tidy(0, 7, text, a, b, c, d, e, u, out)
 }
 
+// Whether a number is that of a pass.
+fn is_pass(pass: usize) -> bool
+    ensures { λ r. ⌜ r ≡ within 1 6 pass ⌝ }
+{
+    (pass >= 1) & (pass <= 6)
+}
+
 // Runs one pass over a text, by its number from 1 to 6, with no removal, and writes the result to the front of `out`, in the same work buffers.
 pub fn run_pass(
     pass: usize,
@@ -104,10 +112,7 @@ pub fn run_pass(
     ensures memory { λ r. ⌜ (now (out .exit) ≡ outAfter r (resultOf (stepOf plain pass) (now (text .entry))) (now (out .entry)))
         × After r (now (a .entry)) (now (b .entry)) (now (c .entry)) (now (d .entry)) (now (e .entry)) (now (u .entry)) (now (a .exit)) (now (b .exit)) (now (c .exit)) (now (d .exit)) (now (e .exit)) (now (u .exit)) ⌝ }
 {
-    if pass < 1 {
-        return limits::Answer::BadPass;
-    }
-    if pass > 6 {
+    if !is_pass(pass) {
         return limits::Answer::BadPass;
     }
     tidy(pass, pass + 1, text, a, b, c, d, e, u, out)

@@ -1,8 +1,10 @@
 use borrow.Author.Needs.{needs}
+use borrow.Author.Tests.{leb-true, not-true, not-false}
 use native.Mathlib.Omega.{arith}
 use mathlib.Core.Path.{_∙_}
+use lib.Dec.{leb}
 use lib.ListN.{length}
-use Rattle.lines.proofs.Tests.{is-in, is-below, is-above}
+use Rattle.lines.proofs.Tests.{so, and-right}
 use Rattle.reading.specs.Reading.{plain}
 use Rattle.limits.specs.declared.Answer.the-variants.{BadPass}
 use Rattle.steps.specs.Step.{stepOf}
@@ -13,24 +15,19 @@ use Rattle.opt.proofs.EntryLaws.{all-kept, result-one}
 use Rattle.opt.proofs.run_pass.Statement.{statement}
 use Rattle.opt.proofs.run_pass.Tie as tie
 
+is-pass-requires : tie.Need-is-pass-requires
+is-pass-requires c κs = search needs
+
 returns : tie.Need-returns
 returns c =
-    let g = c .before .before .before .before .before .before .before .before .before .args in
-    let t = g .text .now in
-    let xs = resultOf (stepOf plain (g .pass)) t in
-    let s = isShort (length (g .a .now)) (length (g .b .now)) (length (g .c .now)) (length (g .d .now)) (length (g .e .now)) (length (g .u .now)) in
-    (pass-bad (g .pass) s t xs (length (g .out .now)) (is-below 1 6 (g .pass) (c .if1 .taken)), (out-kept BadPass xs (g .out .now) bad-done, all-kept BadPass (g .a .now) (g .b .now) (g .c .now) (g .d .now) (g .e .now) (g .u .now) bad-runs))
-
-returns-2 : tie.Need-returns-2
-returns-2 c =
     let g = c .before .before .before .before .before .before .before .before .before .before .args in
     let t = g .text .now in
     let xs = resultOf (stepOf plain (g .pass)) t in
     let s = isShort (length (g .a .now)) (length (g .b .now)) (length (g .c .now)) (length (g .d .now)) (length (g .e .now)) (length (g .u .now)) in
-    (pass-bad (g .pass) s t xs (length (g .out .now)) (is-above 1 6 (g .pass) (c .if2 .taken)), (out-kept BadPass xs (g .out .now) bad-done, all-kept BadPass (g .a .now) (g .b .now) (g .c .now) (g .d .now) (g .e .now) (g .u .now) bad-runs))
+    (pass-bad (g .pass) s t xs (length (g .out .now)) (so (c .before .is-pass .ensures) (not-true _ (c .if1 .taken))), (out-kept BadPass xs (g .out .now) bad-done, all-kept BadPass (g .a .now) (g .b .now) (g .c .now) (g .d .now) (g .e .now) (g .u .now) bad-runs))
 
 add-tidy : tie.Need-add-tidy
-add-tidy c = omega (arith, c .if2 .left)
+add-tidy c = let k = c .before .before .before .before .before .before .before .before .before .before .args .pass in omega (arith, leb-true k 6 (and-right (leb 1 k) (leb k 6) (so (c .before .is-pass .ensures) (not-false _ (c .if1 .left)))))
 
 tidy-requires : tie.Need-tidy-requires
 tidy-requires c κs = search needs
@@ -56,22 +53,22 @@ same-length-6 c = c .before .before .before .before .before .before .before .bef
 same-length-7 : tie.Need-same-length-7
 same-length-7 c = c .before .before .before .before .before .before .before .before .before .before .before .before .before .before .tidy .kept .1 .1 .1 .1 .1 .1 .1 .1 .1 .0
 
-returns-3 : tie.Need-returns-3
-returns-3 c =
+returns-2 : tie.Need-returns-2
+returns-2 c =
     let g = c .before .before .before .before .before .before .before .before .before .before .before .before .before .before .before .before .before .before .before .before .before .before .before .before .before .before .before .before .before .before .before .before .args in
     let t = g .text .now in
     let xs = resultOf (stepOf plain (g .pass)) t in
     let s = isShort (length (g .a .now)) (length (g .b .now)) (length (g .c .now)) (length (g .d .now)) (length (g .e .now)) (length (g .u .now)) in
     let w = c .before .before .before .before .before .before .before .before .before .before .before .before .before .before .tidy .ensures in
     let q = result-one plain (g .pass) t in
-    ((rw q (w .0)) ∙ pass-good (g .pass) s t xs (length (g .out .now)) (is-in 1 6 (g .pass) (c .before .before .before .before .before .before .before .before .before .before .before .before .before .before .before .before .before .before .before .before .before .before .before .if1 .left) (c .before .before .before .before .before .before .before .before .before .before .before .before .before .before .before .before .before .before .before .before .before .before .if2 .left)), rw q (w .1))
+    ((rw q (w .0)) ∙ pass-good (g .pass) s t xs (length (g .out .now)) (so (c .before .before .before .before .before .before .before .before .before .before .before .before .before .before .before .before .before .before .before .before .before .before .before .is-pass .ensures) (not-false _ (c .before .before .before .before .before .before .before .before .before .before .before .before .before .before .before .before .before .before .before .before .before .before .if1 .left))), rw q (w .1))
 
 pub run-pass-spec : {M : Type 1} → statement M
 run-pass-spec =
     tie.close
     (tie.spec
+    is-pass-requires
     returns
-    returns-2
     add-tidy
     tidy-requires
     same-length
@@ -81,4 +78,4 @@ run-pass-spec =
     same-length-5
     same-length-6
     same-length-7
-    returns-3)
+    returns-2)
