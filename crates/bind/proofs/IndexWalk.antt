@@ -192,15 +192,16 @@ module _ {t : List ℕ} {us : List (List ℕ)} {top end i e : ℕ} (g : RegionAt
         go true w = kept (ltb-true top i w) (seen-kept w) (first-kept w)
         go false w = fresh (ltb-false top i w) (seen-fresh w) (first-fresh w)
 
-    abbrev site : Site
-    site = record { top = top; from = i; to = e; next = j; end = end; row = k }
+    abbrev site : ℕ → Site
+    site b = record { top = top; from = i; to = e; next = j; end = end; row = k; block = b }
 
     entry-here : (v : ℕ) → v < length u′ → Entry v top (index-read .start) (linesOf (part top i t) ++ (part i e t ∷ linesOf (part j end t))) (getD d′ v 0) (getD u′ v 0)
     entry-here v w = subst (λ (ls : List (List ℕ)). Entry v top (index-read .start) ls (getD d′ v 0) (getD u′ v 0)) region-is (index-read .tells v w)
 
-    pub index-told : (bs ss : List ℕ) → isDecl (trimOf (lineOf t site)) ≡ true → Told t site bs ss d′ u′
+    pub index-told : (bs ss : List ℕ) → isDecl (trimOf (lineOf t (site (getD bs k 0)))) ≡ true → Told t (site (getD bs k 0)) bs ss d′ u′
     unfolding boundAt
     index-told bs ss dc = record {
+      own = refl;
       same = index-read .same;
       fits = index-read .most-u;
       says = λ v w. entry-says v top (index-read .start) k (linesOf (part top i t)) (part i e t) (linesOf (part j end t)) bs ss (getD d′ v 0) (getD u′ v 0) (entry-here v w) dc (index-read .rows) .0;

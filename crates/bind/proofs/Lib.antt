@@ -4,6 +4,12 @@ pub mod WalkLaws
 pub mod IndexLaws
 pub mod ToldLaws
 pub mod IndexWalk
+pub mod Turns
 pub mod Cut
 pub mod Passes
 pub mod Examples
+pub mod Of_bind_declarators
+pub mod Of_end_at
+pub mod Of_stop_from
+pub mod Of_walk
+pub mod Of_walk_with

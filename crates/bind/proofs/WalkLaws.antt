@@ -545,7 +545,7 @@ module _ {t bs ss m₀ m d₀ d : List ℕ} {top end i k o : ℕ} (h : BindInv t
     here = opened h e l q
 
     abbrev site : Site
-    site = record { top = top′; from = i; to = e; next = j; end = end′; row = k }
+    site = record { top = top′; from = i; to = e; next = j; end = end′; row = k; block = getD bs k 0 }
 
     both : linesIn (here .spot ∷ here .more) ≡ part i e t ∷ linesOf (drop j t)
     both = here .lines ∙ lines-at t i e l q ∙ ap (λ (n : ℕ). part i e t ∷ linesOf (drop n t)) (sym y)
@@ -711,7 +711,8 @@ marks-start t m p q =
     }
 
 pub walk-start : (t bs ss m d : List ℕ) (end : ℕ) → Rows (spots plain (linesOf t)) bs ss → length (linesOf t) ≤ length m → take (length (linesOf t)) m ≡ replicate (length (linesOf t)) 0 →
-    length (unlines (bindDeclarators plain (linesOf t))) ≤ length d → end ≡ 0 + regionLen (drop 0 t) → BindInv t bs ss m m d d 0 end 0 0 0
+    length (unlines (bindDeclarators plain (linesOf t))) ≤ length d →
+    ((e : ℕ) → 0 < length t → e ≡ 0 + upTo 10 (drop 0 t) → isHeader (part 0 e t) ≡ false → end ≡ 0 + regionLen (drop 0 t)) → BindInv t bs ss m m d d 0 end 0 0 0
 walk-start t bs ss m d end r p q w z = record {
   i≤ = omega arith;
   top≤ = omega arith;
@@ -722,7 +723,7 @@ walk-start t bs ss m d end r p q w z = record {
   rows = r;
   above = rw (part-none t 0, lines-none) like-none;
   whole = λ h. rw (part-none t 0) whole-none;
-  ends = λ e a b c. z;
+  ends = z;
   writing = writing-as (go-all (linesOf t)) (writing-start 0 (unlines (bindDeclarators plain (linesOf t))) d (omega arith));
   marks = marks-start t m p q;
 }
@@ -773,3 +774,6 @@ cleared {m} {m′} {n} {k} e f = subst (λ (x : ℕ). take x m′ ≡ replicate 
 
 pub filled-at : {d xs d′ : List ℕ} {n k : ℕ} → n ≡ k → Filled d xs d′ n → Filled d xs d′ k
 filled-at {d} {xs} {d′} e f = subst (λ (x : ℕ). Filled d xs d′ x) e f
+
+pub blocks-fit : (ls : List (List ℕ)) {n : ℕ} → length ls ≤ n → length (blockIds ls) ≤ n
+blocks-fit ls h = omega (arith, length-ids ls)

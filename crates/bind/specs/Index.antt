@@ -110,6 +110,7 @@ pub record Told (t : List ℕ) (s : Site) (bs ss d u : List ℕ) : Type 0 where
   pub same : length d ≡ length u
   pub fits : (v : ℕ) → getD u v 0 ≤ s .row + suc (length (belowOf t s))
   pub says : (v : ℕ) → v < length u → asked bs ss (s .top) (s .row) (getD d v 0) (getD u v 0) ≡ boundAt t s bs ss v
+  pub own : s .block ≡ getD bs (s .row) 0
   pub row : (v : ℕ) → v < length u → boundAt t s bs ss v ≡ true → getD u v 0 ≡ suc (markRow t s v)
 
 -- and the tables reach far enough

@@ -1,3 +1,4 @@
 pub mod Bind
 pub mod Steps
 pub mod Index
+pub mod Sites

@@ -189,9 +189,18 @@ pub fn read_region(
     read_lines(lines::cut(text, a, e), a + 1, k + 1, k, seen, first);
 }
 
-// Whether a register is bound, by its entries `x` and `y`: its declaration stands in row `k`, and the region of that begins at `a`.
-pub fn ask(blocks: &[usize], starts: &[u8], a: usize, k: usize, x: usize, y: usize) -> bool
-    requires { ⌜ ((k + 1 ≤ length (now blocks)) × (y ≤ length (now blocks))) × (y ≤ length (now starts)) ⌝ }
+// Whether a register is bound, by its entries `x` and `y`: its declaration stands in row `k`, in the block `block`, and the region of that begins
+// at `a`.
+pub fn ask(
+    blocks: &[usize],
+    starts: &[u8],
+    block: usize,
+    a: usize,
+    k: usize,
+    x: usize,
+    y: usize,
+) -> bool
+    requires { ⌜ (((k + 1 ≤ length (now blocks)) × (y ≤ length (now blocks))) × (y ≤ length (now starts))) × (block ≡ getD (now blocks) k 0) ⌝ }
     ensures { λ r. ⌜ r ≡ asked (now (blocks .entry)) (now (starts .entry)) a k x y ⌝ }
 {
     if x <= a {
@@ -201,7 +210,7 @@ pub fn ask(blocks: &[usize], starts: &[u8], a: usize, k: usize, x: usize, y: usi
         return false;
     }
     let n = y - 1;
-    if blocks[n] != blocks[k] {
+    if blocks[n] != block {
         return false;
     }
     starts[n] == 1

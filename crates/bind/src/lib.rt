@@ -4,7 +4,7 @@ mod index;
 ghost use mathlib.Core.Path.{_≡_};
 ghost use mathlib.Core.Bool.{true, false, cond, _&&_};
 ghost use mathlib.Core.List.{[], _∷_, _++_};
-ghost use Prim.Native.Nat.{suc, min, _≤_, _<_, _+_, _^_};
+ghost use Prim.Native.Nat.{suc, min, _≤_, _<_, _+_, _-_, _^_};
 ghost use lib.Dec.{eqb};
 ghost use lib.ListN.{length, getD, take, drop, replicate};
 ghost use Rattle.lines.specs.Lf.{linesOf, partsOf, unlines};
@@ -16,16 +16,18 @@ ghost use Rattle.place.specs.Blocks.{blockIds, cleaned};
 ghost use Rattle.place.specs.Starts.{startsGo};
 ghost use Rattle.place.specs.Parents.{idsParents};
 ghost use Rattle.place.specs.Fill.{Filled, flagsOf};
+ghost use Rattle.records.specs.Records.{recordsOf};
 ghost use Rattle.decls.specs.Seen.{AtMost};
 ghost use Rattle.decls.specs.Print.{kept, declText};
 ghost use Rattle.reading.specs.Reading.{plain};
 ghost use Rattle.reading.specs.Uses.{lineStores};
 ghost use Rattle.bind.specs.Bind.{spots, pieceCount, declCount, storeCount, promoted, bindDeclarators};
 ghost use Rattle.bind.specs.Index.{Ready, ReadyFor};
-ghost use Rattle.bind.specs.Steps.{lineOf, belowOf, useRow, storesAt, boundAt, markRow, passes, left, anyPass, noted, notedAll, otherText, siteText, siteMarks, bindMarks, Rows, Reach};
+ghost use Rattle.bind.specs.Steps.{lineOf, belowOf, useRow, storesAt, boundAt, markRow, passes, left, anyPass, noted, notedAll, otherText, siteText, siteMarks, bindMarks, Reach};
+ghost use Rattle.bind.specs.Sites.{stopOf, firstSite, siteOf, Walked};
 
 // A line of the text and its region: the region begins at `top` and ends at `end`, the line goes from `from` to `to` and the one below
-// begins at `next`, and there are `row` lines above it.
+// begins at `next`, there are `row` lines above it, and it stands in the block `block`.
 struct Site {
     top: usize,
     from: usize,
@@ -33,6 +35,7 @@ struct Site {
     next: usize,
     end: usize,
     row: usize,
+    block: usize,
 }
 
 // One more, where `b` says so, but no more than 2.
@@ -233,7 +236,7 @@ fn told(
 {
     let v = reg.0 as usize;
     if v < first.len() {
-        return index::ask(blocks, starts, s.top, s.row, seen[v], first[v]);
+        return index::ask(blocks, starts, s.block, s.top, s.row, seen[v], first[v]);
     }
     bound(text, s, blocks, starts, reg)
 }
@@ -533,9 +536,87 @@ fn clear(marks: &mut [u8], n: usize)
     }
 }
 
-// The walk down the lines, with the tables of blocks and starts, with no line marked, and with an index that is empty.
+// Where the first of the records from the `j`-th up to the `n`-th begins that is not of the region `c`, or `len` where there is none.
+fn stop_from(recs: &[records::LineRec], j: usize, n: usize, c: place::Region, len: usize) -> usize
+    requires { ⌜ n ≤ length (now recs) ⌝ }
+    ensures { λ r. ⌜ r ≡ stopOf (c .0) len (take (n - j) (drop j (now (recs .entry)))) ⌝ }
+{
+    let mut i = j;
+    while i < n {
+        let rec = records::get(recs, i);
+        if rec.region.0 != c.0 {
+            return rec.start;
+        }
+        i += 1;
+    }
+    len
+}
+
+// Where the region of line `k`, whose record is `rec`, ends in a text of `len` bytes: at `end`, where the line above is of the same region `c`.
+fn end_at(
+    recs: &[records::LineRec],
+    rec: records::LineRec,
+    k: usize,
+    n: usize,
+    c: place::Region,
+    end: usize,
+    len: usize,
+) -> usize
+    requires { ⌜ (k < n) × (n ≤ length (now recs)) ⌝ }
+    ensures { λ r. ⌜ r ≡ cond (eqb (rec .region .0) (c .0)) end (stopOf (rec .region .0) len (take (n - (k + 1)) (drop (k + 1) (now (recs .entry))))) ⌝ }
+{
+    if rec.region.0 == c.0 {
+        return end;
+    }
+    stop_from(recs, k + 1, n, rec.region, len)
+}
+
+// The site above the first line, with the end of the region there.
+fn first_site(end: usize) -> Site
+    ensures { λ r. ⌜ r ≡ firstSite end ⌝ }
+{
+    Site {
+        top: 0,
+        from: 0,
+        to: 0,
+        next: 0,
+        end,
+        row: 0,
+        block: 0,
+    }
+}
+
+// Where the region of a line begins, whose record is `rec`: at `top`, where the line above is of the same region `c`.
+fn top_at(rec: records::LineRec, c: place::Region, top: usize) -> usize
+    ensures { λ r. ⌜ r ≡ cond (eqb (rec .region .0) (c .0)) top (rec .start) ⌝ }
+{
+    if rec.region.0 == c.0 {
+        return top;
+    }
+    rec.start
+}
+
+// The site of line `k`, by its record and by its region, from `top` to `end`.
+fn site_at(text: &[u8], rec: records::LineRec, top: usize, end: usize, k: usize) -> Site
+    ensures { λ r. ⌜ r ≡ siteOf (length (now (text .entry))) rec top end k ⌝ }
+{
+    let next = lines::after(text, rec.end);
+    Site {
+        top,
+        from: rec.start,
+        to: rec.end,
+        next,
+        end,
+        row: k,
+        block: rec.block,
+    }
+}
+
+// The walk down the `n` lines, by their records, with the tables of blocks and starts, with no line marked, and with an index that is empty.
 fn walk_with(
     text: &[u8],
+    recs: &[records::LineRec],
+    n: usize,
     blocks: &[usize],
     starts: &[u8],
     seen: &mut [usize],
@@ -544,60 +625,61 @@ fn walk_with(
     out: &mut [u8],
 ) -> usize
     requires { ⌜ ((length (now seen) ≡ length (now first)) × ((AtMost 0 (now seen)) × (AtMost 0 (now first))))
-        × ((Rows (spots plain (linesOf (now text))) (now blocks) (now starts))
-        × ((length (linesOf (now text)) ≤ length (now marks))
-        × ((take (length (linesOf (now text))) (now marks) ≡ replicate (length (linesOf (now text))) 0)
-        × (length (unlines (bindDeclarators plain (linesOf (now text)))) ≤ length (now out))))) ⌝ }
+        × (Walked (now text) (now recs) n (now blocks) (now starts) (now marks) (now out)) ⌝ }
     ensures answer { λ r. ⌜ Wrote (now (out .entry)) 0 (unlines (bindDeclarators plain (linesOf (now (text .entry))))) (now (out .exit)) r ⌝ }
     ensures memory { λ _. ⌜ Filled (now (marks .entry)) (flagsOf (bindMarks plain (linesOf (now (text .entry))))) (now (marks .exit)) (length (linesOf (now (text .entry)))) ⌝ }
 {
-    let mut top = 0;
-    let mut end = place::region_end(text, 0);
-    let mut i = 0;
+    let mut c = place::Region(0);
+    let mut s = first_site(stop_from(recs, 0, n, c, text.len()));
     let mut k = 0;
     let mut o = 0;
-    while i < text.len() {
-        let e = lines::find_byte(text, i, 10);
-        if place::is_header(lines::cut(text, i, e)) {
-            top = i;
-            end = place::region_end(text, i);
-        }
-        let next = lines::after(text, e);
-        index::read_region(text, top, i, end, k, seen, first);
-        let s = Site {
-            top,
-            from: i,
-            to: e,
-            next,
-            end,
-            row: k,
-        };
+    while k < n {
+        let rec = records::get(recs, k);
+        let end = end_at(recs, rec, k, n, c, s.end, text.len());
+        s = site_at(text, rec, top_at(rec, c, s.top), end, k);
+        c = rec.region;
+        index::read_region(text, s.top, s.from, s.end, k, seen, first);
         o = bind_line(text, s, blocks, starts, seen, first, marks, out, o);
-        i = next;
         k += 1;
     }
     o
 }
 
 // The same with an index of its own.
-fn walk(text: &[u8], blocks: &[usize], starts: &[u8], marks: &mut [u8], out: &mut [u8]) -> usize
-    requires { ⌜ (Rows (spots plain (linesOf (now text))) (now blocks) (now starts))
-        × ((length (linesOf (now text)) ≤ length (now marks))
-        × ((take (length (linesOf (now text))) (now marks) ≡ replicate (length (linesOf (now text))) 0)
-        × (length (unlines (bindDeclarators plain (linesOf (now text)))) ≤ length (now out)))) ⌝ }
+fn walk(
+    text: &[u8],
+    recs: &[records::LineRec],
+    n: usize,
+    blocks: &[usize],
+    starts: &[u8],
+    marks: &mut [u8],
+    out: &mut [u8],
+) -> usize
+    requires { ⌜ Walked (now text) (now recs) n (now blocks) (now starts) (now marks) (now out) ⌝ }
     ensures answer { λ r. ⌜ Wrote (now (out .entry)) 0 (unlines (bindDeclarators plain (linesOf (now (text .entry))))) (now (out .exit)) r ⌝ }
     ensures memory { λ _. ⌜ Filled (now (marks .entry)) (flagsOf (bindMarks plain (linesOf (now (text .entry))))) (now (marks .exit)) (length (linesOf (now (text .entry)))) ⌝ }
 {
     let mut seen = [0usize; 1024];
     let mut first = [0usize; 1024];
-    walk_with(text, blocks, starts, &mut seen, &mut first, marks, out)
+    walk_with(
+        text,
+        recs,
+        n,
+        blocks,
+        starts,
+        &mut seen,
+        &mut first,
+        marks,
+        out,
+    )
 }
 
 // A register that is declared once and stored once, with that store its first use, on a later line of its region and block that starts a
 // statement, leaves its declaration, and its store becomes one. Each line is followed by one LF. `blocks`, `starts` and `up` are left as
-// `place_lines` fills them, and `marks` says for each line whether it was such a store.
+// `place_lines` fills them, `recs` as `records::fill` does, and `marks` says for each line whether it was such a store.
 pub fn bind_declarators(
     text: &[u8],
+    recs: &mut [records::LineRec],
     blocks: &mut [usize],
     starts: &mut [u8],
     up: &mut [u32],
@@ -607,14 +689,17 @@ pub fn bind_declarators(
     requires { ⌜ ((length (linesOf (now text)) ≤ length (now blocks))
         × ((length (linesOf (now text)) ≤ length (now starts))
         × ((length (idsParents (linesOf (now text))) ≤ length (now up)) × (length (now up) < 2 ^ 32))))
-        × ((length (linesOf (now text)) ≤ length (now marks)) × (length (unlines (bindDeclarators plain (linesOf (now text)))) ≤ length (now out))) ⌝ }
+        × ((length (linesOf (now text)) ≤ length (now marks)) × ((length (unlines (bindDeclarators plain (linesOf (now text)))) ≤ length (now out))
+        × (length (linesOf (now text)) ≤ length (now recs)))) ⌝ }
     ensures answer { λ r. ⌜ Wrote (now (out .entry)) 0 (unlines (bindDeclarators plain (linesOf (now (text .entry))))) (now (out .exit)) r ⌝ }
     ensures tables { λ _. ⌜ (Filled (now (blocks .entry)) (blockIds (linesOf (now (text .entry)))) (now (blocks .exit)) (length (linesOf (now (text .entry)))))
         × ((Filled (now (starts .entry)) (flagsOf (startsGo (cleaned (linesOf (now (text .entry)))) true)) (now (starts .exit)) (length (linesOf (now (text .entry)))))
         × (Filled (now (up .entry)) (idsParents (linesOf (now (text .entry)))) (now (up .exit)) (length (idsParents (linesOf (now (text .entry))))))) ⌝ }
     ensures marked { λ _. ⌜ Filled (now (marks .entry)) (flagsOf (bindMarks plain (linesOf (now (text .entry))))) (now (marks .exit)) (length (linesOf (now (text .entry)))) ⌝ }
+    ensures records { λ _. ⌜ now (recs .exit) ≡ recordsOf (linesOf (now (text .entry))) (blockIds (linesOf (now (text .entry)))) ++ drop (length (linesOf (now (text .entry)))) (now (recs .entry)) ⌝ }
 {
     let n = place::place_lines(text, blocks, starts, up);
+    records::fill(text, blocks, recs);
     clear(marks, n);
-    walk(text, blocks, starts, marks, out)
+    walk(text, recs, n, blocks, starts, marks, out)
 }

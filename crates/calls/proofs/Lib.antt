@@ -17,3 +17,7 @@ pub mod Climbs
 pub mod Turns
 pub mod Wipes
 pub mod Kept
+pub mod Downs
+pub mod Of_rebuild_calls
+pub mod Of_rebuild_lines
+pub mod Of_rebuild_with

@@ -4,13 +4,13 @@ use mathlib.Core.Path.{_≡_, refl, sym, ap, _∙_}
 use mathlib.Core.Bool.{Bool, true, false, cond, not, _&&_, _||_}
 use mathlib.Core.List.{List, [], _∷_, _++_}
 use native.Mathlib.Omega.{arith}
-use borrow.Author.Tests.{eq-eqb, ne-eqb}
-use lib.Dec.{eqb}
+use borrow.Author.Tests.{eq-eqb, ne-eqb, lt-ltb, le-ltb, ltb-true, ltb-false}
+use lib.Dec.{eqb, ltb}
 use lib.ListN.{length, take, drop, getD, length-append, length-drop, drop-of-length-le, List·getD-append}
 use lib.Seq.{drop-cons, getD-append-add}
-use Rattle.lines.specs.Lf.{part, upTo, holds, linesOf, unlines, lacks}
+use Rattle.lines.specs.Lf.{part, upTo, prefixed, holds, linesOf, unlines, lacks}
 use Rattle.lines.proofs.LfLaws.{lines-at, lines-end}
-use Rattle.lines.proofs.Tests.{no, and-false}
+use Rattle.lines.proofs.Tests.{no, and-false, eqb-sym}
 use Rattle.text.specs.Trim.{trimStart}
 use Rattle.parse.specs.Parse.{parseOf}
 use Rattle.parse.specs.declared.Line.{Line}
@@ -56,6 +56,24 @@ module _ (l : List ℕ) (starts : Bool) where
   pub takes-rest : starts ≡ true → holds (40 ∷ []) l ≡ true → (t : List ℕ) → t ≡ trimStart l → (r : Bool) → r ≡ isControl t → not r ≡ isCall l && (starts && not (isControlLine l))
   unfolding isCall isControlLine
   takes-rest s e t p r q = rw (s, e) (ap not (q ∙ ap isControl p))
+
+-- ---- a `(` in a line
+
+below-suc : (m n : ℕ) (t : Bool) → ltb m n ≡ t → ltb (suc m) (suc n) ≡ ltb m n
+below-suc m n true e = lt-ltb (suc m) (suc n) (let l = ltb-true m n e in omega arith) ∙ sym e
+below-suc m n false e = le-ltb (suc m) (suc n) (let l = ltb-false m n e in omega arith) ∙ sym e
+
+pub holds-one : (b : ℕ) (l : List ℕ) → holds (b ∷ []) l ≡ ltb (upTo b l) (length l)
+unfolding holds prefixed upTo
+holds-one b [] = refl
+holds-one b (x ∷ xs) = go (holds-one b xs) (eqb x b) refl
+  where
+    go : holds (b ∷ []) xs ≡ ltb (upTo b xs) (length xs) → (t : Bool) → eqb x b ≡ t → (eqb b x && true) || holds (b ∷ []) xs ≡ ltb (cond (eqb x b) 0 (suc (upTo b xs))) (suc (length xs))
+    go h true e = rw (e, eqb-sym b x ∙ e) (sym (lt-ltb 0 (suc (length xs)) (omega arith)))
+    go h false e = rw (e, eqb-sym b x ∙ e) (h ∙ sym (below-suc (upTo b xs) (length xs) (ltb (upTo b xs) (length xs)) refl))
+
+pub paren-told : (l : List ℕ) (e : ℕ) → e ≡ 0 + upTo 40 (drop 0 l) → ltb e (length l) ≡ holds (40 ∷ []) l
+paren-told l e q = ap (λ (n : ℕ). ltb n (length l)) (q ∙ (let z : 0 + upTo 40 (drop 0 l) ≡ upTo 40 l = omega arith in z)) ∙ sym (holds-one 40 l)
 
 -- ---- the look down for a later read
 

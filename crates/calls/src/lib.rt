@@ -1,11 +1,11 @@
 // rebuild_calls: the values of stores go back into the call that follows them.
 ghost use mathlib.Core.Path.{_≡_};
 ghost use mathlib.Core.Bool.{true, not, _&&_};
-ghost use mathlib.Core.List.{[], _∷_};
+ghost use mathlib.Core.List.{[], _∷_, _++_};
 ghost use Prim.Native.Nat.{_+_, _-_, _≤_, _<_, _^_};
 ghost use lib.Dec.{eqb};
-ghost use lib.ListN.{length, getD, replicate};
-ghost use Rattle.lines.specs.Lf.{linesOf, unlines};
+ghost use lib.ListN.{length, getD, drop, replicate};
+ghost use Rattle.lines.specs.Lf.{holds, linesOf, unlines};
 ghost use Rattle.lines.specs.Out.{Wrote};
 ghost use Rattle.words.specs.Hits.{replacedAt};
 ghost use Rattle.lexical.specs.Idents.{wordsIn};
@@ -18,6 +18,7 @@ ghost use Rattle.place.specs.Blocks.{blockIds, cleaned};
 ghost use Rattle.place.specs.Starts.{startsGo};
 ghost use Rattle.place.specs.Parents.{idsParents};
 ghost use Rattle.place.specs.Fill.{Filled, flagsOf};
+ghost use Rattle.records.specs.Records.{recordsOf, Holds};
 ghost use Rattle.calls.specs.LeavesOf.{isCall, isControlLine, contextOf, leavesOf};
 ghost use Rattle.calls.specs.Calls.{readLater, putBy, rebuildCallsActs, rebuildCalls};
 ghost use Rattle.calls.specs.Steps.{isSecond, mayControl, breaksDown, absorbStep, lineBack, PutAs};
@@ -59,6 +60,13 @@ fn is_control(t: &[u8]) -> bool
     forms::is_control_header(t)
 }
 
+// Whether a line holds a `(`.
+fn has_paren(line: &[u8]) -> bool
+    ensures { λ r. ⌜ r ≡ holds (40 ∷ []) (now (line .entry)) ⌝ }
+{
+    lines::find_byte(line, 0, b'(') < line.len()
+}
+
 // Whether a line that `starts` a statement is a call line that may take values in.
 fn takes(line: &[u8], starts: bool) -> bool
     ensures { λ r. ⌜ r ≡ isCall (now (line .entry)) && (starts && not (isControlLine (now (line .entry)))) ⌝ }
@@ -66,7 +74,7 @@ fn takes(line: &[u8], starts: bool) -> bool
     if !starts {
         return false;
     }
-    if !lines::contains(line, b"(") {
+    if !has_paren(line) {
         return false;
     }
     !is_control(text::trim_start(line))
@@ -368,9 +376,11 @@ fn turn_line(
     push_line(lines::cut(cur, 0, m), stack, h)
 }
 
-// Puts what becomes of all lines on the stack, and returns its height.
+// Puts what becomes of the `m` lines on the stack, by their records, and returns its height.
 fn rebuild_lines(
     text: &[u8],
+    recs: &[records::LineRec],
+    m: usize,
     blocks: &[usize],
     starts: &[u8],
     owner: &mut [usize],
@@ -381,18 +391,17 @@ fn rebuild_lines(
 ) -> usize
     requires { ⌜ (Placed (now text) (now blocks) (now starts))
         × ((length (linesOf (now text)) ≤ length (now owner)) × ((length (now text) < length (now stack))
-        × ((length (now text) ≤ length (now cur)) × ((length (now text) ≤ length (now next)) × (length (now text) ≤ length (now clean)))))) ⌝ }
+        × ((length (now text) ≤ length (now cur)) × ((length (now text) ≤ length (now next)) × ((length (now text) ≤ length (now clean)) × (Holds (now text) (now blocks) (now recs) m)))))) ⌝ }
     ensures { λ r. ⌜ Rebuilt (now (text .entry)) (now (owner .entry)) (now (owner .exit)) (now (stack .exit)) r ⌝ }
 {
-    let mut i = 0;
     let mut n = 0;
     let mut o = 0;
-    while i < text.len() {
-        let e = lines::find_byte(text, i, 10);
+    while n < m {
+        let rec = records::get(recs, n);
         o = turn_line(
             text,
-            i,
-            e,
+            rec.start,
+            rec.end,
             n,
             blocks,
             starts,
@@ -404,7 +413,6 @@ fn rebuild_lines(
             clean,
         );
         n += 1;
-        i = lines::after(text, e);
     }
     o
 }
@@ -423,6 +431,8 @@ fn wipe(s: &mut [u8])
 // Writes what becomes of all lines, with a stack and three more buffers that are wiped at the end.
 fn rebuild_with(
     text: &[u8],
+    recs: &[records::LineRec],
+    m: usize,
     blocks: &[usize],
     starts: &[u8],
     owner: &mut [usize],
@@ -432,17 +442,29 @@ fn rebuild_with(
     clean: &mut [u8],
     out: &mut [u8],
 ) -> usize
-    requires { ⌜ (Placed (now text) (now blocks) (now starts))
+    requires { ⌜ ((Placed (now text) (now blocks) (now starts))
         × ((length (linesOf (now text)) ≤ length (now owner)) × ((length (now text) < length (now stack))
         × ((length (now text) ≤ length (now cur)) × ((length (now text) ≤ length (now next)) × ((length (now text) ≤ length (now clean))
-        × (length (unlines (rebuildCalls (leavesOf plain) (linesOf (now text)))) ≤ length (now out))))))) ⌝ }
+        × (length (unlines (rebuildCalls (leavesOf plain) (linesOf (now text)))) ≤ length (now out))))))))
+        × (Holds (now text) (now blocks) (now recs) m) ⌝ }
     ensures answer { λ r. ⌜ Wrote (now (out .entry)) 0 (unlines (rebuildCalls (leavesOf plain) (linesOf (now (text .entry))))) (now (out .exit)) r ⌝ }
     ensures owners { λ _. ⌜ Filled (now (owner .entry)) (ownersOf (rebuildCallsActs (leavesOf plain) (linesOf (now (text .entry))))) (now (owner .exit)) (length (linesOf (now (text .entry)))) ⌝ }
     ensures scratch { λ _. ⌜ (now (stack .exit) ≡ replicate (length (now (stack .entry))) 0)
         × ((now (cur .exit) ≡ replicate (length (now (cur .entry))) 0)
         × ((now (next .exit) ≡ replicate (length (now (next .entry))) 0) × (now (clean .exit) ≡ replicate (length (now (clean .entry))) 0))) ⌝ }
 {
-    let o = rebuild_lines(text, blocks, starts, owner, stack, cur, next, clean);
+    let o = rebuild_lines(
+        text,
+        recs,
+        m,
+        blocks,
+        starts,
+        owner,
+        stack,
+        cur,
+        next,
+        clean,
+    );
     let r = lines::put(out, 0, lines::cut(stack, 0, o));
     wipe(stack);
     wipe(cur);
@@ -452,9 +474,11 @@ fn rebuild_with(
 }
 
 // The values of stores go back into the call that follows them. Each line is followed by one LF; `owner` gets for each line how far below it
-// the line stands that took it in, or 0, and the front of the four buffers before `out` is wiped.
+// the line stands that took it in, or 0, `recs` is left as `records::fill` fills it, and the front of the
+// four buffers before `out` is wiped.
 pub fn rebuild_calls(
     text: &[u8],
+    recs: &mut [records::LineRec],
     owner: &mut [usize],
     blocks: &mut [usize],
     starts: &mut [u8],
@@ -468,7 +492,7 @@ pub fn rebuild_calls(
     requires { ⌜ ((length (linesOf (now text)) ≤ length (now owner)) × ((length (linesOf (now text)) ≤ length (now blocks)) × (length (linesOf (now text)) ≤ length (now starts))))
         × (((length (idsParents (linesOf (now text))) ≤ length (now up)) × (length (now up) < 2 ^ 32))
         × (((length (now text) < length (now stack)) × ((length (now text) ≤ length (now cur)) × ((length (now text) ≤ length (now next)) × (length (now text) ≤ length (now clean)))))
-        × (length (unlines (rebuildCalls (leavesOf plain) (linesOf (now text)))) ≤ length (now out)))) ⌝ }
+        × ((length (unlines (rebuildCalls (leavesOf plain) (linesOf (now text)))) ≤ length (now out)) × (length (linesOf (now text)) ≤ length (now recs))))) ⌝ }
     ensures answer { λ r. ⌜ Wrote (now (out .entry)) 0 (unlines (rebuildCalls (leavesOf plain) (linesOf (now (text .entry))))) (now (out .exit)) r ⌝ }
     ensures owners { λ _. ⌜ Filled (now (owner .entry)) (ownersOf (rebuildCallsActs (leavesOf plain) (linesOf (now (text .entry))))) (now (owner .exit)) (length (linesOf (now (text .entry)))) ⌝ }
     ensures tables { λ _. ⌜ (Filled (now (blocks .entry)) (blockIds (linesOf (now (text .entry)))) (now (blocks .exit)) (length (linesOf (now (text .entry)))))
@@ -478,12 +502,16 @@ pub fn rebuild_calls(
         × ((Wrote (now (cur .entry)) 0 (replicate (length (now (text .entry))) 0) (now (cur .exit)) (length (now (text .entry))))
         × ((Wrote (now (next .entry)) 0 (replicate (length (now (text .entry))) 0) (now (next .exit)) (length (now (text .entry))))
         × (Wrote (now (clean .entry)) 0 (replicate (length (now (text .entry))) 0) (now (clean .exit)) (length (now (text .entry)))))) ⌝ }
+    ensures records { λ _. ⌜ now (recs .exit) ≡ recordsOf (linesOf (now (text .entry))) (blockIds (linesOf (now (text .entry)))) ++ drop (length (linesOf (now (text .entry)))) (now (recs .entry)) ⌝ }
 {
     let m = text.len();
     let h = m + 1;
-    place::place_lines(text, blocks, starts, up);
+    let n = place::place_lines(text, blocks, starts, up);
+    records::fill(text, blocks, recs);
     rebuild_with(
         text,
+        recs,
+        n,
         blocks,
         starts,
         owner,

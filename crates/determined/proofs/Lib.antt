@@ -7,6 +7,7 @@ pub mod Expr
 pub mod Words
 pub mod Lexical
 pub mod Place
+pub mod Records
 pub mod Reading
 pub mod Forms
 pub mod Decls

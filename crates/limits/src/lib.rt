@@ -7,10 +7,12 @@ ghost use Rattle.limits.specs.declared.Answer.the-variants.{Done};
 ghost use Rattle.limits.specs.Answer.{numberOf, lengthOf, placeOf};
 ghost use Rattle.limits.specs.Entry.{isShort, checkedLines, checked, roomed, outAfter};
 
-// How many bytes of each work buffer are used, and how many numbers.
+// How many bytes of each work buffer are used, how many numbers, and how many line records.
 pub const BYTES: usize = 32769;
 
 pub const BLOCKS: usize = 16384;
+
+pub const LINES: usize = 1024;
 
 // What an entry answers: the length of the result, or why there is none.
 pub enum Answer {
@@ -72,9 +74,9 @@ pub fn place_of(r: Answer) -> usize
     }
 }
 
-// Whether one of six work buffers, of these lengths, is shorter than its stated size.
-pub fn too_short(a: usize, b: usize, c: usize, d: usize, e: usize, u: usize) -> bool
-    ensures { λ r. ⌜ r ≡ isShort a b c d e u ⌝ }
+// Whether one of seven work buffers, of these lengths, is shorter than its stated size.
+pub fn too_short(a: usize, b: usize, c: usize, d: usize, e: usize, u: usize, recs: usize) -> bool
+    ensures { λ r. ⌜ r ≡ isShort a b c d e u recs ⌝ }
 {
     if a < BYTES {
         return true;
@@ -91,7 +93,10 @@ pub fn too_short(a: usize, b: usize, c: usize, d: usize, e: usize, u: usize) -> 
     if e < BYTES {
         return true;
     }
-    u < BLOCKS
+    if u < BLOCKS {
+        return true;
+    }
+    recs < LINES
 }
 
 // Why a text is refused by its lines, or `Done` where it is not.

@@ -1,3 +1,5 @@
 pub mod Between
 pub mod ChainLaws
 pub mod WorkLaws
+pub mod Of_chain
+pub mod Of_work

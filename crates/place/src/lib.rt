@@ -16,6 +16,7 @@ ghost use Rattle.place.specs.Starts.{startsBy, startsGo};
 ghost use Rattle.place.specs.Fill.{Filled, flagsOf};
 
 // The number of a region: of its own type, so that no other number is taken for one.
+#[repr(C)]
 pub struct Region(pub usize);
 
 // Whether a line opens a region.

@@ -18,7 +18,7 @@ shared-slice-read-ask-2 : tie.Need-shared-slice-read-ask-2
 shared-slice-read-ask-2 c = search needs
 
 ask-requires : tie.Need-ask-requires
-ask-requires c κs = let p = c .before .before .before .before .before .before .before .before .pre in let f = p .1 .fits (c .before .before .before .before .before .before .before .before .args .reg .0) in ((omega (arith, p .0 .0), omega (arith, p .0 .0, f)), omega (arith, p .0 .1, f))
+ask-requires c κs = let p = c .before .before .before .before .before .before .before .before .pre in let f = p .1 .fits (c .before .before .before .before .before .before .before .before .args .reg .0) in (((omega (arith, p .0 .0), omega (arith, p .0 .0, f)), omega (arith, p .0 .1, f)), p .1 .own)
 
 returns : tie.Need-returns
 returns c = c .ask .ensures ∙ c .before .before .before .before .before .before .before .before .before .pre .1 .says (c .before .before .before .before .before .before .before .before .before .args .reg .0) (c .before .before .before .if1 .taken)

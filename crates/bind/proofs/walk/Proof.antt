@@ -1,9 +1,11 @@
 -- `bind::walk` meets its contract. Assumes nothing.
+mod Lts
+mod Tie
 use borrow.Author.Needs.{needs}
 use mathlib.Core.Path.{refl}
 use Rattle.decls.proofs.SeenLaws.{zeros-most}
 use Rattle.bind.proofs.walk.Statement.{statement}
-use Rattle.bind.proofs.walk.Tie as tie
+use Rattle.bind.proofs.walk.Proof.Tie as tie
 
 slice-aggregate-walk-with : tie.Need-slice-aggregate-walk-with
 slice-aggregate-walk-with c = search needs

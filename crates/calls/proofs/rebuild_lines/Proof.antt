@@ -1,75 +1,55 @@
-use borrow.Author.Needs.{needs}
+-- `calls::rebuild_lines` meets its contract. Assumes nothing.
+mod Lts
+mod Tie
 use native.Mathlib.Omega.{arith}
 use Prim.Native.Nat.{_-_}
-use lib.ListN.{length}
-use Rattle.calls.proofs.Turns.{Passes, passes-start, passes-ready, passes-on, passes-end}
+use Rattle.calls.proofs.Turns.{passes-start}
+use Rattle.calls.proofs.Downs.{Lined, lined-start, lined-get, lined-ready, lined-on, lined-end}
 use Rattle.calls.proofs.rebuild_lines.Statement.{statement}
-use Rattle.calls.proofs.rebuild_lines.Tie as tie
-use Rattle.calls.proofs.rebuild_lines.Reads as reads
-use Rattle.calls.proofs.rebuild_lines.Lts as lts
-use Rattle.calls.proofs.turn_line.Reads as turn-line-reads
-use Rattle.lines.proofs.after.Reads as after-reads
-use Rattle.lines.proofs.find_byte.Reads as find-byte-reads
+use Rattle.calls.proofs.rebuild_lines.Proof.Tie as tie
 
 abbrev Inv-loop : tie.InvT-loop
-Inv-loop text blocks starts owner₀ stack₀ cur₀ next₀ clean₀ i₀ n₀ o₀ owner stack cur next clean i n o =
-    Passes text blocks starts owner₀ stack₀ cur₀ next₀ clean₀ owner stack cur next clean i n o
+Inv-loop text recs m blocks starts owner₀ stack₀ cur₀ next₀ clean₀ n₀ o₀ owner stack cur next clean n o =
+    Lined text recs m blocks starts owner₀ stack₀ cur₀ next₀ clean₀ owner stack cur next clean n o
 
 abbrev μ-loop : tie.MeasureT-loop
-μ-loop text blocks starts owner₀ stack₀ cur₀ next₀ clean₀ i₀ n₀ o₀ owner stack cur next clean i n o =
-    length text - i
+μ-loop text recs m blocks starts owner₀ stack₀ cur₀ next₀ clean₀ n₀ o₀ owner stack cur next clean n o = m - n
 
--- src/lib.rt:341:5
 loop-holds : tie.Need-loop-holds Inv-loop μ-loop
-loop-holds c = passes-start (c .before .before .before .before .before .before .before .before .pre .0) (c .before .before .before .before .before .before .before .before .pre .1 .0) (c .before .before .before .before .before .before .before .before .pre .1 .1 .0) (c .before .before .before .before .before .before .before .before .pre .1 .1 .1 .0) (c .before .before .before .before .before .before .before .before .pre .1 .1 .1 .1 .0) (c .before .before .before .before .before .before .before .before .pre .1 .1 .1 .1 .1)
+loop-holds c = let p = c .before .before .before .before .before .before .before .before .pre in lined-start (passes-start (p .0) (p .1 .0) (p .1 .1 .0) (p .1 .1 .1 .0) (p .1 .1 .1 .1 .0) (p .1 .1 .1 .1 .1 .0)) (p .1 .1 .1 .1 .1 .1)
 
--- src/lib.rt:342:13
-find-byte-requires : tie.Need-find-byte-requires Inv-loop μ-loop
-find-byte-requires c κs = tt
+get-requires : tie.Need-get-requires Inv-loop μ-loop
+get-requires c κs = lined-get (c .before .loop .inv) (c .loop-test .taken)
 
--- src/lib.rt:343:9
 turn-line-requires : tie.Need-turn-line-requires Inv-loop μ-loop
-turn-line-requires c κs = passes-ready (c .before .before .before .before .before .before .before .loop .inv) (c .before .before .before .before .before .before .loop-test .taken) _ (c .before .before .before .before .before .find-byte .ensures)
+turn-line-requires c κs = lined-ready (c .before .before .before .before .before .before .before .loop .inv) (c .before .before .before .before .before .before .loop-test .taken) (c .before .before .before .before .before .get .ensures)
 
--- src/lib.rt:344:9
 add-n : tie.Need-add-n Inv-loop μ-loop
-add-n c = omega (arith, c .before .before .before .before .before .before .before .before .before .before .before .before .before .before .before .before .before .before .loop .inv .n≤, c .before .before .before .before .before .before .before .before .before .before .before .before .before .before .before .before .before .before .loop .inv .owner-room, c .before .before .before .before .before .before .before .before .before .before .before .before .before .before .before .before .before .before .before .before .before .before .before .before .before .before .before .good)
+add-n c = omega (arith, c .before .before .before .before .before .before .before .before .before .before .before .before .before .before .before .before .before .before .loop .inv .passes .n≤, c .before .before .before .before .before .before .before .before .before .before .before .before .before .before .before .before .before .before .loop .inv .passes .owner-room, c .before .before .before .before .before .before .before .before .before .before .before .before .before .before .before .before .before .before .before .before .before .before .before .before .before .before .before .good)
 
--- src/lib.rt:345:9
-after-requires : tie.Need-after-requires Inv-loop μ-loop
-after-requires c κs = tt
-
--- src/lib.rt:341:5
 loop-less : tie.Need-loop-less Inv-loop μ-loop
-loop-less c = omega (arith, c .after .ensures, c .before .before .before .before .before .before .before .before .before .before .before .before .before .before .before .before .before .find-byte .ensures, c .before .before .before .before .before .before .before .before .before .before .before .before .before .before .before .before .before .before .loop-test .taken)
+loop-less c = omega (arith, c .before .before .before .before .before .before .before .before .before .before .before .before .before .before .before .before .before .loop-test .taken)
 
--- src/lib.rt:341:5
 loop-again : tie.Need-loop-again Inv-loop μ-loop
-loop-again c = passes-on (c .before .before .before .before .before .before .before .before .before .before .before .before .before .before .before .before .before .before .before .loop .inv) (c .before .before .before .before .before .before .before .before .before .before .before .before .before .before .before .before .before .before .loop-test .taken) _ (c .before .before .before .before .before .before .before .before .before .before .before .before .before .before .before .before .before .find-byte .ensures) (c .before .before .before .before .before .before .before .before .before .before .before .turn-line .ensures) (c .after .ensures) (c .before .before .before .before .before .before .before .before .before .before .before .turn-line .kept .1 .1 .1 .1 .1 .1 .0) (c .before .before .before .before .before .before .before .before .before .before .before .turn-line .kept .1 .1 .1 .1 .1 .1 .1 .0) (c .before .before .before .before .before .before .before .before .before .before .before .turn-line .kept .1 .1 .1 .1 .1 .1 .1 .1 .1 .0) (c .before .before .before .before .before .before .before .before .before .before .before .turn-line .kept .1 .1 .1 .1 .1 .1 .1 .1 .1 .1 .0) (c .before .before .before .before .before .before .before .before .before .before .before .turn-line .kept .1 .1 .1 .1 .1 .1 .1 .1 .1 .1 .1 .0)
+loop-again c = let f = c .before .before .before .before .before .before .before .before .before .before .turn-line in lined-on (c .before .before .before .before .before .before .before .before .before .before .before .before .before .before .before .before .before .before .loop .inv) (c .before .before .before .before .before .before .before .before .before .before .before .before .before .before .before .before .before .loop-test .taken) (f .ensures) (f .kept .1 .1 .1 .1 .1 .1 .0) (f .kept .1 .1 .1 .1 .1 .1 .1 .0) (f .kept .1 .1 .1 .1 .1 .1 .1 .1 .1 .0) (f .kept .1 .1 .1 .1 .1 .1 .1 .1 .1 .1 .0) (f .kept .1 .1 .1 .1 .1 .1 .1 .1 .1 .1 .1 .0)
 
--- src/lib.rt:323:1
 same-length : tie.Need-same-length Inv-loop μ-loop
-same-length c = c .before .loop .inv .same-owner
+same-length c = c .before .loop .inv .passes .same-owner
 
--- src/lib.rt:323:1
 same-length-2 : tie.Need-same-length-2 Inv-loop μ-loop
-same-length-2 c = c .before .loop .inv .same-stack
+same-length-2 c = c .before .loop .inv .passes .same-stack
 
--- src/lib.rt:323:1
 same-length-3 : tie.Need-same-length-3 Inv-loop μ-loop
-same-length-3 c = c .before .loop .inv .same-cur
+same-length-3 c = c .before .loop .inv .passes .same-cur
 
--- src/lib.rt:323:1
 same-length-4 : tie.Need-same-length-4 Inv-loop μ-loop
-same-length-4 c = c .before .loop .inv .same-next
+same-length-4 c = c .before .loop .inv .passes .same-next
 
--- src/lib.rt:323:1
 same-length-5 : tie.Need-same-length-5 Inv-loop μ-loop
-same-length-5 c = c .before .loop .inv .same-clean
+same-length-5 c = c .before .loop .inv .passes .same-clean
 
--- src/lib.rt:323:1
 returns : tie.Need-returns Inv-loop μ-loop
-returns c = passes-end (c .before .loop .inv) (c .loop-test .left)
+returns c = lined-end (c .before .loop .inv) (c .loop-test .left)
 
 pub rebuild-lines-spec : {M : Type 1} → statement M
 rebuild-lines-spec =
@@ -78,10 +58,9 @@ rebuild-lines-spec =
     Inv-loop
     μ-loop
     loop-holds
-    find-byte-requires
+    get-requires
     turn-line-requires
     add-n
-    after-requires
     loop-less
     loop-again
     same-length

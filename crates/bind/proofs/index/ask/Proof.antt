@@ -1,4 +1,5 @@
 -- `bind::index::ask` meets its contract. Assumes nothing.
+use mathlib.Core.Path.{sym, _∙_}
 use borrow.Author.Needs.{needs}
 use Rattle.bind.proofs.IndexLaws.{ask-none, ask-above, ask-block, ask-start}
 use Rattle.bind.proofs.index.ask.Statement.{statement}
@@ -22,20 +23,14 @@ mul-if3 c = search needs
 shared-slice-read-if3 : tie.Need-shared-slice-read-if3
 shared-slice-read-if3 c = search needs
 
-mul-if3-2 : tie.Need-mul-if3-2
-mul-if3-2 c = search needs
-
-shared-slice-read-if3-2 : tie.Need-shared-slice-read-if3-2
-shared-slice-read-if3-2 c = search needs
-
 returns-3 : tie.Need-returns-3
-returns-3 c = let a = c .before .before .before .before .before .args in ask-block (a .blocks .now) (a .starts .now) (a .a) (a .k) (a .x) (a .y) (c .before .before .before .before .if1 .left) (c .before .before .before .if2 .left) (c .if3 .taken)
+returns-3 c = let a = c .before .before .before .before .args in ask-block (a .blocks .now) (a .starts .now) (a .a) (a .k) (a .x) (a .y) (c .before .before .before .if1 .left) (c .before .before .if2 .left) (λ e. c .if3 .taken (e ∙ sym (c .before .before .before .before .pre .1)))
 
 shared-slice-read-result : tie.Need-shared-slice-read-result
 shared-slice-read-result c = search needs
 
 returns-4 : tie.Need-returns-4
-returns-4 c = let a = c .before .before .before .before .before .before .args in ask-start (a .blocks .now) (a .starts .now) (a .a) (a .k) (a .x) (a .y) (c .before .before .before .before .before .if1 .left) (c .before .before .before .before .if2 .left) (c .before .if3 .left)
+returns-4 c = let a = c .before .before .before .before .before .args in ask-start (a .blocks .now) (a .starts .now) (a .a) (a .k) (a .x) (a .y) (c .before .before .before .before .if1 .left) (c .before .before .before .if2 .left) (c .before .if3 .left ∙ c .before .before .before .before .before .pre .1)
 
 pub ask-spec : {M : Type 1} → statement M
 ask-spec =
@@ -47,8 +42,6 @@ ask-spec =
     sub-n
     mul-if3
     shared-slice-read-if3
-    mul-if3-2
-    shared-slice-read-if3-2
     returns-3
     shared-slice-read-result
     returns-4)

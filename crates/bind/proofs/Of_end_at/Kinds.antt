@@ -1,0 +1,61 @@
+-- Made by tools/twin of what the borrow checker makes of a twin of `end_at`. Do not edit.
+use Rattle.records.proofs.Elem
+use Rattle.place.proofs.Region
+use Rattle.place.proofs.Region.Laws
+use Rattle.records.proofs.LineRec
+use Rattle.records.proofs.LineRec.Laws as Laws'
+use borrow.Fn.Kinds
+use borrow.Kind.ShrSlice
+use borrow.Kind.Value
+use borrow.Rule.Local
+use borrow.Table.Referent
+use borrow.Table.Rows
+use denote.Array
+use denote.Exit
+use denote.Struct.Declared
+use denote.Struct.Laws as Laws''
+use mathlib.Core.List
+use mathlib.Core.Path as Path'
+use mir.Syntax
+
+abbrev pub ps : List.List (Kinds.PK 1)
+ps =
+    List._∷_
+    (ShrSlice.pShrS Elem.R 0 tt)
+    (List._∷_ (Value.pVal record {
+      ty = Declared.row LineRec.the-type;
+      one = Path'.refl;
+      val = Laws''.val LineRec.the-type Laws'.the-laws;
+      tells = Laws''.tells LineRec.the-type Laws'.the-laws;
+      still = Laws''.still LineRec.the-type Laws'.the-copy Exit.yes;
+      row = Rows.whole (Declared.row LineRec.the-type);
+      rd = λ x. x;
+      mk = λ x. x;
+    } λ M 𝓤 H A W. record {
+      copies = Laws''.copy LineRec.the-type Laws'.the-copy 𝓤 H A W;
+      lawful = Laws''.lawful LineRec.the-type Laws'.the-laws 𝓤 H A W;
+      makes = Laws''.makes LineRec.the-type Laws'.the-plain 𝓤 H A;
+      in-mem = Local.mem-whole 𝓤 H A W (Declared.row LineRec.the-type);
+      of-mem = Local.whole-mem 𝓤 H A W (Declared.row LineRec.the-type);
+    })
+    (List._∷_
+    (Kinds.pNum Syntax.w64)
+    (List._∷_ (Kinds.pNum Syntax.w64) (List._∷_ (Value.pVal record {
+      ty = Declared.row Region.the-type;
+      one = Path'.refl;
+      val = Laws''.val Region.the-type Laws.the-laws;
+      tells = Laws''.tells Region.the-type Laws.the-laws;
+      still = Laws''.still Region.the-type Laws.the-copy Exit.yes;
+      row = Rows.whole (Declared.row Region.the-type);
+      rd = λ x. x;
+      mk = λ x. x;
+    } λ M 𝓤 H A W. record {
+      copies = Laws''.copy Region.the-type Laws.the-copy 𝓤 H A W;
+      lawful = Laws''.lawful Region.the-type Laws.the-laws 𝓤 H A W;
+      makes = Laws''.makes Region.the-type Laws.the-plain 𝓤 H A;
+      in-mem = Local.mem-whole 𝓤 H A W (Declared.row Region.the-type);
+      of-mem = Local.whole-mem 𝓤 H A W (Declared.row Region.the-type);
+    }) (List._∷_ (Kinds.pNum Syntax.w64) (List._∷_ (Kinds.pNum Syntax.w64) List.[]))))))
+
+abbrev pub r : Kinds.RK 1
+r = Kinds.rNum Syntax.w64

@@ -1,0 +1,437 @@
+-- Made by tools/twin of what the borrow checker makes of a twin of `rebuild_lines`. Do not edit.
+use Rattle.records.proofs.Elem
+use Rattle.calls.proofs.rebuild_lines.Code
+use Rattle.calls.proofs.rebuild_lines.Key
+use Rattle.calls.proofs.Of_rebuild_lines.Kinds
+use Rattle.calls.proofs.rebuild_lines.Proof.Lts
+use Rattle.calls.proofs.Of_rebuild_lines.Reads
+use Rattle.calls.proofs.rebuild_lines.Statement
+use Rattle.calls.proofs.turn_line.Met
+use Rattle.calls.proofs.turn_line.Reads as Reads'
+use Rattle.calls.proofs.turn_line.Symbol
+use Rattle.records.proofs.get.Met as Met'
+use Rattle.records.proofs.Of_get.Reads as Reads''
+use Rattle.records.proofs.get.Symbol as Symbol'
+use borrow.Fn.Run
+use borrow.Fn.Written
+use contract.Running
+
+abbrev pub InvT-loop : Type 1
+InvT-loop = Lts.InvT-loop
+
+abbrev pub MeasureT-loop : Type 0
+MeasureT-loop = Lts.MeasureT-loop
+
+abbrev pub Start : (Inv : InvT-loop) → (μ : MeasureT-loop) → Type 0
+Start =
+    λ Inv μ. Lts.Start
+    (Reads''.Asked, Reads''.Learnt, Reads'.Asked, Reads'.Learnt)
+    Reads.Pre
+    Reads.Post
+    Inv
+    μ
+
+abbrev pub After-shared-slice-known : (Inv : InvT-loop) → (μ : MeasureT-loop) → Type 0
+After-shared-slice-known = λ Inv μ. Lts.After-shared-slice-known (
+  Reads''.Asked,
+  Reads''.Learnt,
+  Reads'.Asked,
+  Reads'.Learnt,
+) Reads.Pre Reads.Post Inv μ
+
+abbrev pub After-shared-slice-known2 : (Inv : InvT-loop) → (μ : MeasureT-loop) → Type 0
+After-shared-slice-known2 = λ Inv μ. Lts.After-shared-slice-known2 (
+  Reads''.Asked,
+  Reads''.Learnt,
+  Reads'.Asked,
+  Reads'.Learnt,
+) Reads.Pre Reads.Post Inv μ
+
+abbrev pub After-shared-slice-known3 : (Inv : InvT-loop) → (μ : MeasureT-loop) → Type 0
+After-shared-slice-known3 = λ Inv μ. Lts.After-shared-slice-known3 (
+  Reads''.Asked,
+  Reads''.Learnt,
+  Reads'.Asked,
+  Reads'.Learnt,
+) Reads.Pre Reads.Post Inv μ
+
+abbrev pub After-slice-known : (Inv : InvT-loop) → (μ : MeasureT-loop) → Type 0
+After-slice-known = λ Inv μ. Lts.After-slice-known (
+  Reads''.Asked,
+  Reads''.Learnt,
+  Reads'.Asked,
+  Reads'.Learnt,
+) Reads.Pre Reads.Post Inv μ
+
+abbrev pub After-slice-known2 : (Inv : InvT-loop) → (μ : MeasureT-loop) → Type 0
+After-slice-known2 = λ Inv μ. Lts.After-slice-known2 (
+  Reads''.Asked,
+  Reads''.Learnt,
+  Reads'.Asked,
+  Reads'.Learnt,
+) Reads.Pre Reads.Post Inv μ
+
+abbrev pub After-slice-known3 : (Inv : InvT-loop) → (μ : MeasureT-loop) → Type 0
+After-slice-known3 = λ Inv μ. Lts.After-slice-known3 (
+  Reads''.Asked,
+  Reads''.Learnt,
+  Reads'.Asked,
+  Reads'.Learnt,
+) Reads.Pre Reads.Post Inv μ
+
+abbrev pub After-slice-known4 : (Inv : InvT-loop) → (μ : MeasureT-loop) → Type 0
+After-slice-known4 = λ Inv μ. Lts.After-slice-known4 (
+  Reads''.Asked,
+  Reads''.Learnt,
+  Reads'.Asked,
+  Reads'.Learnt,
+) Reads.Pre Reads.Post Inv μ
+
+abbrev pub After-slice-known5 : (Inv : InvT-loop) → (μ : MeasureT-loop) → Type 0
+After-slice-known5 = λ Inv μ. Lts.After-slice-known5 (
+  Reads''.Asked,
+  Reads''.Learnt,
+  Reads'.Asked,
+  Reads'.Learnt,
+) Reads.Pre Reads.Post Inv μ
+
+abbrev pub At-loop : (Inv : InvT-loop) → (μ : MeasureT-loop) → Type 0
+At-loop =
+    λ Inv μ. Lts.At-loop
+    (Reads''.Asked, Reads''.Learnt, Reads'.Asked, Reads'.Learnt)
+    Reads.Pre
+    Reads.Post
+    Inv
+    μ
+
+abbrev pub In-loop : (Inv : InvT-loop) → (μ : MeasureT-loop) → Type 0
+In-loop =
+    λ Inv μ. Lts.In-loop
+    (Reads''.Asked, Reads''.Learnt, Reads'.Asked, Reads'.Learnt)
+    Reads.Pre
+    Reads.Post
+    Inv
+    μ
+
+abbrev pub After-loop : (Inv : InvT-loop) → (μ : MeasureT-loop) → Type 0
+After-loop =
+    λ Inv μ. Lts.After-loop
+    (Reads''.Asked, Reads''.Learnt, Reads'.Asked, Reads'.Learnt)
+    Reads.Pre
+    Reads.Post
+    Inv
+    μ
+
+abbrev pub After-get : (Inv : InvT-loop) → (μ : MeasureT-loop) → Type 0
+After-get =
+    λ Inv μ. Lts.After-get
+    (Reads''.Asked, Reads''.Learnt, Reads'.Asked, Reads'.Learnt)
+    Reads.Pre
+    Reads.Post
+    Inv
+    μ
+
+abbrev pub After-turn-line-arg : (Inv : InvT-loop) → (μ : MeasureT-loop) → Type 0
+After-turn-line-arg = λ Inv μ. Lts.After-turn-line-arg (
+  Reads''.Asked,
+  Reads''.Learnt,
+  Reads'.Asked,
+  Reads'.Learnt,
+) Reads.Pre Reads.Post Inv μ
+
+abbrev pub After-turn-line-arg2 : (Inv : InvT-loop) → (μ : MeasureT-loop) → Type 0
+After-turn-line-arg2 = λ Inv μ. Lts.After-turn-line-arg2 (
+  Reads''.Asked,
+  Reads''.Learnt,
+  Reads'.Asked,
+  Reads'.Learnt,
+) Reads.Pre Reads.Post Inv μ
+
+abbrev pub After-turn-line-arg3 : (Inv : InvT-loop) → (μ : MeasureT-loop) → Type 0
+After-turn-line-arg3 = λ Inv μ. Lts.After-turn-line-arg3 (
+  Reads''.Asked,
+  Reads''.Learnt,
+  Reads'.Asked,
+  Reads'.Learnt,
+) Reads.Pre Reads.Post Inv μ
+
+abbrev pub After-turn-line-arg4 : (Inv : InvT-loop) → (μ : MeasureT-loop) → Type 0
+After-turn-line-arg4 = λ Inv μ. Lts.After-turn-line-arg4 (
+  Reads''.Asked,
+  Reads''.Learnt,
+  Reads'.Asked,
+  Reads'.Learnt,
+) Reads.Pre Reads.Post Inv μ
+
+abbrev pub After-turn-line-arg5 : (Inv : InvT-loop) → (μ : MeasureT-loop) → Type 0
+After-turn-line-arg5 = λ Inv μ. Lts.After-turn-line-arg5 (
+  Reads''.Asked,
+  Reads''.Learnt,
+  Reads'.Asked,
+  Reads'.Learnt,
+) Reads.Pre Reads.Post Inv μ
+
+abbrev pub After-turn-line : (Inv : InvT-loop) → (μ : MeasureT-loop) → Type 0
+After-turn-line = λ Inv μ. Lts.After-turn-line (
+  Reads''.Asked,
+  Reads''.Learnt,
+  Reads'.Asked,
+  Reads'.Learnt,
+) Reads.Pre Reads.Post Inv μ
+
+abbrev pub After-owner : (Inv : InvT-loop) → (μ : MeasureT-loop) → Type 0
+After-owner = λ Inv μ. Lts.After-owner (
+  Reads''.Asked,
+  Reads''.Learnt,
+  Reads'.Asked,
+  Reads'.Learnt,
+) Reads.Pre Reads.Post Inv μ
+
+abbrev pub After-slice-known6 : (Inv : InvT-loop) → (μ : MeasureT-loop) → Type 0
+After-slice-known6 = λ Inv μ. Lts.After-slice-known6 (
+  Reads''.Asked,
+  Reads''.Learnt,
+  Reads'.Asked,
+  Reads'.Learnt,
+) Reads.Pre Reads.Post Inv μ
+
+abbrev pub After-stack : (Inv : InvT-loop) → (μ : MeasureT-loop) → Type 0
+After-stack = λ Inv μ. Lts.After-stack (
+  Reads''.Asked,
+  Reads''.Learnt,
+  Reads'.Asked,
+  Reads'.Learnt,
+) Reads.Pre Reads.Post Inv μ
+
+abbrev pub After-slice-known7 : (Inv : InvT-loop) → (μ : MeasureT-loop) → Type 0
+After-slice-known7 = λ Inv μ. Lts.After-slice-known7 (
+  Reads''.Asked,
+  Reads''.Learnt,
+  Reads'.Asked,
+  Reads'.Learnt,
+) Reads.Pre Reads.Post Inv μ
+
+abbrev pub After-cur : (Inv : InvT-loop) → (μ : MeasureT-loop) → Type 0
+After-cur =
+    λ Inv μ. Lts.After-cur
+    (Reads''.Asked, Reads''.Learnt, Reads'.Asked, Reads'.Learnt)
+    Reads.Pre
+    Reads.Post
+    Inv
+    μ
+
+abbrev pub After-slice-known8 : (Inv : InvT-loop) → (μ : MeasureT-loop) → Type 0
+After-slice-known8 = λ Inv μ. Lts.After-slice-known8 (
+  Reads''.Asked,
+  Reads''.Learnt,
+  Reads'.Asked,
+  Reads'.Learnt,
+) Reads.Pre Reads.Post Inv μ
+
+abbrev pub After-next : (Inv : InvT-loop) → (μ : MeasureT-loop) → Type 0
+After-next =
+    λ Inv μ. Lts.After-next
+    (Reads''.Asked, Reads''.Learnt, Reads'.Asked, Reads'.Learnt)
+    Reads.Pre
+    Reads.Post
+    Inv
+    μ
+
+abbrev pub After-slice-known9 : (Inv : InvT-loop) → (μ : MeasureT-loop) → Type 0
+After-slice-known9 = λ Inv μ. Lts.After-slice-known9 (
+  Reads''.Asked,
+  Reads''.Learnt,
+  Reads'.Asked,
+  Reads'.Learnt,
+) Reads.Pre Reads.Post Inv μ
+
+abbrev pub After-clean : (Inv : InvT-loop) → (μ : MeasureT-loop) → Type 0
+After-clean = λ Inv μ. Lts.After-clean (
+  Reads''.Asked,
+  Reads''.Learnt,
+  Reads'.Asked,
+  Reads'.Learnt,
+) Reads.Pre Reads.Post Inv μ
+
+abbrev pub After-slice-known10 : (Inv : InvT-loop) → (μ : MeasureT-loop) → Type 0
+After-slice-known10 = λ Inv μ. Lts.After-slice-known10 (
+  Reads''.Asked,
+  Reads''.Learnt,
+  Reads'.Asked,
+  Reads'.Learnt,
+) Reads.Pre Reads.Post Inv μ
+
+abbrev pub Need-loop-holds : (Inv : InvT-loop) → (μ : MeasureT-loop) → Type 0
+Need-loop-holds = λ Inv μ. Lts.Need-loop-holds (
+  Reads''.Asked,
+  Reads''.Learnt,
+  Reads'.Asked,
+  Reads'.Learnt,
+) Reads.Pre Reads.Post Inv μ
+
+abbrev pub Need-get-requires : (Inv : InvT-loop) → (μ : MeasureT-loop) → Type 0
+Need-get-requires = λ Inv μ. Lts.Need-get-requires (
+  Reads''.Asked,
+  Reads''.Learnt,
+  Reads'.Asked,
+  Reads'.Learnt,
+) Reads.Pre Reads.Post Inv μ
+
+abbrev pub Need-turn-line-requires : (Inv : InvT-loop) → (μ : MeasureT-loop) → Type 0
+Need-turn-line-requires = λ Inv μ. Lts.Need-turn-line-requires (
+  Reads''.Asked,
+  Reads''.Learnt,
+  Reads'.Asked,
+  Reads'.Learnt,
+) Reads.Pre Reads.Post Inv μ
+
+abbrev pub Need-add-n : (Inv : InvT-loop) → (μ : MeasureT-loop) → Type 0
+Need-add-n =
+    λ Inv μ. Lts.Need-add-n
+    (Reads''.Asked, Reads''.Learnt, Reads'.Asked, Reads'.Learnt)
+    Reads.Pre
+    Reads.Post
+    Inv
+    μ
+
+abbrev pub Need-loop-less : (Inv : InvT-loop) → (μ : MeasureT-loop) → Type 0
+Need-loop-less = λ Inv μ. Lts.Need-loop-less (
+  Reads''.Asked,
+  Reads''.Learnt,
+  Reads'.Asked,
+  Reads'.Learnt,
+) Reads.Pre Reads.Post Inv μ
+
+abbrev pub Need-loop-again : (Inv : InvT-loop) → (μ : MeasureT-loop) → Type 0
+Need-loop-again = λ Inv μ. Lts.Need-loop-again (
+  Reads''.Asked,
+  Reads''.Learnt,
+  Reads'.Asked,
+  Reads'.Learnt,
+) Reads.Pre Reads.Post Inv μ
+
+abbrev pub Need-same-length : (Inv : InvT-loop) → (μ : MeasureT-loop) → Type 0
+Need-same-length = λ Inv μ. Lts.Need-same-length (
+  Reads''.Asked,
+  Reads''.Learnt,
+  Reads'.Asked,
+  Reads'.Learnt,
+) Reads.Pre Reads.Post Inv μ
+
+abbrev pub Need-same-length-2 : (Inv : InvT-loop) → (μ : MeasureT-loop) → Type 0
+Need-same-length-2 = λ Inv μ. Lts.Need-same-length-2 (
+  Reads''.Asked,
+  Reads''.Learnt,
+  Reads'.Asked,
+  Reads'.Learnt,
+) Reads.Pre Reads.Post Inv μ
+
+abbrev pub Need-same-length-3 : (Inv : InvT-loop) → (μ : MeasureT-loop) → Type 0
+Need-same-length-3 = λ Inv μ. Lts.Need-same-length-3 (
+  Reads''.Asked,
+  Reads''.Learnt,
+  Reads'.Asked,
+  Reads'.Learnt,
+) Reads.Pre Reads.Post Inv μ
+
+abbrev pub Need-same-length-4 : (Inv : InvT-loop) → (μ : MeasureT-loop) → Type 0
+Need-same-length-4 = λ Inv μ. Lts.Need-same-length-4 (
+  Reads''.Asked,
+  Reads''.Learnt,
+  Reads'.Asked,
+  Reads'.Learnt,
+) Reads.Pre Reads.Post Inv μ
+
+abbrev pub Need-same-length-5 : (Inv : InvT-loop) → (μ : MeasureT-loop) → Type 0
+Need-same-length-5 = λ Inv μ. Lts.Need-same-length-5 (
+  Reads''.Asked,
+  Reads''.Learnt,
+  Reads'.Asked,
+  Reads'.Learnt,
+) Reads.Pre Reads.Post Inv μ
+
+abbrev pub Need-returns : (Inv : InvT-loop) → (μ : MeasureT-loop) → Type 0
+Need-returns = λ Inv μ. Lts.Need-returns (
+  Reads''.Asked,
+  Reads''.Learnt,
+  Reads'.Asked,
+  Reads'.Learnt,
+) Reads.Pre Reads.Post Inv μ
+
+module _ {M : Type 1} where
+  pub spec :
+      (Inv : InvT-loop) →
+      (μ : MeasureT-loop) →
+      (answer : Need-loop-holds Inv μ) →
+      (answer : Need-get-requires Inv μ) →
+      (answer : Need-turn-line-requires Inv μ) →
+      (answer : Need-add-n Inv μ) →
+      (answer : Need-loop-less Inv μ) →
+      (answer : Need-loop-again Inv μ) →
+      (answer : Need-same-length Inv μ) →
+      (answer : Need-same-length-2 Inv μ) →
+      (answer : Need-same-length-3 Inv μ) →
+      (answer : Need-same-length-4 Inv μ) →
+      (answer : Need-same-length-5 Inv μ) →
+      (answer : Need-returns Inv μ) →
+      Lts.Closed
+      (Reads''.Asked, Reads''.Learnt, Reads'.Asked, Reads'.Learnt)
+      Reads.Pre
+      Reads.Post
+      M
+  spec =
+      λ Inv μ answer answer' answer'' answer'3 answer'4 answer'5 answer'6 answer'7 answer'8
+      answer'9 answer'10 answer'11. Lts.spec
+      (Reads''.Asked, Reads''.Learnt, Reads'.Asked, Reads'.Learnt) Reads.Pre Reads.Post Inv μ
+      answer answer' answer'' answer'3 answer'4 answer'5 answer'6 answer'7 answer'8 answer'9
+      answer'10 answer'11
+
+  -- antt refused `close` as it was built: the module's report says why
+  pub close :
+      Lts.Closed
+      (Reads''.Asked, Reads''.Learnt, Reads'.Asked, Reads'.Learnt)
+      Reads.Pre
+      Reads.Post
+      M →
+      Statement.statement M
+  unfolding Code.routine Running.tablesOf
+  close =
+      λ closed 𝓤 H 𝓜 𝓖 𝓡. Written.close
+      9
+      Kinds.ps
+      Kinds.r
+      Reads.Ghost
+      Reads.requires
+      Reads.ensures
+      Reads.pre-read
+      Reads.Pinned
+      Reads.Owned
+      Reads.post-read
+      record { M = M; 𝓤 = 𝓤; H = H; 𝓜 = 𝓜; 𝓖 = 𝓖; 𝓡 = 𝓡 }
+      Code.env
+      Key.name
+      Code.function
+      (Code.unfolded 𝓤 H 𝓜 𝓡)
+      (λ κs a g. tt)
+      (λ κs. Reads.owns κs record { M = M; 𝓤 = 𝓤; H = H; 𝓜 = 𝓜; 𝓖 = 𝓖; 𝓡 = 𝓡 })
+      (Reads.passes record { M = M; 𝓤 = 𝓤; H = H; 𝓜 = 𝓜; 𝓖 = 𝓖; 𝓡 = 𝓡 })
+      λ g. closed
+      𝓤
+      H
+      (𝓖 .A)
+      (Running.givenOf 𝓤 H 𝓜 𝓖)
+      (Run.Over 𝓤 H 𝓜 𝓖 𝓡 Code.env)
+      (Reads''.known
+      record { M = M; 𝓤 = 𝓤; H = H; 𝓜 = 𝓜; 𝓖 = 𝓖; 𝓡 = 𝓡 }
+      Code.env
+      Symbol'.name
+      Symbol'.routine
+      Code.calls-records·get
+      (Met'.met 𝓤 H 𝓜 𝓖 𝓡))
+      (Reads'.known
+      record { M = M; 𝓤 = 𝓤; H = H; 𝓜 = 𝓜; 𝓖 = 𝓖; 𝓡 = 𝓡 }
+      Code.env
+      Symbol.name
+      Symbol.routine
+      Code.calls-calls·turn-line
+      (Met.met 𝓤 H 𝓜 𝓖 𝓡))
