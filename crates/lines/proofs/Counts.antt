@@ -1,5 +1,5 @@
 -- Laws of how many bytes b a text and its lines hold, and of how many lines there are. Assumes nothing.
-use Prim.Native.Nat.{ℕ, suc, _+_, _≤_, _<_, min}
+use Prim.Native.Nat.{ℕ, suc, _+_, _-_, _≤_, _<_, min}
 use mathlib.Core.Path.{_≡_, refl, sym, ap, _∙_}
 use mathlib.Core.Bool.{Bool, true, false, cond, not, _&&_}
 use mathlib.Core.List.{List, [], _∷_, _++_, map}
@@ -7,7 +7,8 @@ use native.Mathlib.Omega.{arith}
 use native.Mathlib.Numerals.{add-one}
 use borrow.Author.Tests.{eqb-true, lt-ltb, le-ltb}
 use lib.Dec.{eqb, ltb}
-use lib.ListN.{length, drop, length-map}
+use lib.ListN.{length, drop, length-map, length-take, take-append-drop}
+use lib.Seq.{drop-drop}
 use Rattle.lines.proofs.Tests.{no, and-left, and-right}
 use Rattle.lines.proofs.LfLaws.{lines-first, lines-at, lines-end, lines-noLf}
 use Rattle.lines.proofs.StepLaws.{drop-case, drop-one, missingLf, lines-text}
@@ -26,6 +27,17 @@ count-append b (x ∷ xs) ys = go (eqb x b) (count-append b xs ys)
         cond t (suc (countOf b (xs ++ ys))) (countOf b (xs ++ ys)) ≡ cond t (suc (countOf b xs)) (countOf b xs) + countOf b ys
     go true h = omega arith
     go false h = h
+
+-- a part is no longer than its places are apart
+pub part-short : (s : List ℕ) (i e : ℕ) → length (part i e s) ≤ e - i
+part-short s i e = let z = length-take (e - i) (drop i s) in omega arith
+
+-- those of a part, and those behind it
+pub count-part : (b : ℕ) (s : List ℕ) (i e : ℕ) → i ≤ e → countOf b (drop i s) ≡ countOf b (part i e s) + countOf b (drop e s)
+count-part b s i e l =
+    let z : i + (e - i) ≡ e = omega arith in
+    ap (countOf b) (sym (take-append-drop (e - i) (drop i s))) ∙ count-append b (part i e s) (drop (e - i) (drop i s))
+    ∙ ap (λ (x : List ℕ). countOf b (part i e s) + countOf b x) (drop-drop (e - i) i s ∙ ap (λ (n : ℕ). drop n s) z)
 
 pub count-none : (b : ℕ) (l : List ℕ) → lacks b l ≡ true → countOf b l ≡ 0
 unfolding countOf lacks

@@ -89,12 +89,13 @@ pub fn find_byte(s: &[u8], i: usize, b: u8) -> usize
     find_one(s, j, b)
 }
 
-// How many bytes `b` there are, counted from the first.
-pub fn count_byte(s: &[u8], b: u8) -> usize
+// How many of at most 255 bytes are `b`. It counts in one byte and goes on to the end, so that the compiler compares many bytes at a time.
+fn count_few(s: &[u8], b: u8) -> u8
+    requires { ⌜ length (now s) ≤ 255 ⌝ }
     ensures { λ r. ⌜ r ≡ countOf b (now (s .entry)) ⌝ }
 {
     let mut n = 0;
-    let mut i = find_byte(s, 0, b);
+    let mut i = 0;
     while i < s.len() {
         if s[i] == b {
             n += 1;
@@ -102,6 +103,21 @@ pub fn count_byte(s: &[u8], b: u8) -> usize
         } else {
             i += 1;
         }
+    }
+    n
+}
+
+// How many bytes `b` there are.
+pub fn count_byte(s: &[u8], b: u8) -> usize
+    ensures { λ r. ⌜ r ≡ countOf b (now (s .entry)) ⌝ }
+{
+    let mut n = 0;
+    let mut i = 0;
+    while i < s.len() {
+        let e = least(i + 240, s.len());
+        let k = count_few(&s[i..e], b);
+        n += k as usize;
+        i = e;
     }
     n
 }
