@@ -51,16 +51,6 @@ fn one_more(n: usize, b: bool) -> usize
     n
 }
 
-// Whether a text names a register.
-fn names_reg(t: &[u8], reg: names::Register) -> bool
-    ensures { λ r. ⌜ r ≡ regIs (reg .0) (regOf (now (t .entry))) ⌝ }
-{
-    match names::reg_name(t) {
-        names::RegName::Reg(q) => q.0 == reg.0,
-        names::RegName::None => false,
-    }
-}
-
 // How many of the pieces between the commas name a register, and `n` more; 2 stands for all above.
 fn count_pieces(body: &[u8], reg: names::Register, n: usize) -> usize
     ensures { λ r. ⌜ r ≡ min (n + pieceCount (reg .0) (partsOf 44 (now (body .entry)))) 2 ⌝ }
@@ -69,7 +59,7 @@ fn count_pieces(body: &[u8], reg: names::Register, n: usize) -> usize
     let mut m = n;
     loop {
         let e = lines::find_byte(body, i, b',');
-        let s = names_reg(text::trim(lines::cut(body, i, e)), reg);
+        let s = names::names_reg(text::trim(lines::cut(body, i, e)), reg);
         m = one_more(m, s);
         if e >= body.len() {
             return m;

@@ -72,8 +72,8 @@ holds-one b (x ∷ xs) = go (holds-one b xs) (eqb x b) refl
     go h true e = rw (e, eqb-sym b x ∙ e) (sym (lt-ltb 0 (suc (length xs)) (omega arith)))
     go h false e = rw (e, eqb-sym b x ∙ e) (h ∙ sym (below-suc (upTo b xs) (length xs) (ltb (upTo b xs) (length xs)) refl))
 
-pub paren-told : (l : List ℕ) (e : ℕ) → e ≡ 0 + upTo 40 (drop 0 l) → ltb e (length l) ≡ holds (40 ∷ []) l
-paren-told l e q = ap (λ (n : ℕ). ltb n (length l)) (q ∙ (let z : 0 + upTo 40 (drop 0 l) ≡ upTo 40 l = omega arith in z)) ∙ sym (holds-one 40 l)
+pub byte-told : (b : ℕ) (l : List ℕ) (e : ℕ) → e ≡ 0 + upTo b (drop 0 l) → ltb e (length l) ≡ holds (b ∷ []) l
+byte-told b l e q = ap (λ (n : ℕ). ltb n (length l)) (q ∙ (let z : 0 + upTo b (drop 0 l) ≡ upTo b l = omega arith in z)) ∙ sym (holds-one b l)
 
 -- ---- the look down for a later read
 

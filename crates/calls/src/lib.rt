@@ -37,6 +37,13 @@ fn is_second(x: u8) -> bool
     (x == b'h') | (x == b'o') | (x == b'f') | (x == b'w')
 }
 
+// Whether a line holds a byte.
+fn has_byte(line: &[u8], b: u8) -> bool
+    ensures { λ r. ⌜ r ≡ holds (b ∷ []) (now (line .entry)) ⌝ }
+{
+    lines::find_byte(line, 0, b) < line.len()
+}
+
 // Whether a line, its front trimmed, may be one that a condition or a loop begins: by its second byte, a `:` or a `}`.
 fn may_control(t: &[u8]) -> bool
     ensures { λ r. ⌜ r ≡ mayControl (now (t .entry)) ⌝ }
@@ -44,10 +51,10 @@ fn may_control(t: &[u8]) -> bool
     if is_second(lines::byte_at(t, 1)) {
         return true;
     }
-    if lines::contains(t, b":") {
+    if has_byte(t, b':') {
         return true;
     }
-    lines::contains(t, b"}")
+    has_byte(t, b'}')
 }
 
 // Whether a line, its front trimmed, is one that a condition or a loop begins.
@@ -60,13 +67,6 @@ fn is_control(t: &[u8]) -> bool
     forms::is_control_header(t)
 }
 
-// Whether a line holds a `(`.
-fn has_paren(line: &[u8]) -> bool
-    ensures { λ r. ⌜ r ≡ holds (40 ∷ []) (now (line .entry)) ⌝ }
-{
-    lines::find_byte(line, 0, b'(') < line.len()
-}
-
 // Whether a line that `starts` a statement is a call line that may take values in.
 fn takes(line: &[u8], starts: bool) -> bool
     ensures { λ r. ⌜ r ≡ isCall (now (line .entry)) && (starts && not (isControlLine (now (line .entry)))) ⌝ }
@@ -74,7 +74,7 @@ fn takes(line: &[u8], starts: bool) -> bool
     if !starts {
         return false;
     }
-    if !has_paren(line) {
+    if !has_byte(line, b'(') {
         return false;
     }
     !is_control(text::trim_start(line))

@@ -1,5 +1,5 @@
 -- Lines that stay, one after the other, as bytes. Assumes nothing.
-use Prim.Native.Nat.{ℕ, zero, suc, _+_, _-_, _≤_, _<_, min}
+use Prim.Native.Nat.{ℕ, suc, _+_, _-_, _≤_, _<_, min}
 use mathlib.Core.Path.{_≡_, refl, sym, ap, _∙_}
 use mathlib.Core.Bool.{Bool, true, false, cond}
 use mathlib.Core.List.{List, [], _∷_, _++_, append-assoc}
@@ -12,6 +12,7 @@ use lib.Seq.{drop-drop, getD-drop, take-add, take-take}
 use Rattle.lines.specs.Lf.{part, upTo, linesOf, unlines}
 use Rattle.lines.proofs.LfLaws.{upTo-le, lines-first, part-more, part-none, rest-of}
 use Rattle.lines.proofs.StepLaws.{ends-more, missingLf, lines-text}
+use Rattle.parse.proofs.Plain.{up-take}
 
 -- ---- the place of a byte
 
@@ -23,17 +24,6 @@ up-at b (x ∷ l) h = go (eqb x b) refl h (up-at b l)
     go : (t : Bool) → eqb x b ≡ t → cond t 0 (suc (upTo b l)) < suc (length l) → (upTo b l < length l → getD l (upTo b l) 0 ≡ b) → getD (x ∷ l) (cond t 0 (suc (upTo b l))) 0 ≡ b
     go true e k f = eqb-true x b e
     go false e k f = f (omega arith)
-
-up-take : (b n : ℕ) (l : List ℕ) → upTo b l ≤ n → upTo b (take n l) ≡ upTo b l
-unfolding upTo
-up-take b zero [] h = refl
-up-take b (suc n) [] h = refl
-up-take b zero (x ∷ l) h = omega arith
-up-take b (suc n) (x ∷ l) h = go (eqb x b) h (up-take b n l)
-  where
-    go : (t : Bool) → cond t 0 (suc (upTo b l)) ≤ suc n → (upTo b l ≤ n → upTo b (take n l) ≡ upTo b l) → cond t 0 (suc (upTo b (take n l))) ≡ cond t 0 (suc (upTo b l))
-    go true k f = refl
-    go false k f = ap suc (f (omega arith))
 
 part-join : (t : List ℕ) (c i n : ℕ) → c ≤ i → i ≤ n → part c n t ≡ part c i t ++ part i n t
 part-join t c i n h k =

@@ -2,7 +2,6 @@ pub mod PrintLaws
 pub mod TrimRuns
 pub mod SeenLaws
 pub mod LineRuns
-pub mod Fronts
 pub mod Chunks
 pub mod MarkRuns
 pub mod Writes

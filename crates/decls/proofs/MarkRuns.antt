@@ -12,11 +12,15 @@ use lib.Seq.{drop-cons, drop-drop, getD-drop}
 use Rattle.lines.specs.Lf.{part, upTo, prefixed}
 use Rattle.lines.proofs.Tests.{no, and-false, eqb-sym}
 use Rattle.text.specs.Class.{isName}
-use Rattle.names.specs.Names.{regOf}
+use Rattle.names.specs.Names.{isDigit, numbered, numberOf, regOf}
+use Rattle.names.proofs.Texts.{reg-first}
+use Rattle.parse.proofs.Plain.{inside, name-at}
+use Rattle.parse.proofs.PlainLine.{first-taken}
 use Rattle.names.specs.declared.RegName.{RegName}
 use Rattle.names.specs.declared.RegName.the-variants as name
 use Rattle.words.specs.Runs.{upBy, runLen, runsGo, runs}
 use Rattle.decls.specs.Seen.{nameBefore, runOf, runAt, markName, markRuns}
+use Rattle.words.proofs.RunLaws.{up-on}
 use Rattle.words.proofs.Walk.{go-name, go-gap}
 use Rattle.decls.proofs.SeenLaws.{name-length, runs-flush}
 use Rattle.decls.proofs.Chunks.{up-at}
@@ -205,11 +209,59 @@ module _ {m : ℕ} {s d₀ d : List ℕ} {i : ℕ} (h : FromInv m s d₀ d i) wh
 pub run-cut : (s w : List ℕ) (i j : ℕ) → j ≡ i + runLen (drop i s) → w ≡ part i j s → w ≡ runAt i s
 run-cut s w i j q p = let z : j - i ≡ runLen (drop i s) = omega arith in p ∙ ap (λ (n : ℕ). take n (drop i s)) z
 
+-- a name byte is inside
+pub name-inside : (s : List ℕ) (i : ℕ) → isName (getD s i 0) ≡ true → i < length s
+name-inside s i e = inside s i (λ z. absurd (no-name (ap (λ (x : ℕ). isName x) (sym z) ∙ e)))
+  where
+    no-name : isName 0 ≡ true → ⊥
+    no-name h = no h
+
+-- a run whose first two bytes are name bytes
+pub run-two : (s : List ℕ) (i : ℕ) → isName (getD s i 0) ≡ true → isName (getD s (i + 1) 0) ≡ true → i + 2 + runLen (drop (i + 2) s) ≡ i + runLen (drop i s)
+run-two s i e f =
+    let z : i + 1 + 1 ≡ i + 2 = omega arith in
+    let a = up-on (λ (x : ℕ). not (isName x)) s i (name-inside s i e) (ap not e) in
+    let b = up-on (λ (x : ℕ). not (isName x)) s (i + 1) (name-inside s (i + 1) f) (ap not f) in
+    omega (arith, a, b, ap (λ (n : ℕ). runLen (drop n s)) z)
+
+-- ---- a run that names no register
+
+-- it does not begin with `r`
+pub run-other : (s : List ℕ) (i : ℕ) → (getD s i 0 ≡ 114 → ⊥) → regOf (runAt i s) ≡ name.None
+run-other s i n =
+    let z : i + 0 ≡ i = omega arith in
+    reg-first (runAt i s) (first-taken 114 (λ e. absurd (omega arith)) (runLen (drop i s)) (drop i s) (λ e. n (ap (λ (k : ℕ). getD s k 0) (sym z) ∙ sym (getD-drop i s 0 0) ∙ e)))
+
+bare-none : (n : ℕ) (l : List ℕ) → isDigit (getD l 0 0) ≡ false → regOf (114 ∷ take n l) ≡ name.None
+unfolding regOf prefixed numberOf numbered
+bare-none zero l e = refl
+bare-none (suc n) [] e = refl
+bare-none (suc n) (x ∷ l) e = rw e
+
+-- no digit stands behind the `r`
+pub run-bare : (s : List ℕ) (i : ℕ) → getD s i 0 ≡ 114 → isDigit (getD s (i + 1) 0) ≡ false → regOf (runAt i s) ≡ name.None
+run-bare s i e f = ap (λ (l : List ℕ). regOf (take (runLen (drop i s)) l)) (name-at s i e) ∙ go (runLen (drop i s))
+  where
+    go : (n : ℕ) → regOf (take n (114 ∷ drop (i + 1) s)) ≡ name.None
+    go zero = reg-first [] (λ z. absurd (omega arith))
+    go (suc n) = let z : i + 1 + 0 ≡ i + 1 = omega arith in bare-none n (drop (i + 1) s) (ap (λ (x : ℕ). isDigit x) (getD-drop (i + 1) s 0 0 ∙ ap (λ (k : ℕ). getD s k 0) z) ∙ f)
+
+-- where it is a digit, it is a name byte
+pub digit-name : (x : ℕ) → isDigit x ≡ true → isName x ≡ true
+digit-name x e = rw e
+
 pub before-is : (s : List ℕ) (i : ℕ) (b : ℕ) → (i ≡ 0 → ⊥) → b ≡ getD s (i - 1) 0 → nameBefore i s ≡ isName b
 before-is s zero b n q = absurd (n refl)
 before-is s (suc i) b n q = let z : suc i - 1 ≡ i = omega arith in ap (λ (x : ℕ). isName x) (sym (q ∙ ap (λ (k : ℕ). getD s k 0) z))
 
 module _ (m : ℕ) (s d : List ℕ) (i : ℕ) where
+  pub mark-none : regOf (runAt i s) ≡ name.None → d ≡ cond (nameBefore i s) d (markName m (regOf (runAt i s)) d)
+  mark-none e = go (nameBefore i s)
+    where
+      go : (b : Bool) → d ≡ cond b d (markName m (regOf (runAt i s)) d)
+      go true = refl
+      go false = sym (ap (λ (n : RegName). markName m n d) e)
+
   pub mark-held : nameBefore i s ≡ true → d ≡ cond (nameBefore i s) d (markName m (regOf (runAt i s)) d)
   mark-held e = sym (ap (λ (b : Bool). cond b d (markName m (regOf (runAt i s)) d)) e)
 

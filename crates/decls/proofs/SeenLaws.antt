@@ -25,7 +25,7 @@ use Rattle.place.specs.Region.{isHeader, untilHeader, region, upHeader, regionL
 use Rattle.place.proofs.Regions.{past, end-stop, end-on, end-end, region-at}
 use Rattle.words.proofs.Walk.{Walk, walk-start, walk-name, walk-gap, walk-end}
 use Rattle.reading.specs.Uses.{lineReads, storesBy, lineStores, lineUses, usedIn}
-use Rattle.decls.specs.Seen.{markName, markRuns, markStore, markLine, markLines, AtMost, Says}
+use Rattle.decls.specs.Seen.{markName, markRuns, markStore, markLine, markLines, AtMost, Says, Quiet, quiet-none, quiet-more}
 
 -- ---- a store past the end
 
@@ -254,6 +254,12 @@ module _ {m : ℕ} {t d₀ d : List ℕ} {a b j : ℕ} (h : RegionInv m t d₀ d
     sym (ap (λ (ls : List (List ℕ)). markLines m (untilHeader ls) d) (lines-end t j k) ∙ mark-none m d .0) ∙ h .so-far,
   )
 
+-- ---- lines that are neither headers nor declarations
+
+pub quiet-le : {t : List ℕ} {i j : ℕ} → Quiet t i j → i ≤ j
+quiet-le (quiet-none i) = omega arith
+quiet-le (quiet-more i j e k w l q x y z) = let g = quiet-le w in omega arith
+
 -- ---- a table with the last mark m: no mark is above it, and where the region that begins at a is marked, the table speaks of it, and it ends at b
 
 pub record Marks (t : List ℕ) (a b m : ℕ) (d : List ℕ) : Type 0 where
@@ -324,6 +330,10 @@ module _ {t d₀ d : List ℕ} {a b m i : ℕ} (h : TableInv t d₀ d a b m i) w
   -- a line that marks nothing
   pub table-pass : (e i′ : ℕ) → i < length t → e ≡ i + upTo 10 (drop i t) → i′ ≡ min (e + 1) (length t) → TableInv t d₀ d a b m i′
   table-pass e i′ k x z = record { a≤ = omega (arith, h .a≤); m≤ = omega (arith, h .m≤); long = h .long; marks = h .marks }
+
+  -- lines that mark nothing
+  pub table-quiet : (j : ℕ) → Quiet t i j → TableInv t d₀ d a b m j
+  table-quiet j w = let g = quiet-le w in record { a≤ = omega (arith, h .a≤); m≤ = omega (arith, h .m≤); long = h .long; marks = h .marks }
 
   module _ (m′ b′ : ℕ) (d′ : List ℕ) (p : m′ ≡ cond (ltb a m) m (a + 1)) (q : b′ ≡ cond (ltb a m) b (a + regionLen (drop a t))) (r : d′ ≡ cond (ltb a m) d (markLines (a + 1) (region (linesOf (drop a t))) d)) where
     -- the region is that part

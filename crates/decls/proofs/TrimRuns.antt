@@ -14,6 +14,7 @@ use Rattle.text.specs.Class.{isName}
 use Rattle.text.specs.White.{isWhite}
 use Rattle.text.specs.Utf8Form.{begins, grammar, seqBy, seqLen}
 use Rattle.text.specs.Trim.{whiteChar, whiteHead, whiteTail, orOn, lead, fromOf, endWhite, toOf, trimStart, trimEnd, trimOf}
+use Rattle.text.proofs.Whites.{ascii-dark}
 use Rattle.names.specs.Names.{allNames}
 use Rattle.names.proofs.Digits.{all-append}
 use Rattle.words.specs.Runs.{flush, runsGo, runs}
@@ -31,29 +32,13 @@ low-name x h = rw (is-below 48 57 x (omega arith), is-below 65 90 x (omega arith
 high-name : (x : ℕ) → 122 < x → isName x ≡ false
 high-name x h = rw (is-above 48 57 x (omega arith), is-above 65 90 x (omega arith), is-above 97 122 x (omega arith), ne-eqb x 95 (λ e. absurd (omega arith)), ne-eqb x 36 (λ e. absurd (omega arith)))
 
-pub mid-white : (x : ℕ) → 33 ≤ x → x < 128 → isWhite x ≡ false
-unfolding isWhite
-mid-white x h k =
-    rw (
-      is-above 9 13 x (omega arith),
-      ne-eqb x 32 (λ e. absurd (omega arith)),
-      ne-eqb x 133 (λ e. absurd (omega arith)),
-      ne-eqb x 160 (λ e. absurd (omega arith)),
-      ne-eqb x 5760 (λ e. absurd (omega arith)),
-      is-below 8192 8202 x (omega arith),
-      is-below 8232 8233 x (omega arith),
-      ne-eqb x 8239 (λ e. absurd (omega arith)),
-      ne-eqb x 8287 (λ e. absurd (omega arith)),
-      ne-eqb x 12288 (λ e. absurd (omega arith)),
-    )
-
 white-name : (x : ℕ) → isWhite x ≡ true → isName x ≡ false
 white-name x h = go (ltb x 36) refl (ltb 122 x) refl
   where
     go : (a : Bool) → ltb x 36 ≡ a → (b : Bool) → ltb 122 x ≡ b → isName x ≡ false
     go true p b q = low-name x (ltb-true x 36 p)
     go false p true q = high-name x (ltb-true 122 x q)
-    go false p false q = let a = ltb-false x 36 p in let b = ltb-false 122 x q in no (sym (mid-white x (omega arith) (omega arith)) ∙ h)
+    go false p false q = let a = ltb-false x 36 p in let b = ltb-false 122 x q in no (sym (ascii-dark x (omega arith) (omega arith)) ∙ h)
 
 -- the ranges of a row are from 128 on
 abbrev high : List (ℕ × ℕ) → Bool

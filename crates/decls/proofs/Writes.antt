@@ -25,6 +25,7 @@ use Rattle.place.specs.Region.{isHeader, region, regionAt}
 use Rattle.reading.specs.Uses.{usedIn}
 use Rattle.decls.specs.Decls.{keepOne, staysBy, stays, keepNames, actOf, lineText, actsGo, pruneDeclsActs, pruneDecls}
 use Rattle.decls.specs.Print.{bareName, one, kept, declText}
+use Rattle.decls.specs.Seen.{Quiet, quiet-none, quiet-more}
 use Rattle.decls.proofs.PrintLaws.{after-bare, writing-fits, act-text}
 use Rattle.decls.proofs.Chunks.{chunk-open, chunk-shut, chunk-none}
 
@@ -187,6 +188,13 @@ module _ {t d₀ d : List ℕ} {a c i o : ℕ} (h : PruneInv t d₀ d a c i o) (
           shut = λ y. chunk-none t i′ y;
           writing = rw f (writing-put decl-writing w);
         }
+
+-- lines that are neither headers nor declarations are held too
+pub prune-quiet : {t d₀ d : List ℕ} {a c i j o : ℕ} → PruneInv t d₀ d a c i o → Quiet t i j → PruneInv t d₀ d a c j o
+prune-quiet h (quiet-none i) = h
+prune-quiet {t = t} h (quiet-more i j e k w l q x y z) =
+    let g = prune-quiet h w in
+    prune-pass g e l q (part j e t) refl (run-same g e l q (part j e t) refl x) y k z
 
 -- at the end what is held is all that is to come; x is the text from c on
 module _ {t d₀ d : List ℕ} {a c i o : ℕ} (h : PruneInv t d₀ d a c i o) (k : length t ≤ i) (x : List ℕ) (y : x ≡ part c (length t) t) where

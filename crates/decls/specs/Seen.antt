@@ -1,18 +1,21 @@
 -- The table of the registers that lines use: what marking them leaves in it, and what it then says. Assumes nothing.
-use Prim.Native.Nat.{ℕ, zero, suc, _≤_, _<_}
+use Prim.Native.Nat.{ℕ, zero, suc, _+_, _≤_, _<_, min}
 use mathlib.Core.Path.{_≡_}
-use mathlib.Core.Bool.{Bool, false, cond, not, _&&_}
+use mathlib.Core.Bool.{Bool, false}
 use mathlib.Core.List.{List, [], _∷_}
-use lib.Dec.{eqb, ltb}
+use lib.Dec.{eqb}
 use lib.ListN.{length, take, drop, getD, set}
+use Rattle.lines.specs.Lf.{part, upTo}
 use Rattle.text.specs.Class.{isName}
+use Rattle.text.specs.Trim.{trimOf}
 use Rattle.names.specs.Names.{regOf}
 use Rattle.names.specs.declared.RegName.{RegName}
 use Rattle.names.specs.declared.RegName.the-variants as name
-use Rattle.parse.specs.Parse.{parseOf, textOf}
+use Rattle.parse.specs.Parse.{isDecl, parseOf, textOf}
 use Rattle.parse.specs.declared.Line.{Line}
 use Rattle.parse.specs.declared.Line.the-variants as line
 use Rattle.words.specs.Runs.{runLen, runs}
+use Rattle.place.specs.Region.{isHeader}
 use Rattle.reading.specs.Uses.{usedIn}
 
 -- the table d after the mark m of the register that a name is; a register past its end leaves it as it is
@@ -62,13 +65,7 @@ AtMost m d = (v : ℕ) → getD d v 0 ≤ m
 abbrev pub Says : ℕ → List (List ℕ) → List ℕ → Type 0
 Says m ls d = (v : ℕ) → v < length d → eqb (getD d v 0) m ≡ usedIn v ls
 
--- ---- the front of a line
-
--- the first byte of a text that is no space, or 0
-unfoldable pub frontOf : List ℕ → ℕ
-frontOf [] = 0
-frontOf (x ∷ xs) = cond (eqb x 32) (frontOf xs) x
-
--- a byte that no declaration has for its first: below 128, no white space, and no `l`
-abbrev pub noDecl : ℕ → Bool
-noDecl b = ltb 32 b && (ltb b 128 && not (eqb b 108))
+-- no line from the place i up to j is a header or a declaration; e is where such a line ends, and k the place after it
+pub data Quiet (t : List ℕ) : ℕ → ℕ → Type 0 where
+  quiet-none : (i : ℕ) → Quiet t i i
+  quiet-more : (i j e k : ℕ) → Quiet t i j → j < length t → e ≡ j + upTo 10 (drop j t) → isHeader (part j e t) ≡ false → isDecl (trimOf (part j e t)) ≡ false → k ≡ min (e + 1) (length t) → Quiet t i k

@@ -90,14 +90,15 @@ fn prune_with(text: &[u8], seen: &mut [usize], out: &mut [u8]) -> usize
         if place::is_header(line) {
             a = i;
         }
-        if seen::declares(line) {
-            let k = seen::mark_once(text, a, b, m, seen);
+        if parse::declares(line) {
+            let n = lines::after(text, e);
+            let k = seen::mark_once(text, a, b, m, i, n, seen);
             m = k.mark;
             b = k.end;
             let p = lines::put(out, o, lines::cut(text, c, i));
             o = put_line(line, lines::cut(text, a, b), m, seen, out, p);
-            i = lines::after(text, e);
-            c = i;
+            c = n;
+            i = k.next;
         } else {
             i = lines::after(text, e);
         }

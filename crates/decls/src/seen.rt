@@ -1,17 +1,18 @@
 // A table over registers: a mark stands at each one that the lines of a region read or store.
 ghost use mathlib.Core.Path.{_≡_};
-ghost use mathlib.Core.Bool.{cond};
+ghost use mathlib.Core.Bool.{true, cond};
 ghost use Prim.Native.Nat.{_<_, _+_, _-_, _^_};
 ghost use lib.Dec.{ltb};
-ghost use lib.ListN.{set, drop};
-ghost use Rattle.lines.specs.Lf.{linesOf};
+ghost use lib.ListN.{getD, set, drop};
+ghost use Rattle.lines.specs.Lf.{part, upTo, linesOf};
+ghost use Rattle.text.specs.Class.{isName};
 ghost use Rattle.text.specs.Trim.{trimOf};
 ghost use Rattle.names.specs.Names.{regOf};
 ghost use Rattle.parse.specs.Parse.{isDecl};
 ghost use Rattle.words.specs.Runs.{runs};
 ghost use Rattle.place.specs.Region.{region, regionLen};
 ghost use Rattle.reading.specs.Uses.{usedIn};
-ghost use Rattle.decls.specs.Seen.{nameBefore, runAt, markName, markRuns, markLine, markLines, Says, frontOf, noDecl};
+ghost use Rattle.decls.specs.Seen.{nameBefore, runAt, markName, markRuns, markLine, markLines, Says, Quiet};
 
 // Puts a mark at a register, where the table reaches to it.
 fn mark_reg(reg: names::Register, m: usize, seen: &mut [usize])
@@ -34,11 +35,12 @@ fn mark_name(t: &[u8], m: usize, seen: &mut [usize])
     }
 }
 
-// Marks the register that the run of name bytes at a place names.
+// Marks the register that the run of name bytes at a place names; its first two bytes are such.
 fn mark_run(s: &[u8], i: usize, m: usize, seen: &mut [usize])
+    requires { ⌜ (isName (getD (now s) i 0) ≡ true) × (isName (getD (now s) (i + 1) 0) ≡ true) ⌝ }
     ensures { λ _. ⌜ now (seen .exit) ≡ markName m (regOf (runAt i (now (s .entry)))) (now (seen .entry)) ⌝ }
 {
-    let mut j = i;
+    let mut j = i + 2;
     while j < s.len() {
         if !text::is_name_byte(s[j]) {
             mark_name(lines::cut(s, i, j), m, seen);
@@ -49,15 +51,28 @@ fn mark_run(s: &[u8], i: usize, m: usize, seen: &mut [usize])
     mark_name(lines::cut(s, i, j), m, seen);
 }
 
-// The same, where no name byte stands before the place.
+// Whether a name byte stands before a place.
+fn name_before(s: &[u8], i: usize) -> bool
+    ensures { λ r. ⌜ r ≡ nameBefore i (now (s .entry)) ⌝ }
+{
+    if i == 0 {
+        return false;
+    }
+    text::is_name_byte(lines::byte_at(s, i - 1))
+}
+
+// The same, where no name byte stands before the place: it begins with `r` and a digit, where it names one.
 fn mark_at(s: &[u8], i: usize, m: usize, seen: &mut [usize])
     ensures { λ _. ⌜ now (seen .exit) ≡ cond (nameBefore i (now (s .entry))) (now (seen .entry)) (markName m (regOf (runAt i (now (s .entry)))) (now (seen .entry))) ⌝ }
 {
-    if i == 0 {
-        mark_run(s, i, m, seen);
+    if lines::byte_at(s, i) != b'r' {
         return;
     }
-    if text::is_name_byte(lines::byte_at(s, i - 1)) {
+    let d = lines::byte_at(s, i + 1);
+    if (d < b'0') | (b'9' < d) {
+        return;
+    }
+    if name_before(s, i) {
         return;
     }
     mark_run(s, i, m, seen);
@@ -75,89 +90,97 @@ fn mark_runs(s: &[u8], m: usize, seen: &mut [usize])
     }
 }
 
-// The first byte of a text that is no space, or 0.
-fn front_of(s: &[u8]) -> u8
-    ensures { λ r. ⌜ r ≡ frontOf (now (s .entry)) ⌝ }
+// Marks the registers that a line reads or stores: those that its runs name, where it is no declaration. Whether it is one is returned.
+fn mark_line(line: &[u8], m: usize, seen: &mut [usize]) -> bool
+    ensures answer { λ r. ⌜ r ≡ isDecl (trimOf (now (line .entry))) ⌝ }
+    ensures memory { λ _. ⌜ now (seen .exit) ≡ markLine m (now (line .entry)) (now (seen .entry)) ⌝ }
 {
-    let mut i = 0;
-    while i < s.len() {
-        if s[i] != 32 {
-            return s[i];
-        }
-        i += 1;
-    }
-    0
-}
-
-// Whether no declaration has a byte for its first.
-fn no_decl(b: u8) -> bool
-    ensures { λ r. ⌜ r ≡ noDecl b ⌝ }
-{
-    (32 < b) & ((b < 128) & (b != b'l'))
-}
-
-// Whether a line is a declaration.
-pub fn declares(line: &[u8]) -> bool
-    ensures { λ r. ⌜ r ≡ isDecl (trimOf (now (line .entry))) ⌝ }
-{
-    if no_decl(front_of(line)) {
-        return false;
-    }
-    parse::is_decl(text::trim(line))
-}
-
-// Marks the registers that a line reads or stores: those that its runs name, where it is no declaration.
-fn mark_line(line: &[u8], m: usize, seen: &mut [usize])
-    ensures { λ _. ⌜ now (seen .exit) ≡ markLine m (now (line .entry)) (now (seen .entry)) ⌝ }
-{
-    if declares(line) {
-        return;
+    if parse::declares(line) {
+        return true;
     }
     mark_runs(line, m, seen);
+    false
 }
 
-// Marks the registers that some line of the region uses that begins at a place, and returns where it ends.
-fn mark_region(text: &[u8], a: usize, m: usize, seen: &mut [usize]) -> usize
-    ensures answer { λ r. ⌜ r ≡ a + regionLen (drop a (now (text .entry))) ⌝ }
+// Where a region ends, and a place in it from which on no line is a declaration.
+struct Reach {
+    end: usize,
+    quiet: usize,
+}
+
+// Marks the registers that some line of the region uses that begins at `a`, and returns where it ends. The line at `i` is a declaration.
+fn mark_region(text: &[u8], a: usize, m: usize, i: usize, seen: &mut [usize]) -> Reach
+    requires { ⌜ isDecl (trimOf (part i (i + upTo 10 (drop i (now text))) (now text))) ≡ true ⌝ }
+    ensures answer { λ r. ⌜ (r .end ≡ a + regionLen (drop a (now (text .entry)))) × (Quiet (now (text .entry)) (r .quiet) (r .end)) ⌝ }
     ensures memory { λ _. ⌜ now (seen .exit) ≡ markLines m (region (linesOf (drop a (now (text .entry))))) (now (seen .entry)) ⌝ }
 {
     if a >= text.len() {
-        return a;
+        return Reach { end: a, quiet: a };
     }
     let e = lines::find_byte(text, a, 10);
     mark_line(lines::cut(text, a, e), m, seen);
     let mut j = lines::after(text, e);
+    let mut q = j;
     while j < text.len() {
         let f = lines::find_byte(text, j, 10);
         let line = lines::cut(text, j, f);
         if place::is_header(line) {
-            return j;
+            return Reach { end: j, quiet: q };
         }
-        mark_line(line, m, seen);
-        j = lines::after(text, f);
+        if j == i {
+            j = lines::after(text, f);
+            q = j;
+        } else if mark_line(line, m, seen) {
+            j = lines::after(text, f);
+            q = j;
+        } else {
+            j = lines::after(text, f);
+        }
     }
-    j
+    Reach { end: j, quiet: q }
 }
 
-// The last mark, and where the region ends that has it.
+// The last mark, where the region ends that has it, and where the next line stands that may be a header or a declaration.
 pub struct Marked {
     pub mark: usize,
     pub end: usize,
+    pub next: usize,
 }
 
-// Marks the region that begins at `a`, where that is not done yet: its mark is one more than `a`. `m` is the last mark, and `b` where that region ends.
-pub fn mark_once(text: &[u8], a: usize, b: usize, m: usize, seen: &mut [usize]) -> Marked
-    requires { ⌜ a < 2 ^ 64 - 1 ⌝ }
-    ensures answer { λ r. ⌜ (r .mark ≡ cond (ltb a m) m (a + 1)) × (r .end ≡ cond (ltb a m) b (a + regionLen (drop a (now (text .entry))))) ⌝ }
+// Marks the region that begins at `a`, where that is not done yet: its mark is one more than `a`. `m` is the last mark, and `b` where that region ends. A declaration stands at `i`, and the next line at `n`.
+pub fn mark_once(
+    text: &[u8],
+    a: usize,
+    b: usize,
+    m: usize,
+    i: usize,
+    n: usize,
+    seen: &mut [usize],
+) -> Marked
+    requires { ⌜ (a < 2 ^ 64 - 1) × (isDecl (trimOf (part i (i + upTo 10 (drop i (now text))) (now text))) ≡ true) ⌝ }
+    ensures answer { λ r. ⌜ (r .mark ≡ cond (ltb a m) m (a + 1))
+        × ((r .end ≡ cond (ltb a m) b (a + regionLen (drop a (now (text .entry))))) × (Quiet (now (text .entry)) n (r .next))) ⌝ }
     ensures memory { λ _. ⌜ now (seen .exit) ≡ cond (ltb a m) (now (seen .entry)) (markLines (a + 1) (region (linesOf (drop a (now (text .entry))))) (now (seen .entry))) ⌝ }
 {
     if a < m {
-        return Marked { mark: m, end: b };
+        return Marked {
+            mark: m,
+            end: b,
+            next: n,
+        };
     }
-    let z = mark_region(text, a, a + 1, seen);
+    let z = mark_region(text, a, a + 1, i, seen);
+    if n == z.quiet {
+        return Marked {
+            mark: a + 1,
+            end: z.end,
+            next: z.end,
+        };
+    }
     Marked {
         mark: a + 1,
-        end: z,
+        end: z.end,
+        next: n,
     }
 }
 

@@ -18,6 +18,9 @@ phi-name-fixed = fixed names.phi_name.Reads.Learnt (λ κs a x y l m. l ∙ sym 
 pub is-temp-name-fixed : Determined names.is_temp_name.ended (λ κs z. z) names.is_temp_name.Reads.ensures
 is-temp-name-fixed = fixed names.is_temp_name.Reads.Learnt (λ κs a x y l m. l ∙ sym m)
 
+pub names-reg-fixed : Determined names.names_reg.ended (λ κs z. z) names.names_reg.Reads.ensures
+names-reg-fixed = fixed names.names_reg.Reads.Learnt (λ κs a x y l m. l ∙ sym m)
+
 pub is-reg-text-fixed : Determined names.is_reg_text.ended (λ κs z. z) names.is_reg_text.Reads.ensures
 is-reg-text-fixed = fixed names.is_reg_text.Reads.Learnt (λ κs a x y l m. l ∙ sym m)
 

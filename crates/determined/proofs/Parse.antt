@@ -7,6 +7,9 @@ use Rattle.determined.proofs.Outcomes.{Determined, fixed}
 pub is-decl-fixed : Determined parse.is_decl.ended (λ κs z. z) parse.is_decl.Reads.ensures
 is-decl-fixed = fixed parse.is_decl.Reads.Learnt (λ κs a x y l m. l ∙ sym m)
 
+pub declares-fixed : Determined parse.declares.ended (λ κs z. z) parse.declares.Reads.ensures
+declares-fixed = fixed parse.declares.Reads.Learnt (λ κs a x y l m. l ∙ sym m)
+
 pub parse-fixed : Determined parse.parse.ended (λ κs z. z) parse.parse.Reads.ensures
 parse-fixed = fixed parse.parse.Reads.Learnt (λ κs a x y l m. l ∙ sym m)
 

@@ -10,8 +10,8 @@ use borrow.Author.Tests.{ne-eqb, not-true}
 use lib.Dec.{eqb}
 use lib.ListN.{length, drop, getD, set, length-drop, drop-of-length-le}
 use lib.Seq.{drop-cons, drop-drop, getD-drop}
-use Rattle.lines.specs.Lf.{prefixed, lacks}
-use Rattle.lines.proofs.Tests.{no, and-true, and-false, and-left, and-right}
+use Rattle.lines.specs.Lf.{upTo, prefixed, lacks}
+use Rattle.lines.proofs.Tests.{no, and-true, and-false, and-left, and-right, eqb-sym}
 use Rattle.lines.proofs.LfLaws.{lacks-cons, lacks-with}
 use Rattle.lines.proofs.OutLaws.{Writing, writing-as, writing-room, writing-put, wrote-byte}
 use Rattle.expr.specs.Comments.{strip, stripComments, noComment}
@@ -211,6 +211,19 @@ unfolding strip stripComments
 bare-strip [] h = refl
 bare-strip (a ∷ []) h = refl
 bare-strip (a ∷ b ∷ s) h = let p = bare-split a (b ∷ s) h in rw (p .0, p .1 .0) (ap (λ (l : List ℕ). a ∷ l) (bare-strip (b ∷ s) (p .1 .1)))
+
+-- a text without `/` has no comment
+slash-bare : (s : List ℕ) → length s ≤ upTo 47 s → noComment s ≡ true
+unfolding upTo noComment prefixed
+slash-bare [] h = refl
+slash-bare (a ∷ s) h = go (eqb a 47) refl h (slash-bare s)
+  where
+    go : (t : Bool) → eqb a 47 ≡ t → suc (length s) ≤ cond t 0 (suc (upTo 47 s)) → (length s ≤ upTo 47 s → noComment s ≡ true) → noComment (a ∷ s) ≡ true
+    go true e g on = absurd (omega arith)
+    go false e g on = bare-cons a s (rw (eqb-sym 47 a, e)) (rw (eqb-sym 47 a, e)) (on (omega arith))
+
+pub slash-strip : (s : List ℕ) (k : ℕ) → k ≡ 0 + upTo 47 (drop 0 s) → length s ≤ k → stripComments s ≡ s
+slash-strip s k q h = let z : upTo 47 (drop 0 s) ≡ upTo 47 s = refl in bare-strip s (slash-bare s (omega arith))
 
 pub cut-once : (s : List ℕ) → stripComments (stripComments s) ≡ stripComments s
 cut-once s = bare-strip (stripComments s) (cut-bare s)

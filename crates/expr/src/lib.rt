@@ -27,8 +27,8 @@ fn two_at(s: &[u8], i: usize, x: u8, y: u8) -> bool
     (x == s[i]) & (y == s[j])
 }
 
-// Writes `s` without its comments at `o`, and returns the place after it.
-pub fn strip_comments(s: &[u8], out: &mut [u8], o: usize) -> usize
+// Writes `s` without its comments at `o`, byte by byte, and returns the place after it.
+fn strip_each(s: &[u8], out: &mut [u8], o: usize) -> usize
     requires { ⌜ o + length (stripComments (now s)) ≤ length (now out) ⌝ }
     ensures { λ r. ⌜ Wrote (now (out .entry)) o (stripComments (now (s .entry))) (now (out .exit)) r ⌝ }
 {
@@ -57,6 +57,18 @@ pub fn strip_comments(s: &[u8], out: &mut [u8], o: usize) -> usize
         }
     }
     n
+}
+
+// The same: a text without `/` has no comment.
+pub fn strip_comments(s: &[u8], out: &mut [u8], o: usize) -> usize
+    requires { ⌜ o + length (stripComments (now s)) ≤ length (now out) ⌝ }
+    ensures { λ r. ⌜ Wrote (now (out .entry)) o (stripComments (now (s .entry))) (now (out .exit)) r ⌝ }
+{
+    let k = lines::find_byte(s, 0, b'/');
+    if k >= s.len() {
+        return lines::put(out, o, s);
+    }
+    strip_each(s, out, o)
 }
 
 // Whether a byte is white space of ASCII.

@@ -1,17 +1,22 @@
 -- Laws of the removal: its loop, what it keeps, and that a line goes only for its reason. Assumes nothing.
-use Prim.Native.Nat.{ℕ, _+_, _≤_, _<_, min}
+use Prim.Native.Nat.{ℕ, _+_, _-_, _≤_, _<_, min}
 use mathlib.Core.Path.{_≡_, refl, sym, ap, _∙_}
-use mathlib.Core.Bool.{Bool, true, false, cond, _||_}
+use mathlib.Core.Bool.{Bool, true, false, cond, not, _&&_, _||_}
 use mathlib.Core.List.{List, [], _∷_, _++_}
 use native.Mathlib.Omega.{arith}
-use lib.ListN.{length, drop, length-append}
-use Rattle.lines.specs.Lf.{part, upTo, prefixed, linesOf, unlines, noLf, all}
+use borrow.Author.Tests.{eq-eqb, eqb-true, not-true, not-false}
+use lib.Dec.{eqb}
+use lib.ListN.{length, drop, length-append, length-take, length-drop}
+use Rattle.lines.specs.Lf.{part, upTo, prefixed, lacks, linesOf, unlines, noLf, all}
 use Rattle.lines.specs.Out.{Wrote}
 use Rattle.lines.specs.Acts.{keep, gone, act, apply}
-use Rattle.lines.proofs.LfLaws.{lines-at, lines-end}
+use Rattle.lines.proofs.Tests.{no, and-left, and-right}
+use Rattle.lines.proofs.LfLaws.{lines-at, lines-end, short, lacks-cons, front-lacks, rest-lacks}
+use Rattle.lines.proofs.Lacking.{lines-lack}
 use Rattle.lines.proofs.ActLaws.{actNoLf, apply-noLf, apply-length, unlines-append}
 use Rattle.lines.proofs.OutLaws.{Writing, writing-start, writing-as, writing-room, writing-put, writing-end}
-use Rattle.text.specs.Trim.{trimOf}
+use Rattle.text.specs.Trim.{fromOf, toEnd, trimOf}
+use Rattle.text.proofs.Trims.{trim-part}
 use Rattle.weight.specs.Weight.{weight}
 use Rattle.weight.proofs.Moves.{Fits, ended, kept, dropped, fits-weight}
 use Rattle.globals.specs.Globals.{globalsWord, interpreterWord, isGlobals, globalsActs, removeGlobals, globalsText}
@@ -26,6 +31,13 @@ globals-first l t p h = rw (← p, h)
 pub globals-second : (l t : List ℕ) → t ≡ trimOf l → prefixed globalsWord t ≡ false → isGlobals l ≡ prefixed interpreterWord t
 unfolding isGlobals
 globals-second l t p h = rw (← p, h)
+
+-- a line that is too short
+pub globals-short : (l : List ℕ) → length l < 25 → isGlobals l ≡ false
+unfolding isGlobals
+globals-short l h =
+    let k : length (trimOf l) < 25 = omega (arith, ap length (trim-part l), length-take (toEnd l - fromOf l) (drop (fromOf l) l), length-drop (fromOf l) l) in
+    rw (short globalsWord (trimOf l) k, short interpreterWord (trimOf l) (omega arith))
 
 pub text-by : (l : List ℕ) (b : Bool) → isGlobals l ≡ b → globalsText l ≡ cond b [] (l ++ 10 ∷ [])
 unfolding globalsText
@@ -82,6 +94,34 @@ module _ {t d₀ d : List ℕ} {i o : ℕ} (h : RemoveInv t d₀ d i o) where
 
   pub remove-end : length t ≤ i → Wrote d₀ 0 (unlines (removeGlobals (linesOf t))) d o
   remove-end k = writing-end (writing-as (ap (λ (ms : List (List ℕ)). toGo ms) (lines-end t i k) ∙ go-none) (h .writing))
+
+-- ---- a text without `_` stays as it is
+
+word-lack : (w t : List ℕ) → lacks 95 t ≡ true → prefixed (95 ∷ w) t ≡ false
+unfolding prefixed
+word-lack w [] h = refl
+word-lack w (x ∷ t) h = go (eqb 95 x) refl
+  where
+    go : (b : Bool) → eqb 95 x ≡ b → b && prefixed w t ≡ false
+    go true e = let q : x ≡ 95 = sym (eqb-true 95 x e) in no (sym (lacks-cons 95 x t h .0) ∙ eq-eqb x 95 q)
+    go false e = refl
+
+line-lack : (l : List ℕ) → lacks 95 l ≡ true → isGlobals l ≡ false
+unfolding isGlobals
+line-lack l h =
+    let k : lacks 95 (trimOf l) ≡ true = ap (lacks 95) (trim-part l) ∙ front-lacks 95 (toEnd l - fromOf l) (drop (fromOf l) l) (rest-lacks 95 (fromOf l) l h) in
+    rw (word-lack (drop 1 globalsWord) (trimOf l) k, word-lack (drop 1 interpreterWord) (trimOf l) k)
+
+keep-lines : (ms : List (List ℕ)) → all (λ (l : List ℕ). not (not (lacks 95 l))) ms ≡ true → apply (globalsActs ms) ms ≡ ms
+unfolding globalsActs apply act
+keep-lines [] h = refl
+keep-lines (m ∷ ms) h =
+    rw (line-lack m (not-false _ (not-true _ (and-left (not (not (lacks 95 m))) _ h)))) (ap (λ (r : List (List ℕ)). m ∷ r) (keep-lines ms (and-right (not (not (lacks 95 m))) _ h)))
+
+pub lack-text : (t : List ℕ) → lacks 95 t ≡ true → unlines (linesOf t) ≡ unlines (removeGlobals (linesOf t))
+unfolding removeGlobals
+lack-text t h =
+    sym (ap unlines (keep-lines (linesOf t) (lines-lack (λ (l : List ℕ). not (lacks 95 l)) (λ (x : ℕ) (s : List ℕ) e. ap not (lacks-cons 95 x s (not-false _ e) .1)) (λ (n : ℕ) (s : List ℕ) e. ap not (front-lacks 95 n s (not-false _ e))) t (ap not h))))
 
 -- ---- what it keeps
 

@@ -6,10 +6,13 @@ ghost use Rattle.lines.specs.Lf.{linesOf, unlines};
 ghost use Rattle.lines.specs.Out.{Wrote};
 ghost use Rattle.globals.specs.Globals.{isGlobals, globalsText, removeGlobals};
 
-// Whether a line declares globals.
+// Whether a line declares globals. A line that is shorter than the shorter of the two words does not.
 fn is_globals(line: &[u8]) -> bool
     ensures { λ r. ⌜ r ≡ isGlobals (now (line .entry)) ⌝ }
 {
+    if line.len() < 25 {
+        return false;
+    }
     let t = text::trim(line);
     if lines::starts_with(t, b"__runtime.DeclareGlobals(") {
         return true;
@@ -29,8 +32,8 @@ fn put_line(line: &[u8], out: &mut [u8], o: usize) -> usize
     lines::put_byte(out, p, 10)
 }
 
-// Lines that declare globals go, and the others stay. Each line is followed by one LF.
-pub fn remove_globals(text: &[u8], out: &mut [u8]) -> usize
+// The same as remove_globals, line by line.
+fn remove_lines(text: &[u8], out: &mut [u8]) -> usize
     requires { ⌜ length (unlines (removeGlobals (linesOf (now text)))) ≤ length (now out) ⌝ }
     ensures { λ r. ⌜ Wrote (now (out .entry)) 0 (unlines (removeGlobals (linesOf (now (text .entry))))) (now (out .exit)) r ⌝ }
 {
@@ -42,4 +45,15 @@ pub fn remove_globals(text: &[u8], out: &mut [u8]) -> usize
         i = lines::after(text, e);
     }
     o
+}
+
+// Lines that declare globals go, and the others stay. Each line is followed by one LF. A text without `_` stays as it is.
+pub fn remove_globals(text: &[u8], out: &mut [u8]) -> usize
+    requires { ⌜ length (unlines (removeGlobals (linesOf (now text)))) ≤ length (now out) ⌝ }
+    ensures { λ r. ⌜ Wrote (now (out .entry)) 0 (unlines (removeGlobals (linesOf (now (text .entry))))) (now (out .exit)) r ⌝ }
+{
+    if lines::lacks(text, b'_') {
+        return lines::put_lines(text, out, 0);
+    }
+    remove_lines(text, out)
 }

@@ -4,6 +4,7 @@ pub mod TokenLaws
 pub mod TailLaws
 pub mod LexLaws
 pub mod PlainLaws
+pub mod MildLaws
 pub mod PhiLaws
 pub mod WordLaws
 pub mod Examples

@@ -25,7 +25,7 @@ use Rattle.lexical.proofs.LexLaws.{LexAt, lex-room, StripInv}
 -- ---- the test of a byte
 
 -- a bound, and no byte of the list
-none-of : (b : ℕ) → (b ≡ 10 → ⊥) → (b ≡ 34 → ⊥) → (b ≡ 39 → ⊥) → (b ≡ 47 → ⊥) → (b ≡ 96 → ⊥) → isPlain b ≡ leb b 122
+pub none-of : (b : ℕ) → (b ≡ 10 → ⊥) → (b ≡ 34 → ⊥) → (b ≡ 39 → ⊥) → (b ≡ 47 → ⊥) → (b ≡ 96 → ⊥) → isPlain b ≡ leb b 122
 none-of b n₁ n₂ n₃ n₄ n₅ = rw (ne-eqb b 10 n₁, ne-eqb b 34 n₂, ne-eqb b 39 n₃, ne-eqb b 47 n₄, ne-eqb b 96 n₅) (and-true (leb b 122))
 
 module _ (b : ℕ) where

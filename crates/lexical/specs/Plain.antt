@@ -1,8 +1,8 @@
 -- Plain bytes: a line leaves them as they are, and none of them is a brace. Assumes nothing.
 use Prim.Native.Nat.{ℕ, suc}
-use mathlib.Core.Bool.{Bool, cond, not, _&&_}
+use mathlib.Core.Bool.{Bool, cond, not, _&&_, _||_}
 use mathlib.Core.List.{List, [], _∷_}
-use lib.Dec.{leb}
+use lib.Dec.{eqb, leb, ltb}
 use Rattle.lines.specs.Lf.{among}
 use Rattle.text.specs.White.{isWhite}
 
@@ -14,6 +14,10 @@ isPlain b = leb b 122 && not (among (10 ∷ 34 ∷ 39 ∷ 47 ∷ 96 ∷ []) b)
 unfoldable pub plainLen : List ℕ → ℕ
 plainLen [] = 0
 plainLen (x ∷ xs) = cond (isPlain x) (suc (plainLen xs)) 0
+
+-- a space, or from `(` to `z`: plain but for `/` and the backtick
+abbrev pub isMild : ℕ → Bool
+isMild b = eqb b 32 || (leb 40 b && ltb b 123)
 
 -- the last character, once bytes below 128 stand after a text with this last one
 unfoldable pub lowLast : ℕ → List ℕ → ℕ

@@ -2,14 +2,14 @@
 ghost use mathlib.Core.Path.{_≡_};
 ghost use mathlib.Core.List.{[]};
 ghost use mathlib.Core.Bool.{false, cond};
-ghost use Prim.Native.Nat.{_+_, _≤_};
-ghost use lib.ListN.{length, drop};
-ghost use Rattle.lines.specs.Lf.{part};
+ghost use Prim.Native.Nat.{ℕ, _+_, _≤_};
+ghost use lib.ListN.{length, take, drop};
+ghost use Rattle.lines.specs.Lf.{all, part};
 ghost use Rattle.lines.specs.Out.{Wrote};
 ghost use Rattle.text.specs.White.{isWhite};
 ghost use Rattle.text.specs.Trim.{point, whiteChar};
 ghost use Rattle.lexical.specs.Lex.{quoteLen, patternLen, commentLen, patternAfter, token, tokenAt, leaves, lastOf, stripLexical, tailOf, lastAfter, pushed, grown, stepOf};
-ghost use Rattle.lexical.specs.Plain.{isPlain, plainLen, lowLast};
+ghost use Rattle.lexical.specs.Plain.{isPlain, plainLen, isMild, lowLast};
 ghost use Rattle.lexical.specs.Phi.{phiRhsPure, sees, seesAll};
 ghost use Rattle.lexical.specs.Idents.{charLen, joins, noWord, nextWord};
 
@@ -278,8 +278,28 @@ fn is_plain(b: u8) -> bool
     !((b == 10) | ((b == 34) | (b == 39)))
 }
 
-// Where the plain bytes from `i` on end.
-pub fn plain_end(s: &[u8], i: usize) -> usize
+// Whether a byte is a space, or from `(` to `z`.
+fn is_mild(b: u8) -> bool
+    ensures { λ r. ⌜ r ≡ isMild b ⌝ }
+{
+    (b == 32) | ((40 <= b) & (b < 123))
+}
+
+// Whether the eight bytes at a place are so; the compiler tests them at once.
+fn mild_eight(s: &[u8], j: usize) -> bool
+    requires { ⌜ j + 8 ≤ length (now s) ⌝ }
+    ensures { λ r. ⌜ r ≡ all (λ (x : ℕ). isMild x) (take 8 (drop j (now (s .entry)))) ⌝ }
+{
+    is_mild(s[j])
+        & (is_mild(s[j + 1])
+            & (is_mild(s[j + 2])
+                & (is_mild(s[j + 3])
+                    & (is_mild(s[j + 4])
+                        & (is_mild(s[j + 5]) & (is_mild(s[j + 6]) & is_mild(s[j + 7])))))))
+}
+
+// Where the plain bytes from `i` on end, byte by byte.
+fn plain_one(s: &[u8], i: usize) -> usize
     ensures { λ r. ⌜ r ≡ i + plainLen (drop i (now (s .entry))) ⌝ }
 {
     let mut j = i;
@@ -290,6 +310,25 @@ pub fn plain_end(s: &[u8], i: usize) -> usize
         j += 1;
     }
     j
+}
+
+// The same: by eight bytes, as long as these are mild, and none is `/` or a backtick.
+pub fn plain_end(s: &[u8], i: usize) -> usize
+    ensures { λ r. ⌜ r ≡ i + plainLen (drop i (now (s .entry))) ⌝ }
+{
+    if s.len() < 8 {
+        return plain_one(s, i);
+    }
+    let n = s.len() - 7;
+    let mut j = i;
+    while j < n {
+        if mild_eight(s, j) & (lines::lacks_eight(s, j, b'/') & lines::lacks_eight(s, j, b'`')) {
+            j += 8;
+        } else {
+            return plain_one(s, j);
+        }
+    }
+    plain_one(s, j)
 }
 
 // The last character that is no white space, once the byte `b` below 128 stands after a text with this last one.

@@ -1,7 +1,7 @@
 -- Laws of comparing texts. Assumes nothing.
 use Prim.Native.Nat.{ℕ, suc, _+_, _-_, _≤_, _<_}
 use mathlib.Core.Path.{_≡_, refl, sym, ap, _∙_}
-use mathlib.Core.Bool.{Bool, true, false, _&&_}
+use mathlib.Core.Bool.{Bool, true, false, cond, _&&_}
 use mathlib.Core.List.{List, [], _∷_}
 use native.Mathlib.Omega.{arith}
 use native.Mathlib.Nat.{add-zero}
@@ -9,10 +9,10 @@ use native.Mathlib.Numerals.{add-one}
 use borrow.Author.Tests.{eq-eqb, eqb-true, le-leb, lt-leb, leb-true, leb-false}
 use lib.Dec.{eqb, leb, eqb·suc-zero}
 use lib.ListN.{length, drop, getD, drop-of-length-le, List·getD-eq-default}
-use lib.Seq.{drop-cons, getD-drop}
+use lib.Seq.{drop-cons, drop-drop, getD-drop}
 use Rattle.lines.proofs.Tests.{and-false, and-true, and-left, and-right, eqb-sym}
 use Rattle.lines.proofs.LfLaws.{rest-of}
-use Rattle.lines.specs.Lf.{part, prefixed, suffixed, same, holds}
+use Rattle.lines.specs.Lf.{part, upTo, prefixed, suffixed, same, holds}
 
 -- ---- equal texts
 
@@ -81,6 +81,11 @@ unfolding holds
 holds-here p [] h = h
 holds-here p (x ∷ xs) h = rw h
 
+pub hold-empty : (p l : List ℕ) → length p ≡ 0 → holds p l ≡ true
+unfolding prefixed
+hold-empty [] l h = holds-here [] l refl
+hold-empty (x ∷ p) l h = absurd (omega arith)
+
 holds-on : (p : List ℕ) (x : ℕ) (xs : List ℕ) → prefixed p (x ∷ xs) ≡ false → holds p (x ∷ xs) ≡ holds p xs
 unfolding holds
 holds-on p x xs h = rw h
@@ -91,12 +96,26 @@ unfolding holds prefixed
 holds-none [] = refl
 holds-none (x ∷ p) = sym (eqb·suc-zero (length p))
 
+-- it stands nowhere before the first place of its first byte
+holds-up : (p l : List ℕ) → 0 < length p → holds p (drop (upTo (getD p 0 0) l) l) ≡ holds p l
+unfolding upTo prefixed
+holds-up [] l h = absurd (omega arith)
+holds-up (b ∷ p) [] h = refl
+holds-up (b ∷ p) (x ∷ xs) h = go (eqb x b) refl (holds-up (b ∷ p) xs h)
+  where
+    go : (t : Bool) → eqb x b ≡ t → holds (b ∷ p) (drop (upTo b xs) xs) ≡ holds (b ∷ p) xs → holds (b ∷ p) (drop (cond t 0 (suc (upTo b xs))) (x ∷ xs)) ≡ holds (b ∷ p) (x ∷ xs)
+    go true e on = refl
+    go false e on = on ∙ sym (holds-on (b ∷ p) x xs (rw (eqb-sym b x, e)))
+
 module _ (p s : List ℕ) (i : ℕ) where
   pub hold-here : prefixed p (part i (length s) s) ≡ true → holds p (drop i s) ≡ true
   hold-here h = holds-here p (drop i s) (ap (prefixed p) (sym (rest-of s i)) ∙ h)
 
   pub hold-on : i < length s → prefixed p (part i (length s) s) ≡ false → holds p (drop i s) ≡ holds p (drop (i + 1) s)
   hold-on k h = rw (add-one i, drop-cons s i 0 k) (holds-on p _ _ (ap (prefixed p) (sym (drop-cons s i 0 k) ∙ sym (rest-of s i)) ∙ h))
+
+  pub hold-up : 0 < length p → (j : ℕ) → j ≡ i + upTo (getD p 0 0) (drop i s) → holds p (drop j s) ≡ holds p (drop i s)
+  hold-up h j q = ap (λ (n : ℕ). holds p (drop n s)) q ∙ ap (holds p) (sym (drop-drop (upTo (getD p 0 0) (drop i s)) i s)) ∙ holds-up p (drop i s) h
 
   pub hold-end : length s ≤ i → holds p (drop i s) ≡ eqb (length p) 0
   hold-end h = ap (holds p) (drop-of-length-le s h) ∙ holds-none p

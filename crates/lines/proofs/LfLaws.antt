@@ -289,6 +289,17 @@ up-skip b (suc n) (x ∷ xs) h k =
     let u = lacks-cons b x (take n xs) k in
     rw (u .0) (let r = up-skip b n xs (omega arith) (u .1) in omega arith)
 
+-- the first b is inside, where some bytes at the front do not lack it
+pub up-inside : (b n : ℕ) (l : List ℕ) → lacks b (take n l) ≡ false → upTo b l < length l
+unfolding upTo lacks
+up-inside b zero l k = no (sym k)
+up-inside b (suc n) [] k = no (sym k)
+up-inside b (suc n) (x ∷ xs) k = go (eqb x b) k (λ (q : lacks b (take n xs) ≡ false). up-inside b n xs q)
+  where
+    go : (t : Bool) → cond t false (lacks b (take n xs)) ≡ false → (lacks b (take n xs) ≡ false → upTo b xs < length xs) → cond t 0 (suc (upTo b xs)) < suc (length xs)
+    go true q ih = omega arith
+    go false q ih = let r = ih q in omega arith
+
 -- eight tests at once
 lacks-eight : (b x₀ x₁ x₂ x₃ x₄ x₅ x₆ x₇ : ℕ) →
     not (eqb x₀ b || (eqb x₁ b || (eqb x₂ b || (eqb x₃ b || (eqb x₄ b || (eqb x₅ b || (eqb x₆ b || eqb x₇ b))))))) ≡ lacks b (x₀ ∷ x₁ ∷ x₂ ∷ x₃ ∷ x₄ ∷ x₅ ∷ x₆ ∷ x₇ ∷ [])
@@ -307,24 +318,25 @@ lacks-eight b x₀ x₁ x₂ x₃ x₄ x₅ x₆ x₇ = go (eqb x₀ b) (eqb x�
     go false false false false false false false true = refl
     go false false false false false false false false = refl
 
-eight-of : (b : ℕ) (l : List ℕ) → 8 ≤ length l →
-    not (eqb (getD l 0 0) b || (eqb (getD l 1 0) b || (eqb (getD l 2 0) b || (eqb (getD l 3 0) b || (eqb (getD l 4 0) b || (eqb (getD l 5 0) b || (eqb (getD l 6 0) b || eqb (getD l 7 0) b))))))) ≡ lacks b (take 8 l)
-eight-of b [] h = absurd (omega arith)
-eight-of b (x₀ ∷ []) h = absurd (omega arith)
-eight-of b (x₀ ∷ x₁ ∷ []) h = absurd (omega arith)
-eight-of b (x₀ ∷ x₁ ∷ x₂ ∷ []) h = absurd (omega arith)
-eight-of b (x₀ ∷ x₁ ∷ x₂ ∷ x₃ ∷ []) h = absurd (omega arith)
-eight-of b (x₀ ∷ x₁ ∷ x₂ ∷ x₃ ∷ x₄ ∷ []) h = absurd (omega arith)
-eight-of b (x₀ ∷ x₁ ∷ x₂ ∷ x₃ ∷ x₄ ∷ x₅ ∷ []) h = absurd (omega arith)
-eight-of b (x₀ ∷ x₁ ∷ x₂ ∷ x₃ ∷ x₄ ∷ x₅ ∷ x₆ ∷ []) h = absurd (omega arith)
-eight-of b (x₀ ∷ x₁ ∷ x₂ ∷ x₃ ∷ x₄ ∷ x₅ ∷ x₆ ∷ x₇ ∷ l) h = lacks-eight b x₀ x₁ x₂ x₃ x₄ x₅ x₆ x₇
+-- eight bytes of a text
+take-on : (s : List ℕ) (n j k : ℕ) → k ≡ j + 1 → j < length s → take (suc n) (drop j s) ≡ getD s j 0 ∷ take n (drop k s)
+take-on s n j k q h = rw (q, add-one j, drop-cons s j 0 h)
+
+pub eight-is : (s : List ℕ) (j : ℕ) → j + 8 ≤ length s →
+    take 8 (drop j s) ≡ getD s j 0 ∷ getD s (j + 1) 0 ∷ getD s (j + 2) 0 ∷ getD s (j + 3) 0 ∷ getD s (j + 4) 0 ∷ getD s (j + 5) 0 ∷ getD s (j + 6) 0 ∷ getD s (j + 7) 0 ∷ []
+eight-is s j h =
+    take-on s 7 j (j + 1) refl (omega arith) ∙ ap (λ (r : List ℕ). getD s j 0 ∷ r)
+    (take-on s 6 (j + 1) (j + 2) (omega arith) (omega arith) ∙ ap (λ (r : List ℕ). getD s (j + 1) 0 ∷ r)
+    (take-on s 5 (j + 2) (j + 3) (omega arith) (omega arith) ∙ ap (λ (r : List ℕ). getD s (j + 2) 0 ∷ r)
+    (take-on s 4 (j + 3) (j + 4) (omega arith) (omega arith) ∙ ap (λ (r : List ℕ). getD s (j + 3) 0 ∷ r)
+    (take-on s 3 (j + 4) (j + 5) (omega arith) (omega arith) ∙ ap (λ (r : List ℕ). getD s (j + 4) 0 ∷ r)
+    (take-on s 2 (j + 5) (j + 6) (omega arith) (omega arith) ∙ ap (λ (r : List ℕ). getD s (j + 5) 0 ∷ r)
+    (take-on s 1 (j + 6) (j + 7) (omega arith) (omega arith) ∙ ap (λ (r : List ℕ). getD s (j + 6) 0 ∷ r)
+    (take-on s 0 (j + 7) (j + 8) (omega arith) (omega arith))))))))
 
 pub eight-at : (b : ℕ) (s : List ℕ) (j : ℕ) → j + 8 ≤ length s →
     not (eqb (getD s j 0) b || (eqb (getD s (j + 1) 0) b || (eqb (getD s (j + 2) 0) b || (eqb (getD s (j + 3) 0) b || (eqb (getD s (j + 4) 0) b || (eqb (getD s (j + 5) 0) b || (eqb (getD s (j + 6) 0) b || eqb (getD s (j + 7) 0) b))))))) ≡ lacks b (take 8 (drop j s))
-eight-at b s j h =
-    let z : getD (drop j s) 0 0 ≡ getD s j 0 = getD-drop j s 0 0 ∙ ap (λ (k : ℕ). getD s k 0) (omega arith) in
-    let g : (k : ℕ) → getD (drop j s) k 0 ≡ getD s (j + k) 0 = λ k. getD-drop j s k 0 in
-    rw (sym z, sym (g 1), sym (g 2), sym (g 3), sym (g 4), sym (g 5), sym (g 6), sym (g 7)) (eight-of b (drop j s) (omega (arith, length-drop j s)))
+eight-at b s j h = lacks-eight b (getD s j 0) (getD s (j + 1) 0) (getD s (j + 2) 0) (getD s (j + 3) 0) (getD s (j + 4) 0) (getD s (j + 5) 0) (getD s (j + 6) 0) (getD s (j + 7) 0) ∙ ap (lacks b) (sym (eight-is s j h))
 
 module _ (b : ℕ) (s : List ℕ) (j : ℕ) (h : j < length s) where
   pub lacks-here : getD s j 0 ≡ b → lacks b (drop j s) ≡ false
@@ -342,25 +354,27 @@ lacks-append (x ∷ xs) ys p q = go (eqb x 10) p (λ h. lacks-append xs ys h q)
     go true h f = h
     go false h f = f h
 
-pub lacks-take : (n : ℕ) (xs : List ℕ) → lacks 10 xs ≡ true → lacks 10 (take n xs) ≡ true
+-- a part lacks what the whole lacks
+pub front-lacks : (b n : ℕ) (xs : List ℕ) → lacks b xs ≡ true → lacks b (take n xs) ≡ true
 unfolding lacks
-lacks-take zero xs p = refl
-lacks-take (suc n) [] p = refl
-lacks-take (suc n) (x ∷ xs) p = go (eqb x 10) p (lacks-take n xs)
+front-lacks b zero xs p = refl
+front-lacks b (suc n) [] p = refl
+front-lacks b (suc n) (x ∷ xs) p = go (eqb x b) p (front-lacks b n xs)
   where
-    go : (t : Bool) → cond t false (lacks 10 xs) ≡ true → (lacks 10 xs ≡ true → lacks 10 (take n xs) ≡ true) → cond t false (lacks 10 (take n xs)) ≡ true
+    go : (t : Bool) → cond t false (lacks b xs) ≡ true → (lacks b xs ≡ true → lacks b (take n xs) ≡ true) → cond t false (lacks b (take n xs)) ≡ true
     go true h f = h
     go false h f = f h
 
+pub rest-lacks : (b n : ℕ) (xs : List ℕ) → lacks b xs ≡ true → lacks b (drop n xs) ≡ true
+rest-lacks b zero xs p = p
+rest-lacks b (suc n) [] p = p
+rest-lacks b (suc n) (x ∷ xs) p = rest-lacks b n xs (lacks-cons b x xs p .1)
+
+pub lacks-take : (n : ℕ) (xs : List ℕ) → lacks 10 xs ≡ true → lacks 10 (take n xs) ≡ true
+lacks-take n xs p = front-lacks 10 n xs p
+
 pub lacks-drop : (n : ℕ) (xs : List ℕ) → lacks 10 xs ≡ true → lacks 10 (drop n xs) ≡ true
-unfolding lacks
-lacks-drop zero xs p = p
-lacks-drop (suc n) [] p = refl
-lacks-drop (suc n) (x ∷ xs) p = lacks-drop n xs (go (eqb x 10) p)
-  where
-    go : (t : Bool) → cond t false (lacks 10 xs) ≡ true → lacks 10 xs ≡ true
-    go true h = no h
-    go false h = h
+lacks-drop n xs p = rest-lacks 10 n xs p
 
 pub parts-noLf : (b : ℕ) (xs : List ℕ) → lacks 10 xs ≡ true → noLf (partsOf b xs) ≡ true
 unfolding noLf partsOf lacks

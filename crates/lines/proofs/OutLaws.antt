@@ -6,7 +6,7 @@ use native.Mathlib.Omega.{arith}
 use native.Mathlib.Nat.{add-zero, add-assoc}
 use native.Mathlib.Numerals.{add-one}
 use lib.ListN.{length, take, drop, getD, set, replicate, length-append, length-take, length-drop, take-append-drop, drop-of-length-le}
-use lib.Seq.{slice, take-suc, drop-append-le, set-split, append-snoc, take-at, drop-at, drop-drop, length-take-le, take-all}
+use lib.Seq.{slice, take-suc, drop-cons, drop-append-le, drop-append-add, set-split, append-snoc, take-at, drop-at, drop-drop, getD-drop, length-take-le, take-all, take-add}
 use Rattle.lines.specs.Out.{putAt, Wrote}
 
 -- one more element at the end of a part
@@ -123,7 +123,7 @@ writing-put {a} {o} {r} {whole} {xs} {rest} w v = record {
 pub writing-end : {a o : ℕ} {whole d₀ d : List ℕ} → Writing a whole [] d₀ d o → Wrote d₀ a whole d o
 writing-end w = wrote-as (sym (append-nil (w .done)) ∙ w .so-far) (w .wrote)
 
--- ---- the loop of `put`
+-- ---- the loop of `put_each`
 
 pub record PutInv (t d₀ d : List ℕ) (o j p : ℕ) : Type 0 where
   pub j≤ : j ≤ length t
@@ -146,6 +146,58 @@ module _ {t d₀ d : List ℕ} {o j p : ℕ} (h : PutInv t d₀ d o j p) where
 
   pub put-end : length t ≤ j → Wrote d₀ o t d p
   put-end l = wrote-as (take-all j t l) (h .wrote)
+
+-- ---- parts of one text, the later over the end of the earlier
+
+put-again : (d : List ℕ) (o : ℕ) (xs ys : List ℕ) → o + length xs ≤ length d → length xs ≤ length ys → putAt (putAt d o xs) o ys ≡ putAt d o ys
+unfolding putAt
+put-again d o xs ys h k =
+    let q : List ℕ = take o d ++ xs in
+    let m : ℕ = length ys - length xs in
+    let a : length (take o d) ≡ o = length-take-le o d (omega arith) in
+    let e : length q + m ≡ o + length ys = omega (arith, length-append (take o d) xs, a) in
+    let f : o + length xs + m ≡ o + length ys = omega arith in
+    ap (λ (r : List ℕ). r ++ ys ++ drop (o + length ys) (q ++ drop (o + length xs) d)) (ap (take o) (append-assoc (take o d) xs (drop (o + length xs) d)) ∙ take-at (take o d) (xs ++ drop (o + length xs) d) o a)
+    ∙ ap (λ (r : List ℕ). take o d ++ ys ++ r) (ap (λ (n : ℕ). drop n (q ++ drop (o + length xs) d)) (sym e) ∙ drop-append-add q (drop (o + length xs) d) m ∙ drop-drop m (o + length xs) d ∙ ap (λ (n : ℕ). drop n d) f)
+
+-- the first m bytes of a text, then those from a on, where a is not past m
+pub wrote-over : {t d d₁ d₂ : List ℕ} {o p q r : ℕ} (m a : ℕ) → a ≤ m → m ≤ length t → q ≡ o + a →
+    Wrote d o (take m t) d₁ p → Wrote d₁ q (drop a t) d₂ r → Wrote d o t d₂ (o + length t)
+wrote-over {t} {d} {d₁} {d₂} {o} {p} {q} {r} m a h k e w v =
+    let xs : List ℕ = take a t in
+    let ys : List ℕ = take (m - a) (drop a t) in
+    let z : m ≡ a + (m - a) = omega arith in
+    let c : take m t ≡ xs ++ ys = ap (λ (n : ℕ). take n t) z ∙ take-add a (m - a) t in
+    let lm : length (take m t) ≡ m = length-take-le m t k in
+    let la : length xs ≡ a = length-take-le a t (omega arith) in
+    let ly : length ys ≡ m - a = length-take-le (m - a) (drop a t) (omega (arith, length-drop a t)) in
+    let lt = length-drop a t in
+    let fit : o + length xs ≤ length d = omega (arith, w .fits, lm, la) in
+    let at : q ≡ o + length xs = omega (arith, la) in
+    let g : putAt d o (take m t) ≡ putAt (putAt d o xs) (o + length xs) ys = ap (putAt d o) c ∙ sym (put-put d o xs ys fit) in
+    let l = put-length d o xs fit in
+    record {
+      fits = omega (arith, v .fits, wrote-length w, lt);
+      place = refl;
+      holds = v .holds ∙ ap (λ (n : ℕ). putAt d₁ n (drop a t)) at ∙ ap (λ (x : List ℕ). putAt x (o + length xs) (drop a t)) (w .holds ∙ g)
+          ∙ put-again (putAt d o xs) (o + length xs) ys (drop a t) (omega (arith, w .fits, lm, la, ly, l)) (omega (arith, ly, lt))
+          ∙ put-put d o xs (drop a t) fit ∙ ap (putAt d o) (take-append-drop a t);
+    }
+
+-- ---- eight bytes, one after the other
+
+module _ (t d : List ℕ) (o j : ℕ) (h : (o + 8 ≤ length d) × (j + 8 ≤ length t)) where
+  put-next : {d₁ : List ℕ} (k : ℕ) → k < 8 → Wrote d o (take k (drop j t)) d₁ (o + k) → Wrote d o (take (suc k) (drop j t)) (set d₁ (o + k) (getD t (j + k) 0)) (o + suc k)
+  put-next {d₁} k l w =
+      let e : o + k + 1 ≡ o + suc k = omega arith in
+      let c : take k (drop j t) ++ (getD t (j + k) 0 ∷ []) ≡ take (suc k) (drop j t) =
+      sym (take-suc (drop j t) k 0 (omega (arith, h .1, length-drop j t)) ∙ ap (λ (x : ℕ). take k (drop j t) ++ (x ∷ [])) (getD-drop j t k 0)) in
+      subst (λ (n : ℕ). Wrote d o (take (suc k) (drop j t)) (set d₁ (o + k) (getD t (j + k) 0)) n) e (wrote-as c (wrote-more (getD t (j + k) 0) w (omega (arith, h .0, wrote-length w))))
+
+  pub put-eight : Wrote d o (take 8 (drop j t)) (set (set (set (set (set (set (set (set d o (getD t j 0)) (o + 1) (getD t (j + 1) 0)) (o + 2) (getD t (j + 2) 0)) (o + 3) (getD t (j + 3) 0)) (o + 4) (getD t (j + 4) 0)) (o + 5) (getD t (j + 5) 0)) (o + 6) (getD t (j + 6) 0)) (o + 7) (getD t (j + 7) 0)) (o + 8)
+  put-eight =
+      let first : Wrote d o (take 1 (drop j t)) (set d o (getD t j 0)) (o + 1) = wrote-as (sym (ap (take 1) (drop-cons t j 0 (omega (arith, h .1))))) (wrote-byte d o (getD t j 0) (omega (arith, h .0))) in
+      put-next 7 (omega arith) (put-next 6 (omega arith) (put-next 5 (omega arith) (put-next 4 (omega arith) (put-next 3 (omega arith) (put-next 2 (omega arith) (put-next 1 (omega arith) first))))))
 
 -- ---- the loop of `wipe`
 

@@ -57,8 +57,20 @@ fn find_one(s: &[u8], i: usize, b: u8) -> usize
     j
 }
 
+// The place of the first `b` from `i` on, where there is one.
+fn find_sure(s: &[u8], i: usize, b: u8) -> usize
+    requires { ⌜ i + upTo b (drop i (now s)) < length (now s) ⌝ }
+    ensures { λ r. ⌜ r ≡ i + upTo b (drop i (now (s .entry))) ⌝ }
+{
+    let mut j = i;
+    while s[j] != b {
+        j += 1;
+    }
+    j
+}
+
 // Whether none of the eight bytes at a place is `b`; the compiler compares them at once.
-fn lacks_eight(s: &[u8], j: usize, b: u8) -> bool
+pub fn lacks_eight(s: &[u8], j: usize, b: u8) -> bool
     requires { ⌜ j + 8 ≤ length (now s) ⌝ }
     ensures { λ r. ⌜ r ≡ lacks b (take 8 (drop j (now (s .entry)))) ⌝ }
 {
@@ -83,7 +95,7 @@ pub fn find_byte(s: &[u8], i: usize, b: u8) -> usize
         if lacks_eight(s, j, b) {
             j += 8;
         } else {
-            return find_one(s, j, b);
+            return find_sure(s, j, b);
         }
     }
     find_one(s, j, b)
@@ -123,7 +135,7 @@ pub fn count_byte(s: &[u8], b: u8) -> usize
 }
 
 // Whether no byte is `b`. It goes on to the end, so that the compiler compares many bytes at a time.
-fn lacks(s: &[u8], b: u8) -> bool
+pub fn lacks(s: &[u8], b: u8) -> bool
     ensures { λ r. ⌜ r ≡ lacks b (now (s .entry)) ⌝ }
 {
     let mut none = true;
@@ -177,18 +189,22 @@ pub fn same(s: &[u8], t: &[u8]) -> bool
     starts_with(t, s)
 }
 
-// Whether `p` stands somewhere.
+// Whether `p` stands somewhere: it is looked for where its first byte stands.
 pub fn contains(s: &[u8], p: &[u8]) -> bool
     ensures { λ r. ⌜ r ≡ holds (now (p .entry)) (now (s .entry)) ⌝ }
 {
-    let mut i = 0;
+    if p.len() == 0 {
+        return true;
+    }
+    let b = p[0];
+    let mut i = find_byte(s, 0, b);
     while i < s.len() {
         if starts_with(&s[i..], p) {
             return true;
         }
-        i += 1;
+        i = find_byte(s, i + 1, b);
     }
-    p.len() == 0
+    false
 }
 
 // Writes one byte at `o`, and returns the place after it.
@@ -200,8 +216,54 @@ pub fn put_byte(out: &mut [u8], o: usize, b: u8) -> usize
     o + 1
 }
 
-// Writes `t` at `o`, and returns the place after it.
-pub fn put(out: &mut [u8], o: usize, t: &[u8]) -> usize
+// Writes the eight bytes of `t` at `j` at `o`, and returns the place after them; the compiler moves them at once.
+fn put_eight(out: &mut [u8], o: usize, t: &[u8], j: usize) -> usize
+    requires { ⌜ (o + 8 ≤ length (now out)) × (j + 8 ≤ length (now t)) ⌝ }
+    ensures { λ r. ⌜ Wrote (now (out .entry)) o (take 8 (drop j (now (t .entry)))) (now (out .exit)) r ⌝ }
+{
+    let a = t[j];
+    let b = t[j + 1];
+    let c = t[j + 2];
+    let d = t[j + 3];
+    let e = t[j + 4];
+    let f = t[j + 5];
+    let g = t[j + 6];
+    let h = t[j + 7];
+    out[o] = a;
+    out[o + 1] = b;
+    out[o + 2] = c;
+    out[o + 3] = d;
+    out[o + 4] = e;
+    out[o + 5] = f;
+    out[o + 6] = g;
+    out[o + 7] = h;
+    o + 8
+}
+
+// Writes a text of 8 to 16 bytes: the first eight and the last eight, which may be some of the same.
+fn put_pair(out: &mut [u8], o: usize, t: &[u8]) -> usize
+    requires { ⌜ (o + length (now t) ≤ length (now out)) × ((8 ≤ length (now t)) × (length (now t) ≤ 16)) ⌝ }
+    ensures { λ r. ⌜ Wrote (now (out .entry)) o (now (t .entry)) (now (out .exit)) r ⌝ }
+{
+    let n = t.len();
+    put_eight(out, o, t, 0);
+    put_eight(out, o + n - 8, t, n - 8);
+    o + n
+}
+
+// Writes a text of 16 to 32 bytes: the first sixteen and the last sixteen, which may be some of the same.
+fn put_pairs(out: &mut [u8], o: usize, t: &[u8]) -> usize
+    requires { ⌜ (o + length (now t) ≤ length (now out)) × ((16 ≤ length (now t)) × (length (now t) ≤ 32)) ⌝ }
+    ensures { λ r. ⌜ Wrote (now (out .entry)) o (now (t .entry)) (now (out .exit)) r ⌝ }
+{
+    let n = t.len();
+    put_pair(out, o, &t[..16]);
+    put_pair(out, o + n - 16, &t[n - 16..]);
+    o + n
+}
+
+// Writes `t` at `o` byte by byte, and returns the place after it; of a long text the compiler moves many at once.
+fn put_each(out: &mut [u8], o: usize, t: &[u8]) -> usize
     requires { ⌜ o + length (now t) ≤ length (now out) ⌝ }
     ensures { λ r. ⌜ Wrote (now (out .entry)) o (now (t .entry)) (now (out .exit)) r ⌝ }
 {
@@ -213,6 +275,24 @@ pub fn put(out: &mut [u8], o: usize, t: &[u8]) -> usize
         j += 1;
     }
     p
+}
+
+// Writes `t` at `o`, and returns the place after it.
+pub fn put(out: &mut [u8], o: usize, t: &[u8]) -> usize
+    requires { ⌜ o + length (now t) ≤ length (now out) ⌝ }
+    ensures { λ r. ⌜ Wrote (now (out .entry)) o (now (t .entry)) (now (out .exit)) r ⌝ }
+{
+    let n = t.len();
+    if n < 8 {
+        return put_each(out, o, t);
+    }
+    if n <= 16 {
+        return put_pair(out, o, t);
+    }
+    if n <= 32 {
+        return put_pairs(out, o, t);
+    }
+    put_each(out, o, t)
 }
 
 // Writes a line with its LF at `o`, and returns the place after it.

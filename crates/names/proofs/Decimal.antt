@@ -89,7 +89,7 @@ enough (suc k) (suc m) n p q = ap (λ (l : List ℕ). cond (ltb n 10) ((48 + n) 
 larger : (v w p x : ℕ) → w + 1 ≤ (v + 1) * 10 → x < (w + 1) * p → x < (v + 1) * (p * 10)
 larger v w p x h l = omega (arith, mul-le-mul-right p h)
 
-value-lt : (ds : List ℕ) (v : ℕ) → allDigits ds ≡ true → value v ds < (v + 1) * 10 ^ length ds
+pub value-lt : (ds : List ℕ) (v : ℕ) → allDigits ds ≡ true → value v ds < (v + 1) * 10 ^ length ds
 value-lt [] v h = omega arith
 value-lt (d ∷ ds) v h =
     let a = leb-true d 57 (and-right (leb 48 d) (leb d 57) (and-left (isDigit d) (allDigits ds) h)) in

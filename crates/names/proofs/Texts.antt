@@ -18,10 +18,10 @@ use Rattle.names.specs.declared.Number.the-variants as number
 use Rattle.names.specs.declared.RegName.the-variants as reg
 use Rattle.names.specs.declared.PhiName.the-variants as phi
 use Rattle.names.specs.Names.{isDigit, allDigits, numbered, numberOf, zeros, decimal, numberAfter, regWord, phiWord, tempWord, regBy, regOf, phiBy, phiOf, isTemp, regText, phiText, regIs, allNames, isIdent}
-use Rattle.names.proofs.Digits.{number-read, all-append, all-more}
+use Rattle.names.proofs.Digits.{number-read, all-append, all-more, zeros-end}
 use Rattle.lines.proofs.Compare.{same-eq}
-use Rattle.names.proofs.Equal.{front-append, front-of}
-use Rattle.names.proofs.Decimal.{decimal-value, decimal-strip}
+use Rattle.names.proofs.Equal.{front-append, front-of, same-front}
+use Rattle.names.proofs.Decimal.{decimal-value, decimal-strip, numberIs, prints-is}
 
 -- ---- a word and a number
 
@@ -121,6 +121,19 @@ pub reg-text-is : (s : List ℕ) (v : ℕ) → v < 2 ^ 64 → same s (regText v)
 reg-text-is s v h e = rw (same-eq s (regText v) e, reg-text-value v h) (eq-eqb v v refl)
 
 -- ---- phis, likewise
+
+-- of two bytes, the name and its text are the same
+pub two-text : (s : List ℕ) (v : ℕ) → v < 2 ^ 64 → length s ≡ 2 → regIs v (regOf s) ≡ same s (regText v)
+unfolding regOf
+two-text s v h n = told (prefixed regWord s) ∙ sym (same-front regWord s (decimal v))
+  where
+    named : (m : Number) → regIs v (regBy m) ≡ numberIs v m
+    named (number.Of k) = refl
+    named number.None = refl
+
+    told : (b : Bool) → regIs v (cond b (regBy (numberOf (drop 1 s))) reg.None) ≡ b && same (drop 1 s) (decimal v)
+    told true = named (numberOf (drop 1 s)) ∙ sym (prints-is (drop 1 s) v h (zeros-end s 1 (omega arith)))
+    told false = refl
 
 pub phi-by : (s : List ℕ) → phiOf s ≡ phiBy (numberAfter phiWord s)
 unfolding phiOf numberAfter

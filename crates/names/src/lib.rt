@@ -2,7 +2,7 @@
 ghost use mathlib.Core.Path.{_≡_};
 ghost use mathlib.Core.List.{[], _∷_, _++_};
 ghost use Rattle.lines.specs.Lf.{same};
-ghost use Rattle.names.specs.Names.{allDigits, numberOf, zeros, decimal, numberAfter, regBy, regOf, phiOf, isTemp, regText, phiText, isIdent};
+ghost use Rattle.names.specs.Names.{allDigits, numberOf, zeros, decimal, numberAfter, regBy, regOf, phiOf, isTemp, regText, phiText, regIs, isIdent};
 
 // A register, a phi: numbers of their own, so that a table of one cannot be asked with another.
 pub struct Register(pub u64);
@@ -181,10 +181,23 @@ fn prints_after(s: &[u8], p: &[u8], v: u64) -> bool
     prints(lines::cut(s, p.len(), s.len()), v)
 }
 
-// Whether a text is the register as it is printed.
+// Whether a text names a register.
+pub fn names_reg(s: &[u8], reg: Register) -> bool
+    ensures { λ r. ⌜ r ≡ regIs (reg .0) (regOf (now (s .entry))) ⌝ }
+{
+    match reg_name(s) {
+        RegName::Reg(q) => q.0 == reg.0,
+        RegName::None => false,
+    }
+}
+
+// Whether a text is the register as it is printed: one of two bytes is, where it names it.
 pub fn is_reg_text(s: &[u8], reg: Register) -> bool
     ensures { λ r. ⌜ r ≡ same (now (s .entry)) (regText (reg .0)) ⌝ }
 {
+    if s.len() == 2 {
+        return names_reg(s, reg);
+    }
     prints_after(s, b"r", reg.0)
 }
 

@@ -4,11 +4,11 @@ use mathlib.Core.Path.{_≡_, refl, sym, ap, _∙_}
 use mathlib.Core.Bool.{Bool, true, false, not, _&&_}
 use mathlib.Core.List.{List, _∷_}
 use native.Mathlib.Omega.{arith}
-use lib.Dec.{eqb, ltb}
+use lib.Dec.{eqb}
 use lib.ListN.{length, length-take, length-drop}
 use Rattle.lines.specs.Lf.{part}
-use borrow.Author.Tests.{eq-eqb, ne-eqb, eqb-true, lt-ltb, not-true}
-use Rattle.lines.proofs.Tests.{no, and-false, and-true, and-right}
+use borrow.Author.Tests.{eq-eqb, ne-eqb}
+use Rattle.lines.proofs.Tests.{and-false, and-true}
 use Rattle.parse.specs.Parse.{parseOf, textOf}
 use Rattle.parse.specs.declared.Line.{Line}
 use Rattle.parse.specs.declared.Line.the-variants as line
@@ -77,59 +77,52 @@ module _ (R : Reading) (v : ℕ) (x : List ℕ) (run : List (List ℕ)) (b goes 
   unfolding storeForwards
   forwards-loop h = rw h
 
-  -- the next line does not read it, or stores it, or it is read again
-  pub forwards-unsent : sentTo v (e ∷ ls) ≡ false → storeForwards R v x run b goes e ls ≡ false
-  unfolding storeForwards sentTo
-  forwards-unsent h =
-      ap (λ (t : Bool). not b && (not goes && t)) (go (lineStores v e) (eqb (lineReads v e) 1) refl (laterRead v ls) h)
-      ∙ ap (λ (t : Bool). not b && t) (and-false (not goes))
-      ∙ and-false (not b)
-    where
-      go : (s c : Bool) → eqb (lineReads v e) 1 ≡ c → (l : Bool) → not s && (ltb 0 (lineReads v e) && not l) ≡ false →
-          not s && (c && (not l && (pureIn R x && (eqb (readCount v run) 1 && hasHit (regHit v e))))) ≡ false
-      go true c q l z = refl
-      go false false q l z = refl
-      go false true q true z = refl
-      go false true q false z = let n = eqb-true (lineReads v e) 1 q in no (sym z ∙ rw (lt-ltb 0 (lineReads v e) (omega arith)))
-
   module _ (o : b ≡ false) where
     pub forwards-gone : goes ≡ true → storeForwards R v x run b goes e ls ≡ false
     unfolding storeForwards
     forwards-gone h = rw (o, h)
 
     module _ (g : goes ≡ false) where
-      pub forwards-stored : lineStores v e ≡ true → storeForwards R v x run b goes e ls ≡ false
-      unfolding storeForwards
-      forwards-stored h = rw (o, g, h)
+      by-sent : storeForwards R v x run b goes e ls ≡ sentTo v (e ∷ ls) && (pureIn R x && (eqb (readCount v run) 1 && hasHit (regHit v e)))
+      unfolding storeForwards sentTo
+      by-sent = rw (o, g) (go (lineStores v e) (eqb (lineReads v e) 1))
+        where
+          go : (s c : Bool) → not s && (c && (not (laterRead v ls) && (pureIn R x && (eqb (readCount v run) 1 && hasHit (regHit v e)))))
+              ≡ (not s && (c && not (laterRead v ls))) && (pureIn R x && (eqb (readCount v run) 1 && hasHit (regHit v e)))
+          go true c = refl
+          go false true = refl
+          go false false = refl
 
-      module _ (s : lineStores v e ≡ false) (n : ℕ) (m : n ≡ lineReads v e) where
-        pub forwards-reads : (n ≡ 1 → ⊥) → storeForwards R v x run b goes e ls ≡ false
-        unfolding storeForwards
-        forwards-reads h = rw (o, g, s, sym m, ne-eqb n 1 h)
+      -- the next line does not read it once, or stores it, or it is read again
+      pub forwards-unsent : sentTo v (e ∷ ls) ≡ false → storeForwards R v x run b goes e ls ≡ false
+      forwards-unsent h = by-sent ∙ rw h
 
-        module _ (z : n ≡ 1) where
-          pub forwards-impure : pureIn R x ≡ false → storeForwards R v x run b goes e ls ≡ false
-          unfolding storeForwards
-          forwards-impure h = rw (o, g, s, sym m, eq-eqb n 1 z, h, and-false (not (laterRead v ls)))
+      module _ (s : sentTo v (e ∷ ls) ≡ true) where
+        pub forwards-impure : pureIn R x ≡ false → storeForwards R v x run b goes e ls ≡ false
+        forwards-impure h = by-sent ∙ rw (s, h)
 
-          module _ (y : pureIn R x ≡ true) where
-            pub forwards-hit : hasHit (regHit v e) ≡ false → storeForwards R v x run b goes e ls ≡ false
-            unfolding storeForwards
-            forwards-hit h = rw (o, g, s, sym m, eq-eqb n 1 z, y, h, and-false (eqb (readCount v run) 1), and-false (not (laterRead v ls)))
+        module _ (y : pureIn R x ≡ true) where
+          pub forwards-hit : hasHit (regHit v e) ≡ false → storeForwards R v x run b goes e ls ≡ false
+          forwards-hit h = by-sent ∙ rw (s, y, h) (and-false (eqb (readCount v run) 1))
 
-            module _ (t : hasHit (regHit v e) ≡ true) where
-              pub forwards-later : laterRead v ls ≡ true → storeForwards R v x run b goes e ls ≡ false
-              unfolding storeForwards
-              forwards-later h = rw (o, g, s, sym m, eq-eqb n 1 z, h)
+          pub forwards-once : hasHit (regHit v e) ≡ true → eqb (readCount v run) 1 ≡ storeForwards R v x run b goes e ls
+          forwards-once h = sym (by-sent ∙ rw (s, y, h) (and-true (eqb (readCount v run) 1)))
 
-              pub forwards-once : laterRead v ls ≡ false → eqb (readCount v run) 1 ≡ storeForwards R v x run b goes e ls
-              unfolding storeForwards
-              forwards-once h = rw (o, g, s, sym m, eq-eqb n 1 z, t, y, h, and-true (eqb (readCount v run) 1))
+-- ---- the value may go into the next line
 
--- where the value may go into the next line, it is not read again
-pub sent-later : (v : ℕ) (e : List ℕ) (ls : List (List ℕ)) → sentTo v (e ∷ ls) ≡ true → laterRead v ls ≡ false
-unfolding sentTo
-sent-later v e ls h = not-true (laterRead v ls) (and-right (ltb 0 (lineReads v e)) (not (laterRead v ls)) (and-right (not (lineStores v e)) (ltb 0 (lineReads v e) && not (laterRead v ls)) h))
+module _ (v : ℕ) (e : List ℕ) (ls : List (List ℕ)) where
+  pub sent-stored : lineStores v e ≡ true → sentTo v (e ∷ ls) ≡ false
+  unfolding sentTo
+  sent-stored h = rw h
+
+  module _ (s : lineStores v e ≡ false) (n : ℕ) (m : n ≡ lineReads v e) where
+    pub sent-reads : (n ≡ 1 → ⊥) → sentTo v (e ∷ ls) ≡ false
+    unfolding sentTo
+    sent-reads h = rw (s, sym m, ne-eqb n 1 h)
+
+    pub sent-later : n ≡ 1 → not (laterRead v ls) ≡ sentTo v (e ∷ ls)
+    unfolding sentTo
+    sent-later h = rw (s, sym m, eq-eqb n 1 h)
 
 pub forwards-at : (R : Reading) (l : List ℕ) (run : List (List ℕ)) (b goes : Bool) (e : List ℕ) (ls : List (List ℕ)) (k : Line) → k ≡ parseOf l →
     forwardsBy R l run b goes e ls k ≡ lineForwards R l run b goes e ls

@@ -13,14 +13,12 @@ use Rattle.lines.proofs.LfLaws.{lines-at, lines-end, find-le, rest-of}
 use Rattle.lines.proofs.OutLaws.{Writing, writing-start, writing-as, writing-room, writing-length}
 use Rattle.place.specs.Blocks.{top}
 use Rattle.place.specs.Fill.{Filled, flagsOf}
-use Rattle.place.specs.Region.{isHeader, region, regionAt, regionLen}
+use Rattle.place.specs.Region.{isHeader, region, regionAt}
 use Rattle.place.specs.Paths.{blockPaths, tops}
 use Rattle.place.specs.Loops.{insideLoop}
 use Rattle.place.proofs.Fills.{entry-on, entry-end, filled-as}
-use Rattle.place.proofs.Regions.{region-at}
 use Rattle.place.proofs.Paths.{length-tops}
 use Rattle.place.proofs.Nests.{length-loops}
-use Rattle.text.specs.declared.Span.{Span}
 use Rattle.reading.specs.Reading.{Reading, plain}
 use Rattle.once.specs.Once.{Spot, spotsOf, spots, linesIn, dropped, forwards, nextRun, onceGo, onceActs}
 use Rattle.once.specs.Tables.{Blank, lineDrops, lineForwards, markOf, marksGo, onceMarks, actsBy, isSet, firstDrops, firstTakes, markBy, marksIn, marksOf, areaAt}
@@ -154,9 +152,9 @@ mark-stays p q = rw (p, q)
 
 -- ---- the region of a line
 
--- the lines of a part
-abbrev pub linesAt : List ℕ → Span → List (List ℕ)
-linesAt t w = linesOf (part (w .from) (w .to) t)
+-- the region at the front of a rest
+abbrev pub linesAt : List ℕ → ℕ → List (List ℕ)
+linesAt t w = region (linesOf (drop w t))
 
 at-same : (l : List ℕ) (ls run : List (List ℕ)) → isHeader l ≡ false → run ≡ regionAt l ls run
 unfolding regionAt
@@ -166,20 +164,19 @@ at-new : (l : List ℕ) (ls run : List (List ℕ)) → isHeader l ≡ true → r
 unfolding regionAt region
 at-new l ls run e = rw e
 
-pub area-run : (t : List ℕ) (i e : ℕ) (above : Span) → i < length t → e ≡ i + upTo 10 (drop i t) →
+pub area-run : (t : List ℕ) (i e above : ℕ) → i < length t → e ≡ i + upTo 10 (drop i t) →
     linesAt t (areaAt t i e above) ≡ regionAt (part i e t) (linesOf (drop (min (e + 1) (length t)) t)) (linesAt t above)
 unfolding areaAt
 area-run t i e above h q = go (isHeader (part i e t)) refl
   where
-    go : (b : Bool) → isHeader (part i e t) ≡ b →
-        linesAt t (cond b (record { from = i; to = i + regionLen (drop i t) }) above) ≡ regionAt (part i e t) (linesOf (drop (min (e + 1) (length t)) t)) (linesAt t above)
-    go true n = region-at t i (i + regionLen (drop i t)) refl ∙ ap region (lines-at t i e h q) ∙ at-new (part i e t) _ _ n
+    go : (b : Bool) → isHeader (part i e t) ≡ b → linesAt t (cond b i above) ≡ regionAt (part i e t) (linesOf (drop (min (e + 1) (length t)) t)) (linesAt t above)
+    go true n = ap region (lines-at t i e h q) ∙ at-new (part i e t) _ _ n
     go false n = at-same (part i e t) _ _ n
 
-module _ (t : List ℕ) (i e : ℕ) (above : Span) (l : List ℕ) (q : l ≡ part i e t) where
-  pub area-new : (r : ℕ) → r ≡ i + regionLen (drop i t) → isHeader l ≡ true → record { from = i; to = r } ≡ areaAt t i e above
+module _ (t : List ℕ) (i e above : ℕ) (l : List ℕ) (q : l ≡ part i e t) where
+  pub area-new : isHeader l ≡ true → i ≡ areaAt t i e above
   unfolding areaAt
-  area-new r z n = rw (sym q, n, z)
+  area-new n = rw (sym q, n)
 
   pub area-same : isHeader l ≡ false → above ≡ areaAt t i e above
   unfolding areaAt
@@ -188,21 +185,21 @@ module _ (t : List ℕ) (i e : ℕ) (above : Span) (l : List ℕ) (q : l ≡ par
 -- ---- the loop
 
 -- the marks that are still to come: of the lines from i on, with the entries from k on
-abbrev pub toMark : List ℕ → List ℕ → List ℕ → ℕ → ℕ → Bool → Span → List ℕ
+abbrev pub toMark : List ℕ → List ℕ → List ℕ → ℕ → ℕ → Bool → ℕ → List ℕ
 toMark t ps fs i k goes w = marksIn plain (linesOf (drop i t)) (drop k ps) (drop k fs) goes (linesAt t w)
 
-pub record MarksInv (t ps fs d₀ d : List ℕ) (i k : ℕ) (goes : Bool) (w : Span) : Type 0 where
+pub record MarksInv (t ps fs d₀ d : List ℕ) (i k : ℕ) (goes : Bool) (w : ℕ) : Type 0 where
   pub i≤ : i ≤ length t
   pub k≤ : k ≤ i
   pub writing : Writing 0 (marksOf plain (linesOf t) ps fs) (toMark t ps fs i k goes w) d₀ d k
 
-pub fill-start : (t ps fs d : List ℕ) (f b : ℕ) (goes : Bool) → length (linesOf t) ≤ length d → b ≡ 0 + regionLen (drop 0 t) → f ≡ getD fs 0 0 →
-    goes ≡ firstDrops plain (linesOf (drop 0 t)) (drop 0 ps) (isSet f) → MarksInv t ps fs d d 0 0 goes (record { from = 0; to = b })
+pub fill-start : (t ps fs d : List ℕ) (f : ℕ) (goes : Bool) → length (linesOf t) ≤ length d → f ≡ getD fs 0 0 →
+    goes ≡ firstDrops plain (linesOf (drop 0 t)) (drop 0 ps) (isSet f) → MarksInv t ps fs d d 0 0 goes 0
 unfolding marksOf
-fill-start t ps fs d f b goes h q z n = record {
+fill-start t ps fs d f goes h z n = record {
   i≤ = omega arith;
   k≤ = omega arith;
-  writing = writing-as (first ∙ ap (λ (r : List (List ℕ)). marksIn plain (linesOf t) ps fs goes r) (sym (region-at t 0 b q)))
+  writing = writing-as first
       (writing-start 0 (marksOf plain (linesOf t) ps fs) d (omega (arith, marks-length plain (linesOf t) ps fs)));
 }
   where
@@ -215,9 +212,9 @@ marks-cons : (R : Reading) (l : List ℕ) (ls : List (List ℕ)) (ps fs : List �
 unfolding marksIn
 marks-cons R l ls ps fs goes run f next y z = rw (y, z)
 
-module _ {t ps fs d₀ d : List ℕ} {i k : ℕ} {goes : Bool} {w : Span} (v : MarksInv t ps fs d₀ d i k goes w) (h : i < length t)
+module _ {t ps fs d₀ d : List ℕ} {i k : ℕ} {goes : Bool} {w : ℕ} (v : MarksInv t ps fs d₀ d i k goes w) (h : i < length t)
     (e j : ℕ) (q : e ≡ i + upTo 10 (drop i t)) (z : j ≡ min (e + 1) (length t)) where
-  module _ (f g : ℕ) (next : Bool) (w′ : Span) (y : f ≡ getD fs k 0) (x : g ≡ getD fs (k + 1) 0) (a : w′ ≡ areaAt t i e w)
+  module _ (f g : ℕ) (next : Bool) (w′ : ℕ) (y : f ≡ getD fs k 0) (x : g ≡ getD fs (k + 1) 0) (a : w′ ≡ areaAt t i e w)
       (n : next ≡ firstDrops plain (linesOf (drop j t)) (drop (k + 1) ps) (isSet g)) where
     mark-on : toMark t ps fs i k goes w ≡ markBy goes (firstTakes plain (part i e t) (linesAt t w′) (isSet f) next (linesOf (drop j t))) ∷ toMark t ps fs j (k + 1) next w′
     mark-on =
@@ -240,20 +237,20 @@ module _ {t ps fs d₀ d : List ℕ} {i k : ℕ} {goes : Bool} {w : Span} (v : M
     pub fill-place : k < length d
     fill-place = let r = writing-room (writing-as mark-on (v .writing)) in omega arith
 
-    -- l is the line, and r its region
-    pub fill-on : (l r : List ℕ) (m : ℕ) → l ≡ part i e t → r ≡ part (w′ .from) (w′ .to) t → m ≡ markBy goes (firstTakes plain l (linesOf r) (isSet f) next (linesOf (drop j t))) →
+    -- l is the line, and r begins with its region
+    pub fill-on : (l r : List ℕ) (m : ℕ) → l ≡ part i e t → r ≡ part w′ (length t) t → m ≡ markBy goes (firstTakes plain l (region (linesOf r)) (isSet f) next (linesOf (drop j t))) →
         MarksInv t ps fs d₀ (set d k m) j (k + 1) next w′
     fill-on l r m b c o =
         let s : m ≡ markBy goes (firstTakes plain (part i e t) (linesAt t w′) (isSet f) next (linesOf (drop j t))) =
-        o ∙ ap (λ (u : List ℕ). markBy goes (firstTakes plain u (linesOf r) (isSet f) next (linesOf (drop j t)))) b
-        ∙ ap (λ (u : List ℕ). markBy goes (firstTakes plain (part i e t) (linesOf u) (isSet f) next (linesOf (drop j t)))) c in
+        o ∙ ap (λ (u : List ℕ). markBy goes (firstTakes plain u (region (linesOf r)) (isSet f) next (linesOf (drop j t)))) b
+        ∙ ap (λ (u : List ℕ). markBy goes (firstTakes plain (part i e t) (region (linesOf u)) (isSet f) next (linesOf (drop j t)))) (c ∙ rest-of t w′) in
         record {
           i≤ = omega arith;
           k≤ = omega (arith, v .k≤);
           writing = entry-on m (writing-as (mark-on ∙ ap (λ (u : ℕ). u ∷ toMark t ps fs j (k + 1) next w′) (sym s)) (v .writing));
         }
 
-pub fill-end : {t ps fs d₀ d : List ℕ} {i k : ℕ} {goes : Bool} {w : Span} → MarksInv t ps fs d₀ d i k goes w → length t ≤ i → Filled d₀ (marksOf plain (linesOf t) ps fs) d k
+pub fill-end : {t ps fs d₀ d : List ℕ} {i k : ℕ} {goes : Bool} {w : ℕ} → MarksInv t ps fs d₀ d i k goes w → length t ≤ i → Filled d₀ (marksOf plain (linesOf t) ps fs) d k
 unfolding marksIn
 fill-end {t} {ps} {fs} {d₀} {d} {i} {k} {goes} {w} v h = entry-end (none (linesOf (drop i t)) (lines-end t i h)) (v .writing)
   where

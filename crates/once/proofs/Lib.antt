@@ -10,7 +10,7 @@ pub mod Keeps
 pub mod Passes
 pub mod Room
 pub mod Examples
-pub mod NotedLaws
+pub mod AreaLaws
 pub mod NotedFills
 pub mod CallLaws
 pub mod CalmLaws

@@ -1,5 +1,5 @@
 -- Laws of the numbers of the next lines that use a register, and of the notes that they give. Assumes nothing.
-use Prim.Native.Nat.{ℕ, suc, _+_, _-_, _≤_, _<_}
+use Prim.Native.Nat.{ℕ, zero, suc, _+_, _-_, _≤_, _<_}
 use mathlib.Core.Path.{_≡_, refl, sym, ap, subst, _∙_}
 use mathlib.Core.Bool.{Bool, true, false, cond, not, _&&_, _||_}
 use mathlib.Core.List.{List, [], _∷_}
@@ -8,7 +8,7 @@ use borrow.Author.Tests.{lt-ltb, le-ltb, ltb-true, ltb-false, eq-eqb, ne-eqb, eq
 use lib.Dec.{eqb, ltb}
 use lib.ListN.{length, drop, getD, length-drop}
 use lib.Seq.{getD-drop}
-use Rattle.lines.proofs.Tests.{no, and-false}
+use Rattle.lines.proofs.Tests.{no, and-false, and-left}
 use Rattle.parse.specs.Parse.{parseOf}
 use Rattle.parse.specs.declared.Store.{Store}
 use Rattle.parse.specs.declared.Line.{Line}
@@ -18,7 +18,7 @@ use Rattle.reading.specs.Uses.{lineReads, lineStores}
 use Rattle.once.specs.Scratch.{liveBelow}
 use Rattle.once.specs.Once.{none, read, write, deadBy, laterRead}
 use Rattle.once.specs.Tables.{nextIn}
-use Rattle.once.specs.Noted.{firstBy, readFrom, storeFrom, headFrom, farFrom, samePath, noteBy, storeNote, lineNote, sentTo, DropIs, SendIs, NoteIs}
+use Rattle.once.specs.Noted.{firstBy, readFrom, storeFrom, headFrom, farFrom, samePath, noteBy, storeNote, lineNote, readNext, sentTo, maySend, DropIs, SendIs, NoteIs}
 
 pub first-le : (f : List ℕ → Bool) (ls : List (List ℕ)) → firstBy f ls ≤ length ls
 unfolding firstBy
@@ -123,19 +123,28 @@ next-none v (l ∷ ls) (p ∷ ps) h k =
 
 -- ---- the next line reads it, and no other
 
+one-as : (n : ℕ) → eqb n 1 ≡ ltb 0 n && not (ltb 1 n)
+one-as zero = refl
+one-as (suc zero) = refl
+one-as (suc (suc n)) =
+    rw (ne-eqb (suc (suc n)) 1 (λ (q : suc (suc n) ≡ 1). omega arith), lt-ltb 0 (suc (suc n)) (omega arith), lt-ltb 1 (suc (suc n)) (omega arith))
+
 sent-from : (v : ℕ) (ls : List (List ℕ)) → sentTo v ls ≡ eqb (readFrom v ls) (length ls) && (ltb (storeFrom v ls) (readFrom v ls) && not (ltb (storeFrom v ls) (farFrom v ls)))
 unfolding sentTo firstBy farFrom
 sent-from v [] = refl
 sent-from v (l ∷ ls) =
-    go (later-from v ls) (first-le (λ (l : List ℕ). lineStores v l) ls) (first-le (λ (l : List ℕ). ltb 0 (lineReads v l)) ls) (lineStores v l) (ltb 0 (lineReads v l))
+    ap (λ (t : Bool). not (lineStores v l) && (t && not (laterRead v ls))) (one-as (lineReads v l))
+    ∙ go (later-from v ls) (first-le (λ (l : List ℕ). lineStores v l) ls) (first-le (λ (l : List ℕ). ltb 0 (lineReads v l)) ls) (lineStores v l) (ltb 0 (lineReads v l)) (ltb 1 (lineReads v l))
   where
-    go : laterRead v ls ≡ ltb (storeFrom v ls) (readFrom v ls) → storeFrom v ls ≤ length ls → readFrom v ls ≤ length ls → (a b : Bool) →
-        not a && (b && not (laterRead v ls))
+    go : laterRead v ls ≡ ltb (storeFrom v ls) (readFrom v ls) → storeFrom v ls ≤ length ls → readFrom v ls ≤ length ls → (a b c : Bool) →
+        not a && ((b && not c) && not (laterRead v ls))
         ≡ eqb (cond b (suc (length ls)) (readFrom v ls)) (suc (length ls))
-        && (ltb (cond a (suc (length ls)) (storeFrom v ls)) (cond b (suc (length ls)) (readFrom v ls)) && not (ltb (cond a (suc (length ls)) (storeFrom v ls)) (cond b (readFrom v ls) (farFrom v ls))))
-    go h x y a false = rw (ne-eqb (readFrom v ls) (suc (length ls)) (λ (q : readFrom v ls ≡ suc (length ls)). omega arith)) (and-false (not a))
-    go h x y true true = rw (le-ltb (suc (length ls)) (suc (length ls)) (omega arith)) (sym (and-false (eqb (suc (length ls)) (suc (length ls)))))
-    go h x y false true = rw (eq-eqb (suc (length ls)) (suc (length ls)) refl, lt-ltb (storeFrom v ls) (suc (length ls)) (omega arith), h)
+        && (ltb (cond a (suc (length ls)) (storeFrom v ls)) (cond b (suc (length ls)) (readFrom v ls))
+        && not (ltb (cond a (suc (length ls)) (storeFrom v ls)) (cond b (cond c (suc (length ls)) (readFrom v ls)) (farFrom v ls))))
+    go h x y a false c = rw (ne-eqb (readFrom v ls) (suc (length ls)) (λ (q : readFrom v ls ≡ suc (length ls)). omega arith)) (and-false (not a))
+    go h x y true true c = rw (le-ltb (suc (length ls)) (suc (length ls)) (omega arith)) (sym (and-false (eqb (suc (length ls)) (suc (length ls)))))
+    go h x y false true true = rw (eq-eqb (suc (length ls)) (suc (length ls)) refl, lt-ltb (storeFrom v ls) (suc (length ls)) (omega arith))
+    go h x y false true false = rw (eq-eqb (suc (length ls)) (suc (length ls)) refl, lt-ltb (storeFrom v ls) (suc (length ls)) (omega arith), h)
 
 -- ---- the note of a store
 
@@ -143,16 +152,17 @@ drop-nothing : (v p : ℕ) (ls : List (List ℕ)) (ps : List ℕ) → DropIs v p
 drop-nothing v p ls ps = record { live = λ q. no q; kept = λ q. absurd (omega arith); dead = λ q. absurd (omega arith) }
 
 send-nothing : (v : ℕ) (ls : List (List ℕ)) → SendIs v ls 0
-send-nothing v ls = record { sent = λ q. absurd (omega arith); stays = λ q. no q }
+send-nothing v ls = record { sent = λ q. no q; stays = λ q. no q }
 
 module _ (v p : ℕ) (ls : List (List ℕ)) (ps : List ℕ) (n : length ls ≤ length ps) where
   -- by the tests of the note
   live-as : (a b : Bool) → ltb (storeFrom v ls) (readFrom v ls) ≡ a → ltb (headFrom ls) (readFrom v ls) ≡ b → liveBelow v ls ≡ a && b
   live-as a b x y = live-from v ls ∙ rw (x, y)
 
-  drop-live : (liveBelow v ls ≡ true) × (deadBy p (nextIn v ls ps) ≡ false) → (t : Bool) → DropIs v p ls ps (cond t 4 3)
-  drop-live h true = record { live = λ q. h; kept = λ q. absurd (omega arith); dead = λ q. absurd (omega arith) }
-  drop-live h false = record { live = λ q. h; kept = λ q. absurd (omega arith); dead = λ q. absurd (omega arith) }
+  drop-live : (liveBelow v ls ≡ true) × (deadBy p (nextIn v ls ps) ≡ false) → (t g : Bool) → DropIs v p ls ps (cond t (cond g 4 7) 3)
+  drop-live h true true = record { live = λ q. h; kept = λ q. absurd (omega arith); dead = λ q. absurd (omega arith) }
+  drop-live h true false = record { live = λ q. h; kept = λ q. absurd (omega arith); dead = λ q. absurd (omega arith) }
+  drop-live h false g = record { live = λ q. h; kept = λ q. absurd (omega arith); dead = λ q. absurd (omega arith) }
 
   drop-kept : (liveBelow v ls ≡ false) × (deadBy p (nextIn v ls ps) ≡ false) → DropIs v p ls ps 5
   drop-kept h = record { live = λ q. no q; kept = λ q. h; dead = λ q. absurd (omega arith) }
@@ -184,11 +194,11 @@ module _ (v p : ℕ) (ls : List (List ℕ)) (ps : List ℕ) (n : length ls ≤ l
 
         go : (a : Bool) → ltb (headFrom ls) (readFrom v ls) ≡ a → (b : Bool) → ltb (storeFrom v ls) (readFrom v ls) ≡ b → (c : Bool) → eqb (storeFrom v ls) (readFrom v ls) ≡ c →
             (d : Bool) → ltb (headFrom ls) (storeFrom v ls) ≡ d →
-            DropIs v p ls ps (cond (a && b) (cond (eqb (readFrom v ls) (length ls) && not (ltb (storeFrom v ls) (farFrom v ls))) 4 3) (cond (a && c) 5 (cond d (cond same 6 5) (cond (eqb (readFrom v ls) (length ls)) 0 6))))
+            DropIs v p ls ps (cond (a && b) (cond (eqb (readFrom v ls) (length ls) && not (ltb (storeFrom v ls) (farFrom v ls))) (cond (ltb (headFrom ls) (farFrom v ls)) 4 7) 3) (cond (a && c) 5 (cond d (cond same 6 5) (cond (eqb (readFrom v ls) (length ls)) 0 6))))
         go true x true y c z d u =
             let h = ltb-true (headFrom ls) (readFrom v ls) x in
             let k = ltb-true (storeFrom v ls) (readFrom v ls) y in
-            drop-live (live-as true true y x, ap (deadBy p) (next-reads v ls ps n h (omega arith))) (eqb (readFrom v ls) (length ls) && not (ltb (storeFrom v ls) (farFrom v ls)))
+            drop-live (live-as true true y x, ap (deadBy p) (next-reads v ls ps n h (omega arith))) (eqb (readFrom v ls) (length ls) && not (ltb (storeFrom v ls) (farFrom v ls))) (ltb (headFrom ls) (farFrom v ls))
         go true x false y true z d u =
             let h = ltb-true (headFrom ls) (readFrom v ls) x in
             let k = eqb-true (storeFrom v ls) (readFrom v ls) z in
@@ -214,12 +224,13 @@ module _ (v : ℕ) (ls : List (List ℕ)) where
   sent-as : (a b c : Bool) → eqb (readFrom v ls) (length ls) ≡ a → ltb (storeFrom v ls) (readFrom v ls) ≡ b → ltb (storeFrom v ls) (farFrom v ls) ≡ c → sentTo v ls ≡ a && (b && not c)
   sent-as a b c x y z = sent-from v ls ∙ rw (x, y, z)
 
-  send-not : sentTo v ls ≡ false → (m : ℕ) → (m ≡ 4 → ⊥) → SendIs v ls m
-  send-not h m n = record { sent = λ q. absurd (n q); stays = λ q. h }
+  send-not : sentTo v ls ≡ false → (m : ℕ) → maySend m ≡ false → SendIs v ls m
+  send-not h m n = record { sent = λ q. no (sym n ∙ q); stays = λ q. h }
 
-  send-next : (t : Bool) → sentTo v ls ≡ t → SendIs v ls (cond t 4 3)
-  send-next true h = record { sent = λ q. h; stays = λ q. no q }
-  send-next false h = send-not h 3 (λ q. omega arith)
+  send-next : (t g : Bool) → sentTo v ls ≡ t → SendIs v ls (cond t (cond g 4 7) 3)
+  send-next true true h = record { sent = λ q. h; stays = λ q. no q }
+  send-next true false h = record { sent = λ q. h; stays = λ q. no q }
+  send-next false g h = send-not h 3 refl
 
   send-by : (same : Bool) → SendIs v ls (noteBy (readFrom v ls) (farFrom v ls) (storeFrom v ls) (headFrom ls) (length ls) same)
   send-by same = go (ltb (headFrom ls) (readFrom v ls)) refl (ltb (storeFrom v ls) (readFrom v ls)) refl (eqb (storeFrom v ls) (readFrom v ls)) (ltb (headFrom ls) (storeFrom v ls)) refl
@@ -228,17 +239,17 @@ module _ (v : ℕ) (ls : List (List ℕ)) where
       unread y = sent-as (eqb (readFrom v ls) (length ls)) false (ltb (storeFrom v ls) (farFrom v ls)) refl y refl ∙ and-false (eqb (readFrom v ls) (length ls))
 
       stored : sentTo v ls ≡ false → (t : Bool) → SendIs v ls (cond t 6 5)
-      stored h true = send-not h 6 (λ q. omega arith)
-      stored h false = send-not h 5 (λ q. omega arith)
+      stored h true = send-not h 6 refl
+      stored h false = send-not h 5 refl
 
       unused : (t : Bool) → eqb (readFrom v ls) (length ls) ≡ t → SendIs v ls (cond t 0 6)
       unused true x = send-nothing v ls
-      unused false x = send-not (sent-as false (ltb (storeFrom v ls) (readFrom v ls)) (ltb (storeFrom v ls) (farFrom v ls)) x refl refl) 6 (λ q. omega arith)
+      unused false x = send-not (sent-as false (ltb (storeFrom v ls) (readFrom v ls)) (ltb (storeFrom v ls) (farFrom v ls)) x refl refl) 6 refl
 
       go : (a : Bool) → ltb (headFrom ls) (readFrom v ls) ≡ a → (b : Bool) → ltb (storeFrom v ls) (readFrom v ls) ≡ b → (c d : Bool) → ltb (headFrom ls) (storeFrom v ls) ≡ d →
-          SendIs v ls (cond (a && b) (cond (eqb (readFrom v ls) (length ls) && not (ltb (storeFrom v ls) (farFrom v ls))) 4 3) (cond (a && c) 5 (cond d (cond same 6 5) (cond (eqb (readFrom v ls) (length ls)) 0 6))))
-      go true x true y c d u = send-next (eqb (readFrom v ls) (length ls) && not (ltb (storeFrom v ls) (farFrom v ls))) (sent-as (eqb (readFrom v ls) (length ls)) true (ltb (storeFrom v ls) (farFrom v ls)) refl y refl)
-      go true x false y true d u = send-not (unread y) 5 (λ q. omega arith)
+          SendIs v ls (cond (a && b) (cond (eqb (readFrom v ls) (length ls) && not (ltb (storeFrom v ls) (farFrom v ls))) (cond (ltb (headFrom ls) (farFrom v ls)) 4 7) 3) (cond (a && c) 5 (cond d (cond same 6 5) (cond (eqb (readFrom v ls) (length ls)) 0 6))))
+      go true x true y c d u = send-next (eqb (readFrom v ls) (length ls) && not (ltb (storeFrom v ls) (farFrom v ls))) (ltb (headFrom ls) (farFrom v ls)) (sent-as (eqb (readFrom v ls) (length ls)) true (ltb (storeFrom v ls) (farFrom v ls)) refl y refl)
+      go true x false y true d u = send-not (unread y) 5 refl
       go true x false y false true u = stored (unread y) same
       go true x false y false false u = unused (eqb (readFrom v ls) (length ls)) refl
       go false x b y c true u =
@@ -247,21 +258,37 @@ module _ (v : ℕ) (ls : List (List ℕ)) where
           stored (unread (le-ltb (storeFrom v ls) (readFrom v ls) (omega arith))) same
       go false x b y c false u = unused (eqb (readFrom v ls) (length ls)) refl
 
--- it says nothing of what a line is
-abbrev noteOf : Bool → Bool → Bool → Bool → Bool → Bool → ℕ
-noteOf a b c d e g = cond a (cond b 4 3) (cond c 5 (cond d (cond e 6 5) (cond g 0 6)))
+-- by its tests
+abbrev noteOf : Bool → Bool → Bool → Bool → Bool → Bool → Bool → ℕ
+noteOf a b k c d e g = cond a (cond b (cond k 4 7) 3) (cond c 5 (cond d (cond e 6 5) (cond g 0 6)))
 
+-- it says nothing of what a line is
 store-kind : (r f s h m : ℕ) (same : Bool) → (noteBy r f s h m same ≡ 1 → ⊥) × (noteBy r f s h m same ≡ 2 → ⊥)
-store-kind r f s h m same = go (ltb h r && ltb s r) (eqb r m && not (ltb s f)) (ltb h r && eqb s r) (ltb h s) same (eqb r m)
+store-kind r f s h m same = go (ltb h r && ltb s r) (eqb r m && not (ltb s f)) (ltb h f) (ltb h r && eqb s r) (ltb h s) same (eqb r m)
   where
-    go : (a b c d e g : Bool) → (noteOf a b c d e g ≡ 1 → ⊥) × (noteOf a b c d e g ≡ 2 → ⊥)
-    go true true c d e g = (λ q. omega arith, λ q. omega arith)
-    go true false c d e g = (λ q. omega arith, λ q. omega arith)
-    go false b true d e g = (λ q. omega arith, λ q. omega arith)
-    go false b false true true g = (λ q. omega arith, λ q. omega arith)
-    go false b false true false g = (λ q. omega arith, λ q. omega arith)
-    go false b false false e true = (λ q. omega arith, λ q. omega arith)
-    go false b false false e false = (λ q. omega arith, λ q. omega arith)
+    go : (a b k c d e g : Bool) → (noteOf a b k c d e g ≡ 1 → ⊥) × (noteOf a b k c d e g ≡ 2 → ⊥)
+    go true true true c d e g = (λ q. omega arith, λ q. omega arith)
+    go true true false c d e g = (λ q. omega arith, λ q. omega arith)
+    go true false k c d e g = (λ q. omega arith, λ q. omega arith)
+    go false b k true d e g = (λ q. omega arith, λ q. omega arith)
+    go false b k false true true g = (λ q. omega arith, λ q. omega arith)
+    go false b k false true false g = (λ q. omega arith, λ q. omega arith)
+    go false b k false false e true = (λ q. omega arith, λ q. omega arith)
+    go false b k false false e false = (λ q. omega arith, λ q. omega arith)
+
+-- where the next line reads it, and no line of the region does again
+note-one : (r f s h m : ℕ) (same : Bool) → noteBy r f s h m same ≡ 7 → (h < r) × ((r ≡ m) × (f ≤ h))
+note-one r f s h m same q = go (ltb h r && ltb s r) refl (eqb r m && not (ltb s f)) refl (ltb h f) refl (ltb h r && eqb s r) (ltb h s) same (eqb r m) q
+  where
+    go : (a : Bool) → ltb h r && ltb s r ≡ a → (b : Bool) → eqb r m && not (ltb s f) ≡ b → (k : Bool) → ltb h f ≡ k → (c d e g : Bool) → noteOf a b k c d e g ≡ 7 → (h < r) × ((r ≡ m) × (f ≤ h))
+    go true x true y false z c d e g q = (ltb-true h r (and-left (ltb h r) (ltb s r) x), (eqb-true r m (and-left (eqb r m) (not (ltb s f)) y), ltb-false h f z))
+    go true x true y true z c d e g q = absurd (omega arith)
+    go true x false y k z c d e g q = absurd (omega arith)
+    go false x b y k z true d e g q = absurd (omega arith)
+    go false x b y k z false true true g q = absurd (omega arith)
+    go false x b y k z false true false g q = absurd (omega arith)
+    go false x b y k z false false e true q = absurd (omega arith)
+    go false x b y k z false false e false q = absurd (omega arith)
 
 stored-by : Line → Bool
 stored-by line.Decl = false
@@ -325,10 +352,39 @@ module _ (l : List ℕ) (ls : List (List ℕ)) (ps : List ℕ) (k h : ℕ) (near
     sends = λ s z. no (ap stored-by (e ∙ z));
   }
 
+  -- a store that the note says is read once
+  pub line-one : (s : Store) (m : ℕ) → line.Store s ≡ parseOf l → m ≡ lineNote (line.Store s) ps k (length ls) h near far stores → m ≡ 7 →
+      (s .reg .0 < length near) × ((headFrom ls < length ls) × ((readFrom (s .reg .0) ls ≡ length ls) × (farFrom (s .reg .0) ls ≤ headFrom ls)))
+  line-one s m e q z = go (ltb v (length near)) refl (ltb v (length far)) refl (ltb v (length stores)) (sym z ∙ q)
+    where
+      v : ℕ
+      v = s .reg .0
+
+      go : (a : Bool) → ltb v (length near) ≡ a → (b : Bool) → ltb v (length far) ≡ b → (c : Bool) →
+          7 ≡ cond (a && (b && c)) (noteBy (getD near v 0) (getD far v 0) (getD stores v 0) h (length ls) (samePath ps k (getD stores v 0))) 0 →
+          (v < length near) × ((headFrom ls < length ls) × ((readFrom v ls ≡ length ls) × (farFrom v ls ≤ headFrom ls)))
+      go false x b y c e = absurd (omega arith)
+      go true x false y c e = absurd (omega arith)
+      go true x true y false e = absurd (omega arith)
+      go true x true y true e =
+          let n = note-one (getD near v 0) (getD far v 0) (getD stores v 0) h (length ls) (samePath ps k (getD stores v 0)) (sym e) in
+          let r = t .reads v (ltb-true v (length near) x) in
+          let f = t .again v (ltb-true v (length near) x) (ltb-true v (length far) y) in
+          let d = t .head in
+          (ltb-true v (length near) x, (omega (arith, n .0, n .1 .0), (sym r ∙ n .1 .0, omega (arith, n .1 .1))))
+
 -- a note that says nothing
 pub note-nothing : (l : List ℕ) (p : ℕ) (ls : List (List ℕ)) (ps : List ℕ) (m : ℕ) → m ≡ 0 → NoteIs l p ls ps m
 note-nothing l p ls ps m z =
     rw z (record { kind = (λ q. absurd (omega arith), λ q. absurd (omega arith)); drops = λ s q. drop-nothing (s .reg .0) p ls ps; sends = λ s q. send-nothing (s .reg .0) ls })
+
+-- a note that says no more than that the value may go into the next line
+pub note-less : (l : List ℕ) (p : ℕ) (ls : List (List ℕ)) (ps : List ℕ) (m : ℕ) → m ≡ 7 → NoteIs l p ls ps m → NoteIs l p ls ps 4
+note-less l p ls ps m z n = record {
+  kind = (λ q. absurd (omega arith), λ q. absurd (omega arith));
+  drops = λ s q. record { live = λ w. n .drops s q .live (ap readNext z); kept = λ w. absurd (omega arith); dead = λ w. absurd (omega arith) };
+  sends = λ s q. record { sent = λ w. n .sends s q .sent (ap maySend z); stays = λ w. no w };
+}
 
 -- ---- the code
 
@@ -354,8 +410,11 @@ module _ (v : ℕ) (ps : List ℕ) (k m h : ℕ) (near far stores : List ℕ) wh
       note-in x = rw (lt-ltb v (length near) a, lt-ltb v (length far) b, lt-ltb v (length stores) x)
 
 module _ (r f s h m : ℕ) (same : Bool) where
-  pub note-sent : ltb h r && ltb s r ≡ true → eqb r m && not (ltb s f) ≡ true → 4 ≡ noteBy r f s h m same
-  note-sent x y = rw (x, y)
+  pub note-sent : ltb h r && ltb s r ≡ true → eqb r m && not (ltb s f) ≡ true → h < f → 4 ≡ noteBy r f s h m same
+  note-sent x y z = rw (x, y, lt-ltb h f z)
+
+  pub note-alone : ltb h r && ltb s r ≡ true → eqb r m && not (ltb s f) ≡ true → f ≤ h → 7 ≡ noteBy r f s h m same
+  note-alone x y z = rw (x, y, le-ltb h f z)
 
   pub note-read : ltb h r && ltb s r ≡ true → eqb r m && not (ltb s f) ≡ false → 3 ≡ noteBy r f s h m same
   note-read x y = rw (x, y)

@@ -1,31 +1,34 @@
 -- Laws of filling the tables of the next lines that use each register, and the notes, from the last line to the first. Assumes nothing.
-use Prim.Native.Nat.{ℕ, suc, _+_, _-_, _≤_, _<_}
+use Prim.Native.Nat.{ℕ, zero, suc, _+_, _-_, _≤_, _<_}
 use mathlib.Core.Path.{_≡_, refl, sym, ap, subst, _∙_}
-use mathlib.Core.Bool.{Bool, true, false, cond}
+use mathlib.Core.Bool.{Bool, true, false, cond, _&&_}
 use mathlib.Core.List.{List, [], _∷_, _++_}
 use native.Mathlib.Omega.{arith}
-use borrow.Author.Tests.{lt-ltb, ltb-true, ltb-false, eq-eqb, ne-eqb, eqb-true, eqb-false}
+use borrow.Author.Tests.{lt-ltb, le-ltb, ltb-true, ltb-false, eq-eqb, ne-eqb, eqb-true, eqb-false}
 use lib.Dec.{eqb, ltb}
-use lib.ListN.{length, drop, getD, set, length-set}
+use lib.ListN.{length, drop, getD, set, length-set, List·getD-eq-default}
 use lib.Seq.{drop-drop, getD-set-same, getD-set-other}
 use Rattle.lines.specs.Lf.{part, endsIn, linesOf}
+use Rattle.lines.proofs.Tests.{no, and-false}
 use Rattle.lines.proofs.LfLaws.{lines-end}
 use Rattle.text.specs.Class.{isName}
 use Rattle.names.specs.Names.{regOf, regIs}
 use Rattle.names.specs.declared.RegName.{RegName}
 use Rattle.names.specs.declared.RegName.the-variants as name
 use Rattle.parse.specs.Parse.{parseOf, textOf}
+use Rattle.parse.specs.declared.Store.{Store}
 use Rattle.parse.specs.declared.Line.{Line}
 use Rattle.parse.specs.declared.Line.the-variants as line
 use Rattle.words.specs.Runs.{flush, runs, countBy, readsOf}
 use Rattle.words.proofs.Walk.{Walk, walk-start, walk-name, walk-gap, walk-end}
-use Rattle.place.specs.Region.{isHeader}
+use Rattle.place.specs.Region.{isHeader, region}
 use Rattle.reading.specs.Uses.{lineReads, storesBy, lineStores}
 use Rattle.decls.specs.Seen.{markName, markStore, AtMost}
 use Rattle.decls.proofs.SeenLaws.{set-past, name-length}
-use Rattle.once.specs.Noted.{firstBy, farFrom, farName, readRuns, addRuns, Begins, StartOf, lineNote, NoteIs, firstLine, NotesOf, EndsOf}
-use Rattle.once.proofs.NotedLaws.{Counts, counts-none, counts-on, runs-long}
-use Rattle.once.proofs.NextLaws.{first-le, Nexts, note-is, note-nothing}
+use Rattle.once.specs.Once.{readCount}
+use Rattle.once.specs.Noted.{firstBy, readFrom, headFrom, farFrom, farName, takeBack, backName, Reads, readName, readRuns, areaOf, Begins, StartOf, lineNote, NoteIs, firstLine, NotesOf, OneOf, EndsOf}
+use Rattle.once.proofs.NextLaws.{Nexts, note-is, line-one, note-nothing, note-less}
+use Rattle.once.proofs.AreaLaws.{OneUp, one-new, one-on, one-done}
 use Rattle.once.proofs.BackLaws.{begins-lf, rows-back, line-back, ends-none, ends-put}
 
 -- ---- what stands at a register below the end
@@ -38,30 +41,29 @@ name-near m v (name.Reg q) d h = go (eqb (q .0) v) refl
     go true e = ap (λ (n : ℕ). getD (set d n m) v 0) (eqb-true (q .0) v e) ∙ getD-set-same d v m 0 h
     go false e = getD-set-other d (q .0) v m 0 (λ z. eqb-false (q .0) v e (sym z))
 
-name-far : (m v : ℕ) (r : RegName) (n f : List ℕ) → v < length f →
-    getD (farName m r n f) v 0 ≡ cond (regIs v r) (cond (eqb (getD n v 0) m) (getD f v 0) (getD n v 0)) (getD f v 0)
-name-far m v name.None n f h = refl
-name-far m v (name.Reg q) n f h = go (eqb (q .0) v) refl
+name-far : (v : ℕ) (r : RegName) (n f : List ℕ) → v < length f → getD (farName r n f) v 0 ≡ cond (regIs v r) (getD n v 0) (getD f v 0)
+name-far v name.None n f h = refl
+name-far v (name.Reg q) n f h = go (eqb (q .0) v) refl
   where
-    same : (t : Bool) → getD (cond t f (set f v (getD n v 0))) v 0 ≡ cond t (getD f v 0) (getD n v 0)
-    same true = refl
-    same false = getD-set-same f v (getD n v 0) 0 h
+    go : (b : Bool) → eqb (q .0) v ≡ b → getD (set f (q .0) (getD n (q .0) 0)) v 0 ≡ cond b (getD n v 0) (getD f v 0)
+    go true e = ap (λ (i : ℕ). getD (set f i (getD n i 0)) v 0) (eqb-true (q .0) v e) ∙ getD-set-same f v (getD n v 0) 0 h
+    go false e = getD-set-other f (q .0) v (getD n (q .0) 0) 0 (λ z. eqb-false (q .0) v e (sym z))
 
-    other : eqb (q .0) v ≡ false → (t : Bool) → getD (cond t f (set f (q .0) (getD n (q .0) 0))) v 0 ≡ getD f v 0
-    other e true = refl
-    other e false = getD-set-other f (q .0) v (getD n (q .0) 0) 0 (λ z. eqb-false (q .0) v e (sym z))
+far-length : (r : RegName) (n f : List ℕ) → length (farName r n f) ≡ length f
+far-length name.None n f = refl
+far-length (name.Reg q) n f = length-set f (q .0) (getD n (q .0) 0)
 
-    go : (b : Bool) → eqb (q .0) v ≡ b → getD (cond (eqb (getD n (q .0) 0) m) f (set f (q .0) (getD n (q .0) 0))) v 0 ≡ cond b (cond (eqb (getD n v 0) m) (getD f v 0) (getD n v 0)) (getD f v 0)
-    go true e = ap (λ (i : ℕ). getD (cond (eqb (getD n i 0) m) f (set f i (getD n i 0))) v 0) (eqb-true (q .0) v e) ∙ same (eqb (getD n v 0) m)
-    go false e = other e (eqb (getD n (q .0) 0) m)
-
-pub far-length : (m : ℕ) (r : RegName) (n f : List ℕ) → length (farName m r n f) ≡ length f
-far-length m name.None n f = refl
-far-length m (name.Reg q) n f = go (eqb (getD n (q .0) 0) m)
+back-length : (c h r : ℕ) (d : List ℕ) → length (takeBack c h r d) ≡ length d
+back-length c h r d = go (ltb h r && ltb r c) (eqb (getD d (c - r - 1) 0) 7)
   where
-    go : (t : Bool) → length (cond t f (set f (q .0) (getD n (q .0) 0))) ≡ length f
-    go true = refl
-    go false = length-set f (q .0) (getD n (q .0) 0)
+    go : (a b : Bool) → length (cond a (cond b (set d (c - r - 1) 4) d) d) ≡ length d
+    go true true = length-set d (c - r - 1) 4
+    go true false = refl
+    go false b = refl
+
+notes-length : (c h : ℕ) (r : RegName) (n d : List ℕ) → length (backName c h r n d) ≡ length d
+notes-length c h name.None n d = refl
+notes-length c h (name.Reg q) n d = back-length c h (getD n (q .0) 0) d
 
 -- the runs of a text that name register v
 named : ℕ → List (List ℕ) → ℕ
@@ -71,39 +73,41 @@ both : (t : Bool) (x : ℕ) → cond t x x ≡ x
 both true x = refl
 both false x = refl
 
-near-runs : (m v : ℕ) (rs : List (List ℕ)) (d : List ℕ × List ℕ) → v < length (d .0) → getD (readRuns m rs d .0) v 0 ≡ cond (ltb 0 (named v rs)) m (getD (d .0) v 0)
-unfolding readRuns countBy named
-near-runs m v [] d h = refl
-near-runs m v (r ∷ rs) d h =
-    near-runs m v rs (markName m (regOf r) (d .0), farName m (regOf r) (d .0) (d .1)) (omega (arith, name-length m (regOf r) (d .0)))
-    ∙ ap (cond (ltb 0 (named v rs)) m) (name-near m v (regOf r) (d .0) h)
-    ∙ go (regIs v (regOf r)) (named v rs)
-  where
-    go : (b : Bool) (n : ℕ) → cond (ltb 0 n) m (cond b m (getD (d .0) v 0)) ≡ cond (ltb 0 (cond b (suc n) n)) m (getD (d .0) v 0)
-    go true n = let z : 0 < suc n = omega arith in both (ltb 0 n) m ∙ sym (ap (λ (b : Bool). cond b m (getD (d .0) v 0)) (lt-ltb 0 (suc n) z))
-    go false n = refl
+module _ (c h m v : ℕ) where
+  near-runs : (rs : List (List ℕ)) (d : Reads) → v < length (d .0) → getD (readRuns c h m rs d .0) v 0 ≡ cond (ltb 0 (named v rs)) m (getD (d .0) v 0)
+  unfolding readRuns countBy named
+  near-runs [] d k = refl
+  near-runs (r ∷ rs) d k =
+      near-runs rs (readName c h m (regOf r) d) (omega (arith, name-length m (regOf r) (d .0)))
+      ∙ ap (cond (ltb 0 (named v rs)) m) (name-near m v (regOf r) (d .0) k)
+      ∙ go (regIs v (regOf r)) (named v rs)
+    where
+      go : (b : Bool) (n : ℕ) → cond (ltb 0 n) m (cond b m (getD (d .0) v 0)) ≡ cond (ltb 0 (cond b (suc n) n)) m (getD (d .0) v 0)
+      go true n = let z : 0 < suc n = omega arith in both (ltb 0 n) m ∙ sym (ap (λ (b : Bool). cond b m (getD (d .0) v 0)) (lt-ltb 0 (suc n) z))
+      go false n = refl
 
-far-runs : (m v : ℕ) (rs : List (List ℕ)) (d : List ℕ × List ℕ) → v < length (d .0) → v < length (d .1) →
-    getD (readRuns m rs d .1) v 0 ≡ cond (eqb (getD (d .0) v 0) m) (getD (d .1) v 0) (cond (ltb 0 (named v rs)) (getD (d .0) v 0) (getD (d .1) v 0))
-unfolding readRuns countBy named
-far-runs m v [] d h k = sym (both (eqb (getD (d .0) v 0) m) (getD (d .1) v 0))
-far-runs m v (r ∷ rs) d h k =
-    far-runs m v rs (markName m (regOf r) (d .0), farName m (regOf r) (d .0) (d .1)) (omega (arith, name-length m (regOf r) (d .0))) (omega (arith, far-length m (regOf r) (d .0) (d .1)))
-    ∙ rw (name-near m v (regOf r) (d .0) h, name-far m v (regOf r) (d .0) (d .1) k) (go (regIs v (regOf r)) (named v rs))
-  where
-    go : (b : Bool) (n : ℕ) →
-        cond (eqb (cond b m (getD (d .0) v 0)) m) (cond b (cond (eqb (getD (d .0) v 0) m) (getD (d .1) v 0) (getD (d .0) v 0)) (getD (d .1) v 0))
-        (cond (ltb 0 n) (cond b m (getD (d .0) v 0)) (cond b (cond (eqb (getD (d .0) v 0) m) (getD (d .1) v 0) (getD (d .0) v 0)) (getD (d .1) v 0)))
-        ≡ cond (eqb (getD (d .0) v 0) m) (getD (d .1) v 0) (cond (ltb 0 (cond b (suc n) n)) (getD (d .0) v 0) (getD (d .1) v 0))
-    go true n = let z : 0 < suc n = omega arith in rw (eq-eqb m m refl, lt-ltb 0 (suc n) z)
-    go false n = refl
+  far-runs : (rs : List (List ℕ)) (d : Reads) → v < length (d .0) → v < length (d .1 .0) →
+      getD (readRuns c h m rs d .1 .0) v 0 ≡ cond (ltb 0 (named v rs)) (cond (ltb 1 (named v rs)) m (getD (d .0) v 0)) (getD (d .1 .0) v 0)
+  unfolding readRuns countBy named
+  far-runs [] d k j = refl
+  far-runs (r ∷ rs) d k j =
+      far-runs rs (readName c h m (regOf r) d) (omega (arith, name-length m (regOf r) (d .0))) (omega (arith, far-length (regOf r) (d .0) (d .1 .0)))
+      ∙ rw (name-near m v (regOf r) (d .0) k, name-far v (regOf r) (d .0) (d .1 .0) j) (go (regIs v (regOf r)) (named v rs))
+    where
+      go : (b : Bool) (n : ℕ) →
+          cond (ltb 0 n) (cond (ltb 1 n) m (cond b m (getD (d .0) v 0))) (cond b (getD (d .0) v 0) (getD (d .1 .0) v 0))
+          ≡ cond (ltb 0 (cond b (suc n) n)) (cond (ltb 1 (cond b (suc n) n)) m (getD (d .0) v 0)) (getD (d .1 .0) v 0)
+      go true zero = refl
+      go true (suc n) = rw (lt-ltb 0 (suc n) (omega arith), lt-ltb 0 (suc (suc n)) (omega arith), lt-ltb 1 (suc (suc n)) (omega arith)) (both (ltb 1 (suc n)) m)
+      go false n = refl
 
-pub runs-lengths : (m : ℕ) (rs : List (List ℕ)) (d : List ℕ × List ℕ) → (length (readRuns m rs d .0) ≡ length (d .0)) × (length (readRuns m rs d .1) ≡ length (d .1))
+pub runs-lengths : (c h m : ℕ) (rs : List (List ℕ)) (d : Reads) →
+    (length (readRuns c h m rs d .0) ≡ length (d .0)) × ((length (readRuns c h m rs d .1 .0) ≡ length (d .1 .0)) × (length (readRuns c h m rs d .1 .1) ≡ length (d .1 .1)))
 unfolding readRuns
-runs-lengths m [] d = (refl, refl)
-runs-lengths m (r ∷ rs) d =
-    let e = runs-lengths m rs (markName m (regOf r) (d .0), farName m (regOf r) (d .0) (d .1)) in
-    (e .0 ∙ name-length m (regOf r) (d .0), e .1 ∙ far-length m (regOf r) (d .0) (d .1))
+runs-lengths c h m [] d = (refl, (refl, refl))
+runs-lengths c h m (r ∷ rs) d =
+    let e = runs-lengths c h m rs (readName c h m (regOf r) d) in
+    (e .0 ∙ name-length m (regOf r) (d .0), (e .1 .0 ∙ far-length (regOf r) (d .0) (d .1 .0), e .1 .1 ∙ notes-length c h (regOf r) (d .0) (d .1 .1)))
 
 store-near : (m v : ℕ) (p : Line) (d : List ℕ) → v < length d → getD (markStore m p d) v 0 ≡ cond (storesBy v p) m (getD d v 0)
 store-near m v line.Decl d h = refl
@@ -130,35 +134,30 @@ nexts-none h near far stores z a b c = record {
   stored = λ v k. let y = c v in omega arith;
 }
 
-nexts-on : (l : List ℕ) (ls : List (List ℕ)) (p : Line) (h m h′ : ℕ) (near far stores near′ far′ stores′ : List ℕ) → p ≡ parseOf l → m ≡ suc (length ls) →
-    (near′, far′) ≡ readRuns m (runs (textOf l p)) (near, far) → stores′ ≡ markStore m p stores → h′ ≡ cond (isHeader l) m h → Nexts ls h near far stores → Nexts (l ∷ ls) h′ near′ far′ stores′
+nexts-on : (c : ℕ) (l : List ℕ) (ls : List (List ℕ)) (p : Line) (h m h′ : ℕ) (near far stores notes near′ far′ stores′ notes′ : List ℕ) → p ≡ parseOf l → m ≡ suc (length ls) →
+    (near′, (far′, notes′)) ≡ readRuns c h m (runs (textOf l p)) (near, (far, notes)) → stores′ ≡ markStore m p stores → h′ ≡ cond (isHeader l) m h → Nexts ls h near far stores →
+    Nexts (l ∷ ls) h′ near′ far′ stores′
 unfolding firstBy farFrom lineReads lineStores named
-nexts-on l ls p h m h′ near far stores near′ far′ stores′ e q y z x t = record {
+nexts-on c l ls p h m h′ near far stores notes near′ far′ stores′ notes′ e q y z x t = record {
   head = x ∙ ap (λ (n : ℕ). cond (isHeader l) n h) q ∙ ap (cond (isHeader l) (suc (length ls))) (t .head);
   reads = λ v k. near-at v (omega (arith, ln)) ∙ rw (t .reads v (omega (arith, ln)), e, q);
-  again = λ v k j.
-      let b = first-le (λ (l : List ℕ). ltb 0 (readsOf v (textOf l (parseOf l)))) ls in
-      let r = t .reads v (omega (arith, ln)) in
-      let o : eqb (getD near v 0) m ≡ false = ne-eqb (getD near v 0) m (λ (w : getD near v 0 ≡ m). omega arith) in
-      far-at v (omega (arith, ln)) (omega (arith, lf))
-      ∙ ap (λ (c : Bool). cond c (getD far v 0) (cond (ltb 0 (readsOf v (textOf l p))) (getD near v 0) (getD far v 0))) o
-      ∙ rw (r, t .again v (omega (arith, ln)) (omega (arith, lf)), e);
+  again = λ v k j. far-at v (omega (arith, ln)) (omega (arith, lf)) ∙ rw (t .reads v (omega (arith, ln)), t .again v (omega (arith, ln)) (omega (arith, lf)), e, q);
   stored = λ v k.
       let n : length stores′ ≡ length stores = ap (λ (d : List ℕ). length d) z ∙ store-length m p stores in
       ap (λ (d : List ℕ). getD d v 0) z ∙ store-near m v p stores (omega arith) ∙ rw (t .stored v (omega arith), e, q);
 }
   where
     ln : length near′ ≡ length near
-    ln = ap (λ (d : List ℕ × List ℕ). length (d .0)) y ∙ runs-lengths m (runs (textOf l p)) (near, far) .0
+    ln = ap (λ (d : Reads). length (d .0)) y ∙ runs-lengths c h m (runs (textOf l p)) (near, (far, notes)) .0
 
     lf : length far′ ≡ length far
-    lf = ap (λ (d : List ℕ × List ℕ). length (d .1)) y ∙ runs-lengths m (runs (textOf l p)) (near, far) .1
+    lf = ap (λ (d : Reads). length (d .1 .0)) y ∙ runs-lengths c h m (runs (textOf l p)) (near, (far, notes)) .1 .0
 
     near-at : (v : ℕ) → v < length near → getD near′ v 0 ≡ cond (ltb 0 (readsOf v (textOf l p))) m (getD near v 0)
-    near-at v k = ap (λ (d : List ℕ × List ℕ). getD (d .0) v 0) y ∙ near-runs m v (runs (textOf l p)) (near, far) k
+    near-at v k = ap (λ (d : Reads). getD (d .0) v 0) y ∙ near-runs c h m v (runs (textOf l p)) (near, (far, notes)) k
 
-    far-at : (v : ℕ) → v < length near → v < length far → getD far′ v 0 ≡ cond (eqb (getD near v 0) m) (getD far v 0) (cond (ltb 0 (readsOf v (textOf l p))) (getD near v 0) (getD far v 0))
-    far-at v k j = ap (λ (d : List ℕ × List ℕ). getD (d .1) v 0) y ∙ far-runs m v (runs (textOf l p)) (near, far) k j
+    far-at : (v : ℕ) → v < length near → v < length far → getD far′ v 0 ≡ cond (ltb 0 (readsOf v (textOf l p))) (cond (ltb 1 (readsOf v (textOf l p))) m (getD near v 0)) (getD far v 0)
+    far-at v k j = ap (λ (d : Reads). getD (d .1 .0) v 0) y ∙ far-runs c h m v (runs (textOf l p)) (near, (far, notes)) k j
 
 -- ---- the table of notes
 
@@ -179,21 +178,177 @@ notes-put us ps d k x n h = λ j. go j (eqb j k) refl
     go j true e = subst (λ (i : ℕ). At i (getD (set d k x) i 0)) (sym (eqb-true j k e)) (same (ltb k (length d)) refl)
     go j false e = subst (At j) (sym (getD-set-other d k j x 0 (eqb-false j k e))) (h j)
 
+-- a read takes back no more than it may
+notes-back : (us : List (List ℕ)) (ps : List ℕ) (c h r : ℕ) (d : List ℕ) → NotesOf us ps d → NotesOf us ps (takeBack c h r d)
+notes-back us ps c h r d n = go (ltb h r && ltb r c) (eqb (getD d (c - r - 1) 0) 7) refl
+  where
+    i : ℕ
+    i = c - r - 1
+
+    go : (a b : Bool) → eqb (getD d i 0) 7 ≡ b → NotesOf us ps (cond a (cond b (set d i 4) d) d)
+    go true true e = notes-put us ps d i 4 (note-less (firstLine (drop i us)) (getD ps i 0) (drop (i + 1) us) (drop (i + 1) ps) (getD d i 0) (eqb-true (getD d i 0) 7 e) (n i)) n
+    go true false e = n
+    go false b e = n
+
+notes-name : (us : List (List ℕ)) (ps : List ℕ) (c h : ℕ) (r : RegName) (n d : List ℕ) → NotesOf us ps d → NotesOf us ps (backName c h r n d)
+notes-name us ps c h name.None n d k = k
+notes-name us ps c h (name.Reg q) n d k = notes-back us ps c h (getD n (q .0) 0) d k
+
+notes-runs : (us : List (List ℕ)) (ps : List ℕ) (c h m : ℕ) (rs : List (List ℕ)) (d : Reads) → NotesOf us ps (d .1 .1) → NotesOf us ps (readRuns c h m rs d .1 .1)
+unfolding readRuns
+notes-runs us ps c h m [] d k = k
+notes-runs us ps c h m (r ∷ rs) d k = notes-runs us ps c h m rs (readName c h m (regOf r) d) (notes-name us ps c h (regOf r) (d .0) (d .1 .1) k)
+
+-- it adds no 7
+back-keeps : (c h r k : ℕ) (d : List ℕ) → getD (takeBack c h r d) k 0 ≡ 7 → getD d k 0 ≡ 7
+back-keeps c h r k d = go (ltb h r && ltb r c) (eqb (getD d i 0) 7) refl
+  where
+    i : ℕ
+    i = c - r - 1
+
+    at : getD d i 0 ≡ 7 → (t : Bool) → eqb k i ≡ t → getD (set d i 4) k 0 ≡ 7 → getD d k 0 ≡ 7
+    at e true z q = ap (λ (j : ℕ). getD d j 0) (eqb-true k i z) ∙ e
+    at e false z q = sym (getD-set-other d i k 4 0 (eqb-false k i z)) ∙ q
+
+    go : (a b : Bool) → eqb (getD d i 0) 7 ≡ b → getD (cond a (cond b (set d i 4) d) d) k 0 ≡ 7 → getD d k 0 ≡ 7
+    go true true e q = at (eqb-true (getD d i 0) 7 e) (eqb k i) refl q
+    go true false e q = q
+    go false b e q = q
+
+name-keeps : (c h k : ℕ) (r : RegName) (n d : List ℕ) → getD (backName c h r n d) k 0 ≡ 7 → getD d k 0 ≡ 7
+name-keeps c h k name.None n d q = q
+name-keeps c h k (name.Reg v) n d q = back-keeps c h (getD n (v .0) 0) k d q
+
+runs-keep : (c h m k : ℕ) (rs : List (List ℕ)) (d : Reads) → getD (readRuns c h m rs d .1 .1) k 0 ≡ 7 → getD (d .1 .1) k 0 ≡ 7
+unfolding readRuns
+runs-keep c h m k [] d q = q
+runs-keep c h m k (r ∷ rs) d q = name-keeps c h k (regOf r) (d .0) (d .1 .1) (runs-keep c h m k rs (readName c h m (regOf r) d) q)
+
+-- a read of what goes into the line with the number r takes the 7 back of the line above it, which has k above it
+module _ (c h r k : ℕ) (a : h < r) (z : k + suc r ≡ c) where
+  back-takes : (d : List ℕ) → getD (takeBack c h r d) k 0 ≡ 7 → ⊥
+  back-takes d = rw (lt-ltb h r a, lt-ltb r c (omega arith), i) (go (eqb (getD d k 0) 7) refl)
+    where
+      i : c - r - 1 ≡ k
+      i = omega arith
+
+      put : (t : Bool) → ltb k (length d) ≡ t → getD d k 0 ≡ 7 → getD (set d k 4) k 0 ≡ 7 → ⊥
+      put true y e q = let w : _≡_ {A = ℕ} 4 7 = sym (getD-set-same d k 4 0 (ltb-true k (length d) y)) ∙ q in omega arith
+      put false y e q = let w : _≡_ {A = ℕ} 0 7 = sym (List·getD-eq-default d 0 (ltb-false k (length d) y)) ∙ e in omega arith
+
+      go : (b : Bool) → eqb (getD d k 0) 7 ≡ b → getD (cond b (set d k 4) d) k 0 ≡ 7 → ⊥
+      go true e q = put (ltb k (length d)) refl (eqb-true (getD d k 0) 7 e) q
+      go false e q = eqb-false (getD d k 0) 7 e q
+
+  name-takes : (v : ℕ) (w : RegName) (n d : List ℕ) → getD n v 0 ≡ r → regIs v w ≡ true → getD (backName c h w n d) k 0 ≡ 7 → ⊥
+  name-takes v name.None n d e i q = no i
+  name-takes v (name.Reg u) n d e i q =
+      let x : getD n (u .0) 0 ≡ r = ap (λ (j : ℕ). getD n j 0) (eqb-true (u .0) v i) ∙ e in
+      back-takes d (ap (λ (j : ℕ). getD (takeBack c h j d) k 0) (sym x) ∙ q)
+
+  runs-take : (m v : ℕ) (rs : List (List ℕ)) (d : Reads) → v < length (d .0) → getD (d .0) v 0 ≡ r → 0 < named v rs → getD (readRuns c h m rs d .1 .1) k 0 ≡ 7 → ⊥
+  unfolding readRuns countBy named
+  runs-take m v [] d l e j q = omega arith
+  runs-take m v (w ∷ rs) d l e j q =
+      go (λ i y. runs-take m v rs (readName c h m (regOf w) d) (omega (arith, name-length m (regOf w) (d .0))) (name-near m v (regOf w) (d .0) l ∙ ap (λ (b : Bool). cond b m (getD (d .0) v 0)) i ∙ e) y q)
+      (regIs v (regOf w)) refl j
+    where
+      go : (regIs v (regOf w) ≡ false → 0 < named v rs → ⊥) → (b : Bool) → regIs v (regOf w) ≡ b → 0 < cond b (suc (named v rs)) (named v rs) → ⊥
+      go f true i y = name-takes v (regOf w) (d .0) (d .1 .1) e i (runs-keep c h m k rs (readName c h m (regOf w) d) q)
+      go f false i y = f i y
+
+-- ---- the values that are read once, by the notes of the lines us at the end of the lines ls; the tables are of the registers below w
+
+-- so of the line with k above it, which stores register v
+pub record OneRow (ls us : List (List ℕ)) (w k v : ℕ) : Type 0 where
+  pub next : ℕ
+  pub row : k + suc next ≡ length ls
+  pub among : next ≤ length us
+  pub known : v < w
+  pub up : OneUp v next us
+
+abbrev pub Ones : List (List ℕ) → List (List ℕ) → ℕ → List ℕ → Type 0
+Ones ls us w d = (k : ℕ) (s : Store) → parseOf (firstLine (drop k ls)) ≡ line.Store s → getD d k 0 ≡ 7 → OneRow ls us w k (s .reg .0)
+
+ones-none : (ls us : List (List ℕ)) (w : ℕ) (d : List ℕ) → AtMost 0 d → Ones ls us w d
+ones-none ls us w d h = λ k s e q. let z = h k in absurd (omega arith)
+
+pub once-none : (ls : List (List ℕ)) (d : List ℕ) → AtMost 0 d → OneOf ls d
+once-none ls d h = λ k s e q. let z = h k in absurd (omega arith)
+
+pub once-of : (ls : List (List ℕ)) (w : ℕ) (d : List ℕ) → Ones ls ls w d → OneOf ls d
+once-of ls w d o = λ k s e q.
+    let r : OneRow ls ls w k (s .reg .0) = o k s e q in
+    let z = r .row in
+    let i : length ls - suc (r .next) ≡ k = omega arith in
+    ap (λ (j : ℕ). readCount (s .reg .0) (areaOf (region ls) ls j)) (sym i) ∙ one-done (s .reg .0) (r .next) ls (omega arith) (r .up)
+
+module _ (ls : List (List ℕ)) (l : List ℕ) (us : List (List ℕ)) (ps : List ℕ) (j h x : ℕ) (p : Line) (near far stores notes : List ℕ) (t : Nexts us h near far stores)
+    (n : j + 1 + length us ≡ length ps) (g : length ps ≡ length ls) (d : drop j ls ≡ l ∷ us) (e : p ≡ parseOf l) (u : x ≡ lineNote p ps j (length us) h near far stores) where
+  -- the line's own note
+  one-put : (s : Store) → parseOf l ≡ line.Store s → getD (set notes j x) j 0 ≡ 7 → (s .reg .0 < length near) × OneUp (s .reg .0) (length us) us
+  one-put s i q = go (ltb j (length notes)) refl
+    where
+      seven : x ≡ 7 → (s .reg .0 < length near) × OneUp (s .reg .0) (length us) us
+      seven z =
+          let y = line-one l us ps j h near far stores t n s x (sym i) (u ∙ ap (λ (k : Line). lineNote k ps j (length us) h near far stores) (e ∙ i)) z in
+          (y .0, one-new (s .reg .0) us (y .1 .0) (y .1 .1 .0) (y .1 .1 .1))
+
+      go : (b : Bool) → ltb j (length notes) ≡ b → (s .reg .0 < length near) × OneUp (s .reg .0) (length us) us
+      go true y = seven (sym (getD-set-same notes j x 0 (ltb-true j (length notes) y)) ∙ q)
+      go false y =
+          let w : _≡_ {A = ℕ} 0 7 = sym (List·getD-eq-default notes 0 (ltb-false j (length notes) y)) ∙ ap (λ (c : List ℕ). getD c j 0) (set-past notes j x (ltb-false j (length notes) y)) ∙ q in
+          absurd (omega arith)
+
+  -- and those below it
+  ones-put : Ones ls us (length near) notes → Ones ls us (length near) (set notes j x)
+  ones-put o = λ k s i q. go k s i q (eqb k j) refl
+    where
+      go : (k : ℕ) (s : Store) → parseOf (firstLine (drop k ls)) ≡ line.Store s → getD (set notes j x) k 0 ≡ 7 → (b : Bool) → eqb k j ≡ b → OneRow ls us (length near) k (s .reg .0)
+      go k s i q true y =
+          let z : k ≡ j = eqb-true k j y in
+          let w = one-put s (sym (ap (λ (c : ℕ). parseOf (firstLine (drop c ls))) z ∙ ap (λ (c : List (List ℕ)). parseOf (firstLine c)) d) ∙ i) (ap (λ (c : ℕ). getD (set notes j x) c 0) (sym z) ∙ q) in
+          record { next = length us; row = omega arith; among = omega arith; known = w .0; up = w .1 }
+      go k s i q false y = o k s i (sym (getD-set-other notes j k x 0 (eqb-false k j y)) ∙ q)
+
+  -- and with what it reads
+  ones-on : (notes′ : List ℕ) (m : ℕ) → notes′ ≡ readRuns (length ps) h m (runs (textOf l p)) (near, (far, set notes j x)) .1 .1 → Ones ls us (length near) notes → Ones ls (l ∷ us) (length near) notes′
+  unfolding lineReads named
+  ones-on notes′ m y o = λ k s i q.
+      let z : getD (readRuns (length ps) h m (runs (textOf l p)) (near, (far, set notes j x)) .1 .1) k 0 ≡ 7 = ap (λ (c : List ℕ). getD c k 0) (sym y) ∙ q in
+      let r : OneRow ls us (length near) k (s .reg .0) = ones-put o k s i (runs-keep (length ps) h m k (runs (textOf l p)) (near, (far, set notes j x)) z) in
+      record {
+        next = r .next;
+        row = r .row;
+        among = omega (arith, r .among);
+        known = r .known;
+        up = one-on (s .reg .0) (r .next) l us (r .among) (λ a b. go (s .reg .0) (r .next) k (r .row) (r .known) z a b (ltb 0 (lineReads (s .reg .0) l)) refl) (r .up);
+      }
+    where
+      go : (v r k : ℕ) → k + suc r ≡ length ls → v < length near → getD (readRuns (length ps) h m (runs (textOf l p)) (near, (far, set notes j x)) .1 .1) k 0 ≡ 7 →
+          headFrom us < r → readFrom v us ≡ r → (b : Bool) → ltb 0 (lineReads v l) ≡ b → b ≡ false
+      go v r k w f z a c true i =
+          let c′ = t .head in
+          let e′ : lineReads v l ≡ named v (runs (textOf l p)) = ap (λ (q : Line). readsOf v (textOf l q)) (sym e) in
+          let i′ = ltb-true 0 (lineReads v l) i in
+          absurd (runs-take (length ps) h r k (omega arith) (omega arith) m v (runs (textOf l p)) (near, (far, set notes j x)) f (t .reads v f ∙ c) (omega arith) z)
+      go v r k w f z a c false i = refl
+
 -- ---- the loop: the lines from i on are in the tables, there are m of them, and h is the number of the first header
 
-pub record NoteInv (t ps near far stores reads notes ends : List ℕ) (i m h : ℕ) : Type 0 where
+pub record NoteInv (t ps near far stores notes ends : List ℕ) (i m h : ℕ) : Type 0 where
   pub i≤ : i ≤ length t
   pub front : Begins t i
   pub count : m ≡ length (linesOf (drop i t))
   pub nexts : Nexts (linesOf (drop i t)) h near far stores
-  pub counts : Counts (linesOf (drop i t)) reads
   pub noted : NotesOf (linesOf t) ps notes
+  pub ones : Ones (linesOf t) (linesOf (drop i t)) (length near) notes
   pub last : Begins t (length t)
   pub ended : EndsOf t ends
 
-pub note-start : (t ps near far stores reads notes ends : List ℕ) → endsIn 10 t ≡ true → AtMost 0 near → AtMost 0 far → AtMost 0 stores → AtMost 0 reads → AtMost 0 notes → AtMost 0 ends →
-    NoteInv t ps near far stores reads notes ends (length t) 0 0
-note-start t ps near far stores reads notes ends e a b c d n o =
+pub note-start : (t ps near far stores notes ends : List ℕ) → endsIn 10 t ≡ true → AtMost 0 near → AtMost 0 far → AtMost 0 stores → AtMost 0 notes → AtMost 0 ends →
+    NoteInv t ps near far stores notes ends (length t) 0 0
+note-start t ps near far stores notes ends e a b c n o =
     let l : Begins t (length t) = begins-lf t (length t) (eqb-true (getD t (length t - 1) 0) 10 e) in
     let z = lines-end t (length t) (omega arith) in
     record {
@@ -201,13 +356,13 @@ note-start t ps near far stores reads notes ends e a b c d n o =
       front = l;
       count = sym (ap (λ (ls : List (List ℕ)). length ls) z);
       nexts = subst (λ (ls : List (List ℕ)). Nexts ls 0 near far stores) (sym z) (nexts-none 0 near far stores refl a b c);
-      counts = subst (λ (ls : List (List ℕ)). Counts ls reads) (sym z) (counts-none reads d);
       noted = notes-none (linesOf t) ps notes n;
+      ones = ones-none (linesOf t) (linesOf (drop (length t) t)) (length near) notes n;
       last = l;
       ended = ends-none t ends o;
     }
 
-module _ {t ps near far stores reads notes ends : List ℕ} {i m h : ℕ} (v : NoteInv t ps near far stores reads notes ends i m h) (k : 0 < i) where
+module _ {t ps near far stores notes ends : List ℕ} {i m h : ℕ} (v : NoteInv t ps near far stores notes ends i m h) (k : 0 < i) where
   -- the line above ends at an LF
   pub note-lf : (i - 1 < length t) × (getD t (i - 1) 0 ≡ 10)
   note-lf = (omega (arith, v .i≤), v .front (i - 1) (omega arith))
@@ -226,89 +381,108 @@ module _ {t ps near far stores reads notes ends : List ℕ} {i m h : ℕ} (v : N
     pub note-row : m + 1 ≤ length ps
     note-row = let z = rows-above .0 in omega arith
 
-    pub note-on : (l : List ℕ) (p : Line) (j x : ℕ) (near′ far′ stores′ reads′ notes′ ends′ : List ℕ) (h′ : ℕ) → l ≡ part a (i - 1) t → p ≡ parseOf l → j ≡ length ps - (m + 1) →
-        x ≡ lineNote p ps j m h near far stores → notes′ ≡ set notes j x → ends′ ≡ set ends j i →
-        (near′, far′) ≡ readRuns (m + 1) (runs (textOf l p)) (near, far) → stores′ ≡ markStore (m + 1) p stores → reads′ ≡ addRuns (runs (textOf l p)) reads → h′ ≡ cond (isHeader l) (m + 1) h →
-        NoteInv t ps near′ far′ stores′ reads′ notes′ ends′ a (m + 1) h′
-    note-on l p j x near′ far′ stores′ reads′ notes′ ends′ h′ e q w u g g′ y s r o =
+    pub note-on : (l : List ℕ) (p : Line) (j x : ℕ) (near′ far′ stores′ notes₁ notes′ ends′ : List ℕ) (h′ : ℕ) → l ≡ part a (i - 1) t → p ≡ parseOf l → j ≡ length ps - (m + 1) →
+        x ≡ lineNote p ps j m h near far stores → notes₁ ≡ set notes j x → ends′ ≡ set ends j i →
+        (near′, (far′, notes′)) ≡ readRuns (length ps) h (m + 1) (runs (textOf l p)) (near, (far, notes₁)) → stores′ ≡ markStore (m + 1) p stores → h′ ≡ cond (isHeader l) (m + 1) h →
+        NoteInv t ps near′ far′ stores′ notes′ ends′ a (m + 1) h′
+    note-on l p j x near′ far′ stores′ notes₁ notes′ ends′ h′ e q w u g g′ y s o =
         let ls : List (List ℕ) = linesOf (drop i t) in
+        let rs : List (List ℕ) = runs (textOf l p) in
         let c : linesOf (drop a t) ≡ l ∷ ls = line-above ∙ ap (λ (b : List ℕ). b ∷ ls) (sym e) in
         let d : drop j (linesOf t) ≡ l ∷ ls = ap (λ (b : ℕ). drop b (linesOf t)) (w ∙ ap (λ (b : ℕ). b - (m + 1)) n) ∙ rows-above .1 ∙ c in
         let d′ : drop (j + 1) (linesOf t) ≡ ls = sym (drop-drop 1 j (linesOf t)) ∙ ap (λ (us : List (List ℕ)). drop 1 us) d in
         let f = v .count in
         let z = note-row in
         let one : m + 1 ≡ suc (length ls) = omega arith in
+        let r : j + 1 + length ls ≡ length ps = omega arith in
+        let u′ : x ≡ lineNote p ps j (length ls) h near far stores = u ∙ ap (λ (b : ℕ). lineNote p ps j b h near far stores) f in
+        let y′ : (near′, (far′, notes′)) ≡ readRuns (length ps) h (m + 1) rs (near, (far, set notes j x)) = y ∙ ap (λ (b : List ℕ). readRuns (length ps) h (m + 1) rs (near, (far, b))) g in
+        let ln : length near′ ≡ length near = ap (λ (b : Reads). length (b .0)) y ∙ runs-lengths (length ps) h (m + 1) rs (near, (far, notes₁)) .0 in
         record {
           i≤ = omega (arith, b .0, v .i≤);
           front = b .1;
           count = above-count;
-          nexts = rw c (nexts-on l ls p h (m + 1) h′ near far stores near′ far′ stores′ q one y s o (v .nexts));
-          counts = rw c (counts-on l ls p reads reads′ q r (v .counts));
-          noted = rw g (notes-put (linesOf t) ps notes j x (rw (d, d′) (note-is l ls ps j h near far stores (v .nexts) (omega arith) p x q (u ∙ ap (λ (b : ℕ). lineNote p ps j b h near far stores) f))) (v .noted));
+          nexts = rw c (nexts-on (length ps) l ls p h (m + 1) h′ near far stores notes₁ near′ far′ stores′ notes′ q one y s o (v .nexts));
+          noted = subst (NotesOf (linesOf t) ps) (sym (ap (λ (b : Reads). b .1 .1) y′))
+              (notes-runs (linesOf t) ps (length ps) h (m + 1) rs (near, (far, set notes j x)) (notes-put (linesOf t) ps notes j x (rw (d, d′) (note-is l ls ps j h near far stores (v .nexts) r p x q u′)) (v .noted)));
+          ones = rw (c, ln) (ones-on (linesOf t) l ls ps j h x p near far stores notes (v .nexts) r n d q u′ notes′ (m + 1) (ap (λ (b : Reads). b .1 .1) y′) (v .ones));
           last = v .last;
           ended = rw g′ (ends-put t ends j i a (v .last) (omega (arith, b .0, v .i≤)) k (b .0) (d ∙ sym c) (v .ended));
         }
 
-pub counts-of : {t ps near far stores reads notes ends : List ℕ} {i m h : ℕ} → NoteInv t ps near far stores reads notes ends i m h → i ≤ 0 → Counts (linesOf t) reads
-counts-of {t} {ps} {near} {far} {stores} {reads} {notes} {ends} {i} v z = subst (λ (j : ℕ). Counts (linesOf (drop j t)) reads) (let y : i ≡ 0 = omega arith in y) (v .counts)
+pub ones-of : {t ps near far stores notes ends : List ℕ} {i m h : ℕ} → NoteInv t ps near far stores notes ends i m h → i ≤ 0 → OneOf (linesOf t) notes
+ones-of {t} {ps} {near} {far} {stores} {notes} {ends} {i} v z =
+    once-of (linesOf t) (length near) notes (subst (λ (j : ℕ). Ones (linesOf t) (linesOf (drop j t)) (length near) notes) (let y : i ≡ 0 = omega arith in y) (v .ones))
 
--- ---- the loop over the runs of a text: the run from a to i is open; n and f are the tables of the first and the second reads
+-- ---- the loop over the runs of a text: the run from a to i is open; d₀ are the tables at its start, and d here
 
-pub record ReadsInv (m : ℕ) (s : List ℕ) (n₀ f₀ n f : List ℕ) (a i : ℕ) : Type 0 where
-  pub long : length n ≡ length n₀
-  pub wide : length f ≡ length f₀
-  pub walk : Walk (readRuns m) s (n₀, f₀) (n, f) a i
+pub record ReadsInv (c h m : ℕ) (s : List ℕ) (d₀ d : Reads) (a i : ℕ) : Type 0 where
+  pub long : length (d .0) ≡ length (d₀ .0)
+  pub wide : length (d .1 .0) ≡ length (d₀ .1 .0)
+  pub tall : length (d .1 .1) ≡ length (d₀ .1 .1)
+  pub walk : Walk (readRuns c h m) s d₀ d a i
 
-reads-step : ℕ → List ℕ → List ℕ × List ℕ → List ℕ × List ℕ
-reads-step m c d = (markName m (regOf c) (d .0), farName m (regOf c) (d .0) (d .1))
+reads-flush : (c h m : ℕ) (cur : List ℕ) (rs : List (List ℕ)) (d : Reads) → readRuns c h m (flush cur ++ rs) d ≡ readRuns c h m rs (readName c h m (regOf cur) d)
+unfolding readRuns regOf
+reads-flush c h m [] rs d = refl
+reads-flush c h m (x ∷ cur) rs d = refl
 
-reads-flush : (m : ℕ) (cur : List ℕ) (rs : List (List ℕ)) (d : List ℕ × List ℕ) → readRuns m (flush cur ++ rs) d ≡ readRuns m rs (reads-step m cur d)
-unfolding readRuns regOf reads-step
-reads-flush m [] rs d = refl
-reads-flush m (x ∷ cur) rs d = refl
-
-reads-empty : (m : ℕ) (d : List ℕ × List ℕ) → readRuns m [] d ≡ d
+reads-empty : (c h m : ℕ) (d : Reads) → readRuns c h m [] d ≡ d
 unfolding readRuns
-reads-empty m d = refl
+reads-empty c h m d = refl
 
-pub reads-start : (m : ℕ) (s n f : List ℕ) → ReadsInv m s n f n f 0 0
-reads-start m s n f = record { long = refl; wide = refl; walk = walk-start (readRuns m) s (n, f) }
+pub reads-start : (c h m : ℕ) (s : List ℕ) (d : Reads) → ReadsInv c h m s d d 0 0
+reads-start c h m s d = record { long = refl; wide = refl; tall = refl; walk = walk-start (readRuns c h m) s d }
 
-module _ {m : ℕ} {s n₀ f₀ n f : List ℕ} {a i : ℕ} (h : ReadsInv m s n₀ f₀ n f a i) where
-  pub reads-name : i < length s → isName (getD s i 0) ≡ true → ReadsInv m s n₀ f₀ n f a (i + 1)
-  reads-name k e = record { long = h .long; wide = h .wide; walk = walk-name (h .walk) k e }
+module _ {c h m : ℕ} {s : List ℕ} {d₀ d : Reads} {a i : ℕ} (v : ReadsInv c h m s d₀ d a i) where
+  pub reads-name : i < length s → isName (getD s i 0) ≡ true → ReadsInv c h m s d₀ d a (i + 1)
+  reads-name k e = record { long = v .long; wide = v .wide; tall = v .tall; walk = walk-name (v .walk) k e }
 
-  module _ (w n′ f′ : List ℕ) (q : n′ ≡ markName m (regOf w) n) (r : f′ ≡ farName m (regOf w) n f) where
-    step-is : (n′, f′) ≡ reads-step m w (n, f)
-    unfolding reads-step
-    step-is = rw (q, r)
+  module _ (w : List ℕ) where
+    pub reads-long : (x : List ℕ) → x ≡ markName m (regOf w) (d .0) → length x ≡ length (d₀ .0)
+    reads-long x q = ap (λ (t : List ℕ). length t) q ∙ name-length m (regOf w) (d .0) ∙ v .long
 
-    pub reads-long : length n′ ≡ length n₀
-    reads-long = ap (λ (t : List ℕ). length t) q ∙ name-length m (regOf w) n ∙ h .long
+    pub reads-wide : (x : List ℕ) → x ≡ farName (regOf w) (d .0) (d .1 .0) → length x ≡ length (d₀ .1 .0)
+    reads-wide x q = ap (λ (t : List ℕ). length t) q ∙ far-length (regOf w) (d .0) (d .1 .0) ∙ v .wide
 
-    pub reads-wide : length f′ ≡ length f₀
-    reads-wide = ap (λ (t : List ℕ). length t) r ∙ far-length m (regOf w) n f ∙ h .wide
+    pub reads-tall : (x : List ℕ) → x ≡ backName c h (regOf w) (d .0) (d .1 .1) → length x ≡ length (d₀ .1 .1)
+    reads-tall x q = ap (λ (t : List ℕ). length t) q ∙ notes-length c h (regOf w) (d .0) (d .1 .1) ∙ v .tall
 
-    pub reads-gap : i < length s → isName (getD s i 0) ≡ false → w ≡ part a i s → ReadsInv m s n₀ f₀ n′ f′ (i + 1) (i + 1)
-    reads-gap k e p = record { long = reads-long; wide = reads-wide; walk = walk-gap (readRuns m) (reads-step m) (reads-flush m) (h .walk) k e w p step-is }
+    module _ (d′ : Reads) (q : d′ ≡ readName c h m (regOf w) d) where
+      pub reads-gap : i < length s → isName (getD s i 0) ≡ false → w ≡ part a i s → ReadsInv c h m s d₀ d′ (i + 1) (i + 1)
+      reads-gap k e p = record {
+        long = reads-long (d′ .0) (ap (λ (t : Reads). t .0) q);
+        wide = reads-wide (d′ .1 .0) (ap (λ (t : Reads). t .1 .0) q);
+        tall = reads-tall (d′ .1 .1) (ap (λ (t : Reads). t .1 .1) q);
+        walk = walk-gap (readRuns c h m) (λ (r : List ℕ) (x : Reads). readName c h m (regOf r) x) (reads-flush c h m) (v .walk) k e w p q;
+      }
 
-    pub reads-end : length s ≤ i → w ≡ part a i s → (n′, f′) ≡ readRuns m (runs s) (n₀, f₀)
-    reads-end k p = walk-end (readRuns m) (reads-step m) (reads-flush m) (reads-empty m) (h .walk) k w p step-is
+      pub reads-end : length s ≤ i → w ≡ part a i s → d′ ≡ readRuns c h m (runs s) d₀
+      reads-end k p = walk-end (readRuns c h m) (λ (r : List ℕ) (x : Reads). readName c h m (regOf r) x) (reads-flush c h m) (reads-empty c h m) (v .walk) k w p q
 
 -- a line keeps the lengths of the tables
-pub note-lengths : (near far stores reads : List ℕ) (m : ℕ) (p : Line) (l : List ℕ) {near′ far′ stores′ reads′ : List ℕ} → (near′, far′) ≡ readRuns m (runs (textOf l p)) (near, far) →
-    stores′ ≡ markStore m p stores → reads′ ≡ addRuns (runs (textOf l p)) reads → (length near′ ≡ length near) × ((length far′ ≡ length far) × ((length stores′ ≡ length stores) × (length reads′ ≡ length reads)))
-note-lengths near far stores reads m p l y s r =
-    let z = runs-lengths m (runs (textOf l p)) (near, far) in
-    (ap (λ (d : List ℕ × List ℕ). length (d .0)) y ∙ z .0, (ap (λ (d : List ℕ × List ℕ). length (d .1)) y ∙ z .1, (ap (λ (d : List ℕ). length d) s ∙ store-length m p stores, ap (λ (d : List ℕ). length d) r ∙ runs-long (runs (textOf l p)) reads)))
+pub note-lengths : (c h m : ℕ) (near far stores notes : List ℕ) (p : Line) (l : List ℕ) {near′ far′ stores′ notes′ : List ℕ} →
+    (near′, (far′, notes′)) ≡ readRuns c h m (runs (textOf l p)) (near, (far, notes)) → stores′ ≡ markStore m p stores →
+    (length near′ ≡ length near) × ((length far′ ≡ length far) × ((length stores′ ≡ length stores) × (length notes′ ≡ length notes)))
+note-lengths c h m near far stores notes p l y s =
+    let z = runs-lengths c h m (runs (textOf l p)) (near, (far, notes)) in
+    (ap (λ (d : Reads). length (d .0)) y ∙ z .0, (ap (λ (d : Reads). length (d .1 .0)) y ∙ z .1 .0, (ap (λ (d : List ℕ). length d) s ∙ store-length m p stores, ap (λ (d : Reads). length (d .1 .1)) y ∙ z .1 .1)))
 
--- ---- the second read of a register, r is the first
+-- ---- the code: a read takes back what a note says
 
-pub far-same : (n f : List ℕ) (v m r : ℕ) → r ≡ getD n v 0 → r ≡ m → f ≡ cond (eqb (getD n v 0) m) f (set f v (getD n v 0))
-far-same n f v m r q e = rw (eq-eqb (getD n v 0) m (sym q ∙ e))
+module _ (c h r : ℕ) (d : List ℕ) where
+  pub back-none : r ≤ h → d ≡ takeBack c h r d
+  back-none k = rw (le-ltb h r k)
 
-pub far-put : (n f : List ℕ) (v m r : ℕ) → r ≡ getD n v 0 → (r ≡ m → ⊥) → set f v r ≡ cond (eqb (getD n v 0) m) f (set f v (getD n v 0))
-far-put n f v m r q e = rw (sym q, ne-eqb r m e)
+  pub back-past : c ≤ r → d ≡ takeBack c h r d
+  back-past k = rw (le-ltb r c k, and-false (ltb h r))
 
-pub far-past : (n f : List ℕ) (v m r : ℕ) → r ≡ getD n v 0 → (r ≡ m → ⊥) → length f ≤ v → f ≡ cond (eqb (getD n v 0) m) f (set f v (getD n v 0))
-far-past n f v m r q e h = set-past f v r h ∙ far-put n f v m r q e
+  pub back-other : (x : ℕ) → x ≡ getD d (c - r - 1) 0 → (x ≡ 7 → ⊥) → d ≡ takeBack c h r d
+  back-other x q n = rw (sym q, ne-eqb x 7 n) (go (ltb h r && ltb r c))
+    where
+      go : (t : Bool) → d ≡ cond t d d
+      go true = refl
+      go false = refl
+
+  pub back-seven : h < r → r < c → (x : ℕ) → x ≡ getD d (c - r - 1) 0 → x ≡ 7 → set d (c - r - 1) 4 ≡ takeBack c h r d
+  back-seven a b x q e = rw (lt-ltb h r a, lt-ltb r c b, sym q, eq-eqb x 7 e)

@@ -10,28 +10,47 @@ use lib.ListN.{length, drop, getD}
 use lib.Seq.{drop-drop}
 use Rattle.lines.specs.Lf.{part, upTo, linesOf}
 use Rattle.lines.proofs.LfLaws.{lines-at, lines-end, find-end, part-none, rest-of}
-use Rattle.place.specs.Region.{regionLen}
-use Rattle.place.proofs.Regions.{region-at}
-use Rattle.text.specs.declared.Span.{Span}
+use Rattle.place.specs.Region.{region, regionAt}
 use Rattle.once.specs.Tables.{areaAt}
-use Rattle.once.specs.Noted.{OneAt, OneOf, KindIs, DropBy, SendBy, firstLine, NotesOf}
+use Rattle.once.specs.Noted.{areaOf, KindIs, DropBy, SendBy, firstLine, NotesOf, OneBy, OneOf}
 use Rattle.once.proofs.Fills.{linesAt, area-run}
-use Rattle.once.proofs.NotedLaws.{RunInv, run-start, run-on, run-one, rows-on}
+use Rattle.once.proofs.AreaLaws.{AreaInv, area-first, area-next, area-here}
 
-pub run-begin : (t : List ℕ) (r : ℕ) → r ≡ 0 + regionLen (drop 0 t) → RunInv (linesOf t) 0 (linesOf (part 0 r t))
-run-begin t r q = subst (RunInv (linesOf t) 0) (sym (region-at t 0 r q)) (run-start (linesOf t))
+-- ---- the tables of a text, row by row
 
-module _ (t : List ℕ) (i k e j : ℕ) (h : i < length t) (q : e ≡ i + upTo 10 (drop i t)) (z : j ≡ min (e + 1) (length t)) (rows : linesOf (drop i t) ≡ drop k (linesOf t)) where
-  pub run-next : (w w′ : Span) → w′ ≡ areaAt t i e w → RunInv (linesOf t) k (linesAt t w) → RunInv (linesOf t) (k + 1) (linesAt t w′)
-  run-next w w′ a r =
-      let us : List (List ℕ) = linesOf (drop (min (e + 1) (length t)) t) in
-      subst (RunInv (linesOf t) (k + 1)) (sym (ap (linesAt t) a ∙ area-run t i e w h q))
-      (run-on r (part i e t) us (sym rows ∙ lines-at t i e h q) (sym (rows-on t i k e (min (e + 1) (length t)) rows h q refl)))
+pub rows-start : (t : List ℕ) → linesOf (drop 0 t) ≡ drop 0 (linesOf t)
+rows-start t = refl
 
-  -- what is read once in all, and by the next line, is read once in the region, which is r
-  pub one-next : (w w′ : Span) → w′ ≡ areaAt t i e w → RunInv (linesOf t) k (linesAt t w) → (d : List ℕ) → OneOf (linesOf t) d → (r : List ℕ) → r ≡ part (w′ .from) (w′ .to) t →
-      OneAt (linesOf (drop j t)) (linesOf r) d
-  one-next w w′ a v d o r y = rw (rows-on t i k e j rows h q z, y) (run-one (run-next w w′ a v) d o)
+module _ (t : List ℕ) (i k e j : ℕ) (rows : linesOf (drop i t) ≡ drop k (linesOf t)) (h : i < length t) (q : e ≡ i + upTo 10 (drop i t)) (z : j ≡ min (e + 1) (length t)) where
+  pub rows-on : linesOf (drop j t) ≡ drop (k + 1) (linesOf t)
+  rows-on =
+      ap (λ (n : ℕ). linesOf (drop n t)) z
+      ∙ ap (λ (ls : List (List ℕ)). drop 1 ls) (sym (lines-at t i e h q) ∙ rows)
+      ∙ drop-drop 1 k (linesOf t)
+
+-- ---- the regions
+
+pub area-begin : (t : List ℕ) → AreaInv (linesOf t) 0 (linesAt t 0)
+area-begin t = area-first (linesOf t)
+
+module _ (t : List ℕ) (i k e j : ℕ) (h : i < length t) (q : e ≡ i + upTo 10 (drop i t)) (z : j ≡ min (e + 1) (length t)) (rows : linesOf (drop i t) ≡ drop k (linesOf t))
+    (w w′ : ℕ) (a : w′ ≡ areaAt t i e w) (v : AreaInv (linesOf t) k (linesAt t w)) where
+  area-is : linesAt t w′ ≡ regionAt (part i e t) (linesOf (drop (min (e + 1) (length t)) t)) (linesAt t w)
+  area-is = ap (linesAt t) a ∙ area-run t i e w h q
+
+  row-is : drop k (linesOf t) ≡ part i e t ∷ linesOf (drop (min (e + 1) (length t)) t)
+  row-is = sym rows ∙ lines-at t i e h q
+
+  pub area-after : AreaInv (linesOf t) (k + 1) (linesAt t w′)
+  area-after = subst (AreaInv (linesOf t) (k + 1)) (sym area-is) (area-next (linesOf t) k (linesAt t w) v (part i e t) _ row-is (sym (rows-on t i k e (min (e + 1) (length t)) rows h q refl)))
+
+  -- what the note says of the region, which is that at the front of r
+  pub one-at : (d : List ℕ) → OneOf (linesOf t) d → (l r : List ℕ) (x : ℕ) → l ≡ part i e t → r ≡ part w′ (length t) t → x ≡ getD d k 0 → OneBy l (region (linesOf r)) x
+  one-at d o l r x b c y =
+      let g : firstLine (drop k (linesOf t)) ≡ part i e t = ap firstLine row-is in
+      let m : areaOf (region (linesOf t)) (linesOf t) k ≡ region (linesOf r) =
+      sym (area-here (linesOf t) k (linesAt t w) v (part i e t) _ row-is) ∙ sym area-is ∙ ap (λ (u : List ℕ). region (linesOf u)) (sym (c ∙ rest-of t w′)) in
+      rw (y, b, sym g, sym m) (o k)
 
 -- ---- the notes
 

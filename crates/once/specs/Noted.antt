@@ -1,6 +1,6 @@
--- Tables over registers, of the next lines that read and store each one and of how often lines read it, and one over lines, of what each is and of
--- what becomes of what it stores: what lines leave in them, and what they then say. Assumes nothing.
-use Prim.Native.Nat.{ℕ, suc, _+_, _-_, _≤_}
+-- Tables over registers, of the next lines that read and store each one, and one over lines, of what each is and of what becomes of what it
+-- stores: what lines leave in them, and what they then say. Assumes nothing.
+use Prim.Native.Nat.{ℕ, zero, suc, _+_, _-_, _≤_}
 use mathlib.Core.Path.{_≡_}
 use mathlib.Core.Bool.{Bool, true, false, cond, not, _&&_, _||_}
 use mathlib.Core.List.{List, [], _∷_}
@@ -14,8 +14,7 @@ use Rattle.parse.specs.Parse.{parseOf}
 use Rattle.parse.specs.declared.Store.{Store}
 use Rattle.parse.specs.declared.Line.{Line}
 use Rattle.parse.specs.declared.Line.the-variants as line
-use Rattle.words.specs.Runs.{runs}
-use Rattle.place.specs.Region.{isHeader}
+use Rattle.place.specs.Region.{isHeader, region, regionAt}
 use Rattle.reading.specs.Uses.{lineReads, lineStores}
 use Rattle.decls.specs.Seen.{markName}
 use Rattle.once.specs.Scratch.{liveBelow}
@@ -41,53 +40,47 @@ storeFrom v ls = firstBy (λ (l : List ℕ). lineStores v l) ls
 abbrev pub headFrom : List (List ℕ) → ℕ
 headFrom ls = firstBy (λ (l : List ℕ). isHeader l) ls
 
--- of the second line that reads register v
+-- of the line that has the second read of register v
 unfoldable pub farFrom : ℕ → List (List ℕ) → ℕ
 unfolding firstBy
 farFrom v [] = 0
-farFrom v (l ∷ ls) = cond (ltb 0 (lineReads v l)) (readFrom v ls) (farFrom v ls)
+farFrom v (l ∷ ls) = cond (ltb 0 (lineReads v l)) (cond (ltb 1 (lineReads v l)) (suc (length ls)) (readFrom v ls)) (farFrom v ls)
 
--- the table f of the second reads, where n has the first ones, after a read of the register that a name is in the line with the number m
-abbrev pub farName : ℕ → RegName → List ℕ → List ℕ → List ℕ
-farName m name.None n f = f
-farName m (name.Reg q) n f = cond (eqb (getD n (q .0) 0) m) f (set f (q .0) (getD n (q .0) 0))
+-- the table f of the second reads, where n has the first ones, after a read of the register that a name is
+abbrev pub farName : RegName → List ℕ → List ℕ → List ℕ
+farName name.None n f = f
+farName (name.Reg q) n f = set f (q .0) (getD n (q .0) 0)
 
--- both tables, the first reads and the second ones, after the reads of the registers that runs name
-unfoldable pub readRuns : ℕ → List (List ℕ) → List ℕ × List ℕ → List ℕ × List ℕ
-readRuns m [] d = d
-readRuns m (r ∷ rs) d = readRuns m rs (markName m (regOf r) (d .0), farName m (regOf r) (d .0) (d .1))
+-- the notes d of c lines after a read of a register that the line with the number r reads too, which is in the region above the header with the
+-- number h: the note of the line just above that one says no more that its value is read once
+abbrev pub takeBack : ℕ → ℕ → ℕ → List ℕ → List ℕ
+takeBack c h r d = cond (ltb h r && ltb r c) (cond (eqb (getD d (c - r - 1) 0) 7) (set d (c - r - 1) 4) d) d
 
--- ---- how often lines read a register, up to 2
+-- after a read of the register that a name is, where n has the first reads
+abbrev pub backName : ℕ → ℕ → RegName → List ℕ → List ℕ → List ℕ
+backName c h name.None n d = d
+backName c h (name.Reg q) n d = takeBack c h (getD n (q .0) 0) d
 
--- one more
-abbrev pub bump : ℕ → ℕ
-bump n = cond (ltb n 2) (n + 1) n
+-- the tables of the first reads and of the second ones, and the notes
+abbrev pub Reads : Type 0
+Reads = List ℕ × (List ℕ × List ℕ)
 
--- the table d after a read of the register that a name is
-abbrev pub addName : RegName → List ℕ → List ℕ
-addName name.None d = d
-addName (name.Reg q) d = set d (q .0) (bump (getD d (q .0) 0))
+-- after a read of the register that a name is in the line with the number m
+abbrev pub readName : ℕ → ℕ → ℕ → RegName → Reads → Reads
+readName c h m r d = (markName m r (d .0), (farName r (d .0) (d .1 .0), backName c h r (d .0) (d .1 .1)))
 
 -- after the reads of the registers that runs name
-unfoldable pub addRuns : List (List ℕ) → List ℕ → List ℕ
-addRuns [] d = d
-addRuns (r ∷ rs) d = addRuns rs (addName (regOf r) d)
+unfoldable pub readRuns : ℕ → ℕ → ℕ → List (List ℕ) → Reads → Reads
+readRuns c h m [] d = d
+readRuns c h m (r ∷ rs) d = readRuns c h m rs (readName c h m (regOf r) d)
 
--- it says that register v is read once
-unfoldable pub alone : ℕ → List ℕ → Bool
-alone v d = ltb v (length d) && eqb (getD d v 0) 1
+-- ---- the region of a line
 
--- a register of which it says so, and which the line e reads once, is read once in the region run of the line above, where e is no header
-abbrev pub OneIn : List ℕ → List (List ℕ) → List ℕ → Type 0
-OneIn e run d = (v : ℕ) → alone v d ≡ true → isHeader e ≡ false → lineReads v e ≡ 1 → readCount v run ≡ 1
-
--- and where e is the first of lines
-abbrev pub OneAt : List (List ℕ) → List (List ℕ) → List ℕ → Type 0
-OneAt ls run d = (e : List ℕ) (rest : List (List ℕ)) → ls ≡ e ∷ rest → OneIn e run d
-
--- of all lines: what is read once by the table is
-abbrev pub OneOf : List (List ℕ) → List ℕ → Type 0
-OneOf ls d = (v : ℕ) → alone v d ≡ true → readCount v ls ≡ 1
+-- that of the line with k above it, where run is that of the line above all
+unfoldable pub areaOf : List (List ℕ) → List (List ℕ) → ℕ → List (List ℕ)
+areaOf run [] k = run
+areaOf run (l ∷ ls) zero = regionAt l ls run
+areaOf run (l ∷ ls) (suc k) = areaOf (regionAt l ls run) ls k
 
 -- ---- calls
 
@@ -130,11 +123,12 @@ abbrev pub samePath : List ℕ → ℕ → ℕ → Bool
 samePath ps k s = not (ltb (length ps) s) && eqb (getD ps k 0) (getD ps (length ps - s) 0)
 
 -- that of a store above m lines, by the numbers of the first and the second line that read its register, of the first that stores it, and of
--- the first header: 3 and 4 where a line of the region reads it next, 4 where that is the next line, and it is not read again; 5 where a line
--- stores it next that reads it too, or in another block path; 6 where nothing wants its value
+-- the first header: 3, 4 and 7 where a line of the region reads it next, 4 and 7 where that is the next line, which reads it once, and it is not
+-- read again, 7 where it is not in the region either; 5 where a line stores it next that reads it too, or in another block path; 6 where nothing
+-- wants its value
 abbrev pub noteBy : ℕ → ℕ → ℕ → ℕ → ℕ → Bool → ℕ
 noteBy r f s h m same =
-    cond (ltb h r && ltb s r) (cond (eqb r m && not (ltb s f)) 4 3)
+    cond (ltb h r && ltb s r) (cond (eqb r m && not (ltb s f)) (cond (ltb h f) 4 7) 3)
     (cond (ltb h r && eqb s r) 5
     (cond (ltb h s) (cond same 6 5)
     (cond (eqb r m) 0 6)))
@@ -157,7 +151,7 @@ KindIs l m = (m ≡ 1 → line.Decl ≡ parseOf l) × (m ≡ 2 → line.Other �
 
 -- the value of a store is read next in the region
 abbrev pub readNext : ℕ → Bool
-readNext m = eqb m 3 || eqb m 4
+readNext m = eqb m 3 || (eqb m 4 || eqb m 7)
 
 -- what a note says of a store of register v in block path p, above the lines ls with the block paths ps, is so: whether the value is read, and
 -- whether it is dead
@@ -166,18 +160,22 @@ pub record DropIs (v p : ℕ) (ls : List (List ℕ)) (ps : List ℕ) (m : ℕ) :
   pub kept : m ≡ 5 → (liveBelow v ls ≡ false) × (deadBy p (nextIn v ls ps) ≡ false)
   pub dead : m ≡ 6 → (liveBelow v ls ≡ false) × (deadBy p (nextIn v ls ps) ≡ true)
 
--- the first line reads register v and does not store it, and it is not read again below
+-- the first line reads register v once and does not store it, and it is not read again below
 unfoldable pub sentTo : ℕ → List (List ℕ) → Bool
 sentTo v [] = false
-sentTo v (e ∷ ls) = not (lineStores v e) && (ltb 0 (lineReads v e) && not (laterRead v ls))
+sentTo v (e ∷ ls) = not (lineStores v e) && (eqb (lineReads v e) 1 && not (laterRead v ls))
 
--- the value of a store does not go into the next line
+-- the value of a store may go into the next line
+abbrev pub maySend : ℕ → Bool
+maySend m = eqb m 4 || eqb m 7
+
+-- it does not
 abbrev pub noSend : ℕ → Bool
-noSend m = ltb 2 m && not (eqb m 4)
+noSend m = not (maySend m) && ltb 2 m
 
 -- what a note says of a store of register v above the lines ls is so: whether its value may go into the next line
 pub record SendIs (v : ℕ) (ls : List (List ℕ)) (m : ℕ) : Type 0 where
-  pub sent : m ≡ 4 → sentTo v ls ≡ true
+  pub sent : maySend m ≡ true → sentTo v ls ≡ true
   pub stays : noSend m ≡ true → sentTo v ls ≡ false
 
 -- so of the register that a line stores
@@ -201,3 +199,11 @@ firstLine (l ∷ ls) = l
 -- a table has notes of lines with the block paths ps
 abbrev pub NotesOf : List (List ℕ) → List ℕ → List ℕ → Type 0
 NotesOf ls ps d = (k : ℕ) → NoteIs (firstLine (drop k ls)) (getD ps k 0) (drop (k + 1) ls) (drop (k + 1) ps) (getD d k 0)
+
+-- what a note says of the register that a line stores, in the region run, is so: whether the region reads it once
+abbrev pub OneBy : List ℕ → List (List ℕ) → ℕ → Type 0
+OneBy l run m = (s : Store) → parseOf l ≡ line.Store s → m ≡ 7 → readCount (s .reg .0) run ≡ 1
+
+-- so of all lines by a table of notes
+abbrev pub OneOf : List (List ℕ) → List ℕ → Type 0
+OneOf ls d = (k : ℕ) → OneBy (firstLine (drop k ls)) (areaOf (region ls) ls k) (getD d k 0)

@@ -1,5 +1,5 @@
 -- The searches of `optimize_once` over lines and a table of numbers beside them. Assumes nothing.
-use Prim.Native.Nat.{ℕ, _+_, _≤_}
+use Prim.Native.Nat.{ℕ, _≤_}
 use mathlib.Core.Path.{_≡_}
 use mathlib.Core.Bool.{Bool, true, false, cond, not, _&&_, _||_}
 use mathlib.Core.List.{List, [], _∷_, _++_}
@@ -15,8 +15,7 @@ use Rattle.words.specs.declared.Hit.the-variants as hit
 use Rattle.reading.specs.Reading.{Reading, pureIn}
 use Rattle.lines.specs.Acts.{Act, keep, become, into, gone}
 use Rattle.lines.specs.Lf.{part, holds}
-use Rattle.text.specs.declared.Span.{Span}
-use Rattle.place.specs.Region.{isHeader, region, regionAt, regionLen}
+use Rattle.place.specs.Region.{isHeader, region, regionAt}
 use Rattle.place.specs.Blocks.{top}
 use Rattle.reading.specs.Uses.{lineReads, lineStores}
 use Rattle.once.specs.Scratch.{scratchAt}
@@ -161,6 +160,6 @@ unfoldable pub marksOf : Reading → List (List ℕ) → List ℕ → List ℕ �
 unfolding marksIn
 marksOf R ls ps fs = marksIn R ls ps fs (firstDrops R ls ps (isSet (top fs))) (region ls)
 
--- the part of a text that is the region of the line from i to e, given that of the line above
-unfoldable pub areaAt : List ℕ → ℕ → ℕ → Span → Span
-areaAt t i e above = cond (isHeader (part i e t)) (record { from = i; to = i + regionLen (drop i t) }) above
+-- where the region of the line from i to e of a text begins, given where that of the line above does
+unfoldable pub areaAt : List ℕ → ℕ → ℕ → ℕ → ℕ
+areaAt t i e above = cond (isHeader (part i e t)) i above

@@ -13,15 +13,16 @@ ghost use Rattle.parse.specs.Parse.{parseOf};
 ghost use Rattle.lines.specs.Lf.{linesOf, unlines, prefixed, holds};
 ghost use Rattle.names.specs.Names.{regOf, isIdent};
 ghost use Rattle.once.specs.Scratch.{objectOf, isMember, liveBelow, changesBy, calledBelow, scratchAt};
-ghost use Rattle.once.specs.Once.{deadBy, readCount, laterRead, firstOf, takenBy, onceActs, optimizeOnce};
+ghost use Rattle.once.specs.Once.{deadBy, readCount, firstOf, takenBy, onceActs, optimizeOnce};
 ghost use Rattle.words.specs.Hits.{regHit, replaceReg};
 ghost use Rattle.reading.specs.Reading.{plain, pureIn};
-ghost use Rattle.reading.specs.Uses.{lineReads, storesBy};
+ghost use Rattle.reading.specs.Uses.{storesBy};
 ghost use Rattle.once.specs.Tables.{readBelow, anyCall, nextIn, Blank, hasHit, storeDrops, lineDrops, storeForwards, lineForwards, onceMarks, actBy, actsBy, firstDrops, firstTakes, markBy, marksOf, areaAt};
-ghost use Rattle.once.specs.Noted.{OneIn, OneAt, OneOf, CalmIn, Calm, LineAt, DropIs, DropBy, SendIs, SendBy, firstLine, NotesOf, EndsOf};
+ghost use Rattle.once.specs.Noted.{CalmIn, Calm, LineAt, DropIs, DropBy, sentTo, SendIs, SendBy, OneBy, OneOf, firstLine, NotesOf, EndsOf};
 ghost use Rattle.decls.specs.Seen.{AtMost};
 ghost use Rattle.place.specs.Fill.{Filled, flagsOf};
 ghost use Rattle.place.specs.Loops.{insideLoop};
+ghost use Rattle.place.specs.Region.{region};
 ghost use Rattle.place.specs.Paths.{blockPaths, tops};
 ghost use Rattle.place.specs.Parents.{pathParents};
 
@@ -180,17 +181,6 @@ fn live_below(below: &[u8], reg: names::Register, note: u8) -> bool
     read_below(below, reg, false)
 }
 
-// Whether a register is read below the next line before it is stored again; the note of the store above may say that it is not.
-fn later_read(below: &[u8], reg: names::Register, note: u8) -> bool
-    requires { ⌜ (note ≡ 4 → laterRead (reg .0) (linesOf (now below)) ≡ false) ⌝ }
-    ensures { λ r. ⌜ r ≡ laterRead (reg .0) (linesOf (now (below .entry))) ⌝ }
-{
-    if note == 4 {
-        return false;
-    }
-    read_below(below, reg, true)
-}
-
 // Whether a store of a register with the value x and a note, above `below`, is a scratch load; no `(` stands in a rest of at most `calm` bytes.
 fn scratch_at(x: &[u8], reg: names::Register, below: &[u8], note: u8, calm: usize) -> bool
     requires { ⌜ ((note ≡ 5 → liveBelow (reg .0) (linesOf (now below)) ≡ false) × (note ≡ 6 → liveBelow (reg .0) (linesOf (now below)) ≡ false)) × (CalmIn (now below) calm) ⌝ }
@@ -288,7 +278,7 @@ fn store_drops(
     ensures answer { λ r. ⌜ r ≡ storeDrops plain (reg .0) (now (x .entry)) p in_loop (linesOf (now (below .entry))) (now (paths .entry)) ⌝ }
     ensures memory { λ _. ⌜ now (scratch .exit) ≡ now (scratch .entry) ⌝ }
 {
-    if (note == 3) | (note == 4) {
+    if (note == 3) | ((note == 4) | (note == 7)) {
         return false;
     }
     if scratch_at(x, reg, below, note, calm) {
@@ -359,21 +349,41 @@ fn takes(line: &[u8], reg: names::Register) -> bool
     }
 }
 
-// Whether lines read a register once in all; `next` is one of them that does, where it is no header, and `reads` has how often all lines do.
-fn once_in(run: &[u8], reg: names::Register, next: &[u8], reads: &[u8]) -> bool
-    requires { ⌜ (OneIn (now next) (linesOf (now run)) (now reads)) × (lineReads (reg .0) (now next) ≡ 1) ⌝ }
-    ensures { λ r. ⌜ r ≡ eqb (readCount (reg .0) (linesOf (now (run .entry)))) 1 ⌝ }
+// Whether the region at the front of a text reads a register once in all; the note of a store of it may say so.
+fn once_in(run: &[u8], reg: names::Register, note: u8) -> bool
+    requires { ⌜ (note ≡ 7 → readCount (reg .0) (region (linesOf (now run))) ≡ 1) ⌝ }
+    ensures { λ r. ⌜ r ≡ eqb (readCount (reg .0) (region (linesOf (now (run .entry))))) 1 ⌝ }
 {
-    if noted::is_alone(reads, reg) {
-        if !place::is_header(next) {
-            return true;
-        }
+    if note == 7 {
+        return true;
     }
-    read_once(run, reg)
+    let e = place::region_end(run, 0);
+    read_once(lines::cut(run, 0, e), reg)
 }
 
-// Whether a store of a register with the value x and a note, in the region `run`, goes into the next line, which is read as q, and goes itself
-// where `gone` says so.
+// Whether the next line, read as q, reads a register once and does not store it, and it is not read again below before it is stored; the note of
+// the store above may say so.
+fn sent_to(reg: names::Register, next: &[u8], q: parse::Line, below: &[u8], note: u8) -> bool
+    requires { ⌜ (q ≡ parseOf (now next)) × (SendIs (reg .0) (now next ∷ linesOf (now below)) note) ⌝ }
+    ensures { λ r. ⌜ r ≡ sentTo (reg .0) (now (next .entry) ∷ linesOf (now (below .entry))) ⌝ }
+{
+    if (note == 4) | (note == 7) {
+        return true;
+    }
+    if 2 < note {
+        return false;
+    }
+    if stores_in(q, reg) {
+        return false;
+    }
+    if words::count_reg(parse::text_of(next, q), reg) != 1 {
+        return false;
+    }
+    !read_below(below, reg, true)
+}
+
+// Whether a store of a register with the value x and a note, in the region that `run` begins with, goes into the next line, which is read as q,
+// and goes itself where `gone` says so.
 fn store_forwards(
     x: &[u8],
     reg: names::Register,
@@ -383,12 +393,12 @@ fn store_forwards(
     run: &[u8],
     in_loop: bool,
     gone: bool,
-    reads: &[u8],
     note: u8,
     scratch: &mut [u8],
 ) -> bool
-    requires { ⌜ (q ≡ parseOf (now next)) × ((Blank (length (now x)) (now scratch)) × ((SendIs (reg .0) (now next ∷ linesOf (now below)) note) × (OneIn (now next) (linesOf (now run)) (now reads)))) ⌝ }
-    ensures answer { λ r. ⌜ r ≡ storeForwards plain (reg .0) (now (x .entry)) (linesOf (now (run .entry))) in_loop gone (now (next .entry)) (linesOf (now (below .entry))) ⌝ }
+    requires { ⌜ (q ≡ parseOf (now next))
+        × ((Blank (length (now x)) (now scratch)) × ((SendIs (reg .0) (now next ∷ linesOf (now below)) note) × (note ≡ 7 → readCount (reg .0) (region (linesOf (now run))) ≡ 1))) ⌝ }
+    ensures answer { λ r. ⌜ r ≡ storeForwards plain (reg .0) (now (x .entry)) (region (linesOf (now (run .entry)))) in_loop gone (now (next .entry)) (linesOf (now (below .entry))) ⌝ }
     ensures memory { λ _. ⌜ now (scratch .exit) ≡ now (scratch .entry) ⌝ }
 {
     if in_loop {
@@ -397,13 +407,7 @@ fn store_forwards(
     if gone {
         return false;
     }
-    if (2 < note) & (note != 4) {
-        return false;
-    }
-    if stores_in(q, reg) {
-        return false;
-    }
-    if words::count_reg(parse::text_of(next, q), reg) != 1 {
+    if !sent_to(reg, next, q, below, note) {
         return false;
     }
     if !pure_value(x, scratch) {
@@ -412,10 +416,7 @@ fn store_forwards(
     if !takes(next, reg) {
         return false;
     }
-    if later_read(below, reg, note) {
-        return false;
-    }
-    once_in(run, reg, next, reads)
+    once_in(run, reg, note)
 }
 
 // Whether a line with a note that stays, read as p, goes into the next line, read as q.
@@ -428,33 +429,20 @@ fn line_forwards(
     run: &[u8],
     in_loop: bool,
     gone: bool,
-    reads: &[u8],
     note: u8,
     scratch: &mut [u8],
 ) -> bool
     requires { ⌜ (p ≡ parseOf (now line))
         × ((q ≡ parseOf (now next))
-        × ((Blank (length (now line)) (now scratch)) × ((SendBy (now line) (now next ∷ linesOf (now below)) note) × (OneIn (now next) (linesOf (now run)) (now reads))))) ⌝ }
-    ensures answer { λ r. ⌜ r ≡ lineForwards plain (now (line .entry)) (linesOf (now (run .entry))) in_loop gone (now (next .entry)) (linesOf (now (below .entry))) ⌝ }
+        × ((Blank (length (now line)) (now scratch)) × ((SendBy (now line) (now next ∷ linesOf (now below)) note) × (OneBy (now line) (region (linesOf (now run))) note)))) ⌝ }
+    ensures answer { λ r. ⌜ r ≡ lineForwards plain (now (line .entry)) (region (linesOf (now (run .entry)))) in_loop gone (now (next .entry)) (linesOf (now (below .entry))) ⌝ }
     ensures memory { λ _. ⌜ now (scratch .exit) ≡ now (scratch .entry) ⌝ }
 {
     match p {
         parse::Line::Decl => false,
         parse::Line::Store(s) => {
             let x = parse::value_of(line, s);
-            store_forwards(
-                x,
-                s.reg,
-                next,
-                q,
-                below,
-                run,
-                in_loop,
-                gone,
-                reads,
-                note,
-                scratch,
-            )
+            store_forwards(x, s.reg, next, q, below, run, in_loop, gone, note, scratch)
         }
         parse::Line::Other => false,
     }
@@ -500,7 +488,7 @@ fn drops_at(
     )
 }
 
-// The mark of a line, read as p, in the region `run`, above the line from j to e, read as q: 1 where it goes, as `goes` says, 2 where it would go into the next, else 0;
+// The mark of a line, read as p, in the region that `run` begins with, above the line from j to e, read as q: 1 where it goes, as `goes` says, 2 where it would go into the next, else 0;
 // `next` says whether that one goes, and `note` is that of the line.
 fn mark_at(
     line: &[u8],
@@ -513,15 +501,14 @@ fn mark_at(
     in_loop: bool,
     goes: bool,
     next: bool,
-    reads: &[u8],
     note: u8,
     scratch: &mut [u8],
 ) -> u8
     requires { ⌜ (p ≡ parseOf (now line))
         × ((LineAt (now text) j e q)
         × ((Blank (length (now line)) (now scratch))
-        × ((SendBy (now line) (linesOf (drop j (now text))) note) × (OneAt (linesOf (drop j (now text))) (linesOf (now run)) (now reads))))) ⌝ }
-    ensures answer { λ r. ⌜ r ≡ markBy goes (firstTakes plain (now (line .entry)) (linesOf (now (run .entry))) in_loop next (linesOf (drop j (now (text .entry))))) ⌝ }
+        × ((SendBy (now line) (linesOf (drop j (now text))) note) × (OneBy (now line) (region (linesOf (now run))) note)))) ⌝ }
+    ensures answer { λ r. ⌜ r ≡ markBy goes (firstTakes plain (now (line .entry)) (region (linesOf (now (run .entry)))) in_loop next (linesOf (drop j (now (text .entry))))) ⌝ }
     ensures memory { λ _. ⌜ now (scratch .exit) ≡ now (scratch .entry) ⌝ }
 {
     if goes {
@@ -540,7 +527,6 @@ fn mark_at(
         run,
         in_loop,
         next,
-        reads,
         note,
         scratch,
     ) {
@@ -549,13 +535,12 @@ fn mark_at(
     0
 }
 
-// The part that is the region of the line from i to e, where `above` is that of the line above.
-fn area_at(text: &[u8], i: usize, e: usize, above: text::Span) -> text::Span
+// Where the region of the line from i to e begins, where `above` is that of the line above.
+fn area_at(text: &[u8], i: usize, e: usize, above: usize) -> usize
     ensures { λ r. ⌜ r ≡ areaAt (now (text .entry)) i e above ⌝ }
 {
     if place::is_header(lines::cut(text, i, e)) {
-        let to = place::region_end(text, i);
-        return text::Span { from: i, to: to };
+        return i;
     }
     above
 }
@@ -565,7 +550,6 @@ fn mark_with(
     text: &[u8],
     paths: &[usize],
     loops: &[u8],
-    reads: &[u8],
     calm: usize,
     notes: &[u8],
     ends: &[usize],
@@ -573,17 +557,16 @@ fn mark_with(
     marks: &mut [u8],
 ) -> usize
     requires { ⌜ (Blank (length (now text)) (now scratch))
-        × ((length (linesOf (now text)) ≤ length (now marks)) × ((OneOf (linesOf (now text)) (now reads)) × ((Calm (now text) calm) × ((NotesOf (linesOf (now text)) (now paths) (now notes)) × (EndsOf (now text) (now ends)))))) ⌝ }
+        × ((length (linesOf (now text)) ≤ length (now marks)) × ((OneOf (linesOf (now text)) (now notes)) × ((Calm (now text) calm) × ((NotesOf (linesOf (now text)) (now paths) (now notes)) × (EndsOf (now text) (now ends)))))) ⌝ }
     ensures answer { λ r. ⌜ Filled (now (marks .entry)) (marksOf plain (linesOf (now (text .entry))) (now (paths .entry)) (now (loops .entry))) (now (marks .exit)) r ⌝ }
     ensures memory { λ _. ⌜ now (scratch .exit) ≡ now (scratch .entry) ⌝ }
 {
-    let to = place::region_end(text, 0);
     let f = lines::byte_at(loops, 0);
     let mut e = lines::find_byte(text, 0, 10);
     let mut p = parse::parse(lines::cut(text, 0, e));
     let d = lines::byte_at(notes, 0);
     let mut goes = drops_at(text, 0, e, p, paths, 0, f != 0, d, calm, scratch);
-    let mut run = text::Span { from: 0, to: to };
+    let mut run = 0;
     let mut i = 0;
     let mut k = 0;
     while i < text.len() {
@@ -602,11 +585,10 @@ fn mark_with(
             j,
             n,
             q,
-            lines::cut(text, run.from, run.to),
+            lines::cut(text, run, text.len()),
             h != 0,
             goes,
             next,
-            reads,
             lines::byte_at(notes, k),
             scratch,
         );
@@ -636,7 +618,6 @@ fn fill_marks(
     let mut near = [0u32; 1024];
     let mut far = [0u32; 1024];
     let mut stores = [0u32; 1024];
-    let mut reads = [0u8; 1024];
     let mut notes = [0u8; 1024];
     noted::note_lines(
         text,
@@ -644,22 +625,11 @@ fn fill_marks(
         &mut near,
         &mut far,
         &mut stores,
-        &mut reads,
         &mut notes,
         ends,
     );
     let calm = calm_len(text);
-    mark_with(
-        text,
-        paths,
-        loops,
-        &reads,
-        calm,
-        &notes,
-        ends,
-        scratch,
-        marks,
-    )
+    mark_with(text, paths, loops, calm, &notes, ends, scratch, marks)
 }
 
 // Writes a line with its LF, and returns the place after it.
@@ -730,18 +700,26 @@ fn put_acts(text: &[u8], marks: &[u8], ends: &[usize], out: &mut [u8]) -> usize
     let mut given = false;
     let mut a = 0;
     let mut b = 0;
+    let mut c = 0;
     while i < text.len() {
         let e = noted::end_at(text, i, k, ends);
         let m = lines::byte_at(marks, k);
-        let n = lines::byte_at(marks, k + 1);
-        o = put_act(&text[i..e], lines::cut(text, a, b), m, n, given, out, o);
-        given = (m == 2) & !(n == 2);
-        a = i;
-        b = e;
-        k += 1;
-        i = lines::after(text, e);
+        if (m == 0) & !given {
+            k += 1;
+            i = lines::after(text, e);
+        } else {
+            let n = lines::byte_at(marks, k + 1);
+            let p = lines::put(out, o, lines::cut(text, c, i));
+            o = put_act(&text[i..e], lines::cut(text, a, b), m, n, given, out, p);
+            given = (m == 2) & !(n == 2);
+            a = i;
+            b = e;
+            k += 1;
+            i = lines::after(text, e);
+            c = i;
+        }
     }
-    o
+    lines::put_lines(lines::cut(text, c, text.len()), out, o)
 }
 
 // Fills the tables of a text: which lines stand in a loop, their block paths, what becomes of them, and where they end.

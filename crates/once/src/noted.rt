@@ -1,17 +1,16 @@
-// Tables over registers, of the next lines that read and store each one, and of how often the lines read it, up to 2; and over lines, of what each
-// is and what becomes of what it stores, and of where it ends. The number of a line is how many lines there are from it on.
+// Tables over registers, of the next lines that read and store each one; and over lines, of what each is and what becomes of what it stores, and
+// of where it ends. The number of a line is how many lines there are from it on.
 ghost use mathlib.Core.Path.{_≡_};
 ghost use mathlib.Core.Bool.{cond};
 ghost use Prim.Native.Nat.{_+_, _-_, _≤_, _<_};
 ghost use lib.ListN.{length, drop, set, getD};
-ghost use lib.Dec.{eqb};
 ghost use Rattle.lines.specs.Lf.{upTo, linesOf};
 ghost use Rattle.names.specs.Names.{regOf};
 ghost use Rattle.parse.specs.Parse.{parseOf, textOf};
 ghost use Rattle.words.specs.Runs.{runs};
 ghost use Rattle.place.specs.Region.{isHeader};
 ghost use Rattle.decls.specs.Seen.{markName, markStore, AtMost};
-ghost use Rattle.once.specs.Noted.{bump, addName, addRuns, alone, OneOf, farName, readRuns, StartOf, samePath, storeNote, lineNote, KindIs, NotesOf, EndIs, EndsOf};
+ghost use Rattle.once.specs.Noted.{OneOf, farName, takeBack, backName, readRuns, StartOf, samePath, storeNote, lineNote, KindIs, NotesOf, EndIs, EndsOf};
 
 // The entry of a table, or 0 past its end.
 fn entry(d: &[usize], i: usize) -> usize
@@ -44,56 +43,77 @@ fn put_row(reg: names::Register, m: u32, last: &mut [u32])
     last[v] = m;
 }
 
-// Puts the number of the next line that reads a register, by the table `near`, where it is not m itself, and the table reaches to it.
-fn put_far(reg: names::Register, m: u32, near: &[u32], far: &mut [u32])
-    ensures { λ _. ⌜ now (far .exit) ≡ cond (eqb (getD (now (near .entry)) (reg .0) 0) m) (now (far .entry)) (set (now (far .entry)) (reg .0) (getD (now (near .entry)) (reg .0) 0)) ⌝ }
+// Puts the number of the next line that reads a register, by the table `near`, where the table reaches to it.
+fn put_far(reg: names::Register, near: &[u32], far: &mut [u32])
+    ensures { λ _. ⌜ now (far .exit) ≡ set (now (far .entry)) (reg .0) (getD (now (near .entry)) (reg .0) 0) ⌝ }
 {
-    let v = reg.0 as usize;
-    let r = number_at(near, v);
-    if r == m {
-        return;
-    }
-    if far.len() <= v {
-        return;
-    }
-    far[v] = r;
+    put_row(reg, number_at(near, reg.0 as usize), far)
 }
 
-// Counts a read of a register, where the table reaches to it.
-fn add_read(reg: names::Register, reads: &mut [u8])
-    ensures { λ _. ⌜ now (reads .exit) ≡ set (now (reads .entry)) (reg .0) (bump (getD (now (reads .entry)) (reg .0) 0)) ⌝ }
+// Puts the note x of the line with k above it, where the table reaches to it.
+fn put_note(k: usize, x: u8, notes: &mut [u8])
+    ensures { λ _. ⌜ now (notes .exit) ≡ set (now (notes .entry)) k x ⌝ }
 {
-    let v = reg.0 as usize;
-    if reads.len() <= v {
+    if notes.len() <= k {
         return;
     }
-    let n = reads[v];
-    if 2 <= n {
-        return;
-    }
-    reads[v] = n + 1;
+    notes[k] = x;
 }
 
-// Notes the register that a text names, as read by the line with the number m.
-fn note_name(t: &[u8], m: u32, near: &mut [u32], far: &mut [u32], reads: &mut [u8])
+// Takes back that the region reads the value once that goes into the line with the number r, of n lines, where the region is that above the
+// header with the number h.
+fn take_back(r: u32, h: u32, n: usize, notes: &mut [u8])
+    ensures { λ _. ⌜ now (notes .exit) ≡ takeBack n h r (now (notes .entry)) ⌝ }
+{
+    if r <= h {
+        return;
+    }
+    let t = r as usize;
+    if n <= t {
+        return;
+    }
+    let k = n - t - 1;
+    if lines::byte_at(notes, k) != 7 {
+        return;
+    }
+    put_note(k, 4, notes)
+}
+
+// Notes the register that a text names, as read by the line with the number m, of n lines, where h is the number of the next header.
+fn note_name(
+    t: &[u8],
+    m: u32,
+    h: u32,
+    n: usize,
+    near: &mut [u32],
+    far: &mut [u32],
+    notes: &mut [u8],
+)
     ensures rows { λ _. ⌜ now (near .exit) ≡ markName m (regOf (now (t .entry))) (now (near .entry)) ⌝ }
-    ensures seconds { λ _. ⌜ now (far .exit) ≡ farName m (regOf (now (t .entry))) (now (near .entry)) (now (far .entry)) ⌝ }
-    ensures counts { λ _. ⌜ now (reads .exit) ≡ addName (regOf (now (t .entry))) (now (reads .entry)) ⌝ }
+    ensures seconds { λ _. ⌜ now (far .exit) ≡ farName (regOf (now (t .entry))) (now (near .entry)) (now (far .entry)) ⌝ }
+    ensures notes { λ _. ⌜ now (notes .exit) ≡ backName n h (regOf (now (t .entry))) (now (near .entry)) (now (notes .entry)) ⌝ }
 {
     match names::reg_name(t) {
         names::RegName::Reg(q) => {
-            put_far(q, m, near, far);
-            put_row(q, m, near);
-            add_read(q, reads)
+            take_back(number_at(near, q.0 as usize), h, n, notes);
+            put_far(q, near, far);
+            put_row(q, m, near)
         }
         names::RegName::None => {}
     }
 }
 
 // Notes the registers that a text reads.
-fn note_runs(s: &[u8], m: u32, near: &mut [u32], far: &mut [u32], reads: &mut [u8])
-    ensures rows { λ _. ⌜ (now (near .exit), now (far .exit)) ≡ readRuns m (runs (now (s .entry))) (now (near .entry), now (far .entry)) ⌝ }
-    ensures counts { λ _. ⌜ now (reads .exit) ≡ addRuns (runs (now (s .entry))) (now (reads .entry)) ⌝ }
+fn note_runs(
+    s: &[u8],
+    m: u32,
+    h: u32,
+    n: usize,
+    near: &mut [u32],
+    far: &mut [u32],
+    notes: &mut [u8],
+)
+    ensures { λ _. ⌜ (now (near .exit), (now (far .exit), now (notes .exit))) ≡ readRuns n h m (runs (now (s .entry))) (now (near .entry), (now (far .entry), now (notes .entry))) ⌝ }
 {
     let mut a = 0;
     let mut i = 0;
@@ -101,12 +121,12 @@ fn note_runs(s: &[u8], m: u32, near: &mut [u32], far: &mut [u32], reads: &mut [u
         if text::is_name_byte(s[i]) {
             i += 1;
         } else {
-            note_name(lines::cut(s, a, i), m, near, far, reads);
+            note_name(lines::cut(s, a, i), m, h, n, near, far, notes);
             i += 1;
             a = i;
         }
     }
-    note_name(lines::cut(s, a, i), m, near, far, reads);
+    note_name(lines::cut(s, a, i), m, h, n, near, far, notes);
 }
 
 // Notes the register that a line stores.
@@ -125,17 +145,18 @@ fn note_line(
     line: &[u8],
     p: parse::Line,
     m: u32,
+    h: u32,
+    n: usize,
     near: &mut [u32],
     far: &mut [u32],
     stores: &mut [u32],
-    reads: &mut [u8],
+    notes: &mut [u8],
 )
-    ensures rows { λ _. ⌜ (now (near .exit), now (far .exit)) ≡ readRuns m (runs (textOf (now (line .entry)) p)) (now (near .entry), now (far .entry)) ⌝ }
+    ensures rows { λ _. ⌜ (now (near .exit), (now (far .exit), now (notes .exit))) ≡ readRuns n h m (runs (textOf (now (line .entry)) p)) (now (near .entry), (now (far .entry), now (notes .entry))) ⌝ }
     ensures stores { λ _. ⌜ now (stores .exit) ≡ markStore m p (now (stores .entry)) ⌝ }
-    ensures counts { λ _. ⌜ now (reads .exit) ≡ addRuns (runs (textOf (now (line .entry)) p)) (now (reads .entry)) ⌝ }
 {
     note_store(p, m, stores);
-    note_runs(parse::text_of(line, p), m, near, far, reads);
+    note_runs(parse::text_of(line, p), m, h, n, near, far, notes);
 }
 
 // Whether the line with k above it, and the one with the number s, are in one block path.
@@ -177,7 +198,10 @@ fn store_note(
     let s = stores[v];
     if (h < r) & (s < r) {
         if (r == m) & !(s < far[v]) {
-            return 4;
+            if h < far[v] {
+                return 4;
+            }
+            return 7;
         }
         return 3;
     }
@@ -214,16 +238,6 @@ fn line_note(
         parse::Line::Store(s) => store_note(s.reg, paths, k, m, h, near, far, stores),
         parse::Line::Other => 2,
     }
-}
-
-// Puts the note x of the line with k above it, where the table reaches to it.
-fn put_note(k: usize, x: u8, notes: &mut [u8])
-    ensures { λ _. ⌜ now (notes .exit) ≡ set (now (notes .entry)) k x ⌝ }
-{
-    if notes.len() <= k {
-        return;
-    }
-    notes[k] = x;
 }
 
 // Puts the place x after the line with k above it, where the table reaches to it.
@@ -277,13 +291,12 @@ pub fn note_lines(
     near: &mut [u32],
     far: &mut [u32],
     stores: &mut [u32],
-    reads: &mut [u8],
     notes: &mut [u8],
     ends: &mut [usize],
 )
     requires { ⌜ (length (now paths) ≡ length (linesOf (now text)))
-        × ((AtMost 0 (now near)) × ((AtMost 0 (now far)) × ((AtMost 0 (now stores)) × ((AtMost 0 (now reads)) × ((AtMost 0 (now notes)) × (AtMost 0 (now ends))))))) ⌝ }
-    ensures counts { λ _. ⌜ OneOf (linesOf (now (text .entry))) (now (reads .exit)) ⌝ }
+        × ((AtMost 0 (now near)) × ((AtMost 0 (now far)) × ((AtMost 0 (now stores)) × ((AtMost 0 (now notes)) × (AtMost 0 (now ends)))))) ⌝ }
+    ensures once { λ _. ⌜ OneOf (linesOf (now (text .entry))) (now (notes .exit)) ⌝ }
     ensures notes { λ _. ⌜ NotesOf (linesOf (now (text .entry))) (now (paths .entry)) (now (notes .exit)) ⌝ }
     ensures ends { λ _. ⌜ EndsOf (now (text .entry)) (now (ends .exit)) ⌝ }
 {
@@ -306,21 +319,10 @@ pub fn note_lines(
         put_note(k, line_note(p, paths, k, m, h, near, far, stores), notes);
         put_end(k, i, ends);
         m += 1;
-        note_line(line, p, m, near, far, stores, reads);
+        note_line(line, p, m, h, n, near, far, stores, notes);
         h = head_at(line, m, h);
         i = a;
     }
-}
-
-// Whether the table says that a register is read once in all.
-pub fn is_alone(reads: &[u8], reg: names::Register) -> bool
-    ensures { λ r. ⌜ r ≡ alone (reg .0) (now (reads .entry)) ⌝ }
-{
-    let v = reg.0 as usize;
-    if reads.len() <= v {
-        return false;
-    }
-    reads[v] == 1
 }
 
 // Where the line ends that begins at j and has k above it: by the table, where it says so.

@@ -1,1 +1,3 @@
 pub mod ParseLaws
+pub mod Plain
+pub mod PlainLine

@@ -1,10 +1,13 @@
 // Reading a line.
 ghost use mathlib.Core.Path.{_≡_};
 ghost use Prim.Native.Nat.{_<_, _+_, _^_};
-ghost use lib.ListN.{length};
-ghost use Rattle.lines.specs.Lf.{part, partsOf};
+ghost use mathlib.Core.Bool.{true, cond};
+ghost use lib.Dec.{eqb};
+ghost use lib.ListN.{length, drop, getD};
+ghost use Rattle.lines.specs.Lf.{part, upTo, partsOf};
+ghost use Rattle.text.specs.Trim.{fromOf, trimOf};
 ghost use Rattle.names.specs.Names.{regOf};
-ghost use Rattle.parse.specs.Parse.{isReg, allRegs, isDecl, storeIn, splitStore, parseOf, textOf};
+ghost use Rattle.parse.specs.Parse.{isReg, allRegs, digitsLen, isDecl, storeIn, splitStore, plainValue, parseOf, textOf};
 
 // A store: its register, and the place of its value in the line.
 pub struct Store {
@@ -29,20 +32,76 @@ fn is_reg(s: &[u8]) -> bool
     }
 }
 
+// Where the digits that begin at a place end.
+fn digits_end(s: &[u8], i: usize) -> usize
+    ensures { λ r. ⌜ r ≡ i + digitsLen (drop i (now (s .entry))) ⌝ }
+{
+    let mut j = i;
+    while j < s.len() {
+        if (s[j] < b'0') | (b'9' < s[j]) {
+            return j;
+        }
+        j += 1;
+    }
+    j
+}
+
+// The place after the space at a place, or the place.
+fn after_space(s: &[u8], i: usize) -> usize
+    ensures { λ r. ⌜ r ≡ cond (eqb (getD (now (s .entry)) i 0) 32) (i + 1) i ⌝ }
+{
+    if lines::byte_at(s, i) == 32 {
+        return i + 1;
+    }
+    i
+}
+
+// Where the piece at a place ends, where it is plainly a register: at most one space, `r` and at most nine digits. Else the place.
+fn plain_reg(s: &[u8], i: usize) -> usize
+    ensures { λ r. ⌜ (i < r → (r ≡ i + upTo 44 (drop i (now (s .entry)))) × (isReg (regOf (trimOf (part i r (now (s .entry))))) ≡ true)) ⌝ }
+{
+    let a = after_space(s, i);
+    if lines::byte_at(s, a) != b'r' {
+        return i;
+    }
+    let e = digits_end(s, a + 1);
+    if e - a < 2 {
+        return i;
+    }
+    if 10 < e - a {
+        return i;
+    }
+    if e >= s.len() {
+        return e;
+    }
+    if s[e] != b',' {
+        return i;
+    }
+    e
+}
+
 // Whether each piece between the commas names a register.
 fn all_regs(s: &[u8]) -> bool
     ensures { λ r. ⌜ r ≡ allRegs (partsOf 44 (now (s .entry))) ⌝ }
 {
     let mut i = 0;
     loop {
-        let e = lines::find_byte(s, i, b',');
-        if !is_reg(text::trim(&s[i..e])) {
-            return false;
+        let p = plain_reg(s, i);
+        if i < p {
+            if p >= s.len() {
+                return true;
+            }
+            i = p + 1;
+        } else {
+            let e = lines::find_byte(s, i, b',');
+            if !is_reg(text::trim(&s[i..e])) {
+                return false;
+            }
+            if e >= s.len() {
+                return true;
+            }
+            i = e + 1;
         }
-        if e >= s.len() {
-            return true;
-        }
-        i = e + 1;
     }
 }
 
@@ -104,8 +163,8 @@ fn split_store(u: &[u8], a: usize) -> Line
     }
 }
 
-// What a line is.
-pub fn parse(line: &[u8]) -> Line
+// What a line is, by its trimmed text.
+fn parse_any(line: &[u8]) -> Line
     ensures { λ r. ⌜ r ≡ parseOf (now (line .entry)) ⌝ }
 {
     let w = text::trim_span(line);
@@ -115,6 +174,85 @@ pub fn parse(line: &[u8]) -> Line
         return Line::Decl;
     }
     store_in(&line[a..e], a)
+}
+
+// Whether ` = ` stands at a place, then a value that neither begins nor ends with white space, and a `;` at the end.
+fn plain_value(line: &[u8], e: usize) -> bool
+    ensures { λ r. ⌜ r ≡ plainValue e (now (line .entry)) ⌝ }
+{
+    let n = line.len();
+    if n < 5 {
+        return false;
+    }
+    if n - 5 < e {
+        return false;
+    }
+    let x = line[e + 3];
+    let y = line[n - 2];
+    (line[e] == b' ')
+        & ((line[e + 1] == b'=')
+            & ((line[e + 2] == b' ')
+                & (((32 < x) & (x < 128)) & (((32 < y) & (y < 128)) & (line[n - 1] == b';')))))
+}
+
+// What a line is whose first byte that is no white space is an `r`, at the place `a`: most are plainly stores.
+fn parse_store(line: &[u8], a: usize) -> Line
+    requires { ⌜ (a ≡ fromOf (now line)) × (getD (now line) a 0 ≡ 114) ⌝ }
+    ensures { λ r. ⌜ r ≡ parseOf (now (line .entry)) ⌝ }
+{
+    let e = digits_end(line, a + 1);
+    if !plain_value(line, e) {
+        return parse_any(line);
+    }
+    match names::reg_name(&line[a..e]) {
+        names::RegName::Reg(q) => Line::Store(Store {
+            reg: q,
+            from: e + 3,
+            to: line.len() - 1,
+        }),
+        names::RegName::None => parse_any(line),
+    }
+}
+
+// Whether a line is a declaration; `a` is the place of its first byte that is no white space.
+fn declares_at(line: &[u8], a: usize) -> bool
+    requires { ⌜ a ≡ fromOf (now line) ⌝ }
+    ensures { λ r. ⌜ r ≡ isDecl (trimOf (now (line .entry))) ⌝ }
+{
+    let n = text::trim_to(&line[a..]);
+    is_decl(&line[a..a + n])
+}
+
+// Whether a line is a declaration: most do not begin with `l`.
+pub fn declares(line: &[u8]) -> bool
+    ensures { λ r. ⌜ r ≡ isDecl (trimOf (now (line .entry))) ⌝ }
+{
+    let a = text::trim_from(line);
+    if lines::byte_at(line, a) != b'l' {
+        return false;
+    }
+    declares_at(line, a)
+}
+
+// What a line is: most are told by their first byte that is no white space.
+pub fn parse(line: &[u8]) -> Line
+    ensures { λ r. ⌜ r ≡ parseOf (now (line .entry)) ⌝ }
+{
+    let a = text::trim_from(line);
+    let c = lines::byte_at(line, a);
+    if c == b'r' {
+        return parse_store(line, a);
+    }
+    if (c < 33) | (127 < c) {
+        return parse_any(line);
+    }
+    if c != b'l' {
+        return Line::Other;
+    }
+    if declares_at(line, a) {
+        return Line::Decl;
+    }
+    Line::Other
 }
 
 // The value of a store, as a part of its line.

@@ -11,6 +11,7 @@ pub mod Plains
 pub mod Tables
 pub mod Walks
 pub mod Nests
+pub mod Quiet
 pub mod Rooms
 pub mod Lengths
 pub mod Examples

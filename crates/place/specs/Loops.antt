@@ -59,3 +59,22 @@ nestClose k d o = nest (d - k) (cond (ltb (d - k) o) 0 o)
 unfoldable pub nestLine : List ℕ → ℕ → ℕ → Nest
 unfolding nestOpen nestClose
 nestLine t d o = nestClose (countOf 125 t) (nestOpen t d o .depth) (nestOpen t d o .outer)
+
+-- ---- where no line opens a loop's block, none stands in a loop
+
+-- a line opens a loop's block
+unfoldable pub startsLoop : List ℕ → Bool
+unfolding opensLoop
+startsLoop l = endsIn 123 (trimOf l) && opensLoop (trimOf l)
+
+-- some line does
+unfoldable pub someLoop : List (List ℕ) → Bool
+unfolding startsLoop
+someLoop [] = false
+someLoop (l ∷ ls) = startsLoop l || someLoop ls
+
+-- how many lines stand above the first that does
+unfoldable pub aboveLoop : List (List ℕ) → ℕ
+unfolding startsLoop
+aboveLoop [] = 0
+aboveLoop (l ∷ ls) = cond (startsLoop l) 0 (suc (aboveLoop ls))

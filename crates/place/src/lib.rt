@@ -10,7 +10,7 @@ ghost use Rattle.lexical.specs.Plain.{plainLen};
 ghost use Rattle.place.specs.Region.{isHeader, regionNext, regionLen};
 ghost use Rattle.place.specs.Blocks.{opens, closes, braceOf, blockIds, cleaned};
 ghost use Rattle.place.specs.Paths.{pathCloses, blockPaths, tops};
-ghost use Rattle.place.specs.Loops.{opensLoop, nestOpen, nestClose, nestLine, insideLoop};
+ghost use Rattle.place.specs.Loops.{opensLoop, nestOpen, nestClose, nestLine, insideLoop, startsLoop, someLoop, aboveLoop};
 ghost use Rattle.place.specs.Parents.{around, curBy, Room, Moved, braces, idsPost, idsParents, pathOpen, pathParents};
 ghost use Rattle.place.specs.Starts.{startsBy, startsGo};
 ghost use Rattle.place.specs.Fill.{Filled, flagsOf};
@@ -398,7 +398,7 @@ fn nest_line(t: &[u8], d: usize, o: usize) -> Nest
 }
 
 // For each line whether it stands in the body of a loop.
-pub fn inside_loop(text: &[u8], flags: &mut [u8]) -> usize
+fn walk_loops(text: &[u8], flags: &mut [u8]) -> usize
     requires { ⌜ length (linesOf (now text)) ≤ length (now flags) ⌝ }
     ensures { λ r. ⌜ Filled (now (flags .entry)) (flagsOf (insideLoop (linesOf (now (text .entry))))) (now (flags .exit)) r ⌝ }
 {
@@ -416,4 +416,64 @@ pub fn inside_loop(text: &[u8], flags: &mut [u8]) -> usize
         i = lines::after(text, e);
     }
     k
+}
+
+// Whether a line opens a loop's block: one that ends in an ASCII byte above the space other than `{` does not.
+fn starts_loop(line: &[u8]) -> bool
+    ensures { λ r. ⌜ r ≡ startsLoop (now (line .entry)) ⌝ }
+{
+    let n = line.len();
+    if n == 0 {
+        return false;
+    }
+    let c = line[n - 1];
+    if (32 < c) & ((c < 128) & (c != b'{')) {
+        return false;
+    }
+    let t = text::trim(line);
+    if !ends_open(t) {
+        return false;
+    }
+    opens_loop(t)
+}
+
+// Whether some line opens a loop's block, and how many stand above the first that does.
+struct Ahead {
+    found: bool,
+    rows: usize,
+}
+
+fn find_loop(text: &[u8]) -> Ahead
+    ensures { λ r. ⌜ (r .found ≡ someLoop (linesOf (now (text .entry)))) × (r .rows ≡ aboveLoop (linesOf (now (text .entry)))) ⌝ }
+{
+    let mut i = 0;
+    let mut k = 0;
+    while i < text.len() {
+        let e = lines::find_byte(text, i, 10);
+        if starts_loop(&text[i..e]) {
+            return Ahead {
+                found: true,
+                rows: k,
+            };
+        }
+        k += 1;
+        i = lines::after(text, e);
+    }
+    Ahead {
+        found: false,
+        rows: k,
+    }
+}
+
+// The same: where no line opens a loop's block, none stands in one.
+pub fn inside_loop(text: &[u8], flags: &mut [u8]) -> usize
+    requires { ⌜ length (linesOf (now text)) ≤ length (now flags) ⌝ }
+    ensures { λ r. ⌜ Filled (now (flags .entry)) (flagsOf (insideLoop (linesOf (now (text .entry))))) (now (flags .exit)) r ⌝ }
+{
+    let x = find_loop(text);
+    if x.found {
+        return walk_loops(text, flags);
+    }
+    lines::wipe(flags, x.rows);
+    x.rows
 }

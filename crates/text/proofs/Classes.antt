@@ -4,8 +4,8 @@ use mathlib.Core.List.{List, [], _∷_}
 use mathlib.Core.Bool.{Bool, true, false, cond, not}
 use Prim.Native.Nat.{ℕ, _≤_, _<_}
 use native.Mathlib.Omega.{arith}
-use borrow.Author.Tests.{ne-eqb}
-use lib.Dec.{T, eqb, eqb→eq}
+use borrow.Author.Tests.{ne-eqb, leb-true, leb-false}
+use lib.Dec.{T, eqb, leb, eqb→eq}
 use lib.ListN.{getD, length}
 use Rattle.lines.proofs.Tests.{is-in, is-above, is-out}
 use Rattle.text.specs.Class.{isName, isQuote, opensPattern, classOf}
@@ -67,6 +67,14 @@ name-capital b l h = simp (is-above 48 57 b (omega arith), is-in 65 90 b l h)
 -- .. and what is outside of all ranges to none, nor is it a quote
 pub no-name : (b : ℕ) → (48 ≤ b → 57 < b) → (65 ≤ b → 90 < b) → (97 ≤ b → 122 < b) → (b ≡ 95 → ⊥) → (b ≡ 36 → ⊥) → isName b ≡ false
 no-name b d u l s m = simp (is-out 48 57 b d, is-out 65 90 b u, is-out 97 122 b l, ne-eqb b 95 s, ne-eqb b 36 m)
+
+-- from `a` on `z` is the last
+pub name-past : (b : ℕ) → 97 ≤ b → leb b 122 ≡ isName b
+name-past b h = go (leb b 122) refl
+  where
+    go : (t : Bool) → leb b 122 ≡ t → t ≡ isName b
+    go true e = let k = leb-true b 122 e in sym (name-small b h (omega arith))
+    go false e = let k = leb-false b 122 e in sym (no-name b (omega arith) (omega arith) (omega arith) (omega arith) (omega arith))
 
 pub no-quote : (b : ℕ) → (b ≡ 34 → ⊥) → (b ≡ 39 → ⊥) → (b ≡ 96 → ⊥) → isQuote b ≡ false
 no-quote b x y z = simp (ne-eqb b 34 x, ne-eqb b 39 y, ne-eqb b 96 z)

@@ -282,11 +282,28 @@ fn class(b: u8) -> u8
 pub fn is_name_byte(b: u8) -> bool
     ensures { λ r. ⌜ r ≡ isName b ⌝ }
 {
-    match b {
-        b'a'..=b'z' | b'0'..=b'9' | b'A'..=b'Z' => true,
-        0..=b'#' | b'%'..=b'/' | b':'..=b'@' | b'['..=b'^' | b'{'..=255 => false,
-        _ => class(b) == 1,
+    if b'a' <= b {
+        return b <= b'z';
     }
+    if b < b'0' {
+        if b != b'$' {
+            return false;
+        }
+        return class(b) == 1;
+    }
+    if b <= b'9' {
+        return true;
+    }
+    if b < b'A' {
+        return false;
+    }
+    if b <= b'Z' {
+        return true;
+    }
+    if b < b'_' {
+        return false;
+    }
+    class(b) == 1
 }
 
 // Whether a byte is one of the three quotes. All but `"` to `'` and the bytes after `_` are answered before the table.

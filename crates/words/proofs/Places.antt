@@ -6,17 +6,18 @@ use mathlib.Core.List.{List, [], _∷_, _++_}
 use native.Mathlib.Numerals.{add-one}
 use native.Mathlib.Omega.{arith}
 use borrow.Author.Tests.{le-ltb, lt-ltb}
+use lib.Dec.{eqb}
 use lib.ListN.{length, take, drop, getD, length-append, length-take, length-drop, take-append-drop}
 use lib.Seq.{drop-drop, take-append-seam}
 use Rattle.lines.specs.Lf.{part, prefixed, same, lacks, all}
 use Rattle.lines.proofs.LfLaws.{lacks-append, lacks-take, lacks-drop}
-use Rattle.lines.proofs.Tests.{and-left, and-right, and-both}
+use Rattle.lines.proofs.Tests.{and-left, and-right, and-both, eqb-sym}
 use Rattle.text.specs.Class.{isName}
 use Rattle.text.specs.declared.Span.{Span}
-use Rattle.names.specs.Names.{regText}
+use Rattle.names.specs.Names.{decimal, regWord, regText}
 use Rattle.names.proofs.Decimal.{decimal-long}
 use Rattle.lines.proofs.Compare.{same-eq}
-use Rattle.names.proofs.Equal.{front-of}
+use Rattle.names.proofs.Equal.{front-of, same-front}
 use Rattle.names.proofs.Texts.{reg-text-names}
 use Rattle.words.specs.Runs.{runLen, runHitsFrom, runHits, hitsAt, Next}
 use Rattle.words.specs.declared.Hit.the-variants.{One, Not}
@@ -86,6 +87,11 @@ hit-stands v l w e =
 -- whether a run is the register as it is printed
 abbrev pub regRun : ℕ → List ℕ → Bool
 regRun v r = same r (regText v)
+
+-- no run that begins with another byte than `r` is one
+pub reg-skips : (v x : ℕ) (c : List ℕ) → eqb x 114 ≡ false → regRun v (x ∷ c) ≡ false
+unfolding prefixed
+reg-skips v x c e = same-front regWord (x ∷ c) (decimal v) ∙ rw (eqb-sym 114 x, e)
 
 module _ (v : ℕ) (s : List ℕ) (fits : v < 2 ^ 64) where
   -- the one hit by text is the one run

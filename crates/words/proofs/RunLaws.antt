@@ -1,11 +1,12 @@
 -- Laws of runs: where they begin and end, what a walk over them gives, and how many pass a test. Assumes nothing.
 use Prim.Native.Nat.{ℕ, suc, _+_, _-_, _^_, _≤_, _<_}
 use mathlib.Core.Path.{_≡_, refl, sym, ap, _∙_}
-use mathlib.Core.Bool.{Bool, true, false, cond, not}
+use mathlib.Core.Bool.{Bool, true, false, cond, not, _&&_}
 use mathlib.Core.List.{List, [], _∷_, _++_, append-assoc, append-nil}
 use native.Mathlib.Numerals.{add-one}
 use native.Mathlib.Omega.{arith}
-use borrow.Author.Tests.{le-ltb, lt-ltb}
+use borrow.Author.Tests.{le-ltb, lt-ltb, eqb-true}
+use lib.Dec.{eqb}
 use lib.ListN.{length, take, drop, getD, length-append, length-drop, drop-of-length-le}
 use lib.Seq.{drop-cons, drop-drop, length-take-le}
 use Rattle.lines.specs.Lf.{part, same}
@@ -13,7 +14,7 @@ use Rattle.lines.proofs.Tests.{no}
 use Rattle.text.specs.Class.{isName}
 use Rattle.names.specs.Names.{regOf, regIs, regText}
 use Rattle.names.proofs.Texts.{reg-text-is}
-use Rattle.words.specs.Runs.{flush, runsGo, runs, countBy, readsOf, wordsOf, upBy, gapLen, runLen, walk, placeBy, runHitsFrom, runHits, Next}
+use Rattle.words.specs.Runs.{flush, runsGo, runs, countBy, readsOf, wordsOf, upBy, gapLen, runLen, regGap, joined, walk, placeBy, runHitsFrom, runHits, Next}
 
 -- ---- the first byte that passes a test
 
@@ -233,6 +234,82 @@ module _ (f : List ℕ → Bool) (s : List ℕ) where
       let d : drop i s ≡ [] = drop-of-length-le s l in
       omega (arith, h .so-far, ap (λ (r : List ℕ). countBy f (runs r)) d, count-none f)
 
+-- ---- on to the next run that begins with `r`, where the others give nothing
+
+module _ {A : Type 0} (give : ℕ → List ℕ → List A) (none : (i : ℕ) → give i [] ≡ []) (other : (e x : ℕ) (c : List ℕ) → eqb x 114 ≡ false → give e (x ∷ c) ≡ []) where
+  -- with no run open, and with one open that begins with another byte
+  abbrev Regs : List ℕ → Type 0
+  Regs l = ((i : ℕ) → walk give l i [] ≡ walk give (drop (regGap false l) l) (i + regGap false l) [])
+      × ((i x : ℕ) (c : List ℕ) → eqb x 114 ≡ false → walk give l i (x ∷ c) ≡ walk give (drop (regGap true l) l) (i + regGap true l) [])
+
+  gap-at : (p : Bool) (y : ℕ) (l : List ℕ) (n t : Bool) → isName y ≡ n → eqb y 114 ≡ t → regGap p (y ∷ l) ≡ cond (t && not p) 0 (suc (regGap n l))
+  unfolding regGap
+  gap-at p y l n t e q = rw (e, q)
+
+  past : (p : Bool) (y : ℕ) (l : List ℕ) (i g : ℕ) → regGap p (y ∷ l) ≡ suc g → walk give (drop (regGap p (y ∷ l)) (y ∷ l)) (i + regGap p (y ∷ l)) [] ≡ walk give (drop g l) (suc i + g) []
+  past p y l i g e = let z : i + suc g ≡ suc i + g = omega arith in rw e (ap (λ (n : ℕ). walk give (drop g l) n []) z)
+
+  regs-on : (y : ℕ) (l : List ℕ) → Regs l → (n : Bool) → isName y ≡ n → (t : Bool) → eqb y 114 ≡ t → Regs (y ∷ l)
+  unfolding walk
+  regs-on y l (f, g) true e true q = (
+    λ i. let z : i ≡ i + 0 = omega arith in rw (gap-at false y l true true e q) (ap (λ (n : ℕ). walk give (y ∷ l) n []) z),
+    λ i x c h. rw e (g (suc i) x (c ++ (y ∷ [])) h) ∙ sym (past true y l i (regGap true l) (gap-at true y l true true e q)),
+  )
+  regs-on y l (f, g) true e false q = (
+    λ i. rw e (g (suc i) y [] q) ∙ sym (past false y l i (regGap true l) (gap-at false y l true false e q)),
+    λ i x c h. rw e (g (suc i) x (c ++ (y ∷ [])) h) ∙ sym (past true y l i (regGap true l) (gap-at true y l true false e q)),
+  )
+  regs-on y l (f, g) false e true q = (λ i. no (sym e ∙ ap (λ (n : ℕ). isName n) (eqb-true y 114 q)), λ i x c h. no (sym e ∙ ap (λ (n : ℕ). isName n) (eqb-true y 114 q)))
+  regs-on y l (f, g) false e false q = (
+    λ i. rw (e, none i) (f (suc i)) ∙ sym (past false y l i (regGap false l) (gap-at false y l false false e q)),
+    λ i x c h. rw (e, other i x c h) (f (suc i)) ∙ sym (past true y l i (regGap false l) (gap-at true y l false false e q)),
+  )
+
+  regs : (l : List ℕ) → Regs l
+  unfolding walk regGap
+  regs [] = (λ i. none i ∙ sym (none (i + 0)), λ i x c e. other i x c e ∙ sym (none (i + 0)))
+  regs (y ∷ l) = regs-on y l (regs l) (isName y) refl (eqb y 114) refl
+
+  pub walk-regs : (s : List ℕ) (i j : ℕ) → j ≡ i + regGap false (drop i s) → walk give (drop i s) i [] ≡ walk give (drop j s) j []
+  walk-regs s i j q =
+      regs (drop i s) .0 i
+      ∙ ap (λ (r : List ℕ). walk give r (i + regGap false (drop i s)) []) (drop-drop (regGap false (drop i s)) i s)
+      ∙ ap (λ (n : ℕ). walk give (drop n s) n []) (sym q)
+
+-- such a run stands there, or nothing
+reg-done : (p : Bool) (l : List ℕ) → gapLen (drop (regGap p l) l) ≡ 0
+unfolding regGap upBy
+reg-done p [] = refl
+reg-done p (x ∷ l) = go (eqb x 114) refl p (reg-done (isName x) l)
+  where
+    go : (t : Bool) → eqb x 114 ≡ t → (p : Bool) → gapLen (drop (regGap (isName x) l) l) ≡ 0 → gapLen (drop (cond (t && not p) 0 (suc (regGap (isName x) l))) (x ∷ l)) ≡ 0
+    go true e false h = rw (ap (λ (n : ℕ). isName n) (eqb-true x 114 e))
+    go true e true h = h
+    go false e p h = h
+
+pub reg-stands : (s : List ℕ) (i j : ℕ) → j ≡ i + regGap false (drop i s) → gapLen (drop j s) ≡ 0
+reg-stands s i j q = ap (λ (n : ℕ). gapLen (drop n s)) q ∙ ap (λ (r : List ℕ). gapLen r) (sym (drop-drop (regGap false (drop i s)) i s)) ∙ reg-done false (drop i s)
+
+-- the search for it: no name byte stands before the place i
+module _ (s : List ℕ) (i j : ℕ) (h : i ≤ j) (l : j < length s) where
+  at-reg : (t : Bool) → (eqb (getD s j 0) 114 && not (joined i j s)) ≡ t → regGap (joined i j s) (drop j s) ≡ cond t 0 (suc (regGap (isName (getD s j 0)) (drop (suc j) s)))
+  unfolding regGap
+  at-reg t e = ap (regGap (joined i j s)) (drop-cons s j 0 l) ∙ rw e
+
+  pub reg-here : (eqb (getD s j 0) 114 && not (joined i j s)) ≡ true → regGap (joined i j s) (drop j s) ≡ 0
+  reg-here e = at-reg true e
+
+  pub reg-on : (eqb (getD s j 0) 114 && not (joined i j s)) ≡ false → regGap (joined i j s) (drop j s) ≡ suc (regGap (joined i (j + 1) s) (drop (j + 1) s))
+  reg-on e =
+      let a : j + 1 ≡ suc j = omega arith in
+      let b : j + 1 - 1 ≡ j = omega arith in
+      at-reg false e
+      ∙ sym (ap (λ (n : ℕ). suc (regGap (joined i (j + 1) s) (drop n s))) a ∙ ap (λ (t : Bool). suc (regGap (t && isName (getD s (j + 1 - 1) 0)) (drop (suc j) s))) (lt-ltb i (j + 1) (omega arith)) ∙ ap (λ (n : ℕ). suc (regGap (isName (getD s n 0)) (drop (suc j) s))) b)
+
+pub reg-none : (p : Bool) (s : List ℕ) (j : ℕ) → length s ≤ j → regGap p (drop j s) ≡ 0
+unfolding regGap
+reg-none p s j h = ap (regGap p) (drop-of-length-le s h)
+
 -- ---- the loop that looks for a run that passes: it has come to the run at j
 
 pub record NextInv (f : List ℕ → Bool) (s : List ℕ) (i j : ℕ) : Type 0 where
@@ -244,9 +321,13 @@ pub place-run : (f : List ℕ → Bool) (e : ℕ) (w : List ℕ) → 0 < length 
 place-run f e [] h = absurd (omega arith)
 place-run f e (x ∷ w) h = refl
 
-module _ (f : List ℕ → Bool) (s : List ℕ) (i : ℕ) where
-  pub next-start : (j : ℕ) → j ≡ i + gapLen (drop i s) → NextInv f s i j
-  next-start j q = record { stands = gap-done s i j q; so-far = sym (walk-skip (placeBy f) (λ (e : ℕ). refl) s i j q) }
+-- runs that begin with another byte do not pass
+module _ (f : List ℕ → Bool) (skips : (x : ℕ) (c : List ℕ) → eqb x 114 ≡ false → f (x ∷ c) ≡ false) (s : List ℕ) (i : ℕ) where
+  next-skip : (e k : ℕ) → k ≡ e + regGap false (drop e s) → runHitsFrom f s e ≡ runHitsFrom f s k
+  next-skip e k q = walk-regs (placeBy f) (λ (e : ℕ). refl) (λ e x c t. rw (skips x c t)) s e k q
+
+  pub next-start : (j : ℕ) → j ≡ i + regGap false (drop i s) → NextInv f s i j
+  next-start j q = record { stands = reg-stands s i j q; so-far = next-skip i j q }
 
   module _ {j : ℕ} (h : NextInv f s i j) (l : j < length s) (e : ℕ) (p : e ≡ j + runLen (drop j s)) where
     hits-run : runHitsFrom f s i ≡ cond (f (part j e s)) (j ∷ []) [] ++ runHitsFrom f s e
@@ -258,14 +339,11 @@ module _ (f : List ℕ → Bool) (s : List ℕ) (i : ℕ) where
         h .so-far ∙ walk-next (placeBy f) (λ (e : ℕ). refl) s j e p
         ∙ ap (λ (r : List ℕ). r ++ runHitsFrom f s e) (place-run f e (part j e s) (omega arith) ∙ ap (λ (n : ℕ). cond (f (part j e s)) (n ∷ []) []) d)
 
-    pub next-less : (k : ℕ) → k ≡ e + gapLen (drop e s) → j < k
+    pub next-less : (k : ℕ) → k ≡ e + regGap false (drop e s) → j < k
     next-less k q = omega (arith, run-some s j l (h .stands))
 
-    pub next-on : (k : ℕ) → f (part j e s) ≡ false → k ≡ e + gapLen (drop e s) → NextInv f s i k
-    next-on k t q = record {
-      stands = gap-done s e k q;
-      so-far = hits-run ∙ rw t (sym (walk-skip (placeBy f) (λ (e : ℕ). refl) s e k q));
-    }
+    pub next-on : (k : ℕ) → f (part j e s) ≡ false → k ≡ e + regGap false (drop e s) → NextInv f s i k
+    next-on k t q = record { stands = reg-stands s e k q; so-far = hits-run ∙ rw t (next-skip e k q) }
 
     pub next-found : f (part j e s) ≡ true → Next f s i j
     next-found t = record {

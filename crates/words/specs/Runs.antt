@@ -1,10 +1,10 @@
 -- The runs of name bytes of a text, and what it reads. Assumes nothing.
 use Prim.Native.Nat.{ℕ, suc, _+_, _-_, _<_}
 use mathlib.Core.Path.{_≡_}
-use mathlib.Core.Bool.{Bool, true, cond, not}
+use mathlib.Core.Bool.{Bool, true, cond, not, _&&_}
 use mathlib.Core.List.{List, [], _∷_, _++_}
-use lib.ListN.{length, drop}
-use lib.Dec.{ltb}
+use lib.ListN.{length, drop, getD}
+use lib.Dec.{eqb, ltb}
 use Rattle.lines.specs.Lf.{part, same}
 use Rattle.text.specs.Class.{isName}
 use Rattle.names.specs.Names.{regOf, regIs}
@@ -50,6 +50,15 @@ upBy f (x ∷ xs) = cond (f x) 0 (suc (upBy f xs))
 -- how many bytes stand before the first run
 abbrev pub gapLen : List ℕ → ℕ
 gapLen l = upBy (λ (x : ℕ). isName x) l
+
+-- how many bytes stand before the first run that begins with `r`: all, where there is none; `p` says whether a name byte stands before
+unfoldable pub regGap : Bool → List ℕ → ℕ
+regGap p [] = 0
+regGap p (x ∷ xs) = cond (eqb x 114 && not p) 0 (suc (regGap (isName x) xs))
+
+-- a name byte stands before the place j, not before the place i
+abbrev pub joined : ℕ → ℕ → List ℕ → Bool
+joined i j s = ltb i j && isName (getD s (j - 1) 0)
 
 -- how long the run at the front is
 abbrev pub runLen : List ℕ → ℕ

@@ -1,13 +1,14 @@
 // Words: runs of name bytes, what a text reads, and searching by text.
 ghost use mathlib.Core.Path.{_≡_};
-ghost use mathlib.Core.Bool.{cond, _||_};
+ghost use mathlib.Core.Bool.{false, cond, not, _&&_, _||_};
 ghost use mathlib.Core.List.{List};
 ghost use Prim.Native.Nat.{ℕ, _+_, _-_, _≤_};
+ghost use lib.Dec.{eqb};
 ghost use lib.ListN.{length, drop, getD};
 ghost use Rattle.lines.specs.Lf.{same, suffixed};
 ghost use Rattle.lines.specs.Out.{Wrote};
-ghost use Rattle.names.specs.Names.{regOf, regIs, regText, phiText};
-ghost use Rattle.words.specs.Runs.{gapLen, runLen, readsOf, wordsOf, Next};
+ghost use Rattle.names.specs.Names.{regText, phiText};
+ghost use Rattle.words.specs.Runs.{gapLen, runLen, regGap, joined, readsOf, wordsOf, Next};
 ghost use Rattle.words.specs.Hits.{regHit, afterNew, asTarget, glueLeft, glueRight, glued, replacedAt};
 
 // The one place of a search, or not exactly one.
@@ -44,14 +45,31 @@ fn run_end(s: &[u8], i: usize) -> usize
     j
 }
 
-// Whether a text names a register.
-fn is_reg(s: &[u8], reg: names::Register) -> bool
-    ensures { λ r. ⌜ r ≡ regIs (reg .0) (regOf (now (s .entry))) ⌝ }
+// Whether a run that begins with `r` stands at the place j, where a run may begin at i.
+fn begins_reg(s: &[u8], i: usize, j: usize) -> bool
+    ensures { λ r. ⌜ r ≡ eqb (getD (now (s .entry)) j 0) 114 && not (joined i j (now (s .entry))) ⌝ }
 {
-    match names::reg_name(s) {
-        names::RegName::Reg(q) => q.0 == reg.0,
-        names::RegName::None => false,
+    if lines::byte_at(s, j) != b'r' {
+        return false;
     }
+    if j <= i {
+        return true;
+    }
+    !text::is_name_byte(lines::byte_at(s, j - 1))
+}
+
+// The place of the first run from a place on that begins with `r`, or the end.
+fn reg_start(s: &[u8], i: usize) -> usize
+    ensures { λ r. ⌜ r ≡ i + regGap false (drop i (now (s .entry))) ⌝ }
+{
+    let mut j = i;
+    while j < s.len() {
+        if begins_reg(s, i, j) {
+            return j;
+        }
+        j += 1;
+    }
+    j
 }
 
 // One for a run that passes its test, else none.
@@ -69,7 +87,7 @@ pub fn count_reg(s: &[u8], reg: names::Register) -> usize
     let mut i = run_start(s, 0);
     while i < s.len() {
         let e = run_end(s, i);
-        n += one_if(is_reg(lines::cut(s, i, e), reg));
+        n += one_if(names::names_reg(lines::cut(s, i, e), reg));
         i = run_start(s, e);
     }
     n
@@ -107,13 +125,13 @@ pub fn count_phi(s: &[u8], phi: names::Phi) -> usize
 fn next_reg(s: &[u8], i: usize, reg: names::Register) -> usize
     ensures { λ r. ⌜ Next (λ (w : List ℕ). same w (regText (reg .0))) (now (s .entry)) i r ⌝ }
 {
-    let mut j = run_start(s, i);
+    let mut j = reg_start(s, i);
     while j < s.len() {
         let e = run_end(s, j);
         if names::is_reg_text(lines::cut(s, j, e), reg) {
             return j;
         }
-        j = run_start(s, e);
+        j = reg_start(s, e);
     }
     j
 }

@@ -9,7 +9,7 @@ use Rattle.calls.proofs.may_control.Reads as reads
 use Rattle.calls.proofs.may_control.Lts as lts
 use Rattle.calls.proofs.is_second.Reads as is-second-reads
 use Rattle.lines.proofs.byte_at.Reads as byte-at-reads
-use Rattle.lines.proofs.contains.Reads as contains-reads
+use Rattle.calls.proofs.has_byte.Reads as has-byte-reads
 
 -- src/lib.rt:43:18
 byte-at-requires : tie.Need-byte-at-requires
@@ -23,29 +23,21 @@ is-second-requires c κs = search needs
 returns : tie.Need-returns
 returns c = may-second _ _ (c .before .is-second .ensures ∙ ap (λ (x : ℕ). isSecond x) (c .before .before .byte-at .ensures)) (c .if1 .taken)
 
--- src/lib.rt:46:27
-slice-aggregate-contains : tie.Need-slice-aggregate-contains
-slice-aggregate-contains c = search needs
-
 -- src/lib.rt:46:8
-contains-requires : tie.Need-contains-requires
-contains-requires c κs = search needs
+has-byte-requires : tie.Need-has-byte-requires
+has-byte-requires c κs = search needs
 
 -- src/lib.rt:47:9
 returns-2 : tie.Need-returns-2
-returns-2 c = may-colon _ _ (c .before .before .before .before .is-second .ensures ∙ ap (λ (x : ℕ). isSecond x) (c .before .before .before .before .before .byte-at .ensures)) (c .before .before .before .if1 .left) _ (c .before .contains .ensures) (c .if2 .taken)
-
--- src/lib.rt:49:24
-slice-aggregate-contains-2 : tie.Need-slice-aggregate-contains-2
-slice-aggregate-contains-2 c = search needs
+returns-2 c = may-colon _ _ (c .before .before .before .is-second .ensures ∙ ap (λ (x : ℕ). isSecond x) (c .before .before .before .before .byte-at .ensures)) (c .before .before .if1 .left) _ (c .before .has-byte .ensures) (c .if2 .taken)
 
 -- src/lib.rt:49:5
-contains-requires-2 : tie.Need-contains-requires-2
-contains-requires-2 c κs = search needs
+has-byte-requires-2 : tie.Need-has-byte-requires-2
+has-byte-requires-2 c κs = search needs
 
 -- src/lib.rt:40:1
 returns-3 : tie.Need-returns-3
-returns-3 c = may-brace _ _ (c .before .before .before .before .before .before .is-second .ensures ∙ ap (λ (x : ℕ). isSecond x) (c .before .before .before .before .before .before .before .byte-at .ensures)) (c .before .before .before .before .before .if1 .left) _ (c .before .before .before .contains .ensures) (c .before .before .if2 .left) _ (c .contains2 .ensures)
+returns-3 c = may-brace _ _ (c .before .before .before .before .is-second .ensures ∙ ap (λ (x : ℕ). isSecond x) (c .before .before .before .before .before .byte-at .ensures)) (c .before .before .before .if1 .left) _ (c .before .before .has-byte .ensures) (c .before .if2 .left) _ (c .has-byte2 .ensures)
 
 pub may-control-spec : {M : Type 1} → statement M
 may-control-spec =
@@ -54,9 +46,7 @@ may-control-spec =
     byte-at-requires
     is-second-requires
     returns
-    slice-aggregate-contains
-    contains-requires
+    has-byte-requires
     returns-2
-    slice-aggregate-contains-2
-    contains-requires-2
+    has-byte-requires-2
     returns-3)

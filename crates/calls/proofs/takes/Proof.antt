@@ -9,11 +9,11 @@ use Rattle.calls.proofs.takes.Tie as tie
 returns : tie.Need-returns
 returns c = let a = c .before .before .args in takes-start (a .line .now) (a .starts) (not-true _ (c .if1 .taken))
 
-has-paren-requires : tie.Need-has-paren-requires
-has-paren-requires c κs = search needs
+has-byte-requires : tie.Need-has-byte-requires
+has-byte-requires c κs = search needs
 
 returns-2 : tie.Need-returns-2
-returns-2 c = let a = c .before .before .before .before .args in takes-call (a .line .now) (a .starts) (so (c .before .has-paren .ensures) (not-true _ (c .if2 .taken)))
+returns-2 c = let a = c .before .before .before .before .args in takes-call (a .line .now) (a .starts) (so (c .before .has-byte .ensures) (not-true _ (c .if2 .taken)))
 
 trim-start-requires : tie.Need-trim-start-requires
 trim-start-requires c κs = search needs
@@ -22,14 +22,14 @@ is-control-requires : tie.Need-is-control-requires
 is-control-requires c κs = search needs
 
 returns-3 : tie.Need-returns-3
-returns-3 c = let a = c .before .before .before .before .before .before .args in takes-rest (a .line .now) (a .starts) (not-false _ (c .before .before .before .before .if1 .left)) (so (c .before .before .before .has-paren .ensures) (not-false _ (c .before .before .if2 .left))) _ (c .before .trim-start .ensures) _ (c .is-control .ensures)
+returns-3 c = let a = c .before .before .before .before .before .before .args in takes-rest (a .line .now) (a .starts) (not-false _ (c .before .before .before .before .if1 .left)) (so (c .before .before .before .has-byte .ensures) (not-false _ (c .before .before .if2 .left))) _ (c .before .trim-start .ensures) _ (c .is-control .ensures)
 
 pub takes-spec : {M : Type 1} → statement M
 takes-spec =
     tie.close
     (tie.spec
     returns
-    has-paren-requires
+    has-byte-requires
     returns-2
     trim-start-requires
     is-control-requires

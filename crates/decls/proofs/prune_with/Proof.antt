@@ -1,25 +1,29 @@
-use Prim.Native.Nat.{_-_}
+use Prim.Native.Nat.{ℕ, _-_}
 use native.Mathlib.Omega.{arith}
 use borrow.Author.Needs.{needs}
-use mathlib.Core.Path.{sym, _∙_}
+use mathlib.Core.Path.{sym, ap, _∙_}
 use mathlib.Core.Logic.{⊎-elim}
 use lib.ListN.{length}
 use Rattle.lines.proofs.Tests.{so}
 use Rattle.lines.proofs.OutLaws.{writing-length}
-use Rattle.decls.proofs.Writes.{PruneInv, prune-start, RunAt, run-same, run-new, prune-pass, held-room, prune-room, prune-on, end-room, prune-end}
-use Rattle.decls.proofs.SeenLaws.{TableInv, table-start, table-new, table-pass, table-region, table-says, table-on}
+use Rattle.decls.proofs.Writes.{PruneInv, prune-start, RunAt, run-same, run-new, prune-pass, prune-quiet, held-room, prune-room, prune-on, end-room, prune-end}
+use Rattle.decls.proofs.SeenLaws.{TableInv, table-start, table-new, table-pass, quiet-le, table-quiet, table-region, table-says, table-on}
+use mathlib.Core.List.{List}
+use Rattle.lines.specs.Lf.{part}
+use Rattle.text.specs.Trim.{trimOf}
+use Rattle.parse.specs.Parse.{isDecl}
 use Rattle.decls.proofs.prune_with.Statement.{statement}
 use Rattle.decls.proofs.prune_with.Tie as tie
 use Rattle.decls.proofs.prune_with.Reads as reads
 use Rattle.decls.proofs.prune_with.Lts as lts
-use Rattle.lines.proofs.put_lines.Reads as put-lines-reads
 use Rattle.decls.proofs.put_line.Reads as put-line-reads
-use Rattle.decls.proofs.seen.declares.Reads as declares-reads
 use Rattle.decls.proofs.seen.mark_once.Reads as mark-once-reads
 use Rattle.lines.proofs.after.Reads as after-reads
 use Rattle.lines.proofs.cut.Reads as cut-reads
 use Rattle.lines.proofs.find_byte.Reads as find-byte-reads
 use Rattle.lines.proofs.put.Reads as put-reads
+use Rattle.lines.proofs.put_lines.Reads as put-lines-reads
+use Rattle.parse.proofs.declares.Reads as declares-reads
 use Rattle.place.proofs.is_header.Reads as is-header-reads
 
 abbrev Inv-loop : tie.InvT-loop
@@ -64,59 +68,38 @@ declares-requires : tie.Need-declares-requires Inv-loop μ-loop
 declares-requires c κs = search needs
 
 -- src/lib.rt:94:17
-mark-once-requires : tie.Need-mark-once-requires Inv-loop μ-loop
-mark-once-requires c κs = omega (arith, mid (c .before .before .before) .1 .a≤, c .before .before .before .before .before .before .before .loop-test .taken)
-
--- src/lib.rt:97:40
-cut-requires-2 : tie.Need-cut-requires-2 Inv-loop μ-loop
-cut-requires-2 c κs = search needs
-
--- src/lib.rt:97:17
-put-requires : tie.Need-put-requires Inv-loop μ-loop
-put-requires c κs = let f = c .before .before .before .before .before .before .before .before .before .before .before .find-byte in let l = c .before .before .before .before .before .before .before .before .before .before .cut in held-room (c .before .before .before .before .before .before .before .before .before .before .before .before .before .loop .inv .0) (f .result) (c .before .before .before .before .before .before .before .before .before .before .before .before .loop-test .taken) (f .ensures) (l .result .now) (l .ensures) (mid (c .before .before .before .before .before .before .before .before) .0) (c .cut2 .result .now) (c .cut2 .ensures)
-
--- src/lib.rt:98:32
-cut-requires-3 : tie.Need-cut-requires-3 Inv-loop μ-loop
-cut-requires-3 c κs = search needs
-
--- src/lib.rt:98:13
-put-line-requires : tie.Need-put-line-requires Inv-loop μ-loop
-put-line-requires c κs =
-    let h = mid (c .before .before .before .before .before .before .before .before .before .before .before .before .before .before) in
-    let f = c .before .before .before .before .before .before .before .before .before .before .before .before .before .before .before .before .before .find-byte in
-    let l = c .before .before .before .before .before .before .before .before .before .before .before .before .before .before .before .before .cut in
-    let k = c .before .before .before .before .before .before .before .before .before .before .mark-once in
-    let x = c .before .before .before .before .before .before .cut2 in
-    let r = c .before .before .cut3 in (
-      so (c .before .before .before .before .before .before .before .before .before .before .before .before .before .declares .ensures) (c .before .before .before .before .before .before .before .before .before .before .before .before .if2 .taken),
-      (
-        table-says (h .1) (k .result .mark) (k .result .end) _ (k .ensures .0 .0) (k .ensures .0 .1) (k .ensures .1) (r .result .now) (r .ensures),
-        prune-room (c .before .before .before .before .before .before .before .before .before .before .before .before .before .before .before .before .before .before .before .loop .inv .0) (f .result) (c .before .before .before .before .before .before .before .before .before .before .before .before .before .before .before .before .before .before .loop-test .taken) (f .ensures) (l .result .now) (l .ensures) (h .0) (x .result .now) (x .ensures) (c .before .before .before .before .before .put .ensures) (r .result .now) (table-region (h .1) (k .result .mark) (k .result .end) _ (k .ensures .0 .0) (k .ensures .0 .1) (k .ensures .1) (r .result .now) (r .ensures)),
-      ),
-    )
-
--- src/lib.rt:99:13
 after-requires : tie.Need-after-requires Inv-loop μ-loop
 after-requires c κs = search needs
 
+-- src/lib.rt:95:17
+mark-once-requires : tie.Need-mark-once-requires Inv-loop μ-loop
+mark-once-requires c κs = (omega (arith, mid (c .before .before .before .before) .1 .a≤, c .before .before .before .before .before .before .before .before .loop-test .taken), ap (λ (n : ℕ). isDecl (trimOf (part (c .before .before .before .before .before .before .before .before .before .loop .i) n (c .before .before .before .before .before .before .before .before .before .before .before .before .before .args .text .now)))) (sym (c .before .before .before .before .before .before .before .find-byte .ensures)) ∙ ap (λ (l : List ℕ). isDecl (trimOf l)) (sym (c .before .before .before .before .before .before .cut .ensures)) ∙ so (c .before .before .before .declares .ensures) (c .before .before .if2 .taken))
+
+-- src/lib.rt:98:40
+cut-requires-2 : tie.Need-cut-requires-2 Inv-loop μ-loop
+cut-requires-2 c κs = search needs
+
+-- src/lib.rt:98:17
+put-requires : tie.Need-put-requires Inv-loop μ-loop
+put-requires c κs = let f = c .before .before .before .before .before .before .before .before .before .before .before .before .find-byte in let l = c .before .before .before .before .before .before .before .before .before .before .before .cut in held-room (c .before .before .before .before .before .before .before .before .before .before .before .before .before .before .loop .inv .0) (f .result) (c .before .before .before .before .before .before .before .before .before .before .before .before .before .loop-test .taken) (f .ensures) (l .result .now) (l .ensures) (mid (c .before .before .before .before .before .before .before .before .before) .0) (c .cut2 .result .now) (c .cut2 .ensures)
+
+-- src/lib.rt:99:32
+cut-requires-3 : tie.Need-cut-requires-3 Inv-loop μ-loop
+cut-requires-3 c κs = search needs
+
+-- src/lib.rt:99:13
+put-line-requires : tie.Need-put-line-requires Inv-loop μ-loop
+put-line-requires c κs = let h = mid (c .before .before .before .before .before .before .before .before .before .before .before .before .before .before .before) in let f = c .before .before .before .before .before .before .before .before .before .before .before .before .before .before .before .before .before .before .find-byte in let l = c .before .before .before .before .before .before .before .before .before .before .before .before .before .before .before .before .before .cut in let k = c .before .before .before .before .before .before .before .before .before .before .mark-once in let x = c .before .before .before .before .before .before .cut2 in let r = c .before .before .cut3 in (so (c .before .before .before .before .before .before .before .before .before .before .before .before .before .before .declares .ensures) (c .before .before .before .before .before .before .before .before .before .before .before .before .before .if2 .taken), (table-says (h .1) (k .result .mark) (k .result .end) _ (k .ensures .0 .0) (k .ensures .0 .1 .0) (k .ensures .1) (r .result .now) (r .ensures), prune-room (c .before .before .before .before .before .before .before .before .before .before .before .before .before .before .before .before .before .before .before .before .loop .inv .0) (f .result) (c .before .before .before .before .before .before .before .before .before .before .before .before .before .before .before .before .before .before .before .loop-test .taken) (f .ensures) (l .result .now) (l .ensures) (h .0) (x .result .now) (x .ensures) (c .before .before .before .before .before .put .ensures) (r .result .now) (table-region (h .1) (k .result .mark) (k .result .end) _ (k .ensures .0 .0) (k .ensures .0 .1 .0) (k .ensures .1) (r .result .now) (r .ensures))))
+
 -- src/lib.rt:87:5
 loop-less : tie.Need-loop-less Inv-loop μ-loop
-loop-less c = omega (arith, c .after .ensures, c .before .before .before .before .before .before .before .before .before .before .before .before .before .before .before .before .before .before .before .before .before .find-byte .ensures, c .before .before .before .before .before .before .before .before .before .before .before .before .before .before .before .before .before .before .before .before .before .before .loop-test .taken)
+loop-less c = omega (arith, c .before .before .before .before .before .before .before .before .before .before .before .before .before .before .before .after .ensures, c .before .before .before .before .before .before .before .before .before .before .before .before .before .before .before .before .before .before .before .before .before .find-byte .ensures, c .before .before .before .before .before .before .before .before .before .before .before .before .before .before .before .before .before .before .before .before .before .before .loop-test .taken, quiet-le (c .before .before .before .before .before .before .before .before .before .before .before .before .before .mark-once .ensures .0 .1 .1))
 
 -- src/lib.rt:87:5
 loop-again : tie.Need-loop-again Inv-loop μ-loop
-loop-again c =
-    let h = mid (c .before .before .before .before .before .before .before .before .before .before .before .before .before .before .before .before .before .before) in
-    let f = c .before .before .before .before .before .before .before .before .before .before .before .before .before .before .before .before .before .before .before .before .before .find-byte in
-    let l = c .before .before .before .before .before .before .before .before .before .before .before .before .before .before .before .before .before .before .before .before .cut in
-    let k = c .before .before .before .before .before .before .before .before .before .before .before .before .before .before .mark-once in
-    let x = c .before .before .before .before .before .before .before .before .before .before .cut2 in
-    let r = c .before .before .before .before .before .before .cut3 in (
-      prune-on (c .before .before .before .before .before .before .before .before .before .before .before .before .before .before .before .before .before .before .before .before .before .before .before .loop .inv .0) (f .result) (c .before .before .before .before .before .before .before .before .before .before .before .before .before .before .before .before .before .before .before .before .before .before .loop-test .taken) (f .ensures) (l .result .now) (l .ensures) (h .0) (x .result .now) (x .ensures) (c .before .before .before .before .before .before .before .before .before .put .ensures) (r .result .now) (table-region (h .1) (k .result .mark) (k .result .end) _ (k .ensures .0 .0) (k .ensures .0 .1) (k .ensures .1) (r .result .now) (r .ensures)) (c .before .before .before .put-line .ensures) (c .after .ensures),
-      table-on (h .1) (k .result .mark) (k .result .end) _ (k .ensures .0 .0) (k .ensures .0 .1) (k .ensures .1) (f .result) (c .after .result) (c .before .before .before .before .before .before .before .before .before .before .before .before .before .before .before .before .before .before .before .before .before .before .loop-test .taken) (f .ensures) (c .after .ensures),
-    )
+loop-again c = let h = mid (c .before .before .before .before .before .before .before .before .before .before .before .before .before .before .before .before .before .before) in let f = c .before .before .before .before .before .before .before .before .before .before .before .before .before .before .before .before .before .before .before .before .before .find-byte in let l = c .before .before .before .before .before .before .before .before .before .before .before .before .before .before .before .before .before .before .before .before .cut in let k = c .before .before .before .before .before .before .before .before .before .before .before .before .before .mark-once in let x = c .before .before .before .before .before .before .before .before .before .cut2 in let r = c .before .before .before .before .before .cut3 in let w = k .ensures .0 .1 .1 in (prune-quiet (prune-on (c .before .before .before .before .before .before .before .before .before .before .before .before .before .before .before .before .before .before .before .before .before .before .before .loop .inv .0) (f .result) (c .before .before .before .before .before .before .before .before .before .before .before .before .before .before .before .before .before .before .before .before .before .before .loop-test .taken) (f .ensures) (l .result .now) (l .ensures) (h .0) (x .result .now) (x .ensures) (c .before .before .before .before .before .before .before .before .put .ensures) (r .result .now) (table-region (h .1) (k .result .mark) (k .result .end) _ (k .ensures .0 .0) (k .ensures .0 .1 .0) (k .ensures .1) (r .result .now) (r .ensures)) (c .before .before .put-line .ensures) (c .before .before .before .before .before .before .before .before .before .before .before .before .before .before .before .after .ensures)) w, table-quiet (table-on (h .1) (k .result .mark) (k .result .end) _ (k .ensures .0 .0) (k .ensures .0 .1 .0) (k .ensures .1) (f .result) (c .before .before .before .before .before .before .before .before .before .before .before .before .before .before .before .after .result) (c .before .before .before .before .before .before .before .before .before .before .before .before .before .before .before .before .before .before .before .before .before .before .loop-test .taken) (f .ensures) (c .before .before .before .before .before .before .before .before .before .before .before .before .before .before .before .after .ensures)) (k .result .next) w)
 
--- src/lib.rt:102:13
+-- src/lib.rt:103:13
 after-requires-2 : tie.Need-after-requires-2 Inv-loop μ-loop
 after-requires-2 c κs = search needs
 
@@ -126,19 +109,13 @@ loop-less-2 c = omega (arith, c .after2 .ensures, c .before .before .before .bef
 
 -- src/lib.rt:87:5
 loop-again-2 : tie.Need-loop-again-2 Inv-loop μ-loop
-loop-again-2 c =
-    let h = mid (c .before .before .before) in
-    let f = c .before .before .before .before .before .before .find-byte in
-    let l = c .before .before .before .before .before .cut in (
-      prune-pass (c .before .before .before .before .before .before .before .before .loop .inv .0) (f .result) (c .before .before .before .before .before .before .before .loop-test .taken) (f .ensures) (l .result .now) (l .ensures) (h .0) (so (c .before .before .declares .ensures) (c .before .if2 .left)) (c .after2 .result) (c .after2 .ensures),
-      table-pass (h .1) (f .result) (c .after2 .result) (c .before .before .before .before .before .before .before .loop-test .taken) (f .ensures) (c .after2 .ensures),
-    )
+loop-again-2 c = let h = mid (c .before .before .before) in let f = c .before .before .before .before .before .before .find-byte in let l = c .before .before .before .before .before .cut in (prune-pass (c .before .before .before .before .before .before .before .before .loop .inv .0) (f .result) (c .before .before .before .before .before .before .before .loop-test .taken) (f .ensures) (l .result .now) (l .ensures) (h .0) (so (c .before .before .declares .ensures) (c .before .if2 .left)) (c .after2 .result) (c .after2 .ensures), table-pass (h .1) (f .result) (c .after2 .result) (c .before .before .before .before .before .before .before .loop-test .taken) (f .ensures) (c .after2 .ensures))
 
--- src/lib.rt:105:22
+-- src/lib.rt:106:22
 cut-requires-4 : tie.Need-cut-requires-4 Inv-loop μ-loop
 cut-requires-4 c κs = search needs
 
--- src/lib.rt:105:5
+-- src/lib.rt:106:5
 put-lines-requires : tie.Need-put-lines-requires Inv-loop μ-loop
 put-lines-requires c κs = end-room (c .before .before .before .loop .inv .0) (c .before .before .loop-test .left) (c .before .cut4 .result .now) (c .before .cut4 .ensures)
 
@@ -165,12 +142,12 @@ prune-with-spec =
     cut-requires
     is-header-requires
     declares-requires
+    after-requires
     mark-once-requires
     cut-requires-2
     put-requires
     cut-requires-3
     put-line-requires
-    after-requires
     loop-less
     loop-again
     after-requires-2

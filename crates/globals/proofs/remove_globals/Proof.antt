@@ -1,77 +1,48 @@
-use borrow.Author.Needs.{needs}
-use Prim.Native.Nat.{_-_}
+-- `globals::remove_globals` meets its contract. Assumes nothing.
 use native.Mathlib.Omega.{arith}
+use mathlib.Core.Path.{ap}
 use lib.ListN.{length}
-use Rattle.lines.proofs.LfLaws.{find-le}
-use Rattle.lines.proofs.OutLaws.{writing-length}
-use Rattle.globals.proofs.Laws.{RemoveInv, remove-start, remove-room, remove-on, remove-end}
+use Rattle.lines.proofs.Tests.{so}
+use Rattle.lines.proofs.OutLaws.{wrote-as}
+use Rattle.globals.proofs.Laws.{lack-text}
+use borrow.Author.Needs.{needs}
 use Rattle.globals.proofs.remove_globals.Statement.{statement}
 use Rattle.globals.proofs.remove_globals.Tie as tie
+use Rattle.globals.proofs.remove_globals.Reads as reads
+use Rattle.globals.proofs.remove_globals.Lts as lts
+use Rattle.globals.proofs.remove_lines.Reads as remove-lines-reads
+use Rattle.lines.proofs.lacks.Reads as lacks-reads
+use Rattle.lines.proofs.put_lines.Reads as put-lines-reads
 
-abbrev Inv-loop : tie.InvT-loop
-Inv-loop text out₀ i₀ o₀ out i o = RemoveInv text out₀ out i o
+lacks-requires : tie.Need-lacks-requires
+lacks-requires c κs = search needs
 
-abbrev μ-loop : tie.MeasureT-loop
-μ-loop text out₀ i₀ o₀ out i o = length text - i
+put-lines-requires : tie.Need-put-lines-requires
+put-lines-requires c κs = omega (arith, c .before .before .before .before .before .pre, ap length (lack-text (c .before .before .before .before .before .args .text .now) (so (c .before .before .lacks .ensures) (c .before .if1 .taken))))
 
--- src/lib.rt:39:5
-loop-holds : tie.Need-loop-holds Inv-loop μ-loop
-loop-holds c = remove-start _ _ (c .before .before .pre)
+same-length : tie.Need-same-length
+same-length c = search needs
 
--- src/lib.rt:40:13
-find-byte-requires : tie.Need-find-byte-requires Inv-loop μ-loop
-find-byte-requires c κs = search needs
+returns : tie.Need-returns
+returns c = wrote-as (lack-text (c .before .before .before .before .before .before .before .before .args .text .now) (so (c .before .before .before .before .before .lacks .ensures) (c .before .before .before .before .if1 .taken))) (c .before .before .put-lines .ensures)
 
--- src/lib.rt:41:22
-sub-put-line : tie.Need-sub-put-line Inv-loop μ-loop
-sub-put-line c = omega arith
+remove-lines-requires : tie.Need-remove-lines-requires
+remove-lines-requires c κs = search needs
 
--- src/lib.rt:41:22
-part-put-line-start : tie.Need-part-put-line-start Inv-loop μ-loop
-part-put-line-start c = omega arith
+same-length-2 : tie.Need-same-length-2
+same-length-2 c = search needs
 
--- src/lib.rt:41:22
-part-put-line-end : tie.Need-part-put-line-end Inv-loop μ-loop
-part-put-line-end c = omega (arith, find-le 10 (c .before .before .before .before .before .args .text .now) (c .before .before .loop .i) (c .find-byte .result) (c .before .before .loop .inv .i≤) (c .find-byte .ensures))
-
--- src/lib.rt:41:9
-put-line-requires : tie.Need-put-line-requires Inv-loop μ-loop
-put-line-requires c κs = remove-room (c .before .before .before .before .loop .inv) (c .before .before .find-byte .result) (c .before .before .before .loop-test .taken) (c .before .before .find-byte .ensures)
-
--- src/lib.rt:42:9
-after-requires : tie.Need-after-requires Inv-loop μ-loop
-after-requires c κs = search needs
-
--- src/lib.rt:39:5
-loop-less : tie.Need-loop-less Inv-loop μ-loop
-loop-less c = omega (arith, c .after .ensures, c .before .before .before .before .before .before .find-byte .ensures, c .before .before .before .before .before .before .before .loop-test .taken)
-
--- src/lib.rt:39:5
-loop-again : tie.Need-loop-again Inv-loop μ-loop
-loop-again c = remove-on (c .before .before .before .before .before .before .before .before .loop .inv) (c .before .before .before .before .before .before .find-byte .result) (c .before .before .before .before .before .before .before .loop-test .taken) (c .before .before .before .before .before .before .find-byte .ensures) _ _ _ (c .before .before .before .put-line .ensures) (c .after .ensures)
-
--- src/lib.rt:33:1
-same-length : tie.Need-same-length Inv-loop μ-loop
-same-length c = writing-length (c .before .loop .inv .writing)
-
--- src/lib.rt:33:1
-returns : tie.Need-returns Inv-loop μ-loop
-returns c = remove-end (c .before .loop .inv) (c .loop-test .left)
+returns-2 : tie.Need-returns-2
+returns-2 c = search needs
 
 pub remove-globals-spec : {M : Type 1} → statement M
 remove-globals-spec =
     tie.close
     (tie.spec
-    Inv-loop
-    μ-loop
-    loop-holds
-    find-byte-requires
-    sub-put-line
-    part-put-line-start
-    part-put-line-end
-    put-line-requires
-    after-requires
-    loop-less
-    loop-again
+    lacks-requires
+    put-lines-requires
     same-length
-    returns)
+    returns
+    remove-lines-requires
+    same-length-2
+    returns-2)

@@ -1,36 +1,41 @@
 -- `lexical::plain_end` meets its contract. The invariant: the plain bytes end where they do from `i` on. Assumes nothing.
 use Prim.Native.Nat.{_-_}
-use mathlib.Core.Path.{_≡_, refl, sym, _∙_}
+use mathlib.Core.Path.{_≡_, refl, _∙_}
 use native.Mathlib.Omega.{arith}
-use borrow.Author.Tests.{not-true, not-false}
+use borrow.Author.Needs.{needs}
 use lib.ListN.{length}
-use Rattle.lines.proofs.Tests.{so}
 use Rattle.lexical.specs.Plain.{plainLen}
 use Rattle.lexical.proofs.EndLaws.{ends}
-use Rattle.lexical.proofs.PlainLaws.{plain-more, plain-stop, plain-none}
+use Rattle.lexical.proofs.MildLaws.{eight-on}
 use Rattle.lexical.proofs.plain_end.Statement.{statement}
 use Rattle.lexical.proofs.plain_end.Tie as tie
-use Rattle.lexical.proofs.plain_end.Reads as reads
-use Rattle.lexical.proofs.plain_end.Lts as lts
-use Rattle.lexical.proofs.is_plain.Reads as is-plain-reads
 
 abbrev Inv-loop : tie.InvT-loop
-Inv-loop s i j₀ j = ends plainLen s j ≡ ends plainLen s i
+Inv-loop s i n j₀ j = ends plainLen s j ≡ ends plainLen s i
 
 abbrev μ-loop : tie.MeasureT-loop
-μ-loop s i j₀ j = length s - j
+μ-loop s i n j₀ j = n - j
+
+plain-one-requires : tie.Need-plain-one-requires Inv-loop μ-loop
+plain-one-requires c κs = search needs
+
+returns : tie.Need-returns Inv-loop μ-loop
+returns c = search needs
+
+sub-n : tie.Need-sub-n Inv-loop μ-loop
+sub-n c = omega arith
 
 loop-holds : tie.Need-loop-holds Inv-loop μ-loop
 loop-holds c = refl
 
-shared-slice-read-is-plain : tie.Need-shared-slice-read-is-plain Inv-loop μ-loop
-shared-slice-read-is-plain c = omega arith
+mild-eight-requires : tie.Need-mild-eight-requires Inv-loop μ-loop
+mild-eight-requires c κs = omega arith
 
-is-plain-requires : tie.Need-is-plain-requires Inv-loop μ-loop
-is-plain-requires c κs = tt
+lacks-eight-requires : tie.Need-lacks-eight-requires Inv-loop μ-loop
+lacks-eight-requires c κs = omega arith
 
-returns : tie.Need-returns Inv-loop μ-loop
-returns c = let l = c .before .before .before .before .loop in sym (plain-stop (c .before .before .before .before .before .before .args .s .now) (l .j) (c .before .before .before .loop-test .taken) (so (c .before .is-plain .ensures) (not-true _ (c .if1 .taken)))) ∙ l .inv
+lacks-eight-requires-2 : tie.Need-lacks-eight-requires-2 Inv-loop μ-loop
+lacks-eight-requires-2 c κs = omega arith
 
 add-j : tie.Need-add-j Inv-loop μ-loop
 add-j c = omega arith
@@ -39,10 +44,22 @@ loop-less : tie.Need-loop-less Inv-loop μ-loop
 loop-less c = omega arith
 
 loop-again : tie.Need-loop-again Inv-loop μ-loop
-loop-again c = let l = c .before .before .before .before .loop in sym (plain-more (c .before .before .before .before .before .before .args .s .now) (l .j) (c .before .before .before .loop-test .taken) (so (c .before .is-plain .ensures) (not-false _ (c .if1 .left)))) ∙ l .inv
+loop-again c =
+    let l = c .before .before .before .before .before .loop in
+    eight-on (c .before .before .before .before .before .before .before .before .args .s .now) (l .j) (c .before .before .before .mild-eight .result) (c .before .before .lacks-eight .result) (c .before .lacks-eight2 .result) (omega arith)
+    (c .before .before .before .mild-eight .ensures) (c .before .before .lacks-eight .ensures) (c .before .lacks-eight2 .ensures) (c .if2 .taken) ∙ l .inv
+
+plain-one-requires-2 : tie.Need-plain-one-requires-2 Inv-loop μ-loop
+plain-one-requires-2 c κs = search needs
 
 returns-2 : tie.Need-returns-2 Inv-loop μ-loop
-returns-2 c = let l = c .before .loop in sym (plain-none (c .before .before .before .args .s .now) (l .j) (c .loop-test .left)) ∙ l .inv
+returns-2 c = c .plain-one2 .ensures ∙ c .before .before .before .before .before .before .loop .inv
+
+plain-one-requires-3 : tie.Need-plain-one-requires-3 Inv-loop μ-loop
+plain-one-requires-3 c κs = search needs
+
+returns-3 : tie.Need-returns-3 Inv-loop μ-loop
+returns-3 c = c .plain-one3 .ensures ∙ c .before .before .loop .inv
 
 pub plain-end-spec : {M : Type 1} → statement M
 plain-end-spec =
@@ -50,11 +67,17 @@ plain-end-spec =
     (tie.spec
     Inv-loop
     μ-loop
-    loop-holds
-    shared-slice-read-is-plain
-    is-plain-requires
+    plain-one-requires
     returns
+    sub-n
+    loop-holds
+    mild-eight-requires
+    lacks-eight-requires
+    lacks-eight-requires-2
     add-j
     loop-less
     loop-again
-    returns-2)
+    plain-one-requires-2
+    returns-2
+    plain-one-requires-3
+    returns-3)

@@ -6,7 +6,7 @@ use mathlib.Core.Path.{_≡_, refl, sym, ap, _∙_}
 use lib.ListN.{length, drop, length-drop}
 use lib.Seq.{drop-drop}
 use Rattle.lines.specs.Lf.{upTo}
-use Rattle.lines.proofs.LfLaws.{up-skip}
+use Rattle.lines.proofs.LfLaws.{up-skip, up-inside}
 use Rattle.lines.proofs.find_byte.Statement.{statement}
 use Rattle.lines.proofs.find_byte.Tie as tie
 use Rattle.lines.proofs.find_byte.Reads as reads
@@ -35,11 +35,14 @@ loop-holds c = refl
 lacks-eight-requires : tie.Need-lacks-eight-requires Inv-loop μ-loop
 lacks-eight-requires c κs = omega arith
 
-find-one-requires-2 : tie.Need-find-one-requires-2 Inv-loop μ-loop
-find-one-requires-2 c κs = search needs
+find-sure-requires : tie.Need-find-sure-requires Inv-loop μ-loop
+find-sure-requires c κs =
+    let a = c .before .before .before .before .before .before .args in
+    let l = c .before .before .before .loop in
+    omega (arith, up-inside (a .b) 8 (drop (l .j) (a .s .now)) (sym (c .before .lacks-eight .ensures) ∙ c .if2 .left), length-drop (l .j) (a .s .now))
 
 returns-2 : tie.Need-returns-2 Inv-loop μ-loop
-returns-2 c = c .find-one2 .ensures ∙ c .before .before .before .before .loop .inv
+returns-2 c = c .find-sure .ensures ∙ c .before .before .before .before .loop .inv
 
 add-j : tie.Need-add-j Inv-loop μ-loop
 add-j c = omega arith
@@ -50,11 +53,11 @@ loop-less c = omega arith
 loop-again : tie.Need-loop-again Inv-loop μ-loop
 loop-again c = let a = c .before .before .before .before .before .before .args in let l = c .before .before .before .loop in omega (arith, l .inv, up-skip (a .b) 8 (drop (l .j) (a .s .now)) (omega (arith, length-drop (l .j) (a .s .now))) (sym (c .before .lacks-eight .ensures) ∙ c .if2 .taken), ap (upTo (a .b)) (drop-drop 8 (l .j) (a .s .now)))
 
-find-one-requires-3 : tie.Need-find-one-requires-3 Inv-loop μ-loop
-find-one-requires-3 c κs = search needs
+find-one-requires-2 : tie.Need-find-one-requires-2 Inv-loop μ-loop
+find-one-requires-2 c κs = search needs
 
 returns-3 : tie.Need-returns-3 Inv-loop μ-loop
-returns-3 c = c .find-one3 .ensures ∙ c .before .before .loop .inv
+returns-3 c = c .find-one2 .ensures ∙ c .before .before .loop .inv
 
 pub find-byte-spec : {M : Type 1} → statement M
 find-byte-spec =
@@ -70,7 +73,7 @@ find-byte-spec =
     add-j
     loop-less
     loop-again
-    find-one-requires-2
+    find-sure-requires
     returns-2
-    find-one-requires-3
+    find-one-requires-2
     returns-3)

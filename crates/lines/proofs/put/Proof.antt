@@ -1,58 +1,58 @@
 -- `lines::put` meets its contract. Assumes nothing.
-use Prim.Native.Nat.{_-_}
 use native.Mathlib.Omega.{arith}
-use lib.ListN.{length}
-use Rattle.lines.proofs.OutLaws.{PutInv, put-start, put-in, put-byte, put-end, wrote-length}
+use Rattle.lines.proofs.OutLaws.{wrote-length}
 use Rattle.lines.proofs.put.Statement.{statement}
 use Rattle.lines.proofs.put.Tie as tie
-use Rattle.lines.proofs.put.Reads as reads
-use Rattle.lines.proofs.put.Lts as lts
 
-abbrev Inv-loop : tie.InvT-loop
-Inv-loop out₀ o t p₀ j₀ out p j = PutInv t out₀ out o j p
+put-each-requires : tie.Need-put-each-requires
+put-each-requires c κs = c .before .before .before .before .pre
 
-abbrev μ-loop : tie.MeasureT-loop
-μ-loop out₀ o t p₀ j₀ out p j = length t - j
+same-length : tie.Need-same-length
+same-length c = wrote-length (c .before .before .put-each .ensures)
 
-loop-holds : tie.Need-loop-holds Inv-loop μ-loop
-loop-holds c = put-start (c .args .t .now) (c .args .out .now) (c .args .o) (c .pre)
+returns : tie.Need-returns
+returns c = c .before .before .put-each .ensures
 
-shared-slice-read-out : tie.Need-shared-slice-read-out Inv-loop μ-loop
-shared-slice-read-out c = omega arith
+put-pair-requires : tie.Need-put-pair-requires
+put-pair-requires c κs = (c .before .before .before .before .before .pre, (omega (arith, c .before .before .if1 .left), omega (arith, c .before .if2 .taken)))
 
-slice-write-out : tie.Need-slice-write-out Inv-loop μ-loop
-slice-write-out c = put-in (c .before .before .loop .inv) (c .before .loop-test .taken)
+same-length-2 : tie.Need-same-length-2
+same-length-2 c = wrote-length (c .before .before .put-pair .ensures)
 
-add-p : tie.Need-add-p Inv-loop μ-loop
-add-p c = let h = put-in (c .before .before .loop .inv) (c .before .loop-test .taken) in omega arith
+returns-2 : tie.Need-returns-2
+returns-2 c = c .before .before .put-pair .ensures
 
-add-j : tie.Need-add-j Inv-loop μ-loop
-add-j c = omega arith
+put-pairs-requires : tie.Need-put-pairs-requires
+put-pairs-requires c κs = (c .before .before .before .before .before .before .pre, (omega (arith, c .before .before .if2 .left), omega (arith, c .before .if3 .taken)))
 
-loop-less : tie.Need-loop-less Inv-loop μ-loop
-loop-less c = omega arith
+same-length-3 : tie.Need-same-length-3
+same-length-3 c = wrote-length (c .before .before .put-pairs .ensures)
 
-loop-again : tie.Need-loop-again Inv-loop μ-loop
-loop-again c = put-byte (c .before .before .loop .inv) (c .before .loop-test .taken)
+returns-3 : tie.Need-returns-3
+returns-3 c = c .before .before .put-pairs .ensures
 
-same-length : tie.Need-same-length Inv-loop μ-loop
-same-length c = wrote-length (c .before .loop .inv .wrote)
+put-each-requires-2 : tie.Need-put-each-requires-2
+put-each-requires-2 c κs = c .before .before .before .before .before .before .pre
 
-returns : tie.Need-returns Inv-loop μ-loop
-returns c = put-end (c .before .loop .inv) (c .loop-test .left)
+same-length-4 : tie.Need-same-length-4
+same-length-4 c = wrote-length (c .before .before .put-each2 .ensures)
+
+returns-4 : tie.Need-returns-4
+returns-4 c = c .before .before .put-each2 .ensures
 
 pub put-spec : {M : Type 1} → statement M
 put-spec =
     tie.close
     (tie.spec
-    Inv-loop
-    μ-loop
-    loop-holds
-    shared-slice-read-out
-    slice-write-out
-    add-p
-    add-j
-    loop-less
-    loop-again
+    put-each-requires
     same-length
-    returns)
+    returns
+    put-pair-requires
+    same-length-2
+    returns-2
+    put-pairs-requires
+    same-length-3
+    returns-3
+    put-each-requires-2
+    same-length-4
+    returns-4)

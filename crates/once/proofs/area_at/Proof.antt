@@ -7,7 +7,6 @@ use Rattle.once.proofs.area_at.Reads as reads
 use Rattle.once.proofs.area_at.Lts as lts
 use Rattle.lines.proofs.cut.Reads as cut-reads
 use Rattle.place.proofs.is_header.Reads as is-header-reads
-use Rattle.place.proofs.region_end.Reads as region-end-reads
 
 -- src/lib.rt:386:25
 cut-requires : tie.Need-cut-requires
@@ -17,13 +16,9 @@ cut-requires c κs = search needs
 is-header-requires : tie.Need-is-header-requires
 is-header-requires c κs = search needs
 
--- src/lib.rt:387:13
-region-end-requires : tie.Need-region-end-requires
-region-end-requires c κs = search needs
-
 -- src/lib.rt:388:9
 returns : tie.Need-returns
-returns c = let a = c .before .before .before .before .before .args in area-new (a .text .now) (a .i) (a .e) (a .above) (c .before .before .before .cut .result .now) (c .before .before .before .cut .ensures) (c .region-end .result) (c .region-end .ensures) (sym (c .before .before .is-header .ensures) ∙ c .before .if1 .taken)
+returns c = let a = c .before .before .before .before .args in area-new (a .text .now) (a .i) (a .e) (a .above) (c .before .before .cut .result .now) (c .before .before .cut .ensures) (sym (c .before .is-header .ensures) ∙ c .if1 .taken)
 
 -- src/lib.rt:383:1
 returns-2 : tie.Need-returns-2
@@ -31,4 +26,4 @@ returns-2 c = let a = c .before .before .before .before .args in area-same (a .t
 
 pub area-at-spec : {M : Type 1} → statement M
 area-at-spec =
-    tie.close (tie.spec cut-requires is-header-requires region-end-requires returns returns-2)
+    tie.close (tie.spec cut-requires is-header-requires returns returns-2)

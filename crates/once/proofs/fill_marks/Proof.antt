@@ -24,13 +24,9 @@ slice-aggregate-note-lines-3 c = search needs
 slice-aggregate-note-lines-4 : tie.Need-slice-aggregate-note-lines-4
 slice-aggregate-note-lines-4 c = search needs
 
--- src/lib.rt:648:9
-slice-aggregate-note-lines-5 : tie.Need-slice-aggregate-note-lines-5
-slice-aggregate-note-lines-5 c = search needs
-
 -- src/lib.rt:641:5
 note-lines-requires : tie.Need-note-lines-requires
-note-lines-requires c κs = (c .before .before .before .before .before .before .before .before .before .before .before .before .pre .1 .1 .0, (zeros-most 1024, (zeros-most 1024, (zeros-most 1024, (zeros-most 1024, (zeros-most 1024, c .before .before .before .before .before .before .before .before .before .before .before .before .pre .1 .1 .1))))))
+note-lines-requires c κs = (c .before .before .before .before .before .before .before .before .before .before .before .pre .1 .1 .0, (zeros-most 1024, (zeros-most 1024, (zeros-most 1024, (zeros-most 1024, c .before .before .before .before .before .before .before .before .before .before .before .pre .1 .1 .1)))))
 
 -- src/lib.rt:651:9
 calm-len-requires : tie.Need-calm-len-requires
@@ -40,13 +36,9 @@ calm-len-requires c κs = search needs
 slice-aggregate-mark-with : tie.Need-slice-aggregate-mark-with
 slice-aggregate-mark-with c = search needs
 
--- src/lib.rt:658:9
-slice-aggregate-mark-with-2 : tie.Need-slice-aggregate-mark-with-2
-slice-aggregate-mark-with-2 c = search needs
-
 -- src/lib.rt:652:5
 mark-with-requires : tie.Need-mark-with-requires
-mark-with-requires c κs = let n = c .before .before .before .before .before .before .before .before .before .before .before .before .before .note-lines .ensures in (c .before .before .before .before .before .before .before .before .before .before .before .before .before .before .before .before .before .before .before .before .before .before .before .before .before .before .pre .0, (c .before .before .before .before .before .before .before .before .before .before .before .before .before .before .before .before .before .before .before .before .before .before .before .before .before .before .pre .1 .0, (n .0, (c .before .before .before .before .before .calm-len .ensures, n .1))))
+mark-with-requires c κs = let n = c .before .before .before .before .before .before .before .before .before .before .before .note-lines .ensures in (c .before .before .before .before .before .before .before .before .before .before .before .before .before .before .before .before .before .before .before .before .before .before .before .pre .0, (c .before .before .before .before .before .before .before .before .before .before .before .before .before .before .before .before .before .before .before .before .before .before .before .pre .1 .0, (n .0, (c .before .before .before .before .calm-len .ensures, n .1))))
 
 -- src/lib.rt:623:1
 same-length : tie.Need-same-length
@@ -72,11 +64,9 @@ fill-marks-spec =
     slice-aggregate-note-lines-2
     slice-aggregate-note-lines-3
     slice-aggregate-note-lines-4
-    slice-aggregate-note-lines-5
     note-lines-requires
     calm-len-requires
     slice-aggregate-mark-with
-    slice-aggregate-mark-with-2
     mark-with-requires
     same-length
     same-length-2

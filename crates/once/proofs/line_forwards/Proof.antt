@@ -7,6 +7,7 @@ use native.Mathlib.Omega.{arith}
 use lib.ListN.{length}
 use Rattle.reading.specs.Reading.{plain}
 use Rattle.lines.specs.Lf.{linesOf}
+use Rattle.place.specs.Region.{region}
 use Rattle.once.specs.Tables.{forwardsBy, storeForwards}
 use Rattle.once.proofs.Blanks.{blank-less}
 use Rattle.once.proofs.Decides.{forwards-at, value-room}
@@ -32,9 +33,9 @@ value-of-requires c κs = search needs
 -- src/lib.rt:444:13
 store-forwards-requires : tie.Need-store-forwards-requires
 store-forwards-requires c κs =
-    let a = c .before .before .before .before .before .before .before .before .before .before .before .args in
+    let a = c .before .before .before .before .before .before .before .before .before .before .args in
     let s = c .before .before .before .p .given .0 .0 in
-    (c .before .before .before .before .before .before .before .before .before .before .before .pre .1 .0, (blank-less (let h = value-room (s .from) (s .to) (a .line .now) in let q = ap length (c .before .value-of .ensures) in omega arith) (c .before .before .before .before .before .before .before .before .before .before .before .pre .1 .1 .0), (c .before .before .before .before .before .before .before .before .before .before .before .pre .1 .1 .1 .0 s (sym (c .before .before .before .before .before .before .before .before .before .before .before .pre .0) ∙ c .before .before .before .p .given .1), c .before .before .before .before .before .before .before .before .before .before .before .pre .1 .1 .1 .1)))
+    (c .before .before .before .before .before .before .before .before .before .before .pre .1 .0, (blank-less (let h = value-room (s .from) (s .to) (a .line .now) in let q = ap length (c .before .value-of .ensures) in omega arith) (c .before .before .before .before .before .before .before .before .before .before .pre .1 .1 .0), (c .before .before .before .before .before .before .before .before .before .before .pre .1 .1 .1 .0 s (sym (c .before .before .before .before .before .before .before .before .before .before .pre .0) ∙ c .before .before .before .p .given .1), c .before .before .before .before .before .before .before .before .before .before .pre .1 .1 .1 .1 s (sym (c .before .before .before .before .before .before .before .before .before .before .pre .0) ∙ c .before .before .before .p .given .1))))
 
 -- src/lib.rt:458:31
 enum-told-2 : tie.Need-enum-told-2
@@ -42,7 +43,7 @@ enum-told-2 c = search needs
 
 -- src/lib.rt:421:1
 returns : tie.Need-returns
-returns c = let a = c .before .before .before .before .before .before .before .before .args in (ap (forwardsBy plain (a .line .now) (linesOf (a .run .now)) (a .in-loop) (a .gone) (a .next .now) (linesOf (a .below .now))) (sym (c .enum-told .given .1)) ∙ forwards-at plain (a .line .now) (linesOf (a .run .now)) (a .in-loop) (a .gone) (a .next .now) (linesOf (a .below .now)) _ (c .before .before .before .before .before .before .before .before .pre .0), refl)
+returns c = let a = c .before .before .before .before .before .before .before .args in (ap (forwardsBy plain (a .line .now) (region (linesOf (a .run .now))) (a .in-loop) (a .gone) (a .next .now) (linesOf (a .below .now))) (sym (c .enum-told .given .1)) ∙ forwards-at plain (a .line .now) (region (linesOf (a .run .now))) (a .in-loop) (a .gone) (a .next .now) (linesOf (a .below .now)) _ (c .before .before .before .before .before .before .before .pre .0), refl)
 
 -- src/lib.rt:421:1
 same-length : tie.Need-same-length
@@ -52,14 +53,14 @@ same-length c = search needs
 returns-2 : tie.Need-returns-2
 unfolding textOf
 returns-2 c =
-    let a = c .before .before .before .before .before .before .before .before .before .before .before .before .before .before .args in
+    let a = c .before .before .before .before .before .before .before .before .before .before .before .before .before .args in
     let e = c .before .before .store-forwards .ensures in
     let s = c .before .before .before .before .before .before .p .given in
-    (e .0 ∙ ap (λ (x : List ℕ). storeForwards plain (s .0 .0 .reg .0) x (linesOf (a .run .now)) (a .in-loop) (a .gone) (a .next .now) (linesOf (a .below .now))) (c .before .before .before .before .value-of .ensures) ∙ ap (forwardsBy plain (a .line .now) (linesOf (a .run .now)) (a .in-loop) (a .gone) (a .next .now) (linesOf (a .below .now))) (sym (s .1)) ∙ forwards-at plain (a .line .now) (linesOf (a .run .now)) (a .in-loop) (a .gone) (a .next .now) (linesOf (a .below .now)) _ (c .before .before .before .before .before .before .before .before .before .before .before .before .before .before .pre .0), e .1)
+    (e .0 ∙ ap (λ (x : List ℕ). storeForwards plain (s .0 .0 .reg .0) x (region (linesOf (a .run .now))) (a .in-loop) (a .gone) (a .next .now) (linesOf (a .below .now))) (c .before .before .before .before .value-of .ensures) ∙ ap (forwardsBy plain (a .line .now) (region (linesOf (a .run .now))) (a .in-loop) (a .gone) (a .next .now) (linesOf (a .below .now))) (sym (s .1)) ∙ forwards-at plain (a .line .now) (region (linesOf (a .run .now))) (a .in-loop) (a .gone) (a .next .now) (linesOf (a .below .now)) _ (c .before .before .before .before .before .before .before .before .before .before .before .before .before .pre .0), e .1)
 
 -- src/lib.rt:421:1
 returns-3 : tie.Need-returns-3
-returns-3 c = let a = c .before .before .before .before .before .before .before .before .args in (ap (forwardsBy plain (a .line .now) (linesOf (a .run .now)) (a .in-loop) (a .gone) (a .next .now) (linesOf (a .below .now))) (sym (c .enum-told2 .given .1)) ∙ forwards-at plain (a .line .now) (linesOf (a .run .now)) (a .in-loop) (a .gone) (a .next .now) (linesOf (a .below .now)) _ (c .before .before .before .before .before .before .before .before .pre .0), refl)
+returns-3 c = let a = c .before .before .before .before .before .before .before .args in (ap (forwardsBy plain (a .line .now) (region (linesOf (a .run .now))) (a .in-loop) (a .gone) (a .next .now) (linesOf (a .below .now))) (sym (c .enum-told2 .given .1)) ∙ forwards-at plain (a .line .now) (region (linesOf (a .run .now))) (a .in-loop) (a .gone) (a .next .now) (linesOf (a .below .now)) _ (c .before .before .before .before .before .before .before .pre .0), refl)
 
 pub line-forwards-spec : {M : Type 1} → statement M
 line-forwards-spec =

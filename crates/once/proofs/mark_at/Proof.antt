@@ -4,7 +4,8 @@ use native.Mathlib.Omega.{arith}
 use Prim.Native.Nat.{_<_}
 use lib.ListN.{length}
 use Rattle.lines.specs.Lf.{linesOf}
-use Rattle.lines.proofs.LfLaws.{find-le, lines-at}
+use Rattle.place.specs.Region.{region}
+use Rattle.lines.proofs.LfLaws.{find-le}
 use Rattle.reading.specs.Reading.{plain}
 use Rattle.once.proofs.NotedFills.{send-rest}
 use Rattle.once.proofs.Fills.{takes-end, takes-line, mark-stays}
@@ -21,7 +22,7 @@ returns c = (rw (c .if1 .taken) refl, refl)
 
 -- src/lib.rt:530:9
 returns-2 : tie.Need-returns-2
-returns-2 c = let a = c .before .before .before .before .before .before .before .args in (mark-stays (c .before .if1 .left) (takes-end plain (a .line .now) (linesOf (a .run .now)) (a .in-loop) (a .next) (a .text .now) (a .j) (c .if2 .taken)), refl)
+returns-2 c = let a = c .before .before .before .before .before .before .args in (mark-stays (c .before .if1 .left) (takes-end plain (a .line .now) (region (linesOf (a .run .now))) (a .in-loop) (a .next) (a .text .now) (a .j) (c .if2 .taken)), refl)
 
 -- src/lib.rt:532:9
 after-requires : tie.Need-after-requires
@@ -37,7 +38,7 @@ part-line-forwards-start c = search needs
 
 -- src/lib.rt:536:9
 part-line-forwards-end : tie.Need-part-line-forwards-end
-part-line-forwards-end c = let a = c .before .before .before .before .before .before .before .before .args in omega (arith, find-le 10 (a .text .now) (a .j) (a .e) (omega (arith, c .before .if2 .left)) (c .before .before .before .before .before .before .before .before .pre .1 .0 .0))
+part-line-forwards-end c = let a = c .before .before .before .before .before .before .before .args in omega (arith, find-le 10 (a .text .now) (a .j) (a .e) (omega (arith, c .before .if2 .left)) (c .before .before .before .before .before .before .before .pre .1 .0 .0))
 
 -- src/lib.rt:538:9
 sub-line-forwards-2 : tie.Need-sub-line-forwards-2
@@ -54,10 +55,10 @@ part-line-forwards-end-2 c = search needs
 -- src/lib.rt:533:8
 line-forwards-requires : tie.Need-line-forwards-requires
 line-forwards-requires c κs =
-    let a = c .before .before .before .before .before .before .before .before .before .before .before .args in
+    let a = c .before .before .before .before .before .before .before .before .before .before .args in
     let n = c .before .before .before .after in
     let h : a .j < length (a .text .now) = omega (arith, c .before .before .before .before .if2 .left) in
-    (c .before .before .before .before .before .before .before .before .before .before .before .pre .0, (c .before .before .before .before .before .before .before .before .before .before .before .pre .1 .0 .1, (c .before .before .before .before .before .before .before .before .before .before .before .pre .1 .1 .0, (send-rest (a .text .now) (a .line .now) (a .j) (a .e) (n .result) (a .note) h (c .before .before .before .before .before .before .before .before .before .before .before .pre .1 .0 .0) (n .ensures) (c .before .before .before .before .before .before .before .before .before .before .before .pre .1 .1 .1 .0), c .before .before .before .before .before .before .before .before .before .before .before .pre .1 .1 .1 .1 _ _ (lines-at (a .text .now) (a .j) (a .e) h (c .before .before .before .before .before .before .before .before .before .before .before .pre .1 .0 .0))))))
+    (c .before .before .before .before .before .before .before .before .before .before .pre .0, (c .before .before .before .before .before .before .before .before .before .before .pre .1 .0 .1, (c .before .before .before .before .before .before .before .before .before .before .pre .1 .1 .0, (send-rest (a .text .now) (a .line .now) (a .j) (a .e) (n .result) (a .note) h (c .before .before .before .before .before .before .before .before .before .before .pre .1 .0 .0) (n .ensures) (c .before .before .before .before .before .before .before .before .before .before .pre .1 .1 .1 .0), c .before .before .before .before .before .before .before .before .before .before .pre .1 .1 .1 .1))))
 
 -- src/lib.rt:546:9
 same-length : tie.Need-same-length
@@ -66,10 +67,10 @@ same-length c = search needs
 -- src/lib.rt:546:9
 returns-3 : tie.Need-returns-3
 returns-3 c =
-    let a = c .before .before .before .before .before .before .before .before .before .before .before .before .before .before .before .args in
+    let a = c .before .before .before .before .before .before .before .before .before .before .before .before .before .before .args in
     let e = c .before .before .before .line-forwards .ensures in
     let n = c .before .before .before .before .before .before .before .after in
-    (mark-stays (c .before .before .before .before .before .before .before .before .before .if1 .left) (sym (takes-line plain (a .line .now) (linesOf (a .run .now)) (a .in-loop) (a .next) (a .text .now) (a .j) (a .e) (n .result) (omega (arith, c .before .before .before .before .before .before .before .before .if2 .left)) (c .before .before .before .before .before .before .before .before .before .before .before .before .before .before .before .pre .1 .0 .0) (n .ensures)) ∙ sym (e .0) ∙ c .if3 .taken), e .1)
+    (mark-stays (c .before .before .before .before .before .before .before .before .before .if1 .left) (sym (takes-line plain (a .line .now) (region (linesOf (a .run .now))) (a .in-loop) (a .next) (a .text .now) (a .j) (a .e) (n .result) (omega (arith, c .before .before .before .before .before .before .before .before .if2 .left)) (c .before .before .before .before .before .before .before .before .before .before .before .before .before .before .pre .1 .0 .0) (n .ensures)) ∙ sym (e .0) ∙ c .if3 .taken), e .1)
 
 -- src/lib.rt:504:1
 same-length-2 : tie.Need-same-length-2
@@ -78,10 +79,10 @@ same-length-2 c = search needs
 -- src/lib.rt:504:1
 returns-4 : tie.Need-returns-4
 returns-4 c =
-    let a = c .before .before .before .before .before .before .before .before .before .before .before .before .before .before .before .args in
+    let a = c .before .before .before .before .before .before .before .before .before .before .before .before .before .before .args in
     let e = c .before .before .before .line-forwards .ensures in
     let n = c .before .before .before .before .before .before .before .after in
-    (mark-stays (c .before .before .before .before .before .before .before .before .before .if1 .left) (sym (takes-line plain (a .line .now) (linesOf (a .run .now)) (a .in-loop) (a .next) (a .text .now) (a .j) (a .e) (n .result) (omega (arith, c .before .before .before .before .before .before .before .before .if2 .left)) (c .before .before .before .before .before .before .before .before .before .before .before .before .before .before .before .pre .1 .0 .0) (n .ensures)) ∙ sym (e .0) ∙ c .if3 .left), e .1)
+    (mark-stays (c .before .before .before .before .before .before .before .before .before .if1 .left) (sym (takes-line plain (a .line .now) (region (linesOf (a .run .now))) (a .in-loop) (a .next) (a .text .now) (a .j) (a .e) (n .result) (omega (arith, c .before .before .before .before .before .before .before .before .if2 .left)) (c .before .before .before .before .before .before .before .before .before .before .before .before .before .before .pre .1 .0 .0) (n .ensures)) ∙ sym (e .0) ∙ c .if3 .left), e .1)
 
 pub mark-at-spec : {M : Type 1} → statement M
 mark-at-spec =

@@ -10,8 +10,8 @@ use Rattle.once.specs.Tables.{Blank}
 use Rattle.once.specs.Noted.{LineAt}
 use Rattle.once.proofs.Blanks.{blank-less, blank-as}
 use Rattle.once.proofs.Decides.{value-room}
-use Rattle.once.proofs.NotedLaws.{RunInv, rows-start, rows-on}
-use Rattle.once.proofs.NotedFills.{run-begin, run-next, one-next, kind-at, drop-at, send-at}
+use Rattle.once.proofs.AreaLaws.{AreaInv}
+use Rattle.once.proofs.NotedFills.{rows-start, rows-on, area-begin, area-after, one-at, kind-at, drop-at, send-at}
 use Rattle.once.proofs.Fills.{linesAt, MarksInv, fill-start, fill-place, fill-on, fill-end}
 use Rattle.once.proofs.mark_with.Statement.{statement}
 use Rattle.once.proofs.mark_with.Tie as tie
@@ -27,20 +27,15 @@ use Rattle.once.proofs.mark_at.Reads as mark-at-reads
 use Rattle.once.proofs.noted.end_at.Reads as end-at-reads
 use Rattle.once.proofs.noted.parse_at.Reads as parse-at-reads
 use Rattle.parse.proofs.parse.Reads as parse-reads
-use Rattle.place.proofs.region_end.Reads as region-end-reads
 
 abbrev Inv-loop : tie.InvT-loop
-Inv-loop text paths loops reads calm notes ends scratch₀ marks₀ to f e₀ p₀ d goes₀ run₀ i₀ k₀ scratch marks e p goes run i k =
+Inv-loop text paths loops calm notes ends scratch₀ marks₀ f e₀ p₀ d goes₀ run₀ i₀ k₀ scratch marks e p goes run i k =
     (scratch ≡ scratch₀)
     × (Blank (length text) scratch
-    × (MarksInv text paths loops marks₀ marks i k goes run × ((linesOf (drop i text) ≡ drop k (linesOf text)) × (RunInv (linesOf text) k (linesAt text run) × LineAt text i e p))))
+    × (MarksInv text paths loops marks₀ marks i k goes run × ((linesOf (drop i text) ≡ drop k (linesOf text)) × (AreaInv (linesOf text) k (linesAt text run) × LineAt text i e p))))
 
 abbrev μ-loop : tie.MeasureT-loop
-μ-loop text paths loops reads calm notes ends scratch₀ marks₀ to f e₀ p₀ d goes₀ run₀ i₀ k₀ scratch marks e p goes run i k = length text - i
-
--- src/lib.rt:580:9
-region-end-requires : tie.Need-region-end-requires Inv-loop μ-loop
-region-end-requires c κs = search needs
+μ-loop text paths loops calm notes ends scratch₀ marks₀ f e₀ p₀ d goes₀ run₀ i₀ k₀ scratch marks e p goes run i k = length text - i
 
 -- src/lib.rt:581:9
 byte-at-requires : tie.Need-byte-at-requires Inv-loop μ-loop
@@ -65,14 +60,14 @@ byte-at-requires-2 c κs = search needs
 -- src/lib.rt:585:9
 drops-at-requires : tie.Need-drops-at-requires Inv-loop μ-loop
 drops-at-requires c κs =
-    let a = c .before .before .before .before .before .before .before .before .before .before .before .before .before .before .before .args in
-    ((c .before .before .before .before .find-byte .ensures, c .before .before .parse .ensures ∙ ap parseOf (c .before .before .before .cut .ensures)), (c .before .before .before .before .before .before .before .before .before .before .before .before .before .before .before .pre .0, (drop-at (a .text .now) (a .paths .now) (a .notes .now) (c .before .before .before .before .before .before .before .before .before .before .before .before .before .before .before .pre .1 .1 .1 .1 .0) 0 0 (c .before .byte-at2 .result) (rows-start (a .text .now)) (c .before .byte-at2 .ensures), c .before .before .before .before .before .before .before .before .before .before .before .before .before .before .before .pre .1 .1 .1 .0)))
+    let a = c .before .before .before .before .before .before .before .before .before .before .before .before .before .args in
+    ((c .before .before .before .before .find-byte .ensures, c .before .before .parse .ensures ∙ ap parseOf (c .before .before .before .cut .ensures)), (c .before .before .before .before .before .before .before .before .before .before .before .before .before .pre .0, (drop-at (a .text .now) (a .paths .now) (a .notes .now) (c .before .before .before .before .before .before .before .before .before .before .before .before .before .pre .1 .1 .1 .1 .0) 0 0 (c .before .byte-at2 .result) (rows-start (a .text .now)) (c .before .byte-at2 .ensures), c .before .before .before .before .before .before .before .before .before .before .before .before .before .pre .1 .1 .1 .0)))
 
 -- src/lib.rt:589:5
 loop-holds : tie.Need-loop-holds Inv-loop μ-loop
 loop-holds c =
-    let a = c .before .before .before .before .before .before .before .before .before .before .before .before .before .before .before .before .before .before .args in
-    (refl, (blank-as (c .before .before .drops-at .ensures .1) (c .before .before .before .before .before .before .before .before .before .before .before .before .before .before .before .before .before .before .pre .0), (fill-start (a .text .now) (a .paths .now) (a .loops .now) (a .marks .now) (c .before .before .before .before .before .before .before .before .byte-at .result) (c .before .before .before .before .before .before .before .before .before .region-end .result) (c .before .before .drops-at .result) (c .before .before .before .before .before .before .before .before .before .before .before .before .before .before .before .before .before .before .pre .1 .0) (c .before .before .before .before .before .before .before .before .before .region-end .ensures) (c .before .before .before .before .before .before .before .before .byte-at .ensures) (c .before .before .drops-at .ensures .0), (rows-start (a .text .now), (run-begin (a .text .now) (c .before .before .before .before .before .before .before .before .before .region-end .result) (c .before .before .before .before .before .before .before .before .before .region-end .ensures), (c .before .before .before .before .before .before .before .find-byte .ensures, c .before .before .before .before .before .parse .ensures ∙ ap parseOf (c .before .before .before .before .before .before .cut .ensures)))))))
+    let a = c .before .before .before .before .before .before .before .before .before .before .before .before .before .before .before .before .args in
+    (refl, (blank-as (c .before .before .drops-at .ensures .1) (c .before .before .before .before .before .before .before .before .before .before .before .before .before .before .before .before .pre .0), (fill-start (a .text .now) (a .paths .now) (a .loops .now) (a .marks .now) (c .before .before .before .before .before .before .before .before .byte-at .result) (c .before .before .drops-at .result) (c .before .before .before .before .before .before .before .before .before .before .before .before .before .before .before .before .pre .1 .0) (c .before .before .before .before .before .before .before .before .byte-at .ensures) (c .before .before .drops-at .ensures .0), (rows-start (a .text .now), (area-begin (a .text .now), (c .before .before .before .before .before .before .before .find-byte .ensures, c .before .before .before .before .before .parse .ensures ∙ ap parseOf (c .before .before .before .before .before .before .cut .ensures)))))))
 
 -- src/lib.rt:590:13
 after-requires : tie.Need-after-requires Inv-loop μ-loop
@@ -85,12 +80,12 @@ add-end-at c = omega (arith, c .before .before .loop .inv .1 .1 .0 .k≤, c .bef
 -- src/lib.rt:591:13
 end-at-requires : tie.Need-end-at-requires Inv-loop μ-loop
 end-at-requires c κs =
-    let a = c .before .before .before .before .before .before .before .before .before .before .before .before .before .before .before .before .before .before .before .before .before .args in
+    let a = c .before .before .before .before .before .before .before .before .before .before .before .before .before .before .before .before .before .before .before .args in
     let l = c .before .before .loop in
     let n = c .after in
     let t = c .before .loop-test .taken in
     let z = l .inv .1 .1 .1 .1 .1 in
-    c .before .before .before .before .before .before .before .before .before .before .before .before .before .before .before .before .before .before .before .before .before .pre .1 .1 .1 .1 .1 (l .k + 1) (n .result) (rows-on (a .text .now) (l .i) (l .k) (l .e) (n .result) (l .inv .1 .1 .1 .0) t (z .0) (n .ensures))
+    c .before .before .before .before .before .before .before .before .before .before .before .before .before .before .before .before .before .before .before .pre .1 .1 .1 .1 .1 (l .k + 1) (n .result) (rows-on (a .text .now) (l .i) (l .k) (l .e) (n .result) (l .inv .1 .1 .1 .0) t (z .0) (n .ensures))
 
 -- src/lib.rt:592:39
 add-byte-at : tie.Need-add-byte-at Inv-loop μ-loop
@@ -107,12 +102,12 @@ cut-requires-2 c κs = search needs
 -- src/lib.rt:593:13
 parse-at-requires : tie.Need-parse-at-requires Inv-loop μ-loop
 parse-at-requires c κs =
-    let a = c .before .before .before .before .before .before .before .before .before .before .before .before .before .before .before .before .before .before .before .before .before .before .before .before .args in
+    let a = c .before .before .before .before .before .before .before .before .before .before .before .before .before .before .before .before .before .before .before .before .before .before .args in
     let l = c .before .before .before .before .before .loop in
     let n = c .before .before .before .after in
     let t = c .before .before .before .before .loop-test .taken in
     let z = l .inv .1 .1 .1 .1 .1 in
-    kind-at (a .text .now) (a .paths .now) (a .notes .now) (c .before .before .before .before .before .before .before .before .before .before .before .before .before .before .before .before .before .before .before .before .before .before .before .before .pre .1 .1 .1 .1 .0) (n .result) (l .k + 1) (c .before .byte-at3 .result) (rows-on (a .text .now) (l .i) (l .k) (l .e) (n .result) (l .inv .1 .1 .1 .0) t (z .0) (n .ensures)) (c .before .byte-at3 .ensures) (c .before .before .end-at .result) (c .cut2 .result .now) (c .before .before .end-at .ensures) (c .cut2 .ensures)
+    kind-at (a .text .now) (a .paths .now) (a .notes .now) (c .before .before .before .before .before .before .before .before .before .before .before .before .before .before .before .before .before .before .before .before .before .before .pre .1 .1 .1 .1 .0) (n .result) (l .k + 1) (c .before .byte-at3 .result) (rows-on (a .text .now) (l .i) (l .k) (l .e) (n .result) (l .inv .1 .1 .1 .0) t (z .0) (n .ensures)) (c .before .byte-at3 .ensures) (c .before .before .end-at .result) (c .cut2 .result .now) (c .before .before .end-at .ensures) (c .cut2 .ensures)
 
 -- src/lib.rt:594:39
 add-byte-at-2 : tie.Need-add-byte-at-2 Inv-loop μ-loop
@@ -129,12 +124,12 @@ add-drops-at c = omega (arith, c .before .before .before .before .before .before
 -- src/lib.rt:595:13
 drops-at-requires-2 : tie.Need-drops-at-requires-2 Inv-loop μ-loop
 drops-at-requires-2 c κs =
-    let a = c .before .before .before .before .before .before .before .before .before .before .before .before .before .before .before .before .before .before .before .before .before .before .before .before .before .before .before .args in
+    let a = c .before .before .before .before .before .before .before .before .before .before .before .before .before .before .before .before .before .before .before .before .before .before .before .before .before .args in
     let l = c .before .before .before .before .before .before .before .before .loop in
     let n = c .before .before .before .before .before .before .after in
     let t = c .before .before .before .before .before .before .before .loop-test .taken in
     let z = l .inv .1 .1 .1 .1 .1 in
-    ((c .before .before .before .before .before .end-at .ensures, c .before .before .parse-at .ensures ∙ ap parseOf (c .before .before .before .cut2 .ensures)), (l .inv .1 .0, (drop-at (a .text .now) (a .paths .now) (a .notes .now) (c .before .before .before .before .before .before .before .before .before .before .before .before .before .before .before .before .before .before .before .before .before .before .before .before .before .before .before .pre .1 .1 .1 .1 .0) (n .result) (l .k + 1) (c .before .before .before .before .byte-at3 .result) (rows-on (a .text .now) (l .i) (l .k) (l .e) (n .result) (l .inv .1 .1 .1 .0) t (z .0) (n .ensures)) (c .before .before .before .before .byte-at3 .ensures), c .before .before .before .before .before .before .before .before .before .before .before .before .before .before .before .before .before .before .before .before .before .before .before .before .before .before .before .pre .1 .1 .1 .0)))
+    ((c .before .before .before .before .before .end-at .ensures, c .before .before .parse-at .ensures ∙ ap parseOf (c .before .before .before .cut2 .ensures)), (l .inv .1 .0, (drop-at (a .text .now) (a .paths .now) (a .notes .now) (c .before .before .before .before .before .before .before .before .before .before .before .before .before .before .before .before .before .before .before .before .before .before .before .before .before .pre .1 .1 .1 .1 .0) (n .result) (l .k + 1) (c .before .before .before .before .byte-at3 .result) (rows-on (a .text .now) (l .i) (l .k) (l .e) (n .result) (l .inv .1 .1 .1 .0) t (z .0) (n .ensures)) (c .before .before .before .before .byte-at3 .ensures), c .before .before .before .before .before .before .before .before .before .before .before .before .before .before .before .before .before .before .before .before .before .before .before .before .before .pre .1 .1 .1 .0)))
 
 -- src/lib.rt:596:9
 area-at-requires : tie.Need-area-at-requires Inv-loop μ-loop
@@ -159,18 +154,18 @@ byte-at-requires-6 c κs = search needs
 -- src/lib.rt:598:20
 mark-at-requires : tie.Need-mark-at-requires Inv-loop μ-loop
 mark-at-requires c κs =
-    let a = c .before .before .before .before .before .before .before .before .before .before .before .before .before .before .before .before .before .before .before .before .before .before .before .before .before .before .before .before .before .before .before .before .before .before .before .before .args in
+    let a = c .before .before .before .before .before .before .before .before .before .before .before .before .before .before .before .before .before .before .before .before .before .before .before .before .before .before .before .before .before .before .before .before .before .before .args in
     let l = c .before .before .before .before .before .before .before .before .before .before .before .before .before .before .before .before .before .loop in
     let n = c .before .before .before .before .before .before .before .before .before .before .before .before .before .before .before .after in
     let t = c .before .before .before .before .before .before .before .before .before .before .before .before .before .before .before .before .loop-test .taken in
     let z = l .inv .1 .1 .1 .1 .1 in
     let w = c .before .before .before .before .before .area-at in
-    (z .1 ∙ ap parseOf (sym (c .before .before .before .cut3 .ensures)), ((c .before .before .before .before .before .before .before .before .before .before .before .before .before .before .end-at .ensures, c .before .before .before .before .before .before .before .before .before .before .before .parse-at .ensures ∙ ap parseOf (c .before .before .before .before .before .before .before .before .before .before .before .before .cut2 .ensures)), (blank-less (let h = value-room (l .i) (l .e) (a .text .now) in let q = ap length (c .before .before .before .cut3 .ensures) in omega arith) (blank-as (c .before .before .before .before .before .before .before .before .drops-at2 .ensures .1) (l .inv .1 .0)), (send-at (a .text .now) (a .paths .now) (a .notes .now) (c .before .before .before .before .before .before .before .before .before .before .before .before .before .before .before .before .before .before .before .before .before .before .before .before .before .before .before .before .before .before .before .before .before .before .before .before .pre .1 .1 .1 .1 .0) (l .i) (l .k) (c .before .byte-at6 .result) (l .inv .1 .1 .1 .0) (c .before .byte-at6 .ensures) (l .e) (n .result) (c .before .before .before .cut3 .result .now) t (z .0) (n .ensures) (c .before .before .before .cut3 .ensures), one-next (a .text .now) (l .i) (l .k) (l .e) (n .result) t (z .0) (n .ensures) (l .inv .1 .1 .1 .0) (l .run) (w .result) (w .ensures) (l .inv .1 .1 .1 .1 .0) (a .reads .now) (c .before .before .before .before .before .before .before .before .before .before .before .before .before .before .before .before .before .before .before .before .before .before .before .before .before .before .before .before .before .before .before .before .before .before .before .before .pre .1 .1 .0) (c .before .before .cut4 .result .now) (c .before .before .cut4 .ensures)))))
+    (z .1 ∙ ap parseOf (sym (c .before .before .before .cut3 .ensures)), ((c .before .before .before .before .before .before .before .before .before .before .before .before .before .before .end-at .ensures, c .before .before .before .before .before .before .before .before .before .before .before .parse-at .ensures ∙ ap parseOf (c .before .before .before .before .before .before .before .before .before .before .before .before .cut2 .ensures)), (blank-less (let h = value-room (l .i) (l .e) (a .text .now) in let q = ap length (c .before .before .before .cut3 .ensures) in omega arith) (blank-as (c .before .before .before .before .before .before .before .before .drops-at2 .ensures .1) (l .inv .1 .0)), (send-at (a .text .now) (a .paths .now) (a .notes .now) (c .before .before .before .before .before .before .before .before .before .before .before .before .before .before .before .before .before .before .before .before .before .before .before .before .before .before .before .before .before .before .before .before .before .before .pre .1 .1 .1 .1 .0) (l .i) (l .k) (c .before .byte-at6 .result) (l .inv .1 .1 .1 .0) (c .before .byte-at6 .ensures) (l .e) (n .result) (c .before .before .before .cut3 .result .now) t (z .0) (n .ensures) (c .before .before .before .cut3 .ensures), one-at (a .text .now) (l .i) (l .k) (l .e) (n .result) t (z .0) (n .ensures) (l .inv .1 .1 .1 .0) (l .run) (w .result) (w .ensures) (l .inv .1 .1 .1 .1 .0) (a .notes .now) (c .before .before .before .before .before .before .before .before .before .before .before .before .before .before .before .before .before .before .before .before .before .before .before .before .before .before .before .before .before .before .before .before .before .before .pre .1 .1 .0) (c .before .before .before .cut3 .result .now) (c .before .before .cut4 .result .now) (c .before .byte-at6 .result) (c .before .before .before .cut3 .ensures) (c .before .before .cut4 .ensures) (c .before .byte-at6 .ensures)))))
 
 -- src/lib.rt:598:9
 slice-write-marks : tie.Need-slice-write-marks Inv-loop μ-loop
 slice-write-marks c =
-    let a = c .before .before .before .before .before .before .before .before .before .before .before .before .before .before .before .before .before .before .before .before .before .before .before .before .before .before .before .before .before .before .before .before .before .before .before .before .before .before .before .args in
+    let a = c .before .before .before .before .before .before .before .before .before .before .before .before .before .before .before .before .before .before .before .before .before .before .before .before .before .before .before .before .before .before .before .before .before .before .before .before .before .args in
     let l = c .before .before .before .before .before .before .before .before .before .before .before .before .before .before .before .before .before .before .before .before .loop in
     let n = c .before .before .before .before .before .before .before .before .before .before .before .before .before .before .before .before .before .before .after in
     let t = c .before .before .before .before .before .before .before .before .before .before .before .before .before .before .before .before .before .before .before .loop-test .taken in
@@ -179,7 +174,7 @@ slice-write-marks c =
 
 -- src/lib.rt:616:9
 add-k : tie.Need-add-k Inv-loop μ-loop
-add-k c = omega (arith, c .before .before .before .before .before .before .before .before .before .before .before .before .before .before .before .before .before .before .before .before .before .before .before .before .before .before .before .before .before .before .before .before .before .before .before .before .before .before .before .fits, c .before .before .before .before .before .before .before .before .before .before .before .before .before .before .before .before .before .before .before .before .before .before .before .before .before .before .before .before .before .before .before .before .before .before .before .before .before .before .before .good, c .before .before .before .before .before .before .before .before .before .before .before .before .before .before .before .before .before .before .before .before .loop .inv .1 .1 .0 .k≤, c .before .before .before .before .before .before .before .before .before .before .before .before .before .before .before .before .before .before .before .loop-test .taken)
+add-k c = omega (arith, c .before .before .before .before .before .before .before .before .before .before .before .before .before .before .before .before .before .before .before .before .before .before .before .before .before .before .before .before .before .before .before .before .before .before .before .before .before .fits, c .before .before .before .before .before .before .before .before .before .before .before .before .before .before .before .before .before .before .before .before .before .before .before .before .before .before .before .before .before .before .before .before .before .before .before .before .before .good, c .before .before .before .before .before .before .before .before .before .before .before .before .before .before .before .before .before .before .before .before .loop .inv .1 .1 .0 .k≤, c .before .before .before .before .before .before .before .before .before .before .before .before .before .before .before .before .before .before .before .loop-test .taken)
 
 -- src/lib.rt:589:5
 loop-less : tie.Need-loop-less Inv-loop μ-loop
@@ -188,14 +183,14 @@ loop-less c = omega (arith, c .before .before .before .before .before .before .b
 -- src/lib.rt:589:5
 loop-again : tie.Need-loop-again Inv-loop μ-loop
 loop-again c =
-    let a = c .before .before .before .before .before .before .before .before .before .before .before .before .before .before .before .before .before .before .before .before .before .before .before .before .before .before .before .before .before .before .before .before .before .before .before .before .before .before .before .args in
+    let a = c .before .before .before .before .before .before .before .before .before .before .before .before .before .before .before .before .before .before .before .before .before .before .before .before .before .before .before .before .before .before .before .before .before .before .before .before .before .args in
     let l = c .before .before .before .before .before .before .before .before .before .before .before .before .before .before .before .before .before .before .before .before .loop in
     let n = c .before .before .before .before .before .before .before .before .before .before .before .before .before .before .before .before .before .before .after in
     let t = c .before .before .before .before .before .before .before .before .before .before .before .before .before .before .before .before .before .before .before .loop-test .taken in
     let z = l .inv .1 .1 .1 .1 .1 in
     let m = c .before .before .mark-at in
     let w = c .before .before .before .before .before .before .before .before .area-at in
-    (m .ensures .1 ∙ c .before .before .before .before .before .before .before .before .before .before .before .drops-at2 .ensures .1 ∙ l .inv .0, (blank-as (m .ensures .1 ∙ c .before .before .before .before .before .before .before .before .before .before .before .drops-at2 .ensures .1) (l .inv .1 .0), (fill-on (l .inv .1 .1 .0) t (l .e) (n .result) (z .0) (n .ensures) (c .before .before .before .before .before .before .before .byte-at5 .result) (c .before .before .before .before .before .before .before .before .before .before .before .before .before .byte-at4 .result) (c .before .before .before .before .before .before .before .before .before .before .before .drops-at2 .result) (c .before .before .before .before .before .before .before .before .area-at .result) (c .before .before .before .before .before .before .before .byte-at5 .ensures) (c .before .before .before .before .before .before .before .before .before .before .before .before .before .byte-at4 .ensures) (c .before .before .before .before .before .before .before .before .area-at .ensures) (c .before .before .before .before .before .before .before .before .before .before .before .drops-at2 .ensures .0) (c .before .before .before .before .before .before .cut3 .result .now) (c .before .before .before .before .before .cut4 .result .now) (m .result) (c .before .before .before .before .before .before .cut3 .ensures) (c .before .before .before .before .before .cut4 .ensures) (m .ensures .0), ((rows-on (a .text .now) (l .i) (l .k) (l .e) (n .result) (l .inv .1 .1 .1 .0) t (z .0) (n .ensures)), (run-next (a .text .now) (l .i) (l .k) (l .e) (n .result) t (z .0) (n .ensures) (l .inv .1 .1 .1 .0) (l .run) (w .result) (w .ensures) (l .inv .1 .1 .1 .1 .0), (c .before .before .before .before .before .before .before .before .before .before .before .before .before .before .before .before .before .end-at .ensures, c .before .before .before .before .before .before .before .before .before .before .before .before .before .before .parse-at .ensures ∙ ap parseOf (c .before .before .before .before .before .before .before .before .before .before .before .before .before .before .before .cut2 .ensures)))))))
+    (m .ensures .1 ∙ c .before .before .before .before .before .before .before .before .before .before .before .drops-at2 .ensures .1 ∙ l .inv .0, (blank-as (m .ensures .1 ∙ c .before .before .before .before .before .before .before .before .before .before .before .drops-at2 .ensures .1) (l .inv .1 .0), (fill-on (l .inv .1 .1 .0) t (l .e) (n .result) (z .0) (n .ensures) (c .before .before .before .before .before .before .before .byte-at5 .result) (c .before .before .before .before .before .before .before .before .before .before .before .before .before .byte-at4 .result) (c .before .before .before .before .before .before .before .before .before .before .before .drops-at2 .result) (c .before .before .before .before .before .before .before .before .area-at .result) (c .before .before .before .before .before .before .before .byte-at5 .ensures) (c .before .before .before .before .before .before .before .before .before .before .before .before .before .byte-at4 .ensures) (c .before .before .before .before .before .before .before .before .area-at .ensures) (c .before .before .before .before .before .before .before .before .before .before .before .drops-at2 .ensures .0) (c .before .before .before .before .before .before .cut3 .result .now) (c .before .before .before .before .before .cut4 .result .now) (m .result) (c .before .before .before .before .before .before .cut3 .ensures) (c .before .before .before .before .before .cut4 .ensures) (m .ensures .0), ((rows-on (a .text .now) (l .i) (l .k) (l .e) (n .result) (l .inv .1 .1 .1 .0) t (z .0) (n .ensures)), (area-after (a .text .now) (l .i) (l .k) (l .e) (n .result) t (z .0) (n .ensures) (l .inv .1 .1 .1 .0) (l .run) (w .result) (w .ensures) (l .inv .1 .1 .1 .1 .0), (c .before .before .before .before .before .before .before .before .before .before .before .before .before .before .before .before .before .end-at .ensures, c .before .before .before .before .before .before .before .before .before .before .before .before .before .before .parse-at .ensures ∙ ap parseOf (c .before .before .before .before .before .before .before .before .before .before .before .before .before .before .before .cut2 .ensures)))))))
 
 -- src/lib.rt:564:1
 same-length : tie.Need-same-length Inv-loop μ-loop
@@ -215,7 +210,6 @@ mark-with-spec =
     (tie.spec
     Inv-loop
     μ-loop
-    region-end-requires
     byte-at-requires
     find-byte-requires
     cut-requires

@@ -1,34 +1,40 @@
+use Prim.Native.Nat.{ℕ}
 use mathlib.Core.Path.{sym, ap, _∙_}
-use borrow.Author.Tests.{not-true, eq-eqb}
+use mathlib.Core.List.{List}
+use borrow.Author.Tests.{eq-eqb}
+use lib.Dec.{eqb}
+use Rattle.lines.specs.Lf.{linesOf}
+use Rattle.place.proofs.Regions.{region-at}
+use Rattle.once.specs.Once.{readCount}
 use borrow.Author.Needs.{needs}
 use Rattle.once.proofs.once_in.Statement.{statement}
 use Rattle.once.proofs.once_in.Tie as tie
 use Rattle.once.proofs.once_in.Reads as reads
 use Rattle.once.proofs.once_in.Lts as lts
-use Rattle.once.proofs.noted.is_alone.Reads as is-alone-reads
+use Rattle.lines.proofs.cut.Reads as cut-reads
 use Rattle.once.proofs.read_once.Reads as read-once-reads
-use Rattle.place.proofs.is_header.Reads as is-header-reads
+use Rattle.place.proofs.region_end.Reads as region-end-reads
 
--- src/lib.rt:295:8
-is-alone-requires : tie.Need-is-alone-requires
-is-alone-requires c κs = search needs
-
--- src/lib.rt:296:13
-is-header-requires : tie.Need-is-header-requires
-is-header-requires c κs = search needs
-
--- src/lib.rt:297:13
+-- src/lib.rt:358:9
 returns : tie.Need-returns
-returns c = sym (eq-eqb _ _ (c .before .before .before .before .before .before .before .pre .0 (c .before .before .before .before .before .before .before .args .reg .0) (sym (c .before .before .before .is-alone .ensures) ∙ c .before .before .if1 .taken) (sym (c .before .is-header .ensures) ∙ not-true _ (c .if2 .taken)) (c .before .before .before .before .before .before .before .pre .1)))
+returns c = sym (eq-eqb _ _ (c .before .before .pre (c .if1 .taken)))
 
--- src/lib.rt:300:5
+-- src/lib.rt:360:9
+region-end-requires : tie.Need-region-end-requires
+region-end-requires c κs = search needs
+
+-- src/lib.rt:361:15
+cut-requires : tie.Need-cut-requires
+cut-requires c κs = search needs
+
+-- src/lib.rt:361:5
 read-once-requires : tie.Need-read-once-requires
 read-once-requires c κs = search needs
 
--- src/lib.rt:291:1
+-- src/lib.rt:353:1
 returns-2 : tie.Need-returns-2
-returns-2 c = search needs
+returns-2 c = let a = c .before .before .before .before .before .args in c .read-once .ensures ∙ ap (λ (ls : List (List ℕ)). eqb (readCount (a .reg .0) ls) 1) (ap linesOf (c .before .cut .ensures) ∙ region-at (a .run .now) 0 (c .before .before .region-end .result) (c .before .before .region-end .ensures))
 
 pub once-in-spec : {M : Type 1} → statement M
 once-in-spec =
-    tie.close (tie.spec is-alone-requires is-header-requires returns read-once-requires returns-2)
+    tie.close (tie.spec returns region-end-requires cut-requires read-once-requires returns-2)

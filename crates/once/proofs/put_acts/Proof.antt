@@ -1,15 +1,17 @@
+use mathlib.Core.Bool.{not}
+use lib.Dec.{eqb}
 use borrow.Author.Needs.{needs}
-use Prim.Native.Nat.{_-_, _≤_}
+use Prim.Native.Nat.{_+_, _-_, min}
 use native.Mathlib.Omega.{arith}
-use mathlib.Core.Path.{_≡_, refl}
-use mathlib.Core.Bool.{false}
-use mathlib.Core.List.{[]}
-use lib.ListN.{length, drop}
-use Rattle.lines.specs.Lf.{part, linesOf}
+use mathlib.Core.Path.{refl, _∙_}
+use borrow.Author.Tests.{eqb-true, not-true}
+use lib.ListN.{length}
+use Rattle.lines.specs.Lf.{part}
+use Rattle.lines.proofs.Tests.{and-left, and-right}
 use Rattle.lines.proofs.LfLaws.{find-le}
-use Rattle.lines.proofs.OutLaws.{Writing, writing-start, writing-as, writing-end, writing-length}
-use Rattle.once.proofs.NotedLaws.{rows-start, rows-on}
-use Rattle.once.proofs.Writes.{toCome, come-end, acts-fit, acts-go}
+use Rattle.lines.proofs.OutLaws.{writing-length}
+use Rattle.once.proofs.NotedFills.{rows-on}
+use Rattle.once.proofs.Writes.{ActsInv, acts-start, acts-pass, held-fits, acts-fit, acts-go, last-fits, acts-end}
 use Rattle.once.proofs.put_acts.Statement.{statement}
 use Rattle.once.proofs.put_acts.Tie as tie
 use Rattle.once.proofs.put_acts.Reads as reads
@@ -17,88 +19,112 @@ use Rattle.once.proofs.put_acts.Lts as lts
 use Rattle.lines.proofs.after.Reads as after-reads
 use Rattle.lines.proofs.byte_at.Reads as byte-at-reads
 use Rattle.lines.proofs.cut.Reads as cut-reads
+use Rattle.lines.proofs.put.Reads as put-reads
+use Rattle.lines.proofs.put_lines.Reads as put-lines-reads
 use Rattle.once.proofs.noted.end_at.Reads as end-at-reads
 use Rattle.once.proofs.put_act.Reads as put-act-reads
 
 abbrev Inv-loop : tie.InvT-loop
-Inv-loop text marks ends out₀ i₀ k₀ o₀ given₀ a₀ b₀ out i k o given a b =
-    (i ≤ length text)
-    × ((k ≤ i) × ((linesOf (drop i text) ≡ drop k (linesOf text)) × Writing 0 (toCome text marks 0 0 false []) (toCome text marks i k given (part a b text)) out₀ out o))
+Inv-loop text marks ends out₀ i₀ k₀ o₀ given₀ a₀ b₀ c₀ out i k o given a b c = ActsInv text marks out₀ out c i k o given (part a b text)
 
 abbrev μ-loop : tie.MeasureT-loop
-μ-loop text marks ends out₀ i₀ k₀ o₀ given₀ a₀ b₀ out i k o given a b = length text - i
+μ-loop text marks ends out₀ i₀ k₀ o₀ given₀ a₀ b₀ c₀ out i k o given a b c = length text - i
 
--- src/lib.rt:734:5
+-- src/lib.rt:704:5
 loop-holds : tie.Need-loop-holds Inv-loop μ-loop
-loop-holds c = (omega arith, (omega arith, (rows-start (c .before .before .before .before .args .text .now), writing-start 0 _ _ (omega (arith, c .before .before .before .before .pre .1)))))
+loop-holds c = acts-start (c .before .before .before .before .args .text .now) (c .before .before .before .before .args .marks .now) (c .before .before .before .before .args .out .now) _ (omega (arith, c .before .before .before .before .pre .1))
 
--- src/lib.rt:735:13
+-- src/lib.rt:705:13
 end-at-requires : tie.Need-end-at-requires Inv-loop μ-loop
-end-at-requires c κs = let l = c .before .loop in c .before .before .before .before .before .before .pre .0 (l .k) (l .i) (l .inv .1 .1 .0)
+end-at-requires c κs = c .before .before .before .before .before .before .pre .0 (c .before .loop .k) (c .before .loop .i) (c .before .loop .inv .rows)
 
--- src/lib.rt:736:13
+-- src/lib.rt:706:13
 byte-at-requires : tie.Need-byte-at-requires Inv-loop μ-loop
 byte-at-requires c κs = search needs
 
--- src/lib.rt:737:39
-add-byte-at : tie.Need-add-byte-at Inv-loop μ-loop
-add-byte-at c = omega arith
-
--- src/lib.rt:737:13
-byte-at-requires-2 : tie.Need-byte-at-requires-2 Inv-loop μ-loop
-byte-at-requires-2 c κs = search needs
-
--- src/lib.rt:738:21
-sub-put-act : tie.Need-sub-put-act Inv-loop μ-loop
-sub-put-act c = omega arith
-
--- src/lib.rt:738:21
-part-put-act-start : tie.Need-part-put-act-start Inv-loop μ-loop
-part-put-act-start c = omega arith
-
--- src/lib.rt:738:21
-part-put-act-end : tie.Need-part-put-act-end Inv-loop μ-loop
-part-put-act-end c = let l = c .before .before .before .before .loop in omega (arith, find-le 10 (c .before .before .before .before .before .before .before .before .before .args .text .now) (l .i) (c .before .before .end-at .result) (l .inv .0) (c .before .before .end-at .ensures))
-
--- src/lib.rt:738:34
-cut-requires : tie.Need-cut-requires Inv-loop μ-loop
-cut-requires c κs = search needs
-
--- src/lib.rt:738:9
-put-act-requires : tie.Need-put-act-requires Inv-loop μ-loop
-put-act-requires c κs =
-    let l = c .before .before .before .before .before .before .before .loop in
-    let s = c .before .before .before .before .before .before .before .before .before .before .before .before .args in
-    let f = c .before .before .before .before .before .end-at in
-    acts-fit (s .text .now) (s .marks .now) (l .i) (f .result) (l .k) (l .given) (part (l .a) (l .b) (s .text .now)) (c .before .cut .result .now) (c .before .cut .ensures) (c .before .before .before .before .before .before .loop-test .taken) (f .ensures) (c .before .before .before .before .byte-at .result) (c .before .before .before .byte-at2 .result) _ (c .before .before .before .before .byte-at .ensures) (c .before .before .before .byte-at2 .ensures) refl (l .inv .1 .1 .1)
-
--- src/lib.rt:742:9
+-- src/lib.rt:708:13
 add-k : tie.Need-add-k Inv-loop μ-loop
-add-k c = omega arith
+add-k c = omega (arith, c .before .before .before .before .loop .inv .k≤, c .before .before .before .loop-test .taken)
 
--- src/lib.rt:743:9
+-- src/lib.rt:709:13
 after-requires : tie.Need-after-requires Inv-loop μ-loop
 after-requires c κs = search needs
 
--- src/lib.rt:734:5
+-- src/lib.rt:704:5
 loop-less : tie.Need-loop-less Inv-loop μ-loop
-loop-less c = omega (arith, c .after .ensures, c .before .before .before .before .before .before .before .before .before .end-at .ensures)
+loop-less c = omega (arith, c .after .ensures, c .before .before .before .end-at .ensures, c .before .before .before .before .loop-test .taken)
 
--- src/lib.rt:734:5
+-- src/lib.rt:704:5
 loop-again : tie.Need-loop-again Inv-loop μ-loop
-loop-again c =
-    let l = c .before .before .before .before .before .before .before .before .before .before .before .loop in
-    let s = c .before .before .before .before .before .before .before .before .before .before .before .before .before .before .before .before .args in
-    let f = c .before .before .before .before .before .before .before .before .before .end-at in
-    (omega (arith, c .after .ensures), (omega (arith, c .after .ensures, f .ensures, l .inv .1 .0), (rows-on (s .text .now) (l .i) (l .k) (f .result) (c .after .result) (l .inv .1 .1 .0) (c .before .before .before .before .before .before .before .before .before .before .loop-test .taken) (f .ensures) (c .after .ensures), acts-go (s .text .now) (s .marks .now) (l .i) (f .result) (l .k) (l .given) (part (l .a) (l .b) (s .text .now)) (c .before .before .before .before .before .cut .result .now) (c .before .before .before .before .before .cut .ensures) (c .before .before .before .before .before .before .before .before .before .before .loop-test .taken) (f .ensures) (c .before .before .before .before .before .before .before .before .byte-at .result) (c .before .before .before .before .before .before .before .byte-at2 .result) (c .after .result) (c .before .before .before .before .before .before .before .before .byte-at .ensures) (c .before .before .before .before .before .before .before .byte-at2 .ensures) (c .after .ensures) (l .inv .1 .1 .1) (c .before .before .before .put-act .ensures))))
+loop-again c = acts-pass (c .before .before .before .before .before .loop .inv) (c .before .before .before .before .loop-test .taken) (c .before .before .before .end-at .result) (c .before .before .before .end-at .ensures) (c .after .result) (c .after .ensures) (rows-on (c .before .before .before .before .before .before .before .before .before .before .args .text .now) (c .before .before .before .before .before .loop .i) (c .before .before .before .before .before .loop .k) (c .before .before .before .end-at .result) (c .after .result) (c .before .before .before .before .before .loop .inv .rows) (c .before .before .before .before .loop-test .taken) (c .before .before .before .end-at .ensures) (c .after .ensures)) (c .before .before .byte-at .result) (c .before .before .byte-at .ensures) (eqb-true (c .before .before .byte-at .result) 0 (and-left (eqb (c .before .before .byte-at .result) 0) (not (c .before .before .before .before .before .loop .given)) (c .before .if1 .taken))) (not-true (c .before .before .before .before .before .loop .given) (and-right (eqb (c .before .before .byte-at .result) 0) (not (c .before .before .before .before .before .loop .given)) (c .before .if1 .taken)))
 
--- src/lib.rt:724:1
+-- src/lib.rt:711:43
+add-byte-at : tie.Need-add-byte-at Inv-loop μ-loop
+add-byte-at c = omega (arith, c .before .before .before .before .loop .inv .k≤, c .before .before .before .loop-test .taken)
+
+-- src/lib.rt:711:17
+byte-at-requires-2 : tie.Need-byte-at-requires-2 Inv-loop μ-loop
+byte-at-requires-2 c κs = search needs
+
+-- src/lib.rt:712:40
+cut-requires : tie.Need-cut-requires Inv-loop μ-loop
+cut-requires c κs = search needs
+
+-- src/lib.rt:712:17
+put-requires : tie.Need-put-requires Inv-loop μ-loop
+put-requires c κs = held-fits (c .before .before .before .before .before .before .before .loop .inv) (c .before .before .before .before .before .before .loop-test .taken) (c .before .before .before .before .before .end-at .result) (c .before .before .before .before .before .end-at .ensures) (min (c .before .before .before .before .before .end-at .result + 1) (length (c .before .before .before .before .before .before .before .before .before .before .before .before .args .text .now))) refl (rows-on (c .before .before .before .before .before .before .before .before .before .before .before .before .args .text .now) (c .before .before .before .before .before .before .before .loop .i) (c .before .before .before .before .before .before .before .loop .k) (c .before .before .before .before .before .end-at .result) (min (c .before .before .before .before .before .end-at .result + 1) (length (c .before .before .before .before .before .before .before .before .before .before .before .before .args .text .now))) (c .before .before .before .before .before .before .before .loop .inv .rows) (c .before .before .before .before .before .before .loop-test .taken) (c .before .before .before .before .before .end-at .ensures) refl) (c .before .before .before .before .byte-at .result) (c .before .before .before .before .byte-at .ensures) (c .before .before .byte-at2 .result) (c .before .before .byte-at2 .ensures) (part (c .before .before .before .before .before .before .before .loop .a) (c .before .before .before .before .before .before .before .loop .b) (c .before .before .before .before .before .before .before .before .before .before .before .before .args .text .now)) refl (c .cut .result .now) (c .cut .ensures)
+
+-- src/lib.rt:713:25
+sub-put-act : tie.Need-sub-put-act Inv-loop μ-loop
+sub-put-act c = omega arith
+
+-- src/lib.rt:713:25
+part-put-act-start : tie.Need-part-put-act-start Inv-loop μ-loop
+part-put-act-start c = omega arith
+
+-- src/lib.rt:713:25
+part-put-act-end : tie.Need-part-put-act-end Inv-loop μ-loop
+part-put-act-end c = omega (arith, find-le 10 (c .before .before .before .before .before .before .before .before .before .before .before .before .before .before .before .args .text .now) (c .before .before .before .before .before .before .before .before .before .before .loop .i) (c .before .before .before .before .before .before .before .before .end-at .result) (c .before .before .before .before .before .before .before .before .before .before .loop .inv .i≤) (c .before .before .before .before .before .before .before .before .end-at .ensures))
+
+-- src/lib.rt:713:38
+cut-requires-2 : tie.Need-cut-requires-2 Inv-loop μ-loop
+cut-requires-2 c κs = search needs
+
+-- src/lib.rt:713:13
+put-act-requires : tie.Need-put-act-requires Inv-loop μ-loop
+put-act-requires c κs = acts-fit (c .before .before .before .before .before .before .before .before .before .before .before .before .before .loop .inv) (c .before .before .before .before .before .before .before .before .before .before .before .before .loop-test .taken) (c .before .before .before .before .before .before .before .before .before .before .before .end-at .result) (c .before .before .before .before .before .before .before .before .before .before .before .end-at .ensures) (min (c .before .before .before .before .before .before .before .before .before .before .before .end-at .result + 1) (length (c .before .before .before .before .before .before .before .before .before .before .before .before .before .before .before .before .before .before .args .text .now))) refl (rows-on (c .before .before .before .before .before .before .before .before .before .before .before .before .before .before .before .before .before .before .args .text .now) (c .before .before .before .before .before .before .before .before .before .before .before .before .before .loop .i) (c .before .before .before .before .before .before .before .before .before .before .before .before .before .loop .k) (c .before .before .before .before .before .before .before .before .before .before .before .end-at .result) (min (c .before .before .before .before .before .before .before .before .before .before .before .end-at .result + 1) (length (c .before .before .before .before .before .before .before .before .before .before .before .before .before .before .before .before .before .before .args .text .now))) (c .before .before .before .before .before .before .before .before .before .before .before .before .before .loop .inv .rows) (c .before .before .before .before .before .before .before .before .before .before .before .before .loop-test .taken) (c .before .before .before .before .before .before .before .before .before .before .before .end-at .ensures) refl) (c .before .before .before .before .before .before .before .before .before .before .byte-at .result) (c .before .before .before .before .before .before .before .before .before .before .byte-at .ensures) (c .before .before .before .before .before .before .before .before .byte-at2 .result) (c .before .before .before .before .before .before .before .before .byte-at2 .ensures) (c .before .cut2 .result .now) (c .before .cut2 .ensures) (c .before .before .before .before .before .before .cut .result .now) (c .before .before .before .before .before .before .cut .ensures) (c .before .before .before .before .before .put .ensures)
+
+-- src/lib.rt:717:13
+add-k-2 : tie.Need-add-k-2 Inv-loop μ-loop
+add-k-2 c = omega (arith, c .before .before .before .before .before .before .before .before .before .before .before .before .before .before .before .before .loop .inv .k≤, c .before .before .before .before .before .before .before .before .before .before .before .before .before .before .before .loop-test .taken)
+
+-- src/lib.rt:718:13
+after-requires-2 : tie.Need-after-requires-2 Inv-loop μ-loop
+after-requires-2 c κs = search needs
+
+-- src/lib.rt:704:5
+loop-less-2 : tie.Need-loop-less-2 Inv-loop μ-loop
+loop-less-2 c = omega (arith, c .after2 .ensures, c .before .before .before .before .before .before .before .before .before .before .before .before .before .before .before .end-at .ensures, c .before .before .before .before .before .before .before .before .before .before .before .before .before .before .before .before .loop-test .taken)
+
+-- src/lib.rt:704:5
+loop-again-2 : tie.Need-loop-again-2 Inv-loop μ-loop
+loop-again-2 c = acts-go (c .before .before .before .before .before .before .before .before .before .before .before .before .before .before .before .before .before .loop .inv) (c .before .before .before .before .before .before .before .before .before .before .before .before .before .before .before .before .loop-test .taken) (c .before .before .before .before .before .before .before .before .before .before .before .before .before .before .before .end-at .result) (c .before .before .before .before .before .before .before .before .before .before .before .before .before .before .before .end-at .ensures) (c .after2 .result) (c .after2 .ensures) (rows-on (c .before .before .before .before .before .before .before .before .before .before .before .before .before .before .before .before .before .before .before .before .before .before .args .text .now) (c .before .before .before .before .before .before .before .before .before .before .before .before .before .before .before .before .before .loop .i) (c .before .before .before .before .before .before .before .before .before .before .before .before .before .before .before .before .before .loop .k) (c .before .before .before .before .before .before .before .before .before .before .before .before .before .before .before .end-at .result) (c .after2 .result) (c .before .before .before .before .before .before .before .before .before .before .before .before .before .before .before .before .before .loop .inv .rows) (c .before .before .before .before .before .before .before .before .before .before .before .before .before .before .before .before .loop-test .taken) (c .before .before .before .before .before .before .before .before .before .before .before .before .before .before .before .end-at .ensures) (c .after2 .ensures)) (c .before .before .before .before .before .before .before .before .before .before .before .before .before .before .byte-at .result) (c .before .before .before .before .before .before .before .before .before .before .before .before .before .before .byte-at .ensures) (c .before .before .before .before .before .before .before .before .before .before .before .before .byte-at2 .result) (c .before .before .before .before .before .before .before .before .before .before .before .before .byte-at2 .ensures) (c .before .before .before .before .before .cut2 .result .now) (c .before .before .before .before .before .cut2 .ensures) (c .before .before .before .before .before .before .before .before .before .before .cut .result .now) (c .before .before .before .before .before .before .before .before .before .before .cut .ensures) (c .before .before .before .before .before .before .before .before .before .put .ensures) (c .before .before .before .put-act .ensures)
+
+-- src/lib.rt:722:22
+cut-requires-3 : tie.Need-cut-requires-3 Inv-loop μ-loop
+cut-requires-3 c κs = search needs
+
+-- src/lib.rt:722:5
+put-lines-requires : tie.Need-put-lines-requires Inv-loop μ-loop
+put-lines-requires c κs = last-fits (c .before .before .before .loop .inv) (c .before .before .loop-test .left) (c .before .cut3 .result .now) (c .before .cut3 .ensures)
+
+-- src/lib.rt:693:1
 same-length : tie.Need-same-length Inv-loop μ-loop
-same-length c = writing-length (c .before .loop .inv .1 .1 .1)
+same-length c = c .before .before .put-lines .kept .1 .0 ∙ writing-length (c .before .before .before .before .before .before .loop .inv .writing)
 
--- src/lib.rt:724:1
+-- src/lib.rt:693:1
 returns : tie.Need-returns Inv-loop μ-loop
-returns c = let l = c .before .loop in let s = c .before .before .before .before .before .before .args in writing-end (writing-as (come-end (s .text .now) (s .marks .now) (l .i) (l .k) (l .given) (part (l .a) (l .b) (s .text .now)) (c .loop-test .left)) (l .inv .1 .1 .1))
+returns c = acts-end (c .before .before .before .before .before .before .loop .inv) (c .before .before .before .before .before .loop-test .left) (c .before .before .before .before .cut3 .result .now) (c .before .before .before .before .cut3 .ensures) (c .before .before .put-lines .ensures)
 
 pub put-acts-spec : {M : Type 1} → statement M
 put-acts-spec =
@@ -109,16 +135,24 @@ put-acts-spec =
     loop-holds
     end-at-requires
     byte-at-requires
-    add-byte-at
-    byte-at-requires-2
-    sub-put-act
-    part-put-act-start
-    part-put-act-end
-    cut-requires
-    put-act-requires
     add-k
     after-requires
     loop-less
     loop-again
+    add-byte-at
+    byte-at-requires-2
+    cut-requires
+    put-requires
+    sub-put-act
+    part-put-act-start
+    part-put-act-end
+    cut-requires-2
+    put-act-requires
+    add-k-2
+    after-requires-2
+    loop-less-2
+    loop-again-2
+    cut-requires-3
+    put-lines-requires
     same-length
     returns)

@@ -1,79 +1,68 @@
-use Prim.Native.Nat.{_+_, _-_, _≤_}
-use native.Mathlib.Omega.{arith}
+use mathlib.Core.Path.{_∙_}
+use Rattle.lines.proofs.Tests.{so}
+use Rattle.parse.proofs.PlainLine.{decl-other, plain-test, parse-other, parse-let}
 use borrow.Author.Needs.{needs}
-use mathlib.Core.Path.{_≡_, refl, sym, ap, _∙_}
-use lib.ListN.{length, drop, take, length-take, length-drop}
-use Rattle.text.specs.Trim.{toEnd}
-use Rattle.text.proofs.Trims.{toEnd-le}
-use Rattle.parse.proofs.ParseLaws.{parse-decl, parse-rest}
 use Rattle.parse.proofs.parse.Statement.{statement}
 use Rattle.parse.proofs.parse.Tie as tie
 use Rattle.parse.proofs.parse.Reads as reads
 use Rattle.parse.proofs.parse.Lts as lts
-use Rattle.text.proofs.trim_span.Reads as trim-span-reads
-use Rattle.parse.proofs.is_decl.Reads as is-decl-reads
-use Rattle.parse.proofs.store_in.Reads as store-in-reads
+use Rattle.lines.proofs.byte_at.Reads as byte-at-reads
+use Rattle.parse.proofs.declares_at.Reads as declares-at-reads
+use Rattle.parse.proofs.parse_any.Reads as parse-any-reads
+use Rattle.parse.proofs.parse_store.Reads as parse-store-reads
+use Rattle.text.proofs.trim_from.Reads as trim-from-reads
 
--- src/lib.rt:151:9
-trim-span-requires : tie.Need-trim-span-requires
-trim-span-requires c κs = search needs
+-- src/lib.rt:241:9
+trim-from-requires : tie.Need-trim-from-requires
+trim-from-requires c κs = search needs
 
--- src/lib.rt:154:16
-sub-is-decl : tie.Need-sub-is-decl
-sub-is-decl c = omega (arith, c .trim-span .ensures .0, c .trim-span .ensures .1)
+-- src/lib.rt:242:9
+byte-at-requires : tie.Need-byte-at-requires
+byte-at-requires c κs = search needs
 
--- src/lib.rt:154:16
-part-is-decl-start : tie.Need-part-is-decl-start
-part-is-decl-start c = omega (arith, c .trim-span .ensures .0, c .trim-span .ensures .1)
+-- src/lib.rt:244:9
+parse-store-requires : tie.Need-parse-store-requires
+parse-store-requires c κs = search needs
 
--- src/lib.rt:154:16
-part-is-decl-end : tie.Need-part-is-decl-end
-part-is-decl-end c = let h : toEnd (c .before .before .args .line .now) ≤ length (c .before .before .args .line .now) = toEnd-le (c .before .before .args .line .now) in omega (arith, c .trim-span .ensures .1)
-
--- src/lib.rt:154:8
-is-decl-requires : tie.Need-is-decl-requires
-is-decl-requires c κs = search needs
-
--- src/lib.rt:155:9
+-- src/lib.rt:244:9
 returns : tie.Need-returns
-returns c = let w = c .before .before .before .trim-span in parse-decl (c .before .before .before .before .before .args .line .now) _ _ (w .ensures .0) (w .ensures .1) (sym (c .before .is-decl .ensures) ∙ c .if1 .taken)
+returns c = search needs
 
--- src/lib.rt:157:14
-sub-store-in : tie.Need-sub-store-in
-sub-store-in c = let w = c .before .before .before .trim-span in omega (arith, w .ensures .0, w .ensures .1)
+-- src/lib.rt:247:9
+parse-any-requires : tie.Need-parse-any-requires
+parse-any-requires c κs = search needs
 
--- src/lib.rt:157:14
-part-store-in-start : tie.Need-part-store-in-start
-part-store-in-start c = let w = c .before .before .before .trim-span in omega (arith, w .ensures .0, w .ensures .1)
-
--- src/lib.rt:157:14
-part-store-in-end : tie.Need-part-store-in-end
-part-store-in-end c = let w = c .before .before .before .trim-span in let h : toEnd (c .before .before .before .before .before .args .line .now) ≤ length (c .before .before .before .before .before .args .line .now) = toEnd-le (c .before .before .before .before .before .args .line .now) in omega (arith, w .ensures .1)
-
--- src/lib.rt:157:5
-store-in-requires : tie.Need-store-in-requires
-store-in-requires c κs =
-    let w = c .before .before .before .before .trim-span in
-    let l = c .before .before .before .before .before .before .args .line .now in
-    let h : toEnd l ≤ length l = toEnd-le l in
-    omega (arith, w .ensures .0, w .ensures .1, length-take (w .result .to - w .result .from) (drop (w .result .from) l))
-
--- src/lib.rt:148:1
+-- src/lib.rt:247:9
 returns-2 : tie.Need-returns-2
-returns-2 c = let w = c .before .before .before .before .before .trim-span in parse-rest (c .before .before .before .before .before .before .before .args .line .now) _ _ (w .ensures .0) (w .ensures .1) (sym (c .before .before .before .is-decl .ensures) ∙ c .before .before .if1 .left) (c .store-in .result) (c .store-in .ensures)
+returns-2 c = search needs
+
+-- src/lib.rt:250:9
+returns-3 : tie.Need-returns-3
+returns-3 c = parse-other (c .before .before .before .byte-at .result) (plain-test (c .before .before .before .byte-at .result) (c .before .if2 .left)) (c .before .before .if1 .left) (c .before .before .before .before .before .before .args .line .now) (c .before .before .before .before .trim-from .result) (c .before .before .before .before .trim-from .ensures) (c .before .before .before .byte-at .ensures) (decl-other (c .before .before .before .before .before .before .args .line .now) (c .before .before .before .before .trim-from .result) (c .before .before .before .before .trim-from .ensures) (λ z. c .if3 .taken (c .before .before .before .byte-at .ensures ∙ z)))
+
+-- src/lib.rt:252:8
+declares-at-requires : tie.Need-declares-at-requires
+declares-at-requires c κs = search needs
+
+-- src/lib.rt:253:9
+returns-4 : tie.Need-returns-4
+returns-4 c = parse-let (c .before .before .before .before .before .before .before .before .args .line .now) (so (c .before .declares-at .ensures) (c .if4 .taken))
+
+-- src/lib.rt:238:1
+returns-5 : tie.Need-returns-5
+returns-5 c = parse-other (c .before .before .before .before .before .byte-at .result) (plain-test (c .before .before .before .before .before .byte-at .result) (c .before .before .before .if2 .left)) (c .before .before .before .before .if1 .left) (c .before .before .before .before .before .before .before .before .args .line .now) (c .before .before .before .before .before .before .trim-from .result) (c .before .before .before .before .before .before .trim-from .ensures) (c .before .before .before .before .before .byte-at .ensures) (so (c .before .declares-at .ensures) (c .if4 .left))
 
 pub parse-spec : {M : Type 1} → statement M
 parse-spec =
     tie.close
     (tie.spec
-    trim-span-requires
-    sub-is-decl
-    part-is-decl-start
-    part-is-decl-end
-    is-decl-requires
+    trim-from-requires
+    byte-at-requires
+    parse-store-requires
     returns
-    sub-store-in
-    part-store-in-start
-    part-store-in-end
-    store-in-requires
-    returns-2)
+    parse-any-requires
+    returns-2
+    returns-3
+    declares-at-requires
+    returns-4
+    returns-5)

@@ -26,8 +26,8 @@ run-end-requires c κs = search needs
 cut-requires : tie.Need-cut-requires Inv-loop μ-loop
 cut-requires c κs = search needs
 
-is-reg-requires : tie.Need-is-reg-requires Inv-loop μ-loop
-is-reg-requires c κs = search needs
+names-reg-requires : tie.Need-names-reg-requires Inv-loop μ-loop
+names-reg-requires c κs = search needs
 
 one-if-requires : tie.Need-one-if-requires Inv-loop μ-loop
 one-if-requires c κs = search needs
@@ -36,7 +36,7 @@ add-n : tie.Need-add-n Inv-loop μ-loop
 add-n c =
     let a = c .before .before .before .before .before .before .before .before .args in
     let l = c .before .before .before .before .before .loop in
-    let k = count-small (λ (r : List ℕ). regIs (a .reg .0) (regOf r)) (a .s .now) (l .inv) (c .before .before .before .before .loop-test .taken) _ (c .before .before .before .run-end .ensures) _ (c .before .before .cut .ensures) _ (c .before .is-reg .ensures) _ (c .one-if .ensures) in
+    let k = count-small (λ (r : List ℕ). regIs (a .reg .0) (regOf r)) (a .s .now) (l .inv) (c .before .before .before .before .loop-test .taken) _ (c .before .before .before .run-end .ensures) _ (c .before .before .cut .ensures) _ (c .before .names-reg .ensures) _ (c .one-if .ensures) in
     omega (arith, k, l .inv .n≤, c .before .before .before .before .loop-test .taken)
 
 run-start-requires-2 : tie.Need-run-start-requires-2 Inv-loop μ-loop
@@ -46,14 +46,14 @@ loop-less : tie.Need-loop-less Inv-loop μ-loop
 loop-less c =
     let a = c .before .before .before .before .before .before .before .before .before .args in
     let l = c .before .before .before .before .before .before .loop in
-    let k = count-less (λ (r : List ℕ). regIs (a .reg .0) (regOf r)) (a .s .now) (l .inv) (c .before .before .before .before .before .loop-test .taken) _ (c .before .before .before .before .run-end .ensures) _ (c .before .before .before .cut .ensures) _ (c .before .before .is-reg .ensures) _ (c .before .one-if .ensures) _ (c .run-start2 .ensures) in
+    let k = count-less (λ (r : List ℕ). regIs (a .reg .0) (regOf r)) (a .s .now) (l .inv) (c .before .before .before .before .before .loop-test .taken) _ (c .before .before .before .before .run-end .ensures) _ (c .before .before .before .cut .ensures) _ (c .before .before .names-reg .ensures) _ (c .before .one-if .ensures) _ (c .run-start2 .ensures) in
     omega (arith, k, c .before .before .before .before .before .loop-test .taken)
 
 loop-again : tie.Need-loop-again Inv-loop μ-loop
 loop-again c =
     let a = c .before .before .before .before .before .before .before .before .before .args in
     let l = c .before .before .before .before .before .before .loop in
-    count-next (λ (r : List ℕ). regIs (a .reg .0) (regOf r)) (a .s .now) (l .inv) (c .before .before .before .before .before .loop-test .taken) _ (c .before .before .before .before .run-end .ensures) _ (c .before .before .before .cut .ensures) _ (c .before .before .is-reg .ensures) _ (c .before .one-if .ensures) _ (c .run-start2 .ensures)
+    count-next (λ (r : List ℕ). regIs (a .reg .0) (regOf r)) (a .s .now) (l .inv) (c .before .before .before .before .before .loop-test .taken) _ (c .before .before .before .before .run-end .ensures) _ (c .before .before .before .cut .ensures) _ (c .before .before .names-reg .ensures) _ (c .before .one-if .ensures) _ (c .run-start2 .ensures)
 
 returns : tie.Need-returns Inv-loop μ-loop
 returns c = let a = c .before .before .before .before .args in count-end (λ (r : List ℕ). regIs (a .reg .0) (regOf r)) (a .s .now) (c .before .loop .inv) (c .loop-test .left)
@@ -68,7 +68,7 @@ count-reg-spec =
     loop-holds
     run-end-requires
     cut-requires
-    is-reg-requires
+    names-reg-requires
     one-if-requires
     add-n
     run-start-requires-2

@@ -1,58 +1,71 @@
--- `decls::seen::mark_at` meets its contract. Assumes nothing.
-use Prim.Native.Nat.{ℕ}
+use Prim.Native.Nat.{ℕ, _+_}
 use native.Mathlib.Omega.{arith}
-use borrow.Author.Needs.{needs}
 use mathlib.Core.Path.{sym, ap, _∙_}
-use Rattle.decls.specs.Seen.{nameBefore}
-use Rattle.decls.proofs.MarkRuns.{before-is, mark-held, mark-free}
+use lib.ListN.{getD}
+use Rattle.text.specs.Class.{isName}
+use Rattle.names.specs.Names.{isDigit}
+use Rattle.parse.proofs.Plain.{inside, digit-test}
+use Rattle.decls.proofs.MarkRuns.{run-other, run-bare, digit-name, mark-none, mark-held, mark-free}
+use borrow.Author.Needs.{needs}
 use Rattle.decls.proofs.seen.mark_at.Statement.{statement}
 use Rattle.decls.proofs.seen.mark_at.Tie as tie
+use Rattle.decls.proofs.seen.mark_at.Reads as reads
+use Rattle.decls.proofs.seen.mark_at.Lts as lts
+use Rattle.decls.proofs.seen.mark_run.Reads as mark-run-reads
+use Rattle.decls.proofs.seen.name_before.Reads as name-before-reads
+use Rattle.lines.proofs.byte_at.Reads as byte-at-reads
 
-mark-run-requires : tie.Need-mark-run-requires
-mark-run-requires c κs = search needs
-
-same-length : tie.Need-same-length
-same-length c = search needs
-
-returns : tie.Need-returns
-returns c = let a = c .before .before .before .before .before .before .before .args in mark-free (a .m) (a .s .now) (a .seen .now) (a .i) _ (ap (λ (n : ℕ). nameBefore n (a .s .now)) (c .before .before .before .before .if1 .taken)) (c .before .before .mark-run .ensures)
-
-sub-byte-at : tie.Need-sub-byte-at
-sub-byte-at c = omega arith
-
+-- src/seen.rt:68:8
 byte-at-requires : tie.Need-byte-at-requires
 byte-at-requires c κs = search needs
 
-is-name-byte-requires : tie.Need-is-name-byte-requires
-is-name-byte-requires c κs = search needs
+-- src/seen.rt:69:9
+returns : tie.Need-returns
+returns c = let a = c .before .before .before .before .args in mark-none (a .m) (a .s .now) (a .seen .now) (a .i) (run-other (a .s .now) (a .i) (λ z. c .if1 .taken (c .before .byte-at .ensures ∙ z)))
 
+-- src/seen.rt:71:31
+add-byte-at : tie.Need-add-byte-at
+add-byte-at c = let a = c .before .before .before .before .args in omega (arith, inside (a .s .now) (a .i) (λ z. absurd (omega (arith, c .before .byte-at .ensures, c .if1 .left))))
+
+-- src/seen.rt:71:9
+byte-at-requires-2 : tie.Need-byte-at-requires-2
+byte-at-requires-2 c κs = search needs
+
+-- src/seen.rt:73:9
 returns-2 : tie.Need-returns-2
-returns-2 c = let a = c .before .before .before .before .before .before .args in mark-held (a .m) (a .s .now) (a .seen .now) (a .i) (before-is (a .s .now) (a .i) (c .before .before .byte-at .result) (c .before .before .before .if1 .left) (c .before .before .byte-at .ensures) ∙ sym (c .before .is-name-byte .ensures) ∙ c .if2 .taken)
+returns-2 c = let a = c .before .before .before .before .before .before .args in mark-none (a .m) (a .s .now) (a .seen .now) (a .i) (run-bare (a .s .now) (a .i) (sym (c .before .before .before .byte-at .ensures) ∙ c .before .before .if1 .left) (ap (λ (x : ℕ). isDigit x) (sym (c .before .byte-at2 .ensures)) ∙ digit-test (c .before .byte-at2 .result) _ (c .if2 .taken)))
 
-mark-run-requires-2 : tie.Need-mark-run-requires-2
-mark-run-requires-2 c κs = search needs
+-- src/seen.rt:75:8
+name-before-requires : tie.Need-name-before-requires
+name-before-requires c κs = search needs
 
-same-length-2 : tie.Need-same-length-2
-same-length-2 c = search needs
-
+-- src/seen.rt:76:9
 returns-3 : tie.Need-returns-3
-returns-3 c =
-    let a = c .before .before .before .before .before .before .before .before .before .before .args in
-    mark-free (a .m) (a .s .now) (a .seen .now) (a .i) _
-    (before-is (a .s .now) (a .i) (c .before .before .before .before .before .before .byte-at .result) (c .before .before .before .before .before .before .before .if1 .left) (c .before .before .before .before .before .before .byte-at .ensures) ∙ sym (c .before .before .before .before .before .is-name-byte .ensures) ∙ c .before .before .before .before .if2 .left)
-    (c .before .before .mark-run2 .ensures)
+returns-3 c = let a = c .before .before .before .before .before .before .before .before .args in mark-held (a .m) (a .s .now) (a .seen .now) (a .i) (sym (c .before .name-before .ensures) ∙ c .if3 .taken)
+
+-- src/seen.rt:78:5
+mark-run-requires : tie.Need-mark-run-requires
+mark-run-requires c κs = (ap (λ (x : ℕ). isName x) (sym (c .before .before .before .before .before .before .byte-at .ensures) ∙ c .before .before .before .before .before .if1 .left), digit-name (getD (c .before .before .before .before .before .before .before .before .before .args .s .now) (c .before .before .before .before .before .before .before .before .before .args .i + 1) 0) (ap (λ (x : ℕ). isDigit x) (sym (c .before .before .before .before .byte-at2 .ensures)) ∙ digit-test (c .before .before .before .before .byte-at2 .result) _ (c .before .before .before .if2 .left)))
+
+-- src/seen.rt:65:1
+same-length : tie.Need-same-length
+same-length c = search needs
+
+-- src/seen.rt:65:1
+returns-4 : tie.Need-returns-4
+returns-4 c = let a = c .before .before .before .before .before .before .before .before .before .before .before .before .args in mark-free (a .m) (a .s .now) (a .seen .now) (a .i) _ (sym (c .before .before .before .before .before .name-before .ensures) ∙ c .before .before .before .before .if3 .left) (c .before .before .mark-run .ensures)
 
 pub mark-at-spec : {M : Type 1} → statement M
 mark-at-spec =
     tie.close
     (tie.spec
+    byte-at-requires
+    returns
+    add-byte-at
+    byte-at-requires-2
+    returns-2
+    name-before-requires
+    returns-3
     mark-run-requires
     same-length
-    returns
-    sub-byte-at
-    byte-at-requires
-    is-name-byte-requires
-    returns-2
-    mark-run-requires-2
-    same-length-2
-    returns-3)
+    returns-4)

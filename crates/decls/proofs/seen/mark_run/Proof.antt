@@ -10,7 +10,7 @@ use Rattle.names.specs.Names.{regOf}
 use Rattle.words.specs.Runs.{runLen}
 use Rattle.words.proofs.RunLaws.{up-here, up-on, up-end}
 use Rattle.decls.specs.Seen.{runAt, markName}
-use Rattle.decls.proofs.MarkRuns.{run-cut}
+use Rattle.decls.proofs.MarkRuns.{name-inside, run-two, run-cut}
 use Rattle.decls.proofs.seen.mark_run.Statement.{statement}
 use Rattle.decls.proofs.seen.mark_run.Tie as tie
 use Rattle.decls.proofs.seen.mark_run.Reads as reads
@@ -25,9 +25,13 @@ Inv-loop s i m seen₀ j₀ seen j = (seen ≡ seen₀) × (j + runLen (drop j s
 abbrev μ-loop : tie.MeasureT-loop
 μ-loop s i m seen₀ j₀ seen j = length s - j
 
+-- src/seen.rt:43:17
+add-j : tie.Need-add-j Inv-loop μ-loop
+add-j c = let a = c .before .before .args in omega (arith, name-inside (a .s .now) (a .i + 1) (c .before .before .pre .1))
+
 -- src/seen.rt:42:5
 loop-holds : tie.Need-loop-holds Inv-loop μ-loop
-loop-holds c = (refl, refl)
+loop-holds c = let a = c .before .before .args in (refl, run-two (a .s .now) (a .i) (c .before .before .pre .0) (c .before .before .pre .1))
 
 -- src/seen.rt:43:32
 shared-slice-read-is-name-byte : tie.Need-shared-slice-read-is-name-byte Inv-loop μ-loop
@@ -60,8 +64,8 @@ returns c =
     ∙ ap (markName (a .m) (regOf (runAt (a .i) (a .s .now)))) (l .inv .0)
 
 -- src/seen.rt:47:9
-add-j : tie.Need-add-j Inv-loop μ-loop
-add-j c = omega arith
+add-j-2 : tie.Need-add-j-2 Inv-loop μ-loop
+add-j-2 c = omega arith
 
 -- src/seen.rt:42:5
 loop-less : tie.Need-loop-less Inv-loop μ-loop
@@ -99,6 +103,7 @@ mark-run-spec =
     (tie.spec
     Inv-loop
     μ-loop
+    add-j
     loop-holds
     shared-slice-read-is-name-byte
     is-name-byte-requires
@@ -106,7 +111,7 @@ mark-run-spec =
     mark-name-requires
     same-length
     returns
-    add-j
+    add-j-2
     loop-less
     loop-again
     cut-requires-2

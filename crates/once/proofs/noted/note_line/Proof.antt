@@ -3,7 +3,7 @@ use Prim.Native.Nat.{ℕ}
 use mathlib.Core.Path.{ap, _∙_}
 use mathlib.Core.List.{List}
 use Rattle.words.specs.Runs.{runs}
-use Rattle.once.specs.Noted.{readRuns, addRuns}
+use Rattle.once.specs.Noted.{readRuns}
 use Rattle.once.proofs.noted.note_line.Statement.{statement}
 use Rattle.once.proofs.noted.note_line.Tie as tie
 use Rattle.once.proofs.noted.note_line.Reads as reads
@@ -44,9 +44,7 @@ same-length-4 c = search needs
 returns : tie.Need-returns
 returns c =
     let a = c .before .before .before .before .before .before .before .before .before .before .before .before .before .before .before .before .before .before .before .before .args in
-    let t = c .before .before .before .before .before .before .before .before .before .before .text-of .ensures in
-    let r = c .before .before .before .before .before .before .note-runs .ensures in
-    (r .0 ∙ ap (λ (x : List ℕ). readRuns (a .m) (runs x) (a .near .now, a .far .now)) t, (c .before .before .before .before .before .before .before .before .before .before .before .before .before .note-store .ensures, r .1 ∙ ap (λ (x : List ℕ). addRuns (runs x) (a .reads .now)) t))
+    (c .before .before .before .before .before .before .note-runs .ensures ∙ ap (λ (x : List ℕ). readRuns (a .n) (a .h) (a .m) (runs x) (a .near .now, (a .far .now, a .notes .now))) (c .before .before .before .before .before .before .before .before .before .before .text-of .ensures), c .before .before .before .before .before .before .before .before .before .before .before .before .before .note-store .ensures)
 
 pub note-line-spec : {M : Type 1} → statement M
 note-line-spec =

@@ -1,11 +1,9 @@
 use borrow.Author.Needs.{needs}
 use Prim.Native.Nat.{_-_}
 use native.Mathlib.Omega.{arith}
-use mathlib.Core.Path.{sym, ap, _∙_}
+use mathlib.Core.Path.{sym, _∙_}
 use lib.ListN.{length}
-use Rattle.names.specs.Names.{regOf}
-use Rattle.once.proofs.NotedLaws.{AddsInv, add-length, adds-start, adds-name, adds-gap, adds-end}
-use Rattle.once.proofs.NoteFills.{ReadsInv, reads-start, reads-name, reads-gap, reads-end, reads-long, reads-wide}
+use Rattle.once.proofs.NoteFills.{ReadsInv, reads-start, reads-name, reads-gap, reads-end, reads-long, reads-wide, reads-tall}
 use Rattle.once.proofs.noted.note_runs.Statement.{statement}
 use Rattle.once.proofs.noted.note_runs.Tie as tie
 use Rattle.once.proofs.noted.note_runs.Reads as reads
@@ -15,14 +13,14 @@ use Rattle.once.proofs.noted.note_name.Reads as note-name-reads
 use Rattle.text.proofs.is_name_byte.Reads as is-name-byte-reads
 
 abbrev Inv-loop : tie.InvT-loop
-Inv-loop s m near₀ far₀ reads₀ a₀ i₀ near far reads a i = ReadsInv m s near₀ far₀ near far a i × AddsInv s reads₀ reads a i
+Inv-loop s m h n near₀ far₀ notes₀ a₀ i₀ near far notes a i = ReadsInv n h m s (near₀, (far₀, notes₀)) (near, (far, notes)) a i
 
 abbrev μ-loop : tie.MeasureT-loop
-μ-loop s m near₀ far₀ reads₀ a₀ i₀ near far reads a i = length s - i
+μ-loop s m h n near₀ far₀ notes₀ a₀ i₀ near far notes a i = length s - i
 
 -- src/noted.rt:90:5
 loop-holds : tie.Need-loop-holds Inv-loop μ-loop
-loop-holds c = let a = c .before .before .before .before .args in (reads-start (a .m) (a .s .now) (a .near .now) (a .far .now), adds-start (a .s .now) (a .reads .now))
+loop-holds c = let a = c .before .before .before .before .args in reads-start (a .n) (a .h) (a .m) (a .s .now) (a .near .now, (a .far .now, a .notes .now))
 
 -- src/noted.rt:91:31
 shared-slice-read-is-name-byte : tie.Need-shared-slice-read-is-name-byte Inv-loop μ-loop
@@ -42,10 +40,7 @@ loop-less c = omega arith
 
 -- src/noted.rt:90:5
 loop-again : tie.Need-loop-again Inv-loop μ-loop
-loop-again c =
-    let l = c .before .before .before .before .loop in
-    let g = sym (c .before .is-name-byte .ensures) ∙ c .if1 .taken in
-    (reads-name (l .inv .0) (c .before .before .before .loop-test .taken) g, adds-name (l .inv .1) (c .before .before .before .loop-test .taken) g)
+loop-again c = reads-name (c .before .before .before .before .loop .inv) (c .before .before .before .loop-test .taken) (sym (c .before .is-name-byte .ensures) ∙ c .if1 .taken)
 
 -- src/noted.rt:94:23
 cut-requires : tie.Need-cut-requires Inv-loop μ-loop
@@ -65,13 +60,7 @@ loop-less-2 c = omega arith
 
 -- src/noted.rt:90:5
 loop-again-2 : tie.Need-loop-again-2 Inv-loop μ-loop
-loop-again-2 c =
-    let l = c .before .before .before .before .before .before .before .before .before .before .before .before .before .before .before .loop in
-    let t = c .before .before .before .before .before .before .before .before .before .before .before .before .before .before .loop-test .taken in
-    let g = sym (c .before .before .before .before .before .before .before .before .before .before .before .before .is-name-byte .ensures) ∙ c .before .before .before .before .before .before .before .before .before .before .before .if1 .left in
-    let w = c .before .before .before .before .before .before .before .before .before .before .cut in
-    let n = c .before .before .before .before .before .before .note-name .ensures in
-    (reads-gap (l .inv .0) (w .result .now) _ _ (n .0) (n .1 .0) t g (w .ensures), adds-gap (l .inv .1) t g (w .result .now) _ (w .ensures) (n .1 .1))
+loop-again-2 c = reads-gap (c .before .before .before .before .before .before .before .before .before .before .before .before .before .before .before .loop .inv) (c .before .before .before .before .before .before .before .before .before .before .cut .result .now) _ (let e = c .before .before .before .before .before .before .note-name .ensures in rw (e .0, e .1 .0, e .1 .1)) (c .before .before .before .before .before .before .before .before .before .before .before .before .before .before .loop-test .taken) (sym (c .before .before .before .before .before .before .before .before .before .before .before .before .is-name-byte .ensures) ∙ c .before .before .before .before .before .before .before .before .before .before .before .if1 .left) (c .before .before .before .before .before .before .before .before .before .before .cut .ensures)
 
 -- src/noted.rt:99:15
 cut-requires-2 : tie.Need-cut-requires-2 Inv-loop μ-loop
@@ -83,23 +72,19 @@ note-name-requires-2 c κs = search needs
 
 -- src/noted.rt:84:1
 same-length : tie.Need-same-length Inv-loop μ-loop
-same-length c = let n = c .before .before .before .before .before .before .note-name2 .ensures in reads-long (c .before .before .before .before .before .before .before .before .before .before .before .before .loop .inv .0) (c .before .before .before .before .before .before .before .before .before .before .cut2 .result .now) _ _ (n .0) (n .1 .0)
+same-length c = reads-long (c .before .before .before .before .before .before .before .before .before .before .before .before .loop .inv) (c .before .before .before .before .before .before .before .before .before .before .cut2 .result .now) _ (c .before .before .before .before .before .before .note-name2 .ensures .0)
 
 -- src/noted.rt:84:1
 same-length-2 : tie.Need-same-length-2 Inv-loop μ-loop
-same-length-2 c = let n = c .before .before .before .before .before .before .note-name2 .ensures in reads-wide (c .before .before .before .before .before .before .before .before .before .before .before .before .loop .inv .0) (c .before .before .before .before .before .before .before .before .before .before .cut2 .result .now) _ _ (n .0) (n .1 .0)
+same-length-2 c = reads-wide (c .before .before .before .before .before .before .before .before .before .before .before .before .loop .inv) (c .before .before .before .before .before .before .before .before .before .before .cut2 .result .now) _ (c .before .before .before .before .before .before .note-name2 .ensures .1 .0)
 
 -- src/noted.rt:84:1
 same-length-3 : tie.Need-same-length-3 Inv-loop μ-loop
-same-length-3 c = ap length (c .before .before .before .before .before .before .note-name2 .ensures .1 .1) ∙ add-length (regOf (c .before .before .before .before .before .before .before .before .before .before .cut2 .result .now)) (c .before .before .before .before .before .before .before .before .before .before .before .before .loop .reads) ∙ c .before .before .before .before .before .before .before .before .before .before .before .before .loop .inv .1 .long
+same-length-3 c = reads-tall (c .before .before .before .before .before .before .before .before .before .before .before .before .loop .inv) (c .before .before .before .before .before .before .before .before .before .before .cut2 .result .now) _ (c .before .before .before .before .before .before .note-name2 .ensures .1 .1)
 
 -- src/noted.rt:84:1
 returns : tie.Need-returns Inv-loop μ-loop
-returns c =
-    let l = c .before .before .before .before .before .before .before .before .before .before .before .before .loop in
-    let w = c .before .before .before .before .before .before .before .before .before .before .cut2 in
-    let n = c .before .before .before .before .before .before .note-name2 .ensures in
-    (reads-end (l .inv .0) (w .result .now) _ _ (n .0) (n .1 .0) (c .before .before .before .before .before .before .before .before .before .before .before .loop-test .left) (w .ensures), adds-end (l .inv .1) (c .before .before .before .before .before .before .before .before .before .before .before .loop-test .left) (w .result .now) _ (w .ensures) (n .1 .1))
+returns c = reads-end (c .before .before .before .before .before .before .before .before .before .before .before .before .loop .inv) (c .before .before .before .before .before .before .before .before .before .before .cut2 .result .now) _ (let e = c .before .before .before .before .before .before .note-name2 .ensures in rw (e .0, e .1 .0, e .1 .1)) (c .before .before .before .before .before .before .before .before .before .before .before .loop-test .left) (c .before .before .before .before .before .before .before .before .before .before .cut2 .ensures)
 
 pub note-runs-spec : {M : Type 1} → statement M
 note-runs-spec =
