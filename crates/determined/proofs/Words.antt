@@ -4,6 +4,12 @@ use Rattle.lines.proofs.OutLaws.{wrote-once}
 use Rattle.words.proofs as words
 use Rattle.determined.proofs.Outcomes.{Determined, fixed}
 
+pub run-end-fixed : Determined words.run_end.ended (λ κs z. z) words.run_end.Reads.ensures
+run-end-fixed = fixed words.run_end.Reads.Learnt (λ κs a x y l m. l ∙ sym m)
+
+pub reg-start-fixed : Determined words.reg_start.ended (λ κs z. z) words.reg_start.Reads.ensures
+reg-start-fixed = fixed words.reg_start.Reads.Learnt (λ κs a x y l m. l ∙ sym m)
+
 pub count-reg-fixed : Determined words.count_reg.ended (λ κs z. z) words.count_reg.Reads.ensures
 count-reg-fixed = fixed words.count_reg.Reads.Learnt (λ κs a x y l m. l ∙ sym m)
 
