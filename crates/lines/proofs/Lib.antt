@@ -1,5 +1,6 @@
 pub mod Tests
 pub mod LfLaws
+pub mod Words8
 pub mod Compare
 pub mod OutLaws
 pub mod StepLaws
