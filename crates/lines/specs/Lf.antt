@@ -28,6 +28,11 @@ unfoldable pub upTo : ℕ → List ℕ → ℕ
 upTo b [] = 0
 upTo b (x ∷ xs) = cond (eqb x b) 0 (suc (upTo b xs))
 
+-- where the line begins that ends at the place e: after the last LF before it, or at the front
+unfoldable pub lineStart : List ℕ → ℕ → ℕ
+lineStart s zero = 0
+lineStart s (suc j) = cond (eqb (getD s j 0) 10) (suc j) (lineStart s j)
+
 -- the number that bytes are, the first of them lowest
 unfoldable pub word : List ℕ → ℕ
 word [] = 0

@@ -3,7 +3,7 @@ ghost use mathlib.Core.Path.{_≡_};
 ghost use mathlib.Core.List.{[], _∷_, _++_};
 ghost use Prim.Native.Nat.{ℕ, min, _≤_, _<_, _+_};
 ghost use lib.ListN.{getD, take, drop, length, replicate};
-ghost use Rattle.lines.specs.Lf.{part, upTo, countOf, word, marks, lacks, prefixed, suffixed, same, holds, endsIn, linesOf, unlines};
+ghost use Rattle.lines.specs.Lf.{part, upTo, lineStart, countOf, word, marks, lacks, prefixed, suffixed, same, holds, endsIn, linesOf, unlines};
 ghost use Rattle.lines.specs.Out.{Wrote};
 ghost use Rattle.lines.specs.Steps.{dropCr, splitLines, joined, overFrom};
 
@@ -119,6 +119,37 @@ pub fn find_byte(s: &[u8], i: usize, b: u8) -> usize
         }
     }
     find_one(s, j, b)
+}
+
+// The place after the last LF before `e`, or the front, byte by byte.
+fn start_one(s: &[u8], e: usize) -> usize
+    requires { ⌜ e ≤ length (now s) ⌝ }
+    ensures { λ r. ⌜ r ≡ lineStart (now (s .entry)) e ⌝ }
+{
+    let mut j = e;
+    while 0 < j {
+        if s[j - 1] == 10 {
+            return j;
+        }
+        j -= 1;
+    }
+    j
+}
+
+// Where the line begins that ends at `e`: after the last LF before it, or at the front. By eight bytes, as long as these lack LF; the zeros above the last mark say how many bytes stand after it.
+pub fn line_start(s: &[u8], e: usize) -> usize
+    ensures { λ r. ⌜ r ≡ lineStart (now (s .entry)) e ⌝ }
+{
+    let mut j = least(e, s.len());
+    while 8 <= j {
+        let t = marks_at(s, j - 8, 10);
+        if t == 0 {
+            j -= 8;
+        } else {
+            return j - (u64::leading_zeros(t) / 8) as usize;
+        }
+    }
+    start_one(s, j)
 }
 
 // How many of at most 255 bytes are `b`. It counts in one byte and goes on to the end, so that the compiler compares many bytes at a time.
