@@ -289,17 +289,6 @@ up-skip b (suc n) (x ∷ xs) h k =
     let u = lacks-cons b x (take n xs) k in
     rw (u .0) (let r = up-skip b n xs (omega arith) (u .1) in omega arith)
 
--- the first b is inside, where some bytes at the front do not lack it
-pub up-inside : (b n : ℕ) (l : List ℕ) → lacks b (take n l) ≡ false → upTo b l < length l
-unfolding upTo lacks
-up-inside b zero l k = no (sym k)
-up-inside b (suc n) [] k = no (sym k)
-up-inside b (suc n) (x ∷ xs) k = go (eqb x b) k (λ (q : lacks b (take n xs) ≡ false). up-inside b n xs q)
-  where
-    go : (t : Bool) → cond t false (lacks b (take n xs)) ≡ false → (lacks b (take n xs) ≡ false → upTo b xs < length xs) → cond t 0 (suc (upTo b xs)) < suc (length xs)
-    go true q ih = omega arith
-    go false q ih = let r = ih q in omega arith
-
 -- eight tests at once
 lacks-eight : (b x₀ x₁ x₂ x₃ x₄ x₅ x₆ x₇ : ℕ) →
     not (eqb x₀ b || (eqb x₁ b || (eqb x₂ b || (eqb x₃ b || (eqb x₄ b || (eqb x₅ b || (eqb x₆ b || eqb x₇ b))))))) ≡ lacks b (x₀ ∷ x₁ ∷ x₂ ∷ x₃ ∷ x₄ ∷ x₅ ∷ x₆ ∷ x₇ ∷ [])

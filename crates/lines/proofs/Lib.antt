@@ -1,5 +1,7 @@
 pub mod Tests
 pub mod LfLaws
+pub mod Words8
+pub mod Starts
 pub mod Compare
 pub mod OutLaws
 pub mod StepLaws

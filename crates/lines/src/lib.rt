@@ -3,7 +3,7 @@ ghost use mathlib.Core.Path.{_≡_};
 ghost use mathlib.Core.List.{[], _∷_, _++_};
 ghost use Prim.Native.Nat.{ℕ, min, _≤_, _<_, _+_};
 ghost use lib.ListN.{getD, take, drop, length, replicate};
-ghost use Rattle.lines.specs.Lf.{part, upTo, countOf, lacks, prefixed, suffixed, same, holds, endsIn, linesOf, unlines};
+ghost use Rattle.lines.specs.Lf.{part, upTo, lineStart, countOf, word, marks, lacks, prefixed, suffixed, same, holds, endsIn, linesOf, unlines};
 ghost use Rattle.lines.specs.Out.{Wrote};
 ghost use Rattle.lines.specs.Steps.{dropCr, splitLines, joined, overFrom};
 
@@ -57,18 +57,6 @@ fn find_one(s: &[u8], i: usize, b: u8) -> usize
     j
 }
 
-// The place of the first `b` from `i` on, where there is one.
-fn find_sure(s: &[u8], i: usize, b: u8) -> usize
-    requires { ⌜ i + upTo b (drop i (now s)) < length (now s) ⌝ }
-    ensures { λ r. ⌜ r ≡ i + upTo b (drop i (now (s .entry))) ⌝ }
-{
-    let mut j = i;
-    while s[j] != b {
-        j += 1;
-    }
-    j
-}
-
 // Whether none of the eight bytes at a place is `b`; the compiler compares them at once.
 pub fn lacks_eight(s: &[u8], j: usize, b: u8) -> bool
     requires { ⌜ j + 8 ≤ length (now s) ⌝ }
@@ -82,7 +70,38 @@ pub fn lacks_eight(s: &[u8], j: usize, b: u8) -> bool
                         | ((s[j + 5] == b) | ((s[j + 6] == b) | (s[j + 7] == b))))))))
 }
 
-// The place of the first `b` from `i` on, or the end: by eight bytes, as long as these lack it.
+// A byte as a number of 64 bits.
+fn wide(b: u8) -> u64
+    ensures { λ r. ⌜ (r ≡ b) × (r < 256) ⌝ }
+{
+    b as u64
+}
+
+// The eight bytes at a place as one number, the first of them lowest; the compiler loads them at once.
+fn word_at(s: &[u8], j: usize) -> u64
+    requires { ⌜ j + 8 ≤ length (now s) ⌝ }
+    ensures { λ r. ⌜ r ≡ word (take 8 (drop j (now (s .entry)))) ⌝ }
+{
+    wide(s[j])
+        + wide(s[j + 1]) * 256
+        + wide(s[j + 2]) * 65536
+        + wide(s[j + 3]) * 16777216
+        + wide(s[j + 4]) * 4294967296
+        + wide(s[j + 5]) * 1099511627776
+        + wide(s[j + 6]) * 281474976710656
+        + wide(s[j + 7]) * 72057594037927936
+}
+
+// Which of the eight bytes at a place are `b`: 128 in the place of each of these, 0 in the place of another. No byte of a sum carries into the next.
+fn marks_at(s: &[u8], j: usize, b: u8) -> u64
+    requires { ⌜ j + 8 ≤ length (now s) ⌝ }
+    ensures { λ r. ⌜ r ≡ marks b (take 8 (drop j (now (s .entry)))) ⌝ }
+{
+    let y = word_at(s, j) ^ (wide(b) * 0x0101010101010101);
+    (((y & 0x7f7f7f7f7f7f7f7f) + 0x7f7f7f7f7f7f7f7f) | y | 0x7f7f7f7f7f7f7f7f) ^ 0xffffffffffffffff
+}
+
+// The place of the first `b` from `i` on, or the end: by eight bytes, as long as these lack it; the zeros below the first mark say how many bytes stand before it.
 pub fn find_byte(s: &[u8], i: usize, b: u8) -> usize
     ensures { λ r. ⌜ r ≡ i + upTo b (drop i (now (s .entry))) ⌝ }
 {
@@ -92,13 +111,45 @@ pub fn find_byte(s: &[u8], i: usize, b: u8) -> usize
     let n = s.len() - 7;
     let mut j = i;
     while j < n {
-        if lacks_eight(s, j, b) {
+        let t = marks_at(s, j, b);
+        if t == 0 {
             j += 8;
         } else {
-            return find_sure(s, j, b);
+            return j + (u64::trailing_zeros(t) / 8) as usize;
         }
     }
     find_one(s, j, b)
+}
+
+// The place after the last LF before `e`, or the front, byte by byte.
+fn start_one(s: &[u8], e: usize) -> usize
+    requires { ⌜ e ≤ length (now s) ⌝ }
+    ensures { λ r. ⌜ r ≡ lineStart (now (s .entry)) e ⌝ }
+{
+    let mut j = e;
+    while 0 < j {
+        if s[j - 1] == 10 {
+            return j;
+        }
+        j -= 1;
+    }
+    j
+}
+
+// Where the line begins that ends at `e`: after the last LF before it, or at the front. By eight bytes, as long as these lack LF; the zeros above the last mark say how many bytes stand after it.
+pub fn line_start(s: &[u8], e: usize) -> usize
+    ensures { λ r. ⌜ r ≡ lineStart (now (s .entry)) e ⌝ }
+{
+    let mut j = least(e, s.len());
+    while 8 <= j {
+        let t = marks_at(s, j - 8, 10);
+        if t == 0 {
+            j -= 8;
+        } else {
+            return j - (u64::leading_zeros(t) / 8) as usize;
+        }
+    }
+    start_one(s, j)
 }
 
 // How many of at most 255 bytes are `b`. It counts in one byte and goes on to the end, so that the compiler compares many bytes at a time.
