@@ -15,5 +15,6 @@ pub mod NotedFills
 pub mod CallLaws
 pub mod CalmLaws
 pub mod NextLaws
+pub mod Told
 pub mod BackLaws
 pub mod NoteFills

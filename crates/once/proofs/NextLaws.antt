@@ -290,7 +290,7 @@ note-one r f s h m same q = go (ltb h r && ltb s r) refl (eqb r m && not (ltb s 
     go false x b y k z false false e true q = absurd (omega arith)
     go false x b y k z false false e false q = absurd (omega arith)
 
-stored-by : Line → Bool
+unfoldable pub stored-by : Line → Bool
 stored-by line.Decl = false
 stored-by (line.Store s) = true
 stored-by line.Other = false

@@ -70,6 +70,9 @@ module _ (t ps d : List ℕ) (n : NotesOf (linesOf t) ps d) (i k x : ℕ) (rows 
   pub kind-at : (e : ℕ) (l : List ℕ) → e ≡ i + upTo 10 (drop i t) → l ≡ part i e t → KindIs l x
   kind-at e l q p = rw (z, p, sym (first-part t i e q), rows) (n k .kind)
 
+  pub kind-first : KindIs (firstLine (linesOf (drop i t))) x
+  kind-first = rw (z, rows) (n k .kind)
+
   pub drop-at : DropBy (firstLine (linesOf (drop i t))) (getD ps k 0) (drop 1 (linesOf (drop i t))) (drop (k + 1) ps) x
   drop-at = rw (z, rows, drop-drop 1 k (linesOf t)) (n k .drops)
 

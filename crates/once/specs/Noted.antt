@@ -178,6 +178,10 @@ pub record SendIs (v : ℕ) (ls : List (List ℕ)) (m : ℕ) : Type 0 where
   pub sent : maySend m ≡ true → sentTo v ls ≡ true
   pub stays : noSend m ≡ true → sentTo v ls ≡ false
 
+-- a note says at once that a line stays as it is: it is no store, or its value is read next in the region and does not go into the next line
+abbrev pub told : ℕ → Bool
+told m = ltb 0 m && ltb m 4
+
 -- so of the register that a line stores
 abbrev pub DropBy : List ℕ → ℕ → List (List ℕ) → List ℕ → ℕ → Type 0
 DropBy l p ls ps m = (s : Store) → parseOf l ≡ line.Store s → DropIs (s .reg .0) p ls ps m

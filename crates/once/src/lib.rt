@@ -18,7 +18,7 @@ ghost use Rattle.words.specs.Hits.{regHit, replaceReg};
 ghost use Rattle.reading.specs.Reading.{plain, pureIn};
 ghost use Rattle.reading.specs.Uses.{storesBy};
 ghost use Rattle.once.specs.Tables.{readBelow, anyCall, nextIn, Blank, hasHit, storeDrops, lineDrops, storeForwards, lineForwards, onceMarks, actBy, actsBy, firstDrops, firstTakes, markBy, marksOf, areaAt};
-ghost use Rattle.once.specs.Noted.{CalmIn, Calm, LineAt, DropIs, DropBy, sentTo, SendIs, SendBy, OneBy, OneOf, firstLine, NotesOf, EndsOf};
+ghost use Rattle.once.specs.Noted.{CalmIn, Calm, LineAt, KindIs, DropIs, DropBy, sentTo, SendIs, SendBy, OneBy, OneOf, firstLine, NotesOf, EndsOf};
 ghost use Rattle.decls.specs.Seen.{AtMost};
 ghost use Rattle.place.specs.Fill.{Filled, flagsOf};
 ghost use Rattle.place.specs.Loops.{insideLoop};
@@ -488,6 +488,32 @@ fn drops_at(
     )
 }
 
+// Whether the line from i to e goes, as drops_at says: its note may say at once that it stays.
+fn drops_noted(
+    text: &[u8],
+    i: usize,
+    e: usize,
+    p: parse::Line,
+    paths: &[usize],
+    k: usize,
+    in_loop: bool,
+    note: u8,
+    calm: usize,
+    scratch: &mut [u8],
+) -> bool
+    requires { ⌜ (KindIs (firstLine (linesOf (drop i (now text)))) note)
+        × ((LineAt (now text) i e p)
+        × ((Blank (length (now text)) (now scratch))
+        × ((DropBy (firstLine (linesOf (drop i (now text)))) (getD (now paths) k 0) (drop 1 (linesOf (drop i (now text)))) (drop (k + 1) (now paths)) note) × (Calm (now text) calm)))) ⌝ }
+    ensures answer { λ r. ⌜ r ≡ firstDrops plain (linesOf (drop i (now (text .entry)))) (drop k (now (paths .entry))) in_loop ⌝ }
+    ensures memory { λ _. ⌜ now (scratch .exit) ≡ now (scratch .entry) ⌝ }
+{
+    if (0 < note) & (note < 4) {
+        return false;
+    }
+    drops_at(text, i, e, p, paths, k, in_loop, note, calm, scratch)
+}
+
 // The mark of a line, read as p, in the region that `run` begins with, above the line from j to e, read as q: 1 where it goes, as `goes` says, 2 where it would go into the next, else 0;
 // `next` says whether that one goes, and `note` is that of the line.
 fn mark_at(
@@ -535,6 +561,51 @@ fn mark_at(
     0
 }
 
+// The mark of a line, as mark_at says: its note may say at once that it stays as it is.
+fn mark_noted(
+    line: &[u8],
+    p: parse::Line,
+    text: &[u8],
+    j: usize,
+    e: usize,
+    q: parse::Line,
+    run: &[u8],
+    in_loop: bool,
+    goes: bool,
+    next: bool,
+    note: u8,
+    scratch: &mut [u8],
+) -> u8
+    requires { ⌜ (KindIs (now line) note)
+        × ((p ≡ parseOf (now line))
+        × ((LineAt (now text) j e q)
+        × ((Blank (length (now line)) (now scratch))
+        × ((SendBy (now line) (linesOf (drop j (now text))) note) × (OneBy (now line) (region (linesOf (now run))) note))))) ⌝ }
+    ensures answer { λ r. ⌜ r ≡ markBy goes (firstTakes plain (now (line .entry)) (region (linesOf (now (run .entry)))) in_loop next (linesOf (drop j (now (text .entry))))) ⌝ }
+    ensures memory { λ _. ⌜ now (scratch .exit) ≡ now (scratch .entry) ⌝ }
+{
+    if goes {
+        return 1;
+    }
+    if (0 < note) & (note < 4) {
+        return 0;
+    }
+    mark_at(
+        line,
+        p,
+        text,
+        j,
+        e,
+        q,
+        run,
+        in_loop,
+        goes,
+        next,
+        note,
+        scratch,
+    )
+}
+
 // Where the region of the line from i to e begins, where `above` is that of the line above.
 fn area_at(text: &[u8], i: usize, e: usize, above: usize) -> usize
     ensures { λ r. ⌜ r ≡ areaAt (now (text .entry)) i e above ⌝ }
@@ -565,7 +636,7 @@ fn mark_with(
     let mut e = lines::find_byte(text, 0, 10);
     let mut p = parse::parse(lines::cut(text, 0, e));
     let d = lines::byte_at(notes, 0);
-    let mut goes = drops_at(text, 0, e, p, paths, 0, f != 0, d, calm, scratch);
+    let mut goes = drops_noted(text, 0, e, p, paths, 0, f != 0, d, calm, scratch);
     let mut run = 0;
     let mut i = 0;
     let mut k = 0;
@@ -575,10 +646,10 @@ fn mark_with(
         let c = lines::byte_at(notes, k + 1);
         let q = noted::parse_at(lines::cut(text, j, n), c);
         let g = lines::byte_at(loops, k + 1);
-        let next = drops_at(text, j, n, q, paths, k + 1, g != 0, c, calm, scratch);
+        let next = drops_noted(text, j, n, q, paths, k + 1, g != 0, c, calm, scratch);
         run = area_at(text, i, e, run);
         let h = lines::byte_at(loops, k);
-        marks[k] = mark_at(
+        marks[k] = mark_noted(
             lines::cut(text, i, e),
             p,
             text,
