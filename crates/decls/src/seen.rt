@@ -109,6 +109,7 @@ struct Reach {
 }
 
 // Marks the registers that some line of the region uses that begins at `a`, and returns where it ends. The line at `i` is a declaration.
+// The lines from `q` on are no declarations, and are marked at once where one follows or the region ends.
 fn mark_region(text: &[u8], a: usize, m: usize, i: usize, seen: &mut [usize]) -> Reach
     requires { ⌜ isDecl (trimOf (part i (i + upTo 10 (drop i (now text))) (now text))) ≡ true ⌝ }
     ensures answer { λ r. ⌜ (r .end ≡ a + regionLen (drop a (now (text .entry)))) × (Quiet (now (text .entry)) (r .quiet) (r .end)) ⌝ }
@@ -125,18 +126,22 @@ fn mark_region(text: &[u8], a: usize, m: usize, i: usize, seen: &mut [usize]) ->
         let f = lines::find_byte(text, j, 10);
         let line = lines::cut(text, j, f);
         if place::is_header(line) {
+            mark_runs(lines::cut(text, q, j), m, seen);
             return Reach { end: j, quiet: q };
         }
         if j == i {
+            mark_runs(lines::cut(text, q, j), m, seen);
             j = lines::after(text, f);
             q = j;
-        } else if mark_line(line, m, seen) {
+        } else if parse::declares(line) {
+            mark_runs(lines::cut(text, q, j), m, seen);
             j = lines::after(text, f);
             q = j;
         } else {
             j = lines::after(text, f);
         }
     }
+    mark_runs(lines::cut(text, q, j), m, seen);
     Reach { end: j, quiet: q }
 }
 
