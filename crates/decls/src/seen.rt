@@ -61,7 +61,7 @@ fn name_before(s: &[u8], i: usize) -> bool
     text::is_name_byte(lines::byte_at(s, i - 1))
 }
 
-// The same, where no name byte stands before the place: it begins with `r` and a digit, where it names one.
+// The same, where no name byte stands before the place: it begins with `r` and a digit, where it names one. One of one digit is told at once.
 fn mark_at(s: &[u8], i: usize, m: usize, seen: &mut [usize])
     ensures { λ _. ⌜ now (seen .exit) ≡ cond (nameBefore i (now (s .entry))) (now (seen .entry)) (markName m (regOf (runAt i (now (s .entry)))) (now (seen .entry))) ⌝ }
 {
@@ -73,6 +73,10 @@ fn mark_at(s: &[u8], i: usize, m: usize, seen: &mut [usize])
         return;
     }
     if name_before(s, i) {
+        return;
+    }
+    if !text::is_name_byte(lines::byte_at(s, i + 2)) {
+        mark_reg(names::Register((d - b'0') as u64), m, seen);
         return;
     }
     mark_run(s, i, m, seen);
