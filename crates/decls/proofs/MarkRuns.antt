@@ -12,10 +12,10 @@ use lib.Seq.{drop-cons, drop-drop, getD-take, getD-drop, length-take-le}
 use Rattle.lines.specs.Lf.{part, upTo, prefixed}
 use Rattle.lines.proofs.Tests.{no, and-false, eqb-sym}
 use Rattle.text.specs.Class.{isName}
-use Rattle.names.specs.Names.{isDigit, numbered, numberOf, regBy, regOf}
+use Rattle.names.specs.Names.{isDigit, numberOf, regBy, regOf}
 use Rattle.names.proofs.Texts.{reg-first, reg-two, digit-is}
 use Rattle.parse.proofs.Plain.{inside, name-at}
-use Rattle.parse.proofs.PlainLine.{first-taken}
+use Rattle.parse.proofs.PlainLine.{first-taken, bare-none}
 use Rattle.names.specs.declared.RegName.{RegName}
 use Rattle.names.specs.declared.RegName.the-variants as name
 use Rattle.words.specs.Runs.{upBy, runLen, runsGo, runs}
@@ -256,19 +256,12 @@ run-other s i n =
     let z : i + 0 ≡ i = omega arith in
     reg-first (runAt i s) (first-taken 114 (λ e. absurd (omega arith)) (runLen (drop i s)) (drop i s) (λ e. n (ap (λ (k : ℕ). getD s k 0) (sym z) ∙ sym (getD-drop i s 0 0) ∙ e)))
 
-bare-none : (n : ℕ) (l : List ℕ) → isDigit (getD l 0 0) ≡ false → regOf (114 ∷ take n l) ≡ name.None
-unfolding regOf prefixed numberOf numbered
-bare-none zero l e = refl
-bare-none (suc n) [] e = refl
-bare-none (suc n) (x ∷ l) e = rw e
-
 -- no digit stands behind the `r`
 pub run-bare : (s : List ℕ) (i : ℕ) → getD s i 0 ≡ 114 → isDigit (getD s (i + 1) 0) ≡ false → regOf (runAt i s) ≡ name.None
-run-bare s i e f = ap (λ (l : List ℕ). regOf (take (runLen (drop i s)) l)) (name-at s i e) ∙ go (runLen (drop i s))
-  where
-    go : (n : ℕ) → regOf (take n (114 ∷ drop (i + 1) s)) ≡ name.None
-    go zero = reg-first [] (λ z. absurd (omega arith))
-    go (suc n) = let z : i + 1 + 0 ≡ i + 1 = omega arith in bare-none n (drop (i + 1) s) (ap (λ (x : ℕ). isDigit x) (getD-drop (i + 1) s 0 0 ∙ ap (λ (k : ℕ). getD s k 0) z) ∙ f)
+run-bare s i e f =
+    let z : i + 1 + 0 ≡ i + 1 = omega arith in
+    ap (λ (l : List ℕ). regOf (take (runLen (drop i s)) l)) (name-at s i e)
+    ∙ bare-none (runLen (drop i s)) (drop (i + 1) s) (ap (λ (x : ℕ). isDigit x) (getD-drop (i + 1) s 0 0 ∙ ap (λ (k : ℕ). getD s k 0) z) ∙ f)
 
 pub before-is : (s : List ℕ) (i : ℕ) (b : ℕ) → (i ≡ 0 → ⊥) → b ≡ getD s (i - 1) 0 → nameBefore i s ≡ isName b
 before-is s zero b n q = absurd (n refl)

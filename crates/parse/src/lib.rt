@@ -195,12 +195,15 @@ fn plain_value(line: &[u8], e: usize) -> bool
                 & (((32 < x) & (x < 128)) & (((32 < y) & (y < 128)) & (line[n - 1] == b';')))))
 }
 
-// What a line is whose first byte that is no white space is an `r`, at the place `a`: most are plainly stores.
+// What a line is whose first byte that is no white space is an `r`, at the place `a`: most are plainly stores, and the others have no digit behind it.
 fn parse_store(line: &[u8], a: usize) -> Line
     requires { ⌜ (a ≡ fromOf (now line)) × (getD (now line) a 0 ≡ 114) ⌝ }
     ensures { λ r. ⌜ r ≡ parseOf (now (line .entry)) ⌝ }
 {
     let e = digits_end(line, a + 1);
+    if e - a < 2 {
+        return Line::Other;
+    }
     if !plain_value(line, e) {
         return parse_any(line);
     }
