@@ -11,7 +11,6 @@ use lib.Seq.{drop-drop, getD-set-same, getD-set-other}
 use Rattle.lines.specs.Lf.{part, endsIn, linesOf}
 use Rattle.lines.proofs.Tests.{no, and-false}
 use Rattle.lines.proofs.LfLaws.{lines-end}
-use Rattle.text.specs.Class.{isName}
 use Rattle.names.specs.Names.{regOf, regIs}
 use Rattle.names.specs.declared.RegName.{RegName}
 use Rattle.names.specs.declared.RegName.the-variants as name
@@ -19,8 +18,9 @@ use Rattle.parse.specs.Parse.{parseOf, textOf}
 use Rattle.parse.specs.declared.Store.{Store}
 use Rattle.parse.specs.declared.Line.{Line}
 use Rattle.parse.specs.declared.Line.the-variants as line
-use Rattle.words.specs.Runs.{flush, runs, countBy, readsOf}
-use Rattle.words.proofs.Walk.{Walk, walk-start, walk-name, walk-gap, walk-end}
+use Rattle.names.proofs.Texts.{reg-first}
+use Rattle.words.specs.Runs.{flush, runs, countBy, readsOf, runLen, regGap}
+use Rattle.words.proofs.Walk.{RegWalk, regs-start, regs-less, regs-on, regs-end}
 use Rattle.place.specs.Region.{isHeader, region}
 use Rattle.reading.specs.Uses.{lineReads, storesBy, lineStores}
 use Rattle.decls.specs.Seen.{markName, markStore, AtMost}
@@ -414,51 +414,50 @@ pub ones-of : {t ps near far stores notes ends : List ℕ} {i m h : ℕ} → Not
 ones-of {t} {ps} {near} {far} {stores} {notes} {ends} {i} v z =
     once-of (linesOf t) (length near) notes (subst (λ (j : ℕ). Ones (linesOf t) (linesOf (drop j t)) (length near) notes) (let y : i ≡ 0 = omega arith in y) (v .ones))
 
--- ---- the loop over the runs of a text: the run from a to i is open; d₀ are the tables at its start, and d here
+-- ---- the loop over the runs of a text that begin with `r`: it has come to the run at i; d₀ are the tables at its start, and d here
 
-pub record ReadsInv (c h m : ℕ) (s : List ℕ) (d₀ d : Reads) (a i : ℕ) : Type 0 where
+pub record ReadsInv (c h m : ℕ) (s : List ℕ) (d₀ d : Reads) (i : ℕ) : Type 0 where
   pub long : length (d .0) ≡ length (d₀ .0)
   pub wide : length (d .1 .0) ≡ length (d₀ .1 .0)
   pub tall : length (d .1 .1) ≡ length (d₀ .1 .1)
-  pub walk : Walk (readRuns c h m) s d₀ d a i
+  pub walk : RegWalk (readRuns c h m) s d₀ d i
 
-reads-flush : (c h m : ℕ) (cur : List ℕ) (rs : List (List ℕ)) (d : Reads) → readRuns c h m (flush cur ++ rs) d ≡ readRuns c h m rs (readName c h m (regOf cur) d)
-unfolding readRuns regOf
-reads-flush c h m [] rs d = refl
-reads-flush c h m (x ∷ cur) rs d = refl
+module _ (c h m : ℕ) where
+  -- what one run does
+  abbrev readStep : List ℕ → Reads → Reads
+  readStep r x = readName c h m (regOf r) x
 
-reads-empty : (c h m : ℕ) (d : Reads) → readRuns c h m [] d ≡ d
-unfolding readRuns
-reads-empty c h m d = refl
+  reads-flush : (cur : List ℕ) (rs : List (List ℕ)) (d : Reads) → readRuns c h m (flush cur ++ rs) d ≡ readRuns c h m rs (readStep cur d)
+  unfolding readRuns regOf
+  reads-flush [] rs d = refl
+  reads-flush (x ∷ cur) rs d = refl
 
-pub reads-start : (c h m : ℕ) (s : List ℕ) (d : Reads) → ReadsInv c h m s d d 0 0
-reads-start c h m s d = record { long = refl; wide = refl; tall = refl; walk = walk-start (readRuns c h m) s d }
+  -- one that begins with another byte names no register
+  reads-other : (x : ℕ) (cur : List ℕ) (d : Reads) → eqb x 114 ≡ false → readStep (x ∷ cur) d ≡ d
+  reads-other x cur d e = ap (λ (r : RegName). readName c h m r d) (reg-first (x ∷ cur) (eqb-false x 114 e))
 
-module _ {c h m : ℕ} {s : List ℕ} {d₀ d : Reads} {a i : ℕ} (v : ReadsInv c h m s d₀ d a i) where
-  pub reads-name : i < length s → isName (getD s i 0) ≡ true → ReadsInv c h m s d₀ d a (i + 1)
-  reads-name k e = record { long = v .long; wide = v .wide; tall = v .tall; walk = walk-name (v .walk) k e }
+  reads-empty : (d : Reads) → readRuns c h m [] d ≡ d
+  unfolding readRuns
+  reads-empty d = refl
 
-  module _ (w : List ℕ) where
-    pub reads-long : (x : List ℕ) → x ≡ markName m (regOf w) (d .0) → length x ≡ length (d₀ .0)
-    reads-long x q = ap (λ (t : List ℕ). length t) q ∙ name-length m (regOf w) (d .0) ∙ v .long
+  pub reads-start : (s : List ℕ) (d : Reads) (i : ℕ) → i ≡ 0 + regGap false (drop 0 s) → ReadsInv c h m s d d i
+  reads-start s d i q = record { long = refl; wide = refl; tall = refl; walk = regs-start (readRuns c h m) readStep reads-flush reads-other s d i q }
 
-    pub reads-wide : (x : List ℕ) → x ≡ farName (regOf w) (d .0) (d .1 .0) → length x ≡ length (d₀ .1 .0)
-    reads-wide x q = ap (λ (t : List ℕ). length t) q ∙ far-length (regOf w) (d .0) (d .1 .0) ∙ v .wide
+  module _ {s : List ℕ} {d₀ d : Reads} {i : ℕ} (v : ReadsInv c h m s d₀ d i) where
+    module _ (l : i < length s) (e : ℕ) (p : e ≡ i + runLen (drop i s)) (k : ℕ) (q : k ≡ e + regGap false (drop e s)) where
+      pub reads-less : i < k
+      reads-less = regs-less (readRuns c h m) readStep reads-flush reads-other (v .walk) l e p k q
 
-    pub reads-tall : (x : List ℕ) → x ≡ backName c h (regOf w) (d .0) (d .1 .1) → length x ≡ length (d₀ .1 .1)
-    reads-tall x q = ap (λ (t : List ℕ). length t) q ∙ notes-length c h (regOf w) (d .0) (d .1 .1) ∙ v .tall
-
-    module _ (d′ : Reads) (q : d′ ≡ readName c h m (regOf w) d) where
-      pub reads-gap : i < length s → isName (getD s i 0) ≡ false → w ≡ part a i s → ReadsInv c h m s d₀ d′ (i + 1) (i + 1)
-      reads-gap k e p = record {
-        long = reads-long (d′ .0) (ap (λ (t : Reads). t .0) q);
-        wide = reads-wide (d′ .1 .0) (ap (λ (t : Reads). t .1 .0) q);
-        tall = reads-tall (d′ .1 .1) (ap (λ (t : Reads). t .1 .1) q);
-        walk = walk-gap (readRuns c h m) (λ (r : List ℕ) (x : Reads). readName c h m (regOf r) x) (reads-flush c h m) (v .walk) k e w p q;
+      pub reads-on : (w : List ℕ) → w ≡ part i e s → (d′ : Reads) → d′ ≡ readStep w d → ReadsInv c h m s d₀ d′ k
+      reads-on w y d′ z = record {
+        long = ap (λ (t : Reads). length (t .0)) z ∙ name-length m (regOf w) (d .0) ∙ v .long;
+        wide = ap (λ (t : Reads). length (t .1 .0)) z ∙ far-length (regOf w) (d .0) (d .1 .0) ∙ v .wide;
+        tall = ap (λ (t : Reads). length (t .1 .1)) z ∙ notes-length c h (regOf w) (d .0) (d .1 .1) ∙ v .tall;
+        walk = regs-on (readRuns c h m) readStep reads-flush reads-other (v .walk) l e p k q w y z;
       }
 
-      pub reads-end : length s ≤ i → w ≡ part a i s → d′ ≡ readRuns c h m (runs s) d₀
-      reads-end k p = walk-end (readRuns c h m) (λ (r : List ℕ) (x : Reads). readName c h m (regOf r) x) (reads-flush c h m) (reads-empty c h m) (v .walk) k w p q
+    pub reads-end : length s ≤ i → d ≡ readRuns c h m (runs s) d₀
+    reads-end l = regs-end (readRuns c h m) readStep reads-flush reads-other (v .walk) reads-empty l
 
 -- a line keeps the lengths of the tables
 pub note-lengths : (c h m : ℕ) (near far stores notes : List ℕ) (p : Line) (l : List ℕ) {near′ far′ stores′ notes′ : List ℕ} →

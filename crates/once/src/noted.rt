@@ -103,7 +103,7 @@ fn note_name(
     }
 }
 
-// Notes the registers that a text reads.
+// Notes the registers that a text reads: runs that begin with another byte than `r` name none.
 fn note_runs(
     s: &[u8],
     m: u32,
@@ -115,18 +115,12 @@ fn note_runs(
 )
     ensures { λ _. ⌜ (now (near .exit), (now (far .exit), now (notes .exit))) ≡ readRuns n h m (runs (now (s .entry))) (now (near .entry), (now (far .entry), now (notes .entry))) ⌝ }
 {
-    let mut a = 0;
-    let mut i = 0;
+    let mut i = words::reg_start(s, 0);
     while i < s.len() {
-        if text::is_name_byte(s[i]) {
-            i += 1;
-        } else {
-            note_name(lines::cut(s, a, i), m, h, n, near, far, notes);
-            i += 1;
-            a = i;
-        }
+        let e = words::run_end(s, i);
+        note_name(lines::cut(s, i, e), m, h, n, near, far, notes);
+        i = words::reg_start(s, e);
     }
-    note_name(lines::cut(s, a, i), m, h, n, near, far, notes);
 }
 
 // Notes the register that a line stores.

@@ -1,17 +1,19 @@
--- A walk over the runs of a text, byte by byte, that folds them into a state: what it still has to do is what the runs from here on do.
--- Assumes nothing.
+-- A walk over the runs of a text, byte by byte or by the runs that begin with `r`, that folds them into a state: what it still has to do is what
+-- the runs from here on do. Assumes nothing.
 use Prim.Native.Nat.{ℕ, suc, _+_, _≤_, _<_}
 use mathlib.Core.Path.{_≡_, refl, sym, ap, _∙_}
-use mathlib.Core.Bool.{true, false}
+use mathlib.Core.Bool.{Bool, true, false, cond}
 use mathlib.Core.List.{List, [], _∷_, _++_, append-nil}
 use native.Mathlib.Omega.{arith}
 use native.Mathlib.Numerals.{add-one}
+use lib.Dec.{eqb}
 use lib.ListN.{length, drop, getD, drop-of-length-le}
 use lib.Seq.{drop-cons}
 use Rattle.lines.specs.Lf.{part}
 use Rattle.lines.proofs.LfLaws.{part-more, part-none}
 use Rattle.text.specs.Class.{isName}
-use Rattle.words.specs.Runs.{flush, runsGo, runs}
+use Rattle.words.specs.Runs.{flush, runsGo, runs, gapLen, runLen, regGap, walk}
+use Rattle.words.proofs.RunLaws.{walk-next, walk-regs, run-some, reg-stands}
 
 -- a name byte goes on with the open run, another one ends it
 pub go-name : (x : ℕ) (xs cur : List ℕ) → isName x ≡ true → runsGo (x ∷ xs) cur ≡ runsGo xs (cur ++ (x ∷ []))
@@ -72,3 +74,70 @@ module _ {S : Type 0} (over : List (List ℕ) → S → S) (step : List ℕ → 
       ∙ ap (λ (r : List (List ℕ)). over r d) (append-nil (flush (part a i s)) ∙ sym (go-none (part a i s)))
       ∙ ap (λ (l : List ℕ). over (runsGo l (part a i s)) d) (sym (drop-of-length-le s k))
       ∙ h .so-far
+
+-- ---- the same by the runs that begin with `r`, where the others do nothing
+
+-- a run that has ended, where it begins with `r`
+abbrev flushReg : ℕ → List ℕ → List (List ℕ)
+flushReg e [] = []
+flushReg e (x ∷ c) = cond (eqb x 114) ((x ∷ c) ∷ []) []
+
+-- the walk has come to the run at i
+pub record RegWalk {S : Type 0} (over : List (List ℕ) → S → S) (s : List ℕ) (d₀ d : S) (i : ℕ) : Type 0 where
+  pub stands : gapLen (drop i s) ≡ 0
+  pub so-far : over (walk flushReg (drop i s) i []) d ≡ over (runs s) d₀
+
+module _ {S : Type 0} (over : List (List ℕ) → S → S) (step : List ℕ → S → S)
+    (flushed : (cur : List ℕ) (rs : List (List ℕ)) (d : S) → over (flush cur ++ rs) d ≡ over rs (step cur d))
+    (other : (x : ℕ) (c : List ℕ) (d : S) → eqb x 114 ≡ false → step (x ∷ c) d ≡ d) where
+  reg-flushed : (e : ℕ) (cur : List ℕ) (rs : List (List ℕ)) (d : S) → over (flushReg e cur ++ rs) d ≡ over rs (step cur d)
+  reg-flushed e [] rs d = flushed [] rs d
+  reg-flushed e (x ∷ c) rs d = go (eqb x 114) refl
+    where
+      go : (t : Bool) → eqb x 114 ≡ t → over (cond t ((x ∷ c) ∷ []) [] ++ rs) d ≡ over rs (step (x ∷ c) d)
+      go true q = flushed (x ∷ c) rs d
+      go false q = ap (over rs) (sym (other x c d q))
+
+  reg-ended : (e : ℕ) (cur : List ℕ) (d : S) → over (flushReg e cur) d ≡ over (flush cur) d
+  reg-ended e cur d =
+      ap (λ (r : List (List ℕ)). over r d) (sym (append-nil (flushReg e cur))) ∙ reg-flushed e cur [] d
+      ∙ sym (flushed cur [] d) ∙ ap (λ (r : List (List ℕ)). over r d) (append-nil (flush cur))
+
+  over-regs : (l : List ℕ) (i : ℕ) (cur : List ℕ) (d : S) → over (walk flushReg l i cur) d ≡ over (runsGo l cur) d
+  unfolding walk runsGo
+  over-regs [] i cur d = reg-ended i cur d
+  over-regs (x ∷ xs) i cur d = go (isName x) (over-regs xs (suc i) (cur ++ (x ∷ [])) d) (over-regs xs (suc i) [] (step cur d))
+    where
+      go : (t : Bool) → over (walk flushReg xs (suc i) (cur ++ (x ∷ []))) d ≡ over (runsGo xs (cur ++ (x ∷ []))) d →
+          over (walk flushReg xs (suc i) []) (step cur d) ≡ over (runsGo xs []) (step cur d) →
+          over (cond t (walk flushReg xs (suc i) (cur ++ (x ∷ []))) (flushReg i cur ++ walk flushReg xs (suc i) [])) d
+          ≡ over (cond t (runsGo xs (cur ++ (x ∷ []))) (flush cur ++ runsGo xs [])) d
+      go true p q = p
+      go false p q = reg-flushed i cur (walk flushReg xs (suc i) []) d ∙ q ∙ sym (flushed cur (runsGo xs []) d)
+
+  regs-skip : (s : List ℕ) (d : S) (i j : ℕ) → j ≡ i + regGap false (drop i s) → over (walk flushReg (drop j s) j []) d ≡ over (walk flushReg (drop i s) i []) d
+  regs-skip s d i j q = ap (λ (r : List (List ℕ)). over r d) (sym (walk-regs flushReg (λ (e : ℕ). refl) (λ e x c t. rw t) s i j q))
+
+  pub regs-start : (s : List ℕ) (d : S) (i : ℕ) → i ≡ 0 + regGap false (drop 0 s) → RegWalk over s d d i
+  unfolding runs
+  regs-start s d i q = record { stands = reg-stands s 0 i q; so-far = regs-skip s d 0 i q ∙ over-regs s 0 [] d }
+
+  module _ {s : List ℕ} {d₀ d : S} {i : ℕ} (h : RegWalk over s d₀ d i) where
+    module _ (l : i < length s) (e : ℕ) (p : e ≡ i + runLen (drop i s)) (k : ℕ) (q : k ≡ e + regGap false (drop e s)) where
+      pub regs-less : i < k
+      regs-less = omega (arith, run-some s i l (h .stands))
+
+      pub regs-on : {d′ : S} (w : List ℕ) → w ≡ part i e s → d′ ≡ step w d → RegWalk over s d₀ d′ k
+      regs-on {d′} w y z = record {
+        stands = reg-stands s e k q;
+        so-far =
+            regs-skip s d′ e k q
+            ∙ ap (over (walk flushReg (drop e s) e [])) (z ∙ ap (λ (c : List ℕ). step c d) y)
+            ∙ sym (reg-flushed e (part i e s) (walk flushReg (drop e s) e []) d)
+            ∙ ap (λ (r : List (List ℕ)). over r d) (sym (walk-next flushReg (λ (e : ℕ). refl) s i e p))
+            ∙ h .so-far;
+      }
+
+    pub regs-end : ((d : S) → over [] d ≡ d) → length s ≤ i → d ≡ over (runs s) d₀
+    unfolding walk
+    regs-end ended l = sym (ended d) ∙ ap (λ (r : List ℕ). over (walk flushReg r i []) d) (sym (drop-of-length-le s l)) ∙ h .so-far

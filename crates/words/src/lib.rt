@@ -32,7 +32,7 @@ fn run_start(s: &[u8], i: usize) -> usize
 }
 
 // The end of the run of name bytes that stands at a place.
-fn run_end(s: &[u8], i: usize) -> usize
+pub fn run_end(s: &[u8], i: usize) -> usize
     ensures { λ r. ⌜ r ≡ i + runLen (drop i (now (s .entry))) ⌝ }
 {
     let mut j = i;
@@ -59,7 +59,7 @@ fn begins_reg(s: &[u8], i: usize, j: usize) -> bool
 }
 
 // The place of the first run from a place on that begins with `r`, or the end.
-fn reg_start(s: &[u8], i: usize) -> usize
+pub fn reg_start(s: &[u8], i: usize) -> usize
     ensures { λ r. ⌜ r ≡ i + regGap false (drop i (now (s .entry))) ⌝ }
 {
     let mut j = i;

@@ -1,90 +1,75 @@
 use borrow.Author.Needs.{needs}
 use Prim.Native.Nat.{_-_}
 use native.Mathlib.Omega.{arith}
-use mathlib.Core.Path.{sym, _∙_}
 use lib.ListN.{length}
-use Rattle.once.proofs.NoteFills.{ReadsInv, reads-start, reads-name, reads-gap, reads-end, reads-long, reads-wide, reads-tall}
+use Rattle.once.proofs.NoteFills.{ReadsInv, reads-start, reads-less, reads-on, reads-end}
 use Rattle.once.proofs.noted.note_runs.Statement.{statement}
 use Rattle.once.proofs.noted.note_runs.Tie as tie
 use Rattle.once.proofs.noted.note_runs.Reads as reads
 use Rattle.once.proofs.noted.note_runs.Lts as lts
 use Rattle.lines.proofs.cut.Reads as cut-reads
 use Rattle.once.proofs.noted.note_name.Reads as note-name-reads
-use Rattle.text.proofs.is_name_byte.Reads as is-name-byte-reads
+use Rattle.words.proofs.reg_start.Reads as reg-start-reads
+use Rattle.words.proofs.run_end.Reads as run-end-reads
 
 abbrev Inv-loop : tie.InvT-loop
-Inv-loop s m h n near₀ far₀ notes₀ a₀ i₀ near far notes a i = ReadsInv n h m s (near₀, (far₀, notes₀)) (near, (far, notes)) a i
+Inv-loop s m h n near₀ far₀ notes₀ i₀ near far notes i = ReadsInv n h m s (near₀, (far₀, notes₀)) (near, (far, notes)) i
 
 abbrev μ-loop : tie.MeasureT-loop
-μ-loop s m h n near₀ far₀ notes₀ a₀ i₀ near far notes a i = length s - i
+μ-loop s m h n near₀ far₀ notes₀ i₀ near far notes i = length s - i
 
--- src/noted.rt:90:5
+-- src/noted.rt:118:9
+reg-start-requires : tie.Need-reg-start-requires Inv-loop μ-loop
+reg-start-requires c κs = search needs
+
+-- src/noted.rt:119:5
 loop-holds : tie.Need-loop-holds Inv-loop μ-loop
-loop-holds c = let a = c .before .before .before .before .args in reads-start (a .n) (a .h) (a .m) (a .s .now) (a .near .now, (a .far .now, a .notes .now))
+loop-holds c = let a = c .before .before .before .before .before .args in reads-start (a .n) (a .h) (a .m) (a .s .now) (a .near .now, (a .far .now, a .notes .now)) _ (c .reg-start .ensures)
 
--- src/noted.rt:91:31
-shared-slice-read-is-name-byte : tie.Need-shared-slice-read-is-name-byte Inv-loop μ-loop
-shared-slice-read-is-name-byte c = search needs
+-- src/noted.rt:120:13
+run-end-requires : tie.Need-run-end-requires Inv-loop μ-loop
+run-end-requires c κs = search needs
 
--- src/noted.rt:91:12
-is-name-byte-requires : tie.Need-is-name-byte-requires Inv-loop μ-loop
-is-name-byte-requires c κs = search needs
-
--- src/noted.rt:92:13
-add-i : tie.Need-add-i Inv-loop μ-loop
-add-i c = omega arith
-
--- src/noted.rt:90:5
-loop-less : tie.Need-loop-less Inv-loop μ-loop
-loop-less c = omega arith
-
--- src/noted.rt:90:5
-loop-again : tie.Need-loop-again Inv-loop μ-loop
-loop-again c = reads-name (c .before .before .before .before .loop .inv) (c .before .before .before .loop-test .taken) (sym (c .before .is-name-byte .ensures) ∙ c .if1 .taken)
-
--- src/noted.rt:94:23
+-- src/noted.rt:121:19
 cut-requires : tie.Need-cut-requires Inv-loop μ-loop
 cut-requires c κs = search needs
 
--- src/noted.rt:94:13
+-- src/noted.rt:121:9
 note-name-requires : tie.Need-note-name-requires Inv-loop μ-loop
 note-name-requires c κs = search needs
 
--- src/noted.rt:95:13
-add-i-2 : tie.Need-add-i-2 Inv-loop μ-loop
-add-i-2 c = omega arith
+-- src/noted.rt:122:9
+reg-start-requires-2 : tie.Need-reg-start-requires-2 Inv-loop μ-loop
+reg-start-requires-2 c κs = search needs
 
--- src/noted.rt:90:5
-loop-less-2 : tie.Need-loop-less-2 Inv-loop μ-loop
-loop-less-2 c = omega arith
+-- src/noted.rt:119:5
+loop-less : tie.Need-loop-less Inv-loop μ-loop
+loop-less c =
+    let a = c .before .before .before .before .before .before .before .before .before .before .before .before .before .before .before .before .before .before .before .before .args in
+    omega (arith, c .before .before .before .before .before .before .before .before .before .before .before .before .before .loop-test .taken, reads-less (a .n) (a .h) (a .m) (c .before .before .before .before .before .before .before .before .before .before .before .before .before .before .loop .inv) (c .before .before .before .before .before .before .before .before .before .before .before .before .before .loop-test .taken) _ (c .before .before .before .before .before .before .before .before .before .before .before .before .run-end .ensures) _ (c .reg-start2 .ensures))
 
--- src/noted.rt:90:5
-loop-again-2 : tie.Need-loop-again-2 Inv-loop μ-loop
-loop-again-2 c = reads-gap (c .before .before .before .before .before .before .before .before .before .before .before .before .before .before .before .loop .inv) (c .before .before .before .before .before .before .before .before .before .before .cut .result .now) _ (let e = c .before .before .before .before .before .before .note-name .ensures in rw (e .0, e .1 .0, e .1 .1)) (c .before .before .before .before .before .before .before .before .before .before .before .before .before .before .loop-test .taken) (sym (c .before .before .before .before .before .before .before .before .before .before .before .before .is-name-byte .ensures) ∙ c .before .before .before .before .before .before .before .before .before .before .before .if1 .left) (c .before .before .before .before .before .before .before .before .before .before .cut .ensures)
+-- src/noted.rt:119:5
+loop-again : tie.Need-loop-again Inv-loop μ-loop
+loop-again c =
+    let a = c .before .before .before .before .before .before .before .before .before .before .before .before .before .before .before .before .before .before .before .before .args in
+    let e = c .before .before .before .before .before .before .before .note-name .ensures in
+    reads-on (a .n) (a .h) (a .m) (c .before .before .before .before .before .before .before .before .before .before .before .before .before .before .loop .inv) (c .before .before .before .before .before .before .before .before .before .before .before .before .before .loop-test .taken) _ (c .before .before .before .before .before .before .before .before .before .before .before .before .run-end .ensures) _ (c .reg-start2 .ensures) (c .before .before .before .before .before .before .before .before .before .before .before .cut .result .now) (c .before .before .before .before .before .before .before .before .before .before .before .cut .ensures) _ (rw (e .0, e .1 .0, e .1 .1))
 
--- src/noted.rt:99:15
-cut-requires-2 : tie.Need-cut-requires-2 Inv-loop μ-loop
-cut-requires-2 c κs = search needs
-
--- src/noted.rt:99:5
-note-name-requires-2 : tie.Need-note-name-requires-2 Inv-loop μ-loop
-note-name-requires-2 c κs = search needs
-
--- src/noted.rt:84:1
+-- src/noted.rt:107:1
 same-length : tie.Need-same-length Inv-loop μ-loop
-same-length c = reads-long (c .before .before .before .before .before .before .before .before .before .before .before .before .loop .inv) (c .before .before .before .before .before .before .before .before .before .before .cut2 .result .now) _ (c .before .before .before .before .before .before .note-name2 .ensures .0)
+same-length c = c .before .loop .inv .long
 
--- src/noted.rt:84:1
+-- src/noted.rt:107:1
 same-length-2 : tie.Need-same-length-2 Inv-loop μ-loop
-same-length-2 c = reads-wide (c .before .before .before .before .before .before .before .before .before .before .before .before .loop .inv) (c .before .before .before .before .before .before .before .before .before .before .cut2 .result .now) _ (c .before .before .before .before .before .before .note-name2 .ensures .1 .0)
+same-length-2 c = c .before .loop .inv .wide
 
--- src/noted.rt:84:1
+-- src/noted.rt:107:1
 same-length-3 : tie.Need-same-length-3 Inv-loop μ-loop
-same-length-3 c = reads-tall (c .before .before .before .before .before .before .before .before .before .before .before .before .loop .inv) (c .before .before .before .before .before .before .before .before .before .before .cut2 .result .now) _ (c .before .before .before .before .before .before .note-name2 .ensures .1 .1)
+same-length-3 c = c .before .loop .inv .tall
 
--- src/noted.rt:84:1
+-- src/noted.rt:107:1
 returns : tie.Need-returns Inv-loop μ-loop
-returns c = reads-end (c .before .before .before .before .before .before .before .before .before .before .before .before .loop .inv) (c .before .before .before .before .before .before .before .before .before .before .cut2 .result .now) _ (let e = c .before .before .before .before .before .before .note-name2 .ensures in rw (e .0, e .1 .0, e .1 .1)) (c .before .before .before .before .before .before .before .before .before .before .before .loop-test .left) (c .before .before .before .before .before .before .before .before .before .before .cut2 .ensures)
+returns c = let a = c .before .before .before .before .before .before .before .args in reads-end (a .n) (a .h) (a .m) (c .before .loop .inv) (c .loop-test .left)
 
 pub note-runs-spec : {M : Type 1} → statement M
 note-runs-spec =
@@ -92,19 +77,14 @@ note-runs-spec =
     (tie.spec
     Inv-loop
     μ-loop
+    reg-start-requires
     loop-holds
-    shared-slice-read-is-name-byte
-    is-name-byte-requires
-    add-i
-    loop-less
-    loop-again
+    run-end-requires
     cut-requires
     note-name-requires
-    add-i-2
-    loop-less-2
-    loop-again-2
-    cut-requires-2
-    note-name-requires-2
+    reg-start-requires-2
+    loop-less
+    loop-again
     same-length
     same-length-2
     same-length-3
