@@ -25,7 +25,7 @@ up-at b (x ∷ l) h = go (eqb x b) refl h (up-at b l)
     go true e k f = eqb-true x b e
     go false e k f = f (omega arith)
 
-part-join : (t : List ℕ) (c i n : ℕ) → c ≤ i → i ≤ n → part c n t ≡ part c i t ++ part i n t
+pub part-join : (t : List ℕ) (c i n : ℕ) → c ≤ i → i ≤ n → part c n t ≡ part c i t ++ part i n t
 part-join t c i n h k =
     let z : n - c ≡ i - c + (n - i) = omega arith in
     let y : c + (i - c) ≡ i = omega arith in
@@ -75,15 +75,18 @@ module _ (t : List ℕ) (c i e n : ℕ) (h : c ≤ i) (k : i < length t) (q : e 
       ∙ append-assoc (part c i t) y (missingLf y)
       ∙ ap (λ (r : List ℕ). part c i t ++ r) (sym (lines-text y) ∙ ap unlines one-line))
 
-  -- where lines follow
-  pub chunk-open : n < length t → part c i t ++ (part i e t ++ 10 ∷ []) ≡ part c n t
-  chunk-open g =
-      let w = inside in
+  -- where it has its LF
+  pub chunk-lf : e < length t → part c i t ++ (part i e t ++ 10 ∷ []) ≡ part c n t
+  chunk-lf g =
       let v : e + 1 ≡ n = omega arith in
       let u : upTo 10 (drop i t) < length (drop i t) = omega (arith, length-drop i t) in
       let b : getD t e 0 ≡ 10 = ap (λ (m : ℕ). getD t m 0) q ∙ sym (getD-drop i t (upTo 10 (drop i t)) 0) ∙ up-at 10 (drop i t) u in
       ap (λ (r : List ℕ). part c i t ++ r) (ap (λ (x : ℕ). part i e t ++ x ∷ []) (sym b) ∙ sym (part-more t i e (omega arith) (omega arith)) ∙ ap (λ (m : ℕ). part i m t) v)
       ∙ sym (part-join t c i n h (omega arith))
+
+  -- where lines follow
+  pub chunk-open : n < length t → part c i t ++ (part i e t ++ 10 ∷ []) ≡ part c n t
+  chunk-open g = let w = inside in chunk-lf (omega arith)
 
 -- no line
 pub chunk-none : (t : List ℕ) (i : ℕ) → length t ≤ i → [] ≡ unlines (linesOf (part i (length t) t))

@@ -3,6 +3,7 @@ pub mod TrimRuns
 pub mod SeenLaws
 pub mod LineRuns
 pub mod Chunks
+pub mod Stretches
 pub mod MarkRuns
 pub mod Writes
 pub mod Passes

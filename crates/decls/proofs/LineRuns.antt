@@ -30,7 +30,7 @@ use Rattle.decls.proofs.SeenLaws.{runs-flush}
 
 -- ---- a text cut in two at a byte that is no name byte
 
-mid-runs : (a : List ℕ) (x : ℕ) (b cur : List ℕ) → isName x ≡ false → runsGo (a ++ x ∷ b) cur ≡ runsGo a cur ++ runsGo b []
+pub mid-runs : (a : List ℕ) (x : ℕ) (b cur : List ℕ) → isName x ≡ false → runsGo (a ++ x ∷ b) cur ≡ runsGo a cur ++ runsGo b []
 unfolding runsGo
 mid-runs [] x b cur h = go-gap x b cur h
 mid-runs (y ∷ a) x b cur h =

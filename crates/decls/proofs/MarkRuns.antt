@@ -7,20 +7,20 @@ use native.Mathlib.Omega.{arith}
 use native.Mathlib.Numerals.{add-one}
 use borrow.Author.Tests.{eq-eqb, eqb-true, ltb-true, ltb-false}
 use lib.Dec.{eqb, ltb}
-use lib.ListN.{length, take, drop, getD, length-append, length-drop, drop-of-length-le}
-use lib.Seq.{drop-cons, drop-drop, getD-drop}
+use lib.ListN.{length, take, drop, getD, set, length-append, length-drop, drop-of-length-le}
+use lib.Seq.{drop-cons, drop-drop, getD-take, getD-drop, length-take-le}
 use Rattle.lines.specs.Lf.{part, upTo, prefixed}
 use Rattle.lines.proofs.Tests.{no, and-false, eqb-sym}
 use Rattle.text.specs.Class.{isName}
-use Rattle.names.specs.Names.{isDigit, numbered, numberOf, regOf}
-use Rattle.names.proofs.Texts.{reg-first}
+use Rattle.names.specs.Names.{isDigit, numberOf, regBy, regOf}
+use Rattle.names.proofs.Texts.{reg-first, reg-two, digit-is}
 use Rattle.parse.proofs.Plain.{inside, name-at}
-use Rattle.parse.proofs.PlainLine.{first-taken}
+use Rattle.parse.proofs.PlainLine.{first-taken, bare-none}
 use Rattle.names.specs.declared.RegName.{RegName}
 use Rattle.names.specs.declared.RegName.the-variants as name
 use Rattle.words.specs.Runs.{upBy, runLen, runsGo, runs}
 use Rattle.decls.specs.Seen.{nameBefore, runOf, runAt, markName, markRuns}
-use Rattle.words.proofs.RunLaws.{up-on}
+use Rattle.words.proofs.RunLaws.{up-here, up-on, up-end}
 use Rattle.words.proofs.Walk.{go-name, go-gap}
 use Rattle.decls.proofs.SeenLaws.{name-length, runs-flush}
 use Rattle.decls.proofs.Chunks.{up-at}
@@ -224,6 +224,30 @@ run-two s i e f =
     let b = up-on (λ (x : ℕ). not (isName x)) s (i + 1) (name-inside s (i + 1) f) (ap not f) in
     omega (arith, a, b, ap (λ (n : ℕ). runLen (drop n s)) z)
 
+-- where it is a digit, it is a name byte
+pub digit-name : (x : ℕ) → isDigit x ≡ true → isName x ≡ true
+digit-name x e = rw e
+
+-- no run stands at another byte
+run-ends : (s : List ℕ) (i : ℕ) → isName (getD s i 0) ≡ false → runLen (drop i s) ≡ 0
+run-ends s i e = go (ltb i (length s)) refl
+  where
+    go : (t : Bool) → ltb i (length s) ≡ t → runLen (drop i s) ≡ 0
+    go true q = up-here (λ (x : ℕ). not (isName x)) s i (ltb-true i (length s) q) (ap not e)
+    go false q = up-end (λ (x : ℕ). not (isName x)) s i (ltb-false i (length s) q)
+
+-- a run of `r` and one digit
+pub run-short : (s : List ℕ) (i d : ℕ) → getD s i 0 ≡ 114 → d ≡ getD s (i + 1) 0 → isDigit d ≡ true → isName (getD s (i + 2) 0) ≡ false → regOf (runAt i s) ≡ name.Reg (record { 0 = d - 48 })
+run-short s i d e p f n =
+    let g : isName (getD s (i + 1) 0) ≡ true = ap (λ (x : ℕ). isName x) (sym p) ∙ digit-name d f in
+    let b : i + 1 < length s = name-inside s (i + 1) g in
+    let k : runLen (drop i s) ≡ 2 = omega (arith, run-two s i (ap (λ (x : ℕ). isName x) e) g, run-ends s (i + 2) n) in
+    let z : i + 0 ≡ i = omega arith in
+    let l : length (take 2 (drop i s)) ≡ 2 = length-take-le 2 (drop i s) (omega (arith, length-drop i s)) in
+    let x : getD (take 2 (drop i s)) 0 0 ≡ 114 = getD-take 2 (drop i s) 0 0 (omega arith) ∙ getD-drop i s 0 0 ∙ ap (λ (j : ℕ). getD s j 0) z ∙ e in
+    let y : getD (take 2 (drop i s)) 1 0 ≡ d = getD-take 2 (drop i s) 1 0 (omega arith) ∙ getD-drop i s 1 0 ∙ sym p in
+    ap (λ (j : ℕ). regOf (take j (drop i s))) k ∙ reg-two (take 2 (drop i s)) l x ∙ ap (λ (c : ℕ). regBy (numberOf (c ∷ []))) y ∙ digit-is d f
+
 -- ---- a run that names no register
 
 -- it does not begin with `r`
@@ -232,23 +256,12 @@ run-other s i n =
     let z : i + 0 ≡ i = omega arith in
     reg-first (runAt i s) (first-taken 114 (λ e. absurd (omega arith)) (runLen (drop i s)) (drop i s) (λ e. n (ap (λ (k : ℕ). getD s k 0) (sym z) ∙ sym (getD-drop i s 0 0) ∙ e)))
 
-bare-none : (n : ℕ) (l : List ℕ) → isDigit (getD l 0 0) ≡ false → regOf (114 ∷ take n l) ≡ name.None
-unfolding regOf prefixed numberOf numbered
-bare-none zero l e = refl
-bare-none (suc n) [] e = refl
-bare-none (suc n) (x ∷ l) e = rw e
-
 -- no digit stands behind the `r`
 pub run-bare : (s : List ℕ) (i : ℕ) → getD s i 0 ≡ 114 → isDigit (getD s (i + 1) 0) ≡ false → regOf (runAt i s) ≡ name.None
-run-bare s i e f = ap (λ (l : List ℕ). regOf (take (runLen (drop i s)) l)) (name-at s i e) ∙ go (runLen (drop i s))
-  where
-    go : (n : ℕ) → regOf (take n (114 ∷ drop (i + 1) s)) ≡ name.None
-    go zero = reg-first [] (λ z. absurd (omega arith))
-    go (suc n) = let z : i + 1 + 0 ≡ i + 1 = omega arith in bare-none n (drop (i + 1) s) (ap (λ (x : ℕ). isDigit x) (getD-drop (i + 1) s 0 0 ∙ ap (λ (k : ℕ). getD s k 0) z) ∙ f)
-
--- where it is a digit, it is a name byte
-pub digit-name : (x : ℕ) → isDigit x ≡ true → isName x ≡ true
-digit-name x e = rw e
+run-bare s i e f =
+    let z : i + 1 + 0 ≡ i + 1 = omega arith in
+    ap (λ (l : List ℕ). regOf (take (runLen (drop i s)) l)) (name-at s i e)
+    ∙ bare-none (runLen (drop i s)) (drop (i + 1) s) (ap (λ (x : ℕ). isDigit x) (getD-drop (i + 1) s 0 0 ∙ ap (λ (k : ℕ). getD s k 0) z) ∙ f)
 
 pub before-is : (s : List ℕ) (i : ℕ) (b : ℕ) → (i ≡ 0 → ⊥) → b ≡ getD s (i - 1) 0 → nameBefore i s ≡ isName b
 before-is s zero b n q = absurd (n refl)
@@ -267,3 +280,7 @@ module _ (m : ℕ) (s d : List ℕ) (i : ℕ) where
 
   pub mark-free : (d′ : List ℕ) → nameBefore i s ≡ false → d′ ≡ markName m (regOf (runAt i s)) d → d′ ≡ cond (nameBefore i s) d (markName m (regOf (runAt i s)) d)
   mark-free d′ e x = x ∙ sym (ap (λ (b : Bool). cond b d (markName m (regOf (runAt i s)) d)) e)
+
+  pub mark-short : (d′ : List ℕ) (x : ℕ) → nameBefore i s ≡ false → getD s i 0 ≡ 114 → x ≡ getD s (i + 1) 0 → isDigit x ≡ true → isName (getD s (i + 2) 0) ≡ false → d′ ≡ set d (x - 48) m →
+      d′ ≡ cond (nameBefore i s) d (markName m (regOf (runAt i s)) d)
+  mark-short d′ x e p q f n y = mark-free d′ e (y ∙ sym (ap (λ (r : RegName). markName m r d) (run-short s i x p q f n)))

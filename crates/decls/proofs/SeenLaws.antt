@@ -40,7 +40,7 @@ pub name-length : (m : ℕ) (r : RegName) (d : List ℕ) → length (markName m 
 name-length m name.None d = refl
 name-length m (name.Reg q) d = length-set d (q .0) m
 
-runs-length : (m : ℕ) (rs : List (List ℕ)) (d : List ℕ) → length (markRuns m rs d) ≡ length d
+pub runs-length : (m : ℕ) (rs : List (List ℕ)) (d : List ℕ) → length (markRuns m rs d) ≡ length d
 unfolding markRuns
 runs-length m [] d = refl
 runs-length m (r ∷ rs) d = runs-length m rs (markName m (regOf r) d) ∙ name-length m (regOf r) d

@@ -61,7 +61,7 @@ fn name_before(s: &[u8], i: usize) -> bool
     text::is_name_byte(lines::byte_at(s, i - 1))
 }
 
-// The same, where no name byte stands before the place: it begins with `r` and a digit, where it names one.
+// The same, where no name byte stands before the place: it begins with `r` and a digit, where it names one. One of one digit is told at once.
 fn mark_at(s: &[u8], i: usize, m: usize, seen: &mut [usize])
     ensures { λ _. ⌜ now (seen .exit) ≡ cond (nameBefore i (now (s .entry))) (now (seen .entry)) (markName m (regOf (runAt i (now (s .entry)))) (now (seen .entry))) ⌝ }
 {
@@ -73,6 +73,10 @@ fn mark_at(s: &[u8], i: usize, m: usize, seen: &mut [usize])
         return;
     }
     if name_before(s, i) {
+        return;
+    }
+    if !text::is_name_byte(lines::byte_at(s, i + 2)) {
+        mark_reg(names::Register((d - b'0') as u64), m, seen);
         return;
     }
     mark_run(s, i, m, seen);
@@ -109,6 +113,7 @@ struct Reach {
 }
 
 // Marks the registers that some line of the region uses that begins at `a`, and returns where it ends. The line at `i` is a declaration.
+// The lines from `q` on are no declarations, and are marked at once where one follows or the region ends.
 fn mark_region(text: &[u8], a: usize, m: usize, i: usize, seen: &mut [usize]) -> Reach
     requires { ⌜ isDecl (trimOf (part i (i + upTo 10 (drop i (now text))) (now text))) ≡ true ⌝ }
     ensures answer { λ r. ⌜ (r .end ≡ a + regionLen (drop a (now (text .entry)))) × (Quiet (now (text .entry)) (r .quiet) (r .end)) ⌝ }
@@ -125,18 +130,22 @@ fn mark_region(text: &[u8], a: usize, m: usize, i: usize, seen: &mut [usize]) ->
         let f = lines::find_byte(text, j, 10);
         let line = lines::cut(text, j, f);
         if place::is_header(line) {
+            mark_runs(lines::cut(text, q, j), m, seen);
             return Reach { end: j, quiet: q };
         }
         if j == i {
+            mark_runs(lines::cut(text, q, j), m, seen);
             j = lines::after(text, f);
             q = j;
-        } else if mark_line(line, m, seen) {
+        } else if parse::declares(line) {
+            mark_runs(lines::cut(text, q, j), m, seen);
             j = lines::after(text, f);
             q = j;
         } else {
             j = lines::after(text, f);
         }
     }
+    mark_runs(lines::cut(text, q, j), m, seen);
     Reach { end: j, quiet: q }
 }
 

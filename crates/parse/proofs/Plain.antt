@@ -20,7 +20,7 @@ use Rattle.names.specs.Names.{isDigit, allDigits, value, regBy, regOf}
 use Rattle.names.specs.declared.Number.{Number}
 use Rattle.names.proofs.Digits.{number-is}
 use Rattle.names.proofs.Decimal.{value-lt}
-use Rattle.parse.specs.Parse.{isReg, digitsLen, plainByte}
+use Rattle.parse.specs.Parse.{isReg, digitsLen, shortReg, plainByte}
 
 -- ---- digits at the front
 
@@ -229,3 +229,20 @@ module _ (s : List ℕ) (i a e : ℕ) (p : a ≡ cond (eqb (getD s i 0) 32) (i +
           so-is (suc (suc (digitsLen rest))) (32 ∷ 114 ∷ rest)
           (drop-cons s i 0 h ∙ ap (λ (x : ℕ). x ∷ drop (suc i) s) g ∙ ap (λ (n : ℕ). 32 ∷ drop n s) (sym (add-one i) ∙ sym z) ∙ ap (λ (l : List ℕ). 32 ∷ l) (name-at s a r))
           (omega arith) (plain-spaced rest (omega arith) (omega arith) ends)
+
+-- one digit, and a comma behind it
+pub short-room : (s : List ℕ) (a : ℕ) → shortReg a s ≡ true → a + 3 ≤ length s
+short-room s a v = leb-true (a + 3) (length s) (and-left (leb (a + 3) (length s)) _ v)
+
+pub short-at : (s : List ℕ) (i a : ℕ) → a ≡ cond (eqb (getD s i 0) 32) (i + 1) i → shortReg a s ≡ true → (a + 2 ≡ i + upTo 44 (drop i s)) × (isReg (regOf (trimOf (part i (a + 2) s))) ≡ true)
+short-at s i a p v =
+    let h = short-room s a v in
+    let x = and-right (leb (a + 3) (length s)) _ v in
+    let y = and-right (eqb (getD s a 0) 114) _ x in
+    let r : getD s a 0 ≡ 114 = eqb-true (getD s a 0) 114 (and-left (eqb (getD s a 0) 114) _ x) in
+    let d : isDigit (getD s (a + 1) 0) ≡ true = and-left (isDigit (getD s (a + 1) 0)) _ y in
+    let c : getD s (a + 2) 0 ≡ 44 = eqb-true (getD s (a + 2) 0) 44 (and-right (isDigit (getD s (a + 1) 0)) _ y) in
+    let z : a + 1 + 1 ≡ a + 2 = omega arith in
+    let m : digitsLen (drop (a + 1 + 1) s) ≡ 0 = digits-here s (a + 1 + 1) (omega arith) (ap (λ (n : ℕ). isDigit (getD s n 0)) z ∙ ap (λ (b : ℕ). isDigit b) c) in
+    let q : a + 2 ≡ a + 1 + digitsLen (drop (a + 1) s) = omega (arith, digits-on s (a + 1) (omega arith) d) in
+    plain-at s i a (a + 2) p r q (omega arith) (omega arith) (λ k. c)

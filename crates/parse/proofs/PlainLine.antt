@@ -13,7 +13,7 @@ use Rattle.lines.proofs.LfLaws.{rest-of}
 use Rattle.lines.proofs.Tests.{no, and-false, and-left, and-right}
 use Rattle.text.specs.Trim.{lead, fromOf, endWhite, toOf, toEnd, trimStart, trimOf}
 use Rattle.text.proofs.Trims.{fromOf-le, toOf-le, front-space, front-told, back-space, back-told}
-use Rattle.names.specs.Names.{regOf}
+use Rattle.names.specs.Names.{isDigit, numbered, numberOf, regOf}
 use Rattle.names.specs.declared.Register.{Register}
 use Rattle.names.specs.declared.RegName.{RegName}
 use Rattle.names.specs.declared.RegName.the-variants as name
@@ -45,6 +45,36 @@ decl-other l a p n =
     let z : a ≡ fromOf l + 0 = omega arith in
     decl-first (trimOf l) (first-taken 108 (λ e. absurd (omega arith)) (toOf r) r (λ e. n (ap (λ (k : ℕ). getD l k 0) z ∙ sym (getD-drop (fromOf l) l 0 0) ∙ e)))
 
+-- ---- a line that begins with c, and then with r: of what is taken from it nothing names a register
+
+empty-none : regOf (trimOf []) ≡ name.None
+unfolding regOf prefixed trimOf fromOf toOf lead endWhite
+empty-none = refl
+
+module _ (c : ℕ) (r : List ℕ) (none : (k m x : ℕ) → regOf (trimOf (take k (take m (take x (c ∷ r))))) ≡ name.None) where
+  store-none-of : (b x : ℕ) → storeIn b (take x (c ∷ r)) ≡ line.Other
+  unfolding storeIn
+  store-none-of b x = go (endsIn 59 (take x (c ∷ r)))
+    where
+      u : List ℕ
+      u = take (length (take x (c ∷ r)) - 1) (take x (c ∷ r))
+
+      by : (g : Bool) → cond g (storeBy (regOf (trimOf (take (upTo 61 u) u))) (b + (upTo 61 u + 1)) (drop (upTo 61 u + 1) u)) line.Other ≡ line.Other
+      by true = ap (λ (k : RegName). storeBy k (b + (upTo 61 u + 1)) (drop (upTo 61 u + 1) u)) (none (upTo 61 u) (length (take x (c ∷ r)) - 1) x)
+      by false = refl
+
+      go : (w : Bool) → cond w (splitStore b u) line.Other ≡ line.Other
+      go true = by (ltb (upTo 61 u) (length u) && not (eqb (getD u (upTo 61 u + 1) 0) 61))
+      go false = refl
+
+  parse-none : (l : List ℕ) (a : ℕ) → a ≡ fromOf l → drop a l ≡ c ∷ r → isDecl (trimOf l) ≡ false → line.Other ≡ parseOf l
+  unfolding parseOf trimOf
+  parse-none l a p e d =
+      let x : ℕ = toOf (drop (fromOf l) l) in
+      sym
+      (ap (λ (b : Bool). cond b line.Decl (storeIn (fromOf l) (trimOf l))) d
+      ∙ ap (λ (y : List ℕ). storeIn (fromOf l) (take x y)) (ap (λ (i : ℕ). drop i l) (sym p) ∙ e) ∙ store-none-of (fromOf l) x)
+
 -- ---- a line that begins with another byte than `l` and `r`
 
 module _ (c : ℕ) (t : plainByte c ≡ true) (n : c ≡ 114 → ⊥) where
@@ -55,41 +85,57 @@ module _ (c : ℕ) (t : plainByte c ≡ true) (n : c ≡ 114 → ⊥) where
       (first-taken 114 (λ z. absurd (omega arith)) (toOf (trimStart y)) (trimStart y)
       (λ z. n (sym e ∙ ap (λ (k : ℕ). getD (drop k y) 0 0) (starts-plain y (ap (λ (b : ℕ). plainByte b) e ∙ t)) ∙ z)))
 
-  empty-none : regOf (trimOf []) ≡ name.None
-  unfolding regOf prefixed trimOf fromOf toOf lead endWhite
-  empty-none = refl
-
-  taken-none : (k m x : ℕ) (r : List ℕ) → regOf (trimOf (take k (take m (take x (c ∷ r))))) ≡ name.None
-  taken-none zero m x r = empty-none
-  taken-none (suc k) zero x r = empty-none
-  taken-none (suc k) (suc m) zero r = empty-none
-  taken-none (suc k) (suc m) (suc x) r = trim-none (c ∷ take k (take m (take x r))) refl
-
-  store-none-of : (b x : ℕ) (r : List ℕ) → storeIn b (take x (c ∷ r)) ≡ line.Other
-  unfolding storeIn
-  store-none-of b x r = go (endsIn 59 (take x (c ∷ r)))
-    where
-      u : List ℕ
-      u = take (length (take x (c ∷ r)) - 1) (take x (c ∷ r))
-
-      by : (g : Bool) → cond g (storeBy (regOf (trimOf (take (upTo 61 u) u))) (b + (upTo 61 u + 1)) (drop (upTo 61 u + 1) u)) line.Other ≡ line.Other
-      by true = ap (λ (k : RegName). storeBy k (b + (upTo 61 u + 1)) (drop (upTo 61 u + 1) u)) (taken-none (upTo 61 u) (length (take x (c ∷ r)) - 1) x r)
-      by false = refl
-
-      go : (w : Bool) → cond w (splitStore b u) line.Other ≡ line.Other
-      go true = by (ltb (upTo 61 u) (length u) && not (eqb (getD u (upTo 61 u + 1) 0) 61))
-      go false = refl
+  taken-none : (r : List ℕ) (k m x : ℕ) → regOf (trimOf (take k (take m (take x (c ∷ r))))) ≡ name.None
+  taken-none r zero m x = empty-none
+  taken-none r (suc k) zero x = empty-none
+  taken-none r (suc k) (suc m) zero = empty-none
+  taken-none r (suc k) (suc m) (suc x) = trim-none (c ∷ take k (take m (take x r))) refl
 
   pub parse-other : (l : List ℕ) (a : ℕ) → a ≡ fromOf l → c ≡ getD l a 0 → isDecl (trimOf l) ≡ false → line.Other ≡ parseOf l
-  unfolding parseOf trimOf
   parse-other l a p e d =
       let k = plain-above c t in
       let h : a < length l = inside l a (λ z. absurd (omega arith)) in
-      let r : drop (fromOf l) l ≡ c ∷ drop (suc a) l = ap (λ (i : ℕ). drop i l) (sym p) ∙ drop-cons l a 0 h ∙ ap (λ (x : ℕ). x ∷ drop (suc a) l) (sym e) in
-      let x : ℕ = toOf (drop (fromOf l) l) in
-      sym
-      (ap (λ (b : Bool). cond b line.Decl (storeIn (fromOf l) (trimOf l))) d
-      ∙ ap (λ (y : List ℕ). storeIn (fromOf l) (take x y)) r ∙ store-none-of (fromOf l) x (drop (suc a) l))
+      parse-none c (drop (suc a) l) (taken-none (drop (suc a) l)) l a p (drop-cons l a 0 h ∙ ap (λ (x : ℕ). x ∷ drop (suc a) l) (sym e)) d
+
+-- ---- a line that begins with `r` and no digit behind it
+
+-- what is taken from such a text names no register
+pub bare-none : (n : ℕ) (l : List ℕ) → isDigit (getD l 0 0) ≡ false → regOf (take n (114 ∷ l)) ≡ name.None
+unfolding regOf prefixed numberOf numbered
+bare-none zero l e = refl
+bare-none (suc zero) l e = refl
+bare-none (suc (suc n)) [] e = refl
+bare-none (suc (suc n)) (x ∷ l) e = rw e
+
+bare-trim : (w : List ℕ) → isDigit (getD w 0 0) ≡ false → regOf (trimOf (114 ∷ w)) ≡ name.None
+unfolding trimOf
+bare-trim w e = ap (λ (k : ℕ). regOf (take (toOf (drop k (114 ∷ w))) (drop k (114 ∷ w)))) (sym (starts-plain (114 ∷ w) refl)) ∙ bare-none (toOf (114 ∷ w)) w e
+
+digit-taken : (n : ℕ) (l : List ℕ) → isDigit (getD l 0 0) ≡ false → isDigit (getD (take n l) 0 0) ≡ false
+digit-taken zero l e = refl
+digit-taken (suc n) [] e = refl
+digit-taken (suc n) (x ∷ l) e = e
+
+bare-taken : (r : List ℕ) → isDigit (getD r 0 0) ≡ false → (k m x : ℕ) → regOf (trimOf (take k (take m (take x (114 ∷ r))))) ≡ name.None
+bare-taken r e zero m x = empty-none
+bare-taken r e (suc k) zero x = empty-none
+bare-taken r e (suc k) (suc m) zero = empty-none
+bare-taken r e (suc k) (suc m) (suc x) = bare-trim (take k (take m (take x r))) (digit-taken k (take m (take x r)) (digit-taken m (take x r) (digit-taken x r e)))
+
+digits-none : (l : List ℕ) → digitsLen l ≡ 0 → isDigit (getD l 0 0) ≡ false
+unfolding digitsLen
+digits-none [] h = refl
+digits-none (x ∷ l) h = go (isDigit x) h
+  where
+    go : (t : Bool) → cond t (suc (digitsLen l)) 0 ≡ 0 → t ≡ false
+    go true k = absurd (omega arith)
+    go false k = refl
+
+-- e is where the digits end
+pub parse-bare : (l : List ℕ) (a e : ℕ) → a ≡ fromOf l → getD l a 0 ≡ 114 → e ≡ a + 1 + digitsLen (drop (a + 1) l) → e - a < 2 → line.Other ≡ parseOf l
+parse-bare l a e p r q h =
+    let z : digitsLen (drop (a + 1) l) ≡ 0 = omega arith in
+    parse-none 114 (drop (a + 1) l) (bare-taken (drop (a + 1) l) (digits-none (drop (a + 1) l) z)) l a p (name-at l a r) (decl-other l a p (λ x. absurd (omega arith)))
 
 -- the test of its byte
 pub plain-test : (c : ℕ) → ltb c 33 || ltb 127 c ≡ false → plainByte c ≡ true

@@ -37,6 +37,10 @@ unfoldable pub digitsLen : List ℕ → ℕ
 digitsLen [] = 0
 digitsLen (x ∷ xs) = cond (isDigit x) (suc (digitsLen xs)) 0
 
+-- at the place a stand `r`, one digit and a comma
+abbrev pub shortReg : ℕ → List ℕ → Bool
+shortReg a l = leb (a + 3) (length l) && (eqb (getD l a 0) 114 && (isDigit (getD l (a + 1) 0) && eqb (getD l (a + 2) 0) 44))
+
 -- a trimmed line is a declaration
 unfoldable pub isDecl : List ℕ → Bool
 isDecl t = ltb 4 (length t) && (prefixed letWord t && (endsIn 59 t && allRegs (partsOf 44 (bodyOf t))))

@@ -7,7 +7,7 @@ ghost use lib.ListN.{length, drop, getD};
 ghost use Rattle.lines.specs.Lf.{part, upTo, partsOf};
 ghost use Rattle.text.specs.Trim.{fromOf, trimOf};
 ghost use Rattle.names.specs.Names.{regOf};
-ghost use Rattle.parse.specs.Parse.{isReg, allRegs, digitsLen, isDecl, storeIn, splitStore, plainValue, parseOf, textOf};
+ghost use Rattle.parse.specs.Parse.{isReg, allRegs, digitsLen, shortReg, isDecl, storeIn, splitStore, plainValue, parseOf, textOf};
 
 // A store: its register, and the place of its value in the line.
 pub struct Store {
@@ -56,11 +56,29 @@ fn after_space(s: &[u8], i: usize) -> usize
     i
 }
 
+// Whether `r`, a digit and a comma stand at a place.
+fn short_reg(s: &[u8], a: usize) -> bool
+    ensures { λ r. ⌜ r ≡ shortReg a (now (s .entry)) ⌝ }
+{
+    let n = s.len();
+    if n < 3 {
+        return false;
+    }
+    if n - 3 < a {
+        return false;
+    }
+    let d = s[a + 1];
+    (s[a] == b'r') & (((b'0' <= d) & (d <= b'9')) & (s[a + 2] == b','))
+}
+
 // Where the piece at a place ends, where it is plainly a register: at most one space, `r` and at most nine digits. Else the place.
 fn plain_reg(s: &[u8], i: usize) -> usize
     ensures { λ r. ⌜ (i < r → (r ≡ i + upTo 44 (drop i (now (s .entry)))) × (isReg (regOf (trimOf (part i r (now (s .entry))))) ≡ true)) ⌝ }
 {
     let a = after_space(s, i);
+    if short_reg(s, a) {
+        return a + 2;
+    }
     if lines::byte_at(s, a) != b'r' {
         return i;
     }
@@ -195,12 +213,15 @@ fn plain_value(line: &[u8], e: usize) -> bool
                 & (((32 < x) & (x < 128)) & (((32 < y) & (y < 128)) & (line[n - 1] == b';')))))
 }
 
-// What a line is whose first byte that is no white space is an `r`, at the place `a`: most are plainly stores.
+// What a line is whose first byte that is no white space is an `r`, at the place `a`: most are plainly stores, and the others have no digit behind it.
 fn parse_store(line: &[u8], a: usize) -> Line
     requires { ⌜ (a ≡ fromOf (now line)) × (getD (now line) a 0 ≡ 114) ⌝ }
     ensures { λ r. ⌜ r ≡ parseOf (now (line .entry)) ⌝ }
 {
     let e = digits_end(line, a + 1);
+    if e - a < 2 {
+        return Line::Other;
+    }
     if !plain_value(line, e) {
         return parse_any(line);
     }
