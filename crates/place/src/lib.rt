@@ -19,19 +19,31 @@ ghost use Rattle.place.specs.Fill.{Filled, flagsOf};
 #[repr(C)]
 pub struct Region(pub usize);
 
-// Whether a line opens a region.
+// Whether a line opens a region: most lines begin with a space, and none of these does.
 pub fn is_header(line: &[u8]) -> bool
     ensures { λ r. ⌜ r ≡ isHeader (now (line .entry)) ⌝ }
 {
+    if lines::byte_at(line, 0) == 32 {
+        return false;
+    }
+    opens_region(line)
+}
+
+// The same, of any line.
+fn opens_region(line: &[u8]) -> bool
+    ensures { λ r. ⌜ r ≡ isHeader (now (line .entry)) ⌝ }
+{
     let x = lines::byte_at(line, 0);
-    if !((x == b'f') | ((x == b'l') | ((x == b'c') | (x == b'v')))) {
+    if x == b'f' {
+        return lines::starts_with(line, b"function ");
+    }
+    if !((x == b'l') | ((x == b'c') | (x == b'v'))) {
         return false;
     }
     !lines::starts_with(line, b"let phi")
-        & (lines::starts_with(line, b"function ")
-            | (lines::starts_with(line, b"var ")
-                | (lines::starts_with(line, b"let ")
-                    | (lines::starts_with(line, b"const ") | lines::starts_with(line, b"class ")))))
+        & (lines::starts_with(line, b"var ")
+            | (lines::starts_with(line, b"let ")
+                | (lines::starts_with(line, b"const ") | lines::starts_with(line, b"class "))))
 }
 
 // Where the region ends that the line at `i` opens, or is at the top of: at the next header, or at the end.
@@ -57,7 +69,10 @@ pub fn region_end(text: &[u8], i: usize) -> usize
 pub fn next_region(r: Region, line: &[u8]) -> Region
     ensures { λ q. ⌜ q .0 ≡ regionNext (r .0) (now (line .entry)) ⌝ }
 {
-    if !is_header(line) {
+    if lines::byte_at(line, 0) == 32 {
+        return r;
+    }
+    if !opens_region(line) {
         return r;
     }
     if r.0 < 18446744073709551615 {
