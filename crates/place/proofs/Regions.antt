@@ -9,7 +9,7 @@ use lib.Dec.{eqb, leb, ltb}
 use lib.ListN.{length, getD, take, drop, length-take, length-drop, drop-of-length-le}
 use lib.Seq.{drop-cons, drop-drop, take-all, take-nil, take-append-add, length-take-le}
 use Rattle.lines.specs.Lf.{part, upTo, linesOf, lacks, prefixed}
-use Rattle.lines.proofs.Tests.{no, eqb-sym}
+use Rattle.lines.proofs.Tests.{no, or-false, eqb-sym}
 use Rattle.lines.proofs.LfLaws.{upTo-le, lines-first, lines-line, drop-min}
 use Rattle.place.specs.Region.{functionWord, varWord, letWord, constWord, classWord, letPhi, isHeader, untilHeader, region, regionAt, upHeader, regionLen}
 
@@ -226,15 +226,11 @@ neither-head l x q n e = no-head l x q (ap (λ (b : Bool). b || (eqb x 108 || (e
 pub space-head : (l : List ℕ) (x : ℕ) → x ≡ getD l 0 0 → x ≡ 32 → false ≡ isHeader l
 space-head l x q e = no-head l x q (ap (λ (y : ℕ). eqb y 102 || (eqb y 108 || (eqb y 99 || eqb y 118))) e)
 
-or-none : (b : Bool) → b ≡ b || false
-or-none true = refl
-or-none false = refl
-
 -- one that begins with `f` is a header where it begins with `function `
 pub f-head : (l : List ℕ) (x : ℕ) → x ≡ getD l 0 0 → x ≡ 102 → prefixed functionWord l ≡ isHeader l
 unfolding isHeader prefixed
 f-head [] x q e = refl
-f-head (y ∷ l) x q e = rw (← q, e) (or-none _)
+f-head (y ∷ l) x q e = rw (← q, e) (sym (or-false _))
 
 -- and another where it begins with one of the other words
 pub other-head : (l : List ℕ) (x : ℕ) → x ≡ getD l 0 0 → (x ≡ 102 → ⊥) →
