@@ -177,14 +177,15 @@ pub struct At {
     pub last: u16,
 }
 
-// The braces of a line, token by token, from the block `block`, with `n` blocks known; the line begins with `k` plain bytes.
-fn walk_tokens(line: &[u8], k: usize, block: u32, up: &mut [u32], n: usize) -> At
-    requires { ⌜ (k ≡ plainLen (now line)) × Room (idsPost (now line)) block (now up) n ⌝ }
+// The braces of a line, token by token, from the block `block`, with `n` blocks known.
+fn walk_tokens(line: &[u8], block: u32, up: &mut [u32], n: usize) -> At
+    requires { ⌜ Room (idsPost (now line)) block (now up) n ⌝ }
     ensures { λ r. ⌜ (Moved (idsPost (now (line .entry))) block (now (up .entry)) n (r .block) (now (up .exit)) (r .next))
         × (r .last ≡ lastOf (stripLexical (now (line .entry)))) ⌝ }
 {
-    let mut i = k;
-    let mut tail = lexical::plain_tail(line, 0, lexical::no_tail());
+    let head = lexical::plain_run(line, 0, lexical::no_tail());
+    let mut i = head.end;
+    let mut tail = head.tail;
     let mut c = block;
     let mut m = n;
     while i < line.len() {
@@ -194,8 +195,9 @@ fn walk_tokens(line: &[u8], k: usize, block: u32, up: &mut [u32], n: usize) -> A
         let x = left(kind, b, c, up, m);
         c = x.block;
         m = x.next;
-        i = lexical::plain_end(line, step.next);
-        tail = lexical::plain_tail(line, step.next, step.tail);
+        let run = lexical::plain_run(line, step.next, step.tail);
+        i = run.end;
+        tail = run.tail;
     }
     At {
         block: c,
@@ -204,7 +206,7 @@ fn walk_tokens(line: &[u8], k: usize, block: u32, up: &mut [u32], n: usize) -> A
     }
 }
 
-// The same, where most lines need no tokens: they are plain, or they end in a brace and are plain before it.
+// The same of a line that begins with `k` plain bytes; most lines need no tokens: they are plain, or they end in a brace and are plain before it.
 fn walk_from(line: &[u8], k: usize, block: u32, up: &mut [u32], n: usize) -> At
     requires { ⌜ (k ≡ plainLen (now line)) × Room (idsPost (now line)) block (now up) n ⌝ }
     ensures { λ r. ⌜ (Moved (idsPost (now (line .entry))) block (now (up .entry)) n (r .block) (now (up .exit)) (r .next))
@@ -226,7 +228,7 @@ fn walk_from(line: &[u8], k: usize, block: u32, up: &mut [u32], n: usize) -> At
             last: b as u16,
         };
     }
-    walk_tokens(line, k, block, up, n)
+    walk_tokens(line, block, up, n)
 }
 
 // The braces of a line as `block_ids` counts them, from the block `block`, with `n` blocks known.
@@ -235,7 +237,7 @@ pub fn walk_line(line: &[u8], block: u32, up: &mut [u32], n: usize) -> At
     ensures { λ r. ⌜ (Moved (idsPost (now (line .entry))) block (now (up .entry)) n (r .block) (now (up .exit)) (r .next))
         × (r .last ≡ lastOf (stripLexical (now (line .entry)))) ⌝ }
 {
-    walk_from(line, lexical::plain_end(line, 0), block, up, n)
+    walk_from(line, lexical::plain_to(line), block, up, n)
 }
 
 // Whether the line below may begin a statement: where a cleaned line is blank, whether that one might, and else whether it ends in
@@ -264,12 +266,11 @@ pub fn place_lines(text: &[u8], blocks: &mut [usize], starts: &mut [u8], up: &mu
     let mut n = 0;
     let mut st = true;
     while i < text.len() {
-        let p = lexical::plain_end(text, i);
-        let e = lines::find_byte(text, p, 10);
+        let e = lines::find_byte(text, i, 10);
         blocks[k] = wide(c);
         starts[k] = flag(st);
         k += 1;
-        let x = walk_from(&text[i..e], p - i, c, up, n);
+        let x = walk_line(&text[i..e], c, up, n);
         c = x.block;
         n = x.next;
         st = starts_after(x.last, st);
