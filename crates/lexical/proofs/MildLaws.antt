@@ -11,7 +11,7 @@ use lib.Seq.{drop-drop}
 use Rattle.lines.specs.Lf.{all, lacks}
 use Rattle.lines.proofs.Tests.{no, and-true, and-left, and-right}
 use Rattle.lines.proofs.LfLaws.{eight-is}
-use Rattle.lexical.specs.Plain.{isPlain, plainLen, isMild}
+use Rattle.lexical.specs.Plain.{isPlain, plainLen, isMild, tame}
 use Rattle.lexical.proofs.EndLaws.{ends}
 use Rattle.lexical.proofs.PlainLaws.{none-of}
 
@@ -57,9 +57,32 @@ plain-skip (suc n) (x ∷ l) h a b c =
     let k = plain-skip n l (omega arith) (and-right (isMild x) (all (λ (y : ℕ). isMild y) (take n l)) a) (p .1) (q .1) in
     rw m (omega (arith, k))
 
-pub eight-on : (s : List ℕ) (j : ℕ) (a b c : Bool) → j + 8 ≤ length s → a ≡ all (λ (x : ℕ). isMild x) (take 8 (drop j s)) → b ≡ lacks 47 (take 8 (drop j s)) → c ≡ lacks 96 (take 8 (drop j s)) →
-    (a && (b && c)) ≡ true → ends plainLen s (j + 8) ≡ ends plainLen s j
-eight-on s j a b c h p q r t =
-    let u = and-right a (b && c) t in
-    let k = plain-skip 8 (drop j s) (omega (arith, length-drop j s)) (sym p ∙ and-left a (b && c) t) (sym q ∙ and-left b c u) (sym r ∙ and-right b c u) in
-    omega (arith, k, ap plainLen (drop-drop 8 j s))
+-- from a plain byte on
+plain-inner : (k : ℕ) (l : List ℕ) → k ≤ plainLen l → plainLen l ≡ k + plainLen (drop k l)
+unfolding plainLen
+plain-inner zero l h = omega arith
+plain-inner (suc k) [] h = absurd (omega arith)
+plain-inner (suc k) (x ∷ l) h = go (isPlain x) h (plain-inner k l)
+  where
+    go : (b : Bool) → suc k ≤ cond b (suc (plainLen l)) 0 → (k ≤ plainLen l → plainLen l ≡ k + plainLen (drop k l)) → cond b (suc (plainLen l)) 0 ≡ suc k + plainLen (drop k l)
+    go true g f = let r = f (omega arith) in omega arith
+    go false g f = absurd (omega arith)
+
+module _ (s : List ℕ) (m : ℕ) (h : m + 8 ≤ length s) (t : tame (take 8 (drop m s)) ≡ true) where
+  tame-eight : plainLen (drop m s) ≡ 8 + plainLen (drop 8 (drop m s))
+  unfolding tame
+  tame-eight =
+      let l : List ℕ = take 8 (drop m s) in
+      let u = and-right (all (λ (x : ℕ). isMild x) l) (lacks 47 l && lacks 96 l) t in
+      plain-skip 8 (drop m s) (omega (arith, length-drop m s)) (and-left (all (λ (x : ℕ). isMild x) l) (lacks 47 l && lacks 96 l) t) (and-left (lacks 47 l) (lacks 96 l) u) (and-right (lacks 47 l) (lacks 96 l) u)
+
+  -- past eight tame bytes
+  pub tame-on : ends plainLen s (m + 8) ≡ ends plainLen s m
+  tame-on = omega (arith, tame-eight, ap plainLen (drop-drop 8 m s))
+
+  -- the same from one of them on
+  pub tame-over : (j : ℕ) → m ≤ j → j ≤ m + 8 → ends plainLen s (m + 8) ≡ ends plainLen s j
+  tame-over j p q =
+      let k : m + (j - m) ≡ j = omega arith in
+      let z : plainLen (drop (j - m) (drop m s)) ≡ plainLen (drop j s) = ap plainLen (drop-drop (j - m) m s) ∙ ap (λ (i : ℕ). plainLen (drop i s)) k in
+      omega (arith, plain-inner (j - m) (drop m s) (omega (arith, tame-eight)), tame-on)

@@ -3,7 +3,7 @@ use Prim.Native.Nat.{ℕ, suc}
 use mathlib.Core.Bool.{Bool, cond, not, _&&_, _||_}
 use mathlib.Core.List.{List, [], _∷_}
 use lib.Dec.{eqb, leb, ltb}
-use Rattle.lines.specs.Lf.{among}
+use Rattle.lines.specs.Lf.{all, among, lacks}
 use Rattle.text.specs.White.{isWhite}
 
 -- below 123, and no LF, no quote and no `/`
@@ -18,6 +18,10 @@ plainLen (x ∷ xs) = cond (isPlain x) (suc (plainLen xs)) 0
 -- a space, or from `(` to `z`: plain but for `/` and the backtick
 abbrev pub isMild : ℕ → Bool
 isMild b = eqb b 32 || (leb 40 b && ltb b 123)
+
+-- bytes that are all mild, and none of them is `/` or a backtick
+unfoldable pub tame : List ℕ → Bool
+tame l = all (λ (x : ℕ). isMild x) l && (lacks 47 l && lacks 96 l)
 
 -- the last character, once bytes below 128 stand after a text with this last one
 unfoldable pub lowLast : ℕ → List ℕ → ℕ

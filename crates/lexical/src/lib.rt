@@ -9,7 +9,7 @@ ghost use Rattle.lines.specs.Out.{Wrote};
 ghost use Rattle.text.specs.White.{isWhite};
 ghost use Rattle.text.specs.Trim.{point, whiteChar};
 ghost use Rattle.lexical.specs.Lex.{quoteLen, patternLen, commentLen, patternAfter, token, tokenAt, leaves, lastOf, stripLexical, tailOf, lastAfter, pushed, grown, stepOf};
-ghost use Rattle.lexical.specs.Plain.{isPlain, plainLen, isMild, lowLast};
+ghost use Rattle.lexical.specs.Plain.{isPlain, plainLen, isMild, tame, lowLast};
 ghost use Rattle.lexical.specs.Phi.{phiRhsPure, sees, seesAll};
 ghost use Rattle.lexical.specs.Idents.{charLen, joins, noWord, nextWord};
 
@@ -312,7 +312,15 @@ fn plain_one(s: &[u8], i: usize) -> usize
     j
 }
 
-// The same: by eight bytes, as long as these are mild, and none is `/` or a backtick.
+// Whether the eight bytes at a place are mild, and none is `/` or a backtick: they are plain then.
+fn tame_eight(s: &[u8], j: usize) -> bool
+    requires { ⌜ j + 8 ≤ length (now s) ⌝ }
+    ensures { λ r. ⌜ r ≡ tame (take 8 (drop j (now (s .entry)))) ⌝ }
+{
+    mild_eight(s, j) & (lines::lacks_eight(s, j, b'/') & lines::lacks_eight(s, j, b'`'))
+}
+
+// Where the plain bytes from `i` on end: by eight bytes, as long as these are tame.
 pub fn plain_end(s: &[u8], i: usize) -> usize
     ensures { λ r. ⌜ r ≡ i + plainLen (drop i (now (s .entry))) ⌝ }
 {
@@ -322,11 +330,33 @@ pub fn plain_end(s: &[u8], i: usize) -> usize
     let n = s.len() - 7;
     let mut j = i;
     while j < n {
-        if mild_eight(s, j) & (lines::lacks_eight(s, j, b'/') & lines::lacks_eight(s, j, b'`')) {
+        if tame_eight(s, j) {
             j += 8;
         } else {
             return plain_one(s, j);
         }
+    }
+    plain_one(s, j)
+}
+
+// Where the plain bytes at the front of a line end: by eights, the last of which overlap, so that only the last byte is left over.
+pub fn plain_to(s: &[u8]) -> usize
+    ensures { λ r. ⌜ r ≡ plainLen (now (s .entry)) ⌝ }
+{
+    let n = s.len();
+    if n < 9 {
+        return plain_one(s, 0);
+    }
+    let m = n - 9;
+    let mut j = 0;
+    while j < m {
+        if !tame_eight(s, j) {
+            return plain_one(s, j);
+        }
+        j += 8;
+    }
+    if tame_eight(s, m) {
+        return plain_one(s, n - 1);
     }
     plain_one(s, j)
 }
@@ -381,11 +411,22 @@ fn run_tail(s: &[u8], i: usize, j: usize, t: Tail) -> Tail
     }
 }
 
-// The tail once the plain bytes from `i` on stand after the text.
-pub fn plain_tail(s: &[u8], i: usize, t: Tail) -> Tail
-    ensures { λ r. ⌜ r ≡ grown t (part i (i + plainLen (drop i (now (s .entry)))) (now (s .entry))) ⌝ }
+// Where a run of plain bytes ends, and the tail once it stands after the text.
+pub struct Run {
+    pub end: usize,
+    pub tail: Tail,
+}
+
+// The run of the plain bytes from `i` on.
+pub fn plain_run(s: &[u8], i: usize, t: Tail) -> Run
+    ensures { λ r. ⌜ (r .end ≡ i + plainLen (drop i (now (s .entry))))
+        × (r .tail ≡ grown t (part i (i + plainLen (drop i (now (s .entry)))) (now (s .entry)))) ⌝ }
 {
-    run_tail(s, i, plain_end(s, i), t)
+    let j = plain_end(s, i);
+    Run {
+        end: j,
+        tail: run_tail(s, i, j, t),
+    }
 }
 
 // Writes what a token leaves that begins with `b`.

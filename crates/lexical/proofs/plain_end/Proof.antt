@@ -1,12 +1,12 @@
 -- `lexical::plain_end` meets its contract. The invariant: the plain bytes end where they do from `i` on. Assumes nothing.
 use Prim.Native.Nat.{_-_}
-use mathlib.Core.Path.{_≡_, refl, _∙_}
+use mathlib.Core.Path.{_≡_, refl, sym, _∙_}
 use native.Mathlib.Omega.{arith}
 use borrow.Author.Needs.{needs}
 use lib.ListN.{length}
 use Rattle.lexical.specs.Plain.{plainLen}
 use Rattle.lexical.proofs.EndLaws.{ends}
-use Rattle.lexical.proofs.MildLaws.{eight-on}
+use Rattle.lexical.proofs.MildLaws.{tame-on}
 use Rattle.lexical.proofs.plain_end.Statement.{statement}
 use Rattle.lexical.proofs.plain_end.Tie as tie
 
@@ -28,14 +28,8 @@ sub-n c = omega arith
 loop-holds : tie.Need-loop-holds Inv-loop μ-loop
 loop-holds c = refl
 
-mild-eight-requires : tie.Need-mild-eight-requires Inv-loop μ-loop
-mild-eight-requires c κs = omega arith
-
-lacks-eight-requires : tie.Need-lacks-eight-requires Inv-loop μ-loop
-lacks-eight-requires c κs = omega arith
-
-lacks-eight-requires-2 : tie.Need-lacks-eight-requires-2 Inv-loop μ-loop
-lacks-eight-requires-2 c κs = omega arith
+tame-eight-requires : tie.Need-tame-eight-requires Inv-loop μ-loop
+tame-eight-requires c κs = omega arith
 
 add-j : tie.Need-add-j Inv-loop μ-loop
 add-j c = omega arith
@@ -45,15 +39,14 @@ loop-less c = omega arith
 
 loop-again : tie.Need-loop-again Inv-loop μ-loop
 loop-again c =
-    let l = c .before .before .before .before .before .loop in
-    eight-on (c .before .before .before .before .before .before .before .before .args .s .now) (l .j) (c .before .before .before .mild-eight .result) (c .before .before .lacks-eight .result) (c .before .lacks-eight2 .result) (omega arith)
-    (c .before .before .before .mild-eight .ensures) (c .before .before .lacks-eight .ensures) (c .before .lacks-eight2 .ensures) (c .if2 .taken) ∙ l .inv
+    let l = c .before .before .before .loop in
+    tame-on (c .before .before .before .before .before .before .args .s .now) (l .j) (omega arith) (sym (c .before .tame-eight .ensures) ∙ c .if2 .taken) ∙ l .inv
 
 plain-one-requires-2 : tie.Need-plain-one-requires-2 Inv-loop μ-loop
 plain-one-requires-2 c κs = search needs
 
 returns-2 : tie.Need-returns-2 Inv-loop μ-loop
-returns-2 c = c .plain-one2 .ensures ∙ c .before .before .before .before .before .before .loop .inv
+returns-2 c = c .plain-one2 .ensures ∙ c .before .before .before .before .loop .inv
 
 plain-one-requires-3 : tie.Need-plain-one-requires-3 Inv-loop μ-loop
 plain-one-requires-3 c κs = search needs
@@ -71,9 +64,7 @@ plain-end-spec =
     returns
     sub-n
     loop-holds
-    mild-eight-requires
-    lacks-eight-requires
-    lacks-eight-requires-2
+    tame-eight-requires
     add-j
     loop-less
     loop-again
