@@ -17,7 +17,7 @@ use Rattle.place.proofs.Blocks.{length-ids}
 use Rattle.place.proofs.Fills.{filled-length}
 use Rattle.place.specs.Region.{isHeader, regionNext}
 use Rattle.records.specs.declared.LineRec.{LineRec}
-use Rattle.records.specs.Records.{noRec, recordsGo, recordsOf, Holds}
+use Rattle.records.specs.Records.{noRec, recAt, recordsGo, recordsOf, Holds}
 
 -- ---- a slice that is filled from its front
 
@@ -107,10 +107,6 @@ fill-start t bs d p q = record {
   blocks = p;
   low = omega arith;
 }
-
--- the record of a line from i to e, of the region c and the block b
-abbrev pub recAt : ℕ → ℕ → ℕ → ℕ → LineRec
-recAt i e c b = record { start = i; end = e; region = record { 0 = c }; block = b }
 
 -- below the last line it does not matter where a line would begin
 no-lines : (ls : List (List ℕ)) (bs : List ℕ) (a b c : ℕ) → ls ≡ [] → recordsGo ls bs a c ≡ recordsGo ls bs b c
