@@ -15,8 +15,7 @@ use Rattle.place.specs.Region.{isHeader, upHeader, regionLen}
 use Rattle.place.proofs.Regions.{past, end-stop, end-on, end-end}
 use Rattle.place.specs.Fill.{Filled, flagsOf}
 use Rattle.records.specs.declared.LineRec.{LineRec}
-use Rattle.records.specs.Records.{noRec}
-use Rattle.records.proofs.Laws.{recAt}
+use Rattle.records.specs.Records.{noRec, recAt}
 use Rattle.records.proofs.Down.{Down, down-start, down-some, down-none, down-lt, down-here, down-on}
 use Rattle.decls.specs.Seen.{AtMost}
 use Rattle.reading.specs.Reading.{plain}

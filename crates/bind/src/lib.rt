@@ -665,8 +665,8 @@ fn walk(
 }
 
 // A register that is declared once and stored once, with that store its first use, on a later line of its region and block that starts a
-// statement, leaves its declaration, and its store becomes one. Each line is followed by one LF. `blocks`, `starts` and `up` are left as
-// `place_lines` fills them, `recs` as `records::fill` does, and `marks` says for each line whether it was such a store.
+// statement, leaves its declaration, and its store becomes one. Each line is followed by one LF. `blocks`, `starts`, `up` and `recs` are
+// left as `records::place_lines` fills them, and `marks` says for each line whether it was such a store.
 pub fn bind_declarators(
     text: &[u8],
     recs: &mut [records::LineRec],
@@ -688,8 +688,7 @@ pub fn bind_declarators(
     ensures marked { λ _. ⌜ Filled (now (marks .entry)) (flagsOf (bindMarks plain (linesOf (now (text .entry))))) (now (marks .exit)) (length (linesOf (now (text .entry)))) ⌝ }
     ensures records { λ _. ⌜ now (recs .exit) ≡ recordsOf (linesOf (now (text .entry))) (blockIds (linesOf (now (text .entry)))) ++ drop (length (linesOf (now (text .entry)))) (now (recs .entry)) ⌝ }
 {
-    let n = place::place_lines(text, blocks, starts, up);
-    records::fill(text, blocks, recs);
+    let n = records::place_lines(text, blocks, starts, up, recs);
     clear(marks, n);
     walk(text, recs, n, blocks, starts, marks, out)
 }

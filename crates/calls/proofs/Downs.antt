@@ -8,8 +8,7 @@ use lib.ListN.{length, getD, drop}
 use Rattle.lines.specs.Lf.{part, upTo, linesOf}
 use Rattle.place.specs.Region.{isHeader}
 use Rattle.records.specs.declared.LineRec.{LineRec}
-use Rattle.records.specs.Records.{noRec, Holds}
-use Rattle.records.proofs.Laws.{recAt}
+use Rattle.records.specs.Records.{noRec, recAt, Holds}
 use Rattle.records.proofs.Down.{Down, down-start, down-some, down-none, down-lt, down-here, down-on}
 use Rattle.calls.specs.Tables.{Ready, Turned, Rebuilt}
 use Rattle.calls.proofs.Turns.{Passes, passes-ready, passes-on, passes-end}

@@ -474,7 +474,7 @@ fn rebuild_with(
 }
 
 // The values of stores go back into the call that follows them. Each line is followed by one LF; `owner` gets for each line how far below it
-// the line stands that took it in, or 0, `recs` is left as `records::fill` fills it, and the front of the
+// the line stands that took it in, or 0, `recs` is left as `records::place_lines` fills it, and the front of the
 // four buffers before `out` is wiped.
 pub fn rebuild_calls(
     text: &[u8],
@@ -506,8 +506,7 @@ pub fn rebuild_calls(
 {
     let m = text.len();
     let h = m + 1;
-    let n = place::place_lines(text, blocks, starts, up);
-    records::fill(text, blocks, recs);
+    let n = records::place_lines(text, blocks, starts, up, recs);
     rebuild_with(
         text,
         recs,

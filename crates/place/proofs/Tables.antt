@@ -52,7 +52,7 @@ module _ (pre post : List ℕ → List Brace) where
     lines-up = room-length (h .read) (flat pre post (linesOf (drop i t))) here-room (h .moved)
 
     module _ (q : i < length t) (e : ℕ) (z : e ≡ i + upTo 10 (drop i t)) where
-      on-notes : notesGo pre post (linesOf (drop i t)) c (take n u)
+      pub on-notes : notesGo pre post (linesOf (drop i t)) c (take n u)
           ≡ curBy (pre (part i e t)) c (take n u)
           ∷ notesGo pre post (linesOf (drop (min (e + 1) (length t)) t)) (curBy (pre (part i e t) ++ post (part i e t)) c (take n u)) (upsBy (pre (part i e t) ++ post (part i e t)) c (take n u))
       unfolding notesGo

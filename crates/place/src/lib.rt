@@ -83,14 +83,14 @@ pub fn next_region(r: Region, line: &[u8]) -> Region
 }
 
 // A number of a block as an entry.
-fn wide(c: u32) -> usize
+pub fn wide(c: u32) -> usize
     ensures { λ r. ⌜ r ≡ c ⌝ }
 {
     c as usize
 }
 
 // A test as an entry.
-fn flag(b: bool) -> u8
+pub fn flag(b: bool) -> u8
     ensures { λ r. ⌜ r ≡ cond b 1 0 ⌝ }
 {
     if b { 1 } else { 0 }
@@ -242,7 +242,7 @@ pub fn walk_line(line: &[u8], block: u32, up: &mut [u32], n: usize) -> At
 
 // Whether the line below may begin a statement: where a cleaned line is blank, whether that one might, and else whether it ends in
 // `;`, `{`, `}` or `:`.
-fn starts_after(last: u16, st: bool) -> bool
+pub fn starts_after(last: u16, st: bool) -> bool
     ensures { λ r. ⌜ r ≡ startsBy last st ⌝ }
 {
     if last == 256 {

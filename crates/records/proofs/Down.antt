@@ -13,8 +13,8 @@ use Rattle.lines.specs.Lf.{part, upTo, linesOf}
 use Rattle.lines.proofs.LfLaws.{lines-at, lines-end}
 use Rattle.place.specs.Region.{isHeader}
 use Rattle.records.specs.declared.LineRec.{LineRec}
-use Rattle.records.specs.Records.{noRec, recordsGo, recordsOf, Holds}
-use Rattle.records.proofs.Laws.{recAt, records-count, records-here}
+use Rattle.records.specs.Records.{noRec, recAt, recordsGo, recordsOf, Holds}
+use Rattle.records.proofs.Laws.{records-count, records-here}
 
 -- the records from the k-th on are those of the lines from i on, and c is the region above
 pub record Down (t bs : List ℕ) (d : List LineRec) (i k c : ℕ) : Type 0 where

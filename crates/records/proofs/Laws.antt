@@ -17,7 +17,7 @@ use Rattle.place.proofs.Blocks.{length-ids}
 use Rattle.place.proofs.Fills.{filled-length}
 use Rattle.place.specs.Region.{isHeader, regionNext}
 use Rattle.records.specs.declared.LineRec.{LineRec}
-use Rattle.records.specs.Records.{noRec, recordsGo, recordsOf, Holds}
+use Rattle.records.specs.Records.{noRec, recAt, recordsGo, recordsOf, Holds}
 
 -- ---- a slice that is filled from its front
 
@@ -108,10 +108,6 @@ fill-start t bs d p q = record {
   low = omega arith;
 }
 
--- the record of a line from i to e, of the region c and the block b
-abbrev pub recAt : ℕ → ℕ → ℕ → ℕ → LineRec
-recAt i e c b = record { start = i; end = e; region = record { 0 = c }; block = b }
-
 -- below the last line it does not matter where a line would begin
 no-lines : (ls : List (List ℕ)) (bs : List ℕ) (a b c : ℕ) → ls ≡ [] → recordsGo ls bs a c ≡ recordsGo ls bs b c
 unfolding recordsGo
@@ -195,12 +191,13 @@ records-append ls bs x h = go-append ls bs x 0 0 h
 
 -- ---- with the table of blocks that `place_lines` fills
 
-pub records-ids : (t : List ℕ) {b b′ : List ℕ} {n : ℕ} → Filled b (blockIds (linesOf t)) b′ n → (x : List LineRec) → recordsOf (linesOf t) b′ ++ x ≡ recordsOf (linesOf t) (blockIds (linesOf t)) ++ x
+records-ids : (t : List ℕ) {b b′ : List ℕ} {n : ℕ} → Filled b (blockIds (linesOf t)) b′ n → (x : List LineRec) → recordsOf (linesOf t) b′ ++ x ≡ recordsOf (linesOf t) (blockIds (linesOf t)) ++ x
 records-ids t {b} f x =
     ap (λ (r : List LineRec). r ++ x)
     (ap (recordsOf (linesOf t)) (f .holds) ∙ records-append (linesOf t) (blockIds (linesOf t)) (drop (length (blockIds (linesOf t))) b) (let e = length-ids (linesOf t) in omega arith))
 
-pub holds-ids : (t : List ℕ) {b b′ : List ℕ} {n : ℕ} {d : List LineRec} (x : List LineRec) → length (linesOf t) ≤ length b → Filled b (blockIds (linesOf t)) b′ n → d ≡ recordsOf (linesOf t) b′ ++ x → Holds t b′ d n
+pub holds-ids : (t : List ℕ) {b b′ : List ℕ} {n : ℕ} {d : List LineRec} (x : List LineRec) → length (linesOf t) ≤ length b → Filled b (blockIds (linesOf t)) b′ n →
+    d ≡ recordsOf (linesOf t) (blockIds (linesOf t)) ++ x → Holds t b′ d n
 holds-ids t x h f e =
     let l = length-ids (linesOf t) in
-    record { count = f .place ∙ l; behind = x; filled = e; long = let z = filled-length f (omega arith) in omega arith }
+    record { count = f .place ∙ l; behind = x; filled = e ∙ sym (records-ids t f x); long = let z = filled-length f (omega arith) in omega arith }

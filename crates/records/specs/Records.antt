@@ -16,6 +16,10 @@ noRec = record { start = 0; end = 0; region = record { 0 = 0 }; block = 0 }
 abbrev pub blanks : ℕ → List LineRec
 blanks n = replicate n noRec
 
+-- the record of a line from i to e, of the region c and the block b
+abbrev pub recAt : ℕ → ℕ → ℕ → ℕ → LineRec
+recAt i e c b = record { start = i; end = e; region = record { 0 = c }; block = b }
+
 -- the records of lines whose blocks are known: the first begins at i, and c is the region of the line above
 unfoldable pub recordsGo : List (List ℕ) → List ℕ → ℕ → ℕ → List LineRec
 recordsGo [] bs i c = []

@@ -12,12 +12,9 @@ use Rattle.bind.proofs.clear.Symbol
 use Rattle.bind.proofs.walk.Met as Met'
 use Rattle.bind.proofs.Of_walk.Reads as Reads''
 use Rattle.bind.proofs.walk.Symbol as Symbol'
-use Rattle.place.proofs.place_lines.Met as Met''
-use Rattle.place.proofs.place_lines.Reads as Reads'3
-use Rattle.place.proofs.place_lines.Symbol as Symbol''
-use Rattle.records.proofs.fill.Met as Met'3
-use Rattle.records.proofs.Of_fill.Reads as Reads'4
-use Rattle.records.proofs.fill.Symbol as Symbol'3
+use Rattle.records.proofs.place_lines.Met as Met''
+use Rattle.records.proofs.Of_place_lines.Reads as Reads'3
+use Rattle.records.proofs.place_lines.Symbol as Symbol''
 use borrow.Fn.Run
 use borrow.Fn.Written
 use contract.Running
@@ -26,8 +23,6 @@ abbrev pub Start : Type 0
 Start = Lts.Start (
   Reads'3.Asked,
   Reads'3.Learnt,
-  Reads'4.Asked,
-  Reads'4.Learnt,
   Reads'.Asked,
   Reads'.Learnt,
   Reads''.Asked,
@@ -38,8 +33,6 @@ abbrev pub After-shared-slice-known : Type 0
 After-shared-slice-known = Lts.After-shared-slice-known (
   Reads'3.Asked,
   Reads'3.Learnt,
-  Reads'4.Asked,
-  Reads'4.Learnt,
   Reads'.Asked,
   Reads'.Learnt,
   Reads''.Asked,
@@ -50,8 +43,6 @@ abbrev pub After-slice-known : Type 0
 After-slice-known = Lts.After-slice-known (
   Reads'3.Asked,
   Reads'3.Learnt,
-  Reads'4.Asked,
-  Reads'4.Learnt,
   Reads'.Asked,
   Reads'.Learnt,
   Reads''.Asked,
@@ -62,8 +53,6 @@ abbrev pub After-slice-known2 : Type 0
 After-slice-known2 = Lts.After-slice-known2 (
   Reads'3.Asked,
   Reads'3.Learnt,
-  Reads'4.Asked,
-  Reads'4.Learnt,
   Reads'.Asked,
   Reads'.Learnt,
   Reads''.Asked,
@@ -74,8 +63,6 @@ abbrev pub After-slice-known3 : Type 0
 After-slice-known3 = Lts.After-slice-known3 (
   Reads'3.Asked,
   Reads'3.Learnt,
-  Reads'4.Asked,
-  Reads'4.Learnt,
   Reads'.Asked,
   Reads'.Learnt,
   Reads''.Asked,
@@ -86,8 +73,6 @@ abbrev pub After-slice-known4 : Type 0
 After-slice-known4 = Lts.After-slice-known4 (
   Reads'3.Asked,
   Reads'3.Learnt,
-  Reads'4.Asked,
-  Reads'4.Learnt,
   Reads'.Asked,
   Reads'.Learnt,
   Reads''.Asked,
@@ -98,8 +83,6 @@ abbrev pub After-slice-known5 : Type 0
 After-slice-known5 = Lts.After-slice-known5 (
   Reads'3.Asked,
   Reads'3.Learnt,
-  Reads'4.Asked,
-  Reads'4.Learnt,
   Reads'.Asked,
   Reads'.Learnt,
   Reads''.Asked,
@@ -110,8 +93,6 @@ abbrev pub After-place-lines-arg : Type 0
 After-place-lines-arg = Lts.After-place-lines-arg (
   Reads'3.Asked,
   Reads'3.Learnt,
-  Reads'4.Asked,
-  Reads'4.Learnt,
   Reads'.Asked,
   Reads'.Learnt,
   Reads''.Asked,
@@ -122,8 +103,6 @@ abbrev pub After-place-lines-arg2 : Type 0
 After-place-lines-arg2 = Lts.After-place-lines-arg2 (
   Reads'3.Asked,
   Reads'3.Learnt,
-  Reads'4.Asked,
-  Reads'4.Learnt,
   Reads'.Asked,
   Reads'.Learnt,
   Reads''.Asked,
@@ -134,8 +113,16 @@ abbrev pub After-place-lines-arg3 : Type 0
 After-place-lines-arg3 = Lts.After-place-lines-arg3 (
   Reads'3.Asked,
   Reads'3.Learnt,
-  Reads'4.Asked,
-  Reads'4.Learnt,
+  Reads'.Asked,
+  Reads'.Learnt,
+  Reads''.Asked,
+  Reads''.Learnt,
+) Reads.Pre Reads.Post
+
+abbrev pub After-place-lines-arg4 : Type 0
+After-place-lines-arg4 = Lts.After-place-lines-arg4 (
+  Reads'3.Asked,
+  Reads'3.Learnt,
   Reads'.Asked,
   Reads'.Learnt,
   Reads''.Asked,
@@ -146,8 +133,6 @@ abbrev pub After-place-lines : Type 0
 After-place-lines = Lts.After-place-lines (
   Reads'3.Asked,
   Reads'3.Learnt,
-  Reads'4.Asked,
-  Reads'4.Learnt,
   Reads'.Asked,
   Reads'.Learnt,
   Reads''.Asked,
@@ -158,8 +143,6 @@ abbrev pub After-blocks2 : Type 0
 After-blocks2 = Lts.After-blocks2 (
   Reads'3.Asked,
   Reads'3.Learnt,
-  Reads'4.Asked,
-  Reads'4.Learnt,
   Reads'.Asked,
   Reads'.Learnt,
   Reads''.Asked,
@@ -170,8 +153,6 @@ abbrev pub After-slice-known6 : Type 0
 After-slice-known6 = Lts.After-slice-known6 (
   Reads'3.Asked,
   Reads'3.Learnt,
-  Reads'4.Asked,
-  Reads'4.Learnt,
   Reads'.Asked,
   Reads'.Learnt,
   Reads''.Asked,
@@ -182,8 +163,6 @@ abbrev pub After-starts : Type 0
 After-starts = Lts.After-starts (
   Reads'3.Asked,
   Reads'3.Learnt,
-  Reads'4.Asked,
-  Reads'4.Learnt,
   Reads'.Asked,
   Reads'.Learnt,
   Reads''.Asked,
@@ -194,8 +173,6 @@ abbrev pub After-slice-known7 : Type 0
 After-slice-known7 = Lts.After-slice-known7 (
   Reads'3.Asked,
   Reads'3.Learnt,
-  Reads'4.Asked,
-  Reads'4.Learnt,
   Reads'.Asked,
   Reads'.Learnt,
   Reads''.Asked,
@@ -206,8 +183,6 @@ abbrev pub After-up : Type 0
 After-up = Lts.After-up (
   Reads'3.Asked,
   Reads'3.Learnt,
-  Reads'4.Asked,
-  Reads'4.Learnt,
   Reads'.Asked,
   Reads'.Learnt,
   Reads''.Asked,
@@ -218,44 +193,6 @@ abbrev pub After-slice-known8 : Type 0
 After-slice-known8 = Lts.After-slice-known8 (
   Reads'3.Asked,
   Reads'3.Learnt,
-  Reads'4.Asked,
-  Reads'4.Learnt,
-  Reads'.Asked,
-  Reads'.Learnt,
-  Reads''.Asked,
-  Reads''.Learnt,
-) Reads.Pre Reads.Post
-
-abbrev pub After-fill-arg : Type 0
-After-fill-arg = Lts.After-fill-arg (
-  Reads'3.Asked,
-  Reads'3.Learnt,
-  Reads'4.Asked,
-  Reads'4.Learnt,
-  Reads'.Asked,
-  Reads'.Learnt,
-  Reads''.Asked,
-  Reads''.Learnt,
-) Reads.Pre Reads.Post
-
-abbrev pub After-fill-arg2 : Type 0
-After-fill-arg2 = Lts.After-fill-arg2 (
-  Reads'3.Asked,
-  Reads'3.Learnt,
-  Reads'4.Asked,
-  Reads'4.Learnt,
-  Reads'.Asked,
-  Reads'.Learnt,
-  Reads''.Asked,
-  Reads''.Learnt,
-) Reads.Pre Reads.Post
-
-abbrev pub After-fill : Type 0
-After-fill = Lts.After-fill (
-  Reads'3.Asked,
-  Reads'3.Learnt,
-  Reads'4.Asked,
-  Reads'4.Learnt,
   Reads'.Asked,
   Reads'.Learnt,
   Reads''.Asked,
@@ -266,8 +203,6 @@ abbrev pub After-recs : Type 0
 After-recs = Lts.After-recs (
   Reads'3.Asked,
   Reads'3.Learnt,
-  Reads'4.Asked,
-  Reads'4.Learnt,
   Reads'.Asked,
   Reads'.Learnt,
   Reads''.Asked,
@@ -278,8 +213,6 @@ abbrev pub After-clear-arg : Type 0
 After-clear-arg = Lts.After-clear-arg (
   Reads'3.Asked,
   Reads'3.Learnt,
-  Reads'4.Asked,
-  Reads'4.Learnt,
   Reads'.Asked,
   Reads'.Learnt,
   Reads''.Asked,
@@ -290,8 +223,6 @@ abbrev pub After-clear : Type 0
 After-clear = Lts.After-clear (
   Reads'3.Asked,
   Reads'3.Learnt,
-  Reads'4.Asked,
-  Reads'4.Learnt,
   Reads'.Asked,
   Reads'.Learnt,
   Reads''.Asked,
@@ -302,8 +233,6 @@ abbrev pub After-marks : Type 0
 After-marks = Lts.After-marks (
   Reads'3.Asked,
   Reads'3.Learnt,
-  Reads'4.Asked,
-  Reads'4.Learnt,
   Reads'.Asked,
   Reads'.Learnt,
   Reads''.Asked,
@@ -314,8 +243,6 @@ abbrev pub After-slice-known9 : Type 0
 After-slice-known9 = Lts.After-slice-known9 (
   Reads'3.Asked,
   Reads'3.Learnt,
-  Reads'4.Asked,
-  Reads'4.Learnt,
   Reads'.Asked,
   Reads'.Learnt,
   Reads''.Asked,
@@ -326,8 +253,6 @@ abbrev pub After-walk-arg : Type 0
 After-walk-arg = Lts.After-walk-arg (
   Reads'3.Asked,
   Reads'3.Learnt,
-  Reads'4.Asked,
-  Reads'4.Learnt,
   Reads'.Asked,
   Reads'.Learnt,
   Reads''.Asked,
@@ -338,8 +263,6 @@ abbrev pub After-walk-arg2 : Type 0
 After-walk-arg2 = Lts.After-walk-arg2 (
   Reads'3.Asked,
   Reads'3.Learnt,
-  Reads'4.Asked,
-  Reads'4.Learnt,
   Reads'.Asked,
   Reads'.Learnt,
   Reads''.Asked,
@@ -350,8 +273,6 @@ abbrev pub After-walk-arg3 : Type 0
 After-walk-arg3 = Lts.After-walk-arg3 (
   Reads'3.Asked,
   Reads'3.Learnt,
-  Reads'4.Asked,
-  Reads'4.Learnt,
   Reads'.Asked,
   Reads'.Learnt,
   Reads''.Asked,
@@ -362,8 +283,6 @@ abbrev pub After-walk-arg4 : Type 0
 After-walk-arg4 = Lts.After-walk-arg4 (
   Reads'3.Asked,
   Reads'3.Learnt,
-  Reads'4.Asked,
-  Reads'4.Learnt,
   Reads'.Asked,
   Reads'.Learnt,
   Reads''.Asked,
@@ -374,8 +293,6 @@ abbrev pub After-walk-arg5 : Type 0
 After-walk-arg5 = Lts.After-walk-arg5 (
   Reads'3.Asked,
   Reads'3.Learnt,
-  Reads'4.Asked,
-  Reads'4.Learnt,
   Reads'.Asked,
   Reads'.Learnt,
   Reads''.Asked,
@@ -386,8 +303,6 @@ abbrev pub After-walk : Type 0
 After-walk = Lts.After-walk (
   Reads'3.Asked,
   Reads'3.Learnt,
-  Reads'4.Asked,
-  Reads'4.Learnt,
   Reads'.Asked,
   Reads'.Learnt,
   Reads''.Asked,
@@ -398,8 +313,6 @@ abbrev pub After-marks2 : Type 0
 After-marks2 = Lts.After-marks2 (
   Reads'3.Asked,
   Reads'3.Learnt,
-  Reads'4.Asked,
-  Reads'4.Learnt,
   Reads'.Asked,
   Reads'.Learnt,
   Reads''.Asked,
@@ -410,8 +323,6 @@ abbrev pub After-slice-known10 : Type 0
 After-slice-known10 = Lts.After-slice-known10 (
   Reads'3.Asked,
   Reads'3.Learnt,
-  Reads'4.Asked,
-  Reads'4.Learnt,
   Reads'.Asked,
   Reads'.Learnt,
   Reads''.Asked,
@@ -422,8 +333,6 @@ abbrev pub After-out : Type 0
 After-out = Lts.After-out (
   Reads'3.Asked,
   Reads'3.Learnt,
-  Reads'4.Asked,
-  Reads'4.Learnt,
   Reads'.Asked,
   Reads'.Learnt,
   Reads''.Asked,
@@ -434,8 +343,6 @@ abbrev pub After-slice-known11 : Type 0
 After-slice-known11 = Lts.After-slice-known11 (
   Reads'3.Asked,
   Reads'3.Learnt,
-  Reads'4.Asked,
-  Reads'4.Learnt,
   Reads'.Asked,
   Reads'.Learnt,
   Reads''.Asked,
@@ -446,20 +353,6 @@ abbrev pub Need-place-lines-requires : Type 0
 Need-place-lines-requires = Lts.Need-place-lines-requires (
   Reads'3.Asked,
   Reads'3.Learnt,
-  Reads'4.Asked,
-  Reads'4.Learnt,
-  Reads'.Asked,
-  Reads'.Learnt,
-  Reads''.Asked,
-  Reads''.Learnt,
-) Reads.Pre Reads.Post
-
-abbrev pub Need-fill-requires : Type 0
-Need-fill-requires = Lts.Need-fill-requires (
-  Reads'3.Asked,
-  Reads'3.Learnt,
-  Reads'4.Asked,
-  Reads'4.Learnt,
   Reads'.Asked,
   Reads'.Learnt,
   Reads''.Asked,
@@ -470,8 +363,6 @@ abbrev pub Need-clear-requires : Type 0
 Need-clear-requires = Lts.Need-clear-requires (
   Reads'3.Asked,
   Reads'3.Learnt,
-  Reads'4.Asked,
-  Reads'4.Learnt,
   Reads'.Asked,
   Reads'.Learnt,
   Reads''.Asked,
@@ -482,8 +373,6 @@ abbrev pub Need-walk-requires : Type 0
 Need-walk-requires = Lts.Need-walk-requires (
   Reads'3.Asked,
   Reads'3.Learnt,
-  Reads'4.Asked,
-  Reads'4.Learnt,
   Reads'.Asked,
   Reads'.Learnt,
   Reads''.Asked,
@@ -494,8 +383,6 @@ abbrev pub Need-same-length : Type 0
 Need-same-length = Lts.Need-same-length (
   Reads'3.Asked,
   Reads'3.Learnt,
-  Reads'4.Asked,
-  Reads'4.Learnt,
   Reads'.Asked,
   Reads'.Learnt,
   Reads''.Asked,
@@ -506,8 +393,6 @@ abbrev pub Need-same-length-2 : Type 0
 Need-same-length-2 = Lts.Need-same-length-2 (
   Reads'3.Asked,
   Reads'3.Learnt,
-  Reads'4.Asked,
-  Reads'4.Learnt,
   Reads'.Asked,
   Reads'.Learnt,
   Reads''.Asked,
@@ -518,8 +403,6 @@ abbrev pub Need-same-length-3 : Type 0
 Need-same-length-3 = Lts.Need-same-length-3 (
   Reads'3.Asked,
   Reads'3.Learnt,
-  Reads'4.Asked,
-  Reads'4.Learnt,
   Reads'.Asked,
   Reads'.Learnt,
   Reads''.Asked,
@@ -530,8 +413,6 @@ abbrev pub Need-same-length-4 : Type 0
 Need-same-length-4 = Lts.Need-same-length-4 (
   Reads'3.Asked,
   Reads'3.Learnt,
-  Reads'4.Asked,
-  Reads'4.Learnt,
   Reads'.Asked,
   Reads'.Learnt,
   Reads''.Asked,
@@ -542,8 +423,6 @@ abbrev pub Need-same-length-5 : Type 0
 Need-same-length-5 = Lts.Need-same-length-5 (
   Reads'3.Asked,
   Reads'3.Learnt,
-  Reads'4.Asked,
-  Reads'4.Learnt,
   Reads'.Asked,
   Reads'.Learnt,
   Reads''.Asked,
@@ -554,8 +433,6 @@ abbrev pub Need-same-length-6 : Type 0
 Need-same-length-6 = Lts.Need-same-length-6 (
   Reads'3.Asked,
   Reads'3.Learnt,
-  Reads'4.Asked,
-  Reads'4.Learnt,
   Reads'.Asked,
   Reads'.Learnt,
   Reads''.Asked,
@@ -566,8 +443,6 @@ abbrev pub Need-returns : Type 0
 Need-returns = Lts.Need-returns (
   Reads'3.Asked,
   Reads'3.Learnt,
-  Reads'4.Asked,
-  Reads'4.Learnt,
   Reads'.Asked,
   Reads'.Learnt,
   Reads''.Asked,
@@ -577,7 +452,6 @@ Need-returns = Lts.Need-returns (
 module _ {M : Type 1} where
   pub spec :
       (answer : Need-place-lines-requires) →
-      (answer : Need-fill-requires) →
       (answer : Need-clear-requires) →
       (answer : Need-walk-requires) →
       (answer : Need-same-length) →
@@ -590,45 +464,22 @@ module _ {M : Type 1} where
       Lts.Closed (
         Reads'3.Asked,
         Reads'3.Learnt,
-        Reads'4.Asked,
-        Reads'4.Learnt,
         Reads'.Asked,
         Reads'.Learnt,
         Reads''.Asked,
         Reads''.Learnt,
       ) Reads.Pre Reads.Post M
   spec =
-      λ answer answer' answer'' answer'3 answer'4 answer'5 answer'6 answer'7 answer'8 answer'9
-      answer'10. Lts.spec (
-        Reads'3.Asked,
-        Reads'3.Learnt,
-        Reads'4.Asked,
-        Reads'4.Learnt,
-        Reads'.Asked,
-        Reads'.Learnt,
-        Reads''.Asked,
-        Reads''.Learnt,
-      )
-      Reads.Pre
-      Reads.Post
-      answer
-      answer'
-      answer''
-      answer'3
-      answer'4
-      answer'5
-      answer'6
-      answer'7
-      answer'8
-      answer'9
-      answer'10
+      λ answer answer' answer'' answer'3 answer'4 answer'5 answer'6 answer'7 answer'8
+      answer'9. Lts.spec
+      (Reads'3.Asked, Reads'3.Learnt, Reads'.Asked, Reads'.Learnt, Reads''.Asked, Reads''.Learnt)
+      Reads.Pre Reads.Post answer answer' answer'' answer'3 answer'4 answer'5 answer'6 answer'7
+      answer'8 answer'9
 
   -- antt refused `close` as it was built: the module's report says why
   pub close : Lts.Closed (
     Reads'3.Asked,
     Reads'3.Learnt,
-    Reads'4.Asked,
-    Reads'4.Learnt,
     Reads'.Asked,
     Reads'.Learnt,
     Reads''.Asked,
@@ -666,15 +517,8 @@ module _ {M : Type 1} where
       Code.env
       Symbol''.name
       Symbol''.routine
-      Code.calls-place·place-lines
+      Code.calls-records·place-lines
       (Met''.met 𝓤 H 𝓜 𝓖 𝓡))
-      (Reads'4.known
-      record { M = M; 𝓤 = 𝓤; H = H; 𝓜 = 𝓜; 𝓖 = 𝓖; 𝓡 = 𝓡 }
-      Code.env
-      Symbol'3.name
-      Symbol'3.routine
-      Code.calls-records·fill
-      (Met'3.met 𝓤 H 𝓜 𝓖 𝓡))
       (Reads'.known
       record { M = M; 𝓤 = 𝓤; H = H; 𝓜 = 𝓜; 𝓖 = 𝓖; 𝓡 = 𝓡 }
       Code.env

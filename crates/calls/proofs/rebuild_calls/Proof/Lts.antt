@@ -99,16 +99,6 @@ xs =
     (Syntax.tyRef Syntax.erased Syntax.mut (Syntax.tyInt Syntax.w32))
     (Syntax.tcons (Syntax.tyInt Syntax.w64) Syntax.tnil)))
     (List._∷_
-    (Syntax.tyInt Syntax.w64)
-    (List._∷_
-    (Syntax.tyRef Syntax.erased Syntax.imm (Syntax.tyInt Syntax.w64))
-    (List._∷_
-    (Syntax.tyStruct
-    (List._∷_ 38 (List._∷_ 91 (List._∷_ 93 List.[])))
-    (Syntax.tcons
-    (Syntax.tyRef Syntax.erased Syntax.imm (Syntax.tyInt Syntax.w64))
-    (Syntax.tcons (Syntax.tyInt Syntax.w64) Syntax.tnil)))
-    (List._∷_
     (Syntax.tyRef Syntax.erased Syntax.mut Elem.ty)
     (List._∷_
     (Syntax.tyStruct
@@ -188,12 +178,12 @@ xs =
     (Syntax.tcons
     (Syntax.tyRef Syntax.erased Syntax.mut (Syntax.tyInt Syntax.w8))
     (Syntax.tcons (Syntax.tyInt Syntax.w64) Syntax.tnil)))
-    List.[])))))))))))))))))))))))))))))))
+    List.[]))))))))))))))))))))))))))))
 
 abbrev pub m : Nat.ℕ
-m = 14
+m = 13
 
-abbrev pub ps·0 : List.List (Kinds.PK 4)
+abbrev pub ps·0 : List.List (Kinds.PK 5)
 ps·0 =
     List._∷_
     (ShrSlice.pShrS (Referent.rtF (Referent.fInt Syntax.w8)) 0 tt)
@@ -201,26 +191,17 @@ ps·0 =
     (MutSlice.pMutS (Referent.rtF (Referent.fInt Syntax.w64)) 1 tt)
     (List._∷_
     (MutSlice.pMutS (Referent.rtF (Referent.fInt Syntax.w8)) 2 tt)
-    (List._∷_ (MutSlice.pMutS (Referent.rtF (Referent.fInt Syntax.w32)) 3 tt) List.[])))
+    (List._∷_
+    (MutSlice.pMutS (Referent.rtF (Referent.fInt Syntax.w32)) 3 tt)
+    (List._∷_
+    (MutSlice.pMutS Elem.R 4 tt)
+    List.[]))))
 
-abbrev pub r·0 : Kinds.RK 4
+abbrev pub r·0 : Kinds.RK 5
 r·0 = Num.rNum Syntax.w64
 
-abbrev pub ps·1 : List.List (Kinds.PK 3)
+abbrev pub ps·1 : List.List (Kinds.PK 10)
 ps·1 =
-    List._∷_
-    (ShrSlice.pShrS (Referent.rtF (Referent.fInt Syntax.w8)) 0 tt)
-    (List._∷_
-    (ShrSlice.pShrS (Referent.rtF (Referent.fInt Syntax.w64)) 1 tt)
-    (List._∷_
-    (MutSlice.pMutS Elem.R 2 tt)
-    List.[]))
-
-abbrev pub r·1 : Kinds.RK 3
-r·1 = Num.rNum Syntax.w64
-
-abbrev pub ps·2 : List.List (Kinds.PK 10)
-ps·2 =
     List._∷_
     (ShrSlice.pShrS (Referent.rtF (Referent.fInt Syntax.w8)) 0 tt)
     (List._∷_
@@ -243,8 +224,8 @@ ps·2 =
     (MutSlice.pMutS (Referent.rtF (Referent.fInt Syntax.w8)) 8 tt)
     (List._∷_ (MutSlice.pMutS (Referent.rtF (Referent.fInt Syntax.w8)) 9 tt) List.[]))))))))))
 
-abbrev pub r·2 : Kinds.RK 10
-r·2 = Num.rNum Syntax.w64
+abbrev pub r·1 : Kinds.RK 10
+r·1 = Num.rNum Syntax.w64
 
 abbrev pub hs : List.List Syntax.Home
 hs =
@@ -328,13 +309,7 @@ hs =
     Syntax.valueLocal
     (List._∷_
     Syntax.valueLocal
-    (List._∷_
-    Syntax.valueLocal
-    (List._∷_
-    Syntax.valueLocal
-    (List._∷_
-    Syntax.valueLocal
-    (List._∷_ Syntax.valueLocal List.[])))))))))))))))))))))))))))))))))))))))))))
+    (List._∷_ Syntax.valueLocal List.[]))))))))))))))))))))))))))))))))))))))))
 
 abbrev b0 : Syntax.Body
 b0 =
@@ -407,39 +382,43 @@ b7 =
 
 abbrev b8 : Syntax.Body
 b8 =
+    Syntax.assign
+    (Syntax.place 21 List.[])
+    (Syntax.addrOf
+    (Syntax.place
+    2
+    (List._∷_
+    (Syntax.field 0)
+    (List._∷_ (Syntax.deref Elem.held) List.[]))))
+
+abbrev b9 : Syntax.Body
+b9 =
+    Syntax.assign
+    (Syntax.place 22 List.[])
+    (Syntax.aggregate
+    (List._∷_
+    (Syntax.copy (Syntax.place 21 List.[]))
+    (List._∷_ (Syntax.copy (Syntax.place 2 (List._∷_ (Syntax.field 1) List.[]))) List.[])))
+
+abbrev b10 : Syntax.Body
+b10 =
     Syntax.call
-    "place::place_lines"
+    "records::place_lines"
     (List._∷_
     (Syntax.copy (Syntax.place 1 List.[]))
     (List._∷_
     (Syntax.copy (Syntax.place 16 List.[]))
     (List._∷_
     (Syntax.copy (Syntax.place 18 List.[]))
-    (List._∷_ (Syntax.copy (Syntax.place 20 List.[])) List.[]))))
-    (Syntax.place 14 List.[])
-
-abbrev b9 : Syntax.Body
-b9 =
-    Syntax.assign
-    (Syntax.place 22 List.[])
-    (Syntax.addrOf
-    (Syntax.place
-    4
-    (List._∷_ (Syntax.field 0) (List._∷_ (Syntax.deref (Syntax.tyInt Syntax.w64)) List.[]))))
-
-abbrev b10 : Syntax.Body
-b10 =
-    Syntax.assign
-    (Syntax.place 23 List.[])
-    (Syntax.aggregate
     (List._∷_
-    (Syntax.copy (Syntax.place 22 List.[]))
-    (List._∷_ (Syntax.copy (Syntax.place 4 (List._∷_ (Syntax.field 1) List.[]))) List.[])))
+    (Syntax.copy (Syntax.place 20 List.[]))
+    (List._∷_ (Syntax.copy (Syntax.place 22 List.[])) List.[])))))
+    (Syntax.place 14 List.[])
 
 abbrev b11 : Syntax.Body
 b11 =
     Syntax.assign
-    (Syntax.place 24 List.[])
+    (Syntax.place 23 List.[])
     (Syntax.addrOf
     (Syntax.place
     2
@@ -450,327 +429,281 @@ b11 =
 abbrev b12 : Syntax.Body
 b12 =
     Syntax.assign
-    (Syntax.place 25 List.[])
+    (Syntax.place 24 List.[])
     (Syntax.aggregate
     (List._∷_
-    (Syntax.copy (Syntax.place 24 List.[]))
+    (Syntax.copy (Syntax.place 23 List.[]))
     (List._∷_ (Syntax.copy (Syntax.place 2 (List._∷_ (Syntax.field 1) List.[]))) List.[])))
 
 abbrev b13 : Syntax.Body
 b13 =
-    Syntax.call
-    "records::fill"
-    (List._∷_
-    (Syntax.copy (Syntax.place 1 List.[]))
-    (List._∷_
-    (Syntax.copy (Syntax.place 23 List.[]))
-    (List._∷_ (Syntax.copy (Syntax.place 25 List.[])) List.[])))
-    (Syntax.place 21 List.[])
-
-abbrev b14 : Syntax.Body
-b14 =
     Syntax.assign
-    (Syntax.place 26 List.[])
-    (Syntax.addrOf
-    (Syntax.place
-    2
-    (List._∷_
-    (Syntax.field 0)
-    (List._∷_ (Syntax.deref Elem.held) List.[]))))
-
-abbrev b15 : Syntax.Body
-b15 =
-    Syntax.assign
-    (Syntax.place 27 List.[])
-    (Syntax.aggregate
-    (List._∷_
-    (Syntax.copy (Syntax.place 26 List.[]))
-    (List._∷_ (Syntax.copy (Syntax.place 2 (List._∷_ (Syntax.field 1) List.[]))) List.[])))
-
-abbrev b16 : Syntax.Body
-b16 =
-    Syntax.assign
-    (Syntax.place 28 List.[])
+    (Syntax.place 25 List.[])
     (Syntax.addrOf
     (Syntax.place
     4
     (List._∷_ (Syntax.field 0) (List._∷_ (Syntax.deref (Syntax.tyInt Syntax.w64)) List.[]))))
 
-abbrev b17 : Syntax.Body
-b17 =
+abbrev b14 : Syntax.Body
+b14 =
     Syntax.assign
-    (Syntax.place 29 List.[])
+    (Syntax.place 26 List.[])
     (Syntax.aggregate
     (List._∷_
-    (Syntax.copy (Syntax.place 28 List.[]))
+    (Syntax.copy (Syntax.place 25 List.[]))
     (List._∷_ (Syntax.copy (Syntax.place 4 (List._∷_ (Syntax.field 1) List.[]))) List.[])))
 
-abbrev b18 : Syntax.Body
-b18 =
+abbrev b15 : Syntax.Body
+b15 =
     Syntax.assign
-    (Syntax.place 30 List.[])
+    (Syntax.place 27 List.[])
     (Syntax.addrOf
     (Syntax.place
     5
     (List._∷_ (Syntax.field 0) (List._∷_ (Syntax.deref (Syntax.tyInt Syntax.w8)) List.[]))))
 
-abbrev b19 : Syntax.Body
-b19 =
+abbrev b16 : Syntax.Body
+b16 =
     Syntax.assign
-    (Syntax.place 31 List.[])
+    (Syntax.place 28 List.[])
     (Syntax.aggregate
     (List._∷_
-    (Syntax.copy (Syntax.place 30 List.[]))
+    (Syntax.copy (Syntax.place 27 List.[]))
     (List._∷_ (Syntax.copy (Syntax.place 5 (List._∷_ (Syntax.field 1) List.[]))) List.[])))
 
-abbrev b20 : Syntax.Body
-b20 =
+abbrev b17 : Syntax.Body
+b17 =
     Syntax.assign
-    (Syntax.place 32 List.[])
+    (Syntax.place 29 List.[])
     (Syntax.addrOf
     (Syntax.place
     3
     (List._∷_ (Syntax.field 0) (List._∷_ (Syntax.deref (Syntax.tyInt Syntax.w64)) List.[]))))
 
-abbrev b21 : Syntax.Body
-b21 =
+abbrev b18 : Syntax.Body
+b18 =
     Syntax.assign
-    (Syntax.place 33 List.[])
+    (Syntax.place 30 List.[])
     (Syntax.aggregate
     (List._∷_
-    (Syntax.copy (Syntax.place 32 List.[]))
+    (Syntax.copy (Syntax.place 29 List.[]))
     (List._∷_ (Syntax.copy (Syntax.place 3 (List._∷_ (Syntax.field 1) List.[]))) List.[])))
 
-abbrev b22 : Syntax.Body
-b22 =
+abbrev b19 : Syntax.Body
+b19 =
     Syntax.assign
-    (Syntax.place 34 List.[])
+    (Syntax.place 31 List.[])
     (Syntax.addrOf
     (Syntax.place
     7
     (List._∷_ (Syntax.field 0) (List._∷_ (Syntax.deref (Syntax.tyInt Syntax.w8)) List.[]))))
 
-abbrev b23 : Syntax.Body
-b23 =
+abbrev b20 : Syntax.Body
+b20 =
     Syntax.assign
-    (Syntax.place 35 List.[])
+    (Syntax.place 32 List.[])
     (Syntax.aggregate
     (List._∷_
-    (Syntax.copy (Syntax.place 34 List.[]))
+    (Syntax.copy (Syntax.place 31 List.[]))
     (List._∷_ (Syntax.copy (Syntax.place 13 List.[])) List.[])))
 
-abbrev b24 : Syntax.Body
-b24 =
+abbrev b21 : Syntax.Body
+b21 =
     Syntax.assign
-    (Syntax.place 36 List.[])
+    (Syntax.place 33 List.[])
     (Syntax.addrOf
     (Syntax.place
     8
     (List._∷_ (Syntax.field 0) (List._∷_ (Syntax.deref (Syntax.tyInt Syntax.w8)) List.[]))))
 
-abbrev b25 : Syntax.Body
-b25 =
+abbrev b22 : Syntax.Body
+b22 =
     Syntax.assign
-    (Syntax.place 37 List.[])
+    (Syntax.place 34 List.[])
     (Syntax.aggregate
     (List._∷_
-    (Syntax.copy (Syntax.place 36 List.[]))
+    (Syntax.copy (Syntax.place 33 List.[]))
     (List._∷_ (Syntax.copy (Syntax.place 12 List.[])) List.[])))
 
-abbrev b26 : Syntax.Body
-b26 =
+abbrev b23 : Syntax.Body
+b23 =
     Syntax.assign
-    (Syntax.place 38 List.[])
+    (Syntax.place 35 List.[])
     (Syntax.addrOf
     (Syntax.place
     9
     (List._∷_ (Syntax.field 0) (List._∷_ (Syntax.deref (Syntax.tyInt Syntax.w8)) List.[]))))
 
-abbrev b27 : Syntax.Body
-b27 =
+abbrev b24 : Syntax.Body
+b24 =
     Syntax.assign
-    (Syntax.place 39 List.[])
+    (Syntax.place 36 List.[])
     (Syntax.aggregate
     (List._∷_
-    (Syntax.copy (Syntax.place 38 List.[]))
+    (Syntax.copy (Syntax.place 35 List.[]))
     (List._∷_ (Syntax.copy (Syntax.place 12 List.[])) List.[])))
 
-abbrev b28 : Syntax.Body
-b28 =
+abbrev b25 : Syntax.Body
+b25 =
     Syntax.assign
-    (Syntax.place 40 List.[])
+    (Syntax.place 37 List.[])
     (Syntax.addrOf
     (Syntax.place
     10
     (List._∷_ (Syntax.field 0) (List._∷_ (Syntax.deref (Syntax.tyInt Syntax.w8)) List.[]))))
 
-abbrev b29 : Syntax.Body
-b29 =
+abbrev b26 : Syntax.Body
+b26 =
     Syntax.assign
-    (Syntax.place 41 List.[])
+    (Syntax.place 38 List.[])
     (Syntax.aggregate
     (List._∷_
-    (Syntax.copy (Syntax.place 40 List.[]))
+    (Syntax.copy (Syntax.place 37 List.[]))
     (List._∷_ (Syntax.copy (Syntax.place 12 List.[])) List.[])))
 
-abbrev b30 : Syntax.Body
-b30 =
+abbrev b27 : Syntax.Body
+b27 =
     Syntax.assign
-    (Syntax.place 42 List.[])
+    (Syntax.place 39 List.[])
     (Syntax.addrOf
     (Syntax.place
     11
     (List._∷_ (Syntax.field 0) (List._∷_ (Syntax.deref (Syntax.tyInt Syntax.w8)) List.[]))))
 
-abbrev b31 : Syntax.Body
-b31 =
+abbrev b28 : Syntax.Body
+b28 =
     Syntax.assign
-    (Syntax.place 43 List.[])
+    (Syntax.place 40 List.[])
     (Syntax.aggregate
     (List._∷_
-    (Syntax.copy (Syntax.place 42 List.[]))
+    (Syntax.copy (Syntax.place 39 List.[]))
     (List._∷_ (Syntax.copy (Syntax.place 11 (List._∷_ (Syntax.field 1) List.[]))) List.[])))
 
-abbrev b32 : Syntax.Body
-b32 =
+abbrev b29 : Syntax.Body
+b29 =
     Syntax.call
     "calls::rebuild_with"
     (List._∷_
     (Syntax.copy (Syntax.place 1 List.[]))
     (List._∷_
-    (Syntax.copy (Syntax.place 27 List.[]))
+    (Syntax.copy (Syntax.place 24 List.[]))
     (List._∷_
     (Syntax.copy (Syntax.place 14 List.[]))
     (List._∷_
-    (Syntax.copy (Syntax.place 29 List.[]))
+    (Syntax.copy (Syntax.place 26 List.[]))
     (List._∷_
-    (Syntax.copy (Syntax.place 31 List.[]))
+    (Syntax.copy (Syntax.place 28 List.[]))
     (List._∷_
-    (Syntax.copy (Syntax.place 33 List.[]))
+    (Syntax.copy (Syntax.place 30 List.[]))
     (List._∷_
-    (Syntax.copy (Syntax.place 35 List.[]))
+    (Syntax.copy (Syntax.place 32 List.[]))
     (List._∷_
-    (Syntax.copy (Syntax.place 37 List.[]))
+    (Syntax.copy (Syntax.place 34 List.[]))
     (List._∷_
-    (Syntax.copy (Syntax.place 39 List.[]))
+    (Syntax.copy (Syntax.place 36 List.[]))
     (List._∷_
-    (Syntax.copy (Syntax.place 41 List.[]))
-    (List._∷_ (Syntax.copy (Syntax.place 43 List.[])) List.[])))))))))))
+    (Syntax.copy (Syntax.place 38 List.[]))
+    (List._∷_ (Syntax.copy (Syntax.place 40 List.[])) List.[])))))))))))
     (Syntax.place 0 List.[])
 
+abbrev b30 : Syntax.Body
+b30 = Syntax.return
+
+abbrev b31 : Syntax.Body
+b31 = Syntax.seq b29 b30
+
+abbrev b32 : Syntax.Body
+b32 = Syntax.seq b28 b31
+
 abbrev b33 : Syntax.Body
-b33 = Syntax.return
+b33 = Syntax.seq b27 b32
 
 abbrev b34 : Syntax.Body
-b34 = Syntax.seq b32 b33
+b34 = Syntax.seq b26 b33
 
 abbrev b35 : Syntax.Body
-b35 = Syntax.seq b31 b34
+b35 = Syntax.seq b25 b34
 
 abbrev b36 : Syntax.Body
-b36 = Syntax.seq b30 b35
+b36 = Syntax.seq b24 b35
 
 abbrev b37 : Syntax.Body
-b37 = Syntax.seq b29 b36
+b37 = Syntax.seq b23 b36
 
 abbrev b38 : Syntax.Body
-b38 = Syntax.seq b28 b37
+b38 = Syntax.seq b22 b37
 
 abbrev b39 : Syntax.Body
-b39 = Syntax.seq b27 b38
+b39 = Syntax.seq b21 b38
 
 abbrev b40 : Syntax.Body
-b40 = Syntax.seq b26 b39
+b40 = Syntax.seq b20 b39
 
 abbrev b41 : Syntax.Body
-b41 = Syntax.seq b25 b40
+b41 = Syntax.seq b19 b40
 
 abbrev b42 : Syntax.Body
-b42 = Syntax.seq b24 b41
+b42 = Syntax.seq b18 b41
 
 abbrev b43 : Syntax.Body
-b43 = Syntax.seq b23 b42
+b43 = Syntax.seq b17 b42
 
 abbrev b44 : Syntax.Body
-b44 = Syntax.seq b22 b43
+b44 = Syntax.seq b16 b43
 
 abbrev b45 : Syntax.Body
-b45 = Syntax.seq b21 b44
+b45 = Syntax.seq b15 b44
 
 abbrev b46 : Syntax.Body
-b46 = Syntax.seq b20 b45
+b46 = Syntax.seq b14 b45
 
 abbrev b47 : Syntax.Body
-b47 = Syntax.seq b19 b46
+b47 = Syntax.seq b13 b46
 
 abbrev b48 : Syntax.Body
-b48 = Syntax.seq b18 b47
+b48 = Syntax.seq b12 b47
 
 abbrev b49 : Syntax.Body
-b49 = Syntax.seq b17 b48
+b49 = Syntax.seq b11 b48
 
 abbrev b50 : Syntax.Body
-b50 = Syntax.seq b16 b49
+b50 = Syntax.seq b10 b49
 
 abbrev b51 : Syntax.Body
-b51 = Syntax.seq b15 b50
+b51 = Syntax.seq b9 b50
 
 abbrev b52 : Syntax.Body
-b52 = Syntax.seq b14 b51
+b52 = Syntax.seq b8 b51
 
 abbrev b53 : Syntax.Body
-b53 = Syntax.seq b13 b52
+b53 = Syntax.seq b7 b52
 
 abbrev b54 : Syntax.Body
-b54 = Syntax.seq b12 b53
+b54 = Syntax.seq b6 b53
 
 abbrev b55 : Syntax.Body
-b55 = Syntax.seq b11 b54
+b55 = Syntax.seq b5 b54
 
 abbrev b56 : Syntax.Body
-b56 = Syntax.seq b10 b55
+b56 = Syntax.seq b4 b55
 
 abbrev b57 : Syntax.Body
-b57 = Syntax.seq b9 b56
+b57 = Syntax.seq b3 b56
 
 abbrev b58 : Syntax.Body
-b58 = Syntax.seq b8 b57
+b58 = Syntax.seq b2 b57
 
 abbrev b59 : Syntax.Body
-b59 = Syntax.seq b7 b58
+b59 = Syntax.seq b1 b58
 
 abbrev b60 : Syntax.Body
-b60 = Syntax.seq b6 b59
-
-abbrev b61 : Syntax.Body
-b61 = Syntax.seq b5 b60
-
-abbrev b62 : Syntax.Body
-b62 = Syntax.seq b4 b61
-
-abbrev b63 : Syntax.Body
-b63 = Syntax.seq b3 b62
-
-abbrev b64 : Syntax.Body
-b64 = Syntax.seq b2 b63
-
-abbrev b65 : Syntax.Body
-b65 = Syntax.seq b1 b64
-
-abbrev b66 : Syntax.Body
-b66 = Syntax.seq b0 b65
+b60 = Syntax.seq b0 b59
 
 abbrev pub body : Syntax.Body
-body = b66
+body = b60
 
 abbrev pub Claims : Type 1
-Claims =
-    Kinds.In 4 ps·0 ×
-    Kinds.Out 4 ps·0 r·0 ×
-    Kinds.In 3 ps·1 ×
-    Kinds.Out 3 ps·1 r·1 ×
-    Kinds.In 10 ps·2 ×
-    Kinds.Out 10 ps·2 r·2
+Claims = Kinds.In 5 ps·0 × Kinds.Out 5 ps·0 r·0 × Kinds.In 10 ps·1 × Kinds.Out 10 ps·1 r·1
 
 abbrev pub t0 : List.List Row.Entry
 t0 = List._∷_ (0, Rows.any-gone (Syntax.tyInt Syntax.w64)) (List._∷_ (
@@ -878,23 +811,12 @@ t1 = List._∷_ (
           (Syntax.tcons
           (Syntax.tyRef Syntax.erased Syntax.mut (Syntax.tyInt Syntax.w32))
           (Syntax.tcons (Syntax.tyInt Syntax.w64) Syntax.tnil))),
-    ) (List._∷_ (21, Rows.any-gone (Syntax.tyInt Syntax.w64)) (List._∷_ (
-      22,
-      Rows.any-gone (Syntax.tyRef Syntax.erased Syntax.imm (Syntax.tyInt Syntax.w64)),
     ) (List._∷_ (
-      23,
-      Rows.any-gone
-          (Syntax.tyStruct
-          (List._∷_ 38 (List._∷_ 91 (List._∷_ 93 List.[])))
-          (Syntax.tcons
-          (Syntax.tyRef Syntax.erased Syntax.imm (Syntax.tyInt Syntax.w64))
-          (Syntax.tcons (Syntax.tyInt Syntax.w64) Syntax.tnil))),
-    ) (List._∷_ (
-      24,
+      21,
       Rows.any-gone
           (Syntax.tyRef Syntax.erased Syntax.mut Elem.ty),
     ) (List._∷_ (
-      25,
+      22,
       Rows.any-gone
           (Syntax.tyStruct
           (List._∷_ 38 (List._∷_ 91 (List._∷_ 93 List.[])))
@@ -902,11 +824,11 @@ t1 = List._∷_ (
           (Syntax.tyRef Syntax.erased Syntax.mut Elem.ty)
           (Syntax.tcons (Syntax.tyInt Syntax.w64) Syntax.tnil))),
     ) (List._∷_ (
-      26,
+      23,
       Rows.any-gone
           (Syntax.tyRef Syntax.erased Syntax.imm Elem.ty),
     ) (List._∷_ (
-      27,
+      24,
       Rows.any-gone
           (Syntax.tyStruct
           (List._∷_ 38 (List._∷_ 91 (List._∷_ 93 List.[])))
@@ -914,10 +836,10 @@ t1 = List._∷_ (
           (Syntax.tyRef Syntax.erased Syntax.imm Elem.ty)
           (Syntax.tcons (Syntax.tyInt Syntax.w64) Syntax.tnil))),
     ) (List._∷_ (
-      28,
+      25,
       Rows.any-gone (Syntax.tyRef Syntax.erased Syntax.imm (Syntax.tyInt Syntax.w64)),
     ) (List._∷_ (
-      29,
+      26,
       Rows.any-gone
           (Syntax.tyStruct
           (List._∷_ 38 (List._∷_ 91 (List._∷_ 93 List.[])))
@@ -925,86 +847,86 @@ t1 = List._∷_ (
           (Syntax.tyRef Syntax.erased Syntax.imm (Syntax.tyInt Syntax.w64))
           (Syntax.tcons (Syntax.tyInt Syntax.w64) Syntax.tnil))),
     ) (List._∷_ (
-      30,
+      27,
       Rows.any-gone (Syntax.tyRef Syntax.erased Syntax.imm (Syntax.tyInt Syntax.w8)),
     ) (List._∷_ (
-      31,
+      28,
       Rows.any-gone
           (Syntax.tyStruct
           (List._∷_ 38 (List._∷_ 91 (List._∷_ 93 List.[])))
           (Syntax.tcons
           (Syntax.tyRef Syntax.erased Syntax.imm (Syntax.tyInt Syntax.w8))
           (Syntax.tcons (Syntax.tyInt Syntax.w64) Syntax.tnil))),
+    ) (List._∷_ (
+      29,
+      Rows.any-gone (Syntax.tyRef Syntax.erased Syntax.mut (Syntax.tyInt Syntax.w64)),
+    ) (List._∷_ (
+      30,
+      Rows.any-gone
+          (Syntax.tyStruct
+          (List._∷_ 38 (List._∷_ 91 (List._∷_ 93 List.[])))
+          (Syntax.tcons
+          (Syntax.tyRef Syntax.erased Syntax.mut (Syntax.tyInt Syntax.w64))
+          (Syntax.tcons (Syntax.tyInt Syntax.w64) Syntax.tnil))),
+    ) (List._∷_ (
+      31,
+      Rows.any-gone (Syntax.tyRef Syntax.erased Syntax.mut (Syntax.tyInt Syntax.w8)),
     ) List.[])))))))))))))))
 
 abbrev pub t2 : List.List Row.Entry
 t2 = List._∷_ (
   32,
-  Rows.any-gone (Syntax.tyRef Syntax.erased Syntax.mut (Syntax.tyInt Syntax.w64)),
-) (List._∷_ (
-  33,
   Rows.any-gone
       (Syntax.tyStruct
       (List._∷_ 38 (List._∷_ 91 (List._∷_ 93 List.[])))
       (Syntax.tcons
-      (Syntax.tyRef Syntax.erased Syntax.mut (Syntax.tyInt Syntax.w64))
+      (Syntax.tyRef Syntax.erased Syntax.mut (Syntax.tyInt Syntax.w8))
       (Syntax.tcons (Syntax.tyInt Syntax.w64) Syntax.tnil))),
 )
     (List._∷_
-    (34, Rows.any-gone (Syntax.tyRef Syntax.erased Syntax.mut (Syntax.tyInt Syntax.w8)))
+    (33, Rows.any-gone (Syntax.tyRef Syntax.erased Syntax.mut (Syntax.tyInt Syntax.w8)))
     (List._∷_ (
-      35,
+      34,
       Rows.any-gone
           (Syntax.tyStruct
           (List._∷_ 38 (List._∷_ 91 (List._∷_ 93 List.[])))
           (Syntax.tcons
           (Syntax.tyRef Syntax.erased Syntax.mut (Syntax.tyInt Syntax.w8))
           (Syntax.tcons (Syntax.tyInt Syntax.w64) Syntax.tnil))),
+    ) (List._∷_ (
+      35,
+      Rows.any-gone (Syntax.tyRef Syntax.erased Syntax.mut (Syntax.tyInt Syntax.w8)),
     ) (List._∷_ (
       36,
-      Rows.any-gone (Syntax.tyRef Syntax.erased Syntax.mut (Syntax.tyInt Syntax.w8)),
+      Rows.any-gone
+          (Syntax.tyStruct
+          (List._∷_ 38 (List._∷_ 91 (List._∷_ 93 List.[])))
+          (Syntax.tcons
+          (Syntax.tyRef Syntax.erased Syntax.mut (Syntax.tyInt Syntax.w8))
+          (Syntax.tcons (Syntax.tyInt Syntax.w64) Syntax.tnil))),
     ) (List._∷_ (
       37,
-      Rows.any-gone
-          (Syntax.tyStruct
-          (List._∷_ 38 (List._∷_ 91 (List._∷_ 93 List.[])))
-          (Syntax.tcons
-          (Syntax.tyRef Syntax.erased Syntax.mut (Syntax.tyInt Syntax.w8))
-          (Syntax.tcons (Syntax.tyInt Syntax.w64) Syntax.tnil))),
+      Rows.any-gone (Syntax.tyRef Syntax.erased Syntax.mut (Syntax.tyInt Syntax.w8)),
     ) (List._∷_ (
       38,
-      Rows.any-gone (Syntax.tyRef Syntax.erased Syntax.mut (Syntax.tyInt Syntax.w8)),
+      Rows.any-gone
+          (Syntax.tyStruct
+          (List._∷_ 38 (List._∷_ 91 (List._∷_ 93 List.[])))
+          (Syntax.tcons
+          (Syntax.tyRef Syntax.erased Syntax.mut (Syntax.tyInt Syntax.w8))
+          (Syntax.tcons (Syntax.tyInt Syntax.w64) Syntax.tnil))),
     ) (List._∷_ (
       39,
-      Rows.any-gone
-          (Syntax.tyStruct
-          (List._∷_ 38 (List._∷_ 91 (List._∷_ 93 List.[])))
-          (Syntax.tcons
-          (Syntax.tyRef Syntax.erased Syntax.mut (Syntax.tyInt Syntax.w8))
-          (Syntax.tcons (Syntax.tyInt Syntax.w64) Syntax.tnil))),
+      Rows.any-gone (Syntax.tyRef Syntax.erased Syntax.mut (Syntax.tyInt Syntax.w8)),
     ) (List._∷_ (
       40,
-      Rows.any-gone (Syntax.tyRef Syntax.erased Syntax.mut (Syntax.tyInt Syntax.w8)),
-    ) (List._∷_ (
-      41,
       Rows.any-gone
           (Syntax.tyStruct
           (List._∷_ 38 (List._∷_ 91 (List._∷_ 93 List.[])))
           (Syntax.tcons
           (Syntax.tyRef Syntax.erased Syntax.mut (Syntax.tyInt Syntax.w8))
           (Syntax.tcons (Syntax.tyInt Syntax.w64) Syntax.tnil))),
-    ) (List._∷_ (
-      42,
-      Rows.any-gone (Syntax.tyRef Syntax.erased Syntax.mut (Syntax.tyInt Syntax.w8)),
-    ) (List._∷_ (
-      43,
-      Rows.any-gone
-          (Syntax.tyStruct
-          (List._∷_ 38 (List._∷_ 91 (List._∷_ 93 List.[])))
-          (Syntax.tcons
-          (Syntax.tyRef Syntax.erased Syntax.mut (Syntax.tyInt Syntax.w8))
-          (Syntax.tcons (Syntax.tyInt Syntax.w64) Syntax.tnil))),
-    ) List.[])))))))))))
+    ) List.[]))))))))
 
 abbrev pub t3 : List.List Row.Entry
 t3 = List._∷_ (0, Rows.sc-here (Row.sInt Syntax.w64)) (List._∷_ (
@@ -1417,23 +1339,12 @@ t8 = List._∷_ (
           (Syntax.tcons
           (Syntax.tyRef Syntax.erased Syntax.mut (Syntax.tyInt Syntax.w32))
           (Syntax.tcons (Syntax.tyInt Syntax.w64) Syntax.tnil))),
-    ) (List._∷_ (21, Rows.any-gone (Syntax.tyInt Syntax.w64)) (List._∷_ (
-      22,
-      Rows.any-gone (Syntax.tyRef Syntax.erased Syntax.imm (Syntax.tyInt Syntax.w64)),
     ) (List._∷_ (
-      23,
-      Rows.any-gone
-          (Syntax.tyStruct
-          (List._∷_ 38 (List._∷_ 91 (List._∷_ 93 List.[])))
-          (Syntax.tcons
-          (Syntax.tyRef Syntax.erased Syntax.imm (Syntax.tyInt Syntax.w64))
-          (Syntax.tcons (Syntax.tyInt Syntax.w64) Syntax.tnil))),
-    ) (List._∷_ (
-      24,
+      21,
       Rows.any-gone
           (Syntax.tyRef Syntax.erased Syntax.mut Elem.ty),
     ) (List._∷_ (
-      25,
+      22,
       Rows.any-gone
           (Syntax.tyStruct
           (List._∷_ 38 (List._∷_ 91 (List._∷_ 93 List.[])))
@@ -1441,11 +1352,11 @@ t8 = List._∷_ (
           (Syntax.tyRef Syntax.erased Syntax.mut Elem.ty)
           (Syntax.tcons (Syntax.tyInt Syntax.w64) Syntax.tnil))),
     ) (List._∷_ (
-      26,
+      23,
       Rows.any-gone
           (Syntax.tyRef Syntax.erased Syntax.imm Elem.ty),
     ) (List._∷_ (
-      27,
+      24,
       Rows.any-gone
           (Syntax.tyStruct
           (List._∷_ 38 (List._∷_ 91 (List._∷_ 93 List.[])))
@@ -1453,10 +1364,10 @@ t8 = List._∷_ (
           (Syntax.tyRef Syntax.erased Syntax.imm Elem.ty)
           (Syntax.tcons (Syntax.tyInt Syntax.w64) Syntax.tnil))),
     ) (List._∷_ (
-      28,
+      25,
       Rows.any-gone (Syntax.tyRef Syntax.erased Syntax.imm (Syntax.tyInt Syntax.w64)),
     ) (List._∷_ (
-      29,
+      26,
       Rows.any-gone
           (Syntax.tyStruct
           (List._∷_ 38 (List._∷_ 91 (List._∷_ 93 List.[])))
@@ -1464,16 +1375,30 @@ t8 = List._∷_ (
           (Syntax.tyRef Syntax.erased Syntax.imm (Syntax.tyInt Syntax.w64))
           (Syntax.tcons (Syntax.tyInt Syntax.w64) Syntax.tnil))),
     ) (List._∷_ (
-      30,
+      27,
       Rows.any-gone (Syntax.tyRef Syntax.erased Syntax.imm (Syntax.tyInt Syntax.w8)),
     ) (List._∷_ (
-      31,
+      28,
       Rows.any-gone
           (Syntax.tyStruct
           (List._∷_ 38 (List._∷_ 91 (List._∷_ 93 List.[])))
           (Syntax.tcons
           (Syntax.tyRef Syntax.erased Syntax.imm (Syntax.tyInt Syntax.w8))
           (Syntax.tcons (Syntax.tyInt Syntax.w64) Syntax.tnil))),
+    ) (List._∷_ (
+      29,
+      Rows.any-gone (Syntax.tyRef Syntax.erased Syntax.mut (Syntax.tyInt Syntax.w64)),
+    ) (List._∷_ (
+      30,
+      Rows.any-gone
+          (Syntax.tyStruct
+          (List._∷_ 38 (List._∷_ 91 (List._∷_ 93 List.[])))
+          (Syntax.tcons
+          (Syntax.tyRef Syntax.erased Syntax.mut (Syntax.tyInt Syntax.w64))
+          (Syntax.tcons (Syntax.tyInt Syntax.w64) Syntax.tnil))),
+    ) (List._∷_ (
+      31,
+      Rows.any-gone (Syntax.tyRef Syntax.erased Syntax.mut (Syntax.tyInt Syntax.w8)),
     ) List.[])))))))))))))))
 
 abbrev pub t9 : List.List Row.Entry
@@ -1588,23 +1513,12 @@ t10 = List._∷_ (
           (Syntax.tcons
           (Syntax.tyRef Syntax.erased Syntax.mut (Syntax.tyInt Syntax.w32))
           (Syntax.tcons (Syntax.tyInt Syntax.w64) Syntax.tnil))),
-    ) (List._∷_ (21, Rows.any-gone (Syntax.tyInt Syntax.w64)) (List._∷_ (
-      22,
-      Rows.any-gone (Syntax.tyRef Syntax.erased Syntax.imm (Syntax.tyInt Syntax.w64)),
     ) (List._∷_ (
-      23,
-      Rows.any-gone
-          (Syntax.tyStruct
-          (List._∷_ 38 (List._∷_ 91 (List._∷_ 93 List.[])))
-          (Syntax.tcons
-          (Syntax.tyRef Syntax.erased Syntax.imm (Syntax.tyInt Syntax.w64))
-          (Syntax.tcons (Syntax.tyInt Syntax.w64) Syntax.tnil))),
-    ) (List._∷_ (
-      24,
+      21,
       Rows.any-gone
           (Syntax.tyRef Syntax.erased Syntax.mut Elem.ty),
     ) (List._∷_ (
-      25,
+      22,
       Rows.any-gone
           (Syntax.tyStruct
           (List._∷_ 38 (List._∷_ 91 (List._∷_ 93 List.[])))
@@ -1612,11 +1526,11 @@ t10 = List._∷_ (
           (Syntax.tyRef Syntax.erased Syntax.mut Elem.ty)
           (Syntax.tcons (Syntax.tyInt Syntax.w64) Syntax.tnil))),
     ) (List._∷_ (
-      26,
+      23,
       Rows.any-gone
           (Syntax.tyRef Syntax.erased Syntax.imm Elem.ty),
     ) (List._∷_ (
-      27,
+      24,
       Rows.any-gone
           (Syntax.tyStruct
           (List._∷_ 38 (List._∷_ 91 (List._∷_ 93 List.[])))
@@ -1624,10 +1538,10 @@ t10 = List._∷_ (
           (Syntax.tyRef Syntax.erased Syntax.imm Elem.ty)
           (Syntax.tcons (Syntax.tyInt Syntax.w64) Syntax.tnil))),
     ) (List._∷_ (
-      28,
+      25,
       Rows.any-gone (Syntax.tyRef Syntax.erased Syntax.imm (Syntax.tyInt Syntax.w64)),
     ) (List._∷_ (
-      29,
+      26,
       Rows.any-gone
           (Syntax.tyStruct
           (List._∷_ 38 (List._∷_ 91 (List._∷_ 93 List.[])))
@@ -1635,16 +1549,30 @@ t10 = List._∷_ (
           (Syntax.tyRef Syntax.erased Syntax.imm (Syntax.tyInt Syntax.w64))
           (Syntax.tcons (Syntax.tyInt Syntax.w64) Syntax.tnil))),
     ) (List._∷_ (
-      30,
+      27,
       Rows.any-gone (Syntax.tyRef Syntax.erased Syntax.imm (Syntax.tyInt Syntax.w8)),
     ) (List._∷_ (
-      31,
+      28,
       Rows.any-gone
           (Syntax.tyStruct
           (List._∷_ 38 (List._∷_ 91 (List._∷_ 93 List.[])))
           (Syntax.tcons
           (Syntax.tyRef Syntax.erased Syntax.imm (Syntax.tyInt Syntax.w8))
           (Syntax.tcons (Syntax.tyInt Syntax.w64) Syntax.tnil))),
+    ) (List._∷_ (
+      29,
+      Rows.any-gone (Syntax.tyRef Syntax.erased Syntax.mut (Syntax.tyInt Syntax.w64)),
+    ) (List._∷_ (
+      30,
+      Rows.any-gone
+          (Syntax.tyStruct
+          (List._∷_ 38 (List._∷_ 91 (List._∷_ 93 List.[])))
+          (Syntax.tcons
+          (Syntax.tyRef Syntax.erased Syntax.mut (Syntax.tyInt Syntax.w64))
+          (Syntax.tcons (Syntax.tyInt Syntax.w64) Syntax.tnil))),
+    ) (List._∷_ (
+      31,
+      Rows.any-gone (Syntax.tyRef Syntax.erased Syntax.mut (Syntax.tyInt Syntax.w8)),
     ) List.[])))))))))))))))
 
 abbrev pub t11 : List.List Row.Entry
@@ -1674,23 +1602,12 @@ t11 = List._∷_ (
           (Syntax.tcons
           (Syntax.tyRef Syntax.erased Syntax.mut (Syntax.tyInt Syntax.w32))
           (Syntax.tcons (Syntax.tyInt Syntax.w64) Syntax.tnil))),
-    ) (List._∷_ (21, Rows.any-gone (Syntax.tyInt Syntax.w64)) (List._∷_ (
-      22,
-      Rows.any-gone (Syntax.tyRef Syntax.erased Syntax.imm (Syntax.tyInt Syntax.w64)),
     ) (List._∷_ (
-      23,
-      Rows.any-gone
-          (Syntax.tyStruct
-          (List._∷_ 38 (List._∷_ 91 (List._∷_ 93 List.[])))
-          (Syntax.tcons
-          (Syntax.tyRef Syntax.erased Syntax.imm (Syntax.tyInt Syntax.w64))
-          (Syntax.tcons (Syntax.tyInt Syntax.w64) Syntax.tnil))),
-    ) (List._∷_ (
-      24,
+      21,
       Rows.any-gone
           (Syntax.tyRef Syntax.erased Syntax.mut Elem.ty),
     ) (List._∷_ (
-      25,
+      22,
       Rows.any-gone
           (Syntax.tyStruct
           (List._∷_ 38 (List._∷_ 91 (List._∷_ 93 List.[])))
@@ -1698,11 +1615,11 @@ t11 = List._∷_ (
           (Syntax.tyRef Syntax.erased Syntax.mut Elem.ty)
           (Syntax.tcons (Syntax.tyInt Syntax.w64) Syntax.tnil))),
     ) (List._∷_ (
-      26,
+      23,
       Rows.any-gone
           (Syntax.tyRef Syntax.erased Syntax.imm Elem.ty),
     ) (List._∷_ (
-      27,
+      24,
       Rows.any-gone
           (Syntax.tyStruct
           (List._∷_ 38 (List._∷_ 91 (List._∷_ 93 List.[])))
@@ -1710,10 +1627,10 @@ t11 = List._∷_ (
           (Syntax.tyRef Syntax.erased Syntax.imm Elem.ty)
           (Syntax.tcons (Syntax.tyInt Syntax.w64) Syntax.tnil))),
     ) (List._∷_ (
-      28,
+      25,
       Rows.any-gone (Syntax.tyRef Syntax.erased Syntax.imm (Syntax.tyInt Syntax.w64)),
     ) (List._∷_ (
-      29,
+      26,
       Rows.any-gone
           (Syntax.tyStruct
           (List._∷_ 38 (List._∷_ 91 (List._∷_ 93 List.[])))
@@ -1721,16 +1638,30 @@ t11 = List._∷_ (
           (Syntax.tyRef Syntax.erased Syntax.imm (Syntax.tyInt Syntax.w64))
           (Syntax.tcons (Syntax.tyInt Syntax.w64) Syntax.tnil))),
     ) (List._∷_ (
-      30,
+      27,
       Rows.any-gone (Syntax.tyRef Syntax.erased Syntax.imm (Syntax.tyInt Syntax.w8)),
     ) (List._∷_ (
-      31,
+      28,
       Rows.any-gone
           (Syntax.tyStruct
           (List._∷_ 38 (List._∷_ 91 (List._∷_ 93 List.[])))
           (Syntax.tcons
           (Syntax.tyRef Syntax.erased Syntax.imm (Syntax.tyInt Syntax.w8))
           (Syntax.tcons (Syntax.tyInt Syntax.w64) Syntax.tnil))),
+    ) (List._∷_ (
+      29,
+      Rows.any-gone (Syntax.tyRef Syntax.erased Syntax.mut (Syntax.tyInt Syntax.w64)),
+    ) (List._∷_ (
+      30,
+      Rows.any-gone
+          (Syntax.tyStruct
+          (List._∷_ 38 (List._∷_ 91 (List._∷_ 93 List.[])))
+          (Syntax.tcons
+          (Syntax.tyRef Syntax.erased Syntax.mut (Syntax.tyInt Syntax.w64))
+          (Syntax.tcons (Syntax.tyInt Syntax.w64) Syntax.tnil))),
+    ) (List._∷_ (
+      31,
+      Rows.any-gone (Syntax.tyRef Syntax.erased Syntax.mut (Syntax.tyInt Syntax.w8)),
     ) List.[])))))))))))))))
 
 abbrev pub t12 : List.List Row.Entry
@@ -1844,23 +1775,12 @@ t13 = List._∷_ (
           (Syntax.tcons
           (Syntax.tyRef Syntax.erased Syntax.mut (Syntax.tyInt Syntax.w32))
           (Syntax.tcons (Syntax.tyInt Syntax.w64) Syntax.tnil))),
-    ) (List._∷_ (21, Rows.any-gone (Syntax.tyInt Syntax.w64)) (List._∷_ (
-      22,
-      Rows.any-gone (Syntax.tyRef Syntax.erased Syntax.imm (Syntax.tyInt Syntax.w64)),
     ) (List._∷_ (
-      23,
-      Rows.any-gone
-          (Syntax.tyStruct
-          (List._∷_ 38 (List._∷_ 91 (List._∷_ 93 List.[])))
-          (Syntax.tcons
-          (Syntax.tyRef Syntax.erased Syntax.imm (Syntax.tyInt Syntax.w64))
-          (Syntax.tcons (Syntax.tyInt Syntax.w64) Syntax.tnil))),
-    ) (List._∷_ (
-      24,
+      21,
       Rows.any-gone
           (Syntax.tyRef Syntax.erased Syntax.mut Elem.ty),
     ) (List._∷_ (
-      25,
+      22,
       Rows.any-gone
           (Syntax.tyStruct
           (List._∷_ 38 (List._∷_ 91 (List._∷_ 93 List.[])))
@@ -1868,11 +1788,11 @@ t13 = List._∷_ (
           (Syntax.tyRef Syntax.erased Syntax.mut Elem.ty)
           (Syntax.tcons (Syntax.tyInt Syntax.w64) Syntax.tnil))),
     ) (List._∷_ (
-      26,
+      23,
       Rows.any-gone
           (Syntax.tyRef Syntax.erased Syntax.imm Elem.ty),
     ) (List._∷_ (
-      27,
+      24,
       Rows.any-gone
           (Syntax.tyStruct
           (List._∷_ 38 (List._∷_ 91 (List._∷_ 93 List.[])))
@@ -1880,10 +1800,10 @@ t13 = List._∷_ (
           (Syntax.tyRef Syntax.erased Syntax.imm Elem.ty)
           (Syntax.tcons (Syntax.tyInt Syntax.w64) Syntax.tnil))),
     ) (List._∷_ (
-      28,
+      25,
       Rows.any-gone (Syntax.tyRef Syntax.erased Syntax.imm (Syntax.tyInt Syntax.w64)),
     ) (List._∷_ (
-      29,
+      26,
       Rows.any-gone
           (Syntax.tyStruct
           (List._∷_ 38 (List._∷_ 91 (List._∷_ 93 List.[])))
@@ -1891,16 +1811,30 @@ t13 = List._∷_ (
           (Syntax.tyRef Syntax.erased Syntax.imm (Syntax.tyInt Syntax.w64))
           (Syntax.tcons (Syntax.tyInt Syntax.w64) Syntax.tnil))),
     ) (List._∷_ (
-      30,
+      27,
       Rows.any-gone (Syntax.tyRef Syntax.erased Syntax.imm (Syntax.tyInt Syntax.w8)),
     ) (List._∷_ (
-      31,
+      28,
       Rows.any-gone
           (Syntax.tyStruct
           (List._∷_ 38 (List._∷_ 91 (List._∷_ 93 List.[])))
           (Syntax.tcons
           (Syntax.tyRef Syntax.erased Syntax.imm (Syntax.tyInt Syntax.w8))
           (Syntax.tcons (Syntax.tyInt Syntax.w64) Syntax.tnil))),
+    ) (List._∷_ (
+      29,
+      Rows.any-gone (Syntax.tyRef Syntax.erased Syntax.mut (Syntax.tyInt Syntax.w64)),
+    ) (List._∷_ (
+      30,
+      Rows.any-gone
+          (Syntax.tyStruct
+          (List._∷_ 38 (List._∷_ 91 (List._∷_ 93 List.[])))
+          (Syntax.tcons
+          (Syntax.tyRef Syntax.erased Syntax.mut (Syntax.tyInt Syntax.w64))
+          (Syntax.tcons (Syntax.tyInt Syntax.w64) Syntax.tnil))),
+    ) (List._∷_ (
+      31,
+      Rows.any-gone (Syntax.tyRef Syntax.erased Syntax.mut (Syntax.tyInt Syntax.w8)),
     ) List.[])))))))))))))))
 
 abbrev pub t14 : List.List Row.Entry
@@ -1928,23 +1862,12 @@ t14 = List._∷_ (
           (Referent.rtF (Referent.fInt Syntax.w32))
           (Syntax.tyRef Syntax.erased Syntax.mut (Syntax.tyInt Syntax.w32))
           13,
-    ) (List._∷_ (21, Rows.any-gone (Syntax.tyInt Syntax.w64)) (List._∷_ (
-      22,
-      Rows.any-gone (Syntax.tyRef Syntax.erased Syntax.imm (Syntax.tyInt Syntax.w64)),
     ) (List._∷_ (
-      23,
-      Rows.any-gone
-          (Syntax.tyStruct
-          (List._∷_ 38 (List._∷_ 91 (List._∷_ 93 List.[])))
-          (Syntax.tcons
-          (Syntax.tyRef Syntax.erased Syntax.imm (Syntax.tyInt Syntax.w64))
-          (Syntax.tcons (Syntax.tyInt Syntax.w64) Syntax.tnil))),
-    ) (List._∷_ (
-      24,
+      21,
       Rows.any-gone
           (Syntax.tyRef Syntax.erased Syntax.mut Elem.ty),
     ) (List._∷_ (
-      25,
+      22,
       Rows.any-gone
           (Syntax.tyStruct
           (List._∷_ 38 (List._∷_ 91 (List._∷_ 93 List.[])))
@@ -1952,11 +1875,11 @@ t14 = List._∷_ (
           (Syntax.tyRef Syntax.erased Syntax.mut Elem.ty)
           (Syntax.tcons (Syntax.tyInt Syntax.w64) Syntax.tnil))),
     ) (List._∷_ (
-      26,
+      23,
       Rows.any-gone
           (Syntax.tyRef Syntax.erased Syntax.imm Elem.ty),
     ) (List._∷_ (
-      27,
+      24,
       Rows.any-gone
           (Syntax.tyStruct
           (List._∷_ 38 (List._∷_ 91 (List._∷_ 93 List.[])))
@@ -1964,10 +1887,10 @@ t14 = List._∷_ (
           (Syntax.tyRef Syntax.erased Syntax.imm Elem.ty)
           (Syntax.tcons (Syntax.tyInt Syntax.w64) Syntax.tnil))),
     ) (List._∷_ (
-      28,
+      25,
       Rows.any-gone (Syntax.tyRef Syntax.erased Syntax.imm (Syntax.tyInt Syntax.w64)),
     ) (List._∷_ (
-      29,
+      26,
       Rows.any-gone
           (Syntax.tyStruct
           (List._∷_ 38 (List._∷_ 91 (List._∷_ 93 List.[])))
@@ -1975,16 +1898,30 @@ t14 = List._∷_ (
           (Syntax.tyRef Syntax.erased Syntax.imm (Syntax.tyInt Syntax.w64))
           (Syntax.tcons (Syntax.tyInt Syntax.w64) Syntax.tnil))),
     ) (List._∷_ (
-      30,
+      27,
       Rows.any-gone (Syntax.tyRef Syntax.erased Syntax.imm (Syntax.tyInt Syntax.w8)),
     ) (List._∷_ (
-      31,
+      28,
       Rows.any-gone
           (Syntax.tyStruct
           (List._∷_ 38 (List._∷_ 91 (List._∷_ 93 List.[])))
           (Syntax.tcons
           (Syntax.tyRef Syntax.erased Syntax.imm (Syntax.tyInt Syntax.w8))
           (Syntax.tcons (Syntax.tyInt Syntax.w64) Syntax.tnil))),
+    ) (List._∷_ (
+      29,
+      Rows.any-gone (Syntax.tyRef Syntax.erased Syntax.mut (Syntax.tyInt Syntax.w64)),
+    ) (List._∷_ (
+      30,
+      Rows.any-gone
+          (Syntax.tyStruct
+          (List._∷_ 38 (List._∷_ 91 (List._∷_ 93 List.[])))
+          (Syntax.tcons
+          (Syntax.tyRef Syntax.erased Syntax.mut (Syntax.tyInt Syntax.w64))
+          (Syntax.tcons (Syntax.tyInt Syntax.w64) Syntax.tnil))),
+    ) (List._∷_ (
+      31,
+      Rows.any-gone (Syntax.tyRef Syntax.erased Syntax.mut (Syntax.tyInt Syntax.w8)),
     ) List.[])))))))))))))))
 
 abbrev pub t15 : List.List Row.Entry
@@ -1996,10 +1933,269 @@ t15 = List._∷_ (0, Rows.any-gone (Syntax.tyInt Syntax.w64)) (List._∷_ (
       0,
 ) (List._∷_ (
   2,
-  Mut.mslice
+  Relend.mslice-owed
       Elem.R
       (Syntax.tyRef (Syntax.named 1) Syntax.mut Elem.ty)
-      1,
+      1
+      14
+      Row.off,
+) (List._∷_ (
+  3,
+  Mut.mslice
+      (Referent.rtF (Referent.fInt Syntax.w64))
+      (Syntax.tyRef (Syntax.named 2) Syntax.mut (Syntax.tyInt Syntax.w64))
+      2,
+) (List._∷_ (
+  4,
+  Relend.mslice-owed
+      (Referent.rtF (Referent.fInt Syntax.w64))
+      (Syntax.tyRef (Syntax.named 3) Syntax.mut (Syntax.tyInt Syntax.w64))
+      3
+      11
+      Row.off,
+) (List._∷_ (
+  5,
+  Relend.mslice-owed
+      (Referent.rtF (Referent.fInt Syntax.w8))
+      (Syntax.tyRef (Syntax.named 4) Syntax.mut (Syntax.tyInt Syntax.w8))
+      4
+      12
+      Row.off,
+) (List._∷_ (
+  6,
+  Relend.mslice-owed
+      (Referent.rtF (Referent.fInt Syntax.w32))
+      (Syntax.tyRef (Syntax.named 5) Syntax.mut (Syntax.tyInt Syntax.w32))
+      5
+      13
+      Row.off,
+) (List._∷_ (
+  7,
+  Mut.mslice
+      (Referent.rtF (Referent.fInt Syntax.w8))
+      (Syntax.tyRef (Syntax.named 6) Syntax.mut (Syntax.tyInt Syntax.w8))
+      6,
+) (List._∷_ (
+  8,
+  Mut.mslice
+      (Referent.rtF (Referent.fInt Syntax.w8))
+      (Syntax.tyRef (Syntax.named 7) Syntax.mut (Syntax.tyInt Syntax.w8))
+      7,
+) (List._∷_ (
+  9,
+  Mut.mslice
+      (Referent.rtF (Referent.fInt Syntax.w8))
+      (Syntax.tyRef (Syntax.named 8) Syntax.mut (Syntax.tyInt Syntax.w8))
+      8,
+) (List._∷_ (
+  10,
+  Mut.mslice
+      (Referent.rtF (Referent.fInt Syntax.w8))
+      (Syntax.tyRef (Syntax.named 9) Syntax.mut (Syntax.tyInt Syntax.w8))
+      9,
+) (List._∷_ (
+  11,
+  Mut.mslice
+      (Referent.rtF (Referent.fInt Syntax.w8))
+      (Syntax.tyRef (Syntax.named 10) Syntax.mut (Syntax.tyInt Syntax.w8))
+      10,
+) (List._∷_ (12, Rows.sc-here (Row.sInt Syntax.w64)) (List._∷_ (
+  13,
+  Rows.sc-here (Row.sInt Syntax.w64),
+) (List._∷_ (14, Rows.any-gone (Syntax.tyInt Syntax.w64)) (List._∷_ (
+  15,
+  Rows.any-gone (Syntax.tyRef Syntax.erased Syntax.mut (Syntax.tyInt Syntax.w64)),
+) List.[])))))))))))))))
+
+abbrev pub t16 : List.List Row.Entry
+t16 = List._∷_ (
+  16,
+  Mut.mslice
+      (Referent.rtF (Referent.fInt Syntax.w64))
+      (Syntax.tyRef Syntax.erased Syntax.mut (Syntax.tyInt Syntax.w64))
+      11,
+)
+    (List._∷_
+    (17, Rows.any-gone (Syntax.tyRef Syntax.erased Syntax.mut (Syntax.tyInt Syntax.w8)))
+    (List._∷_ (
+      18,
+      Mut.mslice
+          (Referent.rtF (Referent.fInt Syntax.w8))
+          (Syntax.tyRef Syntax.erased Syntax.mut (Syntax.tyInt Syntax.w8))
+          12,
+    ) (List._∷_ (
+      19,
+      Rows.any-gone (Syntax.tyRef Syntax.erased Syntax.mut (Syntax.tyInt Syntax.w32)),
+    ) (List._∷_ (
+      20,
+      Mut.mslice
+          (Referent.rtF (Referent.fInt Syntax.w32))
+          (Syntax.tyRef Syntax.erased Syntax.mut (Syntax.tyInt Syntax.w32))
+          13,
+    ) (List._∷_ (
+      21,
+      Relend.msptr
+          Elem.R
+          (Syntax.tyRef Syntax.erased Syntax.mut Elem.ty)
+          14,
+    ) (List._∷_ (
+      22,
+      Rows.any-gone
+          (Syntax.tyStruct
+          (List._∷_ 38 (List._∷_ 91 (List._∷_ 93 List.[])))
+          (Syntax.tcons
+          (Syntax.tyRef Syntax.erased Syntax.mut Elem.ty)
+          (Syntax.tcons (Syntax.tyInt Syntax.w64) Syntax.tnil))),
+    ) (List._∷_ (
+      23,
+      Rows.any-gone
+          (Syntax.tyRef Syntax.erased Syntax.imm Elem.ty),
+    ) (List._∷_ (
+      24,
+      Rows.any-gone
+          (Syntax.tyStruct
+          (List._∷_ 38 (List._∷_ 91 (List._∷_ 93 List.[])))
+          (Syntax.tcons
+          (Syntax.tyRef Syntax.erased Syntax.imm Elem.ty)
+          (Syntax.tcons (Syntax.tyInt Syntax.w64) Syntax.tnil))),
+    ) (List._∷_ (
+      25,
+      Rows.any-gone (Syntax.tyRef Syntax.erased Syntax.imm (Syntax.tyInt Syntax.w64)),
+    ) (List._∷_ (
+      26,
+      Rows.any-gone
+          (Syntax.tyStruct
+          (List._∷_ 38 (List._∷_ 91 (List._∷_ 93 List.[])))
+          (Syntax.tcons
+          (Syntax.tyRef Syntax.erased Syntax.imm (Syntax.tyInt Syntax.w64))
+          (Syntax.tcons (Syntax.tyInt Syntax.w64) Syntax.tnil))),
+    ) (List._∷_ (
+      27,
+      Rows.any-gone (Syntax.tyRef Syntax.erased Syntax.imm (Syntax.tyInt Syntax.w8)),
+    ) (List._∷_ (
+      28,
+      Rows.any-gone
+          (Syntax.tyStruct
+          (List._∷_ 38 (List._∷_ 91 (List._∷_ 93 List.[])))
+          (Syntax.tcons
+          (Syntax.tyRef Syntax.erased Syntax.imm (Syntax.tyInt Syntax.w8))
+          (Syntax.tcons (Syntax.tyInt Syntax.w64) Syntax.tnil))),
+    ) (List._∷_ (
+      29,
+      Rows.any-gone (Syntax.tyRef Syntax.erased Syntax.mut (Syntax.tyInt Syntax.w64)),
+    ) (List._∷_ (
+      30,
+      Rows.any-gone
+          (Syntax.tyStruct
+          (List._∷_ 38 (List._∷_ 91 (List._∷_ 93 List.[])))
+          (Syntax.tcons
+          (Syntax.tyRef Syntax.erased Syntax.mut (Syntax.tyInt Syntax.w64))
+          (Syntax.tcons (Syntax.tyInt Syntax.w64) Syntax.tnil))),
+    ) (List._∷_ (
+      31,
+      Rows.any-gone (Syntax.tyRef Syntax.erased Syntax.mut (Syntax.tyInt Syntax.w8)),
+    ) List.[])))))))))))))))
+
+abbrev pub t17 : List.List Row.Entry
+t17 = List._∷_ (
+  16,
+  Mut.mslice
+      (Referent.rtF (Referent.fInt Syntax.w64))
+      (Syntax.tyRef Syntax.erased Syntax.mut (Syntax.tyInt Syntax.w64))
+      11,
+)
+    (List._∷_
+    (17, Rows.any-gone (Syntax.tyRef Syntax.erased Syntax.mut (Syntax.tyInt Syntax.w8)))
+    (List._∷_ (
+      18,
+      Mut.mslice
+          (Referent.rtF (Referent.fInt Syntax.w8))
+          (Syntax.tyRef Syntax.erased Syntax.mut (Syntax.tyInt Syntax.w8))
+          12,
+    ) (List._∷_ (
+      19,
+      Rows.any-gone (Syntax.tyRef Syntax.erased Syntax.mut (Syntax.tyInt Syntax.w32)),
+    ) (List._∷_ (
+      20,
+      Mut.mslice
+          (Referent.rtF (Referent.fInt Syntax.w32))
+          (Syntax.tyRef Syntax.erased Syntax.mut (Syntax.tyInt Syntax.w32))
+          13,
+    ) (List._∷_ (
+      21,
+      Rows.any-gone
+          (Syntax.tyRef Syntax.erased Syntax.mut Elem.ty),
+    ) (List._∷_ (
+      22,
+      Mut.mslice
+          Elem.R
+          (Syntax.tyRef Syntax.erased Syntax.mut Elem.ty)
+          14,
+    ) (List._∷_ (
+      23,
+      Rows.any-gone
+          (Syntax.tyRef Syntax.erased Syntax.imm Elem.ty),
+    ) (List._∷_ (
+      24,
+      Rows.any-gone
+          (Syntax.tyStruct
+          (List._∷_ 38 (List._∷_ 91 (List._∷_ 93 List.[])))
+          (Syntax.tcons
+          (Syntax.tyRef Syntax.erased Syntax.imm Elem.ty)
+          (Syntax.tcons (Syntax.tyInt Syntax.w64) Syntax.tnil))),
+    ) (List._∷_ (
+      25,
+      Rows.any-gone (Syntax.tyRef Syntax.erased Syntax.imm (Syntax.tyInt Syntax.w64)),
+    ) (List._∷_ (
+      26,
+      Rows.any-gone
+          (Syntax.tyStruct
+          (List._∷_ 38 (List._∷_ 91 (List._∷_ 93 List.[])))
+          (Syntax.tcons
+          (Syntax.tyRef Syntax.erased Syntax.imm (Syntax.tyInt Syntax.w64))
+          (Syntax.tcons (Syntax.tyInt Syntax.w64) Syntax.tnil))),
+    ) (List._∷_ (
+      27,
+      Rows.any-gone (Syntax.tyRef Syntax.erased Syntax.imm (Syntax.tyInt Syntax.w8)),
+    ) (List._∷_ (
+      28,
+      Rows.any-gone
+          (Syntax.tyStruct
+          (List._∷_ 38 (List._∷_ 91 (List._∷_ 93 List.[])))
+          (Syntax.tcons
+          (Syntax.tyRef Syntax.erased Syntax.imm (Syntax.tyInt Syntax.w8))
+          (Syntax.tcons (Syntax.tyInt Syntax.w64) Syntax.tnil))),
+    ) (List._∷_ (
+      29,
+      Rows.any-gone (Syntax.tyRef Syntax.erased Syntax.mut (Syntax.tyInt Syntax.w64)),
+    ) (List._∷_ (
+      30,
+      Rows.any-gone
+          (Syntax.tyStruct
+          (List._∷_ 38 (List._∷_ 91 (List._∷_ 93 List.[])))
+          (Syntax.tcons
+          (Syntax.tyRef Syntax.erased Syntax.mut (Syntax.tyInt Syntax.w64))
+          (Syntax.tcons (Syntax.tyInt Syntax.w64) Syntax.tnil))),
+    ) (List._∷_ (
+      31,
+      Rows.any-gone (Syntax.tyRef Syntax.erased Syntax.mut (Syntax.tyInt Syntax.w8)),
+    ) List.[])))))))))))))))
+
+abbrev pub t18 : List.List Row.Entry
+t18 = List._∷_ (0, Rows.any-gone (Syntax.tyInt Syntax.w64)) (List._∷_ (
+  1,
+  Rows.sslice
+      (Referent.rtF (Referent.fInt Syntax.w8))
+      (Syntax.tyRef (Syntax.named 0) Syntax.imm (Syntax.tyInt Syntax.w8))
+      0,
+) (List._∷_ (
+  2,
+  Relend.mslice-owed
+      Elem.R
+      (Syntax.tyRef (Syntax.named 1) Syntax.mut Elem.ty)
+      1
+      14
+      Row.off,
 ) (List._∷_ (
   3,
   Mut.mslice
@@ -2068,8 +2264,8 @@ t15 = List._∷_ (0, Rows.any-gone (Syntax.tyInt Syntax.w64)) (List._∷_ (
   Rows.any-gone (Syntax.tyRef Syntax.erased Syntax.mut (Syntax.tyInt Syntax.w64)),
 ) List.[])))))))))))))))
 
-abbrev pub t16 : List.List Row.Entry
-t16 = List._∷_ (
+abbrev pub t19 : List.List Row.Entry
+t19 = List._∷_ (
   16,
   Mut.msleft
       (Referent.rtF (Referent.fInt Syntax.w64))
@@ -2090,35 +2286,21 @@ t16 = List._∷_ (
       Mut.msleft
           (Referent.rtF (Referent.fInt Syntax.w32))
           (Syntax.tyRef Syntax.erased Syntax.mut (Syntax.tyInt Syntax.w32)),
-    ) (List._∷_ (21, Rows.any-gone (Syntax.tyInt Syntax.w64)) (List._∷_ (
-      22,
-      Rows.any-gone (Syntax.tyRef Syntax.erased Syntax.imm (Syntax.tyInt Syntax.w64)),
     ) (List._∷_ (
-      23,
-      Rows.any-gone
-          (Syntax.tyStruct
-          (List._∷_ 38 (List._∷_ 91 (List._∷_ 93 List.[])))
-          (Syntax.tcons
-          (Syntax.tyRef Syntax.erased Syntax.imm (Syntax.tyInt Syntax.w64))
-          (Syntax.tcons (Syntax.tyInt Syntax.w64) Syntax.tnil))),
-    ) (List._∷_ (
-      24,
+      21,
       Rows.any-gone
           (Syntax.tyRef Syntax.erased Syntax.mut Elem.ty),
     ) (List._∷_ (
-      25,
-      Rows.any-gone
-          (Syntax.tyStruct
-          (List._∷_ 38 (List._∷_ 91 (List._∷_ 93 List.[])))
-          (Syntax.tcons
-          (Syntax.tyRef Syntax.erased Syntax.mut Elem.ty)
-          (Syntax.tcons (Syntax.tyInt Syntax.w64) Syntax.tnil))),
+      22,
+      Mut.msleft
+          Elem.R
+          (Syntax.tyRef Syntax.erased Syntax.mut Elem.ty),
     ) (List._∷_ (
-      26,
+      23,
       Rows.any-gone
           (Syntax.tyRef Syntax.erased Syntax.imm Elem.ty),
     ) (List._∷_ (
-      27,
+      24,
       Rows.any-gone
           (Syntax.tyStruct
           (List._∷_ 38 (List._∷_ 91 (List._∷_ 93 List.[])))
@@ -2126,10 +2308,10 @@ t16 = List._∷_ (
           (Syntax.tyRef Syntax.erased Syntax.imm Elem.ty)
           (Syntax.tcons (Syntax.tyInt Syntax.w64) Syntax.tnil))),
     ) (List._∷_ (
-      28,
+      25,
       Rows.any-gone (Syntax.tyRef Syntax.erased Syntax.imm (Syntax.tyInt Syntax.w64)),
     ) (List._∷_ (
-      29,
+      26,
       Rows.any-gone
           (Syntax.tyStruct
           (List._∷_ 38 (List._∷_ 91 (List._∷_ 93 List.[])))
@@ -2137,20 +2319,34 @@ t16 = List._∷_ (
           (Syntax.tyRef Syntax.erased Syntax.imm (Syntax.tyInt Syntax.w64))
           (Syntax.tcons (Syntax.tyInt Syntax.w64) Syntax.tnil))),
     ) (List._∷_ (
-      30,
+      27,
       Rows.any-gone (Syntax.tyRef Syntax.erased Syntax.imm (Syntax.tyInt Syntax.w8)),
     ) (List._∷_ (
-      31,
+      28,
       Rows.any-gone
           (Syntax.tyStruct
           (List._∷_ 38 (List._∷_ 91 (List._∷_ 93 List.[])))
           (Syntax.tcons
           (Syntax.tyRef Syntax.erased Syntax.imm (Syntax.tyInt Syntax.w8))
           (Syntax.tcons (Syntax.tyInt Syntax.w64) Syntax.tnil))),
+    ) (List._∷_ (
+      29,
+      Rows.any-gone (Syntax.tyRef Syntax.erased Syntax.mut (Syntax.tyInt Syntax.w64)),
+    ) (List._∷_ (
+      30,
+      Rows.any-gone
+          (Syntax.tyStruct
+          (List._∷_ 38 (List._∷_ 91 (List._∷_ 93 List.[])))
+          (Syntax.tcons
+          (Syntax.tyRef Syntax.erased Syntax.mut (Syntax.tyInt Syntax.w64))
+          (Syntax.tcons (Syntax.tyInt Syntax.w64) Syntax.tnil))),
+    ) (List._∷_ (
+      31,
+      Rows.any-gone (Syntax.tyRef Syntax.erased Syntax.mut (Syntax.tyInt Syntax.w8)),
     ) List.[])))))))))))))))
 
-abbrev pub t17 : List.List Row.Entry
-t17 = List._∷_ (0, Rows.any-gone (Syntax.tyInt Syntax.w64)) (List._∷_ (
+abbrev pub t20 : List.List Row.Entry
+t20 = List._∷_ (0, Rows.any-gone (Syntax.tyInt Syntax.w64)) (List._∷_ (
   1,
   Rows.sslice
       (Referent.rtF (Referent.fInt Syntax.w8))
@@ -2158,10 +2354,12 @@ t17 = List._∷_ (0, Rows.any-gone (Syntax.tyInt Syntax.w64)) (List._∷_ (
       0,
 ) (List._∷_ (
   2,
-  Mut.mslice
+  Relend.mslice-owed
       Elem.R
       (Syntax.tyRef (Syntax.named 1) Syntax.mut Elem.ty)
-      1,
+      1
+      14
+      Row.off,
 ) (List._∷_ (
   3,
   Mut.mslice
@@ -2228,8 +2426,8 @@ t17 = List._∷_ (0, Rows.any-gone (Syntax.tyInt Syntax.w64)) (List._∷_ (
   Rows.any-gone (Syntax.tyRef Syntax.erased Syntax.mut (Syntax.tyInt Syntax.w64)),
 ) List.[])))))))))))))))
 
-abbrev pub t18 : List.List Row.Entry
-t18 = List._∷_ (
+abbrev pub t21 : List.List Row.Entry
+t21 = List._∷_ (
   16,
   Rows.any-gone
       (Syntax.tyStruct
@@ -2253,35 +2451,21 @@ t18 = List._∷_ (
       Mut.msleft
           (Referent.rtF (Referent.fInt Syntax.w32))
           (Syntax.tyRef Syntax.erased Syntax.mut (Syntax.tyInt Syntax.w32)),
-    ) (List._∷_ (21, Rows.any-gone (Syntax.tyInt Syntax.w64)) (List._∷_ (
-      22,
-      Rows.any-gone (Syntax.tyRef Syntax.erased Syntax.imm (Syntax.tyInt Syntax.w64)),
     ) (List._∷_ (
-      23,
-      Rows.any-gone
-          (Syntax.tyStruct
-          (List._∷_ 38 (List._∷_ 91 (List._∷_ 93 List.[])))
-          (Syntax.tcons
-          (Syntax.tyRef Syntax.erased Syntax.imm (Syntax.tyInt Syntax.w64))
-          (Syntax.tcons (Syntax.tyInt Syntax.w64) Syntax.tnil))),
-    ) (List._∷_ (
-      24,
+      21,
       Rows.any-gone
           (Syntax.tyRef Syntax.erased Syntax.mut Elem.ty),
     ) (List._∷_ (
-      25,
-      Rows.any-gone
-          (Syntax.tyStruct
-          (List._∷_ 38 (List._∷_ 91 (List._∷_ 93 List.[])))
-          (Syntax.tcons
-          (Syntax.tyRef Syntax.erased Syntax.mut Elem.ty)
-          (Syntax.tcons (Syntax.tyInt Syntax.w64) Syntax.tnil))),
+      22,
+      Mut.msleft
+          Elem.R
+          (Syntax.tyRef Syntax.erased Syntax.mut Elem.ty),
     ) (List._∷_ (
-      26,
+      23,
       Rows.any-gone
           (Syntax.tyRef Syntax.erased Syntax.imm Elem.ty),
     ) (List._∷_ (
-      27,
+      24,
       Rows.any-gone
           (Syntax.tyStruct
           (List._∷_ 38 (List._∷_ 91 (List._∷_ 93 List.[])))
@@ -2289,10 +2473,10 @@ t18 = List._∷_ (
           (Syntax.tyRef Syntax.erased Syntax.imm Elem.ty)
           (Syntax.tcons (Syntax.tyInt Syntax.w64) Syntax.tnil))),
     ) (List._∷_ (
-      28,
+      25,
       Rows.any-gone (Syntax.tyRef Syntax.erased Syntax.imm (Syntax.tyInt Syntax.w64)),
     ) (List._∷_ (
-      29,
+      26,
       Rows.any-gone
           (Syntax.tyStruct
           (List._∷_ 38 (List._∷_ 91 (List._∷_ 93 List.[])))
@@ -2300,20 +2484,34 @@ t18 = List._∷_ (
           (Syntax.tyRef Syntax.erased Syntax.imm (Syntax.tyInt Syntax.w64))
           (Syntax.tcons (Syntax.tyInt Syntax.w64) Syntax.tnil))),
     ) (List._∷_ (
-      30,
+      27,
       Rows.any-gone (Syntax.tyRef Syntax.erased Syntax.imm (Syntax.tyInt Syntax.w8)),
     ) (List._∷_ (
-      31,
+      28,
       Rows.any-gone
           (Syntax.tyStruct
           (List._∷_ 38 (List._∷_ 91 (List._∷_ 93 List.[])))
           (Syntax.tcons
           (Syntax.tyRef Syntax.erased Syntax.imm (Syntax.tyInt Syntax.w8))
           (Syntax.tcons (Syntax.tyInt Syntax.w64) Syntax.tnil))),
+    ) (List._∷_ (
+      29,
+      Rows.any-gone (Syntax.tyRef Syntax.erased Syntax.mut (Syntax.tyInt Syntax.w64)),
+    ) (List._∷_ (
+      30,
+      Rows.any-gone
+          (Syntax.tyStruct
+          (List._∷_ 38 (List._∷_ 91 (List._∷_ 93 List.[])))
+          (Syntax.tcons
+          (Syntax.tyRef Syntax.erased Syntax.mut (Syntax.tyInt Syntax.w64))
+          (Syntax.tcons (Syntax.tyInt Syntax.w64) Syntax.tnil))),
+    ) (List._∷_ (
+      31,
+      Rows.any-gone (Syntax.tyRef Syntax.erased Syntax.mut (Syntax.tyInt Syntax.w8)),
     ) List.[])))))))))))))))
 
-abbrev pub t19 : List.List Row.Entry
-t19 = List._∷_ (0, Rows.any-gone (Syntax.tyInt Syntax.w64)) (List._∷_ (
+abbrev pub t22 : List.List Row.Entry
+t22 = List._∷_ (0, Rows.any-gone (Syntax.tyInt Syntax.w64)) (List._∷_ (
   1,
   Rows.sslice
       (Referent.rtF (Referent.fInt Syntax.w8))
@@ -2321,10 +2519,12 @@ t19 = List._∷_ (0, Rows.any-gone (Syntax.tyInt Syntax.w64)) (List._∷_ (
       0,
 ) (List._∷_ (
   2,
-  Mut.mslice
+  Relend.mslice-owed
       Elem.R
       (Syntax.tyRef (Syntax.named 1) Syntax.mut Elem.ty)
-      1,
+      1
+      14
+      Row.off,
 ) (List._∷_ (
   3,
   Mut.mslice
@@ -2389,8 +2589,8 @@ t19 = List._∷_ (0, Rows.any-gone (Syntax.tyInt Syntax.w64)) (List._∷_ (
   Rows.any-gone (Syntax.tyRef Syntax.erased Syntax.mut (Syntax.tyInt Syntax.w64)),
 ) List.[])))))))))))))))
 
-abbrev pub t20 : List.List Row.Entry
-t20 = List._∷_ (
+abbrev pub t23 : List.List Row.Entry
+t23 = List._∷_ (
   16,
   Rows.any-gone
       (Syntax.tyStruct
@@ -2417,35 +2617,21 @@ t20 = List._∷_ (
       Mut.msleft
           (Referent.rtF (Referent.fInt Syntax.w32))
           (Syntax.tyRef Syntax.erased Syntax.mut (Syntax.tyInt Syntax.w32)),
-    ) (List._∷_ (21, Rows.any-gone (Syntax.tyInt Syntax.w64)) (List._∷_ (
-      22,
-      Rows.any-gone (Syntax.tyRef Syntax.erased Syntax.imm (Syntax.tyInt Syntax.w64)),
     ) (List._∷_ (
-      23,
-      Rows.any-gone
-          (Syntax.tyStruct
-          (List._∷_ 38 (List._∷_ 91 (List._∷_ 93 List.[])))
-          (Syntax.tcons
-          (Syntax.tyRef Syntax.erased Syntax.imm (Syntax.tyInt Syntax.w64))
-          (Syntax.tcons (Syntax.tyInt Syntax.w64) Syntax.tnil))),
-    ) (List._∷_ (
-      24,
+      21,
       Rows.any-gone
           (Syntax.tyRef Syntax.erased Syntax.mut Elem.ty),
     ) (List._∷_ (
-      25,
-      Rows.any-gone
-          (Syntax.tyStruct
-          (List._∷_ 38 (List._∷_ 91 (List._∷_ 93 List.[])))
-          (Syntax.tcons
-          (Syntax.tyRef Syntax.erased Syntax.mut Elem.ty)
-          (Syntax.tcons (Syntax.tyInt Syntax.w64) Syntax.tnil))),
+      22,
+      Mut.msleft
+          Elem.R
+          (Syntax.tyRef Syntax.erased Syntax.mut Elem.ty),
     ) (List._∷_ (
-      26,
+      23,
       Rows.any-gone
           (Syntax.tyRef Syntax.erased Syntax.imm Elem.ty),
     ) (List._∷_ (
-      27,
+      24,
       Rows.any-gone
           (Syntax.tyStruct
           (List._∷_ 38 (List._∷_ 91 (List._∷_ 93 List.[])))
@@ -2453,10 +2639,10 @@ t20 = List._∷_ (
           (Syntax.tyRef Syntax.erased Syntax.imm Elem.ty)
           (Syntax.tcons (Syntax.tyInt Syntax.w64) Syntax.tnil))),
     ) (List._∷_ (
-      28,
+      25,
       Rows.any-gone (Syntax.tyRef Syntax.erased Syntax.imm (Syntax.tyInt Syntax.w64)),
     ) (List._∷_ (
-      29,
+      26,
       Rows.any-gone
           (Syntax.tyStruct
           (List._∷_ 38 (List._∷_ 91 (List._∷_ 93 List.[])))
@@ -2464,20 +2650,201 @@ t20 = List._∷_ (
           (Syntax.tyRef Syntax.erased Syntax.imm (Syntax.tyInt Syntax.w64))
           (Syntax.tcons (Syntax.tyInt Syntax.w64) Syntax.tnil))),
     ) (List._∷_ (
-      30,
+      27,
       Rows.any-gone (Syntax.tyRef Syntax.erased Syntax.imm (Syntax.tyInt Syntax.w8)),
     ) (List._∷_ (
-      31,
+      28,
       Rows.any-gone
           (Syntax.tyStruct
           (List._∷_ 38 (List._∷_ 91 (List._∷_ 93 List.[])))
           (Syntax.tcons
           (Syntax.tyRef Syntax.erased Syntax.imm (Syntax.tyInt Syntax.w8))
           (Syntax.tcons (Syntax.tyInt Syntax.w64) Syntax.tnil))),
+    ) (List._∷_ (
+      29,
+      Rows.any-gone (Syntax.tyRef Syntax.erased Syntax.mut (Syntax.tyInt Syntax.w64)),
+    ) (List._∷_ (
+      30,
+      Rows.any-gone
+          (Syntax.tyStruct
+          (List._∷_ 38 (List._∷_ 91 (List._∷_ 93 List.[])))
+          (Syntax.tcons
+          (Syntax.tyRef Syntax.erased Syntax.mut (Syntax.tyInt Syntax.w64))
+          (Syntax.tcons (Syntax.tyInt Syntax.w64) Syntax.tnil))),
+    ) (List._∷_ (
+      31,
+      Rows.any-gone (Syntax.tyRef Syntax.erased Syntax.mut (Syntax.tyInt Syntax.w8)),
     ) List.[])))))))))))))))
 
-abbrev pub t21 : List.List Row.Entry
-t21 = List._∷_ (0, Rows.any-gone (Syntax.tyInt Syntax.w64)) (List._∷_ (
+abbrev pub t24 : List.List Row.Entry
+t24 = List._∷_ (0, Rows.any-gone (Syntax.tyInt Syntax.w64)) (List._∷_ (
+  1,
+  Rows.sslice
+      (Referent.rtF (Referent.fInt Syntax.w8))
+      (Syntax.tyRef (Syntax.named 0) Syntax.imm (Syntax.tyInt Syntax.w8))
+      0,
+) (List._∷_ (
+  2,
+  Relend.mslice-owed
+      Elem.R
+      (Syntax.tyRef (Syntax.named 1) Syntax.mut Elem.ty)
+      1
+      14
+      Row.off,
+) (List._∷_ (
+  3,
+  Mut.mslice
+      (Referent.rtF (Referent.fInt Syntax.w64))
+      (Syntax.tyRef (Syntax.named 2) Syntax.mut (Syntax.tyInt Syntax.w64))
+      2,
+) (List._∷_ (
+  4,
+  Mut.mslice
+      (Referent.rtF (Referent.fInt Syntax.w64))
+      (Syntax.tyRef (Syntax.named 3) Syntax.mut (Syntax.tyInt Syntax.w64))
+      3,
+) (List._∷_ (
+  5,
+  Mut.mslice
+      (Referent.rtF (Referent.fInt Syntax.w8))
+      (Syntax.tyRef (Syntax.named 4) Syntax.mut (Syntax.tyInt Syntax.w8))
+      4,
+) (List._∷_ (
+  6,
+  Mut.mslice
+      (Referent.rtF (Referent.fInt Syntax.w32))
+      (Syntax.tyRef (Syntax.named 5) Syntax.mut (Syntax.tyInt Syntax.w32))
+      5,
+) (List._∷_ (
+  7,
+  Mut.mslice
+      (Referent.rtF (Referent.fInt Syntax.w8))
+      (Syntax.tyRef (Syntax.named 6) Syntax.mut (Syntax.tyInt Syntax.w8))
+      6,
+) (List._∷_ (
+  8,
+  Mut.mslice
+      (Referent.rtF (Referent.fInt Syntax.w8))
+      (Syntax.tyRef (Syntax.named 7) Syntax.mut (Syntax.tyInt Syntax.w8))
+      7,
+) (List._∷_ (
+  9,
+  Mut.mslice
+      (Referent.rtF (Referent.fInt Syntax.w8))
+      (Syntax.tyRef (Syntax.named 8) Syntax.mut (Syntax.tyInt Syntax.w8))
+      8,
+) (List._∷_ (
+  10,
+  Mut.mslice
+      (Referent.rtF (Referent.fInt Syntax.w8))
+      (Syntax.tyRef (Syntax.named 9) Syntax.mut (Syntax.tyInt Syntax.w8))
+      9,
+) (List._∷_ (
+  11,
+  Mut.mslice
+      (Referent.rtF (Referent.fInt Syntax.w8))
+      (Syntax.tyRef (Syntax.named 10) Syntax.mut (Syntax.tyInt Syntax.w8))
+      10,
+) (List._∷_ (12, Rows.sc-here (Row.sInt Syntax.w64)) (List._∷_ (
+  13,
+  Rows.sc-here (Row.sInt Syntax.w64),
+) (List._∷_ (14, Rows.sc-here (Row.sInt Syntax.w64)) (List._∷_ (
+  15,
+  Rows.any-gone (Syntax.tyRef Syntax.erased Syntax.mut (Syntax.tyInt Syntax.w64)),
+) List.[])))))))))))))))
+
+abbrev pub t25 : List.List Row.Entry
+t25 = List._∷_ (
+  16,
+  Rows.any-gone
+      (Syntax.tyStruct
+      (List._∷_ 38 (List._∷_ 91 (List._∷_ 93 List.[])))
+      (Syntax.tcons
+      (Syntax.tyRef Syntax.erased Syntax.mut (Syntax.tyInt Syntax.w64))
+      (Syntax.tcons (Syntax.tyInt Syntax.w64) Syntax.tnil))),
+)
+    (List._∷_
+    (17, Rows.any-gone (Syntax.tyRef Syntax.erased Syntax.mut (Syntax.tyInt Syntax.w8)))
+    (List._∷_ (
+      18,
+      Rows.any-gone
+          (Syntax.tyStruct
+          (List._∷_ 38 (List._∷_ 91 (List._∷_ 93 List.[])))
+          (Syntax.tcons
+          (Syntax.tyRef Syntax.erased Syntax.mut (Syntax.tyInt Syntax.w8))
+          (Syntax.tcons (Syntax.tyInt Syntax.w64) Syntax.tnil))),
+    ) (List._∷_ (
+      19,
+      Rows.any-gone (Syntax.tyRef Syntax.erased Syntax.mut (Syntax.tyInt Syntax.w32)),
+    ) (List._∷_ (
+      20,
+      Rows.any-gone
+          (Syntax.tyStruct
+          (List._∷_ 38 (List._∷_ 91 (List._∷_ 93 List.[])))
+          (Syntax.tcons
+          (Syntax.tyRef Syntax.erased Syntax.mut (Syntax.tyInt Syntax.w32))
+          (Syntax.tcons (Syntax.tyInt Syntax.w64) Syntax.tnil))),
+    ) (List._∷_ (
+      21,
+      Rows.any-gone
+          (Syntax.tyRef Syntax.erased Syntax.mut Elem.ty),
+    ) (List._∷_ (
+      22,
+      Mut.msleft
+          Elem.R
+          (Syntax.tyRef Syntax.erased Syntax.mut Elem.ty),
+    ) (List._∷_ (
+      23,
+      Rows.any-gone
+          (Syntax.tyRef Syntax.erased Syntax.imm Elem.ty),
+    ) (List._∷_ (
+      24,
+      Rows.any-gone
+          (Syntax.tyStruct
+          (List._∷_ 38 (List._∷_ 91 (List._∷_ 93 List.[])))
+          (Syntax.tcons
+          (Syntax.tyRef Syntax.erased Syntax.imm Elem.ty)
+          (Syntax.tcons (Syntax.tyInt Syntax.w64) Syntax.tnil))),
+    ) (List._∷_ (
+      25,
+      Rows.any-gone (Syntax.tyRef Syntax.erased Syntax.imm (Syntax.tyInt Syntax.w64)),
+    ) (List._∷_ (
+      26,
+      Rows.any-gone
+          (Syntax.tyStruct
+          (List._∷_ 38 (List._∷_ 91 (List._∷_ 93 List.[])))
+          (Syntax.tcons
+          (Syntax.tyRef Syntax.erased Syntax.imm (Syntax.tyInt Syntax.w64))
+          (Syntax.tcons (Syntax.tyInt Syntax.w64) Syntax.tnil))),
+    ) (List._∷_ (
+      27,
+      Rows.any-gone (Syntax.tyRef Syntax.erased Syntax.imm (Syntax.tyInt Syntax.w8)),
+    ) (List._∷_ (
+      28,
+      Rows.any-gone
+          (Syntax.tyStruct
+          (List._∷_ 38 (List._∷_ 91 (List._∷_ 93 List.[])))
+          (Syntax.tcons
+          (Syntax.tyRef Syntax.erased Syntax.imm (Syntax.tyInt Syntax.w8))
+          (Syntax.tcons (Syntax.tyInt Syntax.w64) Syntax.tnil))),
+    ) (List._∷_ (
+      29,
+      Rows.any-gone (Syntax.tyRef Syntax.erased Syntax.mut (Syntax.tyInt Syntax.w64)),
+    ) (List._∷_ (
+      30,
+      Rows.any-gone
+          (Syntax.tyStruct
+          (List._∷_ 38 (List._∷_ 91 (List._∷_ 93 List.[])))
+          (Syntax.tcons
+          (Syntax.tyRef Syntax.erased Syntax.mut (Syntax.tyInt Syntax.w64))
+          (Syntax.tcons (Syntax.tyInt Syntax.w64) Syntax.tnil))),
+    ) (List._∷_ (
+      31,
+      Rows.any-gone (Syntax.tyRef Syntax.erased Syntax.mut (Syntax.tyInt Syntax.w8)),
+    ) List.[])))))))))))))))
+
+abbrev pub t26 : List.List Row.Entry
+t26 = List._∷_ (0, Rows.any-gone (Syntax.tyInt Syntax.w64)) (List._∷_ (
   1,
   Rows.sslice
       (Referent.rtF (Referent.fInt Syntax.w8))
@@ -2551,8 +2918,8 @@ t21 = List._∷_ (0, Rows.any-gone (Syntax.tyInt Syntax.w64)) (List._∷_ (
   Rows.any-gone (Syntax.tyRef Syntax.erased Syntax.mut (Syntax.tyInt Syntax.w64)),
 ) List.[])))))))))))))))
 
-abbrev pub t22 : List.List Row.Entry
-t22 = List._∷_ (0, Rows.any-gone (Syntax.tyInt Syntax.w64)) (List._∷_ (
+abbrev pub t27 : List.List Row.Entry
+t27 = List._∷_ (0, Rows.any-gone (Syntax.tyInt Syntax.w64)) (List._∷_ (
   1,
   Rows.sslice
       (Referent.rtF (Referent.fInt Syntax.w8))
@@ -2560,265 +2927,7 @@ t22 = List._∷_ (0, Rows.any-gone (Syntax.tyInt Syntax.w64)) (List._∷_ (
       0,
 ) (List._∷_ (
   2,
-  Mut.mslice
-      Elem.R
-      (Syntax.tyRef (Syntax.named 1) Syntax.mut Elem.ty)
-      1,
-) (List._∷_ (
-  3,
-  Mut.mslice
-      (Referent.rtF (Referent.fInt Syntax.w64))
-      (Syntax.tyRef (Syntax.named 2) Syntax.mut (Syntax.tyInt Syntax.w64))
-      2,
-) (List._∷_ (
-  4,
   Reshare.mslice-owedS
-      (Referent.rtF (Referent.fInt Syntax.w64))
-      (Syntax.tyRef (Syntax.named 3) Syntax.mut (Syntax.tyInt Syntax.w64))
-      3
-      14
-      Row.off,
-) (List._∷_ (
-  5,
-  Mut.mslice
-      (Referent.rtF (Referent.fInt Syntax.w8))
-      (Syntax.tyRef (Syntax.named 4) Syntax.mut (Syntax.tyInt Syntax.w8))
-      4,
-) (List._∷_ (
-  6,
-  Mut.mslice
-      (Referent.rtF (Referent.fInt Syntax.w32))
-      (Syntax.tyRef (Syntax.named 5) Syntax.mut (Syntax.tyInt Syntax.w32))
-      5,
-) (List._∷_ (
-  7,
-  Mut.mslice
-      (Referent.rtF (Referent.fInt Syntax.w8))
-      (Syntax.tyRef (Syntax.named 6) Syntax.mut (Syntax.tyInt Syntax.w8))
-      6,
-) (List._∷_ (
-  8,
-  Mut.mslice
-      (Referent.rtF (Referent.fInt Syntax.w8))
-      (Syntax.tyRef (Syntax.named 7) Syntax.mut (Syntax.tyInt Syntax.w8))
-      7,
-) (List._∷_ (
-  9,
-  Mut.mslice
-      (Referent.rtF (Referent.fInt Syntax.w8))
-      (Syntax.tyRef (Syntax.named 8) Syntax.mut (Syntax.tyInt Syntax.w8))
-      8,
-) (List._∷_ (
-  10,
-  Mut.mslice
-      (Referent.rtF (Referent.fInt Syntax.w8))
-      (Syntax.tyRef (Syntax.named 9) Syntax.mut (Syntax.tyInt Syntax.w8))
-      9,
-) (List._∷_ (
-  11,
-  Mut.mslice
-      (Referent.rtF (Referent.fInt Syntax.w8))
-      (Syntax.tyRef (Syntax.named 10) Syntax.mut (Syntax.tyInt Syntax.w8))
-      10,
-) (List._∷_ (12, Rows.sc-here (Row.sInt Syntax.w64)) (List._∷_ (
-  13,
-  Rows.sc-here (Row.sInt Syntax.w64),
-) (List._∷_ (14, Rows.sc-here (Row.sInt Syntax.w64)) (List._∷_ (
-  15,
-  Rows.any-gone (Syntax.tyRef Syntax.erased Syntax.mut (Syntax.tyInt Syntax.w64)),
-) List.[])))))))))))))))
-
-abbrev pub t23 : List.List Row.Entry
-t23 = List._∷_ (
-  16,
-  Rows.any-gone
-      (Syntax.tyStruct
-      (List._∷_ 38 (List._∷_ 91 (List._∷_ 93 List.[])))
-      (Syntax.tcons
-      (Syntax.tyRef Syntax.erased Syntax.mut (Syntax.tyInt Syntax.w64))
-      (Syntax.tcons (Syntax.tyInt Syntax.w64) Syntax.tnil))),
-)
-    (List._∷_
-    (17, Rows.any-gone (Syntax.tyRef Syntax.erased Syntax.mut (Syntax.tyInt Syntax.w8)))
-    (List._∷_ (
-      18,
-      Rows.any-gone
-          (Syntax.tyStruct
-          (List._∷_ 38 (List._∷_ 91 (List._∷_ 93 List.[])))
-          (Syntax.tcons
-          (Syntax.tyRef Syntax.erased Syntax.mut (Syntax.tyInt Syntax.w8))
-          (Syntax.tcons (Syntax.tyInt Syntax.w64) Syntax.tnil))),
-    ) (List._∷_ (
-      19,
-      Rows.any-gone (Syntax.tyRef Syntax.erased Syntax.mut (Syntax.tyInt Syntax.w32)),
-    ) (List._∷_ (
-      20,
-      Rows.any-gone
-          (Syntax.tyStruct
-          (List._∷_ 38 (List._∷_ 91 (List._∷_ 93 List.[])))
-          (Syntax.tcons
-          (Syntax.tyRef Syntax.erased Syntax.mut (Syntax.tyInt Syntax.w32))
-          (Syntax.tcons (Syntax.tyInt Syntax.w64) Syntax.tnil))),
-    ) (List._∷_ (21, Rows.any-gone (Syntax.tyInt Syntax.w64)) (List._∷_ (
-      22,
-      Relend.ssptr
-          (Referent.rtF (Referent.fInt Syntax.w64))
-          (Syntax.tyRef Syntax.erased Syntax.imm (Syntax.tyInt Syntax.w64))
-          14,
-    ) (List._∷_ (
-      23,
-      Rows.any-gone
-          (Syntax.tyStruct
-          (List._∷_ 38 (List._∷_ 91 (List._∷_ 93 List.[])))
-          (Syntax.tcons
-          (Syntax.tyRef Syntax.erased Syntax.imm (Syntax.tyInt Syntax.w64))
-          (Syntax.tcons (Syntax.tyInt Syntax.w64) Syntax.tnil))),
-    ) (List._∷_ (
-      24,
-      Rows.any-gone
-          (Syntax.tyRef Syntax.erased Syntax.mut Elem.ty),
-    ) (List._∷_ (
-      25,
-      Rows.any-gone
-          (Syntax.tyStruct
-          (List._∷_ 38 (List._∷_ 91 (List._∷_ 93 List.[])))
-          (Syntax.tcons
-          (Syntax.tyRef Syntax.erased Syntax.mut Elem.ty)
-          (Syntax.tcons (Syntax.tyInt Syntax.w64) Syntax.tnil))),
-    ) (List._∷_ (
-      26,
-      Rows.any-gone
-          (Syntax.tyRef Syntax.erased Syntax.imm Elem.ty),
-    ) (List._∷_ (
-      27,
-      Rows.any-gone
-          (Syntax.tyStruct
-          (List._∷_ 38 (List._∷_ 91 (List._∷_ 93 List.[])))
-          (Syntax.tcons
-          (Syntax.tyRef Syntax.erased Syntax.imm Elem.ty)
-          (Syntax.tcons (Syntax.tyInt Syntax.w64) Syntax.tnil))),
-    ) (List._∷_ (
-      28,
-      Rows.any-gone (Syntax.tyRef Syntax.erased Syntax.imm (Syntax.tyInt Syntax.w64)),
-    ) (List._∷_ (
-      29,
-      Rows.any-gone
-          (Syntax.tyStruct
-          (List._∷_ 38 (List._∷_ 91 (List._∷_ 93 List.[])))
-          (Syntax.tcons
-          (Syntax.tyRef Syntax.erased Syntax.imm (Syntax.tyInt Syntax.w64))
-          (Syntax.tcons (Syntax.tyInt Syntax.w64) Syntax.tnil))),
-    ) (List._∷_ (
-      30,
-      Rows.any-gone (Syntax.tyRef Syntax.erased Syntax.imm (Syntax.tyInt Syntax.w8)),
-    ) (List._∷_ (
-      31,
-      Rows.any-gone
-          (Syntax.tyStruct
-          (List._∷_ 38 (List._∷_ 91 (List._∷_ 93 List.[])))
-          (Syntax.tcons
-          (Syntax.tyRef Syntax.erased Syntax.imm (Syntax.tyInt Syntax.w8))
-          (Syntax.tcons (Syntax.tyInt Syntax.w64) Syntax.tnil))),
-    ) List.[])))))))))))))))
-
-abbrev pub t24 : List.List Row.Entry
-t24 = List._∷_ (
-  16,
-  Rows.any-gone
-      (Syntax.tyStruct
-      (List._∷_ 38 (List._∷_ 91 (List._∷_ 93 List.[])))
-      (Syntax.tcons
-      (Syntax.tyRef Syntax.erased Syntax.mut (Syntax.tyInt Syntax.w64))
-      (Syntax.tcons (Syntax.tyInt Syntax.w64) Syntax.tnil))),
-)
-    (List._∷_
-    (17, Rows.any-gone (Syntax.tyRef Syntax.erased Syntax.mut (Syntax.tyInt Syntax.w8)))
-    (List._∷_ (
-      18,
-      Rows.any-gone
-          (Syntax.tyStruct
-          (List._∷_ 38 (List._∷_ 91 (List._∷_ 93 List.[])))
-          (Syntax.tcons
-          (Syntax.tyRef Syntax.erased Syntax.mut (Syntax.tyInt Syntax.w8))
-          (Syntax.tcons (Syntax.tyInt Syntax.w64) Syntax.tnil))),
-    ) (List._∷_ (
-      19,
-      Rows.any-gone (Syntax.tyRef Syntax.erased Syntax.mut (Syntax.tyInt Syntax.w32)),
-    ) (List._∷_ (
-      20,
-      Rows.any-gone
-          (Syntax.tyStruct
-          (List._∷_ 38 (List._∷_ 91 (List._∷_ 93 List.[])))
-          (Syntax.tcons
-          (Syntax.tyRef Syntax.erased Syntax.mut (Syntax.tyInt Syntax.w32))
-          (Syntax.tcons (Syntax.tyInt Syntax.w64) Syntax.tnil))),
-    ) (List._∷_ (21, Rows.any-gone (Syntax.tyInt Syntax.w64)) (List._∷_ (
-      22,
-      Rows.any-gone (Syntax.tyRef Syntax.erased Syntax.imm (Syntax.tyInt Syntax.w64)),
-    ) (List._∷_ (
-      23,
-      Rows.sslice
-          (Referent.rtF (Referent.fInt Syntax.w64))
-          (Syntax.tyRef Syntax.erased Syntax.imm (Syntax.tyInt Syntax.w64))
-          14,
-    ) (List._∷_ (
-      24,
-      Rows.any-gone
-          (Syntax.tyRef Syntax.erased Syntax.mut Elem.ty),
-    ) (List._∷_ (
-      25,
-      Rows.any-gone
-          (Syntax.tyStruct
-          (List._∷_ 38 (List._∷_ 91 (List._∷_ 93 List.[])))
-          (Syntax.tcons
-          (Syntax.tyRef Syntax.erased Syntax.mut Elem.ty)
-          (Syntax.tcons (Syntax.tyInt Syntax.w64) Syntax.tnil))),
-    ) (List._∷_ (
-      26,
-      Rows.any-gone
-          (Syntax.tyRef Syntax.erased Syntax.imm Elem.ty),
-    ) (List._∷_ (
-      27,
-      Rows.any-gone
-          (Syntax.tyStruct
-          (List._∷_ 38 (List._∷_ 91 (List._∷_ 93 List.[])))
-          (Syntax.tcons
-          (Syntax.tyRef Syntax.erased Syntax.imm Elem.ty)
-          (Syntax.tcons (Syntax.tyInt Syntax.w64) Syntax.tnil))),
-    ) (List._∷_ (
-      28,
-      Rows.any-gone (Syntax.tyRef Syntax.erased Syntax.imm (Syntax.tyInt Syntax.w64)),
-    ) (List._∷_ (
-      29,
-      Rows.any-gone
-          (Syntax.tyStruct
-          (List._∷_ 38 (List._∷_ 91 (List._∷_ 93 List.[])))
-          (Syntax.tcons
-          (Syntax.tyRef Syntax.erased Syntax.imm (Syntax.tyInt Syntax.w64))
-          (Syntax.tcons (Syntax.tyInt Syntax.w64) Syntax.tnil))),
-    ) (List._∷_ (
-      30,
-      Rows.any-gone (Syntax.tyRef Syntax.erased Syntax.imm (Syntax.tyInt Syntax.w8)),
-    ) (List._∷_ (
-      31,
-      Rows.any-gone
-          (Syntax.tyStruct
-          (List._∷_ 38 (List._∷_ 91 (List._∷_ 93 List.[])))
-          (Syntax.tcons
-          (Syntax.tyRef Syntax.erased Syntax.imm (Syntax.tyInt Syntax.w8))
-          (Syntax.tcons (Syntax.tyInt Syntax.w64) Syntax.tnil))),
-    ) List.[])))))))))))))))
-
-abbrev pub t25 : List.List Row.Entry
-t25 = List._∷_ (0, Rows.any-gone (Syntax.tyInt Syntax.w64)) (List._∷_ (
-  1,
-  Rows.sslice
-      (Referent.rtF (Referent.fInt Syntax.w8))
-      (Syntax.tyRef (Syntax.named 0) Syntax.imm (Syntax.tyInt Syntax.w8))
-      0,
-) (List._∷_ (
-  2,
-  Relend.mslice-owed
       Elem.R
       (Syntax.tyRef (Syntax.named 1) Syntax.mut Elem.ty)
       1
@@ -2832,12 +2941,10 @@ t25 = List._∷_ (0, Rows.any-gone (Syntax.tyInt Syntax.w64)) (List._∷_ (
       2,
 ) (List._∷_ (
   4,
-  Reshare.mslice-owedS
+  Mut.mslice
       (Referent.rtF (Referent.fInt Syntax.w64))
       (Syntax.tyRef (Syntax.named 3) Syntax.mut (Syntax.tyInt Syntax.w64))
-      3
-      14
-      Row.off,
+      3,
 ) (List._∷_ (
   5,
   Mut.mslice
@@ -2887,182 +2994,6 @@ t25 = List._∷_ (0, Rows.any-gone (Syntax.tyInt Syntax.w64)) (List._∷_ (
   15,
   Rows.any-gone (Syntax.tyRef Syntax.erased Syntax.mut (Syntax.tyInt Syntax.w64)),
 ) List.[])))))))))))))))
-
-abbrev pub t26 : List.List Row.Entry
-t26 = List._∷_ (
-  16,
-  Rows.any-gone
-      (Syntax.tyStruct
-      (List._∷_ 38 (List._∷_ 91 (List._∷_ 93 List.[])))
-      (Syntax.tcons
-      (Syntax.tyRef Syntax.erased Syntax.mut (Syntax.tyInt Syntax.w64))
-      (Syntax.tcons (Syntax.tyInt Syntax.w64) Syntax.tnil))),
-)
-    (List._∷_
-    (17, Rows.any-gone (Syntax.tyRef Syntax.erased Syntax.mut (Syntax.tyInt Syntax.w8)))
-    (List._∷_ (
-      18,
-      Rows.any-gone
-          (Syntax.tyStruct
-          (List._∷_ 38 (List._∷_ 91 (List._∷_ 93 List.[])))
-          (Syntax.tcons
-          (Syntax.tyRef Syntax.erased Syntax.mut (Syntax.tyInt Syntax.w8))
-          (Syntax.tcons (Syntax.tyInt Syntax.w64) Syntax.tnil))),
-    ) (List._∷_ (
-      19,
-      Rows.any-gone (Syntax.tyRef Syntax.erased Syntax.mut (Syntax.tyInt Syntax.w32)),
-    ) (List._∷_ (
-      20,
-      Rows.any-gone
-          (Syntax.tyStruct
-          (List._∷_ 38 (List._∷_ 91 (List._∷_ 93 List.[])))
-          (Syntax.tcons
-          (Syntax.tyRef Syntax.erased Syntax.mut (Syntax.tyInt Syntax.w32))
-          (Syntax.tcons (Syntax.tyInt Syntax.w64) Syntax.tnil))),
-    ) (List._∷_ (21, Rows.any-gone (Syntax.tyInt Syntax.w64)) (List._∷_ (
-      22,
-      Rows.any-gone (Syntax.tyRef Syntax.erased Syntax.imm (Syntax.tyInt Syntax.w64)),
-    ) (List._∷_ (
-      23,
-      Rows.sslice
-          (Referent.rtF (Referent.fInt Syntax.w64))
-          (Syntax.tyRef Syntax.erased Syntax.imm (Syntax.tyInt Syntax.w64))
-          14,
-    ) (List._∷_ (
-      24,
-      Relend.msptr
-          Elem.R
-          (Syntax.tyRef Syntax.erased Syntax.mut Elem.ty)
-          15,
-    ) (List._∷_ (
-      25,
-      Rows.any-gone
-          (Syntax.tyStruct
-          (List._∷_ 38 (List._∷_ 91 (List._∷_ 93 List.[])))
-          (Syntax.tcons
-          (Syntax.tyRef Syntax.erased Syntax.mut Elem.ty)
-          (Syntax.tcons (Syntax.tyInt Syntax.w64) Syntax.tnil))),
-    ) (List._∷_ (
-      26,
-      Rows.any-gone
-          (Syntax.tyRef Syntax.erased Syntax.imm Elem.ty),
-    ) (List._∷_ (
-      27,
-      Rows.any-gone
-          (Syntax.tyStruct
-          (List._∷_ 38 (List._∷_ 91 (List._∷_ 93 List.[])))
-          (Syntax.tcons
-          (Syntax.tyRef Syntax.erased Syntax.imm Elem.ty)
-          (Syntax.tcons (Syntax.tyInt Syntax.w64) Syntax.tnil))),
-    ) (List._∷_ (
-      28,
-      Rows.any-gone (Syntax.tyRef Syntax.erased Syntax.imm (Syntax.tyInt Syntax.w64)),
-    ) (List._∷_ (
-      29,
-      Rows.any-gone
-          (Syntax.tyStruct
-          (List._∷_ 38 (List._∷_ 91 (List._∷_ 93 List.[])))
-          (Syntax.tcons
-          (Syntax.tyRef Syntax.erased Syntax.imm (Syntax.tyInt Syntax.w64))
-          (Syntax.tcons (Syntax.tyInt Syntax.w64) Syntax.tnil))),
-    ) (List._∷_ (
-      30,
-      Rows.any-gone (Syntax.tyRef Syntax.erased Syntax.imm (Syntax.tyInt Syntax.w8)),
-    ) (List._∷_ (
-      31,
-      Rows.any-gone
-          (Syntax.tyStruct
-          (List._∷_ 38 (List._∷_ 91 (List._∷_ 93 List.[])))
-          (Syntax.tcons
-          (Syntax.tyRef Syntax.erased Syntax.imm (Syntax.tyInt Syntax.w8))
-          (Syntax.tcons (Syntax.tyInt Syntax.w64) Syntax.tnil))),
-    ) List.[])))))))))))))))
-
-abbrev pub t27 : List.List Row.Entry
-t27 = List._∷_ (
-  16,
-  Rows.any-gone
-      (Syntax.tyStruct
-      (List._∷_ 38 (List._∷_ 91 (List._∷_ 93 List.[])))
-      (Syntax.tcons
-      (Syntax.tyRef Syntax.erased Syntax.mut (Syntax.tyInt Syntax.w64))
-      (Syntax.tcons (Syntax.tyInt Syntax.w64) Syntax.tnil))),
-)
-    (List._∷_
-    (17, Rows.any-gone (Syntax.tyRef Syntax.erased Syntax.mut (Syntax.tyInt Syntax.w8)))
-    (List._∷_ (
-      18,
-      Rows.any-gone
-          (Syntax.tyStruct
-          (List._∷_ 38 (List._∷_ 91 (List._∷_ 93 List.[])))
-          (Syntax.tcons
-          (Syntax.tyRef Syntax.erased Syntax.mut (Syntax.tyInt Syntax.w8))
-          (Syntax.tcons (Syntax.tyInt Syntax.w64) Syntax.tnil))),
-    ) (List._∷_ (
-      19,
-      Rows.any-gone (Syntax.tyRef Syntax.erased Syntax.mut (Syntax.tyInt Syntax.w32)),
-    ) (List._∷_ (
-      20,
-      Rows.any-gone
-          (Syntax.tyStruct
-          (List._∷_ 38 (List._∷_ 91 (List._∷_ 93 List.[])))
-          (Syntax.tcons
-          (Syntax.tyRef Syntax.erased Syntax.mut (Syntax.tyInt Syntax.w32))
-          (Syntax.tcons (Syntax.tyInt Syntax.w64) Syntax.tnil))),
-    ) (List._∷_ (21, Rows.any-gone (Syntax.tyInt Syntax.w64)) (List._∷_ (
-      22,
-      Rows.any-gone (Syntax.tyRef Syntax.erased Syntax.imm (Syntax.tyInt Syntax.w64)),
-    ) (List._∷_ (
-      23,
-      Rows.sslice
-          (Referent.rtF (Referent.fInt Syntax.w64))
-          (Syntax.tyRef Syntax.erased Syntax.imm (Syntax.tyInt Syntax.w64))
-          14,
-    ) (List._∷_ (
-      24,
-      Rows.any-gone
-          (Syntax.tyRef Syntax.erased Syntax.mut Elem.ty),
-    ) (List._∷_ (
-      25,
-      Mut.mslice
-          Elem.R
-          (Syntax.tyRef Syntax.erased Syntax.mut Elem.ty)
-          15,
-    ) (List._∷_ (
-      26,
-      Rows.any-gone
-          (Syntax.tyRef Syntax.erased Syntax.imm Elem.ty),
-    ) (List._∷_ (
-      27,
-      Rows.any-gone
-          (Syntax.tyStruct
-          (List._∷_ 38 (List._∷_ 91 (List._∷_ 93 List.[])))
-          (Syntax.tcons
-          (Syntax.tyRef Syntax.erased Syntax.imm Elem.ty)
-          (Syntax.tcons (Syntax.tyInt Syntax.w64) Syntax.tnil))),
-    ) (List._∷_ (
-      28,
-      Rows.any-gone (Syntax.tyRef Syntax.erased Syntax.imm (Syntax.tyInt Syntax.w64)),
-    ) (List._∷_ (
-      29,
-      Rows.any-gone
-          (Syntax.tyStruct
-          (List._∷_ 38 (List._∷_ 91 (List._∷_ 93 List.[])))
-          (Syntax.tcons
-          (Syntax.tyRef Syntax.erased Syntax.imm (Syntax.tyInt Syntax.w64))
-          (Syntax.tcons (Syntax.tyInt Syntax.w64) Syntax.tnil))),
-    ) (List._∷_ (
-      30,
-      Rows.any-gone (Syntax.tyRef Syntax.erased Syntax.imm (Syntax.tyInt Syntax.w8)),
-    ) (List._∷_ (
-      31,
-      Rows.any-gone
-          (Syntax.tyStruct
-          (List._∷_ 38 (List._∷_ 91 (List._∷_ 93 List.[])))
-          (Syntax.tcons
-          (Syntax.tyRef Syntax.erased Syntax.imm (Syntax.tyInt Syntax.w8))
-          (Syntax.tcons (Syntax.tyInt Syntax.w64) Syntax.tnil))),
-    ) List.[])))))))))))))))
 
 abbrev pub t28 : List.List Row.Entry
 t28 = List._∷_ (
@@ -3095,30 +3026,26 @@ t28 = List._∷_ (
           (Syntax.tcons
           (Syntax.tyRef Syntax.erased Syntax.mut (Syntax.tyInt Syntax.w32))
           (Syntax.tcons (Syntax.tyInt Syntax.w64) Syntax.tnil))),
-    ) (List._∷_ (21, Rows.sc-here (Row.sInt Syntax.w64)) (List._∷_ (
+    ) (List._∷_ (
+      21,
+      Rows.any-gone
+          (Syntax.tyRef Syntax.erased Syntax.mut Elem.ty),
+    ) (List._∷_ (
       22,
-      Rows.any-gone (Syntax.tyRef Syntax.erased Syntax.imm (Syntax.tyInt Syntax.w64)),
+      Rows.any-gone
+          (Syntax.tyStruct
+          (List._∷_ 38 (List._∷_ 91 (List._∷_ 93 List.[])))
+          (Syntax.tcons
+          (Syntax.tyRef Syntax.erased Syntax.mut Elem.ty)
+          (Syntax.tcons (Syntax.tyInt Syntax.w64) Syntax.tnil))),
     ) (List._∷_ (
       23,
-      Rows.sslice
-          (Referent.rtF (Referent.fInt Syntax.w64))
-          (Syntax.tyRef Syntax.erased Syntax.imm (Syntax.tyInt Syntax.w64))
-          14,
+      Relend.ssptr
+          Elem.R
+          (Syntax.tyRef Syntax.erased Syntax.imm Elem.ty)
+          15,
     ) (List._∷_ (
       24,
-      Rows.any-gone
-          (Syntax.tyRef Syntax.erased Syntax.mut Elem.ty),
-    ) (List._∷_ (
-      25,
-      Mut.msleft
-          Elem.R
-          (Syntax.tyRef Syntax.erased Syntax.mut Elem.ty),
-    ) (List._∷_ (
-      26,
-      Rows.any-gone
-          (Syntax.tyRef Syntax.erased Syntax.imm Elem.ty),
-    ) (List._∷_ (
-      27,
       Rows.any-gone
           (Syntax.tyStruct
           (List._∷_ 38 (List._∷_ 91 (List._∷_ 93 List.[])))
@@ -3126,10 +3053,10 @@ t28 = List._∷_ (
           (Syntax.tyRef Syntax.erased Syntax.imm Elem.ty)
           (Syntax.tcons (Syntax.tyInt Syntax.w64) Syntax.tnil))),
     ) (List._∷_ (
-      28,
+      25,
       Rows.any-gone (Syntax.tyRef Syntax.erased Syntax.imm (Syntax.tyInt Syntax.w64)),
     ) (List._∷_ (
-      29,
+      26,
       Rows.any-gone
           (Syntax.tyStruct
           (List._∷_ 38 (List._∷_ 91 (List._∷_ 93 List.[])))
@@ -3137,16 +3064,30 @@ t28 = List._∷_ (
           (Syntax.tyRef Syntax.erased Syntax.imm (Syntax.tyInt Syntax.w64))
           (Syntax.tcons (Syntax.tyInt Syntax.w64) Syntax.tnil))),
     ) (List._∷_ (
-      30,
+      27,
       Rows.any-gone (Syntax.tyRef Syntax.erased Syntax.imm (Syntax.tyInt Syntax.w8)),
     ) (List._∷_ (
-      31,
+      28,
       Rows.any-gone
           (Syntax.tyStruct
           (List._∷_ 38 (List._∷_ 91 (List._∷_ 93 List.[])))
           (Syntax.tcons
           (Syntax.tyRef Syntax.erased Syntax.imm (Syntax.tyInt Syntax.w8))
           (Syntax.tcons (Syntax.tyInt Syntax.w64) Syntax.tnil))),
+    ) (List._∷_ (
+      29,
+      Rows.any-gone (Syntax.tyRef Syntax.erased Syntax.mut (Syntax.tyInt Syntax.w64)),
+    ) (List._∷_ (
+      30,
+      Rows.any-gone
+          (Syntax.tyStruct
+          (List._∷_ 38 (List._∷_ 91 (List._∷_ 93 List.[])))
+          (Syntax.tcons
+          (Syntax.tyRef Syntax.erased Syntax.mut (Syntax.tyInt Syntax.w64))
+          (Syntax.tcons (Syntax.tyInt Syntax.w64) Syntax.tnil))),
+    ) (List._∷_ (
+      31,
+      Rows.any-gone (Syntax.tyRef Syntax.erased Syntax.mut (Syntax.tyInt Syntax.w8)),
     ) List.[])))))))))))))))
 
 abbrev pub t29 : List.List Row.Entry
@@ -3180,151 +3121,68 @@ t29 = List._∷_ (
           (Syntax.tcons
           (Syntax.tyRef Syntax.erased Syntax.mut (Syntax.tyInt Syntax.w32))
           (Syntax.tcons (Syntax.tyInt Syntax.w64) Syntax.tnil))),
-    ) (List._∷_ (21, Rows.sc-here (Row.sInt Syntax.w64)) (List._∷_ (
+    ) (List._∷_ (
+      21,
+      Rows.any-gone
+          (Syntax.tyRef Syntax.erased Syntax.mut Elem.ty),
+    ) (List._∷_ (
       22,
-      Rows.any-gone (Syntax.tyRef Syntax.erased Syntax.imm (Syntax.tyInt Syntax.w64)),
+      Rows.any-gone
+          (Syntax.tyStruct
+          (List._∷_ 38 (List._∷_ 91 (List._∷_ 93 List.[])))
+          (Syntax.tcons
+          (Syntax.tyRef Syntax.erased Syntax.mut Elem.ty)
+          (Syntax.tcons (Syntax.tyInt Syntax.w64) Syntax.tnil))),
     ) (List._∷_ (
       23,
       Rows.any-gone
-          (Syntax.tyStruct
-          (List._∷_ 38 (List._∷_ 91 (List._∷_ 93 List.[])))
-          (Syntax.tcons
-          (Syntax.tyRef Syntax.erased Syntax.imm (Syntax.tyInt Syntax.w64))
-          (Syntax.tcons (Syntax.tyInt Syntax.w64) Syntax.tnil))),
+          (Syntax.tyRef Syntax.erased Syntax.imm Elem.ty),
     ) (List._∷_ (
       24,
-      Rows.any-gone
-          (Syntax.tyRef Syntax.erased Syntax.mut Elem.ty),
+      Rows.sslice
+          Elem.R
+          (Syntax.tyRef Syntax.erased Syntax.imm Elem.ty)
+          15,
     ) (List._∷_ (
       25,
-      Mut.msleft
-          Elem.R
-          (Syntax.tyRef Syntax.erased Syntax.mut Elem.ty),
+      Rows.any-gone (Syntax.tyRef Syntax.erased Syntax.imm (Syntax.tyInt Syntax.w64)),
     ) (List._∷_ (
       26,
       Rows.any-gone
-          (Syntax.tyRef Syntax.erased Syntax.imm Elem.ty),
-    ) (List._∷_ (
-      27,
-      Rows.any-gone
-          (Syntax.tyStruct
-          (List._∷_ 38 (List._∷_ 91 (List._∷_ 93 List.[])))
-          (Syntax.tcons
-          (Syntax.tyRef Syntax.erased Syntax.imm Elem.ty)
-          (Syntax.tcons (Syntax.tyInt Syntax.w64) Syntax.tnil))),
-    ) (List._∷_ (
-      28,
-      Rows.any-gone (Syntax.tyRef Syntax.erased Syntax.imm (Syntax.tyInt Syntax.w64)),
-    ) (List._∷_ (
-      29,
-      Rows.any-gone
           (Syntax.tyStruct
           (List._∷_ 38 (List._∷_ 91 (List._∷_ 93 List.[])))
           (Syntax.tcons
           (Syntax.tyRef Syntax.erased Syntax.imm (Syntax.tyInt Syntax.w64))
           (Syntax.tcons (Syntax.tyInt Syntax.w64) Syntax.tnil))),
     ) (List._∷_ (
-      30,
+      27,
       Rows.any-gone (Syntax.tyRef Syntax.erased Syntax.imm (Syntax.tyInt Syntax.w8)),
     ) (List._∷_ (
-      31,
+      28,
       Rows.any-gone
           (Syntax.tyStruct
           (List._∷_ 38 (List._∷_ 91 (List._∷_ 93 List.[])))
           (Syntax.tcons
           (Syntax.tyRef Syntax.erased Syntax.imm (Syntax.tyInt Syntax.w8))
           (Syntax.tcons (Syntax.tyInt Syntax.w64) Syntax.tnil))),
+    ) (List._∷_ (
+      29,
+      Rows.any-gone (Syntax.tyRef Syntax.erased Syntax.mut (Syntax.tyInt Syntax.w64)),
+    ) (List._∷_ (
+      30,
+      Rows.any-gone
+          (Syntax.tyStruct
+          (List._∷_ 38 (List._∷_ 91 (List._∷_ 93 List.[])))
+          (Syntax.tcons
+          (Syntax.tyRef Syntax.erased Syntax.mut (Syntax.tyInt Syntax.w64))
+          (Syntax.tcons (Syntax.tyInt Syntax.w64) Syntax.tnil))),
+    ) (List._∷_ (
+      31,
+      Rows.any-gone (Syntax.tyRef Syntax.erased Syntax.mut (Syntax.tyInt Syntax.w8)),
     ) List.[])))))))))))))))
 
 abbrev pub t30 : List.List Row.Entry
-t30 = List._∷_ (
-  16,
-  Rows.any-gone
-      (Syntax.tyStruct
-      (List._∷_ 38 (List._∷_ 91 (List._∷_ 93 List.[])))
-      (Syntax.tcons
-      (Syntax.tyRef Syntax.erased Syntax.mut (Syntax.tyInt Syntax.w64))
-      (Syntax.tcons (Syntax.tyInt Syntax.w64) Syntax.tnil))),
-)
-    (List._∷_
-    (17, Rows.any-gone (Syntax.tyRef Syntax.erased Syntax.mut (Syntax.tyInt Syntax.w8)))
-    (List._∷_ (
-      18,
-      Rows.any-gone
-          (Syntax.tyStruct
-          (List._∷_ 38 (List._∷_ 91 (List._∷_ 93 List.[])))
-          (Syntax.tcons
-          (Syntax.tyRef Syntax.erased Syntax.mut (Syntax.tyInt Syntax.w8))
-          (Syntax.tcons (Syntax.tyInt Syntax.w64) Syntax.tnil))),
-    ) (List._∷_ (
-      19,
-      Rows.any-gone (Syntax.tyRef Syntax.erased Syntax.mut (Syntax.tyInt Syntax.w32)),
-    ) (List._∷_ (
-      20,
-      Rows.any-gone
-          (Syntax.tyStruct
-          (List._∷_ 38 (List._∷_ 91 (List._∷_ 93 List.[])))
-          (Syntax.tcons
-          (Syntax.tyRef Syntax.erased Syntax.mut (Syntax.tyInt Syntax.w32))
-          (Syntax.tcons (Syntax.tyInt Syntax.w64) Syntax.tnil))),
-    ) (List._∷_ (21, Rows.any-gone (Syntax.tyInt Syntax.w64)) (List._∷_ (
-      22,
-      Rows.any-gone (Syntax.tyRef Syntax.erased Syntax.imm (Syntax.tyInt Syntax.w64)),
-    ) (List._∷_ (
-      23,
-      Rows.any-gone
-          (Syntax.tyStruct
-          (List._∷_ 38 (List._∷_ 91 (List._∷_ 93 List.[])))
-          (Syntax.tcons
-          (Syntax.tyRef Syntax.erased Syntax.imm (Syntax.tyInt Syntax.w64))
-          (Syntax.tcons (Syntax.tyInt Syntax.w64) Syntax.tnil))),
-    ) (List._∷_ (
-      24,
-      Rows.any-gone
-          (Syntax.tyRef Syntax.erased Syntax.mut Elem.ty),
-    ) (List._∷_ (
-      25,
-      Mut.msleft
-          Elem.R
-          (Syntax.tyRef Syntax.erased Syntax.mut Elem.ty),
-    ) (List._∷_ (
-      26,
-      Rows.any-gone
-          (Syntax.tyRef Syntax.erased Syntax.imm Elem.ty),
-    ) (List._∷_ (
-      27,
-      Rows.any-gone
-          (Syntax.tyStruct
-          (List._∷_ 38 (List._∷_ 91 (List._∷_ 93 List.[])))
-          (Syntax.tcons
-          (Syntax.tyRef Syntax.erased Syntax.imm Elem.ty)
-          (Syntax.tcons (Syntax.tyInt Syntax.w64) Syntax.tnil))),
-    ) (List._∷_ (
-      28,
-      Rows.any-gone (Syntax.tyRef Syntax.erased Syntax.imm (Syntax.tyInt Syntax.w64)),
-    ) (List._∷_ (
-      29,
-      Rows.any-gone
-          (Syntax.tyStruct
-          (List._∷_ 38 (List._∷_ 91 (List._∷_ 93 List.[])))
-          (Syntax.tcons
-          (Syntax.tyRef Syntax.erased Syntax.imm (Syntax.tyInt Syntax.w64))
-          (Syntax.tcons (Syntax.tyInt Syntax.w64) Syntax.tnil))),
-    ) (List._∷_ (
-      30,
-      Rows.any-gone (Syntax.tyRef Syntax.erased Syntax.imm (Syntax.tyInt Syntax.w8)),
-    ) (List._∷_ (
-      31,
-      Rows.any-gone
-          (Syntax.tyStruct
-          (List._∷_ 38 (List._∷_ 91 (List._∷_ 93 List.[])))
-          (Syntax.tcons
-          (Syntax.tyRef Syntax.erased Syntax.imm (Syntax.tyInt Syntax.w8))
-          (Syntax.tcons (Syntax.tyInt Syntax.w64) Syntax.tnil))),
-    ) List.[])))))))))))))))
-
-abbrev pub t31 : List.List Row.Entry
-t31 = List._∷_ (0, Rows.any-gone (Syntax.tyInt Syntax.w64)) (List._∷_ (
+t30 = List._∷_ (0, Rows.any-gone (Syntax.tyInt Syntax.w64)) (List._∷_ (
   1,
   Rows.sslice
       (Referent.rtF (Referent.fInt Syntax.w8))
@@ -3332,7 +3190,7 @@ t31 = List._∷_ (0, Rows.any-gone (Syntax.tyInt Syntax.w64)) (List._∷_ (
       0,
 ) (List._∷_ (
   2,
-  Relend.mslice-owed
+  Reshare.mslice-owedS
       Elem.R
       (Syntax.tyRef (Syntax.named 1) Syntax.mut Elem.ty)
       1
@@ -3346,88 +3204,13 @@ t31 = List._∷_ (0, Rows.any-gone (Syntax.tyInt Syntax.w64)) (List._∷_ (
       2,
 ) (List._∷_ (
   4,
-  Mut.mslice
+  Reshare.mslice-owedS
       (Referent.rtF (Referent.fInt Syntax.w64))
       (Syntax.tyRef (Syntax.named 3) Syntax.mut (Syntax.tyInt Syntax.w64))
-      3,
-) (List._∷_ (
-  5,
-  Mut.mslice
-      (Referent.rtF (Referent.fInt Syntax.w8))
-      (Syntax.tyRef (Syntax.named 4) Syntax.mut (Syntax.tyInt Syntax.w8))
-      4,
-) (List._∷_ (
-  6,
-  Mut.mslice
-      (Referent.rtF (Referent.fInt Syntax.w32))
-      (Syntax.tyRef (Syntax.named 5) Syntax.mut (Syntax.tyInt Syntax.w32))
-      5,
-) (List._∷_ (
-  7,
-  Mut.mslice
-      (Referent.rtF (Referent.fInt Syntax.w8))
-      (Syntax.tyRef (Syntax.named 6) Syntax.mut (Syntax.tyInt Syntax.w8))
-      6,
-) (List._∷_ (
-  8,
-  Mut.mslice
-      (Referent.rtF (Referent.fInt Syntax.w8))
-      (Syntax.tyRef (Syntax.named 7) Syntax.mut (Syntax.tyInt Syntax.w8))
-      7,
-) (List._∷_ (
-  9,
-  Mut.mslice
-      (Referent.rtF (Referent.fInt Syntax.w8))
-      (Syntax.tyRef (Syntax.named 8) Syntax.mut (Syntax.tyInt Syntax.w8))
-      8,
-) (List._∷_ (
-  10,
-  Mut.mslice
-      (Referent.rtF (Referent.fInt Syntax.w8))
-      (Syntax.tyRef (Syntax.named 9) Syntax.mut (Syntax.tyInt Syntax.w8))
-      9,
-) (List._∷_ (
-  11,
-  Mut.mslice
-      (Referent.rtF (Referent.fInt Syntax.w8))
-      (Syntax.tyRef (Syntax.named 10) Syntax.mut (Syntax.tyInt Syntax.w8))
-      10,
-) (List._∷_ (12, Rows.sc-here (Row.sInt Syntax.w64)) (List._∷_ (
-  13,
-  Rows.sc-here (Row.sInt Syntax.w64),
-) (List._∷_ (14, Rows.sc-here (Row.sInt Syntax.w64)) (List._∷_ (
-  15,
-  Rows.any-gone (Syntax.tyRef Syntax.erased Syntax.mut (Syntax.tyInt Syntax.w64)),
-) List.[])))))))))))))))
-
-abbrev pub t32 : List.List Row.Entry
-t32 = List._∷_ (0, Rows.any-gone (Syntax.tyInt Syntax.w64)) (List._∷_ (
-  1,
-  Rows.sslice
-      (Referent.rtF (Referent.fInt Syntax.w8))
-      (Syntax.tyRef (Syntax.named 0) Syntax.imm (Syntax.tyInt Syntax.w8))
-      0,
-) (List._∷_ (
-  2,
-  Reshare.mslice-owedS
-      Elem.R
-      (Syntax.tyRef (Syntax.named 1) Syntax.mut Elem.ty)
-      1
+      3
       16
       Row.off,
 ) (List._∷_ (
-  3,
-  Mut.mslice
-      (Referent.rtF (Referent.fInt Syntax.w64))
-      (Syntax.tyRef (Syntax.named 2) Syntax.mut (Syntax.tyInt Syntax.w64))
-      2,
-) (List._∷_ (
-  4,
-  Mut.mslice
-      (Referent.rtF (Referent.fInt Syntax.w64))
-      (Syntax.tyRef (Syntax.named 3) Syntax.mut (Syntax.tyInt Syntax.w64))
-      3,
-) (List._∷_ (
   5,
   Mut.mslice
       (Referent.rtF (Referent.fInt Syntax.w8))
@@ -3477,8 +3260,8 @@ t32 = List._∷_ (0, Rows.any-gone (Syntax.tyInt Syntax.w64)) (List._∷_ (
   Rows.any-gone (Syntax.tyRef Syntax.erased Syntax.mut (Syntax.tyInt Syntax.w64)),
 ) List.[])))))))))))))))
 
-abbrev pub t33 : List.List Row.Entry
-t33 = List._∷_ (
+abbrev pub t31 : List.List Row.Entry
+t31 = List._∷_ (
   16,
   Rows.any-gone
       (Syntax.tyStruct
@@ -3508,23 +3291,12 @@ t33 = List._∷_ (
           (Syntax.tcons
           (Syntax.tyRef Syntax.erased Syntax.mut (Syntax.tyInt Syntax.w32))
           (Syntax.tcons (Syntax.tyInt Syntax.w64) Syntax.tnil))),
-    ) (List._∷_ (21, Rows.any-gone (Syntax.tyInt Syntax.w64)) (List._∷_ (
-      22,
-      Rows.any-gone (Syntax.tyRef Syntax.erased Syntax.imm (Syntax.tyInt Syntax.w64)),
     ) (List._∷_ (
-      23,
-      Rows.any-gone
-          (Syntax.tyStruct
-          (List._∷_ 38 (List._∷_ 91 (List._∷_ 93 List.[])))
-          (Syntax.tcons
-          (Syntax.tyRef Syntax.erased Syntax.imm (Syntax.tyInt Syntax.w64))
-          (Syntax.tcons (Syntax.tyInt Syntax.w64) Syntax.tnil))),
-    ) (List._∷_ (
-      24,
+      21,
       Rows.any-gone
           (Syntax.tyRef Syntax.erased Syntax.mut Elem.ty),
     ) (List._∷_ (
-      25,
+      22,
       Rows.any-gone
           (Syntax.tyStruct
           (List._∷_ 38 (List._∷_ 91 (List._∷_ 93 List.[])))
@@ -3532,24 +3304,23 @@ t33 = List._∷_ (
           (Syntax.tyRef Syntax.erased Syntax.mut Elem.ty)
           (Syntax.tcons (Syntax.tyInt Syntax.w64) Syntax.tnil))),
     ) (List._∷_ (
-      26,
-      Relend.ssptr
+      23,
+      Rows.any-gone
+          (Syntax.tyRef Syntax.erased Syntax.imm Elem.ty),
+    ) (List._∷_ (
+      24,
+      Rows.sslice
           Elem.R
           (Syntax.tyRef Syntax.erased Syntax.imm Elem.ty)
+          15,
+    ) (List._∷_ (
+      25,
+      Relend.ssptr
+          (Referent.rtF (Referent.fInt Syntax.w64))
+          (Syntax.tyRef Syntax.erased Syntax.imm (Syntax.tyInt Syntax.w64))
           16,
     ) (List._∷_ (
-      27,
-      Rows.any-gone
-          (Syntax.tyStruct
-          (List._∷_ 38 (List._∷_ 91 (List._∷_ 93 List.[])))
-          (Syntax.tcons
-          (Syntax.tyRef Syntax.erased Syntax.imm Elem.ty)
-          (Syntax.tcons (Syntax.tyInt Syntax.w64) Syntax.tnil))),
-    ) (List._∷_ (
-      28,
-      Rows.any-gone (Syntax.tyRef Syntax.erased Syntax.imm (Syntax.tyInt Syntax.w64)),
-    ) (List._∷_ (
-      29,
+      26,
       Rows.any-gone
           (Syntax.tyStruct
           (List._∷_ 38 (List._∷_ 91 (List._∷_ 93 List.[])))
@@ -3557,17 +3328,201 @@ t33 = List._∷_ (
           (Syntax.tyRef Syntax.erased Syntax.imm (Syntax.tyInt Syntax.w64))
           (Syntax.tcons (Syntax.tyInt Syntax.w64) Syntax.tnil))),
     ) (List._∷_ (
-      30,
+      27,
       Rows.any-gone (Syntax.tyRef Syntax.erased Syntax.imm (Syntax.tyInt Syntax.w8)),
     ) (List._∷_ (
-      31,
+      28,
       Rows.any-gone
           (Syntax.tyStruct
           (List._∷_ 38 (List._∷_ 91 (List._∷_ 93 List.[])))
           (Syntax.tcons
           (Syntax.tyRef Syntax.erased Syntax.imm (Syntax.tyInt Syntax.w8))
           (Syntax.tcons (Syntax.tyInt Syntax.w64) Syntax.tnil))),
+    ) (List._∷_ (
+      29,
+      Rows.any-gone (Syntax.tyRef Syntax.erased Syntax.mut (Syntax.tyInt Syntax.w64)),
+    ) (List._∷_ (
+      30,
+      Rows.any-gone
+          (Syntax.tyStruct
+          (List._∷_ 38 (List._∷_ 91 (List._∷_ 93 List.[])))
+          (Syntax.tcons
+          (Syntax.tyRef Syntax.erased Syntax.mut (Syntax.tyInt Syntax.w64))
+          (Syntax.tcons (Syntax.tyInt Syntax.w64) Syntax.tnil))),
+    ) (List._∷_ (
+      31,
+      Rows.any-gone (Syntax.tyRef Syntax.erased Syntax.mut (Syntax.tyInt Syntax.w8)),
     ) List.[])))))))))))))))
+
+abbrev pub t32 : List.List Row.Entry
+t32 = List._∷_ (
+  16,
+  Rows.any-gone
+      (Syntax.tyStruct
+      (List._∷_ 38 (List._∷_ 91 (List._∷_ 93 List.[])))
+      (Syntax.tcons
+      (Syntax.tyRef Syntax.erased Syntax.mut (Syntax.tyInt Syntax.w64))
+      (Syntax.tcons (Syntax.tyInt Syntax.w64) Syntax.tnil))),
+)
+    (List._∷_
+    (17, Rows.any-gone (Syntax.tyRef Syntax.erased Syntax.mut (Syntax.tyInt Syntax.w8)))
+    (List._∷_ (
+      18,
+      Rows.any-gone
+          (Syntax.tyStruct
+          (List._∷_ 38 (List._∷_ 91 (List._∷_ 93 List.[])))
+          (Syntax.tcons
+          (Syntax.tyRef Syntax.erased Syntax.mut (Syntax.tyInt Syntax.w8))
+          (Syntax.tcons (Syntax.tyInt Syntax.w64) Syntax.tnil))),
+    ) (List._∷_ (
+      19,
+      Rows.any-gone (Syntax.tyRef Syntax.erased Syntax.mut (Syntax.tyInt Syntax.w32)),
+    ) (List._∷_ (
+      20,
+      Rows.any-gone
+          (Syntax.tyStruct
+          (List._∷_ 38 (List._∷_ 91 (List._∷_ 93 List.[])))
+          (Syntax.tcons
+          (Syntax.tyRef Syntax.erased Syntax.mut (Syntax.tyInt Syntax.w32))
+          (Syntax.tcons (Syntax.tyInt Syntax.w64) Syntax.tnil))),
+    ) (List._∷_ (
+      21,
+      Rows.any-gone
+          (Syntax.tyRef Syntax.erased Syntax.mut Elem.ty),
+    ) (List._∷_ (
+      22,
+      Rows.any-gone
+          (Syntax.tyStruct
+          (List._∷_ 38 (List._∷_ 91 (List._∷_ 93 List.[])))
+          (Syntax.tcons
+          (Syntax.tyRef Syntax.erased Syntax.mut Elem.ty)
+          (Syntax.tcons (Syntax.tyInt Syntax.w64) Syntax.tnil))),
+    ) (List._∷_ (
+      23,
+      Rows.any-gone
+          (Syntax.tyRef Syntax.erased Syntax.imm Elem.ty),
+    ) (List._∷_ (
+      24,
+      Rows.sslice
+          Elem.R
+          (Syntax.tyRef Syntax.erased Syntax.imm Elem.ty)
+          15,
+    ) (List._∷_ (
+      25,
+      Rows.any-gone (Syntax.tyRef Syntax.erased Syntax.imm (Syntax.tyInt Syntax.w64)),
+    ) (List._∷_ (
+      26,
+      Rows.sslice
+          (Referent.rtF (Referent.fInt Syntax.w64))
+          (Syntax.tyRef Syntax.erased Syntax.imm (Syntax.tyInt Syntax.w64))
+          16,
+    ) (List._∷_ (
+      27,
+      Rows.any-gone (Syntax.tyRef Syntax.erased Syntax.imm (Syntax.tyInt Syntax.w8)),
+    ) (List._∷_ (
+      28,
+      Rows.any-gone
+          (Syntax.tyStruct
+          (List._∷_ 38 (List._∷_ 91 (List._∷_ 93 List.[])))
+          (Syntax.tcons
+          (Syntax.tyRef Syntax.erased Syntax.imm (Syntax.tyInt Syntax.w8))
+          (Syntax.tcons (Syntax.tyInt Syntax.w64) Syntax.tnil))),
+    ) (List._∷_ (
+      29,
+      Rows.any-gone (Syntax.tyRef Syntax.erased Syntax.mut (Syntax.tyInt Syntax.w64)),
+    ) (List._∷_ (
+      30,
+      Rows.any-gone
+          (Syntax.tyStruct
+          (List._∷_ 38 (List._∷_ 91 (List._∷_ 93 List.[])))
+          (Syntax.tcons
+          (Syntax.tyRef Syntax.erased Syntax.mut (Syntax.tyInt Syntax.w64))
+          (Syntax.tcons (Syntax.tyInt Syntax.w64) Syntax.tnil))),
+    ) (List._∷_ (
+      31,
+      Rows.any-gone (Syntax.tyRef Syntax.erased Syntax.mut (Syntax.tyInt Syntax.w8)),
+    ) List.[])))))))))))))))
+
+abbrev pub t33 : List.List Row.Entry
+t33 = List._∷_ (0, Rows.any-gone (Syntax.tyInt Syntax.w64)) (List._∷_ (
+  1,
+  Rows.sslice
+      (Referent.rtF (Referent.fInt Syntax.w8))
+      (Syntax.tyRef (Syntax.named 0) Syntax.imm (Syntax.tyInt Syntax.w8))
+      0,
+) (List._∷_ (
+  2,
+  Reshare.mslice-owedS
+      Elem.R
+      (Syntax.tyRef (Syntax.named 1) Syntax.mut Elem.ty)
+      1
+      15
+      Row.off,
+) (List._∷_ (
+  3,
+  Mut.mslice
+      (Referent.rtF (Referent.fInt Syntax.w64))
+      (Syntax.tyRef (Syntax.named 2) Syntax.mut (Syntax.tyInt Syntax.w64))
+      2,
+) (List._∷_ (
+  4,
+  Reshare.mslice-owedS
+      (Referent.rtF (Referent.fInt Syntax.w64))
+      (Syntax.tyRef (Syntax.named 3) Syntax.mut (Syntax.tyInt Syntax.w64))
+      3
+      16
+      Row.off,
+) (List._∷_ (
+  5,
+  Reshare.mslice-owedS
+      (Referent.rtF (Referent.fInt Syntax.w8))
+      (Syntax.tyRef (Syntax.named 4) Syntax.mut (Syntax.tyInt Syntax.w8))
+      4
+      17
+      Row.off,
+) (List._∷_ (
+  6,
+  Mut.mslice
+      (Referent.rtF (Referent.fInt Syntax.w32))
+      (Syntax.tyRef (Syntax.named 5) Syntax.mut (Syntax.tyInt Syntax.w32))
+      5,
+) (List._∷_ (
+  7,
+  Mut.mslice
+      (Referent.rtF (Referent.fInt Syntax.w8))
+      (Syntax.tyRef (Syntax.named 6) Syntax.mut (Syntax.tyInt Syntax.w8))
+      6,
+) (List._∷_ (
+  8,
+  Mut.mslice
+      (Referent.rtF (Referent.fInt Syntax.w8))
+      (Syntax.tyRef (Syntax.named 7) Syntax.mut (Syntax.tyInt Syntax.w8))
+      7,
+) (List._∷_ (
+  9,
+  Mut.mslice
+      (Referent.rtF (Referent.fInt Syntax.w8))
+      (Syntax.tyRef (Syntax.named 8) Syntax.mut (Syntax.tyInt Syntax.w8))
+      8,
+) (List._∷_ (
+  10,
+  Mut.mslice
+      (Referent.rtF (Referent.fInt Syntax.w8))
+      (Syntax.tyRef (Syntax.named 9) Syntax.mut (Syntax.tyInt Syntax.w8))
+      9,
+) (List._∷_ (
+  11,
+  Mut.mslice
+      (Referent.rtF (Referent.fInt Syntax.w8))
+      (Syntax.tyRef (Syntax.named 10) Syntax.mut (Syntax.tyInt Syntax.w8))
+      10,
+) (List._∷_ (12, Rows.sc-here (Row.sInt Syntax.w64)) (List._∷_ (
+  13,
+  Rows.sc-here (Row.sInt Syntax.w64),
+) (List._∷_ (14, Rows.sc-here (Row.sInt Syntax.w64)) (List._∷_ (
+  15,
+  Rows.any-gone (Syntax.tyRef Syntax.erased Syntax.mut (Syntax.tyInt Syntax.w64)),
+) List.[])))))))))))))))
 
 abbrev pub t34 : List.List Row.Entry
 t34 = List._∷_ (
@@ -3600,23 +3555,12 @@ t34 = List._∷_ (
           (Syntax.tcons
           (Syntax.tyRef Syntax.erased Syntax.mut (Syntax.tyInt Syntax.w32))
           (Syntax.tcons (Syntax.tyInt Syntax.w64) Syntax.tnil))),
-    ) (List._∷_ (21, Rows.any-gone (Syntax.tyInt Syntax.w64)) (List._∷_ (
-      22,
-      Rows.any-gone (Syntax.tyRef Syntax.erased Syntax.imm (Syntax.tyInt Syntax.w64)),
     ) (List._∷_ (
-      23,
-      Rows.any-gone
-          (Syntax.tyStruct
-          (List._∷_ 38 (List._∷_ 91 (List._∷_ 93 List.[])))
-          (Syntax.tcons
-          (Syntax.tyRef Syntax.erased Syntax.imm (Syntax.tyInt Syntax.w64))
-          (Syntax.tcons (Syntax.tyInt Syntax.w64) Syntax.tnil))),
-    ) (List._∷_ (
-      24,
+      21,
       Rows.any-gone
           (Syntax.tyRef Syntax.erased Syntax.mut Elem.ty),
     ) (List._∷_ (
-      25,
+      22,
       Rows.any-gone
           (Syntax.tyStruct
           (List._∷_ 38 (List._∷_ 91 (List._∷_ 93 List.[])))
@@ -3624,41 +3568,143 @@ t34 = List._∷_ (
           (Syntax.tyRef Syntax.erased Syntax.mut Elem.ty)
           (Syntax.tcons (Syntax.tyInt Syntax.w64) Syntax.tnil))),
     ) (List._∷_ (
-      26,
+      23,
       Rows.any-gone
           (Syntax.tyRef Syntax.erased Syntax.imm Elem.ty),
     ) (List._∷_ (
-      27,
+      24,
       Rows.sslice
           Elem.R
           (Syntax.tyRef Syntax.erased Syntax.imm Elem.ty)
-          16,
+          15,
     ) (List._∷_ (
-      28,
+      25,
       Rows.any-gone (Syntax.tyRef Syntax.erased Syntax.imm (Syntax.tyInt Syntax.w64)),
     ) (List._∷_ (
-      29,
-      Rows.any-gone
-          (Syntax.tyStruct
-          (List._∷_ 38 (List._∷_ 91 (List._∷_ 93 List.[])))
-          (Syntax.tcons
+      26,
+      Rows.sslice
+          (Referent.rtF (Referent.fInt Syntax.w64))
           (Syntax.tyRef Syntax.erased Syntax.imm (Syntax.tyInt Syntax.w64))
-          (Syntax.tcons (Syntax.tyInt Syntax.w64) Syntax.tnil))),
+          16,
     ) (List._∷_ (
-      30,
-      Rows.any-gone (Syntax.tyRef Syntax.erased Syntax.imm (Syntax.tyInt Syntax.w8)),
+      27,
+      Relend.ssptr
+          (Referent.rtF (Referent.fInt Syntax.w8))
+          (Syntax.tyRef Syntax.erased Syntax.imm (Syntax.tyInt Syntax.w8))
+          17,
     ) (List._∷_ (
-      31,
+      28,
       Rows.any-gone
           (Syntax.tyStruct
           (List._∷_ 38 (List._∷_ 91 (List._∷_ 93 List.[])))
           (Syntax.tcons
           (Syntax.tyRef Syntax.erased Syntax.imm (Syntax.tyInt Syntax.w8))
           (Syntax.tcons (Syntax.tyInt Syntax.w64) Syntax.tnil))),
+    ) (List._∷_ (
+      29,
+      Rows.any-gone (Syntax.tyRef Syntax.erased Syntax.mut (Syntax.tyInt Syntax.w64)),
+    ) (List._∷_ (
+      30,
+      Rows.any-gone
+          (Syntax.tyStruct
+          (List._∷_ 38 (List._∷_ 91 (List._∷_ 93 List.[])))
+          (Syntax.tcons
+          (Syntax.tyRef Syntax.erased Syntax.mut (Syntax.tyInt Syntax.w64))
+          (Syntax.tcons (Syntax.tyInt Syntax.w64) Syntax.tnil))),
+    ) (List._∷_ (
+      31,
+      Rows.any-gone (Syntax.tyRef Syntax.erased Syntax.mut (Syntax.tyInt Syntax.w8)),
     ) List.[])))))))))))))))
 
 abbrev pub t35 : List.List Row.Entry
-t35 = List._∷_ (0, Rows.any-gone (Syntax.tyInt Syntax.w64)) (List._∷_ (
+t35 = List._∷_ (
+  16,
+  Rows.any-gone
+      (Syntax.tyStruct
+      (List._∷_ 38 (List._∷_ 91 (List._∷_ 93 List.[])))
+      (Syntax.tcons
+      (Syntax.tyRef Syntax.erased Syntax.mut (Syntax.tyInt Syntax.w64))
+      (Syntax.tcons (Syntax.tyInt Syntax.w64) Syntax.tnil))),
+)
+    (List._∷_
+    (17, Rows.any-gone (Syntax.tyRef Syntax.erased Syntax.mut (Syntax.tyInt Syntax.w8)))
+    (List._∷_ (
+      18,
+      Rows.any-gone
+          (Syntax.tyStruct
+          (List._∷_ 38 (List._∷_ 91 (List._∷_ 93 List.[])))
+          (Syntax.tcons
+          (Syntax.tyRef Syntax.erased Syntax.mut (Syntax.tyInt Syntax.w8))
+          (Syntax.tcons (Syntax.tyInt Syntax.w64) Syntax.tnil))),
+    ) (List._∷_ (
+      19,
+      Rows.any-gone (Syntax.tyRef Syntax.erased Syntax.mut (Syntax.tyInt Syntax.w32)),
+    ) (List._∷_ (
+      20,
+      Rows.any-gone
+          (Syntax.tyStruct
+          (List._∷_ 38 (List._∷_ 91 (List._∷_ 93 List.[])))
+          (Syntax.tcons
+          (Syntax.tyRef Syntax.erased Syntax.mut (Syntax.tyInt Syntax.w32))
+          (Syntax.tcons (Syntax.tyInt Syntax.w64) Syntax.tnil))),
+    ) (List._∷_ (
+      21,
+      Rows.any-gone
+          (Syntax.tyRef Syntax.erased Syntax.mut Elem.ty),
+    ) (List._∷_ (
+      22,
+      Rows.any-gone
+          (Syntax.tyStruct
+          (List._∷_ 38 (List._∷_ 91 (List._∷_ 93 List.[])))
+          (Syntax.tcons
+          (Syntax.tyRef Syntax.erased Syntax.mut Elem.ty)
+          (Syntax.tcons (Syntax.tyInt Syntax.w64) Syntax.tnil))),
+    ) (List._∷_ (
+      23,
+      Rows.any-gone
+          (Syntax.tyRef Syntax.erased Syntax.imm Elem.ty),
+    ) (List._∷_ (
+      24,
+      Rows.sslice
+          Elem.R
+          (Syntax.tyRef Syntax.erased Syntax.imm Elem.ty)
+          15,
+    ) (List._∷_ (
+      25,
+      Rows.any-gone (Syntax.tyRef Syntax.erased Syntax.imm (Syntax.tyInt Syntax.w64)),
+    ) (List._∷_ (
+      26,
+      Rows.sslice
+          (Referent.rtF (Referent.fInt Syntax.w64))
+          (Syntax.tyRef Syntax.erased Syntax.imm (Syntax.tyInt Syntax.w64))
+          16,
+    ) (List._∷_ (
+      27,
+      Rows.any-gone (Syntax.tyRef Syntax.erased Syntax.imm (Syntax.tyInt Syntax.w8)),
+    ) (List._∷_ (
+      28,
+      Rows.sslice
+          (Referent.rtF (Referent.fInt Syntax.w8))
+          (Syntax.tyRef Syntax.erased Syntax.imm (Syntax.tyInt Syntax.w8))
+          17,
+    ) (List._∷_ (
+      29,
+      Rows.any-gone (Syntax.tyRef Syntax.erased Syntax.mut (Syntax.tyInt Syntax.w64)),
+    ) (List._∷_ (
+      30,
+      Rows.any-gone
+          (Syntax.tyStruct
+          (List._∷_ 38 (List._∷_ 91 (List._∷_ 93 List.[])))
+          (Syntax.tcons
+          (Syntax.tyRef Syntax.erased Syntax.mut (Syntax.tyInt Syntax.w64))
+          (Syntax.tcons (Syntax.tyInt Syntax.w64) Syntax.tnil))),
+    ) (List._∷_ (
+      31,
+      Rows.any-gone (Syntax.tyRef Syntax.erased Syntax.mut (Syntax.tyInt Syntax.w8)),
+    ) List.[])))))))))))))))
+
+abbrev pub t36 : List.List Row.Entry
+t36 = List._∷_ (0, Rows.any-gone (Syntax.tyInt Syntax.w64)) (List._∷_ (
   1,
   Rows.sslice
       (Referent.rtF (Referent.fInt Syntax.w8))
@@ -3670,28 +3716,32 @@ t35 = List._∷_ (0, Rows.any-gone (Syntax.tyInt Syntax.w64)) (List._∷_ (
       Elem.R
       (Syntax.tyRef (Syntax.named 1) Syntax.mut Elem.ty)
       1
-      16
+      15
       Row.off,
 ) (List._∷_ (
   3,
-  Mut.mslice
+  Relend.mslice-owed
       (Referent.rtF (Referent.fInt Syntax.w64))
       (Syntax.tyRef (Syntax.named 2) Syntax.mut (Syntax.tyInt Syntax.w64))
-      2,
+      2
+      18
+      Row.off,
 ) (List._∷_ (
   4,
   Reshare.mslice-owedS
       (Referent.rtF (Referent.fInt Syntax.w64))
       (Syntax.tyRef (Syntax.named 3) Syntax.mut (Syntax.tyInt Syntax.w64))
       3
-      17
+      16
       Row.off,
 ) (List._∷_ (
   5,
-  Mut.mslice
+  Reshare.mslice-owedS
       (Referent.rtF (Referent.fInt Syntax.w8))
       (Syntax.tyRef (Syntax.named 4) Syntax.mut (Syntax.tyInt Syntax.w8))
-      4,
+      4
+      17
+      Row.off,
 ) (List._∷_ (
   6,
   Mut.mslice
@@ -3735,97 +3785,6 @@ t35 = List._∷_ (0, Rows.any-gone (Syntax.tyInt Syntax.w64)) (List._∷_ (
   15,
   Rows.any-gone (Syntax.tyRef Syntax.erased Syntax.mut (Syntax.tyInt Syntax.w64)),
 ) List.[])))))))))))))))
-
-abbrev pub t36 : List.List Row.Entry
-t36 = List._∷_ (
-  16,
-  Rows.any-gone
-      (Syntax.tyStruct
-      (List._∷_ 38 (List._∷_ 91 (List._∷_ 93 List.[])))
-      (Syntax.tcons
-      (Syntax.tyRef Syntax.erased Syntax.mut (Syntax.tyInt Syntax.w64))
-      (Syntax.tcons (Syntax.tyInt Syntax.w64) Syntax.tnil))),
-)
-    (List._∷_
-    (17, Rows.any-gone (Syntax.tyRef Syntax.erased Syntax.mut (Syntax.tyInt Syntax.w8)))
-    (List._∷_ (
-      18,
-      Rows.any-gone
-          (Syntax.tyStruct
-          (List._∷_ 38 (List._∷_ 91 (List._∷_ 93 List.[])))
-          (Syntax.tcons
-          (Syntax.tyRef Syntax.erased Syntax.mut (Syntax.tyInt Syntax.w8))
-          (Syntax.tcons (Syntax.tyInt Syntax.w64) Syntax.tnil))),
-    ) (List._∷_ (
-      19,
-      Rows.any-gone (Syntax.tyRef Syntax.erased Syntax.mut (Syntax.tyInt Syntax.w32)),
-    ) (List._∷_ (
-      20,
-      Rows.any-gone
-          (Syntax.tyStruct
-          (List._∷_ 38 (List._∷_ 91 (List._∷_ 93 List.[])))
-          (Syntax.tcons
-          (Syntax.tyRef Syntax.erased Syntax.mut (Syntax.tyInt Syntax.w32))
-          (Syntax.tcons (Syntax.tyInt Syntax.w64) Syntax.tnil))),
-    ) (List._∷_ (21, Rows.any-gone (Syntax.tyInt Syntax.w64)) (List._∷_ (
-      22,
-      Rows.any-gone (Syntax.tyRef Syntax.erased Syntax.imm (Syntax.tyInt Syntax.w64)),
-    ) (List._∷_ (
-      23,
-      Rows.any-gone
-          (Syntax.tyStruct
-          (List._∷_ 38 (List._∷_ 91 (List._∷_ 93 List.[])))
-          (Syntax.tcons
-          (Syntax.tyRef Syntax.erased Syntax.imm (Syntax.tyInt Syntax.w64))
-          (Syntax.tcons (Syntax.tyInt Syntax.w64) Syntax.tnil))),
-    ) (List._∷_ (
-      24,
-      Rows.any-gone
-          (Syntax.tyRef Syntax.erased Syntax.mut Elem.ty),
-    ) (List._∷_ (
-      25,
-      Rows.any-gone
-          (Syntax.tyStruct
-          (List._∷_ 38 (List._∷_ 91 (List._∷_ 93 List.[])))
-          (Syntax.tcons
-          (Syntax.tyRef Syntax.erased Syntax.mut Elem.ty)
-          (Syntax.tcons (Syntax.tyInt Syntax.w64) Syntax.tnil))),
-    ) (List._∷_ (
-      26,
-      Rows.any-gone
-          (Syntax.tyRef Syntax.erased Syntax.imm Elem.ty),
-    ) (List._∷_ (
-      27,
-      Rows.sslice
-          Elem.R
-          (Syntax.tyRef Syntax.erased Syntax.imm Elem.ty)
-          16,
-    ) (List._∷_ (
-      28,
-      Relend.ssptr
-          (Referent.rtF (Referent.fInt Syntax.w64))
-          (Syntax.tyRef Syntax.erased Syntax.imm (Syntax.tyInt Syntax.w64))
-          17,
-    ) (List._∷_ (
-      29,
-      Rows.any-gone
-          (Syntax.tyStruct
-          (List._∷_ 38 (List._∷_ 91 (List._∷_ 93 List.[])))
-          (Syntax.tcons
-          (Syntax.tyRef Syntax.erased Syntax.imm (Syntax.tyInt Syntax.w64))
-          (Syntax.tcons (Syntax.tyInt Syntax.w64) Syntax.tnil))),
-    ) (List._∷_ (
-      30,
-      Rows.any-gone (Syntax.tyRef Syntax.erased Syntax.imm (Syntax.tyInt Syntax.w8)),
-    ) (List._∷_ (
-      31,
-      Rows.any-gone
-          (Syntax.tyStruct
-          (List._∷_ 38 (List._∷_ 91 (List._∷_ 93 List.[])))
-          (Syntax.tcons
-          (Syntax.tyRef Syntax.erased Syntax.imm (Syntax.tyInt Syntax.w8))
-          (Syntax.tcons (Syntax.tyInt Syntax.w64) Syntax.tnil))),
-    ) List.[])))))))))))))))
 
 abbrev pub t37 : List.List Row.Entry
 t37 = List._∷_ (
@@ -3858,23 +3817,12 @@ t37 = List._∷_ (
           (Syntax.tcons
           (Syntax.tyRef Syntax.erased Syntax.mut (Syntax.tyInt Syntax.w32))
           (Syntax.tcons (Syntax.tyInt Syntax.w64) Syntax.tnil))),
-    ) (List._∷_ (21, Rows.any-gone (Syntax.tyInt Syntax.w64)) (List._∷_ (
-      22,
-      Rows.any-gone (Syntax.tyRef Syntax.erased Syntax.imm (Syntax.tyInt Syntax.w64)),
     ) (List._∷_ (
-      23,
-      Rows.any-gone
-          (Syntax.tyStruct
-          (List._∷_ 38 (List._∷_ 91 (List._∷_ 93 List.[])))
-          (Syntax.tcons
-          (Syntax.tyRef Syntax.erased Syntax.imm (Syntax.tyInt Syntax.w64))
-          (Syntax.tcons (Syntax.tyInt Syntax.w64) Syntax.tnil))),
-    ) (List._∷_ (
-      24,
+      21,
       Rows.any-gone
           (Syntax.tyRef Syntax.erased Syntax.mut Elem.ty),
     ) (List._∷_ (
-      25,
+      22,
       Rows.any-gone
           (Syntax.tyStruct
           (List._∷_ 38 (List._∷_ 91 (List._∷_ 93 List.[])))
@@ -3882,39 +3830,139 @@ t37 = List._∷_ (
           (Syntax.tyRef Syntax.erased Syntax.mut Elem.ty)
           (Syntax.tcons (Syntax.tyInt Syntax.w64) Syntax.tnil))),
     ) (List._∷_ (
-      26,
+      23,
       Rows.any-gone
           (Syntax.tyRef Syntax.erased Syntax.imm Elem.ty),
     ) (List._∷_ (
-      27,
+      24,
       Rows.sslice
           Elem.R
           (Syntax.tyRef Syntax.erased Syntax.imm Elem.ty)
-          16,
+          15,
     ) (List._∷_ (
-      28,
+      25,
       Rows.any-gone (Syntax.tyRef Syntax.erased Syntax.imm (Syntax.tyInt Syntax.w64)),
     ) (List._∷_ (
-      29,
+      26,
       Rows.sslice
           (Referent.rtF (Referent.fInt Syntax.w64))
           (Syntax.tyRef Syntax.erased Syntax.imm (Syntax.tyInt Syntax.w64))
-          17,
+          16,
     ) (List._∷_ (
-      30,
+      27,
       Rows.any-gone (Syntax.tyRef Syntax.erased Syntax.imm (Syntax.tyInt Syntax.w8)),
     ) (List._∷_ (
-      31,
+      28,
+      Rows.sslice
+          (Referent.rtF (Referent.fInt Syntax.w8))
+          (Syntax.tyRef Syntax.erased Syntax.imm (Syntax.tyInt Syntax.w8))
+          17,
+    ) (List._∷_ (
+      29,
+      Relend.msptr
+          (Referent.rtF (Referent.fInt Syntax.w64))
+          (Syntax.tyRef Syntax.erased Syntax.mut (Syntax.tyInt Syntax.w64))
+          18,
+    ) (List._∷_ (
+      30,
       Rows.any-gone
           (Syntax.tyStruct
           (List._∷_ 38 (List._∷_ 91 (List._∷_ 93 List.[])))
           (Syntax.tcons
-          (Syntax.tyRef Syntax.erased Syntax.imm (Syntax.tyInt Syntax.w8))
+          (Syntax.tyRef Syntax.erased Syntax.mut (Syntax.tyInt Syntax.w64))
           (Syntax.tcons (Syntax.tyInt Syntax.w64) Syntax.tnil))),
+    ) (List._∷_ (
+      31,
+      Rows.any-gone (Syntax.tyRef Syntax.erased Syntax.mut (Syntax.tyInt Syntax.w8)),
     ) List.[])))))))))))))))
 
 abbrev pub t38 : List.List Row.Entry
-t38 = List._∷_ (0, Rows.any-gone (Syntax.tyInt Syntax.w64)) (List._∷_ (
+t38 = List._∷_ (
+  16,
+  Rows.any-gone
+      (Syntax.tyStruct
+      (List._∷_ 38 (List._∷_ 91 (List._∷_ 93 List.[])))
+      (Syntax.tcons
+      (Syntax.tyRef Syntax.erased Syntax.mut (Syntax.tyInt Syntax.w64))
+      (Syntax.tcons (Syntax.tyInt Syntax.w64) Syntax.tnil))),
+)
+    (List._∷_
+    (17, Rows.any-gone (Syntax.tyRef Syntax.erased Syntax.mut (Syntax.tyInt Syntax.w8)))
+    (List._∷_ (
+      18,
+      Rows.any-gone
+          (Syntax.tyStruct
+          (List._∷_ 38 (List._∷_ 91 (List._∷_ 93 List.[])))
+          (Syntax.tcons
+          (Syntax.tyRef Syntax.erased Syntax.mut (Syntax.tyInt Syntax.w8))
+          (Syntax.tcons (Syntax.tyInt Syntax.w64) Syntax.tnil))),
+    ) (List._∷_ (
+      19,
+      Rows.any-gone (Syntax.tyRef Syntax.erased Syntax.mut (Syntax.tyInt Syntax.w32)),
+    ) (List._∷_ (
+      20,
+      Rows.any-gone
+          (Syntax.tyStruct
+          (List._∷_ 38 (List._∷_ 91 (List._∷_ 93 List.[])))
+          (Syntax.tcons
+          (Syntax.tyRef Syntax.erased Syntax.mut (Syntax.tyInt Syntax.w32))
+          (Syntax.tcons (Syntax.tyInt Syntax.w64) Syntax.tnil))),
+    ) (List._∷_ (
+      21,
+      Rows.any-gone
+          (Syntax.tyRef Syntax.erased Syntax.mut Elem.ty),
+    ) (List._∷_ (
+      22,
+      Rows.any-gone
+          (Syntax.tyStruct
+          (List._∷_ 38 (List._∷_ 91 (List._∷_ 93 List.[])))
+          (Syntax.tcons
+          (Syntax.tyRef Syntax.erased Syntax.mut Elem.ty)
+          (Syntax.tcons (Syntax.tyInt Syntax.w64) Syntax.tnil))),
+    ) (List._∷_ (
+      23,
+      Rows.any-gone
+          (Syntax.tyRef Syntax.erased Syntax.imm Elem.ty),
+    ) (List._∷_ (
+      24,
+      Rows.sslice
+          Elem.R
+          (Syntax.tyRef Syntax.erased Syntax.imm Elem.ty)
+          15,
+    ) (List._∷_ (
+      25,
+      Rows.any-gone (Syntax.tyRef Syntax.erased Syntax.imm (Syntax.tyInt Syntax.w64)),
+    ) (List._∷_ (
+      26,
+      Rows.sslice
+          (Referent.rtF (Referent.fInt Syntax.w64))
+          (Syntax.tyRef Syntax.erased Syntax.imm (Syntax.tyInt Syntax.w64))
+          16,
+    ) (List._∷_ (
+      27,
+      Rows.any-gone (Syntax.tyRef Syntax.erased Syntax.imm (Syntax.tyInt Syntax.w8)),
+    ) (List._∷_ (
+      28,
+      Rows.sslice
+          (Referent.rtF (Referent.fInt Syntax.w8))
+          (Syntax.tyRef Syntax.erased Syntax.imm (Syntax.tyInt Syntax.w8))
+          17,
+    ) (List._∷_ (
+      29,
+      Rows.any-gone (Syntax.tyRef Syntax.erased Syntax.mut (Syntax.tyInt Syntax.w64)),
+    ) (List._∷_ (
+      30,
+      Mut.mslice
+          (Referent.rtF (Referent.fInt Syntax.w64))
+          (Syntax.tyRef Syntax.erased Syntax.mut (Syntax.tyInt Syntax.w64))
+          18,
+    ) (List._∷_ (
+      31,
+      Rows.any-gone (Syntax.tyRef Syntax.erased Syntax.mut (Syntax.tyInt Syntax.w8)),
+    ) List.[])))))))))))))))
+
+abbrev pub t39 : List.List Row.Entry
+t39 = List._∷_ (0, Rows.any-gone (Syntax.tyInt Syntax.w64)) (List._∷_ (
   1,
   Rows.sslice
       (Referent.rtF (Referent.fInt Syntax.w8))
@@ -3926,21 +3974,23 @@ t38 = List._∷_ (0, Rows.any-gone (Syntax.tyInt Syntax.w64)) (List._∷_ (
       Elem.R
       (Syntax.tyRef (Syntax.named 1) Syntax.mut Elem.ty)
       1
-      16
+      15
       Row.off,
 ) (List._∷_ (
   3,
-  Mut.mslice
+  Relend.mslice-owed
       (Referent.rtF (Referent.fInt Syntax.w64))
       (Syntax.tyRef (Syntax.named 2) Syntax.mut (Syntax.tyInt Syntax.w64))
-      2,
+      2
+      18
+      Row.off,
 ) (List._∷_ (
   4,
   Reshare.mslice-owedS
       (Referent.rtF (Referent.fInt Syntax.w64))
       (Syntax.tyRef (Syntax.named 3) Syntax.mut (Syntax.tyInt Syntax.w64))
       3
-      17
+      16
       Row.off,
 ) (List._∷_ (
   5,
@@ -3948,7 +3998,7 @@ t38 = List._∷_ (0, Rows.any-gone (Syntax.tyInt Syntax.w64)) (List._∷_ (
       (Referent.rtF (Referent.fInt Syntax.w8))
       (Syntax.tyRef (Syntax.named 4) Syntax.mut (Syntax.tyInt Syntax.w8))
       4
-      18
+      17
       Row.off,
 ) (List._∷_ (
   6,
@@ -3958,10 +4008,12 @@ t38 = List._∷_ (0, Rows.any-gone (Syntax.tyInt Syntax.w64)) (List._∷_ (
       5,
 ) (List._∷_ (
   7,
-  Mut.mslice
+  Part.mslice-owedP
       (Referent.rtF (Referent.fInt Syntax.w8))
       (Syntax.tyRef (Syntax.named 6) Syntax.mut (Syntax.tyInt Syntax.w8))
-      6,
+      6
+      19
+      Row.off,
 ) (List._∷_ (
   8,
   Mut.mslice
@@ -3993,95 +4045,6 @@ t38 = List._∷_ (0, Rows.any-gone (Syntax.tyInt Syntax.w64)) (List._∷_ (
   15,
   Rows.any-gone (Syntax.tyRef Syntax.erased Syntax.mut (Syntax.tyInt Syntax.w64)),
 ) List.[])))))))))))))))
-
-abbrev pub t39 : List.List Row.Entry
-t39 = List._∷_ (
-  16,
-  Rows.any-gone
-      (Syntax.tyStruct
-      (List._∷_ 38 (List._∷_ 91 (List._∷_ 93 List.[])))
-      (Syntax.tcons
-      (Syntax.tyRef Syntax.erased Syntax.mut (Syntax.tyInt Syntax.w64))
-      (Syntax.tcons (Syntax.tyInt Syntax.w64) Syntax.tnil))),
-)
-    (List._∷_
-    (17, Rows.any-gone (Syntax.tyRef Syntax.erased Syntax.mut (Syntax.tyInt Syntax.w8)))
-    (List._∷_ (
-      18,
-      Rows.any-gone
-          (Syntax.tyStruct
-          (List._∷_ 38 (List._∷_ 91 (List._∷_ 93 List.[])))
-          (Syntax.tcons
-          (Syntax.tyRef Syntax.erased Syntax.mut (Syntax.tyInt Syntax.w8))
-          (Syntax.tcons (Syntax.tyInt Syntax.w64) Syntax.tnil))),
-    ) (List._∷_ (
-      19,
-      Rows.any-gone (Syntax.tyRef Syntax.erased Syntax.mut (Syntax.tyInt Syntax.w32)),
-    ) (List._∷_ (
-      20,
-      Rows.any-gone
-          (Syntax.tyStruct
-          (List._∷_ 38 (List._∷_ 91 (List._∷_ 93 List.[])))
-          (Syntax.tcons
-          (Syntax.tyRef Syntax.erased Syntax.mut (Syntax.tyInt Syntax.w32))
-          (Syntax.tcons (Syntax.tyInt Syntax.w64) Syntax.tnil))),
-    ) (List._∷_ (21, Rows.any-gone (Syntax.tyInt Syntax.w64)) (List._∷_ (
-      22,
-      Rows.any-gone (Syntax.tyRef Syntax.erased Syntax.imm (Syntax.tyInt Syntax.w64)),
-    ) (List._∷_ (
-      23,
-      Rows.any-gone
-          (Syntax.tyStruct
-          (List._∷_ 38 (List._∷_ 91 (List._∷_ 93 List.[])))
-          (Syntax.tcons
-          (Syntax.tyRef Syntax.erased Syntax.imm (Syntax.tyInt Syntax.w64))
-          (Syntax.tcons (Syntax.tyInt Syntax.w64) Syntax.tnil))),
-    ) (List._∷_ (
-      24,
-      Rows.any-gone
-          (Syntax.tyRef Syntax.erased Syntax.mut Elem.ty),
-    ) (List._∷_ (
-      25,
-      Rows.any-gone
-          (Syntax.tyStruct
-          (List._∷_ 38 (List._∷_ 91 (List._∷_ 93 List.[])))
-          (Syntax.tcons
-          (Syntax.tyRef Syntax.erased Syntax.mut Elem.ty)
-          (Syntax.tcons (Syntax.tyInt Syntax.w64) Syntax.tnil))),
-    ) (List._∷_ (
-      26,
-      Rows.any-gone
-          (Syntax.tyRef Syntax.erased Syntax.imm Elem.ty),
-    ) (List._∷_ (
-      27,
-      Rows.sslice
-          Elem.R
-          (Syntax.tyRef Syntax.erased Syntax.imm Elem.ty)
-          16,
-    ) (List._∷_ (
-      28,
-      Rows.any-gone (Syntax.tyRef Syntax.erased Syntax.imm (Syntax.tyInt Syntax.w64)),
-    ) (List._∷_ (
-      29,
-      Rows.sslice
-          (Referent.rtF (Referent.fInt Syntax.w64))
-          (Syntax.tyRef Syntax.erased Syntax.imm (Syntax.tyInt Syntax.w64))
-          17,
-    ) (List._∷_ (
-      30,
-      Relend.ssptr
-          (Referent.rtF (Referent.fInt Syntax.w8))
-          (Syntax.tyRef Syntax.erased Syntax.imm (Syntax.tyInt Syntax.w8))
-          18,
-    ) (List._∷_ (
-      31,
-      Rows.any-gone
-          (Syntax.tyStruct
-          (List._∷_ 38 (List._∷_ 91 (List._∷_ 93 List.[])))
-          (Syntax.tcons
-          (Syntax.tyRef Syntax.erased Syntax.imm (Syntax.tyInt Syntax.w8))
-          (Syntax.tcons (Syntax.tyInt Syntax.w64) Syntax.tnil))),
-    ) List.[])))))))))))))))
 
 abbrev pub t40 : List.List Row.Entry
 t40 = List._∷_ (
@@ -4114,23 +4077,12 @@ t40 = List._∷_ (
           (Syntax.tcons
           (Syntax.tyRef Syntax.erased Syntax.mut (Syntax.tyInt Syntax.w32))
           (Syntax.tcons (Syntax.tyInt Syntax.w64) Syntax.tnil))),
-    ) (List._∷_ (21, Rows.any-gone (Syntax.tyInt Syntax.w64)) (List._∷_ (
-      22,
-      Rows.any-gone (Syntax.tyRef Syntax.erased Syntax.imm (Syntax.tyInt Syntax.w64)),
     ) (List._∷_ (
-      23,
-      Rows.any-gone
-          (Syntax.tyStruct
-          (List._∷_ 38 (List._∷_ 91 (List._∷_ 93 List.[])))
-          (Syntax.tcons
-          (Syntax.tyRef Syntax.erased Syntax.imm (Syntax.tyInt Syntax.w64))
-          (Syntax.tcons (Syntax.tyInt Syntax.w64) Syntax.tnil))),
-    ) (List._∷_ (
-      24,
+      21,
       Rows.any-gone
           (Syntax.tyRef Syntax.erased Syntax.mut Elem.ty),
     ) (List._∷_ (
-      25,
+      22,
       Rows.any-gone
           (Syntax.tyStruct
           (List._∷_ 38 (List._∷_ 91 (List._∷_ 93 List.[])))
@@ -4138,37 +4090,105 @@ t40 = List._∷_ (
           (Syntax.tyRef Syntax.erased Syntax.mut Elem.ty)
           (Syntax.tcons (Syntax.tyInt Syntax.w64) Syntax.tnil))),
     ) (List._∷_ (
-      26,
+      23,
       Rows.any-gone
           (Syntax.tyRef Syntax.erased Syntax.imm Elem.ty),
     ) (List._∷_ (
-      27,
+      24,
       Rows.sslice
           Elem.R
           (Syntax.tyRef Syntax.erased Syntax.imm Elem.ty)
-          16,
+          15,
     ) (List._∷_ (
-      28,
+      25,
       Rows.any-gone (Syntax.tyRef Syntax.erased Syntax.imm (Syntax.tyInt Syntax.w64)),
     ) (List._∷_ (
-      29,
+      26,
       Rows.sslice
           (Referent.rtF (Referent.fInt Syntax.w64))
           (Syntax.tyRef Syntax.erased Syntax.imm (Syntax.tyInt Syntax.w64))
-          17,
+          16,
     ) (List._∷_ (
-      30,
+      27,
       Rows.any-gone (Syntax.tyRef Syntax.erased Syntax.imm (Syntax.tyInt Syntax.w8)),
     ) (List._∷_ (
-      31,
+      28,
       Rows.sslice
           (Referent.rtF (Referent.fInt Syntax.w8))
           (Syntax.tyRef Syntax.erased Syntax.imm (Syntax.tyInt Syntax.w8))
+          17,
+    ) (List._∷_ (
+      29,
+      Rows.any-gone (Syntax.tyRef Syntax.erased Syntax.mut (Syntax.tyInt Syntax.w64)),
+    ) (List._∷_ (
+      30,
+      Mut.mslice
+          (Referent.rtF (Referent.fInt Syntax.w64))
+          (Syntax.tyRef Syntax.erased Syntax.mut (Syntax.tyInt Syntax.w64))
           18,
+    ) (List._∷_ (
+      31,
+      Relend.msptr
+          (Referent.rtF (Referent.fInt Syntax.w8))
+          (Syntax.tyRef Syntax.erased Syntax.mut (Syntax.tyInt Syntax.w8))
+          19,
     ) List.[])))))))))))))))
 
 abbrev pub t41 : List.List Row.Entry
-t41 = List._∷_ (0, Rows.any-gone (Syntax.tyInt Syntax.w64)) (List._∷_ (
+t41 = List._∷_ (
+  32,
+  Mut.mslice
+      (Referent.rtF (Referent.fInt Syntax.w8))
+      (Syntax.tyRef Syntax.erased Syntax.mut (Syntax.tyInt Syntax.w8))
+      19,
+)
+    (List._∷_
+    (33, Rows.any-gone (Syntax.tyRef Syntax.erased Syntax.mut (Syntax.tyInt Syntax.w8)))
+    (List._∷_ (
+      34,
+      Rows.any-gone
+          (Syntax.tyStruct
+          (List._∷_ 38 (List._∷_ 91 (List._∷_ 93 List.[])))
+          (Syntax.tcons
+          (Syntax.tyRef Syntax.erased Syntax.mut (Syntax.tyInt Syntax.w8))
+          (Syntax.tcons (Syntax.tyInt Syntax.w64) Syntax.tnil))),
+    ) (List._∷_ (
+      35,
+      Rows.any-gone (Syntax.tyRef Syntax.erased Syntax.mut (Syntax.tyInt Syntax.w8)),
+    ) (List._∷_ (
+      36,
+      Rows.any-gone
+          (Syntax.tyStruct
+          (List._∷_ 38 (List._∷_ 91 (List._∷_ 93 List.[])))
+          (Syntax.tcons
+          (Syntax.tyRef Syntax.erased Syntax.mut (Syntax.tyInt Syntax.w8))
+          (Syntax.tcons (Syntax.tyInt Syntax.w64) Syntax.tnil))),
+    ) (List._∷_ (
+      37,
+      Rows.any-gone (Syntax.tyRef Syntax.erased Syntax.mut (Syntax.tyInt Syntax.w8)),
+    ) (List._∷_ (
+      38,
+      Rows.any-gone
+          (Syntax.tyStruct
+          (List._∷_ 38 (List._∷_ 91 (List._∷_ 93 List.[])))
+          (Syntax.tcons
+          (Syntax.tyRef Syntax.erased Syntax.mut (Syntax.tyInt Syntax.w8))
+          (Syntax.tcons (Syntax.tyInt Syntax.w64) Syntax.tnil))),
+    ) (List._∷_ (
+      39,
+      Rows.any-gone (Syntax.tyRef Syntax.erased Syntax.mut (Syntax.tyInt Syntax.w8)),
+    ) (List._∷_ (
+      40,
+      Rows.any-gone
+          (Syntax.tyStruct
+          (List._∷_ 38 (List._∷_ 91 (List._∷_ 93 List.[])))
+          (Syntax.tcons
+          (Syntax.tyRef Syntax.erased Syntax.mut (Syntax.tyInt Syntax.w8))
+          (Syntax.tcons (Syntax.tyInt Syntax.w64) Syntax.tnil))),
+    ) List.[]))))))))
+
+abbrev pub t42 : List.List Row.Entry
+t42 = List._∷_ (0, Rows.any-gone (Syntax.tyInt Syntax.w64)) (List._∷_ (
   1,
   Rows.sslice
       (Referent.rtF (Referent.fInt Syntax.w8))
@@ -4180,7 +4200,7 @@ t41 = List._∷_ (0, Rows.any-gone (Syntax.tyInt Syntax.w64)) (List._∷_ (
       Elem.R
       (Syntax.tyRef (Syntax.named 1) Syntax.mut Elem.ty)
       1
-      16
+      15
       Row.off,
 ) (List._∷_ (
   3,
@@ -4188,7 +4208,7 @@ t41 = List._∷_ (0, Rows.any-gone (Syntax.tyInt Syntax.w64)) (List._∷_ (
       (Referent.rtF (Referent.fInt Syntax.w64))
       (Syntax.tyRef (Syntax.named 2) Syntax.mut (Syntax.tyInt Syntax.w64))
       2
-      19
+      18
       Row.off,
 ) (List._∷_ (
   4,
@@ -4196,7 +4216,7 @@ t41 = List._∷_ (0, Rows.any-gone (Syntax.tyInt Syntax.w64)) (List._∷_ (
       (Referent.rtF (Referent.fInt Syntax.w64))
       (Syntax.tyRef (Syntax.named 3) Syntax.mut (Syntax.tyInt Syntax.w64))
       3
-      17
+      16
       Row.off,
 ) (List._∷_ (
   5,
@@ -4204,7 +4224,7 @@ t41 = List._∷_ (0, Rows.any-gone (Syntax.tyInt Syntax.w64)) (List._∷_ (
       (Referent.rtF (Referent.fInt Syntax.w8))
       (Syntax.tyRef (Syntax.named 4) Syntax.mut (Syntax.tyInt Syntax.w8))
       4
-      18
+      17
       Row.off,
 ) (List._∷_ (
   6,
@@ -4214,16 +4234,20 @@ t41 = List._∷_ (0, Rows.any-gone (Syntax.tyInt Syntax.w64)) (List._∷_ (
       5,
 ) (List._∷_ (
   7,
-  Mut.mslice
+  Part.mslice-owedP
       (Referent.rtF (Referent.fInt Syntax.w8))
       (Syntax.tyRef (Syntax.named 6) Syntax.mut (Syntax.tyInt Syntax.w8))
-      6,
+      6
+      19
+      Row.off,
 ) (List._∷_ (
   8,
-  Mut.mslice
+  Part.mslice-owedP
       (Referent.rtF (Referent.fInt Syntax.w8))
       (Syntax.tyRef (Syntax.named 7) Syntax.mut (Syntax.tyInt Syntax.w8))
-      7,
+      7
+      20
+      Row.off,
 ) (List._∷_ (
   9,
   Mut.mslice
@@ -4249,249 +4273,22 @@ t41 = List._∷_ (0, Rows.any-gone (Syntax.tyInt Syntax.w64)) (List._∷_ (
   15,
   Rows.any-gone (Syntax.tyRef Syntax.erased Syntax.mut (Syntax.tyInt Syntax.w64)),
 ) List.[])))))))))))))))
-
-abbrev pub t42 : List.List Row.Entry
-t42 = List._∷_ (
-  32,
-  Relend.msptr
-      (Referent.rtF (Referent.fInt Syntax.w64))
-      (Syntax.tyRef Syntax.erased Syntax.mut (Syntax.tyInt Syntax.w64))
-      19,
-) (List._∷_ (
-  33,
-  Rows.any-gone
-      (Syntax.tyStruct
-      (List._∷_ 38 (List._∷_ 91 (List._∷_ 93 List.[])))
-      (Syntax.tcons
-      (Syntax.tyRef Syntax.erased Syntax.mut (Syntax.tyInt Syntax.w64))
-      (Syntax.tcons (Syntax.tyInt Syntax.w64) Syntax.tnil))),
-)
-    (List._∷_
-    (34, Rows.any-gone (Syntax.tyRef Syntax.erased Syntax.mut (Syntax.tyInt Syntax.w8)))
-    (List._∷_ (
-      35,
-      Rows.any-gone
-          (Syntax.tyStruct
-          (List._∷_ 38 (List._∷_ 91 (List._∷_ 93 List.[])))
-          (Syntax.tcons
-          (Syntax.tyRef Syntax.erased Syntax.mut (Syntax.tyInt Syntax.w8))
-          (Syntax.tcons (Syntax.tyInt Syntax.w64) Syntax.tnil))),
-    ) (List._∷_ (
-      36,
-      Rows.any-gone (Syntax.tyRef Syntax.erased Syntax.mut (Syntax.tyInt Syntax.w8)),
-    ) (List._∷_ (
-      37,
-      Rows.any-gone
-          (Syntax.tyStruct
-          (List._∷_ 38 (List._∷_ 91 (List._∷_ 93 List.[])))
-          (Syntax.tcons
-          (Syntax.tyRef Syntax.erased Syntax.mut (Syntax.tyInt Syntax.w8))
-          (Syntax.tcons (Syntax.tyInt Syntax.w64) Syntax.tnil))),
-    ) (List._∷_ (
-      38,
-      Rows.any-gone (Syntax.tyRef Syntax.erased Syntax.mut (Syntax.tyInt Syntax.w8)),
-    ) (List._∷_ (
-      39,
-      Rows.any-gone
-          (Syntax.tyStruct
-          (List._∷_ 38 (List._∷_ 91 (List._∷_ 93 List.[])))
-          (Syntax.tcons
-          (Syntax.tyRef Syntax.erased Syntax.mut (Syntax.tyInt Syntax.w8))
-          (Syntax.tcons (Syntax.tyInt Syntax.w64) Syntax.tnil))),
-    ) (List._∷_ (
-      40,
-      Rows.any-gone (Syntax.tyRef Syntax.erased Syntax.mut (Syntax.tyInt Syntax.w8)),
-    ) (List._∷_ (
-      41,
-      Rows.any-gone
-          (Syntax.tyStruct
-          (List._∷_ 38 (List._∷_ 91 (List._∷_ 93 List.[])))
-          (Syntax.tcons
-          (Syntax.tyRef Syntax.erased Syntax.mut (Syntax.tyInt Syntax.w8))
-          (Syntax.tcons (Syntax.tyInt Syntax.w64) Syntax.tnil))),
-    ) (List._∷_ (
-      42,
-      Rows.any-gone (Syntax.tyRef Syntax.erased Syntax.mut (Syntax.tyInt Syntax.w8)),
-    ) (List._∷_ (
-      43,
-      Rows.any-gone
-          (Syntax.tyStruct
-          (List._∷_ 38 (List._∷_ 91 (List._∷_ 93 List.[])))
-          (Syntax.tcons
-          (Syntax.tyRef Syntax.erased Syntax.mut (Syntax.tyInt Syntax.w8))
-          (Syntax.tcons (Syntax.tyInt Syntax.w64) Syntax.tnil))),
-    ) List.[])))))))))))
 
 abbrev pub t43 : List.List Row.Entry
 t43 = List._∷_ (
   32,
-  Rows.any-gone (Syntax.tyRef Syntax.erased Syntax.mut (Syntax.tyInt Syntax.w64)),
-) (List._∷_ (
-  33,
-  Mut.mslice
-      (Referent.rtF (Referent.fInt Syntax.w64))
-      (Syntax.tyRef Syntax.erased Syntax.mut (Syntax.tyInt Syntax.w64))
-      19,
-)
-    (List._∷_
-    (34, Rows.any-gone (Syntax.tyRef Syntax.erased Syntax.mut (Syntax.tyInt Syntax.w8)))
-    (List._∷_ (
-      35,
-      Rows.any-gone
-          (Syntax.tyStruct
-          (List._∷_ 38 (List._∷_ 91 (List._∷_ 93 List.[])))
-          (Syntax.tcons
-          (Syntax.tyRef Syntax.erased Syntax.mut (Syntax.tyInt Syntax.w8))
-          (Syntax.tcons (Syntax.tyInt Syntax.w64) Syntax.tnil))),
-    ) (List._∷_ (
-      36,
-      Rows.any-gone (Syntax.tyRef Syntax.erased Syntax.mut (Syntax.tyInt Syntax.w8)),
-    ) (List._∷_ (
-      37,
-      Rows.any-gone
-          (Syntax.tyStruct
-          (List._∷_ 38 (List._∷_ 91 (List._∷_ 93 List.[])))
-          (Syntax.tcons
-          (Syntax.tyRef Syntax.erased Syntax.mut (Syntax.tyInt Syntax.w8))
-          (Syntax.tcons (Syntax.tyInt Syntax.w64) Syntax.tnil))),
-    ) (List._∷_ (
-      38,
-      Rows.any-gone (Syntax.tyRef Syntax.erased Syntax.mut (Syntax.tyInt Syntax.w8)),
-    ) (List._∷_ (
-      39,
-      Rows.any-gone
-          (Syntax.tyStruct
-          (List._∷_ 38 (List._∷_ 91 (List._∷_ 93 List.[])))
-          (Syntax.tcons
-          (Syntax.tyRef Syntax.erased Syntax.mut (Syntax.tyInt Syntax.w8))
-          (Syntax.tcons (Syntax.tyInt Syntax.w64) Syntax.tnil))),
-    ) (List._∷_ (
-      40,
-      Rows.any-gone (Syntax.tyRef Syntax.erased Syntax.mut (Syntax.tyInt Syntax.w8)),
-    ) (List._∷_ (
-      41,
-      Rows.any-gone
-          (Syntax.tyStruct
-          (List._∷_ 38 (List._∷_ 91 (List._∷_ 93 List.[])))
-          (Syntax.tcons
-          (Syntax.tyRef Syntax.erased Syntax.mut (Syntax.tyInt Syntax.w8))
-          (Syntax.tcons (Syntax.tyInt Syntax.w64) Syntax.tnil))),
-    ) (List._∷_ (
-      42,
-      Rows.any-gone (Syntax.tyRef Syntax.erased Syntax.mut (Syntax.tyInt Syntax.w8)),
-    ) (List._∷_ (
-      43,
-      Rows.any-gone
-          (Syntax.tyStruct
-          (List._∷_ 38 (List._∷_ 91 (List._∷_ 93 List.[])))
-          (Syntax.tcons
-          (Syntax.tyRef Syntax.erased Syntax.mut (Syntax.tyInt Syntax.w8))
-          (Syntax.tcons (Syntax.tyInt Syntax.w64) Syntax.tnil))),
-    ) List.[])))))))))))
-
-abbrev pub t44 : List.List Row.Entry
-t44 = List._∷_ (0, Rows.any-gone (Syntax.tyInt Syntax.w64)) (List._∷_ (
-  1,
-  Rows.sslice
-      (Referent.rtF (Referent.fInt Syntax.w8))
-      (Syntax.tyRef (Syntax.named 0) Syntax.imm (Syntax.tyInt Syntax.w8))
-      0,
-) (List._∷_ (
-  2,
-  Reshare.mslice-owedS
-      Elem.R
-      (Syntax.tyRef (Syntax.named 1) Syntax.mut Elem.ty)
-      1
-      16
-      Row.off,
-) (List._∷_ (
-  3,
-  Relend.mslice-owed
-      (Referent.rtF (Referent.fInt Syntax.w64))
-      (Syntax.tyRef (Syntax.named 2) Syntax.mut (Syntax.tyInt Syntax.w64))
-      2
-      19
-      Row.off,
-) (List._∷_ (
-  4,
-  Reshare.mslice-owedS
-      (Referent.rtF (Referent.fInt Syntax.w64))
-      (Syntax.tyRef (Syntax.named 3) Syntax.mut (Syntax.tyInt Syntax.w64))
-      3
-      17
-      Row.off,
-) (List._∷_ (
-  5,
-  Reshare.mslice-owedS
-      (Referent.rtF (Referent.fInt Syntax.w8))
-      (Syntax.tyRef (Syntax.named 4) Syntax.mut (Syntax.tyInt Syntax.w8))
-      4
-      18
-      Row.off,
-) (List._∷_ (
-  6,
-  Mut.mslice
-      (Referent.rtF (Referent.fInt Syntax.w32))
-      (Syntax.tyRef (Syntax.named 5) Syntax.mut (Syntax.tyInt Syntax.w32))
-      5,
-) (List._∷_ (
-  7,
-  Part.mslice-owedP
-      (Referent.rtF (Referent.fInt Syntax.w8))
-      (Syntax.tyRef (Syntax.named 6) Syntax.mut (Syntax.tyInt Syntax.w8))
-      6
-      20
-      Row.off,
-) (List._∷_ (
-  8,
   Mut.mslice
       (Referent.rtF (Referent.fInt Syntax.w8))
-      (Syntax.tyRef (Syntax.named 7) Syntax.mut (Syntax.tyInt Syntax.w8))
-      7,
-) (List._∷_ (
-  9,
-  Mut.mslice
-      (Referent.rtF (Referent.fInt Syntax.w8))
-      (Syntax.tyRef (Syntax.named 8) Syntax.mut (Syntax.tyInt Syntax.w8))
-      8,
-) (List._∷_ (
-  10,
-  Mut.mslice
-      (Referent.rtF (Referent.fInt Syntax.w8))
-      (Syntax.tyRef (Syntax.named 9) Syntax.mut (Syntax.tyInt Syntax.w8))
-      9,
-) (List._∷_ (
-  11,
-  Mut.mslice
-      (Referent.rtF (Referent.fInt Syntax.w8))
-      (Syntax.tyRef (Syntax.named 10) Syntax.mut (Syntax.tyInt Syntax.w8))
-      10,
-) (List._∷_ (12, Rows.sc-here (Row.sInt Syntax.w64)) (List._∷_ (
-  13,
-  Rows.sc-here (Row.sInt Syntax.w64),
-) (List._∷_ (14, Rows.sc-here (Row.sInt Syntax.w64)) (List._∷_ (
-  15,
-  Rows.any-gone (Syntax.tyRef Syntax.erased Syntax.mut (Syntax.tyInt Syntax.w64)),
-) List.[])))))))))))))))
-
-abbrev pub t45 : List.List Row.Entry
-t45 = List._∷_ (
-  32,
-  Rows.any-gone (Syntax.tyRef Syntax.erased Syntax.mut (Syntax.tyInt Syntax.w64)),
-) (List._∷_ (
-  33,
-  Mut.mslice
-      (Referent.rtF (Referent.fInt Syntax.w64))
-      (Syntax.tyRef Syntax.erased Syntax.mut (Syntax.tyInt Syntax.w64))
+      (Syntax.tyRef Syntax.erased Syntax.mut (Syntax.tyInt Syntax.w8))
       19,
 ) (List._∷_ (
-  34,
+  33,
   Relend.msptr
       (Referent.rtF (Referent.fInt Syntax.w8))
       (Syntax.tyRef Syntax.erased Syntax.mut (Syntax.tyInt Syntax.w8))
       20,
 ) (List._∷_ (
-  35,
+  34,
   Rows.any-gone
       (Syntax.tyStruct
       (List._∷_ 38 (List._∷_ 91 (List._∷_ 93 List.[])))
@@ -4500,31 +4297,60 @@ t45 = List._∷_ (
       (Syntax.tcons (Syntax.tyInt Syntax.w64) Syntax.tnil))),
 )
     (List._∷_
-    (36, Rows.any-gone (Syntax.tyRef Syntax.erased Syntax.mut (Syntax.tyInt Syntax.w8)))
+    (35, Rows.any-gone (Syntax.tyRef Syntax.erased Syntax.mut (Syntax.tyInt Syntax.w8)))
     (List._∷_ (
-      37,
+      36,
       Rows.any-gone
           (Syntax.tyStruct
           (List._∷_ 38 (List._∷_ 91 (List._∷_ 93 List.[])))
           (Syntax.tcons
           (Syntax.tyRef Syntax.erased Syntax.mut (Syntax.tyInt Syntax.w8))
           (Syntax.tcons (Syntax.tyInt Syntax.w64) Syntax.tnil))),
+    ) (List._∷_ (
+      37,
+      Rows.any-gone (Syntax.tyRef Syntax.erased Syntax.mut (Syntax.tyInt Syntax.w8)),
     ) (List._∷_ (
       38,
-      Rows.any-gone (Syntax.tyRef Syntax.erased Syntax.mut (Syntax.tyInt Syntax.w8)),
+      Rows.any-gone
+          (Syntax.tyStruct
+          (List._∷_ 38 (List._∷_ 91 (List._∷_ 93 List.[])))
+          (Syntax.tcons
+          (Syntax.tyRef Syntax.erased Syntax.mut (Syntax.tyInt Syntax.w8))
+          (Syntax.tcons (Syntax.tyInt Syntax.w64) Syntax.tnil))),
     ) (List._∷_ (
       39,
-      Rows.any-gone
-          (Syntax.tyStruct
-          (List._∷_ 38 (List._∷_ 91 (List._∷_ 93 List.[])))
-          (Syntax.tcons
-          (Syntax.tyRef Syntax.erased Syntax.mut (Syntax.tyInt Syntax.w8))
-          (Syntax.tcons (Syntax.tyInt Syntax.w64) Syntax.tnil))),
+      Rows.any-gone (Syntax.tyRef Syntax.erased Syntax.mut (Syntax.tyInt Syntax.w8)),
     ) (List._∷_ (
       40,
+      Rows.any-gone
+          (Syntax.tyStruct
+          (List._∷_ 38 (List._∷_ 91 (List._∷_ 93 List.[])))
+          (Syntax.tcons
+          (Syntax.tyRef Syntax.erased Syntax.mut (Syntax.tyInt Syntax.w8))
+          (Syntax.tcons (Syntax.tyInt Syntax.w64) Syntax.tnil))),
+    ) List.[]))))))))
+
+abbrev pub t44 : List.List Row.Entry
+t44 = List._∷_ (
+  32,
+  Mut.mslice
+      (Referent.rtF (Referent.fInt Syntax.w8))
+      (Syntax.tyRef Syntax.erased Syntax.mut (Syntax.tyInt Syntax.w8))
+      19,
+)
+    (List._∷_
+    (33, Rows.any-gone (Syntax.tyRef Syntax.erased Syntax.mut (Syntax.tyInt Syntax.w8)))
+    (List._∷_ (
+      34,
+      Mut.mslice
+          (Referent.rtF (Referent.fInt Syntax.w8))
+          (Syntax.tyRef Syntax.erased Syntax.mut (Syntax.tyInt Syntax.w8))
+          20,
+    ) (List._∷_ (
+      35,
       Rows.any-gone (Syntax.tyRef Syntax.erased Syntax.mut (Syntax.tyInt Syntax.w8)),
     ) (List._∷_ (
-      41,
+      36,
       Rows.any-gone
           (Syntax.tyStruct
           (List._∷_ 38 (List._∷_ 91 (List._∷_ 93 List.[])))
@@ -4532,85 +4358,223 @@ t45 = List._∷_ (
           (Syntax.tyRef Syntax.erased Syntax.mut (Syntax.tyInt Syntax.w8))
           (Syntax.tcons (Syntax.tyInt Syntax.w64) Syntax.tnil))),
     ) (List._∷_ (
-      42,
+      37,
       Rows.any-gone (Syntax.tyRef Syntax.erased Syntax.mut (Syntax.tyInt Syntax.w8)),
     ) (List._∷_ (
-      43,
+      38,
       Rows.any-gone
           (Syntax.tyStruct
           (List._∷_ 38 (List._∷_ 91 (List._∷_ 93 List.[])))
           (Syntax.tcons
           (Syntax.tyRef Syntax.erased Syntax.mut (Syntax.tyInt Syntax.w8))
           (Syntax.tcons (Syntax.tyInt Syntax.w64) Syntax.tnil))),
-    ) List.[])))))))))))
+    ) (List._∷_ (
+      39,
+      Rows.any-gone (Syntax.tyRef Syntax.erased Syntax.mut (Syntax.tyInt Syntax.w8)),
+    ) (List._∷_ (
+      40,
+      Rows.any-gone
+          (Syntax.tyStruct
+          (List._∷_ 38 (List._∷_ 91 (List._∷_ 93 List.[])))
+          (Syntax.tcons
+          (Syntax.tyRef Syntax.erased Syntax.mut (Syntax.tyInt Syntax.w8))
+          (Syntax.tcons (Syntax.tyInt Syntax.w64) Syntax.tnil))),
+    ) List.[]))))))))
+
+abbrev pub t45 : List.List Row.Entry
+t45 = List._∷_ (0, Rows.any-gone (Syntax.tyInt Syntax.w64)) (List._∷_ (
+  1,
+  Rows.sslice
+      (Referent.rtF (Referent.fInt Syntax.w8))
+      (Syntax.tyRef (Syntax.named 0) Syntax.imm (Syntax.tyInt Syntax.w8))
+      0,
+) (List._∷_ (
+  2,
+  Reshare.mslice-owedS
+      Elem.R
+      (Syntax.tyRef (Syntax.named 1) Syntax.mut Elem.ty)
+      1
+      15
+      Row.off,
+) (List._∷_ (
+  3,
+  Relend.mslice-owed
+      (Referent.rtF (Referent.fInt Syntax.w64))
+      (Syntax.tyRef (Syntax.named 2) Syntax.mut (Syntax.tyInt Syntax.w64))
+      2
+      18
+      Row.off,
+) (List._∷_ (
+  4,
+  Reshare.mslice-owedS
+      (Referent.rtF (Referent.fInt Syntax.w64))
+      (Syntax.tyRef (Syntax.named 3) Syntax.mut (Syntax.tyInt Syntax.w64))
+      3
+      16
+      Row.off,
+) (List._∷_ (
+  5,
+  Reshare.mslice-owedS
+      (Referent.rtF (Referent.fInt Syntax.w8))
+      (Syntax.tyRef (Syntax.named 4) Syntax.mut (Syntax.tyInt Syntax.w8))
+      4
+      17
+      Row.off,
+) (List._∷_ (
+  6,
+  Mut.mslice
+      (Referent.rtF (Referent.fInt Syntax.w32))
+      (Syntax.tyRef (Syntax.named 5) Syntax.mut (Syntax.tyInt Syntax.w32))
+      5,
+) (List._∷_ (
+  7,
+  Part.mslice-owedP
+      (Referent.rtF (Referent.fInt Syntax.w8))
+      (Syntax.tyRef (Syntax.named 6) Syntax.mut (Syntax.tyInt Syntax.w8))
+      6
+      19
+      Row.off,
+) (List._∷_ (
+  8,
+  Part.mslice-owedP
+      (Referent.rtF (Referent.fInt Syntax.w8))
+      (Syntax.tyRef (Syntax.named 7) Syntax.mut (Syntax.tyInt Syntax.w8))
+      7
+      20
+      Row.off,
+) (List._∷_ (
+  9,
+  Part.mslice-owedP
+      (Referent.rtF (Referent.fInt Syntax.w8))
+      (Syntax.tyRef (Syntax.named 8) Syntax.mut (Syntax.tyInt Syntax.w8))
+      8
+      21
+      Row.off,
+) (List._∷_ (
+  10,
+  Mut.mslice
+      (Referent.rtF (Referent.fInt Syntax.w8))
+      (Syntax.tyRef (Syntax.named 9) Syntax.mut (Syntax.tyInt Syntax.w8))
+      9,
+) (List._∷_ (
+  11,
+  Mut.mslice
+      (Referent.rtF (Referent.fInt Syntax.w8))
+      (Syntax.tyRef (Syntax.named 10) Syntax.mut (Syntax.tyInt Syntax.w8))
+      10,
+) (List._∷_ (12, Rows.sc-here (Row.sInt Syntax.w64)) (List._∷_ (
+  13,
+  Rows.sc-here (Row.sInt Syntax.w64),
+) (List._∷_ (14, Rows.sc-here (Row.sInt Syntax.w64)) (List._∷_ (
+  15,
+  Rows.any-gone (Syntax.tyRef Syntax.erased Syntax.mut (Syntax.tyInt Syntax.w64)),
+) List.[])))))))))))))))
 
 abbrev pub t46 : List.List Row.Entry
 t46 = List._∷_ (
   32,
-  Rows.any-gone (Syntax.tyRef Syntax.erased Syntax.mut (Syntax.tyInt Syntax.w64)),
-) (List._∷_ (
-  33,
   Mut.mslice
-      (Referent.rtF (Referent.fInt Syntax.w64))
-      (Syntax.tyRef Syntax.erased Syntax.mut (Syntax.tyInt Syntax.w64))
+      (Referent.rtF (Referent.fInt Syntax.w8))
+      (Syntax.tyRef Syntax.erased Syntax.mut (Syntax.tyInt Syntax.w8))
       19,
 )
     (List._∷_
-    (34, Rows.any-gone (Syntax.tyRef Syntax.erased Syntax.mut (Syntax.tyInt Syntax.w8)))
+    (33, Rows.any-gone (Syntax.tyRef Syntax.erased Syntax.mut (Syntax.tyInt Syntax.w8)))
     (List._∷_ (
-      35,
+      34,
       Mut.mslice
           (Referent.rtF (Referent.fInt Syntax.w8))
           (Syntax.tyRef Syntax.erased Syntax.mut (Syntax.tyInt Syntax.w8))
           20,
     ) (List._∷_ (
+      35,
+      Relend.msptr
+          (Referent.rtF (Referent.fInt Syntax.w8))
+          (Syntax.tyRef Syntax.erased Syntax.mut (Syntax.tyInt Syntax.w8))
+          21,
+    ) (List._∷_ (
       36,
-      Rows.any-gone (Syntax.tyRef Syntax.erased Syntax.mut (Syntax.tyInt Syntax.w8)),
+      Rows.any-gone
+          (Syntax.tyStruct
+          (List._∷_ 38 (List._∷_ 91 (List._∷_ 93 List.[])))
+          (Syntax.tcons
+          (Syntax.tyRef Syntax.erased Syntax.mut (Syntax.tyInt Syntax.w8))
+          (Syntax.tcons (Syntax.tyInt Syntax.w64) Syntax.tnil))),
     ) (List._∷_ (
       37,
-      Rows.any-gone
-          (Syntax.tyStruct
-          (List._∷_ 38 (List._∷_ 91 (List._∷_ 93 List.[])))
-          (Syntax.tcons
-          (Syntax.tyRef Syntax.erased Syntax.mut (Syntax.tyInt Syntax.w8))
-          (Syntax.tcons (Syntax.tyInt Syntax.w64) Syntax.tnil))),
+      Rows.any-gone (Syntax.tyRef Syntax.erased Syntax.mut (Syntax.tyInt Syntax.w8)),
     ) (List._∷_ (
       38,
-      Rows.any-gone (Syntax.tyRef Syntax.erased Syntax.mut (Syntax.tyInt Syntax.w8)),
+      Rows.any-gone
+          (Syntax.tyStruct
+          (List._∷_ 38 (List._∷_ 91 (List._∷_ 93 List.[])))
+          (Syntax.tcons
+          (Syntax.tyRef Syntax.erased Syntax.mut (Syntax.tyInt Syntax.w8))
+          (Syntax.tcons (Syntax.tyInt Syntax.w64) Syntax.tnil))),
     ) (List._∷_ (
       39,
-      Rows.any-gone
-          (Syntax.tyStruct
-          (List._∷_ 38 (List._∷_ 91 (List._∷_ 93 List.[])))
-          (Syntax.tcons
-          (Syntax.tyRef Syntax.erased Syntax.mut (Syntax.tyInt Syntax.w8))
-          (Syntax.tcons (Syntax.tyInt Syntax.w64) Syntax.tnil))),
+      Rows.any-gone (Syntax.tyRef Syntax.erased Syntax.mut (Syntax.tyInt Syntax.w8)),
     ) (List._∷_ (
       40,
-      Rows.any-gone (Syntax.tyRef Syntax.erased Syntax.mut (Syntax.tyInt Syntax.w8)),
-    ) (List._∷_ (
-      41,
       Rows.any-gone
           (Syntax.tyStruct
           (List._∷_ 38 (List._∷_ 91 (List._∷_ 93 List.[])))
           (Syntax.tcons
           (Syntax.tyRef Syntax.erased Syntax.mut (Syntax.tyInt Syntax.w8))
           (Syntax.tcons (Syntax.tyInt Syntax.w64) Syntax.tnil))),
-    ) (List._∷_ (
-      42,
-      Rows.any-gone (Syntax.tyRef Syntax.erased Syntax.mut (Syntax.tyInt Syntax.w8)),
-    ) (List._∷_ (
-      43,
-      Rows.any-gone
-          (Syntax.tyStruct
-          (List._∷_ 38 (List._∷_ 91 (List._∷_ 93 List.[])))
-          (Syntax.tcons
-          (Syntax.tyRef Syntax.erased Syntax.mut (Syntax.tyInt Syntax.w8))
-          (Syntax.tcons (Syntax.tyInt Syntax.w64) Syntax.tnil))),
-    ) List.[])))))))))))
+    ) List.[]))))))))
 
 abbrev pub t47 : List.List Row.Entry
-t47 = List._∷_ (0, Rows.any-gone (Syntax.tyInt Syntax.w64)) (List._∷_ (
+t47 = List._∷_ (
+  32,
+  Mut.mslice
+      (Referent.rtF (Referent.fInt Syntax.w8))
+      (Syntax.tyRef Syntax.erased Syntax.mut (Syntax.tyInt Syntax.w8))
+      19,
+)
+    (List._∷_
+    (33, Rows.any-gone (Syntax.tyRef Syntax.erased Syntax.mut (Syntax.tyInt Syntax.w8)))
+    (List._∷_ (
+      34,
+      Mut.mslice
+          (Referent.rtF (Referent.fInt Syntax.w8))
+          (Syntax.tyRef Syntax.erased Syntax.mut (Syntax.tyInt Syntax.w8))
+          20,
+    ) (List._∷_ (
+      35,
+      Rows.any-gone (Syntax.tyRef Syntax.erased Syntax.mut (Syntax.tyInt Syntax.w8)),
+    ) (List._∷_ (
+      36,
+      Mut.mslice
+          (Referent.rtF (Referent.fInt Syntax.w8))
+          (Syntax.tyRef Syntax.erased Syntax.mut (Syntax.tyInt Syntax.w8))
+          21,
+    ) (List._∷_ (
+      37,
+      Rows.any-gone (Syntax.tyRef Syntax.erased Syntax.mut (Syntax.tyInt Syntax.w8)),
+    ) (List._∷_ (
+      38,
+      Rows.any-gone
+          (Syntax.tyStruct
+          (List._∷_ 38 (List._∷_ 91 (List._∷_ 93 List.[])))
+          (Syntax.tcons
+          (Syntax.tyRef Syntax.erased Syntax.mut (Syntax.tyInt Syntax.w8))
+          (Syntax.tcons (Syntax.tyInt Syntax.w64) Syntax.tnil))),
+    ) (List._∷_ (
+      39,
+      Rows.any-gone (Syntax.tyRef Syntax.erased Syntax.mut (Syntax.tyInt Syntax.w8)),
+    ) (List._∷_ (
+      40,
+      Rows.any-gone
+          (Syntax.tyStruct
+          (List._∷_ 38 (List._∷_ 91 (List._∷_ 93 List.[])))
+          (Syntax.tcons
+          (Syntax.tyRef Syntax.erased Syntax.mut (Syntax.tyInt Syntax.w8))
+          (Syntax.tcons (Syntax.tyInt Syntax.w64) Syntax.tnil))),
+    ) List.[]))))))))
+
+abbrev pub t48 : List.List Row.Entry
+t48 = List._∷_ (0, Rows.any-gone (Syntax.tyInt Syntax.w64)) (List._∷_ (
   1,
   Rows.sslice
       (Referent.rtF (Referent.fInt Syntax.w8))
@@ -4622,7 +4586,7 @@ t47 = List._∷_ (0, Rows.any-gone (Syntax.tyInt Syntax.w64)) (List._∷_ (
       Elem.R
       (Syntax.tyRef (Syntax.named 1) Syntax.mut Elem.ty)
       1
-      16
+      15
       Row.off,
 ) (List._∷_ (
   3,
@@ -4630,7 +4594,7 @@ t47 = List._∷_ (0, Rows.any-gone (Syntax.tyInt Syntax.w64)) (List._∷_ (
       (Referent.rtF (Referent.fInt Syntax.w64))
       (Syntax.tyRef (Syntax.named 2) Syntax.mut (Syntax.tyInt Syntax.w64))
       2
-      19
+      18
       Row.off,
 ) (List._∷_ (
   4,
@@ -4638,7 +4602,7 @@ t47 = List._∷_ (0, Rows.any-gone (Syntax.tyInt Syntax.w64)) (List._∷_ (
       (Referent.rtF (Referent.fInt Syntax.w64))
       (Syntax.tyRef (Syntax.named 3) Syntax.mut (Syntax.tyInt Syntax.w64))
       3
-      17
+      16
       Row.off,
 ) (List._∷_ (
   5,
@@ -4646,7 +4610,7 @@ t47 = List._∷_ (0, Rows.any-gone (Syntax.tyInt Syntax.w64)) (List._∷_ (
       (Referent.rtF (Referent.fInt Syntax.w8))
       (Syntax.tyRef (Syntax.named 4) Syntax.mut (Syntax.tyInt Syntax.w8))
       4
-      18
+      17
       Row.off,
 ) (List._∷_ (
   6,
@@ -4660,7 +4624,7 @@ t47 = List._∷_ (0, Rows.any-gone (Syntax.tyInt Syntax.w64)) (List._∷_ (
       (Referent.rtF (Referent.fInt Syntax.w8))
       (Syntax.tyRef (Syntax.named 6) Syntax.mut (Syntax.tyInt Syntax.w8))
       6
-      20
+      19
       Row.off,
 ) (List._∷_ (
   8,
@@ -4668,20 +4632,24 @@ t47 = List._∷_ (0, Rows.any-gone (Syntax.tyInt Syntax.w64)) (List._∷_ (
       (Referent.rtF (Referent.fInt Syntax.w8))
       (Syntax.tyRef (Syntax.named 7) Syntax.mut (Syntax.tyInt Syntax.w8))
       7
-      21
+      20
       Row.off,
 ) (List._∷_ (
   9,
-  Mut.mslice
+  Part.mslice-owedP
       (Referent.rtF (Referent.fInt Syntax.w8))
       (Syntax.tyRef (Syntax.named 8) Syntax.mut (Syntax.tyInt Syntax.w8))
-      8,
+      8
+      21
+      Row.off,
 ) (List._∷_ (
   10,
-  Mut.mslice
+  Part.mslice-owedP
       (Referent.rtF (Referent.fInt Syntax.w8))
       (Syntax.tyRef (Syntax.named 9) Syntax.mut (Syntax.tyInt Syntax.w8))
-      9,
+      9
+      22
+      Row.off,
 ) (List._∷_ (
   11,
   Mut.mslice
@@ -4695,140 +4663,108 @@ t47 = List._∷_ (0, Rows.any-gone (Syntax.tyInt Syntax.w64)) (List._∷_ (
   15,
   Rows.any-gone (Syntax.tyRef Syntax.erased Syntax.mut (Syntax.tyInt Syntax.w64)),
 ) List.[])))))))))))))))
-
-abbrev pub t48 : List.List Row.Entry
-t48 = List._∷_ (
-  32,
-  Rows.any-gone (Syntax.tyRef Syntax.erased Syntax.mut (Syntax.tyInt Syntax.w64)),
-) (List._∷_ (
-  33,
-  Mut.mslice
-      (Referent.rtF (Referent.fInt Syntax.w64))
-      (Syntax.tyRef Syntax.erased Syntax.mut (Syntax.tyInt Syntax.w64))
-      19,
-)
-    (List._∷_
-    (34, Rows.any-gone (Syntax.tyRef Syntax.erased Syntax.mut (Syntax.tyInt Syntax.w8)))
-    (List._∷_ (
-      35,
-      Mut.mslice
-          (Referent.rtF (Referent.fInt Syntax.w8))
-          (Syntax.tyRef Syntax.erased Syntax.mut (Syntax.tyInt Syntax.w8))
-          20,
-    ) (List._∷_ (
-      36,
-      Relend.msptr
-          (Referent.rtF (Referent.fInt Syntax.w8))
-          (Syntax.tyRef Syntax.erased Syntax.mut (Syntax.tyInt Syntax.w8))
-          21,
-    ) (List._∷_ (
-      37,
-      Rows.any-gone
-          (Syntax.tyStruct
-          (List._∷_ 38 (List._∷_ 91 (List._∷_ 93 List.[])))
-          (Syntax.tcons
-          (Syntax.tyRef Syntax.erased Syntax.mut (Syntax.tyInt Syntax.w8))
-          (Syntax.tcons (Syntax.tyInt Syntax.w64) Syntax.tnil))),
-    ) (List._∷_ (
-      38,
-      Rows.any-gone (Syntax.tyRef Syntax.erased Syntax.mut (Syntax.tyInt Syntax.w8)),
-    ) (List._∷_ (
-      39,
-      Rows.any-gone
-          (Syntax.tyStruct
-          (List._∷_ 38 (List._∷_ 91 (List._∷_ 93 List.[])))
-          (Syntax.tcons
-          (Syntax.tyRef Syntax.erased Syntax.mut (Syntax.tyInt Syntax.w8))
-          (Syntax.tcons (Syntax.tyInt Syntax.w64) Syntax.tnil))),
-    ) (List._∷_ (
-      40,
-      Rows.any-gone (Syntax.tyRef Syntax.erased Syntax.mut (Syntax.tyInt Syntax.w8)),
-    ) (List._∷_ (
-      41,
-      Rows.any-gone
-          (Syntax.tyStruct
-          (List._∷_ 38 (List._∷_ 91 (List._∷_ 93 List.[])))
-          (Syntax.tcons
-          (Syntax.tyRef Syntax.erased Syntax.mut (Syntax.tyInt Syntax.w8))
-          (Syntax.tcons (Syntax.tyInt Syntax.w64) Syntax.tnil))),
-    ) (List._∷_ (
-      42,
-      Rows.any-gone (Syntax.tyRef Syntax.erased Syntax.mut (Syntax.tyInt Syntax.w8)),
-    ) (List._∷_ (
-      43,
-      Rows.any-gone
-          (Syntax.tyStruct
-          (List._∷_ 38 (List._∷_ 91 (List._∷_ 93 List.[])))
-          (Syntax.tcons
-          (Syntax.tyRef Syntax.erased Syntax.mut (Syntax.tyInt Syntax.w8))
-          (Syntax.tcons (Syntax.tyInt Syntax.w64) Syntax.tnil))),
-    ) List.[])))))))))))
 
 abbrev pub t49 : List.List Row.Entry
 t49 = List._∷_ (
   32,
-  Rows.any-gone (Syntax.tyRef Syntax.erased Syntax.mut (Syntax.tyInt Syntax.w64)),
-) (List._∷_ (
-  33,
   Mut.mslice
-      (Referent.rtF (Referent.fInt Syntax.w64))
-      (Syntax.tyRef Syntax.erased Syntax.mut (Syntax.tyInt Syntax.w64))
+      (Referent.rtF (Referent.fInt Syntax.w8))
+      (Syntax.tyRef Syntax.erased Syntax.mut (Syntax.tyInt Syntax.w8))
       19,
 )
     (List._∷_
-    (34, Rows.any-gone (Syntax.tyRef Syntax.erased Syntax.mut (Syntax.tyInt Syntax.w8)))
+    (33, Rows.any-gone (Syntax.tyRef Syntax.erased Syntax.mut (Syntax.tyInt Syntax.w8)))
     (List._∷_ (
-      35,
+      34,
       Mut.mslice
           (Referent.rtF (Referent.fInt Syntax.w8))
           (Syntax.tyRef Syntax.erased Syntax.mut (Syntax.tyInt Syntax.w8))
           20,
     ) (List._∷_ (
-      36,
+      35,
       Rows.any-gone (Syntax.tyRef Syntax.erased Syntax.mut (Syntax.tyInt Syntax.w8)),
     ) (List._∷_ (
-      37,
+      36,
       Mut.mslice
           (Referent.rtF (Referent.fInt Syntax.w8))
           (Syntax.tyRef Syntax.erased Syntax.mut (Syntax.tyInt Syntax.w8))
           21,
     ) (List._∷_ (
+      37,
+      Relend.msptr
+          (Referent.rtF (Referent.fInt Syntax.w8))
+          (Syntax.tyRef Syntax.erased Syntax.mut (Syntax.tyInt Syntax.w8))
+          22,
+    ) (List._∷_ (
       38,
-      Rows.any-gone (Syntax.tyRef Syntax.erased Syntax.mut (Syntax.tyInt Syntax.w8)),
+      Rows.any-gone
+          (Syntax.tyStruct
+          (List._∷_ 38 (List._∷_ 91 (List._∷_ 93 List.[])))
+          (Syntax.tcons
+          (Syntax.tyRef Syntax.erased Syntax.mut (Syntax.tyInt Syntax.w8))
+          (Syntax.tcons (Syntax.tyInt Syntax.w64) Syntax.tnil))),
     ) (List._∷_ (
       39,
-      Rows.any-gone
-          (Syntax.tyStruct
-          (List._∷_ 38 (List._∷_ 91 (List._∷_ 93 List.[])))
-          (Syntax.tcons
-          (Syntax.tyRef Syntax.erased Syntax.mut (Syntax.tyInt Syntax.w8))
-          (Syntax.tcons (Syntax.tyInt Syntax.w64) Syntax.tnil))),
+      Rows.any-gone (Syntax.tyRef Syntax.erased Syntax.mut (Syntax.tyInt Syntax.w8)),
     ) (List._∷_ (
       40,
-      Rows.any-gone (Syntax.tyRef Syntax.erased Syntax.mut (Syntax.tyInt Syntax.w8)),
-    ) (List._∷_ (
-      41,
       Rows.any-gone
           (Syntax.tyStruct
           (List._∷_ 38 (List._∷_ 91 (List._∷_ 93 List.[])))
           (Syntax.tcons
           (Syntax.tyRef Syntax.erased Syntax.mut (Syntax.tyInt Syntax.w8))
           (Syntax.tcons (Syntax.tyInt Syntax.w64) Syntax.tnil))),
-    ) (List._∷_ (
-      42,
-      Rows.any-gone (Syntax.tyRef Syntax.erased Syntax.mut (Syntax.tyInt Syntax.w8)),
-    ) (List._∷_ (
-      43,
-      Rows.any-gone
-          (Syntax.tyStruct
-          (List._∷_ 38 (List._∷_ 91 (List._∷_ 93 List.[])))
-          (Syntax.tcons
-          (Syntax.tyRef Syntax.erased Syntax.mut (Syntax.tyInt Syntax.w8))
-          (Syntax.tcons (Syntax.tyInt Syntax.w64) Syntax.tnil))),
-    ) List.[])))))))))))
+    ) List.[]))))))))
 
 abbrev pub t50 : List.List Row.Entry
-t50 = List._∷_ (0, Rows.any-gone (Syntax.tyInt Syntax.w64)) (List._∷_ (
+t50 = List._∷_ (
+  32,
+  Mut.mslice
+      (Referent.rtF (Referent.fInt Syntax.w8))
+      (Syntax.tyRef Syntax.erased Syntax.mut (Syntax.tyInt Syntax.w8))
+      19,
+)
+    (List._∷_
+    (33, Rows.any-gone (Syntax.tyRef Syntax.erased Syntax.mut (Syntax.tyInt Syntax.w8)))
+    (List._∷_ (
+      34,
+      Mut.mslice
+          (Referent.rtF (Referent.fInt Syntax.w8))
+          (Syntax.tyRef Syntax.erased Syntax.mut (Syntax.tyInt Syntax.w8))
+          20,
+    ) (List._∷_ (
+      35,
+      Rows.any-gone (Syntax.tyRef Syntax.erased Syntax.mut (Syntax.tyInt Syntax.w8)),
+    ) (List._∷_ (
+      36,
+      Mut.mslice
+          (Referent.rtF (Referent.fInt Syntax.w8))
+          (Syntax.tyRef Syntax.erased Syntax.mut (Syntax.tyInt Syntax.w8))
+          21,
+    ) (List._∷_ (
+      37,
+      Rows.any-gone (Syntax.tyRef Syntax.erased Syntax.mut (Syntax.tyInt Syntax.w8)),
+    ) (List._∷_ (
+      38,
+      Mut.mslice
+          (Referent.rtF (Referent.fInt Syntax.w8))
+          (Syntax.tyRef Syntax.erased Syntax.mut (Syntax.tyInt Syntax.w8))
+          22,
+    ) (List._∷_ (
+      39,
+      Rows.any-gone (Syntax.tyRef Syntax.erased Syntax.mut (Syntax.tyInt Syntax.w8)),
+    ) (List._∷_ (
+      40,
+      Rows.any-gone
+          (Syntax.tyStruct
+          (List._∷_ 38 (List._∷_ 91 (List._∷_ 93 List.[])))
+          (Syntax.tcons
+          (Syntax.tyRef Syntax.erased Syntax.mut (Syntax.tyInt Syntax.w8))
+          (Syntax.tcons (Syntax.tyInt Syntax.w64) Syntax.tnil))),
+    ) List.[]))))))))
+
+abbrev pub t51 : List.List Row.Entry
+t51 = List._∷_ (0, Rows.any-gone (Syntax.tyInt Syntax.w64)) (List._∷_ (
   1,
   Rows.sslice
       (Referent.rtF (Referent.fInt Syntax.w8))
@@ -4840,7 +4776,7 @@ t50 = List._∷_ (0, Rows.any-gone (Syntax.tyInt Syntax.w64)) (List._∷_ (
       Elem.R
       (Syntax.tyRef (Syntax.named 1) Syntax.mut Elem.ty)
       1
-      16
+      15
       Row.off,
 ) (List._∷_ (
   3,
@@ -4848,7 +4784,7 @@ t50 = List._∷_ (0, Rows.any-gone (Syntax.tyInt Syntax.w64)) (List._∷_ (
       (Referent.rtF (Referent.fInt Syntax.w64))
       (Syntax.tyRef (Syntax.named 2) Syntax.mut (Syntax.tyInt Syntax.w64))
       2
-      19
+      18
       Row.off,
 ) (List._∷_ (
   4,
@@ -4856,7 +4792,7 @@ t50 = List._∷_ (0, Rows.any-gone (Syntax.tyInt Syntax.w64)) (List._∷_ (
       (Referent.rtF (Referent.fInt Syntax.w64))
       (Syntax.tyRef (Syntax.named 3) Syntax.mut (Syntax.tyInt Syntax.w64))
       3
-      17
+      16
       Row.off,
 ) (List._∷_ (
   5,
@@ -4864,7 +4800,7 @@ t50 = List._∷_ (0, Rows.any-gone (Syntax.tyInt Syntax.w64)) (List._∷_ (
       (Referent.rtF (Referent.fInt Syntax.w8))
       (Syntax.tyRef (Syntax.named 4) Syntax.mut (Syntax.tyInt Syntax.w8))
       4
-      18
+      17
       Row.off,
 ) (List._∷_ (
   6,
@@ -4878,7 +4814,7 @@ t50 = List._∷_ (0, Rows.any-gone (Syntax.tyInt Syntax.w64)) (List._∷_ (
       (Referent.rtF (Referent.fInt Syntax.w8))
       (Syntax.tyRef (Syntax.named 6) Syntax.mut (Syntax.tyInt Syntax.w8))
       6
-      20
+      19
       Row.off,
 ) (List._∷_ (
   8,
@@ -4886,7 +4822,7 @@ t50 = List._∷_ (0, Rows.any-gone (Syntax.tyInt Syntax.w64)) (List._∷_ (
       (Referent.rtF (Referent.fInt Syntax.w8))
       (Syntax.tyRef (Syntax.named 7) Syntax.mut (Syntax.tyInt Syntax.w8))
       7
-      21
+      20
       Row.off,
 ) (List._∷_ (
   9,
@@ -4894,20 +4830,24 @@ t50 = List._∷_ (0, Rows.any-gone (Syntax.tyInt Syntax.w64)) (List._∷_ (
       (Referent.rtF (Referent.fInt Syntax.w8))
       (Syntax.tyRef (Syntax.named 8) Syntax.mut (Syntax.tyInt Syntax.w8))
       8
-      22
+      21
       Row.off,
 ) (List._∷_ (
   10,
-  Mut.mslice
+  Part.mslice-owedP
       (Referent.rtF (Referent.fInt Syntax.w8))
       (Syntax.tyRef (Syntax.named 9) Syntax.mut (Syntax.tyInt Syntax.w8))
-      9,
+      9
+      22
+      Row.off,
 ) (List._∷_ (
   11,
-  Mut.mslice
+  Relend.mslice-owed
       (Referent.rtF (Referent.fInt Syntax.w8))
       (Syntax.tyRef (Syntax.named 10) Syntax.mut (Syntax.tyInt Syntax.w8))
-      10,
+      10
+      23
+      Row.off,
 ) (List._∷_ (12, Rows.sc-here (Row.sInt Syntax.w64)) (List._∷_ (
   13,
   Rows.sc-here (Row.sInt Syntax.w64),
@@ -4915,136 +4855,104 @@ t50 = List._∷_ (0, Rows.any-gone (Syntax.tyInt Syntax.w64)) (List._∷_ (
   15,
   Rows.any-gone (Syntax.tyRef Syntax.erased Syntax.mut (Syntax.tyInt Syntax.w64)),
 ) List.[])))))))))))))))
-
-abbrev pub t51 : List.List Row.Entry
-t51 = List._∷_ (
-  32,
-  Rows.any-gone (Syntax.tyRef Syntax.erased Syntax.mut (Syntax.tyInt Syntax.w64)),
-) (List._∷_ (
-  33,
-  Mut.mslice
-      (Referent.rtF (Referent.fInt Syntax.w64))
-      (Syntax.tyRef Syntax.erased Syntax.mut (Syntax.tyInt Syntax.w64))
-      19,
-)
-    (List._∷_
-    (34, Rows.any-gone (Syntax.tyRef Syntax.erased Syntax.mut (Syntax.tyInt Syntax.w8)))
-    (List._∷_ (
-      35,
-      Mut.mslice
-          (Referent.rtF (Referent.fInt Syntax.w8))
-          (Syntax.tyRef Syntax.erased Syntax.mut (Syntax.tyInt Syntax.w8))
-          20,
-    ) (List._∷_ (
-      36,
-      Rows.any-gone (Syntax.tyRef Syntax.erased Syntax.mut (Syntax.tyInt Syntax.w8)),
-    ) (List._∷_ (
-      37,
-      Mut.mslice
-          (Referent.rtF (Referent.fInt Syntax.w8))
-          (Syntax.tyRef Syntax.erased Syntax.mut (Syntax.tyInt Syntax.w8))
-          21,
-    ) (List._∷_ (
-      38,
-      Relend.msptr
-          (Referent.rtF (Referent.fInt Syntax.w8))
-          (Syntax.tyRef Syntax.erased Syntax.mut (Syntax.tyInt Syntax.w8))
-          22,
-    ) (List._∷_ (
-      39,
-      Rows.any-gone
-          (Syntax.tyStruct
-          (List._∷_ 38 (List._∷_ 91 (List._∷_ 93 List.[])))
-          (Syntax.tcons
-          (Syntax.tyRef Syntax.erased Syntax.mut (Syntax.tyInt Syntax.w8))
-          (Syntax.tcons (Syntax.tyInt Syntax.w64) Syntax.tnil))),
-    ) (List._∷_ (
-      40,
-      Rows.any-gone (Syntax.tyRef Syntax.erased Syntax.mut (Syntax.tyInt Syntax.w8)),
-    ) (List._∷_ (
-      41,
-      Rows.any-gone
-          (Syntax.tyStruct
-          (List._∷_ 38 (List._∷_ 91 (List._∷_ 93 List.[])))
-          (Syntax.tcons
-          (Syntax.tyRef Syntax.erased Syntax.mut (Syntax.tyInt Syntax.w8))
-          (Syntax.tcons (Syntax.tyInt Syntax.w64) Syntax.tnil))),
-    ) (List._∷_ (
-      42,
-      Rows.any-gone (Syntax.tyRef Syntax.erased Syntax.mut (Syntax.tyInt Syntax.w8)),
-    ) (List._∷_ (
-      43,
-      Rows.any-gone
-          (Syntax.tyStruct
-          (List._∷_ 38 (List._∷_ 91 (List._∷_ 93 List.[])))
-          (Syntax.tcons
-          (Syntax.tyRef Syntax.erased Syntax.mut (Syntax.tyInt Syntax.w8))
-          (Syntax.tcons (Syntax.tyInt Syntax.w64) Syntax.tnil))),
-    ) List.[])))))))))))
 
 abbrev pub t52 : List.List Row.Entry
 t52 = List._∷_ (
   32,
-  Rows.any-gone (Syntax.tyRef Syntax.erased Syntax.mut (Syntax.tyInt Syntax.w64)),
-) (List._∷_ (
-  33,
   Mut.mslice
-      (Referent.rtF (Referent.fInt Syntax.w64))
-      (Syntax.tyRef Syntax.erased Syntax.mut (Syntax.tyInt Syntax.w64))
+      (Referent.rtF (Referent.fInt Syntax.w8))
+      (Syntax.tyRef Syntax.erased Syntax.mut (Syntax.tyInt Syntax.w8))
       19,
 )
     (List._∷_
-    (34, Rows.any-gone (Syntax.tyRef Syntax.erased Syntax.mut (Syntax.tyInt Syntax.w8)))
+    (33, Rows.any-gone (Syntax.tyRef Syntax.erased Syntax.mut (Syntax.tyInt Syntax.w8)))
     (List._∷_ (
-      35,
+      34,
       Mut.mslice
           (Referent.rtF (Referent.fInt Syntax.w8))
           (Syntax.tyRef Syntax.erased Syntax.mut (Syntax.tyInt Syntax.w8))
           20,
     ) (List._∷_ (
-      36,
+      35,
       Rows.any-gone (Syntax.tyRef Syntax.erased Syntax.mut (Syntax.tyInt Syntax.w8)),
     ) (List._∷_ (
-      37,
+      36,
       Mut.mslice
           (Referent.rtF (Referent.fInt Syntax.w8))
           (Syntax.tyRef Syntax.erased Syntax.mut (Syntax.tyInt Syntax.w8))
           21,
     ) (List._∷_ (
-      38,
+      37,
       Rows.any-gone (Syntax.tyRef Syntax.erased Syntax.mut (Syntax.tyInt Syntax.w8)),
     ) (List._∷_ (
-      39,
+      38,
       Mut.mslice
           (Referent.rtF (Referent.fInt Syntax.w8))
           (Syntax.tyRef Syntax.erased Syntax.mut (Syntax.tyInt Syntax.w8))
           22,
     ) (List._∷_ (
+      39,
+      Relend.msptr
+          (Referent.rtF (Referent.fInt Syntax.w8))
+          (Syntax.tyRef Syntax.erased Syntax.mut (Syntax.tyInt Syntax.w8))
+          23,
+    ) (List._∷_ (
       40,
-      Rows.any-gone (Syntax.tyRef Syntax.erased Syntax.mut (Syntax.tyInt Syntax.w8)),
-    ) (List._∷_ (
-      41,
       Rows.any-gone
           (Syntax.tyStruct
           (List._∷_ 38 (List._∷_ 91 (List._∷_ 93 List.[])))
           (Syntax.tcons
           (Syntax.tyRef Syntax.erased Syntax.mut (Syntax.tyInt Syntax.w8))
           (Syntax.tcons (Syntax.tyInt Syntax.w64) Syntax.tnil))),
-    ) (List._∷_ (
-      42,
-      Rows.any-gone (Syntax.tyRef Syntax.erased Syntax.mut (Syntax.tyInt Syntax.w8)),
-    ) (List._∷_ (
-      43,
-      Rows.any-gone
-          (Syntax.tyStruct
-          (List._∷_ 38 (List._∷_ 91 (List._∷_ 93 List.[])))
-          (Syntax.tcons
-          (Syntax.tyRef Syntax.erased Syntax.mut (Syntax.tyInt Syntax.w8))
-          (Syntax.tcons (Syntax.tyInt Syntax.w64) Syntax.tnil))),
-    ) List.[])))))))))))
+    ) List.[]))))))))
 
 abbrev pub t53 : List.List Row.Entry
-t53 = List._∷_ (0, Rows.any-gone (Syntax.tyInt Syntax.w64)) (List._∷_ (
+t53 = List._∷_ (
+  32,
+  Mut.mslice
+      (Referent.rtF (Referent.fInt Syntax.w8))
+      (Syntax.tyRef Syntax.erased Syntax.mut (Syntax.tyInt Syntax.w8))
+      19,
+)
+    (List._∷_
+    (33, Rows.any-gone (Syntax.tyRef Syntax.erased Syntax.mut (Syntax.tyInt Syntax.w8)))
+    (List._∷_ (
+      34,
+      Mut.mslice
+          (Referent.rtF (Referent.fInt Syntax.w8))
+          (Syntax.tyRef Syntax.erased Syntax.mut (Syntax.tyInt Syntax.w8))
+          20,
+    ) (List._∷_ (
+      35,
+      Rows.any-gone (Syntax.tyRef Syntax.erased Syntax.mut (Syntax.tyInt Syntax.w8)),
+    ) (List._∷_ (
+      36,
+      Mut.mslice
+          (Referent.rtF (Referent.fInt Syntax.w8))
+          (Syntax.tyRef Syntax.erased Syntax.mut (Syntax.tyInt Syntax.w8))
+          21,
+    ) (List._∷_ (
+      37,
+      Rows.any-gone (Syntax.tyRef Syntax.erased Syntax.mut (Syntax.tyInt Syntax.w8)),
+    ) (List._∷_ (
+      38,
+      Mut.mslice
+          (Referent.rtF (Referent.fInt Syntax.w8))
+          (Syntax.tyRef Syntax.erased Syntax.mut (Syntax.tyInt Syntax.w8))
+          22,
+    ) (List._∷_ (
+      39,
+      Rows.any-gone (Syntax.tyRef Syntax.erased Syntax.mut (Syntax.tyInt Syntax.w8)),
+    ) (List._∷_ (
+      40,
+      Mut.mslice
+          (Referent.rtF (Referent.fInt Syntax.w8))
+          (Syntax.tyRef Syntax.erased Syntax.mut (Syntax.tyInt Syntax.w8))
+          23,
+    ) List.[]))))))))
+
+abbrev pub t54 : List.List Row.Entry
+t54 = List._∷_ (0, Rows.sc-here (Row.sInt Syntax.w64)) (List._∷_ (
   1,
   Rows.sslice
       (Referent.rtF (Referent.fInt Syntax.w8))
@@ -5056,7 +4964,7 @@ t53 = List._∷_ (0, Rows.any-gone (Syntax.tyInt Syntax.w64)) (List._∷_ (
       Elem.R
       (Syntax.tyRef (Syntax.named 1) Syntax.mut Elem.ty)
       1
-      16
+      15
       Row.off,
 ) (List._∷_ (
   3,
@@ -5064,7 +4972,7 @@ t53 = List._∷_ (0, Rows.any-gone (Syntax.tyInt Syntax.w64)) (List._∷_ (
       (Referent.rtF (Referent.fInt Syntax.w64))
       (Syntax.tyRef (Syntax.named 2) Syntax.mut (Syntax.tyInt Syntax.w64))
       2
-      19
+      18
       Row.off,
 ) (List._∷_ (
   4,
@@ -5072,7 +4980,7 @@ t53 = List._∷_ (0, Rows.any-gone (Syntax.tyInt Syntax.w64)) (List._∷_ (
       (Referent.rtF (Referent.fInt Syntax.w64))
       (Syntax.tyRef (Syntax.named 3) Syntax.mut (Syntax.tyInt Syntax.w64))
       3
-      17
+      16
       Row.off,
 ) (List._∷_ (
   5,
@@ -5080,7 +4988,7 @@ t53 = List._∷_ (0, Rows.any-gone (Syntax.tyInt Syntax.w64)) (List._∷_ (
       (Referent.rtF (Referent.fInt Syntax.w8))
       (Syntax.tyRef (Syntax.named 4) Syntax.mut (Syntax.tyInt Syntax.w8))
       4
-      18
+      17
       Row.off,
 ) (List._∷_ (
   6,
@@ -5094,7 +5002,7 @@ t53 = List._∷_ (0, Rows.any-gone (Syntax.tyInt Syntax.w64)) (List._∷_ (
       (Referent.rtF (Referent.fInt Syntax.w8))
       (Syntax.tyRef (Syntax.named 6) Syntax.mut (Syntax.tyInt Syntax.w8))
       6
-      20
+      19
       Row.off,
 ) (List._∷_ (
   8,
@@ -5102,7 +5010,7 @@ t53 = List._∷_ (0, Rows.any-gone (Syntax.tyInt Syntax.w64)) (List._∷_ (
       (Referent.rtF (Referent.fInt Syntax.w8))
       (Syntax.tyRef (Syntax.named 7) Syntax.mut (Syntax.tyInt Syntax.w8))
       7
-      21
+      20
       Row.off,
 ) (List._∷_ (
   9,
@@ -5110,7 +5018,7 @@ t53 = List._∷_ (0, Rows.any-gone (Syntax.tyInt Syntax.w64)) (List._∷_ (
       (Referent.rtF (Referent.fInt Syntax.w8))
       (Syntax.tyRef (Syntax.named 8) Syntax.mut (Syntax.tyInt Syntax.w8))
       8
-      22
+      21
       Row.off,
 ) (List._∷_ (
   10,
@@ -5118,14 +5026,16 @@ t53 = List._∷_ (0, Rows.any-gone (Syntax.tyInt Syntax.w64)) (List._∷_ (
       (Referent.rtF (Referent.fInt Syntax.w8))
       (Syntax.tyRef (Syntax.named 9) Syntax.mut (Syntax.tyInt Syntax.w8))
       9
-      23
+      22
       Row.off,
 ) (List._∷_ (
   11,
-  Mut.mslice
+  Relend.mslice-owed
       (Referent.rtF (Referent.fInt Syntax.w8))
       (Syntax.tyRef (Syntax.named 10) Syntax.mut (Syntax.tyInt Syntax.w8))
-      10,
+      10
+      23
+      Row.off,
 ) (List._∷_ (12, Rows.sc-here (Row.sInt Syntax.w64)) (List._∷_ (
   13,
   Rows.sc-here (Row.sInt Syntax.w64),
@@ -5133,488 +5043,9 @@ t53 = List._∷_ (0, Rows.any-gone (Syntax.tyInt Syntax.w64)) (List._∷_ (
   15,
   Rows.any-gone (Syntax.tyRef Syntax.erased Syntax.mut (Syntax.tyInt Syntax.w64)),
 ) List.[])))))))))))))))
-
-abbrev pub t54 : List.List Row.Entry
-t54 = List._∷_ (
-  32,
-  Rows.any-gone (Syntax.tyRef Syntax.erased Syntax.mut (Syntax.tyInt Syntax.w64)),
-) (List._∷_ (
-  33,
-  Mut.mslice
-      (Referent.rtF (Referent.fInt Syntax.w64))
-      (Syntax.tyRef Syntax.erased Syntax.mut (Syntax.tyInt Syntax.w64))
-      19,
-)
-    (List._∷_
-    (34, Rows.any-gone (Syntax.tyRef Syntax.erased Syntax.mut (Syntax.tyInt Syntax.w8)))
-    (List._∷_ (
-      35,
-      Mut.mslice
-          (Referent.rtF (Referent.fInt Syntax.w8))
-          (Syntax.tyRef Syntax.erased Syntax.mut (Syntax.tyInt Syntax.w8))
-          20,
-    ) (List._∷_ (
-      36,
-      Rows.any-gone (Syntax.tyRef Syntax.erased Syntax.mut (Syntax.tyInt Syntax.w8)),
-    ) (List._∷_ (
-      37,
-      Mut.mslice
-          (Referent.rtF (Referent.fInt Syntax.w8))
-          (Syntax.tyRef Syntax.erased Syntax.mut (Syntax.tyInt Syntax.w8))
-          21,
-    ) (List._∷_ (
-      38,
-      Rows.any-gone (Syntax.tyRef Syntax.erased Syntax.mut (Syntax.tyInt Syntax.w8)),
-    ) (List._∷_ (
-      39,
-      Mut.mslice
-          (Referent.rtF (Referent.fInt Syntax.w8))
-          (Syntax.tyRef Syntax.erased Syntax.mut (Syntax.tyInt Syntax.w8))
-          22,
-    ) (List._∷_ (
-      40,
-      Relend.msptr
-          (Referent.rtF (Referent.fInt Syntax.w8))
-          (Syntax.tyRef Syntax.erased Syntax.mut (Syntax.tyInt Syntax.w8))
-          23,
-    ) (List._∷_ (
-      41,
-      Rows.any-gone
-          (Syntax.tyStruct
-          (List._∷_ 38 (List._∷_ 91 (List._∷_ 93 List.[])))
-          (Syntax.tcons
-          (Syntax.tyRef Syntax.erased Syntax.mut (Syntax.tyInt Syntax.w8))
-          (Syntax.tcons (Syntax.tyInt Syntax.w64) Syntax.tnil))),
-    ) (List._∷_ (
-      42,
-      Rows.any-gone (Syntax.tyRef Syntax.erased Syntax.mut (Syntax.tyInt Syntax.w8)),
-    ) (List._∷_ (
-      43,
-      Rows.any-gone
-          (Syntax.tyStruct
-          (List._∷_ 38 (List._∷_ 91 (List._∷_ 93 List.[])))
-          (Syntax.tcons
-          (Syntax.tyRef Syntax.erased Syntax.mut (Syntax.tyInt Syntax.w8))
-          (Syntax.tcons (Syntax.tyInt Syntax.w64) Syntax.tnil))),
-    ) List.[])))))))))))
 
 abbrev pub t55 : List.List Row.Entry
 t55 = List._∷_ (
-  32,
-  Rows.any-gone (Syntax.tyRef Syntax.erased Syntax.mut (Syntax.tyInt Syntax.w64)),
-) (List._∷_ (
-  33,
-  Mut.mslice
-      (Referent.rtF (Referent.fInt Syntax.w64))
-      (Syntax.tyRef Syntax.erased Syntax.mut (Syntax.tyInt Syntax.w64))
-      19,
-)
-    (List._∷_
-    (34, Rows.any-gone (Syntax.tyRef Syntax.erased Syntax.mut (Syntax.tyInt Syntax.w8)))
-    (List._∷_ (
-      35,
-      Mut.mslice
-          (Referent.rtF (Referent.fInt Syntax.w8))
-          (Syntax.tyRef Syntax.erased Syntax.mut (Syntax.tyInt Syntax.w8))
-          20,
-    ) (List._∷_ (
-      36,
-      Rows.any-gone (Syntax.tyRef Syntax.erased Syntax.mut (Syntax.tyInt Syntax.w8)),
-    ) (List._∷_ (
-      37,
-      Mut.mslice
-          (Referent.rtF (Referent.fInt Syntax.w8))
-          (Syntax.tyRef Syntax.erased Syntax.mut (Syntax.tyInt Syntax.w8))
-          21,
-    ) (List._∷_ (
-      38,
-      Rows.any-gone (Syntax.tyRef Syntax.erased Syntax.mut (Syntax.tyInt Syntax.w8)),
-    ) (List._∷_ (
-      39,
-      Mut.mslice
-          (Referent.rtF (Referent.fInt Syntax.w8))
-          (Syntax.tyRef Syntax.erased Syntax.mut (Syntax.tyInt Syntax.w8))
-          22,
-    ) (List._∷_ (
-      40,
-      Rows.any-gone (Syntax.tyRef Syntax.erased Syntax.mut (Syntax.tyInt Syntax.w8)),
-    ) (List._∷_ (
-      41,
-      Mut.mslice
-          (Referent.rtF (Referent.fInt Syntax.w8))
-          (Syntax.tyRef Syntax.erased Syntax.mut (Syntax.tyInt Syntax.w8))
-          23,
-    ) (List._∷_ (
-      42,
-      Rows.any-gone (Syntax.tyRef Syntax.erased Syntax.mut (Syntax.tyInt Syntax.w8)),
-    ) (List._∷_ (
-      43,
-      Rows.any-gone
-          (Syntax.tyStruct
-          (List._∷_ 38 (List._∷_ 91 (List._∷_ 93 List.[])))
-          (Syntax.tcons
-          (Syntax.tyRef Syntax.erased Syntax.mut (Syntax.tyInt Syntax.w8))
-          (Syntax.tcons (Syntax.tyInt Syntax.w64) Syntax.tnil))),
-    ) List.[])))))))))))
-
-abbrev pub t56 : List.List Row.Entry
-t56 = List._∷_ (0, Rows.any-gone (Syntax.tyInt Syntax.w64)) (List._∷_ (
-  1,
-  Rows.sslice
-      (Referent.rtF (Referent.fInt Syntax.w8))
-      (Syntax.tyRef (Syntax.named 0) Syntax.imm (Syntax.tyInt Syntax.w8))
-      0,
-) (List._∷_ (
-  2,
-  Reshare.mslice-owedS
-      Elem.R
-      (Syntax.tyRef (Syntax.named 1) Syntax.mut Elem.ty)
-      1
-      16
-      Row.off,
-) (List._∷_ (
-  3,
-  Relend.mslice-owed
-      (Referent.rtF (Referent.fInt Syntax.w64))
-      (Syntax.tyRef (Syntax.named 2) Syntax.mut (Syntax.tyInt Syntax.w64))
-      2
-      19
-      Row.off,
-) (List._∷_ (
-  4,
-  Reshare.mslice-owedS
-      (Referent.rtF (Referent.fInt Syntax.w64))
-      (Syntax.tyRef (Syntax.named 3) Syntax.mut (Syntax.tyInt Syntax.w64))
-      3
-      17
-      Row.off,
-) (List._∷_ (
-  5,
-  Reshare.mslice-owedS
-      (Referent.rtF (Referent.fInt Syntax.w8))
-      (Syntax.tyRef (Syntax.named 4) Syntax.mut (Syntax.tyInt Syntax.w8))
-      4
-      18
-      Row.off,
-) (List._∷_ (
-  6,
-  Mut.mslice
-      (Referent.rtF (Referent.fInt Syntax.w32))
-      (Syntax.tyRef (Syntax.named 5) Syntax.mut (Syntax.tyInt Syntax.w32))
-      5,
-) (List._∷_ (
-  7,
-  Part.mslice-owedP
-      (Referent.rtF (Referent.fInt Syntax.w8))
-      (Syntax.tyRef (Syntax.named 6) Syntax.mut (Syntax.tyInt Syntax.w8))
-      6
-      20
-      Row.off,
-) (List._∷_ (
-  8,
-  Part.mslice-owedP
-      (Referent.rtF (Referent.fInt Syntax.w8))
-      (Syntax.tyRef (Syntax.named 7) Syntax.mut (Syntax.tyInt Syntax.w8))
-      7
-      21
-      Row.off,
-) (List._∷_ (
-  9,
-  Part.mslice-owedP
-      (Referent.rtF (Referent.fInt Syntax.w8))
-      (Syntax.tyRef (Syntax.named 8) Syntax.mut (Syntax.tyInt Syntax.w8))
-      8
-      22
-      Row.off,
-) (List._∷_ (
-  10,
-  Part.mslice-owedP
-      (Referent.rtF (Referent.fInt Syntax.w8))
-      (Syntax.tyRef (Syntax.named 9) Syntax.mut (Syntax.tyInt Syntax.w8))
-      9
-      23
-      Row.off,
-) (List._∷_ (
-  11,
-  Relend.mslice-owed
-      (Referent.rtF (Referent.fInt Syntax.w8))
-      (Syntax.tyRef (Syntax.named 10) Syntax.mut (Syntax.tyInt Syntax.w8))
-      10
-      24
-      Row.off,
-) (List._∷_ (12, Rows.sc-here (Row.sInt Syntax.w64)) (List._∷_ (
-  13,
-  Rows.sc-here (Row.sInt Syntax.w64),
-) (List._∷_ (14, Rows.sc-here (Row.sInt Syntax.w64)) (List._∷_ (
-  15,
-  Rows.any-gone (Syntax.tyRef Syntax.erased Syntax.mut (Syntax.tyInt Syntax.w64)),
-) List.[])))))))))))))))
-
-abbrev pub t57 : List.List Row.Entry
-t57 = List._∷_ (
-  32,
-  Rows.any-gone (Syntax.tyRef Syntax.erased Syntax.mut (Syntax.tyInt Syntax.w64)),
-) (List._∷_ (
-  33,
-  Mut.mslice
-      (Referent.rtF (Referent.fInt Syntax.w64))
-      (Syntax.tyRef Syntax.erased Syntax.mut (Syntax.tyInt Syntax.w64))
-      19,
-)
-    (List._∷_
-    (34, Rows.any-gone (Syntax.tyRef Syntax.erased Syntax.mut (Syntax.tyInt Syntax.w8)))
-    (List._∷_ (
-      35,
-      Mut.mslice
-          (Referent.rtF (Referent.fInt Syntax.w8))
-          (Syntax.tyRef Syntax.erased Syntax.mut (Syntax.tyInt Syntax.w8))
-          20,
-    ) (List._∷_ (
-      36,
-      Rows.any-gone (Syntax.tyRef Syntax.erased Syntax.mut (Syntax.tyInt Syntax.w8)),
-    ) (List._∷_ (
-      37,
-      Mut.mslice
-          (Referent.rtF (Referent.fInt Syntax.w8))
-          (Syntax.tyRef Syntax.erased Syntax.mut (Syntax.tyInt Syntax.w8))
-          21,
-    ) (List._∷_ (
-      38,
-      Rows.any-gone (Syntax.tyRef Syntax.erased Syntax.mut (Syntax.tyInt Syntax.w8)),
-    ) (List._∷_ (
-      39,
-      Mut.mslice
-          (Referent.rtF (Referent.fInt Syntax.w8))
-          (Syntax.tyRef Syntax.erased Syntax.mut (Syntax.tyInt Syntax.w8))
-          22,
-    ) (List._∷_ (
-      40,
-      Rows.any-gone (Syntax.tyRef Syntax.erased Syntax.mut (Syntax.tyInt Syntax.w8)),
-    ) (List._∷_ (
-      41,
-      Mut.mslice
-          (Referent.rtF (Referent.fInt Syntax.w8))
-          (Syntax.tyRef Syntax.erased Syntax.mut (Syntax.tyInt Syntax.w8))
-          23,
-    ) (List._∷_ (
-      42,
-      Relend.msptr
-          (Referent.rtF (Referent.fInt Syntax.w8))
-          (Syntax.tyRef Syntax.erased Syntax.mut (Syntax.tyInt Syntax.w8))
-          24,
-    ) (List._∷_ (
-      43,
-      Rows.any-gone
-          (Syntax.tyStruct
-          (List._∷_ 38 (List._∷_ 91 (List._∷_ 93 List.[])))
-          (Syntax.tcons
-          (Syntax.tyRef Syntax.erased Syntax.mut (Syntax.tyInt Syntax.w8))
-          (Syntax.tcons (Syntax.tyInt Syntax.w64) Syntax.tnil))),
-    ) List.[])))))))))))
-
-abbrev pub t58 : List.List Row.Entry
-t58 = List._∷_ (
-  32,
-  Rows.any-gone (Syntax.tyRef Syntax.erased Syntax.mut (Syntax.tyInt Syntax.w64)),
-) (List._∷_ (
-  33,
-  Mut.mslice
-      (Referent.rtF (Referent.fInt Syntax.w64))
-      (Syntax.tyRef Syntax.erased Syntax.mut (Syntax.tyInt Syntax.w64))
-      19,
-)
-    (List._∷_
-    (34, Rows.any-gone (Syntax.tyRef Syntax.erased Syntax.mut (Syntax.tyInt Syntax.w8)))
-    (List._∷_ (
-      35,
-      Mut.mslice
-          (Referent.rtF (Referent.fInt Syntax.w8))
-          (Syntax.tyRef Syntax.erased Syntax.mut (Syntax.tyInt Syntax.w8))
-          20,
-    ) (List._∷_ (
-      36,
-      Rows.any-gone (Syntax.tyRef Syntax.erased Syntax.mut (Syntax.tyInt Syntax.w8)),
-    ) (List._∷_ (
-      37,
-      Mut.mslice
-          (Referent.rtF (Referent.fInt Syntax.w8))
-          (Syntax.tyRef Syntax.erased Syntax.mut (Syntax.tyInt Syntax.w8))
-          21,
-    ) (List._∷_ (
-      38,
-      Rows.any-gone (Syntax.tyRef Syntax.erased Syntax.mut (Syntax.tyInt Syntax.w8)),
-    ) (List._∷_ (
-      39,
-      Mut.mslice
-          (Referent.rtF (Referent.fInt Syntax.w8))
-          (Syntax.tyRef Syntax.erased Syntax.mut (Syntax.tyInt Syntax.w8))
-          22,
-    ) (List._∷_ (
-      40,
-      Rows.any-gone (Syntax.tyRef Syntax.erased Syntax.mut (Syntax.tyInt Syntax.w8)),
-    ) (List._∷_ (
-      41,
-      Mut.mslice
-          (Referent.rtF (Referent.fInt Syntax.w8))
-          (Syntax.tyRef Syntax.erased Syntax.mut (Syntax.tyInt Syntax.w8))
-          23,
-    ) (List._∷_ (
-      42,
-      Rows.any-gone (Syntax.tyRef Syntax.erased Syntax.mut (Syntax.tyInt Syntax.w8)),
-    ) (List._∷_ (
-      43,
-      Mut.mslice
-          (Referent.rtF (Referent.fInt Syntax.w8))
-          (Syntax.tyRef Syntax.erased Syntax.mut (Syntax.tyInt Syntax.w8))
-          24,
-    ) List.[])))))))))))
-
-abbrev pub t59 : List.List Row.Entry
-t59 = List._∷_ (0, Rows.sc-here (Row.sInt Syntax.w64)) (List._∷_ (
-  1,
-  Rows.sslice
-      (Referent.rtF (Referent.fInt Syntax.w8))
-      (Syntax.tyRef (Syntax.named 0) Syntax.imm (Syntax.tyInt Syntax.w8))
-      0,
-) (List._∷_ (
-  2,
-  Reshare.mslice-owedS
-      Elem.R
-      (Syntax.tyRef (Syntax.named 1) Syntax.mut Elem.ty)
-      1
-      16
-      Row.off,
-) (List._∷_ (
-  3,
-  Relend.mslice-owed
-      (Referent.rtF (Referent.fInt Syntax.w64))
-      (Syntax.tyRef (Syntax.named 2) Syntax.mut (Syntax.tyInt Syntax.w64))
-      2
-      19
-      Row.off,
-) (List._∷_ (
-  4,
-  Reshare.mslice-owedS
-      (Referent.rtF (Referent.fInt Syntax.w64))
-      (Syntax.tyRef (Syntax.named 3) Syntax.mut (Syntax.tyInt Syntax.w64))
-      3
-      17
-      Row.off,
-) (List._∷_ (
-  5,
-  Reshare.mslice-owedS
-      (Referent.rtF (Referent.fInt Syntax.w8))
-      (Syntax.tyRef (Syntax.named 4) Syntax.mut (Syntax.tyInt Syntax.w8))
-      4
-      18
-      Row.off,
-) (List._∷_ (
-  6,
-  Mut.mslice
-      (Referent.rtF (Referent.fInt Syntax.w32))
-      (Syntax.tyRef (Syntax.named 5) Syntax.mut (Syntax.tyInt Syntax.w32))
-      5,
-) (List._∷_ (
-  7,
-  Part.mslice-owedP
-      (Referent.rtF (Referent.fInt Syntax.w8))
-      (Syntax.tyRef (Syntax.named 6) Syntax.mut (Syntax.tyInt Syntax.w8))
-      6
-      20
-      Row.off,
-) (List._∷_ (
-  8,
-  Part.mslice-owedP
-      (Referent.rtF (Referent.fInt Syntax.w8))
-      (Syntax.tyRef (Syntax.named 7) Syntax.mut (Syntax.tyInt Syntax.w8))
-      7
-      21
-      Row.off,
-) (List._∷_ (
-  9,
-  Part.mslice-owedP
-      (Referent.rtF (Referent.fInt Syntax.w8))
-      (Syntax.tyRef (Syntax.named 8) Syntax.mut (Syntax.tyInt Syntax.w8))
-      8
-      22
-      Row.off,
-) (List._∷_ (
-  10,
-  Part.mslice-owedP
-      (Referent.rtF (Referent.fInt Syntax.w8))
-      (Syntax.tyRef (Syntax.named 9) Syntax.mut (Syntax.tyInt Syntax.w8))
-      9
-      23
-      Row.off,
-) (List._∷_ (
-  11,
-  Relend.mslice-owed
-      (Referent.rtF (Referent.fInt Syntax.w8))
-      (Syntax.tyRef (Syntax.named 10) Syntax.mut (Syntax.tyInt Syntax.w8))
-      10
-      24
-      Row.off,
-) (List._∷_ (12, Rows.sc-here (Row.sInt Syntax.w64)) (List._∷_ (
-  13,
-  Rows.sc-here (Row.sInt Syntax.w64),
-) (List._∷_ (14, Rows.sc-here (Row.sInt Syntax.w64)) (List._∷_ (
-  15,
-  Rows.any-gone (Syntax.tyRef Syntax.erased Syntax.mut (Syntax.tyInt Syntax.w64)),
-) List.[])))))))))))))))
-
-abbrev pub t60 : List.List Row.Entry
-t60 = List._∷_ (
-  32,
-  Rows.any-gone (Syntax.tyRef Syntax.erased Syntax.mut (Syntax.tyInt Syntax.w64)),
-) (List._∷_ (
-  33,
-  Mut.msleft
-      (Referent.rtF (Referent.fInt Syntax.w64))
-      (Syntax.tyRef Syntax.erased Syntax.mut (Syntax.tyInt Syntax.w64)),
-)
-    (List._∷_
-    (34, Rows.any-gone (Syntax.tyRef Syntax.erased Syntax.mut (Syntax.tyInt Syntax.w8)))
-    (List._∷_ (
-      35,
-      Mut.msleft
-          (Referent.rtF (Referent.fInt Syntax.w8))
-          (Syntax.tyRef Syntax.erased Syntax.mut (Syntax.tyInt Syntax.w8)),
-    ) (List._∷_ (
-      36,
-      Rows.any-gone (Syntax.tyRef Syntax.erased Syntax.mut (Syntax.tyInt Syntax.w8)),
-    ) (List._∷_ (
-      37,
-      Mut.msleft
-          (Referent.rtF (Referent.fInt Syntax.w8))
-          (Syntax.tyRef Syntax.erased Syntax.mut (Syntax.tyInt Syntax.w8)),
-    ) (List._∷_ (
-      38,
-      Rows.any-gone (Syntax.tyRef Syntax.erased Syntax.mut (Syntax.tyInt Syntax.w8)),
-    ) (List._∷_ (
-      39,
-      Mut.msleft
-          (Referent.rtF (Referent.fInt Syntax.w8))
-          (Syntax.tyRef Syntax.erased Syntax.mut (Syntax.tyInt Syntax.w8)),
-    ) (List._∷_ (
-      40,
-      Rows.any-gone (Syntax.tyRef Syntax.erased Syntax.mut (Syntax.tyInt Syntax.w8)),
-    ) (List._∷_ (
-      41,
-      Mut.msleft
-          (Referent.rtF (Referent.fInt Syntax.w8))
-          (Syntax.tyRef Syntax.erased Syntax.mut (Syntax.tyInt Syntax.w8)),
-    ) (List._∷_ (
-      42,
-      Rows.any-gone (Syntax.tyRef Syntax.erased Syntax.mut (Syntax.tyInt Syntax.w8)),
-    ) (List._∷_ (
-      43,
-      Mut.msleft
-          (Referent.rtF (Referent.fInt Syntax.w8))
-          (Syntax.tyRef Syntax.erased Syntax.mut (Syntax.tyInt Syntax.w8)),
-    ) List.[])))))))))))
-
-abbrev pub t61 : List.List Row.Entry
-t61 = List._∷_ (
   16,
   Rows.any-gone
       (Syntax.tyStruct
@@ -5644,23 +5075,12 @@ t61 = List._∷_ (
           (Syntax.tcons
           (Syntax.tyRef Syntax.erased Syntax.mut (Syntax.tyInt Syntax.w32))
           (Syntax.tcons (Syntax.tyInt Syntax.w64) Syntax.tnil))),
-    ) (List._∷_ (21, Rows.any-gone (Syntax.tyInt Syntax.w64)) (List._∷_ (
-      22,
-      Rows.any-gone (Syntax.tyRef Syntax.erased Syntax.imm (Syntax.tyInt Syntax.w64)),
     ) (List._∷_ (
-      23,
-      Rows.any-gone
-          (Syntax.tyStruct
-          (List._∷_ 38 (List._∷_ 91 (List._∷_ 93 List.[])))
-          (Syntax.tcons
-          (Syntax.tyRef Syntax.erased Syntax.imm (Syntax.tyInt Syntax.w64))
-          (Syntax.tcons (Syntax.tyInt Syntax.w64) Syntax.tnil))),
-    ) (List._∷_ (
-      24,
+      21,
       Rows.any-gone
           (Syntax.tyRef Syntax.erased Syntax.mut Elem.ty),
     ) (List._∷_ (
-      25,
+      22,
       Rows.any-gone
           (Syntax.tyStruct
           (List._∷_ 38 (List._∷_ 91 (List._∷_ 93 List.[])))
@@ -5668,39 +5088,88 @@ t61 = List._∷_ (
           (Syntax.tyRef Syntax.erased Syntax.mut Elem.ty)
           (Syntax.tcons (Syntax.tyInt Syntax.w64) Syntax.tnil))),
     ) (List._∷_ (
-      26,
+      23,
       Rows.any-gone
           (Syntax.tyRef Syntax.erased Syntax.imm Elem.ty),
     ) (List._∷_ (
-      27,
-      Rows.any-gone
-          (Syntax.tyStruct
-          (List._∷_ 38 (List._∷_ 91 (List._∷_ 93 List.[])))
-          (Syntax.tcons
+      24,
+      Rows.sslice
+          Elem.R
           (Syntax.tyRef Syntax.erased Syntax.imm Elem.ty)
-          (Syntax.tcons (Syntax.tyInt Syntax.w64) Syntax.tnil))),
+          15,
     ) (List._∷_ (
-      28,
+      25,
       Rows.any-gone (Syntax.tyRef Syntax.erased Syntax.imm (Syntax.tyInt Syntax.w64)),
     ) (List._∷_ (
-      29,
+      26,
       Rows.sslice
           (Referent.rtF (Referent.fInt Syntax.w64))
           (Syntax.tyRef Syntax.erased Syntax.imm (Syntax.tyInt Syntax.w64))
-          17,
+          16,
     ) (List._∷_ (
-      30,
+      27,
       Rows.any-gone (Syntax.tyRef Syntax.erased Syntax.imm (Syntax.tyInt Syntax.w8)),
     ) (List._∷_ (
-      31,
+      28,
       Rows.sslice
           (Referent.rtF (Referent.fInt Syntax.w8))
           (Syntax.tyRef Syntax.erased Syntax.imm (Syntax.tyInt Syntax.w8))
-          18,
+          17,
+    ) (List._∷_ (
+      29,
+      Rows.any-gone (Syntax.tyRef Syntax.erased Syntax.mut (Syntax.tyInt Syntax.w64)),
+    ) (List._∷_ (
+      30,
+      Mut.msleft
+          (Referent.rtF (Referent.fInt Syntax.w64))
+          (Syntax.tyRef Syntax.erased Syntax.mut (Syntax.tyInt Syntax.w64)),
+    ) (List._∷_ (
+      31,
+      Rows.any-gone (Syntax.tyRef Syntax.erased Syntax.mut (Syntax.tyInt Syntax.w8)),
     ) List.[])))))))))))))))
 
-abbrev pub t62 : List.List Row.Entry
-t62 = List._∷_ (
+abbrev pub t56 : List.List Row.Entry
+t56 = List._∷_ (
+  32,
+  Mut.msleft
+      (Referent.rtF (Referent.fInt Syntax.w8))
+      (Syntax.tyRef Syntax.erased Syntax.mut (Syntax.tyInt Syntax.w8)),
+)
+    (List._∷_
+    (33, Rows.any-gone (Syntax.tyRef Syntax.erased Syntax.mut (Syntax.tyInt Syntax.w8)))
+    (List._∷_ (
+      34,
+      Mut.msleft
+          (Referent.rtF (Referent.fInt Syntax.w8))
+          (Syntax.tyRef Syntax.erased Syntax.mut (Syntax.tyInt Syntax.w8)),
+    ) (List._∷_ (
+      35,
+      Rows.any-gone (Syntax.tyRef Syntax.erased Syntax.mut (Syntax.tyInt Syntax.w8)),
+    ) (List._∷_ (
+      36,
+      Mut.msleft
+          (Referent.rtF (Referent.fInt Syntax.w8))
+          (Syntax.tyRef Syntax.erased Syntax.mut (Syntax.tyInt Syntax.w8)),
+    ) (List._∷_ (
+      37,
+      Rows.any-gone (Syntax.tyRef Syntax.erased Syntax.mut (Syntax.tyInt Syntax.w8)),
+    ) (List._∷_ (
+      38,
+      Mut.msleft
+          (Referent.rtF (Referent.fInt Syntax.w8))
+          (Syntax.tyRef Syntax.erased Syntax.mut (Syntax.tyInt Syntax.w8)),
+    ) (List._∷_ (
+      39,
+      Rows.any-gone (Syntax.tyRef Syntax.erased Syntax.mut (Syntax.tyInt Syntax.w8)),
+    ) (List._∷_ (
+      40,
+      Mut.msleft
+          (Referent.rtF (Referent.fInt Syntax.w8))
+          (Syntax.tyRef Syntax.erased Syntax.mut (Syntax.tyInt Syntax.w8)),
+    ) List.[]))))))))
+
+abbrev pub t57 : List.List Row.Entry
+t57 = List._∷_ (
   16,
   Rows.any-gone
       (Syntax.tyStruct
@@ -5730,23 +5199,12 @@ t62 = List._∷_ (
           (Syntax.tcons
           (Syntax.tyRef Syntax.erased Syntax.mut (Syntax.tyInt Syntax.w32))
           (Syntax.tcons (Syntax.tyInt Syntax.w64) Syntax.tnil))),
-    ) (List._∷_ (21, Rows.any-gone (Syntax.tyInt Syntax.w64)) (List._∷_ (
-      22,
-      Rows.any-gone (Syntax.tyRef Syntax.erased Syntax.imm (Syntax.tyInt Syntax.w64)),
     ) (List._∷_ (
-      23,
-      Rows.any-gone
-          (Syntax.tyStruct
-          (List._∷_ 38 (List._∷_ 91 (List._∷_ 93 List.[])))
-          (Syntax.tcons
-          (Syntax.tyRef Syntax.erased Syntax.imm (Syntax.tyInt Syntax.w64))
-          (Syntax.tcons (Syntax.tyInt Syntax.w64) Syntax.tnil))),
-    ) (List._∷_ (
-      24,
+      21,
       Rows.any-gone
           (Syntax.tyRef Syntax.erased Syntax.mut Elem.ty),
     ) (List._∷_ (
-      25,
+      22,
       Rows.any-gone
           (Syntax.tyStruct
           (List._∷_ 38 (List._∷_ 91 (List._∷_ 93 List.[])))
@@ -5754,11 +5212,11 @@ t62 = List._∷_ (
           (Syntax.tyRef Syntax.erased Syntax.mut Elem.ty)
           (Syntax.tcons (Syntax.tyInt Syntax.w64) Syntax.tnil))),
     ) (List._∷_ (
-      26,
+      23,
       Rows.any-gone
           (Syntax.tyRef Syntax.erased Syntax.imm Elem.ty),
     ) (List._∷_ (
-      27,
+      24,
       Rows.any-gone
           (Syntax.tyStruct
           (List._∷_ 38 (List._∷_ 91 (List._∷_ 93 List.[])))
@@ -5766,10 +5224,96 @@ t62 = List._∷_ (
           (Syntax.tyRef Syntax.erased Syntax.imm Elem.ty)
           (Syntax.tcons (Syntax.tyInt Syntax.w64) Syntax.tnil))),
     ) (List._∷_ (
-      28,
+      25,
       Rows.any-gone (Syntax.tyRef Syntax.erased Syntax.imm (Syntax.tyInt Syntax.w64)),
     ) (List._∷_ (
+      26,
+      Rows.sslice
+          (Referent.rtF (Referent.fInt Syntax.w64))
+          (Syntax.tyRef Syntax.erased Syntax.imm (Syntax.tyInt Syntax.w64))
+          16,
+    ) (List._∷_ (
+      27,
+      Rows.any-gone (Syntax.tyRef Syntax.erased Syntax.imm (Syntax.tyInt Syntax.w8)),
+    ) (List._∷_ (
+      28,
+      Rows.sslice
+          (Referent.rtF (Referent.fInt Syntax.w8))
+          (Syntax.tyRef Syntax.erased Syntax.imm (Syntax.tyInt Syntax.w8))
+          17,
+    ) (List._∷_ (
       29,
+      Rows.any-gone (Syntax.tyRef Syntax.erased Syntax.mut (Syntax.tyInt Syntax.w64)),
+    ) (List._∷_ (
+      30,
+      Mut.msleft
+          (Referent.rtF (Referent.fInt Syntax.w64))
+          (Syntax.tyRef Syntax.erased Syntax.mut (Syntax.tyInt Syntax.w64)),
+    ) (List._∷_ (
+      31,
+      Rows.any-gone (Syntax.tyRef Syntax.erased Syntax.mut (Syntax.tyInt Syntax.w8)),
+    ) List.[])))))))))))))))
+
+abbrev pub t58 : List.List Row.Entry
+t58 = List._∷_ (
+  16,
+  Rows.any-gone
+      (Syntax.tyStruct
+      (List._∷_ 38 (List._∷_ 91 (List._∷_ 93 List.[])))
+      (Syntax.tcons
+      (Syntax.tyRef Syntax.erased Syntax.mut (Syntax.tyInt Syntax.w64))
+      (Syntax.tcons (Syntax.tyInt Syntax.w64) Syntax.tnil))),
+)
+    (List._∷_
+    (17, Rows.any-gone (Syntax.tyRef Syntax.erased Syntax.mut (Syntax.tyInt Syntax.w8)))
+    (List._∷_ (
+      18,
+      Rows.any-gone
+          (Syntax.tyStruct
+          (List._∷_ 38 (List._∷_ 91 (List._∷_ 93 List.[])))
+          (Syntax.tcons
+          (Syntax.tyRef Syntax.erased Syntax.mut (Syntax.tyInt Syntax.w8))
+          (Syntax.tcons (Syntax.tyInt Syntax.w64) Syntax.tnil))),
+    ) (List._∷_ (
+      19,
+      Rows.any-gone (Syntax.tyRef Syntax.erased Syntax.mut (Syntax.tyInt Syntax.w32)),
+    ) (List._∷_ (
+      20,
+      Rows.any-gone
+          (Syntax.tyStruct
+          (List._∷_ 38 (List._∷_ 91 (List._∷_ 93 List.[])))
+          (Syntax.tcons
+          (Syntax.tyRef Syntax.erased Syntax.mut (Syntax.tyInt Syntax.w32))
+          (Syntax.tcons (Syntax.tyInt Syntax.w64) Syntax.tnil))),
+    ) (List._∷_ (
+      21,
+      Rows.any-gone
+          (Syntax.tyRef Syntax.erased Syntax.mut Elem.ty),
+    ) (List._∷_ (
+      22,
+      Rows.any-gone
+          (Syntax.tyStruct
+          (List._∷_ 38 (List._∷_ 91 (List._∷_ 93 List.[])))
+          (Syntax.tcons
+          (Syntax.tyRef Syntax.erased Syntax.mut Elem.ty)
+          (Syntax.tcons (Syntax.tyInt Syntax.w64) Syntax.tnil))),
+    ) (List._∷_ (
+      23,
+      Rows.any-gone
+          (Syntax.tyRef Syntax.erased Syntax.imm Elem.ty),
+    ) (List._∷_ (
+      24,
+      Rows.any-gone
+          (Syntax.tyStruct
+          (List._∷_ 38 (List._∷_ 91 (List._∷_ 93 List.[])))
+          (Syntax.tcons
+          (Syntax.tyRef Syntax.erased Syntax.imm Elem.ty)
+          (Syntax.tcons (Syntax.tyInt Syntax.w64) Syntax.tnil))),
+    ) (List._∷_ (
+      25,
+      Rows.any-gone (Syntax.tyRef Syntax.erased Syntax.imm (Syntax.tyInt Syntax.w64)),
+    ) (List._∷_ (
+      26,
       Rows.any-gone
           (Syntax.tyStruct
           (List._∷_ 38 (List._∷_ 91 (List._∷_ 93 List.[])))
@@ -5777,15 +5321,395 @@ t62 = List._∷_ (
           (Syntax.tyRef Syntax.erased Syntax.imm (Syntax.tyInt Syntax.w64))
           (Syntax.tcons (Syntax.tyInt Syntax.w64) Syntax.tnil))),
     ) (List._∷_ (
-      30,
+      27,
       Rows.any-gone (Syntax.tyRef Syntax.erased Syntax.imm (Syntax.tyInt Syntax.w8)),
     ) (List._∷_ (
-      31,
+      28,
       Rows.sslice
           (Referent.rtF (Referent.fInt Syntax.w8))
           (Syntax.tyRef Syntax.erased Syntax.imm (Syntax.tyInt Syntax.w8))
-          18,
+          17,
+    ) (List._∷_ (
+      29,
+      Rows.any-gone (Syntax.tyRef Syntax.erased Syntax.mut (Syntax.tyInt Syntax.w64)),
+    ) (List._∷_ (
+      30,
+      Mut.msleft
+          (Referent.rtF (Referent.fInt Syntax.w64))
+          (Syntax.tyRef Syntax.erased Syntax.mut (Syntax.tyInt Syntax.w64)),
+    ) (List._∷_ (
+      31,
+      Rows.any-gone (Syntax.tyRef Syntax.erased Syntax.mut (Syntax.tyInt Syntax.w8)),
     ) List.[])))))))))))))))
+
+abbrev pub t59 : List.List Row.Entry
+t59 = List._∷_ (
+  16,
+  Rows.any-gone
+      (Syntax.tyStruct
+      (List._∷_ 38 (List._∷_ 91 (List._∷_ 93 List.[])))
+      (Syntax.tcons
+      (Syntax.tyRef Syntax.erased Syntax.mut (Syntax.tyInt Syntax.w64))
+      (Syntax.tcons (Syntax.tyInt Syntax.w64) Syntax.tnil))),
+)
+    (List._∷_
+    (17, Rows.any-gone (Syntax.tyRef Syntax.erased Syntax.mut (Syntax.tyInt Syntax.w8)))
+    (List._∷_ (
+      18,
+      Rows.any-gone
+          (Syntax.tyStruct
+          (List._∷_ 38 (List._∷_ 91 (List._∷_ 93 List.[])))
+          (Syntax.tcons
+          (Syntax.tyRef Syntax.erased Syntax.mut (Syntax.tyInt Syntax.w8))
+          (Syntax.tcons (Syntax.tyInt Syntax.w64) Syntax.tnil))),
+    ) (List._∷_ (
+      19,
+      Rows.any-gone (Syntax.tyRef Syntax.erased Syntax.mut (Syntax.tyInt Syntax.w32)),
+    ) (List._∷_ (
+      20,
+      Rows.any-gone
+          (Syntax.tyStruct
+          (List._∷_ 38 (List._∷_ 91 (List._∷_ 93 List.[])))
+          (Syntax.tcons
+          (Syntax.tyRef Syntax.erased Syntax.mut (Syntax.tyInt Syntax.w32))
+          (Syntax.tcons (Syntax.tyInt Syntax.w64) Syntax.tnil))),
+    ) (List._∷_ (
+      21,
+      Rows.any-gone
+          (Syntax.tyRef Syntax.erased Syntax.mut Elem.ty),
+    ) (List._∷_ (
+      22,
+      Rows.any-gone
+          (Syntax.tyStruct
+          (List._∷_ 38 (List._∷_ 91 (List._∷_ 93 List.[])))
+          (Syntax.tcons
+          (Syntax.tyRef Syntax.erased Syntax.mut Elem.ty)
+          (Syntax.tcons (Syntax.tyInt Syntax.w64) Syntax.tnil))),
+    ) (List._∷_ (
+      23,
+      Rows.any-gone
+          (Syntax.tyRef Syntax.erased Syntax.imm Elem.ty),
+    ) (List._∷_ (
+      24,
+      Rows.any-gone
+          (Syntax.tyStruct
+          (List._∷_ 38 (List._∷_ 91 (List._∷_ 93 List.[])))
+          (Syntax.tcons
+          (Syntax.tyRef Syntax.erased Syntax.imm Elem.ty)
+          (Syntax.tcons (Syntax.tyInt Syntax.w64) Syntax.tnil))),
+    ) (List._∷_ (
+      25,
+      Rows.any-gone (Syntax.tyRef Syntax.erased Syntax.imm (Syntax.tyInt Syntax.w64)),
+    ) (List._∷_ (
+      26,
+      Rows.any-gone
+          (Syntax.tyStruct
+          (List._∷_ 38 (List._∷_ 91 (List._∷_ 93 List.[])))
+          (Syntax.tcons
+          (Syntax.tyRef Syntax.erased Syntax.imm (Syntax.tyInt Syntax.w64))
+          (Syntax.tcons (Syntax.tyInt Syntax.w64) Syntax.tnil))),
+    ) (List._∷_ (
+      27,
+      Rows.any-gone (Syntax.tyRef Syntax.erased Syntax.imm (Syntax.tyInt Syntax.w8)),
+    ) (List._∷_ (
+      28,
+      Rows.any-gone
+          (Syntax.tyStruct
+          (List._∷_ 38 (List._∷_ 91 (List._∷_ 93 List.[])))
+          (Syntax.tcons
+          (Syntax.tyRef Syntax.erased Syntax.imm (Syntax.tyInt Syntax.w8))
+          (Syntax.tcons (Syntax.tyInt Syntax.w64) Syntax.tnil))),
+    ) (List._∷_ (
+      29,
+      Rows.any-gone (Syntax.tyRef Syntax.erased Syntax.mut (Syntax.tyInt Syntax.w64)),
+    ) (List._∷_ (
+      30,
+      Mut.msleft
+          (Referent.rtF (Referent.fInt Syntax.w64))
+          (Syntax.tyRef Syntax.erased Syntax.mut (Syntax.tyInt Syntax.w64)),
+    ) (List._∷_ (
+      31,
+      Rows.any-gone (Syntax.tyRef Syntax.erased Syntax.mut (Syntax.tyInt Syntax.w8)),
+    ) List.[])))))))))))))))
+
+abbrev pub t60 : List.List Row.Entry
+t60 = List._∷_ (0, Rows.sc-here (Row.sInt Syntax.w64)) (List._∷_ (
+  1,
+  Rows.sslice
+      (Referent.rtF (Referent.fInt Syntax.w8))
+      (Syntax.tyRef (Syntax.named 0) Syntax.imm (Syntax.tyInt Syntax.w8))
+      0,
+) (List._∷_ (
+  2,
+  Reshare.mslice-owedS
+      Elem.R
+      (Syntax.tyRef (Syntax.named 1) Syntax.mut Elem.ty)
+      1
+      15
+      Row.off,
+) (List._∷_ (
+  3,
+  Relend.mslice-owed
+      (Referent.rtF (Referent.fInt Syntax.w64))
+      (Syntax.tyRef (Syntax.named 2) Syntax.mut (Syntax.tyInt Syntax.w64))
+      2
+      18
+      Row.off,
+) (List._∷_ (
+  4,
+  Reshare.mslice-owedS
+      (Referent.rtF (Referent.fInt Syntax.w64))
+      (Syntax.tyRef (Syntax.named 3) Syntax.mut (Syntax.tyInt Syntax.w64))
+      3
+      16
+      Row.off,
+) (List._∷_ (
+  5,
+  Reshare.mslice-owedS
+      (Referent.rtF (Referent.fInt Syntax.w8))
+      (Syntax.tyRef (Syntax.named 4) Syntax.mut (Syntax.tyInt Syntax.w8))
+      4
+      17
+      Row.off,
+) (List._∷_ (
+  6,
+  Mut.mslice
+      (Referent.rtF (Referent.fInt Syntax.w32))
+      (Syntax.tyRef (Syntax.named 5) Syntax.mut (Syntax.tyInt Syntax.w32))
+      5,
+) (List._∷_ (
+  7,
+  Part.mslice-owedP
+      (Referent.rtF (Referent.fInt Syntax.w8))
+      (Syntax.tyRef (Syntax.named 6) Syntax.mut (Syntax.tyInt Syntax.w8))
+      6
+      19
+      Row.off,
+) (List._∷_ (
+  8,
+  Part.mslice-owedP
+      (Referent.rtF (Referent.fInt Syntax.w8))
+      (Syntax.tyRef (Syntax.named 7) Syntax.mut (Syntax.tyInt Syntax.w8))
+      7
+      20
+      Row.off,
+) (List._∷_ (
+  9,
+  Part.mslice-owedP
+      (Referent.rtF (Referent.fInt Syntax.w8))
+      (Syntax.tyRef (Syntax.named 8) Syntax.mut (Syntax.tyInt Syntax.w8))
+      8
+      21
+      Row.off,
+) (List._∷_ (
+  10,
+  Part.mslice-owedP
+      (Referent.rtF (Referent.fInt Syntax.w8))
+      (Syntax.tyRef (Syntax.named 9) Syntax.mut (Syntax.tyInt Syntax.w8))
+      9
+      22
+      Row.off,
+) (List._∷_ (
+  11,
+  Relend.mslice-owed
+      (Referent.rtF (Referent.fInt Syntax.w8))
+      (Syntax.tyRef (Syntax.named 10) Syntax.mut (Syntax.tyInt Syntax.w8))
+      10
+      23
+      Row.off,
+) (List._∷_ (12, Rows.any-gone (Syntax.tyInt Syntax.w64)) (List._∷_ (
+  13,
+  Rows.sc-here (Row.sInt Syntax.w64),
+) (List._∷_ (14, Rows.sc-here (Row.sInt Syntax.w64)) (List._∷_ (
+  15,
+  Rows.any-gone (Syntax.tyRef Syntax.erased Syntax.mut (Syntax.tyInt Syntax.w64)),
+) List.[])))))))))))))))
+
+abbrev pub t61 : List.List Row.Entry
+t61 = List._∷_ (0, Rows.sc-here (Row.sInt Syntax.w64)) (List._∷_ (
+  1,
+  Rows.sslice
+      (Referent.rtF (Referent.fInt Syntax.w8))
+      (Syntax.tyRef (Syntax.named 0) Syntax.imm (Syntax.tyInt Syntax.w8))
+      0,
+) (List._∷_ (
+  2,
+  Reshare.mslice-owedS
+      Elem.R
+      (Syntax.tyRef (Syntax.named 1) Syntax.mut Elem.ty)
+      1
+      15
+      Row.off,
+) (List._∷_ (
+  3,
+  Relend.mslice-owed
+      (Referent.rtF (Referent.fInt Syntax.w64))
+      (Syntax.tyRef (Syntax.named 2) Syntax.mut (Syntax.tyInt Syntax.w64))
+      2
+      18
+      Row.off,
+) (List._∷_ (
+  4,
+  Reshare.mslice-owedS
+      (Referent.rtF (Referent.fInt Syntax.w64))
+      (Syntax.tyRef (Syntax.named 3) Syntax.mut (Syntax.tyInt Syntax.w64))
+      3
+      16
+      Row.off,
+) (List._∷_ (
+  5,
+  Reshare.mslice-owedS
+      (Referent.rtF (Referent.fInt Syntax.w8))
+      (Syntax.tyRef (Syntax.named 4) Syntax.mut (Syntax.tyInt Syntax.w8))
+      4
+      17
+      Row.off,
+) (List._∷_ (
+  6,
+  Mut.mslice
+      (Referent.rtF (Referent.fInt Syntax.w32))
+      (Syntax.tyRef (Syntax.named 5) Syntax.mut (Syntax.tyInt Syntax.w32))
+      5,
+) (List._∷_ (
+  7,
+  Part.mslice-owedP
+      (Referent.rtF (Referent.fInt Syntax.w8))
+      (Syntax.tyRef (Syntax.named 6) Syntax.mut (Syntax.tyInt Syntax.w8))
+      6
+      19
+      Row.off,
+) (List._∷_ (
+  8,
+  Part.mslice-owedP
+      (Referent.rtF (Referent.fInt Syntax.w8))
+      (Syntax.tyRef (Syntax.named 7) Syntax.mut (Syntax.tyInt Syntax.w8))
+      7
+      20
+      Row.off,
+) (List._∷_ (
+  9,
+  Part.mslice-owedP
+      (Referent.rtF (Referent.fInt Syntax.w8))
+      (Syntax.tyRef (Syntax.named 8) Syntax.mut (Syntax.tyInt Syntax.w8))
+      8
+      21
+      Row.off,
+) (List._∷_ (
+  10,
+  Part.mslice-owedP
+      (Referent.rtF (Referent.fInt Syntax.w8))
+      (Syntax.tyRef (Syntax.named 9) Syntax.mut (Syntax.tyInt Syntax.w8))
+      9
+      22
+      Row.off,
+) (List._∷_ (
+  11,
+  Relend.mslice-owed
+      (Referent.rtF (Referent.fInt Syntax.w8))
+      (Syntax.tyRef (Syntax.named 10) Syntax.mut (Syntax.tyInt Syntax.w8))
+      10
+      23
+      Row.off,
+) (List._∷_ (12, Rows.any-gone (Syntax.tyInt Syntax.w64)) (List._∷_ (
+  13,
+  Rows.any-gone (Syntax.tyInt Syntax.w64),
+) (List._∷_ (14, Rows.sc-here (Row.sInt Syntax.w64)) (List._∷_ (
+  15,
+  Rows.any-gone (Syntax.tyRef Syntax.erased Syntax.mut (Syntax.tyInt Syntax.w64)),
+) List.[])))))))))))))))
+
+abbrev pub t62 : List.List Row.Entry
+t62 = List._∷_ (0, Rows.sc-here (Row.sInt Syntax.w64)) (List._∷_ (
+  1,
+  Rows.sslice
+      (Referent.rtF (Referent.fInt Syntax.w8))
+      (Syntax.tyRef (Syntax.named 0) Syntax.imm (Syntax.tyInt Syntax.w8))
+      0,
+) (List._∷_ (
+  2,
+  Reshare.mslice-owedS
+      Elem.R
+      (Syntax.tyRef (Syntax.named 1) Syntax.mut Elem.ty)
+      1
+      15
+      Row.off,
+) (List._∷_ (
+  3,
+  Relend.mslice-owed
+      (Referent.rtF (Referent.fInt Syntax.w64))
+      (Syntax.tyRef (Syntax.named 2) Syntax.mut (Syntax.tyInt Syntax.w64))
+      2
+      18
+      Row.off,
+) (List._∷_ (
+  4,
+  Reshare.mslice-owedS
+      (Referent.rtF (Referent.fInt Syntax.w64))
+      (Syntax.tyRef (Syntax.named 3) Syntax.mut (Syntax.tyInt Syntax.w64))
+      3
+      16
+      Row.off,
+) (List._∷_ (
+  5,
+  Reshare.mslice-owedS
+      (Referent.rtF (Referent.fInt Syntax.w8))
+      (Syntax.tyRef (Syntax.named 4) Syntax.mut (Syntax.tyInt Syntax.w8))
+      4
+      17
+      Row.off,
+) (List._∷_ (
+  6,
+  Mut.mslice
+      (Referent.rtF (Referent.fInt Syntax.w32))
+      (Syntax.tyRef (Syntax.named 5) Syntax.mut (Syntax.tyInt Syntax.w32))
+      5,
+) (List._∷_ (
+  7,
+  Part.mslice-owedP
+      (Referent.rtF (Referent.fInt Syntax.w8))
+      (Syntax.tyRef (Syntax.named 6) Syntax.mut (Syntax.tyInt Syntax.w8))
+      6
+      19
+      Row.off,
+) (List._∷_ (
+  8,
+  Part.mslice-owedP
+      (Referent.rtF (Referent.fInt Syntax.w8))
+      (Syntax.tyRef (Syntax.named 7) Syntax.mut (Syntax.tyInt Syntax.w8))
+      7
+      20
+      Row.off,
+) (List._∷_ (
+  9,
+  Part.mslice-owedP
+      (Referent.rtF (Referent.fInt Syntax.w8))
+      (Syntax.tyRef (Syntax.named 8) Syntax.mut (Syntax.tyInt Syntax.w8))
+      8
+      21
+      Row.off,
+) (List._∷_ (
+  10,
+  Part.mslice-owedP
+      (Referent.rtF (Referent.fInt Syntax.w8))
+      (Syntax.tyRef (Syntax.named 9) Syntax.mut (Syntax.tyInt Syntax.w8))
+      9
+      22
+      Row.off,
+) (List._∷_ (
+  11,
+  Relend.mslice-owed
+      (Referent.rtF (Referent.fInt Syntax.w8))
+      (Syntax.tyRef (Syntax.named 10) Syntax.mut (Syntax.tyInt Syntax.w8))
+      10
+      23
+      Row.off,
+) (List._∷_ (12, Rows.any-gone (Syntax.tyInt Syntax.w64)) (List._∷_ (
+  13,
+  Rows.any-gone (Syntax.tyInt Syntax.w64),
+) (List._∷_ (14, Rows.any-gone (Syntax.tyInt Syntax.w64)) (List._∷_ (
+  15,
+  Rows.any-gone (Syntax.tyRef Syntax.erased Syntax.mut (Syntax.tyInt Syntax.w64)),
+) List.[])))))))))))))))
 
 abbrev pub t63 : List.List Row.Entry
 t63 = List._∷_ (0, Rows.sc-here (Row.sInt Syntax.w64)) (List._∷_ (
@@ -5796,19 +5720,17 @@ t63 = List._∷_ (0, Rows.sc-here (Row.sInt Syntax.w64)) (List._∷_ (
       0,
 ) (List._∷_ (
   2,
-  Reshare.mslice-owedS
+  Mut.mslice
       Elem.R
       (Syntax.tyRef (Syntax.named 1) Syntax.mut Elem.ty)
-      1
-      16
-      Row.off,
+      1,
 ) (List._∷_ (
   3,
   Relend.mslice-owed
       (Referent.rtF (Referent.fInt Syntax.w64))
       (Syntax.tyRef (Syntax.named 2) Syntax.mut (Syntax.tyInt Syntax.w64))
       2
-      19
+      18
       Row.off,
 ) (List._∷_ (
   4,
@@ -5816,7 +5738,7 @@ t63 = List._∷_ (0, Rows.sc-here (Row.sInt Syntax.w64)) (List._∷_ (
       (Referent.rtF (Referent.fInt Syntax.w64))
       (Syntax.tyRef (Syntax.named 3) Syntax.mut (Syntax.tyInt Syntax.w64))
       3
-      17
+      16
       Row.off,
 ) (List._∷_ (
   5,
@@ -5824,7 +5746,7 @@ t63 = List._∷_ (0, Rows.sc-here (Row.sInt Syntax.w64)) (List._∷_ (
       (Referent.rtF (Referent.fInt Syntax.w8))
       (Syntax.tyRef (Syntax.named 4) Syntax.mut (Syntax.tyInt Syntax.w8))
       4
-      18
+      17
       Row.off,
 ) (List._∷_ (
   6,
@@ -5838,7 +5760,7 @@ t63 = List._∷_ (0, Rows.sc-here (Row.sInt Syntax.w64)) (List._∷_ (
       (Referent.rtF (Referent.fInt Syntax.w8))
       (Syntax.tyRef (Syntax.named 6) Syntax.mut (Syntax.tyInt Syntax.w8))
       6
-      20
+      19
       Row.off,
 ) (List._∷_ (
   8,
@@ -5846,7 +5768,7 @@ t63 = List._∷_ (0, Rows.sc-here (Row.sInt Syntax.w64)) (List._∷_ (
       (Referent.rtF (Referent.fInt Syntax.w8))
       (Syntax.tyRef (Syntax.named 7) Syntax.mut (Syntax.tyInt Syntax.w8))
       7
-      21
+      20
       Row.off,
 ) (List._∷_ (
   9,
@@ -5854,7 +5776,7 @@ t63 = List._∷_ (0, Rows.sc-here (Row.sInt Syntax.w64)) (List._∷_ (
       (Referent.rtF (Referent.fInt Syntax.w8))
       (Syntax.tyRef (Syntax.named 8) Syntax.mut (Syntax.tyInt Syntax.w8))
       8
-      22
+      21
       Row.off,
 ) (List._∷_ (
   10,
@@ -5862,7 +5784,7 @@ t63 = List._∷_ (0, Rows.sc-here (Row.sInt Syntax.w64)) (List._∷_ (
       (Referent.rtF (Referent.fInt Syntax.w8))
       (Syntax.tyRef (Syntax.named 9) Syntax.mut (Syntax.tyInt Syntax.w8))
       9
-      23
+      22
       Row.off,
 ) (List._∷_ (
   11,
@@ -5870,12 +5792,12 @@ t63 = List._∷_ (0, Rows.sc-here (Row.sInt Syntax.w64)) (List._∷_ (
       (Referent.rtF (Referent.fInt Syntax.w8))
       (Syntax.tyRef (Syntax.named 10) Syntax.mut (Syntax.tyInt Syntax.w8))
       10
-      24
+      23
       Row.off,
 ) (List._∷_ (12, Rows.any-gone (Syntax.tyInt Syntax.w64)) (List._∷_ (
   13,
-  Rows.sc-here (Row.sInt Syntax.w64),
-) (List._∷_ (14, Rows.sc-here (Row.sInt Syntax.w64)) (List._∷_ (
+  Rows.any-gone (Syntax.tyInt Syntax.w64),
+) (List._∷_ (14, Rows.any-gone (Syntax.tyInt Syntax.w64)) (List._∷_ (
   15,
   Rows.any-gone (Syntax.tyRef Syntax.erased Syntax.mut (Syntax.tyInt Syntax.w64)),
 ) List.[])))))))))))))))
@@ -5889,192 +5811,6 @@ t64 = List._∷_ (0, Rows.sc-here (Row.sInt Syntax.w64)) (List._∷_ (
       0,
 ) (List._∷_ (
   2,
-  Reshare.mslice-owedS
-      Elem.R
-      (Syntax.tyRef (Syntax.named 1) Syntax.mut Elem.ty)
-      1
-      16
-      Row.off,
-) (List._∷_ (
-  3,
-  Relend.mslice-owed
-      (Referent.rtF (Referent.fInt Syntax.w64))
-      (Syntax.tyRef (Syntax.named 2) Syntax.mut (Syntax.tyInt Syntax.w64))
-      2
-      19
-      Row.off,
-) (List._∷_ (
-  4,
-  Reshare.mslice-owedS
-      (Referent.rtF (Referent.fInt Syntax.w64))
-      (Syntax.tyRef (Syntax.named 3) Syntax.mut (Syntax.tyInt Syntax.w64))
-      3
-      17
-      Row.off,
-) (List._∷_ (
-  5,
-  Reshare.mslice-owedS
-      (Referent.rtF (Referent.fInt Syntax.w8))
-      (Syntax.tyRef (Syntax.named 4) Syntax.mut (Syntax.tyInt Syntax.w8))
-      4
-      18
-      Row.off,
-) (List._∷_ (
-  6,
-  Mut.mslice
-      (Referent.rtF (Referent.fInt Syntax.w32))
-      (Syntax.tyRef (Syntax.named 5) Syntax.mut (Syntax.tyInt Syntax.w32))
-      5,
-) (List._∷_ (
-  7,
-  Part.mslice-owedP
-      (Referent.rtF (Referent.fInt Syntax.w8))
-      (Syntax.tyRef (Syntax.named 6) Syntax.mut (Syntax.tyInt Syntax.w8))
-      6
-      20
-      Row.off,
-) (List._∷_ (
-  8,
-  Part.mslice-owedP
-      (Referent.rtF (Referent.fInt Syntax.w8))
-      (Syntax.tyRef (Syntax.named 7) Syntax.mut (Syntax.tyInt Syntax.w8))
-      7
-      21
-      Row.off,
-) (List._∷_ (
-  9,
-  Part.mslice-owedP
-      (Referent.rtF (Referent.fInt Syntax.w8))
-      (Syntax.tyRef (Syntax.named 8) Syntax.mut (Syntax.tyInt Syntax.w8))
-      8
-      22
-      Row.off,
-) (List._∷_ (
-  10,
-  Part.mslice-owedP
-      (Referent.rtF (Referent.fInt Syntax.w8))
-      (Syntax.tyRef (Syntax.named 9) Syntax.mut (Syntax.tyInt Syntax.w8))
-      9
-      23
-      Row.off,
-) (List._∷_ (
-  11,
-  Relend.mslice-owed
-      (Referent.rtF (Referent.fInt Syntax.w8))
-      (Syntax.tyRef (Syntax.named 10) Syntax.mut (Syntax.tyInt Syntax.w8))
-      10
-      24
-      Row.off,
-) (List._∷_ (12, Rows.any-gone (Syntax.tyInt Syntax.w64)) (List._∷_ (
-  13,
-  Rows.any-gone (Syntax.tyInt Syntax.w64),
-) (List._∷_ (14, Rows.sc-here (Row.sInt Syntax.w64)) (List._∷_ (
-  15,
-  Rows.any-gone (Syntax.tyRef Syntax.erased Syntax.mut (Syntax.tyInt Syntax.w64)),
-) List.[])))))))))))))))
-
-abbrev pub t65 : List.List Row.Entry
-t65 = List._∷_ (0, Rows.sc-here (Row.sInt Syntax.w64)) (List._∷_ (
-  1,
-  Rows.sslice
-      (Referent.rtF (Referent.fInt Syntax.w8))
-      (Syntax.tyRef (Syntax.named 0) Syntax.imm (Syntax.tyInt Syntax.w8))
-      0,
-) (List._∷_ (
-  2,
-  Reshare.mslice-owedS
-      Elem.R
-      (Syntax.tyRef (Syntax.named 1) Syntax.mut Elem.ty)
-      1
-      16
-      Row.off,
-) (List._∷_ (
-  3,
-  Relend.mslice-owed
-      (Referent.rtF (Referent.fInt Syntax.w64))
-      (Syntax.tyRef (Syntax.named 2) Syntax.mut (Syntax.tyInt Syntax.w64))
-      2
-      19
-      Row.off,
-) (List._∷_ (
-  4,
-  Reshare.mslice-owedS
-      (Referent.rtF (Referent.fInt Syntax.w64))
-      (Syntax.tyRef (Syntax.named 3) Syntax.mut (Syntax.tyInt Syntax.w64))
-      3
-      17
-      Row.off,
-) (List._∷_ (
-  5,
-  Reshare.mslice-owedS
-      (Referent.rtF (Referent.fInt Syntax.w8))
-      (Syntax.tyRef (Syntax.named 4) Syntax.mut (Syntax.tyInt Syntax.w8))
-      4
-      18
-      Row.off,
-) (List._∷_ (
-  6,
-  Mut.mslice
-      (Referent.rtF (Referent.fInt Syntax.w32))
-      (Syntax.tyRef (Syntax.named 5) Syntax.mut (Syntax.tyInt Syntax.w32))
-      5,
-) (List._∷_ (
-  7,
-  Part.mslice-owedP
-      (Referent.rtF (Referent.fInt Syntax.w8))
-      (Syntax.tyRef (Syntax.named 6) Syntax.mut (Syntax.tyInt Syntax.w8))
-      6
-      20
-      Row.off,
-) (List._∷_ (
-  8,
-  Part.mslice-owedP
-      (Referent.rtF (Referent.fInt Syntax.w8))
-      (Syntax.tyRef (Syntax.named 7) Syntax.mut (Syntax.tyInt Syntax.w8))
-      7
-      21
-      Row.off,
-) (List._∷_ (
-  9,
-  Part.mslice-owedP
-      (Referent.rtF (Referent.fInt Syntax.w8))
-      (Syntax.tyRef (Syntax.named 8) Syntax.mut (Syntax.tyInt Syntax.w8))
-      8
-      22
-      Row.off,
-) (List._∷_ (
-  10,
-  Part.mslice-owedP
-      (Referent.rtF (Referent.fInt Syntax.w8))
-      (Syntax.tyRef (Syntax.named 9) Syntax.mut (Syntax.tyInt Syntax.w8))
-      9
-      23
-      Row.off,
-) (List._∷_ (
-  11,
-  Relend.mslice-owed
-      (Referent.rtF (Referent.fInt Syntax.w8))
-      (Syntax.tyRef (Syntax.named 10) Syntax.mut (Syntax.tyInt Syntax.w8))
-      10
-      24
-      Row.off,
-) (List._∷_ (12, Rows.any-gone (Syntax.tyInt Syntax.w64)) (List._∷_ (
-  13,
-  Rows.any-gone (Syntax.tyInt Syntax.w64),
-) (List._∷_ (14, Rows.any-gone (Syntax.tyInt Syntax.w64)) (List._∷_ (
-  15,
-  Rows.any-gone (Syntax.tyRef Syntax.erased Syntax.mut (Syntax.tyInt Syntax.w64)),
-) List.[])))))))))))))))
-
-abbrev pub t66 : List.List Row.Entry
-t66 = List._∷_ (0, Rows.sc-here (Row.sInt Syntax.w64)) (List._∷_ (
-  1,
-  Rows.sslice
-      (Referent.rtF (Referent.fInt Syntax.w8))
-      (Syntax.tyRef (Syntax.named 0) Syntax.imm (Syntax.tyInt Syntax.w8))
-      0,
-) (List._∷_ (
-  2,
   Mut.mslice
       Elem.R
       (Syntax.tyRef (Syntax.named 1) Syntax.mut Elem.ty)
@@ -6085,98 +5821,7 @@ t66 = List._∷_ (0, Rows.sc-here (Row.sInt Syntax.w64)) (List._∷_ (
       (Referent.rtF (Referent.fInt Syntax.w64))
       (Syntax.tyRef (Syntax.named 2) Syntax.mut (Syntax.tyInt Syntax.w64))
       2
-      19
-      Row.off,
-) (List._∷_ (
-  4,
-  Reshare.mslice-owedS
-      (Referent.rtF (Referent.fInt Syntax.w64))
-      (Syntax.tyRef (Syntax.named 3) Syntax.mut (Syntax.tyInt Syntax.w64))
-      3
-      17
-      Row.off,
-) (List._∷_ (
-  5,
-  Reshare.mslice-owedS
-      (Referent.rtF (Referent.fInt Syntax.w8))
-      (Syntax.tyRef (Syntax.named 4) Syntax.mut (Syntax.tyInt Syntax.w8))
-      4
       18
-      Row.off,
-) (List._∷_ (
-  6,
-  Mut.mslice
-      (Referent.rtF (Referent.fInt Syntax.w32))
-      (Syntax.tyRef (Syntax.named 5) Syntax.mut (Syntax.tyInt Syntax.w32))
-      5,
-) (List._∷_ (
-  7,
-  Part.mslice-owedP
-      (Referent.rtF (Referent.fInt Syntax.w8))
-      (Syntax.tyRef (Syntax.named 6) Syntax.mut (Syntax.tyInt Syntax.w8))
-      6
-      20
-      Row.off,
-) (List._∷_ (
-  8,
-  Part.mslice-owedP
-      (Referent.rtF (Referent.fInt Syntax.w8))
-      (Syntax.tyRef (Syntax.named 7) Syntax.mut (Syntax.tyInt Syntax.w8))
-      7
-      21
-      Row.off,
-) (List._∷_ (
-  9,
-  Part.mslice-owedP
-      (Referent.rtF (Referent.fInt Syntax.w8))
-      (Syntax.tyRef (Syntax.named 8) Syntax.mut (Syntax.tyInt Syntax.w8))
-      8
-      22
-      Row.off,
-) (List._∷_ (
-  10,
-  Part.mslice-owedP
-      (Referent.rtF (Referent.fInt Syntax.w8))
-      (Syntax.tyRef (Syntax.named 9) Syntax.mut (Syntax.tyInt Syntax.w8))
-      9
-      23
-      Row.off,
-) (List._∷_ (
-  11,
-  Relend.mslice-owed
-      (Referent.rtF (Referent.fInt Syntax.w8))
-      (Syntax.tyRef (Syntax.named 10) Syntax.mut (Syntax.tyInt Syntax.w8))
-      10
-      24
-      Row.off,
-) (List._∷_ (12, Rows.any-gone (Syntax.tyInt Syntax.w64)) (List._∷_ (
-  13,
-  Rows.any-gone (Syntax.tyInt Syntax.w64),
-) (List._∷_ (14, Rows.any-gone (Syntax.tyInt Syntax.w64)) (List._∷_ (
-  15,
-  Rows.any-gone (Syntax.tyRef Syntax.erased Syntax.mut (Syntax.tyInt Syntax.w64)),
-) List.[])))))))))))))))
-
-abbrev pub t67 : List.List Row.Entry
-t67 = List._∷_ (0, Rows.sc-here (Row.sInt Syntax.w64)) (List._∷_ (
-  1,
-  Rows.sslice
-      (Referent.rtF (Referent.fInt Syntax.w8))
-      (Syntax.tyRef (Syntax.named 0) Syntax.imm (Syntax.tyInt Syntax.w8))
-      0,
-) (List._∷_ (
-  2,
-  Mut.mslice
-      Elem.R
-      (Syntax.tyRef (Syntax.named 1) Syntax.mut Elem.ty)
-      1,
-) (List._∷_ (
-  3,
-  Relend.mslice-owed
-      (Referent.rtF (Referent.fInt Syntax.w64))
-      (Syntax.tyRef (Syntax.named 2) Syntax.mut (Syntax.tyInt Syntax.w64))
-      2
-      19
       Row.off,
 ) (List._∷_ (
   4,
@@ -6190,7 +5835,7 @@ t67 = List._∷_ (0, Rows.sc-here (Row.sInt Syntax.w64)) (List._∷_ (
       (Referent.rtF (Referent.fInt Syntax.w8))
       (Syntax.tyRef (Syntax.named 4) Syntax.mut (Syntax.tyInt Syntax.w8))
       4
-      18
+      17
       Row.off,
 ) (List._∷_ (
   6,
@@ -6204,7 +5849,7 @@ t67 = List._∷_ (0, Rows.sc-here (Row.sInt Syntax.w64)) (List._∷_ (
       (Referent.rtF (Referent.fInt Syntax.w8))
       (Syntax.tyRef (Syntax.named 6) Syntax.mut (Syntax.tyInt Syntax.w8))
       6
-      20
+      19
       Row.off,
 ) (List._∷_ (
   8,
@@ -6212,7 +5857,7 @@ t67 = List._∷_ (0, Rows.sc-here (Row.sInt Syntax.w64)) (List._∷_ (
       (Referent.rtF (Referent.fInt Syntax.w8))
       (Syntax.tyRef (Syntax.named 7) Syntax.mut (Syntax.tyInt Syntax.w8))
       7
-      21
+      20
       Row.off,
 ) (List._∷_ (
   9,
@@ -6220,7 +5865,7 @@ t67 = List._∷_ (0, Rows.sc-here (Row.sInt Syntax.w64)) (List._∷_ (
       (Referent.rtF (Referent.fInt Syntax.w8))
       (Syntax.tyRef (Syntax.named 8) Syntax.mut (Syntax.tyInt Syntax.w8))
       8
-      22
+      21
       Row.off,
 ) (List._∷_ (
   10,
@@ -6228,7 +5873,7 @@ t67 = List._∷_ (0, Rows.sc-here (Row.sInt Syntax.w64)) (List._∷_ (
       (Referent.rtF (Referent.fInt Syntax.w8))
       (Syntax.tyRef (Syntax.named 9) Syntax.mut (Syntax.tyInt Syntax.w8))
       9
-      23
+      22
       Row.off,
 ) (List._∷_ (
   11,
@@ -6236,7 +5881,7 @@ t67 = List._∷_ (0, Rows.sc-here (Row.sInt Syntax.w64)) (List._∷_ (
       (Referent.rtF (Referent.fInt Syntax.w8))
       (Syntax.tyRef (Syntax.named 10) Syntax.mut (Syntax.tyInt Syntax.w8))
       10
-      24
+      23
       Row.off,
 ) (List._∷_ (12, Rows.any-gone (Syntax.tyInt Syntax.w64)) (List._∷_ (
   13,
@@ -6246,8 +5891,8 @@ t67 = List._∷_ (0, Rows.sc-here (Row.sInt Syntax.w64)) (List._∷_ (
   Rows.any-gone (Syntax.tyRef Syntax.erased Syntax.mut (Syntax.tyInt Syntax.w64)),
 ) List.[])))))))))))))))
 
-abbrev pub t68 : List.List Row.Entry
-t68 = List._∷_ (0, Rows.sc-here (Row.sInt Syntax.w64)) (List._∷_ (
+abbrev pub t65 : List.List Row.Entry
+t65 = List._∷_ (0, Rows.sc-here (Row.sInt Syntax.w64)) (List._∷_ (
   1,
   Rows.sslice
       (Referent.rtF (Referent.fInt Syntax.w8))
@@ -6265,7 +5910,7 @@ t68 = List._∷_ (0, Rows.sc-here (Row.sInt Syntax.w64)) (List._∷_ (
       (Referent.rtF (Referent.fInt Syntax.w64))
       (Syntax.tyRef (Syntax.named 2) Syntax.mut (Syntax.tyInt Syntax.w64))
       2
-      19
+      18
       Row.off,
 ) (List._∷_ (
   4,
@@ -6291,7 +5936,7 @@ t68 = List._∷_ (0, Rows.sc-here (Row.sInt Syntax.w64)) (List._∷_ (
       (Referent.rtF (Referent.fInt Syntax.w8))
       (Syntax.tyRef (Syntax.named 6) Syntax.mut (Syntax.tyInt Syntax.w8))
       6
-      20
+      19
       Row.off,
 ) (List._∷_ (
   8,
@@ -6299,7 +5944,7 @@ t68 = List._∷_ (0, Rows.sc-here (Row.sInt Syntax.w64)) (List._∷_ (
       (Referent.rtF (Referent.fInt Syntax.w8))
       (Syntax.tyRef (Syntax.named 7) Syntax.mut (Syntax.tyInt Syntax.w8))
       7
-      21
+      20
       Row.off,
 ) (List._∷_ (
   9,
@@ -6307,7 +5952,7 @@ t68 = List._∷_ (0, Rows.sc-here (Row.sInt Syntax.w64)) (List._∷_ (
       (Referent.rtF (Referent.fInt Syntax.w8))
       (Syntax.tyRef (Syntax.named 8) Syntax.mut (Syntax.tyInt Syntax.w8))
       8
-      22
+      21
       Row.off,
 ) (List._∷_ (
   10,
@@ -6315,7 +5960,7 @@ t68 = List._∷_ (0, Rows.sc-here (Row.sInt Syntax.w64)) (List._∷_ (
       (Referent.rtF (Referent.fInt Syntax.w8))
       (Syntax.tyRef (Syntax.named 9) Syntax.mut (Syntax.tyInt Syntax.w8))
       9
-      23
+      22
       Row.off,
 ) (List._∷_ (
   11,
@@ -6323,7 +5968,7 @@ t68 = List._∷_ (0, Rows.sc-here (Row.sInt Syntax.w64)) (List._∷_ (
       (Referent.rtF (Referent.fInt Syntax.w8))
       (Syntax.tyRef (Syntax.named 10) Syntax.mut (Syntax.tyInt Syntax.w8))
       10
-      24
+      23
       Row.off,
 ) (List._∷_ (12, Rows.any-gone (Syntax.tyInt Syntax.w64)) (List._∷_ (
   13,
@@ -6332,6 +5977,217 @@ t68 = List._∷_ (0, Rows.sc-here (Row.sInt Syntax.w64)) (List._∷_ (
   15,
   Rows.any-gone (Syntax.tyRef Syntax.erased Syntax.mut (Syntax.tyInt Syntax.w64)),
 ) List.[])))))))))))))))
+
+abbrev pub t66 : List.List Row.Entry
+t66 = List._∷_ (0, Rows.sc-here (Row.sInt Syntax.w64)) (List._∷_ (
+  1,
+  Rows.sslice
+      (Referent.rtF (Referent.fInt Syntax.w8))
+      (Syntax.tyRef (Syntax.named 0) Syntax.imm (Syntax.tyInt Syntax.w8))
+      0,
+) (List._∷_ (
+  2,
+  Mut.mslice
+      Elem.R
+      (Syntax.tyRef (Syntax.named 1) Syntax.mut Elem.ty)
+      1,
+) (List._∷_ (
+  3,
+  Mut.mslice
+      (Referent.rtF (Referent.fInt Syntax.w64))
+      (Syntax.tyRef (Syntax.named 2) Syntax.mut (Syntax.tyInt Syntax.w64))
+      2,
+) (List._∷_ (
+  4,
+  Mut.mslice
+      (Referent.rtF (Referent.fInt Syntax.w64))
+      (Syntax.tyRef (Syntax.named 3) Syntax.mut (Syntax.tyInt Syntax.w64))
+      3,
+) (List._∷_ (
+  5,
+  Mut.mslice
+      (Referent.rtF (Referent.fInt Syntax.w8))
+      (Syntax.tyRef (Syntax.named 4) Syntax.mut (Syntax.tyInt Syntax.w8))
+      4,
+) (List._∷_ (
+  6,
+  Mut.mslice
+      (Referent.rtF (Referent.fInt Syntax.w32))
+      (Syntax.tyRef (Syntax.named 5) Syntax.mut (Syntax.tyInt Syntax.w32))
+      5,
+) (List._∷_ (
+  7,
+  Part.mslice-owedP
+      (Referent.rtF (Referent.fInt Syntax.w8))
+      (Syntax.tyRef (Syntax.named 6) Syntax.mut (Syntax.tyInt Syntax.w8))
+      6
+      19
+      Row.off,
+) (List._∷_ (
+  8,
+  Part.mslice-owedP
+      (Referent.rtF (Referent.fInt Syntax.w8))
+      (Syntax.tyRef (Syntax.named 7) Syntax.mut (Syntax.tyInt Syntax.w8))
+      7
+      20
+      Row.off,
+) (List._∷_ (
+  9,
+  Part.mslice-owedP
+      (Referent.rtF (Referent.fInt Syntax.w8))
+      (Syntax.tyRef (Syntax.named 8) Syntax.mut (Syntax.tyInt Syntax.w8))
+      8
+      21
+      Row.off,
+) (List._∷_ (
+  10,
+  Part.mslice-owedP
+      (Referent.rtF (Referent.fInt Syntax.w8))
+      (Syntax.tyRef (Syntax.named 9) Syntax.mut (Syntax.tyInt Syntax.w8))
+      9
+      22
+      Row.off,
+) (List._∷_ (
+  11,
+  Relend.mslice-owed
+      (Referent.rtF (Referent.fInt Syntax.w8))
+      (Syntax.tyRef (Syntax.named 10) Syntax.mut (Syntax.tyInt Syntax.w8))
+      10
+      23
+      Row.off,
+) (List._∷_ (12, Rows.any-gone (Syntax.tyInt Syntax.w64)) (List._∷_ (
+  13,
+  Rows.any-gone (Syntax.tyInt Syntax.w64),
+) (List._∷_ (14, Rows.any-gone (Syntax.tyInt Syntax.w64)) (List._∷_ (
+  15,
+  Rows.any-gone (Syntax.tyRef Syntax.erased Syntax.mut (Syntax.tyInt Syntax.w64)),
+) List.[])))))))))))))))
+
+abbrev pub t67 : List.List Row.Entry
+t67 = List._∷_ (0, Rows.sc-here (Row.sInt Syntax.w64)) (List._∷_ (
+  1,
+  Rows.sslice
+      (Referent.rtF (Referent.fInt Syntax.w8))
+      (Syntax.tyRef (Syntax.named 0) Syntax.imm (Syntax.tyInt Syntax.w8))
+      0,
+) (List._∷_ (
+  2,
+  Mut.mslice
+      Elem.R
+      (Syntax.tyRef (Syntax.named 1) Syntax.mut Elem.ty)
+      1,
+) (List._∷_ (
+  3,
+  Mut.mslice
+      (Referent.rtF (Referent.fInt Syntax.w64))
+      (Syntax.tyRef (Syntax.named 2) Syntax.mut (Syntax.tyInt Syntax.w64))
+      2,
+) (List._∷_ (
+  4,
+  Mut.mslice
+      (Referent.rtF (Referent.fInt Syntax.w64))
+      (Syntax.tyRef (Syntax.named 3) Syntax.mut (Syntax.tyInt Syntax.w64))
+      3,
+) (List._∷_ (
+  5,
+  Mut.mslice
+      (Referent.rtF (Referent.fInt Syntax.w8))
+      (Syntax.tyRef (Syntax.named 4) Syntax.mut (Syntax.tyInt Syntax.w8))
+      4,
+) (List._∷_ (
+  6,
+  Mut.mslice
+      (Referent.rtF (Referent.fInt Syntax.w32))
+      (Syntax.tyRef (Syntax.named 5) Syntax.mut (Syntax.tyInt Syntax.w32))
+      5,
+) (List._∷_ (
+  7,
+  Mut.mslice
+      (Referent.rtF (Referent.fInt Syntax.w8))
+      (Syntax.tyRef (Syntax.named 6) Syntax.mut (Syntax.tyInt Syntax.w8))
+      6,
+) (List._∷_ (
+  8,
+  Part.mslice-owedP
+      (Referent.rtF (Referent.fInt Syntax.w8))
+      (Syntax.tyRef (Syntax.named 7) Syntax.mut (Syntax.tyInt Syntax.w8))
+      7
+      20
+      Row.off,
+) (List._∷_ (
+  9,
+  Part.mslice-owedP
+      (Referent.rtF (Referent.fInt Syntax.w8))
+      (Syntax.tyRef (Syntax.named 8) Syntax.mut (Syntax.tyInt Syntax.w8))
+      8
+      21
+      Row.off,
+) (List._∷_ (
+  10,
+  Part.mslice-owedP
+      (Referent.rtF (Referent.fInt Syntax.w8))
+      (Syntax.tyRef (Syntax.named 9) Syntax.mut (Syntax.tyInt Syntax.w8))
+      9
+      22
+      Row.off,
+) (List._∷_ (
+  11,
+  Relend.mslice-owed
+      (Referent.rtF (Referent.fInt Syntax.w8))
+      (Syntax.tyRef (Syntax.named 10) Syntax.mut (Syntax.tyInt Syntax.w8))
+      10
+      23
+      Row.off,
+) (List._∷_ (12, Rows.any-gone (Syntax.tyInt Syntax.w64)) (List._∷_ (
+  13,
+  Rows.any-gone (Syntax.tyInt Syntax.w64),
+) (List._∷_ (14, Rows.any-gone (Syntax.tyInt Syntax.w64)) (List._∷_ (
+  15,
+  Rows.any-gone (Syntax.tyRef Syntax.erased Syntax.mut (Syntax.tyInt Syntax.w64)),
+) List.[])))))))))))))))
+
+abbrev pub t68 : List.List Row.Entry
+t68 = List._∷_ (
+  32,
+  Rows.any-gone
+      (Syntax.tyStruct
+      (List._∷_ 38 (List._∷_ 91 (List._∷_ 93 List.[])))
+      (Syntax.tcons
+      (Syntax.tyRef Syntax.erased Syntax.mut (Syntax.tyInt Syntax.w8))
+      (Syntax.tcons (Syntax.tyInt Syntax.w64) Syntax.tnil))),
+)
+    (List._∷_
+    (33, Rows.any-gone (Syntax.tyRef Syntax.erased Syntax.mut (Syntax.tyInt Syntax.w8)))
+    (List._∷_ (
+      34,
+      Mut.msleft
+          (Referent.rtF (Referent.fInt Syntax.w8))
+          (Syntax.tyRef Syntax.erased Syntax.mut (Syntax.tyInt Syntax.w8)),
+    ) (List._∷_ (
+      35,
+      Rows.any-gone (Syntax.tyRef Syntax.erased Syntax.mut (Syntax.tyInt Syntax.w8)),
+    ) (List._∷_ (
+      36,
+      Mut.msleft
+          (Referent.rtF (Referent.fInt Syntax.w8))
+          (Syntax.tyRef Syntax.erased Syntax.mut (Syntax.tyInt Syntax.w8)),
+    ) (List._∷_ (
+      37,
+      Rows.any-gone (Syntax.tyRef Syntax.erased Syntax.mut (Syntax.tyInt Syntax.w8)),
+    ) (List._∷_ (
+      38,
+      Mut.msleft
+          (Referent.rtF (Referent.fInt Syntax.w8))
+          (Syntax.tyRef Syntax.erased Syntax.mut (Syntax.tyInt Syntax.w8)),
+    ) (List._∷_ (
+      39,
+      Rows.any-gone (Syntax.tyRef Syntax.erased Syntax.mut (Syntax.tyInt Syntax.w8)),
+    ) (List._∷_ (
+      40,
+      Mut.msleft
+          (Referent.rtF (Referent.fInt Syntax.w8))
+          (Syntax.tyRef Syntax.erased Syntax.mut (Syntax.tyInt Syntax.w8)),
+    ) List.[]))))))))
 
 abbrev pub t69 : List.List Row.Entry
 t69 = List._∷_ (0, Rows.sc-here (Row.sInt Syntax.w64)) (List._∷_ (
@@ -6372,27 +6228,23 @@ t69 = List._∷_ (0, Rows.sc-here (Row.sInt Syntax.w64)) (List._∷_ (
       5,
 ) (List._∷_ (
   7,
-  Part.mslice-owedP
+  Mut.mslice
       (Referent.rtF (Referent.fInt Syntax.w8))
       (Syntax.tyRef (Syntax.named 6) Syntax.mut (Syntax.tyInt Syntax.w8))
-      6
-      20
-      Row.off,
+      6,
 ) (List._∷_ (
   8,
-  Part.mslice-owedP
+  Mut.mslice
       (Referent.rtF (Referent.fInt Syntax.w8))
       (Syntax.tyRef (Syntax.named 7) Syntax.mut (Syntax.tyInt Syntax.w8))
-      7
-      21
-      Row.off,
+      7,
 ) (List._∷_ (
   9,
   Part.mslice-owedP
       (Referent.rtF (Referent.fInt Syntax.w8))
       (Syntax.tyRef (Syntax.named 8) Syntax.mut (Syntax.tyInt Syntax.w8))
       8
-      22
+      21
       Row.off,
 ) (List._∷_ (
   10,
@@ -6400,7 +6252,7 @@ t69 = List._∷_ (0, Rows.sc-here (Row.sInt Syntax.w64)) (List._∷_ (
       (Referent.rtF (Referent.fInt Syntax.w8))
       (Syntax.tyRef (Syntax.named 9) Syntax.mut (Syntax.tyInt Syntax.w8))
       9
-      23
+      22
       Row.off,
 ) (List._∷_ (
   11,
@@ -6408,7 +6260,7 @@ t69 = List._∷_ (0, Rows.sc-here (Row.sInt Syntax.w64)) (List._∷_ (
       (Referent.rtF (Referent.fInt Syntax.w8))
       (Syntax.tyRef (Syntax.named 10) Syntax.mut (Syntax.tyInt Syntax.w8))
       10
-      24
+      23
       Row.off,
 ) (List._∷_ (12, Rows.any-gone (Syntax.tyInt Syntax.w64)) (List._∷_ (
   13,
@@ -6421,56 +6273,48 @@ t69 = List._∷_ (0, Rows.sc-here (Row.sInt Syntax.w64)) (List._∷_ (
 abbrev pub t70 : List.List Row.Entry
 t70 = List._∷_ (
   32,
-  Rows.any-gone (Syntax.tyRef Syntax.erased Syntax.mut (Syntax.tyInt Syntax.w64)),
-) (List._∷_ (
-  33,
   Rows.any-gone
       (Syntax.tyStruct
       (List._∷_ 38 (List._∷_ 91 (List._∷_ 93 List.[])))
       (Syntax.tcons
-      (Syntax.tyRef Syntax.erased Syntax.mut (Syntax.tyInt Syntax.w64))
+      (Syntax.tyRef Syntax.erased Syntax.mut (Syntax.tyInt Syntax.w8))
       (Syntax.tcons (Syntax.tyInt Syntax.w64) Syntax.tnil))),
 )
     (List._∷_
-    (34, Rows.any-gone (Syntax.tyRef Syntax.erased Syntax.mut (Syntax.tyInt Syntax.w8)))
+    (33, Rows.any-gone (Syntax.tyRef Syntax.erased Syntax.mut (Syntax.tyInt Syntax.w8)))
     (List._∷_ (
+      34,
+      Rows.any-gone
+          (Syntax.tyStruct
+          (List._∷_ 38 (List._∷_ 91 (List._∷_ 93 List.[])))
+          (Syntax.tcons
+          (Syntax.tyRef Syntax.erased Syntax.mut (Syntax.tyInt Syntax.w8))
+          (Syntax.tcons (Syntax.tyInt Syntax.w64) Syntax.tnil))),
+    ) (List._∷_ (
       35,
-      Mut.msleft
-          (Referent.rtF (Referent.fInt Syntax.w8))
-          (Syntax.tyRef Syntax.erased Syntax.mut (Syntax.tyInt Syntax.w8)),
+      Rows.any-gone (Syntax.tyRef Syntax.erased Syntax.mut (Syntax.tyInt Syntax.w8)),
     ) (List._∷_ (
       36,
-      Rows.any-gone (Syntax.tyRef Syntax.erased Syntax.mut (Syntax.tyInt Syntax.w8)),
+      Mut.msleft
+          (Referent.rtF (Referent.fInt Syntax.w8))
+          (Syntax.tyRef Syntax.erased Syntax.mut (Syntax.tyInt Syntax.w8)),
     ) (List._∷_ (
       37,
-      Mut.msleft
-          (Referent.rtF (Referent.fInt Syntax.w8))
-          (Syntax.tyRef Syntax.erased Syntax.mut (Syntax.tyInt Syntax.w8)),
+      Rows.any-gone (Syntax.tyRef Syntax.erased Syntax.mut (Syntax.tyInt Syntax.w8)),
     ) (List._∷_ (
       38,
-      Rows.any-gone (Syntax.tyRef Syntax.erased Syntax.mut (Syntax.tyInt Syntax.w8)),
+      Mut.msleft
+          (Referent.rtF (Referent.fInt Syntax.w8))
+          (Syntax.tyRef Syntax.erased Syntax.mut (Syntax.tyInt Syntax.w8)),
     ) (List._∷_ (
       39,
-      Mut.msleft
-          (Referent.rtF (Referent.fInt Syntax.w8))
-          (Syntax.tyRef Syntax.erased Syntax.mut (Syntax.tyInt Syntax.w8)),
+      Rows.any-gone (Syntax.tyRef Syntax.erased Syntax.mut (Syntax.tyInt Syntax.w8)),
     ) (List._∷_ (
       40,
-      Rows.any-gone (Syntax.tyRef Syntax.erased Syntax.mut (Syntax.tyInt Syntax.w8)),
-    ) (List._∷_ (
-      41,
       Mut.msleft
           (Referent.rtF (Referent.fInt Syntax.w8))
           (Syntax.tyRef Syntax.erased Syntax.mut (Syntax.tyInt Syntax.w8)),
-    ) (List._∷_ (
-      42,
-      Rows.any-gone (Syntax.tyRef Syntax.erased Syntax.mut (Syntax.tyInt Syntax.w8)),
-    ) (List._∷_ (
-      43,
-      Mut.msleft
-          (Referent.rtF (Referent.fInt Syntax.w8))
-          (Syntax.tyRef Syntax.erased Syntax.mut (Syntax.tyInt Syntax.w8)),
-    ) List.[])))))))))))
+    ) List.[]))))))))
 
 abbrev pub t71 : List.List Row.Entry
 t71 = List._∷_ (0, Rows.sc-here (Row.sInt Syntax.w64)) (List._∷_ (
@@ -6517,27 +6361,23 @@ t71 = List._∷_ (0, Rows.sc-here (Row.sInt Syntax.w64)) (List._∷_ (
       6,
 ) (List._∷_ (
   8,
-  Part.mslice-owedP
+  Mut.mslice
       (Referent.rtF (Referent.fInt Syntax.w8))
       (Syntax.tyRef (Syntax.named 7) Syntax.mut (Syntax.tyInt Syntax.w8))
-      7
-      21
-      Row.off,
+      7,
 ) (List._∷_ (
   9,
-  Part.mslice-owedP
+  Mut.mslice
       (Referent.rtF (Referent.fInt Syntax.w8))
       (Syntax.tyRef (Syntax.named 8) Syntax.mut (Syntax.tyInt Syntax.w8))
-      8
-      22
-      Row.off,
+      8,
 ) (List._∷_ (
   10,
   Part.mslice-owedP
       (Referent.rtF (Referent.fInt Syntax.w8))
       (Syntax.tyRef (Syntax.named 9) Syntax.mut (Syntax.tyInt Syntax.w8))
       9
-      23
+      22
       Row.off,
 ) (List._∷_ (
   11,
@@ -6545,7 +6385,7 @@ t71 = List._∷_ (0, Rows.sc-here (Row.sInt Syntax.w64)) (List._∷_ (
       (Referent.rtF (Referent.fInt Syntax.w8))
       (Syntax.tyRef (Syntax.named 10) Syntax.mut (Syntax.tyInt Syntax.w8))
       10
-      24
+      23
       Row.off,
 ) (List._∷_ (12, Rows.any-gone (Syntax.tyInt Syntax.w64)) (List._∷_ (
   13,
@@ -6558,20 +6398,17 @@ t71 = List._∷_ (0, Rows.sc-here (Row.sInt Syntax.w64)) (List._∷_ (
 abbrev pub t72 : List.List Row.Entry
 t72 = List._∷_ (
   32,
-  Rows.any-gone (Syntax.tyRef Syntax.erased Syntax.mut (Syntax.tyInt Syntax.w64)),
-) (List._∷_ (
-  33,
   Rows.any-gone
       (Syntax.tyStruct
       (List._∷_ 38 (List._∷_ 91 (List._∷_ 93 List.[])))
       (Syntax.tcons
-      (Syntax.tyRef Syntax.erased Syntax.mut (Syntax.tyInt Syntax.w64))
+      (Syntax.tyRef Syntax.erased Syntax.mut (Syntax.tyInt Syntax.w8))
       (Syntax.tcons (Syntax.tyInt Syntax.w64) Syntax.tnil))),
 )
     (List._∷_
-    (34, Rows.any-gone (Syntax.tyRef Syntax.erased Syntax.mut (Syntax.tyInt Syntax.w8)))
+    (33, Rows.any-gone (Syntax.tyRef Syntax.erased Syntax.mut (Syntax.tyInt Syntax.w8)))
     (List._∷_ (
-      35,
+      34,
       Rows.any-gone
           (Syntax.tyStruct
           (List._∷_ 38 (List._∷_ 91 (List._∷_ 93 List.[])))
@@ -6579,38 +6416,33 @@ t72 = List._∷_ (
           (Syntax.tyRef Syntax.erased Syntax.mut (Syntax.tyInt Syntax.w8))
           (Syntax.tcons (Syntax.tyInt Syntax.w64) Syntax.tnil))),
     ) (List._∷_ (
-      36,
+      35,
       Rows.any-gone (Syntax.tyRef Syntax.erased Syntax.mut (Syntax.tyInt Syntax.w8)),
+    ) (List._∷_ (
+      36,
+      Rows.any-gone
+          (Syntax.tyStruct
+          (List._∷_ 38 (List._∷_ 91 (List._∷_ 93 List.[])))
+          (Syntax.tcons
+          (Syntax.tyRef Syntax.erased Syntax.mut (Syntax.tyInt Syntax.w8))
+          (Syntax.tcons (Syntax.tyInt Syntax.w64) Syntax.tnil))),
     ) (List._∷_ (
       37,
-      Mut.msleft
-          (Referent.rtF (Referent.fInt Syntax.w8))
-          (Syntax.tyRef Syntax.erased Syntax.mut (Syntax.tyInt Syntax.w8)),
+      Rows.any-gone (Syntax.tyRef Syntax.erased Syntax.mut (Syntax.tyInt Syntax.w8)),
     ) (List._∷_ (
       38,
-      Rows.any-gone (Syntax.tyRef Syntax.erased Syntax.mut (Syntax.tyInt Syntax.w8)),
+      Mut.msleft
+          (Referent.rtF (Referent.fInt Syntax.w8))
+          (Syntax.tyRef Syntax.erased Syntax.mut (Syntax.tyInt Syntax.w8)),
     ) (List._∷_ (
       39,
-      Mut.msleft
-          (Referent.rtF (Referent.fInt Syntax.w8))
-          (Syntax.tyRef Syntax.erased Syntax.mut (Syntax.tyInt Syntax.w8)),
+      Rows.any-gone (Syntax.tyRef Syntax.erased Syntax.mut (Syntax.tyInt Syntax.w8)),
     ) (List._∷_ (
       40,
-      Rows.any-gone (Syntax.tyRef Syntax.erased Syntax.mut (Syntax.tyInt Syntax.w8)),
-    ) (List._∷_ (
-      41,
       Mut.msleft
           (Referent.rtF (Referent.fInt Syntax.w8))
           (Syntax.tyRef Syntax.erased Syntax.mut (Syntax.tyInt Syntax.w8)),
-    ) (List._∷_ (
-      42,
-      Rows.any-gone (Syntax.tyRef Syntax.erased Syntax.mut (Syntax.tyInt Syntax.w8)),
-    ) (List._∷_ (
-      43,
-      Mut.msleft
-          (Referent.rtF (Referent.fInt Syntax.w8))
-          (Syntax.tyRef Syntax.erased Syntax.mut (Syntax.tyInt Syntax.w8)),
-    ) List.[])))))))))))
+    ) List.[]))))))))
 
 abbrev pub t73 : List.List Row.Entry
 t73 = List._∷_ (0, Rows.sc-here (Row.sInt Syntax.w64)) (List._∷_ (
@@ -6663,289 +6495,6 @@ t73 = List._∷_ (0, Rows.sc-here (Row.sInt Syntax.w64)) (List._∷_ (
       7,
 ) (List._∷_ (
   9,
-  Part.mslice-owedP
-      (Referent.rtF (Referent.fInt Syntax.w8))
-      (Syntax.tyRef (Syntax.named 8) Syntax.mut (Syntax.tyInt Syntax.w8))
-      8
-      22
-      Row.off,
-) (List._∷_ (
-  10,
-  Part.mslice-owedP
-      (Referent.rtF (Referent.fInt Syntax.w8))
-      (Syntax.tyRef (Syntax.named 9) Syntax.mut (Syntax.tyInt Syntax.w8))
-      9
-      23
-      Row.off,
-) (List._∷_ (
-  11,
-  Relend.mslice-owed
-      (Referent.rtF (Referent.fInt Syntax.w8))
-      (Syntax.tyRef (Syntax.named 10) Syntax.mut (Syntax.tyInt Syntax.w8))
-      10
-      24
-      Row.off,
-) (List._∷_ (12, Rows.any-gone (Syntax.tyInt Syntax.w64)) (List._∷_ (
-  13,
-  Rows.any-gone (Syntax.tyInt Syntax.w64),
-) (List._∷_ (14, Rows.any-gone (Syntax.tyInt Syntax.w64)) (List._∷_ (
-  15,
-  Rows.any-gone (Syntax.tyRef Syntax.erased Syntax.mut (Syntax.tyInt Syntax.w64)),
-) List.[])))))))))))))))
-
-abbrev pub t74 : List.List Row.Entry
-t74 = List._∷_ (
-  32,
-  Rows.any-gone (Syntax.tyRef Syntax.erased Syntax.mut (Syntax.tyInt Syntax.w64)),
-) (List._∷_ (
-  33,
-  Rows.any-gone
-      (Syntax.tyStruct
-      (List._∷_ 38 (List._∷_ 91 (List._∷_ 93 List.[])))
-      (Syntax.tcons
-      (Syntax.tyRef Syntax.erased Syntax.mut (Syntax.tyInt Syntax.w64))
-      (Syntax.tcons (Syntax.tyInt Syntax.w64) Syntax.tnil))),
-)
-    (List._∷_
-    (34, Rows.any-gone (Syntax.tyRef Syntax.erased Syntax.mut (Syntax.tyInt Syntax.w8)))
-    (List._∷_ (
-      35,
-      Rows.any-gone
-          (Syntax.tyStruct
-          (List._∷_ 38 (List._∷_ 91 (List._∷_ 93 List.[])))
-          (Syntax.tcons
-          (Syntax.tyRef Syntax.erased Syntax.mut (Syntax.tyInt Syntax.w8))
-          (Syntax.tcons (Syntax.tyInt Syntax.w64) Syntax.tnil))),
-    ) (List._∷_ (
-      36,
-      Rows.any-gone (Syntax.tyRef Syntax.erased Syntax.mut (Syntax.tyInt Syntax.w8)),
-    ) (List._∷_ (
-      37,
-      Rows.any-gone
-          (Syntax.tyStruct
-          (List._∷_ 38 (List._∷_ 91 (List._∷_ 93 List.[])))
-          (Syntax.tcons
-          (Syntax.tyRef Syntax.erased Syntax.mut (Syntax.tyInt Syntax.w8))
-          (Syntax.tcons (Syntax.tyInt Syntax.w64) Syntax.tnil))),
-    ) (List._∷_ (
-      38,
-      Rows.any-gone (Syntax.tyRef Syntax.erased Syntax.mut (Syntax.tyInt Syntax.w8)),
-    ) (List._∷_ (
-      39,
-      Mut.msleft
-          (Referent.rtF (Referent.fInt Syntax.w8))
-          (Syntax.tyRef Syntax.erased Syntax.mut (Syntax.tyInt Syntax.w8)),
-    ) (List._∷_ (
-      40,
-      Rows.any-gone (Syntax.tyRef Syntax.erased Syntax.mut (Syntax.tyInt Syntax.w8)),
-    ) (List._∷_ (
-      41,
-      Mut.msleft
-          (Referent.rtF (Referent.fInt Syntax.w8))
-          (Syntax.tyRef Syntax.erased Syntax.mut (Syntax.tyInt Syntax.w8)),
-    ) (List._∷_ (
-      42,
-      Rows.any-gone (Syntax.tyRef Syntax.erased Syntax.mut (Syntax.tyInt Syntax.w8)),
-    ) (List._∷_ (
-      43,
-      Mut.msleft
-          (Referent.rtF (Referent.fInt Syntax.w8))
-          (Syntax.tyRef Syntax.erased Syntax.mut (Syntax.tyInt Syntax.w8)),
-    ) List.[])))))))))))
-
-abbrev pub t75 : List.List Row.Entry
-t75 = List._∷_ (0, Rows.sc-here (Row.sInt Syntax.w64)) (List._∷_ (
-  1,
-  Rows.sslice
-      (Referent.rtF (Referent.fInt Syntax.w8))
-      (Syntax.tyRef (Syntax.named 0) Syntax.imm (Syntax.tyInt Syntax.w8))
-      0,
-) (List._∷_ (
-  2,
-  Mut.mslice
-      Elem.R
-      (Syntax.tyRef (Syntax.named 1) Syntax.mut Elem.ty)
-      1,
-) (List._∷_ (
-  3,
-  Mut.mslice
-      (Referent.rtF (Referent.fInt Syntax.w64))
-      (Syntax.tyRef (Syntax.named 2) Syntax.mut (Syntax.tyInt Syntax.w64))
-      2,
-) (List._∷_ (
-  4,
-  Mut.mslice
-      (Referent.rtF (Referent.fInt Syntax.w64))
-      (Syntax.tyRef (Syntax.named 3) Syntax.mut (Syntax.tyInt Syntax.w64))
-      3,
-) (List._∷_ (
-  5,
-  Mut.mslice
-      (Referent.rtF (Referent.fInt Syntax.w8))
-      (Syntax.tyRef (Syntax.named 4) Syntax.mut (Syntax.tyInt Syntax.w8))
-      4,
-) (List._∷_ (
-  6,
-  Mut.mslice
-      (Referent.rtF (Referent.fInt Syntax.w32))
-      (Syntax.tyRef (Syntax.named 5) Syntax.mut (Syntax.tyInt Syntax.w32))
-      5,
-) (List._∷_ (
-  7,
-  Mut.mslice
-      (Referent.rtF (Referent.fInt Syntax.w8))
-      (Syntax.tyRef (Syntax.named 6) Syntax.mut (Syntax.tyInt Syntax.w8))
-      6,
-) (List._∷_ (
-  8,
-  Mut.mslice
-      (Referent.rtF (Referent.fInt Syntax.w8))
-      (Syntax.tyRef (Syntax.named 7) Syntax.mut (Syntax.tyInt Syntax.w8))
-      7,
-) (List._∷_ (
-  9,
-  Mut.mslice
-      (Referent.rtF (Referent.fInt Syntax.w8))
-      (Syntax.tyRef (Syntax.named 8) Syntax.mut (Syntax.tyInt Syntax.w8))
-      8,
-) (List._∷_ (
-  10,
-  Part.mslice-owedP
-      (Referent.rtF (Referent.fInt Syntax.w8))
-      (Syntax.tyRef (Syntax.named 9) Syntax.mut (Syntax.tyInt Syntax.w8))
-      9
-      23
-      Row.off,
-) (List._∷_ (
-  11,
-  Relend.mslice-owed
-      (Referent.rtF (Referent.fInt Syntax.w8))
-      (Syntax.tyRef (Syntax.named 10) Syntax.mut (Syntax.tyInt Syntax.w8))
-      10
-      24
-      Row.off,
-) (List._∷_ (12, Rows.any-gone (Syntax.tyInt Syntax.w64)) (List._∷_ (
-  13,
-  Rows.any-gone (Syntax.tyInt Syntax.w64),
-) (List._∷_ (14, Rows.any-gone (Syntax.tyInt Syntax.w64)) (List._∷_ (
-  15,
-  Rows.any-gone (Syntax.tyRef Syntax.erased Syntax.mut (Syntax.tyInt Syntax.w64)),
-) List.[])))))))))))))))
-
-abbrev pub t76 : List.List Row.Entry
-t76 = List._∷_ (
-  32,
-  Rows.any-gone (Syntax.tyRef Syntax.erased Syntax.mut (Syntax.tyInt Syntax.w64)),
-) (List._∷_ (
-  33,
-  Rows.any-gone
-      (Syntax.tyStruct
-      (List._∷_ 38 (List._∷_ 91 (List._∷_ 93 List.[])))
-      (Syntax.tcons
-      (Syntax.tyRef Syntax.erased Syntax.mut (Syntax.tyInt Syntax.w64))
-      (Syntax.tcons (Syntax.tyInt Syntax.w64) Syntax.tnil))),
-)
-    (List._∷_
-    (34, Rows.any-gone (Syntax.tyRef Syntax.erased Syntax.mut (Syntax.tyInt Syntax.w8)))
-    (List._∷_ (
-      35,
-      Rows.any-gone
-          (Syntax.tyStruct
-          (List._∷_ 38 (List._∷_ 91 (List._∷_ 93 List.[])))
-          (Syntax.tcons
-          (Syntax.tyRef Syntax.erased Syntax.mut (Syntax.tyInt Syntax.w8))
-          (Syntax.tcons (Syntax.tyInt Syntax.w64) Syntax.tnil))),
-    ) (List._∷_ (
-      36,
-      Rows.any-gone (Syntax.tyRef Syntax.erased Syntax.mut (Syntax.tyInt Syntax.w8)),
-    ) (List._∷_ (
-      37,
-      Rows.any-gone
-          (Syntax.tyStruct
-          (List._∷_ 38 (List._∷_ 91 (List._∷_ 93 List.[])))
-          (Syntax.tcons
-          (Syntax.tyRef Syntax.erased Syntax.mut (Syntax.tyInt Syntax.w8))
-          (Syntax.tcons (Syntax.tyInt Syntax.w64) Syntax.tnil))),
-    ) (List._∷_ (
-      38,
-      Rows.any-gone (Syntax.tyRef Syntax.erased Syntax.mut (Syntax.tyInt Syntax.w8)),
-    ) (List._∷_ (
-      39,
-      Rows.any-gone
-          (Syntax.tyStruct
-          (List._∷_ 38 (List._∷_ 91 (List._∷_ 93 List.[])))
-          (Syntax.tcons
-          (Syntax.tyRef Syntax.erased Syntax.mut (Syntax.tyInt Syntax.w8))
-          (Syntax.tcons (Syntax.tyInt Syntax.w64) Syntax.tnil))),
-    ) (List._∷_ (
-      40,
-      Rows.any-gone (Syntax.tyRef Syntax.erased Syntax.mut (Syntax.tyInt Syntax.w8)),
-    ) (List._∷_ (
-      41,
-      Mut.msleft
-          (Referent.rtF (Referent.fInt Syntax.w8))
-          (Syntax.tyRef Syntax.erased Syntax.mut (Syntax.tyInt Syntax.w8)),
-    ) (List._∷_ (
-      42,
-      Rows.any-gone (Syntax.tyRef Syntax.erased Syntax.mut (Syntax.tyInt Syntax.w8)),
-    ) (List._∷_ (
-      43,
-      Mut.msleft
-          (Referent.rtF (Referent.fInt Syntax.w8))
-          (Syntax.tyRef Syntax.erased Syntax.mut (Syntax.tyInt Syntax.w8)),
-    ) List.[])))))))))))
-
-abbrev pub t77 : List.List Row.Entry
-t77 = List._∷_ (0, Rows.sc-here (Row.sInt Syntax.w64)) (List._∷_ (
-  1,
-  Rows.sslice
-      (Referent.rtF (Referent.fInt Syntax.w8))
-      (Syntax.tyRef (Syntax.named 0) Syntax.imm (Syntax.tyInt Syntax.w8))
-      0,
-) (List._∷_ (
-  2,
-  Mut.mslice
-      Elem.R
-      (Syntax.tyRef (Syntax.named 1) Syntax.mut Elem.ty)
-      1,
-) (List._∷_ (
-  3,
-  Mut.mslice
-      (Referent.rtF (Referent.fInt Syntax.w64))
-      (Syntax.tyRef (Syntax.named 2) Syntax.mut (Syntax.tyInt Syntax.w64))
-      2,
-) (List._∷_ (
-  4,
-  Mut.mslice
-      (Referent.rtF (Referent.fInt Syntax.w64))
-      (Syntax.tyRef (Syntax.named 3) Syntax.mut (Syntax.tyInt Syntax.w64))
-      3,
-) (List._∷_ (
-  5,
-  Mut.mslice
-      (Referent.rtF (Referent.fInt Syntax.w8))
-      (Syntax.tyRef (Syntax.named 4) Syntax.mut (Syntax.tyInt Syntax.w8))
-      4,
-) (List._∷_ (
-  6,
-  Mut.mslice
-      (Referent.rtF (Referent.fInt Syntax.w32))
-      (Syntax.tyRef (Syntax.named 5) Syntax.mut (Syntax.tyInt Syntax.w32))
-      5,
-) (List._∷_ (
-  7,
-  Mut.mslice
-      (Referent.rtF (Referent.fInt Syntax.w8))
-      (Syntax.tyRef (Syntax.named 6) Syntax.mut (Syntax.tyInt Syntax.w8))
-      6,
-) (List._∷_ (
-  8,
-  Mut.mslice
-      (Referent.rtF (Referent.fInt Syntax.w8))
-      (Syntax.tyRef (Syntax.named 7) Syntax.mut (Syntax.tyInt Syntax.w8))
-      7,
-) (List._∷_ (
-  9,
   Mut.mslice
       (Referent.rtF (Referent.fInt Syntax.w8))
       (Syntax.tyRef (Syntax.named 8) Syntax.mut (Syntax.tyInt Syntax.w8))
@@ -6962,7 +6511,7 @@ t77 = List._∷_ (0, Rows.sc-here (Row.sInt Syntax.w64)) (List._∷_ (
       (Referent.rtF (Referent.fInt Syntax.w8))
       (Syntax.tyRef (Syntax.named 10) Syntax.mut (Syntax.tyInt Syntax.w8))
       10
-      24
+      23
       Row.off,
 ) (List._∷_ (12, Rows.any-gone (Syntax.tyInt Syntax.w64)) (List._∷_ (
   13,
@@ -6972,71 +6521,57 @@ t77 = List._∷_ (0, Rows.sc-here (Row.sInt Syntax.w64)) (List._∷_ (
   Rows.any-gone (Syntax.tyRef Syntax.erased Syntax.mut (Syntax.tyInt Syntax.w64)),
 ) List.[])))))))))))))))
 
-abbrev pub t78 : List.List Row.Entry
-t78 = List._∷_ (
+abbrev pub t74 : List.List Row.Entry
+t74 = List._∷_ (
   32,
-  Rows.any-gone (Syntax.tyRef Syntax.erased Syntax.mut (Syntax.tyInt Syntax.w64)),
-) (List._∷_ (
-  33,
   Rows.any-gone
       (Syntax.tyStruct
       (List._∷_ 38 (List._∷_ 91 (List._∷_ 93 List.[])))
       (Syntax.tcons
-      (Syntax.tyRef Syntax.erased Syntax.mut (Syntax.tyInt Syntax.w64))
+      (Syntax.tyRef Syntax.erased Syntax.mut (Syntax.tyInt Syntax.w8))
       (Syntax.tcons (Syntax.tyInt Syntax.w64) Syntax.tnil))),
 )
     (List._∷_
-    (34, Rows.any-gone (Syntax.tyRef Syntax.erased Syntax.mut (Syntax.tyInt Syntax.w8)))
+    (33, Rows.any-gone (Syntax.tyRef Syntax.erased Syntax.mut (Syntax.tyInt Syntax.w8)))
     (List._∷_ (
-      35,
+      34,
       Rows.any-gone
           (Syntax.tyStruct
           (List._∷_ 38 (List._∷_ 91 (List._∷_ 93 List.[])))
           (Syntax.tcons
           (Syntax.tyRef Syntax.erased Syntax.mut (Syntax.tyInt Syntax.w8))
           (Syntax.tcons (Syntax.tyInt Syntax.w64) Syntax.tnil))),
+    ) (List._∷_ (
+      35,
+      Rows.any-gone (Syntax.tyRef Syntax.erased Syntax.mut (Syntax.tyInt Syntax.w8)),
     ) (List._∷_ (
       36,
-      Rows.any-gone (Syntax.tyRef Syntax.erased Syntax.mut (Syntax.tyInt Syntax.w8)),
+      Rows.any-gone
+          (Syntax.tyStruct
+          (List._∷_ 38 (List._∷_ 91 (List._∷_ 93 List.[])))
+          (Syntax.tcons
+          (Syntax.tyRef Syntax.erased Syntax.mut (Syntax.tyInt Syntax.w8))
+          (Syntax.tcons (Syntax.tyInt Syntax.w64) Syntax.tnil))),
     ) (List._∷_ (
       37,
-      Rows.any-gone
-          (Syntax.tyStruct
-          (List._∷_ 38 (List._∷_ 91 (List._∷_ 93 List.[])))
-          (Syntax.tcons
-          (Syntax.tyRef Syntax.erased Syntax.mut (Syntax.tyInt Syntax.w8))
-          (Syntax.tcons (Syntax.tyInt Syntax.w64) Syntax.tnil))),
+      Rows.any-gone (Syntax.tyRef Syntax.erased Syntax.mut (Syntax.tyInt Syntax.w8)),
     ) (List._∷_ (
       38,
-      Rows.any-gone (Syntax.tyRef Syntax.erased Syntax.mut (Syntax.tyInt Syntax.w8)),
+      Rows.any-gone
+          (Syntax.tyStruct
+          (List._∷_ 38 (List._∷_ 91 (List._∷_ 93 List.[])))
+          (Syntax.tcons
+          (Syntax.tyRef Syntax.erased Syntax.mut (Syntax.tyInt Syntax.w8))
+          (Syntax.tcons (Syntax.tyInt Syntax.w64) Syntax.tnil))),
     ) (List._∷_ (
       39,
-      Rows.any-gone
-          (Syntax.tyStruct
-          (List._∷_ 38 (List._∷_ 91 (List._∷_ 93 List.[])))
-          (Syntax.tcons
-          (Syntax.tyRef Syntax.erased Syntax.mut (Syntax.tyInt Syntax.w8))
-          (Syntax.tcons (Syntax.tyInt Syntax.w64) Syntax.tnil))),
+      Rows.any-gone (Syntax.tyRef Syntax.erased Syntax.mut (Syntax.tyInt Syntax.w8)),
     ) (List._∷_ (
       40,
-      Rows.any-gone (Syntax.tyRef Syntax.erased Syntax.mut (Syntax.tyInt Syntax.w8)),
-    ) (List._∷_ (
-      41,
-      Rows.any-gone
-          (Syntax.tyStruct
-          (List._∷_ 38 (List._∷_ 91 (List._∷_ 93 List.[])))
-          (Syntax.tcons
-          (Syntax.tyRef Syntax.erased Syntax.mut (Syntax.tyInt Syntax.w8))
-          (Syntax.tcons (Syntax.tyInt Syntax.w64) Syntax.tnil))),
-    ) (List._∷_ (
-      42,
-      Rows.any-gone (Syntax.tyRef Syntax.erased Syntax.mut (Syntax.tyInt Syntax.w8)),
-    ) (List._∷_ (
-      43,
       Mut.msleft
           (Referent.rtF (Referent.fInt Syntax.w8))
           (Syntax.tyRef Syntax.erased Syntax.mut (Syntax.tyInt Syntax.w8)),
-    ) List.[])))))))))))
+    ) List.[]))))))))
 
 abbrev pub T0 : Row.Cx
 T0 = record { locals = List._++_ t0 (List._++_ t1 t2); slots = List.[] }
@@ -7098,173 +6633,155 @@ T21 = record { locals = List._++_ t12 (List._++_ t13 t2); slots = List.[] }
 abbrev pub T22 : Row.Cx
 T22 = record { locals = List._++_ t12 (List._++_ t14 t2); slots = List.[] }
 
-abbrev pub T23 : Row.Cx
-T23 = record { locals = List._++_ t15 (List._++_ t16 t2); slots = List.[] }
+abbrev pub T24 : Row.Cx
+T24 = record { locals = List._++_ t15 (List._++_ t16 t2); slots = List.[] }
 
 abbrev pub T25 : Row.Cx
-T25 = record { locals = List._++_ t17 (List._++_ t18 t2); slots = List.[] }
+T25 = record { locals = List._++_ t15 (List._++_ t17 t2); slots = List.[] }
 
 abbrev pub T26 : Row.Cx
-T26 = record { locals = List._++_ t17 (List._++_ t18 t2); slots = List.[] }
+T26 = record { locals = List._++_ t18 (List._++_ t19 t2); slots = List.[] }
+
+abbrev pub T28 : Row.Cx
+T28 = record { locals = List._++_ t20 (List._++_ t21 t2); slots = List.[] }
 
 abbrev pub T29 : Row.Cx
-T29 = record { locals = List._++_ t19 (List._++_ t20 t2); slots = List.[] }
+T29 = record { locals = List._++_ t20 (List._++_ t21 t2); slots = List.[] }
 
-abbrev pub T30 : Row.Cx
-T30 = record { locals = List._++_ t19 (List._++_ t20 t2); slots = List.[] }
+abbrev pub T32 : Row.Cx
+T32 = record { locals = List._++_ t22 (List._++_ t23 t2); slots = List.[] }
 
 abbrev pub T33 : Row.Cx
-T33 = record { locals = List._++_ t21 (List._++_ t1 t2); slots = List.[] }
+T33 = record { locals = List._++_ t22 (List._++_ t23 t2); slots = List.[] }
 
-abbrev pub T34 : Row.Cx
-T34 = record { locals = List._++_ t21 (List._++_ t1 t2); slots = List.[] }
+abbrev pub T36 : Row.Cx
+T36 = record { locals = List._++_ t24 (List._++_ t25 t2); slots = List.[] }
 
 abbrev pub T37 : Row.Cx
-T37 = record { locals = List._++_ t22 (List._++_ t23 t2); slots = List.[] }
-
-abbrev pub T38 : Row.Cx
-T38 = record { locals = List._++_ t22 (List._++_ t24 t2); slots = List.[] }
+T37 = record { locals = List._++_ t24 (List._++_ t25 t2); slots = List.[] }
 
 abbrev pub T40 : Row.Cx
-T40 = record { locals = List._++_ t25 (List._++_ t26 t2); slots = List.[] }
-
-abbrev pub T41 : Row.Cx
-T41 = record { locals = List._++_ t25 (List._++_ t27 t2); slots = List.[] }
-
-abbrev pub T42 : Row.Cx
-T42 = record { locals = List._++_ t25 (List._++_ t28 t2); slots = List.[] }
+T40 = record { locals = List._++_ t26 (List._++_ t1 t2); slots = List.[] }
 
 abbrev pub T43 : Row.Cx
-T43 = record { locals = List._++_ t25 (List._++_ t29 t2); slots = List.[] }
+T43 = record { locals = List._++_ t27 (List._++_ t28 t2); slots = List.[] }
 
 abbrev pub T44 : Row.Cx
-T44 = record { locals = List._++_ t25 (List._++_ t30 t2); slots = List.[] }
+T44 = record { locals = List._++_ t27 (List._++_ t29 t2); slots = List.[] }
 
 abbrev pub T46 : Row.Cx
-T46 = record { locals = List._++_ t31 (List._++_ t30 t2); slots = List.[] }
+T46 = record { locals = List._++_ t30 (List._++_ t31 t2); slots = List.[] }
+
+abbrev pub T47 : Row.Cx
+T47 = record { locals = List._++_ t30 (List._++_ t32 t2); slots = List.[] }
 
 abbrev pub T49 : Row.Cx
-T49 = record { locals = List._++_ t21 (List._++_ t1 t2); slots = List.[] }
+T49 = record { locals = List._++_ t33 (List._++_ t34 t2); slots = List.[] }
+
+abbrev pub T50 : Row.Cx
+T50 = record { locals = List._++_ t33 (List._++_ t35 t2); slots = List.[] }
 
 abbrev pub T52 : Row.Cx
-T52 = record { locals = List._++_ t32 (List._++_ t33 t2); slots = List.[] }
+T52 = record { locals = List._++_ t36 (List._++_ t37 t2); slots = List.[] }
 
 abbrev pub T53 : Row.Cx
-T53 = record { locals = List._++_ t32 (List._++_ t34 t2); slots = List.[] }
+T53 = record { locals = List._++_ t36 (List._++_ t38 t2); slots = List.[] }
 
 abbrev pub T55 : Row.Cx
-T55 = record { locals = List._++_ t35 (List._++_ t36 t2); slots = List.[] }
+T55 = record { locals = List._++_ t39 (List._++_ t40 t2); slots = List.[] }
 
 abbrev pub T56 : Row.Cx
-T56 = record { locals = List._++_ t35 (List._++_ t37 t2); slots = List.[] }
+T56 = record { locals = List._++_ t39 (List._++_ t38 t41); slots = List.[] }
 
 abbrev pub T58 : Row.Cx
-T58 = record { locals = List._++_ t38 (List._++_ t39 t2); slots = List.[] }
+T58 = record { locals = List._++_ t42 (List._++_ t38 t43); slots = List.[] }
 
 abbrev pub T59 : Row.Cx
-T59 = record { locals = List._++_ t38 (List._++_ t40 t2); slots = List.[] }
+T59 = record { locals = List._++_ t42 (List._++_ t38 t44); slots = List.[] }
 
 abbrev pub T61 : Row.Cx
-T61 = record { locals = List._++_ t41 (List._++_ t40 t42); slots = List.[] }
+T61 = record { locals = List._++_ t45 (List._++_ t38 t46); slots = List.[] }
 
 abbrev pub T62 : Row.Cx
-T62 = record { locals = List._++_ t41 (List._++_ t40 t43); slots = List.[] }
+T62 = record { locals = List._++_ t45 (List._++_ t38 t47); slots = List.[] }
 
 abbrev pub T64 : Row.Cx
-T64 = record { locals = List._++_ t44 (List._++_ t40 t45); slots = List.[] }
+T64 = record { locals = List._++_ t48 (List._++_ t38 t49); slots = List.[] }
 
 abbrev pub T65 : Row.Cx
-T65 = record { locals = List._++_ t44 (List._++_ t40 t46); slots = List.[] }
+T65 = record { locals = List._++_ t48 (List._++_ t38 t50); slots = List.[] }
 
 abbrev pub T67 : Row.Cx
-T67 = record { locals = List._++_ t47 (List._++_ t40 t48); slots = List.[] }
+T67 = record { locals = List._++_ t51 (List._++_ t38 t52); slots = List.[] }
 
 abbrev pub T68 : Row.Cx
-T68 = record { locals = List._++_ t47 (List._++_ t40 t49); slots = List.[] }
+T68 = record { locals = List._++_ t51 (List._++_ t38 t53); slots = List.[] }
+
+abbrev pub T69 : Row.Cx
+T69 = record { locals = List._++_ t54 (List._++_ t55 t56); slots = List.[] }
 
 abbrev pub T70 : Row.Cx
-T70 = record { locals = List._++_ t50 (List._++_ t40 t51); slots = List.[] }
+T70 = record { locals = List._++_ t54 (List._++_ t57 t56); slots = List.[] }
 
 abbrev pub T71 : Row.Cx
-T71 = record { locals = List._++_ t50 (List._++_ t40 t52); slots = List.[] }
+T71 = record { locals = List._++_ t54 (List._++_ t58 t56); slots = List.[] }
+
+abbrev pub T72 : Row.Cx
+T72 = record { locals = List._++_ t54 (List._++_ t59 t56); slots = List.[] }
 
 abbrev pub T73 : Row.Cx
-T73 = record { locals = List._++_ t53 (List._++_ t40 t54); slots = List.[] }
+T73 = record { locals = List._++_ t60 (List._++_ t59 t56); slots = List.[] }
 
 abbrev pub T74 : Row.Cx
-T74 = record { locals = List._++_ t53 (List._++_ t40 t55); slots = List.[] }
+T74 = record { locals = List._++_ t61 (List._++_ t59 t56); slots = List.[] }
 
-abbrev pub T76 : Row.Cx
-T76 = record { locals = List._++_ t56 (List._++_ t40 t57); slots = List.[] }
+abbrev pub T75 : Row.Cx
+T75 = record { locals = List._++_ t62 (List._++_ t59 t56); slots = List.[] }
 
 abbrev pub T77 : Row.Cx
-T77 = record { locals = List._++_ t56 (List._++_ t40 t58); slots = List.[] }
-
-abbrev pub T78 : Row.Cx
-T78 = record { locals = List._++_ t59 (List._++_ t40 t60); slots = List.[] }
-
-abbrev pub T79 : Row.Cx
-T79 = record { locals = List._++_ t59 (List._++_ t61 t60); slots = List.[] }
+T77 = record { locals = List._++_ t63 (List._++_ t59 t56); slots = List.[] }
 
 abbrev pub T80 : Row.Cx
-T80 = record { locals = List._++_ t59 (List._++_ t62 t60); slots = List.[] }
-
-abbrev pub T81 : Row.Cx
-T81 = record { locals = List._++_ t59 (List._++_ t1 t60); slots = List.[] }
-
-abbrev pub T82 : Row.Cx
-T82 = record { locals = List._++_ t63 (List._++_ t1 t60); slots = List.[] }
+T80 = record { locals = List._++_ t64 (List._++_ t59 t56); slots = List.[] }
 
 abbrev pub T83 : Row.Cx
-T83 = record { locals = List._++_ t64 (List._++_ t1 t60); slots = List.[] }
-
-abbrev pub T84 : Row.Cx
-T84 = record { locals = List._++_ t65 (List._++_ t1 t60); slots = List.[] }
+T83 = record { locals = List._++_ t65 (List._++_ t59 t56); slots = List.[] }
 
 abbrev pub T86 : Row.Cx
-T86 = record { locals = List._++_ t66 (List._++_ t1 t60); slots = List.[] }
+T86 = record { locals = List._++_ t66 (List._++_ t1 t56); slots = List.[] }
 
-abbrev pub T89 : Row.Cx
-T89 = record { locals = List._++_ t67 (List._++_ t1 t60); slots = List.[] }
+abbrev pub T87 : Row.Cx
+T87 = record { locals = List._++_ t66 (List._++_ t1 t56); slots = List.[] }
 
-abbrev pub T92 : Row.Cx
-T92 = record { locals = List._++_ t68 (List._++_ t1 t60); slots = List.[] }
+abbrev pub T90 : Row.Cx
+T90 = record { locals = List._++_ t67 (List._++_ t1 t68); slots = List.[] }
+
+abbrev pub T91 : Row.Cx
+T91 = record { locals = List._++_ t67 (List._++_ t1 t68); slots = List.[] }
+
+abbrev pub T94 : Row.Cx
+T94 = record { locals = List._++_ t69 (List._++_ t1 t70); slots = List.[] }
 
 abbrev pub T95 : Row.Cx
 T95 = record { locals = List._++_ t69 (List._++_ t1 t70); slots = List.[] }
 
-abbrev pub T96 : Row.Cx
-T96 = record { locals = List._++_ t69 (List._++_ t1 t70); slots = List.[] }
+abbrev pub T98 : Row.Cx
+T98 = record { locals = List._++_ t71 (List._++_ t1 t72); slots = List.[] }
 
 abbrev pub T99 : Row.Cx
 T99 = record { locals = List._++_ t71 (List._++_ t1 t72); slots = List.[] }
 
-abbrev pub T100 : Row.Cx
-T100 = record { locals = List._++_ t71 (List._++_ t1 t72); slots = List.[] }
+abbrev pub T102 : Row.Cx
+T102 = record { locals = List._++_ t73 (List._++_ t1 t74); slots = List.[] }
 
 abbrev pub T103 : Row.Cx
 T103 = record { locals = List._++_ t73 (List._++_ t1 t74); slots = List.[] }
 
-abbrev pub T104 : Row.Cx
-T104 = record { locals = List._++_ t73 (List._++_ t1 t74); slots = List.[] }
+abbrev pub T106 : Row.Cx
+T106 = record { locals = List._++_ t3 (List._++_ t1 t2); slots = List.[] }
 
 abbrev pub T107 : Row.Cx
-T107 = record { locals = List._++_ t75 (List._++_ t1 t76); slots = List.[] }
-
-abbrev pub T108 : Row.Cx
-T108 = record { locals = List._++_ t75 (List._++_ t1 t76); slots = List.[] }
-
-abbrev pub T111 : Row.Cx
-T111 = record { locals = List._++_ t77 (List._++_ t1 t78); slots = List.[] }
-
-abbrev pub T112 : Row.Cx
-T112 = record { locals = List._++_ t77 (List._++_ t1 t78); slots = List.[] }
-
-abbrev pub T115 : Row.Cx
-T115 = record { locals = List._++_ t3 (List._++_ t1 t2); slots = List.[] }
-
-abbrev pub T116 : Row.Cx
-T116 = record { locals = List._++_ t3 (List._++_ t1 t2); slots = List.[] }
+T107 = record { locals = List._++_ t3 (List._++_ t1 t2); slots = List.[] }
 
 abbrev pub O0 : Typed.Outs
 O0 = record { next = Option.none; exits = List.[]; returns = Option.some T1 }
@@ -7512,8 +7029,42 @@ module _ (claims· : Claims) where
       λ v. Shared.lenV
       (v .0))
 
-  abbrev s21 : Typed.Both T22 T23
-  s21 = Call.callB ps·0 r·0 (claims· .0) (claims· .1) T22 (
+  abbrev s22 : Typed.Gives T22 T24
+  s22 =
+      Relend.k-sl-relend
+      Elem.R
+      T22
+      2
+      21
+      1
+      14
+      (Syntax.tyRef (Syntax.named 1) Syntax.mut Elem.ty)
+      (Syntax.tyRef Syntax.erased Syntax.mut Elem.ty)
+      Row.off
+      λ x. x
+
+  abbrev s23 : Typed.Asks T24 T25
+  s23 =
+      Relend.k-sl-aggregate
+      Elem.R
+      (Relend.asMut Elem.R)
+      T24
+      21
+      22
+      14
+      (Syntax.tyRef Syntax.erased Syntax.mut Elem.ty)
+      (Syntax.tyRef Syntax.erased Syntax.mut Elem.ty)
+      (λ x. x)
+      (Scalar.oFld
+      2
+      (List._∷_ (Syntax.field 1) List.[])
+      (Syntax.tyInt Syntax.w64)
+      8
+      λ v. Shared.lenV
+      (v .0))
+
+  abbrev s24 : Typed.Both T25 T26
+  s24 = Call.callB ps·0 r·0 (claims· .0) (claims· .1) T25 (
     record {
       pos = 1;
       ty = Syntax.tyRef (Syntax.named 0) Syntax.imm (Syntax.tyInt Syntax.w8);
@@ -7537,17 +7088,30 @@ module _ (claims· : Claims) where
             ty = Syntax.tyRef Syntax.erased Syntax.mut (Syntax.tyInt Syntax.w32);
             ref = λ x. x;
           },
-          tt,
+          (
+            record {
+              pos = 22;
+              ty = Syntax.tyRef
+                  Syntax.erased
+                  Syntax.mut
+                  Elem.ty;
+              ref = λ x. x;
+            },
+            tt,
+          ),
         ),
       ),
     ),
-  ) 14 (List._∷_ 0 (List._∷_ 11 (List._∷_ 12 (List._∷_ 13 List.[])))) (Syntax.tyInt Syntax.w64)
+  )
+      14
+      (List._∷_ 0 (List._∷_ 11 (List._∷_ 12 (List._∷_ 13 (List._∷_ 14 List.[])))))
+      (Syntax.tyInt Syntax.w64)
 
-  abbrev s23 : Typed.Both T23 T25
-  s23 =
+  abbrev s26 : Typed.Both T26 T28
+  s26 =
       Relend.k-back-sl
       (Referent.rtF (Referent.fInt Syntax.w64))
-      T23
+      T26
       16
       4
       3
@@ -7558,11 +7122,11 @@ module _ (claims· : Claims) where
       (λ x. x)
       λ x. x
 
-  abbrev s24 : Typed.Gives T25 T26
-  s24 =
+  abbrev s27 : Typed.Gives T28 T29
+  s27 =
       Know.k-sl-known
       (Referent.fInt Syntax.w64)
-      T25
+      T28
       4
       3
       (Syntax.tyRef (Syntax.named 3) Syntax.mut (Syntax.tyInt Syntax.w64))
@@ -7570,11 +7134,11 @@ module _ (claims· : Claims) where
       0
       λ x. x
 
-  abbrev s27 : Typed.Both T26 T29
-  s27 =
+  abbrev s30 : Typed.Both T29 T32
+  s30 =
       Relend.k-back-sl
       (Referent.rtF (Referent.fInt Syntax.w8))
-      T26
+      T29
       18
       5
       4
@@ -7585,11 +7149,11 @@ module _ (claims· : Claims) where
       (λ x. x)
       λ x. x
 
-  abbrev s28 : Typed.Gives T29 T30
-  s28 =
+  abbrev s31 : Typed.Gives T32 T33
+  s31 =
       Know.k-sl-known
       (Referent.fInt Syntax.w8)
-      T29
+      T32
       5
       4
       (Syntax.tyRef (Syntax.named 4) Syntax.mut (Syntax.tyInt Syntax.w8))
@@ -7597,11 +7161,11 @@ module _ (claims· : Claims) where
       0
       λ x. x
 
-  abbrev s31 : Typed.Both T30 T33
-  s31 =
+  abbrev s34 : Typed.Both T33 T36
+  s34 =
       Relend.k-back-sl
       (Referent.rtF (Referent.fInt Syntax.w32))
-      T30
+      T33
       20
       6
       5
@@ -7612,11 +7176,11 @@ module _ (claims· : Claims) where
       (λ x. x)
       λ x. x
 
-  abbrev s32 : Typed.Gives T33 T34
-  s32 =
+  abbrev s35 : Typed.Gives T36 T37
+  s35 =
       Know.k-sl-known
       (Referent.fInt Syntax.w32)
-      T33
+      T36
       6
       5
       (Syntax.tyRef (Syntax.named 5) Syntax.mut (Syntax.tyInt Syntax.w32))
@@ -7624,65 +7188,46 @@ module _ (claims· : Claims) where
       0
       λ x. x
 
-  abbrev s35 : Typed.Gives T34 T37
-  s35 =
-      Reshare.k-sl-reshare
-      (Referent.rtF (Referent.fInt Syntax.w64))
-      T34
-      4
-      22
-      3
-      14
-      (Syntax.tyRef (Syntax.named 3) Syntax.mut (Syntax.tyInt Syntax.w64))
-      (Syntax.tyRef Syntax.erased Syntax.imm (Syntax.tyInt Syntax.w64))
-      Row.off
-      λ x. x
-
-  abbrev s36 : Typed.Asks T37 T38
-  s36 =
-      Relend.k-sl-aggregate
-      (Referent.rtF (Referent.fInt Syntax.w64))
-      (Relend.asShr (Referent.rtF (Referent.fInt Syntax.w64)))
+  abbrev s38 : Typed.Both T37 T40
+  s38 =
+      Relend.k-back-sl
+      Elem.R
       T37
       22
-      23
-      14
-      (Syntax.tyRef Syntax.erased Syntax.imm (Syntax.tyInt Syntax.w64))
-      (Syntax.tyRef Syntax.erased Syntax.imm (Syntax.tyInt Syntax.w64))
-      (λ x. x)
-      (Scalar.oFld
-      4
-      (List._∷_ (Syntax.field 1) List.[])
-      (Syntax.tyInt Syntax.w64)
-      8
-      λ v. Shared.lenV
-      (v .0))
-
-  abbrev s38 : Typed.Gives T38 T40
-  s38 =
-      Relend.k-sl-relend
-      Elem.R
-      T38
       2
-      24
       1
-      15
+      14
       (Syntax.tyRef (Syntax.named 1) Syntax.mut Elem.ty)
       (Syntax.tyRef Syntax.erased Syntax.mut Elem.ty)
       Row.off
+      (λ x. x)
       λ x. x
 
-  abbrev s39 : Typed.Asks T40 T41
-  s39 =
+  abbrev s41 : Typed.Gives T40 T43
+  s41 =
+      Reshare.k-sl-reshare
+      Elem.R
+      T40
+      2
+      23
+      1
+      15
+      (Syntax.tyRef (Syntax.named 1) Syntax.mut Elem.ty)
+      (Syntax.tyRef Syntax.erased Syntax.imm Elem.ty)
+      Row.off
+      λ x. x
+
+  abbrev s42 : Typed.Asks T43 T44
+  s42 =
       Relend.k-sl-aggregate
       Elem.R
-      (Relend.asMut Elem.R)
-      T40
+      (Relend.asShr Elem.R)
+      T43
+      23
       24
-      25
       15
-      (Syntax.tyRef Syntax.erased Syntax.mut Elem.ty)
-      (Syntax.tyRef Syntax.erased Syntax.mut Elem.ty)
+      (Syntax.tyRef Syntax.erased Syntax.imm Elem.ty)
+      (Syntax.tyRef Syntax.erased Syntax.imm Elem.ty)
       (λ x. x)
       (Scalar.oFld
       2
@@ -7692,224 +7237,209 @@ module _ (claims· : Claims) where
       λ v. Shared.lenV
       (v .0))
 
-  abbrev s40 : Typed.Both T41 T42
-  s40 = Call.callB ps·1 r·1 (claims· .2) (claims· .3) T41 (
-    record {
-      pos = 1;
-      ty = Syntax.tyRef (Syntax.named 0) Syntax.imm (Syntax.tyInt Syntax.w8);
-      ref = λ x. x;
-    },
-    (
-      record {
-        pos = 23;
-        ty = Syntax.tyRef Syntax.erased Syntax.imm (Syntax.tyInt Syntax.w64);
-        ref = λ x. x;
-      },
-      (
-        record {
-          pos = 25;
-          ty = Syntax.tyRef
-              Syntax.erased
-              Syntax.mut
-              Elem.ty;
-          ref = λ x. x;
-        },
-        tt,
-      ),
-    ),
-  ) 21 (List._∷_ 0 (List._∷_ 14 (List._∷_ 15 List.[]))) (Syntax.tyInt Syntax.w64)
-
-  abbrev s41 : Typed.Mo T42 → Typed.Mo T43
-  s41 =
-      Scalar.n-room
-      T42
-      23
-      (Syntax.tyStruct
-      (List._∷_ 38 (List._∷_ 91 (List._∷_ 93 List.[])))
-      (Syntax.tcons
-      (Syntax.tyRef Syntax.erased Syntax.imm (Syntax.tyInt Syntax.w64))
-      (Syntax.tcons (Syntax.tyInt Syntax.w64) Syntax.tnil)))
-
-  abbrev s42 : Typed.Mo T43 → Typed.Mo T44
-  s42 = Scalar.n-room T43 21 (Syntax.tyInt Syntax.w64)
-
-  abbrev s44 : Typed.Mo T44 → Typed.Mo T46
+  abbrev s44 : Typed.Gives T44 T46
   s44 =
-      Reshare.n-back-sl-shr
+      Reshare.k-sl-reshare
       (Referent.rtF (Referent.fInt Syntax.w64))
       T44
       4
+      25
       3
-      14
+      16
       (Syntax.tyRef (Syntax.named 3) Syntax.mut (Syntax.tyInt Syntax.w64))
+      (Syntax.tyRef Syntax.erased Syntax.imm (Syntax.tyInt Syntax.w64))
       Row.off
       λ x. x
 
-  abbrev s47 : Typed.Both T46 T49
-  s47 =
-      Relend.k-back-sl
-      Elem.R
+  abbrev s45 : Typed.Asks T46 T47
+  s45 =
+      Relend.k-sl-aggregate
+      (Referent.rtF (Referent.fInt Syntax.w64))
+      (Relend.asShr (Referent.rtF (Referent.fInt Syntax.w64)))
       T46
       25
-      2
-      1
-      15
-      (Syntax.tyRef (Syntax.named 1) Syntax.mut Elem.ty)
-      (Syntax.tyRef Syntax.erased Syntax.mut Elem.ty)
-      Row.off
+      26
+      16
+      (Syntax.tyRef Syntax.erased Syntax.imm (Syntax.tyInt Syntax.w64))
+      (Syntax.tyRef Syntax.erased Syntax.imm (Syntax.tyInt Syntax.w64))
       (λ x. x)
+      (Scalar.oFld
+      4
+      (List._∷_ (Syntax.field 1) List.[])
+      (Syntax.tyInt Syntax.w64)
+      8
+      λ v. Shared.lenV
+      (v .0))
+
+  abbrev s47 : Typed.Gives T47 T49
+  s47 =
+      Reshare.k-sl-reshare
+      (Referent.rtF (Referent.fInt Syntax.w8))
+      T47
+      5
+      27
+      4
+      17
+      (Syntax.tyRef (Syntax.named 4) Syntax.mut (Syntax.tyInt Syntax.w8))
+      (Syntax.tyRef Syntax.erased Syntax.imm (Syntax.tyInt Syntax.w8))
+      Row.off
       λ x. x
 
-  abbrev s50 : Typed.Gives T49 T52
-  s50 =
-      Reshare.k-sl-reshare
-      Elem.R
+  abbrev s48 : Typed.Asks T49 T50
+  s48 =
+      Relend.k-sl-aggregate
+      (Referent.rtF (Referent.fInt Syntax.w8))
+      (Relend.asShr (Referent.rtF (Referent.fInt Syntax.w8)))
       T49
+      27
+      28
+      17
+      (Syntax.tyRef Syntax.erased Syntax.imm (Syntax.tyInt Syntax.w8))
+      (Syntax.tyRef Syntax.erased Syntax.imm (Syntax.tyInt Syntax.w8))
+      (λ x. x)
+      (Scalar.oFld
+      5
+      (List._∷_ (Syntax.field 1) List.[])
+      (Syntax.tyInt Syntax.w64)
+      8
+      λ v. Shared.lenV
+      (v .0))
+
+  abbrev s50 : Typed.Gives T50 T52
+  s50 =
+      Relend.k-sl-relend
+      (Referent.rtF (Referent.fInt Syntax.w64))
+      T50
+      3
+      29
       2
-      26
-      1
-      16
-      (Syntax.tyRef (Syntax.named 1) Syntax.mut Elem.ty)
-      (Syntax.tyRef Syntax.erased Syntax.imm Elem.ty)
+      18
+      (Syntax.tyRef (Syntax.named 2) Syntax.mut (Syntax.tyInt Syntax.w64))
+      (Syntax.tyRef Syntax.erased Syntax.mut (Syntax.tyInt Syntax.w64))
       Row.off
       λ x. x
 
   abbrev s51 : Typed.Asks T52 T53
   s51 =
       Relend.k-sl-aggregate
-      Elem.R
-      (Relend.asShr Elem.R)
+      (Referent.rtF (Referent.fInt Syntax.w64))
+      (Relend.asMut (Referent.rtF (Referent.fInt Syntax.w64)))
       T52
-      26
-      27
-      16
-      (Syntax.tyRef Syntax.erased Syntax.imm Elem.ty)
-      (Syntax.tyRef Syntax.erased Syntax.imm Elem.ty)
+      29
+      30
+      18
+      (Syntax.tyRef Syntax.erased Syntax.mut (Syntax.tyInt Syntax.w64))
+      (Syntax.tyRef Syntax.erased Syntax.mut (Syntax.tyInt Syntax.w64))
       (λ x. x)
       (Scalar.oFld
-      2
+      3
       (List._∷_ (Syntax.field 1) List.[])
       (Syntax.tyInt Syntax.w64)
       8
       λ v. Shared.lenV
       (v .0))
 
-  abbrev s53 : Typed.Gives T53 T55
+  abbrev s53 : Typed.Both T53 T55
   s53 =
-      Reshare.k-sl-reshare
-      (Referent.rtF (Referent.fInt Syntax.w64))
+      Part.k-sl-relendᵖ
+      (Referent.rtF (Referent.fInt Syntax.w8))
       T53
-      4
-      28
-      3
-      17
-      (Syntax.tyRef (Syntax.named 3) Syntax.mut (Syntax.tyInt Syntax.w64))
-      (Syntax.tyRef Syntax.erased Syntax.imm (Syntax.tyInt Syntax.w64))
+      7
+      31
+      6
+      19
+      (Syntax.tyRef (Syntax.named 6) Syntax.mut (Syntax.tyInt Syntax.w8))
+      (Syntax.tyRef Syntax.erased Syntax.mut (Syntax.tyInt Syntax.w8))
       Row.off
-      λ x. x
+      (λ x. x)
+      λ u. u .1 .1 .1 .1 .1 .1 .1 .1 .1 .1 .1 .1 .1 .0
 
   abbrev s54 : Typed.Asks T55 T56
   s54 =
       Relend.k-sl-aggregate
-      (Referent.rtF (Referent.fInt Syntax.w64))
-      (Relend.asShr (Referent.rtF (Referent.fInt Syntax.w64)))
+      (Referent.rtF (Referent.fInt Syntax.w8))
+      (Relend.asMut (Referent.rtF (Referent.fInt Syntax.w8)))
       T55
-      28
-      29
-      17
-      (Syntax.tyRef Syntax.erased Syntax.imm (Syntax.tyInt Syntax.w64))
-      (Syntax.tyRef Syntax.erased Syntax.imm (Syntax.tyInt Syntax.w64))
+      31
+      32
+      19
+      (Syntax.tyRef Syntax.erased Syntax.mut (Syntax.tyInt Syntax.w8))
+      (Syntax.tyRef Syntax.erased Syntax.mut (Syntax.tyInt Syntax.w8))
       (λ x. x)
-      (Scalar.oFld
-      4
-      (List._∷_ (Syntax.field 1) List.[])
-      (Syntax.tyInt Syntax.w64)
-      8
-      λ v. Shared.lenV
-      (v .0))
+      (Scalar.oAt 13 (Syntax.tyInt Syntax.w64) (Row.valS (Row.sInt Syntax.w64)))
 
-  abbrev s56 : Typed.Gives T56 T58
+  abbrev s56 : Typed.Both T56 T58
   s56 =
-      Reshare.k-sl-reshare
+      Part.k-sl-relendᵖ
       (Referent.rtF (Referent.fInt Syntax.w8))
       T56
-      5
-      30
-      4
-      18
-      (Syntax.tyRef (Syntax.named 4) Syntax.mut (Syntax.tyInt Syntax.w8))
-      (Syntax.tyRef Syntax.erased Syntax.imm (Syntax.tyInt Syntax.w8))
+      8
+      33
+      7
+      20
+      (Syntax.tyRef (Syntax.named 7) Syntax.mut (Syntax.tyInt Syntax.w8))
+      (Syntax.tyRef Syntax.erased Syntax.mut (Syntax.tyInt Syntax.w8))
       Row.off
-      λ x. x
+      (λ x. x)
+      λ u. u .1 .1 .1 .1 .1 .1 .1 .1 .1 .1 .1 .1 .0
 
   abbrev s57 : Typed.Asks T58 T59
   s57 =
       Relend.k-sl-aggregate
       (Referent.rtF (Referent.fInt Syntax.w8))
-      (Relend.asShr (Referent.rtF (Referent.fInt Syntax.w8)))
+      (Relend.asMut (Referent.rtF (Referent.fInt Syntax.w8)))
       T58
-      30
-      31
-      18
-      (Syntax.tyRef Syntax.erased Syntax.imm (Syntax.tyInt Syntax.w8))
-      (Syntax.tyRef Syntax.erased Syntax.imm (Syntax.tyInt Syntax.w8))
+      33
+      34
+      20
+      (Syntax.tyRef Syntax.erased Syntax.mut (Syntax.tyInt Syntax.w8))
+      (Syntax.tyRef Syntax.erased Syntax.mut (Syntax.tyInt Syntax.w8))
       (λ x. x)
-      (Scalar.oFld
-      5
-      (List._∷_ (Syntax.field 1) List.[])
-      (Syntax.tyInt Syntax.w64)
-      8
-      λ v. Shared.lenV
-      (v .0))
+      (Scalar.oAt 12 (Syntax.tyInt Syntax.w64) (Row.valS (Row.sInt Syntax.w64)))
 
-  abbrev s59 : Typed.Gives T59 T61
+  abbrev s59 : Typed.Both T59 T61
   s59 =
-      Relend.k-sl-relend
-      (Referent.rtF (Referent.fInt Syntax.w64))
+      Part.k-sl-relendᵖ
+      (Referent.rtF (Referent.fInt Syntax.w8))
       T59
-      3
-      32
-      2
-      19
-      (Syntax.tyRef (Syntax.named 2) Syntax.mut (Syntax.tyInt Syntax.w64))
-      (Syntax.tyRef Syntax.erased Syntax.mut (Syntax.tyInt Syntax.w64))
+      9
+      35
+      8
+      21
+      (Syntax.tyRef (Syntax.named 8) Syntax.mut (Syntax.tyInt Syntax.w8))
+      (Syntax.tyRef Syntax.erased Syntax.mut (Syntax.tyInt Syntax.w8))
       Row.off
-      λ x. x
+      (λ x. x)
+      λ u. u .1 .1 .1 .1 .1 .1 .1 .1 .1 .1 .1 .1 .0
 
   abbrev s60 : Typed.Asks T61 T62
   s60 =
       Relend.k-sl-aggregate
-      (Referent.rtF (Referent.fInt Syntax.w64))
-      (Relend.asMut (Referent.rtF (Referent.fInt Syntax.w64)))
+      (Referent.rtF (Referent.fInt Syntax.w8))
+      (Relend.asMut (Referent.rtF (Referent.fInt Syntax.w8)))
       T61
-      32
-      33
-      19
-      (Syntax.tyRef Syntax.erased Syntax.mut (Syntax.tyInt Syntax.w64))
-      (Syntax.tyRef Syntax.erased Syntax.mut (Syntax.tyInt Syntax.w64))
+      35
+      36
+      21
+      (Syntax.tyRef Syntax.erased Syntax.mut (Syntax.tyInt Syntax.w8))
+      (Syntax.tyRef Syntax.erased Syntax.mut (Syntax.tyInt Syntax.w8))
       (λ x. x)
-      (Scalar.oFld
-      3
-      (List._∷_ (Syntax.field 1) List.[])
-      (Syntax.tyInt Syntax.w64)
-      8
-      λ v. Shared.lenV
-      (v .0))
+      (Scalar.oAt 12 (Syntax.tyInt Syntax.w64) (Row.valS (Row.sInt Syntax.w64)))
 
   abbrev s62 : Typed.Both T62 T64
   s62 =
       Part.k-sl-relendᵖ
       (Referent.rtF (Referent.fInt Syntax.w8))
       T62
-      7
-      34
-      6
-      20
-      (Syntax.tyRef (Syntax.named 6) Syntax.mut (Syntax.tyInt Syntax.w8))
+      10
+      37
+      9
+      22
+      (Syntax.tyRef (Syntax.named 9) Syntax.mut (Syntax.tyInt Syntax.w8))
       (Syntax.tyRef Syntax.erased Syntax.mut (Syntax.tyInt Syntax.w8))
       Row.off
       (λ x. x)
-      λ u. u .1 .1 .1 .1 .1 .1 .1 .1 .1 .1 .1 .1 .1 .0
+      λ u. u .1 .1 .1 .1 .1 .1 .1 .1 .1 .1 .1 .1 .0
 
   abbrev s63 : Typed.Asks T64 T65
   s63 =
@@ -7917,28 +7447,27 @@ module _ (claims· : Claims) where
       (Referent.rtF (Referent.fInt Syntax.w8))
       (Relend.asMut (Referent.rtF (Referent.fInt Syntax.w8)))
       T64
-      34
-      35
-      20
+      37
+      38
+      22
       (Syntax.tyRef Syntax.erased Syntax.mut (Syntax.tyInt Syntax.w8))
       (Syntax.tyRef Syntax.erased Syntax.mut (Syntax.tyInt Syntax.w8))
       (λ x. x)
-      (Scalar.oAt 13 (Syntax.tyInt Syntax.w64) (Row.valS (Row.sInt Syntax.w64)))
+      (Scalar.oAt 12 (Syntax.tyInt Syntax.w64) (Row.valS (Row.sInt Syntax.w64)))
 
-  abbrev s65 : Typed.Both T65 T67
+  abbrev s65 : Typed.Gives T65 T67
   s65 =
-      Part.k-sl-relendᵖ
+      Relend.k-sl-relend
       (Referent.rtF (Referent.fInt Syntax.w8))
       T65
-      8
-      36
-      7
-      21
-      (Syntax.tyRef (Syntax.named 7) Syntax.mut (Syntax.tyInt Syntax.w8))
+      11
+      39
+      10
+      23
+      (Syntax.tyRef (Syntax.named 10) Syntax.mut (Syntax.tyInt Syntax.w8))
       (Syntax.tyRef Syntax.erased Syntax.mut (Syntax.tyInt Syntax.w8))
       Row.off
-      (λ x. x)
-      λ u. u .1 .1 .1 .1 .1 .1 .1 .1 .1 .1 .1 .1 .0
+      λ x. x
 
   abbrev s66 : Typed.Asks T67 T68
   s66 =
@@ -7946,95 +7475,9 @@ module _ (claims· : Claims) where
       (Referent.rtF (Referent.fInt Syntax.w8))
       (Relend.asMut (Referent.rtF (Referent.fInt Syntax.w8)))
       T67
-      36
-      37
-      21
-      (Syntax.tyRef Syntax.erased Syntax.mut (Syntax.tyInt Syntax.w8))
-      (Syntax.tyRef Syntax.erased Syntax.mut (Syntax.tyInt Syntax.w8))
-      (λ x. x)
-      (Scalar.oAt 12 (Syntax.tyInt Syntax.w64) (Row.valS (Row.sInt Syntax.w64)))
-
-  abbrev s68 : Typed.Both T68 T70
-  s68 =
-      Part.k-sl-relendᵖ
-      (Referent.rtF (Referent.fInt Syntax.w8))
-      T68
-      9
-      38
-      8
-      22
-      (Syntax.tyRef (Syntax.named 8) Syntax.mut (Syntax.tyInt Syntax.w8))
-      (Syntax.tyRef Syntax.erased Syntax.mut (Syntax.tyInt Syntax.w8))
-      Row.off
-      (λ x. x)
-      λ u. u .1 .1 .1 .1 .1 .1 .1 .1 .1 .1 .1 .1 .0
-
-  abbrev s69 : Typed.Asks T70 T71
-  s69 =
-      Relend.k-sl-aggregate
-      (Referent.rtF (Referent.fInt Syntax.w8))
-      (Relend.asMut (Referent.rtF (Referent.fInt Syntax.w8)))
-      T70
-      38
       39
-      22
-      (Syntax.tyRef Syntax.erased Syntax.mut (Syntax.tyInt Syntax.w8))
-      (Syntax.tyRef Syntax.erased Syntax.mut (Syntax.tyInt Syntax.w8))
-      (λ x. x)
-      (Scalar.oAt 12 (Syntax.tyInt Syntax.w64) (Row.valS (Row.sInt Syntax.w64)))
-
-  abbrev s71 : Typed.Both T71 T73
-  s71 =
-      Part.k-sl-relendᵖ
-      (Referent.rtF (Referent.fInt Syntax.w8))
-      T71
-      10
       40
-      9
       23
-      (Syntax.tyRef (Syntax.named 9) Syntax.mut (Syntax.tyInt Syntax.w8))
-      (Syntax.tyRef Syntax.erased Syntax.mut (Syntax.tyInt Syntax.w8))
-      Row.off
-      (λ x. x)
-      λ u. u .1 .1 .1 .1 .1 .1 .1 .1 .1 .1 .1 .1 .0
-
-  abbrev s72 : Typed.Asks T73 T74
-  s72 =
-      Relend.k-sl-aggregate
-      (Referent.rtF (Referent.fInt Syntax.w8))
-      (Relend.asMut (Referent.rtF (Referent.fInt Syntax.w8)))
-      T73
-      40
-      41
-      23
-      (Syntax.tyRef Syntax.erased Syntax.mut (Syntax.tyInt Syntax.w8))
-      (Syntax.tyRef Syntax.erased Syntax.mut (Syntax.tyInt Syntax.w8))
-      (λ x. x)
-      (Scalar.oAt 12 (Syntax.tyInt Syntax.w64) (Row.valS (Row.sInt Syntax.w64)))
-
-  abbrev s74 : Typed.Gives T74 T76
-  s74 =
-      Relend.k-sl-relend
-      (Referent.rtF (Referent.fInt Syntax.w8))
-      T74
-      11
-      42
-      10
-      24
-      (Syntax.tyRef (Syntax.named 10) Syntax.mut (Syntax.tyInt Syntax.w8))
-      (Syntax.tyRef Syntax.erased Syntax.mut (Syntax.tyInt Syntax.w8))
-      Row.off
-      λ x. x
-
-  abbrev s75 : Typed.Asks T76 T77
-  s75 =
-      Relend.k-sl-aggregate
-      (Referent.rtF (Referent.fInt Syntax.w8))
-      (Relend.asMut (Referent.rtF (Referent.fInt Syntax.w8)))
-      T76
-      42
-      43
-      24
       (Syntax.tyRef Syntax.erased Syntax.mut (Syntax.tyInt Syntax.w8))
       (Syntax.tyRef Syntax.erased Syntax.mut (Syntax.tyInt Syntax.w8))
       (λ x. x)
@@ -8046,8 +7489,8 @@ module _ (claims· : Claims) where
       λ v. Shared.lenV
       (v .0))
 
-  abbrev s76 : Typed.Both T77 T78
-  s76 = Call.callB ps·2 r·2 (claims· .4) (claims· .5) T77 (
+  abbrev s67 : Typed.Both T68 T69
+  s67 = Call.callB ps·1 r·1 (claims· .2) (claims· .3) T68 (
     record {
       pos = 1;
       ty = Syntax.tyRef (Syntax.named 0) Syntax.imm (Syntax.tyInt Syntax.w8);
@@ -8055,7 +7498,7 @@ module _ (claims· : Claims) where
     },
     (
       record {
-        pos = 27;
+        pos = 24;
         ty = Syntax.tyRef Syntax.erased Syntax.imm Elem.ty;
         ref = λ x. x;
       },
@@ -8063,49 +7506,49 @@ module _ (claims· : Claims) where
         Num.vAt 14 λ x. x,
         (
           record {
-            pos = 29;
+            pos = 26;
             ty = Syntax.tyRef Syntax.erased Syntax.imm (Syntax.tyInt Syntax.w64);
             ref = λ x. x;
           },
           (
             record {
-              pos = 31;
+              pos = 28;
               ty = Syntax.tyRef Syntax.erased Syntax.imm (Syntax.tyInt Syntax.w8);
               ref = λ x. x;
             },
             (
               record {
-                pos = 33;
+                pos = 30;
                 ty = Syntax.tyRef Syntax.erased Syntax.mut (Syntax.tyInt Syntax.w64);
                 ref = λ x. x;
               },
               (
                 record {
-                  pos = 35;
+                  pos = 32;
                   ty = Syntax.tyRef Syntax.erased Syntax.mut (Syntax.tyInt Syntax.w8);
                   ref = λ x. x;
                 },
                 (
                   record {
-                    pos = 37;
+                    pos = 34;
                     ty = Syntax.tyRef Syntax.erased Syntax.mut (Syntax.tyInt Syntax.w8);
                     ref = λ x. x;
                   },
                   (
                     record {
-                      pos = 39;
+                      pos = 36;
                       ty = Syntax.tyRef Syntax.erased Syntax.mut (Syntax.tyInt Syntax.w8);
                       ref = λ x. x;
                     },
                     (
                       record {
-                        pos = 41;
+                        pos = 38;
                         ty = Syntax.tyRef Syntax.erased Syntax.mut (Syntax.tyInt Syntax.w8);
                         ref = λ x. x;
                       },
                       (
                         record {
-                          pos = 43;
+                          pos = 40;
                           ty = Syntax.tyRef Syntax.erased Syntax.mut (Syntax.tyInt Syntax.w8);
                           ref = λ x. x;
                         },
@@ -8125,114 +7568,114 @@ module _ (claims· : Claims) where
       (List._∷_
       0
       (List._∷_
+      15
+      (List._∷_
       16
       (List._∷_
       17
       (List._∷_
       18
-      (List._∷_
-      19
-      (List._∷_ 20 (List._∷_ 21 (List._∷_ 22 (List._∷_ 23 (List._∷_ 24 List.[]))))))))))
+      (List._∷_ 19 (List._∷_ 20 (List._∷_ 21 (List._∷_ 22 (List._∷_ 23 List.[]))))))))))
       (Syntax.tyInt Syntax.w64)
 
-  abbrev s77 : Typed.Mo T78 → Typed.Mo T79
-  s77 =
+  abbrev s68 : Typed.Mo T69 → Typed.Mo T70
+  s68 =
       Scalar.n-room
-      T78
-      27
+      T69
+      24
       (Syntax.tyStruct
       (List._∷_ 38 (List._∷_ 91 (List._∷_ 93 List.[])))
       (Syntax.tcons
       (Syntax.tyRef Syntax.erased Syntax.imm Elem.ty)
       (Syntax.tcons (Syntax.tyInt Syntax.w64) Syntax.tnil)))
 
-  abbrev s78 : Typed.Mo T79 → Typed.Mo T80
-  s78 =
+  abbrev s69 : Typed.Mo T70 → Typed.Mo T71
+  s69 =
       Scalar.n-room
-      T79
-      29
+      T70
+      26
       (Syntax.tyStruct
       (List._∷_ 38 (List._∷_ 91 (List._∷_ 93 List.[])))
       (Syntax.tcons
       (Syntax.tyRef Syntax.erased Syntax.imm (Syntax.tyInt Syntax.w64))
       (Syntax.tcons (Syntax.tyInt Syntax.w64) Syntax.tnil)))
 
-  abbrev s79 : Typed.Mo T80 → Typed.Mo T81
-  s79 =
+  abbrev s70 : Typed.Mo T71 → Typed.Mo T72
+  s70 =
       Scalar.n-room
-      T80
-      31
+      T71
+      28
       (Syntax.tyStruct
       (List._∷_ 38 (List._∷_ 91 (List._∷_ 93 List.[])))
       (Syntax.tcons
       (Syntax.tyRef Syntax.erased Syntax.imm (Syntax.tyInt Syntax.w8))
       (Syntax.tcons (Syntax.tyInt Syntax.w64) Syntax.tnil)))
 
-  abbrev s80 : Typed.Mo T81 → Typed.Mo T82
-  s80 = Scalar.n-room T81 12 (Syntax.tyInt Syntax.w64)
+  abbrev s71 : Typed.Mo T72 → Typed.Mo T73
+  s71 = Scalar.n-room T72 12 (Syntax.tyInt Syntax.w64)
 
-  abbrev s81 : Typed.Mo T82 → Typed.Mo T83
-  s81 = Scalar.n-room T82 13 (Syntax.tyInt Syntax.w64)
+  abbrev s72 : Typed.Mo T73 → Typed.Mo T74
+  s72 = Scalar.n-room T73 13 (Syntax.tyInt Syntax.w64)
 
-  abbrev s82 : Typed.Mo T83 → Typed.Mo T84
-  s82 = Scalar.n-room T83 14 (Syntax.tyInt Syntax.w64)
+  abbrev s73 : Typed.Mo T74 → Typed.Mo T75
+  s73 = Scalar.n-room T74 14 (Syntax.tyInt Syntax.w64)
 
-  abbrev s84 : Typed.Mo T84 → Typed.Mo T86
-  s84 =
+  abbrev s75 : Typed.Mo T75 → Typed.Mo T77
+  s75 =
       Reshare.n-back-sl-shr
       Elem.R
-      T84
+      T75
       2
       1
-      16
+      15
       (Syntax.tyRef (Syntax.named 1) Syntax.mut Elem.ty)
       Row.off
       λ x. x
 
-  abbrev s87 : Typed.Mo T86 → Typed.Mo T89
-  s87 =
+  abbrev s78 : Typed.Mo T77 → Typed.Mo T80
+  s78 =
       Reshare.n-back-sl-shr
       (Referent.rtF (Referent.fInt Syntax.w64))
-      T86
+      T77
       4
       3
-      17
+      16
       (Syntax.tyRef (Syntax.named 3) Syntax.mut (Syntax.tyInt Syntax.w64))
       Row.off
       λ x. x
 
-  abbrev s90 : Typed.Mo T89 → Typed.Mo T92
-  s90 =
+  abbrev s81 : Typed.Mo T80 → Typed.Mo T83
+  s81 =
       Reshare.n-back-sl-shr
       (Referent.rtF (Referent.fInt Syntax.w8))
-      T89
+      T80
       5
       4
-      18
+      17
       (Syntax.tyRef (Syntax.named 4) Syntax.mut (Syntax.tyInt Syntax.w8))
       Row.off
       λ x. x
 
-  abbrev s93 : Typed.Both T92 T95
-  s93 =
+  abbrev s84 : Typed.Both T83 T86
+  s84 =
       Relend.k-back-sl
       (Referent.rtF (Referent.fInt Syntax.w64))
-      T92
-      33
+      T83
+      30
       3
       2
-      19
+      18
       (Syntax.tyRef (Syntax.named 2) Syntax.mut (Syntax.tyInt Syntax.w64))
       (Syntax.tyRef Syntax.erased Syntax.mut (Syntax.tyInt Syntax.w64))
       Row.off
       (λ x. x)
       λ x. x
 
-  abbrev s94 : Typed.Gives T95 T96
-  s94 =
+  abbrev s85 : Typed.Gives T86 T87
+  s85 =
       Know.k-sl-known
       (Referent.fInt Syntax.w64)
-      T95
+      T86
       3
       2
       (Syntax.tyRef (Syntax.named 2) Syntax.mut (Syntax.tyInt Syntax.w64))
@@ -8240,107 +7683,107 @@ module _ (claims· : Claims) where
       0
       λ x. x
 
-  abbrev s97 : Typed.Both T96 T99
-  s97 =
+  abbrev s88 : Typed.Both T87 T90
+  s88 =
       Part.k-back-slᵖ
       (Referent.rtF (Referent.fInt Syntax.w8))
-      T96
-      35
+      T87
+      32
       7
       6
+      19
+      (Syntax.tyRef (Syntax.named 6) Syntax.mut (Syntax.tyInt Syntax.w8))
+      (Syntax.tyRef Syntax.erased Syntax.mut (Syntax.tyInt Syntax.w8))
+      Row.off
+      (λ x. x)
+      λ x. x
+
+  abbrev s89 : Typed.Gives T90 T91
+  s89 =
+      Know.k-sl-known
+      (Referent.fInt Syntax.w8)
+      T90
+      7
+      6
+      (Syntax.tyRef (Syntax.named 6) Syntax.mut (Syntax.tyInt Syntax.w8))
+      Row.off
+      0
+      λ x. x
+
+  abbrev s92 : Typed.Both T91 T94
+  s92 =
+      Part.k-back-slᵖ
+      (Referent.rtF (Referent.fInt Syntax.w8))
+      T91
+      34
+      8
+      7
       20
-      (Syntax.tyRef (Syntax.named 6) Syntax.mut (Syntax.tyInt Syntax.w8))
+      (Syntax.tyRef (Syntax.named 7) Syntax.mut (Syntax.tyInt Syntax.w8))
       (Syntax.tyRef Syntax.erased Syntax.mut (Syntax.tyInt Syntax.w8))
       Row.off
       (λ x. x)
       λ x. x
 
-  abbrev s98 : Typed.Gives T99 T100
-  s98 =
+  abbrev s93 : Typed.Gives T94 T95
+  s93 =
       Know.k-sl-known
       (Referent.fInt Syntax.w8)
-      T99
+      T94
+      8
       7
-      6
-      (Syntax.tyRef (Syntax.named 6) Syntax.mut (Syntax.tyInt Syntax.w8))
+      (Syntax.tyRef (Syntax.named 7) Syntax.mut (Syntax.tyInt Syntax.w8))
       Row.off
       0
       λ x. x
 
-  abbrev s101 : Typed.Both T100 T103
-  s101 =
+  abbrev s96 : Typed.Both T95 T98
+  s96 =
       Part.k-back-slᵖ
       (Referent.rtF (Referent.fInt Syntax.w8))
-      T100
-      37
+      T95
+      36
+      9
       8
-      7
       21
-      (Syntax.tyRef (Syntax.named 7) Syntax.mut (Syntax.tyInt Syntax.w8))
+      (Syntax.tyRef (Syntax.named 8) Syntax.mut (Syntax.tyInt Syntax.w8))
       (Syntax.tyRef Syntax.erased Syntax.mut (Syntax.tyInt Syntax.w8))
       Row.off
       (λ x. x)
       λ x. x
 
-  abbrev s102 : Typed.Gives T103 T104
-  s102 =
+  abbrev s97 : Typed.Gives T98 T99
+  s97 =
       Know.k-sl-known
       (Referent.fInt Syntax.w8)
-      T103
+      T98
+      9
       8
-      7
-      (Syntax.tyRef (Syntax.named 7) Syntax.mut (Syntax.tyInt Syntax.w8))
+      (Syntax.tyRef (Syntax.named 8) Syntax.mut (Syntax.tyInt Syntax.w8))
       Row.off
       0
       λ x. x
 
-  abbrev s105 : Typed.Both T104 T107
-  s105 =
+  abbrev s100 : Typed.Both T99 T102
+  s100 =
       Part.k-back-slᵖ
       (Referent.rtF (Referent.fInt Syntax.w8))
-      T104
-      39
+      T99
+      38
+      10
       9
-      8
       22
-      (Syntax.tyRef (Syntax.named 8) Syntax.mut (Syntax.tyInt Syntax.w8))
-      (Syntax.tyRef Syntax.erased Syntax.mut (Syntax.tyInt Syntax.w8))
-      Row.off
-      (λ x. x)
-      λ x. x
-
-  abbrev s106 : Typed.Gives T107 T108
-  s106 =
-      Know.k-sl-known
-      (Referent.fInt Syntax.w8)
-      T107
-      9
-      8
-      (Syntax.tyRef (Syntax.named 8) Syntax.mut (Syntax.tyInt Syntax.w8))
-      Row.off
-      0
-      λ x. x
-
-  abbrev s109 : Typed.Both T108 T111
-  s109 =
-      Part.k-back-slᵖ
-      (Referent.rtF (Referent.fInt Syntax.w8))
-      T108
-      41
-      10
-      9
-      23
       (Syntax.tyRef (Syntax.named 9) Syntax.mut (Syntax.tyInt Syntax.w8))
       (Syntax.tyRef Syntax.erased Syntax.mut (Syntax.tyInt Syntax.w8))
       Row.off
       (λ x. x)
       λ x. x
 
-  abbrev s110 : Typed.Gives T111 T112
-  s110 =
+  abbrev s101 : Typed.Gives T102 T103
+  s101 =
       Know.k-sl-known
       (Referent.fInt Syntax.w8)
-      T111
+      T102
       10
       9
       (Syntax.tyRef (Syntax.named 9) Syntax.mut (Syntax.tyInt Syntax.w8))
@@ -8348,26 +7791,26 @@ module _ (claims· : Claims) where
       0
       λ x. x
 
-  abbrev s113 : Typed.Both T112 T115
-  s113 =
+  abbrev s104 : Typed.Both T103 T106
+  s104 =
       Relend.k-back-sl
       (Referent.rtF (Referent.fInt Syntax.w8))
-      T112
-      43
+      T103
+      40
       11
       10
-      24
+      23
       (Syntax.tyRef (Syntax.named 10) Syntax.mut (Syntax.tyInt Syntax.w8))
       (Syntax.tyRef Syntax.erased Syntax.mut (Syntax.tyInt Syntax.w8))
       Row.off
       (λ x. x)
       λ x. x
 
-  abbrev s114 : Typed.Gives T115 T116
-  s114 =
+  abbrev s105 : Typed.Gives T106 T107
+  s105 =
       Know.k-sl-known
       (Referent.fInt Syntax.w8)
-      T115
+      T106
       11
       10
       (Syntax.tyRef (Syntax.named 10) Syntax.mut (Syntax.tyInt Syntax.w8))
@@ -8381,374 +7824,345 @@ module _ (claims· : Claims) where
       abbrev pub Closed : Type 2
       Closed =
           (𝓤 : URA.URA M) (H : Wp.Heap 𝓤) (A : Atoms.Atoms 𝓤) (W : Kit.Given 𝓤 H A) (𝓣 : Wp.Tables
-          𝓤 H) (known0 : Plain.Known 𝓤 H A W 𝓣 4 ps·0 r·0 (claims· .0) (claims· .1)
-          "place::place_lines") (known1 : Plain.Known 𝓤 H A W 𝓣 3 ps·1 r·1 (claims· .2)
-          (claims· .3) "records::fill") (known2 : Plain.Known 𝓤 H A W 𝓣 10 ps·2 r·2 (claims· .4)
-          (claims· .5) "calls::rebuild_with") → Statement.Triple 𝓤 (Wp.WpFn 𝓤 H (𝓣 .C) (𝓣 .Λ)
+          𝓤 H) (known0 : Plain.Known 𝓤 H A W 𝓣 5 ps·0 r·0 (claims· .0) (claims· .1)
+          "records::place_lines") (known1 : Plain.Known 𝓤 H A W 𝓣 10 ps·1 r·1 (claims· .2)
+          (claims· .3) "calls::rebuild_with") → Statement.Triple 𝓤 (Wp.WpFn 𝓤 H (𝓣 .C) (𝓣 .Λ)
           (Function.fnOf 11 ps r xs m hs body)) (Function.plainOf 𝓤 H A 11 ps r Pre· Post·)
 
     module _ where
-      abbrev at0 : Typed.TF T116 O0
+      abbrev at0 : Typed.TF T107 O0
       at0 = Typed.atRet O0
 
-      abbrev at1 : Typed.TF T116 O0
+      abbrev at1 : Typed.TF T107 O0
       at1 = λ Ψ. at0 Ψ
 
-      abbrev at2 : Typed.TF T115 O0
-      at2 = λ Ψ. Typed.give s114 (at1 Ψ)
+      abbrev at2 : Typed.TF T106 O0
+      at2 = λ Ψ. Typed.give s105 (at1 Ψ)
 
-      abbrev at3 : Typed.TF T112 O0
-      at3 = λ Ψ. Typed.both s113 (at2 Ψ)
+      abbrev at3 : Typed.TF T103 O0
+      at3 = λ Ψ. Typed.both s104 (at2 Ψ)
 
-      abbrev at4 : Typed.TF T112 O0
+      abbrev at4 : Typed.TF T103 O0
       at4 = λ Ψ. at3 Ψ
 
-      abbrev at5 : Typed.TF T112 O0
+      abbrev at5 : Typed.TF T103 O0
       at5 = λ Ψ. at4 Ψ
 
-      abbrev at6 : Typed.TF T111 O0
-      at6 = λ Ψ. Typed.give s110 (at5 Ψ)
+      abbrev at6 : Typed.TF T102 O0
+      at6 = λ Ψ. Typed.give s101 (at5 Ψ)
 
-      abbrev at7 : Typed.TF T108 O0
-      at7 = λ Ψ. Typed.both s109 (at6 Ψ)
+      abbrev at7 : Typed.TF T99 O0
+      at7 = λ Ψ. Typed.both s100 (at6 Ψ)
 
-      abbrev at8 : Typed.TF T108 O0
+      abbrev at8 : Typed.TF T99 O0
       at8 = λ Ψ. at7 Ψ
 
-      abbrev at9 : Typed.TF T108 O0
+      abbrev at9 : Typed.TF T99 O0
       at9 = λ Ψ. at8 Ψ
 
-      abbrev at10 : Typed.TF T107 O0
-      at10 = λ Ψ. Typed.give s106 (at9 Ψ)
+      abbrev at10 : Typed.TF T98 O0
+      at10 = λ Ψ. Typed.give s97 (at9 Ψ)
 
-      abbrev at11 : Typed.TF T104 O0
-      at11 = λ Ψ. Typed.both s105 (at10 Ψ)
+      abbrev at11 : Typed.TF T95 O0
+      at11 = λ Ψ. Typed.both s96 (at10 Ψ)
 
-      abbrev at12 : Typed.TF T104 O0
+      abbrev at12 : Typed.TF T95 O0
       at12 = λ Ψ. at11 Ψ
 
-      abbrev at13 : Typed.TF T104 O0
+      abbrev at13 : Typed.TF T95 O0
       at13 = λ Ψ. at12 Ψ
 
-      abbrev at14 : Typed.TF T103 O0
-      at14 = λ Ψ. Typed.give s102 (at13 Ψ)
+      abbrev at14 : Typed.TF T94 O0
+      at14 = λ Ψ. Typed.give s93 (at13 Ψ)
 
-      abbrev at15 : Typed.TF T100 O0
-      at15 = λ Ψ. Typed.both s101 (at14 Ψ)
+      abbrev at15 : Typed.TF T91 O0
+      at15 = λ Ψ. Typed.both s92 (at14 Ψ)
 
-      abbrev at16 : Typed.TF T100 O0
+      abbrev at16 : Typed.TF T91 O0
       at16 = λ Ψ. at15 Ψ
 
-      abbrev at17 : Typed.TF T100 O0
+      abbrev at17 : Typed.TF T91 O0
       at17 = λ Ψ. at16 Ψ
 
-      abbrev at18 : Typed.TF T99 O0
-      at18 = λ Ψ. Typed.give s98 (at17 Ψ)
+      abbrev at18 : Typed.TF T90 O0
+      at18 = λ Ψ. Typed.give s89 (at17 Ψ)
 
-      abbrev at19 : Typed.TF T96 O0
-      at19 = λ Ψ. Typed.both s97 (at18 Ψ)
+      abbrev at19 : Typed.TF T87 O0
+      at19 = λ Ψ. Typed.both s88 (at18 Ψ)
 
-      abbrev at20 : Typed.TF T96 O0
+      abbrev at20 : Typed.TF T87 O0
       at20 = λ Ψ. at19 Ψ
 
-      abbrev at21 : Typed.TF T96 O0
+      abbrev at21 : Typed.TF T87 O0
       at21 = λ Ψ. at20 Ψ
 
-      abbrev at22 : Typed.TF T95 O0
-      at22 = λ Ψ. Typed.give s94 (at21 Ψ)
+      abbrev at22 : Typed.TF T86 O0
+      at22 = λ Ψ. Typed.give s85 (at21 Ψ)
 
-      abbrev at23 : Typed.TF T92 O0
-      at23 = λ Ψ. Typed.both s93 (at22 Ψ)
+      abbrev at23 : Typed.TF T83 O0
+      at23 = λ Ψ. Typed.both s84 (at22 Ψ)
 
-      abbrev at24 : Typed.TF T92 O0
+      abbrev at24 : Typed.TF T83 O0
       at24 = λ Ψ. at23 Ψ
 
-      abbrev at25 : Typed.TF T92 O0
+      abbrev at25 : Typed.TF T83 O0
       at25 = λ Ψ. at24 Ψ
 
-      abbrev at26 : Typed.TF T89 O0
-      at26 = λ Ψ. Typed.pass T89 T92 s90 (at25 Ψ)
+      abbrev at26 : Typed.TF T80 O0
+      at26 = λ Ψ. Typed.pass T80 T83 s81 (at25 Ψ)
 
-      abbrev at27 : Typed.TF T89 O0
+      abbrev at27 : Typed.TF T80 O0
       at27 = λ Ψ. at26 Ψ
 
-      abbrev at28 : Typed.TF T89 O0
+      abbrev at28 : Typed.TF T80 O0
       at28 = λ Ψ. at27 Ψ
 
-      abbrev at29 : Typed.TF T86 O0
-      at29 = λ Ψ. Typed.pass T86 T89 s87 (at28 Ψ)
+      abbrev at29 : Typed.TF T77 O0
+      at29 = λ Ψ. Typed.pass T77 T80 s78 (at28 Ψ)
 
-      abbrev at30 : Typed.TF T86 O0
+      abbrev at30 : Typed.TF T77 O0
       at30 = λ Ψ. at29 Ψ
 
-      abbrev at31 : Typed.TF T86 O0
+      abbrev at31 : Typed.TF T77 O0
       at31 = λ Ψ. at30 Ψ
 
-      abbrev at32 : Typed.TF T84 O0
-      at32 = λ Ψ. Typed.pass T84 T86 s84 (at31 Ψ)
+      abbrev at32 : Typed.TF T75 O0
+      at32 = λ Ψ. Typed.pass T75 T77 s75 (at31 Ψ)
 
-      abbrev at33 : Typed.TF T84 O0
+      abbrev at33 : Typed.TF T75 O0
       at33 = λ Ψ. at32 Ψ
 
-      abbrev at34 : Typed.TF T83 O0
-      at34 = λ Ψ. Typed.pass T83 T84 s82 (at33 Ψ)
+      abbrev at34 : Typed.TF T74 O0
+      at34 = λ Ψ. Typed.pass T74 T75 s73 (at33 Ψ)
 
-      abbrev at35 : Typed.TF T82 O0
-      at35 = λ Ψ. Typed.pass T82 T83 s81 (at34 Ψ)
+      abbrev at35 : Typed.TF T73 O0
+      at35 = λ Ψ. Typed.pass T73 T74 s72 (at34 Ψ)
 
-      abbrev at36 : Typed.TF T81 O0
-      at36 = λ Ψ. Typed.pass T81 T82 s80 (at35 Ψ)
+      abbrev at36 : Typed.TF T72 O0
+      at36 = λ Ψ. Typed.pass T72 T73 s71 (at35 Ψ)
 
-      abbrev at37 : Typed.TF T80 O0
-      at37 = λ Ψ. Typed.pass T80 T81 s79 (at36 Ψ)
+      abbrev at37 : Typed.TF T71 O0
+      at37 = λ Ψ. Typed.pass T71 T72 s70 (at36 Ψ)
 
-      abbrev at38 : Typed.TF T79 O0
-      at38 = λ Ψ. Typed.pass T79 T80 s78 (at37 Ψ)
+      abbrev at38 : Typed.TF T70 O0
+      at38 = λ Ψ. Typed.pass T70 T71 s69 (at37 Ψ)
 
-      abbrev at39 : Typed.TF T78 O0
-      at39 = λ Ψ. Typed.pass T78 T79 s77 (at38 Ψ)
+      abbrev at39 : Typed.TF T69 O0
+      at39 = λ Ψ. Typed.pass T69 T70 s68 (at38 Ψ)
 
-      abbrev at40 : Typed.TF T77 O0
-      at40 = λ Ψ. Typed.both s76 (at39 Ψ)
+      abbrev at40 : Typed.TF T68 O0
+      at40 = λ Ψ. Typed.both s67 (at39 Ψ)
 
-      abbrev at41 : Typed.TF T76 O0
-      at41 = λ Ψ. Typed.ask s75 (at40 Ψ)
+      abbrev at41 : Typed.TF T67 O0
+      at41 = λ Ψ. Typed.ask s66 (at40 Ψ)
 
-      abbrev at42 : Typed.TF T74 O0
-      at42 = λ Ψ. Typed.give s74 (at41 Ψ)
+      abbrev at42 : Typed.TF T65 O0
+      at42 = λ Ψ. Typed.give s65 (at41 Ψ)
 
-      abbrev at43 : Typed.TF T74 O0
+      abbrev at43 : Typed.TF T65 O0
       at43 = λ Ψ. at42 Ψ
 
-      abbrev at44 : Typed.TF T73 O0
-      at44 = λ Ψ. Typed.ask s72 (at43 Ψ)
+      abbrev at44 : Typed.TF T64 O0
+      at44 = λ Ψ. Typed.ask s63 (at43 Ψ)
 
-      abbrev at45 : Typed.TF T71 O0
-      at45 = λ Ψ. Typed.both s71 (at44 Ψ)
+      abbrev at45 : Typed.TF T62 O0
+      at45 = λ Ψ. Typed.both s62 (at44 Ψ)
 
-      abbrev at46 : Typed.TF T71 O0
+      abbrev at46 : Typed.TF T62 O0
       at46 = λ Ψ. at45 Ψ
 
-      abbrev at47 : Typed.TF T70 O0
-      at47 = λ Ψ. Typed.ask s69 (at46 Ψ)
+      abbrev at47 : Typed.TF T61 O0
+      at47 = λ Ψ. Typed.ask s60 (at46 Ψ)
 
-      abbrev at48 : Typed.TF T68 O0
-      at48 = λ Ψ. Typed.both s68 (at47 Ψ)
+      abbrev at48 : Typed.TF T59 O0
+      at48 = λ Ψ. Typed.both s59 (at47 Ψ)
 
-      abbrev at49 : Typed.TF T68 O0
+      abbrev at49 : Typed.TF T59 O0
       at49 = λ Ψ. at48 Ψ
 
-      abbrev at50 : Typed.TF T67 O0
-      at50 = λ Ψ. Typed.ask s66 (at49 Ψ)
+      abbrev at50 : Typed.TF T58 O0
+      at50 = λ Ψ. Typed.ask s57 (at49 Ψ)
 
-      abbrev at51 : Typed.TF T65 O0
-      at51 = λ Ψ. Typed.both s65 (at50 Ψ)
+      abbrev at51 : Typed.TF T56 O0
+      at51 = λ Ψ. Typed.both s56 (at50 Ψ)
 
-      abbrev at52 : Typed.TF T65 O0
+      abbrev at52 : Typed.TF T56 O0
       at52 = λ Ψ. at51 Ψ
 
-      abbrev at53 : Typed.TF T64 O0
-      at53 = λ Ψ. Typed.ask s63 (at52 Ψ)
+      abbrev at53 : Typed.TF T55 O0
+      at53 = λ Ψ. Typed.ask s54 (at52 Ψ)
 
-      abbrev at54 : Typed.TF T62 O0
-      at54 = λ Ψ. Typed.both s62 (at53 Ψ)
+      abbrev at54 : Typed.TF T53 O0
+      at54 = λ Ψ. Typed.both s53 (at53 Ψ)
 
-      abbrev at55 : Typed.TF T62 O0
+      abbrev at55 : Typed.TF T53 O0
       at55 = λ Ψ. at54 Ψ
 
-      abbrev at56 : Typed.TF T61 O0
-      at56 = λ Ψ. Typed.ask s60 (at55 Ψ)
+      abbrev at56 : Typed.TF T52 O0
+      at56 = λ Ψ. Typed.ask s51 (at55 Ψ)
 
-      abbrev at57 : Typed.TF T59 O0
-      at57 = λ Ψ. Typed.give s59 (at56 Ψ)
+      abbrev at57 : Typed.TF T50 O0
+      at57 = λ Ψ. Typed.give s50 (at56 Ψ)
 
-      abbrev at58 : Typed.TF T59 O0
+      abbrev at58 : Typed.TF T50 O0
       at58 = λ Ψ. at57 Ψ
 
-      abbrev at59 : Typed.TF T58 O0
-      at59 = λ Ψ. Typed.ask s57 (at58 Ψ)
+      abbrev at59 : Typed.TF T49 O0
+      at59 = λ Ψ. Typed.ask s48 (at58 Ψ)
 
-      abbrev at60 : Typed.TF T56 O0
-      at60 = λ Ψ. Typed.give s56 (at59 Ψ)
+      abbrev at60 : Typed.TF T47 O0
+      at60 = λ Ψ. Typed.give s47 (at59 Ψ)
 
-      abbrev at61 : Typed.TF T56 O0
+      abbrev at61 : Typed.TF T47 O0
       at61 = λ Ψ. at60 Ψ
 
-      abbrev at62 : Typed.TF T55 O0
-      at62 = λ Ψ. Typed.ask s54 (at61 Ψ)
+      abbrev at62 : Typed.TF T46 O0
+      at62 = λ Ψ. Typed.ask s45 (at61 Ψ)
 
-      abbrev at63 : Typed.TF T53 O0
-      at63 = λ Ψ. Typed.give s53 (at62 Ψ)
+      abbrev at63 : Typed.TF T44 O0
+      at63 = λ Ψ. Typed.give s44 (at62 Ψ)
 
-      abbrev at64 : Typed.TF T53 O0
+      abbrev at64 : Typed.TF T44 O0
       at64 = λ Ψ. at63 Ψ
 
-      abbrev at65 : Typed.TF T52 O0
-      at65 = λ Ψ. Typed.ask s51 (at64 Ψ)
+      abbrev at65 : Typed.TF T43 O0
+      at65 = λ Ψ. Typed.ask s42 (at64 Ψ)
 
-      abbrev at66 : Typed.TF T49 O0
-      at66 = λ Ψ. Typed.give s50 (at65 Ψ)
+      abbrev at66 : Typed.TF T40 O0
+      at66 = λ Ψ. Typed.give s41 (at65 Ψ)
 
-      abbrev at67 : Typed.TF T49 O0
+      abbrev at67 : Typed.TF T40 O0
       at67 = λ Ψ. at66 Ψ
 
-      abbrev at68 : Typed.TF T49 O0
+      abbrev at68 : Typed.TF T40 O0
       at68 = λ Ψ. at67 Ψ
 
-      abbrev at69 : Typed.TF T46 O0
-      at69 = λ Ψ. Typed.both s47 (at68 Ψ)
+      abbrev at69 : Typed.TF T37 O0
+      at69 = λ Ψ. Typed.both s38 (at68 Ψ)
 
-      abbrev at70 : Typed.TF T46 O0
+      abbrev at70 : Typed.TF T37 O0
       at70 = λ Ψ. at69 Ψ
 
-      abbrev at71 : Typed.TF T46 O0
+      abbrev at71 : Typed.TF T37 O0
       at71 = λ Ψ. at70 Ψ
 
-      abbrev at72 : Typed.TF T44 O0
-      at72 = λ Ψ. Typed.pass T44 T46 s44 (at71 Ψ)
+      abbrev at72 : Typed.TF T36 O0
+      at72 = λ Ψ. Typed.give s35 (at71 Ψ)
 
-      abbrev at73 : Typed.TF T44 O0
-      at73 = λ Ψ. at72 Ψ
+      abbrev at73 : Typed.TF T33 O0
+      at73 = λ Ψ. Typed.both s34 (at72 Ψ)
 
-      abbrev at74 : Typed.TF T43 O0
-      at74 = λ Ψ. Typed.pass T43 T44 s42 (at73 Ψ)
+      abbrev at74 : Typed.TF T33 O0
+      at74 = λ Ψ. at73 Ψ
 
-      abbrev at75 : Typed.TF T42 O0
-      at75 = λ Ψ. Typed.pass T42 T43 s41 (at74 Ψ)
+      abbrev at75 : Typed.TF T33 O0
+      at75 = λ Ψ. at74 Ψ
 
-      abbrev at76 : Typed.TF T41 O0
-      at76 = λ Ψ. Typed.both s40 (at75 Ψ)
+      abbrev at76 : Typed.TF T32 O0
+      at76 = λ Ψ. Typed.give s31 (at75 Ψ)
 
-      abbrev at77 : Typed.TF T40 O0
-      at77 = λ Ψ. Typed.ask s39 (at76 Ψ)
+      abbrev at77 : Typed.TF T29 O0
+      at77 = λ Ψ. Typed.both s30 (at76 Ψ)
 
-      abbrev at78 : Typed.TF T38 O0
-      at78 = λ Ψ. Typed.give s38 (at77 Ψ)
+      abbrev at78 : Typed.TF T29 O0
+      at78 = λ Ψ. at77 Ψ
 
-      abbrev at79 : Typed.TF T38 O0
+      abbrev at79 : Typed.TF T29 O0
       at79 = λ Ψ. at78 Ψ
 
-      abbrev at80 : Typed.TF T37 O0
-      at80 = λ Ψ. Typed.ask s36 (at79 Ψ)
+      abbrev at80 : Typed.TF T28 O0
+      at80 = λ Ψ. Typed.give s27 (at79 Ψ)
 
-      abbrev at81 : Typed.TF T34 O0
-      at81 = λ Ψ. Typed.give s35 (at80 Ψ)
+      abbrev at81 : Typed.TF T26 O0
+      at81 = λ Ψ. Typed.both s26 (at80 Ψ)
 
-      abbrev at82 : Typed.TF T34 O0
+      abbrev at82 : Typed.TF T26 O0
       at82 = λ Ψ. at81 Ψ
 
-      abbrev at83 : Typed.TF T34 O0
-      at83 = λ Ψ. at82 Ψ
+      abbrev at83 : Typed.TF T25 O0
+      at83 = λ Ψ. Typed.both s24 (at82 Ψ)
 
-      abbrev at84 : Typed.TF T33 O0
-      at84 = λ Ψ. Typed.give s32 (at83 Ψ)
+      abbrev at84 : Typed.TF T24 O0
+      at84 = λ Ψ. Typed.ask s23 (at83 Ψ)
 
-      abbrev at85 : Typed.TF T30 O0
-      at85 = λ Ψ. Typed.both s31 (at84 Ψ)
+      abbrev at85 : Typed.TF T22 O0
+      at85 = λ Ψ. Typed.give s22 (at84 Ψ)
 
-      abbrev at86 : Typed.TF T30 O0
+      abbrev at86 : Typed.TF T22 O0
       at86 = λ Ψ. at85 Ψ
 
-      abbrev at87 : Typed.TF T30 O0
-      at87 = λ Ψ. at86 Ψ
+      abbrev at87 : Typed.TF T21 O0
+      at87 = λ Ψ. Typed.ask s20 (at86 Ψ)
 
-      abbrev at88 : Typed.TF T29 O0
-      at88 = λ Ψ. Typed.give s28 (at87 Ψ)
+      abbrev at88 : Typed.TF T19 O0
+      at88 = λ Ψ. Typed.give s19 (at87 Ψ)
 
-      abbrev at89 : Typed.TF T26 O0
-      at89 = λ Ψ. Typed.both s27 (at88 Ψ)
+      abbrev at89 : Typed.TF T19 O0
+      at89 = λ Ψ. at88 Ψ
 
-      abbrev at90 : Typed.TF T26 O0
-      at90 = λ Ψ. at89 Ψ
+      abbrev at90 : Typed.TF T18 O0
+      at90 = λ Ψ. Typed.ask s17 (at89 Ψ)
 
-      abbrev at91 : Typed.TF T26 O0
-      at91 = λ Ψ. at90 Ψ
+      abbrev at91 : Typed.TF T16 O0
+      at91 = λ Ψ. Typed.give s16 (at90 Ψ)
 
-      abbrev at92 : Typed.TF T25 O0
-      at92 = λ Ψ. Typed.give s24 (at91 Ψ)
+      abbrev at92 : Typed.TF T16 O0
+      at92 = λ Ψ. at91 Ψ
 
-      abbrev at93 : Typed.TF T23 O0
-      at93 = λ Ψ. Typed.both s23 (at92 Ψ)
+      abbrev at93 : Typed.TF T15 O0
+      at93 = λ Ψ. Typed.ask s14 (at92 Ψ)
 
-      abbrev at94 : Typed.TF T23 O0
-      at94 = λ Ψ. at93 Ψ
+      abbrev at94 : Typed.TF T13 O0
+      at94 = λ Ψ. Typed.give s13 (at93 Ψ)
 
-      abbrev at95 : Typed.TF T22 O0
-      at95 = λ Ψ. Typed.both s21 (at94 Ψ)
+      abbrev at95 : Typed.TF T13 O0
+      at95 = λ Ψ. at94 Ψ
 
-      abbrev at96 : Typed.TF T21 O0
-      at96 = λ Ψ. Typed.ask s20 (at95 Ψ)
+      abbrev at96 : Typed.TF T12 O0
+      at96 = λ Ψ. Typed.ask s11 (at95 Ψ)
 
-      abbrev at97 : Typed.TF T19 O0
-      at97 = λ Ψ. Typed.give s19 (at96 Ψ)
+      abbrev at97 : Typed.TF T11 O0
+      at97 = λ Ψ. Typed.pass T11 T12 s10 (at96 Ψ)
 
-      abbrev at98 : Typed.TF T19 O0
-      at98 = λ Ψ. at97 Ψ
+      abbrev at98 : Typed.TF T10 O0
+      at98 = λ Ψ. Typed.give s9 (at97 Ψ)
 
-      abbrev at99 : Typed.TF T18 O0
-      at99 = λ Ψ. Typed.ask s17 (at98 Ψ)
+      abbrev at99 : Typed.TF T9 O0
+      at99 = λ Ψ. Typed.give s8 (at98 Ψ)
 
-      abbrev at100 : Typed.TF T16 O0
-      at100 = λ Ψ. Typed.give s16 (at99 Ψ)
+      abbrev at100 : Typed.TF T8 O0
+      at100 = λ Ψ. Typed.give s7 (at99 Ψ)
 
-      abbrev at101 : Typed.TF T16 O0
-      at101 = λ Ψ. at100 Ψ
+      abbrev at101 : Typed.TF T7 O0
+      at101 = λ Ψ. Typed.give s6 (at100 Ψ)
 
-      abbrev at102 : Typed.TF T15 O0
-      at102 = λ Ψ. Typed.ask s14 (at101 Ψ)
+      abbrev at102 : Typed.TF T6 O0
+      at102 = λ Ψ. Typed.give s5 (at101 Ψ)
 
-      abbrev at103 : Typed.TF T13 O0
-      at103 = λ Ψ. Typed.give s13 (at102 Ψ)
+      abbrev at103 : Typed.TF T5 O0
+      at103 = λ Ψ. Typed.give s4 (at102 Ψ)
 
-      abbrev at104 : Typed.TF T13 O0
-      at104 = λ Ψ. at103 Ψ
+      abbrev at104 : Typed.TF T4 O0
+      at104 = λ Ψ. Typed.give s3 (at103 Ψ)
 
-      abbrev at105 : Typed.TF T12 O0
-      at105 = λ Ψ. Typed.ask s11 (at104 Ψ)
+      abbrev at105 : Typed.TF T3 O0
+      at105 = λ Ψ. Typed.give s2 (at104 Ψ)
 
-      abbrev at106 : Typed.TF T11 O0
-      at106 = λ Ψ. Typed.pass T11 T12 s10 (at105 Ψ)
+      abbrev at106 : Typed.TF T2 O0
+      at106 = λ Ψ. Typed.give s1 (at105 Ψ)
 
-      abbrev at107 : Typed.TF T10 O0
-      at107 = λ Ψ. Typed.give s9 (at106 Ψ)
-
-      abbrev at108 : Typed.TF T9 O0
-      at108 = λ Ψ. Typed.give s8 (at107 Ψ)
-
-      abbrev at109 : Typed.TF T8 O0
-      at109 = λ Ψ. Typed.give s7 (at108 Ψ)
-
-      abbrev at110 : Typed.TF T7 O0
-      at110 = λ Ψ. Typed.give s6 (at109 Ψ)
-
-      abbrev at111 : Typed.TF T6 O0
-      at111 = λ Ψ. Typed.give s5 (at110 Ψ)
-
-      abbrev at112 : Typed.TF T5 O0
-      at112 = λ Ψ. Typed.give s4 (at111 Ψ)
-
-      abbrev at113 : Typed.TF T4 O0
-      at113 = λ Ψ. Typed.give s3 (at112 Ψ)
-
-      abbrev at114 : Typed.TF T3 O0
-      at114 = λ Ψ. Typed.give s2 (at113 Ψ)
-
-      abbrev at115 : Typed.TF T2 O0
-      at115 = λ Ψ. Typed.give s1 (at114 Ψ)
-
-      abbrev at116 : Typed.TF T0 O0
-      at116 = λ Ψ. Typed.give s0 (at115 Ψ)
+      abbrev at107 : Typed.TF T0 O0
+      at107 = λ Ψ. Typed.give s0 (at106 Ψ)
 
       abbrev pub Φ : Typed.TF T0 O0
-      Φ = at116
+      Φ = at107
 
       module _ {M : Type 1} (𝓤 : URA.URA M) (H : Wp.Heap 𝓤) (A : Atoms.Atoms 𝓤)
           (W : Kit.Given 𝓤 H A) (𝓣 : Wp.Tables 𝓤 H) where
         abbrev Knowns : Type 1
         Knowns =
-            Plain.Known 𝓤 H A W 𝓣 4 ps·0 r·0 (claims· .0) (claims· .1) "place::place_lines" ×
-            Plain.Known 𝓤 H A W 𝓣 3 ps·1 r·1 (claims· .2) (claims· .3) "records::fill" ×
-            Plain.Known 𝓤 H A W 𝓣 10 ps·2 r·2 (claims· .4) (claims· .5) "calls::rebuild_with"
+            Plain.Known 𝓤 H A W 𝓣 5 ps·0 r·0 (claims· .0) (claims· .1) "records::place_lines" ×
+            Plain.Known 𝓤 H A W 𝓣 10 ps·1 r·1 (claims· .2) (claims· .3) "calls::rebuild_with"
 
       module _ (κs : Lifetimes.Lfts 11) (qs : Lifetimes.Shares 11) where
         abbrev g6 : List.List Row.Entry
@@ -9089,13 +8503,101 @@ module _ (claims· : Claims) where
               0,
         ) (List._∷_ (
           2,
-          Mut.mslice
+          Relend.mslice-owed
               Elem.R
               (Syntax.tyRef
               (Syntax.named 1)
               Syntax.mut
               Elem.ty)
-              1,
+              1
+              14
+              (Row.lease (κs .1 .0) (qs .1 .0)),
+        ) (List._∷_ (
+          3,
+          Mut.mslice
+              (Referent.rtF (Referent.fInt Syntax.w64))
+              (Syntax.tyRef (Syntax.named 2) Syntax.mut (Syntax.tyInt Syntax.w64))
+              2,
+        ) (List._∷_ (
+          4,
+          Relend.mslice-owed
+              (Referent.rtF (Referent.fInt Syntax.w64))
+              (Syntax.tyRef (Syntax.named 3) Syntax.mut (Syntax.tyInt Syntax.w64))
+              3
+              11
+              (Row.lease (κs .1 .1 .1 .0) (qs .1 .1 .1 .0)),
+        ) (List._∷_ (
+          5,
+          Relend.mslice-owed
+              (Referent.rtF (Referent.fInt Syntax.w8))
+              (Syntax.tyRef (Syntax.named 4) Syntax.mut (Syntax.tyInt Syntax.w8))
+              4
+              12
+              (Row.lease (κs .1 .1 .1 .1 .0) (qs .1 .1 .1 .1 .0)),
+        ) (List._∷_ (
+          6,
+          Relend.mslice-owed
+              (Referent.rtF (Referent.fInt Syntax.w32))
+              (Syntax.tyRef (Syntax.named 5) Syntax.mut (Syntax.tyInt Syntax.w32))
+              5
+              13
+              (Row.lease (κs .1 .1 .1 .1 .1 .0) (qs .1 .1 .1 .1 .1 .0)),
+        ) (List._∷_ (
+          7,
+          Mut.mslice
+              (Referent.rtF (Referent.fInt Syntax.w8))
+              (Syntax.tyRef (Syntax.named 6) Syntax.mut (Syntax.tyInt Syntax.w8))
+              6,
+        ) (List._∷_ (
+          8,
+          Mut.mslice
+              (Referent.rtF (Referent.fInt Syntax.w8))
+              (Syntax.tyRef (Syntax.named 7) Syntax.mut (Syntax.tyInt Syntax.w8))
+              7,
+        ) (List._∷_ (
+          9,
+          Mut.mslice
+              (Referent.rtF (Referent.fInt Syntax.w8))
+              (Syntax.tyRef (Syntax.named 8) Syntax.mut (Syntax.tyInt Syntax.w8))
+              8,
+        ) (List._∷_ (
+          10,
+          Mut.mslice
+              (Referent.rtF (Referent.fInt Syntax.w8))
+              (Syntax.tyRef (Syntax.named 9) Syntax.mut (Syntax.tyInt Syntax.w8))
+              9,
+        ) (List._∷_ (
+          11,
+          Mut.mslice
+              (Referent.rtF (Referent.fInt Syntax.w8))
+              (Syntax.tyRef (Syntax.named 10) Syntax.mut (Syntax.tyInt Syntax.w8))
+              10,
+        ) (List._∷_ (12, Rows.sc-here (Row.sInt Syntax.w64)) (List._∷_ (
+          13,
+          Rows.sc-here (Row.sInt Syntax.w64),
+        ) (List._∷_ (14, Rows.any-gone (Syntax.tyInt Syntax.w64)) (List._∷_ (
+          15,
+          Rows.any-gone (Syntax.tyRef Syntax.erased Syntax.mut (Syntax.tyInt Syntax.w64)),
+        ) List.[])))))))))))))))
+
+        abbrev g18 : List.List Row.Entry
+        g18 = List._∷_ (0, Rows.any-gone (Syntax.tyInt Syntax.w64)) (List._∷_ (
+          1,
+          Rows.sslice
+              (Referent.rtF (Referent.fInt Syntax.w8))
+              (Syntax.tyRef (Syntax.named 0) Syntax.imm (Syntax.tyInt Syntax.w8))
+              0,
+        ) (List._∷_ (
+          2,
+          Relend.mslice-owed
+              Elem.R
+              (Syntax.tyRef
+              (Syntax.named 1)
+              Syntax.mut
+              Elem.ty)
+              1
+              14
+              (Row.lease (κs .1 .0) (qs .1 .0)),
         ) (List._∷_ (
           3,
           Mut.mslice
@@ -9164,8 +8666,8 @@ module _ (claims· : Claims) where
           Rows.any-gone (Syntax.tyRef Syntax.erased Syntax.mut (Syntax.tyInt Syntax.w64)),
         ) List.[])))))))))))))))
 
-        abbrev g17 : List.List Row.Entry
-        g17 = List._∷_ (0, Rows.any-gone (Syntax.tyInt Syntax.w64)) (List._∷_ (
+        abbrev g20 : List.List Row.Entry
+        g20 = List._∷_ (0, Rows.any-gone (Syntax.tyInt Syntax.w64)) (List._∷_ (
           1,
           Rows.sslice
               (Referent.rtF (Referent.fInt Syntax.w8))
@@ -9173,13 +8675,15 @@ module _ (claims· : Claims) where
               0,
         ) (List._∷_ (
           2,
-          Mut.mslice
+          Relend.mslice-owed
               Elem.R
               (Syntax.tyRef
               (Syntax.named 1)
               Syntax.mut
               Elem.ty)
-              1,
+              1
+              14
+              (Row.lease (κs .1 .0) (qs .1 .0)),
         ) (List._∷_ (
           3,
           Mut.mslice
@@ -9246,8 +8750,8 @@ module _ (claims· : Claims) where
           Rows.any-gone (Syntax.tyRef Syntax.erased Syntax.mut (Syntax.tyInt Syntax.w64)),
         ) List.[])))))))))))))))
 
-        abbrev g19 : List.List Row.Entry
-        g19 = List._∷_ (0, Rows.any-gone (Syntax.tyInt Syntax.w64)) (List._∷_ (
+        abbrev g22 : List.List Row.Entry
+        g22 = List._∷_ (0, Rows.any-gone (Syntax.tyInt Syntax.w64)) (List._∷_ (
           1,
           Rows.sslice
               (Referent.rtF (Referent.fInt Syntax.w8))
@@ -9255,13 +8759,15 @@ module _ (claims· : Claims) where
               0,
         ) (List._∷_ (
           2,
-          Mut.mslice
+          Relend.mslice-owed
               Elem.R
               (Syntax.tyRef
               (Syntax.named 1)
               Syntax.mut
               Elem.ty)
-              1,
+              1
+              14
+              (Row.lease (κs .1 .0) (qs .1 .0)),
         ) (List._∷_ (
           3,
           Mut.mslice
@@ -9326,8 +8832,1274 @@ module _ (claims· : Claims) where
           Rows.any-gone (Syntax.tyRef Syntax.erased Syntax.mut (Syntax.tyInt Syntax.w64)),
         ) List.[])))))))))))))))
 
-        abbrev g22 : List.List Row.Entry
-        g22 = List._∷_ (0, Rows.any-gone (Syntax.tyInt Syntax.w64)) (List._∷_ (
+        abbrev g24 : List.List Row.Entry
+        g24 = List._∷_ (0, Rows.any-gone (Syntax.tyInt Syntax.w64)) (List._∷_ (
+          1,
+          Rows.sslice
+              (Referent.rtF (Referent.fInt Syntax.w8))
+              (Syntax.tyRef (Syntax.named 0) Syntax.imm (Syntax.tyInt Syntax.w8))
+              0,
+        ) (List._∷_ (
+          2,
+          Relend.mslice-owed
+              Elem.R
+              (Syntax.tyRef
+              (Syntax.named 1)
+              Syntax.mut
+              Elem.ty)
+              1
+              14
+              (Row.lease (κs .1 .0) (qs .1 .0)),
+        ) (List._∷_ (
+          3,
+          Mut.mslice
+              (Referent.rtF (Referent.fInt Syntax.w64))
+              (Syntax.tyRef (Syntax.named 2) Syntax.mut (Syntax.tyInt Syntax.w64))
+              2,
+        ) (List._∷_ (
+          4,
+          Mut.mslice
+              (Referent.rtF (Referent.fInt Syntax.w64))
+              (Syntax.tyRef (Syntax.named 3) Syntax.mut (Syntax.tyInt Syntax.w64))
+              3,
+        ) (List._∷_ (
+          5,
+          Mut.mslice
+              (Referent.rtF (Referent.fInt Syntax.w8))
+              (Syntax.tyRef (Syntax.named 4) Syntax.mut (Syntax.tyInt Syntax.w8))
+              4,
+        ) (List._∷_ (
+          6,
+          Mut.mslice
+              (Referent.rtF (Referent.fInt Syntax.w32))
+              (Syntax.tyRef (Syntax.named 5) Syntax.mut (Syntax.tyInt Syntax.w32))
+              5,
+        ) (List._∷_ (
+          7,
+          Mut.mslice
+              (Referent.rtF (Referent.fInt Syntax.w8))
+              (Syntax.tyRef (Syntax.named 6) Syntax.mut (Syntax.tyInt Syntax.w8))
+              6,
+        ) (List._∷_ (
+          8,
+          Mut.mslice
+              (Referent.rtF (Referent.fInt Syntax.w8))
+              (Syntax.tyRef (Syntax.named 7) Syntax.mut (Syntax.tyInt Syntax.w8))
+              7,
+        ) (List._∷_ (
+          9,
+          Mut.mslice
+              (Referent.rtF (Referent.fInt Syntax.w8))
+              (Syntax.tyRef (Syntax.named 8) Syntax.mut (Syntax.tyInt Syntax.w8))
+              8,
+        ) (List._∷_ (
+          10,
+          Mut.mslice
+              (Referent.rtF (Referent.fInt Syntax.w8))
+              (Syntax.tyRef (Syntax.named 9) Syntax.mut (Syntax.tyInt Syntax.w8))
+              9,
+        ) (List._∷_ (
+          11,
+          Mut.mslice
+              (Referent.rtF (Referent.fInt Syntax.w8))
+              (Syntax.tyRef (Syntax.named 10) Syntax.mut (Syntax.tyInt Syntax.w8))
+              10,
+        ) (List._∷_ (12, Rows.sc-here (Row.sInt Syntax.w64)) (List._∷_ (
+          13,
+          Rows.sc-here (Row.sInt Syntax.w64),
+        ) (List._∷_ (14, Rows.sc-here (Row.sInt Syntax.w64)) (List._∷_ (
+          15,
+          Rows.any-gone (Syntax.tyRef Syntax.erased Syntax.mut (Syntax.tyInt Syntax.w64)),
+        ) List.[])))))))))))))))
+
+        abbrev g27 : List.List Row.Entry
+        g27 = List._∷_ (0, Rows.any-gone (Syntax.tyInt Syntax.w64)) (List._∷_ (
+          1,
+          Rows.sslice
+              (Referent.rtF (Referent.fInt Syntax.w8))
+              (Syntax.tyRef (Syntax.named 0) Syntax.imm (Syntax.tyInt Syntax.w8))
+              0,
+        ) (List._∷_ (
+          2,
+          Reshare.mslice-owedS
+              Elem.R
+              (Syntax.tyRef
+              (Syntax.named 1)
+              Syntax.mut
+              Elem.ty)
+              1
+              15
+              (Row.lease (κs .1 .0) (qs .1 .0)),
+        ) (List._∷_ (
+          3,
+          Mut.mslice
+              (Referent.rtF (Referent.fInt Syntax.w64))
+              (Syntax.tyRef (Syntax.named 2) Syntax.mut (Syntax.tyInt Syntax.w64))
+              2,
+        ) (List._∷_ (
+          4,
+          Mut.mslice
+              (Referent.rtF (Referent.fInt Syntax.w64))
+              (Syntax.tyRef (Syntax.named 3) Syntax.mut (Syntax.tyInt Syntax.w64))
+              3,
+        ) (List._∷_ (
+          5,
+          Mut.mslice
+              (Referent.rtF (Referent.fInt Syntax.w8))
+              (Syntax.tyRef (Syntax.named 4) Syntax.mut (Syntax.tyInt Syntax.w8))
+              4,
+        ) (List._∷_ (
+          6,
+          Mut.mslice
+              (Referent.rtF (Referent.fInt Syntax.w32))
+              (Syntax.tyRef (Syntax.named 5) Syntax.mut (Syntax.tyInt Syntax.w32))
+              5,
+        ) (List._∷_ (
+          7,
+          Mut.mslice
+              (Referent.rtF (Referent.fInt Syntax.w8))
+              (Syntax.tyRef (Syntax.named 6) Syntax.mut (Syntax.tyInt Syntax.w8))
+              6,
+        ) (List._∷_ (
+          8,
+          Mut.mslice
+              (Referent.rtF (Referent.fInt Syntax.w8))
+              (Syntax.tyRef (Syntax.named 7) Syntax.mut (Syntax.tyInt Syntax.w8))
+              7,
+        ) (List._∷_ (
+          9,
+          Mut.mslice
+              (Referent.rtF (Referent.fInt Syntax.w8))
+              (Syntax.tyRef (Syntax.named 8) Syntax.mut (Syntax.tyInt Syntax.w8))
+              8,
+        ) (List._∷_ (
+          10,
+          Mut.mslice
+              (Referent.rtF (Referent.fInt Syntax.w8))
+              (Syntax.tyRef (Syntax.named 9) Syntax.mut (Syntax.tyInt Syntax.w8))
+              9,
+        ) (List._∷_ (
+          11,
+          Mut.mslice
+              (Referent.rtF (Referent.fInt Syntax.w8))
+              (Syntax.tyRef (Syntax.named 10) Syntax.mut (Syntax.tyInt Syntax.w8))
+              10,
+        ) (List._∷_ (12, Rows.sc-here (Row.sInt Syntax.w64)) (List._∷_ (
+          13,
+          Rows.sc-here (Row.sInt Syntax.w64),
+        ) (List._∷_ (14, Rows.sc-here (Row.sInt Syntax.w64)) (List._∷_ (
+          15,
+          Rows.any-gone (Syntax.tyRef Syntax.erased Syntax.mut (Syntax.tyInt Syntax.w64)),
+        ) List.[])))))))))))))))
+
+        abbrev g30 : List.List Row.Entry
+        g30 = List._∷_ (0, Rows.any-gone (Syntax.tyInt Syntax.w64)) (List._∷_ (
+          1,
+          Rows.sslice
+              (Referent.rtF (Referent.fInt Syntax.w8))
+              (Syntax.tyRef (Syntax.named 0) Syntax.imm (Syntax.tyInt Syntax.w8))
+              0,
+        ) (List._∷_ (
+          2,
+          Reshare.mslice-owedS
+              Elem.R
+              (Syntax.tyRef
+              (Syntax.named 1)
+              Syntax.mut
+              Elem.ty)
+              1
+              15
+              (Row.lease (κs .1 .0) (qs .1 .0)),
+        ) (List._∷_ (
+          3,
+          Mut.mslice
+              (Referent.rtF (Referent.fInt Syntax.w64))
+              (Syntax.tyRef (Syntax.named 2) Syntax.mut (Syntax.tyInt Syntax.w64))
+              2,
+        ) (List._∷_ (
+          4,
+          Reshare.mslice-owedS
+              (Referent.rtF (Referent.fInt Syntax.w64))
+              (Syntax.tyRef (Syntax.named 3) Syntax.mut (Syntax.tyInt Syntax.w64))
+              3
+              16
+              (Row.lease (κs .1 .1 .1 .0) (qs .1 .1 .1 .0)),
+        ) (List._∷_ (
+          5,
+          Mut.mslice
+              (Referent.rtF (Referent.fInt Syntax.w8))
+              (Syntax.tyRef (Syntax.named 4) Syntax.mut (Syntax.tyInt Syntax.w8))
+              4,
+        ) (List._∷_ (
+          6,
+          Mut.mslice
+              (Referent.rtF (Referent.fInt Syntax.w32))
+              (Syntax.tyRef (Syntax.named 5) Syntax.mut (Syntax.tyInt Syntax.w32))
+              5,
+        ) (List._∷_ (
+          7,
+          Mut.mslice
+              (Referent.rtF (Referent.fInt Syntax.w8))
+              (Syntax.tyRef (Syntax.named 6) Syntax.mut (Syntax.tyInt Syntax.w8))
+              6,
+        ) (List._∷_ (
+          8,
+          Mut.mslice
+              (Referent.rtF (Referent.fInt Syntax.w8))
+              (Syntax.tyRef (Syntax.named 7) Syntax.mut (Syntax.tyInt Syntax.w8))
+              7,
+        ) (List._∷_ (
+          9,
+          Mut.mslice
+              (Referent.rtF (Referent.fInt Syntax.w8))
+              (Syntax.tyRef (Syntax.named 8) Syntax.mut (Syntax.tyInt Syntax.w8))
+              8,
+        ) (List._∷_ (
+          10,
+          Mut.mslice
+              (Referent.rtF (Referent.fInt Syntax.w8))
+              (Syntax.tyRef (Syntax.named 9) Syntax.mut (Syntax.tyInt Syntax.w8))
+              9,
+        ) (List._∷_ (
+          11,
+          Mut.mslice
+              (Referent.rtF (Referent.fInt Syntax.w8))
+              (Syntax.tyRef (Syntax.named 10) Syntax.mut (Syntax.tyInt Syntax.w8))
+              10,
+        ) (List._∷_ (12, Rows.sc-here (Row.sInt Syntax.w64)) (List._∷_ (
+          13,
+          Rows.sc-here (Row.sInt Syntax.w64),
+        ) (List._∷_ (14, Rows.sc-here (Row.sInt Syntax.w64)) (List._∷_ (
+          15,
+          Rows.any-gone (Syntax.tyRef Syntax.erased Syntax.mut (Syntax.tyInt Syntax.w64)),
+        ) List.[])))))))))))))))
+
+        abbrev g33 : List.List Row.Entry
+        g33 = List._∷_ (0, Rows.any-gone (Syntax.tyInt Syntax.w64)) (List._∷_ (
+          1,
+          Rows.sslice
+              (Referent.rtF (Referent.fInt Syntax.w8))
+              (Syntax.tyRef (Syntax.named 0) Syntax.imm (Syntax.tyInt Syntax.w8))
+              0,
+        ) (List._∷_ (
+          2,
+          Reshare.mslice-owedS
+              Elem.R
+              (Syntax.tyRef
+              (Syntax.named 1)
+              Syntax.mut
+              Elem.ty)
+              1
+              15
+              (Row.lease (κs .1 .0) (qs .1 .0)),
+        ) (List._∷_ (
+          3,
+          Mut.mslice
+              (Referent.rtF (Referent.fInt Syntax.w64))
+              (Syntax.tyRef (Syntax.named 2) Syntax.mut (Syntax.tyInt Syntax.w64))
+              2,
+        ) (List._∷_ (
+          4,
+          Reshare.mslice-owedS
+              (Referent.rtF (Referent.fInt Syntax.w64))
+              (Syntax.tyRef (Syntax.named 3) Syntax.mut (Syntax.tyInt Syntax.w64))
+              3
+              16
+              (Row.lease (κs .1 .1 .1 .0) (qs .1 .1 .1 .0)),
+        ) (List._∷_ (
+          5,
+          Reshare.mslice-owedS
+              (Referent.rtF (Referent.fInt Syntax.w8))
+              (Syntax.tyRef (Syntax.named 4) Syntax.mut (Syntax.tyInt Syntax.w8))
+              4
+              17
+              (Row.lease (κs .1 .1 .1 .1 .0) (qs .1 .1 .1 .1 .0)),
+        ) (List._∷_ (
+          6,
+          Mut.mslice
+              (Referent.rtF (Referent.fInt Syntax.w32))
+              (Syntax.tyRef (Syntax.named 5) Syntax.mut (Syntax.tyInt Syntax.w32))
+              5,
+        ) (List._∷_ (
+          7,
+          Mut.mslice
+              (Referent.rtF (Referent.fInt Syntax.w8))
+              (Syntax.tyRef (Syntax.named 6) Syntax.mut (Syntax.tyInt Syntax.w8))
+              6,
+        ) (List._∷_ (
+          8,
+          Mut.mslice
+              (Referent.rtF (Referent.fInt Syntax.w8))
+              (Syntax.tyRef (Syntax.named 7) Syntax.mut (Syntax.tyInt Syntax.w8))
+              7,
+        ) (List._∷_ (
+          9,
+          Mut.mslice
+              (Referent.rtF (Referent.fInt Syntax.w8))
+              (Syntax.tyRef (Syntax.named 8) Syntax.mut (Syntax.tyInt Syntax.w8))
+              8,
+        ) (List._∷_ (
+          10,
+          Mut.mslice
+              (Referent.rtF (Referent.fInt Syntax.w8))
+              (Syntax.tyRef (Syntax.named 9) Syntax.mut (Syntax.tyInt Syntax.w8))
+              9,
+        ) (List._∷_ (
+          11,
+          Mut.mslice
+              (Referent.rtF (Referent.fInt Syntax.w8))
+              (Syntax.tyRef (Syntax.named 10) Syntax.mut (Syntax.tyInt Syntax.w8))
+              10,
+        ) (List._∷_ (12, Rows.sc-here (Row.sInt Syntax.w64)) (List._∷_ (
+          13,
+          Rows.sc-here (Row.sInt Syntax.w64),
+        ) (List._∷_ (14, Rows.sc-here (Row.sInt Syntax.w64)) (List._∷_ (
+          15,
+          Rows.any-gone (Syntax.tyRef Syntax.erased Syntax.mut (Syntax.tyInt Syntax.w64)),
+        ) List.[])))))))))))))))
+
+        abbrev g36 : List.List Row.Entry
+        g36 = List._∷_ (0, Rows.any-gone (Syntax.tyInt Syntax.w64)) (List._∷_ (
+          1,
+          Rows.sslice
+              (Referent.rtF (Referent.fInt Syntax.w8))
+              (Syntax.tyRef (Syntax.named 0) Syntax.imm (Syntax.tyInt Syntax.w8))
+              0,
+        ) (List._∷_ (
+          2,
+          Reshare.mslice-owedS
+              Elem.R
+              (Syntax.tyRef
+              (Syntax.named 1)
+              Syntax.mut
+              Elem.ty)
+              1
+              15
+              (Row.lease (κs .1 .0) (qs .1 .0)),
+        ) (List._∷_ (
+          3,
+          Relend.mslice-owed
+              (Referent.rtF (Referent.fInt Syntax.w64))
+              (Syntax.tyRef (Syntax.named 2) Syntax.mut (Syntax.tyInt Syntax.w64))
+              2
+              18
+              (Row.lease (κs .1 .1 .0) (qs .1 .1 .0)),
+        ) (List._∷_ (
+          4,
+          Reshare.mslice-owedS
+              (Referent.rtF (Referent.fInt Syntax.w64))
+              (Syntax.tyRef (Syntax.named 3) Syntax.mut (Syntax.tyInt Syntax.w64))
+              3
+              16
+              (Row.lease (κs .1 .1 .1 .0) (qs .1 .1 .1 .0)),
+        ) (List._∷_ (
+          5,
+          Reshare.mslice-owedS
+              (Referent.rtF (Referent.fInt Syntax.w8))
+              (Syntax.tyRef (Syntax.named 4) Syntax.mut (Syntax.tyInt Syntax.w8))
+              4
+              17
+              (Row.lease (κs .1 .1 .1 .1 .0) (qs .1 .1 .1 .1 .0)),
+        ) (List._∷_ (
+          6,
+          Mut.mslice
+              (Referent.rtF (Referent.fInt Syntax.w32))
+              (Syntax.tyRef (Syntax.named 5) Syntax.mut (Syntax.tyInt Syntax.w32))
+              5,
+        ) (List._∷_ (
+          7,
+          Mut.mslice
+              (Referent.rtF (Referent.fInt Syntax.w8))
+              (Syntax.tyRef (Syntax.named 6) Syntax.mut (Syntax.tyInt Syntax.w8))
+              6,
+        ) (List._∷_ (
+          8,
+          Mut.mslice
+              (Referent.rtF (Referent.fInt Syntax.w8))
+              (Syntax.tyRef (Syntax.named 7) Syntax.mut (Syntax.tyInt Syntax.w8))
+              7,
+        ) (List._∷_ (
+          9,
+          Mut.mslice
+              (Referent.rtF (Referent.fInt Syntax.w8))
+              (Syntax.tyRef (Syntax.named 8) Syntax.mut (Syntax.tyInt Syntax.w8))
+              8,
+        ) (List._∷_ (
+          10,
+          Mut.mslice
+              (Referent.rtF (Referent.fInt Syntax.w8))
+              (Syntax.tyRef (Syntax.named 9) Syntax.mut (Syntax.tyInt Syntax.w8))
+              9,
+        ) (List._∷_ (
+          11,
+          Mut.mslice
+              (Referent.rtF (Referent.fInt Syntax.w8))
+              (Syntax.tyRef (Syntax.named 10) Syntax.mut (Syntax.tyInt Syntax.w8))
+              10,
+        ) (List._∷_ (12, Rows.sc-here (Row.sInt Syntax.w64)) (List._∷_ (
+          13,
+          Rows.sc-here (Row.sInt Syntax.w64),
+        ) (List._∷_ (14, Rows.sc-here (Row.sInt Syntax.w64)) (List._∷_ (
+          15,
+          Rows.any-gone (Syntax.tyRef Syntax.erased Syntax.mut (Syntax.tyInt Syntax.w64)),
+        ) List.[])))))))))))))))
+
+        abbrev g39 : List.List Row.Entry
+        g39 = List._∷_ (0, Rows.any-gone (Syntax.tyInt Syntax.w64)) (List._∷_ (
+          1,
+          Rows.sslice
+              (Referent.rtF (Referent.fInt Syntax.w8))
+              (Syntax.tyRef (Syntax.named 0) Syntax.imm (Syntax.tyInt Syntax.w8))
+              0,
+        ) (List._∷_ (
+          2,
+          Reshare.mslice-owedS
+              Elem.R
+              (Syntax.tyRef
+              (Syntax.named 1)
+              Syntax.mut
+              Elem.ty)
+              1
+              15
+              (Row.lease (κs .1 .0) (qs .1 .0)),
+        ) (List._∷_ (
+          3,
+          Relend.mslice-owed
+              (Referent.rtF (Referent.fInt Syntax.w64))
+              (Syntax.tyRef (Syntax.named 2) Syntax.mut (Syntax.tyInt Syntax.w64))
+              2
+              18
+              (Row.lease (κs .1 .1 .0) (qs .1 .1 .0)),
+        ) (List._∷_ (
+          4,
+          Reshare.mslice-owedS
+              (Referent.rtF (Referent.fInt Syntax.w64))
+              (Syntax.tyRef (Syntax.named 3) Syntax.mut (Syntax.tyInt Syntax.w64))
+              3
+              16
+              (Row.lease (κs .1 .1 .1 .0) (qs .1 .1 .1 .0)),
+        ) (List._∷_ (
+          5,
+          Reshare.mslice-owedS
+              (Referent.rtF (Referent.fInt Syntax.w8))
+              (Syntax.tyRef (Syntax.named 4) Syntax.mut (Syntax.tyInt Syntax.w8))
+              4
+              17
+              (Row.lease (κs .1 .1 .1 .1 .0) (qs .1 .1 .1 .1 .0)),
+        ) (List._∷_ (
+          6,
+          Mut.mslice
+              (Referent.rtF (Referent.fInt Syntax.w32))
+              (Syntax.tyRef (Syntax.named 5) Syntax.mut (Syntax.tyInt Syntax.w32))
+              5,
+        ) (List._∷_ (
+          7,
+          Part.mslice-owedP
+              (Referent.rtF (Referent.fInt Syntax.w8))
+              (Syntax.tyRef (Syntax.named 6) Syntax.mut (Syntax.tyInt Syntax.w8))
+              6
+              19
+              (Row.lease (κs .1 .1 .1 .1 .1 .1 .0) (qs .1 .1 .1 .1 .1 .1 .0)),
+        ) (List._∷_ (
+          8,
+          Mut.mslice
+              (Referent.rtF (Referent.fInt Syntax.w8))
+              (Syntax.tyRef (Syntax.named 7) Syntax.mut (Syntax.tyInt Syntax.w8))
+              7,
+        ) (List._∷_ (
+          9,
+          Mut.mslice
+              (Referent.rtF (Referent.fInt Syntax.w8))
+              (Syntax.tyRef (Syntax.named 8) Syntax.mut (Syntax.tyInt Syntax.w8))
+              8,
+        ) (List._∷_ (
+          10,
+          Mut.mslice
+              (Referent.rtF (Referent.fInt Syntax.w8))
+              (Syntax.tyRef (Syntax.named 9) Syntax.mut (Syntax.tyInt Syntax.w8))
+              9,
+        ) (List._∷_ (
+          11,
+          Mut.mslice
+              (Referent.rtF (Referent.fInt Syntax.w8))
+              (Syntax.tyRef (Syntax.named 10) Syntax.mut (Syntax.tyInt Syntax.w8))
+              10,
+        ) (List._∷_ (12, Rows.sc-here (Row.sInt Syntax.w64)) (List._∷_ (
+          13,
+          Rows.sc-here (Row.sInt Syntax.w64),
+        ) (List._∷_ (14, Rows.sc-here (Row.sInt Syntax.w64)) (List._∷_ (
+          15,
+          Rows.any-gone (Syntax.tyRef Syntax.erased Syntax.mut (Syntax.tyInt Syntax.w64)),
+        ) List.[])))))))))))))))
+
+        abbrev g42 : List.List Row.Entry
+        g42 = List._∷_ (0, Rows.any-gone (Syntax.tyInt Syntax.w64)) (List._∷_ (
+          1,
+          Rows.sslice
+              (Referent.rtF (Referent.fInt Syntax.w8))
+              (Syntax.tyRef (Syntax.named 0) Syntax.imm (Syntax.tyInt Syntax.w8))
+              0,
+        ) (List._∷_ (
+          2,
+          Reshare.mslice-owedS
+              Elem.R
+              (Syntax.tyRef
+              (Syntax.named 1)
+              Syntax.mut
+              Elem.ty)
+              1
+              15
+              (Row.lease (κs .1 .0) (qs .1 .0)),
+        ) (List._∷_ (
+          3,
+          Relend.mslice-owed
+              (Referent.rtF (Referent.fInt Syntax.w64))
+              (Syntax.tyRef (Syntax.named 2) Syntax.mut (Syntax.tyInt Syntax.w64))
+              2
+              18
+              (Row.lease (κs .1 .1 .0) (qs .1 .1 .0)),
+        ) (List._∷_ (
+          4,
+          Reshare.mslice-owedS
+              (Referent.rtF (Referent.fInt Syntax.w64))
+              (Syntax.tyRef (Syntax.named 3) Syntax.mut (Syntax.tyInt Syntax.w64))
+              3
+              16
+              (Row.lease (κs .1 .1 .1 .0) (qs .1 .1 .1 .0)),
+        ) (List._∷_ (
+          5,
+          Reshare.mslice-owedS
+              (Referent.rtF (Referent.fInt Syntax.w8))
+              (Syntax.tyRef (Syntax.named 4) Syntax.mut (Syntax.tyInt Syntax.w8))
+              4
+              17
+              (Row.lease (κs .1 .1 .1 .1 .0) (qs .1 .1 .1 .1 .0)),
+        ) (List._∷_ (
+          6,
+          Mut.mslice
+              (Referent.rtF (Referent.fInt Syntax.w32))
+              (Syntax.tyRef (Syntax.named 5) Syntax.mut (Syntax.tyInt Syntax.w32))
+              5,
+        ) (List._∷_ (
+          7,
+          Part.mslice-owedP
+              (Referent.rtF (Referent.fInt Syntax.w8))
+              (Syntax.tyRef (Syntax.named 6) Syntax.mut (Syntax.tyInt Syntax.w8))
+              6
+              19
+              (Row.lease (κs .1 .1 .1 .1 .1 .1 .0) (qs .1 .1 .1 .1 .1 .1 .0)),
+        ) (List._∷_ (
+          8,
+          Part.mslice-owedP
+              (Referent.rtF (Referent.fInt Syntax.w8))
+              (Syntax.tyRef (Syntax.named 7) Syntax.mut (Syntax.tyInt Syntax.w8))
+              7
+              20
+              (Row.lease (κs .1 .1 .1 .1 .1 .1 .1 .0) (qs .1 .1 .1 .1 .1 .1 .1 .0)),
+        ) (List._∷_ (
+          9,
+          Mut.mslice
+              (Referent.rtF (Referent.fInt Syntax.w8))
+              (Syntax.tyRef (Syntax.named 8) Syntax.mut (Syntax.tyInt Syntax.w8))
+              8,
+        ) (List._∷_ (
+          10,
+          Mut.mslice
+              (Referent.rtF (Referent.fInt Syntax.w8))
+              (Syntax.tyRef (Syntax.named 9) Syntax.mut (Syntax.tyInt Syntax.w8))
+              9,
+        ) (List._∷_ (
+          11,
+          Mut.mslice
+              (Referent.rtF (Referent.fInt Syntax.w8))
+              (Syntax.tyRef (Syntax.named 10) Syntax.mut (Syntax.tyInt Syntax.w8))
+              10,
+        ) (List._∷_ (12, Rows.sc-here (Row.sInt Syntax.w64)) (List._∷_ (
+          13,
+          Rows.sc-here (Row.sInt Syntax.w64),
+        ) (List._∷_ (14, Rows.sc-here (Row.sInt Syntax.w64)) (List._∷_ (
+          15,
+          Rows.any-gone (Syntax.tyRef Syntax.erased Syntax.mut (Syntax.tyInt Syntax.w64)),
+        ) List.[])))))))))))))))
+
+        abbrev g45 : List.List Row.Entry
+        g45 = List._∷_ (0, Rows.any-gone (Syntax.tyInt Syntax.w64)) (List._∷_ (
+          1,
+          Rows.sslice
+              (Referent.rtF (Referent.fInt Syntax.w8))
+              (Syntax.tyRef (Syntax.named 0) Syntax.imm (Syntax.tyInt Syntax.w8))
+              0,
+        ) (List._∷_ (
+          2,
+          Reshare.mslice-owedS
+              Elem.R
+              (Syntax.tyRef
+              (Syntax.named 1)
+              Syntax.mut
+              Elem.ty)
+              1
+              15
+              (Row.lease (κs .1 .0) (qs .1 .0)),
+        ) (List._∷_ (
+          3,
+          Relend.mslice-owed
+              (Referent.rtF (Referent.fInt Syntax.w64))
+              (Syntax.tyRef (Syntax.named 2) Syntax.mut (Syntax.tyInt Syntax.w64))
+              2
+              18
+              (Row.lease (κs .1 .1 .0) (qs .1 .1 .0)),
+        ) (List._∷_ (
+          4,
+          Reshare.mslice-owedS
+              (Referent.rtF (Referent.fInt Syntax.w64))
+              (Syntax.tyRef (Syntax.named 3) Syntax.mut (Syntax.tyInt Syntax.w64))
+              3
+              16
+              (Row.lease (κs .1 .1 .1 .0) (qs .1 .1 .1 .0)),
+        ) (List._∷_ (
+          5,
+          Reshare.mslice-owedS
+              (Referent.rtF (Referent.fInt Syntax.w8))
+              (Syntax.tyRef (Syntax.named 4) Syntax.mut (Syntax.tyInt Syntax.w8))
+              4
+              17
+              (Row.lease (κs .1 .1 .1 .1 .0) (qs .1 .1 .1 .1 .0)),
+        ) (List._∷_ (
+          6,
+          Mut.mslice
+              (Referent.rtF (Referent.fInt Syntax.w32))
+              (Syntax.tyRef (Syntax.named 5) Syntax.mut (Syntax.tyInt Syntax.w32))
+              5,
+        ) (List._∷_ (
+          7,
+          Part.mslice-owedP
+              (Referent.rtF (Referent.fInt Syntax.w8))
+              (Syntax.tyRef (Syntax.named 6) Syntax.mut (Syntax.tyInt Syntax.w8))
+              6
+              19
+              (Row.lease (κs .1 .1 .1 .1 .1 .1 .0) (qs .1 .1 .1 .1 .1 .1 .0)),
+        ) (List._∷_ (
+          8,
+          Part.mslice-owedP
+              (Referent.rtF (Referent.fInt Syntax.w8))
+              (Syntax.tyRef (Syntax.named 7) Syntax.mut (Syntax.tyInt Syntax.w8))
+              7
+              20
+              (Row.lease (κs .1 .1 .1 .1 .1 .1 .1 .0) (qs .1 .1 .1 .1 .1 .1 .1 .0)),
+        ) (List._∷_ (
+          9,
+          Part.mslice-owedP
+              (Referent.rtF (Referent.fInt Syntax.w8))
+              (Syntax.tyRef (Syntax.named 8) Syntax.mut (Syntax.tyInt Syntax.w8))
+              8
+              21
+              (Row.lease (κs .1 .1 .1 .1 .1 .1 .1 .1 .0) (qs .1 .1 .1 .1 .1 .1 .1 .1 .0)),
+        ) (List._∷_ (
+          10,
+          Mut.mslice
+              (Referent.rtF (Referent.fInt Syntax.w8))
+              (Syntax.tyRef (Syntax.named 9) Syntax.mut (Syntax.tyInt Syntax.w8))
+              9,
+        ) (List._∷_ (
+          11,
+          Mut.mslice
+              (Referent.rtF (Referent.fInt Syntax.w8))
+              (Syntax.tyRef (Syntax.named 10) Syntax.mut (Syntax.tyInt Syntax.w8))
+              10,
+        ) (List._∷_ (12, Rows.sc-here (Row.sInt Syntax.w64)) (List._∷_ (
+          13,
+          Rows.sc-here (Row.sInt Syntax.w64),
+        ) (List._∷_ (14, Rows.sc-here (Row.sInt Syntax.w64)) (List._∷_ (
+          15,
+          Rows.any-gone (Syntax.tyRef Syntax.erased Syntax.mut (Syntax.tyInt Syntax.w64)),
+        ) List.[])))))))))))))))
+
+        abbrev g48 : List.List Row.Entry
+        g48 = List._∷_ (0, Rows.any-gone (Syntax.tyInt Syntax.w64)) (List._∷_ (
+          1,
+          Rows.sslice
+              (Referent.rtF (Referent.fInt Syntax.w8))
+              (Syntax.tyRef (Syntax.named 0) Syntax.imm (Syntax.tyInt Syntax.w8))
+              0,
+        ) (List._∷_ (
+          2,
+          Reshare.mslice-owedS
+              Elem.R
+              (Syntax.tyRef
+              (Syntax.named 1)
+              Syntax.mut
+              Elem.ty)
+              1
+              15
+              (Row.lease (κs .1 .0) (qs .1 .0)),
+        ) (List._∷_ (
+          3,
+          Relend.mslice-owed
+              (Referent.rtF (Referent.fInt Syntax.w64))
+              (Syntax.tyRef (Syntax.named 2) Syntax.mut (Syntax.tyInt Syntax.w64))
+              2
+              18
+              (Row.lease (κs .1 .1 .0) (qs .1 .1 .0)),
+        ) (List._∷_ (
+          4,
+          Reshare.mslice-owedS
+              (Referent.rtF (Referent.fInt Syntax.w64))
+              (Syntax.tyRef (Syntax.named 3) Syntax.mut (Syntax.tyInt Syntax.w64))
+              3
+              16
+              (Row.lease (κs .1 .1 .1 .0) (qs .1 .1 .1 .0)),
+        ) (List._∷_ (
+          5,
+          Reshare.mslice-owedS
+              (Referent.rtF (Referent.fInt Syntax.w8))
+              (Syntax.tyRef (Syntax.named 4) Syntax.mut (Syntax.tyInt Syntax.w8))
+              4
+              17
+              (Row.lease (κs .1 .1 .1 .1 .0) (qs .1 .1 .1 .1 .0)),
+        ) (List._∷_ (
+          6,
+          Mut.mslice
+              (Referent.rtF (Referent.fInt Syntax.w32))
+              (Syntax.tyRef (Syntax.named 5) Syntax.mut (Syntax.tyInt Syntax.w32))
+              5,
+        ) (List._∷_ (
+          7,
+          Part.mslice-owedP
+              (Referent.rtF (Referent.fInt Syntax.w8))
+              (Syntax.tyRef (Syntax.named 6) Syntax.mut (Syntax.tyInt Syntax.w8))
+              6
+              19
+              (Row.lease (κs .1 .1 .1 .1 .1 .1 .0) (qs .1 .1 .1 .1 .1 .1 .0)),
+        ) (List._∷_ (
+          8,
+          Part.mslice-owedP
+              (Referent.rtF (Referent.fInt Syntax.w8))
+              (Syntax.tyRef (Syntax.named 7) Syntax.mut (Syntax.tyInt Syntax.w8))
+              7
+              20
+              (Row.lease (κs .1 .1 .1 .1 .1 .1 .1 .0) (qs .1 .1 .1 .1 .1 .1 .1 .0)),
+        ) (List._∷_ (
+          9,
+          Part.mslice-owedP
+              (Referent.rtF (Referent.fInt Syntax.w8))
+              (Syntax.tyRef (Syntax.named 8) Syntax.mut (Syntax.tyInt Syntax.w8))
+              8
+              21
+              (Row.lease (κs .1 .1 .1 .1 .1 .1 .1 .1 .0) (qs .1 .1 .1 .1 .1 .1 .1 .1 .0)),
+        ) (List._∷_ (
+          10,
+          Part.mslice-owedP
+              (Referent.rtF (Referent.fInt Syntax.w8))
+              (Syntax.tyRef (Syntax.named 9) Syntax.mut (Syntax.tyInt Syntax.w8))
+              9
+              22
+              (Row.lease (κs .1 .1 .1 .1 .1 .1 .1 .1 .1 .0) (qs .1 .1 .1 .1 .1 .1 .1 .1 .1 .0)),
+        ) (List._∷_ (
+          11,
+          Mut.mslice
+              (Referent.rtF (Referent.fInt Syntax.w8))
+              (Syntax.tyRef (Syntax.named 10) Syntax.mut (Syntax.tyInt Syntax.w8))
+              10,
+        ) (List._∷_ (12, Rows.sc-here (Row.sInt Syntax.w64)) (List._∷_ (
+          13,
+          Rows.sc-here (Row.sInt Syntax.w64),
+        ) (List._∷_ (14, Rows.sc-here (Row.sInt Syntax.w64)) (List._∷_ (
+          15,
+          Rows.any-gone (Syntax.tyRef Syntax.erased Syntax.mut (Syntax.tyInt Syntax.w64)),
+        ) List.[])))))))))))))))
+
+        abbrev g51 : List.List Row.Entry
+        g51 = List._∷_ (0, Rows.any-gone (Syntax.tyInt Syntax.w64)) (List._∷_ (
+          1,
+          Rows.sslice
+              (Referent.rtF (Referent.fInt Syntax.w8))
+              (Syntax.tyRef (Syntax.named 0) Syntax.imm (Syntax.tyInt Syntax.w8))
+              0,
+        ) (List._∷_ (
+          2,
+          Reshare.mslice-owedS
+              Elem.R
+              (Syntax.tyRef
+              (Syntax.named 1)
+              Syntax.mut
+              Elem.ty)
+              1
+              15
+              (Row.lease (κs .1 .0) (qs .1 .0)),
+        ) (List._∷_ (
+          3,
+          Relend.mslice-owed
+              (Referent.rtF (Referent.fInt Syntax.w64))
+              (Syntax.tyRef (Syntax.named 2) Syntax.mut (Syntax.tyInt Syntax.w64))
+              2
+              18
+              (Row.lease (κs .1 .1 .0) (qs .1 .1 .0)),
+        ) (List._∷_ (
+          4,
+          Reshare.mslice-owedS
+              (Referent.rtF (Referent.fInt Syntax.w64))
+              (Syntax.tyRef (Syntax.named 3) Syntax.mut (Syntax.tyInt Syntax.w64))
+              3
+              16
+              (Row.lease (κs .1 .1 .1 .0) (qs .1 .1 .1 .0)),
+        ) (List._∷_ (
+          5,
+          Reshare.mslice-owedS
+              (Referent.rtF (Referent.fInt Syntax.w8))
+              (Syntax.tyRef (Syntax.named 4) Syntax.mut (Syntax.tyInt Syntax.w8))
+              4
+              17
+              (Row.lease (κs .1 .1 .1 .1 .0) (qs .1 .1 .1 .1 .0)),
+        ) (List._∷_ (
+          6,
+          Mut.mslice
+              (Referent.rtF (Referent.fInt Syntax.w32))
+              (Syntax.tyRef (Syntax.named 5) Syntax.mut (Syntax.tyInt Syntax.w32))
+              5,
+        ) (List._∷_ (
+          7,
+          Part.mslice-owedP
+              (Referent.rtF (Referent.fInt Syntax.w8))
+              (Syntax.tyRef (Syntax.named 6) Syntax.mut (Syntax.tyInt Syntax.w8))
+              6
+              19
+              (Row.lease (κs .1 .1 .1 .1 .1 .1 .0) (qs .1 .1 .1 .1 .1 .1 .0)),
+        ) (List._∷_ (
+          8,
+          Part.mslice-owedP
+              (Referent.rtF (Referent.fInt Syntax.w8))
+              (Syntax.tyRef (Syntax.named 7) Syntax.mut (Syntax.tyInt Syntax.w8))
+              7
+              20
+              (Row.lease (κs .1 .1 .1 .1 .1 .1 .1 .0) (qs .1 .1 .1 .1 .1 .1 .1 .0)),
+        ) (List._∷_ (
+          9,
+          Part.mslice-owedP
+              (Referent.rtF (Referent.fInt Syntax.w8))
+              (Syntax.tyRef (Syntax.named 8) Syntax.mut (Syntax.tyInt Syntax.w8))
+              8
+              21
+              (Row.lease (κs .1 .1 .1 .1 .1 .1 .1 .1 .0) (qs .1 .1 .1 .1 .1 .1 .1 .1 .0)),
+        ) (List._∷_ (
+          10,
+          Part.mslice-owedP
+              (Referent.rtF (Referent.fInt Syntax.w8))
+              (Syntax.tyRef (Syntax.named 9) Syntax.mut (Syntax.tyInt Syntax.w8))
+              9
+              22
+              (Row.lease (κs .1 .1 .1 .1 .1 .1 .1 .1 .1 .0) (qs .1 .1 .1 .1 .1 .1 .1 .1 .1 .0)),
+        ) (List._∷_ (
+          11,
+          Relend.mslice-owed
+              (Referent.rtF (Referent.fInt Syntax.w8))
+              (Syntax.tyRef (Syntax.named 10) Syntax.mut (Syntax.tyInt Syntax.w8))
+              10
+              23
+              (Row.lease
+              (κs .1 .1 .1 .1 .1 .1 .1 .1 .1 .1 .0)
+              (qs .1 .1 .1 .1 .1 .1 .1 .1 .1 .1 .0)),
+        ) (List._∷_ (12, Rows.sc-here (Row.sInt Syntax.w64)) (List._∷_ (
+          13,
+          Rows.sc-here (Row.sInt Syntax.w64),
+        ) (List._∷_ (14, Rows.sc-here (Row.sInt Syntax.w64)) (List._∷_ (
+          15,
+          Rows.any-gone (Syntax.tyRef Syntax.erased Syntax.mut (Syntax.tyInt Syntax.w64)),
+        ) List.[])))))))))))))))
+
+        abbrev g54 : List.List Row.Entry
+        g54 = List._∷_ (0, Rows.sc-here (Row.sInt Syntax.w64)) (List._∷_ (
+          1,
+          Rows.sslice
+              (Referent.rtF (Referent.fInt Syntax.w8))
+              (Syntax.tyRef (Syntax.named 0) Syntax.imm (Syntax.tyInt Syntax.w8))
+              0,
+        ) (List._∷_ (
+          2,
+          Reshare.mslice-owedS
+              Elem.R
+              (Syntax.tyRef
+              (Syntax.named 1)
+              Syntax.mut
+              Elem.ty)
+              1
+              15
+              (Row.lease (κs .1 .0) (qs .1 .0)),
+        ) (List._∷_ (
+          3,
+          Relend.mslice-owed
+              (Referent.rtF (Referent.fInt Syntax.w64))
+              (Syntax.tyRef (Syntax.named 2) Syntax.mut (Syntax.tyInt Syntax.w64))
+              2
+              18
+              (Row.lease (κs .1 .1 .0) (qs .1 .1 .0)),
+        ) (List._∷_ (
+          4,
+          Reshare.mslice-owedS
+              (Referent.rtF (Referent.fInt Syntax.w64))
+              (Syntax.tyRef (Syntax.named 3) Syntax.mut (Syntax.tyInt Syntax.w64))
+              3
+              16
+              (Row.lease (κs .1 .1 .1 .0) (qs .1 .1 .1 .0)),
+        ) (List._∷_ (
+          5,
+          Reshare.mslice-owedS
+              (Referent.rtF (Referent.fInt Syntax.w8))
+              (Syntax.tyRef (Syntax.named 4) Syntax.mut (Syntax.tyInt Syntax.w8))
+              4
+              17
+              (Row.lease (κs .1 .1 .1 .1 .0) (qs .1 .1 .1 .1 .0)),
+        ) (List._∷_ (
+          6,
+          Mut.mslice
+              (Referent.rtF (Referent.fInt Syntax.w32))
+              (Syntax.tyRef (Syntax.named 5) Syntax.mut (Syntax.tyInt Syntax.w32))
+              5,
+        ) (List._∷_ (
+          7,
+          Part.mslice-owedP
+              (Referent.rtF (Referent.fInt Syntax.w8))
+              (Syntax.tyRef (Syntax.named 6) Syntax.mut (Syntax.tyInt Syntax.w8))
+              6
+              19
+              (Row.lease (κs .1 .1 .1 .1 .1 .1 .0) (qs .1 .1 .1 .1 .1 .1 .0)),
+        ) (List._∷_ (
+          8,
+          Part.mslice-owedP
+              (Referent.rtF (Referent.fInt Syntax.w8))
+              (Syntax.tyRef (Syntax.named 7) Syntax.mut (Syntax.tyInt Syntax.w8))
+              7
+              20
+              (Row.lease (κs .1 .1 .1 .1 .1 .1 .1 .0) (qs .1 .1 .1 .1 .1 .1 .1 .0)),
+        ) (List._∷_ (
+          9,
+          Part.mslice-owedP
+              (Referent.rtF (Referent.fInt Syntax.w8))
+              (Syntax.tyRef (Syntax.named 8) Syntax.mut (Syntax.tyInt Syntax.w8))
+              8
+              21
+              (Row.lease (κs .1 .1 .1 .1 .1 .1 .1 .1 .0) (qs .1 .1 .1 .1 .1 .1 .1 .1 .0)),
+        ) (List._∷_ (
+          10,
+          Part.mslice-owedP
+              (Referent.rtF (Referent.fInt Syntax.w8))
+              (Syntax.tyRef (Syntax.named 9) Syntax.mut (Syntax.tyInt Syntax.w8))
+              9
+              22
+              (Row.lease (κs .1 .1 .1 .1 .1 .1 .1 .1 .1 .0) (qs .1 .1 .1 .1 .1 .1 .1 .1 .1 .0)),
+        ) (List._∷_ (
+          11,
+          Relend.mslice-owed
+              (Referent.rtF (Referent.fInt Syntax.w8))
+              (Syntax.tyRef (Syntax.named 10) Syntax.mut (Syntax.tyInt Syntax.w8))
+              10
+              23
+              (Row.lease
+              (κs .1 .1 .1 .1 .1 .1 .1 .1 .1 .1 .0)
+              (qs .1 .1 .1 .1 .1 .1 .1 .1 .1 .1 .0)),
+        ) (List._∷_ (12, Rows.sc-here (Row.sInt Syntax.w64)) (List._∷_ (
+          13,
+          Rows.sc-here (Row.sInt Syntax.w64),
+        ) (List._∷_ (14, Rows.sc-here (Row.sInt Syntax.w64)) (List._∷_ (
+          15,
+          Rows.any-gone (Syntax.tyRef Syntax.erased Syntax.mut (Syntax.tyInt Syntax.w64)),
+        ) List.[])))))))))))))))
+
+        abbrev g60 : List.List Row.Entry
+        g60 = List._∷_ (0, Rows.sc-here (Row.sInt Syntax.w64)) (List._∷_ (
+          1,
+          Rows.sslice
+              (Referent.rtF (Referent.fInt Syntax.w8))
+              (Syntax.tyRef (Syntax.named 0) Syntax.imm (Syntax.tyInt Syntax.w8))
+              0,
+        ) (List._∷_ (
+          2,
+          Reshare.mslice-owedS
+              Elem.R
+              (Syntax.tyRef
+              (Syntax.named 1)
+              Syntax.mut
+              Elem.ty)
+              1
+              15
+              (Row.lease (κs .1 .0) (qs .1 .0)),
+        ) (List._∷_ (
+          3,
+          Relend.mslice-owed
+              (Referent.rtF (Referent.fInt Syntax.w64))
+              (Syntax.tyRef (Syntax.named 2) Syntax.mut (Syntax.tyInt Syntax.w64))
+              2
+              18
+              (Row.lease (κs .1 .1 .0) (qs .1 .1 .0)),
+        ) (List._∷_ (
+          4,
+          Reshare.mslice-owedS
+              (Referent.rtF (Referent.fInt Syntax.w64))
+              (Syntax.tyRef (Syntax.named 3) Syntax.mut (Syntax.tyInt Syntax.w64))
+              3
+              16
+              (Row.lease (κs .1 .1 .1 .0) (qs .1 .1 .1 .0)),
+        ) (List._∷_ (
+          5,
+          Reshare.mslice-owedS
+              (Referent.rtF (Referent.fInt Syntax.w8))
+              (Syntax.tyRef (Syntax.named 4) Syntax.mut (Syntax.tyInt Syntax.w8))
+              4
+              17
+              (Row.lease (κs .1 .1 .1 .1 .0) (qs .1 .1 .1 .1 .0)),
+        ) (List._∷_ (
+          6,
+          Mut.mslice
+              (Referent.rtF (Referent.fInt Syntax.w32))
+              (Syntax.tyRef (Syntax.named 5) Syntax.mut (Syntax.tyInt Syntax.w32))
+              5,
+        ) (List._∷_ (
+          7,
+          Part.mslice-owedP
+              (Referent.rtF (Referent.fInt Syntax.w8))
+              (Syntax.tyRef (Syntax.named 6) Syntax.mut (Syntax.tyInt Syntax.w8))
+              6
+              19
+              (Row.lease (κs .1 .1 .1 .1 .1 .1 .0) (qs .1 .1 .1 .1 .1 .1 .0)),
+        ) (List._∷_ (
+          8,
+          Part.mslice-owedP
+              (Referent.rtF (Referent.fInt Syntax.w8))
+              (Syntax.tyRef (Syntax.named 7) Syntax.mut (Syntax.tyInt Syntax.w8))
+              7
+              20
+              (Row.lease (κs .1 .1 .1 .1 .1 .1 .1 .0) (qs .1 .1 .1 .1 .1 .1 .1 .0)),
+        ) (List._∷_ (
+          9,
+          Part.mslice-owedP
+              (Referent.rtF (Referent.fInt Syntax.w8))
+              (Syntax.tyRef (Syntax.named 8) Syntax.mut (Syntax.tyInt Syntax.w8))
+              8
+              21
+              (Row.lease (κs .1 .1 .1 .1 .1 .1 .1 .1 .0) (qs .1 .1 .1 .1 .1 .1 .1 .1 .0)),
+        ) (List._∷_ (
+          10,
+          Part.mslice-owedP
+              (Referent.rtF (Referent.fInt Syntax.w8))
+              (Syntax.tyRef (Syntax.named 9) Syntax.mut (Syntax.tyInt Syntax.w8))
+              9
+              22
+              (Row.lease (κs .1 .1 .1 .1 .1 .1 .1 .1 .1 .0) (qs .1 .1 .1 .1 .1 .1 .1 .1 .1 .0)),
+        ) (List._∷_ (
+          11,
+          Relend.mslice-owed
+              (Referent.rtF (Referent.fInt Syntax.w8))
+              (Syntax.tyRef (Syntax.named 10) Syntax.mut (Syntax.tyInt Syntax.w8))
+              10
+              23
+              (Row.lease
+              (κs .1 .1 .1 .1 .1 .1 .1 .1 .1 .1 .0)
+              (qs .1 .1 .1 .1 .1 .1 .1 .1 .1 .1 .0)),
+        ) (List._∷_ (12, Rows.any-gone (Syntax.tyInt Syntax.w64)) (List._∷_ (
+          13,
+          Rows.sc-here (Row.sInt Syntax.w64),
+        ) (List._∷_ (14, Rows.sc-here (Row.sInt Syntax.w64)) (List._∷_ (
+          15,
+          Rows.any-gone (Syntax.tyRef Syntax.erased Syntax.mut (Syntax.tyInt Syntax.w64)),
+        ) List.[])))))))))))))))
+
+        abbrev g61 : List.List Row.Entry
+        g61 = List._∷_ (0, Rows.sc-here (Row.sInt Syntax.w64)) (List._∷_ (
+          1,
+          Rows.sslice
+              (Referent.rtF (Referent.fInt Syntax.w8))
+              (Syntax.tyRef (Syntax.named 0) Syntax.imm (Syntax.tyInt Syntax.w8))
+              0,
+        ) (List._∷_ (
+          2,
+          Reshare.mslice-owedS
+              Elem.R
+              (Syntax.tyRef
+              (Syntax.named 1)
+              Syntax.mut
+              Elem.ty)
+              1
+              15
+              (Row.lease (κs .1 .0) (qs .1 .0)),
+        ) (List._∷_ (
+          3,
+          Relend.mslice-owed
+              (Referent.rtF (Referent.fInt Syntax.w64))
+              (Syntax.tyRef (Syntax.named 2) Syntax.mut (Syntax.tyInt Syntax.w64))
+              2
+              18
+              (Row.lease (κs .1 .1 .0) (qs .1 .1 .0)),
+        ) (List._∷_ (
+          4,
+          Reshare.mslice-owedS
+              (Referent.rtF (Referent.fInt Syntax.w64))
+              (Syntax.tyRef (Syntax.named 3) Syntax.mut (Syntax.tyInt Syntax.w64))
+              3
+              16
+              (Row.lease (κs .1 .1 .1 .0) (qs .1 .1 .1 .0)),
+        ) (List._∷_ (
+          5,
+          Reshare.mslice-owedS
+              (Referent.rtF (Referent.fInt Syntax.w8))
+              (Syntax.tyRef (Syntax.named 4) Syntax.mut (Syntax.tyInt Syntax.w8))
+              4
+              17
+              (Row.lease (κs .1 .1 .1 .1 .0) (qs .1 .1 .1 .1 .0)),
+        ) (List._∷_ (
+          6,
+          Mut.mslice
+              (Referent.rtF (Referent.fInt Syntax.w32))
+              (Syntax.tyRef (Syntax.named 5) Syntax.mut (Syntax.tyInt Syntax.w32))
+              5,
+        ) (List._∷_ (
+          7,
+          Part.mslice-owedP
+              (Referent.rtF (Referent.fInt Syntax.w8))
+              (Syntax.tyRef (Syntax.named 6) Syntax.mut (Syntax.tyInt Syntax.w8))
+              6
+              19
+              (Row.lease (κs .1 .1 .1 .1 .1 .1 .0) (qs .1 .1 .1 .1 .1 .1 .0)),
+        ) (List._∷_ (
+          8,
+          Part.mslice-owedP
+              (Referent.rtF (Referent.fInt Syntax.w8))
+              (Syntax.tyRef (Syntax.named 7) Syntax.mut (Syntax.tyInt Syntax.w8))
+              7
+              20
+              (Row.lease (κs .1 .1 .1 .1 .1 .1 .1 .0) (qs .1 .1 .1 .1 .1 .1 .1 .0)),
+        ) (List._∷_ (
+          9,
+          Part.mslice-owedP
+              (Referent.rtF (Referent.fInt Syntax.w8))
+              (Syntax.tyRef (Syntax.named 8) Syntax.mut (Syntax.tyInt Syntax.w8))
+              8
+              21
+              (Row.lease (κs .1 .1 .1 .1 .1 .1 .1 .1 .0) (qs .1 .1 .1 .1 .1 .1 .1 .1 .0)),
+        ) (List._∷_ (
+          10,
+          Part.mslice-owedP
+              (Referent.rtF (Referent.fInt Syntax.w8))
+              (Syntax.tyRef (Syntax.named 9) Syntax.mut (Syntax.tyInt Syntax.w8))
+              9
+              22
+              (Row.lease (κs .1 .1 .1 .1 .1 .1 .1 .1 .1 .0) (qs .1 .1 .1 .1 .1 .1 .1 .1 .1 .0)),
+        ) (List._∷_ (
+          11,
+          Relend.mslice-owed
+              (Referent.rtF (Referent.fInt Syntax.w8))
+              (Syntax.tyRef (Syntax.named 10) Syntax.mut (Syntax.tyInt Syntax.w8))
+              10
+              23
+              (Row.lease
+              (κs .1 .1 .1 .1 .1 .1 .1 .1 .1 .1 .0)
+              (qs .1 .1 .1 .1 .1 .1 .1 .1 .1 .1 .0)),
+        ) (List._∷_ (12, Rows.any-gone (Syntax.tyInt Syntax.w64)) (List._∷_ (
+          13,
+          Rows.any-gone (Syntax.tyInt Syntax.w64),
+        ) (List._∷_ (14, Rows.sc-here (Row.sInt Syntax.w64)) (List._∷_ (
+          15,
+          Rows.any-gone (Syntax.tyRef Syntax.erased Syntax.mut (Syntax.tyInt Syntax.w64)),
+        ) List.[])))))))))))))))
+
+        abbrev g62 : List.List Row.Entry
+        g62 = List._∷_ (0, Rows.sc-here (Row.sInt Syntax.w64)) (List._∷_ (
+          1,
+          Rows.sslice
+              (Referent.rtF (Referent.fInt Syntax.w8))
+              (Syntax.tyRef (Syntax.named 0) Syntax.imm (Syntax.tyInt Syntax.w8))
+              0,
+        ) (List._∷_ (
+          2,
+          Reshare.mslice-owedS
+              Elem.R
+              (Syntax.tyRef
+              (Syntax.named 1)
+              Syntax.mut
+              Elem.ty)
+              1
+              15
+              (Row.lease (κs .1 .0) (qs .1 .0)),
+        ) (List._∷_ (
+          3,
+          Relend.mslice-owed
+              (Referent.rtF (Referent.fInt Syntax.w64))
+              (Syntax.tyRef (Syntax.named 2) Syntax.mut (Syntax.tyInt Syntax.w64))
+              2
+              18
+              (Row.lease (κs .1 .1 .0) (qs .1 .1 .0)),
+        ) (List._∷_ (
+          4,
+          Reshare.mslice-owedS
+              (Referent.rtF (Referent.fInt Syntax.w64))
+              (Syntax.tyRef (Syntax.named 3) Syntax.mut (Syntax.tyInt Syntax.w64))
+              3
+              16
+              (Row.lease (κs .1 .1 .1 .0) (qs .1 .1 .1 .0)),
+        ) (List._∷_ (
+          5,
+          Reshare.mslice-owedS
+              (Referent.rtF (Referent.fInt Syntax.w8))
+              (Syntax.tyRef (Syntax.named 4) Syntax.mut (Syntax.tyInt Syntax.w8))
+              4
+              17
+              (Row.lease (κs .1 .1 .1 .1 .0) (qs .1 .1 .1 .1 .0)),
+        ) (List._∷_ (
+          6,
+          Mut.mslice
+              (Referent.rtF (Referent.fInt Syntax.w32))
+              (Syntax.tyRef (Syntax.named 5) Syntax.mut (Syntax.tyInt Syntax.w32))
+              5,
+        ) (List._∷_ (
+          7,
+          Part.mslice-owedP
+              (Referent.rtF (Referent.fInt Syntax.w8))
+              (Syntax.tyRef (Syntax.named 6) Syntax.mut (Syntax.tyInt Syntax.w8))
+              6
+              19
+              (Row.lease (κs .1 .1 .1 .1 .1 .1 .0) (qs .1 .1 .1 .1 .1 .1 .0)),
+        ) (List._∷_ (
+          8,
+          Part.mslice-owedP
+              (Referent.rtF (Referent.fInt Syntax.w8))
+              (Syntax.tyRef (Syntax.named 7) Syntax.mut (Syntax.tyInt Syntax.w8))
+              7
+              20
+              (Row.lease (κs .1 .1 .1 .1 .1 .1 .1 .0) (qs .1 .1 .1 .1 .1 .1 .1 .0)),
+        ) (List._∷_ (
+          9,
+          Part.mslice-owedP
+              (Referent.rtF (Referent.fInt Syntax.w8))
+              (Syntax.tyRef (Syntax.named 8) Syntax.mut (Syntax.tyInt Syntax.w8))
+              8
+              21
+              (Row.lease (κs .1 .1 .1 .1 .1 .1 .1 .1 .0) (qs .1 .1 .1 .1 .1 .1 .1 .1 .0)),
+        ) (List._∷_ (
+          10,
+          Part.mslice-owedP
+              (Referent.rtF (Referent.fInt Syntax.w8))
+              (Syntax.tyRef (Syntax.named 9) Syntax.mut (Syntax.tyInt Syntax.w8))
+              9
+              22
+              (Row.lease (κs .1 .1 .1 .1 .1 .1 .1 .1 .1 .0) (qs .1 .1 .1 .1 .1 .1 .1 .1 .1 .0)),
+        ) (List._∷_ (
+          11,
+          Relend.mslice-owed
+              (Referent.rtF (Referent.fInt Syntax.w8))
+              (Syntax.tyRef (Syntax.named 10) Syntax.mut (Syntax.tyInt Syntax.w8))
+              10
+              23
+              (Row.lease
+              (κs .1 .1 .1 .1 .1 .1 .1 .1 .1 .1 .0)
+              (qs .1 .1 .1 .1 .1 .1 .1 .1 .1 .1 .0)),
+        ) (List._∷_ (12, Rows.any-gone (Syntax.tyInt Syntax.w64)) (List._∷_ (
+          13,
+          Rows.any-gone (Syntax.tyInt Syntax.w64),
+        ) (List._∷_ (14, Rows.any-gone (Syntax.tyInt Syntax.w64)) (List._∷_ (
+          15,
+          Rows.any-gone (Syntax.tyRef Syntax.erased Syntax.mut (Syntax.tyInt Syntax.w64)),
+        ) List.[])))))))))))))))
+
+        abbrev g63 : List.List Row.Entry
+        g63 = List._∷_ (0, Rows.sc-here (Row.sInt Syntax.w64)) (List._∷_ (
           1,
           Rows.sslice
               (Referent.rtF (Referent.fInt Syntax.w8))
@@ -9344,501 +10116,11 @@ module _ (claims· : Claims) where
               1,
         ) (List._∷_ (
           3,
-          Mut.mslice
-              (Referent.rtF (Referent.fInt Syntax.w64))
-              (Syntax.tyRef (Syntax.named 2) Syntax.mut (Syntax.tyInt Syntax.w64))
-              2,
-        ) (List._∷_ (
-          4,
-          Reshare.mslice-owedS
-              (Referent.rtF (Referent.fInt Syntax.w64))
-              (Syntax.tyRef (Syntax.named 3) Syntax.mut (Syntax.tyInt Syntax.w64))
-              3
-              14
-              (Row.lease (κs .1 .1 .1 .0) (qs .1 .1 .1 .0)),
-        ) (List._∷_ (
-          5,
-          Mut.mslice
-              (Referent.rtF (Referent.fInt Syntax.w8))
-              (Syntax.tyRef (Syntax.named 4) Syntax.mut (Syntax.tyInt Syntax.w8))
-              4,
-        ) (List._∷_ (
-          6,
-          Mut.mslice
-              (Referent.rtF (Referent.fInt Syntax.w32))
-              (Syntax.tyRef (Syntax.named 5) Syntax.mut (Syntax.tyInt Syntax.w32))
-              5,
-        ) (List._∷_ (
-          7,
-          Mut.mslice
-              (Referent.rtF (Referent.fInt Syntax.w8))
-              (Syntax.tyRef (Syntax.named 6) Syntax.mut (Syntax.tyInt Syntax.w8))
-              6,
-        ) (List._∷_ (
-          8,
-          Mut.mslice
-              (Referent.rtF (Referent.fInt Syntax.w8))
-              (Syntax.tyRef (Syntax.named 7) Syntax.mut (Syntax.tyInt Syntax.w8))
-              7,
-        ) (List._∷_ (
-          9,
-          Mut.mslice
-              (Referent.rtF (Referent.fInt Syntax.w8))
-              (Syntax.tyRef (Syntax.named 8) Syntax.mut (Syntax.tyInt Syntax.w8))
-              8,
-        ) (List._∷_ (
-          10,
-          Mut.mslice
-              (Referent.rtF (Referent.fInt Syntax.w8))
-              (Syntax.tyRef (Syntax.named 9) Syntax.mut (Syntax.tyInt Syntax.w8))
-              9,
-        ) (List._∷_ (
-          11,
-          Mut.mslice
-              (Referent.rtF (Referent.fInt Syntax.w8))
-              (Syntax.tyRef (Syntax.named 10) Syntax.mut (Syntax.tyInt Syntax.w8))
-              10,
-        ) (List._∷_ (12, Rows.sc-here (Row.sInt Syntax.w64)) (List._∷_ (
-          13,
-          Rows.sc-here (Row.sInt Syntax.w64),
-        ) (List._∷_ (14, Rows.sc-here (Row.sInt Syntax.w64)) (List._∷_ (
-          15,
-          Rows.any-gone (Syntax.tyRef Syntax.erased Syntax.mut (Syntax.tyInt Syntax.w64)),
-        ) List.[])))))))))))))))
-
-        abbrev g25 : List.List Row.Entry
-        g25 = List._∷_ (0, Rows.any-gone (Syntax.tyInt Syntax.w64)) (List._∷_ (
-          1,
-          Rows.sslice
-              (Referent.rtF (Referent.fInt Syntax.w8))
-              (Syntax.tyRef (Syntax.named 0) Syntax.imm (Syntax.tyInt Syntax.w8))
-              0,
-        ) (List._∷_ (
-          2,
-          Relend.mslice-owed
-              Elem.R
-              (Syntax.tyRef
-              (Syntax.named 1)
-              Syntax.mut
-              Elem.ty)
-              1
-              15
-              (Row.lease (κs .1 .0) (qs .1 .0)),
-        ) (List._∷_ (
-          3,
-          Mut.mslice
-              (Referent.rtF (Referent.fInt Syntax.w64))
-              (Syntax.tyRef (Syntax.named 2) Syntax.mut (Syntax.tyInt Syntax.w64))
-              2,
-        ) (List._∷_ (
-          4,
-          Reshare.mslice-owedS
-              (Referent.rtF (Referent.fInt Syntax.w64))
-              (Syntax.tyRef (Syntax.named 3) Syntax.mut (Syntax.tyInt Syntax.w64))
-              3
-              14
-              (Row.lease (κs .1 .1 .1 .0) (qs .1 .1 .1 .0)),
-        ) (List._∷_ (
-          5,
-          Mut.mslice
-              (Referent.rtF (Referent.fInt Syntax.w8))
-              (Syntax.tyRef (Syntax.named 4) Syntax.mut (Syntax.tyInt Syntax.w8))
-              4,
-        ) (List._∷_ (
-          6,
-          Mut.mslice
-              (Referent.rtF (Referent.fInt Syntax.w32))
-              (Syntax.tyRef (Syntax.named 5) Syntax.mut (Syntax.tyInt Syntax.w32))
-              5,
-        ) (List._∷_ (
-          7,
-          Mut.mslice
-              (Referent.rtF (Referent.fInt Syntax.w8))
-              (Syntax.tyRef (Syntax.named 6) Syntax.mut (Syntax.tyInt Syntax.w8))
-              6,
-        ) (List._∷_ (
-          8,
-          Mut.mslice
-              (Referent.rtF (Referent.fInt Syntax.w8))
-              (Syntax.tyRef (Syntax.named 7) Syntax.mut (Syntax.tyInt Syntax.w8))
-              7,
-        ) (List._∷_ (
-          9,
-          Mut.mslice
-              (Referent.rtF (Referent.fInt Syntax.w8))
-              (Syntax.tyRef (Syntax.named 8) Syntax.mut (Syntax.tyInt Syntax.w8))
-              8,
-        ) (List._∷_ (
-          10,
-          Mut.mslice
-              (Referent.rtF (Referent.fInt Syntax.w8))
-              (Syntax.tyRef (Syntax.named 9) Syntax.mut (Syntax.tyInt Syntax.w8))
-              9,
-        ) (List._∷_ (
-          11,
-          Mut.mslice
-              (Referent.rtF (Referent.fInt Syntax.w8))
-              (Syntax.tyRef (Syntax.named 10) Syntax.mut (Syntax.tyInt Syntax.w8))
-              10,
-        ) (List._∷_ (12, Rows.sc-here (Row.sInt Syntax.w64)) (List._∷_ (
-          13,
-          Rows.sc-here (Row.sInt Syntax.w64),
-        ) (List._∷_ (14, Rows.sc-here (Row.sInt Syntax.w64)) (List._∷_ (
-          15,
-          Rows.any-gone (Syntax.tyRef Syntax.erased Syntax.mut (Syntax.tyInt Syntax.w64)),
-        ) List.[])))))))))))))))
-
-        abbrev g31 : List.List Row.Entry
-        g31 = List._∷_ (0, Rows.any-gone (Syntax.tyInt Syntax.w64)) (List._∷_ (
-          1,
-          Rows.sslice
-              (Referent.rtF (Referent.fInt Syntax.w8))
-              (Syntax.tyRef (Syntax.named 0) Syntax.imm (Syntax.tyInt Syntax.w8))
-              0,
-        ) (List._∷_ (
-          2,
-          Relend.mslice-owed
-              Elem.R
-              (Syntax.tyRef
-              (Syntax.named 1)
-              Syntax.mut
-              Elem.ty)
-              1
-              15
-              (Row.lease (κs .1 .0) (qs .1 .0)),
-        ) (List._∷_ (
-          3,
-          Mut.mslice
-              (Referent.rtF (Referent.fInt Syntax.w64))
-              (Syntax.tyRef (Syntax.named 2) Syntax.mut (Syntax.tyInt Syntax.w64))
-              2,
-        ) (List._∷_ (
-          4,
-          Mut.mslice
-              (Referent.rtF (Referent.fInt Syntax.w64))
-              (Syntax.tyRef (Syntax.named 3) Syntax.mut (Syntax.tyInt Syntax.w64))
-              3,
-        ) (List._∷_ (
-          5,
-          Mut.mslice
-              (Referent.rtF (Referent.fInt Syntax.w8))
-              (Syntax.tyRef (Syntax.named 4) Syntax.mut (Syntax.tyInt Syntax.w8))
-              4,
-        ) (List._∷_ (
-          6,
-          Mut.mslice
-              (Referent.rtF (Referent.fInt Syntax.w32))
-              (Syntax.tyRef (Syntax.named 5) Syntax.mut (Syntax.tyInt Syntax.w32))
-              5,
-        ) (List._∷_ (
-          7,
-          Mut.mslice
-              (Referent.rtF (Referent.fInt Syntax.w8))
-              (Syntax.tyRef (Syntax.named 6) Syntax.mut (Syntax.tyInt Syntax.w8))
-              6,
-        ) (List._∷_ (
-          8,
-          Mut.mslice
-              (Referent.rtF (Referent.fInt Syntax.w8))
-              (Syntax.tyRef (Syntax.named 7) Syntax.mut (Syntax.tyInt Syntax.w8))
-              7,
-        ) (List._∷_ (
-          9,
-          Mut.mslice
-              (Referent.rtF (Referent.fInt Syntax.w8))
-              (Syntax.tyRef (Syntax.named 8) Syntax.mut (Syntax.tyInt Syntax.w8))
-              8,
-        ) (List._∷_ (
-          10,
-          Mut.mslice
-              (Referent.rtF (Referent.fInt Syntax.w8))
-              (Syntax.tyRef (Syntax.named 9) Syntax.mut (Syntax.tyInt Syntax.w8))
-              9,
-        ) (List._∷_ (
-          11,
-          Mut.mslice
-              (Referent.rtF (Referent.fInt Syntax.w8))
-              (Syntax.tyRef (Syntax.named 10) Syntax.mut (Syntax.tyInt Syntax.w8))
-              10,
-        ) (List._∷_ (12, Rows.sc-here (Row.sInt Syntax.w64)) (List._∷_ (
-          13,
-          Rows.sc-here (Row.sInt Syntax.w64),
-        ) (List._∷_ (14, Rows.sc-here (Row.sInt Syntax.w64)) (List._∷_ (
-          15,
-          Rows.any-gone (Syntax.tyRef Syntax.erased Syntax.mut (Syntax.tyInt Syntax.w64)),
-        ) List.[])))))))))))))))
-
-        abbrev g32 : List.List Row.Entry
-        g32 = List._∷_ (0, Rows.any-gone (Syntax.tyInt Syntax.w64)) (List._∷_ (
-          1,
-          Rows.sslice
-              (Referent.rtF (Referent.fInt Syntax.w8))
-              (Syntax.tyRef (Syntax.named 0) Syntax.imm (Syntax.tyInt Syntax.w8))
-              0,
-        ) (List._∷_ (
-          2,
-          Reshare.mslice-owedS
-              Elem.R
-              (Syntax.tyRef
-              (Syntax.named 1)
-              Syntax.mut
-              Elem.ty)
-              1
-              16
-              (Row.lease (κs .1 .0) (qs .1 .0)),
-        ) (List._∷_ (
-          3,
-          Mut.mslice
-              (Referent.rtF (Referent.fInt Syntax.w64))
-              (Syntax.tyRef (Syntax.named 2) Syntax.mut (Syntax.tyInt Syntax.w64))
-              2,
-        ) (List._∷_ (
-          4,
-          Mut.mslice
-              (Referent.rtF (Referent.fInt Syntax.w64))
-              (Syntax.tyRef (Syntax.named 3) Syntax.mut (Syntax.tyInt Syntax.w64))
-              3,
-        ) (List._∷_ (
-          5,
-          Mut.mslice
-              (Referent.rtF (Referent.fInt Syntax.w8))
-              (Syntax.tyRef (Syntax.named 4) Syntax.mut (Syntax.tyInt Syntax.w8))
-              4,
-        ) (List._∷_ (
-          6,
-          Mut.mslice
-              (Referent.rtF (Referent.fInt Syntax.w32))
-              (Syntax.tyRef (Syntax.named 5) Syntax.mut (Syntax.tyInt Syntax.w32))
-              5,
-        ) (List._∷_ (
-          7,
-          Mut.mslice
-              (Referent.rtF (Referent.fInt Syntax.w8))
-              (Syntax.tyRef (Syntax.named 6) Syntax.mut (Syntax.tyInt Syntax.w8))
-              6,
-        ) (List._∷_ (
-          8,
-          Mut.mslice
-              (Referent.rtF (Referent.fInt Syntax.w8))
-              (Syntax.tyRef (Syntax.named 7) Syntax.mut (Syntax.tyInt Syntax.w8))
-              7,
-        ) (List._∷_ (
-          9,
-          Mut.mslice
-              (Referent.rtF (Referent.fInt Syntax.w8))
-              (Syntax.tyRef (Syntax.named 8) Syntax.mut (Syntax.tyInt Syntax.w8))
-              8,
-        ) (List._∷_ (
-          10,
-          Mut.mslice
-              (Referent.rtF (Referent.fInt Syntax.w8))
-              (Syntax.tyRef (Syntax.named 9) Syntax.mut (Syntax.tyInt Syntax.w8))
-              9,
-        ) (List._∷_ (
-          11,
-          Mut.mslice
-              (Referent.rtF (Referent.fInt Syntax.w8))
-              (Syntax.tyRef (Syntax.named 10) Syntax.mut (Syntax.tyInt Syntax.w8))
-              10,
-        ) (List._∷_ (12, Rows.sc-here (Row.sInt Syntax.w64)) (List._∷_ (
-          13,
-          Rows.sc-here (Row.sInt Syntax.w64),
-        ) (List._∷_ (14, Rows.sc-here (Row.sInt Syntax.w64)) (List._∷_ (
-          15,
-          Rows.any-gone (Syntax.tyRef Syntax.erased Syntax.mut (Syntax.tyInt Syntax.w64)),
-        ) List.[])))))))))))))))
-
-        abbrev g35 : List.List Row.Entry
-        g35 = List._∷_ (0, Rows.any-gone (Syntax.tyInt Syntax.w64)) (List._∷_ (
-          1,
-          Rows.sslice
-              (Referent.rtF (Referent.fInt Syntax.w8))
-              (Syntax.tyRef (Syntax.named 0) Syntax.imm (Syntax.tyInt Syntax.w8))
-              0,
-        ) (List._∷_ (
-          2,
-          Reshare.mslice-owedS
-              Elem.R
-              (Syntax.tyRef
-              (Syntax.named 1)
-              Syntax.mut
-              Elem.ty)
-              1
-              16
-              (Row.lease (κs .1 .0) (qs .1 .0)),
-        ) (List._∷_ (
-          3,
-          Mut.mslice
-              (Referent.rtF (Referent.fInt Syntax.w64))
-              (Syntax.tyRef (Syntax.named 2) Syntax.mut (Syntax.tyInt Syntax.w64))
-              2,
-        ) (List._∷_ (
-          4,
-          Reshare.mslice-owedS
-              (Referent.rtF (Referent.fInt Syntax.w64))
-              (Syntax.tyRef (Syntax.named 3) Syntax.mut (Syntax.tyInt Syntax.w64))
-              3
-              17
-              (Row.lease (κs .1 .1 .1 .0) (qs .1 .1 .1 .0)),
-        ) (List._∷_ (
-          5,
-          Mut.mslice
-              (Referent.rtF (Referent.fInt Syntax.w8))
-              (Syntax.tyRef (Syntax.named 4) Syntax.mut (Syntax.tyInt Syntax.w8))
-              4,
-        ) (List._∷_ (
-          6,
-          Mut.mslice
-              (Referent.rtF (Referent.fInt Syntax.w32))
-              (Syntax.tyRef (Syntax.named 5) Syntax.mut (Syntax.tyInt Syntax.w32))
-              5,
-        ) (List._∷_ (
-          7,
-          Mut.mslice
-              (Referent.rtF (Referent.fInt Syntax.w8))
-              (Syntax.tyRef (Syntax.named 6) Syntax.mut (Syntax.tyInt Syntax.w8))
-              6,
-        ) (List._∷_ (
-          8,
-          Mut.mslice
-              (Referent.rtF (Referent.fInt Syntax.w8))
-              (Syntax.tyRef (Syntax.named 7) Syntax.mut (Syntax.tyInt Syntax.w8))
-              7,
-        ) (List._∷_ (
-          9,
-          Mut.mslice
-              (Referent.rtF (Referent.fInt Syntax.w8))
-              (Syntax.tyRef (Syntax.named 8) Syntax.mut (Syntax.tyInt Syntax.w8))
-              8,
-        ) (List._∷_ (
-          10,
-          Mut.mslice
-              (Referent.rtF (Referent.fInt Syntax.w8))
-              (Syntax.tyRef (Syntax.named 9) Syntax.mut (Syntax.tyInt Syntax.w8))
-              9,
-        ) (List._∷_ (
-          11,
-          Mut.mslice
-              (Referent.rtF (Referent.fInt Syntax.w8))
-              (Syntax.tyRef (Syntax.named 10) Syntax.mut (Syntax.tyInt Syntax.w8))
-              10,
-        ) (List._∷_ (12, Rows.sc-here (Row.sInt Syntax.w64)) (List._∷_ (
-          13,
-          Rows.sc-here (Row.sInt Syntax.w64),
-        ) (List._∷_ (14, Rows.sc-here (Row.sInt Syntax.w64)) (List._∷_ (
-          15,
-          Rows.any-gone (Syntax.tyRef Syntax.erased Syntax.mut (Syntax.tyInt Syntax.w64)),
-        ) List.[])))))))))))))))
-
-        abbrev g38 : List.List Row.Entry
-        g38 = List._∷_ (0, Rows.any-gone (Syntax.tyInt Syntax.w64)) (List._∷_ (
-          1,
-          Rows.sslice
-              (Referent.rtF (Referent.fInt Syntax.w8))
-              (Syntax.tyRef (Syntax.named 0) Syntax.imm (Syntax.tyInt Syntax.w8))
-              0,
-        ) (List._∷_ (
-          2,
-          Reshare.mslice-owedS
-              Elem.R
-              (Syntax.tyRef
-              (Syntax.named 1)
-              Syntax.mut
-              Elem.ty)
-              1
-              16
-              (Row.lease (κs .1 .0) (qs .1 .0)),
-        ) (List._∷_ (
-          3,
-          Mut.mslice
-              (Referent.rtF (Referent.fInt Syntax.w64))
-              (Syntax.tyRef (Syntax.named 2) Syntax.mut (Syntax.tyInt Syntax.w64))
-              2,
-        ) (List._∷_ (
-          4,
-          Reshare.mslice-owedS
-              (Referent.rtF (Referent.fInt Syntax.w64))
-              (Syntax.tyRef (Syntax.named 3) Syntax.mut (Syntax.tyInt Syntax.w64))
-              3
-              17
-              (Row.lease (κs .1 .1 .1 .0) (qs .1 .1 .1 .0)),
-        ) (List._∷_ (
-          5,
-          Reshare.mslice-owedS
-              (Referent.rtF (Referent.fInt Syntax.w8))
-              (Syntax.tyRef (Syntax.named 4) Syntax.mut (Syntax.tyInt Syntax.w8))
-              4
-              18
-              (Row.lease (κs .1 .1 .1 .1 .0) (qs .1 .1 .1 .1 .0)),
-        ) (List._∷_ (
-          6,
-          Mut.mslice
-              (Referent.rtF (Referent.fInt Syntax.w32))
-              (Syntax.tyRef (Syntax.named 5) Syntax.mut (Syntax.tyInt Syntax.w32))
-              5,
-        ) (List._∷_ (
-          7,
-          Mut.mslice
-              (Referent.rtF (Referent.fInt Syntax.w8))
-              (Syntax.tyRef (Syntax.named 6) Syntax.mut (Syntax.tyInt Syntax.w8))
-              6,
-        ) (List._∷_ (
-          8,
-          Mut.mslice
-              (Referent.rtF (Referent.fInt Syntax.w8))
-              (Syntax.tyRef (Syntax.named 7) Syntax.mut (Syntax.tyInt Syntax.w8))
-              7,
-        ) (List._∷_ (
-          9,
-          Mut.mslice
-              (Referent.rtF (Referent.fInt Syntax.w8))
-              (Syntax.tyRef (Syntax.named 8) Syntax.mut (Syntax.tyInt Syntax.w8))
-              8,
-        ) (List._∷_ (
-          10,
-          Mut.mslice
-              (Referent.rtF (Referent.fInt Syntax.w8))
-              (Syntax.tyRef (Syntax.named 9) Syntax.mut (Syntax.tyInt Syntax.w8))
-              9,
-        ) (List._∷_ (
-          11,
-          Mut.mslice
-              (Referent.rtF (Referent.fInt Syntax.w8))
-              (Syntax.tyRef (Syntax.named 10) Syntax.mut (Syntax.tyInt Syntax.w8))
-              10,
-        ) (List._∷_ (12, Rows.sc-here (Row.sInt Syntax.w64)) (List._∷_ (
-          13,
-          Rows.sc-here (Row.sInt Syntax.w64),
-        ) (List._∷_ (14, Rows.sc-here (Row.sInt Syntax.w64)) (List._∷_ (
-          15,
-          Rows.any-gone (Syntax.tyRef Syntax.erased Syntax.mut (Syntax.tyInt Syntax.w64)),
-        ) List.[])))))))))))))))
-
-        abbrev g41 : List.List Row.Entry
-        g41 = List._∷_ (0, Rows.any-gone (Syntax.tyInt Syntax.w64)) (List._∷_ (
-          1,
-          Rows.sslice
-              (Referent.rtF (Referent.fInt Syntax.w8))
-              (Syntax.tyRef (Syntax.named 0) Syntax.imm (Syntax.tyInt Syntax.w8))
-              0,
-        ) (List._∷_ (
-          2,
-          Reshare.mslice-owedS
-              Elem.R
-              (Syntax.tyRef
-              (Syntax.named 1)
-              Syntax.mut
-              Elem.ty)
-              1
-              16
-              (Row.lease (κs .1 .0) (qs .1 .0)),
-        ) (List._∷_ (
-          3,
           Relend.mslice-owed
               (Referent.rtF (Referent.fInt Syntax.w64))
               (Syntax.tyRef (Syntax.named 2) Syntax.mut (Syntax.tyInt Syntax.w64))
               2
-              19
+              18
               (Row.lease (κs .1 .1 .0) (qs .1 .1 .0)),
         ) (List._∷_ (
           4,
@@ -9846,93 +10128,7 @@ module _ (claims· : Claims) where
               (Referent.rtF (Referent.fInt Syntax.w64))
               (Syntax.tyRef (Syntax.named 3) Syntax.mut (Syntax.tyInt Syntax.w64))
               3
-              17
-              (Row.lease (κs .1 .1 .1 .0) (qs .1 .1 .1 .0)),
-        ) (List._∷_ (
-          5,
-          Reshare.mslice-owedS
-              (Referent.rtF (Referent.fInt Syntax.w8))
-              (Syntax.tyRef (Syntax.named 4) Syntax.mut (Syntax.tyInt Syntax.w8))
-              4
-              18
-              (Row.lease (κs .1 .1 .1 .1 .0) (qs .1 .1 .1 .1 .0)),
-        ) (List._∷_ (
-          6,
-          Mut.mslice
-              (Referent.rtF (Referent.fInt Syntax.w32))
-              (Syntax.tyRef (Syntax.named 5) Syntax.mut (Syntax.tyInt Syntax.w32))
-              5,
-        ) (List._∷_ (
-          7,
-          Mut.mslice
-              (Referent.rtF (Referent.fInt Syntax.w8))
-              (Syntax.tyRef (Syntax.named 6) Syntax.mut (Syntax.tyInt Syntax.w8))
-              6,
-        ) (List._∷_ (
-          8,
-          Mut.mslice
-              (Referent.rtF (Referent.fInt Syntax.w8))
-              (Syntax.tyRef (Syntax.named 7) Syntax.mut (Syntax.tyInt Syntax.w8))
-              7,
-        ) (List._∷_ (
-          9,
-          Mut.mslice
-              (Referent.rtF (Referent.fInt Syntax.w8))
-              (Syntax.tyRef (Syntax.named 8) Syntax.mut (Syntax.tyInt Syntax.w8))
-              8,
-        ) (List._∷_ (
-          10,
-          Mut.mslice
-              (Referent.rtF (Referent.fInt Syntax.w8))
-              (Syntax.tyRef (Syntax.named 9) Syntax.mut (Syntax.tyInt Syntax.w8))
-              9,
-        ) (List._∷_ (
-          11,
-          Mut.mslice
-              (Referent.rtF (Referent.fInt Syntax.w8))
-              (Syntax.tyRef (Syntax.named 10) Syntax.mut (Syntax.tyInt Syntax.w8))
-              10,
-        ) (List._∷_ (12, Rows.sc-here (Row.sInt Syntax.w64)) (List._∷_ (
-          13,
-          Rows.sc-here (Row.sInt Syntax.w64),
-        ) (List._∷_ (14, Rows.sc-here (Row.sInt Syntax.w64)) (List._∷_ (
-          15,
-          Rows.any-gone (Syntax.tyRef Syntax.erased Syntax.mut (Syntax.tyInt Syntax.w64)),
-        ) List.[])))))))))))))))
-
-        abbrev g44 : List.List Row.Entry
-        g44 = List._∷_ (0, Rows.any-gone (Syntax.tyInt Syntax.w64)) (List._∷_ (
-          1,
-          Rows.sslice
-              (Referent.rtF (Referent.fInt Syntax.w8))
-              (Syntax.tyRef (Syntax.named 0) Syntax.imm (Syntax.tyInt Syntax.w8))
-              0,
-        ) (List._∷_ (
-          2,
-          Reshare.mslice-owedS
-              Elem.R
-              (Syntax.tyRef
-              (Syntax.named 1)
-              Syntax.mut
-              Elem.ty)
-              1
               16
-              (Row.lease (κs .1 .0) (qs .1 .0)),
-        ) (List._∷_ (
-          3,
-          Relend.mslice-owed
-              (Referent.rtF (Referent.fInt Syntax.w64))
-              (Syntax.tyRef (Syntax.named 2) Syntax.mut (Syntax.tyInt Syntax.w64))
-              2
-              19
-              (Row.lease (κs .1 .1 .0) (qs .1 .1 .0)),
-        ) (List._∷_ (
-          4,
-          Reshare.mslice-owedS
-              (Referent.rtF (Referent.fInt Syntax.w64))
-              (Syntax.tyRef (Syntax.named 3) Syntax.mut (Syntax.tyInt Syntax.w64))
-              3
-              17
               (Row.lease (κs .1 .1 .1 .0) (qs .1 .1 .1 .0)),
         ) (List._∷_ (
           5,
@@ -9940,7 +10136,7 @@ module _ (claims· : Claims) where
               (Referent.rtF (Referent.fInt Syntax.w8))
               (Syntax.tyRef (Syntax.named 4) Syntax.mut (Syntax.tyInt Syntax.w8))
               4
-              18
+              17
               (Row.lease (κs .1 .1 .1 .1 .0) (qs .1 .1 .1 .1 .0)),
         ) (List._∷_ (
           6,
@@ -9954,95 +10150,7 @@ module _ (claims· : Claims) where
               (Referent.rtF (Referent.fInt Syntax.w8))
               (Syntax.tyRef (Syntax.named 6) Syntax.mut (Syntax.tyInt Syntax.w8))
               6
-              20
-              (Row.lease (κs .1 .1 .1 .1 .1 .1 .0) (qs .1 .1 .1 .1 .1 .1 .0)),
-        ) (List._∷_ (
-          8,
-          Mut.mslice
-              (Referent.rtF (Referent.fInt Syntax.w8))
-              (Syntax.tyRef (Syntax.named 7) Syntax.mut (Syntax.tyInt Syntax.w8))
-              7,
-        ) (List._∷_ (
-          9,
-          Mut.mslice
-              (Referent.rtF (Referent.fInt Syntax.w8))
-              (Syntax.tyRef (Syntax.named 8) Syntax.mut (Syntax.tyInt Syntax.w8))
-              8,
-        ) (List._∷_ (
-          10,
-          Mut.mslice
-              (Referent.rtF (Referent.fInt Syntax.w8))
-              (Syntax.tyRef (Syntax.named 9) Syntax.mut (Syntax.tyInt Syntax.w8))
-              9,
-        ) (List._∷_ (
-          11,
-          Mut.mslice
-              (Referent.rtF (Referent.fInt Syntax.w8))
-              (Syntax.tyRef (Syntax.named 10) Syntax.mut (Syntax.tyInt Syntax.w8))
-              10,
-        ) (List._∷_ (12, Rows.sc-here (Row.sInt Syntax.w64)) (List._∷_ (
-          13,
-          Rows.sc-here (Row.sInt Syntax.w64),
-        ) (List._∷_ (14, Rows.sc-here (Row.sInt Syntax.w64)) (List._∷_ (
-          15,
-          Rows.any-gone (Syntax.tyRef Syntax.erased Syntax.mut (Syntax.tyInt Syntax.w64)),
-        ) List.[])))))))))))))))
-
-        abbrev g47 : List.List Row.Entry
-        g47 = List._∷_ (0, Rows.any-gone (Syntax.tyInt Syntax.w64)) (List._∷_ (
-          1,
-          Rows.sslice
-              (Referent.rtF (Referent.fInt Syntax.w8))
-              (Syntax.tyRef (Syntax.named 0) Syntax.imm (Syntax.tyInt Syntax.w8))
-              0,
-        ) (List._∷_ (
-          2,
-          Reshare.mslice-owedS
-              Elem.R
-              (Syntax.tyRef
-              (Syntax.named 1)
-              Syntax.mut
-              Elem.ty)
-              1
-              16
-              (Row.lease (κs .1 .0) (qs .1 .0)),
-        ) (List._∷_ (
-          3,
-          Relend.mslice-owed
-              (Referent.rtF (Referent.fInt Syntax.w64))
-              (Syntax.tyRef (Syntax.named 2) Syntax.mut (Syntax.tyInt Syntax.w64))
-              2
               19
-              (Row.lease (κs .1 .1 .0) (qs .1 .1 .0)),
-        ) (List._∷_ (
-          4,
-          Reshare.mslice-owedS
-              (Referent.rtF (Referent.fInt Syntax.w64))
-              (Syntax.tyRef (Syntax.named 3) Syntax.mut (Syntax.tyInt Syntax.w64))
-              3
-              17
-              (Row.lease (κs .1 .1 .1 .0) (qs .1 .1 .1 .0)),
-        ) (List._∷_ (
-          5,
-          Reshare.mslice-owedS
-              (Referent.rtF (Referent.fInt Syntax.w8))
-              (Syntax.tyRef (Syntax.named 4) Syntax.mut (Syntax.tyInt Syntax.w8))
-              4
-              18
-              (Row.lease (κs .1 .1 .1 .1 .0) (qs .1 .1 .1 .1 .0)),
-        ) (List._∷_ (
-          6,
-          Mut.mslice
-              (Referent.rtF (Referent.fInt Syntax.w32))
-              (Syntax.tyRef (Syntax.named 5) Syntax.mut (Syntax.tyInt Syntax.w32))
-              5,
-        ) (List._∷_ (
-          7,
-          Part.mslice-owedP
-              (Referent.rtF (Referent.fInt Syntax.w8))
-              (Syntax.tyRef (Syntax.named 6) Syntax.mut (Syntax.tyInt Syntax.w8))
-              6
-              20
               (Row.lease (κs .1 .1 .1 .1 .1 .1 .0) (qs .1 .1 .1 .1 .1 .1 .0)),
         ) (List._∷_ (
           8,
@@ -10050,97 +10158,7 @@ module _ (claims· : Claims) where
               (Referent.rtF (Referent.fInt Syntax.w8))
               (Syntax.tyRef (Syntax.named 7) Syntax.mut (Syntax.tyInt Syntax.w8))
               7
-              21
-              (Row.lease (κs .1 .1 .1 .1 .1 .1 .1 .0) (qs .1 .1 .1 .1 .1 .1 .1 .0)),
-        ) (List._∷_ (
-          9,
-          Mut.mslice
-              (Referent.rtF (Referent.fInt Syntax.w8))
-              (Syntax.tyRef (Syntax.named 8) Syntax.mut (Syntax.tyInt Syntax.w8))
-              8,
-        ) (List._∷_ (
-          10,
-          Mut.mslice
-              (Referent.rtF (Referent.fInt Syntax.w8))
-              (Syntax.tyRef (Syntax.named 9) Syntax.mut (Syntax.tyInt Syntax.w8))
-              9,
-        ) (List._∷_ (
-          11,
-          Mut.mslice
-              (Referent.rtF (Referent.fInt Syntax.w8))
-              (Syntax.tyRef (Syntax.named 10) Syntax.mut (Syntax.tyInt Syntax.w8))
-              10,
-        ) (List._∷_ (12, Rows.sc-here (Row.sInt Syntax.w64)) (List._∷_ (
-          13,
-          Rows.sc-here (Row.sInt Syntax.w64),
-        ) (List._∷_ (14, Rows.sc-here (Row.sInt Syntax.w64)) (List._∷_ (
-          15,
-          Rows.any-gone (Syntax.tyRef Syntax.erased Syntax.mut (Syntax.tyInt Syntax.w64)),
-        ) List.[])))))))))))))))
-
-        abbrev g50 : List.List Row.Entry
-        g50 = List._∷_ (0, Rows.any-gone (Syntax.tyInt Syntax.w64)) (List._∷_ (
-          1,
-          Rows.sslice
-              (Referent.rtF (Referent.fInt Syntax.w8))
-              (Syntax.tyRef (Syntax.named 0) Syntax.imm (Syntax.tyInt Syntax.w8))
-              0,
-        ) (List._∷_ (
-          2,
-          Reshare.mslice-owedS
-              Elem.R
-              (Syntax.tyRef
-              (Syntax.named 1)
-              Syntax.mut
-              Elem.ty)
-              1
-              16
-              (Row.lease (κs .1 .0) (qs .1 .0)),
-        ) (List._∷_ (
-          3,
-          Relend.mslice-owed
-              (Referent.rtF (Referent.fInt Syntax.w64))
-              (Syntax.tyRef (Syntax.named 2) Syntax.mut (Syntax.tyInt Syntax.w64))
-              2
-              19
-              (Row.lease (κs .1 .1 .0) (qs .1 .1 .0)),
-        ) (List._∷_ (
-          4,
-          Reshare.mslice-owedS
-              (Referent.rtF (Referent.fInt Syntax.w64))
-              (Syntax.tyRef (Syntax.named 3) Syntax.mut (Syntax.tyInt Syntax.w64))
-              3
-              17
-              (Row.lease (κs .1 .1 .1 .0) (qs .1 .1 .1 .0)),
-        ) (List._∷_ (
-          5,
-          Reshare.mslice-owedS
-              (Referent.rtF (Referent.fInt Syntax.w8))
-              (Syntax.tyRef (Syntax.named 4) Syntax.mut (Syntax.tyInt Syntax.w8))
-              4
-              18
-              (Row.lease (κs .1 .1 .1 .1 .0) (qs .1 .1 .1 .1 .0)),
-        ) (List._∷_ (
-          6,
-          Mut.mslice
-              (Referent.rtF (Referent.fInt Syntax.w32))
-              (Syntax.tyRef (Syntax.named 5) Syntax.mut (Syntax.tyInt Syntax.w32))
-              5,
-        ) (List._∷_ (
-          7,
-          Part.mslice-owedP
-              (Referent.rtF (Referent.fInt Syntax.w8))
-              (Syntax.tyRef (Syntax.named 6) Syntax.mut (Syntax.tyInt Syntax.w8))
-              6
               20
-              (Row.lease (κs .1 .1 .1 .1 .1 .1 .0) (qs .1 .1 .1 .1 .1 .1 .0)),
-        ) (List._∷_ (
-          8,
-          Part.mslice-owedP
-              (Referent.rtF (Referent.fInt Syntax.w8))
-              (Syntax.tyRef (Syntax.named 7) Syntax.mut (Syntax.tyInt Syntax.w8))
-              7
-              21
               (Row.lease (κs .1 .1 .1 .1 .1 .1 .1 .0) (qs .1 .1 .1 .1 .1 .1 .1 .0)),
         ) (List._∷_ (
           9,
@@ -10148,99 +10166,7 @@ module _ (claims· : Claims) where
               (Referent.rtF (Referent.fInt Syntax.w8))
               (Syntax.tyRef (Syntax.named 8) Syntax.mut (Syntax.tyInt Syntax.w8))
               8
-              22
-              (Row.lease (κs .1 .1 .1 .1 .1 .1 .1 .1 .0) (qs .1 .1 .1 .1 .1 .1 .1 .1 .0)),
-        ) (List._∷_ (
-          10,
-          Mut.mslice
-              (Referent.rtF (Referent.fInt Syntax.w8))
-              (Syntax.tyRef (Syntax.named 9) Syntax.mut (Syntax.tyInt Syntax.w8))
-              9,
-        ) (List._∷_ (
-          11,
-          Mut.mslice
-              (Referent.rtF (Referent.fInt Syntax.w8))
-              (Syntax.tyRef (Syntax.named 10) Syntax.mut (Syntax.tyInt Syntax.w8))
-              10,
-        ) (List._∷_ (12, Rows.sc-here (Row.sInt Syntax.w64)) (List._∷_ (
-          13,
-          Rows.sc-here (Row.sInt Syntax.w64),
-        ) (List._∷_ (14, Rows.sc-here (Row.sInt Syntax.w64)) (List._∷_ (
-          15,
-          Rows.any-gone (Syntax.tyRef Syntax.erased Syntax.mut (Syntax.tyInt Syntax.w64)),
-        ) List.[])))))))))))))))
-
-        abbrev g53 : List.List Row.Entry
-        g53 = List._∷_ (0, Rows.any-gone (Syntax.tyInt Syntax.w64)) (List._∷_ (
-          1,
-          Rows.sslice
-              (Referent.rtF (Referent.fInt Syntax.w8))
-              (Syntax.tyRef (Syntax.named 0) Syntax.imm (Syntax.tyInt Syntax.w8))
-              0,
-        ) (List._∷_ (
-          2,
-          Reshare.mslice-owedS
-              Elem.R
-              (Syntax.tyRef
-              (Syntax.named 1)
-              Syntax.mut
-              Elem.ty)
-              1
-              16
-              (Row.lease (κs .1 .0) (qs .1 .0)),
-        ) (List._∷_ (
-          3,
-          Relend.mslice-owed
-              (Referent.rtF (Referent.fInt Syntax.w64))
-              (Syntax.tyRef (Syntax.named 2) Syntax.mut (Syntax.tyInt Syntax.w64))
-              2
-              19
-              (Row.lease (κs .1 .1 .0) (qs .1 .1 .0)),
-        ) (List._∷_ (
-          4,
-          Reshare.mslice-owedS
-              (Referent.rtF (Referent.fInt Syntax.w64))
-              (Syntax.tyRef (Syntax.named 3) Syntax.mut (Syntax.tyInt Syntax.w64))
-              3
-              17
-              (Row.lease (κs .1 .1 .1 .0) (qs .1 .1 .1 .0)),
-        ) (List._∷_ (
-          5,
-          Reshare.mslice-owedS
-              (Referent.rtF (Referent.fInt Syntax.w8))
-              (Syntax.tyRef (Syntax.named 4) Syntax.mut (Syntax.tyInt Syntax.w8))
-              4
-              18
-              (Row.lease (κs .1 .1 .1 .1 .0) (qs .1 .1 .1 .1 .0)),
-        ) (List._∷_ (
-          6,
-          Mut.mslice
-              (Referent.rtF (Referent.fInt Syntax.w32))
-              (Syntax.tyRef (Syntax.named 5) Syntax.mut (Syntax.tyInt Syntax.w32))
-              5,
-        ) (List._∷_ (
-          7,
-          Part.mslice-owedP
-              (Referent.rtF (Referent.fInt Syntax.w8))
-              (Syntax.tyRef (Syntax.named 6) Syntax.mut (Syntax.tyInt Syntax.w8))
-              6
-              20
-              (Row.lease (κs .1 .1 .1 .1 .1 .1 .0) (qs .1 .1 .1 .1 .1 .1 .0)),
-        ) (List._∷_ (
-          8,
-          Part.mslice-owedP
-              (Referent.rtF (Referent.fInt Syntax.w8))
-              (Syntax.tyRef (Syntax.named 7) Syntax.mut (Syntax.tyInt Syntax.w8))
-              7
               21
-              (Row.lease (κs .1 .1 .1 .1 .1 .1 .1 .0) (qs .1 .1 .1 .1 .1 .1 .1 .0)),
-        ) (List._∷_ (
-          9,
-          Part.mslice-owedP
-              (Referent.rtF (Referent.fInt Syntax.w8))
-              (Syntax.tyRef (Syntax.named 8) Syntax.mut (Syntax.tyInt Syntax.w8))
-              8
-              22
               (Row.lease (κs .1 .1 .1 .1 .1 .1 .1 .1 .0) (qs .1 .1 .1 .1 .1 .1 .1 .1 .0)),
         ) (List._∷_ (
           10,
@@ -10248,101 +10174,7 @@ module _ (claims· : Claims) where
               (Referent.rtF (Referent.fInt Syntax.w8))
               (Syntax.tyRef (Syntax.named 9) Syntax.mut (Syntax.tyInt Syntax.w8))
               9
-              23
-              (Row.lease (κs .1 .1 .1 .1 .1 .1 .1 .1 .1 .0) (qs .1 .1 .1 .1 .1 .1 .1 .1 .1 .0)),
-        ) (List._∷_ (
-          11,
-          Mut.mslice
-              (Referent.rtF (Referent.fInt Syntax.w8))
-              (Syntax.tyRef (Syntax.named 10) Syntax.mut (Syntax.tyInt Syntax.w8))
-              10,
-        ) (List._∷_ (12, Rows.sc-here (Row.sInt Syntax.w64)) (List._∷_ (
-          13,
-          Rows.sc-here (Row.sInt Syntax.w64),
-        ) (List._∷_ (14, Rows.sc-here (Row.sInt Syntax.w64)) (List._∷_ (
-          15,
-          Rows.any-gone (Syntax.tyRef Syntax.erased Syntax.mut (Syntax.tyInt Syntax.w64)),
-        ) List.[])))))))))))))))
-
-        abbrev g56 : List.List Row.Entry
-        g56 = List._∷_ (0, Rows.any-gone (Syntax.tyInt Syntax.w64)) (List._∷_ (
-          1,
-          Rows.sslice
-              (Referent.rtF (Referent.fInt Syntax.w8))
-              (Syntax.tyRef (Syntax.named 0) Syntax.imm (Syntax.tyInt Syntax.w8))
-              0,
-        ) (List._∷_ (
-          2,
-          Reshare.mslice-owedS
-              Elem.R
-              (Syntax.tyRef
-              (Syntax.named 1)
-              Syntax.mut
-              Elem.ty)
-              1
-              16
-              (Row.lease (κs .1 .0) (qs .1 .0)),
-        ) (List._∷_ (
-          3,
-          Relend.mslice-owed
-              (Referent.rtF (Referent.fInt Syntax.w64))
-              (Syntax.tyRef (Syntax.named 2) Syntax.mut (Syntax.tyInt Syntax.w64))
-              2
-              19
-              (Row.lease (κs .1 .1 .0) (qs .1 .1 .0)),
-        ) (List._∷_ (
-          4,
-          Reshare.mslice-owedS
-              (Referent.rtF (Referent.fInt Syntax.w64))
-              (Syntax.tyRef (Syntax.named 3) Syntax.mut (Syntax.tyInt Syntax.w64))
-              3
-              17
-              (Row.lease (κs .1 .1 .1 .0) (qs .1 .1 .1 .0)),
-        ) (List._∷_ (
-          5,
-          Reshare.mslice-owedS
-              (Referent.rtF (Referent.fInt Syntax.w8))
-              (Syntax.tyRef (Syntax.named 4) Syntax.mut (Syntax.tyInt Syntax.w8))
-              4
-              18
-              (Row.lease (κs .1 .1 .1 .1 .0) (qs .1 .1 .1 .1 .0)),
-        ) (List._∷_ (
-          6,
-          Mut.mslice
-              (Referent.rtF (Referent.fInt Syntax.w32))
-              (Syntax.tyRef (Syntax.named 5) Syntax.mut (Syntax.tyInt Syntax.w32))
-              5,
-        ) (List._∷_ (
-          7,
-          Part.mslice-owedP
-              (Referent.rtF (Referent.fInt Syntax.w8))
-              (Syntax.tyRef (Syntax.named 6) Syntax.mut (Syntax.tyInt Syntax.w8))
-              6
-              20
-              (Row.lease (κs .1 .1 .1 .1 .1 .1 .0) (qs .1 .1 .1 .1 .1 .1 .0)),
-        ) (List._∷_ (
-          8,
-          Part.mslice-owedP
-              (Referent.rtF (Referent.fInt Syntax.w8))
-              (Syntax.tyRef (Syntax.named 7) Syntax.mut (Syntax.tyInt Syntax.w8))
-              7
-              21
-              (Row.lease (κs .1 .1 .1 .1 .1 .1 .1 .0) (qs .1 .1 .1 .1 .1 .1 .1 .0)),
-        ) (List._∷_ (
-          9,
-          Part.mslice-owedP
-              (Referent.rtF (Referent.fInt Syntax.w8))
-              (Syntax.tyRef (Syntax.named 8) Syntax.mut (Syntax.tyInt Syntax.w8))
-              8
               22
-              (Row.lease (κs .1 .1 .1 .1 .1 .1 .1 .1 .0) (qs .1 .1 .1 .1 .1 .1 .1 .1 .0)),
-        ) (List._∷_ (
-          10,
-          Part.mslice-owedP
-              (Referent.rtF (Referent.fInt Syntax.w8))
-              (Syntax.tyRef (Syntax.named 9) Syntax.mut (Syntax.tyInt Syntax.w8))
-              9
-              23
               (Row.lease (κs .1 .1 .1 .1 .1 .1 .1 .1 .1 .0) (qs .1 .1 .1 .1 .1 .1 .1 .1 .1 .0)),
         ) (List._∷_ (
           11,
@@ -10350,210 +10182,14 @@ module _ (claims· : Claims) where
               (Referent.rtF (Referent.fInt Syntax.w8))
               (Syntax.tyRef (Syntax.named 10) Syntax.mut (Syntax.tyInt Syntax.w8))
               10
-              24
-              (Row.lease
-              (κs .1 .1 .1 .1 .1 .1 .1 .1 .1 .1 .0)
-              (qs .1 .1 .1 .1 .1 .1 .1 .1 .1 .1 .0)),
-        ) (List._∷_ (12, Rows.sc-here (Row.sInt Syntax.w64)) (List._∷_ (
-          13,
-          Rows.sc-here (Row.sInt Syntax.w64),
-        ) (List._∷_ (14, Rows.sc-here (Row.sInt Syntax.w64)) (List._∷_ (
-          15,
-          Rows.any-gone (Syntax.tyRef Syntax.erased Syntax.mut (Syntax.tyInt Syntax.w64)),
-        ) List.[])))))))))))))))
-
-        abbrev g59 : List.List Row.Entry
-        g59 = List._∷_ (0, Rows.sc-here (Row.sInt Syntax.w64)) (List._∷_ (
-          1,
-          Rows.sslice
-              (Referent.rtF (Referent.fInt Syntax.w8))
-              (Syntax.tyRef (Syntax.named 0) Syntax.imm (Syntax.tyInt Syntax.w8))
-              0,
-        ) (List._∷_ (
-          2,
-          Reshare.mslice-owedS
-              Elem.R
-              (Syntax.tyRef
-              (Syntax.named 1)
-              Syntax.mut
-              Elem.ty)
-              1
-              16
-              (Row.lease (κs .1 .0) (qs .1 .0)),
-        ) (List._∷_ (
-          3,
-          Relend.mslice-owed
-              (Referent.rtF (Referent.fInt Syntax.w64))
-              (Syntax.tyRef (Syntax.named 2) Syntax.mut (Syntax.tyInt Syntax.w64))
-              2
-              19
-              (Row.lease (κs .1 .1 .0) (qs .1 .1 .0)),
-        ) (List._∷_ (
-          4,
-          Reshare.mslice-owedS
-              (Referent.rtF (Referent.fInt Syntax.w64))
-              (Syntax.tyRef (Syntax.named 3) Syntax.mut (Syntax.tyInt Syntax.w64))
-              3
-              17
-              (Row.lease (κs .1 .1 .1 .0) (qs .1 .1 .1 .0)),
-        ) (List._∷_ (
-          5,
-          Reshare.mslice-owedS
-              (Referent.rtF (Referent.fInt Syntax.w8))
-              (Syntax.tyRef (Syntax.named 4) Syntax.mut (Syntax.tyInt Syntax.w8))
-              4
-              18
-              (Row.lease (κs .1 .1 .1 .1 .0) (qs .1 .1 .1 .1 .0)),
-        ) (List._∷_ (
-          6,
-          Mut.mslice
-              (Referent.rtF (Referent.fInt Syntax.w32))
-              (Syntax.tyRef (Syntax.named 5) Syntax.mut (Syntax.tyInt Syntax.w32))
-              5,
-        ) (List._∷_ (
-          7,
-          Part.mslice-owedP
-              (Referent.rtF (Referent.fInt Syntax.w8))
-              (Syntax.tyRef (Syntax.named 6) Syntax.mut (Syntax.tyInt Syntax.w8))
-              6
-              20
-              (Row.lease (κs .1 .1 .1 .1 .1 .1 .0) (qs .1 .1 .1 .1 .1 .1 .0)),
-        ) (List._∷_ (
-          8,
-          Part.mslice-owedP
-              (Referent.rtF (Referent.fInt Syntax.w8))
-              (Syntax.tyRef (Syntax.named 7) Syntax.mut (Syntax.tyInt Syntax.w8))
-              7
-              21
-              (Row.lease (κs .1 .1 .1 .1 .1 .1 .1 .0) (qs .1 .1 .1 .1 .1 .1 .1 .0)),
-        ) (List._∷_ (
-          9,
-          Part.mslice-owedP
-              (Referent.rtF (Referent.fInt Syntax.w8))
-              (Syntax.tyRef (Syntax.named 8) Syntax.mut (Syntax.tyInt Syntax.w8))
-              8
-              22
-              (Row.lease (κs .1 .1 .1 .1 .1 .1 .1 .1 .0) (qs .1 .1 .1 .1 .1 .1 .1 .1 .0)),
-        ) (List._∷_ (
-          10,
-          Part.mslice-owedP
-              (Referent.rtF (Referent.fInt Syntax.w8))
-              (Syntax.tyRef (Syntax.named 9) Syntax.mut (Syntax.tyInt Syntax.w8))
-              9
               23
-              (Row.lease (κs .1 .1 .1 .1 .1 .1 .1 .1 .1 .0) (qs .1 .1 .1 .1 .1 .1 .1 .1 .1 .0)),
-        ) (List._∷_ (
-          11,
-          Relend.mslice-owed
-              (Referent.rtF (Referent.fInt Syntax.w8))
-              (Syntax.tyRef (Syntax.named 10) Syntax.mut (Syntax.tyInt Syntax.w8))
-              10
-              24
-              (Row.lease
-              (κs .1 .1 .1 .1 .1 .1 .1 .1 .1 .1 .0)
-              (qs .1 .1 .1 .1 .1 .1 .1 .1 .1 .1 .0)),
-        ) (List._∷_ (12, Rows.sc-here (Row.sInt Syntax.w64)) (List._∷_ (
-          13,
-          Rows.sc-here (Row.sInt Syntax.w64),
-        ) (List._∷_ (14, Rows.sc-here (Row.sInt Syntax.w64)) (List._∷_ (
-          15,
-          Rows.any-gone (Syntax.tyRef Syntax.erased Syntax.mut (Syntax.tyInt Syntax.w64)),
-        ) List.[])))))))))))))))
-
-        abbrev g63 : List.List Row.Entry
-        g63 = List._∷_ (0, Rows.sc-here (Row.sInt Syntax.w64)) (List._∷_ (
-          1,
-          Rows.sslice
-              (Referent.rtF (Referent.fInt Syntax.w8))
-              (Syntax.tyRef (Syntax.named 0) Syntax.imm (Syntax.tyInt Syntax.w8))
-              0,
-        ) (List._∷_ (
-          2,
-          Reshare.mslice-owedS
-              Elem.R
-              (Syntax.tyRef
-              (Syntax.named 1)
-              Syntax.mut
-              Elem.ty)
-              1
-              16
-              (Row.lease (κs .1 .0) (qs .1 .0)),
-        ) (List._∷_ (
-          3,
-          Relend.mslice-owed
-              (Referent.rtF (Referent.fInt Syntax.w64))
-              (Syntax.tyRef (Syntax.named 2) Syntax.mut (Syntax.tyInt Syntax.w64))
-              2
-              19
-              (Row.lease (κs .1 .1 .0) (qs .1 .1 .0)),
-        ) (List._∷_ (
-          4,
-          Reshare.mslice-owedS
-              (Referent.rtF (Referent.fInt Syntax.w64))
-              (Syntax.tyRef (Syntax.named 3) Syntax.mut (Syntax.tyInt Syntax.w64))
-              3
-              17
-              (Row.lease (κs .1 .1 .1 .0) (qs .1 .1 .1 .0)),
-        ) (List._∷_ (
-          5,
-          Reshare.mslice-owedS
-              (Referent.rtF (Referent.fInt Syntax.w8))
-              (Syntax.tyRef (Syntax.named 4) Syntax.mut (Syntax.tyInt Syntax.w8))
-              4
-              18
-              (Row.lease (κs .1 .1 .1 .1 .0) (qs .1 .1 .1 .1 .0)),
-        ) (List._∷_ (
-          6,
-          Mut.mslice
-              (Referent.rtF (Referent.fInt Syntax.w32))
-              (Syntax.tyRef (Syntax.named 5) Syntax.mut (Syntax.tyInt Syntax.w32))
-              5,
-        ) (List._∷_ (
-          7,
-          Part.mslice-owedP
-              (Referent.rtF (Referent.fInt Syntax.w8))
-              (Syntax.tyRef (Syntax.named 6) Syntax.mut (Syntax.tyInt Syntax.w8))
-              6
-              20
-              (Row.lease (κs .1 .1 .1 .1 .1 .1 .0) (qs .1 .1 .1 .1 .1 .1 .0)),
-        ) (List._∷_ (
-          8,
-          Part.mslice-owedP
-              (Referent.rtF (Referent.fInt Syntax.w8))
-              (Syntax.tyRef (Syntax.named 7) Syntax.mut (Syntax.tyInt Syntax.w8))
-              7
-              21
-              (Row.lease (κs .1 .1 .1 .1 .1 .1 .1 .0) (qs .1 .1 .1 .1 .1 .1 .1 .0)),
-        ) (List._∷_ (
-          9,
-          Part.mslice-owedP
-              (Referent.rtF (Referent.fInt Syntax.w8))
-              (Syntax.tyRef (Syntax.named 8) Syntax.mut (Syntax.tyInt Syntax.w8))
-              8
-              22
-              (Row.lease (κs .1 .1 .1 .1 .1 .1 .1 .1 .0) (qs .1 .1 .1 .1 .1 .1 .1 .1 .0)),
-        ) (List._∷_ (
-          10,
-          Part.mslice-owedP
-              (Referent.rtF (Referent.fInt Syntax.w8))
-              (Syntax.tyRef (Syntax.named 9) Syntax.mut (Syntax.tyInt Syntax.w8))
-              9
-              23
-              (Row.lease (κs .1 .1 .1 .1 .1 .1 .1 .1 .1 .0) (qs .1 .1 .1 .1 .1 .1 .1 .1 .1 .0)),
-        ) (List._∷_ (
-          11,
-          Relend.mslice-owed
-              (Referent.rtF (Referent.fInt Syntax.w8))
-              (Syntax.tyRef (Syntax.named 10) Syntax.mut (Syntax.tyInt Syntax.w8))
-              10
-              24
               (Row.lease
               (κs .1 .1 .1 .1 .1 .1 .1 .1 .1 .1 .0)
               (qs .1 .1 .1 .1 .1 .1 .1 .1 .1 .1 .0)),
         ) (List._∷_ (12, Rows.any-gone (Syntax.tyInt Syntax.w64)) (List._∷_ (
           13,
-          Rows.sc-here (Row.sInt Syntax.w64),
-        ) (List._∷_ (14, Rows.sc-here (Row.sInt Syntax.w64)) (List._∷_ (
+          Rows.any-gone (Syntax.tyInt Syntax.w64),
+        ) (List._∷_ (14, Rows.any-gone (Syntax.tyInt Syntax.w64)) (List._∷_ (
           15,
           Rows.any-gone (Syntax.tyRef Syntax.erased Syntax.mut (Syntax.tyInt Syntax.w64)),
         ) List.[])))))))))))))))
@@ -10567,38 +10203,34 @@ module _ (claims· : Claims) where
               0,
         ) (List._∷_ (
           2,
-          Reshare.mslice-owedS
+          Mut.mslice
               Elem.R
               (Syntax.tyRef
               (Syntax.named 1)
               Syntax.mut
               Elem.ty)
-              1
-              16
-              (Row.lease (κs .1 .0) (qs .1 .0)),
+              1,
         ) (List._∷_ (
           3,
           Relend.mslice-owed
               (Referent.rtF (Referent.fInt Syntax.w64))
               (Syntax.tyRef (Syntax.named 2) Syntax.mut (Syntax.tyInt Syntax.w64))
               2
-              19
+              18
               (Row.lease (κs .1 .1 .0) (qs .1 .1 .0)),
         ) (List._∷_ (
           4,
-          Reshare.mslice-owedS
+          Mut.mslice
               (Referent.rtF (Referent.fInt Syntax.w64))
               (Syntax.tyRef (Syntax.named 3) Syntax.mut (Syntax.tyInt Syntax.w64))
-              3
-              17
-              (Row.lease (κs .1 .1 .1 .0) (qs .1 .1 .1 .0)),
+              3,
         ) (List._∷_ (
           5,
           Reshare.mslice-owedS
               (Referent.rtF (Referent.fInt Syntax.w8))
               (Syntax.tyRef (Syntax.named 4) Syntax.mut (Syntax.tyInt Syntax.w8))
               4
-              18
+              17
               (Row.lease (κs .1 .1 .1 .1 .0) (qs .1 .1 .1 .1 .0)),
         ) (List._∷_ (
           6,
@@ -10612,7 +10244,7 @@ module _ (claims· : Claims) where
               (Referent.rtF (Referent.fInt Syntax.w8))
               (Syntax.tyRef (Syntax.named 6) Syntax.mut (Syntax.tyInt Syntax.w8))
               6
-              20
+              19
               (Row.lease (κs .1 .1 .1 .1 .1 .1 .0) (qs .1 .1 .1 .1 .1 .1 .0)),
         ) (List._∷_ (
           8,
@@ -10620,7 +10252,7 @@ module _ (claims· : Claims) where
               (Referent.rtF (Referent.fInt Syntax.w8))
               (Syntax.tyRef (Syntax.named 7) Syntax.mut (Syntax.tyInt Syntax.w8))
               7
-              21
+              20
               (Row.lease (κs .1 .1 .1 .1 .1 .1 .1 .0) (qs .1 .1 .1 .1 .1 .1 .1 .0)),
         ) (List._∷_ (
           9,
@@ -10628,7 +10260,7 @@ module _ (claims· : Claims) where
               (Referent.rtF (Referent.fInt Syntax.w8))
               (Syntax.tyRef (Syntax.named 8) Syntax.mut (Syntax.tyInt Syntax.w8))
               8
-              22
+              21
               (Row.lease (κs .1 .1 .1 .1 .1 .1 .1 .1 .0) (qs .1 .1 .1 .1 .1 .1 .1 .1 .0)),
         ) (List._∷_ (
           10,
@@ -10636,7 +10268,7 @@ module _ (claims· : Claims) where
               (Referent.rtF (Referent.fInt Syntax.w8))
               (Syntax.tyRef (Syntax.named 9) Syntax.mut (Syntax.tyInt Syntax.w8))
               9
-              23
+              22
               (Row.lease (κs .1 .1 .1 .1 .1 .1 .1 .1 .1 .0) (qs .1 .1 .1 .1 .1 .1 .1 .1 .1 .0)),
         ) (List._∷_ (
           11,
@@ -10644,14 +10276,14 @@ module _ (claims· : Claims) where
               (Referent.rtF (Referent.fInt Syntax.w8))
               (Syntax.tyRef (Syntax.named 10) Syntax.mut (Syntax.tyInt Syntax.w8))
               10
-              24
+              23
               (Row.lease
               (κs .1 .1 .1 .1 .1 .1 .1 .1 .1 .1 .0)
               (qs .1 .1 .1 .1 .1 .1 .1 .1 .1 .1 .0)),
         ) (List._∷_ (12, Rows.any-gone (Syntax.tyInt Syntax.w64)) (List._∷_ (
           13,
           Rows.any-gone (Syntax.tyInt Syntax.w64),
-        ) (List._∷_ (14, Rows.sc-here (Row.sInt Syntax.w64)) (List._∷_ (
+        ) (List._∷_ (14, Rows.any-gone (Syntax.tyInt Syntax.w64)) (List._∷_ (
           15,
           Rows.any-gone (Syntax.tyRef Syntax.erased Syntax.mut (Syntax.tyInt Syntax.w64)),
         ) List.[])))))))))))))))
@@ -10665,39 +10297,33 @@ module _ (claims· : Claims) where
               0,
         ) (List._∷_ (
           2,
-          Reshare.mslice-owedS
+          Mut.mslice
               Elem.R
               (Syntax.tyRef
               (Syntax.named 1)
               Syntax.mut
               Elem.ty)
-              1
-              16
-              (Row.lease (κs .1 .0) (qs .1 .0)),
+              1,
         ) (List._∷_ (
           3,
           Relend.mslice-owed
               (Referent.rtF (Referent.fInt Syntax.w64))
               (Syntax.tyRef (Syntax.named 2) Syntax.mut (Syntax.tyInt Syntax.w64))
               2
-              19
+              18
               (Row.lease (κs .1 .1 .0) (qs .1 .1 .0)),
         ) (List._∷_ (
           4,
-          Reshare.mslice-owedS
+          Mut.mslice
               (Referent.rtF (Referent.fInt Syntax.w64))
               (Syntax.tyRef (Syntax.named 3) Syntax.mut (Syntax.tyInt Syntax.w64))
-              3
-              17
-              (Row.lease (κs .1 .1 .1 .0) (qs .1 .1 .1 .0)),
+              3,
         ) (List._∷_ (
           5,
-          Reshare.mslice-owedS
+          Mut.mslice
               (Referent.rtF (Referent.fInt Syntax.w8))
               (Syntax.tyRef (Syntax.named 4) Syntax.mut (Syntax.tyInt Syntax.w8))
-              4
-              18
-              (Row.lease (κs .1 .1 .1 .1 .0) (qs .1 .1 .1 .1 .0)),
+              4,
         ) (List._∷_ (
           6,
           Mut.mslice
@@ -10710,7 +10336,7 @@ module _ (claims· : Claims) where
               (Referent.rtF (Referent.fInt Syntax.w8))
               (Syntax.tyRef (Syntax.named 6) Syntax.mut (Syntax.tyInt Syntax.w8))
               6
-              20
+              19
               (Row.lease (κs .1 .1 .1 .1 .1 .1 .0) (qs .1 .1 .1 .1 .1 .1 .0)),
         ) (List._∷_ (
           8,
@@ -10718,7 +10344,7 @@ module _ (claims· : Claims) where
               (Referent.rtF (Referent.fInt Syntax.w8))
               (Syntax.tyRef (Syntax.named 7) Syntax.mut (Syntax.tyInt Syntax.w8))
               7
-              21
+              20
               (Row.lease (κs .1 .1 .1 .1 .1 .1 .1 .0) (qs .1 .1 .1 .1 .1 .1 .1 .0)),
         ) (List._∷_ (
           9,
@@ -10726,7 +10352,7 @@ module _ (claims· : Claims) where
               (Referent.rtF (Referent.fInt Syntax.w8))
               (Syntax.tyRef (Syntax.named 8) Syntax.mut (Syntax.tyInt Syntax.w8))
               8
-              22
+              21
               (Row.lease (κs .1 .1 .1 .1 .1 .1 .1 .1 .0) (qs .1 .1 .1 .1 .1 .1 .1 .1 .0)),
         ) (List._∷_ (
           10,
@@ -10734,7 +10360,7 @@ module _ (claims· : Claims) where
               (Referent.rtF (Referent.fInt Syntax.w8))
               (Syntax.tyRef (Syntax.named 9) Syntax.mut (Syntax.tyInt Syntax.w8))
               9
-              23
+              22
               (Row.lease (κs .1 .1 .1 .1 .1 .1 .1 .1 .1 .0) (qs .1 .1 .1 .1 .1 .1 .1 .1 .1 .0)),
         ) (List._∷_ (
           11,
@@ -10742,7 +10368,7 @@ module _ (claims· : Claims) where
               (Referent.rtF (Referent.fInt Syntax.w8))
               (Syntax.tyRef (Syntax.named 10) Syntax.mut (Syntax.tyInt Syntax.w8))
               10
-              24
+              23
               (Row.lease
               (κs .1 .1 .1 .1 .1 .1 .1 .1 .1 .1 .0)
               (qs .1 .1 .1 .1 .1 .1 .1 .1 .1 .1 .0)),
@@ -10772,28 +10398,22 @@ module _ (claims· : Claims) where
               1,
         ) (List._∷_ (
           3,
-          Relend.mslice-owed
+          Mut.mslice
               (Referent.rtF (Referent.fInt Syntax.w64))
               (Syntax.tyRef (Syntax.named 2) Syntax.mut (Syntax.tyInt Syntax.w64))
-              2
-              19
-              (Row.lease (κs .1 .1 .0) (qs .1 .1 .0)),
+              2,
         ) (List._∷_ (
           4,
-          Reshare.mslice-owedS
+          Mut.mslice
               (Referent.rtF (Referent.fInt Syntax.w64))
               (Syntax.tyRef (Syntax.named 3) Syntax.mut (Syntax.tyInt Syntax.w64))
-              3
-              17
-              (Row.lease (κs .1 .1 .1 .0) (qs .1 .1 .1 .0)),
+              3,
         ) (List._∷_ (
           5,
-          Reshare.mslice-owedS
+          Mut.mslice
               (Referent.rtF (Referent.fInt Syntax.w8))
               (Syntax.tyRef (Syntax.named 4) Syntax.mut (Syntax.tyInt Syntax.w8))
-              4
-              18
-              (Row.lease (κs .1 .1 .1 .1 .0) (qs .1 .1 .1 .1 .0)),
+              4,
         ) (List._∷_ (
           6,
           Mut.mslice
@@ -10806,7 +10426,7 @@ module _ (claims· : Claims) where
               (Referent.rtF (Referent.fInt Syntax.w8))
               (Syntax.tyRef (Syntax.named 6) Syntax.mut (Syntax.tyInt Syntax.w8))
               6
-              20
+              19
               (Row.lease (κs .1 .1 .1 .1 .1 .1 .0) (qs .1 .1 .1 .1 .1 .1 .0)),
         ) (List._∷_ (
           8,
@@ -10814,7 +10434,7 @@ module _ (claims· : Claims) where
               (Referent.rtF (Referent.fInt Syntax.w8))
               (Syntax.tyRef (Syntax.named 7) Syntax.mut (Syntax.tyInt Syntax.w8))
               7
-              21
+              20
               (Row.lease (κs .1 .1 .1 .1 .1 .1 .1 .0) (qs .1 .1 .1 .1 .1 .1 .1 .0)),
         ) (List._∷_ (
           9,
@@ -10822,7 +10442,7 @@ module _ (claims· : Claims) where
               (Referent.rtF (Referent.fInt Syntax.w8))
               (Syntax.tyRef (Syntax.named 8) Syntax.mut (Syntax.tyInt Syntax.w8))
               8
-              22
+              21
               (Row.lease (κs .1 .1 .1 .1 .1 .1 .1 .1 .0) (qs .1 .1 .1 .1 .1 .1 .1 .1 .0)),
         ) (List._∷_ (
           10,
@@ -10830,7 +10450,7 @@ module _ (claims· : Claims) where
               (Referent.rtF (Referent.fInt Syntax.w8))
               (Syntax.tyRef (Syntax.named 9) Syntax.mut (Syntax.tyInt Syntax.w8))
               9
-              23
+              22
               (Row.lease (κs .1 .1 .1 .1 .1 .1 .1 .1 .1 .0) (qs .1 .1 .1 .1 .1 .1 .1 .1 .1 .0)),
         ) (List._∷_ (
           11,
@@ -10838,7 +10458,7 @@ module _ (claims· : Claims) where
               (Referent.rtF (Referent.fInt Syntax.w8))
               (Syntax.tyRef (Syntax.named 10) Syntax.mut (Syntax.tyInt Syntax.w8))
               10
-              24
+              23
               (Row.lease
               (κs .1 .1 .1 .1 .1 .1 .1 .1 .1 .1 .0)
               (qs .1 .1 .1 .1 .1 .1 .1 .1 .1 .1 .0)),
@@ -10868,106 +10488,10 @@ module _ (claims· : Claims) where
               1,
         ) (List._∷_ (
           3,
-          Relend.mslice-owed
+          Mut.mslice
               (Referent.rtF (Referent.fInt Syntax.w64))
               (Syntax.tyRef (Syntax.named 2) Syntax.mut (Syntax.tyInt Syntax.w64))
-              2
-              19
-              (Row.lease (κs .1 .1 .0) (qs .1 .1 .0)),
-        ) (List._∷_ (
-          4,
-          Mut.mslice
-              (Referent.rtF (Referent.fInt Syntax.w64))
-              (Syntax.tyRef (Syntax.named 3) Syntax.mut (Syntax.tyInt Syntax.w64))
-              3,
-        ) (List._∷_ (
-          5,
-          Reshare.mslice-owedS
-              (Referent.rtF (Referent.fInt Syntax.w8))
-              (Syntax.tyRef (Syntax.named 4) Syntax.mut (Syntax.tyInt Syntax.w8))
-              4
-              18
-              (Row.lease (κs .1 .1 .1 .1 .0) (qs .1 .1 .1 .1 .0)),
-        ) (List._∷_ (
-          6,
-          Mut.mslice
-              (Referent.rtF (Referent.fInt Syntax.w32))
-              (Syntax.tyRef (Syntax.named 5) Syntax.mut (Syntax.tyInt Syntax.w32))
-              5,
-        ) (List._∷_ (
-          7,
-          Part.mslice-owedP
-              (Referent.rtF (Referent.fInt Syntax.w8))
-              (Syntax.tyRef (Syntax.named 6) Syntax.mut (Syntax.tyInt Syntax.w8))
-              6
-              20
-              (Row.lease (κs .1 .1 .1 .1 .1 .1 .0) (qs .1 .1 .1 .1 .1 .1 .0)),
-        ) (List._∷_ (
-          8,
-          Part.mslice-owedP
-              (Referent.rtF (Referent.fInt Syntax.w8))
-              (Syntax.tyRef (Syntax.named 7) Syntax.mut (Syntax.tyInt Syntax.w8))
-              7
-              21
-              (Row.lease (κs .1 .1 .1 .1 .1 .1 .1 .0) (qs .1 .1 .1 .1 .1 .1 .1 .0)),
-        ) (List._∷_ (
-          9,
-          Part.mslice-owedP
-              (Referent.rtF (Referent.fInt Syntax.w8))
-              (Syntax.tyRef (Syntax.named 8) Syntax.mut (Syntax.tyInt Syntax.w8))
-              8
-              22
-              (Row.lease (κs .1 .1 .1 .1 .1 .1 .1 .1 .0) (qs .1 .1 .1 .1 .1 .1 .1 .1 .0)),
-        ) (List._∷_ (
-          10,
-          Part.mslice-owedP
-              (Referent.rtF (Referent.fInt Syntax.w8))
-              (Syntax.tyRef (Syntax.named 9) Syntax.mut (Syntax.tyInt Syntax.w8))
-              9
-              23
-              (Row.lease (κs .1 .1 .1 .1 .1 .1 .1 .1 .1 .0) (qs .1 .1 .1 .1 .1 .1 .1 .1 .1 .0)),
-        ) (List._∷_ (
-          11,
-          Relend.mslice-owed
-              (Referent.rtF (Referent.fInt Syntax.w8))
-              (Syntax.tyRef (Syntax.named 10) Syntax.mut (Syntax.tyInt Syntax.w8))
-              10
-              24
-              (Row.lease
-              (κs .1 .1 .1 .1 .1 .1 .1 .1 .1 .1 .0)
-              (qs .1 .1 .1 .1 .1 .1 .1 .1 .1 .1 .0)),
-        ) (List._∷_ (12, Rows.any-gone (Syntax.tyInt Syntax.w64)) (List._∷_ (
-          13,
-          Rows.any-gone (Syntax.tyInt Syntax.w64),
-        ) (List._∷_ (14, Rows.any-gone (Syntax.tyInt Syntax.w64)) (List._∷_ (
-          15,
-          Rows.any-gone (Syntax.tyRef Syntax.erased Syntax.mut (Syntax.tyInt Syntax.w64)),
-        ) List.[])))))))))))))))
-
-        abbrev g68 : List.List Row.Entry
-        g68 = List._∷_ (0, Rows.sc-here (Row.sInt Syntax.w64)) (List._∷_ (
-          1,
-          Rows.sslice
-              (Referent.rtF (Referent.fInt Syntax.w8))
-              (Syntax.tyRef (Syntax.named 0) Syntax.imm (Syntax.tyInt Syntax.w8))
-              0,
-        ) (List._∷_ (
-          2,
-          Mut.mslice
-              Elem.R
-              (Syntax.tyRef
-              (Syntax.named 1)
-              Syntax.mut
-              Elem.ty)
-              1,
-        ) (List._∷_ (
-          3,
-          Relend.mslice-owed
-              (Referent.rtF (Referent.fInt Syntax.w64))
-              (Syntax.tyRef (Syntax.named 2) Syntax.mut (Syntax.tyInt Syntax.w64))
-              2
-              19
-              (Row.lease (κs .1 .1 .0) (qs .1 .1 .0)),
+              2,
         ) (List._∷_ (
           4,
           Mut.mslice
@@ -10988,19 +10512,17 @@ module _ (claims· : Claims) where
               5,
         ) (List._∷_ (
           7,
-          Part.mslice-owedP
+          Mut.mslice
               (Referent.rtF (Referent.fInt Syntax.w8))
               (Syntax.tyRef (Syntax.named 6) Syntax.mut (Syntax.tyInt Syntax.w8))
-              6
-              20
-              (Row.lease (κs .1 .1 .1 .1 .1 .1 .0) (qs .1 .1 .1 .1 .1 .1 .0)),
+              6,
         ) (List._∷_ (
           8,
           Part.mslice-owedP
               (Referent.rtF (Referent.fInt Syntax.w8))
               (Syntax.tyRef (Syntax.named 7) Syntax.mut (Syntax.tyInt Syntax.w8))
               7
-              21
+              20
               (Row.lease (κs .1 .1 .1 .1 .1 .1 .1 .0) (qs .1 .1 .1 .1 .1 .1 .1 .0)),
         ) (List._∷_ (
           9,
@@ -11008,7 +10530,7 @@ module _ (claims· : Claims) where
               (Referent.rtF (Referent.fInt Syntax.w8))
               (Syntax.tyRef (Syntax.named 8) Syntax.mut (Syntax.tyInt Syntax.w8))
               8
-              22
+              21
               (Row.lease (κs .1 .1 .1 .1 .1 .1 .1 .1 .0) (qs .1 .1 .1 .1 .1 .1 .1 .1 .0)),
         ) (List._∷_ (
           10,
@@ -11016,7 +10538,7 @@ module _ (claims· : Claims) where
               (Referent.rtF (Referent.fInt Syntax.w8))
               (Syntax.tyRef (Syntax.named 9) Syntax.mut (Syntax.tyInt Syntax.w8))
               9
-              23
+              22
               (Row.lease (κs .1 .1 .1 .1 .1 .1 .1 .1 .1 .0) (qs .1 .1 .1 .1 .1 .1 .1 .1 .1 .0)),
         ) (List._∷_ (
           11,
@@ -11024,7 +10546,7 @@ module _ (claims· : Claims) where
               (Referent.rtF (Referent.fInt Syntax.w8))
               (Syntax.tyRef (Syntax.named 10) Syntax.mut (Syntax.tyInt Syntax.w8))
               10
-              24
+              23
               (Row.lease
               (κs .1 .1 .1 .1 .1 .1 .1 .1 .1 .1 .0)
               (qs .1 .1 .1 .1 .1 .1 .1 .1 .1 .1 .0)),
@@ -11078,27 +10600,23 @@ module _ (claims· : Claims) where
               5,
         ) (List._∷_ (
           7,
-          Part.mslice-owedP
+          Mut.mslice
               (Referent.rtF (Referent.fInt Syntax.w8))
               (Syntax.tyRef (Syntax.named 6) Syntax.mut (Syntax.tyInt Syntax.w8))
-              6
-              20
-              (Row.lease (κs .1 .1 .1 .1 .1 .1 .0) (qs .1 .1 .1 .1 .1 .1 .0)),
+              6,
         ) (List._∷_ (
           8,
-          Part.mslice-owedP
+          Mut.mslice
               (Referent.rtF (Referent.fInt Syntax.w8))
               (Syntax.tyRef (Syntax.named 7) Syntax.mut (Syntax.tyInt Syntax.w8))
-              7
-              21
-              (Row.lease (κs .1 .1 .1 .1 .1 .1 .1 .0) (qs .1 .1 .1 .1 .1 .1 .1 .0)),
+              7,
         ) (List._∷_ (
           9,
           Part.mslice-owedP
               (Referent.rtF (Referent.fInt Syntax.w8))
               (Syntax.tyRef (Syntax.named 8) Syntax.mut (Syntax.tyInt Syntax.w8))
               8
-              22
+              21
               (Row.lease (κs .1 .1 .1 .1 .1 .1 .1 .1 .0) (qs .1 .1 .1 .1 .1 .1 .1 .1 .0)),
         ) (List._∷_ (
           10,
@@ -11106,7 +10624,7 @@ module _ (claims· : Claims) where
               (Referent.rtF (Referent.fInt Syntax.w8))
               (Syntax.tyRef (Syntax.named 9) Syntax.mut (Syntax.tyInt Syntax.w8))
               9
-              23
+              22
               (Row.lease (κs .1 .1 .1 .1 .1 .1 .1 .1 .1 .0) (qs .1 .1 .1 .1 .1 .1 .1 .1 .1 .0)),
         ) (List._∷_ (
           11,
@@ -11114,7 +10632,7 @@ module _ (claims· : Claims) where
               (Referent.rtF (Referent.fInt Syntax.w8))
               (Syntax.tyRef (Syntax.named 10) Syntax.mut (Syntax.tyInt Syntax.w8))
               10
-              24
+              23
               (Row.lease
               (κs .1 .1 .1 .1 .1 .1 .1 .1 .1 .1 .0)
               (qs .1 .1 .1 .1 .1 .1 .1 .1 .1 .1 .0)),
@@ -11174,27 +10692,23 @@ module _ (claims· : Claims) where
               6,
         ) (List._∷_ (
           8,
-          Part.mslice-owedP
+          Mut.mslice
               (Referent.rtF (Referent.fInt Syntax.w8))
               (Syntax.tyRef (Syntax.named 7) Syntax.mut (Syntax.tyInt Syntax.w8))
-              7
-              21
-              (Row.lease (κs .1 .1 .1 .1 .1 .1 .1 .0) (qs .1 .1 .1 .1 .1 .1 .1 .0)),
+              7,
         ) (List._∷_ (
           9,
-          Part.mslice-owedP
+          Mut.mslice
               (Referent.rtF (Referent.fInt Syntax.w8))
               (Syntax.tyRef (Syntax.named 8) Syntax.mut (Syntax.tyInt Syntax.w8))
-              8
-              22
-              (Row.lease (κs .1 .1 .1 .1 .1 .1 .1 .1 .0) (qs .1 .1 .1 .1 .1 .1 .1 .1 .0)),
+              8,
         ) (List._∷_ (
           10,
           Part.mslice-owedP
               (Referent.rtF (Referent.fInt Syntax.w8))
               (Syntax.tyRef (Syntax.named 9) Syntax.mut (Syntax.tyInt Syntax.w8))
               9
-              23
+              22
               (Row.lease (κs .1 .1 .1 .1 .1 .1 .1 .1 .1 .0) (qs .1 .1 .1 .1 .1 .1 .1 .1 .1 .0)),
         ) (List._∷_ (
           11,
@@ -11202,7 +10716,7 @@ module _ (claims· : Claims) where
               (Referent.rtF (Referent.fInt Syntax.w8))
               (Syntax.tyRef (Syntax.named 10) Syntax.mut (Syntax.tyInt Syntax.w8))
               10
-              24
+              23
               (Row.lease
               (κs .1 .1 .1 .1 .1 .1 .1 .1 .1 .1 .0)
               (qs .1 .1 .1 .1 .1 .1 .1 .1 .1 .1 .0)),
@@ -11268,176 +10782,6 @@ module _ (claims· : Claims) where
               7,
         ) (List._∷_ (
           9,
-          Part.mslice-owedP
-              (Referent.rtF (Referent.fInt Syntax.w8))
-              (Syntax.tyRef (Syntax.named 8) Syntax.mut (Syntax.tyInt Syntax.w8))
-              8
-              22
-              (Row.lease (κs .1 .1 .1 .1 .1 .1 .1 .1 .0) (qs .1 .1 .1 .1 .1 .1 .1 .1 .0)),
-        ) (List._∷_ (
-          10,
-          Part.mslice-owedP
-              (Referent.rtF (Referent.fInt Syntax.w8))
-              (Syntax.tyRef (Syntax.named 9) Syntax.mut (Syntax.tyInt Syntax.w8))
-              9
-              23
-              (Row.lease (κs .1 .1 .1 .1 .1 .1 .1 .1 .1 .0) (qs .1 .1 .1 .1 .1 .1 .1 .1 .1 .0)),
-        ) (List._∷_ (
-          11,
-          Relend.mslice-owed
-              (Referent.rtF (Referent.fInt Syntax.w8))
-              (Syntax.tyRef (Syntax.named 10) Syntax.mut (Syntax.tyInt Syntax.w8))
-              10
-              24
-              (Row.lease
-              (κs .1 .1 .1 .1 .1 .1 .1 .1 .1 .1 .0)
-              (qs .1 .1 .1 .1 .1 .1 .1 .1 .1 .1 .0)),
-        ) (List._∷_ (12, Rows.any-gone (Syntax.tyInt Syntax.w64)) (List._∷_ (
-          13,
-          Rows.any-gone (Syntax.tyInt Syntax.w64),
-        ) (List._∷_ (14, Rows.any-gone (Syntax.tyInt Syntax.w64)) (List._∷_ (
-          15,
-          Rows.any-gone (Syntax.tyRef Syntax.erased Syntax.mut (Syntax.tyInt Syntax.w64)),
-        ) List.[])))))))))))))))
-
-        abbrev g75 : List.List Row.Entry
-        g75 = List._∷_ (0, Rows.sc-here (Row.sInt Syntax.w64)) (List._∷_ (
-          1,
-          Rows.sslice
-              (Referent.rtF (Referent.fInt Syntax.w8))
-              (Syntax.tyRef (Syntax.named 0) Syntax.imm (Syntax.tyInt Syntax.w8))
-              0,
-        ) (List._∷_ (
-          2,
-          Mut.mslice
-              Elem.R
-              (Syntax.tyRef
-              (Syntax.named 1)
-              Syntax.mut
-              Elem.ty)
-              1,
-        ) (List._∷_ (
-          3,
-          Mut.mslice
-              (Referent.rtF (Referent.fInt Syntax.w64))
-              (Syntax.tyRef (Syntax.named 2) Syntax.mut (Syntax.tyInt Syntax.w64))
-              2,
-        ) (List._∷_ (
-          4,
-          Mut.mslice
-              (Referent.rtF (Referent.fInt Syntax.w64))
-              (Syntax.tyRef (Syntax.named 3) Syntax.mut (Syntax.tyInt Syntax.w64))
-              3,
-        ) (List._∷_ (
-          5,
-          Mut.mslice
-              (Referent.rtF (Referent.fInt Syntax.w8))
-              (Syntax.tyRef (Syntax.named 4) Syntax.mut (Syntax.tyInt Syntax.w8))
-              4,
-        ) (List._∷_ (
-          6,
-          Mut.mslice
-              (Referent.rtF (Referent.fInt Syntax.w32))
-              (Syntax.tyRef (Syntax.named 5) Syntax.mut (Syntax.tyInt Syntax.w32))
-              5,
-        ) (List._∷_ (
-          7,
-          Mut.mslice
-              (Referent.rtF (Referent.fInt Syntax.w8))
-              (Syntax.tyRef (Syntax.named 6) Syntax.mut (Syntax.tyInt Syntax.w8))
-              6,
-        ) (List._∷_ (
-          8,
-          Mut.mslice
-              (Referent.rtF (Referent.fInt Syntax.w8))
-              (Syntax.tyRef (Syntax.named 7) Syntax.mut (Syntax.tyInt Syntax.w8))
-              7,
-        ) (List._∷_ (
-          9,
-          Mut.mslice
-              (Referent.rtF (Referent.fInt Syntax.w8))
-              (Syntax.tyRef (Syntax.named 8) Syntax.mut (Syntax.tyInt Syntax.w8))
-              8,
-        ) (List._∷_ (
-          10,
-          Part.mslice-owedP
-              (Referent.rtF (Referent.fInt Syntax.w8))
-              (Syntax.tyRef (Syntax.named 9) Syntax.mut (Syntax.tyInt Syntax.w8))
-              9
-              23
-              (Row.lease (κs .1 .1 .1 .1 .1 .1 .1 .1 .1 .0) (qs .1 .1 .1 .1 .1 .1 .1 .1 .1 .0)),
-        ) (List._∷_ (
-          11,
-          Relend.mslice-owed
-              (Referent.rtF (Referent.fInt Syntax.w8))
-              (Syntax.tyRef (Syntax.named 10) Syntax.mut (Syntax.tyInt Syntax.w8))
-              10
-              24
-              (Row.lease
-              (κs .1 .1 .1 .1 .1 .1 .1 .1 .1 .1 .0)
-              (qs .1 .1 .1 .1 .1 .1 .1 .1 .1 .1 .0)),
-        ) (List._∷_ (12, Rows.any-gone (Syntax.tyInt Syntax.w64)) (List._∷_ (
-          13,
-          Rows.any-gone (Syntax.tyInt Syntax.w64),
-        ) (List._∷_ (14, Rows.any-gone (Syntax.tyInt Syntax.w64)) (List._∷_ (
-          15,
-          Rows.any-gone (Syntax.tyRef Syntax.erased Syntax.mut (Syntax.tyInt Syntax.w64)),
-        ) List.[])))))))))))))))
-
-        abbrev g77 : List.List Row.Entry
-        g77 = List._∷_ (0, Rows.sc-here (Row.sInt Syntax.w64)) (List._∷_ (
-          1,
-          Rows.sslice
-              (Referent.rtF (Referent.fInt Syntax.w8))
-              (Syntax.tyRef (Syntax.named 0) Syntax.imm (Syntax.tyInt Syntax.w8))
-              0,
-        ) (List._∷_ (
-          2,
-          Mut.mslice
-              Elem.R
-              (Syntax.tyRef
-              (Syntax.named 1)
-              Syntax.mut
-              Elem.ty)
-              1,
-        ) (List._∷_ (
-          3,
-          Mut.mslice
-              (Referent.rtF (Referent.fInt Syntax.w64))
-              (Syntax.tyRef (Syntax.named 2) Syntax.mut (Syntax.tyInt Syntax.w64))
-              2,
-        ) (List._∷_ (
-          4,
-          Mut.mslice
-              (Referent.rtF (Referent.fInt Syntax.w64))
-              (Syntax.tyRef (Syntax.named 3) Syntax.mut (Syntax.tyInt Syntax.w64))
-              3,
-        ) (List._∷_ (
-          5,
-          Mut.mslice
-              (Referent.rtF (Referent.fInt Syntax.w8))
-              (Syntax.tyRef (Syntax.named 4) Syntax.mut (Syntax.tyInt Syntax.w8))
-              4,
-        ) (List._∷_ (
-          6,
-          Mut.mslice
-              (Referent.rtF (Referent.fInt Syntax.w32))
-              (Syntax.tyRef (Syntax.named 5) Syntax.mut (Syntax.tyInt Syntax.w32))
-              5,
-        ) (List._∷_ (
-          7,
-          Mut.mslice
-              (Referent.rtF (Referent.fInt Syntax.w8))
-              (Syntax.tyRef (Syntax.named 6) Syntax.mut (Syntax.tyInt Syntax.w8))
-              6,
-        ) (List._∷_ (
-          8,
-          Mut.mslice
-              (Referent.rtF (Referent.fInt Syntax.w8))
-              (Syntax.tyRef (Syntax.named 7) Syntax.mut (Syntax.tyInt Syntax.w8))
-              7,
-        ) (List._∷_ (
-          9,
           Mut.mslice
               (Referent.rtF (Referent.fInt Syntax.w8))
               (Syntax.tyRef (Syntax.named 8) Syntax.mut (Syntax.tyInt Syntax.w8))
@@ -11454,7 +10798,7 @@ module _ (claims· : Claims) where
               (Referent.rtF (Referent.fInt Syntax.w8))
               (Syntax.tyRef (Syntax.named 10) Syntax.mut (Syntax.tyInt Syntax.w8))
               10
-              24
+              23
               (Row.lease
               (κs .1 .1 .1 .1 .1 .1 .1 .1 .1 .1 .0)
               (qs .1 .1 .1 .1 .1 .1 .1 .1 .1 .1 .0)),
@@ -11513,11 +10857,7 @@ module _ (claims· : Claims) where
               Row.off
               (List._∷_
               Row.off
-              (List._∷_
-              Row.off
-              (List._∷_
-              Row.off
-              (List._∷_ Row.off (List._∷_ Row.off List.[]))))))))))))))))))))))));
+              (List._∷_ Row.off (List._∷_ Row.off (List._∷_ Row.off List.[])))))))))))))))))))))));
         }
 
         abbrev G1 : Row.Cx
@@ -11567,11 +10907,7 @@ module _ (claims· : Claims) where
               Row.off
               (List._∷_
               Row.off
-              (List._∷_
-              Row.off
-              (List._∷_
-              Row.off
-              (List._∷_ Row.off (List._∷_ Row.off List.[]))))))))))))))))))))))));
+              (List._∷_ Row.off (List._∷_ Row.off (List._∷_ Row.off List.[])))))))))))))))))))))));
         }
 
         abbrev G2 : Row.Cx
@@ -11621,11 +10957,7 @@ module _ (claims· : Claims) where
               Row.off
               (List._∷_
               Row.off
-              (List._∷_
-              Row.off
-              (List._∷_
-              Row.off
-              (List._∷_ Row.off (List._∷_ Row.off List.[]))))))))))))))))))))))));
+              (List._∷_ Row.off (List._∷_ Row.off (List._∷_ Row.off List.[])))))))))))))))))))))));
         }
 
         abbrev G3 : Row.Cx
@@ -11675,11 +11007,7 @@ module _ (claims· : Claims) where
               Row.off
               (List._∷_
               Row.off
-              (List._∷_
-              Row.off
-              (List._∷_
-              Row.off
-              (List._∷_ Row.off (List._∷_ Row.off List.[]))))))))))))))))))))))));
+              (List._∷_ Row.off (List._∷_ Row.off (List._∷_ Row.off List.[])))))))))))))))))))))));
         }
 
         abbrev G4 : Row.Cx
@@ -11729,11 +11057,7 @@ module _ (claims· : Claims) where
               Row.off
               (List._∷_
               Row.off
-              (List._∷_
-              Row.off
-              (List._∷_
-              Row.off
-              (List._∷_ Row.off (List._∷_ Row.off List.[]))))))))))))))))))))))));
+              (List._∷_ Row.off (List._∷_ Row.off (List._∷_ Row.off List.[])))))))))))))))))))))));
         }
 
         abbrev G5 : Row.Cx
@@ -11783,11 +11107,7 @@ module _ (claims· : Claims) where
               Row.off
               (List._∷_
               Row.off
-              (List._∷_
-              Row.off
-              (List._∷_
-              Row.off
-              (List._∷_ Row.off (List._∷_ Row.off List.[]))))))))))))))))))))))));
+              (List._∷_ Row.off (List._∷_ Row.off (List._∷_ Row.off List.[])))))))))))))))))))))));
         }
 
         abbrev G6 : Row.Cx
@@ -11837,11 +11157,7 @@ module _ (claims· : Claims) where
               Row.off
               (List._∷_
               Row.off
-              (List._∷_
-              Row.off
-              (List._∷_
-              Row.off
-              (List._∷_ Row.off (List._∷_ Row.off List.[]))))))))))))))))))))))));
+              (List._∷_ Row.off (List._∷_ Row.off (List._∷_ Row.off List.[])))))))))))))))))))))));
         }
 
         abbrev G7 : Row.Cx
@@ -11891,11 +11207,7 @@ module _ (claims· : Claims) where
               Row.off
               (List._∷_
               Row.off
-              (List._∷_
-              Row.off
-              (List._∷_
-              Row.off
-              (List._∷_ Row.off (List._∷_ Row.off List.[]))))))))))))))))))))))));
+              (List._∷_ Row.off (List._∷_ Row.off (List._∷_ Row.off List.[])))))))))))))))))))))));
         }
 
         abbrev G8 : Row.Cx
@@ -11945,11 +11257,7 @@ module _ (claims· : Claims) where
               Row.off
               (List._∷_
               Row.off
-              (List._∷_
-              Row.off
-              (List._∷_
-              Row.off
-              (List._∷_ Row.off (List._∷_ Row.off List.[]))))))))))))))))))))))));
+              (List._∷_ Row.off (List._∷_ Row.off (List._∷_ Row.off List.[])))))))))))))))))))))));
         }
 
         abbrev G9 : Row.Cx
@@ -11999,11 +11307,7 @@ module _ (claims· : Claims) where
               Row.off
               (List._∷_
               Row.off
-              (List._∷_
-              Row.off
-              (List._∷_
-              Row.off
-              (List._∷_ Row.off (List._∷_ Row.off List.[]))))))))))))))))))))))));
+              (List._∷_ Row.off (List._∷_ Row.off (List._∷_ Row.off List.[])))))))))))))))))))))));
         }
 
         abbrev G10 : Row.Cx
@@ -12053,11 +11357,7 @@ module _ (claims· : Claims) where
               Row.off
               (List._∷_
               Row.off
-              (List._∷_
-              Row.off
-              (List._∷_
-              Row.off
-              (List._∷_ Row.off (List._∷_ Row.off List.[]))))))))))))))))))))))));
+              (List._∷_ Row.off (List._∷_ Row.off (List._∷_ Row.off List.[])))))))))))))))))))))));
         }
 
         abbrev G11 : Row.Cx
@@ -12107,11 +11407,7 @@ module _ (claims· : Claims) where
               Row.off
               (List._∷_
               Row.off
-              (List._∷_
-              Row.off
-              (List._∷_
-              Row.off
-              (List._∷_ Row.off (List._∷_ Row.off List.[]))))))))))))))))))))))));
+              (List._∷_ Row.off (List._∷_ Row.off (List._∷_ Row.off List.[])))))))))))))))))))))));
         }
 
         abbrev G12 : Row.Cx
@@ -12161,11 +11457,7 @@ module _ (claims· : Claims) where
               Row.off
               (List._∷_
               Row.off
-              (List._∷_
-              Row.off
-              (List._∷_
-              Row.off
-              (List._∷_ Row.off (List._∷_ Row.off List.[]))))))))))))))))))))))));
+              (List._∷_ Row.off (List._∷_ Row.off (List._∷_ Row.off List.[])))))))))))))))))))))));
         }
 
         abbrev G13 : Row.Cx
@@ -12215,11 +11507,7 @@ module _ (claims· : Claims) where
               Row.off
               (List._∷_
               Row.off
-              (List._∷_
-              Row.off
-              (List._∷_
-              Row.off
-              (List._∷_ Row.off (List._∷_ Row.off List.[]))))))))))))))))))))))));
+              (List._∷_ Row.off (List._∷_ Row.off (List._∷_ Row.off List.[])))))))))))))))))))))));
         }
 
         abbrev G14 : Row.Cx
@@ -12269,11 +11557,7 @@ module _ (claims· : Claims) where
               Row.off
               (List._∷_
               Row.off
-              (List._∷_
-              Row.off
-              (List._∷_
-              Row.off
-              (List._∷_ Row.off (List._∷_ Row.off List.[]))))))))))))))))))))))));
+              (List._∷_ Row.off (List._∷_ Row.off (List._∷_ Row.off List.[])))))))))))))))))))))));
         }
 
         abbrev G15 : Row.Cx
@@ -12323,11 +11607,7 @@ module _ (claims· : Claims) where
               Row.off
               (List._∷_
               Row.off
-              (List._∷_
-              Row.off
-              (List._∷_
-              Row.off
-              (List._∷_ Row.off (List._∷_ Row.off List.[]))))))))))))))))))))))));
+              (List._∷_ Row.off (List._∷_ Row.off (List._∷_ Row.off List.[])))))))))))))))))))))));
         }
 
         abbrev G16 : Row.Cx
@@ -12377,11 +11657,7 @@ module _ (claims· : Claims) where
               Row.off
               (List._∷_
               Row.off
-              (List._∷_
-              Row.off
-              (List._∷_
-              Row.off
-              (List._∷_ Row.off (List._∷_ Row.off List.[]))))))))))))))))))))))));
+              (List._∷_ Row.off (List._∷_ Row.off (List._∷_ Row.off List.[])))))))))))))))))))))));
         }
 
         abbrev G17 : Row.Cx
@@ -12431,11 +11707,7 @@ module _ (claims· : Claims) where
               Row.off
               (List._∷_
               Row.off
-              (List._∷_
-              Row.off
-              (List._∷_
-              Row.off
-              (List._∷_ Row.off (List._∷_ Row.off List.[]))))))))))))))))))))))));
+              (List._∷_ Row.off (List._∷_ Row.off (List._∷_ Row.off List.[])))))))))))))))))))))));
         }
 
         abbrev G18 : Row.Cx
@@ -12485,11 +11757,7 @@ module _ (claims· : Claims) where
               Row.off
               (List._∷_
               Row.off
-              (List._∷_
-              Row.off
-              (List._∷_
-              Row.off
-              (List._∷_ Row.off (List._∷_ Row.off List.[]))))))))))))))))))))))));
+              (List._∷_ Row.off (List._∷_ Row.off (List._∷_ Row.off List.[])))))))))))))))))))))));
         }
 
         abbrev G19 : Row.Cx
@@ -12539,11 +11807,7 @@ module _ (claims· : Claims) where
               Row.off
               (List._∷_
               Row.off
-              (List._∷_
-              Row.off
-              (List._∷_
-              Row.off
-              (List._∷_ Row.off (List._∷_ Row.off List.[]))))))))))))))))))))))));
+              (List._∷_ Row.off (List._∷_ Row.off (List._∷_ Row.off List.[])))))))))))))))))))))));
         }
 
         abbrev G20 : Row.Cx
@@ -12593,11 +11857,7 @@ module _ (claims· : Claims) where
               Row.off
               (List._∷_
               Row.off
-              (List._∷_
-              Row.off
-              (List._∷_
-              Row.off
-              (List._∷_ Row.off (List._∷_ Row.off List.[]))))))))))))))))))))))));
+              (List._∷_ Row.off (List._∷_ Row.off (List._∷_ Row.off List.[])))))))))))))))))))))));
         }
 
         abbrev G21 : Row.Cx
@@ -12647,11 +11907,7 @@ module _ (claims· : Claims) where
               Row.off
               (List._∷_
               Row.off
-              (List._∷_
-              Row.off
-              (List._∷_
-              Row.off
-              (List._∷_ Row.off (List._∷_ Row.off List.[]))))))))))))))))))))))));
+              (List._∷_ Row.off (List._∷_ Row.off (List._∷_ Row.off List.[])))))))))))))))))))))));
         }
 
         abbrev G22 : Row.Cx
@@ -12701,16 +11957,12 @@ module _ (claims· : Claims) where
               Row.off
               (List._∷_
               Row.off
-              (List._∷_
-              Row.off
-              (List._∷_
-              Row.off
-              (List._∷_ Row.off (List._∷_ Row.off List.[]))))))))))))))))))))))));
+              (List._∷_ Row.off (List._∷_ Row.off (List._∷_ Row.off List.[])))))))))))))))))))))));
         }
 
         abbrev G23 : Row.Cx
         G23 = record {
-          locals = List._++_ g15 (List._++_ t16 t2);
+          locals = List._++_ g12 (List._++_ t14 t2);
           slots = List._∷_
               (Row.lease (κs .0) (qs .0))
               (List._∷_
@@ -12742,7 +11994,7 @@ module _ (claims· : Claims) where
               (List._∷_
               Row.alive
               (List._∷_
-              Row.off
+              Row.alive
               (List._∷_
               Row.off
               (List._∷_
@@ -12755,11 +12007,7 @@ module _ (claims· : Claims) where
               Row.off
               (List._∷_
               Row.off
-              (List._∷_
-              Row.off
-              (List._∷_
-              Row.off
-              (List._∷_ Row.off (List._∷_ Row.off List.[]))))))))))))))))))))))));
+              (List._∷_ Row.off (List._∷_ Row.off (List._∷_ Row.off List.[])))))))))))))))))))))));
         }
 
         abbrev G24 : Row.Cx
@@ -12768,7 +12016,7 @@ module _ (claims· : Claims) where
           slots = List._∷_
               (Row.lease (κs .0) (qs .0))
               (List._∷_
-              (Row.lease (κs .1 .0) (qs .1 .0))
+              Row.off
               (List._∷_
               (Row.lease (κs .1 .1 .0) (qs .1 .1 .0))
               (List._∷_
@@ -12790,7 +12038,9 @@ module _ (claims· : Claims) where
               (κs .1 .1 .1 .1 .1 .1 .1 .1 .1 .1 .0)
               (qs .1 .1 .1 .1 .1 .1 .1 .1 .1 .1 .0))
               (List._∷_
-              Row.dead
+              Row.alive
+              (List._∷_
+              Row.alive
               (List._∷_
               Row.alive
               (List._∷_
@@ -12807,26 +12057,20 @@ module _ (claims· : Claims) where
               Row.off
               (List._∷_
               Row.off
-              (List._∷_
-              Row.off
-              (List._∷_
-              Row.off
-              (List._∷_
-              Row.off
-              (List._∷_ Row.off (List._∷_ Row.off List.[]))))))))))))))))))))))));
+              (List._∷_ Row.off (List._∷_ Row.off (List._∷_ Row.off List.[])))))))))))))))))))))));
         }
 
         abbrev G25 : Row.Cx
         G25 = record {
-          locals = List._++_ g17 (List._++_ t18 t2);
+          locals = List._++_ g15 (List._++_ t17 t2);
           slots = List._∷_
               (Row.lease (κs .0) (qs .0))
               (List._∷_
-              (Row.lease (κs .1 .0) (qs .1 .0))
+              Row.off
               (List._∷_
               (Row.lease (κs .1 .1 .0) (qs .1 .1 .0))
               (List._∷_
-              (Row.lease (κs .1 .1 .1 .0) (qs .1 .1 .1 .0))
+              Row.off
               (List._∷_
               Row.off
               (List._∷_
@@ -12844,7 +12088,9 @@ module _ (claims· : Claims) where
               (κs .1 .1 .1 .1 .1 .1 .1 .1 .1 .1 .0)
               (qs .1 .1 .1 .1 .1 .1 .1 .1 .1 .1 .0))
               (List._∷_
-              Row.dead
+              Row.alive
+              (List._∷_
+              Row.alive
               (List._∷_
               Row.alive
               (List._∷_
@@ -12861,26 +12107,20 @@ module _ (claims· : Claims) where
               Row.off
               (List._∷_
               Row.off
-              (List._∷_
-              Row.off
-              (List._∷_
-              Row.off
-              (List._∷_
-              Row.off
-              (List._∷_ Row.off (List._∷_ Row.off List.[]))))))))))))))))))))))));
+              (List._∷_ Row.off (List._∷_ Row.off (List._∷_ Row.off List.[])))))))))))))))))))))));
         }
 
         abbrev G26 : Row.Cx
         G26 = record {
-          locals = List._++_ g17 (List._++_ t18 t2);
+          locals = List._++_ g18 (List._++_ t19 t2);
           slots = List._∷_
               (Row.lease (κs .0) (qs .0))
               (List._∷_
-              (Row.lease (κs .1 .0) (qs .1 .0))
+              Row.off
               (List._∷_
               (Row.lease (κs .1 .1 .0) (qs .1 .1 .0))
               (List._∷_
-              (Row.lease (κs .1 .1 .1 .0) (qs .1 .1 .1 .0))
+              Row.off
               (List._∷_
               Row.off
               (List._∷_
@@ -12898,7 +12138,9 @@ module _ (claims· : Claims) where
               (κs .1 .1 .1 .1 .1 .1 .1 .1 .1 .1 .0)
               (qs .1 .1 .1 .1 .1 .1 .1 .1 .1 .1 .0))
               (List._∷_
-              Row.dead
+              Row.alive
+              (List._∷_
+              Row.alive
               (List._∷_
               Row.alive
               (List._∷_
@@ -12915,26 +12157,20 @@ module _ (claims· : Claims) where
               Row.off
               (List._∷_
               Row.off
-              (List._∷_
-              Row.off
-              (List._∷_
-              Row.off
-              (List._∷_
-              Row.off
-              (List._∷_ Row.off (List._∷_ Row.off List.[]))))))))))))))))))))))));
+              (List._∷_ Row.off (List._∷_ Row.off (List._∷_ Row.off List.[])))))))))))))))))))))));
         }
 
         abbrev G27 : Row.Cx
         G27 = record {
-          locals = List._++_ g17 (List._++_ t18 t2);
+          locals = List._++_ g18 (List._++_ t19 t2);
           slots = List._∷_
               (Row.lease (κs .0) (qs .0))
               (List._∷_
-              (Row.lease (κs .1 .0) (qs .1 .0))
+              Row.off
               (List._∷_
               (Row.lease (κs .1 .1 .0) (qs .1 .1 .0))
               (List._∷_
-              (Row.lease (κs .1 .1 .1 .0) (qs .1 .1 .1 .0))
+              Row.off
               (List._∷_
               Row.off
               (List._∷_
@@ -12952,13 +12188,13 @@ module _ (claims· : Claims) where
               (κs .1 .1 .1 .1 .1 .1 .1 .1 .1 .1 .0)
               (qs .1 .1 .1 .1 .1 .1 .1 .1 .1 .1 .0))
               (List._∷_
-              Row.off
+              Row.dead
               (List._∷_
               Row.alive
               (List._∷_
               Row.alive
               (List._∷_
-              Row.off
+              Row.alive
               (List._∷_
               Row.off
               (List._∷_
@@ -12971,20 +12207,16 @@ module _ (claims· : Claims) where
               Row.off
               (List._∷_
               Row.off
-              (List._∷_
-              Row.off
-              (List._∷_
-              Row.off
-              (List._∷_ Row.off (List._∷_ Row.off List.[]))))))))))))))))))))))));
+              (List._∷_ Row.off (List._∷_ Row.off (List._∷_ Row.off List.[])))))))))))))))))))))));
         }
 
         abbrev G28 : Row.Cx
         G28 = record {
-          locals = List._++_ g17 (List._++_ t18 t2);
+          locals = List._++_ g20 (List._++_ t21 t2);
           slots = List._∷_
               (Row.lease (κs .0) (qs .0))
               (List._∷_
-              (Row.lease (κs .1 .0) (qs .1 .0))
+              Row.off
               (List._∷_
               (Row.lease (κs .1 .1 .0) (qs .1 .1 .0))
               (List._∷_
@@ -13006,9 +12238,11 @@ module _ (claims· : Claims) where
               (κs .1 .1 .1 .1 .1 .1 .1 .1 .1 .1 .0)
               (qs .1 .1 .1 .1 .1 .1 .1 .1 .1 .1 .0))
               (List._∷_
-              Row.off
-              (List._∷_
               Row.dead
+              (List._∷_
+              Row.alive
+              (List._∷_
+              Row.alive
               (List._∷_
               Row.alive
               (List._∷_
@@ -13023,28 +12257,22 @@ module _ (claims· : Claims) where
               Row.off
               (List._∷_
               Row.off
-              (List._∷_
-              Row.off
-              (List._∷_
-              Row.off
-              (List._∷_
-              Row.off
-              (List._∷_ Row.off (List._∷_ Row.off List.[]))))))))))))))))))))))));
+              (List._∷_ Row.off (List._∷_ Row.off (List._∷_ Row.off List.[])))))))))))))))))))))));
         }
 
         abbrev G29 : Row.Cx
         G29 = record {
-          locals = List._++_ g19 (List._++_ t20 t2);
+          locals = List._++_ g20 (List._++_ t21 t2);
           slots = List._∷_
               (Row.lease (κs .0) (qs .0))
               (List._∷_
-              (Row.lease (κs .1 .0) (qs .1 .0))
+              Row.off
               (List._∷_
               (Row.lease (κs .1 .1 .0) (qs .1 .1 .0))
               (List._∷_
               (Row.lease (κs .1 .1 .1 .0) (qs .1 .1 .1 .0))
               (List._∷_
-              (Row.lease (κs .1 .1 .1 .1 .0) (qs .1 .1 .1 .1 .0))
+              Row.off
               (List._∷_
               Row.off
               (List._∷_
@@ -13060,9 +12288,11 @@ module _ (claims· : Claims) where
               (κs .1 .1 .1 .1 .1 .1 .1 .1 .1 .1 .0)
               (qs .1 .1 .1 .1 .1 .1 .1 .1 .1 .1 .0))
               (List._∷_
-              Row.off
-              (List._∷_
               Row.dead
+              (List._∷_
+              Row.alive
+              (List._∷_
+              Row.alive
               (List._∷_
               Row.alive
               (List._∷_
@@ -13077,28 +12307,22 @@ module _ (claims· : Claims) where
               Row.off
               (List._∷_
               Row.off
-              (List._∷_
-              Row.off
-              (List._∷_
-              Row.off
-              (List._∷_
-              Row.off
-              (List._∷_ Row.off (List._∷_ Row.off List.[]))))))))))))))))))))))));
+              (List._∷_ Row.off (List._∷_ Row.off (List._∷_ Row.off List.[])))))))))))))))))))))));
         }
 
         abbrev G30 : Row.Cx
         G30 = record {
-          locals = List._++_ g19 (List._++_ t20 t2);
+          locals = List._++_ g20 (List._++_ t21 t2);
           slots = List._∷_
               (Row.lease (κs .0) (qs .0))
               (List._∷_
-              (Row.lease (κs .1 .0) (qs .1 .0))
+              Row.off
               (List._∷_
               (Row.lease (κs .1 .1 .0) (qs .1 .1 .0))
               (List._∷_
               (Row.lease (κs .1 .1 .1 .0) (qs .1 .1 .1 .0))
               (List._∷_
-              (Row.lease (κs .1 .1 .1 .1 .0) (qs .1 .1 .1 .1 .0))
+              Row.off
               (List._∷_
               Row.off
               (List._∷_
@@ -13116,7 +12340,9 @@ module _ (claims· : Claims) where
               (List._∷_
               Row.off
               (List._∷_
-              Row.dead
+              Row.alive
+              (List._∷_
+              Row.alive
               (List._∷_
               Row.alive
               (List._∷_
@@ -13131,28 +12357,22 @@ module _ (claims· : Claims) where
               Row.off
               (List._∷_
               Row.off
-              (List._∷_
-              Row.off
-              (List._∷_
-              Row.off
-              (List._∷_
-              Row.off
-              (List._∷_ Row.off (List._∷_ Row.off List.[]))))))))))))))))))))))));
+              (List._∷_ Row.off (List._∷_ Row.off (List._∷_ Row.off List.[])))))))))))))))))))))));
         }
 
         abbrev G31 : Row.Cx
         G31 = record {
-          locals = List._++_ g19 (List._++_ t20 t2);
+          locals = List._++_ g20 (List._++_ t21 t2);
           slots = List._∷_
               (Row.lease (κs .0) (qs .0))
               (List._∷_
-              (Row.lease (κs .1 .0) (qs .1 .0))
+              Row.off
               (List._∷_
               (Row.lease (κs .1 .1 .0) (qs .1 .1 .0))
               (List._∷_
               (Row.lease (κs .1 .1 .1 .0) (qs .1 .1 .1 .0))
               (List._∷_
-              (Row.lease (κs .1 .1 .1 .1 .0) (qs .1 .1 .1 .1 .0))
+              Row.off
               (List._∷_
               Row.off
               (List._∷_
@@ -13170,7 +12390,9 @@ module _ (claims· : Claims) where
               (List._∷_
               Row.off
               (List._∷_
-              Row.off
+              Row.dead
+              (List._∷_
+              Row.alive
               (List._∷_
               Row.alive
               (List._∷_
@@ -13185,296 +12407,220 @@ module _ (claims· : Claims) where
               Row.off
               (List._∷_
               Row.off
-              (List._∷_
-              Row.off
-              (List._∷_
-              Row.off
-              (List._∷_
-              Row.off
-              (List._∷_ Row.off (List._∷_ Row.off List.[]))))))))))))))))))))))));
+              (List._∷_ Row.off (List._∷_ Row.off (List._∷_ Row.off List.[])))))))))))))))))))))));
         }
 
         abbrev G32 : Row.Cx
         G32 = record {
-          locals = List._++_ g19 (List._++_ t20 t2);
-          slots = List._∷_
-              (Row.lease (κs .0) (qs .0))
-              (List._∷_
-              (Row.lease (κs .1 .0) (qs .1 .0))
-              (List._∷_
-              (Row.lease (κs .1 .1 .0) (qs .1 .1 .0))
-              (List._∷_
-              (Row.lease (κs .1 .1 .1 .0) (qs .1 .1 .1 .0))
-              (List._∷_
-              (Row.lease (κs .1 .1 .1 .1 .0) (qs .1 .1 .1 .1 .0))
-              (List._∷_
-              Row.off
-              (List._∷_
-              (Row.lease (κs .1 .1 .1 .1 .1 .1 .0) (qs .1 .1 .1 .1 .1 .1 .0))
-              (List._∷_
-              (Row.lease (κs .1 .1 .1 .1 .1 .1 .1 .0) (qs .1 .1 .1 .1 .1 .1 .1 .0))
-              (List._∷_
-              (Row.lease (κs .1 .1 .1 .1 .1 .1 .1 .1 .0) (qs .1 .1 .1 .1 .1 .1 .1 .1 .0))
-              (List._∷_
-              (Row.lease (κs .1 .1 .1 .1 .1 .1 .1 .1 .1 .0) (qs .1 .1 .1 .1 .1 .1 .1 .1 .1 .0))
-              (List._∷_
-              (Row.lease
-              (κs .1 .1 .1 .1 .1 .1 .1 .1 .1 .1 .0)
-              (qs .1 .1 .1 .1 .1 .1 .1 .1 .1 .1 .0))
-              (List._∷_
-              Row.off
-              (List._∷_
-              Row.off
-              (List._∷_
-              Row.dead
-              (List._∷_
-              Row.off
-              (List._∷_
-              Row.off
-              (List._∷_
-              Row.off
-              (List._∷_
-              Row.off
-              (List._∷_
-              Row.off
-              (List._∷_
-              Row.off
-              (List._∷_
-              Row.off
-              (List._∷_
-              Row.off
-              (List._∷_
-              Row.off
-              (List._∷_ Row.off (List._∷_ Row.off List.[]))))))))))))))))))))))));
-        }
-
-        abbrev G33 : Row.Cx
-        G33 = record {
-          locals = List._++_ t21 (List._++_ t1 t2);
-          slots = List._∷_
-              (Row.lease (κs .0) (qs .0))
-              (List._∷_
-              (Row.lease (κs .1 .0) (qs .1 .0))
-              (List._∷_
-              (Row.lease (κs .1 .1 .0) (qs .1 .1 .0))
-              (List._∷_
-              (Row.lease (κs .1 .1 .1 .0) (qs .1 .1 .1 .0))
-              (List._∷_
-              (Row.lease (κs .1 .1 .1 .1 .0) (qs .1 .1 .1 .1 .0))
-              (List._∷_
-              (Row.lease (κs .1 .1 .1 .1 .1 .0) (qs .1 .1 .1 .1 .1 .0))
-              (List._∷_
-              (Row.lease (κs .1 .1 .1 .1 .1 .1 .0) (qs .1 .1 .1 .1 .1 .1 .0))
-              (List._∷_
-              (Row.lease (κs .1 .1 .1 .1 .1 .1 .1 .0) (qs .1 .1 .1 .1 .1 .1 .1 .0))
-              (List._∷_
-              (Row.lease (κs .1 .1 .1 .1 .1 .1 .1 .1 .0) (qs .1 .1 .1 .1 .1 .1 .1 .1 .0))
-              (List._∷_
-              (Row.lease (κs .1 .1 .1 .1 .1 .1 .1 .1 .1 .0) (qs .1 .1 .1 .1 .1 .1 .1 .1 .1 .0))
-              (List._∷_
-              (Row.lease
-              (κs .1 .1 .1 .1 .1 .1 .1 .1 .1 .1 .0)
-              (qs .1 .1 .1 .1 .1 .1 .1 .1 .1 .1 .0))
-              (List._∷_
-              Row.off
-              (List._∷_
-              Row.off
-              (List._∷_
-              Row.dead
-              (List._∷_
-              Row.off
-              (List._∷_
-              Row.off
-              (List._∷_
-              Row.off
-              (List._∷_
-              Row.off
-              (List._∷_
-              Row.off
-              (List._∷_
-              Row.off
-              (List._∷_
-              Row.off
-              (List._∷_
-              Row.off
-              (List._∷_
-              Row.off
-              (List._∷_ Row.off (List._∷_ Row.off List.[]))))))))))))))))))))))));
-        }
-
-        abbrev G34 : Row.Cx
-        G34 = record {
-          locals = List._++_ t21 (List._++_ t1 t2);
-          slots = List._∷_
-              (Row.lease (κs .0) (qs .0))
-              (List._∷_
-              (Row.lease (κs .1 .0) (qs .1 .0))
-              (List._∷_
-              (Row.lease (κs .1 .1 .0) (qs .1 .1 .0))
-              (List._∷_
-              (Row.lease (κs .1 .1 .1 .0) (qs .1 .1 .1 .0))
-              (List._∷_
-              (Row.lease (κs .1 .1 .1 .1 .0) (qs .1 .1 .1 .1 .0))
-              (List._∷_
-              (Row.lease (κs .1 .1 .1 .1 .1 .0) (qs .1 .1 .1 .1 .1 .0))
-              (List._∷_
-              (Row.lease (κs .1 .1 .1 .1 .1 .1 .0) (qs .1 .1 .1 .1 .1 .1 .0))
-              (List._∷_
-              (Row.lease (κs .1 .1 .1 .1 .1 .1 .1 .0) (qs .1 .1 .1 .1 .1 .1 .1 .0))
-              (List._∷_
-              (Row.lease (κs .1 .1 .1 .1 .1 .1 .1 .1 .0) (qs .1 .1 .1 .1 .1 .1 .1 .1 .0))
-              (List._∷_
-              (Row.lease (κs .1 .1 .1 .1 .1 .1 .1 .1 .1 .0) (qs .1 .1 .1 .1 .1 .1 .1 .1 .1 .0))
-              (List._∷_
-              (Row.lease
-              (κs .1 .1 .1 .1 .1 .1 .1 .1 .1 .1 .0)
-              (qs .1 .1 .1 .1 .1 .1 .1 .1 .1 .1 .0))
-              (List._∷_
-              Row.off
-              (List._∷_
-              Row.off
-              (List._∷_
-              Row.dead
-              (List._∷_
-              Row.off
-              (List._∷_
-              Row.off
-              (List._∷_
-              Row.off
-              (List._∷_
-              Row.off
-              (List._∷_
-              Row.off
-              (List._∷_
-              Row.off
-              (List._∷_
-              Row.off
-              (List._∷_
-              Row.off
-              (List._∷_
-              Row.off
-              (List._∷_ Row.off (List._∷_ Row.off List.[]))))))))))))))))))))))));
-        }
-
-        abbrev G35 : Row.Cx
-        G35 = record {
-          locals = List._++_ t21 (List._++_ t1 t2);
-          slots = List._∷_
-              (Row.lease (κs .0) (qs .0))
-              (List._∷_
-              (Row.lease (κs .1 .0) (qs .1 .0))
-              (List._∷_
-              (Row.lease (κs .1 .1 .0) (qs .1 .1 .0))
-              (List._∷_
-              (Row.lease (κs .1 .1 .1 .0) (qs .1 .1 .1 .0))
-              (List._∷_
-              (Row.lease (κs .1 .1 .1 .1 .0) (qs .1 .1 .1 .1 .0))
-              (List._∷_
-              (Row.lease (κs .1 .1 .1 .1 .1 .0) (qs .1 .1 .1 .1 .1 .0))
-              (List._∷_
-              (Row.lease (κs .1 .1 .1 .1 .1 .1 .0) (qs .1 .1 .1 .1 .1 .1 .0))
-              (List._∷_
-              (Row.lease (κs .1 .1 .1 .1 .1 .1 .1 .0) (qs .1 .1 .1 .1 .1 .1 .1 .0))
-              (List._∷_
-              (Row.lease (κs .1 .1 .1 .1 .1 .1 .1 .1 .0) (qs .1 .1 .1 .1 .1 .1 .1 .1 .0))
-              (List._∷_
-              (Row.lease (κs .1 .1 .1 .1 .1 .1 .1 .1 .1 .0) (qs .1 .1 .1 .1 .1 .1 .1 .1 .1 .0))
-              (List._∷_
-              (Row.lease
-              (κs .1 .1 .1 .1 .1 .1 .1 .1 .1 .1 .0)
-              (qs .1 .1 .1 .1 .1 .1 .1 .1 .1 .1 .0))
-              (List._∷_
-              Row.off
-              (List._∷_
-              Row.off
-              (List._∷_
-              Row.off
-              (List._∷_
-              Row.off
-              (List._∷_
-              Row.off
-              (List._∷_
-              Row.off
-              (List._∷_
-              Row.off
-              (List._∷_
-              Row.off
-              (List._∷_
-              Row.off
-              (List._∷_
-              Row.off
-              (List._∷_
-              Row.off
-              (List._∷_
-              Row.off
-              (List._∷_ Row.off (List._∷_ Row.off List.[]))))))))))))))))))))))));
-        }
-
-        abbrev G36 : Row.Cx
-        G36 = record {
-          locals = List._++_ t21 (List._++_ t1 t2);
-          slots = List._∷_
-              (Row.lease (κs .0) (qs .0))
-              (List._∷_
-              (Row.lease (κs .1 .0) (qs .1 .0))
-              (List._∷_
-              (Row.lease (κs .1 .1 .0) (qs .1 .1 .0))
-              (List._∷_
-              (Row.lease (κs .1 .1 .1 .0) (qs .1 .1 .1 .0))
-              (List._∷_
-              (Row.lease (κs .1 .1 .1 .1 .0) (qs .1 .1 .1 .1 .0))
-              (List._∷_
-              (Row.lease (κs .1 .1 .1 .1 .1 .0) (qs .1 .1 .1 .1 .1 .0))
-              (List._∷_
-              (Row.lease (κs .1 .1 .1 .1 .1 .1 .0) (qs .1 .1 .1 .1 .1 .1 .0))
-              (List._∷_
-              (Row.lease (κs .1 .1 .1 .1 .1 .1 .1 .0) (qs .1 .1 .1 .1 .1 .1 .1 .0))
-              (List._∷_
-              (Row.lease (κs .1 .1 .1 .1 .1 .1 .1 .1 .0) (qs .1 .1 .1 .1 .1 .1 .1 .1 .0))
-              (List._∷_
-              (Row.lease (κs .1 .1 .1 .1 .1 .1 .1 .1 .1 .0) (qs .1 .1 .1 .1 .1 .1 .1 .1 .1 .0))
-              (List._∷_
-              (Row.lease
-              (κs .1 .1 .1 .1 .1 .1 .1 .1 .1 .1 .0)
-              (qs .1 .1 .1 .1 .1 .1 .1 .1 .1 .1 .0))
-              (List._∷_
-              Row.off
-              (List._∷_
-              Row.off
-              (List._∷_
-              Row.off
-              (List._∷_
-              Row.alive
-              (List._∷_
-              Row.off
-              (List._∷_
-              Row.off
-              (List._∷_
-              Row.off
-              (List._∷_
-              Row.off
-              (List._∷_
-              Row.off
-              (List._∷_
-              Row.off
-              (List._∷_
-              Row.off
-              (List._∷_
-              Row.off
-              (List._∷_ Row.off (List._∷_ Row.off List.[]))))))))))))))))))))))));
-        }
-
-        abbrev G37 : Row.Cx
-        G37 = record {
           locals = List._++_ g22 (List._++_ t23 t2);
           slots = List._∷_
               (Row.lease (κs .0) (qs .0))
               (List._∷_
-              (Row.lease (κs .1 .0) (qs .1 .0))
+              Row.off
               (List._∷_
               (Row.lease (κs .1 .1 .0) (qs .1 .1 .0))
               (List._∷_
+              (Row.lease (κs .1 .1 .1 .0) (qs .1 .1 .1 .0))
+              (List._∷_
+              (Row.lease (κs .1 .1 .1 .1 .0) (qs .1 .1 .1 .1 .0))
+              (List._∷_
               Row.off
+              (List._∷_
+              (Row.lease (κs .1 .1 .1 .1 .1 .1 .0) (qs .1 .1 .1 .1 .1 .1 .0))
+              (List._∷_
+              (Row.lease (κs .1 .1 .1 .1 .1 .1 .1 .0) (qs .1 .1 .1 .1 .1 .1 .1 .0))
+              (List._∷_
+              (Row.lease (κs .1 .1 .1 .1 .1 .1 .1 .1 .0) (qs .1 .1 .1 .1 .1 .1 .1 .1 .0))
+              (List._∷_
+              (Row.lease (κs .1 .1 .1 .1 .1 .1 .1 .1 .1 .0) (qs .1 .1 .1 .1 .1 .1 .1 .1 .1 .0))
+              (List._∷_
+              (Row.lease
+              (κs .1 .1 .1 .1 .1 .1 .1 .1 .1 .1 .0)
+              (qs .1 .1 .1 .1 .1 .1 .1 .1 .1 .1 .0))
+              (List._∷_
+              Row.off
+              (List._∷_
+              Row.dead
+              (List._∷_
+              Row.alive
+              (List._∷_
+              Row.alive
+              (List._∷_
+              Row.off
+              (List._∷_
+              Row.off
+              (List._∷_
+              Row.off
+              (List._∷_
+              Row.off
+              (List._∷_
+              Row.off
+              (List._∷_
+              Row.off
+              (List._∷_ Row.off (List._∷_ Row.off (List._∷_ Row.off List.[])))))))))))))))))))))));
+        }
+
+        abbrev G33 : Row.Cx
+        G33 = record {
+          locals = List._++_ g22 (List._++_ t23 t2);
+          slots = List._∷_
+              (Row.lease (κs .0) (qs .0))
+              (List._∷_
+              Row.off
+              (List._∷_
+              (Row.lease (κs .1 .1 .0) (qs .1 .1 .0))
+              (List._∷_
+              (Row.lease (κs .1 .1 .1 .0) (qs .1 .1 .1 .0))
+              (List._∷_
+              (Row.lease (κs .1 .1 .1 .1 .0) (qs .1 .1 .1 .1 .0))
+              (List._∷_
+              Row.off
+              (List._∷_
+              (Row.lease (κs .1 .1 .1 .1 .1 .1 .0) (qs .1 .1 .1 .1 .1 .1 .0))
+              (List._∷_
+              (Row.lease (κs .1 .1 .1 .1 .1 .1 .1 .0) (qs .1 .1 .1 .1 .1 .1 .1 .0))
+              (List._∷_
+              (Row.lease (κs .1 .1 .1 .1 .1 .1 .1 .1 .0) (qs .1 .1 .1 .1 .1 .1 .1 .1 .0))
+              (List._∷_
+              (Row.lease (κs .1 .1 .1 .1 .1 .1 .1 .1 .1 .0) (qs .1 .1 .1 .1 .1 .1 .1 .1 .1 .0))
+              (List._∷_
+              (Row.lease
+              (κs .1 .1 .1 .1 .1 .1 .1 .1 .1 .1 .0)
+              (qs .1 .1 .1 .1 .1 .1 .1 .1 .1 .1 .0))
+              (List._∷_
+              Row.off
+              (List._∷_
+              Row.dead
+              (List._∷_
+              Row.alive
+              (List._∷_
+              Row.alive
+              (List._∷_
+              Row.off
+              (List._∷_
+              Row.off
+              (List._∷_
+              Row.off
+              (List._∷_
+              Row.off
+              (List._∷_
+              Row.off
+              (List._∷_
+              Row.off
+              (List._∷_ Row.off (List._∷_ Row.off (List._∷_ Row.off List.[])))))))))))))))))))))));
+        }
+
+        abbrev G34 : Row.Cx
+        G34 = record {
+          locals = List._++_ g22 (List._++_ t23 t2);
+          slots = List._∷_
+              (Row.lease (κs .0) (qs .0))
+              (List._∷_
+              Row.off
+              (List._∷_
+              (Row.lease (κs .1 .1 .0) (qs .1 .1 .0))
+              (List._∷_
+              (Row.lease (κs .1 .1 .1 .0) (qs .1 .1 .1 .0))
+              (List._∷_
+              (Row.lease (κs .1 .1 .1 .1 .0) (qs .1 .1 .1 .1 .0))
+              (List._∷_
+              Row.off
+              (List._∷_
+              (Row.lease (κs .1 .1 .1 .1 .1 .1 .0) (qs .1 .1 .1 .1 .1 .1 .0))
+              (List._∷_
+              (Row.lease (κs .1 .1 .1 .1 .1 .1 .1 .0) (qs .1 .1 .1 .1 .1 .1 .1 .0))
+              (List._∷_
+              (Row.lease (κs .1 .1 .1 .1 .1 .1 .1 .1 .0) (qs .1 .1 .1 .1 .1 .1 .1 .1 .0))
+              (List._∷_
+              (Row.lease (κs .1 .1 .1 .1 .1 .1 .1 .1 .1 .0) (qs .1 .1 .1 .1 .1 .1 .1 .1 .1 .0))
+              (List._∷_
+              (Row.lease
+              (κs .1 .1 .1 .1 .1 .1 .1 .1 .1 .1 .0)
+              (qs .1 .1 .1 .1 .1 .1 .1 .1 .1 .1 .0))
+              (List._∷_
+              Row.off
+              (List._∷_
+              Row.off
+              (List._∷_
+              Row.alive
+              (List._∷_
+              Row.alive
+              (List._∷_
+              Row.off
+              (List._∷_
+              Row.off
+              (List._∷_
+              Row.off
+              (List._∷_
+              Row.off
+              (List._∷_
+              Row.off
+              (List._∷_
+              Row.off
+              (List._∷_ Row.off (List._∷_ Row.off (List._∷_ Row.off List.[])))))))))))))))))))))));
+        }
+
+        abbrev G35 : Row.Cx
+        G35 = record {
+          locals = List._++_ g22 (List._++_ t23 t2);
+          slots = List._∷_
+              (Row.lease (κs .0) (qs .0))
+              (List._∷_
+              Row.off
+              (List._∷_
+              (Row.lease (κs .1 .1 .0) (qs .1 .1 .0))
+              (List._∷_
+              (Row.lease (κs .1 .1 .1 .0) (qs .1 .1 .1 .0))
+              (List._∷_
+              (Row.lease (κs .1 .1 .1 .1 .0) (qs .1 .1 .1 .1 .0))
+              (List._∷_
+              Row.off
+              (List._∷_
+              (Row.lease (κs .1 .1 .1 .1 .1 .1 .0) (qs .1 .1 .1 .1 .1 .1 .0))
+              (List._∷_
+              (Row.lease (κs .1 .1 .1 .1 .1 .1 .1 .0) (qs .1 .1 .1 .1 .1 .1 .1 .0))
+              (List._∷_
+              (Row.lease (κs .1 .1 .1 .1 .1 .1 .1 .1 .0) (qs .1 .1 .1 .1 .1 .1 .1 .1 .0))
+              (List._∷_
+              (Row.lease (κs .1 .1 .1 .1 .1 .1 .1 .1 .1 .0) (qs .1 .1 .1 .1 .1 .1 .1 .1 .1 .0))
+              (List._∷_
+              (Row.lease
+              (κs .1 .1 .1 .1 .1 .1 .1 .1 .1 .1 .0)
+              (qs .1 .1 .1 .1 .1 .1 .1 .1 .1 .1 .0))
+              (List._∷_
+              Row.off
+              (List._∷_
+              Row.off
+              (List._∷_
+              Row.dead
+              (List._∷_
+              Row.alive
+              (List._∷_
+              Row.off
+              (List._∷_
+              Row.off
+              (List._∷_
+              Row.off
+              (List._∷_
+              Row.off
+              (List._∷_
+              Row.off
+              (List._∷_
+              Row.off
+              (List._∷_ Row.off (List._∷_ Row.off (List._∷_ Row.off List.[])))))))))))))))))))))));
+        }
+
+        abbrev G36 : Row.Cx
+        G36 = record {
+          locals = List._++_ g24 (List._++_ t25 t2);
+          slots = List._∷_
+              (Row.lease (κs .0) (qs .0))
+              (List._∷_
+              Row.off
+              (List._∷_
+              (Row.lease (κs .1 .1 .0) (qs .1 .1 .0))
+              (List._∷_
+              (Row.lease (κs .1 .1 .1 .0) (qs .1 .1 .1 .0))
               (List._∷_
               (Row.lease (κs .1 .1 .1 .1 .0) (qs .1 .1 .1 .1 .0))
               (List._∷_
@@ -13496,7 +12642,7 @@ module _ (claims· : Claims) where
               (List._∷_
               Row.off
               (List._∷_
-              Row.off
+              Row.dead
               (List._∷_
               Row.alive
               (List._∷_
@@ -13511,24 +12657,70 @@ module _ (claims· : Claims) where
               Row.off
               (List._∷_
               Row.off
+              (List._∷_ Row.off (List._∷_ Row.off (List._∷_ Row.off List.[])))))))))))))))))))))));
+        }
+
+        abbrev G37 : Row.Cx
+        G37 = record {
+          locals = List._++_ g24 (List._++_ t25 t2);
+          slots = List._∷_
+              (Row.lease (κs .0) (qs .0))
+              (List._∷_
+              Row.off
+              (List._∷_
+              (Row.lease (κs .1 .1 .0) (qs .1 .1 .0))
+              (List._∷_
+              (Row.lease (κs .1 .1 .1 .0) (qs .1 .1 .1 .0))
+              (List._∷_
+              (Row.lease (κs .1 .1 .1 .1 .0) (qs .1 .1 .1 .1 .0))
+              (List._∷_
+              (Row.lease (κs .1 .1 .1 .1 .1 .0) (qs .1 .1 .1 .1 .1 .0))
+              (List._∷_
+              (Row.lease (κs .1 .1 .1 .1 .1 .1 .0) (qs .1 .1 .1 .1 .1 .1 .0))
+              (List._∷_
+              (Row.lease (κs .1 .1 .1 .1 .1 .1 .1 .0) (qs .1 .1 .1 .1 .1 .1 .1 .0))
+              (List._∷_
+              (Row.lease (κs .1 .1 .1 .1 .1 .1 .1 .1 .0) (qs .1 .1 .1 .1 .1 .1 .1 .1 .0))
+              (List._∷_
+              (Row.lease (κs .1 .1 .1 .1 .1 .1 .1 .1 .1 .0) (qs .1 .1 .1 .1 .1 .1 .1 .1 .1 .0))
+              (List._∷_
+              (Row.lease
+              (κs .1 .1 .1 .1 .1 .1 .1 .1 .1 .1 .0)
+              (qs .1 .1 .1 .1 .1 .1 .1 .1 .1 .1 .0))
               (List._∷_
               Row.off
               (List._∷_
               Row.off
-              (List._∷_ Row.off (List._∷_ Row.off List.[]))))))))))))))))))))))));
+              (List._∷_
+              Row.dead
+              (List._∷_
+              Row.alive
+              (List._∷_
+              Row.off
+              (List._∷_
+              Row.off
+              (List._∷_
+              Row.off
+              (List._∷_
+              Row.off
+              (List._∷_
+              Row.off
+              (List._∷_
+              Row.off
+              (List._∷_ Row.off (List._∷_ Row.off (List._∷_ Row.off List.[])))))))))))))))))))))));
         }
 
         abbrev G38 : Row.Cx
         G38 = record {
-          locals = List._++_ g22 (List._++_ t24 t2);
+          locals = List._++_ g24 (List._++_ t25 t2);
           slots = List._∷_
               (Row.lease (κs .0) (qs .0))
               (List._∷_
-              (Row.lease (κs .1 .0) (qs .1 .0))
+              Row.off
               (List._∷_
               (Row.lease (κs .1 .1 .0) (qs .1 .1 .0))
               (List._∷_
-              Row.off
+              (Row.lease (κs .1 .1 .1 .0) (qs .1 .1 .1 .0))
               (List._∷_
               (Row.lease (κs .1 .1 .1 .1 .0) (qs .1 .1 .1 .1 .0))
               (List._∷_
@@ -13565,24 +12757,20 @@ module _ (claims· : Claims) where
               Row.off
               (List._∷_
               Row.off
-              (List._∷_
-              Row.off
-              (List._∷_
-              Row.off
-              (List._∷_ Row.off (List._∷_ Row.off List.[]))))))))))))))))))))))));
+              (List._∷_ Row.off (List._∷_ Row.off (List._∷_ Row.off List.[])))))))))))))))))))))));
         }
 
         abbrev G39 : Row.Cx
         G39 = record {
-          locals = List._++_ g22 (List._++_ t24 t2);
+          locals = List._++_ g24 (List._++_ t25 t2);
           slots = List._∷_
               (Row.lease (κs .0) (qs .0))
               (List._∷_
-              (Row.lease (κs .1 .0) (qs .1 .0))
+              Row.off
               (List._∷_
               (Row.lease (κs .1 .1 .0) (qs .1 .1 .0))
               (List._∷_
-              Row.off
+              (Row.lease (κs .1 .1 .1 .0) (qs .1 .1 .1 .0))
               (List._∷_
               (Row.lease (κs .1 .1 .1 .1 .0) (qs .1 .1 .1 .1 .0))
               (List._∷_
@@ -13606,9 +12794,7 @@ module _ (claims· : Claims) where
               (List._∷_
               Row.off
               (List._∷_
-              Row.alive
-              (List._∷_
-              Row.alive
+              Row.dead
               (List._∷_
               Row.off
               (List._∷_
@@ -13621,22 +12807,20 @@ module _ (claims· : Claims) where
               Row.off
               (List._∷_
               Row.off
-              (List._∷_
-              Row.off
-              (List._∷_ Row.off (List._∷_ Row.off List.[]))))))))))))))))))))))));
+              (List._∷_ Row.off (List._∷_ Row.off (List._∷_ Row.off List.[])))))))))))))))))))))));
         }
 
         abbrev G40 : Row.Cx
         G40 = record {
-          locals = List._++_ g25 (List._++_ t26 t2);
+          locals = List._++_ t26 (List._++_ t1 t2);
           slots = List._∷_
               (Row.lease (κs .0) (qs .0))
               (List._∷_
-              Row.off
+              (Row.lease (κs .1 .0) (qs .1 .0))
               (List._∷_
               (Row.lease (κs .1 .1 .0) (qs .1 .1 .0))
               (List._∷_
-              Row.off
+              (Row.lease (κs .1 .1 .1 .0) (qs .1 .1 .1 .0))
               (List._∷_
               (Row.lease (κs .1 .1 .1 .1 .0) (qs .1 .1 .1 .1 .0))
               (List._∷_
@@ -13660,9 +12844,7 @@ module _ (claims· : Claims) where
               (List._∷_
               Row.off
               (List._∷_
-              Row.alive
-              (List._∷_
-              Row.alive
+              Row.dead
               (List._∷_
               Row.off
               (List._∷_
@@ -13675,22 +12857,20 @@ module _ (claims· : Claims) where
               Row.off
               (List._∷_
               Row.off
-              (List._∷_
-              Row.off
-              (List._∷_ Row.off (List._∷_ Row.off List.[]))))))))))))))))))))))));
+              (List._∷_ Row.off (List._∷_ Row.off (List._∷_ Row.off List.[])))))))))))))))))))))));
         }
 
         abbrev G41 : Row.Cx
         G41 = record {
-          locals = List._++_ g25 (List._++_ t27 t2);
+          locals = List._++_ t26 (List._++_ t1 t2);
           slots = List._∷_
               (Row.lease (κs .0) (qs .0))
               (List._∷_
-              Row.off
+              (Row.lease (κs .1 .0) (qs .1 .0))
               (List._∷_
               (Row.lease (κs .1 .1 .0) (qs .1 .1 .0))
               (List._∷_
-              Row.off
+              (Row.lease (κs .1 .1 .1 .0) (qs .1 .1 .1 .0))
               (List._∷_
               (Row.lease (κs .1 .1 .1 .1 .0) (qs .1 .1 .1 .1 .0))
               (List._∷_
@@ -13714,10 +12894,6 @@ module _ (claims· : Claims) where
               (List._∷_
               Row.off
               (List._∷_
-              Row.alive
-              (List._∷_
-              Row.alive
-              (List._∷_
               Row.off
               (List._∷_
               Row.off
@@ -13731,20 +12907,20 @@ module _ (claims· : Claims) where
               Row.off
               (List._∷_
               Row.off
-              (List._∷_ Row.off (List._∷_ Row.off List.[]))))))))))))))))))))))));
+              (List._∷_ Row.off (List._∷_ Row.off (List._∷_ Row.off List.[])))))))))))))))))))))));
         }
 
         abbrev G42 : Row.Cx
         G42 = record {
-          locals = List._++_ g25 (List._++_ t28 t2);
+          locals = List._++_ t26 (List._++_ t1 t2);
           slots = List._∷_
               (Row.lease (κs .0) (qs .0))
               (List._∷_
-              Row.off
+              (Row.lease (κs .1 .0) (qs .1 .0))
               (List._∷_
               (Row.lease (κs .1 .1 .0) (qs .1 .1 .0))
               (List._∷_
-              Row.off
+              (Row.lease (κs .1 .1 .1 .0) (qs .1 .1 .1 .0))
               (List._∷_
               (Row.lease (κs .1 .1 .1 .1 .0) (qs .1 .1 .1 .1 .0))
               (List._∷_
@@ -13768,10 +12944,10 @@ module _ (claims· : Claims) where
               (List._∷_
               Row.off
               (List._∷_
+              Row.off
+              (List._∷_
               Row.alive
               (List._∷_
-              Row.alive
-              (List._∷_
               Row.off
               (List._∷_
               Row.off
@@ -13781,16 +12957,12 @@ module _ (claims· : Claims) where
               Row.off
               (List._∷_
               Row.off
-              (List._∷_
-              Row.off
-              (List._∷_
-              Row.off
-              (List._∷_ Row.off (List._∷_ Row.off List.[]))))))))))))))))))))))));
+              (List._∷_ Row.off (List._∷_ Row.off (List._∷_ Row.off List.[])))))))))))))))))))))));
         }
 
         abbrev G43 : Row.Cx
         G43 = record {
-          locals = List._++_ g25 (List._++_ t29 t2);
+          locals = List._++_ g27 (List._++_ t28 t2);
           slots = List._∷_
               (Row.lease (κs .0) (qs .0))
               (List._∷_
@@ -13798,7 +12970,7 @@ module _ (claims· : Claims) where
               (List._∷_
               (Row.lease (κs .1 .1 .0) (qs .1 .1 .0))
               (List._∷_
-              Row.off
+              (Row.lease (κs .1 .1 .1 .0) (qs .1 .1 .1 .0))
               (List._∷_
               (Row.lease (κs .1 .1 .1 .1 .0) (qs .1 .1 .1 .1 .0))
               (List._∷_
@@ -13822,10 +12994,10 @@ module _ (claims· : Claims) where
               (List._∷_
               Row.off
               (List._∷_
+              Row.off
+              (List._∷_
               Row.alive
               (List._∷_
-              Row.alive
-              (List._∷_
               Row.off
               (List._∷_
               Row.off
@@ -13835,16 +13007,12 @@ module _ (claims· : Claims) where
               Row.off
               (List._∷_
               Row.off
-              (List._∷_
-              Row.off
-              (List._∷_
-              Row.off
-              (List._∷_ Row.off (List._∷_ Row.off List.[]))))))))))))))))))))))));
+              (List._∷_ Row.off (List._∷_ Row.off (List._∷_ Row.off List.[])))))))))))))))))))))));
         }
 
         abbrev G44 : Row.Cx
         G44 = record {
-          locals = List._++_ g25 (List._++_ t30 t2);
+          locals = List._++_ g27 (List._++_ t29 t2);
           slots = List._∷_
               (Row.lease (κs .0) (qs .0))
               (List._∷_
@@ -13852,7 +13020,7 @@ module _ (claims· : Claims) where
               (List._∷_
               (Row.lease (κs .1 .1 .0) (qs .1 .1 .0))
               (List._∷_
-              Row.off
+              (Row.lease (κs .1 .1 .1 .0) (qs .1 .1 .1 .0))
               (List._∷_
               (Row.lease (κs .1 .1 .1 .1 .0) (qs .1 .1 .1 .1 .0))
               (List._∷_
@@ -13876,10 +13044,10 @@ module _ (claims· : Claims) where
               (List._∷_
               Row.off
               (List._∷_
+              Row.off
+              (List._∷_
               Row.alive
               (List._∷_
-              Row.alive
-              (List._∷_
               Row.off
               (List._∷_
               Row.off
@@ -13889,16 +13057,12 @@ module _ (claims· : Claims) where
               Row.off
               (List._∷_
               Row.off
-              (List._∷_
-              Row.off
-              (List._∷_
-              Row.off
-              (List._∷_ Row.off (List._∷_ Row.off List.[]))))))))))))))))))))))));
+              (List._∷_ Row.off (List._∷_ Row.off (List._∷_ Row.off List.[])))))))))))))))))))))));
         }
 
         abbrev G45 : Row.Cx
         G45 = record {
-          locals = List._++_ g25 (List._++_ t30 t2);
+          locals = List._++_ g27 (List._++_ t29 t2);
           slots = List._∷_
               (Row.lease (κs .0) (qs .0))
               (List._∷_
@@ -13906,7 +13070,7 @@ module _ (claims· : Claims) where
               (List._∷_
               (Row.lease (κs .1 .1 .0) (qs .1 .1 .0))
               (List._∷_
-              Row.off
+              (Row.lease (κs .1 .1 .1 .0) (qs .1 .1 .1 .0))
               (List._∷_
               (Row.lease (κs .1 .1 .1 .1 .0) (qs .1 .1 .1 .1 .0))
               (List._∷_
@@ -13930,7 +13094,9 @@ module _ (claims· : Claims) where
               (List._∷_
               Row.off
               (List._∷_
-              Row.dead
+              Row.off
+              (List._∷_
+              Row.alive
               (List._∷_
               Row.alive
               (List._∷_
@@ -13941,18 +13107,12 @@ module _ (claims· : Claims) where
               Row.off
               (List._∷_
               Row.off
-              (List._∷_
-              Row.off
-              (List._∷_
-              Row.off
-              (List._∷_
-              Row.off
-              (List._∷_ Row.off (List._∷_ Row.off List.[]))))))))))))))))))))))));
+              (List._∷_ Row.off (List._∷_ Row.off (List._∷_ Row.off List.[])))))))))))))))))))))));
         }
 
         abbrev G46 : Row.Cx
         G46 = record {
-          locals = List._++_ g31 (List._++_ t30 t2);
+          locals = List._++_ g30 (List._++_ t31 t2);
           slots = List._∷_
               (Row.lease (κs .0) (qs .0))
               (List._∷_
@@ -13960,7 +13120,7 @@ module _ (claims· : Claims) where
               (List._∷_
               (Row.lease (κs .1 .1 .0) (qs .1 .1 .0))
               (List._∷_
-              (Row.lease (κs .1 .1 .1 .0) (qs .1 .1 .1 .0))
+              Row.off
               (List._∷_
               (Row.lease (κs .1 .1 .1 .1 .0) (qs .1 .1 .1 .1 .0))
               (List._∷_
@@ -13984,7 +13144,9 @@ module _ (claims· : Claims) where
               (List._∷_
               Row.off
               (List._∷_
-              Row.dead
+              Row.off
+              (List._∷_
+              Row.alive
               (List._∷_
               Row.alive
               (List._∷_
@@ -13995,18 +13157,12 @@ module _ (claims· : Claims) where
               Row.off
               (List._∷_
               Row.off
-              (List._∷_
-              Row.off
-              (List._∷_
-              Row.off
-              (List._∷_
-              Row.off
-              (List._∷_ Row.off (List._∷_ Row.off List.[]))))))))))))))))))))))));
+              (List._∷_ Row.off (List._∷_ Row.off (List._∷_ Row.off List.[])))))))))))))))))))))));
         }
 
         abbrev G47 : Row.Cx
         G47 = record {
-          locals = List._++_ g31 (List._++_ t30 t2);
+          locals = List._++_ g30 (List._++_ t32 t2);
           slots = List._∷_
               (Row.lease (κs .0) (qs .0))
               (List._∷_
@@ -14014,7 +13170,7 @@ module _ (claims· : Claims) where
               (List._∷_
               (Row.lease (κs .1 .1 .0) (qs .1 .1 .0))
               (List._∷_
-              (Row.lease (κs .1 .1 .1 .0) (qs .1 .1 .1 .0))
+              Row.off
               (List._∷_
               (Row.lease (κs .1 .1 .1 .1 .0) (qs .1 .1 .1 .1 .0))
               (List._∷_
@@ -14042,7 +13198,7 @@ module _ (claims· : Claims) where
               (List._∷_
               Row.alive
               (List._∷_
-              Row.off
+              Row.alive
               (List._∷_
               Row.off
               (List._∷_
@@ -14051,16 +13207,12 @@ module _ (claims· : Claims) where
               Row.off
               (List._∷_
               Row.off
-              (List._∷_
-              Row.off
-              (List._∷_
-              Row.off
-              (List._∷_ Row.off (List._∷_ Row.off List.[]))))))))))))))))))))))));
+              (List._∷_ Row.off (List._∷_ Row.off (List._∷_ Row.off List.[])))))))))))))))))))))));
         }
 
         abbrev G48 : Row.Cx
         G48 = record {
-          locals = List._++_ g31 (List._++_ t30 t2);
+          locals = List._++_ g30 (List._++_ t32 t2);
           slots = List._∷_
               (Row.lease (κs .0) (qs .0))
               (List._∷_
@@ -14068,7 +13220,7 @@ module _ (claims· : Claims) where
               (List._∷_
               (Row.lease (κs .1 .1 .0) (qs .1 .1 .0))
               (List._∷_
-              (Row.lease (κs .1 .1 .1 .0) (qs .1 .1 .1 .0))
+              Row.off
               (List._∷_
               (Row.lease (κs .1 .1 .1 .1 .0) (qs .1 .1 .1 .1 .0))
               (List._∷_
@@ -14094,37 +13246,33 @@ module _ (claims· : Claims) where
               (List._∷_
               Row.off
               (List._∷_
-              Row.dead
+              Row.alive
+              (List._∷_
+              Row.alive
+              (List._∷_
+              Row.alive
               (List._∷_
               Row.off
               (List._∷_
               Row.off
               (List._∷_
               Row.off
-              (List._∷_
-              Row.off
-              (List._∷_
-              Row.off
-              (List._∷_
-              Row.off
-              (List._∷_
-              Row.off
-              (List._∷_ Row.off (List._∷_ Row.off List.[]))))))))))))))))))))))));
+              (List._∷_ Row.off (List._∷_ Row.off (List._∷_ Row.off List.[])))))))))))))))))))))));
         }
 
         abbrev G49 : Row.Cx
         G49 = record {
-          locals = List._++_ t21 (List._++_ t1 t2);
+          locals = List._++_ g33 (List._++_ t34 t2);
           slots = List._∷_
               (Row.lease (κs .0) (qs .0))
               (List._∷_
-              (Row.lease (κs .1 .0) (qs .1 .0))
+              Row.off
               (List._∷_
               (Row.lease (κs .1 .1 .0) (qs .1 .1 .0))
               (List._∷_
-              (Row.lease (κs .1 .1 .1 .0) (qs .1 .1 .1 .0))
+              Row.off
               (List._∷_
-              (Row.lease (κs .1 .1 .1 .1 .0) (qs .1 .1 .1 .1 .0))
+              Row.off
               (List._∷_
               (Row.lease (κs .1 .1 .1 .1 .1 .0) (qs .1 .1 .1 .1 .1 .0))
               (List._∷_
@@ -14148,37 +13296,33 @@ module _ (claims· : Claims) where
               (List._∷_
               Row.off
               (List._∷_
-              Row.dead
+              Row.alive
+              (List._∷_
+              Row.alive
+              (List._∷_
+              Row.alive
               (List._∷_
               Row.off
               (List._∷_
               Row.off
               (List._∷_
               Row.off
-              (List._∷_
-              Row.off
-              (List._∷_
-              Row.off
-              (List._∷_
-              Row.off
-              (List._∷_
-              Row.off
-              (List._∷_ Row.off (List._∷_ Row.off List.[]))))))))))))))))))))))));
+              (List._∷_ Row.off (List._∷_ Row.off (List._∷_ Row.off List.[])))))))))))))))))))))));
         }
 
         abbrev G50 : Row.Cx
         G50 = record {
-          locals = List._++_ t21 (List._++_ t1 t2);
+          locals = List._++_ g33 (List._++_ t35 t2);
           slots = List._∷_
               (Row.lease (κs .0) (qs .0))
               (List._∷_
-              (Row.lease (κs .1 .0) (qs .1 .0))
+              Row.off
               (List._∷_
               (Row.lease (κs .1 .1 .0) (qs .1 .1 .0))
               (List._∷_
-              (Row.lease (κs .1 .1 .1 .0) (qs .1 .1 .1 .0))
+              Row.off
               (List._∷_
-              (Row.lease (κs .1 .1 .1 .1 .0) (qs .1 .1 .1 .1 .0))
+              Row.off
               (List._∷_
               (Row.lease (κs .1 .1 .1 .1 .1 .0) (qs .1 .1 .1 .1 .1 .0))
               (List._∷_
@@ -14202,37 +13346,33 @@ module _ (claims· : Claims) where
               (List._∷_
               Row.off
               (List._∷_
-              Row.off
+              Row.alive
+              (List._∷_
+              Row.alive
+              (List._∷_
+              Row.alive
               (List._∷_
               Row.off
               (List._∷_
               Row.off
               (List._∷_
               Row.off
-              (List._∷_
-              Row.off
-              (List._∷_
-              Row.off
-              (List._∷_
-              Row.off
-              (List._∷_
-              Row.off
-              (List._∷_ Row.off (List._∷_ Row.off List.[]))))))))))))))))))))))));
+              (List._∷_ Row.off (List._∷_ Row.off (List._∷_ Row.off List.[])))))))))))))))))))))));
         }
 
         abbrev G51 : Row.Cx
         G51 = record {
-          locals = List._++_ t21 (List._++_ t1 t2);
+          locals = List._++_ g33 (List._++_ t35 t2);
           slots = List._∷_
               (Row.lease (κs .0) (qs .0))
               (List._∷_
-              (Row.lease (κs .1 .0) (qs .1 .0))
+              Row.off
               (List._∷_
               (Row.lease (κs .1 .1 .0) (qs .1 .1 .0))
               (List._∷_
-              (Row.lease (κs .1 .1 .1 .0) (qs .1 .1 .1 .0))
+              Row.off
               (List._∷_
-              (Row.lease (κs .1 .1 .1 .1 .0) (qs .1 .1 .1 .1 .0))
+              Row.off
               (List._∷_
               (Row.lease (κs .1 .1 .1 .1 .1 .0) (qs .1 .1 .1 .1 .1 .0))
               (List._∷_
@@ -14256,37 +13396,33 @@ module _ (claims· : Claims) where
               (List._∷_
               Row.off
               (List._∷_
-              Row.off
+              Row.alive
+              (List._∷_
+              Row.alive
+              (List._∷_
+              Row.alive
               (List._∷_
               Row.alive
               (List._∷_
               Row.off
               (List._∷_
               Row.off
-              (List._∷_
-              Row.off
-              (List._∷_
-              Row.off
-              (List._∷_
-              Row.off
-              (List._∷_
-              Row.off
-              (List._∷_ Row.off (List._∷_ Row.off List.[]))))))))))))))))))))))));
+              (List._∷_ Row.off (List._∷_ Row.off (List._∷_ Row.off List.[])))))))))))))))))))))));
         }
 
         abbrev G52 : Row.Cx
         G52 = record {
-          locals = List._++_ g32 (List._++_ t33 t2);
+          locals = List._++_ g36 (List._++_ t37 t2);
           slots = List._∷_
               (Row.lease (κs .0) (qs .0))
               (List._∷_
               Row.off
               (List._∷_
-              (Row.lease (κs .1 .1 .0) (qs .1 .1 .0))
+              Row.off
               (List._∷_
-              (Row.lease (κs .1 .1 .1 .0) (qs .1 .1 .1 .0))
+              Row.off
               (List._∷_
-              (Row.lease (κs .1 .1 .1 .1 .0) (qs .1 .1 .1 .1 .0))
+              Row.off
               (List._∷_
               (Row.lease (κs .1 .1 .1 .1 .1 .0) (qs .1 .1 .1 .1 .1 .0))
               (List._∷_
@@ -14310,37 +13446,33 @@ module _ (claims· : Claims) where
               (List._∷_
               Row.off
               (List._∷_
-              Row.off
+              Row.alive
+              (List._∷_
+              Row.alive
+              (List._∷_
+              Row.alive
               (List._∷_
               Row.alive
               (List._∷_
               Row.off
               (List._∷_
               Row.off
-              (List._∷_
-              Row.off
-              (List._∷_
-              Row.off
-              (List._∷_
-              Row.off
-              (List._∷_
-              Row.off
-              (List._∷_ Row.off (List._∷_ Row.off List.[]))))))))))))))))))))))));
+              (List._∷_ Row.off (List._∷_ Row.off (List._∷_ Row.off List.[])))))))))))))))))))))));
         }
 
         abbrev G53 : Row.Cx
         G53 = record {
-          locals = List._++_ g32 (List._++_ t34 t2);
+          locals = List._++_ g36 (List._++_ t38 t2);
           slots = List._∷_
               (Row.lease (κs .0) (qs .0))
               (List._∷_
               Row.off
               (List._∷_
-              (Row.lease (κs .1 .1 .0) (qs .1 .1 .0))
+              Row.off
               (List._∷_
-              (Row.lease (κs .1 .1 .1 .0) (qs .1 .1 .1 .0))
+              Row.off
               (List._∷_
-              (Row.lease (κs .1 .1 .1 .1 .0) (qs .1 .1 .1 .1 .0))
+              Row.off
               (List._∷_
               (Row.lease (κs .1 .1 .1 .1 .1 .0) (qs .1 .1 .1 .1 .1 .0))
               (List._∷_
@@ -14364,37 +13496,33 @@ module _ (claims· : Claims) where
               (List._∷_
               Row.off
               (List._∷_
-              Row.off
+              Row.alive
+              (List._∷_
+              Row.alive
+              (List._∷_
+              Row.alive
               (List._∷_
               Row.alive
               (List._∷_
               Row.off
               (List._∷_
               Row.off
-              (List._∷_
-              Row.off
-              (List._∷_
-              Row.off
-              (List._∷_
-              Row.off
-              (List._∷_
-              Row.off
-              (List._∷_ Row.off (List._∷_ Row.off List.[]))))))))))))))))))))))));
+              (List._∷_ Row.off (List._∷_ Row.off (List._∷_ Row.off List.[])))))))))))))))))))))));
         }
 
         abbrev G54 : Row.Cx
         G54 = record {
-          locals = List._++_ g32 (List._++_ t34 t2);
+          locals = List._++_ g36 (List._++_ t38 t2);
           slots = List._∷_
               (Row.lease (κs .0) (qs .0))
               (List._∷_
               Row.off
               (List._∷_
-              (Row.lease (κs .1 .1 .0) (qs .1 .1 .0))
+              Row.off
               (List._∷_
-              (Row.lease (κs .1 .1 .1 .0) (qs .1 .1 .1 .0))
+              Row.off
               (List._∷_
-              (Row.lease (κs .1 .1 .1 .1 .0) (qs .1 .1 .1 .1 .0))
+              Row.off
               (List._∷_
               (Row.lease (κs .1 .1 .1 .1 .1 .0) (qs .1 .1 .1 .1 .1 .0))
               (List._∷_
@@ -14418,41 +13546,37 @@ module _ (claims· : Claims) where
               (List._∷_
               Row.off
               (List._∷_
-              Row.off
+              Row.alive
+              (List._∷_
+              Row.alive
               (List._∷_
               Row.alive
               (List._∷_
               Row.alive
               (List._∷_
-              Row.off
+              Row.alive
               (List._∷_
               Row.off
-              (List._∷_
-              Row.off
-              (List._∷_
-              Row.off
-              (List._∷_
-              Row.off
-              (List._∷_ Row.off (List._∷_ Row.off List.[]))))))))))))))))))))))));
+              (List._∷_ Row.off (List._∷_ Row.off (List._∷_ Row.off List.[])))))))))))))))))))))));
         }
 
         abbrev G55 : Row.Cx
         G55 = record {
-          locals = List._++_ g35 (List._++_ t36 t2);
+          locals = List._++_ g39 (List._++_ t40 t2);
           slots = List._∷_
               (Row.lease (κs .0) (qs .0))
               (List._∷_
               Row.off
               (List._∷_
-              (Row.lease (κs .1 .1 .0) (qs .1 .1 .0))
+              Row.off
               (List._∷_
               Row.off
               (List._∷_
-              (Row.lease (κs .1 .1 .1 .1 .0) (qs .1 .1 .1 .1 .0))
+              Row.off
               (List._∷_
               (Row.lease (κs .1 .1 .1 .1 .1 .0) (qs .1 .1 .1 .1 .1 .0))
               (List._∷_
-              (Row.lease (κs .1 .1 .1 .1 .1 .1 .0) (qs .1 .1 .1 .1 .1 .1 .0))
+              Row.off
               (List._∷_
               (Row.lease (κs .1 .1 .1 .1 .1 .1 .1 .0) (qs .1 .1 .1 .1 .1 .1 .1 .0))
               (List._∷_
@@ -14472,41 +13596,37 @@ module _ (claims· : Claims) where
               (List._∷_
               Row.off
               (List._∷_
-              Row.off
+              Row.alive
+              (List._∷_
+              Row.alive
               (List._∷_
               Row.alive
               (List._∷_
               Row.alive
               (List._∷_
-              Row.off
+              Row.alive
               (List._∷_
               Row.off
-              (List._∷_
-              Row.off
-              (List._∷_
-              Row.off
-              (List._∷_
-              Row.off
-              (List._∷_ Row.off (List._∷_ Row.off List.[]))))))))))))))))))))))));
+              (List._∷_ Row.off (List._∷_ Row.off (List._∷_ Row.off List.[])))))))))))))))))))))));
         }
 
         abbrev G56 : Row.Cx
         G56 = record {
-          locals = List._++_ g35 (List._++_ t37 t2);
+          locals = List._++_ g39 (List._++_ t38 t41);
           slots = List._∷_
               (Row.lease (κs .0) (qs .0))
               (List._∷_
               Row.off
               (List._∷_
-              (Row.lease (κs .1 .1 .0) (qs .1 .1 .0))
+              Row.off
               (List._∷_
               Row.off
               (List._∷_
-              (Row.lease (κs .1 .1 .1 .1 .0) (qs .1 .1 .1 .1 .0))
+              Row.off
               (List._∷_
               (Row.lease (κs .1 .1 .1 .1 .1 .0) (qs .1 .1 .1 .1 .1 .0))
               (List._∷_
-              (Row.lease (κs .1 .1 .1 .1 .1 .1 .0) (qs .1 .1 .1 .1 .1 .1 .0))
+              Row.off
               (List._∷_
               (Row.lease (κs .1 .1 .1 .1 .1 .1 .1 .0) (qs .1 .1 .1 .1 .1 .1 .1 .0))
               (List._∷_
@@ -14526,41 +13646,37 @@ module _ (claims· : Claims) where
               (List._∷_
               Row.off
               (List._∷_
-              Row.off
+              Row.alive
+              (List._∷_
+              Row.alive
               (List._∷_
               Row.alive
               (List._∷_
               Row.alive
               (List._∷_
-              Row.off
+              Row.alive
               (List._∷_
               Row.off
-              (List._∷_
-              Row.off
-              (List._∷_
-              Row.off
-              (List._∷_
-              Row.off
-              (List._∷_ Row.off (List._∷_ Row.off List.[]))))))))))))))))))))))));
+              (List._∷_ Row.off (List._∷_ Row.off (List._∷_ Row.off List.[])))))))))))))))))))))));
         }
 
         abbrev G57 : Row.Cx
         G57 = record {
-          locals = List._++_ g35 (List._++_ t37 t2);
+          locals = List._++_ g39 (List._++_ t38 t41);
           slots = List._∷_
               (Row.lease (κs .0) (qs .0))
               (List._∷_
               Row.off
               (List._∷_
-              (Row.lease (κs .1 .1 .0) (qs .1 .1 .0))
+              Row.off
               (List._∷_
               Row.off
               (List._∷_
-              (Row.lease (κs .1 .1 .1 .1 .0) (qs .1 .1 .1 .1 .0))
+              Row.off
               (List._∷_
               (Row.lease (κs .1 .1 .1 .1 .1 .0) (qs .1 .1 .1 .1 .1 .0))
               (List._∷_
-              (Row.lease (κs .1 .1 .1 .1 .1 .1 .0) (qs .1 .1 .1 .1 .1 .1 .0))
+              Row.off
               (List._∷_
               (Row.lease (κs .1 .1 .1 .1 .1 .1 .1 .0) (qs .1 .1 .1 .1 .1 .1 .1 .0))
               (List._∷_
@@ -14580,33 +13696,29 @@ module _ (claims· : Claims) where
               (List._∷_
               Row.off
               (List._∷_
-              Row.off
-              (List._∷_
               Row.alive
               (List._∷_
               Row.alive
               (List._∷_
               Row.alive
               (List._∷_
-              Row.off
+              Row.alive
               (List._∷_
-              Row.off
+              Row.alive
               (List._∷_
-              Row.off
-              (List._∷_
-              Row.off
-              (List._∷_ Row.off (List._∷_ Row.off List.[]))))))))))))))))))))))));
+              Row.alive
+              (List._∷_ Row.off (List._∷_ Row.off (List._∷_ Row.off List.[])))))))))))))))))))))));
         }
 
         abbrev G58 : Row.Cx
         G58 = record {
-          locals = List._++_ g38 (List._++_ t39 t2);
+          locals = List._++_ g42 (List._++_ t38 t43);
           slots = List._∷_
               (Row.lease (κs .0) (qs .0))
               (List._∷_
               Row.off
               (List._∷_
-              (Row.lease (κs .1 .1 .0) (qs .1 .1 .0))
+              Row.off
               (List._∷_
               Row.off
               (List._∷_
@@ -14614,9 +13726,9 @@ module _ (claims· : Claims) where
               (List._∷_
               (Row.lease (κs .1 .1 .1 .1 .1 .0) (qs .1 .1 .1 .1 .1 .0))
               (List._∷_
-              (Row.lease (κs .1 .1 .1 .1 .1 .1 .0) (qs .1 .1 .1 .1 .1 .1 .0))
+              Row.off
               (List._∷_
-              (Row.lease (κs .1 .1 .1 .1 .1 .1 .1 .0) (qs .1 .1 .1 .1 .1 .1 .1 .0))
+              Row.off
               (List._∷_
               (Row.lease (κs .1 .1 .1 .1 .1 .1 .1 .1 .0) (qs .1 .1 .1 .1 .1 .1 .1 .1 .0))
               (List._∷_
@@ -14634,33 +13746,29 @@ module _ (claims· : Claims) where
               (List._∷_
               Row.off
               (List._∷_
-              Row.off
-              (List._∷_
               Row.alive
               (List._∷_
               Row.alive
               (List._∷_
               Row.alive
               (List._∷_
-              Row.off
+              Row.alive
               (List._∷_
-              Row.off
+              Row.alive
               (List._∷_
-              Row.off
-              (List._∷_
-              Row.off
-              (List._∷_ Row.off (List._∷_ Row.off List.[]))))))))))))))))))))))));
+              Row.alive
+              (List._∷_ Row.off (List._∷_ Row.off (List._∷_ Row.off List.[])))))))))))))))))))))));
         }
 
         abbrev G59 : Row.Cx
         G59 = record {
-          locals = List._++_ g38 (List._++_ t40 t2);
+          locals = List._++_ g42 (List._++_ t38 t44);
           slots = List._∷_
               (Row.lease (κs .0) (qs .0))
               (List._∷_
               Row.off
               (List._∷_
-              (Row.lease (κs .1 .1 .0) (qs .1 .1 .0))
+              Row.off
               (List._∷_
               Row.off
               (List._∷_
@@ -14668,9 +13776,9 @@ module _ (claims· : Claims) where
               (List._∷_
               (Row.lease (κs .1 .1 .1 .1 .1 .0) (qs .1 .1 .1 .1 .1 .0))
               (List._∷_
-              (Row.lease (κs .1 .1 .1 .1 .1 .1 .0) (qs .1 .1 .1 .1 .1 .1 .0))
+              Row.off
               (List._∷_
-              (Row.lease (κs .1 .1 .1 .1 .1 .1 .1 .0) (qs .1 .1 .1 .1 .1 .1 .1 .0))
+              Row.off
               (List._∷_
               (Row.lease (κs .1 .1 .1 .1 .1 .1 .1 .1 .0) (qs .1 .1 .1 .1 .1 .1 .1 .1 .0))
               (List._∷_
@@ -14688,33 +13796,29 @@ module _ (claims· : Claims) where
               (List._∷_
               Row.off
               (List._∷_
-              Row.off
-              (List._∷_
               Row.alive
               (List._∷_
               Row.alive
               (List._∷_
               Row.alive
               (List._∷_
-              Row.off
+              Row.alive
               (List._∷_
-              Row.off
+              Row.alive
               (List._∷_
-              Row.off
-              (List._∷_
-              Row.off
-              (List._∷_ Row.off (List._∷_ Row.off List.[]))))))))))))))))))))))));
+              Row.alive
+              (List._∷_ Row.off (List._∷_ Row.off (List._∷_ Row.off List.[])))))))))))))))))))))));
         }
 
         abbrev G60 : Row.Cx
         G60 = record {
-          locals = List._++_ g38 (List._++_ t40 t2);
+          locals = List._++_ g42 (List._++_ t38 t44);
           slots = List._∷_
               (Row.lease (κs .0) (qs .0))
               (List._∷_
               Row.off
               (List._∷_
-              (Row.lease (κs .1 .1 .0) (qs .1 .1 .0))
+              Row.off
               (List._∷_
               Row.off
               (List._∷_
@@ -14722,9 +13826,9 @@ module _ (claims· : Claims) where
               (List._∷_
               (Row.lease (κs .1 .1 .1 .1 .1 .0) (qs .1 .1 .1 .1 .1 .0))
               (List._∷_
-              (Row.lease (κs .1 .1 .1 .1 .1 .1 .0) (qs .1 .1 .1 .1 .1 .1 .0))
+              Row.off
               (List._∷_
-              (Row.lease (κs .1 .1 .1 .1 .1 .1 .1 .0) (qs .1 .1 .1 .1 .1 .1 .1 .0))
+              Row.off
               (List._∷_
               (Row.lease (κs .1 .1 .1 .1 .1 .1 .1 .1 .0) (qs .1 .1 .1 .1 .1 .1 .1 .1 .0))
               (List._∷_
@@ -14742,8 +13846,6 @@ module _ (claims· : Claims) where
               (List._∷_
               Row.off
               (List._∷_
-              Row.off
-              (List._∷_
               Row.alive
               (List._∷_
               Row.alive
@@ -14752,17 +13854,17 @@ module _ (claims· : Claims) where
               (List._∷_
               Row.alive
               (List._∷_
-              Row.off
+              Row.alive
               (List._∷_
-              Row.off
+              Row.alive
               (List._∷_
-              Row.off
-              (List._∷_ Row.off (List._∷_ Row.off List.[]))))))))))))))))))))))));
+              Row.alive
+              (List._∷_ Row.off (List._∷_ Row.off List.[])))))))))))))))))))))));
         }
 
         abbrev G61 : Row.Cx
         G61 = record {
-          locals = List._++_ g41 (List._++_ t40 t42);
+          locals = List._++_ g45 (List._++_ t38 t46);
           slots = List._∷_
               (Row.lease (κs .0) (qs .0))
               (List._∷_
@@ -14776,11 +13878,11 @@ module _ (claims· : Claims) where
               (List._∷_
               (Row.lease (κs .1 .1 .1 .1 .1 .0) (qs .1 .1 .1 .1 .1 .0))
               (List._∷_
-              (Row.lease (κs .1 .1 .1 .1 .1 .1 .0) (qs .1 .1 .1 .1 .1 .1 .0))
+              Row.off
               (List._∷_
-              (Row.lease (κs .1 .1 .1 .1 .1 .1 .1 .0) (qs .1 .1 .1 .1 .1 .1 .1 .0))
+              Row.off
               (List._∷_
-              (Row.lease (κs .1 .1 .1 .1 .1 .1 .1 .1 .0) (qs .1 .1 .1 .1 .1 .1 .1 .1 .0))
+              Row.off
               (List._∷_
               (Row.lease (κs .1 .1 .1 .1 .1 .1 .1 .1 .1 .0) (qs .1 .1 .1 .1 .1 .1 .1 .1 .1 .0))
               (List._∷_
@@ -14796,8 +13898,6 @@ module _ (claims· : Claims) where
               (List._∷_
               Row.off
               (List._∷_
-              Row.off
-              (List._∷_
               Row.alive
               (List._∷_
               Row.alive
@@ -14806,17 +13906,17 @@ module _ (claims· : Claims) where
               (List._∷_
               Row.alive
               (List._∷_
-              Row.off
+              Row.alive
               (List._∷_
-              Row.off
+              Row.alive
               (List._∷_
-              Row.off
-              (List._∷_ Row.off (List._∷_ Row.off List.[]))))))))))))))))))))))));
+              Row.alive
+              (List._∷_ Row.off (List._∷_ Row.off List.[])))))))))))))))))))))));
         }
 
         abbrev G62 : Row.Cx
         G62 = record {
-          locals = List._++_ g41 (List._++_ t40 t43);
+          locals = List._++_ g45 (List._++_ t38 t47);
           slots = List._∷_
               (Row.lease (κs .0) (qs .0))
               (List._∷_
@@ -14830,11 +13930,11 @@ module _ (claims· : Claims) where
               (List._∷_
               (Row.lease (κs .1 .1 .1 .1 .1 .0) (qs .1 .1 .1 .1 .1 .0))
               (List._∷_
-              (Row.lease (κs .1 .1 .1 .1 .1 .1 .0) (qs .1 .1 .1 .1 .1 .1 .0))
+              Row.off
               (List._∷_
-              (Row.lease (κs .1 .1 .1 .1 .1 .1 .1 .0) (qs .1 .1 .1 .1 .1 .1 .1 .0))
+              Row.off
               (List._∷_
-              (Row.lease (κs .1 .1 .1 .1 .1 .1 .1 .1 .0) (qs .1 .1 .1 .1 .1 .1 .1 .1 .0))
+              Row.off
               (List._∷_
               (Row.lease (κs .1 .1 .1 .1 .1 .1 .1 .1 .1 .0) (qs .1 .1 .1 .1 .1 .1 .1 .1 .1 .0))
               (List._∷_
@@ -14850,8 +13950,6 @@ module _ (claims· : Claims) where
               (List._∷_
               Row.off
               (List._∷_
-              Row.off
-              (List._∷_
               Row.alive
               (List._∷_
               Row.alive
@@ -14860,17 +13958,17 @@ module _ (claims· : Claims) where
               (List._∷_
               Row.alive
               (List._∷_
-              Row.off
+              Row.alive
               (List._∷_
-              Row.off
+              Row.alive
               (List._∷_
-              Row.off
-              (List._∷_ Row.off (List._∷_ Row.off List.[]))))))))))))))))))))))));
+              Row.alive
+              (List._∷_ Row.off (List._∷_ Row.off List.[])))))))))))))))))))))));
         }
 
         abbrev G63 : Row.Cx
         G63 = record {
-          locals = List._++_ g41 (List._++_ t40 t43);
+          locals = List._++_ g45 (List._++_ t38 t47);
           slots = List._∷_
               (Row.lease (κs .0) (qs .0))
               (List._∷_
@@ -14881,6 +13979,1564 @@ module _ (claims· : Claims) where
               Row.off
               (List._∷_
               Row.off
+              (List._∷_
+              (Row.lease (κs .1 .1 .1 .1 .1 .0) (qs .1 .1 .1 .1 .1 .0))
+              (List._∷_
+              Row.off
+              (List._∷_
+              Row.off
+              (List._∷_
+              Row.off
+              (List._∷_
+              (Row.lease (κs .1 .1 .1 .1 .1 .1 .1 .1 .1 .0) (qs .1 .1 .1 .1 .1 .1 .1 .1 .1 .0))
+              (List._∷_
+              (Row.lease
+              (κs .1 .1 .1 .1 .1 .1 .1 .1 .1 .1 .0)
+              (qs .1 .1 .1 .1 .1 .1 .1 .1 .1 .1 .0))
+              (List._∷_
+              Row.off
+              (List._∷_
+              Row.off
+              (List._∷_
+              Row.off
+              (List._∷_
+              Row.off
+              (List._∷_
+              Row.alive
+              (List._∷_
+              Row.alive
+              (List._∷_
+              Row.alive
+              (List._∷_
+              Row.alive
+              (List._∷_
+              Row.alive
+              (List._∷_
+              Row.alive
+              (List._∷_
+              Row.alive
+              (List._∷_ Row.alive (List._∷_ Row.off List.[])))))))))))))))))))))));
+        }
+
+        abbrev G64 : Row.Cx
+        G64 = record {
+          locals = List._++_ g48 (List._++_ t38 t49);
+          slots = List._∷_
+              (Row.lease (κs .0) (qs .0))
+              (List._∷_
+              Row.off
+              (List._∷_
+              Row.off
+              (List._∷_
+              Row.off
+              (List._∷_
+              Row.off
+              (List._∷_
+              (Row.lease (κs .1 .1 .1 .1 .1 .0) (qs .1 .1 .1 .1 .1 .0))
+              (List._∷_
+              Row.off
+              (List._∷_
+              Row.off
+              (List._∷_
+              Row.off
+              (List._∷_
+              Row.off
+              (List._∷_
+              (Row.lease
+              (κs .1 .1 .1 .1 .1 .1 .1 .1 .1 .1 .0)
+              (qs .1 .1 .1 .1 .1 .1 .1 .1 .1 .1 .0))
+              (List._∷_
+              Row.off
+              (List._∷_
+              Row.off
+              (List._∷_
+              Row.off
+              (List._∷_
+              Row.off
+              (List._∷_
+              Row.alive
+              (List._∷_
+              Row.alive
+              (List._∷_
+              Row.alive
+              (List._∷_
+              Row.alive
+              (List._∷_
+              Row.alive
+              (List._∷_
+              Row.alive
+              (List._∷_
+              Row.alive
+              (List._∷_ Row.alive (List._∷_ Row.off List.[])))))))))))))))))))))));
+        }
+
+        abbrev G65 : Row.Cx
+        G65 = record {
+          locals = List._++_ g48 (List._++_ t38 t50);
+          slots = List._∷_
+              (Row.lease (κs .0) (qs .0))
+              (List._∷_
+              Row.off
+              (List._∷_
+              Row.off
+              (List._∷_
+              Row.off
+              (List._∷_
+              Row.off
+              (List._∷_
+              (Row.lease (κs .1 .1 .1 .1 .1 .0) (qs .1 .1 .1 .1 .1 .0))
+              (List._∷_
+              Row.off
+              (List._∷_
+              Row.off
+              (List._∷_
+              Row.off
+              (List._∷_
+              Row.off
+              (List._∷_
+              (Row.lease
+              (κs .1 .1 .1 .1 .1 .1 .1 .1 .1 .1 .0)
+              (qs .1 .1 .1 .1 .1 .1 .1 .1 .1 .1 .0))
+              (List._∷_
+              Row.off
+              (List._∷_
+              Row.off
+              (List._∷_
+              Row.off
+              (List._∷_
+              Row.off
+              (List._∷_
+              Row.alive
+              (List._∷_
+              Row.alive
+              (List._∷_
+              Row.alive
+              (List._∷_
+              Row.alive
+              (List._∷_
+              Row.alive
+              (List._∷_
+              Row.alive
+              (List._∷_
+              Row.alive
+              (List._∷_ Row.alive (List._∷_ Row.off List.[])))))))))))))))))))))));
+        }
+
+        abbrev G66 : Row.Cx
+        G66 = record {
+          locals = List._++_ g48 (List._++_ t38 t50);
+          slots = List._∷_
+              (Row.lease (κs .0) (qs .0))
+              (List._∷_
+              Row.off
+              (List._∷_
+              Row.off
+              (List._∷_
+              Row.off
+              (List._∷_
+              Row.off
+              (List._∷_
+              (Row.lease (κs .1 .1 .1 .1 .1 .0) (qs .1 .1 .1 .1 .1 .0))
+              (List._∷_
+              Row.off
+              (List._∷_
+              Row.off
+              (List._∷_
+              Row.off
+              (List._∷_
+              Row.off
+              (List._∷_
+              (Row.lease
+              (κs .1 .1 .1 .1 .1 .1 .1 .1 .1 .1 .0)
+              (qs .1 .1 .1 .1 .1 .1 .1 .1 .1 .1 .0))
+              (List._∷_
+              Row.off
+              (List._∷_
+              Row.off
+              (List._∷_
+              Row.off
+              (List._∷_
+              Row.off
+              (List._∷_
+              Row.alive
+              (List._∷_
+              Row.alive
+              (List._∷_
+              Row.alive
+              (List._∷_
+              Row.alive
+              (List._∷_
+              Row.alive
+              (List._∷_
+              Row.alive
+              (List._∷_
+              Row.alive
+              (List._∷_ Row.alive (List._∷_ Row.alive List.[])))))))))))))))))))))));
+        }
+
+        abbrev G67 : Row.Cx
+        G67 = record {
+          locals = List._++_ g51 (List._++_ t38 t52);
+          slots = List._∷_
+              (Row.lease (κs .0) (qs .0))
+              (List._∷_
+              Row.off
+              (List._∷_
+              Row.off
+              (List._∷_
+              Row.off
+              (List._∷_
+              Row.off
+              (List._∷_
+              (Row.lease (κs .1 .1 .1 .1 .1 .0) (qs .1 .1 .1 .1 .1 .0))
+              (List._∷_
+              Row.off
+              (List._∷_
+              Row.off
+              (List._∷_
+              Row.off
+              (List._∷_
+              Row.off
+              (List._∷_
+              Row.off
+              (List._∷_
+              Row.off
+              (List._∷_
+              Row.off
+              (List._∷_
+              Row.off
+              (List._∷_
+              Row.off
+              (List._∷_
+              Row.alive
+              (List._∷_
+              Row.alive
+              (List._∷_
+              Row.alive
+              (List._∷_
+              Row.alive
+              (List._∷_
+              Row.alive
+              (List._∷_
+              Row.alive
+              (List._∷_
+              Row.alive
+              (List._∷_ Row.alive (List._∷_ Row.alive List.[])))))))))))))))))))))));
+        }
+
+        abbrev G68 : Row.Cx
+        G68 = record {
+          locals = List._++_ g51 (List._++_ t38 t53);
+          slots = List._∷_
+              (Row.lease (κs .0) (qs .0))
+              (List._∷_
+              Row.off
+              (List._∷_
+              Row.off
+              (List._∷_
+              Row.off
+              (List._∷_
+              Row.off
+              (List._∷_
+              (Row.lease (κs .1 .1 .1 .1 .1 .0) (qs .1 .1 .1 .1 .1 .0))
+              (List._∷_
+              Row.off
+              (List._∷_
+              Row.off
+              (List._∷_
+              Row.off
+              (List._∷_
+              Row.off
+              (List._∷_
+              Row.off
+              (List._∷_
+              Row.off
+              (List._∷_
+              Row.off
+              (List._∷_
+              Row.off
+              (List._∷_
+              Row.off
+              (List._∷_
+              Row.alive
+              (List._∷_
+              Row.alive
+              (List._∷_
+              Row.alive
+              (List._∷_
+              Row.alive
+              (List._∷_
+              Row.alive
+              (List._∷_
+              Row.alive
+              (List._∷_
+              Row.alive
+              (List._∷_ Row.alive (List._∷_ Row.alive List.[])))))))))))))))))))))));
+        }
+
+        abbrev G69 : Row.Cx
+        G69 = record {
+          locals = List._++_ g54 (List._++_ t55 t56);
+          slots = List._∷_
+              (Row.lease (κs .0) (qs .0))
+              (List._∷_
+              Row.off
+              (List._∷_
+              Row.off
+              (List._∷_
+              Row.off
+              (List._∷_
+              Row.off
+              (List._∷_
+              (Row.lease (κs .1 .1 .1 .1 .1 .0) (qs .1 .1 .1 .1 .1 .0))
+              (List._∷_
+              Row.off
+              (List._∷_
+              Row.off
+              (List._∷_
+              Row.off
+              (List._∷_
+              Row.off
+              (List._∷_
+              Row.off
+              (List._∷_
+              Row.off
+              (List._∷_
+              Row.off
+              (List._∷_
+              Row.off
+              (List._∷_
+              Row.off
+              (List._∷_
+              Row.alive
+              (List._∷_
+              Row.alive
+              (List._∷_
+              Row.alive
+              (List._∷_
+              Row.alive
+              (List._∷_
+              Row.alive
+              (List._∷_
+              Row.alive
+              (List._∷_
+              Row.alive
+              (List._∷_ Row.alive (List._∷_ Row.alive List.[])))))))))))))))))))))));
+        }
+
+        abbrev G70 : Row.Cx
+        G70 = record {
+          locals = List._++_ g54 (List._++_ t57 t56);
+          slots = List._∷_
+              (Row.lease (κs .0) (qs .0))
+              (List._∷_
+              Row.off
+              (List._∷_
+              Row.off
+              (List._∷_
+              Row.off
+              (List._∷_
+              Row.off
+              (List._∷_
+              (Row.lease (κs .1 .1 .1 .1 .1 .0) (qs .1 .1 .1 .1 .1 .0))
+              (List._∷_
+              Row.off
+              (List._∷_
+              Row.off
+              (List._∷_
+              Row.off
+              (List._∷_
+              Row.off
+              (List._∷_
+              Row.off
+              (List._∷_
+              Row.off
+              (List._∷_
+              Row.off
+              (List._∷_
+              Row.off
+              (List._∷_
+              Row.off
+              (List._∷_
+              Row.alive
+              (List._∷_
+              Row.alive
+              (List._∷_
+              Row.alive
+              (List._∷_
+              Row.alive
+              (List._∷_
+              Row.alive
+              (List._∷_
+              Row.alive
+              (List._∷_
+              Row.alive
+              (List._∷_ Row.alive (List._∷_ Row.alive List.[])))))))))))))))))))))));
+        }
+
+        abbrev G71 : Row.Cx
+        G71 = record {
+          locals = List._++_ g54 (List._++_ t58 t56);
+          slots = List._∷_
+              (Row.lease (κs .0) (qs .0))
+              (List._∷_
+              Row.off
+              (List._∷_
+              Row.off
+              (List._∷_
+              Row.off
+              (List._∷_
+              Row.off
+              (List._∷_
+              (Row.lease (κs .1 .1 .1 .1 .1 .0) (qs .1 .1 .1 .1 .1 .0))
+              (List._∷_
+              Row.off
+              (List._∷_
+              Row.off
+              (List._∷_
+              Row.off
+              (List._∷_
+              Row.off
+              (List._∷_
+              Row.off
+              (List._∷_
+              Row.off
+              (List._∷_
+              Row.off
+              (List._∷_
+              Row.off
+              (List._∷_
+              Row.off
+              (List._∷_
+              Row.alive
+              (List._∷_
+              Row.alive
+              (List._∷_
+              Row.alive
+              (List._∷_
+              Row.alive
+              (List._∷_
+              Row.alive
+              (List._∷_
+              Row.alive
+              (List._∷_
+              Row.alive
+              (List._∷_ Row.alive (List._∷_ Row.alive List.[])))))))))))))))))))))));
+        }
+
+        abbrev G72 : Row.Cx
+        G72 = record {
+          locals = List._++_ g54 (List._++_ t59 t56);
+          slots = List._∷_
+              (Row.lease (κs .0) (qs .0))
+              (List._∷_
+              Row.off
+              (List._∷_
+              Row.off
+              (List._∷_
+              Row.off
+              (List._∷_
+              Row.off
+              (List._∷_
+              (Row.lease (κs .1 .1 .1 .1 .1 .0) (qs .1 .1 .1 .1 .1 .0))
+              (List._∷_
+              Row.off
+              (List._∷_
+              Row.off
+              (List._∷_
+              Row.off
+              (List._∷_
+              Row.off
+              (List._∷_
+              Row.off
+              (List._∷_
+              Row.off
+              (List._∷_
+              Row.off
+              (List._∷_
+              Row.off
+              (List._∷_
+              Row.off
+              (List._∷_
+              Row.alive
+              (List._∷_
+              Row.alive
+              (List._∷_
+              Row.alive
+              (List._∷_
+              Row.alive
+              (List._∷_
+              Row.alive
+              (List._∷_
+              Row.alive
+              (List._∷_
+              Row.alive
+              (List._∷_ Row.alive (List._∷_ Row.alive List.[])))))))))))))))))))))));
+        }
+
+        abbrev G73 : Row.Cx
+        G73 = record {
+          locals = List._++_ g60 (List._++_ t59 t56);
+          slots = List._∷_
+              (Row.lease (κs .0) (qs .0))
+              (List._∷_
+              Row.off
+              (List._∷_
+              Row.off
+              (List._∷_
+              Row.off
+              (List._∷_
+              Row.off
+              (List._∷_
+              (Row.lease (κs .1 .1 .1 .1 .1 .0) (qs .1 .1 .1 .1 .1 .0))
+              (List._∷_
+              Row.off
+              (List._∷_
+              Row.off
+              (List._∷_
+              Row.off
+              (List._∷_
+              Row.off
+              (List._∷_
+              Row.off
+              (List._∷_
+              Row.off
+              (List._∷_
+              Row.off
+              (List._∷_
+              Row.off
+              (List._∷_
+              Row.off
+              (List._∷_
+              Row.alive
+              (List._∷_
+              Row.alive
+              (List._∷_
+              Row.alive
+              (List._∷_
+              Row.alive
+              (List._∷_
+              Row.alive
+              (List._∷_
+              Row.alive
+              (List._∷_
+              Row.alive
+              (List._∷_ Row.alive (List._∷_ Row.alive List.[])))))))))))))))))))))));
+        }
+
+        abbrev G74 : Row.Cx
+        G74 = record {
+          locals = List._++_ g61 (List._++_ t59 t56);
+          slots = List._∷_
+              (Row.lease (κs .0) (qs .0))
+              (List._∷_
+              Row.off
+              (List._∷_
+              Row.off
+              (List._∷_
+              Row.off
+              (List._∷_
+              Row.off
+              (List._∷_
+              (Row.lease (κs .1 .1 .1 .1 .1 .0) (qs .1 .1 .1 .1 .1 .0))
+              (List._∷_
+              Row.off
+              (List._∷_
+              Row.off
+              (List._∷_
+              Row.off
+              (List._∷_
+              Row.off
+              (List._∷_
+              Row.off
+              (List._∷_
+              Row.off
+              (List._∷_
+              Row.off
+              (List._∷_
+              Row.off
+              (List._∷_
+              Row.off
+              (List._∷_
+              Row.alive
+              (List._∷_
+              Row.alive
+              (List._∷_
+              Row.alive
+              (List._∷_
+              Row.alive
+              (List._∷_
+              Row.alive
+              (List._∷_
+              Row.alive
+              (List._∷_
+              Row.alive
+              (List._∷_ Row.alive (List._∷_ Row.alive List.[])))))))))))))))))))))));
+        }
+
+        abbrev G75 : Row.Cx
+        G75 = record {
+          locals = List._++_ g62 (List._++_ t59 t56);
+          slots = List._∷_
+              (Row.lease (κs .0) (qs .0))
+              (List._∷_
+              Row.off
+              (List._∷_
+              Row.off
+              (List._∷_
+              Row.off
+              (List._∷_
+              Row.off
+              (List._∷_
+              (Row.lease (κs .1 .1 .1 .1 .1 .0) (qs .1 .1 .1 .1 .1 .0))
+              (List._∷_
+              Row.off
+              (List._∷_
+              Row.off
+              (List._∷_
+              Row.off
+              (List._∷_
+              Row.off
+              (List._∷_
+              Row.off
+              (List._∷_
+              Row.off
+              (List._∷_
+              Row.off
+              (List._∷_
+              Row.off
+              (List._∷_
+              Row.off
+              (List._∷_
+              Row.alive
+              (List._∷_
+              Row.alive
+              (List._∷_
+              Row.alive
+              (List._∷_
+              Row.alive
+              (List._∷_
+              Row.alive
+              (List._∷_
+              Row.alive
+              (List._∷_
+              Row.alive
+              (List._∷_ Row.alive (List._∷_ Row.alive List.[])))))))))))))))))))))));
+        }
+
+        abbrev G76 : Row.Cx
+        G76 = record {
+          locals = List._++_ g62 (List._++_ t59 t56);
+          slots = List._∷_
+              (Row.lease (κs .0) (qs .0))
+              (List._∷_
+              Row.off
+              (List._∷_
+              Row.off
+              (List._∷_
+              Row.off
+              (List._∷_
+              Row.off
+              (List._∷_
+              (Row.lease (κs .1 .1 .1 .1 .1 .0) (qs .1 .1 .1 .1 .1 .0))
+              (List._∷_
+              Row.off
+              (List._∷_
+              Row.off
+              (List._∷_
+              Row.off
+              (List._∷_
+              Row.off
+              (List._∷_
+              Row.off
+              (List._∷_
+              Row.off
+              (List._∷_
+              Row.off
+              (List._∷_
+              Row.off
+              (List._∷_
+              Row.off
+              (List._∷_
+              Row.dead
+              (List._∷_
+              Row.alive
+              (List._∷_
+              Row.alive
+              (List._∷_
+              Row.alive
+              (List._∷_
+              Row.alive
+              (List._∷_
+              Row.alive
+              (List._∷_
+              Row.alive
+              (List._∷_ Row.alive (List._∷_ Row.alive List.[])))))))))))))))))))))));
+        }
+
+        abbrev G77 : Row.Cx
+        G77 = record {
+          locals = List._++_ g63 (List._++_ t59 t56);
+          slots = List._∷_
+              (Row.lease (κs .0) (qs .0))
+              (List._∷_
+              (Row.lease (κs .1 .0) (qs .1 .0))
+              (List._∷_
+              Row.off
+              (List._∷_
+              Row.off
+              (List._∷_
+              Row.off
+              (List._∷_
+              (Row.lease (κs .1 .1 .1 .1 .1 .0) (qs .1 .1 .1 .1 .1 .0))
+              (List._∷_
+              Row.off
+              (List._∷_
+              Row.off
+              (List._∷_
+              Row.off
+              (List._∷_
+              Row.off
+              (List._∷_
+              Row.off
+              (List._∷_
+              Row.off
+              (List._∷_
+              Row.off
+              (List._∷_
+              Row.off
+              (List._∷_
+              Row.off
+              (List._∷_
+              Row.dead
+              (List._∷_
+              Row.alive
+              (List._∷_
+              Row.alive
+              (List._∷_
+              Row.alive
+              (List._∷_
+              Row.alive
+              (List._∷_
+              Row.alive
+              (List._∷_
+              Row.alive
+              (List._∷_ Row.alive (List._∷_ Row.alive List.[])))))))))))))))))))))));
+        }
+
+        abbrev G78 : Row.Cx
+        G78 = record {
+          locals = List._++_ g63 (List._++_ t59 t56);
+          slots = List._∷_
+              (Row.lease (κs .0) (qs .0))
+              (List._∷_
+              (Row.lease (κs .1 .0) (qs .1 .0))
+              (List._∷_
+              Row.off
+              (List._∷_
+              Row.off
+              (List._∷_
+              Row.off
+              (List._∷_
+              (Row.lease (κs .1 .1 .1 .1 .1 .0) (qs .1 .1 .1 .1 .1 .0))
+              (List._∷_
+              Row.off
+              (List._∷_
+              Row.off
+              (List._∷_
+              Row.off
+              (List._∷_
+              Row.off
+              (List._∷_
+              Row.off
+              (List._∷_
+              Row.off
+              (List._∷_
+              Row.off
+              (List._∷_
+              Row.off
+              (List._∷_
+              Row.off
+              (List._∷_
+              Row.off
+              (List._∷_
+              Row.alive
+              (List._∷_
+              Row.alive
+              (List._∷_
+              Row.alive
+              (List._∷_
+              Row.alive
+              (List._∷_
+              Row.alive
+              (List._∷_
+              Row.alive
+              (List._∷_ Row.alive (List._∷_ Row.alive List.[])))))))))))))))))))))));
+        }
+
+        abbrev G79 : Row.Cx
+        G79 = record {
+          locals = List._++_ g63 (List._++_ t59 t56);
+          slots = List._∷_
+              (Row.lease (κs .0) (qs .0))
+              (List._∷_
+              (Row.lease (κs .1 .0) (qs .1 .0))
+              (List._∷_
+              Row.off
+              (List._∷_
+              Row.off
+              (List._∷_
+              Row.off
+              (List._∷_
+              (Row.lease (κs .1 .1 .1 .1 .1 .0) (qs .1 .1 .1 .1 .1 .0))
+              (List._∷_
+              Row.off
+              (List._∷_
+              Row.off
+              (List._∷_
+              Row.off
+              (List._∷_
+              Row.off
+              (List._∷_
+              Row.off
+              (List._∷_
+              Row.off
+              (List._∷_
+              Row.off
+              (List._∷_
+              Row.off
+              (List._∷_
+              Row.off
+              (List._∷_
+              Row.off
+              (List._∷_
+              Row.dead
+              (List._∷_
+              Row.alive
+              (List._∷_
+              Row.alive
+              (List._∷_
+              Row.alive
+              (List._∷_
+              Row.alive
+              (List._∷_
+              Row.alive
+              (List._∷_ Row.alive (List._∷_ Row.alive List.[])))))))))))))))))))))));
+        }
+
+        abbrev G80 : Row.Cx
+        G80 = record {
+          locals = List._++_ g64 (List._++_ t59 t56);
+          slots = List._∷_
+              (Row.lease (κs .0) (qs .0))
+              (List._∷_
+              (Row.lease (κs .1 .0) (qs .1 .0))
+              (List._∷_
+              Row.off
+              (List._∷_
+              (Row.lease (κs .1 .1 .1 .0) (qs .1 .1 .1 .0))
+              (List._∷_
+              Row.off
+              (List._∷_
+              (Row.lease (κs .1 .1 .1 .1 .1 .0) (qs .1 .1 .1 .1 .1 .0))
+              (List._∷_
+              Row.off
+              (List._∷_
+              Row.off
+              (List._∷_
+              Row.off
+              (List._∷_
+              Row.off
+              (List._∷_
+              Row.off
+              (List._∷_
+              Row.off
+              (List._∷_
+              Row.off
+              (List._∷_
+              Row.off
+              (List._∷_
+              Row.off
+              (List._∷_
+              Row.off
+              (List._∷_
+              Row.dead
+              (List._∷_
+              Row.alive
+              (List._∷_
+              Row.alive
+              (List._∷_
+              Row.alive
+              (List._∷_
+              Row.alive
+              (List._∷_
+              Row.alive
+              (List._∷_ Row.alive (List._∷_ Row.alive List.[])))))))))))))))))))))));
+        }
+
+        abbrev G81 : Row.Cx
+        G81 = record {
+          locals = List._++_ g64 (List._++_ t59 t56);
+          slots = List._∷_
+              (Row.lease (κs .0) (qs .0))
+              (List._∷_
+              (Row.lease (κs .1 .0) (qs .1 .0))
+              (List._∷_
+              Row.off
+              (List._∷_
+              (Row.lease (κs .1 .1 .1 .0) (qs .1 .1 .1 .0))
+              (List._∷_
+              Row.off
+              (List._∷_
+              (Row.lease (κs .1 .1 .1 .1 .1 .0) (qs .1 .1 .1 .1 .1 .0))
+              (List._∷_
+              Row.off
+              (List._∷_
+              Row.off
+              (List._∷_
+              Row.off
+              (List._∷_
+              Row.off
+              (List._∷_
+              Row.off
+              (List._∷_
+              Row.off
+              (List._∷_
+              Row.off
+              (List._∷_
+              Row.off
+              (List._∷_
+              Row.off
+              (List._∷_
+              Row.off
+              (List._∷_
+              Row.off
+              (List._∷_
+              Row.alive
+              (List._∷_
+              Row.alive
+              (List._∷_
+              Row.alive
+              (List._∷_
+              Row.alive
+              (List._∷_
+              Row.alive
+              (List._∷_ Row.alive (List._∷_ Row.alive List.[])))))))))))))))))))))));
+        }
+
+        abbrev G82 : Row.Cx
+        G82 = record {
+          locals = List._++_ g64 (List._++_ t59 t56);
+          slots = List._∷_
+              (Row.lease (κs .0) (qs .0))
+              (List._∷_
+              (Row.lease (κs .1 .0) (qs .1 .0))
+              (List._∷_
+              Row.off
+              (List._∷_
+              (Row.lease (κs .1 .1 .1 .0) (qs .1 .1 .1 .0))
+              (List._∷_
+              Row.off
+              (List._∷_
+              (Row.lease (κs .1 .1 .1 .1 .1 .0) (qs .1 .1 .1 .1 .1 .0))
+              (List._∷_
+              Row.off
+              (List._∷_
+              Row.off
+              (List._∷_
+              Row.off
+              (List._∷_
+              Row.off
+              (List._∷_
+              Row.off
+              (List._∷_
+              Row.off
+              (List._∷_
+              Row.off
+              (List._∷_
+              Row.off
+              (List._∷_
+              Row.off
+              (List._∷_
+              Row.off
+              (List._∷_
+              Row.off
+              (List._∷_
+              Row.dead
+              (List._∷_
+              Row.alive
+              (List._∷_
+              Row.alive
+              (List._∷_
+              Row.alive
+              (List._∷_
+              Row.alive
+              (List._∷_ Row.alive (List._∷_ Row.alive List.[])))))))))))))))))))))));
+        }
+
+        abbrev G83 : Row.Cx
+        G83 = record {
+          locals = List._++_ g65 (List._++_ t59 t56);
+          slots = List._∷_
+              (Row.lease (κs .0) (qs .0))
+              (List._∷_
+              (Row.lease (κs .1 .0) (qs .1 .0))
+              (List._∷_
+              Row.off
+              (List._∷_
+              (Row.lease (κs .1 .1 .1 .0) (qs .1 .1 .1 .0))
+              (List._∷_
+              (Row.lease (κs .1 .1 .1 .1 .0) (qs .1 .1 .1 .1 .0))
+              (List._∷_
+              (Row.lease (κs .1 .1 .1 .1 .1 .0) (qs .1 .1 .1 .1 .1 .0))
+              (List._∷_
+              Row.off
+              (List._∷_
+              Row.off
+              (List._∷_
+              Row.off
+              (List._∷_
+              Row.off
+              (List._∷_
+              Row.off
+              (List._∷_
+              Row.off
+              (List._∷_
+              Row.off
+              (List._∷_
+              Row.off
+              (List._∷_
+              Row.off
+              (List._∷_
+              Row.off
+              (List._∷_
+              Row.off
+              (List._∷_
+              Row.dead
+              (List._∷_
+              Row.alive
+              (List._∷_
+              Row.alive
+              (List._∷_
+              Row.alive
+              (List._∷_
+              Row.alive
+              (List._∷_ Row.alive (List._∷_ Row.alive List.[])))))))))))))))))))))));
+        }
+
+        abbrev G84 : Row.Cx
+        G84 = record {
+          locals = List._++_ g65 (List._++_ t59 t56);
+          slots = List._∷_
+              (Row.lease (κs .0) (qs .0))
+              (List._∷_
+              (Row.lease (κs .1 .0) (qs .1 .0))
+              (List._∷_
+              Row.off
+              (List._∷_
+              (Row.lease (κs .1 .1 .1 .0) (qs .1 .1 .1 .0))
+              (List._∷_
+              (Row.lease (κs .1 .1 .1 .1 .0) (qs .1 .1 .1 .1 .0))
+              (List._∷_
+              (Row.lease (κs .1 .1 .1 .1 .1 .0) (qs .1 .1 .1 .1 .1 .0))
+              (List._∷_
+              Row.off
+              (List._∷_
+              Row.off
+              (List._∷_
+              Row.off
+              (List._∷_
+              Row.off
+              (List._∷_
+              Row.off
+              (List._∷_
+              Row.off
+              (List._∷_
+              Row.off
+              (List._∷_
+              Row.off
+              (List._∷_
+              Row.off
+              (List._∷_
+              Row.off
+              (List._∷_
+              Row.off
+              (List._∷_
+              Row.off
+              (List._∷_
+              Row.alive
+              (List._∷_
+              Row.alive
+              (List._∷_
+              Row.alive
+              (List._∷_
+              Row.alive
+              (List._∷_ Row.alive (List._∷_ Row.alive List.[])))))))))))))))))))))));
+        }
+
+        abbrev G85 : Row.Cx
+        G85 = record {
+          locals = List._++_ g65 (List._++_ t59 t56);
+          slots = List._∷_
+              (Row.lease (κs .0) (qs .0))
+              (List._∷_
+              (Row.lease (κs .1 .0) (qs .1 .0))
+              (List._∷_
+              Row.off
+              (List._∷_
+              (Row.lease (κs .1 .1 .1 .0) (qs .1 .1 .1 .0))
+              (List._∷_
+              (Row.lease (κs .1 .1 .1 .1 .0) (qs .1 .1 .1 .1 .0))
+              (List._∷_
+              (Row.lease (κs .1 .1 .1 .1 .1 .0) (qs .1 .1 .1 .1 .1 .0))
+              (List._∷_
+              Row.off
+              (List._∷_
+              Row.off
+              (List._∷_
+              Row.off
+              (List._∷_
+              Row.off
+              (List._∷_
+              Row.off
+              (List._∷_
+              Row.off
+              (List._∷_
+              Row.off
+              (List._∷_
+              Row.off
+              (List._∷_
+              Row.off
+              (List._∷_
+              Row.off
+              (List._∷_
+              Row.off
+              (List._∷_
+              Row.off
+              (List._∷_
+              Row.dead
+              (List._∷_
+              Row.alive
+              (List._∷_
+              Row.alive
+              (List._∷_
+              Row.alive
+              (List._∷_ Row.alive (List._∷_ Row.alive List.[])))))))))))))))))))))));
+        }
+
+        abbrev G86 : Row.Cx
+        G86 = record {
+          locals = List._++_ g66 (List._++_ t1 t56);
+          slots = List._∷_
+              (Row.lease (κs .0) (qs .0))
+              (List._∷_
+              (Row.lease (κs .1 .0) (qs .1 .0))
+              (List._∷_
+              (Row.lease (κs .1 .1 .0) (qs .1 .1 .0))
+              (List._∷_
+              (Row.lease (κs .1 .1 .1 .0) (qs .1 .1 .1 .0))
+              (List._∷_
+              (Row.lease (κs .1 .1 .1 .1 .0) (qs .1 .1 .1 .1 .0))
+              (List._∷_
+              (Row.lease (κs .1 .1 .1 .1 .1 .0) (qs .1 .1 .1 .1 .1 .0))
+              (List._∷_
+              Row.off
+              (List._∷_
+              Row.off
+              (List._∷_
+              Row.off
+              (List._∷_
+              Row.off
+              (List._∷_
+              Row.off
+              (List._∷_
+              Row.off
+              (List._∷_
+              Row.off
+              (List._∷_
+              Row.off
+              (List._∷_
+              Row.off
+              (List._∷_
+              Row.off
+              (List._∷_
+              Row.off
+              (List._∷_
+              Row.off
+              (List._∷_
+              Row.dead
+              (List._∷_
+              Row.alive
+              (List._∷_
+              Row.alive
+              (List._∷_
+              Row.alive
+              (List._∷_ Row.alive (List._∷_ Row.alive List.[])))))))))))))))))))))));
+        }
+
+        abbrev G87 : Row.Cx
+        G87 = record {
+          locals = List._++_ g66 (List._++_ t1 t56);
+          slots = List._∷_
+              (Row.lease (κs .0) (qs .0))
+              (List._∷_
+              (Row.lease (κs .1 .0) (qs .1 .0))
+              (List._∷_
+              (Row.lease (κs .1 .1 .0) (qs .1 .1 .0))
+              (List._∷_
+              (Row.lease (κs .1 .1 .1 .0) (qs .1 .1 .1 .0))
+              (List._∷_
+              (Row.lease (κs .1 .1 .1 .1 .0) (qs .1 .1 .1 .1 .0))
+              (List._∷_
+              (Row.lease (κs .1 .1 .1 .1 .1 .0) (qs .1 .1 .1 .1 .1 .0))
+              (List._∷_
+              Row.off
+              (List._∷_
+              Row.off
+              (List._∷_
+              Row.off
+              (List._∷_
+              Row.off
+              (List._∷_
+              Row.off
+              (List._∷_
+              Row.off
+              (List._∷_
+              Row.off
+              (List._∷_
+              Row.off
+              (List._∷_
+              Row.off
+              (List._∷_
+              Row.off
+              (List._∷_
+              Row.off
+              (List._∷_
+              Row.off
+              (List._∷_
+              Row.dead
+              (List._∷_
+              Row.alive
+              (List._∷_
+              Row.alive
+              (List._∷_
+              Row.alive
+              (List._∷_ Row.alive (List._∷_ Row.alive List.[])))))))))))))))))))))));
+        }
+
+        abbrev G88 : Row.Cx
+        G88 = record {
+          locals = List._++_ g66 (List._++_ t1 t56);
+          slots = List._∷_
+              (Row.lease (κs .0) (qs .0))
+              (List._∷_
+              (Row.lease (κs .1 .0) (qs .1 .0))
+              (List._∷_
+              (Row.lease (κs .1 .1 .0) (qs .1 .1 .0))
+              (List._∷_
+              (Row.lease (κs .1 .1 .1 .0) (qs .1 .1 .1 .0))
+              (List._∷_
+              (Row.lease (κs .1 .1 .1 .1 .0) (qs .1 .1 .1 .1 .0))
+              (List._∷_
+              (Row.lease (κs .1 .1 .1 .1 .1 .0) (qs .1 .1 .1 .1 .1 .0))
+              (List._∷_
+              Row.off
+              (List._∷_
+              Row.off
+              (List._∷_
+              Row.off
+              (List._∷_
+              Row.off
+              (List._∷_
+              Row.off
+              (List._∷_
+              Row.off
+              (List._∷_
+              Row.off
+              (List._∷_
+              Row.off
+              (List._∷_
+              Row.off
+              (List._∷_
+              Row.off
+              (List._∷_
+              Row.off
+              (List._∷_
+              Row.off
+              (List._∷_
+              Row.off
+              (List._∷_
+              Row.alive
+              (List._∷_
+              Row.alive
+              (List._∷_
+              Row.alive
+              (List._∷_ Row.alive (List._∷_ Row.alive List.[])))))))))))))))))))))));
+        }
+
+        abbrev G89 : Row.Cx
+        G89 = record {
+          locals = List._++_ g66 (List._++_ t1 t56);
+          slots = List._∷_
+              (Row.lease (κs .0) (qs .0))
+              (List._∷_
+              (Row.lease (κs .1 .0) (qs .1 .0))
+              (List._∷_
+              (Row.lease (κs .1 .1 .0) (qs .1 .1 .0))
+              (List._∷_
+              (Row.lease (κs .1 .1 .1 .0) (qs .1 .1 .1 .0))
+              (List._∷_
+              (Row.lease (κs .1 .1 .1 .1 .0) (qs .1 .1 .1 .1 .0))
+              (List._∷_
+              (Row.lease (κs .1 .1 .1 .1 .1 .0) (qs .1 .1 .1 .1 .1 .0))
+              (List._∷_
+              Row.off
+              (List._∷_
+              Row.off
+              (List._∷_
+              Row.off
+              (List._∷_
+              Row.off
+              (List._∷_
+              Row.off
+              (List._∷_
+              Row.off
+              (List._∷_
+              Row.off
+              (List._∷_
+              Row.off
+              (List._∷_
+              Row.off
+              (List._∷_
+              Row.off
+              (List._∷_
+              Row.off
+              (List._∷_
+              Row.off
+              (List._∷_
+              Row.off
+              (List._∷_
+              Row.dead
+              (List._∷_
+              Row.alive
+              (List._∷_
+              Row.alive
+              (List._∷_ Row.alive (List._∷_ Row.alive List.[])))))))))))))))))))))));
+        }
+
+        abbrev G90 : Row.Cx
+        G90 = record {
+          locals = List._++_ g67 (List._++_ t1 t68);
+          slots = List._∷_
+              (Row.lease (κs .0) (qs .0))
+              (List._∷_
+              (Row.lease (κs .1 .0) (qs .1 .0))
+              (List._∷_
+              (Row.lease (κs .1 .1 .0) (qs .1 .1 .0))
+              (List._∷_
+              (Row.lease (κs .1 .1 .1 .0) (qs .1 .1 .1 .0))
+              (List._∷_
+              (Row.lease (κs .1 .1 .1 .1 .0) (qs .1 .1 .1 .1 .0))
+              (List._∷_
+              (Row.lease (κs .1 .1 .1 .1 .1 .0) (qs .1 .1 .1 .1 .1 .0))
+              (List._∷_
+              (Row.lease (κs .1 .1 .1 .1 .1 .1 .0) (qs .1 .1 .1 .1 .1 .1 .0))
+              (List._∷_
+              Row.off
+              (List._∷_
+              Row.off
+              (List._∷_
+              Row.off
+              (List._∷_
+              Row.off
+              (List._∷_
+              Row.off
+              (List._∷_
+              Row.off
+              (List._∷_
+              Row.off
+              (List._∷_
+              Row.off
+              (List._∷_
+              Row.off
+              (List._∷_
+              Row.off
+              (List._∷_
+              Row.off
+              (List._∷_
+              Row.off
+              (List._∷_
+              Row.dead
+              (List._∷_
+              Row.alive
+              (List._∷_
+              Row.alive
+              (List._∷_ Row.alive (List._∷_ Row.alive List.[])))))))))))))))))))))));
+        }
+
+        abbrev G91 : Row.Cx
+        G91 = record {
+          locals = List._++_ g67 (List._++_ t1 t68);
+          slots = List._∷_
+              (Row.lease (κs .0) (qs .0))
+              (List._∷_
+              (Row.lease (κs .1 .0) (qs .1 .0))
+              (List._∷_
+              (Row.lease (κs .1 .1 .0) (qs .1 .1 .0))
+              (List._∷_
+              (Row.lease (κs .1 .1 .1 .0) (qs .1 .1 .1 .0))
+              (List._∷_
+              (Row.lease (κs .1 .1 .1 .1 .0) (qs .1 .1 .1 .1 .0))
+              (List._∷_
+              (Row.lease (κs .1 .1 .1 .1 .1 .0) (qs .1 .1 .1 .1 .1 .0))
+              (List._∷_
+              (Row.lease (κs .1 .1 .1 .1 .1 .1 .0) (qs .1 .1 .1 .1 .1 .1 .0))
+              (List._∷_
+              Row.off
+              (List._∷_
+              Row.off
+              (List._∷_
+              Row.off
+              (List._∷_
+              Row.off
+              (List._∷_
+              Row.off
+              (List._∷_
+              Row.off
+              (List._∷_
+              Row.off
+              (List._∷_
+              Row.off
+              (List._∷_
+              Row.off
+              (List._∷_
+              Row.off
+              (List._∷_
+              Row.off
+              (List._∷_
+              Row.off
+              (List._∷_
+              Row.dead
+              (List._∷_
+              Row.alive
+              (List._∷_
+              Row.alive
+              (List._∷_ Row.alive (List._∷_ Row.alive List.[])))))))))))))))))))))));
+        }
+
+        abbrev G92 : Row.Cx
+        G92 = record {
+          locals = List._++_ g67 (List._++_ t1 t68);
+          slots = List._∷_
+              (Row.lease (κs .0) (qs .0))
+              (List._∷_
+              (Row.lease (κs .1 .0) (qs .1 .0))
+              (List._∷_
+              (Row.lease (κs .1 .1 .0) (qs .1 .1 .0))
+              (List._∷_
+              (Row.lease (κs .1 .1 .1 .0) (qs .1 .1 .1 .0))
+              (List._∷_
+              (Row.lease (κs .1 .1 .1 .1 .0) (qs .1 .1 .1 .1 .0))
+              (List._∷_
+              (Row.lease (κs .1 .1 .1 .1 .1 .0) (qs .1 .1 .1 .1 .1 .0))
+              (List._∷_
+              (Row.lease (κs .1 .1 .1 .1 .1 .1 .0) (qs .1 .1 .1 .1 .1 .1 .0))
+              (List._∷_
+              Row.off
+              (List._∷_
+              Row.off
+              (List._∷_
+              Row.off
+              (List._∷_
+              Row.off
+              (List._∷_
+              Row.off
+              (List._∷_
+              Row.off
+              (List._∷_
+              Row.off
+              (List._∷_
+              Row.off
+              (List._∷_
+              Row.off
+              (List._∷_
+              Row.off
+              (List._∷_
+              Row.off
+              (List._∷_
+              Row.off
+              (List._∷_
+              Row.off
+              (List._∷_
+              Row.alive
+              (List._∷_
+              Row.alive
+              (List._∷_ Row.alive (List._∷_ Row.alive List.[])))))))))))))))))))))));
+        }
+
+        abbrev G93 : Row.Cx
+        G93 = record {
+          locals = List._++_ g67 (List._++_ t1 t68);
+          slots = List._∷_
+              (Row.lease (κs .0) (qs .0))
+              (List._∷_
+              (Row.lease (κs .1 .0) (qs .1 .0))
+              (List._∷_
+              (Row.lease (κs .1 .1 .0) (qs .1 .1 .0))
+              (List._∷_
+              (Row.lease (κs .1 .1 .1 .0) (qs .1 .1 .1 .0))
+              (List._∷_
+              (Row.lease (κs .1 .1 .1 .1 .0) (qs .1 .1 .1 .1 .0))
+              (List._∷_
+              (Row.lease (κs .1 .1 .1 .1 .1 .0) (qs .1 .1 .1 .1 .1 .0))
+              (List._∷_
+              (Row.lease (κs .1 .1 .1 .1 .1 .1 .0) (qs .1 .1 .1 .1 .1 .1 .0))
+              (List._∷_
+              Row.off
+              (List._∷_
+              Row.off
+              (List._∷_
+              Row.off
+              (List._∷_
+              Row.off
+              (List._∷_
+              Row.off
+              (List._∷_
+              Row.off
+              (List._∷_
+              Row.off
+              (List._∷_
+              Row.off
+              (List._∷_
+              Row.off
+              (List._∷_
+              Row.off
+              (List._∷_
+              Row.off
+              (List._∷_
+              Row.off
+              (List._∷_
+              Row.off
+              (List._∷_
+              Row.dead
+              (List._∷_
+              Row.alive
+              (List._∷_ Row.alive (List._∷_ Row.alive List.[])))))))))))))))))))))));
+        }
+
+        abbrev G94 : Row.Cx
+        G94 = record {
+          locals = List._++_ g69 (List._++_ t1 t70);
+          slots = List._∷_
+              (Row.lease (κs .0) (qs .0))
+              (List._∷_
+              (Row.lease (κs .1 .0) (qs .1 .0))
+              (List._∷_
+              (Row.lease (κs .1 .1 .0) (qs .1 .1 .0))
+              (List._∷_
+              (Row.lease (κs .1 .1 .1 .0) (qs .1 .1 .1 .0))
+              (List._∷_
+              (Row.lease (κs .1 .1 .1 .1 .0) (qs .1 .1 .1 .1 .0))
               (List._∷_
               (Row.lease (κs .1 .1 .1 .1 .1 .0) (qs .1 .1 .1 .1 .1 .0))
               (List._∷_
@@ -14888,1484 +15544,6 @@ module _ (claims· : Claims) where
               (List._∷_
               (Row.lease (κs .1 .1 .1 .1 .1 .1 .1 .0) (qs .1 .1 .1 .1 .1 .1 .1 .0))
               (List._∷_
-              (Row.lease (κs .1 .1 .1 .1 .1 .1 .1 .1 .0) (qs .1 .1 .1 .1 .1 .1 .1 .1 .0))
-              (List._∷_
-              (Row.lease (κs .1 .1 .1 .1 .1 .1 .1 .1 .1 .0) (qs .1 .1 .1 .1 .1 .1 .1 .1 .1 .0))
-              (List._∷_
-              (Row.lease
-              (κs .1 .1 .1 .1 .1 .1 .1 .1 .1 .1 .0)
-              (qs .1 .1 .1 .1 .1 .1 .1 .1 .1 .1 .0))
-              (List._∷_
-              Row.off
-              (List._∷_
-              Row.off
-              (List._∷_
-              Row.off
-              (List._∷_
-              Row.off
-              (List._∷_
-              Row.off
-              (List._∷_
-              Row.alive
-              (List._∷_
-              Row.alive
-              (List._∷_
-              Row.alive
-              (List._∷_
-              Row.alive
-              (List._∷_
-              Row.alive
-              (List._∷_
-              Row.off
-              (List._∷_
-              Row.off
-              (List._∷_ Row.off (List._∷_ Row.off List.[]))))))))))))))))))))))));
-        }
-
-        abbrev G64 : Row.Cx
-        G64 = record {
-          locals = List._++_ g44 (List._++_ t40 t45);
-          slots = List._∷_
-              (Row.lease (κs .0) (qs .0))
-              (List._∷_
-              Row.off
-              (List._∷_
-              Row.off
-              (List._∷_
-              Row.off
-              (List._∷_
-              Row.off
-              (List._∷_
-              (Row.lease (κs .1 .1 .1 .1 .1 .0) (qs .1 .1 .1 .1 .1 .0))
-              (List._∷_
-              Row.off
-              (List._∷_
-              (Row.lease (κs .1 .1 .1 .1 .1 .1 .1 .0) (qs .1 .1 .1 .1 .1 .1 .1 .0))
-              (List._∷_
-              (Row.lease (κs .1 .1 .1 .1 .1 .1 .1 .1 .0) (qs .1 .1 .1 .1 .1 .1 .1 .1 .0))
-              (List._∷_
-              (Row.lease (κs .1 .1 .1 .1 .1 .1 .1 .1 .1 .0) (qs .1 .1 .1 .1 .1 .1 .1 .1 .1 .0))
-              (List._∷_
-              (Row.lease
-              (κs .1 .1 .1 .1 .1 .1 .1 .1 .1 .1 .0)
-              (qs .1 .1 .1 .1 .1 .1 .1 .1 .1 .1 .0))
-              (List._∷_
-              Row.off
-              (List._∷_
-              Row.off
-              (List._∷_
-              Row.off
-              (List._∷_
-              Row.off
-              (List._∷_
-              Row.off
-              (List._∷_
-              Row.alive
-              (List._∷_
-              Row.alive
-              (List._∷_
-              Row.alive
-              (List._∷_
-              Row.alive
-              (List._∷_
-              Row.alive
-              (List._∷_
-              Row.off
-              (List._∷_
-              Row.off
-              (List._∷_ Row.off (List._∷_ Row.off List.[]))))))))))))))))))))))));
-        }
-
-        abbrev G65 : Row.Cx
-        G65 = record {
-          locals = List._++_ g44 (List._++_ t40 t46);
-          slots = List._∷_
-              (Row.lease (κs .0) (qs .0))
-              (List._∷_
-              Row.off
-              (List._∷_
-              Row.off
-              (List._∷_
-              Row.off
-              (List._∷_
-              Row.off
-              (List._∷_
-              (Row.lease (κs .1 .1 .1 .1 .1 .0) (qs .1 .1 .1 .1 .1 .0))
-              (List._∷_
-              Row.off
-              (List._∷_
-              (Row.lease (κs .1 .1 .1 .1 .1 .1 .1 .0) (qs .1 .1 .1 .1 .1 .1 .1 .0))
-              (List._∷_
-              (Row.lease (κs .1 .1 .1 .1 .1 .1 .1 .1 .0) (qs .1 .1 .1 .1 .1 .1 .1 .1 .0))
-              (List._∷_
-              (Row.lease (κs .1 .1 .1 .1 .1 .1 .1 .1 .1 .0) (qs .1 .1 .1 .1 .1 .1 .1 .1 .1 .0))
-              (List._∷_
-              (Row.lease
-              (κs .1 .1 .1 .1 .1 .1 .1 .1 .1 .1 .0)
-              (qs .1 .1 .1 .1 .1 .1 .1 .1 .1 .1 .0))
-              (List._∷_
-              Row.off
-              (List._∷_
-              Row.off
-              (List._∷_
-              Row.off
-              (List._∷_
-              Row.off
-              (List._∷_
-              Row.off
-              (List._∷_
-              Row.alive
-              (List._∷_
-              Row.alive
-              (List._∷_
-              Row.alive
-              (List._∷_
-              Row.alive
-              (List._∷_
-              Row.alive
-              (List._∷_
-              Row.off
-              (List._∷_
-              Row.off
-              (List._∷_ Row.off (List._∷_ Row.off List.[]))))))))))))))))))))))));
-        }
-
-        abbrev G66 : Row.Cx
-        G66 = record {
-          locals = List._++_ g44 (List._++_ t40 t46);
-          slots = List._∷_
-              (Row.lease (κs .0) (qs .0))
-              (List._∷_
-              Row.off
-              (List._∷_
-              Row.off
-              (List._∷_
-              Row.off
-              (List._∷_
-              Row.off
-              (List._∷_
-              (Row.lease (κs .1 .1 .1 .1 .1 .0) (qs .1 .1 .1 .1 .1 .0))
-              (List._∷_
-              Row.off
-              (List._∷_
-              (Row.lease (κs .1 .1 .1 .1 .1 .1 .1 .0) (qs .1 .1 .1 .1 .1 .1 .1 .0))
-              (List._∷_
-              (Row.lease (κs .1 .1 .1 .1 .1 .1 .1 .1 .0) (qs .1 .1 .1 .1 .1 .1 .1 .1 .0))
-              (List._∷_
-              (Row.lease (κs .1 .1 .1 .1 .1 .1 .1 .1 .1 .0) (qs .1 .1 .1 .1 .1 .1 .1 .1 .1 .0))
-              (List._∷_
-              (Row.lease
-              (κs .1 .1 .1 .1 .1 .1 .1 .1 .1 .1 .0)
-              (qs .1 .1 .1 .1 .1 .1 .1 .1 .1 .1 .0))
-              (List._∷_
-              Row.off
-              (List._∷_
-              Row.off
-              (List._∷_
-              Row.off
-              (List._∷_
-              Row.off
-              (List._∷_
-              Row.off
-              (List._∷_
-              Row.alive
-              (List._∷_
-              Row.alive
-              (List._∷_
-              Row.alive
-              (List._∷_
-              Row.alive
-              (List._∷_
-              Row.alive
-              (List._∷_
-              Row.alive
-              (List._∷_
-              Row.off
-              (List._∷_ Row.off (List._∷_ Row.off List.[]))))))))))))))))))))))));
-        }
-
-        abbrev G67 : Row.Cx
-        G67 = record {
-          locals = List._++_ g47 (List._++_ t40 t48);
-          slots = List._∷_
-              (Row.lease (κs .0) (qs .0))
-              (List._∷_
-              Row.off
-              (List._∷_
-              Row.off
-              (List._∷_
-              Row.off
-              (List._∷_
-              Row.off
-              (List._∷_
-              (Row.lease (κs .1 .1 .1 .1 .1 .0) (qs .1 .1 .1 .1 .1 .0))
-              (List._∷_
-              Row.off
-              (List._∷_
-              Row.off
-              (List._∷_
-              (Row.lease (κs .1 .1 .1 .1 .1 .1 .1 .1 .0) (qs .1 .1 .1 .1 .1 .1 .1 .1 .0))
-              (List._∷_
-              (Row.lease (κs .1 .1 .1 .1 .1 .1 .1 .1 .1 .0) (qs .1 .1 .1 .1 .1 .1 .1 .1 .1 .0))
-              (List._∷_
-              (Row.lease
-              (κs .1 .1 .1 .1 .1 .1 .1 .1 .1 .1 .0)
-              (qs .1 .1 .1 .1 .1 .1 .1 .1 .1 .1 .0))
-              (List._∷_
-              Row.off
-              (List._∷_
-              Row.off
-              (List._∷_
-              Row.off
-              (List._∷_
-              Row.off
-              (List._∷_
-              Row.off
-              (List._∷_
-              Row.alive
-              (List._∷_
-              Row.alive
-              (List._∷_
-              Row.alive
-              (List._∷_
-              Row.alive
-              (List._∷_
-              Row.alive
-              (List._∷_
-              Row.alive
-              (List._∷_
-              Row.off
-              (List._∷_ Row.off (List._∷_ Row.off List.[]))))))))))))))))))))))));
-        }
-
-        abbrev G68 : Row.Cx
-        G68 = record {
-          locals = List._++_ g47 (List._++_ t40 t49);
-          slots = List._∷_
-              (Row.lease (κs .0) (qs .0))
-              (List._∷_
-              Row.off
-              (List._∷_
-              Row.off
-              (List._∷_
-              Row.off
-              (List._∷_
-              Row.off
-              (List._∷_
-              (Row.lease (κs .1 .1 .1 .1 .1 .0) (qs .1 .1 .1 .1 .1 .0))
-              (List._∷_
-              Row.off
-              (List._∷_
-              Row.off
-              (List._∷_
-              (Row.lease (κs .1 .1 .1 .1 .1 .1 .1 .1 .0) (qs .1 .1 .1 .1 .1 .1 .1 .1 .0))
-              (List._∷_
-              (Row.lease (κs .1 .1 .1 .1 .1 .1 .1 .1 .1 .0) (qs .1 .1 .1 .1 .1 .1 .1 .1 .1 .0))
-              (List._∷_
-              (Row.lease
-              (κs .1 .1 .1 .1 .1 .1 .1 .1 .1 .1 .0)
-              (qs .1 .1 .1 .1 .1 .1 .1 .1 .1 .1 .0))
-              (List._∷_
-              Row.off
-              (List._∷_
-              Row.off
-              (List._∷_
-              Row.off
-              (List._∷_
-              Row.off
-              (List._∷_
-              Row.off
-              (List._∷_
-              Row.alive
-              (List._∷_
-              Row.alive
-              (List._∷_
-              Row.alive
-              (List._∷_
-              Row.alive
-              (List._∷_
-              Row.alive
-              (List._∷_
-              Row.alive
-              (List._∷_
-              Row.off
-              (List._∷_ Row.off (List._∷_ Row.off List.[]))))))))))))))))))))))));
-        }
-
-        abbrev G69 : Row.Cx
-        G69 = record {
-          locals = List._++_ g47 (List._++_ t40 t49);
-          slots = List._∷_
-              (Row.lease (κs .0) (qs .0))
-              (List._∷_
-              Row.off
-              (List._∷_
-              Row.off
-              (List._∷_
-              Row.off
-              (List._∷_
-              Row.off
-              (List._∷_
-              (Row.lease (κs .1 .1 .1 .1 .1 .0) (qs .1 .1 .1 .1 .1 .0))
-              (List._∷_
-              Row.off
-              (List._∷_
-              Row.off
-              (List._∷_
-              (Row.lease (κs .1 .1 .1 .1 .1 .1 .1 .1 .0) (qs .1 .1 .1 .1 .1 .1 .1 .1 .0))
-              (List._∷_
-              (Row.lease (κs .1 .1 .1 .1 .1 .1 .1 .1 .1 .0) (qs .1 .1 .1 .1 .1 .1 .1 .1 .1 .0))
-              (List._∷_
-              (Row.lease
-              (κs .1 .1 .1 .1 .1 .1 .1 .1 .1 .1 .0)
-              (qs .1 .1 .1 .1 .1 .1 .1 .1 .1 .1 .0))
-              (List._∷_
-              Row.off
-              (List._∷_
-              Row.off
-              (List._∷_
-              Row.off
-              (List._∷_
-              Row.off
-              (List._∷_
-              Row.off
-              (List._∷_
-              Row.alive
-              (List._∷_
-              Row.alive
-              (List._∷_
-              Row.alive
-              (List._∷_
-              Row.alive
-              (List._∷_
-              Row.alive
-              (List._∷_
-              Row.alive
-              (List._∷_
-              Row.alive
-              (List._∷_ Row.off (List._∷_ Row.off List.[]))))))))))))))))))))))));
-        }
-
-        abbrev G70 : Row.Cx
-        G70 = record {
-          locals = List._++_ g50 (List._++_ t40 t51);
-          slots = List._∷_
-              (Row.lease (κs .0) (qs .0))
-              (List._∷_
-              Row.off
-              (List._∷_
-              Row.off
-              (List._∷_
-              Row.off
-              (List._∷_
-              Row.off
-              (List._∷_
-              (Row.lease (κs .1 .1 .1 .1 .1 .0) (qs .1 .1 .1 .1 .1 .0))
-              (List._∷_
-              Row.off
-              (List._∷_
-              Row.off
-              (List._∷_
-              Row.off
-              (List._∷_
-              (Row.lease (κs .1 .1 .1 .1 .1 .1 .1 .1 .1 .0) (qs .1 .1 .1 .1 .1 .1 .1 .1 .1 .0))
-              (List._∷_
-              (Row.lease
-              (κs .1 .1 .1 .1 .1 .1 .1 .1 .1 .1 .0)
-              (qs .1 .1 .1 .1 .1 .1 .1 .1 .1 .1 .0))
-              (List._∷_
-              Row.off
-              (List._∷_
-              Row.off
-              (List._∷_
-              Row.off
-              (List._∷_
-              Row.off
-              (List._∷_
-              Row.off
-              (List._∷_
-              Row.alive
-              (List._∷_
-              Row.alive
-              (List._∷_
-              Row.alive
-              (List._∷_
-              Row.alive
-              (List._∷_
-              Row.alive
-              (List._∷_
-              Row.alive
-              (List._∷_
-              Row.alive
-              (List._∷_ Row.off (List._∷_ Row.off List.[]))))))))))))))))))))))));
-        }
-
-        abbrev G71 : Row.Cx
-        G71 = record {
-          locals = List._++_ g50 (List._++_ t40 t52);
-          slots = List._∷_
-              (Row.lease (κs .0) (qs .0))
-              (List._∷_
-              Row.off
-              (List._∷_
-              Row.off
-              (List._∷_
-              Row.off
-              (List._∷_
-              Row.off
-              (List._∷_
-              (Row.lease (κs .1 .1 .1 .1 .1 .0) (qs .1 .1 .1 .1 .1 .0))
-              (List._∷_
-              Row.off
-              (List._∷_
-              Row.off
-              (List._∷_
-              Row.off
-              (List._∷_
-              (Row.lease (κs .1 .1 .1 .1 .1 .1 .1 .1 .1 .0) (qs .1 .1 .1 .1 .1 .1 .1 .1 .1 .0))
-              (List._∷_
-              (Row.lease
-              (κs .1 .1 .1 .1 .1 .1 .1 .1 .1 .1 .0)
-              (qs .1 .1 .1 .1 .1 .1 .1 .1 .1 .1 .0))
-              (List._∷_
-              Row.off
-              (List._∷_
-              Row.off
-              (List._∷_
-              Row.off
-              (List._∷_
-              Row.off
-              (List._∷_
-              Row.off
-              (List._∷_
-              Row.alive
-              (List._∷_
-              Row.alive
-              (List._∷_
-              Row.alive
-              (List._∷_
-              Row.alive
-              (List._∷_
-              Row.alive
-              (List._∷_
-              Row.alive
-              (List._∷_
-              Row.alive
-              (List._∷_ Row.off (List._∷_ Row.off List.[]))))))))))))))))))))))));
-        }
-
-        abbrev G72 : Row.Cx
-        G72 = record {
-          locals = List._++_ g50 (List._++_ t40 t52);
-          slots = List._∷_
-              (Row.lease (κs .0) (qs .0))
-              (List._∷_
-              Row.off
-              (List._∷_
-              Row.off
-              (List._∷_
-              Row.off
-              (List._∷_
-              Row.off
-              (List._∷_
-              (Row.lease (κs .1 .1 .1 .1 .1 .0) (qs .1 .1 .1 .1 .1 .0))
-              (List._∷_
-              Row.off
-              (List._∷_
-              Row.off
-              (List._∷_
-              Row.off
-              (List._∷_
-              (Row.lease (κs .1 .1 .1 .1 .1 .1 .1 .1 .1 .0) (qs .1 .1 .1 .1 .1 .1 .1 .1 .1 .0))
-              (List._∷_
-              (Row.lease
-              (κs .1 .1 .1 .1 .1 .1 .1 .1 .1 .1 .0)
-              (qs .1 .1 .1 .1 .1 .1 .1 .1 .1 .1 .0))
-              (List._∷_
-              Row.off
-              (List._∷_
-              Row.off
-              (List._∷_
-              Row.off
-              (List._∷_
-              Row.off
-              (List._∷_
-              Row.off
-              (List._∷_
-              Row.alive
-              (List._∷_
-              Row.alive
-              (List._∷_
-              Row.alive
-              (List._∷_
-              Row.alive
-              (List._∷_
-              Row.alive
-              (List._∷_
-              Row.alive
-              (List._∷_
-              Row.alive
-              (List._∷_ Row.alive (List._∷_ Row.off List.[]))))))))))))))))))))))));
-        }
-
-        abbrev G73 : Row.Cx
-        G73 = record {
-          locals = List._++_ g53 (List._++_ t40 t54);
-          slots = List._∷_
-              (Row.lease (κs .0) (qs .0))
-              (List._∷_
-              Row.off
-              (List._∷_
-              Row.off
-              (List._∷_
-              Row.off
-              (List._∷_
-              Row.off
-              (List._∷_
-              (Row.lease (κs .1 .1 .1 .1 .1 .0) (qs .1 .1 .1 .1 .1 .0))
-              (List._∷_
-              Row.off
-              (List._∷_
-              Row.off
-              (List._∷_
-              Row.off
-              (List._∷_
-              Row.off
-              (List._∷_
-              (Row.lease
-              (κs .1 .1 .1 .1 .1 .1 .1 .1 .1 .1 .0)
-              (qs .1 .1 .1 .1 .1 .1 .1 .1 .1 .1 .0))
-              (List._∷_
-              Row.off
-              (List._∷_
-              Row.off
-              (List._∷_
-              Row.off
-              (List._∷_
-              Row.off
-              (List._∷_
-              Row.off
-              (List._∷_
-              Row.alive
-              (List._∷_
-              Row.alive
-              (List._∷_
-              Row.alive
-              (List._∷_
-              Row.alive
-              (List._∷_
-              Row.alive
-              (List._∷_
-              Row.alive
-              (List._∷_
-              Row.alive
-              (List._∷_ Row.alive (List._∷_ Row.off List.[]))))))))))))))))))))))));
-        }
-
-        abbrev G74 : Row.Cx
-        G74 = record {
-          locals = List._++_ g53 (List._++_ t40 t55);
-          slots = List._∷_
-              (Row.lease (κs .0) (qs .0))
-              (List._∷_
-              Row.off
-              (List._∷_
-              Row.off
-              (List._∷_
-              Row.off
-              (List._∷_
-              Row.off
-              (List._∷_
-              (Row.lease (κs .1 .1 .1 .1 .1 .0) (qs .1 .1 .1 .1 .1 .0))
-              (List._∷_
-              Row.off
-              (List._∷_
-              Row.off
-              (List._∷_
-              Row.off
-              (List._∷_
-              Row.off
-              (List._∷_
-              (Row.lease
-              (κs .1 .1 .1 .1 .1 .1 .1 .1 .1 .1 .0)
-              (qs .1 .1 .1 .1 .1 .1 .1 .1 .1 .1 .0))
-              (List._∷_
-              Row.off
-              (List._∷_
-              Row.off
-              (List._∷_
-              Row.off
-              (List._∷_
-              Row.off
-              (List._∷_
-              Row.off
-              (List._∷_
-              Row.alive
-              (List._∷_
-              Row.alive
-              (List._∷_
-              Row.alive
-              (List._∷_
-              Row.alive
-              (List._∷_
-              Row.alive
-              (List._∷_
-              Row.alive
-              (List._∷_
-              Row.alive
-              (List._∷_ Row.alive (List._∷_ Row.off List.[]))))))))))))))))))))))));
-        }
-
-        abbrev G75 : Row.Cx
-        G75 = record {
-          locals = List._++_ g53 (List._++_ t40 t55);
-          slots = List._∷_
-              (Row.lease (κs .0) (qs .0))
-              (List._∷_
-              Row.off
-              (List._∷_
-              Row.off
-              (List._∷_
-              Row.off
-              (List._∷_
-              Row.off
-              (List._∷_
-              (Row.lease (κs .1 .1 .1 .1 .1 .0) (qs .1 .1 .1 .1 .1 .0))
-              (List._∷_
-              Row.off
-              (List._∷_
-              Row.off
-              (List._∷_
-              Row.off
-              (List._∷_
-              Row.off
-              (List._∷_
-              (Row.lease
-              (κs .1 .1 .1 .1 .1 .1 .1 .1 .1 .1 .0)
-              (qs .1 .1 .1 .1 .1 .1 .1 .1 .1 .1 .0))
-              (List._∷_
-              Row.off
-              (List._∷_
-              Row.off
-              (List._∷_
-              Row.off
-              (List._∷_
-              Row.off
-              (List._∷_
-              Row.off
-              (List._∷_
-              Row.alive
-              (List._∷_
-              Row.alive
-              (List._∷_
-              Row.alive
-              (List._∷_
-              Row.alive
-              (List._∷_
-              Row.alive
-              (List._∷_
-              Row.alive
-              (List._∷_
-              Row.alive
-              (List._∷_ Row.alive (List._∷_ Row.alive List.[]))))))))))))))))))))))));
-        }
-
-        abbrev G76 : Row.Cx
-        G76 = record {
-          locals = List._++_ g56 (List._++_ t40 t57);
-          slots = List._∷_
-              (Row.lease (κs .0) (qs .0))
-              (List._∷_
-              Row.off
-              (List._∷_
-              Row.off
-              (List._∷_
-              Row.off
-              (List._∷_
-              Row.off
-              (List._∷_
-              (Row.lease (κs .1 .1 .1 .1 .1 .0) (qs .1 .1 .1 .1 .1 .0))
-              (List._∷_
-              Row.off
-              (List._∷_
-              Row.off
-              (List._∷_
-              Row.off
-              (List._∷_
-              Row.off
-              (List._∷_
-              Row.off
-              (List._∷_
-              Row.off
-              (List._∷_
-              Row.off
-              (List._∷_
-              Row.off
-              (List._∷_
-              Row.off
-              (List._∷_
-              Row.off
-              (List._∷_
-              Row.alive
-              (List._∷_
-              Row.alive
-              (List._∷_
-              Row.alive
-              (List._∷_
-              Row.alive
-              (List._∷_
-              Row.alive
-              (List._∷_
-              Row.alive
-              (List._∷_
-              Row.alive
-              (List._∷_ Row.alive (List._∷_ Row.alive List.[]))))))))))))))))))))))));
-        }
-
-        abbrev G77 : Row.Cx
-        G77 = record {
-          locals = List._++_ g56 (List._++_ t40 t58);
-          slots = List._∷_
-              (Row.lease (κs .0) (qs .0))
-              (List._∷_
-              Row.off
-              (List._∷_
-              Row.off
-              (List._∷_
-              Row.off
-              (List._∷_
-              Row.off
-              (List._∷_
-              (Row.lease (κs .1 .1 .1 .1 .1 .0) (qs .1 .1 .1 .1 .1 .0))
-              (List._∷_
-              Row.off
-              (List._∷_
-              Row.off
-              (List._∷_
-              Row.off
-              (List._∷_
-              Row.off
-              (List._∷_
-              Row.off
-              (List._∷_
-              Row.off
-              (List._∷_
-              Row.off
-              (List._∷_
-              Row.off
-              (List._∷_
-              Row.off
-              (List._∷_
-              Row.off
-              (List._∷_
-              Row.alive
-              (List._∷_
-              Row.alive
-              (List._∷_
-              Row.alive
-              (List._∷_
-              Row.alive
-              (List._∷_
-              Row.alive
-              (List._∷_
-              Row.alive
-              (List._∷_
-              Row.alive
-              (List._∷_ Row.alive (List._∷_ Row.alive List.[]))))))))))))))))))))))));
-        }
-
-        abbrev G78 : Row.Cx
-        G78 = record {
-          locals = List._++_ g59 (List._++_ t40 t60);
-          slots = List._∷_
-              (Row.lease (κs .0) (qs .0))
-              (List._∷_
-              Row.off
-              (List._∷_
-              Row.off
-              (List._∷_
-              Row.off
-              (List._∷_
-              Row.off
-              (List._∷_
-              (Row.lease (κs .1 .1 .1 .1 .1 .0) (qs .1 .1 .1 .1 .1 .0))
-              (List._∷_
-              Row.off
-              (List._∷_
-              Row.off
-              (List._∷_
-              Row.off
-              (List._∷_
-              Row.off
-              (List._∷_
-              Row.off
-              (List._∷_
-              Row.off
-              (List._∷_
-              Row.off
-              (List._∷_
-              Row.off
-              (List._∷_
-              Row.off
-              (List._∷_
-              Row.off
-              (List._∷_
-              Row.alive
-              (List._∷_
-              Row.alive
-              (List._∷_
-              Row.alive
-              (List._∷_
-              Row.alive
-              (List._∷_
-              Row.alive
-              (List._∷_
-              Row.alive
-              (List._∷_
-              Row.alive
-              (List._∷_ Row.alive (List._∷_ Row.alive List.[]))))))))))))))))))))))));
-        }
-
-        abbrev G79 : Row.Cx
-        G79 = record {
-          locals = List._++_ g59 (List._++_ t61 t60);
-          slots = List._∷_
-              (Row.lease (κs .0) (qs .0))
-              (List._∷_
-              Row.off
-              (List._∷_
-              Row.off
-              (List._∷_
-              Row.off
-              (List._∷_
-              Row.off
-              (List._∷_
-              (Row.lease (κs .1 .1 .1 .1 .1 .0) (qs .1 .1 .1 .1 .1 .0))
-              (List._∷_
-              Row.off
-              (List._∷_
-              Row.off
-              (List._∷_
-              Row.off
-              (List._∷_
-              Row.off
-              (List._∷_
-              Row.off
-              (List._∷_
-              Row.off
-              (List._∷_
-              Row.off
-              (List._∷_
-              Row.off
-              (List._∷_
-              Row.off
-              (List._∷_
-              Row.off
-              (List._∷_
-              Row.alive
-              (List._∷_
-              Row.alive
-              (List._∷_
-              Row.alive
-              (List._∷_
-              Row.alive
-              (List._∷_
-              Row.alive
-              (List._∷_
-              Row.alive
-              (List._∷_
-              Row.alive
-              (List._∷_ Row.alive (List._∷_ Row.alive List.[]))))))))))))))))))))))));
-        }
-
-        abbrev G80 : Row.Cx
-        G80 = record {
-          locals = List._++_ g59 (List._++_ t62 t60);
-          slots = List._∷_
-              (Row.lease (κs .0) (qs .0))
-              (List._∷_
-              Row.off
-              (List._∷_
-              Row.off
-              (List._∷_
-              Row.off
-              (List._∷_
-              Row.off
-              (List._∷_
-              (Row.lease (κs .1 .1 .1 .1 .1 .0) (qs .1 .1 .1 .1 .1 .0))
-              (List._∷_
-              Row.off
-              (List._∷_
-              Row.off
-              (List._∷_
-              Row.off
-              (List._∷_
-              Row.off
-              (List._∷_
-              Row.off
-              (List._∷_
-              Row.off
-              (List._∷_
-              Row.off
-              (List._∷_
-              Row.off
-              (List._∷_
-              Row.off
-              (List._∷_
-              Row.off
-              (List._∷_
-              Row.alive
-              (List._∷_
-              Row.alive
-              (List._∷_
-              Row.alive
-              (List._∷_
-              Row.alive
-              (List._∷_
-              Row.alive
-              (List._∷_
-              Row.alive
-              (List._∷_
-              Row.alive
-              (List._∷_ Row.alive (List._∷_ Row.alive List.[]))))))))))))))))))))))));
-        }
-
-        abbrev G81 : Row.Cx
-        G81 = record {
-          locals = List._++_ g59 (List._++_ t1 t60);
-          slots = List._∷_
-              (Row.lease (κs .0) (qs .0))
-              (List._∷_
-              Row.off
-              (List._∷_
-              Row.off
-              (List._∷_
-              Row.off
-              (List._∷_
-              Row.off
-              (List._∷_
-              (Row.lease (κs .1 .1 .1 .1 .1 .0) (qs .1 .1 .1 .1 .1 .0))
-              (List._∷_
-              Row.off
-              (List._∷_
-              Row.off
-              (List._∷_
-              Row.off
-              (List._∷_
-              Row.off
-              (List._∷_
-              Row.off
-              (List._∷_
-              Row.off
-              (List._∷_
-              Row.off
-              (List._∷_
-              Row.off
-              (List._∷_
-              Row.off
-              (List._∷_
-              Row.off
-              (List._∷_
-              Row.alive
-              (List._∷_
-              Row.alive
-              (List._∷_
-              Row.alive
-              (List._∷_
-              Row.alive
-              (List._∷_
-              Row.alive
-              (List._∷_
-              Row.alive
-              (List._∷_
-              Row.alive
-              (List._∷_ Row.alive (List._∷_ Row.alive List.[]))))))))))))))))))))))));
-        }
-
-        abbrev G82 : Row.Cx
-        G82 = record {
-          locals = List._++_ g63 (List._++_ t1 t60);
-          slots = List._∷_
-              (Row.lease (κs .0) (qs .0))
-              (List._∷_
-              Row.off
-              (List._∷_
-              Row.off
-              (List._∷_
-              Row.off
-              (List._∷_
-              Row.off
-              (List._∷_
-              (Row.lease (κs .1 .1 .1 .1 .1 .0) (qs .1 .1 .1 .1 .1 .0))
-              (List._∷_
-              Row.off
-              (List._∷_
-              Row.off
-              (List._∷_
-              Row.off
-              (List._∷_
-              Row.off
-              (List._∷_
-              Row.off
-              (List._∷_
-              Row.off
-              (List._∷_
-              Row.off
-              (List._∷_
-              Row.off
-              (List._∷_
-              Row.off
-              (List._∷_
-              Row.off
-              (List._∷_
-              Row.alive
-              (List._∷_
-              Row.alive
-              (List._∷_
-              Row.alive
-              (List._∷_
-              Row.alive
-              (List._∷_
-              Row.alive
-              (List._∷_
-              Row.alive
-              (List._∷_
-              Row.alive
-              (List._∷_ Row.alive (List._∷_ Row.alive List.[]))))))))))))))))))))))));
-        }
-
-        abbrev G83 : Row.Cx
-        G83 = record {
-          locals = List._++_ g64 (List._++_ t1 t60);
-          slots = List._∷_
-              (Row.lease (κs .0) (qs .0))
-              (List._∷_
-              Row.off
-              (List._∷_
-              Row.off
-              (List._∷_
-              Row.off
-              (List._∷_
-              Row.off
-              (List._∷_
-              (Row.lease (κs .1 .1 .1 .1 .1 .0) (qs .1 .1 .1 .1 .1 .0))
-              (List._∷_
-              Row.off
-              (List._∷_
-              Row.off
-              (List._∷_
-              Row.off
-              (List._∷_
-              Row.off
-              (List._∷_
-              Row.off
-              (List._∷_
-              Row.off
-              (List._∷_
-              Row.off
-              (List._∷_
-              Row.off
-              (List._∷_
-              Row.off
-              (List._∷_
-              Row.off
-              (List._∷_
-              Row.alive
-              (List._∷_
-              Row.alive
-              (List._∷_
-              Row.alive
-              (List._∷_
-              Row.alive
-              (List._∷_
-              Row.alive
-              (List._∷_
-              Row.alive
-              (List._∷_
-              Row.alive
-              (List._∷_ Row.alive (List._∷_ Row.alive List.[]))))))))))))))))))))))));
-        }
-
-        abbrev G84 : Row.Cx
-        G84 = record {
-          locals = List._++_ g65 (List._++_ t1 t60);
-          slots = List._∷_
-              (Row.lease (κs .0) (qs .0))
-              (List._∷_
-              Row.off
-              (List._∷_
-              Row.off
-              (List._∷_
-              Row.off
-              (List._∷_
-              Row.off
-              (List._∷_
-              (Row.lease (κs .1 .1 .1 .1 .1 .0) (qs .1 .1 .1 .1 .1 .0))
-              (List._∷_
-              Row.off
-              (List._∷_
-              Row.off
-              (List._∷_
-              Row.off
-              (List._∷_
-              Row.off
-              (List._∷_
-              Row.off
-              (List._∷_
-              Row.off
-              (List._∷_
-              Row.off
-              (List._∷_
-              Row.off
-              (List._∷_
-              Row.off
-              (List._∷_
-              Row.off
-              (List._∷_
-              Row.alive
-              (List._∷_
-              Row.alive
-              (List._∷_
-              Row.alive
-              (List._∷_
-              Row.alive
-              (List._∷_
-              Row.alive
-              (List._∷_
-              Row.alive
-              (List._∷_
-              Row.alive
-              (List._∷_ Row.alive (List._∷_ Row.alive List.[]))))))))))))))))))))))));
-        }
-
-        abbrev G85 : Row.Cx
-        G85 = record {
-          locals = List._++_ g65 (List._++_ t1 t60);
-          slots = List._∷_
-              (Row.lease (κs .0) (qs .0))
-              (List._∷_
-              Row.off
-              (List._∷_
-              Row.off
-              (List._∷_
-              Row.off
-              (List._∷_
-              Row.off
-              (List._∷_
-              (Row.lease (κs .1 .1 .1 .1 .1 .0) (qs .1 .1 .1 .1 .1 .0))
-              (List._∷_
-              Row.off
-              (List._∷_
-              Row.off
-              (List._∷_
-              Row.off
-              (List._∷_
-              Row.off
-              (List._∷_
-              Row.off
-              (List._∷_
-              Row.off
-              (List._∷_
-              Row.off
-              (List._∷_
-              Row.off
-              (List._∷_
-              Row.off
-              (List._∷_
-              Row.off
-              (List._∷_
-              Row.dead
-              (List._∷_
-              Row.alive
-              (List._∷_
-              Row.alive
-              (List._∷_
-              Row.alive
-              (List._∷_
-              Row.alive
-              (List._∷_
-              Row.alive
-              (List._∷_
-              Row.alive
-              (List._∷_ Row.alive (List._∷_ Row.alive List.[]))))))))))))))))))))))));
-        }
-
-        abbrev G86 : Row.Cx
-        G86 = record {
-          locals = List._++_ g66 (List._++_ t1 t60);
-          slots = List._∷_
-              (Row.lease (κs .0) (qs .0))
-              (List._∷_
-              (Row.lease (κs .1 .0) (qs .1 .0))
-              (List._∷_
-              Row.off
-              (List._∷_
-              Row.off
-              (List._∷_
-              Row.off
-              (List._∷_
-              (Row.lease (κs .1 .1 .1 .1 .1 .0) (qs .1 .1 .1 .1 .1 .0))
-              (List._∷_
-              Row.off
-              (List._∷_
-              Row.off
-              (List._∷_
-              Row.off
-              (List._∷_
-              Row.off
-              (List._∷_
-              Row.off
-              (List._∷_
-              Row.off
-              (List._∷_
-              Row.off
-              (List._∷_
-              Row.off
-              (List._∷_
-              Row.off
-              (List._∷_
-              Row.off
-              (List._∷_
-              Row.dead
-              (List._∷_
-              Row.alive
-              (List._∷_
-              Row.alive
-              (List._∷_
-              Row.alive
-              (List._∷_
-              Row.alive
-              (List._∷_
-              Row.alive
-              (List._∷_
-              Row.alive
-              (List._∷_ Row.alive (List._∷_ Row.alive List.[]))))))))))))))))))))))));
-        }
-
-        abbrev G87 : Row.Cx
-        G87 = record {
-          locals = List._++_ g66 (List._++_ t1 t60);
-          slots = List._∷_
-              (Row.lease (κs .0) (qs .0))
-              (List._∷_
-              (Row.lease (κs .1 .0) (qs .1 .0))
-              (List._∷_
-              Row.off
-              (List._∷_
-              Row.off
-              (List._∷_
-              Row.off
-              (List._∷_
-              (Row.lease (κs .1 .1 .1 .1 .1 .0) (qs .1 .1 .1 .1 .1 .0))
-              (List._∷_
-              Row.off
-              (List._∷_
-              Row.off
-              (List._∷_
-              Row.off
-              (List._∷_
-              Row.off
-              (List._∷_
-              Row.off
-              (List._∷_
-              Row.off
-              (List._∷_
-              Row.off
-              (List._∷_
-              Row.off
-              (List._∷_
-              Row.off
-              (List._∷_
-              Row.off
-              (List._∷_
-              Row.off
-              (List._∷_
-              Row.alive
-              (List._∷_
-              Row.alive
-              (List._∷_
-              Row.alive
-              (List._∷_
-              Row.alive
-              (List._∷_
-              Row.alive
-              (List._∷_
-              Row.alive
-              (List._∷_ Row.alive (List._∷_ Row.alive List.[]))))))))))))))))))))))));
-        }
-
-        abbrev G88 : Row.Cx
-        G88 = record {
-          locals = List._++_ g66 (List._++_ t1 t60);
-          slots = List._∷_
-              (Row.lease (κs .0) (qs .0))
-              (List._∷_
-              (Row.lease (κs .1 .0) (qs .1 .0))
-              (List._∷_
-              Row.off
-              (List._∷_
-              Row.off
-              (List._∷_
-              Row.off
-              (List._∷_
-              (Row.lease (κs .1 .1 .1 .1 .1 .0) (qs .1 .1 .1 .1 .1 .0))
-              (List._∷_
-              Row.off
-              (List._∷_
-              Row.off
-              (List._∷_
-              Row.off
-              (List._∷_
-              Row.off
-              (List._∷_
-              Row.off
-              (List._∷_
-              Row.off
-              (List._∷_
-              Row.off
-              (List._∷_
-              Row.off
-              (List._∷_
-              Row.off
-              (List._∷_
-              Row.off
-              (List._∷_
-              Row.off
-              (List._∷_
-              Row.dead
-              (List._∷_
-              Row.alive
-              (List._∷_
-              Row.alive
-              (List._∷_
-              Row.alive
-              (List._∷_
-              Row.alive
-              (List._∷_
-              Row.alive
-              (List._∷_ Row.alive (List._∷_ Row.alive List.[]))))))))))))))))))))))));
-        }
-
-        abbrev G89 : Row.Cx
-        G89 = record {
-          locals = List._++_ g67 (List._++_ t1 t60);
-          slots = List._∷_
-              (Row.lease (κs .0) (qs .0))
-              (List._∷_
-              (Row.lease (κs .1 .0) (qs .1 .0))
-              (List._∷_
-              Row.off
-              (List._∷_
-              (Row.lease (κs .1 .1 .1 .0) (qs .1 .1 .1 .0))
-              (List._∷_
-              Row.off
-              (List._∷_
-              (Row.lease (κs .1 .1 .1 .1 .1 .0) (qs .1 .1 .1 .1 .1 .0))
-              (List._∷_
-              Row.off
-              (List._∷_
-              Row.off
-              (List._∷_
-              Row.off
-              (List._∷_
-              Row.off
-              (List._∷_
-              Row.off
-              (List._∷_
-              Row.off
-              (List._∷_
-              Row.off
-              (List._∷_
-              Row.off
-              (List._∷_
-              Row.off
-              (List._∷_
-              Row.off
-              (List._∷_
-              Row.off
-              (List._∷_
-              Row.dead
-              (List._∷_
-              Row.alive
-              (List._∷_
-              Row.alive
-              (List._∷_
-              Row.alive
-              (List._∷_
-              Row.alive
-              (List._∷_
-              Row.alive
-              (List._∷_ Row.alive (List._∷_ Row.alive List.[]))))))))))))))))))))))));
-        }
-
-        abbrev G90 : Row.Cx
-        G90 = record {
-          locals = List._++_ g67 (List._++_ t1 t60);
-          slots = List._∷_
-              (Row.lease (κs .0) (qs .0))
-              (List._∷_
-              (Row.lease (κs .1 .0) (qs .1 .0))
-              (List._∷_
-              Row.off
-              (List._∷_
-              (Row.lease (κs .1 .1 .1 .0) (qs .1 .1 .1 .0))
-              (List._∷_
-              Row.off
-              (List._∷_
-              (Row.lease (κs .1 .1 .1 .1 .1 .0) (qs .1 .1 .1 .1 .1 .0))
-              (List._∷_
-              Row.off
-              (List._∷_
-              Row.off
-              (List._∷_
-              Row.off
-              (List._∷_
-              Row.off
-              (List._∷_
-              Row.off
-              (List._∷_
-              Row.off
-              (List._∷_
-              Row.off
-              (List._∷_
-              Row.off
-              (List._∷_
-              Row.off
-              (List._∷_
-              Row.off
-              (List._∷_
-              Row.off
-              (List._∷_
-              Row.off
-              (List._∷_
-              Row.alive
-              (List._∷_
-              Row.alive
-              (List._∷_
-              Row.alive
-              (List._∷_
-              Row.alive
-              (List._∷_
-              Row.alive
-              (List._∷_ Row.alive (List._∷_ Row.alive List.[]))))))))))))))))))))))));
-        }
-
-        abbrev G91 : Row.Cx
-        G91 = record {
-          locals = List._++_ g67 (List._++_ t1 t60);
-          slots = List._∷_
-              (Row.lease (κs .0) (qs .0))
-              (List._∷_
-              (Row.lease (κs .1 .0) (qs .1 .0))
-              (List._∷_
-              Row.off
-              (List._∷_
-              (Row.lease (κs .1 .1 .1 .0) (qs .1 .1 .1 .0))
-              (List._∷_
-              Row.off
-              (List._∷_
-              (Row.lease (κs .1 .1 .1 .1 .1 .0) (qs .1 .1 .1 .1 .1 .0))
-              (List._∷_
               Row.off
               (List._∷_
               Row.off
@@ -16393,169 +15571,7 @@ module _ (claims· : Claims) where
               Row.dead
               (List._∷_
               Row.alive
-              (List._∷_
-              Row.alive
-              (List._∷_
-              Row.alive
-              (List._∷_
-              Row.alive
-              (List._∷_ Row.alive (List._∷_ Row.alive List.[]))))))))))))))))))))))));
-        }
-
-        abbrev G92 : Row.Cx
-        G92 = record {
-          locals = List._++_ g68 (List._++_ t1 t60);
-          slots = List._∷_
-              (Row.lease (κs .0) (qs .0))
-              (List._∷_
-              (Row.lease (κs .1 .0) (qs .1 .0))
-              (List._∷_
-              Row.off
-              (List._∷_
-              (Row.lease (κs .1 .1 .1 .0) (qs .1 .1 .1 .0))
-              (List._∷_
-              (Row.lease (κs .1 .1 .1 .1 .0) (qs .1 .1 .1 .1 .0))
-              (List._∷_
-              (Row.lease (κs .1 .1 .1 .1 .1 .0) (qs .1 .1 .1 .1 .1 .0))
-              (List._∷_
-              Row.off
-              (List._∷_
-              Row.off
-              (List._∷_
-              Row.off
-              (List._∷_
-              Row.off
-              (List._∷_
-              Row.off
-              (List._∷_
-              Row.off
-              (List._∷_
-              Row.off
-              (List._∷_
-              Row.off
-              (List._∷_
-              Row.off
-              (List._∷_
-              Row.off
-              (List._∷_
-              Row.off
-              (List._∷_
-              Row.off
-              (List._∷_
-              Row.dead
-              (List._∷_
-              Row.alive
-              (List._∷_
-              Row.alive
-              (List._∷_
-              Row.alive
-              (List._∷_
-              Row.alive
-              (List._∷_ Row.alive (List._∷_ Row.alive List.[]))))))))))))))))))))))));
-        }
-
-        abbrev G93 : Row.Cx
-        G93 = record {
-          locals = List._++_ g68 (List._++_ t1 t60);
-          slots = List._∷_
-              (Row.lease (κs .0) (qs .0))
-              (List._∷_
-              (Row.lease (κs .1 .0) (qs .1 .0))
-              (List._∷_
-              Row.off
-              (List._∷_
-              (Row.lease (κs .1 .1 .1 .0) (qs .1 .1 .1 .0))
-              (List._∷_
-              (Row.lease (κs .1 .1 .1 .1 .0) (qs .1 .1 .1 .1 .0))
-              (List._∷_
-              (Row.lease (κs .1 .1 .1 .1 .1 .0) (qs .1 .1 .1 .1 .1 .0))
-              (List._∷_
-              Row.off
-              (List._∷_
-              Row.off
-              (List._∷_
-              Row.off
-              (List._∷_
-              Row.off
-              (List._∷_
-              Row.off
-              (List._∷_
-              Row.off
-              (List._∷_
-              Row.off
-              (List._∷_
-              Row.off
-              (List._∷_
-              Row.off
-              (List._∷_
-              Row.off
-              (List._∷_
-              Row.off
-              (List._∷_
-              Row.off
-              (List._∷_
-              Row.off
-              (List._∷_
-              Row.alive
-              (List._∷_
-              Row.alive
-              (List._∷_
-              Row.alive
-              (List._∷_
-              Row.alive
-              (List._∷_ Row.alive (List._∷_ Row.alive List.[]))))))))))))))))))))))));
-        }
-
-        abbrev G94 : Row.Cx
-        G94 = record {
-          locals = List._++_ g68 (List._++_ t1 t60);
-          slots = List._∷_
-              (Row.lease (κs .0) (qs .0))
-              (List._∷_
-              (Row.lease (κs .1 .0) (qs .1 .0))
-              (List._∷_
-              Row.off
-              (List._∷_
-              (Row.lease (κs .1 .1 .1 .0) (qs .1 .1 .1 .0))
-              (List._∷_
-              (Row.lease (κs .1 .1 .1 .1 .0) (qs .1 .1 .1 .1 .0))
-              (List._∷_
-              (Row.lease (κs .1 .1 .1 .1 .1 .0) (qs .1 .1 .1 .1 .1 .0))
-              (List._∷_
-              Row.off
-              (List._∷_
-              Row.off
-              (List._∷_
-              Row.off
-              (List._∷_
-              Row.off
-              (List._∷_
-              Row.off
-              (List._∷_
-              Row.off
-              (List._∷_
-              Row.off
-              (List._∷_
-              Row.off
-              (List._∷_
-              Row.off
-              (List._∷_
-              Row.off
-              (List._∷_
-              Row.off
-              (List._∷_
-              Row.off
-              (List._∷_
-              Row.off
-              (List._∷_
-              Row.dead
-              (List._∷_
-              Row.alive
-              (List._∷_
-              Row.alive
-              (List._∷_
-              Row.alive
-              (List._∷_ Row.alive (List._∷_ Row.alive List.[]))))))))))))))))))))))));
+              (List._∷_ Row.alive (List._∷_ Row.alive List.[])))))))))))))))))))))));
         }
 
         abbrev G95 : Row.Cx
@@ -16574,7 +15590,9 @@ module _ (claims· : Claims) where
               (List._∷_
               (Row.lease (κs .1 .1 .1 .1 .1 .0) (qs .1 .1 .1 .1 .1 .0))
               (List._∷_
-              Row.off
+              (Row.lease (κs .1 .1 .1 .1 .1 .1 .0) (qs .1 .1 .1 .1 .1 .1 .0))
+              (List._∷_
+              (Row.lease (κs .1 .1 .1 .1 .1 .1 .1 .0) (qs .1 .1 .1 .1 .1 .1 .1 .0))
               (List._∷_
               Row.off
               (List._∷_
@@ -16603,11 +15621,7 @@ module _ (claims· : Claims) where
               Row.dead
               (List._∷_
               Row.alive
-              (List._∷_
-              Row.alive
-              (List._∷_
-              Row.alive
-              (List._∷_ Row.alive (List._∷_ Row.alive List.[]))))))))))))))))))))))));
+              (List._∷_ Row.alive (List._∷_ Row.alive List.[])))))))))))))))))))))));
         }
 
         abbrev G96 : Row.Cx
@@ -16626,7 +15640,9 @@ module _ (claims· : Claims) where
               (List._∷_
               (Row.lease (κs .1 .1 .1 .1 .1 .0) (qs .1 .1 .1 .1 .1 .0))
               (List._∷_
-              Row.off
+              (Row.lease (κs .1 .1 .1 .1 .1 .1 .0) (qs .1 .1 .1 .1 .1 .1 .0))
+              (List._∷_
+              (Row.lease (κs .1 .1 .1 .1 .1 .1 .1 .0) (qs .1 .1 .1 .1 .1 .1 .1 .0))
               (List._∷_
               Row.off
               (List._∷_
@@ -16652,14 +15668,10 @@ module _ (claims· : Claims) where
               (List._∷_
               Row.off
               (List._∷_
-              Row.dead
+              Row.off
               (List._∷_
               Row.alive
-              (List._∷_
-              Row.alive
-              (List._∷_
-              Row.alive
-              (List._∷_ Row.alive (List._∷_ Row.alive List.[]))))))))))))))))))))))));
+              (List._∷_ Row.alive (List._∷_ Row.alive List.[])))))))))))))))))))))));
         }
 
         abbrev G97 : Row.Cx
@@ -16678,59 +15690,9 @@ module _ (claims· : Claims) where
               (List._∷_
               (Row.lease (κs .1 .1 .1 .1 .1 .0) (qs .1 .1 .1 .1 .1 .0))
               (List._∷_
-              Row.off
+              (Row.lease (κs .1 .1 .1 .1 .1 .1 .0) (qs .1 .1 .1 .1 .1 .1 .0))
               (List._∷_
-              Row.off
-              (List._∷_
-              Row.off
-              (List._∷_
-              Row.off
-              (List._∷_
-              Row.off
-              (List._∷_
-              Row.off
-              (List._∷_
-              Row.off
-              (List._∷_
-              Row.off
-              (List._∷_
-              Row.off
-              (List._∷_
-              Row.off
-              (List._∷_
-              Row.off
-              (List._∷_
-              Row.off
-              (List._∷_
-              Row.off
-              (List._∷_
-              Row.off
-              (List._∷_
-              Row.alive
-              (List._∷_
-              Row.alive
-              (List._∷_
-              Row.alive
-              (List._∷_ Row.alive (List._∷_ Row.alive List.[]))))))))))))))))))))))));
-        }
-
-        abbrev G98 : Row.Cx
-        G98 = record {
-          locals = List._++_ g69 (List._++_ t1 t70);
-          slots = List._∷_
-              (Row.lease (κs .0) (qs .0))
-              (List._∷_
-              (Row.lease (κs .1 .0) (qs .1 .0))
-              (List._∷_
-              (Row.lease (κs .1 .1 .0) (qs .1 .1 .0))
-              (List._∷_
-              (Row.lease (κs .1 .1 .1 .0) (qs .1 .1 .1 .0))
-              (List._∷_
-              (Row.lease (κs .1 .1 .1 .1 .0) (qs .1 .1 .1 .1 .0))
-              (List._∷_
-              (Row.lease (κs .1 .1 .1 .1 .1 .0) (qs .1 .1 .1 .1 .1 .0))
-              (List._∷_
-              Row.off
+              (Row.lease (κs .1 .1 .1 .1 .1 .1 .1 .0) (qs .1 .1 .1 .1 .1 .1 .1 .0))
               (List._∷_
               Row.off
               (List._∷_
@@ -16759,11 +15721,57 @@ module _ (claims· : Claims) where
               Row.off
               (List._∷_
               Row.dead
+              (List._∷_ Row.alive (List._∷_ Row.alive List.[])))))))))))))))))))))));
+        }
+
+        abbrev G98 : Row.Cx
+        G98 = record {
+          locals = List._++_ g71 (List._++_ t1 t72);
+          slots = List._∷_
+              (Row.lease (κs .0) (qs .0))
               (List._∷_
-              Row.alive
+              (Row.lease (κs .1 .0) (qs .1 .0))
               (List._∷_
-              Row.alive
-              (List._∷_ Row.alive (List._∷_ Row.alive List.[]))))))))))))))))))))))));
+              (Row.lease (κs .1 .1 .0) (qs .1 .1 .0))
+              (List._∷_
+              (Row.lease (κs .1 .1 .1 .0) (qs .1 .1 .1 .0))
+              (List._∷_
+              (Row.lease (κs .1 .1 .1 .1 .0) (qs .1 .1 .1 .1 .0))
+              (List._∷_
+              (Row.lease (κs .1 .1 .1 .1 .1 .0) (qs .1 .1 .1 .1 .1 .0))
+              (List._∷_
+              (Row.lease (κs .1 .1 .1 .1 .1 .1 .0) (qs .1 .1 .1 .1 .1 .1 .0))
+              (List._∷_
+              (Row.lease (κs .1 .1 .1 .1 .1 .1 .1 .0) (qs .1 .1 .1 .1 .1 .1 .1 .0))
+              (List._∷_
+              (Row.lease (κs .1 .1 .1 .1 .1 .1 .1 .1 .0) (qs .1 .1 .1 .1 .1 .1 .1 .1 .0))
+              (List._∷_
+              Row.off
+              (List._∷_
+              Row.off
+              (List._∷_
+              Row.off
+              (List._∷_
+              Row.off
+              (List._∷_
+              Row.off
+              (List._∷_
+              Row.off
+              (List._∷_
+              Row.off
+              (List._∷_
+              Row.off
+              (List._∷_
+              Row.off
+              (List._∷_
+              Row.off
+              (List._∷_
+              Row.off
+              (List._∷_
+              Row.off
+              (List._∷_
+              Row.dead
+              (List._∷_ Row.alive (List._∷_ Row.alive List.[])))))))))))))))))))))));
         }
 
         abbrev G99 : Row.Cx
@@ -16784,7 +15792,9 @@ module _ (claims· : Claims) where
               (List._∷_
               (Row.lease (κs .1 .1 .1 .1 .1 .1 .0) (qs .1 .1 .1 .1 .1 .1 .0))
               (List._∷_
-              Row.off
+              (Row.lease (κs .1 .1 .1 .1 .1 .1 .1 .0) (qs .1 .1 .1 .1 .1 .1 .1 .0))
+              (List._∷_
+              (Row.lease (κs .1 .1 .1 .1 .1 .1 .1 .1 .0) (qs .1 .1 .1 .1 .1 .1 .1 .1 .0))
               (List._∷_
               Row.off
               (List._∷_
@@ -16811,11 +15821,7 @@ module _ (claims· : Claims) where
               Row.off
               (List._∷_
               Row.dead
-              (List._∷_
-              Row.alive
-              (List._∷_
-              Row.alive
-              (List._∷_ Row.alive (List._∷_ Row.alive List.[]))))))))))))))))))))))));
+              (List._∷_ Row.alive (List._∷_ Row.alive List.[])))))))))))))))))))))));
         }
 
         abbrev G100 : Row.Cx
@@ -16836,7 +15842,9 @@ module _ (claims· : Claims) where
               (List._∷_
               (Row.lease (κs .1 .1 .1 .1 .1 .1 .0) (qs .1 .1 .1 .1 .1 .1 .0))
               (List._∷_
-              Row.off
+              (Row.lease (κs .1 .1 .1 .1 .1 .1 .1 .0) (qs .1 .1 .1 .1 .1 .1 .1 .0))
+              (List._∷_
+              (Row.lease (κs .1 .1 .1 .1 .1 .1 .1 .1 .0) (qs .1 .1 .1 .1 .1 .1 .1 .1 .0))
               (List._∷_
               Row.off
               (List._∷_
@@ -16862,12 +15870,8 @@ module _ (claims· : Claims) where
               (List._∷_
               Row.off
               (List._∷_
-              Row.dead
-              (List._∷_
-              Row.alive
-              (List._∷_
-              Row.alive
-              (List._∷_ Row.alive (List._∷_ Row.alive List.[]))))))))))))))))))))))));
+              Row.off
+              (List._∷_ Row.alive (List._∷_ Row.alive List.[])))))))))))))))))))))));
         }
 
         abbrev G101 : Row.Cx
@@ -16888,7 +15892,9 @@ module _ (claims· : Claims) where
               (List._∷_
               (Row.lease (κs .1 .1 .1 .1 .1 .1 .0) (qs .1 .1 .1 .1 .1 .1 .0))
               (List._∷_
-              Row.off
+              (Row.lease (κs .1 .1 .1 .1 .1 .1 .1 .0) (qs .1 .1 .1 .1 .1 .1 .1 .0))
+              (List._∷_
+              (Row.lease (κs .1 .1 .1 .1 .1 .1 .1 .1 .0) (qs .1 .1 .1 .1 .1 .1 .1 .1 .0))
               (List._∷_
               Row.off
               (List._∷_
@@ -16915,16 +15921,12 @@ module _ (claims· : Claims) where
               Row.off
               (List._∷_
               Row.off
-              (List._∷_
-              Row.alive
-              (List._∷_
-              Row.alive
-              (List._∷_ Row.alive (List._∷_ Row.alive List.[]))))))))))))))))))))))));
+              (List._∷_ Row.dead (List._∷_ Row.alive List.[])))))))))))))))))))))));
         }
 
         abbrev G102 : Row.Cx
         G102 = record {
-          locals = List._++_ g71 (List._++_ t1 t72);
+          locals = List._++_ g73 (List._++_ t1 t74);
           slots = List._∷_
               (Row.lease (κs .0) (qs .0))
               (List._∷_
@@ -16940,7 +15942,11 @@ module _ (claims· : Claims) where
               (List._∷_
               (Row.lease (κs .1 .1 .1 .1 .1 .1 .0) (qs .1 .1 .1 .1 .1 .1 .0))
               (List._∷_
-              Row.off
+              (Row.lease (κs .1 .1 .1 .1 .1 .1 .1 .0) (qs .1 .1 .1 .1 .1 .1 .1 .0))
+              (List._∷_
+              (Row.lease (κs .1 .1 .1 .1 .1 .1 .1 .1 .0) (qs .1 .1 .1 .1 .1 .1 .1 .1 .0))
+              (List._∷_
+              (Row.lease (κs .1 .1 .1 .1 .1 .1 .1 .1 .1 .0) (qs .1 .1 .1 .1 .1 .1 .1 .1 .1 .0))
               (List._∷_
               Row.off
               (List._∷_
@@ -16965,13 +15971,7 @@ module _ (claims· : Claims) where
               Row.off
               (List._∷_
               Row.off
-              (List._∷_
-              Row.off
-              (List._∷_
-              Row.dead
-              (List._∷_
-              Row.alive
-              (List._∷_ Row.alive (List._∷_ Row.alive List.[]))))))))))))))))))))))));
+              (List._∷_ Row.dead (List._∷_ Row.alive List.[])))))))))))))))))))))));
         }
 
         abbrev G103 : Row.Cx
@@ -16994,7 +15994,9 @@ module _ (claims· : Claims) where
               (List._∷_
               (Row.lease (κs .1 .1 .1 .1 .1 .1 .1 .0) (qs .1 .1 .1 .1 .1 .1 .1 .0))
               (List._∷_
-              Row.off
+              (Row.lease (κs .1 .1 .1 .1 .1 .1 .1 .1 .0) (qs .1 .1 .1 .1 .1 .1 .1 .1 .0))
+              (List._∷_
+              (Row.lease (κs .1 .1 .1 .1 .1 .1 .1 .1 .1 .0) (qs .1 .1 .1 .1 .1 .1 .1 .1 .1 .0))
               (List._∷_
               Row.off
               (List._∷_
@@ -17019,11 +16021,7 @@ module _ (claims· : Claims) where
               Row.off
               (List._∷_
               Row.off
-              (List._∷_
-              Row.dead
-              (List._∷_
-              Row.alive
-              (List._∷_ Row.alive (List._∷_ Row.alive List.[]))))))))))))))))))))))));
+              (List._∷_ Row.dead (List._∷_ Row.alive List.[])))))))))))))))))))))));
         }
 
         abbrev G104 : Row.Cx
@@ -17046,7 +16044,9 @@ module _ (claims· : Claims) where
               (List._∷_
               (Row.lease (κs .1 .1 .1 .1 .1 .1 .1 .0) (qs .1 .1 .1 .1 .1 .1 .1 .0))
               (List._∷_
-              Row.off
+              (Row.lease (κs .1 .1 .1 .1 .1 .1 .1 .1 .0) (qs .1 .1 .1 .1 .1 .1 .1 .1 .0))
+              (List._∷_
+              (Row.lease (κs .1 .1 .1 .1 .1 .1 .1 .1 .1 .0) (qs .1 .1 .1 .1 .1 .1 .1 .1 .1 .0))
               (List._∷_
               Row.off
               (List._∷_
@@ -17071,11 +16071,7 @@ module _ (claims· : Claims) where
               Row.off
               (List._∷_
               Row.off
-              (List._∷_
-              Row.dead
-              (List._∷_
-              Row.alive
-              (List._∷_ Row.alive (List._∷_ Row.alive List.[]))))))))))))))))))))))));
+              (List._∷_ Row.off (List._∷_ Row.alive List.[])))))))))))))))))))))));
         }
 
         abbrev G105 : Row.Cx
@@ -17098,7 +16094,9 @@ module _ (claims· : Claims) where
               (List._∷_
               (Row.lease (κs .1 .1 .1 .1 .1 .1 .1 .0) (qs .1 .1 .1 .1 .1 .1 .1 .0))
               (List._∷_
-              Row.off
+              (Row.lease (κs .1 .1 .1 .1 .1 .1 .1 .1 .0) (qs .1 .1 .1 .1 .1 .1 .1 .1 .0))
+              (List._∷_
+              (Row.lease (κs .1 .1 .1 .1 .1 .1 .1 .1 .1 .0) (qs .1 .1 .1 .1 .1 .1 .1 .1 .1 .0))
               (List._∷_
               Row.off
               (List._∷_
@@ -17123,16 +16121,12 @@ module _ (claims· : Claims) where
               Row.off
               (List._∷_
               Row.off
-              (List._∷_
-              Row.off
-              (List._∷_
-              Row.alive
-              (List._∷_ Row.alive (List._∷_ Row.alive List.[]))))))))))))))))))))))));
+              (List._∷_ Row.off (List._∷_ Row.dead List.[])))))))))))))))))))))));
         }
 
         abbrev G106 : Row.Cx
         G106 = record {
-          locals = List._++_ g73 (List._++_ t1 t74);
+          locals = List._++_ t3 (List._++_ t1 t2);
           slots = List._∷_
               (Row.lease (κs .0) (qs .0))
               (List._∷_
@@ -17150,7 +16144,13 @@ module _ (claims· : Claims) where
               (List._∷_
               (Row.lease (κs .1 .1 .1 .1 .1 .1 .1 .0) (qs .1 .1 .1 .1 .1 .1 .1 .0))
               (List._∷_
-              Row.off
+              (Row.lease (κs .1 .1 .1 .1 .1 .1 .1 .1 .0) (qs .1 .1 .1 .1 .1 .1 .1 .1 .0))
+              (List._∷_
+              (Row.lease (κs .1 .1 .1 .1 .1 .1 .1 .1 .1 .0) (qs .1 .1 .1 .1 .1 .1 .1 .1 .1 .0))
+              (List._∷_
+              (Row.lease
+              (κs .1 .1 .1 .1 .1 .1 .1 .1 .1 .1 .0)
+              (qs .1 .1 .1 .1 .1 .1 .1 .1 .1 .1 .0))
               (List._∷_
               Row.off
               (List._∷_
@@ -17173,18 +16173,12 @@ module _ (claims· : Claims) where
               Row.off
               (List._∷_
               Row.off
-              (List._∷_
-              Row.off
-              (List._∷_
-              Row.off
-              (List._∷_
-              Row.dead
-              (List._∷_ Row.alive (List._∷_ Row.alive List.[]))))))))))))))))))))))));
+              (List._∷_ Row.off (List._∷_ Row.dead List.[])))))))))))))))))))))));
         }
 
         abbrev G107 : Row.Cx
         G107 = record {
-          locals = List._++_ g75 (List._++_ t1 t76);
+          locals = List._++_ t3 (List._++_ t1 t2);
           slots = List._∷_
               (Row.lease (κs .0) (qs .0))
               (List._∷_
@@ -17204,7 +16198,11 @@ module _ (claims· : Claims) where
               (List._∷_
               (Row.lease (κs .1 .1 .1 .1 .1 .1 .1 .1 .0) (qs .1 .1 .1 .1 .1 .1 .1 .1 .0))
               (List._∷_
-              Row.off
+              (Row.lease (κs .1 .1 .1 .1 .1 .1 .1 .1 .1 .0) (qs .1 .1 .1 .1 .1 .1 .1 .1 .1 .0))
+              (List._∷_
+              (Row.lease
+              (κs .1 .1 .1 .1 .1 .1 .1 .1 .1 .1 .0)
+              (qs .1 .1 .1 .1 .1 .1 .1 .1 .1 .1 .0))
               (List._∷_
               Row.off
               (List._∷_
@@ -17227,379 +16225,11 @@ module _ (claims· : Claims) where
               Row.off
               (List._∷_
               Row.off
-              (List._∷_
-              Row.off
-              (List._∷_
-              Row.dead
-              (List._∷_ Row.alive (List._∷_ Row.alive List.[]))))))))))))))))))))))));
+              (List._∷_ Row.off (List._∷_ Row.dead List.[])))))))))))))))))))))));
         }
 
         abbrev G108 : Row.Cx
         G108 = record {
-          locals = List._++_ g75 (List._++_ t1 t76);
-          slots = List._∷_
-              (Row.lease (κs .0) (qs .0))
-              (List._∷_
-              (Row.lease (κs .1 .0) (qs .1 .0))
-              (List._∷_
-              (Row.lease (κs .1 .1 .0) (qs .1 .1 .0))
-              (List._∷_
-              (Row.lease (κs .1 .1 .1 .0) (qs .1 .1 .1 .0))
-              (List._∷_
-              (Row.lease (κs .1 .1 .1 .1 .0) (qs .1 .1 .1 .1 .0))
-              (List._∷_
-              (Row.lease (κs .1 .1 .1 .1 .1 .0) (qs .1 .1 .1 .1 .1 .0))
-              (List._∷_
-              (Row.lease (κs .1 .1 .1 .1 .1 .1 .0) (qs .1 .1 .1 .1 .1 .1 .0))
-              (List._∷_
-              (Row.lease (κs .1 .1 .1 .1 .1 .1 .1 .0) (qs .1 .1 .1 .1 .1 .1 .1 .0))
-              (List._∷_
-              (Row.lease (κs .1 .1 .1 .1 .1 .1 .1 .1 .0) (qs .1 .1 .1 .1 .1 .1 .1 .1 .0))
-              (List._∷_
-              Row.off
-              (List._∷_
-              Row.off
-              (List._∷_
-              Row.off
-              (List._∷_
-              Row.off
-              (List._∷_
-              Row.off
-              (List._∷_
-              Row.off
-              (List._∷_
-              Row.off
-              (List._∷_
-              Row.off
-              (List._∷_
-              Row.off
-              (List._∷_
-              Row.off
-              (List._∷_
-              Row.off
-              (List._∷_
-              Row.off
-              (List._∷_
-              Row.off
-              (List._∷_
-              Row.dead
-              (List._∷_ Row.alive (List._∷_ Row.alive List.[]))))))))))))))))))))))));
-        }
-
-        abbrev G109 : Row.Cx
-        G109 = record {
-          locals = List._++_ g75 (List._++_ t1 t76);
-          slots = List._∷_
-              (Row.lease (κs .0) (qs .0))
-              (List._∷_
-              (Row.lease (κs .1 .0) (qs .1 .0))
-              (List._∷_
-              (Row.lease (κs .1 .1 .0) (qs .1 .1 .0))
-              (List._∷_
-              (Row.lease (κs .1 .1 .1 .0) (qs .1 .1 .1 .0))
-              (List._∷_
-              (Row.lease (κs .1 .1 .1 .1 .0) (qs .1 .1 .1 .1 .0))
-              (List._∷_
-              (Row.lease (κs .1 .1 .1 .1 .1 .0) (qs .1 .1 .1 .1 .1 .0))
-              (List._∷_
-              (Row.lease (κs .1 .1 .1 .1 .1 .1 .0) (qs .1 .1 .1 .1 .1 .1 .0))
-              (List._∷_
-              (Row.lease (κs .1 .1 .1 .1 .1 .1 .1 .0) (qs .1 .1 .1 .1 .1 .1 .1 .0))
-              (List._∷_
-              (Row.lease (κs .1 .1 .1 .1 .1 .1 .1 .1 .0) (qs .1 .1 .1 .1 .1 .1 .1 .1 .0))
-              (List._∷_
-              Row.off
-              (List._∷_
-              Row.off
-              (List._∷_
-              Row.off
-              (List._∷_
-              Row.off
-              (List._∷_
-              Row.off
-              (List._∷_
-              Row.off
-              (List._∷_
-              Row.off
-              (List._∷_
-              Row.off
-              (List._∷_
-              Row.off
-              (List._∷_
-              Row.off
-              (List._∷_
-              Row.off
-              (List._∷_
-              Row.off
-              (List._∷_
-              Row.off
-              (List._∷_
-              Row.off
-              (List._∷_ Row.alive (List._∷_ Row.alive List.[]))))))))))))))))))))))));
-        }
-
-        abbrev G110 : Row.Cx
-        G110 = record {
-          locals = List._++_ g75 (List._++_ t1 t76);
-          slots = List._∷_
-              (Row.lease (κs .0) (qs .0))
-              (List._∷_
-              (Row.lease (κs .1 .0) (qs .1 .0))
-              (List._∷_
-              (Row.lease (κs .1 .1 .0) (qs .1 .1 .0))
-              (List._∷_
-              (Row.lease (κs .1 .1 .1 .0) (qs .1 .1 .1 .0))
-              (List._∷_
-              (Row.lease (κs .1 .1 .1 .1 .0) (qs .1 .1 .1 .1 .0))
-              (List._∷_
-              (Row.lease (κs .1 .1 .1 .1 .1 .0) (qs .1 .1 .1 .1 .1 .0))
-              (List._∷_
-              (Row.lease (κs .1 .1 .1 .1 .1 .1 .0) (qs .1 .1 .1 .1 .1 .1 .0))
-              (List._∷_
-              (Row.lease (κs .1 .1 .1 .1 .1 .1 .1 .0) (qs .1 .1 .1 .1 .1 .1 .1 .0))
-              (List._∷_
-              (Row.lease (κs .1 .1 .1 .1 .1 .1 .1 .1 .0) (qs .1 .1 .1 .1 .1 .1 .1 .1 .0))
-              (List._∷_
-              Row.off
-              (List._∷_
-              Row.off
-              (List._∷_
-              Row.off
-              (List._∷_
-              Row.off
-              (List._∷_
-              Row.off
-              (List._∷_
-              Row.off
-              (List._∷_
-              Row.off
-              (List._∷_
-              Row.off
-              (List._∷_
-              Row.off
-              (List._∷_
-              Row.off
-              (List._∷_
-              Row.off
-              (List._∷_
-              Row.off
-              (List._∷_
-              Row.off
-              (List._∷_
-              Row.off
-              (List._∷_ Row.dead (List._∷_ Row.alive List.[]))))))))))))))))))))))));
-        }
-
-        abbrev G111 : Row.Cx
-        G111 = record {
-          locals = List._++_ g77 (List._++_ t1 t78);
-          slots = List._∷_
-              (Row.lease (κs .0) (qs .0))
-              (List._∷_
-              (Row.lease (κs .1 .0) (qs .1 .0))
-              (List._∷_
-              (Row.lease (κs .1 .1 .0) (qs .1 .1 .0))
-              (List._∷_
-              (Row.lease (κs .1 .1 .1 .0) (qs .1 .1 .1 .0))
-              (List._∷_
-              (Row.lease (κs .1 .1 .1 .1 .0) (qs .1 .1 .1 .1 .0))
-              (List._∷_
-              (Row.lease (κs .1 .1 .1 .1 .1 .0) (qs .1 .1 .1 .1 .1 .0))
-              (List._∷_
-              (Row.lease (κs .1 .1 .1 .1 .1 .1 .0) (qs .1 .1 .1 .1 .1 .1 .0))
-              (List._∷_
-              (Row.lease (κs .1 .1 .1 .1 .1 .1 .1 .0) (qs .1 .1 .1 .1 .1 .1 .1 .0))
-              (List._∷_
-              (Row.lease (κs .1 .1 .1 .1 .1 .1 .1 .1 .0) (qs .1 .1 .1 .1 .1 .1 .1 .1 .0))
-              (List._∷_
-              (Row.lease (κs .1 .1 .1 .1 .1 .1 .1 .1 .1 .0) (qs .1 .1 .1 .1 .1 .1 .1 .1 .1 .0))
-              (List._∷_
-              Row.off
-              (List._∷_
-              Row.off
-              (List._∷_
-              Row.off
-              (List._∷_
-              Row.off
-              (List._∷_
-              Row.off
-              (List._∷_
-              Row.off
-              (List._∷_
-              Row.off
-              (List._∷_
-              Row.off
-              (List._∷_
-              Row.off
-              (List._∷_
-              Row.off
-              (List._∷_
-              Row.off
-              (List._∷_
-              Row.off
-              (List._∷_
-              Row.off
-              (List._∷_ Row.dead (List._∷_ Row.alive List.[]))))))))))))))))))))))));
-        }
-
-        abbrev G112 : Row.Cx
-        G112 = record {
-          locals = List._++_ g77 (List._++_ t1 t78);
-          slots = List._∷_
-              (Row.lease (κs .0) (qs .0))
-              (List._∷_
-              (Row.lease (κs .1 .0) (qs .1 .0))
-              (List._∷_
-              (Row.lease (κs .1 .1 .0) (qs .1 .1 .0))
-              (List._∷_
-              (Row.lease (κs .1 .1 .1 .0) (qs .1 .1 .1 .0))
-              (List._∷_
-              (Row.lease (κs .1 .1 .1 .1 .0) (qs .1 .1 .1 .1 .0))
-              (List._∷_
-              (Row.lease (κs .1 .1 .1 .1 .1 .0) (qs .1 .1 .1 .1 .1 .0))
-              (List._∷_
-              (Row.lease (κs .1 .1 .1 .1 .1 .1 .0) (qs .1 .1 .1 .1 .1 .1 .0))
-              (List._∷_
-              (Row.lease (κs .1 .1 .1 .1 .1 .1 .1 .0) (qs .1 .1 .1 .1 .1 .1 .1 .0))
-              (List._∷_
-              (Row.lease (κs .1 .1 .1 .1 .1 .1 .1 .1 .0) (qs .1 .1 .1 .1 .1 .1 .1 .1 .0))
-              (List._∷_
-              (Row.lease (κs .1 .1 .1 .1 .1 .1 .1 .1 .1 .0) (qs .1 .1 .1 .1 .1 .1 .1 .1 .1 .0))
-              (List._∷_
-              Row.off
-              (List._∷_
-              Row.off
-              (List._∷_
-              Row.off
-              (List._∷_
-              Row.off
-              (List._∷_
-              Row.off
-              (List._∷_
-              Row.off
-              (List._∷_
-              Row.off
-              (List._∷_
-              Row.off
-              (List._∷_
-              Row.off
-              (List._∷_
-              Row.off
-              (List._∷_
-              Row.off
-              (List._∷_
-              Row.off
-              (List._∷_
-              Row.off
-              (List._∷_ Row.dead (List._∷_ Row.alive List.[]))))))))))))))))))))))));
-        }
-
-        abbrev G113 : Row.Cx
-        G113 = record {
-          locals = List._++_ g77 (List._++_ t1 t78);
-          slots = List._∷_
-              (Row.lease (κs .0) (qs .0))
-              (List._∷_
-              (Row.lease (κs .1 .0) (qs .1 .0))
-              (List._∷_
-              (Row.lease (κs .1 .1 .0) (qs .1 .1 .0))
-              (List._∷_
-              (Row.lease (κs .1 .1 .1 .0) (qs .1 .1 .1 .0))
-              (List._∷_
-              (Row.lease (κs .1 .1 .1 .1 .0) (qs .1 .1 .1 .1 .0))
-              (List._∷_
-              (Row.lease (κs .1 .1 .1 .1 .1 .0) (qs .1 .1 .1 .1 .1 .0))
-              (List._∷_
-              (Row.lease (κs .1 .1 .1 .1 .1 .1 .0) (qs .1 .1 .1 .1 .1 .1 .0))
-              (List._∷_
-              (Row.lease (κs .1 .1 .1 .1 .1 .1 .1 .0) (qs .1 .1 .1 .1 .1 .1 .1 .0))
-              (List._∷_
-              (Row.lease (κs .1 .1 .1 .1 .1 .1 .1 .1 .0) (qs .1 .1 .1 .1 .1 .1 .1 .1 .0))
-              (List._∷_
-              (Row.lease (κs .1 .1 .1 .1 .1 .1 .1 .1 .1 .0) (qs .1 .1 .1 .1 .1 .1 .1 .1 .1 .0))
-              (List._∷_
-              Row.off
-              (List._∷_
-              Row.off
-              (List._∷_
-              Row.off
-              (List._∷_
-              Row.off
-              (List._∷_
-              Row.off
-              (List._∷_
-              Row.off
-              (List._∷_
-              Row.off
-              (List._∷_
-              Row.off
-              (List._∷_
-              Row.off
-              (List._∷_
-              Row.off
-              (List._∷_
-              Row.off
-              (List._∷_
-              Row.off
-              (List._∷_
-              Row.off
-              (List._∷_ Row.off (List._∷_ Row.alive List.[]))))))))))))))))))))))));
-        }
-
-        abbrev G114 : Row.Cx
-        G114 = record {
-          locals = List._++_ g77 (List._++_ t1 t78);
-          slots = List._∷_
-              (Row.lease (κs .0) (qs .0))
-              (List._∷_
-              (Row.lease (κs .1 .0) (qs .1 .0))
-              (List._∷_
-              (Row.lease (κs .1 .1 .0) (qs .1 .1 .0))
-              (List._∷_
-              (Row.lease (κs .1 .1 .1 .0) (qs .1 .1 .1 .0))
-              (List._∷_
-              (Row.lease (κs .1 .1 .1 .1 .0) (qs .1 .1 .1 .1 .0))
-              (List._∷_
-              (Row.lease (κs .1 .1 .1 .1 .1 .0) (qs .1 .1 .1 .1 .1 .0))
-              (List._∷_
-              (Row.lease (κs .1 .1 .1 .1 .1 .1 .0) (qs .1 .1 .1 .1 .1 .1 .0))
-              (List._∷_
-              (Row.lease (κs .1 .1 .1 .1 .1 .1 .1 .0) (qs .1 .1 .1 .1 .1 .1 .1 .0))
-              (List._∷_
-              (Row.lease (κs .1 .1 .1 .1 .1 .1 .1 .1 .0) (qs .1 .1 .1 .1 .1 .1 .1 .1 .0))
-              (List._∷_
-              (Row.lease (κs .1 .1 .1 .1 .1 .1 .1 .1 .1 .0) (qs .1 .1 .1 .1 .1 .1 .1 .1 .1 .0))
-              (List._∷_
-              Row.off
-              (List._∷_
-              Row.off
-              (List._∷_
-              Row.off
-              (List._∷_
-              Row.off
-              (List._∷_
-              Row.off
-              (List._∷_
-              Row.off
-              (List._∷_
-              Row.off
-              (List._∷_
-              Row.off
-              (List._∷_
-              Row.off
-              (List._∷_
-              Row.off
-              (List._∷_
-              Row.off
-              (List._∷_
-              Row.off
-              (List._∷_
-              Row.off
-              (List._∷_ Row.off (List._∷_ Row.dead List.[]))))))))))))))))))))))));
-        }
-
-        abbrev G115 : Row.Cx
-        G115 = record {
           locals = List._++_ t3 (List._++_ t1 t2);
           slots = List._∷_
               (Row.lease (κs .0) (qs .0))
@@ -17645,119 +16275,7 @@ module _ (claims· : Claims) where
               Row.off
               (List._∷_
               Row.off
-              (List._∷_
-              Row.off
-              (List._∷_
-              Row.off
-              (List._∷_ Row.off (List._∷_ Row.dead List.[]))))))))))))))))))))))));
-        }
-
-        abbrev G116 : Row.Cx
-        G116 = record {
-          locals = List._++_ t3 (List._++_ t1 t2);
-          slots = List._∷_
-              (Row.lease (κs .0) (qs .0))
-              (List._∷_
-              (Row.lease (κs .1 .0) (qs .1 .0))
-              (List._∷_
-              (Row.lease (κs .1 .1 .0) (qs .1 .1 .0))
-              (List._∷_
-              (Row.lease (κs .1 .1 .1 .0) (qs .1 .1 .1 .0))
-              (List._∷_
-              (Row.lease (κs .1 .1 .1 .1 .0) (qs .1 .1 .1 .1 .0))
-              (List._∷_
-              (Row.lease (κs .1 .1 .1 .1 .1 .0) (qs .1 .1 .1 .1 .1 .0))
-              (List._∷_
-              (Row.lease (κs .1 .1 .1 .1 .1 .1 .0) (qs .1 .1 .1 .1 .1 .1 .0))
-              (List._∷_
-              (Row.lease (κs .1 .1 .1 .1 .1 .1 .1 .0) (qs .1 .1 .1 .1 .1 .1 .1 .0))
-              (List._∷_
-              (Row.lease (κs .1 .1 .1 .1 .1 .1 .1 .1 .0) (qs .1 .1 .1 .1 .1 .1 .1 .1 .0))
-              (List._∷_
-              (Row.lease (κs .1 .1 .1 .1 .1 .1 .1 .1 .1 .0) (qs .1 .1 .1 .1 .1 .1 .1 .1 .1 .0))
-              (List._∷_
-              (Row.lease
-              (κs .1 .1 .1 .1 .1 .1 .1 .1 .1 .1 .0)
-              (qs .1 .1 .1 .1 .1 .1 .1 .1 .1 .1 .0))
-              (List._∷_
-              Row.off
-              (List._∷_
-              Row.off
-              (List._∷_
-              Row.off
-              (List._∷_
-              Row.off
-              (List._∷_
-              Row.off
-              (List._∷_
-              Row.off
-              (List._∷_
-              Row.off
-              (List._∷_
-              Row.off
-              (List._∷_
-              Row.off
-              (List._∷_
-              Row.off
-              (List._∷_
-              Row.off
-              (List._∷_
-              Row.off
-              (List._∷_ Row.off (List._∷_ Row.dead List.[]))))))))))))))))))))))));
-        }
-
-        abbrev G117 : Row.Cx
-        G117 = record {
-          locals = List._++_ t3 (List._++_ t1 t2);
-          slots = List._∷_
-              (Row.lease (κs .0) (qs .0))
-              (List._∷_
-              (Row.lease (κs .1 .0) (qs .1 .0))
-              (List._∷_
-              (Row.lease (κs .1 .1 .0) (qs .1 .1 .0))
-              (List._∷_
-              (Row.lease (κs .1 .1 .1 .0) (qs .1 .1 .1 .0))
-              (List._∷_
-              (Row.lease (κs .1 .1 .1 .1 .0) (qs .1 .1 .1 .1 .0))
-              (List._∷_
-              (Row.lease (κs .1 .1 .1 .1 .1 .0) (qs .1 .1 .1 .1 .1 .0))
-              (List._∷_
-              (Row.lease (κs .1 .1 .1 .1 .1 .1 .0) (qs .1 .1 .1 .1 .1 .1 .0))
-              (List._∷_
-              (Row.lease (κs .1 .1 .1 .1 .1 .1 .1 .0) (qs .1 .1 .1 .1 .1 .1 .1 .0))
-              (List._∷_
-              (Row.lease (κs .1 .1 .1 .1 .1 .1 .1 .1 .0) (qs .1 .1 .1 .1 .1 .1 .1 .1 .0))
-              (List._∷_
-              (Row.lease (κs .1 .1 .1 .1 .1 .1 .1 .1 .1 .0) (qs .1 .1 .1 .1 .1 .1 .1 .1 .1 .0))
-              (List._∷_
-              (Row.lease
-              (κs .1 .1 .1 .1 .1 .1 .1 .1 .1 .1 .0)
-              (qs .1 .1 .1 .1 .1 .1 .1 .1 .1 .1 .0))
-              (List._∷_
-              Row.off
-              (List._∷_
-              Row.off
-              (List._∷_
-              Row.off
-              (List._∷_
-              Row.off
-              (List._∷_
-              Row.off
-              (List._∷_
-              Row.off
-              (List._∷_
-              Row.off
-              (List._∷_
-              Row.off
-              (List._∷_
-              Row.off
-              (List._∷_
-              Row.off
-              (List._∷_
-              Row.off
-              (List._∷_
-              Row.off
-              (List._∷_ Row.off (List._∷_ Row.off List.[]))))))))))))))))))))))));
+              (List._∷_ Row.off (List._∷_ Row.off (List._∷_ Row.off List.[])))))))))))))))))))))));
         }
 
         abbrev Δ0 : Typed.Outs
@@ -17769,10 +16287,10 @@ module _ (claims· : Claims) where
           abbrev E : Wp.Env 𝓤 H
           E = Frame.EnvOf 𝓤 H (List._∷_ (Kinds.tyR r) (Enter.tysP ps xs)) bs
 
-          d0 : Typed.Typed 𝓤 H A 𝓣 E G117 b33 Δ0 at0
+          d0 : Typed.Typed 𝓤 H A 𝓣 E G108 b30 Δ0 at0
           d0 = Typed.t-return 𝓤 H A W 𝓣 E Δ0 tt
 
-          d1 : Typed.Typed 𝓤 H A 𝓣 E G116 b33 Δ0 at1
+          d1 : Typed.Typed 𝓤 H A 𝓣 E G107 b30 Δ0 at1
           d1 =
               Typed.g-pre
               𝓤
@@ -17781,16 +16299,16 @@ module _ (claims· : Claims) where
               W
               𝓣
               E
-              G116
-              G117
-              b33
+              G107
+              G108
+              b30
               Δ0
               (λ Ψ. Ψ)
               at0
-              (Lifetime.g-forget 𝓤 H A W E G116 24 Row.dead Path'.refl)
+              (Lifetime.g-forget 𝓤 H A W E G107 23 Row.dead Path'.refl)
               d0
 
-          d2 : Typed.Typed 𝓤 H A 𝓣 E G115 b33 Δ0 at2
+          d2 : Typed.Typed 𝓤 H A 𝓣 E G106 b30 Δ0 at2
           d2 =
               Typed.g-pre
               𝓤
@@ -17799,11 +16317,11 @@ module _ (claims· : Claims) where
               W
               𝓣
               E
-              G115
-              G116
-              b33
+              G106
+              G107
+              b30
               Δ0
-              (Typed.give s114)
+              (Typed.give s105)
               at1
               (Know.g-sl-known
               𝓤
@@ -17812,7 +16330,7 @@ module _ (claims· : Claims) where
               W
               (Referent.fInt Syntax.w8)
               E
-              G115
+              G106
               11
               10
               (Syntax.tyRef (Syntax.named 10) Syntax.mut (Syntax.tyInt Syntax.w8))
@@ -17834,7 +16352,7 @@ module _ (claims· : Claims) where
               tt)
               d1
 
-          d3 : Typed.Typed 𝓤 H A 𝓣 E G114 b33 Δ0 at3
+          d3 : Typed.Typed 𝓤 H A 𝓣 E G105 b30 Δ0 at3
           d3 =
               Typed.g-pre
               𝓤
@@ -17843,11 +16361,11 @@ module _ (claims· : Claims) where
               W
               𝓣
               E
-              G114
-              G115
-              b33
+              G105
+              G106
+              b30
               Δ0
-              (Typed.both s113)
+              (Typed.both s104)
               at2
               (Relend.g-back-sl
               𝓤
@@ -17856,11 +16374,11 @@ module _ (claims· : Claims) where
               W
               E
               (Referent.rtF (Referent.fInt Syntax.w8))
-              G114
-              43
+              G105
+              40
               11
               10
-              24
+              23
               (Syntax.tyRef (Syntax.named 10) Syntax.mut (Syntax.tyInt Syntax.w8))
               (Syntax.tyRef Syntax.erased Syntax.mut (Syntax.tyInt Syntax.w8))
               (Row.lease
@@ -17883,7 +16401,7 @@ module _ (claims· : Claims) where
               (Referent.rtF (Referent.fInt Syntax.w8))
               (Syntax.tyRef (Syntax.named 10) Syntax.mut (Syntax.tyInt Syntax.w8))
               10
-              24
+              23
               (Row.lease
               (κs .1 .1 .1 .1 .1 .1 .1 .1 .1 .1 .0)
               (qs .1 .1 .1 .1 .1 .1 .1 .1 .1 .1 .0))))
@@ -17891,7 +16409,7 @@ module _ (claims· : Claims) where
               Path'.refl)
               d2
 
-          d4 : Typed.Typed 𝓤 H A 𝓣 E G113 b33 Δ0 at4
+          d4 : Typed.Typed 𝓤 H A 𝓣 E G104 b30 Δ0 at4
           d4 =
               Typed.g-pre
               𝓤
@@ -17900,16 +16418,16 @@ module _ (claims· : Claims) where
               W
               𝓣
               E
-              G113
-              G114
-              b33
+              G104
+              G105
+              b30
               Δ0
               (λ Ψ. Ψ)
               at3
-              (Lifetime.g-end 𝓤 H A W E G113 24 Path'.refl)
+              (Lifetime.g-end 𝓤 H A W E G104 23 Path'.refl)
               d3
 
-          d5 : Typed.Typed 𝓤 H A 𝓣 E G112 b33 Δ0 at5
+          d5 : Typed.Typed 𝓤 H A 𝓣 E G103 b30 Δ0 at5
           d5 =
               Typed.g-pre
               𝓤
@@ -17918,16 +16436,16 @@ module _ (claims· : Claims) where
               W
               𝓣
               E
-              G112
-              G113
-              b33
+              G103
+              G104
+              b30
               Δ0
               (λ Ψ. Ψ)
               at4
-              (Lifetime.g-forget 𝓤 H A W E G112 23 Row.dead Path'.refl)
+              (Lifetime.g-forget 𝓤 H A W E G103 22 Row.dead Path'.refl)
               d4
 
-          d6 : Typed.Typed 𝓤 H A 𝓣 E G111 b33 Δ0 at6
+          d6 : Typed.Typed 𝓤 H A 𝓣 E G102 b30 Δ0 at6
           d6 =
               Typed.g-pre
               𝓤
@@ -17936,11 +16454,11 @@ module _ (claims· : Claims) where
               W
               𝓣
               E
-              G111
-              G112
-              b33
+              G102
+              G103
+              b30
               Δ0
-              (Typed.give s110)
+              (Typed.give s101)
               at5
               (Know.g-sl-known
               𝓤
@@ -17949,7 +16467,7 @@ module _ (claims· : Claims) where
               W
               (Referent.fInt Syntax.w8)
               E
-              G111
+              G102
               10
               9
               (Syntax.tyRef (Syntax.named 9) Syntax.mut (Syntax.tyInt Syntax.w8))
@@ -17969,7 +16487,7 @@ module _ (claims· : Claims) where
               tt)
               d5
 
-          d7 : Typed.Typed 𝓤 H A 𝓣 E G110 b33 Δ0 at7
+          d7 : Typed.Typed 𝓤 H A 𝓣 E G101 b30 Δ0 at7
           d7 =
               Typed.g-pre
               𝓤
@@ -17978,11 +16496,11 @@ module _ (claims· : Claims) where
               W
               𝓣
               E
-              G110
-              G111
-              b33
+              G101
+              G102
+              b30
               Δ0
-              (Typed.both s109)
+              (Typed.both s100)
               at6
               (Part.g-back-slᵖ
               𝓤
@@ -17991,11 +16509,11 @@ module _ (claims· : Claims) where
               W
               E
               (Referent.rtF (Referent.fInt Syntax.w8))
-              G110
-              41
+              G101
+              38
               10
               9
-              23
+              22
               (Syntax.tyRef (Syntax.named 9) Syntax.mut (Syntax.tyInt Syntax.w8))
               (Syntax.tyRef Syntax.erased Syntax.mut (Syntax.tyInt Syntax.w8))
               (Row.lease (κs .1 .1 .1 .1 .1 .1 .1 .1 .1 .0) (qs .1 .1 .1 .1 .1 .1 .1 .1 .1 .0))
@@ -18016,13 +16534,13 @@ module _ (claims· : Claims) where
               (Referent.rtF (Referent.fInt Syntax.w8))
               (Syntax.tyRef (Syntax.named 9) Syntax.mut (Syntax.tyInt Syntax.w8))
               9
-              23
+              22
               (Row.lease (κs .1 .1 .1 .1 .1 .1 .1 .1 .1 .0) (qs .1 .1 .1 .1 .1 .1 .1 .1 .1 .0))))
               Path'.refl
               Path'.refl)
               d6
 
-          d8 : Typed.Typed 𝓤 H A 𝓣 E G109 b33 Δ0 at8
+          d8 : Typed.Typed 𝓤 H A 𝓣 E G100 b30 Δ0 at8
           d8 =
               Typed.g-pre
               𝓤
@@ -18031,16 +16549,16 @@ module _ (claims· : Claims) where
               W
               𝓣
               E
-              G109
-              G110
-              b33
+              G100
+              G101
+              b30
               Δ0
               (λ Ψ. Ψ)
               at7
-              (Lifetime.g-end 𝓤 H A W E G109 23 Path'.refl)
+              (Lifetime.g-end 𝓤 H A W E G100 22 Path'.refl)
               d7
 
-          d9 : Typed.Typed 𝓤 H A 𝓣 E G108 b33 Δ0 at9
+          d9 : Typed.Typed 𝓤 H A 𝓣 E G99 b30 Δ0 at9
           d9 =
               Typed.g-pre
               𝓤
@@ -18049,16 +16567,16 @@ module _ (claims· : Claims) where
               W
               𝓣
               E
-              G108
-              G109
-              b33
+              G99
+              G100
+              b30
               Δ0
               (λ Ψ. Ψ)
               at8
-              (Lifetime.g-forget 𝓤 H A W E G108 22 Row.dead Path'.refl)
+              (Lifetime.g-forget 𝓤 H A W E G99 21 Row.dead Path'.refl)
               d8
 
-          d10 : Typed.Typed 𝓤 H A 𝓣 E G107 b33 Δ0 at10
+          d10 : Typed.Typed 𝓤 H A 𝓣 E G98 b30 Δ0 at10
           d10 =
               Typed.g-pre
               𝓤
@@ -18067,11 +16585,11 @@ module _ (claims· : Claims) where
               W
               𝓣
               E
-              G107
-              G108
-              b33
+              G98
+              G99
+              b30
               Δ0
-              (Typed.give s106)
+              (Typed.give s97)
               at9
               (Know.g-sl-known
               𝓤
@@ -18080,7 +16598,7 @@ module _ (claims· : Claims) where
               W
               (Referent.fInt Syntax.w8)
               E
-              G107
+              G98
               9
               8
               (Syntax.tyRef (Syntax.named 8) Syntax.mut (Syntax.tyInt Syntax.w8))
@@ -18100,7 +16618,7 @@ module _ (claims· : Claims) where
               tt)
               d9
 
-          d11 : Typed.Typed 𝓤 H A 𝓣 E G106 b33 Δ0 at11
+          d11 : Typed.Typed 𝓤 H A 𝓣 E G97 b30 Δ0 at11
           d11 =
               Typed.g-pre
               𝓤
@@ -18109,11 +16627,11 @@ module _ (claims· : Claims) where
               W
               𝓣
               E
-              G106
-              G107
-              b33
+              G97
+              G98
+              b30
               Δ0
-              (Typed.both s105)
+              (Typed.both s96)
               at10
               (Part.g-back-slᵖ
               𝓤
@@ -18122,11 +16640,11 @@ module _ (claims· : Claims) where
               W
               E
               (Referent.rtF (Referent.fInt Syntax.w8))
-              G106
-              39
+              G97
+              36
               9
               8
-              22
+              21
               (Syntax.tyRef (Syntax.named 8) Syntax.mut (Syntax.tyInt Syntax.w8))
               (Syntax.tyRef Syntax.erased Syntax.mut (Syntax.tyInt Syntax.w8))
               (Row.lease (κs .1 .1 .1 .1 .1 .1 .1 .1 .0) (qs .1 .1 .1 .1 .1 .1 .1 .1 .0))
@@ -18147,13 +16665,13 @@ module _ (claims· : Claims) where
               (Referent.rtF (Referent.fInt Syntax.w8))
               (Syntax.tyRef (Syntax.named 8) Syntax.mut (Syntax.tyInt Syntax.w8))
               8
-              22
+              21
               (Row.lease (κs .1 .1 .1 .1 .1 .1 .1 .1 .0) (qs .1 .1 .1 .1 .1 .1 .1 .1 .0))))
               Path'.refl
               Path'.refl)
               d10
 
-          d12 : Typed.Typed 𝓤 H A 𝓣 E G105 b33 Δ0 at12
+          d12 : Typed.Typed 𝓤 H A 𝓣 E G96 b30 Δ0 at12
           d12 =
               Typed.g-pre
               𝓤
@@ -18162,16 +16680,16 @@ module _ (claims· : Claims) where
               W
               𝓣
               E
-              G105
-              G106
-              b33
+              G96
+              G97
+              b30
               Δ0
               (λ Ψ. Ψ)
               at11
-              (Lifetime.g-end 𝓤 H A W E G105 22 Path'.refl)
+              (Lifetime.g-end 𝓤 H A W E G96 21 Path'.refl)
               d11
 
-          d13 : Typed.Typed 𝓤 H A 𝓣 E G104 b33 Δ0 at13
+          d13 : Typed.Typed 𝓤 H A 𝓣 E G95 b30 Δ0 at13
           d13 =
               Typed.g-pre
               𝓤
@@ -18180,16 +16698,16 @@ module _ (claims· : Claims) where
               W
               𝓣
               E
-              G104
-              G105
-              b33
+              G95
+              G96
+              b30
               Δ0
               (λ Ψ. Ψ)
               at12
-              (Lifetime.g-forget 𝓤 H A W E G104 21 Row.dead Path'.refl)
+              (Lifetime.g-forget 𝓤 H A W E G95 20 Row.dead Path'.refl)
               d12
 
-          d14 : Typed.Typed 𝓤 H A 𝓣 E G103 b33 Δ0 at14
+          d14 : Typed.Typed 𝓤 H A 𝓣 E G94 b30 Δ0 at14
           d14 =
               Typed.g-pre
               𝓤
@@ -18198,11 +16716,11 @@ module _ (claims· : Claims) where
               W
               𝓣
               E
-              G103
-              G104
-              b33
+              G94
+              G95
+              b30
               Δ0
-              (Typed.give s102)
+              (Typed.give s93)
               at13
               (Know.g-sl-known
               𝓤
@@ -18211,7 +16729,7 @@ module _ (claims· : Claims) where
               W
               (Referent.fInt Syntax.w8)
               E
-              G103
+              G94
               8
               7
               (Syntax.tyRef (Syntax.named 7) Syntax.mut (Syntax.tyInt Syntax.w8))
@@ -18231,7 +16749,7 @@ module _ (claims· : Claims) where
               tt)
               d13
 
-          d15 : Typed.Typed 𝓤 H A 𝓣 E G102 b33 Δ0 at15
+          d15 : Typed.Typed 𝓤 H A 𝓣 E G93 b30 Δ0 at15
           d15 =
               Typed.g-pre
               𝓤
@@ -18240,11 +16758,11 @@ module _ (claims· : Claims) where
               W
               𝓣
               E
-              G102
-              G103
-              b33
+              G93
+              G94
+              b30
               Δ0
-              (Typed.both s101)
+              (Typed.both s92)
               at14
               (Part.g-back-slᵖ
               𝓤
@@ -18253,11 +16771,11 @@ module _ (claims· : Claims) where
               W
               E
               (Referent.rtF (Referent.fInt Syntax.w8))
-              G102
-              37
+              G93
+              34
               8
               7
-              21
+              20
               (Syntax.tyRef (Syntax.named 7) Syntax.mut (Syntax.tyInt Syntax.w8))
               (Syntax.tyRef Syntax.erased Syntax.mut (Syntax.tyInt Syntax.w8))
               (Row.lease (κs .1 .1 .1 .1 .1 .1 .1 .0) (qs .1 .1 .1 .1 .1 .1 .1 .0))
@@ -18278,13 +16796,13 @@ module _ (claims· : Claims) where
               (Referent.rtF (Referent.fInt Syntax.w8))
               (Syntax.tyRef (Syntax.named 7) Syntax.mut (Syntax.tyInt Syntax.w8))
               7
-              21
+              20
               (Row.lease (κs .1 .1 .1 .1 .1 .1 .1 .0) (qs .1 .1 .1 .1 .1 .1 .1 .0))))
               Path'.refl
               Path'.refl)
               d14
 
-          d16 : Typed.Typed 𝓤 H A 𝓣 E G101 b33 Δ0 at16
+          d16 : Typed.Typed 𝓤 H A 𝓣 E G92 b30 Δ0 at16
           d16 =
               Typed.g-pre
               𝓤
@@ -18293,16 +16811,16 @@ module _ (claims· : Claims) where
               W
               𝓣
               E
-              G101
-              G102
-              b33
+              G92
+              G93
+              b30
               Δ0
               (λ Ψ. Ψ)
               at15
-              (Lifetime.g-end 𝓤 H A W E G101 21 Path'.refl)
+              (Lifetime.g-end 𝓤 H A W E G92 20 Path'.refl)
               d15
 
-          d17 : Typed.Typed 𝓤 H A 𝓣 E G100 b33 Δ0 at17
+          d17 : Typed.Typed 𝓤 H A 𝓣 E G91 b30 Δ0 at17
           d17 =
               Typed.g-pre
               𝓤
@@ -18311,16 +16829,16 @@ module _ (claims· : Claims) where
               W
               𝓣
               E
-              G100
-              G101
-              b33
+              G91
+              G92
+              b30
               Δ0
               (λ Ψ. Ψ)
               at16
-              (Lifetime.g-forget 𝓤 H A W E G100 20 Row.dead Path'.refl)
+              (Lifetime.g-forget 𝓤 H A W E G91 19 Row.dead Path'.refl)
               d16
 
-          d18 : Typed.Typed 𝓤 H A 𝓣 E G99 b33 Δ0 at18
+          d18 : Typed.Typed 𝓤 H A 𝓣 E G90 b30 Δ0 at18
           d18 =
               Typed.g-pre
               𝓤
@@ -18329,11 +16847,11 @@ module _ (claims· : Claims) where
               W
               𝓣
               E
-              G99
-              G100
-              b33
+              G90
+              G91
+              b30
               Δ0
-              (Typed.give s98)
+              (Typed.give s89)
               at17
               (Know.g-sl-known
               𝓤
@@ -18342,7 +16860,7 @@ module _ (claims· : Claims) where
               W
               (Referent.fInt Syntax.w8)
               E
-              G99
+              G90
               7
               6
               (Syntax.tyRef (Syntax.named 6) Syntax.mut (Syntax.tyInt Syntax.w8))
@@ -18362,7 +16880,7 @@ module _ (claims· : Claims) where
               tt)
               d17
 
-          d19 : Typed.Typed 𝓤 H A 𝓣 E G98 b33 Δ0 at19
+          d19 : Typed.Typed 𝓤 H A 𝓣 E G89 b30 Δ0 at19
           d19 =
               Typed.g-pre
               𝓤
@@ -18371,11 +16889,11 @@ module _ (claims· : Claims) where
               W
               𝓣
               E
-              G98
-              G99
-              b33
+              G89
+              G90
+              b30
               Δ0
-              (Typed.both s97)
+              (Typed.both s88)
               at18
               (Part.g-back-slᵖ
               𝓤
@@ -18384,11 +16902,11 @@ module _ (claims· : Claims) where
               W
               E
               (Referent.rtF (Referent.fInt Syntax.w8))
-              G98
-              35
+              G89
+              32
               7
               6
-              20
+              19
               (Syntax.tyRef (Syntax.named 6) Syntax.mut (Syntax.tyInt Syntax.w8))
               (Syntax.tyRef Syntax.erased Syntax.mut (Syntax.tyInt Syntax.w8))
               (Row.lease (κs .1 .1 .1 .1 .1 .1 .0) (qs .1 .1 .1 .1 .1 .1 .0))
@@ -18409,13 +16927,13 @@ module _ (claims· : Claims) where
               (Referent.rtF (Referent.fInt Syntax.w8))
               (Syntax.tyRef (Syntax.named 6) Syntax.mut (Syntax.tyInt Syntax.w8))
               6
-              20
+              19
               (Row.lease (κs .1 .1 .1 .1 .1 .1 .0) (qs .1 .1 .1 .1 .1 .1 .0))))
               Path'.refl
               Path'.refl)
               d18
 
-          d20 : Typed.Typed 𝓤 H A 𝓣 E G97 b33 Δ0 at20
+          d20 : Typed.Typed 𝓤 H A 𝓣 E G88 b30 Δ0 at20
           d20 =
               Typed.g-pre
               𝓤
@@ -18424,16 +16942,16 @@ module _ (claims· : Claims) where
               W
               𝓣
               E
-              G97
-              G98
-              b33
+              G88
+              G89
+              b30
               Δ0
               (λ Ψ. Ψ)
               at19
-              (Lifetime.g-end 𝓤 H A W E G97 20 Path'.refl)
+              (Lifetime.g-end 𝓤 H A W E G88 19 Path'.refl)
               d19
 
-          d21 : Typed.Typed 𝓤 H A 𝓣 E G96 b33 Δ0 at21
+          d21 : Typed.Typed 𝓤 H A 𝓣 E G87 b30 Δ0 at21
           d21 =
               Typed.g-pre
               𝓤
@@ -18442,16 +16960,16 @@ module _ (claims· : Claims) where
               W
               𝓣
               E
-              G96
-              G97
-              b33
+              G87
+              G88
+              b30
               Δ0
               (λ Ψ. Ψ)
               at20
-              (Lifetime.g-forget 𝓤 H A W E G96 19 Row.dead Path'.refl)
+              (Lifetime.g-forget 𝓤 H A W E G87 18 Row.dead Path'.refl)
               d20
 
-          d22 : Typed.Typed 𝓤 H A 𝓣 E G95 b33 Δ0 at22
+          d22 : Typed.Typed 𝓤 H A 𝓣 E G86 b30 Δ0 at22
           d22 =
               Typed.g-pre
               𝓤
@@ -18460,11 +16978,11 @@ module _ (claims· : Claims) where
               W
               𝓣
               E
-              G95
-              G96
-              b33
+              G86
+              G87
+              b30
               Δ0
-              (Typed.give s94)
+              (Typed.give s85)
               at21
               (Know.g-sl-known
               𝓤
@@ -18473,7 +16991,7 @@ module _ (claims· : Claims) where
               W
               (Referent.fInt Syntax.w64)
               E
-              G95
+              G86
               3
               2
               (Syntax.tyRef (Syntax.named 2) Syntax.mut (Syntax.tyInt Syntax.w64))
@@ -18493,7 +17011,7 @@ module _ (claims· : Claims) where
               tt)
               d21
 
-          d23 : Typed.Typed 𝓤 H A 𝓣 E G94 b33 Δ0 at23
+          d23 : Typed.Typed 𝓤 H A 𝓣 E G85 b30 Δ0 at23
           d23 =
               Typed.g-pre
               𝓤
@@ -18502,11 +17020,11 @@ module _ (claims· : Claims) where
               W
               𝓣
               E
-              G94
-              G95
-              b33
+              G85
+              G86
+              b30
               Δ0
-              (Typed.both s93)
+              (Typed.both s84)
               at22
               (Relend.g-back-sl
               𝓤
@@ -18515,11 +17033,11 @@ module _ (claims· : Claims) where
               W
               E
               (Referent.rtF (Referent.fInt Syntax.w64))
-              G94
-              33
+              G85
+              30
               3
               2
-              19
+              18
               (Syntax.tyRef (Syntax.named 2) Syntax.mut (Syntax.tyInt Syntax.w64))
               (Syntax.tyRef Syntax.erased Syntax.mut (Syntax.tyInt Syntax.w64))
               (Row.lease (κs .1 .1 .0) (qs .1 .1 .0))
@@ -18540,13 +17058,13 @@ module _ (claims· : Claims) where
               (Referent.rtF (Referent.fInt Syntax.w64))
               (Syntax.tyRef (Syntax.named 2) Syntax.mut (Syntax.tyInt Syntax.w64))
               2
-              19
+              18
               (Row.lease (κs .1 .1 .0) (qs .1 .1 .0))))
               Path'.refl
               Path'.refl)
               d22
 
-          d24 : Typed.Typed 𝓤 H A 𝓣 E G93 b33 Δ0 at24
+          d24 : Typed.Typed 𝓤 H A 𝓣 E G84 b30 Δ0 at24
           d24 =
               Typed.g-pre
               𝓤
@@ -18555,16 +17073,16 @@ module _ (claims· : Claims) where
               W
               𝓣
               E
-              G93
-              G94
-              b33
+              G84
+              G85
+              b30
               Δ0
               (λ Ψ. Ψ)
               at23
-              (Lifetime.g-end 𝓤 H A W E G93 19 Path'.refl)
+              (Lifetime.g-end 𝓤 H A W E G84 18 Path'.refl)
               d23
 
-          d25 : Typed.Typed 𝓤 H A 𝓣 E G92 b33 Δ0 at25
+          d25 : Typed.Typed 𝓤 H A 𝓣 E G83 b30 Δ0 at25
           d25 =
               Typed.g-pre
               𝓤
@@ -18573,16 +17091,16 @@ module _ (claims· : Claims) where
               W
               𝓣
               E
-              G92
-              G93
-              b33
+              G83
+              G84
+              b30
               Δ0
               (λ Ψ. Ψ)
               at24
-              (Lifetime.g-forget 𝓤 H A W E G92 18 Row.dead Path'.refl)
+              (Lifetime.g-forget 𝓤 H A W E G83 17 Row.dead Path'.refl)
               d24
 
-          d26 : Typed.Typed 𝓤 H A 𝓣 E G91 b33 Δ0 at26
+          d26 : Typed.Typed 𝓤 H A 𝓣 E G82 b30 Δ0 at26
           d26 =
               Typed.g-pre
               𝓤
@@ -18591,11 +17109,11 @@ module _ (claims· : Claims) where
               W
               𝓣
               E
-              G91
-              G92
-              b33
+              G82
+              G83
+              b30
               Δ0
-              (Typed.pass T89 T92 s90)
+              (Typed.pass T80 T83 s81)
               at25
               (Reshare.g-back-sl-shr
               𝓤
@@ -18604,10 +17122,10 @@ module _ (claims· : Claims) where
               W
               E
               (Referent.rtF (Referent.fInt Syntax.w8))
-              G91
+              G82
               5
               4
-              18
+              17
               (Syntax.tyRef (Syntax.named 4) Syntax.mut (Syntax.tyInt Syntax.w8))
               (Row.lease (κs .1 .1 .1 .1 .0) (qs .1 .1 .1 .1 .0))
               (λ x. x)
@@ -18619,13 +17137,13 @@ module _ (claims· : Claims) where
               (Referent.rtF (Referent.fInt Syntax.w8))
               (Syntax.tyRef (Syntax.named 4) Syntax.mut (Syntax.tyInt Syntax.w8))
               4
-              18
+              17
               (Row.lease (κs .1 .1 .1 .1 .0) (qs .1 .1 .1 .1 .0))))
               Path'.refl
               Path'.refl)
               d25
 
-          d27 : Typed.Typed 𝓤 H A 𝓣 E G90 b33 Δ0 at27
+          d27 : Typed.Typed 𝓤 H A 𝓣 E G81 b30 Δ0 at27
           d27 =
               Typed.g-pre
               𝓤
@@ -18634,16 +17152,16 @@ module _ (claims· : Claims) where
               W
               𝓣
               E
-              G90
-              G91
-              b33
+              G81
+              G82
+              b30
               Δ0
               (λ Ψ. Ψ)
               at26
-              (Lifetime.g-end 𝓤 H A W E G90 18 Path'.refl)
+              (Lifetime.g-end 𝓤 H A W E G81 17 Path'.refl)
               d26
 
-          d28 : Typed.Typed 𝓤 H A 𝓣 E G89 b33 Δ0 at28
+          d28 : Typed.Typed 𝓤 H A 𝓣 E G80 b30 Δ0 at28
           d28 =
               Typed.g-pre
               𝓤
@@ -18652,16 +17170,16 @@ module _ (claims· : Claims) where
               W
               𝓣
               E
-              G89
-              G90
-              b33
+              G80
+              G81
+              b30
               Δ0
               (λ Ψ. Ψ)
               at27
-              (Lifetime.g-forget 𝓤 H A W E G89 17 Row.dead Path'.refl)
+              (Lifetime.g-forget 𝓤 H A W E G80 16 Row.dead Path'.refl)
               d27
 
-          d29 : Typed.Typed 𝓤 H A 𝓣 E G88 b33 Δ0 at29
+          d29 : Typed.Typed 𝓤 H A 𝓣 E G79 b30 Δ0 at29
           d29 =
               Typed.g-pre
               𝓤
@@ -18670,11 +17188,11 @@ module _ (claims· : Claims) where
               W
               𝓣
               E
-              G88
-              G89
-              b33
+              G79
+              G80
+              b30
               Δ0
-              (Typed.pass T86 T89 s87)
+              (Typed.pass T77 T80 s78)
               at28
               (Reshare.g-back-sl-shr
               𝓤
@@ -18683,10 +17201,10 @@ module _ (claims· : Claims) where
               W
               E
               (Referent.rtF (Referent.fInt Syntax.w64))
-              G88
+              G79
               4
               3
-              17
+              16
               (Syntax.tyRef (Syntax.named 3) Syntax.mut (Syntax.tyInt Syntax.w64))
               (Row.lease (κs .1 .1 .1 .0) (qs .1 .1 .1 .0))
               (λ x. x)
@@ -18698,13 +17216,13 @@ module _ (claims· : Claims) where
               (Referent.rtF (Referent.fInt Syntax.w64))
               (Syntax.tyRef (Syntax.named 3) Syntax.mut (Syntax.tyInt Syntax.w64))
               3
-              17
+              16
               (Row.lease (κs .1 .1 .1 .0) (qs .1 .1 .1 .0))))
               Path'.refl
               Path'.refl)
               d28
 
-          d30 : Typed.Typed 𝓤 H A 𝓣 E G87 b33 Δ0 at30
+          d30 : Typed.Typed 𝓤 H A 𝓣 E G78 b30 Δ0 at30
           d30 =
               Typed.g-pre
               𝓤
@@ -18713,16 +17231,16 @@ module _ (claims· : Claims) where
               W
               𝓣
               E
-              G87
-              G88
-              b33
+              G78
+              G79
+              b30
               Δ0
               (λ Ψ. Ψ)
               at29
-              (Lifetime.g-end 𝓤 H A W E G87 17 Path'.refl)
+              (Lifetime.g-end 𝓤 H A W E G78 16 Path'.refl)
               d29
 
-          d31 : Typed.Typed 𝓤 H A 𝓣 E G86 b33 Δ0 at31
+          d31 : Typed.Typed 𝓤 H A 𝓣 E G77 b30 Δ0 at31
           d31 =
               Typed.g-pre
               𝓤
@@ -18731,16 +17249,16 @@ module _ (claims· : Claims) where
               W
               𝓣
               E
-              G86
-              G87
-              b33
+              G77
+              G78
+              b30
               Δ0
               (λ Ψ. Ψ)
               at30
-              (Lifetime.g-forget 𝓤 H A W E G86 16 Row.dead Path'.refl)
+              (Lifetime.g-forget 𝓤 H A W E G77 15 Row.dead Path'.refl)
               d30
 
-          d32 : Typed.Typed 𝓤 H A 𝓣 E G85 b33 Δ0 at32
+          d32 : Typed.Typed 𝓤 H A 𝓣 E G76 b30 Δ0 at32
           d32 =
               Typed.g-pre
               𝓤
@@ -18749,11 +17267,11 @@ module _ (claims· : Claims) where
               W
               𝓣
               E
-              G85
-              G86
-              b33
+              G76
+              G77
+              b30
               Δ0
-              (Typed.pass T84 T86 s84)
+              (Typed.pass T75 T77 s75)
               at31
               (Reshare.g-back-sl-shr
               𝓤
@@ -18762,10 +17280,10 @@ module _ (claims· : Claims) where
               W
               E
               Elem.R
-              G85
+              G76
               2
               1
-              16
+              15
               (Syntax.tyRef
               (Syntax.named 1)
               Syntax.mut
@@ -18783,13 +17301,13 @@ module _ (claims· : Claims) where
               Syntax.mut
               Elem.ty)
               1
-              16
+              15
               (Row.lease (κs .1 .0) (qs .1 .0))))
               Path'.refl
               Path'.refl)
               d31
 
-          d33 : Typed.Typed 𝓤 H A 𝓣 E G84 b33 Δ0 at33
+          d33 : Typed.Typed 𝓤 H A 𝓣 E G75 b30 Δ0 at33
           d33 =
               Typed.g-pre
               𝓤
@@ -18798,16 +17316,16 @@ module _ (claims· : Claims) where
               W
               𝓣
               E
-              G84
-              G85
-              b33
+              G75
+              G76
+              b30
               Δ0
               (λ Ψ. Ψ)
               at32
-              (Lifetime.g-end 𝓤 H A W E G84 16 Path'.refl)
+              (Lifetime.g-end 𝓤 H A W E G75 15 Path'.refl)
               d32
 
-          d34 : Typed.Typed 𝓤 H A 𝓣 E G83 b33 Δ0 at34
+          d34 : Typed.Typed 𝓤 H A 𝓣 E G74 b30 Δ0 at34
           d34 =
               Typed.g-pre
               𝓤
@@ -18816,11 +17334,11 @@ module _ (claims· : Claims) where
               W
               𝓣
               E
-              G83
-              G84
-              b33
+              G74
+              G75
+              b30
               Δ0
-              (Typed.pass T83 T84 s82)
+              (Typed.pass T74 T75 s73)
               at33
               (Scalar.g-room
               𝓤
@@ -18828,13 +17346,13 @@ module _ (claims· : Claims) where
               A
               W
               E
-              G83
+              G74
               14
               (Syntax.tyInt Syntax.w64)
               (Scalar.room-sc 𝓤 H A W (Row.sInt Syntax.w64)))
               d33
 
-          d35 : Typed.Typed 𝓤 H A 𝓣 E G82 b33 Δ0 at35
+          d35 : Typed.Typed 𝓤 H A 𝓣 E G73 b30 Δ0 at35
           d35 =
               Typed.g-pre
               𝓤
@@ -18843,11 +17361,11 @@ module _ (claims· : Claims) where
               W
               𝓣
               E
-              G82
-              G83
-              b33
+              G73
+              G74
+              b30
               Δ0
-              (Typed.pass T82 T83 s81)
+              (Typed.pass T73 T74 s72)
               at34
               (Scalar.g-room
               𝓤
@@ -18855,13 +17373,13 @@ module _ (claims· : Claims) where
               A
               W
               E
-              G82
+              G73
               13
               (Syntax.tyInt Syntax.w64)
               (Scalar.room-sc 𝓤 H A W (Row.sInt Syntax.w64)))
               d34
 
-          d36 : Typed.Typed 𝓤 H A 𝓣 E G81 b33 Δ0 at36
+          d36 : Typed.Typed 𝓤 H A 𝓣 E G72 b30 Δ0 at36
           d36 =
               Typed.g-pre
               𝓤
@@ -18870,11 +17388,11 @@ module _ (claims· : Claims) where
               W
               𝓣
               E
-              G81
-              G82
-              b33
+              G72
+              G73
+              b30
               Δ0
-              (Typed.pass T81 T82 s80)
+              (Typed.pass T72 T73 s71)
               at35
               (Scalar.g-room
               𝓤
@@ -18882,13 +17400,13 @@ module _ (claims· : Claims) where
               A
               W
               E
-              G81
+              G72
               12
               (Syntax.tyInt Syntax.w64)
               (Scalar.room-sc 𝓤 H A W (Row.sInt Syntax.w64)))
               d35
 
-          d37 : Typed.Typed 𝓤 H A 𝓣 E G80 b33 Δ0 at37
+          d37 : Typed.Typed 𝓤 H A 𝓣 E G71 b30 Δ0 at37
           d37 =
               Typed.g-pre
               𝓤
@@ -18897,11 +17415,11 @@ module _ (claims· : Claims) where
               W
               𝓣
               E
-              G80
-              G81
-              b33
+              G71
+              G72
+              b30
               Δ0
-              (Typed.pass T80 T81 s79)
+              (Typed.pass T71 T72 s70)
               at36
               (Scalar.g-room
               𝓤
@@ -18909,8 +17427,8 @@ module _ (claims· : Claims) where
               A
               W
               E
-              G80
-              31
+              G71
+              28
               (Syntax.tyStruct
               (List._∷_ 38 (List._∷_ 91 (List._∷_ 93 List.[])))
               (Syntax.tcons
@@ -18923,10 +17441,10 @@ module _ (claims· : Claims) where
               W
               (Referent.rtF (Referent.fInt Syntax.w8))
               (Syntax.tyRef Syntax.erased Syntax.imm (Syntax.tyInt Syntax.w8))
-              18))
+              17))
               d36
 
-          d38 : Typed.Typed 𝓤 H A 𝓣 E G79 b33 Δ0 at38
+          d38 : Typed.Typed 𝓤 H A 𝓣 E G70 b30 Δ0 at38
           d38 =
               Typed.g-pre
               𝓤
@@ -18935,11 +17453,11 @@ module _ (claims· : Claims) where
               W
               𝓣
               E
-              G79
-              G80
-              b33
+              G70
+              G71
+              b30
               Δ0
-              (Typed.pass T79 T80 s78)
+              (Typed.pass T70 T71 s69)
               at37
               (Scalar.g-room
               𝓤
@@ -18947,8 +17465,8 @@ module _ (claims· : Claims) where
               A
               W
               E
-              G79
-              29
+              G70
+              26
               (Syntax.tyStruct
               (List._∷_ 38 (List._∷_ 91 (List._∷_ 93 List.[])))
               (Syntax.tcons
@@ -18961,10 +17479,10 @@ module _ (claims· : Claims) where
               W
               (Referent.rtF (Referent.fInt Syntax.w64))
               (Syntax.tyRef Syntax.erased Syntax.imm (Syntax.tyInt Syntax.w64))
-              17))
+              16))
               d37
 
-          d39 : Typed.Typed 𝓤 H A 𝓣 E G78 b33 Δ0 at39
+          d39 : Typed.Typed 𝓤 H A 𝓣 E G69 b30 Δ0 at39
           d39 =
               Typed.g-pre
               𝓤
@@ -18973,11 +17491,11 @@ module _ (claims· : Claims) where
               W
               𝓣
               E
-              G78
-              G79
-              b33
+              G69
+              G70
+              b30
               Δ0
-              (Typed.pass T78 T79 s77)
+              (Typed.pass T69 T70 s68)
               at38
               (Scalar.g-room
               𝓤
@@ -18985,8 +17503,8 @@ module _ (claims· : Claims) where
               A
               W
               E
-              G78
-              27
+              G69
+              24
               (Syntax.tyStruct
               (List._∷_ 38 (List._∷_ 91 (List._∷_ 93 List.[])))
               (Syntax.tcons
@@ -19005,10 +17523,10 @@ module _ (claims· : Claims) where
               Syntax.erased
               Syntax.imm
               Elem.ty)
-              16))
+              15))
               d38
 
-          d40 : Typed.Typed 𝓤 H A 𝓣 E G77 b34 Δ0 at40
+          d40 : Typed.Typed 𝓤 H A 𝓣 E G68 b31 Δ0 at40
           d40 =
               Typed.s-seq
               𝓤
@@ -19017,12 +17535,12 @@ module _ (claims· : Claims) where
               W
               𝓣
               E
-              G77
-              G78
-              b32
-              b33
+              G68
+              G69
+              b29
+              b30
               Δ0
-              (Typed.both s76)
+              (Typed.both s67)
               at39
               (Plain.t-call-plain
               𝓤
@@ -19031,15 +17549,15 @@ module _ (claims· : Claims) where
               W
               𝓣
               10
-              ps·2
-              r·2
-              (claims· .4)
-              (claims· .5)
+              ps·1
+              r·1
+              (claims· .2)
+              (claims· .3)
               "calls::rebuild_with"
-              (known .2)
+              (known .1)
               E
               (λ pos β. β)
-              G77 (
+              G68 (
                 record {
                   pos = 1;
                   ty = Syntax.tyRef (Syntax.named 0) Syntax.imm (Syntax.tyInt Syntax.w8);
@@ -19047,7 +17565,7 @@ module _ (claims· : Claims) where
                 },
                 (
                   record {
-                    pos = 27;
+                    pos = 24;
                     ty = Syntax.tyRef
                         Syntax.erased
                         Syntax.imm
@@ -19058,31 +17576,31 @@ module _ (claims· : Claims) where
                     Num.vAt 14 λ x. x,
                     (
                       record {
-                        pos = 29;
+                        pos = 26;
                         ty = Syntax.tyRef Syntax.erased Syntax.imm (Syntax.tyInt Syntax.w64);
                         ref = λ x. x;
                       },
                       (
                         record {
-                          pos = 31;
+                          pos = 28;
                           ty = Syntax.tyRef Syntax.erased Syntax.imm (Syntax.tyInt Syntax.w8);
                           ref = λ x. x;
                         },
                         (
                           record {
-                            pos = 33;
+                            pos = 30;
                             ty = Syntax.tyRef Syntax.erased Syntax.mut (Syntax.tyInt Syntax.w64);
                             ref = λ x. x;
                           },
                           (
                             record {
-                              pos = 35;
+                              pos = 32;
                               ty = Syntax.tyRef Syntax.erased Syntax.mut (Syntax.tyInt Syntax.w8);
                               ref = λ x. x;
                             },
                             (
                               record {
-                                pos = 37;
+                                pos = 34;
                                 ty = Syntax.tyRef
                                     Syntax.erased
                                     Syntax.mut
@@ -19091,7 +17609,7 @@ module _ (claims· : Claims) where
                               },
                               (
                                 record {
-                                  pos = 39;
+                                  pos = 36;
                                   ty = Syntax.tyRef
                                       Syntax.erased
                                       Syntax.mut
@@ -19100,7 +17618,7 @@ module _ (claims· : Claims) where
                                 },
                                 (
                                   record {
-                                    pos = 41;
+                                    pos = 38;
                                     ty = Syntax.tyRef
                                         Syntax.erased
                                         Syntax.mut
@@ -19109,7 +17627,7 @@ module _ (claims· : Claims) where
                                   },
                                   (
                                     record {
-                                      pos = 43;
+                                      pos = 40;
                                       ty = Syntax.tyRef
                                           Syntax.erased
                                           Syntax.mut
@@ -19132,15 +17650,15 @@ module _ (claims· : Claims) where
               (List._∷_
               0
               (List._∷_
+              15
+              (List._∷_
               16
               (List._∷_
               17
               (List._∷_
               18
-              (List._∷_
-              19
-              (List._∷_ 20 (List._∷_ 21 (List._∷_ 22 (List._∷_ 23 (List._∷_ 24 List.[]))))))))))
-              (Call.sub-id 𝓤 H A W (G77 .slots)) (
+              (List._∷_ 19 (List._∷_ 20 (List._∷_ 21 (List._∷_ 22 (List._∷_ 23 List.[]))))))))))
+              (Call.sub-id 𝓤 H A W (G68 .slots)) (
                 ShrSlice.spares-sslice
                     𝓤
                     H
@@ -19169,7 +17687,7 @@ module _ (claims· : Claims) where
                       Syntax.erased
                       Syntax.imm
                       Elem.ty)
-                      16,
+                      15,
                   Shared.reads-sslice
                       𝓤
                       H
@@ -19180,7 +17698,7 @@ module _ (claims· : Claims) where
                       Syntax.erased
                       Syntax.imm
                       Elem.ty)
-                      16,
+                      15,
                   Path'.refl,
                   (
                     (Scalar.reads-sc 𝓤 H A W (Row.sInt Syntax.w64), Path'.refl),
@@ -19192,7 +17710,7 @@ module _ (claims· : Claims) where
                           W
                           (Referent.rtF (Referent.fInt Syntax.w64))
                           (Syntax.tyRef Syntax.erased Syntax.imm (Syntax.tyInt Syntax.w64))
-                          17,
+                          16,
                       Shared.reads-sslice
                           𝓤
                           H
@@ -19200,7 +17718,7 @@ module _ (claims· : Claims) where
                           W
                           (Referent.rtF (Referent.fInt Syntax.w64))
                           (Syntax.tyRef Syntax.erased Syntax.imm (Syntax.tyInt Syntax.w64))
-                          17,
+                          16,
                       Path'.refl,
                       (
                         ShrSlice.spares-sslice
@@ -19210,7 +17728,7 @@ module _ (claims· : Claims) where
                             W
                             (Referent.rtF (Referent.fInt Syntax.w8))
                             (Syntax.tyRef Syntax.erased Syntax.imm (Syntax.tyInt Syntax.w8))
-                            18,
+                            17,
                         Shared.reads-sslice
                             𝓤
                             H
@@ -19218,7 +17736,7 @@ module _ (claims· : Claims) where
                             W
                             (Referent.rtF (Referent.fInt Syntax.w8))
                             (Syntax.tyRef Syntax.erased Syntax.imm (Syntax.tyInt Syntax.w8))
-                            18,
+                            17,
                         Path'.refl,
                         (
                           Reads.as-is
@@ -19228,7 +17746,7 @@ module _ (claims· : Claims) where
                               (Mut.mslice
                               (Referent.rtF (Referent.fInt Syntax.w64))
                               (Syntax.tyRef Syntax.erased Syntax.mut (Syntax.tyInt Syntax.w64))
-                              19),
+                              18),
                           Mut.reads-mslice
                               𝓤
                               H
@@ -19236,7 +17754,7 @@ module _ (claims· : Claims) where
                               W
                               (Referent.rtF (Referent.fInt Syntax.w64))
                               (Syntax.tyRef Syntax.erased Syntax.mut (Syntax.tyInt Syntax.w64))
-                              19,
+                              18,
                           Path'.refl,
                           (
                             Reads.as-is
@@ -19246,7 +17764,7 @@ module _ (claims· : Claims) where
                                 (Mut.mslice
                                 (Referent.rtF (Referent.fInt Syntax.w8))
                                 (Syntax.tyRef Syntax.erased Syntax.mut (Syntax.tyInt Syntax.w8))
-                                20),
+                                19),
                             Mut.reads-mslice
                                 𝓤
                                 H
@@ -19254,7 +17772,7 @@ module _ (claims· : Claims) where
                                 W
                                 (Referent.rtF (Referent.fInt Syntax.w8))
                                 (Syntax.tyRef Syntax.erased Syntax.mut (Syntax.tyInt Syntax.w8))
-                                20,
+                                19,
                             Path'.refl,
                             (
                               Reads.as-is
@@ -19264,7 +17782,7 @@ module _ (claims· : Claims) where
                                   (Mut.mslice
                                   (Referent.rtF (Referent.fInt Syntax.w8))
                                   (Syntax.tyRef Syntax.erased Syntax.mut (Syntax.tyInt Syntax.w8))
-                                  21),
+                                  20),
                               Mut.reads-mslice
                                   𝓤
                                   H
@@ -19272,7 +17790,7 @@ module _ (claims· : Claims) where
                                   W
                                   (Referent.rtF (Referent.fInt Syntax.w8))
                                   (Syntax.tyRef Syntax.erased Syntax.mut (Syntax.tyInt Syntax.w8))
-                                  21,
+                                  20,
                               Path'.refl,
                               (
                                 Reads.as-is
@@ -19285,7 +17803,7 @@ module _ (claims· : Claims) where
                                     Syntax.erased
                                     Syntax.mut
                                     (Syntax.tyInt Syntax.w8))
-                                    22),
+                                    21),
                                 Mut.reads-mslice
                                     𝓤
                                     H
@@ -19296,7 +17814,7 @@ module _ (claims· : Claims) where
                                     Syntax.erased
                                     Syntax.mut
                                     (Syntax.tyInt Syntax.w8))
-                                    22,
+                                    21,
                                 Path'.refl,
                                 (
                                   Reads.as-is
@@ -19309,7 +17827,7 @@ module _ (claims· : Claims) where
                                       Syntax.erased
                                       Syntax.mut
                                       (Syntax.tyInt Syntax.w8))
-                                      23),
+                                      22),
                                   Mut.reads-mslice
                                       𝓤
                                       H
@@ -19320,7 +17838,7 @@ module _ (claims· : Claims) where
                                       Syntax.erased
                                       Syntax.mut
                                       (Syntax.tyInt Syntax.w8))
-                                      23,
+                                      22,
                                   Path'.refl,
                                   (
                                     Reads.as-is
@@ -19333,7 +17851,7 @@ module _ (claims· : Claims) where
                                         Syntax.erased
                                         Syntax.mut
                                         (Syntax.tyInt Syntax.w8))
-                                        24),
+                                        23),
                                     Mut.reads-mslice
                                         𝓤
                                         H
@@ -19344,7 +17862,7 @@ module _ (claims· : Claims) where
                                         Syntax.erased
                                         Syntax.mut
                                         (Syntax.tyInt Syntax.w8))
-                                        24,
+                                        23,
                                     Path'.refl,
                                     tt,
                                   ),
@@ -19363,7 +17881,7 @@ module _ (claims· : Claims) where
               Path'.refl)
               d39
 
-          d41 : Typed.Typed 𝓤 H A 𝓣 E G76 b35 Δ0 at41
+          d41 : Typed.Typed 𝓤 H A 𝓣 E G67 b32 Δ0 at41
           d41 =
               Typed.s-seq
               𝓤
@@ -19372,12 +17890,12 @@ module _ (claims· : Claims) where
               W
               𝓣
               E
-              G76
-              G77
+              G67
+              G68
+              b28
               b31
-              b34
               Δ0
-              (Typed.ask s75)
+              (Typed.ask s66)
               at40
               (Relend.t-sl-aggregate
               𝓤
@@ -19388,10 +17906,10 @@ module _ (claims· : Claims) where
               (Referent.rtF (Referent.fInt Syntax.w8))
               𝓣
               (Relend.asMut (Referent.rtF (Referent.fInt Syntax.w8)))
-              G76
-              42
-              43
-              24
+              G67
+              39
+              40
+              23
               (Syntax.tyRef Syntax.erased Syntax.mut (Syntax.tyInt Syntax.w8))
               (Syntax.tyRef Syntax.erased Syntax.mut (Syntax.tyInt Syntax.w8))
               (λ x. x)
@@ -19409,7 +17927,7 @@ module _ (claims· : Claims) where
               (Relend.msptr
               (Referent.rtF (Referent.fInt Syntax.w8))
               (Syntax.tyRef Syntax.erased Syntax.mut (Syntax.tyInt Syntax.w8))
-              24))
+              23))
               (Reads.room-gone
               𝓤
               H
@@ -19427,7 +17945,7 @@ module _ (claims· : Claims) where
                     (Referent.rtF (Referent.fInt Syntax.w8))
                     (Syntax.tyRef (Syntax.named 10) Syntax.mut (Syntax.tyInt Syntax.w8))
                     10
-                    24
+                    23
                     (Row.lease
                     (κs .1 .1 .1 .1 .1 .1 .1 .1 .1 .1 .0)
                     (qs .1 .1 .1 .1 .1 .1 .1 .1 .1 .1 .0))
@@ -19440,7 +17958,7 @@ module _ (claims· : Claims) where
               λ b o k. tt)
               d40
 
-          d42 : Typed.Typed 𝓤 H A 𝓣 E G75 b36 Δ0 at42
+          d42 : Typed.Typed 𝓤 H A 𝓣 E G66 b33 Δ0 at42
           d42 =
               Typed.s-seq
               𝓤
@@ -19449,12 +17967,12 @@ module _ (claims· : Claims) where
               W
               𝓣
               E
-              G75
-              G76
-              b30
-              b35
+              G66
+              G67
+              b27
+              b32
               Δ0
-              (Typed.give s74)
+              (Typed.give s65)
               at41
               (Relend.t-sl-relend
               𝓤
@@ -19464,11 +17982,11 @@ module _ (claims· : Claims) where
               E
               (Referent.rtF (Referent.fInt Syntax.w8))
               𝓣
-              G75
+              G66
               11
-              42
+              39
               10
-              24
+              23
               (Syntax.tyRef (Syntax.named 10) Syntax.mut (Syntax.tyInt Syntax.w8))
               (Syntax.tyRef Syntax.erased Syntax.mut (Syntax.tyInt Syntax.w8))
               (Row.lease
@@ -19497,7 +18015,7 @@ module _ (claims· : Claims) where
               λ b o. tt)
               d41
 
-          d43 : Typed.Typed 𝓤 H A 𝓣 E G74 b36 Δ0 at43
+          d43 : Typed.Typed 𝓤 H A 𝓣 E G65 b33 Δ0 at43
           d43 =
               Typed.g-pre
               𝓤
@@ -19506,13 +18024,13 @@ module _ (claims· : Claims) where
               W
               𝓣
               E
-              G74
-              G75
-              b36
+              G65
+              G66
+              b33
               Δ0
               (λ Ψ. Ψ)
               at42
-              (Lifetime.g-begin 𝓤 H A W E G74 24 (
+              (Lifetime.g-begin 𝓤 H A W E G65 23 (
                 tt,
                 (
                   tt,
@@ -19594,16 +18112,7 @@ module _ (claims· : Claims) where
                                                                                               tt,
                                                                                               (
                                                                                                 tt,
-                                                                                                (
-                                                                                                  tt,
-                                                                                                  (
-                                                                                                    tt,
-                                                                                                    (
-                                                                                                      tt,
-                                                                                                      tt,
-                                                                                                    ),
-                                                                                                  ),
-                                                                                                ),
+                                                                                                tt,
                                                                                               ),
                                                                                             ),
                                                                                           ),
@@ -19647,7 +18156,7 @@ module _ (claims· : Claims) where
               ))
               d42
 
-          d44 : Typed.Typed 𝓤 H A 𝓣 E G73 b37 Δ0 at44
+          d44 : Typed.Typed 𝓤 H A 𝓣 E G64 b34 Δ0 at44
           d44 =
               Typed.s-seq
               𝓤
@@ -19656,12 +18165,12 @@ module _ (claims· : Claims) where
               W
               𝓣
               E
-              G73
-              G74
-              b29
-              b36
+              G64
+              G65
+              b26
+              b33
               Δ0
-              (Typed.ask s72)
+              (Typed.ask s63)
               at43
               (Relend.t-sl-aggregate
               𝓤
@@ -19672,10 +18181,10 @@ module _ (claims· : Claims) where
               (Referent.rtF (Referent.fInt Syntax.w8))
               𝓣
               (Relend.asMut (Referent.rtF (Referent.fInt Syntax.w8)))
-              G73
-              40
-              41
-              23
+              G64
+              37
+              38
+              22
               (Syntax.tyRef Syntax.erased Syntax.mut (Syntax.tyInt Syntax.w8))
               (Syntax.tyRef Syntax.erased Syntax.mut (Syntax.tyInt Syntax.w8))
               (λ x. x)
@@ -19687,7 +18196,7 @@ module _ (claims· : Claims) where
               (Relend.msptr
               (Referent.rtF (Referent.fInt Syntax.w8))
               (Syntax.tyRef Syntax.erased Syntax.mut (Syntax.tyInt Syntax.w8))
-              23))
+              22))
               (Reads.room-gone
               𝓤
               H
@@ -19703,7 +18212,7 @@ module _ (claims· : Claims) where
               λ b o k. tt)
               d43
 
-          d45 : Typed.Typed 𝓤 H A 𝓣 E G72 b38 Δ0 at45
+          d45 : Typed.Typed 𝓤 H A 𝓣 E G63 b35 Δ0 at45
           d45 =
               Typed.s-seq
               𝓤
@@ -19712,12 +18221,12 @@ module _ (claims· : Claims) where
               W
               𝓣
               E
-              G72
-              G73
-              b28
-              b37
+              G63
+              G64
+              b25
+              b34
               Δ0
-              (Typed.both s71)
+              (Typed.both s62)
               at44
               (Part.t-sl-relendᵖ
               𝓤
@@ -19727,11 +18236,11 @@ module _ (claims· : Claims) where
               E
               (Referent.rtF (Referent.fInt Syntax.w8))
               𝓣
-              G72
+              G63
               10
-              40
+              37
               9
-              23
+              22
               (Syntax.tyRef (Syntax.named 9) Syntax.mut (Syntax.tyInt Syntax.w8))
               (Syntax.tyRef Syntax.erased Syntax.mut (Syntax.tyInt Syntax.w8))
               (Row.lease (κs .1 .1 .1 .1 .1 .1 .1 .1 .1 .0) (qs .1 .1 .1 .1 .1 .1 .1 .1 .1 .0))
@@ -19759,7 +18268,7 @@ module _ (claims· : Claims) where
               λ b o. tt)
               d44
 
-          d46 : Typed.Typed 𝓤 H A 𝓣 E G71 b38 Δ0 at46
+          d46 : Typed.Typed 𝓤 H A 𝓣 E G62 b35 Δ0 at46
           d46 =
               Typed.g-pre
               𝓤
@@ -19768,13 +18277,13 @@ module _ (claims· : Claims) where
               W
               𝓣
               E
-              G71
-              G72
-              b38
+              G62
+              G63
+              b35
               Δ0
               (λ Ψ. Ψ)
               at45
-              (Lifetime.g-begin 𝓤 H A W E G71 23 (
+              (Lifetime.g-begin 𝓤 H A W E G62 22 (
                 tt,
                 (
                   tt,
@@ -19856,16 +18365,7 @@ module _ (claims· : Claims) where
                                                                                               tt,
                                                                                               (
                                                                                                 tt,
-                                                                                                (
-                                                                                                  tt,
-                                                                                                  (
-                                                                                                    tt,
-                                                                                                    (
-                                                                                                      tt,
-                                                                                                      tt,
-                                                                                                    ),
-                                                                                                  ),
-                                                                                                ),
+                                                                                                tt,
                                                                                               ),
                                                                                             ),
                                                                                           ),
@@ -19909,7 +18409,7 @@ module _ (claims· : Claims) where
               ))
               d45
 
-          d47 : Typed.Typed 𝓤 H A 𝓣 E G70 b39 Δ0 at47
+          d47 : Typed.Typed 𝓤 H A 𝓣 E G61 b36 Δ0 at47
           d47 =
               Typed.s-seq
               𝓤
@@ -19918,12 +18418,12 @@ module _ (claims· : Claims) where
               W
               𝓣
               E
-              G70
-              G71
-              b27
-              b38
+              G61
+              G62
+              b24
+              b35
               Δ0
-              (Typed.ask s69)
+              (Typed.ask s60)
               at46
               (Relend.t-sl-aggregate
               𝓤
@@ -19934,10 +18434,10 @@ module _ (claims· : Claims) where
               (Referent.rtF (Referent.fInt Syntax.w8))
               𝓣
               (Relend.asMut (Referent.rtF (Referent.fInt Syntax.w8)))
-              G70
-              38
-              39
-              22
+              G61
+              35
+              36
+              21
               (Syntax.tyRef Syntax.erased Syntax.mut (Syntax.tyInt Syntax.w8))
               (Syntax.tyRef Syntax.erased Syntax.mut (Syntax.tyInt Syntax.w8))
               (λ x. x)
@@ -19949,7 +18449,7 @@ module _ (claims· : Claims) where
               (Relend.msptr
               (Referent.rtF (Referent.fInt Syntax.w8))
               (Syntax.tyRef Syntax.erased Syntax.mut (Syntax.tyInt Syntax.w8))
-              22))
+              21))
               (Reads.room-gone
               𝓤
               H
@@ -19965,7 +18465,7 @@ module _ (claims· : Claims) where
               λ b o k. tt)
               d46
 
-          d48 : Typed.Typed 𝓤 H A 𝓣 E G69 b40 Δ0 at48
+          d48 : Typed.Typed 𝓤 H A 𝓣 E G60 b37 Δ0 at48
           d48 =
               Typed.s-seq
               𝓤
@@ -19974,12 +18474,12 @@ module _ (claims· : Claims) where
               W
               𝓣
               E
-              G69
-              G70
-              b26
-              b39
+              G60
+              G61
+              b23
+              b36
               Δ0
-              (Typed.both s68)
+              (Typed.both s59)
               at47
               (Part.t-sl-relendᵖ
               𝓤
@@ -19989,11 +18489,11 @@ module _ (claims· : Claims) where
               E
               (Referent.rtF (Referent.fInt Syntax.w8))
               𝓣
-              G69
+              G60
               9
-              38
+              35
               8
-              22
+              21
               (Syntax.tyRef (Syntax.named 8) Syntax.mut (Syntax.tyInt Syntax.w8))
               (Syntax.tyRef Syntax.erased Syntax.mut (Syntax.tyInt Syntax.w8))
               (Row.lease (κs .1 .1 .1 .1 .1 .1 .1 .1 .0) (qs .1 .1 .1 .1 .1 .1 .1 .1 .0))
@@ -20021,7 +18521,7 @@ module _ (claims· : Claims) where
               λ b o. tt)
               d47
 
-          d49 : Typed.Typed 𝓤 H A 𝓣 E G68 b40 Δ0 at49
+          d49 : Typed.Typed 𝓤 H A 𝓣 E G59 b37 Δ0 at49
           d49 =
               Typed.g-pre
               𝓤
@@ -20030,13 +18530,13 @@ module _ (claims· : Claims) where
               W
               𝓣
               E
-              G68
-              G69
-              b40
+              G59
+              G60
+              b37
               Δ0
               (λ Ψ. Ψ)
               at48
-              (Lifetime.g-begin 𝓤 H A W E G68 22 (
+              (Lifetime.g-begin 𝓤 H A W E G59 21 (
                 tt,
                 (
                   tt,
@@ -20118,16 +18618,7 @@ module _ (claims· : Claims) where
                                                                                               tt,
                                                                                               (
                                                                                                 tt,
-                                                                                                (
-                                                                                                  tt,
-                                                                                                  (
-                                                                                                    tt,
-                                                                                                    (
-                                                                                                      tt,
-                                                                                                      tt,
-                                                                                                    ),
-                                                                                                  ),
-                                                                                                ),
+                                                                                                tt,
                                                                                               ),
                                                                                             ),
                                                                                           ),
@@ -20171,7 +18662,7 @@ module _ (claims· : Claims) where
               ))
               d48
 
-          d50 : Typed.Typed 𝓤 H A 𝓣 E G67 b41 Δ0 at50
+          d50 : Typed.Typed 𝓤 H A 𝓣 E G58 b38 Δ0 at50
           d50 =
               Typed.s-seq
               𝓤
@@ -20180,12 +18671,12 @@ module _ (claims· : Claims) where
               W
               𝓣
               E
-              G67
-              G68
-              b25
-              b40
+              G58
+              G59
+              b22
+              b37
               Δ0
-              (Typed.ask s66)
+              (Typed.ask s57)
               at49
               (Relend.t-sl-aggregate
               𝓤
@@ -20196,10 +18687,10 @@ module _ (claims· : Claims) where
               (Referent.rtF (Referent.fInt Syntax.w8))
               𝓣
               (Relend.asMut (Referent.rtF (Referent.fInt Syntax.w8)))
-              G67
-              36
-              37
-              21
+              G58
+              33
+              34
+              20
               (Syntax.tyRef Syntax.erased Syntax.mut (Syntax.tyInt Syntax.w8))
               (Syntax.tyRef Syntax.erased Syntax.mut (Syntax.tyInt Syntax.w8))
               (λ x. x)
@@ -20211,7 +18702,7 @@ module _ (claims· : Claims) where
               (Relend.msptr
               (Referent.rtF (Referent.fInt Syntax.w8))
               (Syntax.tyRef Syntax.erased Syntax.mut (Syntax.tyInt Syntax.w8))
-              21))
+              20))
               (Reads.room-gone
               𝓤
               H
@@ -20227,7 +18718,7 @@ module _ (claims· : Claims) where
               λ b o k. tt)
               d49
 
-          d51 : Typed.Typed 𝓤 H A 𝓣 E G66 b42 Δ0 at51
+          d51 : Typed.Typed 𝓤 H A 𝓣 E G57 b39 Δ0 at51
           d51 =
               Typed.s-seq
               𝓤
@@ -20236,12 +18727,12 @@ module _ (claims· : Claims) where
               W
               𝓣
               E
-              G66
-              G67
-              b24
-              b41
+              G57
+              G58
+              b21
+              b38
               Δ0
-              (Typed.both s65)
+              (Typed.both s56)
               at50
               (Part.t-sl-relendᵖ
               𝓤
@@ -20251,11 +18742,11 @@ module _ (claims· : Claims) where
               E
               (Referent.rtF (Referent.fInt Syntax.w8))
               𝓣
-              G66
+              G57
               8
-              36
+              33
               7
-              21
+              20
               (Syntax.tyRef (Syntax.named 7) Syntax.mut (Syntax.tyInt Syntax.w8))
               (Syntax.tyRef Syntax.erased Syntax.mut (Syntax.tyInt Syntax.w8))
               (Row.lease (κs .1 .1 .1 .1 .1 .1 .1 .0) (qs .1 .1 .1 .1 .1 .1 .1 .0))
@@ -20283,7 +18774,7 @@ module _ (claims· : Claims) where
               λ b o. tt)
               d50
 
-          d52 : Typed.Typed 𝓤 H A 𝓣 E G65 b42 Δ0 at52
+          d52 : Typed.Typed 𝓤 H A 𝓣 E G56 b39 Δ0 at52
           d52 =
               Typed.g-pre
               𝓤
@@ -20292,13 +18783,13 @@ module _ (claims· : Claims) where
               W
               𝓣
               E
-              G65
-              G66
-              b42
+              G56
+              G57
+              b39
               Δ0
               (λ Ψ. Ψ)
               at51
-              (Lifetime.g-begin 𝓤 H A W E G65 21 (
+              (Lifetime.g-begin 𝓤 H A W E G56 20 (
                 tt,
                 (
                   tt,
@@ -20380,16 +18871,7 @@ module _ (claims· : Claims) where
                                                                                               tt,
                                                                                               (
                                                                                                 tt,
-                                                                                                (
-                                                                                                  tt,
-                                                                                                  (
-                                                                                                    tt,
-                                                                                                    (
-                                                                                                      tt,
-                                                                                                      tt,
-                                                                                                    ),
-                                                                                                  ),
-                                                                                                ),
+                                                                                                tt,
                                                                                               ),
                                                                                             ),
                                                                                           ),
@@ -20433,7 +18915,7 @@ module _ (claims· : Claims) where
               ))
               d51
 
-          d53 : Typed.Typed 𝓤 H A 𝓣 E G64 b43 Δ0 at53
+          d53 : Typed.Typed 𝓤 H A 𝓣 E G55 b40 Δ0 at53
           d53 =
               Typed.s-seq
               𝓤
@@ -20442,12 +18924,12 @@ module _ (claims· : Claims) where
               W
               𝓣
               E
-              G64
-              G65
-              b23
-              b42
+              G55
+              G56
+              b20
+              b39
               Δ0
-              (Typed.ask s63)
+              (Typed.ask s54)
               at52
               (Relend.t-sl-aggregate
               𝓤
@@ -20458,10 +18940,10 @@ module _ (claims· : Claims) where
               (Referent.rtF (Referent.fInt Syntax.w8))
               𝓣
               (Relend.asMut (Referent.rtF (Referent.fInt Syntax.w8)))
-              G64
-              34
-              35
-              20
+              G55
+              31
+              32
+              19
               (Syntax.tyRef Syntax.erased Syntax.mut (Syntax.tyInt Syntax.w8))
               (Syntax.tyRef Syntax.erased Syntax.mut (Syntax.tyInt Syntax.w8))
               (λ x. x)
@@ -20473,7 +18955,7 @@ module _ (claims· : Claims) where
               (Relend.msptr
               (Referent.rtF (Referent.fInt Syntax.w8))
               (Syntax.tyRef Syntax.erased Syntax.mut (Syntax.tyInt Syntax.w8))
-              20))
+              19))
               (Reads.room-gone
               𝓤
               H
@@ -20489,7 +18971,7 @@ module _ (claims· : Claims) where
               λ b o k. tt)
               d52
 
-          d54 : Typed.Typed 𝓤 H A 𝓣 E G63 b44 Δ0 at54
+          d54 : Typed.Typed 𝓤 H A 𝓣 E G54 b41 Δ0 at54
           d54 =
               Typed.s-seq
               𝓤
@@ -20498,12 +18980,12 @@ module _ (claims· : Claims) where
               W
               𝓣
               E
-              G63
-              G64
-              b22
-              b43
+              G54
+              G55
+              b19
+              b40
               Δ0
-              (Typed.both s62)
+              (Typed.both s53)
               at53
               (Part.t-sl-relendᵖ
               𝓤
@@ -20513,11 +18995,11 @@ module _ (claims· : Claims) where
               E
               (Referent.rtF (Referent.fInt Syntax.w8))
               𝓣
-              G63
+              G54
               7
-              34
+              31
               6
-              20
+              19
               (Syntax.tyRef (Syntax.named 6) Syntax.mut (Syntax.tyInt Syntax.w8))
               (Syntax.tyRef Syntax.erased Syntax.mut (Syntax.tyInt Syntax.w8))
               (Row.lease (κs .1 .1 .1 .1 .1 .1 .0) (qs .1 .1 .1 .1 .1 .1 .0))
@@ -20545,7 +19027,7 @@ module _ (claims· : Claims) where
               λ b o. tt)
               d53
 
-          d55 : Typed.Typed 𝓤 H A 𝓣 E G62 b44 Δ0 at55
+          d55 : Typed.Typed 𝓤 H A 𝓣 E G53 b41 Δ0 at55
           d55 =
               Typed.g-pre
               𝓤
@@ -20554,13 +19036,13 @@ module _ (claims· : Claims) where
               W
               𝓣
               E
-              G62
-              G63
-              b44
+              G53
+              G54
+              b41
               Δ0
               (λ Ψ. Ψ)
               at54
-              (Lifetime.g-begin 𝓤 H A W E G62 20 (
+              (Lifetime.g-begin 𝓤 H A W E G53 19 (
                 tt,
                 (
                   tt,
@@ -20642,16 +19124,7 @@ module _ (claims· : Claims) where
                                                                                               tt,
                                                                                               (
                                                                                                 tt,
-                                                                                                (
-                                                                                                  tt,
-                                                                                                  (
-                                                                                                    tt,
-                                                                                                    (
-                                                                                                      tt,
-                                                                                                      tt,
-                                                                                                    ),
-                                                                                                  ),
-                                                                                                ),
+                                                                                                tt,
                                                                                               ),
                                                                                             ),
                                                                                           ),
@@ -20695,7 +19168,7 @@ module _ (claims· : Claims) where
               ))
               d54
 
-          d56 : Typed.Typed 𝓤 H A 𝓣 E G61 b45 Δ0 at56
+          d56 : Typed.Typed 𝓤 H A 𝓣 E G52 b42 Δ0 at56
           d56 =
               Typed.s-seq
               𝓤
@@ -20704,12 +19177,12 @@ module _ (claims· : Claims) where
               W
               𝓣
               E
-              G61
-              G62
-              b21
-              b44
+              G52
+              G53
+              b18
+              b41
               Δ0
-              (Typed.ask s60)
+              (Typed.ask s51)
               at55
               (Relend.t-sl-aggregate
               𝓤
@@ -20720,10 +19193,10 @@ module _ (claims· : Claims) where
               (Referent.rtF (Referent.fInt Syntax.w64))
               𝓣
               (Relend.asMut (Referent.rtF (Referent.fInt Syntax.w64)))
-              G61
-              32
-              33
-              19
+              G52
+              29
+              30
+              18
               (Syntax.tyRef Syntax.erased Syntax.mut (Syntax.tyInt Syntax.w64))
               (Syntax.tyRef Syntax.erased Syntax.mut (Syntax.tyInt Syntax.w64))
               (λ x. x)
@@ -20741,7 +19214,7 @@ module _ (claims· : Claims) where
               (Relend.msptr
               (Referent.rtF (Referent.fInt Syntax.w64))
               (Syntax.tyRef Syntax.erased Syntax.mut (Syntax.tyInt Syntax.w64))
-              19))
+              18))
               (Reads.room-gone
               𝓤
               H
@@ -20759,7 +19232,7 @@ module _ (claims· : Claims) where
                     (Referent.rtF (Referent.fInt Syntax.w64))
                     (Syntax.tyRef (Syntax.named 2) Syntax.mut (Syntax.tyInt Syntax.w64))
                     2
-                    19
+                    18
                     (Row.lease (κs .1 .1 .0) (qs .1 .1 .0))
                     8
                     Path'.refl,
@@ -20770,7 +19243,7 @@ module _ (claims· : Claims) where
               λ b o k. tt)
               d55
 
-          d57 : Typed.Typed 𝓤 H A 𝓣 E G60 b46 Δ0 at57
+          d57 : Typed.Typed 𝓤 H A 𝓣 E G51 b43 Δ0 at57
           d57 =
               Typed.s-seq
               𝓤
@@ -20779,12 +19252,12 @@ module _ (claims· : Claims) where
               W
               𝓣
               E
-              G60
-              G61
-              b20
-              b45
+              G51
+              G52
+              b17
+              b42
               Δ0
-              (Typed.give s59)
+              (Typed.give s50)
               at56
               (Relend.t-sl-relend
               𝓤
@@ -20794,11 +19267,11 @@ module _ (claims· : Claims) where
               E
               (Referent.rtF (Referent.fInt Syntax.w64))
               𝓣
-              G60
+              G51
               3
-              32
+              29
               2
-              19
+              18
               (Syntax.tyRef (Syntax.named 2) Syntax.mut (Syntax.tyInt Syntax.w64))
               (Syntax.tyRef Syntax.erased Syntax.mut (Syntax.tyInt Syntax.w64))
               (Row.lease (κs .1 .1 .0) (qs .1 .1 .0))
@@ -20825,7 +19298,7 @@ module _ (claims· : Claims) where
               λ b o. tt)
               d56
 
-          d58 : Typed.Typed 𝓤 H A 𝓣 E G59 b46 Δ0 at58
+          d58 : Typed.Typed 𝓤 H A 𝓣 E G50 b43 Δ0 at58
           d58 =
               Typed.g-pre
               𝓤
@@ -20834,13 +19307,13 @@ module _ (claims· : Claims) where
               W
               𝓣
               E
-              G59
-              G60
-              b46
+              G50
+              G51
+              b43
               Δ0
               (λ Ψ. Ψ)
               at57
-              (Lifetime.g-begin 𝓤 H A W E G59 19 (
+              (Lifetime.g-begin 𝓤 H A W E G50 18 (
                 tt,
                 (
                   tt,
@@ -20922,16 +19395,7 @@ module _ (claims· : Claims) where
                                                                                               tt,
                                                                                               (
                                                                                                 tt,
-                                                                                                (
-                                                                                                  tt,
-                                                                                                  (
-                                                                                                    tt,
-                                                                                                    (
-                                                                                                      tt,
-                                                                                                      tt,
-                                                                                                    ),
-                                                                                                  ),
-                                                                                                ),
+                                                                                                tt,
                                                                                               ),
                                                                                             ),
                                                                                           ),
@@ -20975,7 +19439,7 @@ module _ (claims· : Claims) where
               ))
               d57
 
-          d59 : Typed.Typed 𝓤 H A 𝓣 E G58 b47 Δ0 at59
+          d59 : Typed.Typed 𝓤 H A 𝓣 E G49 b44 Δ0 at59
           d59 =
               Typed.s-seq
               𝓤
@@ -20984,12 +19448,12 @@ module _ (claims· : Claims) where
               W
               𝓣
               E
-              G58
-              G59
-              b19
-              b46
+              G49
+              G50
+              b16
+              b43
               Δ0
-              (Typed.ask s57)
+              (Typed.ask s48)
               at58
               (Relend.t-sl-aggregate
               𝓤
@@ -21000,10 +19464,10 @@ module _ (claims· : Claims) where
               (Referent.rtF (Referent.fInt Syntax.w8))
               𝓣
               (Relend.asShr (Referent.rtF (Referent.fInt Syntax.w8)))
-              G58
-              30
-              31
-              18
+              G49
+              27
+              28
+              17
               (Syntax.tyRef Syntax.erased Syntax.imm (Syntax.tyInt Syntax.w8))
               (Syntax.tyRef Syntax.erased Syntax.imm (Syntax.tyInt Syntax.w8))
               (λ x. x)
@@ -21021,7 +19485,7 @@ module _ (claims· : Claims) where
               (Relend.ssptr
               (Referent.rtF (Referent.fInt Syntax.w8))
               (Syntax.tyRef Syntax.erased Syntax.imm (Syntax.tyInt Syntax.w8))
-              18))
+              17))
               (Reads.room-gone
               𝓤
               H
@@ -21039,7 +19503,7 @@ module _ (claims· : Claims) where
                     (Referent.rtF (Referent.fInt Syntax.w8))
                     (Syntax.tyRef (Syntax.named 4) Syntax.mut (Syntax.tyInt Syntax.w8))
                     4
-                    18
+                    17
                     (Row.lease (κs .1 .1 .1 .1 .0) (qs .1 .1 .1 .1 .0))
                     8
                     Path'.refl,
@@ -21050,7 +19514,7 @@ module _ (claims· : Claims) where
               λ b o k. tt)
               d58
 
-          d60 : Typed.Typed 𝓤 H A 𝓣 E G57 b48 Δ0 at60
+          d60 : Typed.Typed 𝓤 H A 𝓣 E G48 b45 Δ0 at60
           d60 =
               Typed.s-seq
               𝓤
@@ -21059,12 +19523,12 @@ module _ (claims· : Claims) where
               W
               𝓣
               E
-              G57
-              G58
-              b18
-              b47
+              G48
+              G49
+              b15
+              b44
               Δ0
-              (Typed.give s56)
+              (Typed.give s47)
               at59
               (Reshare.t-sl-reshare
               𝓤
@@ -21074,11 +19538,11 @@ module _ (claims· : Claims) where
               E
               (Referent.rtF (Referent.fInt Syntax.w8))
               𝓣
-              G57
+              G48
               5
-              30
+              27
               4
-              18
+              17
               (Syntax.tyRef (Syntax.named 4) Syntax.mut (Syntax.tyInt Syntax.w8))
               (Syntax.tyRef Syntax.erased Syntax.imm (Syntax.tyInt Syntax.w8))
               (Row.lease (κs .1 .1 .1 .1 .0) (qs .1 .1 .1 .1 .0))
@@ -21105,7 +19569,7 @@ module _ (claims· : Claims) where
               λ b o. tt)
               d59
 
-          d61 : Typed.Typed 𝓤 H A 𝓣 E G56 b48 Δ0 at61
+          d61 : Typed.Typed 𝓤 H A 𝓣 E G47 b45 Δ0 at61
           d61 =
               Typed.g-pre
               𝓤
@@ -21114,13 +19578,13 @@ module _ (claims· : Claims) where
               W
               𝓣
               E
-              G56
-              G57
-              b48
+              G47
+              G48
+              b45
               Δ0
               (λ Ψ. Ψ)
               at60
-              (Lifetime.g-begin 𝓤 H A W E G56 18 (
+              (Lifetime.g-begin 𝓤 H A W E G47 17 (
                 tt,
                 (
                   tt,
@@ -21202,16 +19666,7 @@ module _ (claims· : Claims) where
                                                                                               tt,
                                                                                               (
                                                                                                 tt,
-                                                                                                (
-                                                                                                  tt,
-                                                                                                  (
-                                                                                                    tt,
-                                                                                                    (
-                                                                                                      tt,
-                                                                                                      tt,
-                                                                                                    ),
-                                                                                                  ),
-                                                                                                ),
+                                                                                                tt,
                                                                                               ),
                                                                                             ),
                                                                                           ),
@@ -21255,7 +19710,7 @@ module _ (claims· : Claims) where
               ))
               d60
 
-          d62 : Typed.Typed 𝓤 H A 𝓣 E G55 b49 Δ0 at62
+          d62 : Typed.Typed 𝓤 H A 𝓣 E G46 b46 Δ0 at62
           d62 =
               Typed.s-seq
               𝓤
@@ -21264,12 +19719,12 @@ module _ (claims· : Claims) where
               W
               𝓣
               E
-              G55
-              G56
-              b17
-              b48
+              G46
+              G47
+              b14
+              b45
               Δ0
-              (Typed.ask s54)
+              (Typed.ask s45)
               at61
               (Relend.t-sl-aggregate
               𝓤
@@ -21280,10 +19735,10 @@ module _ (claims· : Claims) where
               (Referent.rtF (Referent.fInt Syntax.w64))
               𝓣
               (Relend.asShr (Referent.rtF (Referent.fInt Syntax.w64)))
-              G55
-              28
-              29
-              17
+              G46
+              25
+              26
+              16
               (Syntax.tyRef Syntax.erased Syntax.imm (Syntax.tyInt Syntax.w64))
               (Syntax.tyRef Syntax.erased Syntax.imm (Syntax.tyInt Syntax.w64))
               (λ x. x)
@@ -21301,7 +19756,7 @@ module _ (claims· : Claims) where
               (Relend.ssptr
               (Referent.rtF (Referent.fInt Syntax.w64))
               (Syntax.tyRef Syntax.erased Syntax.imm (Syntax.tyInt Syntax.w64))
-              17))
+              16))
               (Reads.room-gone
               𝓤
               H
@@ -21319,7 +19774,7 @@ module _ (claims· : Claims) where
                     (Referent.rtF (Referent.fInt Syntax.w64))
                     (Syntax.tyRef (Syntax.named 3) Syntax.mut (Syntax.tyInt Syntax.w64))
                     3
-                    17
+                    16
                     (Row.lease (κs .1 .1 .1 .0) (qs .1 .1 .1 .0))
                     8
                     Path'.refl,
@@ -21330,7 +19785,7 @@ module _ (claims· : Claims) where
               λ b o k. tt)
               d61
 
-          d63 : Typed.Typed 𝓤 H A 𝓣 E G54 b50 Δ0 at63
+          d63 : Typed.Typed 𝓤 H A 𝓣 E G45 b47 Δ0 at63
           d63 =
               Typed.s-seq
               𝓤
@@ -21339,12 +19794,12 @@ module _ (claims· : Claims) where
               W
               𝓣
               E
-              G54
-              G55
-              b16
-              b49
+              G45
+              G46
+              b13
+              b46
               Δ0
-              (Typed.give s53)
+              (Typed.give s44)
               at62
               (Reshare.t-sl-reshare
               𝓤
@@ -21354,11 +19809,11 @@ module _ (claims· : Claims) where
               E
               (Referent.rtF (Referent.fInt Syntax.w64))
               𝓣
-              G54
+              G45
               4
-              28
+              25
               3
-              17
+              16
               (Syntax.tyRef (Syntax.named 3) Syntax.mut (Syntax.tyInt Syntax.w64))
               (Syntax.tyRef Syntax.erased Syntax.imm (Syntax.tyInt Syntax.w64))
               (Row.lease (κs .1 .1 .1 .0) (qs .1 .1 .1 .0))
@@ -21385,7 +19840,7 @@ module _ (claims· : Claims) where
               λ b o. tt)
               d62
 
-          d64 : Typed.Typed 𝓤 H A 𝓣 E G53 b50 Δ0 at64
+          d64 : Typed.Typed 𝓤 H A 𝓣 E G44 b47 Δ0 at64
           d64 =
               Typed.g-pre
               𝓤
@@ -21394,13 +19849,13 @@ module _ (claims· : Claims) where
               W
               𝓣
               E
-              G53
-              G54
-              b50
+              G44
+              G45
+              b47
               Δ0
               (λ Ψ. Ψ)
               at63
-              (Lifetime.g-begin 𝓤 H A W E G53 17 (
+              (Lifetime.g-begin 𝓤 H A W E G44 16 (
                 tt,
                 (
                   tt,
@@ -21482,16 +19937,7 @@ module _ (claims· : Claims) where
                                                                                               tt,
                                                                                               (
                                                                                                 tt,
-                                                                                                (
-                                                                                                  tt,
-                                                                                                  (
-                                                                                                    tt,
-                                                                                                    (
-                                                                                                      tt,
-                                                                                                      tt,
-                                                                                                    ),
-                                                                                                  ),
-                                                                                                ),
+                                                                                                tt,
                                                                                               ),
                                                                                             ),
                                                                                           ),
@@ -21535,7 +19981,7 @@ module _ (claims· : Claims) where
               ))
               d63
 
-          d65 : Typed.Typed 𝓤 H A 𝓣 E G52 b51 Δ0 at65
+          d65 : Typed.Typed 𝓤 H A 𝓣 E G43 b48 Δ0 at65
           d65 =
               Typed.s-seq
               𝓤
@@ -21544,12 +19990,12 @@ module _ (claims· : Claims) where
               W
               𝓣
               E
-              G52
-              G53
-              b15
-              b50
+              G43
+              G44
+              b12
+              b47
               Δ0
-              (Typed.ask s51)
+              (Typed.ask s42)
               at64
               (Relend.t-sl-aggregate
               𝓤
@@ -21560,10 +20006,10 @@ module _ (claims· : Claims) where
               Elem.R
               𝓣
               (Relend.asShr Elem.R)
-              G52
-              26
-              27
-              16
+              G43
+              23
+              24
+              15
               (Syntax.tyRef
               Syntax.erased
               Syntax.imm
@@ -21590,7 +20036,7 @@ module _ (claims· : Claims) where
               Syntax.erased
               Syntax.imm
               Elem.ty)
-              16))
+              15))
               (Reads.room-gone
               𝓤
               H
@@ -21614,7 +20060,7 @@ module _ (claims· : Claims) where
                     Syntax.mut
                     Elem.ty)
                     1
-                    16
+                    15
                     (Row.lease (κs .1 .0) (qs .1 .0))
                     8
                     Path'.refl,
@@ -21625,7 +20071,7 @@ module _ (claims· : Claims) where
               λ b o k. tt)
               d64
 
-          d66 : Typed.Typed 𝓤 H A 𝓣 E G51 b52 Δ0 at66
+          d66 : Typed.Typed 𝓤 H A 𝓣 E G42 b49 Δ0 at66
           d66 =
               Typed.s-seq
               𝓤
@@ -21634,12 +20080,12 @@ module _ (claims· : Claims) where
               W
               𝓣
               E
-              G51
-              G52
-              b14
-              b51
+              G42
+              G43
+              b11
+              b48
               Δ0
-              (Typed.give s50)
+              (Typed.give s41)
               at65
               (Reshare.t-sl-reshare
               𝓤
@@ -21649,11 +20095,11 @@ module _ (claims· : Claims) where
               E
               Elem.R
               𝓣
-              G51
+              G42
               2
-              26
+              23
               1
-              16
+              15
               (Syntax.tyRef
               (Syntax.named 1)
               Syntax.mut
@@ -21692,7 +20138,7 @@ module _ (claims· : Claims) where
               λ b o. tt)
               d65
 
-          d67 : Typed.Typed 𝓤 H A 𝓣 E G50 b52 Δ0 at67
+          d67 : Typed.Typed 𝓤 H A 𝓣 E G41 b49 Δ0 at67
           d67 =
               Typed.g-pre
               𝓤
@@ -21701,13 +20147,13 @@ module _ (claims· : Claims) where
               W
               𝓣
               E
-              G50
-              G51
-              b52
+              G41
+              G42
+              b49
               Δ0
               (λ Ψ. Ψ)
               at66
-              (Lifetime.g-begin 𝓤 H A W E G50 16 (
+              (Lifetime.g-begin 𝓤 H A W E G41 15 (
                 tt,
                 (
                   tt,
@@ -21789,16 +20235,7 @@ module _ (claims· : Claims) where
                                                                                               tt,
                                                                                               (
                                                                                                 tt,
-                                                                                                (
-                                                                                                  tt,
-                                                                                                  (
-                                                                                                    tt,
-                                                                                                    (
-                                                                                                      tt,
-                                                                                                      tt,
-                                                                                                    ),
-                                                                                                  ),
-                                                                                                ),
+                                                                                                tt,
                                                                                               ),
                                                                                             ),
                                                                                           ),
@@ -21842,7 +20279,7 @@ module _ (claims· : Claims) where
               ))
               d66
 
-          d68 : Typed.Typed 𝓤 H A 𝓣 E G49 b52 Δ0 at68
+          d68 : Typed.Typed 𝓤 H A 𝓣 E G40 b49 Δ0 at68
           d68 =
               Typed.g-pre
               𝓤
@@ -21851,16 +20288,16 @@ module _ (claims· : Claims) where
               W
               𝓣
               E
-              G49
-              G50
-              b52
+              G40
+              G41
+              b49
               Δ0
               (λ Ψ. Ψ)
               at67
-              (Lifetime.g-forget 𝓤 H A W E G49 15 Row.dead Path'.refl)
+              (Lifetime.g-forget 𝓤 H A W E G40 14 Row.dead Path'.refl)
               d67
 
-          d69 : Typed.Typed 𝓤 H A 𝓣 E G48 b52 Δ0 at69
+          d69 : Typed.Typed 𝓤 H A 𝓣 E G39 b49 Δ0 at69
           d69 =
               Typed.g-pre
               𝓤
@@ -21869,11 +20306,11 @@ module _ (claims· : Claims) where
               W
               𝓣
               E
-              G48
-              G49
-              b52
+              G39
+              G40
+              b49
               Δ0
-              (Typed.both s47)
+              (Typed.both s38)
               at68
               (Relend.g-back-sl
               𝓤
@@ -21882,11 +20319,11 @@ module _ (claims· : Claims) where
               W
               E
               Elem.R
-              G48
-              25
+              G39
+              22
               2
               1
-              15
+              14
               (Syntax.tyRef
               (Syntax.named 1)
               Syntax.mut
@@ -21919,13 +20356,13 @@ module _ (claims· : Claims) where
               Syntax.mut
               Elem.ty)
               1
-              15
+              14
               (Row.lease (κs .1 .0) (qs .1 .0))))
               Path'.refl
               Path'.refl)
               d68
 
-          d70 : Typed.Typed 𝓤 H A 𝓣 E G47 b52 Δ0 at70
+          d70 : Typed.Typed 𝓤 H A 𝓣 E G38 b49 Δ0 at70
           d70 =
               Typed.g-pre
               𝓤
@@ -21934,16 +20371,16 @@ module _ (claims· : Claims) where
               W
               𝓣
               E
-              G47
-              G48
-              b52
+              G38
+              G39
+              b49
               Δ0
               (λ Ψ. Ψ)
               at69
-              (Lifetime.g-end 𝓤 H A W E G47 15 Path'.refl)
+              (Lifetime.g-end 𝓤 H A W E G38 14 Path'.refl)
               d69
 
-          d71 : Typed.Typed 𝓤 H A 𝓣 E G46 b52 Δ0 at71
+          d71 : Typed.Typed 𝓤 H A 𝓣 E G37 b49 Δ0 at71
           d71 =
               Typed.g-pre
               𝓤
@@ -21952,16 +20389,16 @@ module _ (claims· : Claims) where
               W
               𝓣
               E
-              G46
-              G47
-              b52
+              G37
+              G38
+              b49
               Δ0
               (λ Ψ. Ψ)
               at70
-              (Lifetime.g-forget 𝓤 H A W E G46 14 Row.dead Path'.refl)
+              (Lifetime.g-forget 𝓤 H A W E G37 13 Row.dead Path'.refl)
               d70
 
-          d72 : Typed.Typed 𝓤 H A 𝓣 E G45 b52 Δ0 at72
+          d72 : Typed.Typed 𝓤 H A 𝓣 E G36 b49 Δ0 at72
           d72 =
               Typed.g-pre
               𝓤
@@ -21970,870 +20407,12 @@ module _ (claims· : Claims) where
               W
               𝓣
               E
-              G45
-              G46
-              b52
-              Δ0
-              (Typed.pass T44 T46 s44)
-              at71
-              (Reshare.g-back-sl-shr
-              𝓤
-              H
-              A
-              W
-              E
-              (Referent.rtF (Referent.fInt Syntax.w64))
-              G45
-              4
-              3
-              14
-              (Syntax.tyRef (Syntax.named 3) Syntax.mut (Syntax.tyInt Syntax.w64))
-              (Row.lease (κs .1 .1 .1 .0) (qs .1 .1 .1 .0))
-              (λ x. x)
-              (Reads.as-is
-              𝓤
-              H
-              A
-              (Reshare.mslice-owedS
-              (Referent.rtF (Referent.fInt Syntax.w64))
-              (Syntax.tyRef (Syntax.named 3) Syntax.mut (Syntax.tyInt Syntax.w64))
-              3
-              14
-              (Row.lease (κs .1 .1 .1 .0) (qs .1 .1 .1 .0))))
-              Path'.refl
-              Path'.refl)
-              d71
-
-          d73 : Typed.Typed 𝓤 H A 𝓣 E G44 b52 Δ0 at73
-          d73 =
-              Typed.g-pre
-              𝓤
-              H
-              A
-              W
-              𝓣
-              E
-              G44
-              G45
-              b52
-              Δ0
-              (λ Ψ. Ψ)
-              at72
-              (Lifetime.g-end 𝓤 H A W E G44 14 Path'.refl)
-              d72
-
-          d74 : Typed.Typed 𝓤 H A 𝓣 E G43 b52 Δ0 at74
-          d74 =
-              Typed.g-pre
-              𝓤
-              H
-              A
-              W
-              𝓣
-              E
-              G43
-              G44
-              b52
-              Δ0
-              (Typed.pass T43 T44 s42)
-              at73
-              (Scalar.g-room
-              𝓤
-              H
-              A
-              W
-              E
-              G43
-              21
-              (Syntax.tyInt Syntax.w64)
-              (Scalar.room-sc 𝓤 H A W (Row.sInt Syntax.w64)))
-              d73
-
-          d75 : Typed.Typed 𝓤 H A 𝓣 E G42 b52 Δ0 at75
-          d75 =
-              Typed.g-pre
-              𝓤
-              H
-              A
-              W
-              𝓣
-              E
-              G42
-              G43
-              b52
-              Δ0
-              (Typed.pass T42 T43 s41)
-              at74
-              (Scalar.g-room
-              𝓤
-              H
-              A
-              W
-              E
-              G42
-              23
-              (Syntax.tyStruct
-              (List._∷_ 38 (List._∷_ 91 (List._∷_ 93 List.[])))
-              (Syntax.tcons
-              (Syntax.tyRef Syntax.erased Syntax.imm (Syntax.tyInt Syntax.w64))
-              (Syntax.tcons (Syntax.tyInt Syntax.w64) Syntax.tnil)))
-              (Shared.room-sslice
-              𝓤
-              H
-              A
-              W
-              (Referent.rtF (Referent.fInt Syntax.w64))
-              (Syntax.tyRef Syntax.erased Syntax.imm (Syntax.tyInt Syntax.w64))
-              14))
-              d74
-
-          d76 : Typed.Typed 𝓤 H A 𝓣 E G41 b53 Δ0 at76
-          d76 =
-              Typed.s-seq
-              𝓤
-              H
-              A
-              W
-              𝓣
-              E
-              G41
-              G42
-              b13
-              b52
-              Δ0
-              (Typed.both s40)
-              at75
-              (Plain.t-call-plain
-              𝓤
-              H
-              A
-              W
-              𝓣
-              3
-              ps·1
-              r·1
-              (claims· .2)
-              (claims· .3)
-              "records::fill"
-              (known .1)
-              E
-              (λ pos β. β)
-              G41 (
-                record {
-                  pos = 1;
-                  ty = Syntax.tyRef (Syntax.named 0) Syntax.imm (Syntax.tyInt Syntax.w8);
-                  ref = λ x. x;
-                },
-                (
-                  record {
-                    pos = 23;
-                    ty = Syntax.tyRef Syntax.erased Syntax.imm (Syntax.tyInt Syntax.w64);
-                    ref = λ x. x;
-                  },
-                  (
-                    record {
-                      pos = 25;
-                      ty = Syntax.tyRef
-                          Syntax.erased
-                          Syntax.mut
-                          Elem.ty;
-                      ref = λ x. x;
-                    },
-                    tt,
-                  ),
-                ),
-              )
-              21
-              (List._∷_ 0 (List._∷_ 14 (List._∷_ 15 List.[])))
-              (Call.sub-id 𝓤 H A W (G41 .slots)) (
-                ShrSlice.spares-sslice
-                    𝓤
-                    H
-                    A
-                    W
-                    (Referent.rtF (Referent.fInt Syntax.w8))
-                    (Syntax.tyRef (Syntax.named 0) Syntax.imm (Syntax.tyInt Syntax.w8))
-                    0,
-                Shared.reads-sslice
-                    𝓤
-                    H
-                    A
-                    W
-                    (Referent.rtF (Referent.fInt Syntax.w8))
-                    (Syntax.tyRef (Syntax.named 0) Syntax.imm (Syntax.tyInt Syntax.w8))
-                    0,
-                Path'.refl,
-                (
-                  ShrSlice.spares-sslice
-                      𝓤
-                      H
-                      A
-                      W
-                      (Referent.rtF (Referent.fInt Syntax.w64))
-                      (Syntax.tyRef Syntax.erased Syntax.imm (Syntax.tyInt Syntax.w64))
-                      14,
-                  Shared.reads-sslice
-                      𝓤
-                      H
-                      A
-                      W
-                      (Referent.rtF (Referent.fInt Syntax.w64))
-                      (Syntax.tyRef Syntax.erased Syntax.imm (Syntax.tyInt Syntax.w64))
-                      14,
-                  Path'.refl,
-                  (
-                    Reads.as-is
-                        𝓤
-                        H
-                        A
-                        (Mut.mslice
-                        Elem.R
-                        (Syntax.tyRef
-                        Syntax.erased
-                        Syntax.mut
-                        Elem.ty)
-                        15),
-                    Mut.reads-mslice
-                        𝓤
-                        H
-                        A
-                        W
-                        Elem.R
-                        (Syntax.tyRef
-                        Syntax.erased
-                        Syntax.mut
-                        Elem.ty)
-                        15,
-                    Path'.refl,
-                    tt,
-                  ),
-                ),
-              )
-              (Reads.room-gone 𝓤 H A (Syntax.tyInt Syntax.w64))
-              (tt, (tt, (tt, tt)))
-              Path'.refl)
-              d75
-
-          d77 : Typed.Typed 𝓤 H A 𝓣 E G40 b54 Δ0 at77
-          d77 =
-              Typed.s-seq
-              𝓤
-              H
-              A
-              W
-              𝓣
-              E
-              G40
-              G41
-              b12
-              b53
-              Δ0
-              (Typed.ask s39)
-              at76
-              (Relend.t-sl-aggregate
-              𝓤
-              H
-              A
-              W
-              E
-              Elem.R
-              𝓣
-              (Relend.asMut Elem.R)
-              G40
-              24
-              25
-              15
-              (Syntax.tyRef
-              Syntax.erased
-              Syntax.mut
-              Elem.ty)
-              (Syntax.tyRef
-              Syntax.erased
-              Syntax.mut
-              Elem.ty)
-              (λ x. x)
-              (Scalar.oFld
-              2
-              (List._∷_ (Syntax.field 1) List.[])
-              (Syntax.tyInt Syntax.w64)
-              8
-              λ v. Shared.lenV
-              (v .0))
-              (Reads.as-is
-              𝓤
-              H
-              A
-              (Relend.msptr
-              Elem.R
-              (Syntax.tyRef
-              Syntax.erased
-              Syntax.mut
-              Elem.ty)
-              15))
-              (Reads.room-gone
-              𝓤
-              H
-              A
-              (Syntax.tyStruct
-              (List._∷_ 38 (List._∷_ 91 (List._∷_ 93 List.[])))
-              (Syntax.tcons
-              (Syntax.tyRef
-              Syntax.erased
-              Syntax.mut
-              Elem.ty)
-              (Syntax.tcons (Syntax.tyInt Syntax.w64) Syntax.tnil)))) (
-                Relend.reads-owed-len
-                    𝓤
-                    H
-                    A
-                    W
-                    Elem.R
-                    (Syntax.tyRef
-                    (Syntax.named 1)
-                    Syntax.mut
-                    Elem.ty)
-                    1
-                    15
-                    (Row.lease (κs .1 .0) (qs .1 .0))
-                    8
-                    Path'.refl,
-                Path'.refl,
-              )
-              Path'.refl
-              Path'.refl
-              λ b o k. tt)
-              d76
-
-          d78 : Typed.Typed 𝓤 H A 𝓣 E G39 b55 Δ0 at78
-          d78 =
-              Typed.s-seq
-              𝓤
-              H
-              A
-              W
-              𝓣
-              E
-              G39
-              G40
-              b11
-              b54
-              Δ0
-              (Typed.give s38)
-              at77
-              (Relend.t-sl-relend
-              𝓤
-              H
-              A
-              W
-              E
-              Elem.R
-              𝓣
-              G39
-              2
-              24
-              1
-              15
-              (Syntax.tyRef
-              (Syntax.named 1)
-              Syntax.mut
-              Elem.ty)
-              (Syntax.tyRef
-              Syntax.erased
-              Syntax.mut
-              Elem.ty)
-              (Row.lease (κs .1 .0) (qs .1 .0))
-              0
-              (λ x. x)
-              (Reads.as-is
-              𝓤
-              H
-              A
-              (Mut.mslice
-              Elem.R
-              (Syntax.tyRef
-              (Syntax.named 1)
-              Syntax.mut
-              Elem.ty)
-              1))
-              (Reads.room-gone
-              𝓤
-              H
-              A
-              (Syntax.tyRef
-              Syntax.erased
-              Syntax.mut
-              Elem.ty))
-              Path'.refl
-              tt
-              Path'.refl
-              Path'.refl
-              Path'.refl
-              λ b o. tt)
-              d77
-
-          d79 : Typed.Typed 𝓤 H A 𝓣 E G38 b55 Δ0 at79
-          d79 =
-              Typed.g-pre
-              𝓤
-              H
-              A
-              W
-              𝓣
-              E
-              G38
-              G39
-              b55
-              Δ0
-              (λ Ψ. Ψ)
-              at78
-              (Lifetime.g-begin 𝓤 H A W E G38 15 (
-                tt,
-                (
-                  tt,
-                  (
-                    tt,
-                    (
-                      tt,
-                      (
-                        (tt, tt),
-                        (
-                          tt,
-                          (
-                            tt,
-                            (
-                              tt,
-                              (
-                                tt,
-                                (
-                                  tt,
-                                  (
-                                    tt,
-                                    (
-                                      tt,
-                                      (
-                                        tt,
-                                        (
-                                          tt,
-                                          (
-                                            tt,
-                                            (
-                                              tt,
-                                              (
-                                                tt,
-                                                (
-                                                  tt,
-                                                  (
-                                                    tt,
-                                                    (
-                                                      tt,
-                                                      (
-                                                        tt,
-                                                        (
-                                                          tt,
-                                                          (
-                                                            tt,
-                                                            (
-                                                              tt,
-                                                              (
-                                                                tt,
-                                                                (
-                                                                  tt,
-                                                                  (
-                                                                    tt,
-                                                                    (
-                                                                      tt,
-                                                                      (
-                                                                        tt,
-                                                                        (
-                                                                          tt,
-                                                                          (
-                                                                            tt,
-                                                                            (
-                                                                              tt,
-                                                                              (
-                                                                                tt,
-                                                                                (
-                                                                                  tt,
-                                                                                  (
-                                                                                    tt,
-                                                                                    (
-                                                                                      tt,
-                                                                                      (
-                                                                                        tt,
-                                                                                        (
-                                                                                          tt,
-                                                                                          (
-                                                                                            tt,
-                                                                                            (
-                                                                                              tt,
-                                                                                              (
-                                                                                                tt,
-                                                                                                (
-                                                                                                  tt,
-                                                                                                  (
-                                                                                                    tt,
-                                                                                                    (
-                                                                                                      tt,
-                                                                                                      tt,
-                                                                                                    ),
-                                                                                                  ),
-                                                                                                ),
-                                                                                              ),
-                                                                                            ),
-                                                                                          ),
-                                                                                        ),
-                                                                                      ),
-                                                                                    ),
-                                                                                  ),
-                                                                                ),
-                                                                              ),
-                                                                            ),
-                                                                          ),
-                                                                        ),
-                                                                      ),
-                                                                    ),
-                                                                  ),
-                                                                ),
-                                                              ),
-                                                            ),
-                                                          ),
-                                                        ),
-                                                      ),
-                                                    ),
-                                                  ),
-                                                ),
-                                              ),
-                                            ),
-                                          ),
-                                        ),
-                                      ),
-                                    ),
-                                  ),
-                                ),
-                              ),
-                            ),
-                          ),
-                        ),
-                      ),
-                    ),
-                  ),
-                ),
-              ))
-              d78
-
-          d80 : Typed.Typed 𝓤 H A 𝓣 E G37 b56 Δ0 at80
-          d80 =
-              Typed.s-seq
-              𝓤
-              H
-              A
-              W
-              𝓣
-              E
-              G37
-              G38
-              b10
-              b55
-              Δ0
-              (Typed.ask s36)
-              at79
-              (Relend.t-sl-aggregate
-              𝓤
-              H
-              A
-              W
-              E
-              (Referent.rtF (Referent.fInt Syntax.w64))
-              𝓣
-              (Relend.asShr (Referent.rtF (Referent.fInt Syntax.w64)))
-              G37
-              22
-              23
-              14
-              (Syntax.tyRef Syntax.erased Syntax.imm (Syntax.tyInt Syntax.w64))
-              (Syntax.tyRef Syntax.erased Syntax.imm (Syntax.tyInt Syntax.w64))
-              (λ x. x)
-              (Scalar.oFld
-              4
-              (List._∷_ (Syntax.field 1) List.[])
-              (Syntax.tyInt Syntax.w64)
-              8
-              λ v. Shared.lenV
-              (v .0))
-              (Reads.as-is
-              𝓤
-              H
-              A
-              (Relend.ssptr
-              (Referent.rtF (Referent.fInt Syntax.w64))
-              (Syntax.tyRef Syntax.erased Syntax.imm (Syntax.tyInt Syntax.w64))
-              14))
-              (Reads.room-gone
-              𝓤
-              H
-              A
-              (Syntax.tyStruct
-              (List._∷_ 38 (List._∷_ 91 (List._∷_ 93 List.[])))
-              (Syntax.tcons
-              (Syntax.tyRef Syntax.erased Syntax.imm (Syntax.tyInt Syntax.w64))
-              (Syntax.tcons (Syntax.tyInt Syntax.w64) Syntax.tnil)))) (
-                Reshare.reads-owedS-len
-                    𝓤
-                    H
-                    A
-                    W
-                    (Referent.rtF (Referent.fInt Syntax.w64))
-                    (Syntax.tyRef (Syntax.named 3) Syntax.mut (Syntax.tyInt Syntax.w64))
-                    3
-                    14
-                    (Row.lease (κs .1 .1 .1 .0) (qs .1 .1 .1 .0))
-                    8
-                    Path'.refl,
-                Path'.refl,
-              )
-              Path'.refl
-              Path'.refl
-              λ b o k. tt)
-              d79
-
-          d81 : Typed.Typed 𝓤 H A 𝓣 E G36 b57 Δ0 at81
-          d81 =
-              Typed.s-seq
-              𝓤
-              H
-              A
-              W
-              𝓣
-              E
               G36
               G37
-              b9
-              b56
+              b49
               Δ0
               (Typed.give s35)
-              at80
-              (Reshare.t-sl-reshare
-              𝓤
-              H
-              A
-              W
-              E
-              (Referent.rtF (Referent.fInt Syntax.w64))
-              𝓣
-              G36
-              4
-              22
-              3
-              14
-              (Syntax.tyRef (Syntax.named 3) Syntax.mut (Syntax.tyInt Syntax.w64))
-              (Syntax.tyRef Syntax.erased Syntax.imm (Syntax.tyInt Syntax.w64))
-              (Row.lease (κs .1 .1 .1 .0) (qs .1 .1 .1 .0))
-              0
-              (λ x. x)
-              (Reads.as-is
-              𝓤
-              H
-              A
-              (Mut.mslice
-              (Referent.rtF (Referent.fInt Syntax.w64))
-              (Syntax.tyRef (Syntax.named 3) Syntax.mut (Syntax.tyInt Syntax.w64))
-              3))
-              (Reads.room-gone
-              𝓤
-              H
-              A
-              (Syntax.tyRef Syntax.erased Syntax.imm (Syntax.tyInt Syntax.w64)))
-              Path'.refl
-              tt
-              Path'.refl
-              Path'.refl
-              Path'.refl
-              λ b o. tt)
-              d80
-
-          d82 : Typed.Typed 𝓤 H A 𝓣 E G35 b57 Δ0 at82
-          d82 =
-              Typed.g-pre
-              𝓤
-              H
-              A
-              W
-              𝓣
-              E
-              G35
-              G36
-              b57
-              Δ0
-              (λ Ψ. Ψ)
-              at81
-              (Lifetime.g-begin 𝓤 H A W E G35 14 (
-                tt,
-                (
-                  tt,
-                  (
-                    tt,
-                    (
-                      tt,
-                      (
-                        tt,
-                        (
-                          tt,
-                          (
-                            tt,
-                            (
-                              tt,
-                              (
-                                tt,
-                                (
-                                  tt,
-                                  (
-                                    tt,
-                                    (
-                                      tt,
-                                      (
-                                        tt,
-                                        (
-                                          tt,
-                                          (
-                                            tt,
-                                            (
-                                              tt,
-                                              (
-                                                tt,
-                                                (
-                                                  tt,
-                                                  (
-                                                    tt,
-                                                    (
-                                                      tt,
-                                                      (
-                                                        tt,
-                                                        (
-                                                          tt,
-                                                          (
-                                                            tt,
-                                                            (
-                                                              tt,
-                                                              (
-                                                                tt,
-                                                                (
-                                                                  tt,
-                                                                  (
-                                                                    tt,
-                                                                    (
-                                                                      tt,
-                                                                      (
-                                                                        tt,
-                                                                        (
-                                                                          tt,
-                                                                          (
-                                                                            tt,
-                                                                            (
-                                                                              tt,
-                                                                              (
-                                                                                tt,
-                                                                                (
-                                                                                  tt,
-                                                                                  (
-                                                                                    tt,
-                                                                                    (
-                                                                                      tt,
-                                                                                      (
-                                                                                        tt,
-                                                                                        (
-                                                                                          tt,
-                                                                                          (
-                                                                                            tt,
-                                                                                            (
-                                                                                              tt,
-                                                                                              (
-                                                                                                tt,
-                                                                                                (
-                                                                                                  tt,
-                                                                                                  (
-                                                                                                    tt,
-                                                                                                    (
-                                                                                                      tt,
-                                                                                                      tt,
-                                                                                                    ),
-                                                                                                  ),
-                                                                                                ),
-                                                                                              ),
-                                                                                            ),
-                                                                                          ),
-                                                                                        ),
-                                                                                      ),
-                                                                                    ),
-                                                                                  ),
-                                                                                ),
-                                                                              ),
-                                                                            ),
-                                                                          ),
-                                                                        ),
-                                                                      ),
-                                                                    ),
-                                                                  ),
-                                                                ),
-                                                              ),
-                                                            ),
-                                                          ),
-                                                        ),
-                                                      ),
-                                                    ),
-                                                  ),
-                                                ),
-                                              ),
-                                            ),
-                                          ),
-                                        ),
-                                      ),
-                                    ),
-                                  ),
-                                ),
-                              ),
-                            ),
-                          ),
-                        ),
-                      ),
-                    ),
-                  ),
-                ),
-              ))
-              d81
-
-          d83 : Typed.Typed 𝓤 H A 𝓣 E G34 b57 Δ0 at83
-          d83 =
-              Typed.g-pre
-              𝓤
-              H
-              A
-              W
-              𝓣
-              E
-              G34
-              G35
-              b57
-              Δ0
-              (λ Ψ. Ψ)
-              at82
-              (Lifetime.g-forget 𝓤 H A W E G34 13 Row.dead Path'.refl)
-              d82
-
-          d84 : Typed.Typed 𝓤 H A 𝓣 E G33 b57 Δ0 at84
-          d84 =
-              Typed.g-pre
-              𝓤
-              H
-              A
-              W
-              𝓣
-              E
-              G33
-              G34
-              b57
-              Δ0
-              (Typed.give s32)
-              at83
+              at71
               (Know.g-sl-known
               𝓤
               H
@@ -22841,7 +20420,7 @@ module _ (claims· : Claims) where
               W
               (Referent.fInt Syntax.w32)
               E
-              G33
+              G36
               6
               5
               (Syntax.tyRef (Syntax.named 5) Syntax.mut (Syntax.tyInt Syntax.w32))
@@ -22859,10 +20438,10 @@ module _ (claims· : Claims) where
               5))
               Path'.refl
               tt)
-              d83
+              d71
 
-          d85 : Typed.Typed 𝓤 H A 𝓣 E G32 b57 Δ0 at85
-          d85 =
+          d73 : Typed.Typed 𝓤 H A 𝓣 E G35 b49 Δ0 at73
+          d73 =
               Typed.g-pre
               𝓤
               H
@@ -22870,12 +20449,12 @@ module _ (claims· : Claims) where
               W
               𝓣
               E
-              G32
-              G33
-              b57
+              G35
+              G36
+              b49
               Δ0
-              (Typed.both s31)
-              at84
+              (Typed.both s34)
+              at72
               (Relend.g-back-sl
               𝓤
               H
@@ -22883,7 +20462,7 @@ module _ (claims· : Claims) where
               W
               E
               (Referent.rtF (Referent.fInt Syntax.w32))
-              G32
+              G35
               20
               6
               5
@@ -22912,10 +20491,10 @@ module _ (claims· : Claims) where
               (Row.lease (κs .1 .1 .1 .1 .1 .0) (qs .1 .1 .1 .1 .1 .0))))
               Path'.refl
               Path'.refl)
-              d84
+              d72
 
-          d86 : Typed.Typed 𝓤 H A 𝓣 E G31 b57 Δ0 at86
-          d86 =
+          d74 : Typed.Typed 𝓤 H A 𝓣 E G34 b49 Δ0 at74
+          d74 =
               Typed.g-pre
               𝓤
               H
@@ -22923,48 +20502,48 @@ module _ (claims· : Claims) where
               W
               𝓣
               E
-              G31
+              G34
+              G35
+              b49
+              Δ0
+              (λ Ψ. Ψ)
+              at73
+              (Lifetime.g-end 𝓤 H A W E G34 13 Path'.refl)
+              d73
+
+          d75 : Typed.Typed 𝓤 H A 𝓣 E G33 b49 Δ0 at75
+          d75 =
+              Typed.g-pre
+              𝓤
+              H
+              A
+              W
+              𝓣
+              E
+              G33
+              G34
+              b49
+              Δ0
+              (λ Ψ. Ψ)
+              at74
+              (Lifetime.g-forget 𝓤 H A W E G33 12 Row.dead Path'.refl)
+              d74
+
+          d76 : Typed.Typed 𝓤 H A 𝓣 E G32 b49 Δ0 at76
+          d76 =
+              Typed.g-pre
+              𝓤
+              H
+              A
+              W
+              𝓣
+              E
               G32
-              b57
+              G33
+              b49
               Δ0
-              (λ Ψ. Ψ)
-              at85
-              (Lifetime.g-end 𝓤 H A W E G31 13 Path'.refl)
-              d85
-
-          d87 : Typed.Typed 𝓤 H A 𝓣 E G30 b57 Δ0 at87
-          d87 =
-              Typed.g-pre
-              𝓤
-              H
-              A
-              W
-              𝓣
-              E
-              G30
-              G31
-              b57
-              Δ0
-              (λ Ψ. Ψ)
-              at86
-              (Lifetime.g-forget 𝓤 H A W E G30 12 Row.dead Path'.refl)
-              d86
-
-          d88 : Typed.Typed 𝓤 H A 𝓣 E G29 b57 Δ0 at88
-          d88 =
-              Typed.g-pre
-              𝓤
-              H
-              A
-              W
-              𝓣
-              E
-              G29
-              G30
-              b57
-              Δ0
-              (Typed.give s28)
-              at87
+              (Typed.give s31)
+              at75
               (Know.g-sl-known
               𝓤
               H
@@ -22972,7 +20551,7 @@ module _ (claims· : Claims) where
               W
               (Referent.fInt Syntax.w8)
               E
-              G29
+              G32
               5
               4
               (Syntax.tyRef (Syntax.named 4) Syntax.mut (Syntax.tyInt Syntax.w8))
@@ -22990,10 +20569,10 @@ module _ (claims· : Claims) where
               4))
               Path'.refl
               tt)
-              d87
+              d75
 
-          d89 : Typed.Typed 𝓤 H A 𝓣 E G28 b57 Δ0 at89
-          d89 =
+          d77 : Typed.Typed 𝓤 H A 𝓣 E G31 b49 Δ0 at77
+          d77 =
               Typed.g-pre
               𝓤
               H
@@ -23001,12 +20580,12 @@ module _ (claims· : Claims) where
               W
               𝓣
               E
-              G28
-              G29
-              b57
+              G31
+              G32
+              b49
               Δ0
-              (Typed.both s27)
-              at88
+              (Typed.both s30)
+              at76
               (Relend.g-back-sl
               𝓤
               H
@@ -23014,7 +20593,7 @@ module _ (claims· : Claims) where
               W
               E
               (Referent.rtF (Referent.fInt Syntax.w8))
-              G28
+              G31
               18
               5
               4
@@ -23043,10 +20622,10 @@ module _ (claims· : Claims) where
               (Row.lease (κs .1 .1 .1 .1 .0) (qs .1 .1 .1 .1 .0))))
               Path'.refl
               Path'.refl)
-              d88
+              d76
 
-          d90 : Typed.Typed 𝓤 H A 𝓣 E G27 b57 Δ0 at90
-          d90 =
+          d78 : Typed.Typed 𝓤 H A 𝓣 E G30 b49 Δ0 at78
+          d78 =
               Typed.g-pre
               𝓤
               H
@@ -23054,48 +20633,48 @@ module _ (claims· : Claims) where
               W
               𝓣
               E
-              G27
+              G30
+              G31
+              b49
+              Δ0
+              (λ Ψ. Ψ)
+              at77
+              (Lifetime.g-end 𝓤 H A W E G30 12 Path'.refl)
+              d77
+
+          d79 : Typed.Typed 𝓤 H A 𝓣 E G29 b49 Δ0 at79
+          d79 =
+              Typed.g-pre
+              𝓤
+              H
+              A
+              W
+              𝓣
+              E
+              G29
+              G30
+              b49
+              Δ0
+              (λ Ψ. Ψ)
+              at78
+              (Lifetime.g-forget 𝓤 H A W E G29 11 Row.dead Path'.refl)
+              d78
+
+          d80 : Typed.Typed 𝓤 H A 𝓣 E G28 b49 Δ0 at80
+          d80 =
+              Typed.g-pre
+              𝓤
+              H
+              A
+              W
+              𝓣
+              E
               G28
-              b57
+              G29
+              b49
               Δ0
-              (λ Ψ. Ψ)
-              at89
-              (Lifetime.g-end 𝓤 H A W E G27 12 Path'.refl)
-              d89
-
-          d91 : Typed.Typed 𝓤 H A 𝓣 E G26 b57 Δ0 at91
-          d91 =
-              Typed.g-pre
-              𝓤
-              H
-              A
-              W
-              𝓣
-              E
-              G26
-              G27
-              b57
-              Δ0
-              (λ Ψ. Ψ)
-              at90
-              (Lifetime.g-forget 𝓤 H A W E G26 11 Row.dead Path'.refl)
-              d90
-
-          d92 : Typed.Typed 𝓤 H A 𝓣 E G25 b57 Δ0 at92
-          d92 =
-              Typed.g-pre
-              𝓤
-              H
-              A
-              W
-              𝓣
-              E
-              G25
-              G26
-              b57
-              Δ0
-              (Typed.give s24)
-              at91
+              (Typed.give s27)
+              at79
               (Know.g-sl-known
               𝓤
               H
@@ -23103,7 +20682,7 @@ module _ (claims· : Claims) where
               W
               (Referent.fInt Syntax.w64)
               E
-              G25
+              G28
               4
               3
               (Syntax.tyRef (Syntax.named 3) Syntax.mut (Syntax.tyInt Syntax.w64))
@@ -23121,10 +20700,10 @@ module _ (claims· : Claims) where
               3))
               Path'.refl
               tt)
-              d91
+              d79
 
-          d93 : Typed.Typed 𝓤 H A 𝓣 E G24 b57 Δ0 at93
-          d93 =
+          d81 : Typed.Typed 𝓤 H A 𝓣 E G27 b49 Δ0 at81
+          d81 =
               Typed.g-pre
               𝓤
               H
@@ -23132,12 +20711,12 @@ module _ (claims· : Claims) where
               W
               𝓣
               E
-              G24
-              G25
-              b57
+              G27
+              G28
+              b49
               Δ0
-              (Typed.both s23)
-              at92
+              (Typed.both s26)
+              at80
               (Relend.g-back-sl
               𝓤
               H
@@ -23145,7 +20724,7 @@ module _ (claims· : Claims) where
               W
               E
               (Referent.rtF (Referent.fInt Syntax.w64))
-              G24
+              G27
               16
               4
               3
@@ -23174,10 +20753,10 @@ module _ (claims· : Claims) where
               (Row.lease (κs .1 .1 .1 .0) (qs .1 .1 .1 .0))))
               Path'.refl
               Path'.refl)
-              d92
+              d80
 
-          d94 : Typed.Typed 𝓤 H A 𝓣 E G23 b57 Δ0 at94
-          d94 =
+          d82 : Typed.Typed 𝓤 H A 𝓣 E G26 b49 Δ0 at82
+          d82 =
               Typed.g-pre
               𝓤
               H
@@ -23185,17 +20764,17 @@ module _ (claims· : Claims) where
               W
               𝓣
               E
-              G23
-              G24
-              b57
+              G26
+              G27
+              b49
               Δ0
               (λ Ψ. Ψ)
-              at93
-              (Lifetime.g-end 𝓤 H A W E G23 11 Path'.refl)
-              d93
+              at81
+              (Lifetime.g-end 𝓤 H A W E G26 11 Path'.refl)
+              d81
 
-          d95 : Typed.Typed 𝓤 H A 𝓣 E G22 b58 Δ0 at95
-          d95 =
+          d83 : Typed.Typed 𝓤 H A 𝓣 E G25 b50 Δ0 at83
+          d83 =
               Typed.s-seq
               𝓤
               H
@@ -23203,29 +20782,29 @@ module _ (claims· : Claims) where
               W
               𝓣
               E
-              G22
-              G23
-              b8
-              b57
+              G25
+              G26
+              b10
+              b49
               Δ0
-              (Typed.both s21)
-              at94
+              (Typed.both s24)
+              at82
               (Plain.t-call-plain
               𝓤
               H
               A
               W
               𝓣
-              4
+              5
               ps·0
               r·0
               (claims· .0)
               (claims· .1)
-              "place::place_lines"
+              "records::place_lines"
               (known .0)
               E
               (λ pos β. β)
-              G22 (
+              G25 (
                 record {
                   pos = 1;
                   ty = Syntax.tyRef (Syntax.named 0) Syntax.imm (Syntax.tyInt Syntax.w8);
@@ -23249,14 +20828,24 @@ module _ (claims· : Claims) where
                         ty = Syntax.tyRef Syntax.erased Syntax.mut (Syntax.tyInt Syntax.w32);
                         ref = λ x. x;
                       },
-                      tt,
+                      (
+                        record {
+                          pos = 22;
+                          ty = Syntax.tyRef
+                              Syntax.erased
+                              Syntax.mut
+                              Elem.ty;
+                          ref = λ x. x;
+                        },
+                        tt,
+                      ),
                     ),
                   ),
                 ),
               )
               14
-              (List._∷_ 0 (List._∷_ 11 (List._∷_ 12 (List._∷_ 13 List.[]))))
-              (Call.sub-id 𝓤 H A W (G22 .slots)) (
+              (List._∷_ 0 (List._∷_ 11 (List._∷_ 12 (List._∷_ 13 (List._∷_ 14 List.[])))))
+              (Call.sub-id 𝓤 H A W (G25 .slots)) (
                 ShrSlice.spares-sslice
                     𝓤
                     H
@@ -23328,18 +20917,341 @@ module _ (claims· : Claims) where
                           (Syntax.tyRef Syntax.erased Syntax.mut (Syntax.tyInt Syntax.w32))
                           13,
                       Path'.refl,
-                      tt,
+                      (
+                        Reads.as-is
+                            𝓤
+                            H
+                            A
+                            (Mut.mslice
+                            Elem.R
+                            (Syntax.tyRef
+                            Syntax.erased
+                            Syntax.mut
+                            Elem.ty)
+                            14),
+                        Mut.reads-mslice
+                            𝓤
+                            H
+                            A
+                            W
+                            Elem.R
+                            (Syntax.tyRef
+                            Syntax.erased
+                            Syntax.mut
+                            Elem.ty)
+                            14,
+                        Path'.refl,
+                        tt,
+                      ),
                     ),
                   ),
                 ),
               )
               (Reads.room-gone 𝓤 H A (Syntax.tyInt Syntax.w64))
-              (tt, (tt, (tt, (tt, tt))))
+              (tt, (tt, (tt, (tt, (tt, tt)))))
               Path'.refl)
-              d94
+              d82
 
-          d96 : Typed.Typed 𝓤 H A 𝓣 E G21 b59 Δ0 at96
-          d96 =
+          d84 : Typed.Typed 𝓤 H A 𝓣 E G24 b51 Δ0 at84
+          d84 =
+              Typed.s-seq
+              𝓤
+              H
+              A
+              W
+              𝓣
+              E
+              G24
+              G25
+              b9
+              b50
+              Δ0
+              (Typed.ask s23)
+              at83
+              (Relend.t-sl-aggregate
+              𝓤
+              H
+              A
+              W
+              E
+              Elem.R
+              𝓣
+              (Relend.asMut Elem.R)
+              G24
+              21
+              22
+              14
+              (Syntax.tyRef
+              Syntax.erased
+              Syntax.mut
+              Elem.ty)
+              (Syntax.tyRef
+              Syntax.erased
+              Syntax.mut
+              Elem.ty)
+              (λ x. x)
+              (Scalar.oFld
+              2
+              (List._∷_ (Syntax.field 1) List.[])
+              (Syntax.tyInt Syntax.w64)
+              8
+              λ v. Shared.lenV
+              (v .0))
+              (Reads.as-is
+              𝓤
+              H
+              A
+              (Relend.msptr
+              Elem.R
+              (Syntax.tyRef
+              Syntax.erased
+              Syntax.mut
+              Elem.ty)
+              14))
+              (Reads.room-gone
+              𝓤
+              H
+              A
+              (Syntax.tyStruct
+              (List._∷_ 38 (List._∷_ 91 (List._∷_ 93 List.[])))
+              (Syntax.tcons
+              (Syntax.tyRef
+              Syntax.erased
+              Syntax.mut
+              Elem.ty)
+              (Syntax.tcons (Syntax.tyInt Syntax.w64) Syntax.tnil)))) (
+                Relend.reads-owed-len
+                    𝓤
+                    H
+                    A
+                    W
+                    Elem.R
+                    (Syntax.tyRef
+                    (Syntax.named 1)
+                    Syntax.mut
+                    Elem.ty)
+                    1
+                    14
+                    (Row.lease (κs .1 .0) (qs .1 .0))
+                    8
+                    Path'.refl,
+                Path'.refl,
+              )
+              Path'.refl
+              Path'.refl
+              λ b o k. tt)
+              d83
+
+          d85 : Typed.Typed 𝓤 H A 𝓣 E G23 b52 Δ0 at85
+          d85 =
+              Typed.s-seq
+              𝓤
+              H
+              A
+              W
+              𝓣
+              E
+              G23
+              G24
+              b8
+              b51
+              Δ0
+              (Typed.give s22)
+              at84
+              (Relend.t-sl-relend
+              𝓤
+              H
+              A
+              W
+              E
+              Elem.R
+              𝓣
+              G23
+              2
+              21
+              1
+              14
+              (Syntax.tyRef
+              (Syntax.named 1)
+              Syntax.mut
+              Elem.ty)
+              (Syntax.tyRef
+              Syntax.erased
+              Syntax.mut
+              Elem.ty)
+              (Row.lease (κs .1 .0) (qs .1 .0))
+              0
+              (λ x. x)
+              (Reads.as-is
+              𝓤
+              H
+              A
+              (Mut.mslice
+              Elem.R
+              (Syntax.tyRef
+              (Syntax.named 1)
+              Syntax.mut
+              Elem.ty)
+              1))
+              (Reads.room-gone
+              𝓤
+              H
+              A
+              (Syntax.tyRef
+              Syntax.erased
+              Syntax.mut
+              Elem.ty))
+              Path'.refl
+              tt
+              Path'.refl
+              Path'.refl
+              Path'.refl
+              λ b o. tt)
+              d84
+
+          d86 : Typed.Typed 𝓤 H A 𝓣 E G22 b52 Δ0 at86
+          d86 =
+              Typed.g-pre
+              𝓤
+              H
+              A
+              W
+              𝓣
+              E
+              G22
+              G23
+              b52
+              Δ0
+              (λ Ψ. Ψ)
+              at85
+              (Lifetime.g-begin 𝓤 H A W E G22 14 (
+                tt,
+                (
+                  tt,
+                  (
+                    tt,
+                    (
+                      tt,
+                      (
+                        (tt, tt),
+                        (
+                          (tt, tt),
+                          (
+                            (tt, tt),
+                            (
+                              tt,
+                              (
+                                tt,
+                                (
+                                  tt,
+                                  (
+                                    tt,
+                                    (
+                                      tt,
+                                      (
+                                        tt,
+                                        (
+                                          tt,
+                                          (
+                                            tt,
+                                            (
+                                              tt,
+                                              (
+                                                tt,
+                                                (
+                                                  tt,
+                                                  (
+                                                    tt,
+                                                    (
+                                                      tt,
+                                                      (
+                                                        tt,
+                                                        (
+                                                          tt,
+                                                          (
+                                                            tt,
+                                                            (
+                                                              tt,
+                                                              (
+                                                                tt,
+                                                                (
+                                                                  tt,
+                                                                  (
+                                                                    tt,
+                                                                    (
+                                                                      tt,
+                                                                      (
+                                                                        tt,
+                                                                        (
+                                                                          tt,
+                                                                          (
+                                                                            tt,
+                                                                            (
+                                                                              tt,
+                                                                              (
+                                                                                tt,
+                                                                                (
+                                                                                  tt,
+                                                                                  (
+                                                                                    tt,
+                                                                                    (
+                                                                                      tt,
+                                                                                      (
+                                                                                        tt,
+                                                                                        (
+                                                                                          tt,
+                                                                                          (
+                                                                                            tt,
+                                                                                            (
+                                                                                              tt,
+                                                                                              (
+                                                                                                tt,
+                                                                                                tt,
+                                                                                              ),
+                                                                                            ),
+                                                                                          ),
+                                                                                        ),
+                                                                                      ),
+                                                                                    ),
+                                                                                  ),
+                                                                                ),
+                                                                              ),
+                                                                            ),
+                                                                          ),
+                                                                        ),
+                                                                      ),
+                                                                    ),
+                                                                  ),
+                                                                ),
+                                                              ),
+                                                            ),
+                                                          ),
+                                                        ),
+                                                      ),
+                                                    ),
+                                                  ),
+                                                ),
+                                              ),
+                                            ),
+                                          ),
+                                        ),
+                                      ),
+                                    ),
+                                  ),
+                                ),
+                              ),
+                            ),
+                          ),
+                        ),
+                      ),
+                    ),
+                  ),
+                ),
+              ))
+              d85
+
+          d87 : Typed.Typed 𝓤 H A 𝓣 E G21 b53 Δ0 at87
+          d87 =
               Typed.s-seq
               𝓤
               H
@@ -23350,10 +21262,10 @@ module _ (claims· : Claims) where
               G21
               G22
               b7
-              b58
+              b52
               Δ0
               (Typed.ask s20)
-              at95
+              at86
               (Relend.t-sl-aggregate
               𝓤
               H
@@ -23411,10 +21323,10 @@ module _ (claims· : Claims) where
               Path'.refl
               Path'.refl
               λ b o k. tt)
-              d95
+              d86
 
-          d97 : Typed.Typed 𝓤 H A 𝓣 E G20 b60 Δ0 at97
-          d97 =
+          d88 : Typed.Typed 𝓤 H A 𝓣 E G20 b54 Δ0 at88
+          d88 =
               Typed.s-seq
               𝓤
               H
@@ -23425,10 +21337,10 @@ module _ (claims· : Claims) where
               G20
               G21
               b6
-              b59
+              b53
               Δ0
               (Typed.give s19)
-              at96
+              at87
               (Relend.t-sl-relend
               𝓤
               H
@@ -23466,10 +21378,10 @@ module _ (claims· : Claims) where
               Path'.refl
               Path'.refl
               λ b o. tt)
-              d96
+              d87
 
-          d98 : Typed.Typed 𝓤 H A 𝓣 E G19 b60 Δ0 at98
-          d98 =
+          d89 : Typed.Typed 𝓤 H A 𝓣 E G19 b54 Δ0 at89
+          d89 =
               Typed.g-pre
               𝓤
               H
@@ -23479,10 +21391,10 @@ module _ (claims· : Claims) where
               E
               G19
               G20
-              b60
+              b54
               Δ0
               (λ Ψ. Ψ)
-              at97
+              at88
               (Lifetime.g-begin 𝓤 H A W E G19 13 (
                 tt,
                 (
@@ -23565,16 +21477,7 @@ module _ (claims· : Claims) where
                                                                                               tt,
                                                                                               (
                                                                                                 tt,
-                                                                                                (
-                                                                                                  tt,
-                                                                                                  (
-                                                                                                    tt,
-                                                                                                    (
-                                                                                                      tt,
-                                                                                                      tt,
-                                                                                                    ),
-                                                                                                  ),
-                                                                                                ),
+                                                                                                tt,
                                                                                               ),
                                                                                             ),
                                                                                           ),
@@ -23616,10 +21519,10 @@ module _ (claims· : Claims) where
                   ),
                 ),
               ))
-              d97
+              d88
 
-          d99 : Typed.Typed 𝓤 H A 𝓣 E G18 b61 Δ0 at99
-          d99 =
+          d90 : Typed.Typed 𝓤 H A 𝓣 E G18 b55 Δ0 at90
+          d90 =
               Typed.s-seq
               𝓤
               H
@@ -23630,10 +21533,10 @@ module _ (claims· : Claims) where
               G18
               G19
               b5
-              b60
+              b54
               Δ0
               (Typed.ask s17)
-              at98
+              at89
               (Relend.t-sl-aggregate
               𝓤
               H
@@ -23691,10 +21594,10 @@ module _ (claims· : Claims) where
               Path'.refl
               Path'.refl
               λ b o k. tt)
-              d98
+              d89
 
-          d100 : Typed.Typed 𝓤 H A 𝓣 E G17 b62 Δ0 at100
-          d100 =
+          d91 : Typed.Typed 𝓤 H A 𝓣 E G17 b56 Δ0 at91
+          d91 =
               Typed.s-seq
               𝓤
               H
@@ -23705,10 +21608,10 @@ module _ (claims· : Claims) where
               G17
               G18
               b4
-              b61
+              b55
               Δ0
               (Typed.give s16)
-              at99
+              at90
               (Relend.t-sl-relend
               𝓤
               H
@@ -23746,10 +21649,10 @@ module _ (claims· : Claims) where
               Path'.refl
               Path'.refl
               λ b o. tt)
-              d99
+              d90
 
-          d101 : Typed.Typed 𝓤 H A 𝓣 E G16 b62 Δ0 at101
-          d101 =
+          d92 : Typed.Typed 𝓤 H A 𝓣 E G16 b56 Δ0 at92
+          d92 =
               Typed.g-pre
               𝓤
               H
@@ -23759,10 +21662,10 @@ module _ (claims· : Claims) where
               E
               G16
               G17
-              b62
+              b56
               Δ0
               (λ Ψ. Ψ)
-              at100
+              at91
               (Lifetime.g-begin 𝓤 H A W E G16 12 (
                 tt,
                 (
@@ -23845,16 +21748,7 @@ module _ (claims· : Claims) where
                                                                                               tt,
                                                                                               (
                                                                                                 tt,
-                                                                                                (
-                                                                                                  tt,
-                                                                                                  (
-                                                                                                    tt,
-                                                                                                    (
-                                                                                                      tt,
-                                                                                                      tt,
-                                                                                                    ),
-                                                                                                  ),
-                                                                                                ),
+                                                                                                tt,
                                                                                               ),
                                                                                             ),
                                                                                           ),
@@ -23896,10 +21790,10 @@ module _ (claims· : Claims) where
                   ),
                 ),
               ))
-              d100
+              d91
 
-          d102 : Typed.Typed 𝓤 H A 𝓣 E G15 b63 Δ0 at102
-          d102 =
+          d93 : Typed.Typed 𝓤 H A 𝓣 E G15 b57 Δ0 at93
+          d93 =
               Typed.s-seq
               𝓤
               H
@@ -23910,10 +21804,10 @@ module _ (claims· : Claims) where
               G15
               G16
               b3
-              b62
+              b56
               Δ0
               (Typed.ask s14)
-              at101
+              at92
               (Relend.t-sl-aggregate
               𝓤
               H
@@ -23971,10 +21865,10 @@ module _ (claims· : Claims) where
               Path'.refl
               Path'.refl
               λ b o k. tt)
-              d101
+              d92
 
-          d103 : Typed.Typed 𝓤 H A 𝓣 E G14 b64 Δ0 at103
-          d103 =
+          d94 : Typed.Typed 𝓤 H A 𝓣 E G14 b58 Δ0 at94
+          d94 =
               Typed.s-seq
               𝓤
               H
@@ -23985,10 +21879,10 @@ module _ (claims· : Claims) where
               G14
               G15
               b2
-              b63
+              b57
               Δ0
               (Typed.give s13)
-              at102
+              at93
               (Relend.t-sl-relend
               𝓤
               H
@@ -24026,10 +21920,10 @@ module _ (claims· : Claims) where
               Path'.refl
               Path'.refl
               λ b o. tt)
-              d102
+              d93
 
-          d104 : Typed.Typed 𝓤 H A 𝓣 E G13 b64 Δ0 at104
-          d104 =
+          d95 : Typed.Typed 𝓤 H A 𝓣 E G13 b58 Δ0 at95
+          d95 =
               Typed.g-pre
               𝓤
               H
@@ -24039,10 +21933,10 @@ module _ (claims· : Claims) where
               E
               G13
               G14
-              b64
+              b58
               Δ0
               (λ Ψ. Ψ)
-              at103
+              at94
               (Lifetime.g-begin 𝓤 H A W E G13 11 (
                 tt,
                 (
@@ -24125,16 +22019,7 @@ module _ (claims· : Claims) where
                                                                                               tt,
                                                                                               (
                                                                                                 tt,
-                                                                                                (
-                                                                                                  tt,
-                                                                                                  (
-                                                                                                    tt,
-                                                                                                    (
-                                                                                                      tt,
-                                                                                                      tt,
-                                                                                                    ),
-                                                                                                  ),
-                                                                                                ),
+                                                                                                tt,
                                                                                               ),
                                                                                             ),
                                                                                           ),
@@ -24176,10 +22061,10 @@ module _ (claims· : Claims) where
                   ),
                 ),
               ))
-              d103
+              d94
 
-          d105 : Typed.Typed 𝓤 H A 𝓣 E G12 b65 Δ0 at105
-          d105 =
+          d96 : Typed.Typed 𝓤 H A 𝓣 E G12 b59 Δ0 at96
+          d96 =
               Typed.s-seq
               𝓤
               H
@@ -24190,10 +22075,10 @@ module _ (claims· : Claims) where
               G12
               G13
               b1
-              b64
+              b58
               Δ0
               (Typed.ask s11)
-              at104
+              at95
               (Scalar.t-op2
               𝓤
               H
@@ -24217,10 +22102,10 @@ module _ (claims· : Claims) where
               Path'.refl
               (λ u. Path'.refl)
               λ u. tt)
-              d104
+              d95
 
-          d106 : Typed.Typed 𝓤 H A 𝓣 E G11 b66 Δ0 at106
-          d106 =
+          d97 : Typed.Typed 𝓤 H A 𝓣 E G11 b60 Δ0 at97
+          d97 =
               Typed.s-seq
               𝓤
               H
@@ -24231,10 +22116,10 @@ module _ (claims· : Claims) where
               G11
               G12
               b0
-              b65
+              b59
               Δ0
               (Typed.pass T11 T12 s10)
-              at105
+              at96
               (Scalar.t-use
               𝓤
               H
@@ -24271,10 +22156,10 @@ module _ (claims· : Claims) where
               Path'.refl
               (λ u. Path'.refl)
               λ u. tt)
-              d105
+              d96
 
-          d107 : Typed.Typed 𝓤 H A 𝓣 E G10 b66 Δ0 at107
-          d107 =
+          d98 : Typed.Typed 𝓤 H A 𝓣 E G10 b60 Δ0 at98
+          d98 =
               Typed.g-pre
               𝓤
               H
@@ -24284,10 +22169,10 @@ module _ (claims· : Claims) where
               E
               G10
               G11
-              b66
+              b60
               Δ0
               (Typed.give s9)
-              at106
+              at97
               (Know.g-sl-known
               𝓤
               H
@@ -24315,10 +22200,10 @@ module _ (claims· : Claims) where
               10))
               Path'.refl
               tt)
-              d106
+              d97
 
-          d108 : Typed.Typed 𝓤 H A 𝓣 E G9 b66 Δ0 at108
-          d108 =
+          d99 : Typed.Typed 𝓤 H A 𝓣 E G9 b60 Δ0 at99
+          d99 =
               Typed.g-pre
               𝓤
               H
@@ -24328,10 +22213,10 @@ module _ (claims· : Claims) where
               E
               G9
               G10
-              b66
+              b60
               Δ0
               (Typed.give s8)
-              at107
+              at98
               (Know.g-sl-known
               𝓤
               H
@@ -24357,10 +22242,10 @@ module _ (claims· : Claims) where
               9))
               Path'.refl
               tt)
-              d107
+              d98
 
-          d109 : Typed.Typed 𝓤 H A 𝓣 E G8 b66 Δ0 at109
-          d109 =
+          d100 : Typed.Typed 𝓤 H A 𝓣 E G8 b60 Δ0 at100
+          d100 =
               Typed.g-pre
               𝓤
               H
@@ -24370,10 +22255,10 @@ module _ (claims· : Claims) where
               E
               G8
               G9
-              b66
+              b60
               Δ0
               (Typed.give s7)
-              at108
+              at99
               (Know.g-sl-known
               𝓤
               H
@@ -24399,10 +22284,10 @@ module _ (claims· : Claims) where
               8))
               Path'.refl
               tt)
-              d108
+              d99
 
-          d110 : Typed.Typed 𝓤 H A 𝓣 E G7 b66 Δ0 at110
-          d110 =
+          d101 : Typed.Typed 𝓤 H A 𝓣 E G7 b60 Δ0 at101
+          d101 =
               Typed.g-pre
               𝓤
               H
@@ -24412,10 +22297,10 @@ module _ (claims· : Claims) where
               E
               G7
               G8
-              b66
+              b60
               Δ0
               (Typed.give s6)
-              at109
+              at100
               (Know.g-sl-known
               𝓤
               H
@@ -24441,10 +22326,10 @@ module _ (claims· : Claims) where
               7))
               Path'.refl
               tt)
-              d109
+              d100
 
-          d111 : Typed.Typed 𝓤 H A 𝓣 E G6 b66 Δ0 at111
-          d111 =
+          d102 : Typed.Typed 𝓤 H A 𝓣 E G6 b60 Δ0 at102
+          d102 =
               Typed.g-pre
               𝓤
               H
@@ -24454,10 +22339,10 @@ module _ (claims· : Claims) where
               E
               G6
               G7
-              b66
+              b60
               Δ0
               (Typed.give s5)
-              at110
+              at101
               (Know.g-sl-known
               𝓤
               H
@@ -24483,10 +22368,10 @@ module _ (claims· : Claims) where
               6))
               Path'.refl
               tt)
-              d110
+              d101
 
-          d112 : Typed.Typed 𝓤 H A 𝓣 E G5 b66 Δ0 at112
-          d112 =
+          d103 : Typed.Typed 𝓤 H A 𝓣 E G5 b60 Δ0 at103
+          d103 =
               Typed.g-pre
               𝓤
               H
@@ -24496,10 +22381,10 @@ module _ (claims· : Claims) where
               E
               G5
               G6
-              b66
+              b60
               Δ0
               (Typed.give s4)
-              at111
+              at102
               (Know.g-sl-known
               𝓤
               H
@@ -24525,10 +22410,10 @@ module _ (claims· : Claims) where
               5))
               Path'.refl
               tt)
-              d111
+              d102
 
-          d113 : Typed.Typed 𝓤 H A 𝓣 E G4 b66 Δ0 at113
-          d113 =
+          d104 : Typed.Typed 𝓤 H A 𝓣 E G4 b60 Δ0 at104
+          d104 =
               Typed.g-pre
               𝓤
               H
@@ -24538,10 +22423,10 @@ module _ (claims· : Claims) where
               E
               G4
               G5
-              b66
+              b60
               Δ0
               (Typed.give s3)
-              at112
+              at103
               (Know.g-sl-known
               𝓤
               H
@@ -24567,10 +22452,10 @@ module _ (claims· : Claims) where
               4))
               Path'.refl
               tt)
-              d112
+              d103
 
-          d114 : Typed.Typed 𝓤 H A 𝓣 E G3 b66 Δ0 at114
-          d114 =
+          d105 : Typed.Typed 𝓤 H A 𝓣 E G3 b60 Δ0 at105
+          d105 =
               Typed.g-pre
               𝓤
               H
@@ -24580,10 +22465,10 @@ module _ (claims· : Claims) where
               E
               G3
               G4
-              b66
+              b60
               Δ0
               (Typed.give s2)
-              at113
+              at104
               (Know.g-sl-known
               𝓤
               H
@@ -24609,10 +22494,10 @@ module _ (claims· : Claims) where
               3))
               Path'.refl
               tt)
-              d113
+              d104
 
-          d115 : Typed.Typed 𝓤 H A 𝓣 E G2 b66 Δ0 at115
-          d115 =
+          d106 : Typed.Typed 𝓤 H A 𝓣 E G2 b60 Δ0 at106
+          d106 =
               Typed.g-pre
               𝓤
               H
@@ -24622,10 +22507,10 @@ module _ (claims· : Claims) where
               E
               G2
               G3
-              b66
+              b60
               Δ0
               (Typed.give s1)
-              at114
+              at105
               (Know.g-sl-known
               𝓤
               H
@@ -24651,10 +22536,10 @@ module _ (claims· : Claims) where
               2))
               Path'.refl
               tt)
-              d114
+              d105
 
-          d116 : Typed.Typed 𝓤 H A 𝓣 E G0 b66 Δ0 at116
-          d116 =
+          d107 : Typed.Typed 𝓤 H A 𝓣 E G0 b60 Δ0 at107
+          d107 =
               Typed.g-pre
               𝓤
               H
@@ -24664,10 +22549,10 @@ module _ (claims· : Claims) where
               E
               G0
               G2
-              b66
+              b60
               Δ0
               (Typed.give s0)
-              at115
+              at106
               (Know.g-shs-known
               𝓤
               H
@@ -24693,7 +22578,7 @@ module _ (claims· : Claims) where
               0))
               Path'.refl
               tt)
-              d115
+              d106
 
           pub typed :
               Typed.Typed
@@ -24703,10 +22588,10 @@ module _ (claims· : Claims) where
               𝓣
               E
               (Function.Γin 11 ps r xs m κs qs)
-              b66
+              b60
               (Function.Δret 11 ps r xs m κs qs)
               Φ
-          typed = d116
+          typed = d107
 
       module _ (κs : Lifetimes.Lfts 11) where
         pub record Args : Type 0 where
@@ -25001,20 +22886,41 @@ module _ (claims· : Claims) where
         pub before : After-place-lines-arg2
         pub place-lines-arg3 : After-place-lines-arg3·own before
 
-      abbrev pub Need-place-lines-requires : Type 0
-      Need-place-lines-requires =
-          (c : After-place-lines-arg3) → s21 .asks (m18 (c .before) (c .place-lines-arg3 .given))
-
       abbrev pub m19 :
           (before : After-place-lines-arg3) →
-          (given : s21 .gives (m18 (before .before) (before .place-lines-arg3 .given))) →
-          Typed.Mo T23
+          (given : s22 .gives (m18 (before .before) (before .place-lines-arg3 .given))) →
+          Typed.Mo T24
       m19 =
-          λ before given. s21 .next (m18 (before .before) (before .place-lines-arg3 .given)) given
+          λ before given. s22 .next (m18 (before .before) (before .place-lines-arg3 .given)) given
+
+      abbrev pub m20 :
+          (before : After-place-lines-arg3) →
+          (given : s22 .gives (m18 (before .before) (before .place-lines-arg3 .given))) →
+          Typed.Mo T25
+      m20 = λ before given. s23 .next (m19 before given)
 
       module _ (before· : After-place-lines-arg3) where
+        pub record After-place-lines-arg4·own : Type 0 where
+          pub given : s22 .gives (m18 (before· .before) (before· .place-lines-arg3 .given))
+
+      pub record After-place-lines-arg4 : Type 0 where
+        pub before : After-place-lines-arg3
+        pub place-lines-arg4 : After-place-lines-arg4·own before
+
+      abbrev pub Need-place-lines-requires : Type 0
+      Need-place-lines-requires =
+          (c : After-place-lines-arg4) → s24 .asks (m20 (c .before) (c .place-lines-arg4 .given))
+
+      abbrev pub m21 :
+          (before : After-place-lines-arg4) →
+          (given : s24 .gives (m20 (before .before) (before .place-lines-arg4 .given))) →
+          Typed.Mo T26
+      m21 =
+          λ before given. s24 .next (m20 (before .before) (before .place-lines-arg4 .given)) given
+
+      module _ (before· : After-place-lines-arg4) where
         abbrev pub After-place-lines·own : Type 0
-        After-place-lines·own = Called.Called ps·0 r·0 (claims· .1) T22 (
+        After-place-lines·own = Called.Called ps·0 r·0 (claims· .1) T25 (
           record {
             pos = 1;
             ty = Syntax.tyRef (Syntax.named 0) Syntax.imm (Syntax.tyInt Syntax.w8);
@@ -25038,20 +22944,30 @@ module _ (claims· : Claims) where
                   ty = Syntax.tyRef Syntax.erased Syntax.mut (Syntax.tyInt Syntax.w32);
                   ref = λ x. x;
                 },
-                tt,
+                (
+                  record {
+                    pos = 22;
+                    ty = Syntax.tyRef
+                        Syntax.erased
+                        Syntax.mut
+                        Elem.ty;
+                    ref = λ x. x;
+                  },
+                  tt,
+                ),
               ),
             ),
           ),
-        ) (m18 (before· .before) (before· .place-lines-arg3 .given))
+        ) (m20 (before· .before) (before· .place-lines-arg4 .given))
 
       pub record After-place-lines : Type 0 where
-        pub before : After-place-lines-arg3
+        pub before : After-place-lines-arg4
         pub place-lines : After-place-lines·own before
 
       abbrev pub After-place-lines·gave :
           (c : After-place-lines) →
-          s21 .gives (m18 (c .before .before) (c .before .place-lines-arg3 .given))
-      After-place-lines·gave = λ c. Called.given ps·0 r·0 (claims· .1) T22 (
+          s24 .gives (m20 (c .before .before) (c .before .place-lines-arg4 .given))
+      After-place-lines·gave = λ c. Called.given ps·0 r·0 (claims· .1) T25 (
         record {
           pos = 1;
           ty = Syntax.tyRef (Syntax.named 0) Syntax.imm (Syntax.tyInt Syntax.w8);
@@ -25075,316 +22991,198 @@ module _ (claims· : Claims) where
                 ty = Syntax.tyRef Syntax.erased Syntax.mut (Syntax.tyInt Syntax.w32);
                 ref = λ x. x;
               },
-              tt,
+              (
+                record {
+                  pos = 22;
+                  ty = Syntax.tyRef
+                      Syntax.erased
+                      Syntax.mut
+                      Elem.ty;
+                  ref = λ x. x;
+                },
+                tt,
+              ),
             ),
           ),
         ),
-      ) (m18 (c .before .before) (c .before .place-lines-arg3 .given)) (c .place-lines)
+      ) (m20 (c .before .before) (c .before .place-lines-arg4 .given)) (c .place-lines)
 
-      abbrev pub m20 :
+      abbrev pub m22 :
           (before : After-place-lines) →
-          (given : s23 .gives (m19 (before .before) (After-place-lines·gave before))) →
-          Typed.Mo T25
-      m20 = λ before given. s23 .next (m19 (before .before) (After-place-lines·gave before)) given
+          (given : s26 .gives (m21 (before .before) (After-place-lines·gave before))) →
+          Typed.Mo T28
+      m22 = λ before given. s26 .next (m21 (before .before) (After-place-lines·gave before)) given
 
       module _ (before· : After-place-lines) where
         pub record After-blocks2·own : Type 0 where
-          pub given : s23 .gives (m19 (before· .before) (After-place-lines·gave before·))
+          pub given : s26 .gives (m21 (before· .before) (After-place-lines·gave before·))
 
       pub record After-blocks2 : Type 0 where
         pub before : After-place-lines
         pub blocks2 : After-blocks2·own before
 
-      abbrev pub m21 :
+      abbrev pub m23 :
           (before : After-blocks2) →
-          (given : s24 .gives (m20 (before .before) (before .blocks2 .given))) →
-          Typed.Mo T26
-      m21 = λ before given. s24 .next (m20 (before .before) (before .blocks2 .given)) given
+          (given : s27 .gives (m22 (before .before) (before .blocks2 .given))) →
+          Typed.Mo T29
+      m23 = λ before given. s27 .next (m22 (before .before) (before .blocks2 .given)) given
 
       module _ (before· : After-blocks2) where
         pub record After-slice-known10·own : Type 0 where
-          pub given : s24 .gives (m20 (before· .before) (before· .blocks2 .given))
+          pub given : s27 .gives (m22 (before· .before) (before· .blocks2 .given))
 
       pub record After-slice-known10 : Type 0 where
         pub before : After-blocks2
         pub slice-known10 : After-slice-known10·own before
 
-      abbrev pub m22 :
+      abbrev pub m24 :
           (before : After-slice-known10) →
-          (given : s27 .gives (m21 (before .before) (before .slice-known10 .given))) →
-          Typed.Mo T29
-      m22 = λ before given. s27 .next (m21 (before .before) (before .slice-known10 .given)) given
+          (given : s30 .gives (m23 (before .before) (before .slice-known10 .given))) →
+          Typed.Mo T32
+      m24 = λ before given. s30 .next (m23 (before .before) (before .slice-known10 .given)) given
 
       module _ (before· : After-slice-known10) where
         pub record After-starts·own : Type 0 where
-          pub given : s27 .gives (m21 (before· .before) (before· .slice-known10 .given))
+          pub given : s30 .gives (m23 (before· .before) (before· .slice-known10 .given))
 
       pub record After-starts : Type 0 where
         pub before : After-slice-known10
         pub starts : After-starts·own before
 
-      abbrev pub m23 :
+      abbrev pub m25 :
           (before : After-starts) →
-          (given : s28 .gives (m22 (before .before) (before .starts .given))) →
-          Typed.Mo T30
-      m23 = λ before given. s28 .next (m22 (before .before) (before .starts .given)) given
+          (given : s31 .gives (m24 (before .before) (before .starts .given))) →
+          Typed.Mo T33
+      m25 = λ before given. s31 .next (m24 (before .before) (before .starts .given)) given
 
       module _ (before· : After-starts) where
         pub record After-slice-known11·own : Type 0 where
-          pub given : s28 .gives (m22 (before· .before) (before· .starts .given))
+          pub given : s31 .gives (m24 (before· .before) (before· .starts .given))
 
       pub record After-slice-known11 : Type 0 where
         pub before : After-starts
         pub slice-known11 : After-slice-known11·own before
 
-      abbrev pub m24 :
+      abbrev pub m26 :
           (before : After-slice-known11) →
-          (given : s31 .gives (m23 (before .before) (before .slice-known11 .given))) →
-          Typed.Mo T33
-      m24 = λ before given. s31 .next (m23 (before .before) (before .slice-known11 .given)) given
+          (given : s34 .gives (m25 (before .before) (before .slice-known11 .given))) →
+          Typed.Mo T36
+      m26 = λ before given. s34 .next (m25 (before .before) (before .slice-known11 .given)) given
 
       module _ (before· : After-slice-known11) where
         pub record After-up·own : Type 0 where
-          pub given : s31 .gives (m23 (before· .before) (before· .slice-known11 .given))
+          pub given : s34 .gives (m25 (before· .before) (before· .slice-known11 .given))
 
       pub record After-up : Type 0 where
         pub before : After-slice-known11
         pub up : After-up·own before
 
-      abbrev pub m25 :
+      abbrev pub m27 :
           (before : After-up) →
-          (given : s32 .gives (m24 (before .before) (before .up .given))) →
-          Typed.Mo T34
-      m25 = λ before given. s32 .next (m24 (before .before) (before .up .given)) given
+          (given : s35 .gives (m26 (before .before) (before .up .given))) →
+          Typed.Mo T37
+      m27 = λ before given. s35 .next (m26 (before .before) (before .up .given)) given
 
       module _ (before· : After-up) where
         pub record After-slice-known12·own : Type 0 where
-          pub given : s32 .gives (m24 (before· .before) (before· .up .given))
+          pub given : s35 .gives (m26 (before· .before) (before· .up .given))
 
       pub record After-slice-known12 : Type 0 where
         pub before : After-up
         pub slice-known12 : After-slice-known12·own before
 
-      abbrev pub m26 :
+      abbrev pub m28 :
           (before : After-slice-known12) →
-          (given : s35 .gives (m25 (before .before) (before .slice-known12 .given))) →
-          Typed.Mo T37
-      m26 = λ before given. s35 .next (m25 (before .before) (before .slice-known12 .given)) given
-
-      abbrev pub m27 :
-          (before : After-slice-known12) →
-          (given : s35 .gives (m25 (before .before) (before .slice-known12 .given))) →
-          Typed.Mo T38
-      m27 = λ before given. s36 .next (m26 before given)
+          (given : s38 .gives (m27 (before .before) (before .slice-known12 .given))) →
+          Typed.Mo T40
+      m28 = λ before given. s38 .next (m27 (before .before) (before .slice-known12 .given)) given
 
       module _ (before· : After-slice-known12) where
-        pub record After-fill-arg·own : Type 0 where
-          pub given : s35 .gives (m25 (before· .before) (before· .slice-known12 .given))
-
-      pub record After-fill-arg : Type 0 where
-        pub before : After-slice-known12
-        pub fill-arg : After-fill-arg·own before
-
-      abbrev pub m28 :
-          (before : After-fill-arg) →
-          (given : s38 .gives (m27 (before .before) (before .fill-arg .given))) →
-          Typed.Mo T40
-      m28 = λ before given. s38 .next (m27 (before .before) (before .fill-arg .given)) given
-
-      abbrev pub m29 :
-          (before : After-fill-arg) →
-          (given : s38 .gives (m27 (before .before) (before .fill-arg .given))) →
-          Typed.Mo T41
-      m29 = λ before given. s39 .next (m28 before given)
-
-      module _ (before· : After-fill-arg) where
-        pub record After-fill-arg2·own : Type 0 where
-          pub given : s38 .gives (m27 (before· .before) (before· .fill-arg .given))
-
-      pub record After-fill-arg2 : Type 0 where
-        pub before : After-fill-arg
-        pub fill-arg2 : After-fill-arg2·own before
-
-      abbrev pub Need-fill-requires : Type 0
-      Need-fill-requires =
-          (c : After-fill-arg2) → s40 .asks (m29 (c .before) (c .fill-arg2 .given))
-
-      abbrev pub m30 :
-          (before : After-fill-arg2) →
-          (given : s40 .gives (m29 (before .before) (before .fill-arg2 .given))) →
-          Typed.Mo T42
-      m30 = λ before given. s40 .next (m29 (before .before) (before .fill-arg2 .given)) given
-
-      module _ (before· : After-fill-arg2) where
-        abbrev pub After-fill·own : Type 0
-        After-fill·own = Called.Called ps·1 r·1 (claims· .3) T41 (
-          record {
-            pos = 1;
-            ty = Syntax.tyRef (Syntax.named 0) Syntax.imm (Syntax.tyInt Syntax.w8);
-            ref = λ x. x;
-          },
-          (
-            record {
-              pos = 23;
-              ty = Syntax.tyRef Syntax.erased Syntax.imm (Syntax.tyInt Syntax.w64);
-              ref = λ x. x;
-            },
-            (
-              record {
-                pos = 25;
-                ty = Syntax.tyRef
-                    Syntax.erased
-                    Syntax.mut
-                    Elem.ty;
-                ref = λ x. x;
-              },
-              tt,
-            ),
-          ),
-        ) (m29 (before· .before) (before· .fill-arg2 .given))
-
-      pub record After-fill : Type 0 where
-        pub before : After-fill-arg2
-        pub fill : After-fill·own before
-
-      abbrev pub After-fill·gave :
-          (c : After-fill) → s40 .gives (m29 (c .before .before) (c .before .fill-arg2 .given))
-      After-fill·gave = λ c. Called.given ps·1 r·1 (claims· .3) T41 (
-        record {
-          pos = 1;
-          ty = Syntax.tyRef (Syntax.named 0) Syntax.imm (Syntax.tyInt Syntax.w8);
-          ref = λ x. x;
-        },
-        (
-          record {
-            pos = 23;
-            ty = Syntax.tyRef Syntax.erased Syntax.imm (Syntax.tyInt Syntax.w64);
-            ref = λ x. x;
-          },
-          (
-            record {
-              pos = 25;
-              ty = Syntax.tyRef
-                  Syntax.erased
-                  Syntax.mut
-                  Elem.ty;
-              ref = λ x. x;
-            },
-            tt,
-          ),
-        ),
-      ) (m29 (c .before .before) (c .before .fill-arg2 .given)) (c .fill)
-
-      abbrev pub m31 :
-          (before : After-fill-arg2) →
-          (given : s40 .gives (m29 (before .before) (before .fill-arg2 .given))) →
-          Typed.Mo T43
-      m31 = λ before given. s41 (m30 before given)
-
-      abbrev pub m32 :
-          (before : After-fill-arg2) →
-          (given : s40 .gives (m29 (before .before) (before .fill-arg2 .given))) →
-          Typed.Mo T44
-      m32 = λ before given. s42 (m31 before given)
-
-      abbrev pub m33 :
-          (before : After-fill-arg2) →
-          (given : s40 .gives (m29 (before .before) (before .fill-arg2 .given))) →
-          Typed.Mo T46
-      m33 = λ before given. s44 (m32 before given)
-
-      abbrev pub m34 :
-          (before : After-fill) →
-          (given : s47 .gives (m33 (before .before) (After-fill·gave before))) →
-          Typed.Mo T49
-      m34 = λ before given. s47 .next (m33 (before .before) (After-fill·gave before)) given
-
-      module _ (before· : After-fill) where
         pub record After-recs·own : Type 0 where
-          pub given : s47 .gives (m33 (before· .before) (After-fill·gave before·))
+          pub given : s38 .gives (m27 (before· .before) (before· .slice-known12 .given))
 
       pub record After-recs : Type 0 where
-        pub before : After-fill
+        pub before : After-slice-known12
         pub recs : After-recs·own before
 
-      abbrev pub m35 :
+      abbrev pub m29 :
           (before : After-recs) →
-          (given : s50 .gives (m34 (before .before) (before .recs .given))) →
-          Typed.Mo T52
-      m35 = λ before given. s50 .next (m34 (before .before) (before .recs .given)) given
+          (given : s41 .gives (m28 (before .before) (before .recs .given))) →
+          Typed.Mo T43
+      m29 = λ before given. s41 .next (m28 (before .before) (before .recs .given)) given
 
-      abbrev pub m36 :
+      abbrev pub m30 :
           (before : After-recs) →
-          (given : s50 .gives (m34 (before .before) (before .recs .given))) →
-          Typed.Mo T53
-      m36 = λ before given. s51 .next (m35 before given)
+          (given : s41 .gives (m28 (before .before) (before .recs .given))) →
+          Typed.Mo T44
+      m30 = λ before given. s42 .next (m29 before given)
 
       module _ (before· : After-recs) where
         pub record After-rebuild-with-arg·own : Type 0 where
-          pub given : s50 .gives (m34 (before· .before) (before· .recs .given))
+          pub given : s41 .gives (m28 (before· .before) (before· .recs .given))
 
       pub record After-rebuild-with-arg : Type 0 where
         pub before : After-recs
         pub rebuild-with-arg : After-rebuild-with-arg·own before
 
-      abbrev pub m37 :
+      abbrev pub m31 :
           (before : After-rebuild-with-arg) →
-          (given : s53 .gives (m36 (before .before) (before .rebuild-with-arg .given))) →
-          Typed.Mo T55
-      m37 =
-          λ before given. s53 .next (m36 (before .before) (before .rebuild-with-arg .given)) given
+          (given : s44 .gives (m30 (before .before) (before .rebuild-with-arg .given))) →
+          Typed.Mo T46
+      m31 =
+          λ before given. s44 .next (m30 (before .before) (before .rebuild-with-arg .given)) given
 
-      abbrev pub m38 :
+      abbrev pub m32 :
           (before : After-rebuild-with-arg) →
-          (given : s53 .gives (m36 (before .before) (before .rebuild-with-arg .given))) →
-          Typed.Mo T56
-      m38 = λ before given. s54 .next (m37 before given)
+          (given : s44 .gives (m30 (before .before) (before .rebuild-with-arg .given))) →
+          Typed.Mo T47
+      m32 = λ before given. s45 .next (m31 before given)
 
       module _ (before· : After-rebuild-with-arg) where
         pub record After-rebuild-with-arg2·own : Type 0 where
-          pub given : s53 .gives (m36 (before· .before) (before· .rebuild-with-arg .given))
+          pub given : s44 .gives (m30 (before· .before) (before· .rebuild-with-arg .given))
 
       pub record After-rebuild-with-arg2 : Type 0 where
         pub before : After-rebuild-with-arg
         pub rebuild-with-arg2 : After-rebuild-with-arg2·own before
 
-      abbrev pub m39 :
+      abbrev pub m33 :
           (before : After-rebuild-with-arg2) →
-          (given : s56 .gives (m38 (before .before) (before .rebuild-with-arg2 .given))) →
-          Typed.Mo T58
-      m39 =
-          λ before given. s56 .next (m38 (before .before) (before .rebuild-with-arg2 .given)) given
+          (given : s47 .gives (m32 (before .before) (before .rebuild-with-arg2 .given))) →
+          Typed.Mo T49
+      m33 =
+          λ before given. s47 .next (m32 (before .before) (before .rebuild-with-arg2 .given)) given
 
-      abbrev pub m40 :
+      abbrev pub m34 :
           (before : After-rebuild-with-arg2) →
-          (given : s56 .gives (m38 (before .before) (before .rebuild-with-arg2 .given))) →
-          Typed.Mo T59
-      m40 = λ before given. s57 .next (m39 before given)
+          (given : s47 .gives (m32 (before .before) (before .rebuild-with-arg2 .given))) →
+          Typed.Mo T50
+      m34 = λ before given. s48 .next (m33 before given)
 
       module _ (before· : After-rebuild-with-arg2) where
         pub record After-rebuild-with-arg3·own : Type 0 where
-          pub given : s56 .gives (m38 (before· .before) (before· .rebuild-with-arg2 .given))
+          pub given : s47 .gives (m32 (before· .before) (before· .rebuild-with-arg2 .given))
 
       pub record After-rebuild-with-arg3 : Type 0 where
         pub before : After-rebuild-with-arg2
         pub rebuild-with-arg3 : After-rebuild-with-arg3·own before
 
-      abbrev pub m41 :
+      abbrev pub m35 :
           (before : After-rebuild-with-arg3) →
-          (given : s59 .gives (m40 (before .before) (before .rebuild-with-arg3 .given))) →
-          Typed.Mo T61
-      m41 =
-          λ before given. s59 .next (m40 (before .before) (before .rebuild-with-arg3 .given)) given
+          (given : s50 .gives (m34 (before .before) (before .rebuild-with-arg3 .given))) →
+          Typed.Mo T52
+      m35 =
+          λ before given. s50 .next (m34 (before .before) (before .rebuild-with-arg3 .given)) given
 
-      abbrev pub m42 :
+      abbrev pub m36 :
           (before : After-rebuild-with-arg3) →
-          (given : s59 .gives (m40 (before .before) (before .rebuild-with-arg3 .given))) →
-          Typed.Mo T62
-      m42 = λ before given. s60 .next (m41 before given)
+          (given : s50 .gives (m34 (before .before) (before .rebuild-with-arg3 .given))) →
+          Typed.Mo T53
+      m36 = λ before given. s51 .next (m35 before given)
 
       module _ (before· : After-rebuild-with-arg3) where
         pub record After-rebuild-with-arg4·own : Type 0 where
-          pub given : s59 .gives (m40 (before· .before) (before· .rebuild-with-arg3 .given))
+          pub given : s50 .gives (m34 (before· .before) (before· .rebuild-with-arg3 .given))
 
       pub record After-rebuild-with-arg4 : Type 0 where
         pub before : After-rebuild-with-arg3
@@ -25392,18 +23190,18 @@ module _ (claims· : Claims) where
 
       abbrev pub Need-slice-relend-prefix-rebuild-with : Type 0
       Need-slice-relend-prefix-rebuild-with =
-          (c : After-rebuild-with-arg4) → s62 .asks (m42 (c .before) (c .rebuild-with-arg4 .given))
+          (c : After-rebuild-with-arg4) → s53 .asks (m36 (c .before) (c .rebuild-with-arg4 .given))
 
-      abbrev pub m43 :
+      abbrev pub m37 :
           (before : After-rebuild-with-arg4) →
-          (given : s62 .gives (m42 (before .before) (before .rebuild-with-arg4 .given))) →
-          Typed.Mo T64
-      m43 =
-          λ before given. s62 .next (m42 (before .before) (before .rebuild-with-arg4 .given)) given
+          (given : s53 .gives (m36 (before .before) (before .rebuild-with-arg4 .given))) →
+          Typed.Mo T55
+      m37 =
+          λ before given. s53 .next (m36 (before .before) (before .rebuild-with-arg4 .given)) given
 
       module _ (before· : After-rebuild-with-arg4) where
         pub record After-rebuild-with-arg5·own : Type 0 where
-          pub given : s62 .gives (m42 (before· .before) (before· .rebuild-with-arg4 .given))
+          pub given : s53 .gives (m36 (before· .before) (before· .rebuild-with-arg4 .given))
 
       pub record After-rebuild-with-arg5 : Type 0 where
         pub before : After-rebuild-with-arg4
@@ -25413,33 +23211,33 @@ module _ (claims· : Claims) where
       Need-slice-aggregate-rebuild-with =
           (c : After-rebuild-with-arg5) →
           Relend.CountIs
-          T64
-          34
-          35
+          T55
+          31
+          32
           (λ x. x)
           (λ u. u .1 .1 .1 .1 .1 .1 .1 .1 .1 .1 .1 .1 .1 .0)
-          (m43 (c .before) (c .rebuild-with-arg5 .given))
+          (m37 (c .before) (c .rebuild-with-arg5 .given))
 
-      abbrev pub m44 :
+      abbrev pub m38 :
           (before : After-rebuild-with-arg4) →
-          (given : s62 .gives (m42 (before .before) (before .rebuild-with-arg4 .given))) →
-          Typed.Mo T65
-      m44 = λ before given. s63 .next (m43 before given)
+          (given : s53 .gives (m36 (before .before) (before .rebuild-with-arg4 .given))) →
+          Typed.Mo T56
+      m38 = λ before given. s54 .next (m37 before given)
 
       abbrev pub Need-slice-relend-prefix-rebuild-with-2 : Type 0
       Need-slice-relend-prefix-rebuild-with-2 =
-          (c : After-rebuild-with-arg5) → s65 .asks (m44 (c .before) (c .rebuild-with-arg5 .given))
+          (c : After-rebuild-with-arg5) → s56 .asks (m38 (c .before) (c .rebuild-with-arg5 .given))
 
-      abbrev pub m45 :
+      abbrev pub m39 :
           (before : After-rebuild-with-arg5) →
-          (given : s65 .gives (m44 (before .before) (before .rebuild-with-arg5 .given))) →
-          Typed.Mo T67
-      m45 =
-          λ before given. s65 .next (m44 (before .before) (before .rebuild-with-arg5 .given)) given
+          (given : s56 .gives (m38 (before .before) (before .rebuild-with-arg5 .given))) →
+          Typed.Mo T58
+      m39 =
+          λ before given. s56 .next (m38 (before .before) (before .rebuild-with-arg5 .given)) given
 
       module _ (before· : After-rebuild-with-arg5) where
         pub record After-rebuild-with-arg6·own : Type 0 where
-          pub given : s65 .gives (m44 (before· .before) (before· .rebuild-with-arg5 .given))
+          pub given : s56 .gives (m38 (before· .before) (before· .rebuild-with-arg5 .given))
 
       pub record After-rebuild-with-arg6 : Type 0 where
         pub before : After-rebuild-with-arg5
@@ -25449,33 +23247,33 @@ module _ (claims· : Claims) where
       Need-slice-aggregate-rebuild-with-2 =
           (c : After-rebuild-with-arg6) →
           Relend.CountIs
-          T67
-          36
-          37
+          T58
+          33
+          34
           (λ x. x)
           (λ u. u .1 .1 .1 .1 .1 .1 .1 .1 .1 .1 .1 .1 .0)
-          (m45 (c .before) (c .rebuild-with-arg6 .given))
+          (m39 (c .before) (c .rebuild-with-arg6 .given))
 
-      abbrev pub m46 :
+      abbrev pub m40 :
           (before : After-rebuild-with-arg5) →
-          (given : s65 .gives (m44 (before .before) (before .rebuild-with-arg5 .given))) →
-          Typed.Mo T68
-      m46 = λ before given. s66 .next (m45 before given)
+          (given : s56 .gives (m38 (before .before) (before .rebuild-with-arg5 .given))) →
+          Typed.Mo T59
+      m40 = λ before given. s57 .next (m39 before given)
 
       abbrev pub Need-slice-relend-prefix-rebuild-with-3 : Type 0
       Need-slice-relend-prefix-rebuild-with-3 =
-          (c : After-rebuild-with-arg6) → s68 .asks (m46 (c .before) (c .rebuild-with-arg6 .given))
+          (c : After-rebuild-with-arg6) → s59 .asks (m40 (c .before) (c .rebuild-with-arg6 .given))
 
-      abbrev pub m47 :
+      abbrev pub m41 :
           (before : After-rebuild-with-arg6) →
-          (given : s68 .gives (m46 (before .before) (before .rebuild-with-arg6 .given))) →
-          Typed.Mo T70
-      m47 =
-          λ before given. s68 .next (m46 (before .before) (before .rebuild-with-arg6 .given)) given
+          (given : s59 .gives (m40 (before .before) (before .rebuild-with-arg6 .given))) →
+          Typed.Mo T61
+      m41 =
+          λ before given. s59 .next (m40 (before .before) (before .rebuild-with-arg6 .given)) given
 
       module _ (before· : After-rebuild-with-arg6) where
         pub record After-rebuild-with-arg7·own : Type 0 where
-          pub given : s68 .gives (m46 (before· .before) (before· .rebuild-with-arg6 .given))
+          pub given : s59 .gives (m40 (before· .before) (before· .rebuild-with-arg6 .given))
 
       pub record After-rebuild-with-arg7 : Type 0 where
         pub before : After-rebuild-with-arg6
@@ -25485,33 +23283,33 @@ module _ (claims· : Claims) where
       Need-slice-aggregate-rebuild-with-3 =
           (c : After-rebuild-with-arg7) →
           Relend.CountIs
-          T70
-          38
-          39
+          T61
+          35
+          36
           (λ x. x)
           (λ u. u .1 .1 .1 .1 .1 .1 .1 .1 .1 .1 .1 .1 .0)
-          (m47 (c .before) (c .rebuild-with-arg7 .given))
+          (m41 (c .before) (c .rebuild-with-arg7 .given))
 
-      abbrev pub m48 :
+      abbrev pub m42 :
           (before : After-rebuild-with-arg6) →
-          (given : s68 .gives (m46 (before .before) (before .rebuild-with-arg6 .given))) →
-          Typed.Mo T71
-      m48 = λ before given. s69 .next (m47 before given)
+          (given : s59 .gives (m40 (before .before) (before .rebuild-with-arg6 .given))) →
+          Typed.Mo T62
+      m42 = λ before given. s60 .next (m41 before given)
 
       abbrev pub Need-slice-relend-prefix-rebuild-with-4 : Type 0
       Need-slice-relend-prefix-rebuild-with-4 =
-          (c : After-rebuild-with-arg7) → s71 .asks (m48 (c .before) (c .rebuild-with-arg7 .given))
+          (c : After-rebuild-with-arg7) → s62 .asks (m42 (c .before) (c .rebuild-with-arg7 .given))
 
-      abbrev pub m49 :
+      abbrev pub m43 :
           (before : After-rebuild-with-arg7) →
-          (given : s71 .gives (m48 (before .before) (before .rebuild-with-arg7 .given))) →
-          Typed.Mo T73
-      m49 =
-          λ before given. s71 .next (m48 (before .before) (before .rebuild-with-arg7 .given)) given
+          (given : s62 .gives (m42 (before .before) (before .rebuild-with-arg7 .given))) →
+          Typed.Mo T64
+      m43 =
+          λ before given. s62 .next (m42 (before .before) (before .rebuild-with-arg7 .given)) given
 
       module _ (before· : After-rebuild-with-arg7) where
         pub record After-rebuild-with-arg8·own : Type 0 where
-          pub given : s71 .gives (m48 (before· .before) (before· .rebuild-with-arg7 .given))
+          pub given : s62 .gives (m42 (before· .before) (before· .rebuild-with-arg7 .given))
 
       pub record After-rebuild-with-arg8 : Type 0 where
         pub before : After-rebuild-with-arg7
@@ -25521,35 +23319,35 @@ module _ (claims· : Claims) where
       Need-slice-aggregate-rebuild-with-4 =
           (c : After-rebuild-with-arg8) →
           Relend.CountIs
-          T73
-          40
-          41
+          T64
+          37
+          38
           (λ x. x)
           (λ u. u .1 .1 .1 .1 .1 .1 .1 .1 .1 .1 .1 .1 .0)
-          (m49 (c .before) (c .rebuild-with-arg8 .given))
+          (m43 (c .before) (c .rebuild-with-arg8 .given))
 
-      abbrev pub m50 :
+      abbrev pub m44 :
           (before : After-rebuild-with-arg7) →
-          (given : s71 .gives (m48 (before .before) (before .rebuild-with-arg7 .given))) →
-          Typed.Mo T74
-      m50 = λ before given. s72 .next (m49 before given)
+          (given : s62 .gives (m42 (before .before) (before .rebuild-with-arg7 .given))) →
+          Typed.Mo T65
+      m44 = λ before given. s63 .next (m43 before given)
 
-      abbrev pub m51 :
+      abbrev pub m45 :
           (before : After-rebuild-with-arg8) →
-          (given : s74 .gives (m50 (before .before) (before .rebuild-with-arg8 .given))) →
-          Typed.Mo T76
-      m51 =
-          λ before given. s74 .next (m50 (before .before) (before .rebuild-with-arg8 .given)) given
+          (given : s65 .gives (m44 (before .before) (before .rebuild-with-arg8 .given))) →
+          Typed.Mo T67
+      m45 =
+          λ before given. s65 .next (m44 (before .before) (before .rebuild-with-arg8 .given)) given
 
-      abbrev pub m52 :
+      abbrev pub m46 :
           (before : After-rebuild-with-arg8) →
-          (given : s74 .gives (m50 (before .before) (before .rebuild-with-arg8 .given))) →
-          Typed.Mo T77
-      m52 = λ before given. s75 .next (m51 before given)
+          (given : s65 .gives (m44 (before .before) (before .rebuild-with-arg8 .given))) →
+          Typed.Mo T68
+      m46 = λ before given. s66 .next (m45 before given)
 
       module _ (before· : After-rebuild-with-arg8) where
         pub record After-rebuild-with-arg9·own : Type 0 where
-          pub given : s74 .gives (m50 (before· .before) (before· .rebuild-with-arg8 .given))
+          pub given : s65 .gives (m44 (before· .before) (before· .rebuild-with-arg8 .given))
 
       pub record After-rebuild-with-arg9 : Type 0 where
         pub before : After-rebuild-with-arg8
@@ -25557,18 +23355,18 @@ module _ (claims· : Claims) where
 
       abbrev pub Need-rebuild-with-requires : Type 0
       Need-rebuild-with-requires =
-          (c : After-rebuild-with-arg9) → s76 .asks (m52 (c .before) (c .rebuild-with-arg9 .given))
+          (c : After-rebuild-with-arg9) → s67 .asks (m46 (c .before) (c .rebuild-with-arg9 .given))
 
-      abbrev pub m53 :
+      abbrev pub m47 :
           (before : After-rebuild-with-arg9) →
-          (given : s76 .gives (m52 (before .before) (before .rebuild-with-arg9 .given))) →
-          Typed.Mo T78
-      m53 =
-          λ before given. s76 .next (m52 (before .before) (before .rebuild-with-arg9 .given)) given
+          (given : s67 .gives (m46 (before .before) (before .rebuild-with-arg9 .given))) →
+          Typed.Mo T69
+      m47 =
+          λ before given. s67 .next (m46 (before .before) (before .rebuild-with-arg9 .given)) given
 
       module _ (before· : After-rebuild-with-arg9) where
         abbrev pub After-rebuild-with·own : Type 0
-        After-rebuild-with·own = Called.Called ps·2 r·2 (claims· .5) T77 (
+        After-rebuild-with·own = Called.Called ps·1 r·1 (claims· .3) T68 (
           record {
             pos = 1;
             ty = Syntax.tyRef (Syntax.named 0) Syntax.imm (Syntax.tyInt Syntax.w8);
@@ -25576,7 +23374,7 @@ module _ (claims· : Claims) where
           },
           (
             record {
-              pos = 27;
+              pos = 24;
               ty = Syntax.tyRef
                   Syntax.erased
                   Syntax.imm
@@ -25587,49 +23385,49 @@ module _ (claims· : Claims) where
               Num.vAt 14 λ x. x,
               (
                 record {
-                  pos = 29;
+                  pos = 26;
                   ty = Syntax.tyRef Syntax.erased Syntax.imm (Syntax.tyInt Syntax.w64);
                   ref = λ x. x;
                 },
                 (
                   record {
-                    pos = 31;
+                    pos = 28;
                     ty = Syntax.tyRef Syntax.erased Syntax.imm (Syntax.tyInt Syntax.w8);
                     ref = λ x. x;
                   },
                   (
                     record {
-                      pos = 33;
+                      pos = 30;
                       ty = Syntax.tyRef Syntax.erased Syntax.mut (Syntax.tyInt Syntax.w64);
                       ref = λ x. x;
                     },
                     (
                       record {
-                        pos = 35;
+                        pos = 32;
                         ty = Syntax.tyRef Syntax.erased Syntax.mut (Syntax.tyInt Syntax.w8);
                         ref = λ x. x;
                       },
                       (
                         record {
-                          pos = 37;
+                          pos = 34;
                           ty = Syntax.tyRef Syntax.erased Syntax.mut (Syntax.tyInt Syntax.w8);
                           ref = λ x. x;
                         },
                         (
                           record {
-                            pos = 39;
+                            pos = 36;
                             ty = Syntax.tyRef Syntax.erased Syntax.mut (Syntax.tyInt Syntax.w8);
                             ref = λ x. x;
                           },
                           (
                             record {
-                              pos = 41;
+                              pos = 38;
                               ty = Syntax.tyRef Syntax.erased Syntax.mut (Syntax.tyInt Syntax.w8);
                               ref = λ x. x;
                             },
                             (
                               record {
-                                pos = 43;
+                                pos = 40;
                                 ty = Syntax.tyRef
                                     Syntax.erased
                                     Syntax.mut
@@ -25647,7 +23445,7 @@ module _ (claims· : Claims) where
               ),
             ),
           ),
-        ) (m52 (before· .before) (before· .rebuild-with-arg9 .given))
+        ) (m46 (before· .before) (before· .rebuild-with-arg9 .given))
 
       pub record After-rebuild-with : Type 0 where
         pub before : After-rebuild-with-arg9
@@ -25655,8 +23453,8 @@ module _ (claims· : Claims) where
 
       abbrev pub After-rebuild-with·gave :
           (c : After-rebuild-with) →
-          s76 .gives (m52 (c .before .before) (c .before .rebuild-with-arg9 .given))
-      After-rebuild-with·gave = λ c. Called.given ps·2 r·2 (claims· .5) T77 (
+          s67 .gives (m46 (c .before .before) (c .before .rebuild-with-arg9 .given))
+      After-rebuild-with·gave = λ c. Called.given ps·1 r·1 (claims· .3) T68 (
         record {
           pos = 1;
           ty = Syntax.tyRef (Syntax.named 0) Syntax.imm (Syntax.tyInt Syntax.w8);
@@ -25664,7 +23462,7 @@ module _ (claims· : Claims) where
         },
         (
           record {
-            pos = 27;
+            pos = 24;
             ty = Syntax.tyRef
                 Syntax.erased
                 Syntax.imm
@@ -25675,49 +23473,49 @@ module _ (claims· : Claims) where
             Num.vAt 14 λ x. x,
             (
               record {
-                pos = 29;
+                pos = 26;
                 ty = Syntax.tyRef Syntax.erased Syntax.imm (Syntax.tyInt Syntax.w64);
                 ref = λ x. x;
               },
               (
                 record {
-                  pos = 31;
+                  pos = 28;
                   ty = Syntax.tyRef Syntax.erased Syntax.imm (Syntax.tyInt Syntax.w8);
                   ref = λ x. x;
                 },
                 (
                   record {
-                    pos = 33;
+                    pos = 30;
                     ty = Syntax.tyRef Syntax.erased Syntax.mut (Syntax.tyInt Syntax.w64);
                     ref = λ x. x;
                   },
                   (
                     record {
-                      pos = 35;
+                      pos = 32;
                       ty = Syntax.tyRef Syntax.erased Syntax.mut (Syntax.tyInt Syntax.w8);
                       ref = λ x. x;
                     },
                     (
                       record {
-                        pos = 37;
+                        pos = 34;
                         ty = Syntax.tyRef Syntax.erased Syntax.mut (Syntax.tyInt Syntax.w8);
                         ref = λ x. x;
                       },
                       (
                         record {
-                          pos = 39;
+                          pos = 36;
                           ty = Syntax.tyRef Syntax.erased Syntax.mut (Syntax.tyInt Syntax.w8);
                           ref = λ x. x;
                         },
                         (
                           record {
-                            pos = 41;
+                            pos = 38;
                             ty = Syntax.tyRef Syntax.erased Syntax.mut (Syntax.tyInt Syntax.w8);
                             ref = λ x. x;
                           },
                           (
                             record {
-                              pos = 43;
+                              pos = 40;
                               ty = Syntax.tyRef Syntax.erased Syntax.mut (Syntax.tyInt Syntax.w8);
                               ref = λ x. x;
                             },
@@ -25732,225 +23530,225 @@ module _ (claims· : Claims) where
             ),
           ),
         ),
-      ) (m52 (c .before .before) (c .before .rebuild-with-arg9 .given)) (c .rebuild-with)
+      ) (m46 (c .before .before) (c .before .rebuild-with-arg9 .given)) (c .rebuild-with)
+
+      abbrev pub m48 :
+          (before : After-rebuild-with-arg9) →
+          (given : s67 .gives (m46 (before .before) (before .rebuild-with-arg9 .given))) →
+          Typed.Mo T70
+      m48 = λ before given. s68 (m47 before given)
+
+      abbrev pub m49 :
+          (before : After-rebuild-with-arg9) →
+          (given : s67 .gives (m46 (before .before) (before .rebuild-with-arg9 .given))) →
+          Typed.Mo T71
+      m49 = λ before given. s69 (m48 before given)
+
+      abbrev pub m50 :
+          (before : After-rebuild-with-arg9) →
+          (given : s67 .gives (m46 (before .before) (before .rebuild-with-arg9 .given))) →
+          Typed.Mo T72
+      m50 = λ before given. s70 (m49 before given)
+
+      abbrev pub m51 :
+          (before : After-rebuild-with-arg9) →
+          (given : s67 .gives (m46 (before .before) (before .rebuild-with-arg9 .given))) →
+          Typed.Mo T73
+      m51 = λ before given. s71 (m50 before given)
+
+      abbrev pub m52 :
+          (before : After-rebuild-with-arg9) →
+          (given : s67 .gives (m46 (before .before) (before .rebuild-with-arg9 .given))) →
+          Typed.Mo T74
+      m52 = λ before given. s72 (m51 before given)
+
+      abbrev pub m53 :
+          (before : After-rebuild-with-arg9) →
+          (given : s67 .gives (m46 (before .before) (before .rebuild-with-arg9 .given))) →
+          Typed.Mo T75
+      m53 = λ before given. s73 (m52 before given)
 
       abbrev pub m54 :
           (before : After-rebuild-with-arg9) →
-          (given : s76 .gives (m52 (before .before) (before .rebuild-with-arg9 .given))) →
-          Typed.Mo T79
-      m54 = λ before given. s77 (m53 before given)
+          (given : s67 .gives (m46 (before .before) (before .rebuild-with-arg9 .given))) →
+          Typed.Mo T77
+      m54 = λ before given. s75 (m53 before given)
 
       abbrev pub m55 :
           (before : After-rebuild-with-arg9) →
-          (given : s76 .gives (m52 (before .before) (before .rebuild-with-arg9 .given))) →
+          (given : s67 .gives (m46 (before .before) (before .rebuild-with-arg9 .given))) →
           Typed.Mo T80
       m55 = λ before given. s78 (m54 before given)
 
       abbrev pub m56 :
           (before : After-rebuild-with-arg9) →
-          (given : s76 .gives (m52 (before .before) (before .rebuild-with-arg9 .given))) →
-          Typed.Mo T81
-      m56 = λ before given. s79 (m55 before given)
+          (given : s67 .gives (m46 (before .before) (before .rebuild-with-arg9 .given))) →
+          Typed.Mo T83
+      m56 = λ before given. s81 (m55 before given)
 
       abbrev pub m57 :
-          (before : After-rebuild-with-arg9) →
-          (given : s76 .gives (m52 (before .before) (before .rebuild-with-arg9 .given))) →
-          Typed.Mo T82
-      m57 = λ before given. s80 (m56 before given)
-
-      abbrev pub m58 :
-          (before : After-rebuild-with-arg9) →
-          (given : s76 .gives (m52 (before .before) (before .rebuild-with-arg9 .given))) →
-          Typed.Mo T83
-      m58 = λ before given. s81 (m57 before given)
-
-      abbrev pub m59 :
-          (before : After-rebuild-with-arg9) →
-          (given : s76 .gives (m52 (before .before) (before .rebuild-with-arg9 .given))) →
-          Typed.Mo T84
-      m59 = λ before given. s82 (m58 before given)
-
-      abbrev pub m60 :
-          (before : After-rebuild-with-arg9) →
-          (given : s76 .gives (m52 (before .before) (before .rebuild-with-arg9 .given))) →
-          Typed.Mo T86
-      m60 = λ before given. s84 (m59 before given)
-
-      abbrev pub m61 :
-          (before : After-rebuild-with-arg9) →
-          (given : s76 .gives (m52 (before .before) (before .rebuild-with-arg9 .given))) →
-          Typed.Mo T89
-      m61 = λ before given. s87 (m60 before given)
-
-      abbrev pub m62 :
-          (before : After-rebuild-with-arg9) →
-          (given : s76 .gives (m52 (before .before) (before .rebuild-with-arg9 .given))) →
-          Typed.Mo T92
-      m62 = λ before given. s90 (m61 before given)
-
-      abbrev pub m63 :
           (before : After-rebuild-with) →
-          (given : s93 .gives (m62 (before .before) (After-rebuild-with·gave before))) →
-          Typed.Mo T95
-      m63 = λ before given. s93 .next (m62 (before .before) (After-rebuild-with·gave before)) given
+          (given : s84 .gives (m56 (before .before) (After-rebuild-with·gave before))) →
+          Typed.Mo T86
+      m57 = λ before given. s84 .next (m56 (before .before) (After-rebuild-with·gave before)) given
 
       module _ (before· : After-rebuild-with) where
         pub record After-owner·own : Type 0 where
-          pub given : s93 .gives (m62 (before· .before) (After-rebuild-with·gave before·))
+          pub given : s84 .gives (m56 (before· .before) (After-rebuild-with·gave before·))
 
       pub record After-owner : Type 0 where
         pub before : After-rebuild-with
         pub owner : After-owner·own before
 
-      abbrev pub m64 :
+      abbrev pub m58 :
           (before : After-owner) →
-          (given : s94 .gives (m63 (before .before) (before .owner .given))) →
-          Typed.Mo T96
-      m64 = λ before given. s94 .next (m63 (before .before) (before .owner .given)) given
+          (given : s85 .gives (m57 (before .before) (before .owner .given))) →
+          Typed.Mo T87
+      m58 = λ before given. s85 .next (m57 (before .before) (before .owner .given)) given
 
       module _ (before· : After-owner) where
         pub record After-slice-known13·own : Type 0 where
-          pub given : s94 .gives (m63 (before· .before) (before· .owner .given))
+          pub given : s85 .gives (m57 (before· .before) (before· .owner .given))
 
       pub record After-slice-known13 : Type 0 where
         pub before : After-owner
         pub slice-known13 : After-slice-known13·own before
 
-      abbrev pub m65 :
+      abbrev pub m59 :
           (before : After-slice-known13) →
-          (given : s97 .gives (m64 (before .before) (before .slice-known13 .given))) →
-          Typed.Mo T99
-      m65 = λ before given. s97 .next (m64 (before .before) (before .slice-known13 .given)) given
+          (given : s88 .gives (m58 (before .before) (before .slice-known13 .given))) →
+          Typed.Mo T90
+      m59 = λ before given. s88 .next (m58 (before .before) (before .slice-known13 .given)) given
 
       module _ (before· : After-slice-known13) where
         pub record After-stack·own : Type 0 where
-          pub given : s97 .gives (m64 (before· .before) (before· .slice-known13 .given))
+          pub given : s88 .gives (m58 (before· .before) (before· .slice-known13 .given))
 
       pub record After-stack : Type 0 where
         pub before : After-slice-known13
         pub stack : After-stack·own before
 
-      abbrev pub m66 :
+      abbrev pub m60 :
           (before : After-stack) →
-          (given : s98 .gives (m65 (before .before) (before .stack .given))) →
-          Typed.Mo T100
-      m66 = λ before given. s98 .next (m65 (before .before) (before .stack .given)) given
+          (given : s89 .gives (m59 (before .before) (before .stack .given))) →
+          Typed.Mo T91
+      m60 = λ before given. s89 .next (m59 (before .before) (before .stack .given)) given
 
       module _ (before· : After-stack) where
         pub record After-slice-known14·own : Type 0 where
-          pub given : s98 .gives (m65 (before· .before) (before· .stack .given))
+          pub given : s89 .gives (m59 (before· .before) (before· .stack .given))
 
       pub record After-slice-known14 : Type 0 where
         pub before : After-stack
         pub slice-known14 : After-slice-known14·own before
 
-      abbrev pub m67 :
+      abbrev pub m61 :
           (before : After-slice-known14) →
-          (given : s101 .gives (m66 (before .before) (before .slice-known14 .given))) →
-          Typed.Mo T103
-      m67 = λ before given. s101 .next (m66 (before .before) (before .slice-known14 .given)) given
+          (given : s92 .gives (m60 (before .before) (before .slice-known14 .given))) →
+          Typed.Mo T94
+      m61 = λ before given. s92 .next (m60 (before .before) (before .slice-known14 .given)) given
 
       module _ (before· : After-slice-known14) where
         pub record After-cur·own : Type 0 where
-          pub given : s101 .gives (m66 (before· .before) (before· .slice-known14 .given))
+          pub given : s92 .gives (m60 (before· .before) (before· .slice-known14 .given))
 
       pub record After-cur : Type 0 where
         pub before : After-slice-known14
         pub cur : After-cur·own before
 
-      abbrev pub m68 :
+      abbrev pub m62 :
           (before : After-cur) →
-          (given : s102 .gives (m67 (before .before) (before .cur .given))) →
-          Typed.Mo T104
-      m68 = λ before given. s102 .next (m67 (before .before) (before .cur .given)) given
+          (given : s93 .gives (m61 (before .before) (before .cur .given))) →
+          Typed.Mo T95
+      m62 = λ before given. s93 .next (m61 (before .before) (before .cur .given)) given
 
       module _ (before· : After-cur) where
         pub record After-slice-known15·own : Type 0 where
-          pub given : s102 .gives (m67 (before· .before) (before· .cur .given))
+          pub given : s93 .gives (m61 (before· .before) (before· .cur .given))
 
       pub record After-slice-known15 : Type 0 where
         pub before : After-cur
         pub slice-known15 : After-slice-known15·own before
 
-      abbrev pub m69 :
+      abbrev pub m63 :
           (before : After-slice-known15) →
-          (given : s105 .gives (m68 (before .before) (before .slice-known15 .given))) →
-          Typed.Mo T107
-      m69 = λ before given. s105 .next (m68 (before .before) (before .slice-known15 .given)) given
+          (given : s96 .gives (m62 (before .before) (before .slice-known15 .given))) →
+          Typed.Mo T98
+      m63 = λ before given. s96 .next (m62 (before .before) (before .slice-known15 .given)) given
 
       module _ (before· : After-slice-known15) where
         pub record After-next·own : Type 0 where
-          pub given : s105 .gives (m68 (before· .before) (before· .slice-known15 .given))
+          pub given : s96 .gives (m62 (before· .before) (before· .slice-known15 .given))
 
       pub record After-next : Type 0 where
         pub before : After-slice-known15
         pub next : After-next·own before
 
-      abbrev pub m70 :
+      abbrev pub m64 :
           (before : After-next) →
-          (given : s106 .gives (m69 (before .before) (before .next .given))) →
-          Typed.Mo T108
-      m70 = λ before given. s106 .next (m69 (before .before) (before .next .given)) given
+          (given : s97 .gives (m63 (before .before) (before .next .given))) →
+          Typed.Mo T99
+      m64 = λ before given. s97 .next (m63 (before .before) (before .next .given)) given
 
       module _ (before· : After-next) where
         pub record After-slice-known16·own : Type 0 where
-          pub given : s106 .gives (m69 (before· .before) (before· .next .given))
+          pub given : s97 .gives (m63 (before· .before) (before· .next .given))
 
       pub record After-slice-known16 : Type 0 where
         pub before : After-next
         pub slice-known16 : After-slice-known16·own before
 
-      abbrev pub m71 :
+      abbrev pub m65 :
           (before : After-slice-known16) →
-          (given : s109 .gives (m70 (before .before) (before .slice-known16 .given))) →
-          Typed.Mo T111
-      m71 = λ before given. s109 .next (m70 (before .before) (before .slice-known16 .given)) given
+          (given : s100 .gives (m64 (before .before) (before .slice-known16 .given))) →
+          Typed.Mo T102
+      m65 = λ before given. s100 .next (m64 (before .before) (before .slice-known16 .given)) given
 
       module _ (before· : After-slice-known16) where
         pub record After-clean·own : Type 0 where
-          pub given : s109 .gives (m70 (before· .before) (before· .slice-known16 .given))
+          pub given : s100 .gives (m64 (before· .before) (before· .slice-known16 .given))
 
       pub record After-clean : Type 0 where
         pub before : After-slice-known16
         pub clean : After-clean·own before
 
-      abbrev pub m72 :
+      abbrev pub m66 :
           (before : After-clean) →
-          (given : s110 .gives (m71 (before .before) (before .clean .given))) →
-          Typed.Mo T112
-      m72 = λ before given. s110 .next (m71 (before .before) (before .clean .given)) given
+          (given : s101 .gives (m65 (before .before) (before .clean .given))) →
+          Typed.Mo T103
+      m66 = λ before given. s101 .next (m65 (before .before) (before .clean .given)) given
 
       module _ (before· : After-clean) where
         pub record After-slice-known17·own : Type 0 where
-          pub given : s110 .gives (m71 (before· .before) (before· .clean .given))
+          pub given : s101 .gives (m65 (before· .before) (before· .clean .given))
 
       pub record After-slice-known17 : Type 0 where
         pub before : After-clean
         pub slice-known17 : After-slice-known17·own before
 
-      abbrev pub m73 :
+      abbrev pub m67 :
           (before : After-slice-known17) →
-          (given : s113 .gives (m72 (before .before) (before .slice-known17 .given))) →
-          Typed.Mo T115
-      m73 = λ before given. s113 .next (m72 (before .before) (before .slice-known17 .given)) given
+          (given : s104 .gives (m66 (before .before) (before .slice-known17 .given))) →
+          Typed.Mo T106
+      m67 = λ before given. s104 .next (m66 (before .before) (before .slice-known17 .given)) given
 
       module _ (before· : After-slice-known17) where
         pub record After-out·own : Type 0 where
-          pub given : s113 .gives (m72 (before· .before) (before· .slice-known17 .given))
+          pub given : s104 .gives (m66 (before· .before) (before· .slice-known17 .given))
 
       pub record After-out : Type 0 where
         pub before : After-slice-known17
         pub out : After-out·own before
 
-      abbrev pub m74 :
+      abbrev pub m68 :
           (before : After-out) →
-          (given : s114 .gives (m73 (before .before) (before .out .given))) →
-          Typed.Mo T116
-      m74 = λ before given. s114 .next (m73 (before .before) (before .out .given)) given
+          (given : s105 .gives (m67 (before .before) (before .out .given))) →
+          Typed.Mo T107
+      m68 = λ before given. s105 .next (m67 (before .before) (before .out .given)) given
 
       module _ (before· : After-out) where
         pub record After-slice-known18·own : Type 0 where
-          pub given : s114 .gives (m73 (before· .before) (before· .out .given))
+          pub given : s105 .gives (m67 (before· .before) (before· .out .given))
 
       pub record After-slice-known18 : Type 0 where
         pub before : After-out
@@ -25958,153 +23756,153 @@ module _ (claims· : Claims) where
 
       abbrev pub Need-same-length : Type 0
       Need-same-length =
-          (c : After-slice-known18) → MutSlice.SameLen (Row.get 2 (T116 .locals) (m74 (c .before)
+          (c : After-slice-known18) → MutSlice.SameLen (Row.get 2 (T107 .locals) (m68 (c .before)
           (c .slice-known18 .given))) (dens
           (c .before .before .before .before .before .before .before .before .before .before
           .before .before .before .before .before .before .before .before .before .before .before
           .before .before .before .before .before .before .before .before .before .before .before
           .before .before .before .before .before .before .before .before .before .before .before
-          .before .before .before .κs)
+          .before .κs)
           (c .before .before .before .before .before .before .before .before .before .before
           .before .before .before .before .before .before .before .before .before .before .before
           .before .before .before .before .before .before .before .before .before .before .before
           .before .before .before .before .before .before .before .before .before .before .before
-          .before .before .before .args) .1 .0)
+          .before .args) .1 .0)
 
       abbrev pub Need-same-length-2 : Type 0
       Need-same-length-2 =
-          (c : After-slice-known18) → MutSlice.SameLen (Row.get 3 (T116 .locals) (m74 (c .before)
+          (c : After-slice-known18) → MutSlice.SameLen (Row.get 3 (T107 .locals) (m68 (c .before)
           (c .slice-known18 .given))) (dens
           (c .before .before .before .before .before .before .before .before .before .before
           .before .before .before .before .before .before .before .before .before .before .before
           .before .before .before .before .before .before .before .before .before .before .before
           .before .before .before .before .before .before .before .before .before .before .before
-          .before .before .before .κs)
+          .before .κs)
           (c .before .before .before .before .before .before .before .before .before .before
           .before .before .before .before .before .before .before .before .before .before .before
           .before .before .before .before .before .before .before .before .before .before .before
           .before .before .before .before .before .before .before .before .before .before .before
-          .before .before .before .args) .1 .1 .0)
+          .before .args) .1 .1 .0)
 
       abbrev pub Need-same-length-3 : Type 0
       Need-same-length-3 =
-          (c : After-slice-known18) → MutSlice.SameLen (Row.get 4 (T116 .locals) (m74 (c .before)
+          (c : After-slice-known18) → MutSlice.SameLen (Row.get 4 (T107 .locals) (m68 (c .before)
           (c .slice-known18 .given))) (dens
           (c .before .before .before .before .before .before .before .before .before .before
           .before .before .before .before .before .before .before .before .before .before .before
           .before .before .before .before .before .before .before .before .before .before .before
           .before .before .before .before .before .before .before .before .before .before .before
-          .before .before .before .κs)
+          .before .κs)
           (c .before .before .before .before .before .before .before .before .before .before
           .before .before .before .before .before .before .before .before .before .before .before
           .before .before .before .before .before .before .before .before .before .before .before
           .before .before .before .before .before .before .before .before .before .before .before
-          .before .before .before .args) .1 .1 .1 .0)
+          .before .args) .1 .1 .1 .0)
 
       abbrev pub Need-same-length-4 : Type 0
       Need-same-length-4 =
-          (c : After-slice-known18) → MutSlice.SameLen (Row.get 5 (T116 .locals) (m74 (c .before)
+          (c : After-slice-known18) → MutSlice.SameLen (Row.get 5 (T107 .locals) (m68 (c .before)
           (c .slice-known18 .given))) (dens
           (c .before .before .before .before .before .before .before .before .before .before
           .before .before .before .before .before .before .before .before .before .before .before
           .before .before .before .before .before .before .before .before .before .before .before
           .before .before .before .before .before .before .before .before .before .before .before
-          .before .before .before .κs)
+          .before .κs)
           (c .before .before .before .before .before .before .before .before .before .before
           .before .before .before .before .before .before .before .before .before .before .before
           .before .before .before .before .before .before .before .before .before .before .before
           .before .before .before .before .before .before .before .before .before .before .before
-          .before .before .before .args) .1 .1 .1 .1 .0)
+          .before .args) .1 .1 .1 .1 .0)
 
       abbrev pub Need-same-length-5 : Type 0
       Need-same-length-5 =
-          (c : After-slice-known18) → MutSlice.SameLen (Row.get 6 (T116 .locals) (m74 (c .before)
+          (c : After-slice-known18) → MutSlice.SameLen (Row.get 6 (T107 .locals) (m68 (c .before)
           (c .slice-known18 .given))) (dens
           (c .before .before .before .before .before .before .before .before .before .before
           .before .before .before .before .before .before .before .before .before .before .before
           .before .before .before .before .before .before .before .before .before .before .before
           .before .before .before .before .before .before .before .before .before .before .before
-          .before .before .before .κs)
+          .before .κs)
           (c .before .before .before .before .before .before .before .before .before .before
           .before .before .before .before .before .before .before .before .before .before .before
           .before .before .before .before .before .before .before .before .before .before .before
           .before .before .before .before .before .before .before .before .before .before .before
-          .before .before .before .args) .1 .1 .1 .1 .1 .0)
+          .before .args) .1 .1 .1 .1 .1 .0)
 
       abbrev pub Need-same-length-6 : Type 0
       Need-same-length-6 =
-          (c : After-slice-known18) → MutSlice.SameLen (Row.get 7 (T116 .locals) (m74 (c .before)
+          (c : After-slice-known18) → MutSlice.SameLen (Row.get 7 (T107 .locals) (m68 (c .before)
           (c .slice-known18 .given))) (dens
           (c .before .before .before .before .before .before .before .before .before .before
           .before .before .before .before .before .before .before .before .before .before .before
           .before .before .before .before .before .before .before .before .before .before .before
           .before .before .before .before .before .before .before .before .before .before .before
-          .before .before .before .κs)
+          .before .κs)
           (c .before .before .before .before .before .before .before .before .before .before
           .before .before .before .before .before .before .before .before .before .before .before
           .before .before .before .before .before .before .before .before .before .before .before
           .before .before .before .before .before .before .before .before .before .before .before
-          .before .before .before .args) .1 .1 .1 .1 .1 .1 .0)
+          .before .args) .1 .1 .1 .1 .1 .1 .0)
 
       abbrev pub Need-same-length-7 : Type 0
       Need-same-length-7 =
-          (c : After-slice-known18) → MutSlice.SameLen (Row.get 8 (T116 .locals) (m74 (c .before)
+          (c : After-slice-known18) → MutSlice.SameLen (Row.get 8 (T107 .locals) (m68 (c .before)
           (c .slice-known18 .given))) (dens
           (c .before .before .before .before .before .before .before .before .before .before
           .before .before .before .before .before .before .before .before .before .before .before
           .before .before .before .before .before .before .before .before .before .before .before
           .before .before .before .before .before .before .before .before .before .before .before
-          .before .before .before .κs)
+          .before .κs)
           (c .before .before .before .before .before .before .before .before .before .before
           .before .before .before .before .before .before .before .before .before .before .before
           .before .before .before .before .before .before .before .before .before .before .before
           .before .before .before .before .before .before .before .before .before .before .before
-          .before .before .before .args) .1 .1 .1 .1 .1 .1 .1 .0)
+          .before .args) .1 .1 .1 .1 .1 .1 .1 .0)
 
       abbrev pub Need-same-length-8 : Type 0
       Need-same-length-8 =
-          (c : After-slice-known18) → MutSlice.SameLen (Row.get 9 (T116 .locals) (m74 (c .before)
+          (c : After-slice-known18) → MutSlice.SameLen (Row.get 9 (T107 .locals) (m68 (c .before)
           (c .slice-known18 .given))) (dens
           (c .before .before .before .before .before .before .before .before .before .before
           .before .before .before .before .before .before .before .before .before .before .before
           .before .before .before .before .before .before .before .before .before .before .before
           .before .before .before .before .before .before .before .before .before .before .before
-          .before .before .before .κs)
+          .before .κs)
           (c .before .before .before .before .before .before .before .before .before .before
           .before .before .before .before .before .before .before .before .before .before .before
           .before .before .before .before .before .before .before .before .before .before .before
           .before .before .before .before .before .before .before .before .before .before .before
-          .before .before .before .args) .1 .1 .1 .1 .1 .1 .1 .1 .0)
+          .before .args) .1 .1 .1 .1 .1 .1 .1 .1 .0)
 
       abbrev pub Need-same-length-9 : Type 0
       Need-same-length-9 =
-          (c : After-slice-known18) → MutSlice.SameLen (Row.get 10 (T116 .locals) (m74 (c .before)
+          (c : After-slice-known18) → MutSlice.SameLen (Row.get 10 (T107 .locals) (m68 (c .before)
           (c .slice-known18 .given))) (dens
           (c .before .before .before .before .before .before .before .before .before .before
           .before .before .before .before .before .before .before .before .before .before .before
           .before .before .before .before .before .before .before .before .before .before .before
           .before .before .before .before .before .before .before .before .before .before .before
-          .before .before .before .κs)
+          .before .κs)
           (c .before .before .before .before .before .before .before .before .before .before
           .before .before .before .before .before .before .before .before .before .before .before
           .before .before .before .before .before .before .before .before .before .before .before
           .before .before .before .before .before .before .before .before .before .before .before
-          .before .before .before .args) .1 .1 .1 .1 .1 .1 .1 .1 .1 .0)
+          .before .args) .1 .1 .1 .1 .1 .1 .1 .1 .1 .0)
 
       abbrev pub Need-same-length-10 : Type 0
       Need-same-length-10 =
-          (c : After-slice-known18) → MutSlice.SameLen (Row.get 11 (T116 .locals) (m74 (c .before)
+          (c : After-slice-known18) → MutSlice.SameLen (Row.get 11 (T107 .locals) (m68 (c .before)
           (c .slice-known18 .given))) (dens
           (c .before .before .before .before .before .before .before .before .before .before
           .before .before .before .before .before .before .before .before .before .before .before
           .before .before .before .before .before .before .before .before .before .before .before
           .before .before .before .before .before .before .before .before .before .before .before
-          .before .before .before .κs)
+          .before .κs)
           (c .before .before .before .before .before .before .before .before .before .before
           .before .before .before .before .before .before .before .before .before .before .before
           .before .before .before .before .before .before .before .before .before .before .before
           .before .before .before .before .before .before .before .before .before .before .before
-          .before .before .before .args) .1 .1 .1 .1 .1 .1 .1 .1 .1 .1 .0)
+          .before .args) .1 .1 .1 .1 .1 .1 .1 .1 .1 .1 .0)
 
       abbrev pub Need-returns : Type 0
       Need-returns =
@@ -26113,56 +23911,55 @@ module _ (claims· : Claims) where
           .before .before .before .before .before .before .before .before .before .before .before
           .before .before .before .before .before .before .before .before .before .before .before
           .before .before .before .before .before .before .before .before .before .before .before
-          .before .before .before .κs) (dens
+          .before .κs) (dens
           (c .before .before .before .before .before .before .before .before .before .before
           .before .before .before .before .before .before .before .before .before .before .before
           .before .before .before .before .before .before .before .before .before .before .before
           .before .before .before .before .before .before .before .before .before .before .before
-          .before .before .before .κs)
+          .before .κs)
           (c .before .before .before .before .before .before .before .before .before .before
           .before .before .before .before .before .before .before .before .before .before .before
           .before .before .before .before .before .before .before .before .before .before .before
           .before .before .before .before .before .before .before .before .before .before .before
-          .before .before .before .args)) (Function.resV r
+          .before .args)) (Function.resV r
           (c .before .before .before .before .before .before .before .before .before .before
           .before .before .before .before .before .before .before .before .before .before .before
           .before .before .before .before .before .before .before .before .before .before .before
           .before .before .before .before .before .before .before .before .before .before .before
-          .before .before .before .κs) (m74 (c .before) (c .slice-known18 .given) .0))
-          (Clauses.atExit (Kinds.endedOf 11 ps r)
+          .before .κs) (m68 (c .before) (c .slice-known18 .given) .0)) (Clauses.atExit
+          (Kinds.endedOf 11 ps r)
           (c .before .before .before .before .before .before .before .before .before .before
           .before .before .before .before .before .before .before .before .before .before .before
           .before .before .before .before .before .before .before .before .before .before .before
           .before .before .before .before .before .before .before .before .before .before .before
-          .before .before .before .κs) (dens
+          .before .κs) (dens
           (c .before .before .before .before .before .before .before .before .before .before
           .before .before .before .before .before .before .before .before .before .before .before
           .before .before .before .before .before .before .before .before .before .before .before
           .before .before .before .before .before .before .before .before .before .before .before
-          .before .before .before .κs)
+          .before .κs)
           (c .before .before .before .before .before .before .before .before .before .before
           .before .before .before .before .before .before .before .before .before .before .before
           .before .before .before .before .before .before .before .before .before .before .before
           .before .before .before .before .before .before .before .before .before .before .before
-          .before .before .before .args)) (Enter.lastsP
+          .before .args)) (Enter.lastsP
           (c .before .before .before .before .before .before .before .before .before .before
           .before .before .before .before .before .before .before .before .before .before .before
           .before .before .before .before .before .before .before .before .before .before .before
           .before .before .before .before .before .before .before .before .before .before .before
-          .before .before .before .κs) 1 ps xs (dens
+          .before .κs) 1 ps xs (dens
           (c .before .before .before .before .before .before .before .before .before .before
           .before .before .before .before .before .before .before .before .before .before .before
           .before .before .before .before .before .before .before .before .before .before .before
           .before .before .before .before .before .before .before .before .before .before .before
-          .before .before .before .κs)
+          .before .κs)
           (c .before .before .before .before .before .before .before .before .before .before
           .before .before .before .before .before .before .before .before .before .before .before
           .before .before .before .before .before .before .before .before .before .before .before
           .before .before .before .before .before .before .before .before .before .before .before
-          .before .before .before .args)) (m74 (c .before) (c .slice-known18 .given) .1)))
+          .before .args)) (m68 (c .before) (c .slice-known18 .given) .1)))
 
       module _ (add-h : Need-add-h) (place-lines-requires : Need-place-lines-requires)
-          (fill-requires : Need-fill-requires)
           (slice-relend-prefix-rebuild-with : Need-slice-relend-prefix-rebuild-with)
           (slice-aggregate-rebuild-with : Need-slice-aggregate-rebuild-with)
           (slice-relend-prefix-rebuild-with-2 : Need-slice-relend-prefix-rebuild-with-2)
@@ -26177,18 +23974,18 @@ module _ (claims· : Claims) where
           (same-length-6 : Need-same-length-6) (same-length-7 : Need-same-length-7)
           (same-length-8 : Need-same-length-8) (same-length-9 : Need-same-length-9)
           (same-length-10 : Need-same-length-10) (returns : Need-returns) where
-        lay5 :
+        lay4 :
             (c : After-slice-known16) → at7 (W0
             (c .before .before .before .before .before .before .before .before .before .before
             .before .before .before .before .before .before .before .before .before .before .before
             .before .before .before .before .before .before .before .before .before .before .before
-            .before .before .before .before .before .before .before .before .before .before .κs)
+            .before .before .before .before .before .before .before .before .κs)
             (c .before .before .before .before .before .before .before .before .before .before
             .before .before .before .before .before .before .before .before .before .before .before
             .before .before .before .before .before .before .before .before .before .before .before
-            .before .before .before .before .before .before .before .before .before .before .args))
-            (m70 (c .before) (c .slice-known16 .given))
-        lay5 = λ c. (
+            .before .before .before .before .before .before .before .before .args)) (m64
+            (c .before) (c .slice-known16 .given))
+        lay4 = λ c. (
           Path'.refl,
           λ g. λ g'. (
             Path'.refl,
@@ -26196,7 +23993,7 @@ module _ (claims· : Claims) where
               (
                 Path'.refl,
                 (
-                  MutSlice.fix-len (Row.get 2 (T116 .locals) (m74 record {
+                  MutSlice.fix-len (Row.get 2 (T107 .locals) (m68 record {
                     before = record {
                       before = record {
                         before = record { before = c .before; slice-known16 = c .slice-known16 };
@@ -26205,7 +24002,7 @@ module _ (claims· : Claims) where
                       slice-known17 = record { given = g' };
                     };
                     out = record { given = g'' };
-                  } g'3) .ptr) (Row.get 2 (T116 .locals) (m74 record {
+                  } g'3) .ptr) (Row.get 2 (T107 .locals) (m68 record {
                     before = record {
                       before = record {
                         before = record { before = c .before; slice-known16 = c .slice-known16 };
@@ -26214,7 +24011,7 @@ module _ (claims· : Claims) where
                       slice-known17 = record { given = g' };
                     };
                     out = record { given = g'' };
-                  } g'3) .name) (Row.get 2 (T116 .locals) (m74 record {
+                  } g'3) .name) (Row.get 2 (T107 .locals) (m68 record {
                     before = record {
                       before = record {
                         before = record { before = c .before; slice-known16 = c .slice-known16 };
@@ -26229,12 +24026,12 @@ module _ (claims· : Claims) where
                       .before .before .before .before .before .before .before .before .before
                       .before .before .before .before .before .before .before .before .before
                       .before .before .before .before .before .before .before .before .before
-                      .before .before .before .before .before .before .κs)
+                      .before .before .before .before .κs)
                       (c .before .before .before .before .before .before .before .before .before
                       .before .before .before .before .before .before .before .before .before
                       .before .before .before .before .before .before .before .before .before
                       .before .before .before .before .before .before .before .before .before
-                      .before .before .before .before .before .before .args) .1 .0 .now)
+                      .before .before .before .before .args) .1 .0 .now)
                       (same-length record {
                         before = record {
                           before = record {
@@ -26252,7 +24049,7 @@ module _ (claims· : Claims) where
                         slice-known18 = record { given = g'3 };
                       }),
                   (
-                    MutSlice.fix-len (Row.get 3 (T116 .locals) (m74 record {
+                    MutSlice.fix-len (Row.get 3 (T107 .locals) (m68 record {
                       before = record {
                         before = record {
                           before = record {
@@ -26264,7 +24061,7 @@ module _ (claims· : Claims) where
                         slice-known17 = record { given = g' };
                       };
                       out = record { given = g'' };
-                    } g'3) .ptr) (Row.get 3 (T116 .locals) (m74 record {
+                    } g'3) .ptr) (Row.get 3 (T107 .locals) (m68 record {
                       before = record {
                         before = record {
                           before = record {
@@ -26276,7 +24073,7 @@ module _ (claims· : Claims) where
                         slice-known17 = record { given = g' };
                       };
                       out = record { given = g'' };
-                    } g'3) .name) (Row.get 3 (T116 .locals) (m74 record {
+                    } g'3) .name) (Row.get 3 (T107 .locals) (m68 record {
                       before = record {
                         before = record {
                           before = record {
@@ -26294,12 +24091,12 @@ module _ (claims· : Claims) where
                         .before .before .before .before .before .before .before .before .before
                         .before .before .before .before .before .before .before .before .before
                         .before .before .before .before .before .before .before .before .before
-                        .before .before .before .before .before .before .κs)
+                        .before .before .before .before .κs)
                         (c .before .before .before .before .before .before .before .before .before
                         .before .before .before .before .before .before .before .before .before
                         .before .before .before .before .before .before .before .before .before
                         .before .before .before .before .before .before .before .before .before
-                        .before .before .before .before .before .before .args) .1 .1 .0 .now)
+                        .before .before .before .before .args) .1 .1 .0 .now)
                         (same-length-2 record {
                           before = record {
                             before = record {
@@ -26317,7 +24114,7 @@ module _ (claims· : Claims) where
                           slice-known18 = record { given = g'3 };
                         }),
                     (
-                      MutSlice.fix-len (Row.get 4 (T116 .locals) (m74 record {
+                      MutSlice.fix-len (Row.get 4 (T107 .locals) (m68 record {
                         before = record {
                           before = record {
                             before = record {
@@ -26329,7 +24126,7 @@ module _ (claims· : Claims) where
                           slice-known17 = record { given = g' };
                         };
                         out = record { given = g'' };
-                      } g'3) .ptr) (Row.get 4 (T116 .locals) (m74 record {
+                      } g'3) .ptr) (Row.get 4 (T107 .locals) (m68 record {
                         before = record {
                           before = record {
                             before = record {
@@ -26341,7 +24138,7 @@ module _ (claims· : Claims) where
                           slice-known17 = record { given = g' };
                         };
                         out = record { given = g'' };
-                      } g'3) .name) (Row.get 4 (T116 .locals) (m74 record {
+                      } g'3) .name) (Row.get 4 (T107 .locals) (m68 record {
                         before = record {
                           before = record {
                             before = record {
@@ -26359,13 +24156,12 @@ module _ (claims· : Claims) where
                           .before .before .before .before .before .before .before .before .before
                           .before .before .before .before .before .before .before .before .before
                           .before .before .before .before .before .before .before .before .before
-                          .before .before .before .before .before .before .before .κs)
+                          .before .before .before .before .before .κs)
                           (c .before .before .before .before .before .before .before .before
                           .before .before .before .before .before .before .before .before .before
                           .before .before .before .before .before .before .before .before .before
                           .before .before .before .before .before .before .before .before .before
-                          .before .before .before .before .before .before .before .args) .1 .1 .1
-                          .0 .now)
+                          .before .before .before .before .before .args) .1 .1 .1 .0 .now)
                           (same-length-3 record {
                             before = record {
                               before = record {
@@ -26383,7 +24179,7 @@ module _ (claims· : Claims) where
                             slice-known18 = record { given = g'3 };
                           }),
                       (
-                        MutSlice.fix-len (Row.get 5 (T116 .locals) (m74 record {
+                        MutSlice.fix-len (Row.get 5 (T107 .locals) (m68 record {
                           before = record {
                             before = record {
                               before = record {
@@ -26395,7 +24191,7 @@ module _ (claims· : Claims) where
                             slice-known17 = record { given = g' };
                           };
                           out = record { given = g'' };
-                        } g'3) .ptr) (Row.get 5 (T116 .locals) (m74 record {
+                        } g'3) .ptr) (Row.get 5 (T107 .locals) (m68 record {
                           before = record {
                             before = record {
                               before = record {
@@ -26407,7 +24203,7 @@ module _ (claims· : Claims) where
                             slice-known17 = record { given = g' };
                           };
                           out = record { given = g'' };
-                        } g'3) .name) (Row.get 5 (T116 .locals) (m74 record {
+                        } g'3) .name) (Row.get 5 (T107 .locals) (m68 record {
                           before = record {
                             before = record {
                               before = record {
@@ -26425,13 +24221,12 @@ module _ (claims· : Claims) where
                             .before .before .before .before .before .before .before .before .before
                             .before .before .before .before .before .before .before .before .before
                             .before .before .before .before .before .before .before .before .before
-                            .before .before .before .before .before .before .before .κs)
+                            .before .before .before .before .before .κs)
                             (c .before .before .before .before .before .before .before .before
                             .before .before .before .before .before .before .before .before .before
                             .before .before .before .before .before .before .before .before .before
                             .before .before .before .before .before .before .before .before .before
-                            .before .before .before .before .before .before .before .args) .1 .1 .1
-                            .1 .0 .now)
+                            .before .before .before .before .before .args) .1 .1 .1 .1 .0 .now)
                             (same-length-4 record {
                               before = record {
                                 before = record {
@@ -26449,7 +24244,7 @@ module _ (claims· : Claims) where
                               slice-known18 = record { given = g'3 };
                             }),
                         (
-                          MutSlice.fix-len (Row.get 6 (T116 .locals) (m74 record {
+                          MutSlice.fix-len (Row.get 6 (T107 .locals) (m68 record {
                             before = record {
                               before = record {
                                 before = record {
@@ -26461,7 +24256,7 @@ module _ (claims· : Claims) where
                               slice-known17 = record { given = g' };
                             };
                             out = record { given = g'' };
-                          } g'3) .ptr) (Row.get 6 (T116 .locals) (m74 record {
+                          } g'3) .ptr) (Row.get 6 (T107 .locals) (m68 record {
                             before = record {
                               before = record {
                                 before = record {
@@ -26473,7 +24268,7 @@ module _ (claims· : Claims) where
                               slice-known17 = record { given = g' };
                             };
                             out = record { given = g'' };
-                          } g'3) .name) (Row.get 6 (T116 .locals) (m74 record {
+                          } g'3) .name) (Row.get 6 (T107 .locals) (m68 record {
                             before = record {
                               before = record {
                                 before = record {
@@ -26491,14 +24286,13 @@ module _ (claims· : Claims) where
                               .before .before .before .before .before .before .before .before
                               .before .before .before .before .before .before .before .before
                               .before .before .before .before .before .before .before .before
-                              .before .before .before .before .before .before .before .before
-                              .before .before .κs)
+                              .before .before .before .before .before .before .before .before .κs)
                               (c .before .before .before .before .before .before .before .before
                               .before .before .before .before .before .before .before .before
                               .before .before .before .before .before .before .before .before
                               .before .before .before .before .before .before .before .before
                               .before .before .before .before .before .before .before .before
-                              .before .before .args) .1 .1 .1 .1 .1 .0 .now)
+                              .args) .1 .1 .1 .1 .1 .0 .now)
                               (same-length-5 record {
                                 before = record {
                                   before = record {
@@ -26516,7 +24310,7 @@ module _ (claims· : Claims) where
                                 slice-known18 = record { given = g'3 };
                               }),
                           (
-                            MutSlice.fix-len (Row.get 7 (T116 .locals) (m74 record {
+                            MutSlice.fix-len (Row.get 7 (T107 .locals) (m68 record {
                               before = record {
                                 before = record {
                                   before = record {
@@ -26528,7 +24322,7 @@ module _ (claims· : Claims) where
                                 slice-known17 = record { given = g' };
                               };
                               out = record { given = g'' };
-                            } g'3) .ptr) (Row.get 7 (T116 .locals) (m74 record {
+                            } g'3) .ptr) (Row.get 7 (T107 .locals) (m68 record {
                               before = record {
                                 before = record {
                                   before = record {
@@ -26540,7 +24334,7 @@ module _ (claims· : Claims) where
                                 slice-known17 = record { given = g' };
                               };
                               out = record { given = g'' };
-                            } g'3) .name) (Row.get 7 (T116 .locals) (m74 record {
+                            } g'3) .name) (Row.get 7 (T107 .locals) (m68 record {
                               before = record {
                                 before = record {
                                   before = record {
@@ -26559,13 +24353,13 @@ module _ (claims· : Claims) where
                                 .before .before .before .before .before .before .before .before
                                 .before .before .before .before .before .before .before .before
                                 .before .before .before .before .before .before .before .before
-                                .before .before .κs)
+                                .κs)
                                 (c .before .before .before .before .before .before .before .before
                                 .before .before .before .before .before .before .before .before
                                 .before .before .before .before .before .before .before .before
                                 .before .before .before .before .before .before .before .before
                                 .before .before .before .before .before .before .before .before
-                                .before .before .args) .1 .1 .1 .1 .1 .1 .0 .now)
+                                .args) .1 .1 .1 .1 .1 .1 .0 .now)
                                 (same-length-6 record {
                                   before = record {
                                     before = record {
@@ -26583,7 +24377,7 @@ module _ (claims· : Claims) where
                                   slice-known18 = record { given = g'3 };
                                 }),
                             (
-                              MutSlice.fix-len (Row.get 8 (T116 .locals) (m74 record {
+                              MutSlice.fix-len (Row.get 8 (T107 .locals) (m68 record {
                                 before = record {
                                   before = record {
                                     before = record {
@@ -26595,7 +24389,7 @@ module _ (claims· : Claims) where
                                   slice-known17 = record { given = g' };
                                 };
                                 out = record { given = g'' };
-                              } g'3) .ptr) (Row.get 8 (T116 .locals) (m74 record {
+                              } g'3) .ptr) (Row.get 8 (T107 .locals) (m68 record {
                                 before = record {
                                   before = record {
                                     before = record {
@@ -26607,7 +24401,7 @@ module _ (claims· : Claims) where
                                   slice-known17 = record { given = g' };
                                 };
                                 out = record { given = g'' };
-                              } g'3) .name) (Row.get 8 (T116 .locals) (m74 record {
+                              } g'3) .name) (Row.get 8 (T107 .locals) (m68 record {
                                 before = record {
                                   before = record {
                                     before = record {
@@ -26626,13 +24420,13 @@ module _ (claims· : Claims) where
                                   .before .before .before .before .before .before .before .before
                                   .before .before .before .before .before .before .before .before
                                   .before .before .before .before .before .before .before .before
-                                  .before .before .before .κs)
+                                  .before .κs)
                                   (c .before .before .before .before .before .before .before
                                   .before .before .before .before .before .before .before .before
                                   .before .before .before .before .before .before .before .before
                                   .before .before .before .before .before .before .before .before
                                   .before .before .before .before .before .before .before .before
-                                  .before .before .before .args) .1 .1 .1 .1 .1 .1 .1 .0 .now)
+                                  .before .args) .1 .1 .1 .1 .1 .1 .1 .0 .now)
                                   (same-length-7 record {
                                     before = record {
                                       before = record {
@@ -26650,7 +24444,7 @@ module _ (claims· : Claims) where
                                     slice-known18 = record { given = g'3 };
                                   }),
                               (
-                                MutSlice.fix-len (Row.get 9 (T116 .locals) (m74 record {
+                                MutSlice.fix-len (Row.get 9 (T107 .locals) (m68 record {
                                   before = record {
                                     before = record {
                                       before = record {
@@ -26662,7 +24456,7 @@ module _ (claims· : Claims) where
                                     slice-known17 = record { given = g' };
                                   };
                                   out = record { given = g'' };
-                                } g'3) .ptr) (Row.get 9 (T116 .locals) (m74 record {
+                                } g'3) .ptr) (Row.get 9 (T107 .locals) (m68 record {
                                   before = record {
                                     before = record {
                                       before = record {
@@ -26674,7 +24468,7 @@ module _ (claims· : Claims) where
                                     slice-known17 = record { given = g' };
                                   };
                                   out = record { given = g'' };
-                                } g'3) .name) (Row.get 9 (T116 .locals) (m74 record {
+                                } g'3) .name) (Row.get 9 (T107 .locals) (m68 record {
                                   before = record {
                                     before = record {
                                       before = record {
@@ -26693,13 +24487,13 @@ module _ (claims· : Claims) where
                                     .before .before .before .before .before .before .before .before
                                     .before .before .before .before .before .before .before .before
                                     .before .before .before .before .before .before .before .before
-                                    .before .before .before .κs)
+                                    .before .κs)
                                     (c .before .before .before .before .before .before .before
                                     .before .before .before .before .before .before .before .before
                                     .before .before .before .before .before .before .before .before
                                     .before .before .before .before .before .before .before .before
                                     .before .before .before .before .before .before .before .before
-                                    .before .before .before .args) .1 .1 .1 .1 .1 .1 .1 .1 .0 .now)
+                                    .before .args) .1 .1 .1 .1 .1 .1 .1 .1 .0 .now)
                                     (same-length-8 record {
                                       before = record {
                                         before = record {
@@ -26717,7 +24511,7 @@ module _ (claims· : Claims) where
                                       slice-known18 = record { given = g'3 };
                                     }),
                                 (
-                                  MutSlice.fix-len (Row.get 10 (T116 .locals) (m74 record {
+                                  MutSlice.fix-len (Row.get 10 (T107 .locals) (m68 record {
                                     before = record {
                                       before = record {
                                         before = record {
@@ -26729,7 +24523,7 @@ module _ (claims· : Claims) where
                                       slice-known17 = record { given = g' };
                                     };
                                     out = record { given = g'' };
-                                  } g'3) .ptr) (Row.get 10 (T116 .locals) (m74 record {
+                                  } g'3) .ptr) (Row.get 10 (T107 .locals) (m68 record {
                                     before = record {
                                       before = record {
                                         before = record {
@@ -26741,7 +24535,7 @@ module _ (claims· : Claims) where
                                       slice-known17 = record { given = g' };
                                     };
                                     out = record { given = g'' };
-                                  } g'3) .name) (Row.get 10 (T116 .locals) (m74 record {
+                                  } g'3) .name) (Row.get 10 (T107 .locals) (m68 record {
                                     before = record {
                                       before = record {
                                         before = record {
@@ -26760,14 +24554,14 @@ module _ (claims· : Claims) where
                                       .before .before .before .before .before .before .before
                                       .before .before .before .before .before .before .before
                                       .before .before .before .before .before .before .before
-                                      .before .before .before .before .before .before .before .κs)
+                                      .before .before .before .before .before .κs)
                                       (c .before .before .before .before .before .before .before
                                       .before .before .before .before .before .before .before
                                       .before .before .before .before .before .before .before
                                       .before .before .before .before .before .before .before
                                       .before .before .before .before .before .before .before
-                                      .before .before .before .before .before .before .before
-                                      .args) .1 .1 .1 .1 .1 .1 .1 .1 .1 .0 .now)
+                                      .before .before .before .before .before .args) .1 .1 .1 .1 .1
+                                      .1 .1 .1 .1 .0 .now)
                                       (same-length-9 record {
                                         before = record {
                                           before = record {
@@ -26785,7 +24579,7 @@ module _ (claims· : Claims) where
                                         slice-known18 = record { given = g'3 };
                                       }),
                                   (
-                                    MutSlice.fix-len (Row.get 11 (T116 .locals) (m74 record {
+                                    MutSlice.fix-len (Row.get 11 (T107 .locals) (m68 record {
                                       before = record {
                                         before = record {
                                           before = record {
@@ -26797,7 +24591,7 @@ module _ (claims· : Claims) where
                                         slice-known17 = record { given = g' };
                                       };
                                       out = record { given = g'' };
-                                    } g'3) .ptr) (Row.get 11 (T116 .locals) (m74 record {
+                                    } g'3) .ptr) (Row.get 11 (T107 .locals) (m68 record {
                                       before = record {
                                         before = record {
                                           before = record {
@@ -26809,7 +24603,7 @@ module _ (claims· : Claims) where
                                         slice-known17 = record { given = g' };
                                       };
                                       out = record { given = g'' };
-                                    } g'3) .name) (Row.get 11 (T116 .locals) (m74 record {
+                                    } g'3) .name) (Row.get 11 (T107 .locals) (m68 record {
                                       before = record {
                                         before = record {
                                           before = record {
@@ -26828,15 +24622,14 @@ module _ (claims· : Claims) where
                                         .before .before .before .before .before .before .before
                                         .before .before .before .before .before .before .before
                                         .before .before .before .before .before .before .before
-                                        .before .before .before .before .before .before .before
-                                        .κs)
+                                        .before .before .before .before .before .κs)
                                         (c .before .before .before .before .before .before .before
                                         .before .before .before .before .before .before .before
                                         .before .before .before .before .before .before .before
                                         .before .before .before .before .before .before .before
                                         .before .before .before .before .before .before .before
-                                        .before .before .before .before .before .before .before
-                                        .args) .1 .1 .1 .1 .1 .1 .1 .1 .1 .1 .0 .now)
+                                        .before .before .before .before .before .args) .1 .1 .1 .1
+                                        .1 .1 .1 .1 .1 .1 .0 .now)
                                         (same-length-10 record {
                                           before = record {
                                             before = record {
@@ -26882,17 +24675,17 @@ module _ (claims· : Claims) where
           ),
         )
 
-        lay4 :
+        lay3 :
             (c : After-rebuild-with) → at39 (W0
             (c .before .before .before .before .before .before .before .before .before .before
             .before .before .before .before .before .before .before .before .before .before .before
             .before .before .before .before .before .before .before .before .before .before .before
-            .before .before .κs)
+            .κs)
             (c .before .before .before .before .before .before .before .before .before .before
             .before .before .before .before .before .before .before .before .before .before .before
             .before .before .before .before .before .before .before .before .before .before .before
-            .before .before .args)) (m53 (c .before) (After-rebuild-with·gave c))
-        lay4 = λ c. (
+            .args)) (m47 (c .before) (After-rebuild-with·gave c))
+        lay3 = λ c. (
           Path'.refl,
           λ g. λ g'. (
             Path'.refl,
@@ -26900,7 +24693,7 @@ module _ (claims· : Claims) where
               Path'.refl,
               λ g'4. λ g'5. (
                 Path'.refl,
-                λ g'6. λ g'7. lay5 record {
+                λ g'6. λ g'7. lay4 record {
                   before = record {
                     before = record {
                       before = record {
@@ -26933,356 +24726,256 @@ module _ (claims· : Claims) where
           ),
         )
 
-        lay3 :
-            (c : After-rebuild-with-arg8) → at43 (W0
+        lay2 :
+            (c : After-rebuild-with-arg6) → at50 (W0
             (c .before .before .before .before .before .before .before .before .before .before
             .before .before .before .before .before .before .before .before .before .before .before
-            .before .before .before .before .before .before .before .before .before .before .before
-            .κs)
+            .before .before .before .before .before .before .before .κs)
             (c .before .before .before .before .before .before .before .before .before .before
             .before .before .before .before .before .before .before .before .before .before .before
-            .before .before .before .before .before .before .before .before .before .before .before
-            .args)) (m50 (c .before) (c .rebuild-with-arg8 .given))
-        lay3 = λ c. λ g. (
-          Path'.refl,
+            .before .before .before .before .before .before .before .args)) (m39 (c .before)
+            (c .rebuild-with-arg6 .given))
+        lay2 = λ c. (
+          Relend.count-is
+              T58
+              33
+              34
+              (λ x. x)
+              (λ u. u .1 .1 .1 .1 .1 .1 .1 .1 .1 .1 .1 .1 .0)
+              (m39 (c .before) (c .rebuild-with-arg6 .given))
+              (slice-aggregate-rebuild-with-2 record {
+                before = c .before;
+                rebuild-with-arg6 = c .rebuild-with-arg6;
+              }),
           (
-            rebuild-with-requires record {
-              before = record { before = c .before; rebuild-with-arg8 = c .rebuild-with-arg8 };
-              rebuild-with-arg9 = record { given = g };
+            slice-relend-prefix-rebuild-with-3 record {
+              before = c .before;
+              rebuild-with-arg6 = c .rebuild-with-arg6;
             },
-            λ g'. lay4 record {
-              before = record {
-                before = record { before = c .before; rebuild-with-arg8 = c .rebuild-with-arg8 };
-                rebuild-with-arg9 = record { given = g };
-              };
-              rebuild-with = Called.called ps·2 r·2 (claims· .5) T77 (
-                record {
-                  pos = 1;
-                  ty = Syntax.tyRef (Syntax.named 0) Syntax.imm (Syntax.tyInt Syntax.w8);
-                  ref = λ x. x;
+            λ g. (
+              Relend.count-is
+                  T61
+                  35
+                  36
+                  (λ x. x)
+                  (λ u. u .1 .1 .1 .1 .1 .1 .1 .1 .1 .1 .1 .1 .0)
+                  (m41 record { before = c .before; rebuild-with-arg6 = c .rebuild-with-arg6 } g)
+                  (slice-aggregate-rebuild-with-3 record {
+                    before = record {
+                      before = c .before;
+                      rebuild-with-arg6 = c .rebuild-with-arg6;
+                    };
+                    rebuild-with-arg7 = record { given = g };
+                  }),
+              (
+                slice-relend-prefix-rebuild-with-4 record {
+                  before = record {
+                    before = c .before;
+                    rebuild-with-arg6 = c .rebuild-with-arg6;
+                  };
+                  rebuild-with-arg7 = record { given = g };
                 },
-                (
-                  record {
-                    pos = 27;
-                    ty = Syntax.tyRef
-                        Syntax.erased
-                        Syntax.imm
-                        Elem.ty;
-                    ref = λ x. x;
-                  },
-                  (
-                    Num.vAt 14 λ x. x,
+                λ g'. (
+                  Relend.count-is
+                      T64
+                      37
+                      38
+                      (λ x. x)
+                      (λ u. u .1 .1 .1 .1 .1 .1 .1 .1 .1 .1 .1 .1 .0)
+                      (m43 record {
+                        before = record {
+                          before = c .before;
+                          rebuild-with-arg6 = c .rebuild-with-arg6;
+                        };
+                        rebuild-with-arg7 = record { given = g };
+                      } g')
+                      (slice-aggregate-rebuild-with-4 record {
+                        before = record {
+                          before = record {
+                            before = c .before;
+                            rebuild-with-arg6 = c .rebuild-with-arg6;
+                          };
+                          rebuild-with-arg7 = record { given = g };
+                        };
+                        rebuild-with-arg8 = record { given = g' };
+                      }),
+                  λ g''. (
+                    Path'.refl,
                     (
-                      record {
-                        pos = 29;
-                        ty = Syntax.tyRef Syntax.erased Syntax.imm (Syntax.tyInt Syntax.w64);
-                        ref = λ x. x;
+                      rebuild-with-requires record {
+                        before = record {
+                          before = record {
+                            before = record {
+                              before = c .before;
+                              rebuild-with-arg6 = c .rebuild-with-arg6;
+                            };
+                            rebuild-with-arg7 = record { given = g };
+                          };
+                          rebuild-with-arg8 = record { given = g' };
+                        };
+                        rebuild-with-arg9 = record { given = g'' };
                       },
-                      (
-                        record {
-                          pos = 31;
-                          ty = Syntax.tyRef Syntax.erased Syntax.imm (Syntax.tyInt Syntax.w8);
-                          ref = λ x. x;
-                        },
-                        (
+                      λ g'3. lay3 record {
+                        before = record {
+                          before = record {
+                            before = record {
+                              before = record {
+                                before = c .before;
+                                rebuild-with-arg6 = c .rebuild-with-arg6;
+                              };
+                              rebuild-with-arg7 = record { given = g };
+                            };
+                            rebuild-with-arg8 = record { given = g' };
+                          };
+                          rebuild-with-arg9 = record { given = g'' };
+                        };
+                        rebuild-with = Called.called ps·1 r·1 (claims· .3) T68 (
                           record {
-                            pos = 33;
-                            ty = Syntax.tyRef Syntax.erased Syntax.mut (Syntax.tyInt Syntax.w64);
+                            pos = 1;
+                            ty = Syntax.tyRef (Syntax.named 0) Syntax.imm (Syntax.tyInt Syntax.w8);
                             ref = λ x. x;
                           },
                           (
                             record {
-                              pos = 35;
-                              ty = Syntax.tyRef Syntax.erased Syntax.mut (Syntax.tyInt Syntax.w8);
+                              pos = 24;
+                              ty = Syntax.tyRef
+                                  Syntax.erased
+                                  Syntax.imm
+                                  Elem.ty;
                               ref = λ x. x;
                             },
                             (
-                              record {
-                                pos = 37;
-                                ty = Syntax.tyRef
-                                    Syntax.erased
-                                    Syntax.mut
-                                    (Syntax.tyInt Syntax.w8);
-                                ref = λ x. x;
-                              },
+                              Num.vAt 14 λ x. x,
                               (
                                 record {
-                                  pos = 39;
+                                  pos = 26;
                                   ty = Syntax.tyRef
                                       Syntax.erased
-                                      Syntax.mut
-                                      (Syntax.tyInt Syntax.w8);
+                                      Syntax.imm
+                                      (Syntax.tyInt Syntax.w64);
                                   ref = λ x. x;
                                 },
                                 (
                                   record {
-                                    pos = 41;
+                                    pos = 28;
                                     ty = Syntax.tyRef
                                         Syntax.erased
-                                        Syntax.mut
+                                        Syntax.imm
                                         (Syntax.tyInt Syntax.w8);
                                     ref = λ x. x;
                                   },
                                   (
                                     record {
-                                      pos = 43;
+                                      pos = 30;
                                       ty = Syntax.tyRef
                                           Syntax.erased
                                           Syntax.mut
-                                          (Syntax.tyInt Syntax.w8);
+                                          (Syntax.tyInt Syntax.w64);
                                       ref = λ x. x;
                                     },
-                                    tt,
+                                    (
+                                      record {
+                                        pos = 32;
+                                        ty = Syntax.tyRef
+                                            Syntax.erased
+                                            Syntax.mut
+                                            (Syntax.tyInt Syntax.w8);
+                                        ref = λ x. x;
+                                      },
+                                      (
+                                        record {
+                                          pos = 34;
+                                          ty = Syntax.tyRef
+                                              Syntax.erased
+                                              Syntax.mut
+                                              (Syntax.tyInt Syntax.w8);
+                                          ref = λ x. x;
+                                        },
+                                        (
+                                          record {
+                                            pos = 36;
+                                            ty = Syntax.tyRef
+                                                Syntax.erased
+                                                Syntax.mut
+                                                (Syntax.tyInt Syntax.w8);
+                                            ref = λ x. x;
+                                          },
+                                          (
+                                            record {
+                                              pos = 38;
+                                              ty = Syntax.tyRef
+                                                  Syntax.erased
+                                                  Syntax.mut
+                                                  (Syntax.tyInt Syntax.w8);
+                                              ref = λ x. x;
+                                            },
+                                            (
+                                              record {
+                                                pos = 40;
+                                                ty = Syntax.tyRef
+                                                    Syntax.erased
+                                                    Syntax.mut
+                                                    (Syntax.tyInt Syntax.w8);
+                                                ref = λ x. x;
+                                              },
+                                              tt,
+                                            ),
+                                          ),
+                                        ),
+                                      ),
+                                    ),
                                   ),
                                 ),
                               ),
                             ),
                           ),
-                        ),
-                      ),
+                        ) (m46 record {
+                          before = record {
+                            before = record {
+                              before = c .before;
+                              rebuild-with-arg6 = c .rebuild-with-arg6;
+                            };
+                            rebuild-with-arg7 = record { given = g };
+                          };
+                          rebuild-with-arg8 = record { given = g' };
+                        } g'') g'3;
+                      },
                     ),
                   ),
                 ),
-              )
-                  (m52 record { before = c .before; rebuild-with-arg8 = c .rebuild-with-arg8 } g)
-                  g';
-            },
+              ),
+            ),
           ),
         )
 
-        lay2 :
-            (c : After-fill) → at75 (W0
+        lay1 :
+            (c : After-place-lines) → at82 (W0
             (c .before .before .before .before .before .before .before .before .before .before
-            .before .before .before .before .before .before .before .before .before .before .before
-            .before .before .κs)
+            .before .before .before .before .before .κs)
             (c .before .before .before .before .before .before .before .before .before .before
-            .before .before .before .before .before .before .before .before .before .before .before
-            .before .before .args)) (m30 (c .before) (After-fill·gave c))
-        lay2 = λ c. (
+            .before .before .before .before .before .args)) (m21 (c .before)
+            (After-place-lines·gave c))
+        lay1 = λ c. (
           Path'.refl,
           λ g. λ g'. (
             Path'.refl,
-            λ g''. (
+            λ g''. λ g'3. (
               Path'.refl,
-              λ g'3. (
+              λ g'4. λ g'5. (
                 Path'.refl,
-                λ g'4. (
+                λ g'6. λ g'7. (
                   Path'.refl,
-                  (
-                    slice-relend-prefix-rebuild-with record {
-                      before = record {
-                        before = record {
-                          before = record {
-                            before = record {
-                              before = record { before = c .before; fill = c .fill };
-                              recs = record { given = g };
-                            };
-                            rebuild-with-arg = record { given = g' };
-                          };
-                          rebuild-with-arg2 = record { given = g'' };
-                        };
-                        rebuild-with-arg3 = record { given = g'3 };
-                      };
-                      rebuild-with-arg4 = record { given = g'4 };
-                    },
-                    λ g'5. (
-                      Relend.count-is
-                          T64
-                          34
-                          35
-                          (λ x. x)
-                          (λ u. u .1 .1 .1 .1 .1 .1 .1 .1 .1 .1 .1 .1 .1 .0)
-                          (m43 record {
+                  λ g'8. (
+                    Path'.refl,
+                    λ g'9. (
+                      Path'.refl,
+                      λ g'10. (
+                        Path'.refl,
+                        (
+                          slice-relend-prefix-rebuild-with record {
                             before = record {
                               before = record {
                                 before = record {
-                                  before = record {
-                                    before = record { before = c .before; fill = c .fill };
-                                    recs = record { given = g };
-                                  };
-                                  rebuild-with-arg = record { given = g' };
-                                };
-                                rebuild-with-arg2 = record { given = g'' };
-                              };
-                              rebuild-with-arg3 = record { given = g'3 };
-                            };
-                            rebuild-with-arg4 = record { given = g'4 };
-                          } g'5)
-                          (slice-aggregate-rebuild-with record {
-                            before = record {
-                              before = record {
-                                before = record {
-                                  before = record {
-                                    before = record {
-                                      before = record { before = c .before; fill = c .fill };
-                                      recs = record { given = g };
-                                    };
-                                    rebuild-with-arg = record { given = g' };
-                                  };
-                                  rebuild-with-arg2 = record { given = g'' };
-                                };
-                                rebuild-with-arg3 = record { given = g'3 };
-                              };
-                              rebuild-with-arg4 = record { given = g'4 };
-                            };
-                            rebuild-with-arg5 = record { given = g'5 };
-                          }),
-                      (
-                        slice-relend-prefix-rebuild-with-2 record {
-                          before = record {
-                            before = record {
-                              before = record {
-                                before = record {
-                                  before = record {
-                                    before = record { before = c .before; fill = c .fill };
-                                    recs = record { given = g };
-                                  };
-                                  rebuild-with-arg = record { given = g' };
-                                };
-                                rebuild-with-arg2 = record { given = g'' };
-                              };
-                              rebuild-with-arg3 = record { given = g'3 };
-                            };
-                            rebuild-with-arg4 = record { given = g'4 };
-                          };
-                          rebuild-with-arg5 = record { given = g'5 };
-                        },
-                        λ g'6. (
-                          Relend.count-is
-                              T67
-                              36
-                              37
-                              (λ x. x)
-                              (λ u. u .1 .1 .1 .1 .1 .1 .1 .1 .1 .1 .1 .1 .0)
-                              (m45 record {
-                                before = record {
-                                  before = record {
-                                    before = record {
-                                      before = record {
-                                        before = record {
-                                          before = record { before = c .before; fill = c .fill };
-                                          recs = record { given = g };
-                                        };
-                                        rebuild-with-arg = record { given = g' };
-                                      };
-                                      rebuild-with-arg2 = record { given = g'' };
-                                    };
-                                    rebuild-with-arg3 = record { given = g'3 };
-                                  };
-                                  rebuild-with-arg4 = record { given = g'4 };
-                                };
-                                rebuild-with-arg5 = record { given = g'5 };
-                              } g'6)
-                              (slice-aggregate-rebuild-with-2 record {
-                                before = record {
-                                  before = record {
-                                    before = record {
-                                      before = record {
-                                        before = record {
-                                          before = record {
-                                            before = record {
-                                              before = c .before;
-                                              fill = c .fill;
-                                            };
-                                            recs = record { given = g };
-                                          };
-                                          rebuild-with-arg = record { given = g' };
-                                        };
-                                        rebuild-with-arg2 = record { given = g'' };
-                                      };
-                                      rebuild-with-arg3 = record { given = g'3 };
-                                    };
-                                    rebuild-with-arg4 = record { given = g'4 };
-                                  };
-                                  rebuild-with-arg5 = record { given = g'5 };
-                                };
-                                rebuild-with-arg6 = record { given = g'6 };
-                              }),
-                          (
-                            slice-relend-prefix-rebuild-with-3 record {
-                              before = record {
-                                before = record {
-                                  before = record {
-                                    before = record {
-                                      before = record {
-                                        before = record {
-                                          before = record { before = c .before; fill = c .fill };
-                                          recs = record { given = g };
-                                        };
-                                        rebuild-with-arg = record { given = g' };
-                                      };
-                                      rebuild-with-arg2 = record { given = g'' };
-                                    };
-                                    rebuild-with-arg3 = record { given = g'3 };
-                                  };
-                                  rebuild-with-arg4 = record { given = g'4 };
-                                };
-                                rebuild-with-arg5 = record { given = g'5 };
-                              };
-                              rebuild-with-arg6 = record { given = g'6 };
-                            },
-                            λ g'7. (
-                              Relend.count-is
-                                  T70
-                                  38
-                                  39
-                                  (λ x. x)
-                                  (λ u. u .1 .1 .1 .1 .1 .1 .1 .1 .1 .1 .1 .1 .0)
-                                  (m47 record {
-                                    before = record {
-                                      before = record {
-                                        before = record {
-                                          before = record {
-                                            before = record {
-                                              before = record {
-                                                before = record {
-                                                  before = c .before;
-                                                  fill = c .fill;
-                                                };
-                                                recs = record { given = g };
-                                              };
-                                              rebuild-with-arg = record { given = g' };
-                                            };
-                                            rebuild-with-arg2 = record { given = g'' };
-                                          };
-                                          rebuild-with-arg3 = record { given = g'3 };
-                                        };
-                                        rebuild-with-arg4 = record { given = g'4 };
-                                      };
-                                      rebuild-with-arg5 = record { given = g'5 };
-                                    };
-                                    rebuild-with-arg6 = record { given = g'6 };
-                                  } g'7)
-                                  (slice-aggregate-rebuild-with-3 record {
-                                    before = record {
-                                      before = record {
-                                        before = record {
-                                          before = record {
-                                            before = record {
-                                              before = record {
-                                                before = record {
-                                                  before = record {
-                                                    before = c .before;
-                                                    fill = c .fill;
-                                                  };
-                                                  recs = record { given = g };
-                                                };
-                                                rebuild-with-arg = record { given = g' };
-                                              };
-                                              rebuild-with-arg2 = record { given = g'' };
-                                            };
-                                            rebuild-with-arg3 = record { given = g'3 };
-                                          };
-                                          rebuild-with-arg4 = record { given = g'4 };
-                                        };
-                                        rebuild-with-arg5 = record { given = g'5 };
-                                      };
-                                      rebuild-with-arg6 = record { given = g'6 };
-                                    };
-                                    rebuild-with-arg7 = record { given = g'7 };
-                                  }),
-                              (
-                                slice-relend-prefix-rebuild-with-4 record {
                                   before = record {
                                     before = record {
                                       before = record {
@@ -27292,32 +24985,41 @@ module _ (claims· : Claims) where
                                               before = record {
                                                 before = record {
                                                   before = c .before;
-                                                  fill = c .fill;
+                                                  place-lines = c .place-lines;
                                                 };
-                                                recs = record { given = g };
+                                                blocks2 = record { given = g };
                                               };
-                                              rebuild-with-arg = record { given = g' };
+                                              slice-known10 = record { given = g' };
                                             };
-                                            rebuild-with-arg2 = record { given = g'' };
+                                            starts = record { given = g'' };
                                           };
-                                          rebuild-with-arg3 = record { given = g'3 };
+                                          slice-known11 = record { given = g'3 };
                                         };
-                                        rebuild-with-arg4 = record { given = g'4 };
+                                        up = record { given = g'4 };
                                       };
-                                      rebuild-with-arg5 = record { given = g'5 };
+                                      slice-known12 = record { given = g'5 };
                                     };
-                                    rebuild-with-arg6 = record { given = g'6 };
+                                    recs = record { given = g'6 };
                                   };
-                                  rebuild-with-arg7 = record { given = g'7 };
-                                },
-                                λ g'8. (
-                                  Relend.count-is
-                                      T73
-                                      40
-                                      41
-                                      (λ x. x)
-                                      (λ u. u .1 .1 .1 .1 .1 .1 .1 .1 .1 .1 .1 .1 .0)
-                                      (m49 record {
+                                  rebuild-with-arg = record { given = g'7 };
+                                };
+                                rebuild-with-arg2 = record { given = g'8 };
+                              };
+                              rebuild-with-arg3 = record { given = g'9 };
+                            };
+                            rebuild-with-arg4 = record { given = g'10 };
+                          },
+                          λ g'11. (
+                            Relend.count-is
+                                T55
+                                31
+                                32
+                                (λ x. x)
+                                (λ u. u .1 .1 .1 .1 .1 .1 .1 .1 .1 .1 .1 .1 .1 .0)
+                                (m37 record {
+                                  before = record {
+                                    before = record {
+                                      before = record {
                                         before = record {
                                           before = record {
                                             before = record {
@@ -27327,25 +25029,34 @@ module _ (claims· : Claims) where
                                                     before = record {
                                                       before = record {
                                                         before = c .before;
-                                                        fill = c .fill;
+                                                        place-lines = c .place-lines;
                                                       };
-                                                      recs = record { given = g };
+                                                      blocks2 = record { given = g };
                                                     };
-                                                    rebuild-with-arg = record { given = g' };
+                                                    slice-known10 = record { given = g' };
                                                   };
-                                                  rebuild-with-arg2 = record { given = g'' };
+                                                  starts = record { given = g'' };
                                                 };
-                                                rebuild-with-arg3 = record { given = g'3 };
+                                                slice-known11 = record { given = g'3 };
                                               };
-                                              rebuild-with-arg4 = record { given = g'4 };
+                                              up = record { given = g'4 };
                                             };
-                                            rebuild-with-arg5 = record { given = g'5 };
+                                            slice-known12 = record { given = g'5 };
                                           };
-                                          rebuild-with-arg6 = record { given = g'6 };
+                                          recs = record { given = g'6 };
                                         };
-                                        rebuild-with-arg7 = record { given = g'7 };
-                                      } g'8)
-                                      (slice-aggregate-rebuild-with-4 record {
+                                        rebuild-with-arg = record { given = g'7 };
+                                      };
+                                      rebuild-with-arg2 = record { given = g'8 };
+                                    };
+                                    rebuild-with-arg3 = record { given = g'9 };
+                                  };
+                                  rebuild-with-arg4 = record { given = g'10 };
+                                } g'11)
+                                (slice-aggregate-rebuild-with record {
+                                  before = record {
+                                    before = record {
+                                      before = record {
                                         before = record {
                                           before = record {
                                             before = record {
@@ -27356,27 +25067,36 @@ module _ (claims· : Claims) where
                                                       before = record {
                                                         before = record {
                                                           before = c .before;
-                                                          fill = c .fill;
+                                                          place-lines = c .place-lines;
                                                         };
-                                                        recs = record { given = g };
+                                                        blocks2 = record { given = g };
                                                       };
-                                                      rebuild-with-arg = record { given = g' };
+                                                      slice-known10 = record { given = g' };
                                                     };
-                                                    rebuild-with-arg2 = record { given = g'' };
+                                                    starts = record { given = g'' };
                                                   };
-                                                  rebuild-with-arg3 = record { given = g'3 };
+                                                  slice-known11 = record { given = g'3 };
                                                 };
-                                                rebuild-with-arg4 = record { given = g'4 };
+                                                up = record { given = g'4 };
                                               };
-                                              rebuild-with-arg5 = record { given = g'5 };
+                                              slice-known12 = record { given = g'5 };
                                             };
-                                            rebuild-with-arg6 = record { given = g'6 };
+                                            recs = record { given = g'6 };
                                           };
-                                          rebuild-with-arg7 = record { given = g'7 };
+                                          rebuild-with-arg = record { given = g'7 };
                                         };
-                                        rebuild-with-arg8 = record { given = g'8 };
-                                      }),
-                                  lay3 record {
+                                        rebuild-with-arg2 = record { given = g'8 };
+                                      };
+                                      rebuild-with-arg3 = record { given = g'9 };
+                                    };
+                                    rebuild-with-arg4 = record { given = g'10 };
+                                  };
+                                  rebuild-with-arg5 = record { given = g'11 };
+                                }),
+                            (
+                              slice-relend-prefix-rebuild-with-2 record {
+                                before = record {
+                                  before = record {
                                     before = record {
                                       before = record {
                                         before = record {
@@ -27386,29 +25106,77 @@ module _ (claims· : Claims) where
                                                 before = record {
                                                   before = record {
                                                     before = record {
-                                                      before = c .before;
-                                                      fill = c .fill;
+                                                      before = record {
+                                                        before = c .before;
+                                                        place-lines = c .place-lines;
+                                                      };
+                                                      blocks2 = record { given = g };
                                                     };
-                                                    recs = record { given = g };
+                                                    slice-known10 = record { given = g' };
                                                   };
-                                                  rebuild-with-arg = record { given = g' };
+                                                  starts = record { given = g'' };
                                                 };
-                                                rebuild-with-arg2 = record { given = g'' };
+                                                slice-known11 = record { given = g'3 };
                                               };
-                                              rebuild-with-arg3 = record { given = g'3 };
+                                              up = record { given = g'4 };
                                             };
-                                            rebuild-with-arg4 = record { given = g'4 };
+                                            slice-known12 = record { given = g'5 };
                                           };
-                                          rebuild-with-arg5 = record { given = g'5 };
+                                          recs = record { given = g'6 };
                                         };
-                                        rebuild-with-arg6 = record { given = g'6 };
+                                        rebuild-with-arg = record { given = g'7 };
                                       };
-                                      rebuild-with-arg7 = record { given = g'7 };
+                                      rebuild-with-arg2 = record { given = g'8 };
                                     };
-                                    rebuild-with-arg8 = record { given = g'8 };
-                                  },
-                                ),
-                              ),
+                                    rebuild-with-arg3 = record { given = g'9 };
+                                  };
+                                  rebuild-with-arg4 = record { given = g'10 };
+                                };
+                                rebuild-with-arg5 = record { given = g'11 };
+                              },
+                              λ g'12. lay2 record {
+                                before = record {
+                                  before = record {
+                                    before = record {
+                                      before = record {
+                                        before = record {
+                                          before = record {
+                                            before = record {
+                                              before = record {
+                                                before = record {
+                                                  before = record {
+                                                    before = record {
+                                                      before = record {
+                                                        before = record {
+                                                          before = c .before;
+                                                          place-lines = c .place-lines;
+                                                        };
+                                                        blocks2 = record { given = g };
+                                                      };
+                                                      slice-known10 = record { given = g' };
+                                                    };
+                                                    starts = record { given = g'' };
+                                                  };
+                                                  slice-known11 = record { given = g'3 };
+                                                };
+                                                up = record { given = g'4 };
+                                              };
+                                              slice-known12 = record { given = g'5 };
+                                            };
+                                            recs = record { given = g'6 };
+                                          };
+                                          rebuild-with-arg = record { given = g'7 };
+                                        };
+                                        rebuild-with-arg2 = record { given = g'8 };
+                                      };
+                                      rebuild-with-arg3 = record { given = g'9 };
+                                    };
+                                    rebuild-with-arg4 = record { given = g'10 };
+                                  };
+                                  rebuild-with-arg5 = record { given = g'11 };
+                                };
+                                rebuild-with-arg6 = record { given = g'12 };
+                              },
                             ),
                           ),
                         ),
@@ -27421,138 +25189,7 @@ module _ (claims· : Claims) where
           ),
         )
 
-        lay1 :
-            (c : After-place-lines) → at94 (W0
-            (c .before .before .before .before .before .before .before .before .before .before
-            .before .before .before .before .κs)
-            (c .before .before .before .before .before .before .before .before .before .before
-            .before .before .before .before .args)) (m19 (c .before) (After-place-lines·gave c))
-        lay1 = λ c. (
-          Path'.refl,
-          λ g. λ g'. (
-            Path'.refl,
-            λ g''. λ g'3. (
-              Path'.refl,
-              λ g'4. λ g'5. λ g'6. (
-                Path'.refl,
-                λ g'7. (
-                  Path'.refl,
-                  (
-                    fill-requires record {
-                      before = record {
-                        before = record {
-                          before = record {
-                            before = record {
-                              before = record {
-                                before = record {
-                                  before = record {
-                                    before = record {
-                                      before = c .before;
-                                      place-lines = c .place-lines;
-                                    };
-                                    blocks2 = record { given = g };
-                                  };
-                                  slice-known10 = record { given = g' };
-                                };
-                                starts = record { given = g'' };
-                              };
-                              slice-known11 = record { given = g'3 };
-                            };
-                            up = record { given = g'4 };
-                          };
-                          slice-known12 = record { given = g'5 };
-                        };
-                        fill-arg = record { given = g'6 };
-                      };
-                      fill-arg2 = record { given = g'7 };
-                    },
-                    λ g'8. lay2 record {
-                      before = record {
-                        before = record {
-                          before = record {
-                            before = record {
-                              before = record {
-                                before = record {
-                                  before = record {
-                                    before = record {
-                                      before = record {
-                                        before = c .before;
-                                        place-lines = c .place-lines;
-                                      };
-                                      blocks2 = record { given = g };
-                                    };
-                                    slice-known10 = record { given = g' };
-                                  };
-                                  starts = record { given = g'' };
-                                };
-                                slice-known11 = record { given = g'3 };
-                              };
-                              up = record { given = g'4 };
-                            };
-                            slice-known12 = record { given = g'5 };
-                          };
-                          fill-arg = record { given = g'6 };
-                        };
-                        fill-arg2 = record { given = g'7 };
-                      };
-                      fill = Called.called ps·1 r·1 (claims· .3) T41 (
-                        record {
-                          pos = 1;
-                          ty = Syntax.tyRef (Syntax.named 0) Syntax.imm (Syntax.tyInt Syntax.w8);
-                          ref = λ x. x;
-                        },
-                        (
-                          record {
-                            pos = 23;
-                            ty = Syntax.tyRef Syntax.erased Syntax.imm (Syntax.tyInt Syntax.w64);
-                            ref = λ x. x;
-                          },
-                          (
-                            record {
-                              pos = 25;
-                              ty = Syntax.tyRef
-                                  Syntax.erased
-                                  Syntax.mut
-                                  Elem.ty;
-                              ref = λ x. x;
-                            },
-                            tt,
-                          ),
-                        ),
-                      ) (m29 record {
-                        before = record {
-                          before = record {
-                            before = record {
-                              before = record {
-                                before = record {
-                                  before = record {
-                                    before = record {
-                                      before = c .before;
-                                      place-lines = c .place-lines;
-                                    };
-                                    blocks2 = record { given = g };
-                                  };
-                                  slice-known10 = record { given = g' };
-                                };
-                                starts = record { given = g'' };
-                              };
-                              slice-known11 = record { given = g'3 };
-                            };
-                            up = record { given = g'4 };
-                          };
-                          slice-known12 = record { given = g'5 };
-                        };
-                        fill-arg = record { given = g'6 };
-                      } g'7) g'8;
-                    },
-                  ),
-                ),
-              ),
-            ),
-          ),
-        )
-
-        pub laid : (c : Start) → at116 (W0 (c .κs) (c .args)) (m0 (c .κs) (c .args))
+        pub laid : (c : Start) → at107 (W0 (c .κs) (c .args)) (m0 (c .κs) (c .args))
         laid = λ c. λ g. λ g'. λ g''. λ g'3. λ g'4. λ g'5. λ g'6. λ g'7. λ g'8. λ g'9. (
           add-h record {
             before = record {
@@ -27591,49 +25228,10 @@ module _ (claims· : Claims) where
               Path'.refl,
               λ g'12. (
                 Path'.refl,
-                (
-                  place-lines-requires record {
-                    before = record {
-                      before = record {
-                        before = record {
-                          before = record {
-                            before = record {
-                              before = record {
-                                before = record {
-                                  before = record {
-                                    before = record {
-                                      before = record {
-                                        before = record {
-                                          before = record {
-                                            before = c;
-                                            shared-slice-known = record { given = g };
-                                          };
-                                          slice-known = record { given = g' };
-                                        };
-                                        slice-known2 = record { given = g'' };
-                                      };
-                                      slice-known3 = record { given = g'3 };
-                                    };
-                                    slice-known4 = record { given = g'4 };
-                                  };
-                                  slice-known5 = record { given = g'5 };
-                                };
-                                slice-known6 = record { given = g'6 };
-                              };
-                              slice-known7 = record { given = g'7 };
-                            };
-                            slice-known8 = record { given = g'8 };
-                          };
-                          slice-known9 = record { given = g'9 };
-                        };
-                        place-lines-arg = record { given = g'10 };
-                      };
-                      place-lines-arg2 = record { given = g'11 };
-                    };
-                    place-lines-arg3 = record { given = g'12 };
-                  },
-                  λ g'13. lay1 record {
-                    before = record {
+                λ g'13. (
+                  Path'.refl,
+                  (
+                    place-lines-requires record {
                       before = record {
                         before = record {
                           before = record {
@@ -27646,62 +25244,37 @@ module _ (claims· : Claims) where
                                         before = record {
                                           before = record {
                                             before = record {
-                                              before = c;
-                                              shared-slice-known = record { given = g };
+                                              before = record {
+                                                before = c;
+                                                shared-slice-known = record { given = g };
+                                              };
+                                              slice-known = record { given = g' };
                                             };
-                                            slice-known = record { given = g' };
+                                            slice-known2 = record { given = g'' };
                                           };
-                                          slice-known2 = record { given = g'' };
+                                          slice-known3 = record { given = g'3 };
                                         };
-                                        slice-known3 = record { given = g'3 };
+                                        slice-known4 = record { given = g'4 };
                                       };
-                                      slice-known4 = record { given = g'4 };
+                                      slice-known5 = record { given = g'5 };
                                     };
-                                    slice-known5 = record { given = g'5 };
+                                    slice-known6 = record { given = g'6 };
                                   };
-                                  slice-known6 = record { given = g'6 };
+                                  slice-known7 = record { given = g'7 };
                                 };
-                                slice-known7 = record { given = g'7 };
+                                slice-known8 = record { given = g'8 };
                               };
-                              slice-known8 = record { given = g'8 };
+                              slice-known9 = record { given = g'9 };
                             };
-                            slice-known9 = record { given = g'9 };
+                            place-lines-arg = record { given = g'10 };
                           };
-                          place-lines-arg = record { given = g'10 };
+                          place-lines-arg2 = record { given = g'11 };
                         };
-                        place-lines-arg2 = record { given = g'11 };
+                        place-lines-arg3 = record { given = g'12 };
                       };
-                      place-lines-arg3 = record { given = g'12 };
-                    };
-                    place-lines = Called.called ps·0 r·0 (claims· .1) T22 (
-                      record {
-                        pos = 1;
-                        ty = Syntax.tyRef (Syntax.named 0) Syntax.imm (Syntax.tyInt Syntax.w8);
-                        ref = λ x. x;
-                      },
-                      (
-                        record {
-                          pos = 16;
-                          ty = Syntax.tyRef Syntax.erased Syntax.mut (Syntax.tyInt Syntax.w64);
-                          ref = λ x. x;
-                        },
-                        (
-                          record {
-                            pos = 18;
-                            ty = Syntax.tyRef Syntax.erased Syntax.mut (Syntax.tyInt Syntax.w8);
-                            ref = λ x. x;
-                          },
-                          (
-                            record {
-                              pos = 20;
-                              ty = Syntax.tyRef Syntax.erased Syntax.mut (Syntax.tyInt Syntax.w32);
-                              ref = λ x. x;
-                            },
-                            tt,
-                          ),
-                        ),
-                      ),
-                    ) (m18 record {
+                      place-lines-arg4 = record { given = g'13 };
+                    },
+                    λ g'14. lay1 record {
                       before = record {
                         before = record {
                           before = record {
@@ -27713,32 +25286,121 @@ module _ (claims· : Claims) where
                                       before = record {
                                         before = record {
                                           before = record {
-                                            before = c;
-                                            shared-slice-known = record { given = g };
+                                            before = record {
+                                              before = record {
+                                                before = record {
+                                                  before = c;
+                                                  shared-slice-known = record { given = g };
+                                                };
+                                                slice-known = record { given = g' };
+                                              };
+                                              slice-known2 = record { given = g'' };
+                                            };
+                                            slice-known3 = record { given = g'3 };
                                           };
-                                          slice-known = record { given = g' };
+                                          slice-known4 = record { given = g'4 };
                                         };
-                                        slice-known2 = record { given = g'' };
+                                        slice-known5 = record { given = g'5 };
                                       };
-                                      slice-known3 = record { given = g'3 };
+                                      slice-known6 = record { given = g'6 };
                                     };
-                                    slice-known4 = record { given = g'4 };
+                                    slice-known7 = record { given = g'7 };
                                   };
-                                  slice-known5 = record { given = g'5 };
+                                  slice-known8 = record { given = g'8 };
                                 };
-                                slice-known6 = record { given = g'6 };
+                                slice-known9 = record { given = g'9 };
                               };
-                              slice-known7 = record { given = g'7 };
+                              place-lines-arg = record { given = g'10 };
                             };
-                            slice-known8 = record { given = g'8 };
+                            place-lines-arg2 = record { given = g'11 };
                           };
-                          slice-known9 = record { given = g'9 };
+                          place-lines-arg3 = record { given = g'12 };
                         };
-                        place-lines-arg = record { given = g'10 };
+                        place-lines-arg4 = record { given = g'13 };
                       };
-                      place-lines-arg2 = record { given = g'11 };
-                    } g'12) g'13;
-                  },
+                      place-lines = Called.called ps·0 r·0 (claims· .1) T25 (
+                        record {
+                          pos = 1;
+                          ty = Syntax.tyRef (Syntax.named 0) Syntax.imm (Syntax.tyInt Syntax.w8);
+                          ref = λ x. x;
+                        },
+                        (
+                          record {
+                            pos = 16;
+                            ty = Syntax.tyRef Syntax.erased Syntax.mut (Syntax.tyInt Syntax.w64);
+                            ref = λ x. x;
+                          },
+                          (
+                            record {
+                              pos = 18;
+                              ty = Syntax.tyRef Syntax.erased Syntax.mut (Syntax.tyInt Syntax.w8);
+                              ref = λ x. x;
+                            },
+                            (
+                              record {
+                                pos = 20;
+                                ty = Syntax.tyRef
+                                    Syntax.erased
+                                    Syntax.mut
+                                    (Syntax.tyInt Syntax.w32);
+                                ref = λ x. x;
+                              },
+                              (
+                                record {
+                                  pos = 22;
+                                  ty = Syntax.tyRef
+                                      Syntax.erased
+                                      Syntax.mut
+                                      Elem.ty;
+                                  ref = λ x. x;
+                                },
+                                tt,
+                              ),
+                            ),
+                          ),
+                        ),
+                      ) (m20 record {
+                        before = record {
+                          before = record {
+                            before = record {
+                              before = record {
+                                before = record {
+                                  before = record {
+                                    before = record {
+                                      before = record {
+                                        before = record {
+                                          before = record {
+                                            before = record {
+                                              before = record {
+                                                before = c;
+                                                shared-slice-known = record { given = g };
+                                              };
+                                              slice-known = record { given = g' };
+                                            };
+                                            slice-known2 = record { given = g'' };
+                                          };
+                                          slice-known3 = record { given = g'3 };
+                                        };
+                                        slice-known4 = record { given = g'4 };
+                                      };
+                                      slice-known5 = record { given = g'5 };
+                                    };
+                                    slice-known6 = record { given = g'6 };
+                                  };
+                                  slice-known7 = record { given = g'7 };
+                                };
+                                slice-known8 = record { given = g'8 };
+                              };
+                              slice-known9 = record { given = g'9 };
+                            };
+                            place-lines-arg = record { given = g'10 };
+                          };
+                          place-lines-arg2 = record { given = g'11 };
+                        };
+                        place-lines-arg3 = record { given = g'12 };
+                      } g'13) g'14;
+                    },
+                  ),
                 ),
               ),
             ),
@@ -27779,24 +25441,23 @@ module _ (claims· : Claims) where
             A
             W
             𝓣
-            4
+            5
             ps·0
             r·0
             (claims· .0)
             (claims· .1)
-            "place::place_lines")
-            (known1 : Plain.Known 𝓤 H A W 𝓣 3 ps·1 r·1 (claims· .2) (claims· .3) "records::fill")
-            (known2 : Plain.Known
+            "records::place_lines")
+            (known1 : Plain.Known
             𝓤
             H
             A
             W
             𝓣
             10
-            ps·2
-            r·2
-            (claims· .4)
-            (claims· .5)
+            ps·1
+            r·1
+            (claims· .2)
+            (claims· .3)
             "calls::rebuild_with") where
           pub spec :
               Statement.Triple
@@ -27818,7 +25479,7 @@ module _ (claims· : Claims) where
               hs
               body
               (λ κs qs bs. Φ)
-              (λ κs qs bs bd. typed κs qs 𝓤 H A W 𝓣 (known0, known1, known2) bs bd)
+              (λ κs qs bs bd. typed κs qs 𝓤 H A W 𝓣 (known0, known1) bs bd)
               Pre·
               Post·
               asked

@@ -9,32 +9,21 @@ use Rattle.calls.proofs.rebuild_calls.Statement
 use Rattle.calls.proofs.rebuild_with.Met
 use Rattle.calls.proofs.Of_rebuild_with.Reads as Reads'
 use Rattle.calls.proofs.rebuild_with.Symbol
-use Rattle.place.proofs.place_lines.Met as Met'
-use Rattle.place.proofs.place_lines.Reads as Reads''
-use Rattle.place.proofs.place_lines.Symbol as Symbol'
-use Rattle.records.proofs.fill.Met as Met''
-use Rattle.records.proofs.Of_fill.Reads as Reads'3
-use Rattle.records.proofs.fill.Symbol as Symbol''
+use Rattle.records.proofs.place_lines.Met as Met'
+use Rattle.records.proofs.Of_place_lines.Reads as Reads''
+use Rattle.records.proofs.place_lines.Symbol as Symbol'
 use borrow.Fn.Run
 use borrow.Fn.Written
 use contract.Running
 
 abbrev pub Start : Type 0
-Start = Lts.Start (
-  Reads''.Asked,
-  Reads''.Learnt,
-  Reads'3.Asked,
-  Reads'3.Learnt,
-  Reads'.Asked,
-  Reads'.Learnt,
-) Reads.Pre Reads.Post
+Start =
+    Lts.Start (Reads''.Asked, Reads''.Learnt, Reads'.Asked, Reads'.Learnt) Reads.Pre Reads.Post
 
 abbrev pub After-shared-slice-known : Type 0
 After-shared-slice-known = Lts.After-shared-slice-known (
   Reads''.Asked,
   Reads''.Learnt,
-  Reads'3.Asked,
-  Reads'3.Learnt,
   Reads'.Asked,
   Reads'.Learnt,
 ) Reads.Pre Reads.Post
@@ -43,8 +32,6 @@ abbrev pub After-slice-known : Type 0
 After-slice-known = Lts.After-slice-known (
   Reads''.Asked,
   Reads''.Learnt,
-  Reads'3.Asked,
-  Reads'3.Learnt,
   Reads'.Asked,
   Reads'.Learnt,
 ) Reads.Pre Reads.Post
@@ -53,8 +40,6 @@ abbrev pub After-slice-known2 : Type 0
 After-slice-known2 = Lts.After-slice-known2 (
   Reads''.Asked,
   Reads''.Learnt,
-  Reads'3.Asked,
-  Reads'3.Learnt,
   Reads'.Asked,
   Reads'.Learnt,
 ) Reads.Pre Reads.Post
@@ -63,8 +48,6 @@ abbrev pub After-slice-known3 : Type 0
 After-slice-known3 = Lts.After-slice-known3 (
   Reads''.Asked,
   Reads''.Learnt,
-  Reads'3.Asked,
-  Reads'3.Learnt,
   Reads'.Asked,
   Reads'.Learnt,
 ) Reads.Pre Reads.Post
@@ -73,8 +56,6 @@ abbrev pub After-slice-known4 : Type 0
 After-slice-known4 = Lts.After-slice-known4 (
   Reads''.Asked,
   Reads''.Learnt,
-  Reads'3.Asked,
-  Reads'3.Learnt,
   Reads'.Asked,
   Reads'.Learnt,
 ) Reads.Pre Reads.Post
@@ -83,8 +64,6 @@ abbrev pub After-slice-known5 : Type 0
 After-slice-known5 = Lts.After-slice-known5 (
   Reads''.Asked,
   Reads''.Learnt,
-  Reads'3.Asked,
-  Reads'3.Learnt,
   Reads'.Asked,
   Reads'.Learnt,
 ) Reads.Pre Reads.Post
@@ -93,8 +72,6 @@ abbrev pub After-slice-known6 : Type 0
 After-slice-known6 = Lts.After-slice-known6 (
   Reads''.Asked,
   Reads''.Learnt,
-  Reads'3.Asked,
-  Reads'3.Learnt,
   Reads'.Asked,
   Reads'.Learnt,
 ) Reads.Pre Reads.Post
@@ -103,8 +80,6 @@ abbrev pub After-slice-known7 : Type 0
 After-slice-known7 = Lts.After-slice-known7 (
   Reads''.Asked,
   Reads''.Learnt,
-  Reads'3.Asked,
-  Reads'3.Learnt,
   Reads'.Asked,
   Reads'.Learnt,
 ) Reads.Pre Reads.Post
@@ -113,8 +88,6 @@ abbrev pub After-slice-known8 : Type 0
 After-slice-known8 = Lts.After-slice-known8 (
   Reads''.Asked,
   Reads''.Learnt,
-  Reads'3.Asked,
-  Reads'3.Learnt,
   Reads'.Asked,
   Reads'.Learnt,
 ) Reads.Pre Reads.Post
@@ -123,8 +96,6 @@ abbrev pub After-slice-known9 : Type 0
 After-slice-known9 = Lts.After-slice-known9 (
   Reads''.Asked,
   Reads''.Learnt,
-  Reads'3.Asked,
-  Reads'3.Learnt,
   Reads'.Asked,
   Reads'.Learnt,
 ) Reads.Pre Reads.Post
@@ -133,8 +104,6 @@ abbrev pub After-place-lines-arg : Type 0
 After-place-lines-arg = Lts.After-place-lines-arg (
   Reads''.Asked,
   Reads''.Learnt,
-  Reads'3.Asked,
-  Reads'3.Learnt,
   Reads'.Asked,
   Reads'.Learnt,
 ) Reads.Pre Reads.Post
@@ -143,8 +112,6 @@ abbrev pub After-place-lines-arg2 : Type 0
 After-place-lines-arg2 = Lts.After-place-lines-arg2 (
   Reads''.Asked,
   Reads''.Learnt,
-  Reads'3.Asked,
-  Reads'3.Learnt,
   Reads'.Asked,
   Reads'.Learnt,
 ) Reads.Pre Reads.Post
@@ -153,8 +120,14 @@ abbrev pub After-place-lines-arg3 : Type 0
 After-place-lines-arg3 = Lts.After-place-lines-arg3 (
   Reads''.Asked,
   Reads''.Learnt,
-  Reads'3.Asked,
-  Reads'3.Learnt,
+  Reads'.Asked,
+  Reads'.Learnt,
+) Reads.Pre Reads.Post
+
+abbrev pub After-place-lines-arg4 : Type 0
+After-place-lines-arg4 = Lts.After-place-lines-arg4 (
+  Reads''.Asked,
+  Reads''.Learnt,
   Reads'.Asked,
   Reads'.Learnt,
 ) Reads.Pre Reads.Post
@@ -163,118 +136,63 @@ abbrev pub After-place-lines : Type 0
 After-place-lines = Lts.After-place-lines (
   Reads''.Asked,
   Reads''.Learnt,
-  Reads'3.Asked,
-  Reads'3.Learnt,
   Reads'.Asked,
   Reads'.Learnt,
 ) Reads.Pre Reads.Post
 
 abbrev pub After-blocks2 : Type 0
-After-blocks2 = Lts.After-blocks2 (
-  Reads''.Asked,
-  Reads''.Learnt,
-  Reads'3.Asked,
-  Reads'3.Learnt,
-  Reads'.Asked,
-  Reads'.Learnt,
-) Reads.Pre Reads.Post
+After-blocks2 =
+    Lts.After-blocks2
+    (Reads''.Asked, Reads''.Learnt, Reads'.Asked, Reads'.Learnt)
+    Reads.Pre
+    Reads.Post
 
 abbrev pub After-slice-known10 : Type 0
 After-slice-known10 = Lts.After-slice-known10 (
   Reads''.Asked,
   Reads''.Learnt,
-  Reads'3.Asked,
-  Reads'3.Learnt,
   Reads'.Asked,
   Reads'.Learnt,
 ) Reads.Pre Reads.Post
 
 abbrev pub After-starts : Type 0
-After-starts = Lts.After-starts (
-  Reads''.Asked,
-  Reads''.Learnt,
-  Reads'3.Asked,
-  Reads'3.Learnt,
-  Reads'.Asked,
-  Reads'.Learnt,
-) Reads.Pre Reads.Post
+After-starts =
+    Lts.After-starts
+    (Reads''.Asked, Reads''.Learnt, Reads'.Asked, Reads'.Learnt)
+    Reads.Pre
+    Reads.Post
 
 abbrev pub After-slice-known11 : Type 0
 After-slice-known11 = Lts.After-slice-known11 (
   Reads''.Asked,
   Reads''.Learnt,
-  Reads'3.Asked,
-  Reads'3.Learnt,
   Reads'.Asked,
   Reads'.Learnt,
 ) Reads.Pre Reads.Post
 
 abbrev pub After-up : Type 0
-After-up = Lts.After-up (
-  Reads''.Asked,
-  Reads''.Learnt,
-  Reads'3.Asked,
-  Reads'3.Learnt,
-  Reads'.Asked,
-  Reads'.Learnt,
-) Reads.Pre Reads.Post
+After-up =
+    Lts.After-up (Reads''.Asked, Reads''.Learnt, Reads'.Asked, Reads'.Learnt) Reads.Pre Reads.Post
 
 abbrev pub After-slice-known12 : Type 0
 After-slice-known12 = Lts.After-slice-known12 (
   Reads''.Asked,
   Reads''.Learnt,
-  Reads'3.Asked,
-  Reads'3.Learnt,
-  Reads'.Asked,
-  Reads'.Learnt,
-) Reads.Pre Reads.Post
-
-abbrev pub After-fill-arg : Type 0
-After-fill-arg = Lts.After-fill-arg (
-  Reads''.Asked,
-  Reads''.Learnt,
-  Reads'3.Asked,
-  Reads'3.Learnt,
-  Reads'.Asked,
-  Reads'.Learnt,
-) Reads.Pre Reads.Post
-
-abbrev pub After-fill-arg2 : Type 0
-After-fill-arg2 = Lts.After-fill-arg2 (
-  Reads''.Asked,
-  Reads''.Learnt,
-  Reads'3.Asked,
-  Reads'3.Learnt,
-  Reads'.Asked,
-  Reads'.Learnt,
-) Reads.Pre Reads.Post
-
-abbrev pub After-fill : Type 0
-After-fill = Lts.After-fill (
-  Reads''.Asked,
-  Reads''.Learnt,
-  Reads'3.Asked,
-  Reads'3.Learnt,
   Reads'.Asked,
   Reads'.Learnt,
 ) Reads.Pre Reads.Post
 
 abbrev pub After-recs : Type 0
-After-recs = Lts.After-recs (
-  Reads''.Asked,
-  Reads''.Learnt,
-  Reads'3.Asked,
-  Reads'3.Learnt,
-  Reads'.Asked,
-  Reads'.Learnt,
-) Reads.Pre Reads.Post
+After-recs =
+    Lts.After-recs
+    (Reads''.Asked, Reads''.Learnt, Reads'.Asked, Reads'.Learnt)
+    Reads.Pre
+    Reads.Post
 
 abbrev pub After-rebuild-with-arg : Type 0
 After-rebuild-with-arg = Lts.After-rebuild-with-arg (
   Reads''.Asked,
   Reads''.Learnt,
-  Reads'3.Asked,
-  Reads'3.Learnt,
   Reads'.Asked,
   Reads'.Learnt,
 ) Reads.Pre Reads.Post
@@ -283,8 +201,6 @@ abbrev pub After-rebuild-with-arg2 : Type 0
 After-rebuild-with-arg2 = Lts.After-rebuild-with-arg2 (
   Reads''.Asked,
   Reads''.Learnt,
-  Reads'3.Asked,
-  Reads'3.Learnt,
   Reads'.Asked,
   Reads'.Learnt,
 ) Reads.Pre Reads.Post
@@ -293,8 +209,6 @@ abbrev pub After-rebuild-with-arg3 : Type 0
 After-rebuild-with-arg3 = Lts.After-rebuild-with-arg3 (
   Reads''.Asked,
   Reads''.Learnt,
-  Reads'3.Asked,
-  Reads'3.Learnt,
   Reads'.Asked,
   Reads'.Learnt,
 ) Reads.Pre Reads.Post
@@ -303,8 +217,6 @@ abbrev pub After-rebuild-with-arg4 : Type 0
 After-rebuild-with-arg4 = Lts.After-rebuild-with-arg4 (
   Reads''.Asked,
   Reads''.Learnt,
-  Reads'3.Asked,
-  Reads'3.Learnt,
   Reads'.Asked,
   Reads'.Learnt,
 ) Reads.Pre Reads.Post
@@ -313,8 +225,6 @@ abbrev pub After-rebuild-with-arg5 : Type 0
 After-rebuild-with-arg5 = Lts.After-rebuild-with-arg5 (
   Reads''.Asked,
   Reads''.Learnt,
-  Reads'3.Asked,
-  Reads'3.Learnt,
   Reads'.Asked,
   Reads'.Learnt,
 ) Reads.Pre Reads.Post
@@ -323,8 +233,6 @@ abbrev pub After-rebuild-with-arg6 : Type 0
 After-rebuild-with-arg6 = Lts.After-rebuild-with-arg6 (
   Reads''.Asked,
   Reads''.Learnt,
-  Reads'3.Asked,
-  Reads'3.Learnt,
   Reads'.Asked,
   Reads'.Learnt,
 ) Reads.Pre Reads.Post
@@ -333,8 +241,6 @@ abbrev pub After-rebuild-with-arg7 : Type 0
 After-rebuild-with-arg7 = Lts.After-rebuild-with-arg7 (
   Reads''.Asked,
   Reads''.Learnt,
-  Reads'3.Asked,
-  Reads'3.Learnt,
   Reads'.Asked,
   Reads'.Learnt,
 ) Reads.Pre Reads.Post
@@ -343,8 +249,6 @@ abbrev pub After-rebuild-with-arg8 : Type 0
 After-rebuild-with-arg8 = Lts.After-rebuild-with-arg8 (
   Reads''.Asked,
   Reads''.Learnt,
-  Reads'3.Asked,
-  Reads'3.Learnt,
   Reads'.Asked,
   Reads'.Learnt,
 ) Reads.Pre Reads.Post
@@ -353,8 +257,6 @@ abbrev pub After-rebuild-with-arg9 : Type 0
 After-rebuild-with-arg9 = Lts.After-rebuild-with-arg9 (
   Reads''.Asked,
   Reads''.Learnt,
-  Reads'3.Asked,
-  Reads'3.Learnt,
   Reads'.Asked,
   Reads'.Learnt,
 ) Reads.Pre Reads.Post
@@ -363,158 +265,111 @@ abbrev pub After-rebuild-with : Type 0
 After-rebuild-with = Lts.After-rebuild-with (
   Reads''.Asked,
   Reads''.Learnt,
-  Reads'3.Asked,
-  Reads'3.Learnt,
   Reads'.Asked,
   Reads'.Learnt,
 ) Reads.Pre Reads.Post
 
 abbrev pub After-owner : Type 0
-After-owner = Lts.After-owner (
-  Reads''.Asked,
-  Reads''.Learnt,
-  Reads'3.Asked,
-  Reads'3.Learnt,
-  Reads'.Asked,
-  Reads'.Learnt,
-) Reads.Pre Reads.Post
+After-owner =
+    Lts.After-owner
+    (Reads''.Asked, Reads''.Learnt, Reads'.Asked, Reads'.Learnt)
+    Reads.Pre
+    Reads.Post
 
 abbrev pub After-slice-known13 : Type 0
 After-slice-known13 = Lts.After-slice-known13 (
   Reads''.Asked,
   Reads''.Learnt,
-  Reads'3.Asked,
-  Reads'3.Learnt,
   Reads'.Asked,
   Reads'.Learnt,
 ) Reads.Pre Reads.Post
 
 abbrev pub After-stack : Type 0
-After-stack = Lts.After-stack (
-  Reads''.Asked,
-  Reads''.Learnt,
-  Reads'3.Asked,
-  Reads'3.Learnt,
-  Reads'.Asked,
-  Reads'.Learnt,
-) Reads.Pre Reads.Post
+After-stack =
+    Lts.After-stack
+    (Reads''.Asked, Reads''.Learnt, Reads'.Asked, Reads'.Learnt)
+    Reads.Pre
+    Reads.Post
 
 abbrev pub After-slice-known14 : Type 0
 After-slice-known14 = Lts.After-slice-known14 (
   Reads''.Asked,
   Reads''.Learnt,
-  Reads'3.Asked,
-  Reads'3.Learnt,
   Reads'.Asked,
   Reads'.Learnt,
 ) Reads.Pre Reads.Post
 
 abbrev pub After-cur : Type 0
-After-cur = Lts.After-cur (
-  Reads''.Asked,
-  Reads''.Learnt,
-  Reads'3.Asked,
-  Reads'3.Learnt,
-  Reads'.Asked,
-  Reads'.Learnt,
-) Reads.Pre Reads.Post
+After-cur =
+    Lts.After-cur
+    (Reads''.Asked, Reads''.Learnt, Reads'.Asked, Reads'.Learnt)
+    Reads.Pre
+    Reads.Post
 
 abbrev pub After-slice-known15 : Type 0
 After-slice-known15 = Lts.After-slice-known15 (
   Reads''.Asked,
   Reads''.Learnt,
-  Reads'3.Asked,
-  Reads'3.Learnt,
   Reads'.Asked,
   Reads'.Learnt,
 ) Reads.Pre Reads.Post
 
 abbrev pub After-next : Type 0
-After-next = Lts.After-next (
-  Reads''.Asked,
-  Reads''.Learnt,
-  Reads'3.Asked,
-  Reads'3.Learnt,
-  Reads'.Asked,
-  Reads'.Learnt,
-) Reads.Pre Reads.Post
+After-next =
+    Lts.After-next
+    (Reads''.Asked, Reads''.Learnt, Reads'.Asked, Reads'.Learnt)
+    Reads.Pre
+    Reads.Post
 
 abbrev pub After-slice-known16 : Type 0
 After-slice-known16 = Lts.After-slice-known16 (
   Reads''.Asked,
   Reads''.Learnt,
-  Reads'3.Asked,
-  Reads'3.Learnt,
   Reads'.Asked,
   Reads'.Learnt,
 ) Reads.Pre Reads.Post
 
 abbrev pub After-clean : Type 0
-After-clean = Lts.After-clean (
-  Reads''.Asked,
-  Reads''.Learnt,
-  Reads'3.Asked,
-  Reads'3.Learnt,
-  Reads'.Asked,
-  Reads'.Learnt,
-) Reads.Pre Reads.Post
+After-clean =
+    Lts.After-clean
+    (Reads''.Asked, Reads''.Learnt, Reads'.Asked, Reads'.Learnt)
+    Reads.Pre
+    Reads.Post
 
 abbrev pub After-slice-known17 : Type 0
 After-slice-known17 = Lts.After-slice-known17 (
   Reads''.Asked,
   Reads''.Learnt,
-  Reads'3.Asked,
-  Reads'3.Learnt,
   Reads'.Asked,
   Reads'.Learnt,
 ) Reads.Pre Reads.Post
 
 abbrev pub After-out : Type 0
-After-out = Lts.After-out (
-  Reads''.Asked,
-  Reads''.Learnt,
-  Reads'3.Asked,
-  Reads'3.Learnt,
-  Reads'.Asked,
-  Reads'.Learnt,
-) Reads.Pre Reads.Post
+After-out =
+    Lts.After-out
+    (Reads''.Asked, Reads''.Learnt, Reads'.Asked, Reads'.Learnt)
+    Reads.Pre
+    Reads.Post
 
 abbrev pub After-slice-known18 : Type 0
 After-slice-known18 = Lts.After-slice-known18 (
   Reads''.Asked,
   Reads''.Learnt,
-  Reads'3.Asked,
-  Reads'3.Learnt,
   Reads'.Asked,
   Reads'.Learnt,
 ) Reads.Pre Reads.Post
 
 abbrev pub Need-add-h : Type 0
-Need-add-h = Lts.Need-add-h (
-  Reads''.Asked,
-  Reads''.Learnt,
-  Reads'3.Asked,
-  Reads'3.Learnt,
-  Reads'.Asked,
-  Reads'.Learnt,
-) Reads.Pre Reads.Post
+Need-add-h =
+    Lts.Need-add-h
+    (Reads''.Asked, Reads''.Learnt, Reads'.Asked, Reads'.Learnt)
+    Reads.Pre
+    Reads.Post
 
 abbrev pub Need-place-lines-requires : Type 0
 Need-place-lines-requires = Lts.Need-place-lines-requires (
   Reads''.Asked,
   Reads''.Learnt,
-  Reads'3.Asked,
-  Reads'3.Learnt,
-  Reads'.Asked,
-  Reads'.Learnt,
-) Reads.Pre Reads.Post
-
-abbrev pub Need-fill-requires : Type 0
-Need-fill-requires = Lts.Need-fill-requires (
-  Reads''.Asked,
-  Reads''.Learnt,
-  Reads'3.Asked,
-  Reads'3.Learnt,
   Reads'.Asked,
   Reads'.Learnt,
 ) Reads.Pre Reads.Post
@@ -523,8 +378,6 @@ abbrev pub Need-slice-relend-prefix-rebuild-with : Type 0
 Need-slice-relend-prefix-rebuild-with = Lts.Need-slice-relend-prefix-rebuild-with (
   Reads''.Asked,
   Reads''.Learnt,
-  Reads'3.Asked,
-  Reads'3.Learnt,
   Reads'.Asked,
   Reads'.Learnt,
 ) Reads.Pre Reads.Post
@@ -533,8 +386,6 @@ abbrev pub Need-slice-aggregate-rebuild-with : Type 0
 Need-slice-aggregate-rebuild-with = Lts.Need-slice-aggregate-rebuild-with (
   Reads''.Asked,
   Reads''.Learnt,
-  Reads'3.Asked,
-  Reads'3.Learnt,
   Reads'.Asked,
   Reads'.Learnt,
 ) Reads.Pre Reads.Post
@@ -543,8 +394,6 @@ abbrev pub Need-slice-relend-prefix-rebuild-with-2 : Type 0
 Need-slice-relend-prefix-rebuild-with-2 = Lts.Need-slice-relend-prefix-rebuild-with-2 (
   Reads''.Asked,
   Reads''.Learnt,
-  Reads'3.Asked,
-  Reads'3.Learnt,
   Reads'.Asked,
   Reads'.Learnt,
 ) Reads.Pre Reads.Post
@@ -553,8 +402,6 @@ abbrev pub Need-slice-aggregate-rebuild-with-2 : Type 0
 Need-slice-aggregate-rebuild-with-2 = Lts.Need-slice-aggregate-rebuild-with-2 (
   Reads''.Asked,
   Reads''.Learnt,
-  Reads'3.Asked,
-  Reads'3.Learnt,
   Reads'.Asked,
   Reads'.Learnt,
 ) Reads.Pre Reads.Post
@@ -563,8 +410,6 @@ abbrev pub Need-slice-relend-prefix-rebuild-with-3 : Type 0
 Need-slice-relend-prefix-rebuild-with-3 = Lts.Need-slice-relend-prefix-rebuild-with-3 (
   Reads''.Asked,
   Reads''.Learnt,
-  Reads'3.Asked,
-  Reads'3.Learnt,
   Reads'.Asked,
   Reads'.Learnt,
 ) Reads.Pre Reads.Post
@@ -573,8 +418,6 @@ abbrev pub Need-slice-aggregate-rebuild-with-3 : Type 0
 Need-slice-aggregate-rebuild-with-3 = Lts.Need-slice-aggregate-rebuild-with-3 (
   Reads''.Asked,
   Reads''.Learnt,
-  Reads'3.Asked,
-  Reads'3.Learnt,
   Reads'.Asked,
   Reads'.Learnt,
 ) Reads.Pre Reads.Post
@@ -583,8 +426,6 @@ abbrev pub Need-slice-relend-prefix-rebuild-with-4 : Type 0
 Need-slice-relend-prefix-rebuild-with-4 = Lts.Need-slice-relend-prefix-rebuild-with-4 (
   Reads''.Asked,
   Reads''.Learnt,
-  Reads'3.Asked,
-  Reads'3.Learnt,
   Reads'.Asked,
   Reads'.Learnt,
 ) Reads.Pre Reads.Post
@@ -593,8 +434,6 @@ abbrev pub Need-slice-aggregate-rebuild-with-4 : Type 0
 Need-slice-aggregate-rebuild-with-4 = Lts.Need-slice-aggregate-rebuild-with-4 (
   Reads''.Asked,
   Reads''.Learnt,
-  Reads'3.Asked,
-  Reads'3.Learnt,
   Reads'.Asked,
   Reads'.Learnt,
 ) Reads.Pre Reads.Post
@@ -603,8 +442,6 @@ abbrev pub Need-rebuild-with-requires : Type 0
 Need-rebuild-with-requires = Lts.Need-rebuild-with-requires (
   Reads''.Asked,
   Reads''.Learnt,
-  Reads'3.Asked,
-  Reads'3.Learnt,
   Reads'.Asked,
   Reads'.Learnt,
 ) Reads.Pre Reads.Post
@@ -613,8 +450,6 @@ abbrev pub Need-same-length : Type 0
 Need-same-length = Lts.Need-same-length (
   Reads''.Asked,
   Reads''.Learnt,
-  Reads'3.Asked,
-  Reads'3.Learnt,
   Reads'.Asked,
   Reads'.Learnt,
 ) Reads.Pre Reads.Post
@@ -623,8 +458,6 @@ abbrev pub Need-same-length-2 : Type 0
 Need-same-length-2 = Lts.Need-same-length-2 (
   Reads''.Asked,
   Reads''.Learnt,
-  Reads'3.Asked,
-  Reads'3.Learnt,
   Reads'.Asked,
   Reads'.Learnt,
 ) Reads.Pre Reads.Post
@@ -633,8 +466,6 @@ abbrev pub Need-same-length-3 : Type 0
 Need-same-length-3 = Lts.Need-same-length-3 (
   Reads''.Asked,
   Reads''.Learnt,
-  Reads'3.Asked,
-  Reads'3.Learnt,
   Reads'.Asked,
   Reads'.Learnt,
 ) Reads.Pre Reads.Post
@@ -643,8 +474,6 @@ abbrev pub Need-same-length-4 : Type 0
 Need-same-length-4 = Lts.Need-same-length-4 (
   Reads''.Asked,
   Reads''.Learnt,
-  Reads'3.Asked,
-  Reads'3.Learnt,
   Reads'.Asked,
   Reads'.Learnt,
 ) Reads.Pre Reads.Post
@@ -653,8 +482,6 @@ abbrev pub Need-same-length-5 : Type 0
 Need-same-length-5 = Lts.Need-same-length-5 (
   Reads''.Asked,
   Reads''.Learnt,
-  Reads'3.Asked,
-  Reads'3.Learnt,
   Reads'.Asked,
   Reads'.Learnt,
 ) Reads.Pre Reads.Post
@@ -663,8 +490,6 @@ abbrev pub Need-same-length-6 : Type 0
 Need-same-length-6 = Lts.Need-same-length-6 (
   Reads''.Asked,
   Reads''.Learnt,
-  Reads'3.Asked,
-  Reads'3.Learnt,
   Reads'.Asked,
   Reads'.Learnt,
 ) Reads.Pre Reads.Post
@@ -673,8 +498,6 @@ abbrev pub Need-same-length-7 : Type 0
 Need-same-length-7 = Lts.Need-same-length-7 (
   Reads''.Asked,
   Reads''.Learnt,
-  Reads'3.Asked,
-  Reads'3.Learnt,
   Reads'.Asked,
   Reads'.Learnt,
 ) Reads.Pre Reads.Post
@@ -683,8 +506,6 @@ abbrev pub Need-same-length-8 : Type 0
 Need-same-length-8 = Lts.Need-same-length-8 (
   Reads''.Asked,
   Reads''.Learnt,
-  Reads'3.Asked,
-  Reads'3.Learnt,
   Reads'.Asked,
   Reads'.Learnt,
 ) Reads.Pre Reads.Post
@@ -693,8 +514,6 @@ abbrev pub Need-same-length-9 : Type 0
 Need-same-length-9 = Lts.Need-same-length-9 (
   Reads''.Asked,
   Reads''.Learnt,
-  Reads'3.Asked,
-  Reads'3.Learnt,
   Reads'.Asked,
   Reads'.Learnt,
 ) Reads.Pre Reads.Post
@@ -703,27 +522,21 @@ abbrev pub Need-same-length-10 : Type 0
 Need-same-length-10 = Lts.Need-same-length-10 (
   Reads''.Asked,
   Reads''.Learnt,
-  Reads'3.Asked,
-  Reads'3.Learnt,
   Reads'.Asked,
   Reads'.Learnt,
 ) Reads.Pre Reads.Post
 
 abbrev pub Need-returns : Type 0
-Need-returns = Lts.Need-returns (
-  Reads''.Asked,
-  Reads''.Learnt,
-  Reads'3.Asked,
-  Reads'3.Learnt,
-  Reads'.Asked,
-  Reads'.Learnt,
-) Reads.Pre Reads.Post
+Need-returns =
+    Lts.Need-returns
+    (Reads''.Asked, Reads''.Learnt, Reads'.Asked, Reads'.Learnt)
+    Reads.Pre
+    Reads.Post
 
 module _ {M : Type 1} where
   pub spec :
       (answer : Need-add-h) →
       (answer : Need-place-lines-requires) →
-      (answer : Need-fill-requires) →
       (answer : Need-slice-relend-prefix-rebuild-with) →
       (answer : Need-slice-aggregate-rebuild-with) →
       (answer : Need-slice-relend-prefix-rebuild-with-2) →
@@ -744,32 +557,28 @@ module _ {M : Type 1} where
       (answer : Need-same-length-9) →
       (answer : Need-same-length-10) →
       (answer : Need-returns) →
-      Lts.Closed (
-        Reads''.Asked,
-        Reads''.Learnt,
-        Reads'3.Asked,
-        Reads'3.Learnt,
-        Reads'.Asked,
-        Reads'.Learnt,
-      ) Reads.Pre Reads.Post M
+      Lts.Closed
+      (Reads''.Asked, Reads''.Learnt, Reads'.Asked, Reads'.Learnt)
+      Reads.Pre
+      Reads.Post
+      M
   spec =
       λ answer answer' answer'' answer'3 answer'4 answer'5 answer'6 answer'7 answer'8 answer'9
       answer'10 answer'11 answer'12 answer'13 answer'14 answer'15 answer'16 answer'17 answer'18
-      answer'19 answer'20 answer'21 answer'22. Lts.spec
-      (Reads''.Asked, Reads''.Learnt, Reads'3.Asked, Reads'3.Learnt, Reads'.Asked, Reads'.Learnt)
-      Reads.Pre Reads.Post answer answer' answer'' answer'3 answer'4 answer'5 answer'6 answer'7
-      answer'8 answer'9 answer'10 answer'11 answer'12 answer'13 answer'14 answer'15 answer'16
-      answer'17 answer'18 answer'19 answer'20 answer'21 answer'22
+      answer'19 answer'20 answer'21. Lts.spec
+      (Reads''.Asked, Reads''.Learnt, Reads'.Asked, Reads'.Learnt) Reads.Pre Reads.Post answer
+      answer' answer'' answer'3 answer'4 answer'5 answer'6 answer'7 answer'8 answer'9 answer'10
+      answer'11 answer'12 answer'13 answer'14 answer'15 answer'16 answer'17 answer'18 answer'19
+      answer'20 answer'21
 
   -- antt refused `close` as it was built: the module's report says why
-  pub close : Lts.Closed (
-    Reads''.Asked,
-    Reads''.Learnt,
-    Reads'3.Asked,
-    Reads'3.Learnt,
-    Reads'.Asked,
-    Reads'.Learnt,
-  ) Reads.Pre Reads.Post M → Statement.statement M
+  pub close :
+      Lts.Closed
+      (Reads''.Asked, Reads''.Learnt, Reads'.Asked, Reads'.Learnt)
+      Reads.Pre
+      Reads.Post
+      M →
+      Statement.statement M
   unfolding Code.routine Running.tablesOf
   close =
       λ closed 𝓤 H 𝓜 𝓖 𝓡. Written.close
@@ -802,15 +611,8 @@ module _ {M : Type 1} where
       Code.env
       Symbol'.name
       Symbol'.routine
-      Code.calls-place·place-lines
+      Code.calls-records·place-lines
       (Met'.met 𝓤 H 𝓜 𝓖 𝓡))
-      (Reads'3.known
-      record { M = M; 𝓤 = 𝓤; H = H; 𝓜 = 𝓜; 𝓖 = 𝓖; 𝓡 = 𝓡 }
-      Code.env
-      Symbol''.name
-      Symbol''.routine
-      Code.calls-records·fill
-      (Met''.met 𝓤 H 𝓜 𝓖 𝓡))
       (Reads'.known
       record { M = M; 𝓤 = 𝓤; H = H; 𝓜 = 𝓜; 𝓖 = 𝓖; 𝓡 = 𝓡 }
       Code.env
