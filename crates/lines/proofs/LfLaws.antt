@@ -280,14 +280,27 @@ pub lacks-with : (b x : ℕ) (xs : List ℕ) (t : Bool) → eqb x b ≡ t → la
 unfolding lacks
 lacks-with b x xs t e = rw e
 
--- the first b is past bytes that lack it
-pub up-skip : (b n : ℕ) (l : List ℕ) → n ≤ length l → lacks b (take n l) ≡ true → upTo b l ≡ n + upTo b (drop n l)
+-- the first b is past bytes that stand before it
+pub up-skip : (b n : ℕ) (l : List ℕ) → n ≤ upTo b l → upTo b l ≡ n + upTo b (drop n l)
 unfolding upTo
-up-skip b zero l h k = omega arith
-up-skip b (suc n) [] h k = absurd (omega arith)
-up-skip b (suc n) (x ∷ xs) h k =
-    let u = lacks-cons b x (take n xs) k in
-    rw (u .0) (let r = up-skip b n xs (omega arith) (u .1) in omega arith)
+up-skip b zero l h = omega arith
+up-skip b (suc n) [] h = absurd (omega arith)
+up-skip b (suc n) (x ∷ xs) h = go (eqb x b) h (up-skip b n xs)
+  where
+    go : (t : Bool) → suc n ≤ cond t 0 (suc (upTo b xs)) → (n ≤ upTo b xs → upTo b xs ≡ n + upTo b (drop n xs)) → cond t 0 (suc (upTo b xs)) ≡ suc n + upTo b (drop n xs)
+    go true k f = absurd (omega arith)
+    go false k f = let r = f (omega arith) in omega arith
+
+-- in the first n bytes
+pub up-front : (b n : ℕ) (l : List ℕ) → upTo b (take n l) ≡ min (upTo b l) n
+unfolding upTo
+up-front b zero l = omega arith
+up-front b (suc n) [] = omega arith
+up-front b (suc n) (x ∷ xs) = go (eqb x b) (up-front b n xs)
+  where
+    go : (t : Bool) → upTo b (take n xs) ≡ min (upTo b xs) n → cond t 0 (suc (upTo b (take n xs))) ≡ min (cond t 0 (suc (upTo b xs))) (suc n)
+    go true h = omega arith
+    go false h = omega arith
 
 -- eight tests at once
 lacks-eight : (b x₀ x₁ x₂ x₃ x₄ x₅ x₆ x₇ : ℕ) →

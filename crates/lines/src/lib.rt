@@ -1,7 +1,8 @@
 // Bytes and parts of them, LF form, writing into a lent buffer, and the first and the last step.
 ghost use mathlib.Core.Path.{_≡_};
 ghost use mathlib.Core.List.{[], _∷_, _++_};
-ghost use Prim.Native.Nat.{ℕ, min, _≤_, _<_, _+_};
+ghost use Prim.Native.Nat.{ℕ, min, _≤_, _<_, _+_, _/_};
+ghost use lib.Count.{trailingZeros};
 ghost use lib.ListN.{getD, take, drop, length, replicate};
 ghost use Rattle.lines.specs.Lf.{part, upTo, lineStart, countOf, word, marks, lacks, prefixed, suffixed, same, holds, endsIn, linesOf, unlines};
 ghost use Rattle.lines.specs.Out.{Wrote};
@@ -101,7 +102,19 @@ fn marks_at(s: &[u8], j: usize, b: u8) -> u64
     (((y & 0x7f7f7f7f7f7f7f7f) + 0x7f7f7f7f7f7f7f7f) | y | 0x7f7f7f7f7f7f7f7f) ^ 0xffffffffffffffff
 }
 
-// The place of the first `b` from `i` on, or the end: by eight bytes, as long as these lack it; the zeros below the first mark say how many bytes stand before it.
+// Marks of the eight bytes at a place that are `b`: the lowest stands at the first of these, and there is none where none is; the zeros below it, eight to a byte, say how many bytes stand before it.
+// (Above the lowest a mark may stand by a borrow.)
+fn low_marks(s: &[u8], j: usize, b: u8) -> u64
+    requires { ⌜ j + 8 ≤ length (now s) ⌝ }
+    ensures { λ r. ⌜ trailingZeros 64 r / 8 ≡ min (upTo b (drop j (now (s .entry)))) 8 ⌝ }
+{
+    let y = word_at(s, j) ^ (wide(b) * 0x0101010101010101);
+    std::num::wrapping_sub_u64(y, 0x0101010101010101)
+        & (y ^ 0xffffffffffffffff)
+        & 0x8080808080808080
+}
+
+// The place of the first `b` from `i` on, or the end: by eight bytes, as long as these lack it; the zeros below the lowest mark say how many bytes stand before it.
 pub fn find_byte(s: &[u8], i: usize, b: u8) -> usize
     ensures { λ r. ⌜ r ≡ i + upTo b (drop i (now (s .entry))) ⌝ }
 {
@@ -111,7 +124,7 @@ pub fn find_byte(s: &[u8], i: usize, b: u8) -> usize
     let n = s.len() - 7;
     let mut j = i;
     while j < n {
-        let t = marks_at(s, j, b);
+        let t = low_marks(s, j, b);
         if t == 0 {
             j += 8;
         } else {

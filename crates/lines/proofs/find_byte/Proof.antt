@@ -3,18 +3,18 @@ use Prim.Native.Nat.{ℕ, _+_, _-_, _/_}
 use native.Mathlib.Omega.{arith}
 use borrow.Author.Needs.{needs}
 use mathlib.Core.Path.{_≡_, refl, sym, ap, _∙_}
-use lib.Count.{trailingZeros, trailing-le}
+use lib.Count.{trailingZeros, trailing-le, trailing-of-zero}
 use lib.ListN.{length, take, drop, length-drop}
 use lib.Seq.{drop-drop}
 use Rattle.lines.specs.Lf.{upTo}
 use Rattle.lines.proofs.LfLaws.{up-skip}
-use Rattle.lines.proofs.Words8.{marks-none, marks-first}
+use Rattle.lines.proofs.Words8.{trailing-lt}
 use Rattle.lines.proofs.find_byte.Statement.{statement}
 use Rattle.lines.proofs.find_byte.Tie as tie
 use Rattle.lines.proofs.find_byte.Reads as reads
 use Rattle.lines.proofs.find_byte.Lts as lts
 use Rattle.lines.proofs.find_one.Reads as find-one-reads
-use Rattle.lines.proofs.marks_at.Reads as marks-at-reads
+use Rattle.lines.proofs.low_marks.Reads as low-marks-reads
 
 abbrev Inv-loop : tie.InvT-loop
 Inv-loop s i b n j₀ j = j + upTo b (drop j s) ≡ i + upTo b (drop i s)
@@ -34,8 +34,8 @@ sub-n c = omega arith
 loop-holds : tie.Need-loop-holds Inv-loop μ-loop
 loop-holds c = refl
 
-marks-at-requires : tie.Need-marks-at-requires Inv-loop μ-loop
-marks-at-requires c κs = omega arith
+low-marks-requires : tie.Need-low-marks-requires Inv-loop μ-loop
+low-marks-requires c κs = omega arith
 
 add-j : tie.Need-add-j Inv-loop μ-loop
 add-j c = omega arith
@@ -47,20 +47,18 @@ loop-again : tie.Need-loop-again Inv-loop μ-loop
 loop-again c =
     let a = c .before .before .before .before .before .before .args in
     let l = c .before .before .before .loop in
-    omega (arith, l .inv, up-skip (a .b) 8 (drop (l .j) (a .s .now)) (omega (arith, length-drop (l .j) (a .s .now))) (marks-none (a .b) (take 8 (drop (l .j) (a .s .now))) (sym (c .before .marks-at .ensures) ∙ c .if2 .taken)), ap (upTo (a .b)) (drop-drop 8 (l .j) (a .s .now)))
+    let z : trailingZeros 64 (c .before .low-marks .result) ≡ 64 = ap (trailingZeros 64) (c .if2 .taken) ∙ trailing-of-zero 64 in
+    omega (arith, l .inv, c .before .low-marks .ensures, up-skip (a .b) 8 (drop (l .j) (a .s .now)) (omega (arith, z, c .before .low-marks .ensures)), ap (upTo (a .b)) (drop-drop 8 (l .j) (a .s .now)))
 
 cast-result : tie.Need-cast-result Inv-loop μ-loop
-cast-result c = omega (arith, trailing-le 64 (c .before .marks-at .result))
+cast-result c = omega (arith, trailing-le 64 (c .before .low-marks .result))
 
 add-result : tie.Need-add-result Inv-loop μ-loop
-add-result c = omega (arith, trailing-le 64 (c .before .marks-at .result))
+add-result c = omega (arith, trailing-le 64 (c .before .low-marks .result))
 
 returns-2 : tie.Need-returns-2 Inv-loop μ-loop
 returns-2 c =
-    let a = c .before .before .before .before .before .before .args in
-    let l = c .before .before .before .loop in
-    let e = c .before .marks-at .ensures in
-    omega (arith, l .inv, ap (λ (t : ℕ). trailingZeros 64 t / 8) e, marks-first (a .b) 8 (drop (l .j) (a .s .now)) (omega (arith, length-drop (l .j) (a .s .now))) (λ z. c .if2 .left (e ∙ z)))
+    omega (arith, c .before .before .before .loop .inv, c .before .low-marks .ensures, trailing-lt 64 (c .before .low-marks .result) (omega arith) (c .if2 .left))
 
 find-one-requires-2 : tie.Need-find-one-requires-2 Inv-loop μ-loop
 find-one-requires-2 c κs = search needs
@@ -78,7 +76,7 @@ find-byte-spec =
     returns
     sub-n
     loop-holds
-    marks-at-requires
+    low-marks-requires
     add-j
     loop-less
     loop-again
