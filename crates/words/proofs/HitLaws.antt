@@ -123,7 +123,7 @@ module _ (p : List ℕ) (some : 0 < length p) (names : allNames p ≡ true) wher
   hits-first x xs i e u q = rw (q, e)
 
   -- where no run stands it is all the same what stands before
-  hits-any : (l : List ℕ) (i : ℕ) → runLen l ≡ 0 → hitsGo l p 0 i true ≡ hitsGo l p 0 i false
+  pub hits-any : (l : List ℕ) (i : ℕ) → runLen l ≡ 0 → hitsGo l p 0 i true ≡ hitsGo l p 0 i false
   unfolding hitsGo upBy
   hits-any [] i h = refl
   hits-any (x ∷ xs) i h = go (isName x) refl h
@@ -171,7 +171,7 @@ module _ (p : List ℕ) (some : 0 < length p) (names : allNames p ≡ true) wher
       walk-run (placeBy f) (λ (e : ℕ). refl) (x ∷ xs) i []
       ∙ ap (λ (l : List ℕ). l ++ walk (placeBy f) (drop k (x ∷ xs)) (i + k) []) (place-run f (i + k) w (omega (arith, run-cons x xs e)) ∙ ap (λ (n : ℕ). cond (f w) (n ∷ []) []) d)
 
-  agree : (n : ℕ) (l : List ℕ) (i : ℕ) → length l ≤ n → hitsGo l p 0 i false ≡ walk (placeBy (λ (r : List ℕ). same r p)) l i []
+  pub agree : (n : ℕ) (l : List ℕ) (i : ℕ) → length l ≤ n → hitsGo l p 0 i false ≡ walk (placeBy (λ (r : List ℕ). same r p)) l i []
   unfolding hitsGo walk
   agree zero [] i h = refl
   agree zero (x ∷ xs) i h = absurd (omega arith)

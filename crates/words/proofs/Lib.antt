@@ -3,3 +3,4 @@ pub mod HitLaws
 pub mod Places
 pub mod Glue
 pub mod Walk
+pub mod Short

@@ -60,6 +60,10 @@ regGap p (x ∷ xs) = cond (eqb x 114 && not p) 0 (suc (regGap (isName x) xs))
 abbrev pub joined : ℕ → ℕ → List ℕ → Bool
 joined i j s = ltb i j && isName (getD s (j - 1) 0)
 
+-- `r` stands before the place j, as a run may begin that begins at i or later, and no name byte stands after the place j
+abbrev pub shortAt : ℕ → ℕ → List ℕ → Bool
+shortAt i j s = (eqb (getD s (j - 1) 0) 114 && not (joined i (j - 1) s)) && not (isName (getD s (j + 1) 0))
+
 -- how long the run at the front is
 abbrev pub runLen : List ℕ → ℕ
 runLen l = upBy (λ (x : ℕ). not (isName x)) l

@@ -1,14 +1,14 @@
 // Words: runs of name bytes, what a text reads, and searching by text.
 ghost use mathlib.Core.Path.{_≡_};
 ghost use mathlib.Core.Bool.{false, cond, not, _&&_, _||_};
-ghost use mathlib.Core.List.{List};
-ghost use Prim.Native.Nat.{ℕ, _+_, _-_, _≤_};
+ghost use mathlib.Core.List.{List, [], _∷_};
+ghost use Prim.Native.Nat.{ℕ, _+_, _-_, _≤_, _<_};
 ghost use lib.Dec.{eqb};
 ghost use lib.ListN.{length, drop, getD};
 ghost use Rattle.lines.specs.Lf.{same, suffixed};
 ghost use Rattle.lines.specs.Out.{Wrote};
 ghost use Rattle.names.specs.Names.{regText, phiText};
-ghost use Rattle.words.specs.Runs.{gapLen, runLen, regGap, joined, readsOf, wordsOf, Next};
+ghost use Rattle.words.specs.Runs.{gapLen, runLen, regGap, joined, shortAt, readsOf, wordsOf, Next};
 ghost use Rattle.words.specs.Hits.{regHit, afterNew, asTarget, glueLeft, glueRight, glued, replacedAt};
 
 // The one place of a search, or not exactly one.
@@ -121,8 +121,37 @@ pub fn count_phi(s: &[u8], phi: names::Phi) -> usize
     n
 }
 
-// The place of the first run from a place on that is a register as it is printed, or the end.
-fn next_reg(s: &[u8], i: usize, reg: names::Register) -> usize
+// Whether `r` and the digit at the place j are a run, where a run may begin at i.
+fn short_at(s: &[u8], i: usize, j: usize) -> bool
+    requires { ⌜ (i < j) × (j < length (now s)) ⌝ }
+    ensures { λ r. ⌜ r ≡ shortAt i j (now (s .entry)) ⌝ }
+{
+    if !begins_reg(s, i, j - 1) {
+        return false;
+    }
+    !text::is_name_byte(lines::byte_at(s, j + 1))
+}
+
+// The place of the first run from a place on that is `r` and the digit d, or the end: by the digit, which is rarer than `r`.
+fn next_short(s: &[u8], i: usize, d: u8) -> usize
+    requires { ⌜ (48 ≤ d) × (d ≤ 57) ⌝ }
+    ensures { λ r. ⌜ Next (λ (w : List ℕ). same w (114 ∷ d ∷ [])) (now (s .entry)) i r ⌝ }
+{
+    if s.len() <= i {
+        return i;
+    }
+    let mut j = lines::find_byte(s, i + 1, d);
+    while j < s.len() {
+        if short_at(s, i, j) {
+            return j - 1;
+        }
+        j = lines::find_byte(s, j + 1, d);
+    }
+    j
+}
+
+// The place of the first run from a place on that is a register as it is printed, or the end: by its `r`.
+fn next_long(s: &[u8], i: usize, reg: names::Register) -> usize
     ensures { λ r. ⌜ Next (λ (w : List ℕ). same w (regText (reg .0))) (now (s .entry)) i r ⌝ }
 {
     let mut j = reg_start(s, i);
@@ -134,6 +163,16 @@ fn next_reg(s: &[u8], i: usize, reg: names::Register) -> usize
         j = reg_start(s, e);
     }
     j
+}
+
+// The place of the first run from a place on that is a register as it is printed, or the end.
+fn next_reg(s: &[u8], i: usize, reg: names::Register) -> usize
+    ensures { λ r. ⌜ Next (λ (w : List ℕ). same w (regText (reg .0))) (now (s .entry)) i r ⌝ }
+{
+    if reg.0 < 10 {
+        return next_short(s, i, reg.0 as u8 + b'0');
+    }
+    next_long(s, i, reg)
 }
 
 // The one place at which a register stands as it is printed, with no name byte on either side.
