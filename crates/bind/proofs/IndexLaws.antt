@@ -4,14 +4,11 @@ use mathlib.Core.Path.{_≡_, refl, sym, ap, _∙_}
 use mathlib.Core.Bool.{Bool, true, false, cond, not, _&&_}
 use mathlib.Core.List.{List, [], _∷_, _++_}
 use native.Mathlib.Omega.{arith}
-use native.Mathlib.Numerals.{add-one}
-use borrow.Author.Tests.{lt-ltb, le-ltb, eq-eqb, ne-eqb}
+use borrow.Author.Tests.{lt-ltb, le-ltb, eq-eqb, ne-eqb, eqb-false}
 use lib.Dec.{eqb, ltb}
-use lib.ListN.{length, take, drop, getD, set, length-set, drop-of-length-le}
-use lib.Seq.{drop-cons}
+use lib.ListN.{length, take, drop, getD, set, length-set}
 use Rattle.lines.specs.Lf.{part, upTo, prefixed, endsIn, linesOf, partsOf}
-use Rattle.lines.proofs.LfLaws.{lines-at, lines-end, parts-at, parts-at-end, part-more, part-none}
-use Rattle.text.specs.Class.{isName}
+use Rattle.lines.proofs.LfLaws.{lines-at, lines-end, parts-at, parts-at-end}
 use Rattle.text.specs.Trim.{fromOf, trimOf}
 use Rattle.names.specs.Names.{regOf}
 use Rattle.names.specs.declared.RegName.{RegName}
@@ -20,8 +17,9 @@ use Rattle.parse.specs.Parse.{bodyOf, isDecl, storeBy, splitStore, storeIn, par
 use Rattle.parse.specs.declared.Store.{Store}
 use Rattle.parse.specs.declared.Line.{Line}
 use Rattle.parse.specs.declared.Line.the-variants as line
-use Rattle.words.specs.Runs.{flush, runsGo, runs}
-use Rattle.words.proofs.Walk.{Walk, walk-start, walk-name, walk-gap, walk-end}
+use Rattle.words.specs.Runs.{flush, runsGo, runs, runLen, regGap}
+use Rattle.words.proofs.Walk.{RegWalk, regs-start, regs-less, regs-on, regs-end}
+use Rattle.names.proofs.Texts.{reg-first}
 use Rattle.decls.specs.Seen.{markName}
 use Rattle.decls.proofs.SeenLaws.{set-past, name-length}
 use Rattle.bind.specs.Bind.{piecesOf}
@@ -114,36 +112,46 @@ unfolding againLines
 agains-length m b [] d u = refl
 agains-length m b (l ∷ ls) d u = agains-length m b ls (seenPieces m (piecesOf l) d) (againPieces m b (piecesOf l) d u) ∙ again-pieces-length m b (piecesOf l) d u
 
--- ---- the loop over a text: the run from a to i is open
+-- ---- the loop over the runs of a text that begin with `r`: it has come to the run at i
 
-pub record ReadInv (b : ℕ) (s u₀ u : List ℕ) (a i : ℕ) : Type 0 where
+pub record ReadInv (b : ℕ) (s u₀ u : List ℕ) (i : ℕ) : Type 0 where
   pub long : length u ≡ length u₀
-  pub walk : Walk (readRuns b) s u₀ u a i
+  pub walk : RegWalk (readRuns b) s u₀ u i
 
-runs-flush : (b : ℕ) (cur : List ℕ) (rs : List (List ℕ)) (u : List ℕ) → readRuns b (flush cur ++ rs) u ≡ readRuns b rs (readName b (regOf cur) u)
-unfolding readRuns regOf
-runs-flush b [] rs u = refl
-runs-flush b (x ∷ cur) rs u = refl
+module _ (b : ℕ) where
+  -- what one run does
+  abbrev readStep : List ℕ → List ℕ → List ℕ
+  readStep r u = readName b (regOf r) u
 
-runs-none : (b : ℕ) (u : List ℕ) → readRuns b [] u ≡ u
-unfolding readRuns
-runs-none b u = refl
+  runs-flush : (cur : List ℕ) (rs : List (List ℕ)) (u : List ℕ) → readRuns b (flush cur ++ rs) u ≡ readRuns b rs (readStep cur u)
+  unfolding readRuns regOf
+  runs-flush [] rs u = refl
+  runs-flush (x ∷ cur) rs u = refl
 
-pub read-start : (b : ℕ) (s u : List ℕ) → ReadInv b s u u 0 0
-read-start b s u = record { long = refl; walk = walk-start (readRuns b) s u }
+  -- one that begins with another byte names no register
+  runs-other : (x : ℕ) (cur u : List ℕ) → eqb x 114 ≡ false → readStep (x ∷ cur) u ≡ u
+  runs-other x cur u e = ap (λ (r : RegName). readName b r u) (reg-first (x ∷ cur) (eqb-false x 114 e))
 
-module _ {b : ℕ} {s u₀ u : List ℕ} {a i : ℕ} (h : ReadInv b s u₀ u a i) where
-  pub read-on : i < length s → isName (getD s i 0) ≡ true → ReadInv b s u₀ u a (i + 1)
-  read-on k e = record { long = h .long; walk = walk-name (h .walk) k e }
+  runs-none : (u : List ℕ) → readRuns b [] u ≡ u
+  unfolding readRuns
+  runs-none u = refl
 
-  pub read-gap : i < length s → isName (getD s i 0) ≡ false → (w u′ : List ℕ) → w ≡ part a i s → u′ ≡ readName b (regOf w) u → ReadInv b s u₀ u′ (i + 1) (i + 1)
-  read-gap k e w u′ p q = record {
-    long = ap length q ∙ read-length b (regOf w) u ∙ h .long;
-    walk = walk-gap (readRuns b) (λ (c x : List ℕ). readName b (regOf c) x) (runs-flush b) (h .walk) k e w p q;
-  }
+  pub read-start : (s u : List ℕ) (i : ℕ) → i ≡ 0 + regGap false (drop 0 s) → ReadInv b s u u i
+  read-start s u i q = record { long = refl; walk = regs-start (readRuns b) readStep runs-flush runs-other s u i q }
 
-  pub read-end : length s ≤ i → (w u′ : List ℕ) → w ≡ part a i s → u′ ≡ readName b (regOf w) u → u′ ≡ readRuns b (runs s) u₀
-  read-end k w u′ p q = walk-end (readRuns b) (λ (c x : List ℕ). readName b (regOf c) x) (runs-flush b) (runs-none b) (h .walk) k w p q
+  module _ {s u₀ u : List ℕ} {i : ℕ} (h : ReadInv b s u₀ u i) where
+    module _ (l : i < length s) (e : ℕ) (p : e ≡ i + runLen (drop i s)) (k : ℕ) (q : k ≡ e + regGap false (drop e s)) where
+      pub read-less : i < k
+      read-less = regs-less (readRuns b) readStep runs-flush runs-other (h .walk) l e p k q
+
+      pub read-on : (w u′ : List ℕ) → w ≡ part i e s → u′ ≡ readStep w u → ReadInv b s u₀ u′ k
+      read-on w u′ y z = record {
+        long = ap length z ∙ read-length b (regOf w) u ∙ h .long;
+        walk = regs-on (readRuns b) readStep runs-flush runs-other (h .walk) l e p k q w y z;
+      }
+
+    pub read-end : length s ≤ i → u ≡ readRuns b (runs s) u₀
+    read-end l = regs-end (readRuns b) readStep runs-flush runs-other (h .walk) runs-none l
 
 -- ---- a line, read once
 

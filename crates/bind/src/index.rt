@@ -41,22 +41,16 @@ fn read_name(t: &[u8], b: usize, first: &mut [usize])
     }
 }
 
-// The same of all registers that a text reads.
+// The same of all registers that a text reads: runs that begin with another byte than `r` name none.
 fn read_runs(s: &[u8], b: usize, first: &mut [usize])
     ensures { λ _. ⌜ now (first .exit) ≡ readRuns b (runs (now (s .entry))) (now (first .entry)) ⌝ }
 {
-    let mut a = 0;
-    let mut i = 0;
+    let mut i = words::reg_start(s, 0);
     while i < s.len() {
-        if text::is_name_byte(s[i]) {
-            i += 1;
-        } else {
-            read_name(lines::cut(s, a, i), b, first);
-            i += 1;
-            a = i;
-        }
+        let e = words::run_end(s, i);
+        read_name(lines::cut(s, i, e), b, first);
+        i = words::reg_start(s, e);
     }
-    read_name(lines::cut(s, a, i), b, first);
 }
 
 // Notes that a line stores a register; `c` is one more than its row.

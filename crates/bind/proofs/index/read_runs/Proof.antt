@@ -1,64 +1,63 @@
 -- `bind::index::read_runs` meets its contract. Assumes nothing.
-use Prim.Native.Nat.{_-_}
-use mathlib.Core.Path.{sym, ap, _∙_}
-use native.Mathlib.Omega.{arith}
 use borrow.Author.Needs.{needs}
+use Prim.Native.Nat.{_-_}
+use native.Mathlib.Omega.{arith}
 use lib.ListN.{length}
-use Rattle.names.specs.Names.{regOf}
-use Rattle.bind.proofs.IndexLaws.{ReadInv, read-length, read-start, read-on, read-gap, read-end}
+use Rattle.bind.proofs.IndexLaws.{ReadInv, read-start, read-less, read-on, read-end}
 use Rattle.bind.proofs.index.read_runs.Statement.{statement}
 use Rattle.bind.proofs.index.read_runs.Tie as tie
+use Rattle.bind.proofs.index.read_runs.Reads as reads
+use Rattle.bind.proofs.index.read_runs.Lts as lts
+use Rattle.bind.proofs.index.read_name.Reads as read-name-reads
+use Rattle.lines.proofs.cut.Reads as cut-reads
+use Rattle.words.proofs.reg_start.Reads as reg-start-reads
+use Rattle.words.proofs.run_end.Reads as run-end-reads
 
 abbrev Inv-loop : tie.InvT-loop
-Inv-loop s b first₀ a₀ i₀ first a i = ReadInv b s first₀ first a i
+Inv-loop s b first₀ i₀ first i = ReadInv b s first₀ first i
 
 abbrev μ-loop : tie.MeasureT-loop
-μ-loop s b first₀ a₀ i₀ first a i = length s - i
+μ-loop s b first₀ i₀ first i = length s - i
 
+-- src/index.rt:48:9
+reg-start-requires : tie.Need-reg-start-requires Inv-loop μ-loop
+reg-start-requires c κs = search needs
+
+-- src/index.rt:49:5
 loop-holds : tie.Need-loop-holds Inv-loop μ-loop
-loop-holds c = let a = c .before .before .args in read-start (a .b) (a .s .now) (a .first .now)
+loop-holds c = let a = c .before .before .before .args in read-start (a .b) (a .s .now) (a .first .now) _ (c .reg-start .ensures)
 
-shared-slice-read-is-name-byte : tie.Need-shared-slice-read-is-name-byte Inv-loop μ-loop
-shared-slice-read-is-name-byte c = search needs
+-- src/index.rt:50:13
+run-end-requires : tie.Need-run-end-requires Inv-loop μ-loop
+run-end-requires c κs = search needs
 
-is-name-byte-requires : tie.Need-is-name-byte-requires Inv-loop μ-loop
-is-name-byte-requires c κs = search needs
-
-add-i : tie.Need-add-i Inv-loop μ-loop
-add-i c = omega arith
-
-loop-less : tie.Need-loop-less Inv-loop μ-loop
-loop-less c = omega arith
-
-loop-again : tie.Need-loop-again Inv-loop μ-loop
-loop-again c = read-on (c .before .before .before .before .loop .inv) (c .before .before .before .loop-test .taken) (sym (c .before .is-name-byte .ensures) ∙ c .if1 .taken)
-
+-- src/index.rt:51:19
 cut-requires : tie.Need-cut-requires Inv-loop μ-loop
 cut-requires c κs = search needs
 
+-- src/index.rt:51:9
 read-name-requires : tie.Need-read-name-requires Inv-loop μ-loop
 read-name-requires c κs = search needs
 
-add-i-2 : tie.Need-add-i-2 Inv-loop μ-loop
-add-i-2 c = omega arith
+-- src/index.rt:52:9
+reg-start-requires-2 : tie.Need-reg-start-requires-2 Inv-loop μ-loop
+reg-start-requires-2 c κs = search needs
 
-loop-less-2 : tie.Need-loop-less-2 Inv-loop μ-loop
-loop-less-2 c = omega arith
+-- src/index.rt:49:5
+loop-less : tie.Need-loop-less Inv-loop μ-loop
+loop-less c = omega (arith, c .before .before .before .before .before .before .before .loop-test .taken, read-less (c .before .before .before .before .before .before .before .before .before .before .before .before .args .b) (c .before .before .before .before .before .before .before .before .loop .inv) (c .before .before .before .before .before .before .before .loop-test .taken) _ (c .before .before .before .before .before .before .run-end .ensures) _ (c .reg-start2 .ensures))
 
-loop-again-2 : tie.Need-loop-again-2 Inv-loop μ-loop
-loop-again-2 c = read-gap (c .before .before .before .before .before .before .before .before .before .loop .inv) (c .before .before .before .before .before .before .before .before .loop-test .taken) (sym (c .before .before .before .before .before .before .is-name-byte .ensures) ∙ c .before .before .before .before .before .if1 .left) (c .before .before .before .before .cut .result .now) _ (c .before .before .before .before .cut .ensures) (c .before .before .read-name .ensures)
+-- src/index.rt:49:5
+loop-again : tie.Need-loop-again Inv-loop μ-loop
+loop-again c = read-on (c .before .before .before .before .before .before .before .before .before .before .before .before .args .b) (c .before .before .before .before .before .before .before .before .loop .inv) (c .before .before .before .before .before .before .before .loop-test .taken) _ (c .before .before .before .before .before .before .run-end .ensures) _ (c .reg-start2 .ensures) (c .before .before .before .before .before .cut .result .now) _ (c .before .before .before .before .before .cut .ensures) (c .before .before .before .read-name .ensures)
 
-cut-requires-2 : tie.Need-cut-requires-2 Inv-loop μ-loop
-cut-requires-2 c κs = search needs
-
-read-name-requires-2 : tie.Need-read-name-requires-2 Inv-loop μ-loop
-read-name-requires-2 c κs = search needs
-
+-- src/index.rt:45:1
 same-length : tie.Need-same-length Inv-loop μ-loop
-same-length c = ap length (c .before .before .read-name2 .ensures) ∙ read-length (c .before .before .before .before .before .before .before .before .before .args .b) (regOf (c .before .before .before .before .cut2 .result .now)) (c .before .before .before .before .before .before .loop .first) ∙ c .before .before .before .before .before .before .loop .inv .long
+same-length c = c .before .loop .inv .long
 
+-- src/index.rt:45:1
 returns : tie.Need-returns Inv-loop μ-loop
-returns c = read-end (c .before .before .before .before .before .before .loop .inv) (c .before .before .before .before .before .loop-test .left) (c .before .before .before .before .cut2 .result .now) _ (c .before .before .before .before .cut2 .ensures) (c .before .before .read-name2 .ensures)
+returns c = read-end (c .before .before .before .before .before .args .b) (c .before .loop .inv) (c .loop-test .left)
 
 pub read-runs-spec : {M : Type 1} → statement M
 read-runs-spec =
@@ -66,18 +65,13 @@ read-runs-spec =
     (tie.spec
     Inv-loop
     μ-loop
+    reg-start-requires
     loop-holds
-    shared-slice-read-is-name-byte
-    is-name-byte-requires
-    add-i
-    loop-less
-    loop-again
+    run-end-requires
     cut-requires
     read-name-requires
-    add-i-2
-    loop-less-2
-    loop-again-2
-    cut-requires-2
-    read-name-requires-2
+    reg-start-requires-2
+    loop-less
+    loop-again
     same-length
     returns)
