@@ -12,6 +12,7 @@ pub mod Tables
 pub mod Walks
 pub mod Nests
 pub mod Quiet
+pub mod Flats
 pub mod Rooms
 pub mod Lengths
 pub mod Examples

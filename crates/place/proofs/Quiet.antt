@@ -14,6 +14,7 @@ use Rattle.lines.proofs.Tests.{no, and-left, and-right}
 use Rattle.lines.proofs.LfLaws.{lines-at, lines-end}
 use Rattle.text.specs.Trim.{fromOf, endWhite, toOf, trimOf}
 use Rattle.text.proofs.Trims.{fromOf-le, back-told}
+use Rattle.place.specs.Paths.{flatEnd}
 use Rattle.place.specs.Loops.{opensLoop, anyLoop, loopsAfter, loopsGo, insideLoop, startsLoop, someLoop, aboveLoop}
 use Rattle.place.specs.Fill.{Filled, flagsOf}
 use Rattle.place.proofs.Fills.{filled-as}
@@ -25,17 +26,17 @@ unfolding startsLoop
 starts-not l e = ap (λ (b : Bool). b && opensLoop (trimOf l)) e
 
 -- a line that is all white space, or empty
-blank-not : (l : List ℕ) → length l ≤ fromOf l → startsLoop l ≡ false
+blank-end : (l : List ℕ) → length l ≤ fromOf l → endsIn 123 (trimOf l) ≡ false
 unfolding trimOf toOf endWhite
-blank-not l h = starts-not l (ap (λ (s : List ℕ). endsIn 123 (take (toOf s) s)) (drop-of-length-le l h))
+blank-end l h = ap (λ (s : List ℕ). endsIn 123 (take (toOf s) s)) (drop-of-length-le l h)
 
 pub empty-not : (l : List ℕ) → length l ≡ 0 → startsLoop l ≡ false
-empty-not l h = blank-not l (omega arith)
+empty-not l h = starts-not l (blank-end l (omega arith))
 
 -- an ASCII byte above the space at its end stays when it is trimmed
-pub low-not : (l : List ℕ) (c : ℕ) → c ≡ getD l (length l - 1) 0 → (ltb 32 c && (ltb c 0x80 && not (eqb c 123))) ≡ true → startsLoop l ≡ false
+pub low-end : (l : List ℕ) (c : ℕ) → c ≡ getD l (length l - 1) 0 → flatEnd c ≡ true → endsIn 123 (trimOf l) ≡ false
 unfolding trimOf toOf
-low-not l c q a = go (ltb (fromOf l) (length l)) refl
+low-end l c q a = go (ltb (fromOf l) (length l)) refl
   where
     u : (ltb c 0x80 && not (eqb c 123)) ≡ true
     u = and-right (ltb 32 c) (ltb c 0x80 && not (eqb c 123)) a
@@ -46,8 +47,8 @@ low-not l c q a = go (ltb (fromOf l) (length l)) refl
     h : c < 0x80
     h = ltb-true c 0x80 (and-left (ltb c 0x80) (not (eqb c 123)) u)
 
-    go : (b : Bool) → ltb (fromOf l) (length l) ≡ b → startsLoop l ≡ false
-    go false e = blank-not l (ltb-false (fromOf l) (length l) e)
+    go : (b : Bool) → ltb (fromOf l) (length l) ≡ b → endsIn 123 (trimOf l) ≡ false
+    go false e = blank-end l (ltb-false (fromOf l) (length l) e)
     go true e =
         let s : List ℕ = drop (fromOf l) l in
         let k : fromOf l < length l = ltb-true (fromOf l) (length l) e in
@@ -56,7 +57,10 @@ low-not l c q a = go (ltb (fromOf l) (length l)) refl
         let v : getD s (length s - 1) 0 ≡ c = getD-drop (fromOf l) l (length s - 1) 0 ∙ ap (λ (i : ℕ). getD l i 0) z ∙ sym q in
         let w : length s ≡ toOf s = back-told s (length s) c (omega arith) refl (sym v ∙ sym (ap (λ (b : Bool). cond b (getD s (length s - 1) 0) 0) (le-leb 1 (length s) (omega arith)))) g h in
         let y : trimOf l ≡ s = ap (λ (i : ℕ). take i s) (sym w) ∙ take-all (length s) s (omega arith) in
-        starts-not l (ap (endsIn 123) y ∙ ap (λ (x : ℕ). eqb x 123) v ∙ not-true (eqb c 123) (and-right (ltb c 0x80) (not (eqb c 123)) u))
+        ap (endsIn 123) y ∙ ap (λ (x : ℕ). eqb x 123) v ∙ not-true (eqb c 123) (and-right (ltb c 0x80) (not (eqb c 123)) u)
+
+pub low-not : (l : List ℕ) (c : ℕ) → c ≡ getD l (length l - 1) 0 → flatEnd c ≡ true → startsLoop l ≡ false
+low-not l c q a = starts-not l (low-end l c q a)
 
 -- ---- lines
 

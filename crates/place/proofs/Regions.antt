@@ -1,17 +1,17 @@
 -- Regions as runs of lines: a region's bytes are its lines, and a header looks at nothing above it. Assumes nothing.
 use Prim.Native.Nat.{ℕ, zero, suc, _+_, _-_, _≤_, _<_, min}
 use mathlib.Core.Path.{_≡_, refl, sym, ap, _∙_}
-use mathlib.Core.Bool.{Bool, true, false, cond, _||_}
+use mathlib.Core.Bool.{Bool, true, false, cond, not, _&&_, _||_}
 use mathlib.Core.List.{List, [], _∷_, _++_}
 use native.Mathlib.Omega.{arith}
-use borrow.Author.Tests.{eqb-true, leb-true, leb-false, ltb-true, ltb-false}
+use borrow.Author.Tests.{ne-eqb, eqb-true, leb-true, leb-false, ltb-true, ltb-false}
 use lib.Dec.{eqb, leb, ltb}
 use lib.ListN.{length, getD, take, drop, length-take, length-drop, drop-of-length-le}
 use lib.Seq.{drop-cons, drop-drop, take-all, take-nil, take-append-add, length-take-le}
-use Rattle.lines.specs.Lf.{part, upTo, linesOf, lacks}
-use Rattle.lines.proofs.Tests.{no, eqb-sym}
+use Rattle.lines.specs.Lf.{part, upTo, linesOf, lacks, prefixed}
+use Rattle.lines.proofs.Tests.{no, or-false, eqb-sym}
 use Rattle.lines.proofs.LfLaws.{upTo-le, lines-first, lines-line, drop-min}
-use Rattle.place.specs.Region.{isHeader, untilHeader, region, regionAt, upHeader, regionLen}
+use Rattle.place.specs.Region.{functionWord, varWord, letWord, constWord, classWord, letPhi, isHeader, untilHeader, region, regionAt, upHeader, regionLen}
 
 -- the bytes of the line that is passed
 skip : (k : ℕ) (l : List ℕ) → upHeader k l ≡ min k (length l) + upHeader 0 (drop k l)
@@ -212,9 +212,29 @@ four false false true d e = no (sym e)
 four false false false true e = no (sym e)
 
 -- a line that begins with none of `f`, `l`, `c` and `v` is no header
-pub no-head : (l : List ℕ) (x : ℕ) → x ≡ getD l 0 0 → eqb x 102 || (eqb x 108 || (eqb x 99 || eqb x 118)) ≡ false → false ≡ isHeader l
+no-head : (l : List ℕ) (x : ℕ) → x ≡ getD l 0 0 → eqb x 102 || (eqb x 108 || (eqb x 99 || eqb x 118)) ≡ false → false ≡ isHeader l
 unfolding isHeader
 no-head [] x q e = refl
 no-head (y ∷ l) x q e =
     let f = four (eqb x 102) (eqb x 108) (eqb x 99) (eqb x 118) e in
     rw (← q, eqb-sym 102 x ∙ f .0, eqb-sym 108 x ∙ f .1 .0, eqb-sym 99 x ∙ f .1 .1 .0, eqb-sym 118 x ∙ f .1 .1 .1)
+
+pub neither-head : (l : List ℕ) (x : ℕ) → x ≡ getD l 0 0 → (x ≡ 102 → ⊥) → eqb x 108 || (eqb x 99 || eqb x 118) ≡ false → false ≡ isHeader l
+neither-head l x q n e = no-head l x q (ap (λ (b : Bool). b || (eqb x 108 || (eqb x 99 || eqb x 118))) (ne-eqb x 102 n) ∙ e)
+
+-- nor is one that begins with a space
+pub space-head : (l : List ℕ) (x : ℕ) → x ≡ getD l 0 0 → x ≡ 32 → false ≡ isHeader l
+space-head l x q e = no-head l x q (ap (λ (y : ℕ). eqb y 102 || (eqb y 108 || (eqb y 99 || eqb y 118))) e)
+
+-- one that begins with `f` is a header where it begins with `function `
+pub f-head : (l : List ℕ) (x : ℕ) → x ≡ getD l 0 0 → x ≡ 102 → prefixed functionWord l ≡ isHeader l
+unfolding isHeader prefixed
+f-head [] x q e = refl
+f-head (y ∷ l) x q e = rw (← q, e) (sym (or-false _))
+
+-- and another where it begins with one of the other words
+pub other-head : (l : List ℕ) (x : ℕ) → x ≡ getD l 0 0 → (x ≡ 102 → ⊥) →
+    not (prefixed letPhi l) && (prefixed varWord l || (prefixed letWord l || (prefixed constWord l || prefixed classWord l))) ≡ isHeader l
+unfolding isHeader prefixed
+other-head [] x q e = refl
+other-head (y ∷ l) x q e = rw (eqb-sym 102 y ∙ ap (λ (z : ℕ). eqb z 102) (sym q) ∙ ne-eqb x 102 e)

@@ -1,6 +1,7 @@
 pub mod Region
 pub mod Blocks
 pub mod Paths
+pub mod Ends
 pub mod Loops
 pub mod Starts
 pub mod Fill

@@ -1,17 +1,18 @@
 // Regions, blocks, block paths, loops: four notions of place, each with its own rule for braces.
 ghost use mathlib.Core.Path.{_≡_};
-ghost use mathlib.Core.Bool.{true, cond};
-ghost use mathlib.Core.List.{[], _∷_};
+ghost use mathlib.Core.Bool.{true, cond, _||_};
+ghost use mathlib.Core.List.{[], _∷_, _++_};
 ghost use Prim.Native.Nat.{_≤_, _<_, _+_, _-_, _^_};
-ghost use lib.ListN.{take, drop, length, replicate};
+ghost use lib.ListN.{take, drop, set, length, replicate};
 ghost use Rattle.lines.specs.Lf.{linesOf, endsIn};
 ghost use Rattle.lexical.specs.Lex.{lastOf, leaves, stripLexical};
 ghost use Rattle.lexical.specs.Plain.{plainLen};
 ghost use Rattle.place.specs.Region.{isHeader, regionNext, regionLen};
 ghost use Rattle.place.specs.Blocks.{opens, closes, braceOf, blockIds, cleaned};
-ghost use Rattle.place.specs.Paths.{pathCloses, blockPaths, tops};
+ghost use Rattle.place.specs.Paths.{pathCloses, blockPaths, tops, isFlat};
+ghost use Rattle.place.specs.Ends.{endsFrom};
 ghost use Rattle.place.specs.Loops.{opensLoop, nestOpen, nestClose, nestLine, insideLoop, startsLoop, someLoop, aboveLoop};
-ghost use Rattle.place.specs.Parents.{around, curBy, Room, Moved, braces, idsPost, idsParents, pathOpen, pathParents};
+ghost use Rattle.place.specs.Parents.{around, curBy, Room, Moved, braces, idsPost, idsParents, pathPre, pathOpen, pathPost, pathParents};
 ghost use Rattle.place.specs.Starts.{startsBy, startsGo};
 ghost use Rattle.place.specs.Fill.{Filled, flagsOf};
 
@@ -19,19 +20,31 @@ ghost use Rattle.place.specs.Fill.{Filled, flagsOf};
 #[repr(C)]
 pub struct Region(pub usize);
 
-// Whether a line opens a region.
+// Whether a line opens a region: most lines begin with a space, and none of these does.
 pub fn is_header(line: &[u8]) -> bool
     ensures { λ r. ⌜ r ≡ isHeader (now (line .entry)) ⌝ }
 {
+    if lines::byte_at(line, 0) == 32 {
+        return false;
+    }
+    opens_region(line)
+}
+
+// The same, of any line.
+fn opens_region(line: &[u8]) -> bool
+    ensures { λ r. ⌜ r ≡ isHeader (now (line .entry)) ⌝ }
+{
     let x = lines::byte_at(line, 0);
-    if !((x == b'f') | ((x == b'l') | ((x == b'c') | (x == b'v')))) {
+    if x == b'f' {
+        return lines::starts_with(line, b"function ");
+    }
+    if !((x == b'l') | ((x == b'c') | (x == b'v'))) {
         return false;
     }
     !lines::starts_with(line, b"let phi")
-        & (lines::starts_with(line, b"function ")
-            | (lines::starts_with(line, b"var ")
-                | (lines::starts_with(line, b"let ")
-                    | (lines::starts_with(line, b"const ") | lines::starts_with(line, b"class ")))))
+        & (lines::starts_with(line, b"var ")
+            | (lines::starts_with(line, b"let ")
+                | (lines::starts_with(line, b"const ") | lines::starts_with(line, b"class "))))
 }
 
 // Where the region ends that the line at `i` opens, or is at the top of: at the next header, or at the end.
@@ -57,7 +70,10 @@ pub fn region_end(text: &[u8], i: usize) -> usize
 pub fn next_region(r: Region, line: &[u8]) -> Region
     ensures { λ q. ⌜ q .0 ≡ regionNext (r .0) (now (line .entry)) ⌝ }
 {
-    if !is_header(line) {
+    if lines::byte_at(line, 0) == 32 {
+        return r;
+    }
+    if !opens_region(line) {
         return r;
     }
     if r.0 < 18446744073709551615 {
@@ -298,31 +314,6 @@ fn path_open(t: &[u8], c: u32, up: &mut [u32], n: usize) -> Open
     Open { block: c, next: n }
 }
 
-// The innermost block of each line's path, and the block around each block.
-pub fn block_paths(text: &[u8], table: &mut [usize], up: &mut [u32]) -> usize
-    requires { ⌜ (length (linesOf (now text)) ≤ length (now table))
-        × ((length (pathParents (linesOf (now text))) ≤ length (now up)) × (length (now up) < 2 ^ 32)) ⌝ }
-    ensures { λ r. ⌜ (Filled (now (table .entry)) (tops (blockPaths (linesOf (now (text .entry))))) (now (table .exit)) r)
-        × (Filled (now (up .entry)) (pathParents (linesOf (now (text .entry)))) (now (up .exit)) (length (pathParents (linesOf (now (text .entry)))))) ⌝ }
-{
-    let mut i = 0;
-    let mut k = 0;
-    let mut c = 0;
-    let mut n = 0;
-    while i < text.len() {
-        let e = lines::find_byte(text, i, 10);
-        let t = text::trim(&text[i..e]);
-        let b = outward(up, c, n, path_closes(t));
-        table[k] = wide(b);
-        k += 1;
-        let x = path_open(t, b, up, n);
-        c = x.block;
-        n = x.next;
-        i = lines::after(text, e);
-    }
-    k
-}
-
 // Whether a trimmed line begins a loop.
 pub fn opens_loop(t: &[u8]) -> bool
     ensures { λ r. ⌜ r ≡ opensLoop (now (t .entry)) ⌝ }
@@ -435,6 +426,110 @@ fn starts_loop(line: &[u8]) -> bool
         return false;
     }
     opens_loop(t)
+}
+
+// Puts the place x where a line ends that has k above it, where the table reaches to it.
+fn put_end(k: usize, x: usize, ends: &mut [usize])
+    ensures { λ _. ⌜ now (ends .exit) ≡ set (now (ends .entry)) k x ⌝ }
+{
+    if ends.len() <= k {
+        return;
+    }
+    ends[k] = x;
+}
+
+// Whether a line plainly neither closes a block nor opens one, as `block_paths` counts: it ends in an ASCII byte above the space other than
+// `{`, and what follows its indent is not `}`.
+fn is_flat(line: &[u8]) -> bool
+    ensures { λ r. ⌜ r ≡ isFlat (now (line .entry)) ⌝ }
+{
+    let n = line.len();
+    if n == 0 {
+        return false;
+    }
+    let c = line[n - 1];
+    if !((32 < c) & ((c < 128) & (c != b'{'))) {
+        return false;
+    }
+    lines::byte_at(line, text::trim_from(line)) != b'}'
+}
+
+// Whether a loop's block was opened above a line, or the line opens one.
+fn loop_by(seen: bool, line: &[u8]) -> bool
+    ensures { λ r. ⌜ r ≡ seen || startsLoop (now (line .entry)) ⌝ }
+{
+    if seen {
+        return true;
+    }
+    starts_loop(line)
+}
+
+// Of a line, the innermost block of its path; and below it, the open block, how many blocks are known, and whether a loop's block was opened.
+struct Passed {
+    top: u32,
+    block: u32,
+    next: usize,
+    loops: bool,
+}
+
+// One line of `block_paths`, with `c` open and `n` blocks known.
+fn path_line(line: &[u8], c: u32, up: &mut [u32], n: usize, seen: bool) -> Passed
+    requires { ⌜ Room (pathPre (now line) ++ pathPost (now line)) c (now up) n ⌝ }
+    ensures { λ r. ⌜ (r .top ≡ curBy (pathPre (now (line .entry))) c (take n (now (up .entry))))
+        × ((Moved (pathPre (now (line .entry)) ++ pathPost (now (line .entry))) c (now (up .entry)) n (r .block) (now (up .exit)) (r .next))
+        × (r .loops ≡ seen || startsLoop (now (line .entry)))) ⌝ }
+{
+    if is_flat(line) {
+        return Passed {
+            top: c,
+            block: c,
+            next: n,
+            loops: seen,
+        };
+    }
+    let t = text::trim(line);
+    let b = outward(up, c, n, path_closes(t));
+    let x = path_open(t, b, up, n);
+    Passed {
+        top: b,
+        block: x.block,
+        next: x.next,
+        loops: loop_by(seen, line),
+    }
+}
+
+// How many lines there are, and whether some line opens a loop's block.
+pub struct Pathed {
+    pub rows: usize,
+    pub loops: bool,
+}
+
+// The innermost block of each line's path, the block around each block, and where each line ends, as far as that table reaches.
+pub fn block_paths(text: &[u8], table: &mut [usize], up: &mut [u32], ends: &mut [usize]) -> Pathed
+    requires { ⌜ (length (linesOf (now text)) ≤ length (now table))
+        × ((length (pathParents (linesOf (now text))) ≤ length (now up)) × (length (now up) < 2 ^ 32)) ⌝ }
+    ensures paths { λ r. ⌜ (Filled (now (table .entry)) (tops (blockPaths (linesOf (now (text .entry))))) (now (table .exit)) (r .rows))
+        × (Filled (now (up .entry)) (pathParents (linesOf (now (text .entry)))) (now (up .exit)) (length (pathParents (linesOf (now (text .entry)))))) ⌝ }
+    ensures loops { λ r. ⌜ r .loops ≡ someLoop (linesOf (now (text .entry))) ⌝ }
+    ensures ends { λ _. ⌜ now (ends .exit) ≡ endsFrom 0 0 (linesOf (now (text .entry))) (now (ends .entry)) ⌝ }
+{
+    let mut i = 0;
+    let mut k = 0;
+    let mut c = 0;
+    let mut n = 0;
+    let mut loops = false;
+    while i < text.len() {
+        let e = lines::find_byte(text, i, 10);
+        put_end(k, e, ends);
+        let x = path_line(&text[i..e], c, up, n, loops);
+        table[k] = wide(x.top);
+        k += 1;
+        c = x.block;
+        n = x.next;
+        loops = x.loops;
+        i = lines::after(text, e);
+    }
+    Pathed { rows: k, loops }
 }
 
 // Whether some line opens a loop's block, and how many stand above the first that does.
