@@ -26,10 +26,10 @@ use Rattle.reading.specs.Uses.{lineReads, storesBy, lineStores}
 use Rattle.decls.specs.Seen.{markName, markStore, AtMost}
 use Rattle.decls.proofs.SeenLaws.{set-past, name-length}
 use Rattle.once.specs.Once.{readCount}
-use Rattle.once.specs.Noted.{firstBy, readFrom, headFrom, farFrom, farName, takeBack, backName, Reads, readName, readRuns, areaOf, Begins, StartOf, lineNote, NoteIs, firstLine, NotesOf, OneOf, EndsOf}
+use Rattle.once.specs.Noted.{firstBy, readFrom, headFrom, farFrom, farName, takeBack, backName, Reads, readName, readRuns, areaOf, Begins, StartOf, lineNote, NoteIs, firstLine, NotesOf, OneOf}
 use Rattle.once.proofs.NextLaws.{Nexts, note-is, line-one, note-nothing, note-less}
 use Rattle.once.proofs.AreaLaws.{OneUp, one-new, one-on, one-done}
-use Rattle.once.proofs.BackLaws.{begins-lf, rows-back, line-back, ends-none, ends-put}
+use Rattle.once.proofs.BackLaws.{begins-lf, rows-back, line-back, start-of}
 
 -- ---- what stands at a register below the end
 
@@ -336,33 +336,27 @@ module _ (ls : List (List ℕ)) (l : List ℕ) (us : List (List ℕ)) (ps : List
 
 -- ---- the loop: the lines from i on are in the tables, there are m of them, and h is the number of the first header
 
-pub record NoteInv (t ps near far stores notes ends : List ℕ) (i m h : ℕ) : Type 0 where
+pub record NoteInv (t ps near far stores notes : List ℕ) (i m h : ℕ) : Type 0 where
   pub i≤ : i ≤ length t
   pub front : Begins t i
   pub count : m ≡ length (linesOf (drop i t))
   pub nexts : Nexts (linesOf (drop i t)) h near far stores
   pub noted : NotesOf (linesOf t) ps notes
   pub ones : Ones (linesOf t) (linesOf (drop i t)) (length near) notes
-  pub last : Begins t (length t)
-  pub ended : EndsOf t ends
 
-pub note-start : (t ps near far stores notes ends : List ℕ) → endsIn 10 t ≡ true → AtMost 0 near → AtMost 0 far → AtMost 0 stores → AtMost 0 notes → AtMost 0 ends →
-    NoteInv t ps near far stores notes ends (length t) 0 0
-note-start t ps near far stores notes ends e a b c n o =
-    let l : Begins t (length t) = begins-lf t (length t) (eqb-true (getD t (length t - 1) 0) 10 e) in
+pub note-start : (t ps near far stores notes : List ℕ) → endsIn 10 t ≡ true → AtMost 0 near → AtMost 0 far → AtMost 0 stores → AtMost 0 notes → NoteInv t ps near far stores notes (length t) 0 0
+note-start t ps near far stores notes e a b c n =
     let z = lines-end t (length t) (omega arith) in
     record {
       i≤ = omega arith;
-      front = l;
+      front = begins-lf t (length t) (eqb-true (getD t (length t - 1) 0) 10 e);
       count = sym (ap (λ (ls : List (List ℕ)). length ls) z);
       nexts = subst (λ (ls : List (List ℕ)). Nexts ls 0 near far stores) (sym z) (nexts-none 0 near far stores refl a b c);
       noted = notes-none (linesOf t) ps notes n;
       ones = ones-none (linesOf t) (linesOf (drop (length t) t)) (length near) notes n;
-      last = l;
-      ended = ends-none t ends o;
     }
 
-module _ {t ps near far stores notes ends : List ℕ} {i m h : ℕ} (v : NoteInv t ps near far stores notes ends i m h) (k : 0 < i) where
+module _ {t ps near far stores notes : List ℕ} {i m h : ℕ} (v : NoteInv t ps near far stores notes i m h) (k : 0 < i) where
   -- the line above ends at an LF
   pub note-lf : (i - 1 < length t) × (getD t (i - 1) 0 ≡ 10)
   note-lf = (omega (arith, v .i≤), v .front (i - 1) (omega arith))
@@ -377,22 +371,21 @@ module _ {t ps near far stores notes ends : List ℕ} {i m h : ℕ} (v : NoteInv
     rows-above : (m + 1 ≤ length (linesOf t)) × (drop (length (linesOf t) - (m + 1)) (linesOf t) ≡ linesOf (drop a t))
     rows-above = rows-back t a (m + 1) (omega (arith, b .0, v .i≤)) (b .1) above-count
 
-    -- it has a row
-    pub note-row : m + 1 ≤ length ps
-    note-row = let z = rows-above .0 in omega arith
+    row-above : m + 1 ≤ length ps
+    row-above = let z = rows-above .0 in omega arith
 
-    pub note-on : (l : List ℕ) (p : Line) (j x : ℕ) (near′ far′ stores′ notes₁ notes′ ends′ : List ℕ) (h′ : ℕ) → l ≡ part a (i - 1) t → p ≡ parseOf l → j ≡ length ps - (m + 1) →
-        x ≡ lineNote p ps j m h near far stores → notes₁ ≡ set notes j x → ends′ ≡ set ends j i →
+    pub note-on : (l : List ℕ) (p : Line) (j x : ℕ) (near′ far′ stores′ notes₁ notes′ : List ℕ) (h′ : ℕ) → l ≡ part a (i - 1) t → p ≡ parseOf l → j ≡ length ps - (m + 1) →
+        x ≡ lineNote p ps j m h near far stores → notes₁ ≡ set notes j x →
         (near′, (far′, notes′)) ≡ readRuns (length ps) h (m + 1) (runs (textOf l p)) (near, (far, notes₁)) → stores′ ≡ markStore (m + 1) p stores → h′ ≡ cond (isHeader l) (m + 1) h →
-        NoteInv t ps near′ far′ stores′ notes′ ends′ a (m + 1) h′
-    note-on l p j x near′ far′ stores′ notes₁ notes′ ends′ h′ e q w u g g′ y s o =
+        NoteInv t ps near′ far′ stores′ notes′ a (m + 1) h′
+    note-on l p j x near′ far′ stores′ notes₁ notes′ h′ e q w u g y s o =
         let ls : List (List ℕ) = linesOf (drop i t) in
         let rs : List (List ℕ) = runs (textOf l p) in
         let c : linesOf (drop a t) ≡ l ∷ ls = line-above ∙ ap (λ (b : List ℕ). b ∷ ls) (sym e) in
         let d : drop j (linesOf t) ≡ l ∷ ls = ap (λ (b : ℕ). drop b (linesOf t)) (w ∙ ap (λ (b : ℕ). b - (m + 1)) n) ∙ rows-above .1 ∙ c in
         let d′ : drop (j + 1) (linesOf t) ≡ ls = sym (drop-drop 1 j (linesOf t)) ∙ ap (λ (us : List (List ℕ)). drop 1 us) d in
         let f = v .count in
-        let z = note-row in
+        let z = row-above in
         let one : m + 1 ≡ suc (length ls) = omega arith in
         let r : j + 1 + length ls ≡ length ps = omega arith in
         let u′ : x ≡ lineNote p ps j (length ls) h near far stores = u ∙ ap (λ (b : ℕ). lineNote p ps j b h near far stores) f in
@@ -406,12 +399,21 @@ module _ {t ps near far stores notes ends : List ℕ} {i m h : ℕ} (v : NoteInv
           noted = subst (NotesOf (linesOf t) ps) (sym (ap (λ (b : Reads). b .1 .1) y′))
               (notes-runs (linesOf t) ps (length ps) h (m + 1) rs (near, (far, set notes j x)) (notes-put (linesOf t) ps notes j x (rw (d, d′) (note-is l ls ps j h near far stores (v .nexts) r p x q u′)) (v .noted)));
           ones = rw (c, ln) (ones-on (linesOf t) l ls ps j h x p near far stores notes (v .nexts) r n d q u′ notes′ (m + 1) (ap (λ (b : Reads). b .1 .1) y′) (v .ones));
-          last = v .last;
-          ended = rw g′ (ends-put t ends j i a (v .last) (omega (arith, b .0, v .i≤)) k (b .0) (d ∙ sym c) (v .ended));
         }
 
-pub ones-of : {t ps near far stores notes ends : List ℕ} {i m h : ℕ} → NoteInv t ps near far stores notes ends i m h → i ≤ 0 → OneOf (linesOf t) notes
-ones-of {t} {ps} {near} {far} {stores} {notes} {ends} {i} v z =
+  module _ (n : length ps ≡ length (linesOf t)) where
+    -- it has a row
+    pub note-row : m + 1 ≤ length ps
+    note-row = let b = start-of t (i - 1) (note-lf .0) (note-lf .1) in row-above (b .at) (b .is) n
+
+    pub note-count : (j : ℕ) → j ≡ length ps - (m + 1) → j + 1 + length (linesOf (drop (i - 1 + 1) t)) ≡ length (linesOf t)
+    note-count j q =
+        let e : i - 1 + 1 ≡ i = omega arith in
+        let z : length (linesOf (drop (i - 1 + 1) t)) ≡ length (linesOf (drop i t)) = ap (λ (x : ℕ). length (linesOf (drop x t))) e in
+        omega (arith, v .count, note-row)
+
+pub ones-of : {t ps near far stores notes : List ℕ} {i m h : ℕ} → NoteInv t ps near far stores notes i m h → i ≤ 0 → OneOf (linesOf t) notes
+ones-of {t} {ps} {near} {far} {stores} {notes} {i} v z =
     once-of (linesOf t) (length near) notes (subst (λ (j : ℕ). Ones (linesOf t) (linesOf (drop j t)) (length near) notes) (let y : i ≡ 0 = omega arith in y) (v .ones))
 
 -- ---- the loop over the runs of a text that begin with `r`: it has come to the run at i; d₀ are the tables at its start, and d here

@@ -1,6 +1,6 @@
 -- Tables over registers, of the next lines that read and store each one, and one over lines, of what each is and of what becomes of what it
 -- stores: what lines leave in them, and what they then say. Assumes nothing.
-use Prim.Native.Nat.{ℕ, zero, suc, _+_, _-_, _≤_}
+use Prim.Native.Nat.{ℕ, zero, suc, _+_, _-_, _≤_, _<_}
 use mathlib.Core.Path.{_≡_}
 use mathlib.Core.Bool.{Bool, true, false, cond, not, _&&_, _||_}
 use mathlib.Core.List.{List, [], _∷_}
@@ -108,11 +108,11 @@ Begins s r = (k : ℕ) → r ≡ suc k → getD s k 0 ≡ 10
 abbrev pub StartOf : List ℕ → ℕ → ℕ → Type 0
 StartOf s e r = (e ≡ r + upTo 10 (drop r s)) × Begins s r
 
--- the line that begins at j ends just before the place m, where that is not 0
+-- the line that begins at j ends at the place m, where that is not 0
 abbrev pub EndIs : List ℕ → ℕ → ℕ → Type 0
-EndIs s j m = (e : ℕ) → m ≡ suc e → e ≡ j + upTo 10 (drop j s)
+EndIs s j m = 0 < m → m ≡ j + upTo 10 (drop j s)
 
--- a table has the places after the lines of a text
+-- a table has the places where the lines of a text end; 0 says nothing
 abbrev pub EndsOf : List ℕ → List ℕ → Type 0
 EndsOf s d = (k j : ℕ) → linesOf (drop j s) ≡ drop k (linesOf s) → EndIs s j (getD d k 0)
 

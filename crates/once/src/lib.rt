@@ -21,7 +21,7 @@ ghost use Rattle.once.specs.Tables.{readBelow, anyCall, nextIn, Blank, h
 ghost use Rattle.once.specs.Noted.{CalmIn, Calm, LineAt, KindIs, DropIs, DropBy, sentTo, SendIs, SendBy, OneBy, OneOf, firstLine, NotesOf, EndsOf};
 ghost use Rattle.decls.specs.Seen.{AtMost};
 ghost use Rattle.place.specs.Fill.{Filled, flagsOf};
-ghost use Rattle.place.specs.Loops.{insideLoop};
+ghost use Rattle.place.specs.Loops.{insideLoop, someLoop};
 ghost use Rattle.place.specs.Region.{region};
 ghost use Rattle.place.specs.Paths.{blockPaths, tops};
 ghost use Rattle.place.specs.Parents.{pathParents};
@@ -672,19 +672,19 @@ fn mark_with(
     k
 }
 
-// Writes the mark of each line; `paths` has the block paths of the lines, and `loops` whether each stands in a loop.
+// Writes the mark of each line; `paths` has the block paths of the lines, `loops` whether each stands in a loop, and `ends` where each ends.
 fn fill_marks(
     text: &[u8],
     paths: &[usize],
     loops: &[u8],
     scratch: &mut [u8],
     marks: &mut [u8],
-    ends: &mut [usize],
+    ends: &[usize],
 ) -> usize
     requires { ⌜ (Blank (length (now text)) (now scratch))
-        × ((length (linesOf (now text)) ≤ length (now marks)) × ((length (now paths) ≡ length (linesOf (now text))) × (AtMost 0 (now ends)))) ⌝ }
+        × ((length (linesOf (now text)) ≤ length (now marks)) × ((length (now paths) ≡ length (linesOf (now text))) × (EndsOf (now text) (now ends)))) ⌝ }
     ensures answer { λ r. ⌜ Filled (now (marks .entry)) (marksOf plain (linesOf (now (text .entry))) (now (paths .entry)) (now (loops .entry))) (now (marks .exit)) r ⌝ }
-    ensures memory { λ _. ⌜ (now (scratch .exit) ≡ now (scratch .entry)) × (EndsOf (now (text .entry)) (now (ends .exit))) ⌝ }
+    ensures memory { λ _. ⌜ now (scratch .exit) ≡ now (scratch .entry) ⌝ }
 {
     let mut near = [0u32; 1024];
     let mut far = [0u32; 1024];
@@ -760,7 +760,7 @@ fn put_act(line: &[u8], above: &[u8], m: u8, n: u8, given: bool, out: &mut [u8],
     put_whole(line, out, o)
 }
 
-// Writes what becomes of lines by their marks; `ends` has the places after the lines.
+// Writes what becomes of lines by their marks; `ends` has the places where they end.
 fn put_acts(text: &[u8], marks: &[u8], ends: &[usize], out: &mut [u8]) -> usize
     requires { ⌜ (EndsOf (now text) (now ends)) × (length (unlines (apply (actsBy (linesOf (now text)) (now marks) false []) (linesOf (now text)))) ≤ length (now out)) ⌝ }
     ensures { λ r. ⌜ Wrote (now (out .entry)) 0 (unlines (apply (actsBy (linesOf (now (text .entry))) (now (marks .entry)) false []) (linesOf (now (text .entry))))) (now (out .exit)) r ⌝ }
@@ -793,6 +793,18 @@ fn put_acts(text: &[u8], marks: &[u8], ends: &[usize], out: &mut [u8]) -> usize
     lines::put_lines(lines::cut(text, c, text.len()), out, o)
 }
 
+// Writes for each line whether it stands in a loop, and returns how many there are: `rows` says so, and `some` whether one opens a loop's block.
+fn fill_loops(text: &[u8], some: bool, rows: usize, loops: &mut [u8]) -> usize
+    requires { ⌜ (some ≡ someLoop (linesOf (now text))) × ((rows ≡ length (linesOf (now text))) × (length (linesOf (now text)) ≤ length (now loops))) ⌝ }
+    ensures { λ r. ⌜ Filled (now (loops .entry)) (flagsOf (insideLoop (linesOf (now (text .entry))))) (now (loops .exit)) r ⌝ }
+{
+    if some {
+        return place::inside_loop(text, loops);
+    }
+    lines::wipe(loops, rows);
+    rows
+}
+
 // Fills the tables of a text: which lines stand in a loop, their block paths, what becomes of them, and where they end.
 fn decide(
     text: &[u8],
@@ -816,8 +828,9 @@ fn decide(
     ensures ends { λ _. ⌜ EndsOf (now (text .entry)) (now (ends .exit)) ⌝ }
 {
     lines::wipe(scratch, text.len());
-    let n = place::inside_loop(text, loops);
-    let k = place::block_paths(text, paths, up);
+    let x = place::block_paths(text, paths, up, ends);
+    let k = x.rows;
+    let n = fill_loops(text, x.loops, k, loops);
     fill_marks(text, &paths[0..k], &loops[0..n], scratch, marks, ends)
 }
 

@@ -234,16 +234,6 @@ fn line_note(
     }
 }
 
-// Puts the place x after the line with k above it, where the table reaches to it.
-fn put_end(k: usize, x: usize, ends: &mut [usize])
-    ensures { λ _. ⌜ now (ends .exit) ≡ set (now (ends .entry)) k x ⌝ }
-{
-    if ends.len() <= k {
-        return;
-    }
-    ends[k] = x;
-}
-
 // How many of n lines stand above one with m below it.
 fn row_of(n: usize, m: u32) -> usize
     requires { ⌜ m + 1 ≤ n ⌝ }
@@ -267,6 +257,22 @@ fn line_start(text: &[u8], e: usize) -> usize
     i
 }
 
+// The same of a line with k above it, and the others below it: the table may say where the line above it ends.
+fn start_at(text: &[u8], e: usize, k: usize, ends: &[usize]) -> usize
+    requires { ⌜ ((e < length (now text)) × (getD (now text) e 0 ≡ 10))
+        × ((k + 1 + length (linesOf (drop (e + 1) (now text))) ≡ length (linesOf (now text))) × (EndsOf (now text) (now ends))) ⌝ }
+    ensures { λ r. ⌜ StartOf (now (text .entry)) e r ⌝ }
+{
+    if k == 0 {
+        return 0;
+    }
+    let m = entry(ends, k - 1);
+    if m == 0 {
+        return line_start(text, e);
+    }
+    m + 1
+}
+
 // The number of the next header from a line with the number m on, where h is that below it.
 fn head_at(line: &[u8], m: u32, h: u32) -> u32
     ensures { λ r. ⌜ r ≡ cond (isHeader (now (line .entry))) m h ⌝ }
@@ -278,7 +284,7 @@ fn head_at(line: &[u8], m: u32, h: u32) -> u32
 }
 
 // Notes what lines are, the registers that they use, and what becomes of what they store, from the last to the first; the tables hold zeros, and
-// `paths` has the block paths of the lines.
+// `paths` has the block paths of the lines, and `ends` the places where they end.
 pub fn note_lines(
     text: &[u8],
     paths: &[usize],
@@ -286,13 +292,12 @@ pub fn note_lines(
     far: &mut [u32],
     stores: &mut [u32],
     notes: &mut [u8],
-    ends: &mut [usize],
+    ends: &[usize],
 )
     requires { ⌜ (length (now paths) ≡ length (linesOf (now text)))
-        × ((AtMost 0 (now near)) × ((AtMost 0 (now far)) × ((AtMost 0 (now stores)) × ((AtMost 0 (now notes)) × (AtMost 0 (now ends)))))) ⌝ }
+        × ((AtMost 0 (now near)) × ((AtMost 0 (now far)) × ((AtMost 0 (now stores)) × ((AtMost 0 (now notes)) × (EndsOf (now text) (now ends)))))) ⌝ }
     ensures once { λ _. ⌜ OneOf (linesOf (now (text .entry))) (now (notes .exit)) ⌝ }
     ensures notes { λ _. ⌜ NotesOf (linesOf (now (text .entry))) (now (paths .entry)) (now (notes .exit)) ⌝ }
-    ensures ends { λ _. ⌜ EndsOf (now (text .entry)) (now (ends .exit)) ⌝ }
 {
     if !lines::ends_lf(text) {
         return;
@@ -306,12 +311,11 @@ pub fn note_lines(
     let mut h = 0;
     while 0 < i {
         let e = i - 1;
-        let a = line_start(text, e);
+        let k = row_of(n, m);
+        let a = start_at(text, e, k, ends);
         let line = lines::cut(text, a, e);
         let p = parse::parse(line);
-        let k = row_of(n, m);
         put_note(k, line_note(p, paths, k, m, h, near, far, stores), notes);
-        put_end(k, i, ends);
         m += 1;
         note_line(line, p, m, h, n, near, far, stores, notes);
         h = head_at(line, m, h);
@@ -328,7 +332,7 @@ pub fn end_at(text: &[u8], j: usize, k: usize, ends: &[usize]) -> usize
     if e == 0 {
         return lines::find_byte(text, j, 10);
     }
-    e - 1
+    e
 }
 
 // What a line is: by its note, where that says so.

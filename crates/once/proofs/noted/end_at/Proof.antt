@@ -19,13 +19,9 @@ find-byte-requires c κs = search needs
 returns : tie.Need-returns
 returns c = search needs
 
--- src/noted.rt:313:5
-sub-result : tie.Need-sub-result
-sub-result c = search needs
-
 -- src/noted.rt:305:1
 returns-2 : tie.Need-returns-2
 returns-2 c = let a = c .before .before .before .before .args in end-by (a .text .now) (a .j) _ _ (c .before .before .before .before .pre) (c .before .entry .ensures) (c .if1 .left)
 
 pub end-at-spec : {M : Type 1} → statement M
-end-at-spec = tie.close (tie.spec entry-requires find-byte-requires returns sub-result returns-2)
+end-at-spec = tie.close (tie.spec entry-requires find-byte-requires returns returns-2)
