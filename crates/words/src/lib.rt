@@ -87,7 +87,7 @@ pub fn count_reg(s: &[u8], reg: names::Register) -> usize
     let mut i = run_start(s, 0);
     while i < s.len() {
         let e = run_end(s, i);
-        n += one_if(names::names_reg(lines::cut(s, i, e), reg));
+        n += one_if(names::names_reg(&s[i..e], reg));
         i = run_start(s, e);
     }
     n
@@ -157,7 +157,7 @@ fn next_long(s: &[u8], i: usize, reg: names::Register) -> usize
     let mut j = reg_start(s, i);
     while j < s.len() {
         let e = run_end(s, j);
-        if names::is_reg_text(lines::cut(s, j, e), reg) {
+        if names::is_reg_text(&s[j..e], reg) {
             return j;
         }
         j = reg_start(s, e);

@@ -1,10 +1,12 @@
+-- `words::count_reg` meets its contract. Assumes nothing.
 use Prim.Native.Nat.{ℕ, _-_}
+use mathlib.Core.Path.{refl}
 use mathlib.Core.List.{List}
 use native.Mathlib.Omega.{arith}
 use borrow.Author.Needs.{needs}
 use lib.ListN.{length}
 use Rattle.names.specs.Names.{regOf, regIs}
-use Rattle.words.proofs.RunLaws.{CountInv, count-start, count-small, count-less, count-next, count-end}
+use Rattle.words.proofs.RunLaws.{run-inside, CountInv, count-start, count-small, count-less, count-next, count-end}
 use Rattle.words.proofs.count_reg.Statement.{statement}
 use Rattle.words.proofs.count_reg.Tie as tie
 
@@ -23,8 +25,14 @@ loop-holds c = let a = c .before .before .args in count-start (λ (r : List ℕ)
 run-end-requires : tie.Need-run-end-requires Inv-loop μ-loop
 run-end-requires c κs = search needs
 
-cut-requires : tie.Need-cut-requires Inv-loop μ-loop
-cut-requires c κs = search needs
+sub-names-reg : tie.Need-sub-names-reg Inv-loop μ-loop
+sub-names-reg c = omega (arith, c .run-end .ensures)
+
+part-names-reg-start : tie.Need-part-names-reg-start Inv-loop μ-loop
+part-names-reg-start c = omega (arith, c .run-end .ensures)
+
+part-names-reg-end : tie.Need-part-names-reg-end Inv-loop μ-loop
+part-names-reg-end c = omega (arith, c .run-end .ensures, run-inside (c .before .before .before .before .before .args .s .now) (c .before .before .loop .i) (c .before .before .loop .inv .i≤))
 
 names-reg-requires : tie.Need-names-reg-requires Inv-loop μ-loop
 names-reg-requires c κs = search needs
@@ -36,7 +44,7 @@ add-n : tie.Need-add-n Inv-loop μ-loop
 add-n c =
     let a = c .before .before .before .before .before .before .before .before .args in
     let l = c .before .before .before .before .before .loop in
-    let k = count-small (λ (r : List ℕ). regIs (a .reg .0) (regOf r)) (a .s .now) (l .inv) (c .before .before .before .before .loop-test .taken) _ (c .before .before .before .run-end .ensures) _ (c .before .before .cut .ensures) _ (c .before .names-reg .ensures) _ (c .one-if .ensures) in
+    let k = count-small (λ (r : List ℕ). regIs (a .reg .0) (regOf r)) (a .s .now) (l .inv) (c .before .before .before .before .loop-test .taken) _ (c .before .before .before .run-end .ensures) _ refl _ (c .before .names-reg .ensures) _ (c .one-if .ensures) in
     omega (arith, k, l .inv .n≤, c .before .before .before .before .loop-test .taken)
 
 run-start-requires-2 : tie.Need-run-start-requires-2 Inv-loop μ-loop
@@ -46,14 +54,14 @@ loop-less : tie.Need-loop-less Inv-loop μ-loop
 loop-less c =
     let a = c .before .before .before .before .before .before .before .before .before .args in
     let l = c .before .before .before .before .before .before .loop in
-    let k = count-less (λ (r : List ℕ). regIs (a .reg .0) (regOf r)) (a .s .now) (l .inv) (c .before .before .before .before .before .loop-test .taken) _ (c .before .before .before .before .run-end .ensures) _ (c .before .before .before .cut .ensures) _ (c .before .before .names-reg .ensures) _ (c .before .one-if .ensures) _ (c .run-start2 .ensures) in
+    let k = count-less (λ (r : List ℕ). regIs (a .reg .0) (regOf r)) (a .s .now) (l .inv) (c .before .before .before .before .before .loop-test .taken) _ (c .before .before .before .before .run-end .ensures) _ refl _ (c .before .before .names-reg .ensures) _ (c .before .one-if .ensures) _ (c .run-start2 .ensures) in
     omega (arith, k, c .before .before .before .before .before .loop-test .taken)
 
 loop-again : tie.Need-loop-again Inv-loop μ-loop
 loop-again c =
     let a = c .before .before .before .before .before .before .before .before .before .args in
     let l = c .before .before .before .before .before .before .loop in
-    count-next (λ (r : List ℕ). regIs (a .reg .0) (regOf r)) (a .s .now) (l .inv) (c .before .before .before .before .before .loop-test .taken) _ (c .before .before .before .before .run-end .ensures) _ (c .before .before .before .cut .ensures) _ (c .before .before .names-reg .ensures) _ (c .before .one-if .ensures) _ (c .run-start2 .ensures)
+    count-next (λ (r : List ℕ). regIs (a .reg .0) (regOf r)) (a .s .now) (l .inv) (c .before .before .before .before .before .loop-test .taken) _ (c .before .before .before .before .run-end .ensures) _ refl _ (c .before .before .names-reg .ensures) _ (c .before .one-if .ensures) _ (c .run-start2 .ensures)
 
 returns : tie.Need-returns Inv-loop μ-loop
 returns c = let a = c .before .before .before .before .args in count-end (λ (r : List ℕ). regIs (a .reg .0) (regOf r)) (a .s .now) (c .before .loop .inv) (c .loop-test .left)
@@ -67,7 +75,9 @@ count-reg-spec =
     run-start-requires
     loop-holds
     run-end-requires
-    cut-requires
+    sub-names-reg
+    part-names-reg-start
+    part-names-reg-end
     names-reg-requires
     one-if-requires
     add-n
