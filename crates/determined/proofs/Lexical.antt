@@ -31,8 +31,11 @@ next-word-fixed = fixed lexical.next_word.Reads.Learnt (λ κs a x y l m. l ∙ 
 pub plain-end-fixed : Determined lexical.plain_end.ended (λ κs z. z) lexical.plain_end.Reads.ensures
 plain-end-fixed = fixed lexical.plain_end.Reads.Learnt (λ κs a x y l m. l ∙ sym m)
 
-pub plain-tail-fixed : Determined lexical.plain_tail.ended (λ κs z. z) lexical.plain_tail.Reads.ensures
-plain-tail-fixed = fixed lexical.plain_tail.Reads.Learnt (λ κs a x y l m. l ∙ sym m)
+pub plain-to-fixed : Determined lexical.plain_to.ended (λ κs z. z) lexical.plain_to.Reads.ensures
+plain-to-fixed = fixed lexical.plain_to.Reads.Learnt (λ κs a x y l m. l ∙ sym m)
+
+pub plain-run-fixed : Determined lexical.plain_run.ended (λ κs z. z) lexical.plain_run.Reads.ensures
+plain-run-fixed = fixed lexical.plain_run.Reads.Learnt (λ κs a x y l m. λ i. record { end = (l .0 ∙ sym (m .0)) i; tail = (l .1 ∙ sym (m .1)) i })
 
 pub low-last-fixed : Determined lexical.low_last.ended (λ κs z. z) lexical.low_last.Reads.ensures
 low-last-fixed = fixed lexical.low_last.Reads.Learnt (λ κs a x y l m. l ∙ sym m)

@@ -3,7 +3,7 @@ use mathlib.Core.Path.{sym, _∙_}
 use Rattle.place.proofs.Fills.{filled-once}
 use Rattle.place.proofs.Parents.{moved-once}
 use Rattle.place.proofs as place
-use Rattle.determined.proofs.Outcomes.{Determined, fixed}
+use Rattle.determined.proofs.Outcomes.{Determined, fixed, fixed-by, one, more}
 
 pub is-header-fixed : Determined place.is_header.ended (λ κs z. z) place.is_header.Reads.ensures
 is-header-fixed = fixed place.is_header.Reads.Learnt (λ κs a x y l m. l ∙ sym m)
@@ -21,7 +21,8 @@ pub place-lines-fixed : Determined place.place_lines.ended (λ κs z. z) place.p
 place-lines-fixed = fixed place.place_lines.Reads.Learnt (λ κs a x y l m. let f = filled-once (l .0) (m .0) in (f .0, (filled-once (l .1 .0) (m .1 .0) .0, (filled-once (l .1 .1) (m .1 .1) .0, f .1))))
 
 pub block-paths-fixed : Determined place.block_paths.ended (λ κs z. z) place.block_paths.Reads.ensures
-block-paths-fixed = fixed place.block_paths.Reads.Learnt (λ κs a x y l m. let f = filled-once (l .0) (m .0) in (f .0, (filled-once (l .1) (m .1) .0, f .1)))
+block-paths-fixed = fixed-by place.block_paths.Reads.Learnt (λ w κs a x. more w (more w (one w))) (λ κs a x y l m.
+    let f = filled-once (l .0 .0) (m .0 .0) in (f .0, (filled-once (l .0 .1) (m .0 .1) .0, (l .1 .1 ∙ sym (m .1 .1), λ i. record { rows = f .1 i; loops = (l .1 .0 ∙ sym (m .1 .0)) i }))))
 
 pub opens-loop-fixed : Determined place.opens_loop.ended (λ κs z. z) place.opens_loop.Reads.ensures
 opens-loop-fixed = fixed place.opens_loop.Reads.Learnt (λ κs a x y l m. l ∙ sym m)
