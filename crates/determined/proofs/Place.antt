@@ -14,8 +14,17 @@ region-end-fixed = fixed place.region_end.Reads.Learnt (λ κs a x y l m. l ∙ 
 pub next-region-fixed : Determined place.next_region.ended (λ κs z. z) place.next_region.Reads.ensures
 next-region-fixed = fixed place.next_region.Reads.Learnt (λ κs a x y l m. λ i. record { 0 = (l ∙ sym m) i })
 
+pub wide-fixed : Determined place.wide.ended (λ κs z. z) place.wide.Reads.ensures
+wide-fixed = fixed place.wide.Reads.Learnt (λ κs a x y l m. l ∙ sym m)
+
+pub flag-fixed : Determined place.flag.ended (λ κs z. z) place.flag.Reads.ensures
+flag-fixed = fixed place.flag.Reads.Learnt (λ κs a x y l m. l ∙ sym m)
+
 pub walk-line-fixed : Determined place.walk_line.ended (λ κs z. z) place.walk_line.Reads.ensures
 walk-line-fixed = fixed place.walk_line.Reads.Learnt (λ κs a x y l m. let f = moved-once (l .0) (m .0) in (f .1 .0, λ i. record { block = f .0 i; next = f .1 .1 i; last = (l .1 ∙ sym (m .1)) i }))
+
+pub starts-after-fixed : Determined place.starts_after.ended (λ κs z. z) place.starts_after.Reads.ensures
+starts-after-fixed = fixed place.starts_after.Reads.Learnt (λ κs a x y l m. l ∙ sym m)
 
 pub place-lines-fixed : Determined place.place_lines.ended (λ κs z. z) place.place_lines.Reads.ensures
 place-lines-fixed = fixed place.place_lines.Reads.Learnt (λ κs a x y l m. let f = filled-once (l .0) (m .0) in (f .0, (filled-once (l .1 .0) (m .1 .0) .0, (filled-once (l .1 .1) (m .1 .1) .0, f .1))))

@@ -79,7 +79,7 @@ blanks-end {d₀} {d} {k} {n} l f =
     let e : n - k ≡ 0 = omega arith in
     filling-end (filling-as (ap (λ (m : ℕ). replicate m noRec) e) f) .1 ∙ ap (λ (m : ℕ). replicate n noRec ++ drop m d₀) (length-replicate n noRec)
 
--- ---- the loop of `fill`
+-- ---- the records of the lines, in the loop of `place_lines`
 
 pub record FillInv (t bs : List ℕ) (d₀ d : List LineRec) (i k c : ℕ) : Type 0 where
   pub i≤ : i ≤ length t

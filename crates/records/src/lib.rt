@@ -50,31 +50,6 @@ pub fn blank() -> LineRec
     }
 }
 
-// Puts the record of each line of a text to the front of the slice, and returns how many there are; `blocks` holds the block of each.
-pub fn fill(text: &[u8], blocks: &[usize], recs: &mut [LineRec]) -> usize
-    requires { ⌜ (length (linesOf (now text)) ≤ length (now blocks)) × (length (linesOf (now text)) ≤ length (now recs)) ⌝ }
-    ensures answer { λ r. ⌜ r ≡ length (linesOf (now (text .entry))) ⌝ }
-    ensures memory { λ _. ⌜ now (recs .exit) ≡ recordsOf (linesOf (now (text .entry))) (now (blocks .entry)) ++ drop (length (linesOf (now (text .entry)))) (now (recs .entry)) ⌝ }
-{
-    let mut i = 0;
-    let mut k = 0;
-    let mut region = place::Region(0);
-    while i < text.len() {
-        let e = lines::find_byte(text, i, 10);
-        region = place::next_region(region, lines::cut(text, i, e));
-        let rec = LineRec {
-            start: i,
-            end: e,
-            region,
-            block: blocks[k],
-        };
-        put(recs, k, rec);
-        k += 1;
-        i = lines::after(text, e);
-    }
-    k
-}
-
 // The record of a line from `i` to `e` in the block `c`; `above` is the region of the line above.
 fn record_at(line: &[u8], i: usize, e: usize, above: place::Region, c: u32) -> LineRec
     ensures { λ r. ⌜ r ≡ recAt i e (regionNext (above .0) (now (line .entry))) c ⌝ }
