@@ -44,7 +44,7 @@ fn put_decl(
     let mut p = o;
     loop {
         let e = lines::find_byte(body, i, b',');
-        let t = text::trim(lines::cut(body, i, e));
+        let t = text::trim(&body[i..e]);
         let s = stays_in(region, m, seen, t);
         p = print::put_part(indent, o < p, s, t, 1, out, p);
         if e >= body.len() {
@@ -86,7 +86,7 @@ fn prune_with(text: &[u8], seen: &mut [usize], out: &mut [u8]) -> usize
     let mut o = 0;
     while i < text.len() {
         let e = lines::find_byte(text, i, 10);
-        let line = lines::cut(text, i, e);
+        let line = &text[i..e];
         if place::is_header(line) {
             a = i;
         }
@@ -95,7 +95,7 @@ fn prune_with(text: &[u8], seen: &mut [usize], out: &mut [u8]) -> usize
             let k = seen::mark_once(text, a, b, m, i, n, seen);
             m = k.mark;
             b = k.end;
-            let p = lines::put(out, o, lines::cut(text, c, i));
+            let p = lines::put(out, o, &text[c..i]);
             o = put_line(line, lines::cut(text, a, b), m, seen, out, p);
             c = n;
             i = k.next;
@@ -103,7 +103,7 @@ fn prune_with(text: &[u8], seen: &mut [usize], out: &mut [u8]) -> usize
             i = lines::after(text, e);
         }
     }
-    lines::put_lines(lines::cut(text, c, text.len()), out, o)
+    lines::put_lines(&text[c..], out, o)
 }
 
 // Writes the lines of a text without the declared registers that their region neither reads nor stores.

@@ -43,12 +43,12 @@ fn mark_run(s: &[u8], i: usize, m: usize, seen: &mut [usize])
     let mut j = i + 2;
     while j < s.len() {
         if !text::is_name_byte(s[j]) {
-            mark_name(lines::cut(s, i, j), m, seen);
+            mark_name(&s[i..j], m, seen);
             return;
         }
         j += 1;
     }
-    mark_name(lines::cut(s, i, j), m, seen);
+    mark_name(&s[i..j], m, seen);
 }
 
 // Whether a name byte stands before a place.
@@ -123,29 +123,29 @@ fn mark_region(text: &[u8], a: usize, m: usize, i: usize, seen: &mut [usize]) ->
         return Reach { end: a, quiet: a };
     }
     let e = lines::find_byte(text, a, 10);
-    mark_line(lines::cut(text, a, e), m, seen);
+    mark_line(&text[a..e], m, seen);
     let mut j = lines::after(text, e);
     let mut q = j;
     while j < text.len() {
         let f = lines::find_byte(text, j, 10);
-        let line = lines::cut(text, j, f);
+        let line = &text[j..f];
         if place::is_header(line) {
-            mark_runs(lines::cut(text, q, j), m, seen);
+            mark_runs(&text[q..j], m, seen);
             return Reach { end: j, quiet: q };
         }
         if j == i {
-            mark_runs(lines::cut(text, q, j), m, seen);
+            mark_runs(&text[q..j], m, seen);
             j = lines::after(text, f);
             q = j;
         } else if parse::declares(line) {
-            mark_runs(lines::cut(text, q, j), m, seen);
+            mark_runs(&text[q..j], m, seen);
             j = lines::after(text, f);
             q = j;
         } else {
             j = lines::after(text, f);
         }
     }
-    mark_runs(lines::cut(text, q, j), m, seen);
+    mark_runs(&text[q..j], m, seen);
     Reach { end: j, quiet: q }
 }
 

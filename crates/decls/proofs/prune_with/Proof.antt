@@ -1,17 +1,17 @@
 use Prim.Native.Nat.{ℕ, _-_}
 use native.Mathlib.Omega.{arith}
 use borrow.Author.Needs.{needs}
-use mathlib.Core.Path.{sym, ap, _∙_}
+use mathlib.Core.Path.{refl, sym, ap, _∙_}
 use mathlib.Core.Logic.{⊎-elim}
 use lib.ListN.{length}
 use Rattle.lines.proofs.Tests.{so}
 use Rattle.lines.proofs.OutLaws.{writing-length}
 use Rattle.decls.proofs.Writes.{PruneInv, prune-start, RunAt, run-same, run-new, prune-pass, prune-quiet, held-room, prune-room, prune-on, end-room, prune-end}
 use Rattle.decls.proofs.SeenLaws.{TableInv, table-start, table-new, table-pass, quiet-le, table-quiet, table-region, table-says, table-on}
-use mathlib.Core.List.{List}
 use Rattle.lines.specs.Lf.{part}
 use Rattle.text.specs.Trim.{trimOf}
 use Rattle.parse.specs.Parse.{isDecl}
+use Rattle.lines.proofs.LfLaws.{find-le}
 use Rattle.decls.proofs.prune_with.Statement.{statement}
 use Rattle.decls.proofs.prune_with.Tie as tie
 use Rattle.decls.proofs.prune_with.Reads as reads
@@ -40,11 +40,10 @@ mid c =
     let h = c .before .before .before .before .before .loop .inv in
     let k = c .before .before .before .before .loop-test .taken in
     let f = c .before .before .before .find-byte in
-    let l = c .before .before .cut in
     let y = sym (c .before .is-header .ensures) in
     ⊎-elim
-    (λ w. rw (w .1) (run-new (h .0) (f .result) k (f .ensures) (l .result .now) (l .ensures) (y ∙ w .0 .taken), table-new (h .1)))
-    (λ w. rw (w .1) (run-same (h .0) (f .result) k (f .ensures) (l .result .now) (l .ensures) (y ∙ w .0 .left), h .1))
+    (λ w. rw (w .1) (run-new (h .0) (f .result) k (f .ensures) _ refl (y ∙ w .0 .taken), table-new (h .1)))
+    (λ w. rw (w .1) (run-same (h .0) (f .result) k (f .ensures) _ refl (y ∙ w .0 .left), h .1))
     (c .if1 .came)
 
 -- src/lib.rt:87:5
@@ -55,9 +54,17 @@ loop-holds c = (prune-start _ _ (c .before .before .before .pre .1), table-start
 find-byte-requires : tie.Need-find-byte-requires Inv-loop μ-loop
 find-byte-requires c κs = search needs
 
--- src/lib.rt:89:13
-cut-requires : tie.Need-cut-requires Inv-loop μ-loop
-cut-requires c κs = search needs
+-- src/lib.rt:89:20
+sub-line : tie.Need-sub-line Inv-loop μ-loop
+sub-line c = omega arith
+
+-- src/lib.rt:89:20
+part-line-start : tie.Need-part-line-start Inv-loop μ-loop
+part-line-start c = omega arith
+
+-- src/lib.rt:89:20
+part-line-end : tie.Need-part-line-end Inv-loop μ-loop
+part-line-end c = omega (arith, find-le 10 (c .before .before .before .before .before .before .args .text .now) (c .before .before .loop .i) (c .find-byte .result) (omega arith) (c .find-byte .ensures))
 
 -- src/lib.rt:90:12
 is-header-requires : tie.Need-is-header-requires Inv-loop μ-loop
@@ -73,23 +80,31 @@ after-requires c κs = search needs
 
 -- src/lib.rt:95:17
 mark-once-requires : tie.Need-mark-once-requires Inv-loop μ-loop
-mark-once-requires c κs = (omega (arith, mid (c .before .before .before .before) .1 .a≤, c .before .before .before .before .before .before .before .before .loop-test .taken), ap (λ (n : ℕ). isDecl (trimOf (part (c .before .before .before .before .before .before .before .before .before .loop .i) n (c .before .before .before .before .before .before .before .before .before .before .before .before .before .args .text .now)))) (sym (c .before .before .before .before .before .before .before .find-byte .ensures)) ∙ ap (λ (l : List ℕ). isDecl (trimOf l)) (sym (c .before .before .before .before .before .before .cut .ensures)) ∙ so (c .before .before .before .declares .ensures) (c .before .before .if2 .taken))
+mark-once-requires c κs = (omega (arith, mid (c .before .before .before .before) .1 .a≤, c .before .before .before .before .before .before .before .before .loop-test .taken), ap (λ (n : ℕ). isDecl (trimOf (part (c .before .before .before .before .before .before .before .before .before .loop .i) n (c .before .before .before .before .before .before .before .before .before .before .before .before .before .args .text .now)))) (sym (c .before .before .before .before .before .before .before .find-byte .ensures)) ∙ so (c .before .before .before .declares .ensures) (c .before .before .if2 .taken))
 
 -- src/lib.rt:98:40
-cut-requires-2 : tie.Need-cut-requires-2 Inv-loop μ-loop
-cut-requires-2 c κs = search needs
+sub-put : tie.Need-sub-put Inv-loop μ-loop
+sub-put c = omega (arith, c .before .before .before .before .before .before .before .before .before .before .before .before .before .loop .inv .0 .c≤, c .before .before .before .before .before .before .before .before .before .before .before .before .before .loop .inv .0 .i≤)
+
+-- src/lib.rt:98:40
+part-put-start : tie.Need-part-put-start Inv-loop μ-loop
+part-put-start c = omega (arith, c .before .before .before .before .before .before .before .before .before .before .before .before .before .loop .inv .0 .c≤, c .before .before .before .before .before .before .before .before .before .before .before .before .before .loop .inv .0 .i≤)
+
+-- src/lib.rt:98:40
+part-put-end : tie.Need-part-put-end Inv-loop μ-loop
+part-put-end c = omega (arith, c .before .before .before .before .before .before .before .before .before .before .before .before .before .loop .inv .0 .c≤, c .before .before .before .before .before .before .before .before .before .before .before .before .before .loop .inv .0 .i≤)
 
 -- src/lib.rt:98:17
 put-requires : tie.Need-put-requires Inv-loop μ-loop
-put-requires c κs = let f = c .before .before .before .before .before .before .before .before .before .before .before .before .find-byte in let l = c .before .before .before .before .before .before .before .before .before .before .before .cut in held-room (c .before .before .before .before .before .before .before .before .before .before .before .before .before .before .loop .inv .0) (f .result) (c .before .before .before .before .before .before .before .before .before .before .before .before .before .loop-test .taken) (f .ensures) (l .result .now) (l .ensures) (mid (c .before .before .before .before .before .before .before .before .before) .0) (c .cut2 .result .now) (c .cut2 .ensures)
+put-requires c κs = let f = c .before .before .before .before .before .before .before .before .before .before .before .before .find-byte in held-room (c .before .before .before .before .before .before .before .before .before .before .before .before .before .before .loop .inv .0) (f .result) (c .before .before .before .before .before .before .before .before .before .before .before .before .before .loop-test .taken) (f .ensures) _ refl (mid (c .before .before .before .before .before .before .before .before .before) .0) _ refl
 
 -- src/lib.rt:99:32
-cut-requires-3 : tie.Need-cut-requires-3 Inv-loop μ-loop
-cut-requires-3 c κs = search needs
+cut-requires : tie.Need-cut-requires Inv-loop μ-loop
+cut-requires c κs = search needs
 
 -- src/lib.rt:99:13
 put-line-requires : tie.Need-put-line-requires Inv-loop μ-loop
-put-line-requires c κs = let h = mid (c .before .before .before .before .before .before .before .before .before .before .before .before .before .before .before) in let f = c .before .before .before .before .before .before .before .before .before .before .before .before .before .before .before .before .before .before .find-byte in let l = c .before .before .before .before .before .before .before .before .before .before .before .before .before .before .before .before .before .cut in let k = c .before .before .before .before .before .before .before .before .before .before .mark-once in let x = c .before .before .before .before .before .before .cut2 in let r = c .before .before .cut3 in (so (c .before .before .before .before .before .before .before .before .before .before .before .before .before .before .declares .ensures) (c .before .before .before .before .before .before .before .before .before .before .before .before .before .if2 .taken), (table-says (h .1) (k .result .mark) (k .result .end) _ (k .ensures .0 .0) (k .ensures .0 .1 .0) (k .ensures .1) (r .result .now) (r .ensures), prune-room (c .before .before .before .before .before .before .before .before .before .before .before .before .before .before .before .before .before .before .before .before .loop .inv .0) (f .result) (c .before .before .before .before .before .before .before .before .before .before .before .before .before .before .before .before .before .before .before .loop-test .taken) (f .ensures) (l .result .now) (l .ensures) (h .0) (x .result .now) (x .ensures) (c .before .before .before .before .before .put .ensures) (r .result .now) (table-region (h .1) (k .result .mark) (k .result .end) _ (k .ensures .0 .0) (k .ensures .0 .1 .0) (k .ensures .1) (r .result .now) (r .ensures))))
+put-line-requires c κs = let h = mid (c .before .before .before .before .before .before .before .before .before .before .before .before .before .before .before) in let f = c .before .before .before .before .before .before .before .before .before .before .before .before .before .before .before .before .before .before .find-byte in let k = c .before .before .before .before .before .before .before .before .before .before .mark-once in let r = c .before .before .cut in (so (c .before .before .before .before .before .before .before .before .before .before .before .before .before .before .declares .ensures) (c .before .before .before .before .before .before .before .before .before .before .before .before .before .if2 .taken), (table-says (h .1) (k .result .mark) (k .result .end) _ (k .ensures .0 .0) (k .ensures .0 .1 .0) (k .ensures .1) (r .result .now) (r .ensures), prune-room (c .before .before .before .before .before .before .before .before .before .before .before .before .before .before .before .before .before .before .before .before .loop .inv .0) (f .result) (c .before .before .before .before .before .before .before .before .before .before .before .before .before .before .before .before .before .before .before .loop-test .taken) (f .ensures) _ refl (h .0) _ refl (c .before .before .before .before .before .put .ensures) (r .result .now) (table-region (h .1) (k .result .mark) (k .result .end) _ (k .ensures .0 .0) (k .ensures .0 .1 .0) (k .ensures .1) (r .result .now) (r .ensures))))
 
 -- src/lib.rt:87:5
 loop-less : tie.Need-loop-less Inv-loop μ-loop
@@ -97,7 +112,7 @@ loop-less c = omega (arith, c .before .before .before .before .before .before .b
 
 -- src/lib.rt:87:5
 loop-again : tie.Need-loop-again Inv-loop μ-loop
-loop-again c = let h = mid (c .before .before .before .before .before .before .before .before .before .before .before .before .before .before .before .before .before .before) in let f = c .before .before .before .before .before .before .before .before .before .before .before .before .before .before .before .before .before .before .before .before .before .find-byte in let l = c .before .before .before .before .before .before .before .before .before .before .before .before .before .before .before .before .before .before .before .before .cut in let k = c .before .before .before .before .before .before .before .before .before .before .before .before .before .mark-once in let x = c .before .before .before .before .before .before .before .before .before .cut2 in let r = c .before .before .before .before .before .cut3 in let w = k .ensures .0 .1 .1 in (prune-quiet (prune-on (c .before .before .before .before .before .before .before .before .before .before .before .before .before .before .before .before .before .before .before .before .before .before .before .loop .inv .0) (f .result) (c .before .before .before .before .before .before .before .before .before .before .before .before .before .before .before .before .before .before .before .before .before .before .loop-test .taken) (f .ensures) (l .result .now) (l .ensures) (h .0) (x .result .now) (x .ensures) (c .before .before .before .before .before .before .before .before .put .ensures) (r .result .now) (table-region (h .1) (k .result .mark) (k .result .end) _ (k .ensures .0 .0) (k .ensures .0 .1 .0) (k .ensures .1) (r .result .now) (r .ensures)) (c .before .before .put-line .ensures) (c .before .before .before .before .before .before .before .before .before .before .before .before .before .before .before .after .ensures)) w, table-quiet (table-on (h .1) (k .result .mark) (k .result .end) _ (k .ensures .0 .0) (k .ensures .0 .1 .0) (k .ensures .1) (f .result) (c .before .before .before .before .before .before .before .before .before .before .before .before .before .before .before .after .result) (c .before .before .before .before .before .before .before .before .before .before .before .before .before .before .before .before .before .before .before .before .before .before .loop-test .taken) (f .ensures) (c .before .before .before .before .before .before .before .before .before .before .before .before .before .before .before .after .ensures)) (k .result .next) w)
+loop-again c = let h = mid (c .before .before .before .before .before .before .before .before .before .before .before .before .before .before .before .before .before .before) in let f = c .before .before .before .before .before .before .before .before .before .before .before .before .before .before .before .before .before .before .before .before .before .find-byte in let k = c .before .before .before .before .before .before .before .before .before .before .before .before .before .mark-once in let r = c .before .before .before .before .before .cut in let w = k .ensures .0 .1 .1 in (prune-quiet (prune-on (c .before .before .before .before .before .before .before .before .before .before .before .before .before .before .before .before .before .before .before .before .before .before .before .loop .inv .0) (f .result) (c .before .before .before .before .before .before .before .before .before .before .before .before .before .before .before .before .before .before .before .before .before .before .loop-test .taken) (f .ensures) _ refl (h .0) _ refl (c .before .before .before .before .before .before .before .before .put .ensures) (r .result .now) (table-region (h .1) (k .result .mark) (k .result .end) _ (k .ensures .0 .0) (k .ensures .0 .1 .0) (k .ensures .1) (r .result .now) (r .ensures)) (c .before .before .put-line .ensures) (c .before .before .before .before .before .before .before .before .before .before .before .before .before .before .before .after .ensures)) w, table-quiet (table-on (h .1) (k .result .mark) (k .result .end) _ (k .ensures .0 .0) (k .ensures .0 .1 .0) (k .ensures .1) (f .result) (c .before .before .before .before .before .before .before .before .before .before .before .before .before .before .before .after .result) (c .before .before .before .before .before .before .before .before .before .before .before .before .before .before .before .before .before .before .before .before .before .before .loop-test .taken) (f .ensures) (c .before .before .before .before .before .before .before .before .before .before .before .before .before .before .before .after .ensures)) (k .result .next) w)
 
 -- src/lib.rt:103:13
 after-requires-2 : tie.Need-after-requires-2 Inv-loop μ-loop
@@ -109,15 +124,23 @@ loop-less-2 c = omega (arith, c .after2 .ensures, c .before .before .before .bef
 
 -- src/lib.rt:87:5
 loop-again-2 : tie.Need-loop-again-2 Inv-loop μ-loop
-loop-again-2 c = let h = mid (c .before .before .before) in let f = c .before .before .before .before .before .before .find-byte in let l = c .before .before .before .before .before .cut in (prune-pass (c .before .before .before .before .before .before .before .before .loop .inv .0) (f .result) (c .before .before .before .before .before .before .before .loop-test .taken) (f .ensures) (l .result .now) (l .ensures) (h .0) (so (c .before .before .declares .ensures) (c .before .if2 .left)) (c .after2 .result) (c .after2 .ensures), table-pass (h .1) (f .result) (c .after2 .result) (c .before .before .before .before .before .before .before .loop-test .taken) (f .ensures) (c .after2 .ensures))
+loop-again-2 c = let h = mid (c .before .before .before) in let f = c .before .before .before .before .before .before .find-byte in (prune-pass (c .before .before .before .before .before .before .before .before .loop .inv .0) (f .result) (c .before .before .before .before .before .before .before .loop-test .taken) (f .ensures) _ refl (h .0) (so (c .before .before .declares .ensures) (c .before .if2 .left)) (c .after2 .result) (c .after2 .ensures), table-pass (h .1) (f .result) (c .after2 .result) (c .before .before .before .before .before .before .before .loop-test .taken) (f .ensures) (c .after2 .ensures))
 
 -- src/lib.rt:106:22
-cut-requires-4 : tie.Need-cut-requires-4 Inv-loop μ-loop
-cut-requires-4 c κs = search needs
+sub-put-lines : tie.Need-sub-put-lines Inv-loop μ-loop
+sub-put-lines c = omega (arith, c .before .loop .inv .0 .c≤, c .before .loop .inv .0 .i≤)
+
+-- src/lib.rt:106:22
+part-put-lines-start : tie.Need-part-put-lines-start Inv-loop μ-loop
+part-put-lines-start c = omega (arith, c .before .loop .inv .0 .c≤, c .before .loop .inv .0 .i≤)
+
+-- src/lib.rt:106:22
+part-put-lines-end : tie.Need-part-put-lines-end Inv-loop μ-loop
+part-put-lines-end c = omega (arith, c .before .loop .inv .0 .c≤, c .before .loop .inv .0 .i≤)
 
 -- src/lib.rt:106:5
 put-lines-requires : tie.Need-put-lines-requires Inv-loop μ-loop
-put-lines-requires c κs = end-room (c .before .before .before .loop .inv .0) (c .before .before .loop-test .left) (c .before .cut4 .result .now) (c .before .cut4 .ensures)
+put-lines-requires c κs = end-room (c .before .before .before .loop .inv .0) (c .before .before .loop-test .left) _ refl
 
 -- src/lib.rt:77:1
 same-length : tie.Need-same-length Inv-loop μ-loop
@@ -129,7 +152,7 @@ same-length-2 c = c .before .before .put-lines .kept .1 .0 ∙ writing-length (c
 
 -- src/lib.rt:77:1
 returns : tie.Need-returns Inv-loop μ-loop
-returns c = prune-end (c .before .before .before .before .before .before .loop .inv .0) (c .before .before .before .before .before .loop-test .left) (c .before .before .before .before .cut4 .result .now) (c .before .before .before .before .cut4 .ensures) (c .before .before .put-lines .ensures)
+returns c = prune-end (c .before .before .before .before .before .before .loop .inv .0) (c .before .before .before .before .before .loop-test .left) _ refl (c .before .before .put-lines .ensures)
 
 pub prune-with-spec : {M : Type 1} → statement M
 prune-with-spec =
@@ -139,21 +162,27 @@ prune-with-spec =
     μ-loop
     loop-holds
     find-byte-requires
-    cut-requires
+    sub-line
+    part-line-start
+    part-line-end
     is-header-requires
     declares-requires
     after-requires
     mark-once-requires
-    cut-requires-2
+    sub-put
+    part-put-start
+    part-put-end
     put-requires
-    cut-requires-3
+    cut-requires
     put-line-requires
     loop-less
     loop-again
     after-requires-2
     loop-less-2
     loop-again-2
-    cut-requires-4
+    sub-put-lines
+    part-put-lines-start
+    part-put-lines-end
     put-lines-requires
     same-length
     same-length-2

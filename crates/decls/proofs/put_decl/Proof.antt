@@ -1,16 +1,21 @@
--- `decls::put_decl` meets its contract. Assumes nothing.
 use Prim.Native.Nat.{_-_}
 use native.Mathlib.Omega.{arith}
 use borrow.Author.Needs.{needs}
-use mathlib.Core.Path.{ap, _∙_}
 use lib.ListN.{length}
 use Rattle.lines.specs.Lf.{linesOf}
 use Rattle.lines.proofs.OutLaws.{wrote-length, writing-length}
-use Rattle.text.specs.Trim.{trimOf}
 use Rattle.decls.specs.Decls.{stays}
 use Rattle.decls.proofs.PrintLaws.{DeclInv, decl-start, decl-room, decl-on, decl-end-room, decl-end}
+use Rattle.lines.proofs.LfLaws.{find-le}
 use Rattle.decls.proofs.put_decl.Statement.{statement}
 use Rattle.decls.proofs.put_decl.Tie as tie
+use Rattle.decls.proofs.put_decl.Reads as reads
+use Rattle.decls.proofs.put_decl.Lts as lts
+use Rattle.decls.proofs.print.put_end.Reads as put-end-reads
+use Rattle.decls.proofs.print.put_part.Reads as put-part-reads
+use Rattle.decls.proofs.stays_in.Reads as stays-in-reads
+use Rattle.lines.proofs.find_byte.Reads as find-byte-reads
+use Rattle.text.proofs.trim.Reads as trim-reads
 
 abbrev Inv-loop : tie.InvT-loop
 Inv-loop body indent region m seen out₀ o i₀ p₀ out i p = DeclInv (stays (linesOf region)) 1 indent body out₀ out o i p
@@ -18,57 +23,77 @@ Inv-loop body indent region m seen out₀ o i₀ p₀ out i p = DeclInv (stays (
 abbrev μ-loop : tie.MeasureT-loop
 μ-loop body indent region m seen out₀ o i₀ p₀ out i p = length body - i
 
+-- src/lib.rt:45:5
 loop-holds : tie.Need-loop-holds Inv-loop μ-loop
 loop-holds c = let s = c .before .before .before .before .before in let a = s .args in decl-start (stays (linesOf (a .region .now))) 1 (a .indent .now) (a .body .now) (a .out .now) (a .o) (s .pre .1)
 
+-- src/lib.rt:46:13
 find-byte-requires : tie.Need-find-byte-requires Inv-loop μ-loop
 find-byte-requires c κs = search needs
 
-cut-requires : tie.Need-cut-requires Inv-loop μ-loop
-cut-requires c κs = search needs
+-- src/lib.rt:47:28
+sub-trim : tie.Need-sub-trim Inv-loop μ-loop
+sub-trim c = omega arith
 
+-- src/lib.rt:47:28
+part-trim-start : tie.Need-part-trim-start Inv-loop μ-loop
+part-trim-start c = omega arith
+
+-- src/lib.rt:47:28
+part-trim-end : tie.Need-part-trim-end Inv-loop μ-loop
+part-trim-end c = omega (arith, find-le 44 (c .before .before .before .before .before .before .before .args .body .now) (c .before .loop .i) (c .find-byte .result) (c .before .loop .inv .i≤) (c .find-byte .ensures))
+
+-- src/lib.rt:47:13
 trim-requires : tie.Need-trim-requires Inv-loop μ-loop
 trim-requires c κs = search needs
 
+-- src/lib.rt:48:13
 stays-in-requires : tie.Need-stays-in-requires Inv-loop μ-loop
 stays-in-requires c κs = c .before .before .before .before .before .before .before .before .before .pre .0
 
+-- src/lib.rt:49:9
 put-part-requires : tie.Need-put-part-requires Inv-loop μ-loop
 put-part-requires c κs =
     let f = c .before .before .before .before .find-byte in
     let t = c .before .before .trim in
     let s = c .before .stays-in in
-    decl-room (c .before .before .before .before .before .loop .inv) (f .result) (f .ensures) (t .result .now) (t .ensures .0 ∙ ap trimOf (c .before .before .before .cut .ensures)) (s .result) (s .ensures)
+    decl-room (c .before .before .before .before .before .loop .inv) (f .result) (f .ensures) (t .result .now) (t .ensures .0) (s .result) (s .ensures)
 
+-- src/lib.rt:51:13
 put-end-requires : tie.Need-put-end-requires Inv-loop μ-loop
 put-end-requires c κs =
     let f = c .before .before .before .before .before .before .before .before .before .find-byte in
     let t = c .before .before .before .before .before .before .before .trim in
     let s = c .before .before .before .before .before .before .stays-in in
-    decl-end-room (c .before .before .before .before .before .before .before .before .before .before .loop .inv) (f .result) (f .ensures) (t .result .now) (t .ensures .0 ∙ ap trimOf (c .before .before .before .before .before .before .before .before .cut .ensures)) (s .result) (s .ensures) (c .before .before .before .before .put-part .ensures) (c .before .if1 .taken)
+    decl-end-room (c .before .before .before .before .before .before .before .before .before .before .loop .inv) (f .result) (f .ensures) (t .result .now) (t .ensures .0) (s .result) (s .ensures) (c .before .before .before .before .put-part .ensures) (c .before .if1 .taken)
 
+-- src/lib.rt:51:13
 same-length : tie.Need-same-length Inv-loop μ-loop
 same-length c = omega (arith, writing-length (c .before .before .before .before .before .before .before .before .before .before .before .before .before .loop .inv .writing), wrote-length (c .before .before .before .before .before .before .before .put-part .ensures), wrote-length (c .before .before .put-end .ensures))
 
+-- src/lib.rt:51:13
 returns : tie.Need-returns Inv-loop μ-loop
 returns c =
     let f = c .before .before .before .before .before .before .before .before .before .before .before .before .find-byte in
     let t = c .before .before .before .before .before .before .before .before .before .before .trim in
     let s = c .before .before .before .before .before .before .before .before .before .stays-in in
-    decl-end (c .before .before .before .before .before .before .before .before .before .before .before .before .before .loop .inv) (f .result) (f .ensures) (t .result .now) (t .ensures .0 ∙ ap trimOf (c .before .before .before .before .before .before .before .before .before .before .before .cut .ensures)) (s .result) (s .ensures) (c .before .before .before .before .before .before .before .put-part .ensures) (c .before .before .before .before .if1 .taken) (c .before .before .put-end .ensures)
+    decl-end (c .before .before .before .before .before .before .before .before .before .before .before .before .before .loop .inv) (f .result) (f .ensures) (t .result .now) (t .ensures .0) (s .result) (s .ensures) (c .before .before .before .before .before .before .before .put-part .ensures) (c .before .before .before .before .if1 .taken) (c .before .before .put-end .ensures)
 
+-- src/lib.rt:53:13
 add-i : tie.Need-add-i Inv-loop μ-loop
 add-i c = omega arith
 
+-- src/lib.rt:45:5
 loop-less : tie.Need-loop-less Inv-loop μ-loop
 loop-less c = omega (arith, c .before .before .before .before .before .before .before .before .find-byte .ensures)
 
+-- src/lib.rt:45:5
 loop-again : tie.Need-loop-again Inv-loop μ-loop
 loop-again c =
     let f = c .before .before .before .before .before .before .before .before .find-byte in
     let t = c .before .before .before .before .before .before .trim in
     let s = c .before .before .before .before .before .stays-in in
-    decl-on (c .before .before .before .before .before .before .before .before .before .loop .inv) (f .result) (f .ensures) (t .result .now) (t .ensures .0 ∙ ap trimOf (c .before .before .before .before .before .before .before .cut .ensures)) (s .result) (s .ensures) (c .before .before .before .put-part .ensures) (c .if1 .left)
+    decl-on (c .before .before .before .before .before .before .before .before .before .loop .inv) (f .result) (f .ensures) (t .result .now) (t .ensures .0) (s .result) (s .ensures) (c .before .before .before .put-part .ensures) (c .if1 .left)
 
 pub put-decl-spec : {M : Type 1} → statement M
 put-decl-spec =
@@ -78,7 +103,9 @@ put-decl-spec =
     μ-loop
     loop-holds
     find-byte-requires
-    cut-requires
+    sub-trim
+    part-trim-start
+    part-trim-end
     trim-requires
     stays-in-requires
     put-part-requires
