@@ -6,7 +6,7 @@ use mathlib.Core.List.{List, [], _∷_, _++_, append-assoc, append-nil}
 use native.Mathlib.Omega.{arith}
 use borrow.Author.Tests.{lt-ltb, le-ltb, ltb-true, ltb-false}
 use lib.Dec.{ltb}
-use lib.ListN.{length, take, drop, length-append, length-drop}
+use lib.ListN.{length, take, drop, length-append, length-drop, take-append-drop}
 use lib.Seq.{take-append-seam}
 use Rattle.lines.specs.Lf.{part, upTo, partsOf, unlines}
 use Rattle.lines.specs.Acts.{act}
@@ -52,6 +52,14 @@ module _ (t : List ℕ) (k z : ℕ) (q : z ≡ zeros (part k (length t) t)) wher
       append-nil (leadOf indent some ++ (take k t ++ drop (k + zeros (drop k t)) t))
       ∙ ap (λ (r : List ℕ). leadOf indent some ++ r)
       (rw (a, append-nil (part (k + z) (length t) t), rest-of t (k + z)) (ap (λ (n : ℕ). take k t ++ drop (k + n) t) (sym zeros-are)))
+
+  -- where none leads, the name is written as it is
+  name-plain : z ≡ 0 → (indent : List ℕ) (some : Bool) → named indent (bareName k t ∷ []) some ≡ leadOf indent some ++ (t ++ [])
+  unfolding named bareName
+  name-plain n indent some =
+      let w : k + zeros (drop k t) ≡ k = omega (arith, zeros-are) in
+      append-nil (leadOf indent some ++ (take k t ++ drop (k + zeros (drop k t)) t))
+      ∙ ap (λ (r : List ℕ). leadOf indent some ++ r) (ap (λ (i : ℕ). take k t ++ drop i t) w ∙ take-append-drop k t ∙ sym (append-nil t))
 
 -- ---- what stands before a name, and the end
 
@@ -103,6 +111,29 @@ pub name-writing : (t : List ℕ) (k z : ℕ) → z ≡ zeros (part k (length t)
     (x y : List ℕ) → x ≡ part 0 k t → y ≡ part (k + z) (length t) t → Writing o (named indent (bareName k t ∷ []) some) (leadOf indent some ++ (x ++ (y ++ []))) d d o
 name-writing t k z q indent some d o r x y e f =
     writing-as (name-whole t k z q indent some ∙ rw (← e, ← f)) (writing-start o (named indent (bareName k t ∷ []) some) d r)
+
+-- where no zero leads: what stands before it, and the name, are to come
+pub plain-writing : (t : List ℕ) (k z : ℕ) → z ≡ zeros (part k (length t) t) → z ≡ 0 → (indent : List ℕ) (some : Bool) (d : List ℕ) (o : ℕ) → o + length (named indent (bareName k t ∷ []) some) ≤ length d →
+    Writing o (named indent (bareName k t ∷ []) some) (leadOf indent some ++ (t ++ [])) d d o
+plain-writing t k z q n indent some d o r = writing-as (name-plain t k z q n indent some) (writing-start o (named indent (bareName k t ∷ []) some) d r)
+
+-- two bytes are to come, and are written one by one
+module _ {whole : List ℕ} {x y : ℕ} (e : whole ≡ x ∷ y ∷ []) (d : List ℕ) (o : ℕ) (r : o + length whole ≤ length d) where
+  pair-writing : Writing o whole (x ∷ y ∷ []) d d o
+  pair-writing = writing-as e (writing-start o whole d r)
+
+  pub pair-room : o < length d
+  pair-room = omega (arith, writing-room pair-writing)
+
+  module _ {d₁ : List ℕ} {p : ℕ} (v : Wrote d o (x ∷ []) d₁ p) where
+    next-writing : Writing o whole (y ∷ []) d d₁ p
+    next-writing = writing-put {xs = x ∷ []} {rest = y ∷ []} pair-writing v
+
+    pub pair-more : p < length d₁
+    pair-more = omega (arith, writing-room next-writing)
+
+    pub pair-end : {d₂ : List ℕ} {q : ℕ} → Wrote d₁ p (y ∷ []) d₂ q → Wrote d o whole d₂ q
+    pair-end w = writing-end (writing-put {xs = y ∷ []} {rest = []} next-writing w)
 
 -- ---- names, piece by piece
 

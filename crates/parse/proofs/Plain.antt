@@ -1,7 +1,7 @@
 -- A name that is plainly a register, and a line that is plainly a store. Assumes nothing.
 use Prim.Native.Nat.{ℕ, zero, suc, _+_, _-_, _^_, _≤_, _<_}
 use mathlib.Core.Path.{_≡_, refl, sym, ap, _∙_}
-use mathlib.Core.Bool.{Bool, true, false, cond, not, _||_}
+use mathlib.Core.Bool.{Bool, true, false, cond, not, _&&_, _||_}
 use mathlib.Core.List.{List, [], _∷_}
 use native.Mathlib.Nat.{pow-le-pow-right}
 use native.Mathlib.Omega.{arith}
@@ -230,19 +230,41 @@ module _ (s : List ℕ) (i a e : ℕ) (p : a ≡ cond (eqb (getD s i 0) 32) (i +
           (drop-cons s i 0 h ∙ ap (λ (x : ℕ). x ∷ drop (suc i) s) g ∙ ap (λ (n : ℕ). 32 ∷ drop n s) (sym (add-one i) ∙ sym z) ∙ ap (λ (l : List ℕ). 32 ∷ l) (name-at s a r))
           (omega arith) (plain-spaced rest (omega arith) (omega arith) ends)
 
--- one digit, and a comma behind it
-pub short-room : (s : List ℕ) (a : ℕ) → shortReg a s ≡ true → a + 3 ≤ length s
-short-room s a v = leb-true (a + 3) (length s) (and-left (leb (a + 3) (length s)) _ v)
+-- one digit, and a comma or the end behind it
+pub short-room : (s : List ℕ) (a : ℕ) → shortReg a s ≡ true → a + 2 ≤ length s
+short-room s a v = leb-true (a + 2) (length s) (and-left (leb (a + 2) (length s)) _ v)
+
+-- its tests, one by one
+pub short-is : (s : List ℕ) (a : ℕ) (b : Bool) → a + 2 ≤ length s → eqb (getD s a 0) 114 && isDigit (getD s (a + 1) 0) ≡ b → shortReg a s ≡ b && (eqb (a + 2) (length s) || eqb (getD s (a + 2) 0) 44)
+short-is s a b h e =
+    let behind : Bool = eqb (a + 2) (length s) || eqb (getD s (a + 2) 0) 44 in
+    ap (λ (x : Bool). x && ((eqb (getD s a 0) 114 && isDigit (getD s (a + 1) 0)) && behind)) (le-leb (a + 2) (length s) h) ∙ ap (λ (x : Bool). x && behind) e
 
 pub short-at : (s : List ℕ) (i a : ℕ) → a ≡ cond (eqb (getD s i 0) 32) (i + 1) i → shortReg a s ≡ true → (a + 2 ≡ i + upTo 44 (drop i s)) × (isReg (regOf (trimOf (part i (a + 2) s))) ≡ true)
-short-at s i a p v =
-    let h = short-room s a v in
-    let x = and-right (leb (a + 3) (length s)) _ v in
-    let y = and-right (eqb (getD s a 0) 114) _ x in
-    let r : getD s a 0 ≡ 114 = eqb-true (getD s a 0) 114 (and-left (eqb (getD s a 0) 114) _ x) in
-    let d : isDigit (getD s (a + 1) 0) ≡ true = and-left (isDigit (getD s (a + 1) 0)) _ y in
-    let c : getD s (a + 2) 0 ≡ 44 = eqb-true (getD s (a + 2) 0) 44 (and-right (isDigit (getD s (a + 1) 0)) _ y) in
-    let z : a + 1 + 1 ≡ a + 2 = omega arith in
-    let m : digitsLen (drop (a + 1 + 1) s) ≡ 0 = digits-here s (a + 1 + 1) (omega arith) (ap (λ (n : ℕ). isDigit (getD s n 0)) z ∙ ap (λ (b : ℕ). isDigit b) c) in
-    let q : a + 2 ≡ a + 1 + digitsLen (drop (a + 1) s) = omega (arith, digits-on s (a + 1) (omega arith) d) in
-    plain-at s i a (a + 2) p r q (omega arith) (omega arith) (λ k. c)
+short-at s i a p v = go (eqb (a + 2) (length s)) refl (and-right (eqb (getD s a 0) 114 && isDigit (getD s (a + 1) 0)) _ x)
+  where
+    h : a + 2 ≤ length s
+    h = short-room s a v
+
+    x : (eqb (getD s a 0) 114 && isDigit (getD s (a + 1) 0)) && (eqb (a + 2) (length s) || eqb (getD s (a + 2) 0) 44) ≡ true
+    x = and-right (leb (a + 2) (length s)) _ v
+
+    y : eqb (getD s a 0) 114 && isDigit (getD s (a + 1) 0) ≡ true
+    y = and-left (eqb (getD s a 0) 114 && isDigit (getD s (a + 1) 0)) _ x
+
+    r : getD s a 0 ≡ 114
+    r = eqb-true (getD s a 0) 114 (and-left (eqb (getD s a 0) 114) _ y)
+
+    -- no digit stands behind it
+    by : digitsLen (drop (a + 1 + 1) s) ≡ 0 → (a + 2 < length s → getD s (a + 2) 0 ≡ 44) → (a + 2 ≡ i + upTo 44 (drop i s)) × (isReg (regOf (trimOf (part i (a + 2) s))) ≡ true)
+    by m c =
+        let q : a + 2 ≡ a + 1 + digitsLen (drop (a + 1) s) = omega (arith, digits-on s (a + 1) (omega (arith, h)) (and-right (eqb (getD s a 0) 114) _ y)) in
+        plain-at s i a (a + 2) p r q (omega arith) (omega arith) c
+
+    go : (t : Bool) → eqb (a + 2) (length s) ≡ t → t || eqb (getD s (a + 2) 0) 44 ≡ true → (a + 2 ≡ i + upTo 44 (drop i s)) × (isReg (regOf (trimOf (part i (a + 2) s))) ≡ true)
+    go true e w = let z : a + 2 ≡ length s = eqb-true (a + 2) (length s) e in by (digits-end s (a + 1 + 1) (omega arith)) (λ k. absurd (omega arith))
+    go false e w =
+        let c : getD s (a + 2) 0 ≡ 44 = eqb-true (getD s (a + 2) 0) 44 w in
+        let k : a + 2 < length s = inside s (a + 2) (λ n. absurd (omega arith)) in
+        let z : a + 1 + 1 ≡ a + 2 = omega arith in
+        by (digits-here s (a + 1 + 1) (omega arith) (ap (λ (n : ℕ). isDigit (getD s n 0)) z ∙ ap (λ (b : ℕ). isDigit b) c)) (λ _. c)

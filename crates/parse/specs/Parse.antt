@@ -37,9 +37,9 @@ unfoldable pub digitsLen : List ℕ → ℕ
 digitsLen [] = 0
 digitsLen (x ∷ xs) = cond (isDigit x) (suc (digitsLen xs)) 0
 
--- at the place a stand `r`, one digit and a comma
+-- at the place a stand `r` and a digit, and then a comma or the end
 abbrev pub shortReg : ℕ → List ℕ → Bool
-shortReg a l = leb (a + 3) (length l) && (eqb (getD l a 0) 114 && (isDigit (getD l (a + 1) 0) && eqb (getD l (a + 2) 0) 44))
+shortReg a l = leb (a + 2) (length l) && ((eqb (getD l a 0) 114 && isDigit (getD l (a + 1) 0)) && (eqb (a + 2) (length l) || eqb (getD l (a + 2) 0) 44))
 
 -- a trimmed line is a declaration
 unfoldable pub isDecl : List ℕ → Bool

@@ -56,19 +56,25 @@ fn after_space(s: &[u8], i: usize) -> usize
     i
 }
 
-// Whether `r`, a digit and a comma stand at a place.
+// Whether `r` and a digit stand at a place, and then a comma or the end.
 fn short_reg(s: &[u8], a: usize) -> bool
     ensures { λ r. ⌜ r ≡ shortReg a (now (s .entry)) ⌝ }
 {
     let n = s.len();
-    if n < 3 {
+    if n < 2 {
         return false;
     }
-    if n - 3 < a {
+    if n - 2 < a {
         return false;
     }
     let d = s[a + 1];
-    (s[a] == b'r') & (((b'0' <= d) & (d <= b'9')) & (s[a + 2] == b','))
+    if !((s[a] == b'r') & ((b'0' <= d) & (d <= b'9'))) {
+        return false;
+    }
+    if a + 2 == n {
+        return true;
+    }
+    s[a + 2] == b','
 }
 
 // Where the piece at a place ends, where it is plainly a register: at most one space, `r` and at most nine digits. Else the place.

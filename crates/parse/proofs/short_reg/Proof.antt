@@ -1,8 +1,12 @@
 use borrow.Author.Needs.{needs}
 use Prim.Native.Nat.{_+_}
+use mathlib.Core.Path.{sym, ap, _∙_}
+use mathlib.Core.Bool.{Bool, true, false, _||_}
 use native.Mathlib.Omega.{arith}
-use lib.ListN.{length}
-use borrow.Author.Tests.{le-leb, lt-leb}
+use lib.Dec.{eqb}
+use lib.ListN.{length, getD}
+use borrow.Author.Tests.{lt-leb, eq-eqb, ne-eqb, not-true, not-false}
+use Rattle.parse.proofs.Plain.{short-is}
 use Rattle.parse.proofs.short_reg.Statement.{statement}
 use Rattle.parse.proofs.short_reg.Tie as tie
 use Rattle.parse.proofs.short_reg.Reads as reads
@@ -10,11 +14,11 @@ use Rattle.parse.proofs.short_reg.Lts as lts
 
 -- src/lib.rt:65:9
 returns : tie.Need-returns
-returns c = let a = c .before .args in rw (lt-leb (a .a + 3) (length (a .s .now)) (omega arith))
+returns c = let a = c .before .args in rw (lt-leb (a .a + 2) (length (a .s .now)) (omega arith))
 
 -- src/lib.rt:68:9
 returns-2 : tie.Need-returns-2
-returns-2 c = let a = c .before .before .args in rw (lt-leb (a .a + 3) (length (a .s .now)) (omega arith))
+returns-2 c = let a = c .before .before .args in rw (lt-leb (a .a + 2) (length (a .s .now)) (omega arith))
 
 -- src/lib.rt:70:15
 add-d : tie.Need-add-d
@@ -24,21 +28,33 @@ add-d c = search needs
 shared-slice-read-d : tie.Need-shared-slice-read-d
 shared-slice-read-d c = search needs
 
--- src/lib.rt:71:6
-shared-slice-read-result : tie.Need-shared-slice-read-result
-shared-slice-read-result c = search needs
+-- src/lib.rt:71:11
+shared-slice-read-if3 : tie.Need-shared-slice-read-if3
+shared-slice-read-if3 c = search needs
 
--- src/lib.rt:71:56
+-- src/lib.rt:72:9
+returns-3 : tie.Need-returns-3
+returns-3 c = let a = c .before .before .before .before .before .args in sym (short-is (a .s .now) (a .a) false (omega arith) (not-true _ (c .if3 .taken)))
+
+-- src/lib.rt:74:8
+add-if4 : tie.Need-add-if4
+add-if4 c = search needs
+
+-- src/lib.rt:75:9
+returns-4 : tie.Need-returns-4
+returns-4 c = let a = c .before .before .before .before .before .before .args in sym (short-is (a .s .now) (a .a) true (omega arith) (not-false _ (c .before .if3 .left)) ∙ ap (λ (b : Bool). b || eqb (getD (a .s .now) (a .a + 2) 0) 44) (eq-eqb (a .a + 2) (length (a .s .now)) (c .if4 .taken)))
+
+-- src/lib.rt:77:7
 add-result : tie.Need-add-result
 add-result c = search needs
 
--- src/lib.rt:71:54
-shared-slice-read-result-2 : tie.Need-shared-slice-read-result-2
-shared-slice-read-result-2 c = search needs
+-- src/lib.rt:77:5
+shared-slice-read-result : tie.Need-shared-slice-read-result
+shared-slice-read-result c = search needs
 
 -- src/lib.rt:60:1
-returns-3 : tie.Need-returns-3
-returns-3 c = let a = c .before .before .before .before .before .args in rw (le-leb (a .a + 3) (length (a .s .now)) (omega arith))
+returns-5 : tie.Need-returns-5
+returns-5 c = let a = c .before .before .before .before .before .before .before .args in sym (short-is (a .s .now) (a .a) true (omega arith) (not-false _ (c .before .before .if3 .left)) ∙ ap (λ (b : Bool). b || eqb (getD (a .s .now) (a .a + 2) 0) 44) (ne-eqb (a .a + 2) (length (a .s .now)) (c .before .if4 .left)))
 
 pub short-reg-spec : {M : Type 1} → statement M
 short-reg-spec =
@@ -48,7 +64,10 @@ short-reg-spec =
     returns-2
     add-d
     shared-slice-read-d
-    shared-slice-read-result
+    shared-slice-read-if3
+    returns-3
+    add-if4
+    returns-4
     add-result
-    shared-slice-read-result-2
-    returns-3)
+    shared-slice-read-result
+    returns-5)
