@@ -95,7 +95,9 @@ fn path_lines(a: &[u8], table: &mut [usize], up: &mut [u32]) -> usize {
     if 4294967295 < up.len() {
         return nothing();
     }
-    place::block_paths(a, table, up)
+    let mut ends = [0usize; 1];
+    let x = place::block_paths(a, table, up, &mut ends);
+    x.rows
 }
 
 // For each line the first line with an equal path.

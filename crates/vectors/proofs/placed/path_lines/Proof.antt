@@ -30,8 +30,11 @@ nothing-requires-3 c κs = search needs
 returns-3 : tie.Need-returns-3
 returns-3 c = search needs
 
+slice-aggregate-block-paths : tie.Need-slice-aggregate-block-paths
+slice-aggregate-block-paths c = search needs
+
 block-paths-requires : tie.Need-block-paths-requires
-block-paths-requires c κs = let a = c .before .before .before .before .before .before .before .before .before .before .args .a .now in omega (arith, lines-count a, path-parents-text a)
+block-paths-requires c κs = let a = c .before .before .before .before .before .before .before .before .before .before .before .args .a .now in omega (arith, lines-count a, path-parents-text a)
 
 same-length : tie.Need-same-length
 same-length c = search needs
@@ -54,6 +57,7 @@ path-lines-spec =
     returns-2
     nothing-requires-3
     returns-3
+    slice-aggregate-block-paths
     block-paths-requires
     same-length
     same-length-2
