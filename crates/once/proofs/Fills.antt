@@ -21,7 +21,8 @@ use Rattle.place.proofs.Paths.{length-tops}
 use Rattle.place.proofs.Nests.{length-loops}
 use Rattle.reading.specs.Reading.{Reading, plain}
 use Rattle.once.specs.Once.{Spot, spotsOf, spots, linesIn, dropped, forwards, nextRun, onceGo, onceActs}
-use Rattle.once.specs.Tables.{Blank, lineDrops, lineForwards, markOf, marksGo, onceMarks, actsBy, isSet, firstDrops, firstTakes, markBy, marksIn, marksOf, areaAt}
+use Rattle.once.specs.Tables.{Blank, lineDrops, lineForwards, markOf, marksGo, onceMarks, actsBy, isSet, firstDrops, firstTakes, markBy, firstMark, marksIn, marksOf, areaAt}
+use Rattle.once.specs.Noted.{RowAt}
 use Rattle.once.proofs.Searches.{lines-in}
 use Rattle.once.proofs.Marks.{drops-is, forwards-is, acts-marks}
 use Rattle.once.proofs.Writes.{top-drop}
@@ -147,8 +148,8 @@ module _ (R : Reading) (l : List ℕ) (run : List (List ℕ)) (b goes : Bool) wh
         lineForwards R l run b goes (part j e t) (linesOf (part n (length t) t)) ≡ firstTakes R l run b goes (linesOf (drop j t))
     takes-line e n h q z = rw (rest-of t n, z, lines-at t j e h q) (sym (takes-cons (part j e t) (linesOf (drop (min (e + 1) (length t)) t))))
 
-pub mark-stays : {goes sent b : Bool} → goes ≡ false → sent ≡ b → cond b 2 0 ≡ markBy goes sent
-mark-stays p q = rw (p, q)
+pub mark-stays : {sent b : Bool} → sent ≡ b → cond b 2 0 ≡ markBy false sent
+mark-stays q = rw q
 
 -- ---- the region of a line
 
@@ -184,75 +185,91 @@ module _ (t : List ℕ) (i e above : ℕ) (l : List ℕ) (q : l ≡ part i e t) 
 
 -- ---- the loop
 
--- the marks that are still to come: of the lines from i on, with the entries from k on
-abbrev pub toMark : List ℕ → List ℕ → List ℕ → ℕ → ℕ → Bool → ℕ → List ℕ
-toMark t ps fs i k goes w = marksIn plain (linesOf (drop i t)) (drop k ps) (drop k fs) goes (linesAt t w)
+-- whether the first of the lines from i on goes, with the entries from k on
+abbrev goesAt : List ℕ → List ℕ → List ℕ → ℕ → ℕ → Bool
+goesAt t ps fs i k = firstDrops plain (linesOf (drop i t)) (drop k ps) (isSet (top (drop k fs)))
 
-pub record MarksInv (t ps fs d₀ d : List ℕ) (i k : ℕ) (goes : Bool) (w : ℕ) : Type 0 where
+-- the marks that are still to come: of these lines
+abbrev pub toMark : List ℕ → List ℕ → List ℕ → ℕ → ℕ → ℕ → List ℕ
+toMark t ps fs i k w = marksIn plain (linesOf (drop i t)) (drop k ps) (drop k fs) (goesAt t ps fs i k) (linesAt t w)
+
+pub record MarksInv (t ps fs d₀ d : List ℕ) (i k w : ℕ) : Type 0 where
   pub i≤ : i ≤ length t
   pub k≤ : k ≤ i
-  pub writing : Writing 0 (marksOf plain (linesOf t) ps fs) (toMark t ps fs i k goes w) d₀ d k
+  pub writing : Writing 0 (marksOf plain (linesOf t) ps fs) (toMark t ps fs i k w) d₀ d k
 
-pub fill-start : (t ps fs d : List ℕ) (f : ℕ) (goes : Bool) → length (linesOf t) ≤ length d → f ≡ getD fs 0 0 →
-    goes ≡ firstDrops plain (linesOf (drop 0 t)) (drop 0 ps) (isSet f) → MarksInv t ps fs d d 0 0 goes 0
+pub fill-start : (t ps fs d : List ℕ) → length (linesOf t) ≤ length d → MarksInv t ps fs d d 0 0 0
 unfolding marksOf
-fill-start t ps fs d f goes h z n = record {
+fill-start t ps fs d h = record {
   i≤ = omega arith;
   k≤ = omega arith;
-  writing = writing-as first
-      (writing-start 0 (marksOf plain (linesOf t) ps fs) d (omega (arith, marks-length plain (linesOf t) ps fs)));
+  writing = writing-start 0 (marksOf plain (linesOf t) ps fs) d (omega (arith, marks-length plain (linesOf t) ps fs));
 }
-  where
-    first : marksOf plain (linesOf t) ps fs ≡ marksIn plain (linesOf t) ps fs goes (region (linesOf t))
-    first = ap (λ (c : Bool). marksIn plain (linesOf t) ps fs c (region (linesOf t))) (ap (λ (c : ℕ). firstDrops plain (linesOf t) ps (isSet c)) (top-drop fs 0 ∙ sym z) ∙ sym n)
 
-marks-cons : (R : Reading) (l : List ℕ) (ls : List (List ℕ)) (ps fs : List ℕ) (goes : Bool) (run : List (List ℕ)) (f : ℕ) (next : Bool) → f ≡ top fs →
-    next ≡ firstDrops R ls (drop 1 ps) (isSet (top (drop 1 fs))) →
-    marksIn R (l ∷ ls) ps fs goes run ≡ markBy goes (firstTakes R l (regionAt l ls run) (isSet f) next ls) ∷ marksIn R ls (drop 1 ps) (drop 1 fs) next (regionAt l ls run)
+marks-cons : (R : Reading) (l : List ℕ) (ls : List (List ℕ)) (ps fs : List ℕ) (run : List (List ℕ)) →
+    marksIn R (l ∷ ls) ps fs (firstDrops R (l ∷ ls) ps (isSet (top fs))) run
+    ≡ firstMark R (l ∷ ls) ps fs (regionAt l ls run) ∷ marksIn R ls (drop 1 ps) (drop 1 fs) (firstDrops R ls (drop 1 ps) (isSet (top (drop 1 fs)))) (regionAt l ls run)
+unfolding marksIn firstMark
+marks-cons R l ls ps fs run = refl
+
+module _ {t ps fs d₀ d : List ℕ} {i k w : ℕ} (v : MarksInv t ps fs d₀ d i k w) (h : i < length t)
+    (e w′ : ℕ) (q : e ≡ i + upTo 10 (drop i t)) (a : w′ ≡ areaAt t i e w) where
+  mark-on : toMark t ps fs i k w ≡ firstMark plain (linesOf (drop i t)) (drop k ps) (drop k fs) (linesAt t w′) ∷ toMark t ps fs (min (e + 1) (length t)) (k + 1) w′
+  mark-on =
+      let l : List ℕ = part i e t in
+      let below : List (List ℕ) = linesOf (drop (min (e + 1) (length t)) t) in
+      let r : linesAt t w′ ≡ regionAt l below (linesAt t w) = ap (linesAt t) a ∙ area-run t i e w h q in
+      ap (λ (ls : List (List ℕ)). marksIn plain ls (drop k ps) (drop k fs) (firstDrops plain ls (drop k ps) (isSet (top (drop k fs)))) (linesAt t w)) (lines-at t i e h q)
+      ∙ marks-cons plain l below (drop k ps) (drop k fs) (linesAt t w)
+      ∙ ap (λ (s : List (List ℕ)). firstMark plain (l ∷ below) (drop k ps) (drop k fs) s ∷ marksIn plain below (drop 1 (drop k ps)) (drop 1 (drop k fs)) (firstDrops plain below (drop 1 (drop k ps)) (isSet (top (drop 1 (drop k fs))))) s) (sym r)
+      ∙ ap (λ (s : List ℕ). firstMark plain (l ∷ below) (drop k ps) (drop k fs) (linesAt t w′) ∷ marksIn plain below s (drop 1 (drop k fs)) (firstDrops plain below s (isSet (top (drop 1 (drop k fs))))) (linesAt t w′)) (drop-drop 1 k ps)
+      ∙ ap (λ (s : List ℕ). firstMark plain (l ∷ below) (drop k ps) (drop k fs) (linesAt t w′) ∷ marksIn plain below (drop (k + 1) ps) s (firstDrops plain below (drop (k + 1) ps) (isSet (top s))) (linesAt t w′)) (drop-drop 1 k fs)
+      ∙ ap (λ (ls : List (List ℕ)). firstMark plain ls (drop k ps) (drop k fs) (linesAt t w′) ∷ toMark t ps fs (min (e + 1) (length t)) (k + 1) w′) (sym (lines-at t i e h q))
+
+  -- the entry is there
+  pub fill-place : k < length d
+  fill-place = let r = writing-room (writing-as mark-on (v .writing)) in omega arith
+
+  pub fill-on : (j m : ℕ) → j ≡ min (e + 1) (length t) → m ≡ firstMark plain (linesOf (drop i t)) (drop k ps) (drop k fs) (linesAt t w′) → MarksInv t ps fs d₀ (set d k m) j (k + 1) w′
+  fill-on j m z o = record {
+    i≤ = omega arith;
+    k≤ = omega (arith, v .k≤);
+    writing = entry-on m (writing-as (mark-on ∙ ap (λ (u : ℕ). u ∷ toMark t ps fs (min (e + 1) (length t)) (k + 1) w′) (sym o) ∙ ap (λ (u : ℕ). m ∷ toMark t ps fs u (k + 1) w′) (sym z)) (v .writing));
+  }
+
+pub fill-end : {t ps fs d₀ d : List ℕ} {i k w : ℕ} → MarksInv t ps fs d₀ d i k w → length t ≤ i → Filled d₀ (marksOf plain (linesOf t) ps fs) d k
 unfolding marksIn
-marks-cons R l ls ps fs goes run f next y z = rw (y, z)
-
-module _ {t ps fs d₀ d : List ℕ} {i k : ℕ} {goes : Bool} {w : ℕ} (v : MarksInv t ps fs d₀ d i k goes w) (h : i < length t)
-    (e j : ℕ) (q : e ≡ i + upTo 10 (drop i t)) (z : j ≡ min (e + 1) (length t)) where
-  module _ (f g : ℕ) (next : Bool) (w′ : ℕ) (y : f ≡ getD fs k 0) (x : g ≡ getD fs (k + 1) 0) (a : w′ ≡ areaAt t i e w)
-      (n : next ≡ firstDrops plain (linesOf (drop j t)) (drop (k + 1) ps) (isSet g)) where
-    mark-on : toMark t ps fs i k goes w ≡ markBy goes (firstTakes plain (part i e t) (linesAt t w′) (isSet f) next (linesOf (drop j t))) ∷ toMark t ps fs j (k + 1) next w′
-    mark-on =
-        let below : List (List ℕ) = linesOf (drop (min (e + 1) (length t)) t) in
-        let u : drop 1 (drop k fs) ≡ drop (k + 1) fs = drop-drop 1 k fs in
-        let o : drop 1 (drop k ps) ≡ drop (k + 1) ps = drop-drop 1 k ps in
-        let r : linesAt t w′ ≡ regionAt (part i e t) below (linesAt t w) = ap (linesAt t) a ∙ area-run t i e w h q in
-        let m : next ≡ firstDrops plain below (drop 1 (drop k ps)) (isSet (top (drop 1 (drop k fs)))) =
-        n ∙ ap (λ (s : ℕ). firstDrops plain (linesOf (drop s t)) (drop (k + 1) ps) (isSet g)) z
-        ∙ ap (λ (s : ℕ). firstDrops plain below (drop (k + 1) ps) (isSet s)) (x ∙ sym (top-drop fs (k + 1)) ∙ ap top (sym u))
-        ∙ ap (λ (s : List ℕ). firstDrops plain below s (isSet (top (drop 1 (drop k fs))))) (sym o) in
-        ap (λ (ls : List (List ℕ)). marksIn plain ls (drop k ps) (drop k fs) goes (linesAt t w)) (lines-at t i e h q)
-        ∙ marks-cons plain (part i e t) below (drop k ps) (drop k fs) goes (linesAt t w) f next (y ∙ sym (top-drop fs k)) m
-        ∙ ap (λ (s : List (List ℕ)). markBy goes (firstTakes plain (part i e t) s (isSet f) next below) ∷ marksIn plain below (drop 1 (drop k ps)) (drop 1 (drop k fs)) next s) (sym r)
-        ∙ ap (λ (s : List ℕ). markBy goes (firstTakes plain (part i e t) (linesAt t w′) (isSet f) next below) ∷ marksIn plain below s (drop 1 (drop k fs)) next (linesAt t w′)) o
-        ∙ ap (λ (s : List ℕ). markBy goes (firstTakes plain (part i e t) (linesAt t w′) (isSet f) next below) ∷ marksIn plain below (drop (k + 1) ps) s next (linesAt t w′)) u
-        ∙ ap (λ (s : ℕ). markBy goes (firstTakes plain (part i e t) (linesAt t w′) (isSet f) next (linesOf (drop s t))) ∷ toMark t ps fs s (k + 1) next w′) (sym z)
-
-    -- the entry is there
-    pub fill-place : k < length d
-    fill-place = let r = writing-room (writing-as mark-on (v .writing)) in omega arith
-
-    -- l is the line, and r begins with its region
-    pub fill-on : (l r : List ℕ) (m : ℕ) → l ≡ part i e t → r ≡ part w′ (length t) t → m ≡ markBy goes (firstTakes plain l (region (linesOf r)) (isSet f) next (linesOf (drop j t))) →
-        MarksInv t ps fs d₀ (set d k m) j (k + 1) next w′
-    fill-on l r m b c o =
-        let s : m ≡ markBy goes (firstTakes plain (part i e t) (linesAt t w′) (isSet f) next (linesOf (drop j t))) =
-        o ∙ ap (λ (u : List ℕ). markBy goes (firstTakes plain u (region (linesOf r)) (isSet f) next (linesOf (drop j t)))) b
-        ∙ ap (λ (u : List ℕ). markBy goes (firstTakes plain (part i e t) (region (linesOf u)) (isSet f) next (linesOf (drop j t)))) (c ∙ rest-of t w′) in
-        record {
-          i≤ = omega arith;
-          k≤ = omega (arith, v .k≤);
-          writing = entry-on m (writing-as (mark-on ∙ ap (λ (u : ℕ). u ∷ toMark t ps fs j (k + 1) next w′) (sym s)) (v .writing));
-        }
-
-pub fill-end : {t ps fs d₀ d : List ℕ} {i k : ℕ} {goes : Bool} {w : ℕ} → MarksInv t ps fs d₀ d i k goes w → length t ≤ i → Filled d₀ (marksOf plain (linesOf t) ps fs) d k
-unfolding marksIn
-fill-end {t} {ps} {fs} {d₀} {d} {i} {k} {goes} {w} v h = entry-end (none (linesOf (drop i t)) (lines-end t i h)) (v .writing)
+fill-end {t} {ps} {fs} {d₀} {d} {i} {k} {w} v h = entry-end (none (linesOf (drop i t)) (lines-end t i h) (goesAt t ps fs i k)) (v .writing)
   where
-    none : (ls : List (List ℕ)) → ls ≡ [] → marksIn plain ls (drop k ps) (drop k fs) goes (linesAt t w) ≡ []
-    none ls e = rw e
+    none : (ls : List (List ℕ)) → ls ≡ [] → (goes : Bool) → marksIn plain ls (drop k ps) (drop k fs) goes (linesAt t w) ≡ []
+    none ls e goes = rw e
+
+-- ---- the mark of one line
+
+first-cons : (R : Reading) (l : List ℕ) (ls : List (List ℕ)) (ps fs : List ℕ) (run : List (List ℕ)) (f g : ℕ) (us : List ℕ) → top fs ≡ f → top (drop 1 fs) ≡ g → drop 1 ps ≡ us →
+    firstMark R (l ∷ ls) ps fs run ≡ markBy (firstDrops R (l ∷ ls) ps (isSet f)) (firstTakes R l run (isSet f) (firstDrops R ls us (isSet g)) ls)
+unfolding firstMark
+first-cons R l ls ps fs run f g us y z w = rw (y, z, w)
+
+-- f is the entry of the line, which is l and whose region begins r, and `next` says whether the line below goes, which begins at j
+module _ (t ps fs : List ℕ) (i e k w : ℕ) (a : RowAt t i e k) (f : ℕ) (y : f ≡ getD fs k 0) where
+  first-mark : (j : ℕ) → j ≡ min (e + 1) (length t) → firstMark plain (linesOf (drop i t)) (drop k ps) (drop k fs) (linesAt t w)
+      ≡ markBy (firstDrops plain (linesOf (drop i t)) (drop k ps) (isSet f))
+      (firstTakes plain (part i e t) (linesAt t w) (isSet f) (firstDrops plain (linesOf (drop j t)) (drop (k + 1) ps) (isSet (getD fs (k + 1) 0))) (linesOf (drop j t)))
+  first-mark j z =
+      let below : List (List ℕ) = linesOf (drop (min (e + 1) (length t)) t) in
+      let q = lines-at t i e (a .here) (a .end) in
+      ap (λ (ls : List (List ℕ)). firstMark plain ls (drop k ps) (drop k fs) (linesAt t w)) q
+      ∙ first-cons plain (part i e t) below (drop k ps) (drop k fs) (linesAt t w) f (getD fs (k + 1) 0) (drop (k + 1) ps) (top-drop fs k ∙ sym y) (ap top (drop-drop 1 k fs) ∙ top-drop fs (k + 1)) (drop-drop 1 k ps)
+      ∙ ap (λ (ls : List (List ℕ)). markBy (firstDrops plain ls (drop k ps) (isSet f)) (firstTakes plain (part i e t) (linesAt t w) (isSet f) (firstDrops plain below (drop (k + 1) ps) (isSet (getD fs (k + 1) 0))) below)) (sym q)
+      ∙ ap (λ (n : ℕ). markBy (firstDrops plain (linesOf (drop i t)) (drop k ps) (isSet f)) (firstTakes plain (part i e t) (linesAt t w) (isSet f) (firstDrops plain (linesOf (drop n t)) (drop (k + 1) ps) (isSet (getD fs (k + 1) 0))) (linesOf (drop n t)))) (sym z)
+
+  -- it goes
+  pub first-goes : firstDrops plain (linesOf (drop i t)) (drop k ps) (isSet f) ≡ true → 1 ≡ firstMark plain (linesOf (drop i t)) (drop k ps) (drop k fs) (linesAt t w)
+  first-goes g = sym (first-mark (min (e + 1) (length t)) refl ∙ rw g)
+
+  -- it stays
+  pub first-stays : (j : ℕ) (l r : List ℕ) (next : Bool) (m : ℕ) → firstDrops plain (linesOf (drop i t)) (drop k ps) (isSet f) ≡ false → j ≡ min (e + 1) (length t) → l ≡ part i e t → r ≡ part w (length t) t →
+      next ≡ firstDrops plain (linesOf (drop j t)) (drop (k + 1) ps) (isSet (getD fs (k + 1) 0)) →
+      m ≡ markBy false (firstTakes plain l (region (linesOf r)) (isSet f) next (linesOf (drop j t))) → m ≡ firstMark plain (linesOf (drop i t)) (drop k ps) (drop k fs) (linesAt t w)
+  first-stays j l r next m g z b c n o = o ∙ rw (b, c, rest-of t w, n) (sym (first-mark j z ∙ rw g))

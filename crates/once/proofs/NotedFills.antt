@@ -11,9 +11,11 @@ use lib.Seq.{drop-drop}
 use Rattle.lines.specs.Lf.{part, upTo, linesOf}
 use Rattle.lines.proofs.LfLaws.{lines-at, lines-end, find-end, part-none, rest-of}
 use Rattle.place.specs.Region.{region, regionAt}
-use Rattle.once.specs.Tables.{areaAt}
-use Rattle.once.specs.Noted.{areaOf, KindIs, DropBy, SendBy, firstLine, NotesOf, OneBy, OneOf}
-use Rattle.once.proofs.Fills.{linesAt, area-run}
+use Rattle.reading.specs.Reading.{plain}
+use Rattle.once.specs.Tables.{isSet, firstDrops, firstMark, areaAt}
+use Rattle.once.specs.Noted.{RowAt, areaOf, told, KindIs, DropBy, SendBy, firstLine, NotesOf, OneBy, OneOf}
+use Rattle.once.proofs.Fills.{linesAt, area-run, mark-stays, first-stays}
+use Rattle.once.proofs.Told.{told-takes, settled-first, told-settled}
 use Rattle.once.proofs.AreaLaws.{AreaInv, area-first, area-next, area-here}
 
 -- ---- the tables of a text, row by row
@@ -44,13 +46,12 @@ module _ (t : List ℕ) (i k e j : ℕ) (h : i < length t) (q : e ≡ i + upTo 1
   pub area-after : AreaInv (linesOf t) (k + 1) (linesAt t w′)
   area-after = subst (AreaInv (linesOf t) (k + 1)) (sym area-is) (area-next (linesOf t) k (linesAt t w) v (part i e t) _ row-is (sym (rows-on t i k e (min (e + 1) (length t)) rows h q refl)))
 
-  -- what the note says of the region, which is that at the front of r
-  pub one-at : (d : List ℕ) → OneOf (linesOf t) d → (l r : List ℕ) (x : ℕ) → l ≡ part i e t → r ≡ part w′ (length t) t → x ≡ getD d k 0 → OneBy l (region (linesOf r)) x
-  one-at d o l r x b c y =
+  -- what the note says of the region
+  pub one-at : (d : List ℕ) → OneOf (linesOf t) d → OneBy (part i e t) (linesAt t w′) (getD d k 0)
+  one-at d o =
       let g : firstLine (drop k (linesOf t)) ≡ part i e t = ap firstLine row-is in
-      let m : areaOf (region (linesOf t)) (linesOf t) k ≡ region (linesOf r) =
-      sym (area-here (linesOf t) k (linesAt t w) v (part i e t) _ row-is) ∙ sym area-is ∙ ap (λ (u : List ℕ). region (linesOf u)) (sym (c ∙ rest-of t w′)) in
-      rw (y, b, sym g, sym m) (o k)
+      let m : areaOf (region (linesOf t)) (linesOf t) k ≡ linesAt t w′ = sym (area-here (linesOf t) k (linesAt t w) v (part i e t) _ row-is) ∙ sym area-is in
+      rw (sym g, sym m) (o k)
 
 -- ---- the notes
 
@@ -78,6 +79,24 @@ module _ (t ps d : List ℕ) (n : NotesOf (linesOf t) ps d) (i k x : ℕ) (rows 
 
   pub send-at : (e j : ℕ) (l : List ℕ) → i < length t → e ≡ i + upTo 10 (drop i t) → j ≡ min (e + 1) (length t) → l ≡ part i e t → SendBy l (linesOf (drop j t)) x
   send-at e j l h q w p = rw (z, p, sym (first-part t i e q), rows-on t i k e j rows h q w, rows) (n k .sends)
+
+-- what a note says of the region of a line, which is l, where r begins with that region
+pub one-line : (t d : List ℕ) (i e k w : ℕ) (l r : List ℕ) (x : ℕ) → l ≡ part i e t → r ≡ part w (length t) t → x ≡ getD d k 0 →
+    OneBy (part i e t) (linesAt t w) (getD d k 0) → OneBy l (region (linesOf r)) x
+one-line t d i e k w l r x b c y o = rw (b, c, rest-of t w, y) o
+
+-- the mark of a line whose note says at once that it stays as it is
+pub first-told : (t ps fs d : List ℕ) (i e k w x : ℕ) → RowAt t i e k → NotesOf (linesOf t) ps d → x ≡ getD d k 0 → told x ≡ true →
+    0 ≡ firstMark plain (linesOf (drop i t)) (drop k ps) (drop k fs) (linesAt t w)
+first-told t ps fs d i e k w x a n z h =
+    let j : ℕ = min (e + 1) (length t) in
+    let r : List ℕ = part w (length t) t in
+    let b : Bool = isSet (getD fs k 0) in
+    let next : Bool = firstDrops plain (linesOf (drop j t)) (drop (k + 1) ps) (isSet (getD fs (k + 1) 0)) in
+    let stays = settled-first plain (linesOf (drop i t)) ps k b x (kind-first t ps d n i k x (a .rows) z) (told-settled x h) (drop-at t ps d n i k x (a .rows) z) in
+    let sent = told-takes plain (part i e t) x (kind-at t ps d n i k x (a .rows) z e (part i e t) (a .end) refl) h (region (linesOf r)) b next (linesOf (drop j t))
+    (send-at t ps d n i k x (a .rows) z e j (part i e t) (a .here) (a .end) refl refl) in
+    first-stays t ps fs i e k w a (getD fs k 0) refl j (part i e t) r next 0 (sym stays) refl refl refl refl (mark-stays sent)
 
 -- what follows a line
 pub drop-rest : (t ps : List ℕ) (i e j k n m : ℕ) → i < length t → e ≡ i + upTo 10 (drop i t) → j ≡ min (e + 1) (length t) → n ≡ k + 1 →

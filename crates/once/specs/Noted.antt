@@ -98,6 +98,13 @@ Calm s c = (j : ℕ) → CalmIn (drop j s) c
 abbrev pub LineAt : List ℕ → ℕ → ℕ → Line → Type 0
 LineAt s i e p = (e ≡ i + upTo 10 (drop i s)) × (p ≡ parseOf (part i e s))
 
+-- the line at i, which is there, ends at e and has k lines above it
+pub record RowAt (s : List ℕ) (i e k : ℕ) : Type 0 where
+  pub here : i < length s
+  pub end : e ≡ i + upTo 10 (drop i s)
+  pub above : k ≤ i
+  pub rows : linesOf (drop i s) ≡ drop k (linesOf s)
+
 -- ---- where a line begins
 
 -- a line of a text begins at r: an LF stands before it, where anything does
@@ -181,6 +188,10 @@ pub record SendIs (v : ℕ) (ls : List (List ℕ)) (m : ℕ) : Type 0 where
 -- a note says at once that a line stays as it is: it is no store, or its value is read next in the region and does not go into the next line
 abbrev pub told : ℕ → Bool
 told m = ltb 0 m && ltb m 4
+
+-- a note says at once that a line does not go: it is no store, or its value is read next in the region
+abbrev pub settled : ℕ → Bool
+settled m = eqb m 7 || (ltb 0 m && ltb m 5)
 
 -- so of the register that a line stores
 abbrev pub DropBy : List ℕ → ℕ → List (List ℕ) → List ℕ → ℕ → Type 0

@@ -147,6 +147,12 @@ firstTakes R l run b goes (e ∷ ls) = lineForwards R l run b goes e ls
 abbrev pub markBy : Bool → Bool → ℕ
 markBy goes sent = cond goes 1 (cond sent 2 0)
 
+-- the mark of the first line, whose region is run; ps are the block paths of the lines, and fs say whether each stands in a loop
+unfoldable pub firstMark : Reading → List (List ℕ) → List ℕ → List ℕ → List (List ℕ) → ℕ
+firstMark R [] ps fs run = 0
+firstMark R (l ∷ ls) ps fs run =
+    markBy (firstDrops R (l ∷ ls) ps (isSet (top fs))) (firstTakes R l run (isSet (top fs)) (firstDrops R ls (drop 1 ps) (isSet (top (drop 1 fs)))) ls)
+
 -- the marks of lines; `goes` says whether the first goes, and run is the region of the line above
 unfoldable pub marksIn : Reading → List (List ℕ) → List ℕ → List ℕ → Bool → List (List ℕ) → List ℕ
 unfolding firstDrops firstTakes

@@ -10,15 +10,15 @@ ghost use lib.ListN.{length, drop, getD, replicate};
 ghost use Rattle.lines.specs.Out.{Wrote};
 ghost use Rattle.lines.specs.Acts.{act, apply};
 ghost use Rattle.parse.specs.Parse.{parseOf};
-ghost use Rattle.lines.specs.Lf.{linesOf, unlines, prefixed, holds};
+ghost use Rattle.lines.specs.Lf.{part, upTo, linesOf, unlines, prefixed, holds};
 ghost use Rattle.names.specs.Names.{regOf, isIdent};
 ghost use Rattle.once.specs.Scratch.{objectOf, isMember, liveBelow, changesBy, calledBelow, scratchAt};
 ghost use Rattle.once.specs.Once.{deadBy, readCount, firstOf, takenBy, onceActs, optimizeOnce};
 ghost use Rattle.words.specs.Hits.{regHit, replaceReg};
 ghost use Rattle.reading.specs.Reading.{plain, pureIn};
 ghost use Rattle.reading.specs.Uses.{storesBy};
-ghost use Rattle.once.specs.Tables.{readBelow, anyCall, nextIn, Blank, hasHit, storeDrops, lineDrops, storeForwards, lineForwards, onceMarks, actBy, actsBy, firstDrops, firstTakes, markBy, marksOf, areaAt};
-ghost use Rattle.once.specs.Noted.{CalmIn, Calm, LineAt, KindIs, DropIs, DropBy, sentTo, SendIs, SendBy, OneBy, OneOf, firstLine, NotesOf, EndsOf};
+ghost use Rattle.once.specs.Tables.{readBelow, anyCall, nextIn, Blank, hasHit, storeDrops, lineDrops, storeForwards, lineForwards, onceMarks, actBy, actsBy, isSet, firstDrops, firstTakes, markBy, firstMark, marksOf, areaAt};
+ghost use Rattle.once.specs.Noted.{CalmIn, Calm, LineAt, RowAt, DropIs, DropBy, sentTo, SendIs, SendBy, OneBy, OneOf, firstLine, NotesOf, EndsOf};
 ghost use Rattle.decls.specs.Seen.{AtMost};
 ghost use Rattle.place.specs.Fill.{Filled, flagsOf};
 ghost use Rattle.place.specs.Loops.{insideLoop, someLoop};
@@ -361,10 +361,10 @@ fn once_in(run: &[u8], reg: names::Register, note: u8) -> bool
     read_once(lines::cut(run, 0, e), reg)
 }
 
-// Whether the next line, read as q, reads a register once and does not store it, and it is not read again below before it is stored; the note of
-// the store above may say so.
-fn sent_to(reg: names::Register, next: &[u8], q: parse::Line, below: &[u8], note: u8) -> bool
-    requires { ⌜ (q ≡ parseOf (now next)) × (SendIs (reg .0) (now next ∷ linesOf (now below)) note) ⌝ }
+// Whether the next line reads a register once and does not store it, and it is not read again below before it is stored; the note of the store
+// above may say so.
+fn sent_to(reg: names::Register, next: &[u8], below: &[u8], note: u8) -> bool
+    requires { ⌜ SendIs (reg .0) (now next ∷ linesOf (now below)) note ⌝ }
     ensures { λ r. ⌜ r ≡ sentTo (reg .0) (now (next .entry) ∷ linesOf (now (below .entry))) ⌝ }
 {
     if (note == 4) | (note == 7) {
@@ -373,6 +373,7 @@ fn sent_to(reg: names::Register, next: &[u8], q: parse::Line, below: &[u8], note
     if 2 < note {
         return false;
     }
+    let q = parse::parse(next);
     if stores_in(q, reg) {
         return false;
     }
@@ -382,13 +383,12 @@ fn sent_to(reg: names::Register, next: &[u8], q: parse::Line, below: &[u8], note
     !read_below(below, reg, true)
 }
 
-// Whether a store of a register with the value x and a note, in the region that `run` begins with, goes into the next line, which is read as q,
-// and goes itself where `gone` says so.
+// Whether a store of a register with the value x and a note, in the region that `run` begins with, goes into the next line, which goes itself
+// where `gone` says so.
 fn store_forwards(
     x: &[u8],
     reg: names::Register,
     next: &[u8],
-    q: parse::Line,
     below: &[u8],
     run: &[u8],
     in_loop: bool,
@@ -396,8 +396,7 @@ fn store_forwards(
     note: u8,
     scratch: &mut [u8],
 ) -> bool
-    requires { ⌜ (q ≡ parseOf (now next))
-        × ((Blank (length (now x)) (now scratch)) × ((SendIs (reg .0) (now next ∷ linesOf (now below)) note) × (note ≡ 7 → readCount (reg .0) (region (linesOf (now run))) ≡ 1))) ⌝ }
+    requires { ⌜ (Blank (length (now x)) (now scratch)) × ((SendIs (reg .0) (now next ∷ linesOf (now below)) note) × (note ≡ 7 → readCount (reg .0) (region (linesOf (now run))) ≡ 1)) ⌝ }
     ensures answer { λ r. ⌜ r ≡ storeForwards plain (reg .0) (now (x .entry)) (region (linesOf (now (run .entry)))) in_loop gone (now (next .entry)) (linesOf (now (below .entry))) ⌝ }
     ensures memory { λ _. ⌜ now (scratch .exit) ≡ now (scratch .entry) ⌝ }
 {
@@ -407,7 +406,7 @@ fn store_forwards(
     if gone {
         return false;
     }
-    if !sent_to(reg, next, q, below, note) {
+    if !sent_to(reg, next, below, note) {
         return false;
     }
     if !pure_value(x, scratch) {
@@ -419,12 +418,11 @@ fn store_forwards(
     once_in(run, reg, note)
 }
 
-// Whether a line with a note that stays, read as p, goes into the next line, read as q.
+// Whether a line with a note that stays, read as p, goes into the next line.
 fn line_forwards(
     line: &[u8],
     p: parse::Line,
     next: &[u8],
-    q: parse::Line,
     below: &[u8],
     run: &[u8],
     in_loop: bool,
@@ -433,8 +431,7 @@ fn line_forwards(
     scratch: &mut [u8],
 ) -> bool
     requires { ⌜ (p ≡ parseOf (now line))
-        × ((q ≡ parseOf (now next))
-        × ((Blank (length (now line)) (now scratch)) × ((SendBy (now line) (now next ∷ linesOf (now below)) note) × (OneBy (now line) (region (linesOf (now run))) note)))) ⌝ }
+        × ((Blank (length (now line)) (now scratch)) × ((SendBy (now line) (now next ∷ linesOf (now below)) note) × (OneBy (now line) (region (linesOf (now run))) note))) ⌝ }
     ensures answer { λ r. ⌜ r ≡ lineForwards plain (now (line .entry)) (region (linesOf (now (run .entry)))) in_loop gone (now (next .entry)) (linesOf (now (below .entry))) ⌝ }
     ensures memory { λ _. ⌜ now (scratch .exit) ≡ now (scratch .entry) ⌝ }
 {
@@ -442,7 +439,7 @@ fn line_forwards(
         parse::Line::Decl => false,
         parse::Line::Store(s) => {
             let x = parse::value_of(line, s);
-            store_forwards(x, s.reg, next, q, below, run, in_loop, gone, note, scratch)
+            store_forwards(x, s.reg, next, below, run, in_loop, gone, note, scratch)
         }
         parse::Line::Other => false,
     }
@@ -488,58 +485,54 @@ fn drops_at(
     )
 }
 
-// Whether the line from i to e goes, as drops_at says: its note may say at once that it stays.
-fn drops_noted(
+// Whether the line at j, with k lines above it, goes: its note may say at once that it does not.
+fn next_drops(
     text: &[u8],
-    i: usize,
-    e: usize,
-    p: parse::Line,
-    paths: &[usize],
+    j: usize,
     k: usize,
-    in_loop: bool,
-    note: u8,
+    paths: &[usize],
+    loops: &[u8],
     calm: usize,
+    notes: &[u8],
+    ends: &[usize],
     scratch: &mut [u8],
 ) -> bool
-    requires { ⌜ (KindIs (firstLine (linesOf (drop i (now text)))) note)
-        × ((LineAt (now text) i e p)
-        × ((Blank (length (now text)) (now scratch))
-        × ((DropBy (firstLine (linesOf (drop i (now text)))) (getD (now paths) k 0) (drop 1 (linesOf (drop i (now text)))) (drop (k + 1) (now paths)) note) × (Calm (now text) calm)))) ⌝ }
-    ensures answer { λ r. ⌜ r ≡ firstDrops plain (linesOf (drop i (now (text .entry)))) (drop k (now (paths .entry))) in_loop ⌝ }
+    requires { ⌜ (linesOf (drop j (now text)) ≡ drop k (linesOf (now text)))
+        × ((Blank (length (now text)) (now scratch)) × ((Calm (now text) calm) × ((NotesOf (linesOf (now text)) (now paths) (now notes)) × (EndsOf (now text) (now ends))))) ⌝ }
+    ensures answer { λ r. ⌜ r ≡ firstDrops plain (linesOf (drop j (now (text .entry)))) (drop k (now (paths .entry))) (isSet (getD (now (loops .entry)) k 0)) ⌝ }
     ensures memory { λ _. ⌜ now (scratch .exit) ≡ now (scratch .entry) ⌝ }
 {
-    if (0 < note) & (note < 4) {
+    let c = lines::byte_at(notes, k);
+    if (c == 7) | ((0 < c) & (c < 5)) {
         return false;
     }
-    drops_at(text, i, e, p, paths, k, in_loop, note, calm, scratch)
+    let n = noted::end_at(text, j, k, ends);
+    let q = parse::parse(lines::cut(text, j, n));
+    let h = lines::byte_at(loops, k);
+    drops_at(text, j, n, q, paths, k, h != 0, c, calm, scratch)
 }
 
-// The mark of a line, read as p, in the region that `run` begins with, above the line from j to e, read as q: 1 where it goes, as `goes` says, 2 where it would go into the next, else 0;
-// `next` says whether that one goes, and `note` is that of the line.
+// The mark of a line that stays, read as p, in the region that `run` begins with, above the line from j to e: 2 where it would go into the next,
+// else 0; `next` says whether that one goes, and `note` is that of the line.
 fn mark_at(
     line: &[u8],
     p: parse::Line,
     text: &[u8],
     j: usize,
     e: usize,
-    q: parse::Line,
     run: &[u8],
     in_loop: bool,
-    goes: bool,
     next: bool,
     note: u8,
     scratch: &mut [u8],
 ) -> u8
     requires { ⌜ (p ≡ parseOf (now line))
-        × ((LineAt (now text) j e q)
+        × ((e ≡ j + upTo 10 (drop j (now text)))
         × ((Blank (length (now line)) (now scratch))
         × ((SendBy (now line) (linesOf (drop j (now text))) note) × (OneBy (now line) (region (linesOf (now run))) note)))) ⌝ }
-    ensures answer { λ r. ⌜ r ≡ markBy goes (firstTakes plain (now (line .entry)) (region (linesOf (now (run .entry)))) in_loop next (linesOf (drop j (now (text .entry))))) ⌝ }
+    ensures answer { λ r. ⌜ r ≡ markBy false (firstTakes plain (now (line .entry)) (region (linesOf (now (run .entry)))) in_loop next (linesOf (drop j (now (text .entry))))) ⌝ }
     ensures memory { λ _. ⌜ now (scratch .exit) ≡ now (scratch .entry) ⌝ }
 {
-    if goes {
-        return 1;
-    }
     if j >= text.len() {
         return 0;
     }
@@ -548,7 +541,6 @@ fn mark_at(
         line,
         p,
         &text[j..e],
-        q,
         &text[n..],
         run,
         in_loop,
@@ -561,49 +553,43 @@ fn mark_at(
     0
 }
 
-// The mark of a line, as mark_at says: its note may say at once that it stays as it is.
-fn mark_noted(
-    line: &[u8],
-    p: parse::Line,
+// The mark of the line from i to e, with k lines above it, in the region that begins at `run`: 1 where it goes, 2 where it would go into the
+// next, else 0, as most notes say at once.
+fn mark_line(
     text: &[u8],
-    j: usize,
+    i: usize,
     e: usize,
-    q: parse::Line,
-    run: &[u8],
-    in_loop: bool,
-    goes: bool,
-    next: bool,
-    note: u8,
+    k: usize,
+    paths: &[usize],
+    loops: &[u8],
+    calm: usize,
+    notes: &[u8],
+    ends: &[usize],
+    run: usize,
     scratch: &mut [u8],
 ) -> u8
-    requires { ⌜ (KindIs (now line) note)
-        × ((p ≡ parseOf (now line))
-        × ((LineAt (now text) j e q)
-        × ((Blank (length (now line)) (now scratch))
-        × ((SendBy (now line) (linesOf (drop j (now text))) note) × (OneBy (now line) (region (linesOf (now run))) note))))) ⌝ }
-    ensures answer { λ r. ⌜ r ≡ markBy goes (firstTakes plain (now (line .entry)) (region (linesOf (now (run .entry)))) in_loop next (linesOf (drop j (now (text .entry))))) ⌝ }
+    requires { ⌜ (RowAt (now text) i e k)
+        × ((Blank (length (now text)) (now scratch))
+        × ((OneBy (part i e (now text)) (region (linesOf (drop run (now text)))) (getD (now notes) k 0))
+        × ((Calm (now text) calm) × ((NotesOf (linesOf (now text)) (now paths) (now notes)) × (EndsOf (now text) (now ends)))))) ⌝ }
+    ensures answer { λ r. ⌜ r ≡ firstMark plain (linesOf (drop i (now (text .entry)))) (drop k (now (paths .entry))) (drop k (now (loops .entry))) (region (linesOf (drop run (now (text .entry))))) ⌝ }
     ensures memory { λ _. ⌜ now (scratch .exit) ≡ now (scratch .entry) ⌝ }
 {
-    if goes {
-        return 1;
-    }
+    let note = lines::byte_at(notes, k);
     if (0 < note) & (note < 4) {
         return 0;
     }
-    mark_at(
-        line,
-        p,
-        text,
-        j,
-        e,
-        q,
-        run,
-        in_loop,
-        goes,
-        next,
-        note,
-        scratch,
-    )
+    let line = lines::cut(text, i, e);
+    let p = parse::parse(line);
+    let h = lines::byte_at(loops, k);
+    if drops_at(text, i, e, p, paths, k, h != 0, note, calm, scratch) {
+        return 1;
+    }
+    let j = lines::after(text, e);
+    let next = next_drops(text, j, k + 1, paths, loops, calm, notes, ends, scratch);
+    let n = noted::end_at(text, j, k + 1, ends);
+    let area = lines::cut(text, run, text.len());
+    mark_at(line, p, text, j, n, area, h != 0, next, note, scratch)
 }
 
 // Where the region of the line from i to e begins, where `above` is that of the line above.
@@ -632,42 +618,15 @@ fn mark_with(
     ensures answer { λ r. ⌜ Filled (now (marks .entry)) (marksOf plain (linesOf (now (text .entry))) (now (paths .entry)) (now (loops .entry))) (now (marks .exit)) r ⌝ }
     ensures memory { λ _. ⌜ now (scratch .exit) ≡ now (scratch .entry) ⌝ }
 {
-    let f = lines::byte_at(loops, 0);
-    let mut e = lines::find_byte(text, 0, 10);
-    let mut p = parse::parse(lines::cut(text, 0, e));
-    let d = lines::byte_at(notes, 0);
-    let mut goes = drops_noted(text, 0, e, p, paths, 0, f != 0, d, calm, scratch);
     let mut run = 0;
     let mut i = 0;
     let mut k = 0;
     while i < text.len() {
-        let j = lines::after(text, e);
-        let n = noted::end_at(text, j, k + 1, ends);
-        let c = lines::byte_at(notes, k + 1);
-        let q = noted::parse_at(lines::cut(text, j, n), c);
-        let g = lines::byte_at(loops, k + 1);
-        let next = drops_noted(text, j, n, q, paths, k + 1, g != 0, c, calm, scratch);
+        let e = noted::end_at(text, i, k, ends);
         run = area_at(text, i, e, run);
-        let h = lines::byte_at(loops, k);
-        marks[k] = mark_noted(
-            lines::cut(text, i, e),
-            p,
-            text,
-            j,
-            n,
-            q,
-            lines::cut(text, run, text.len()),
-            h != 0,
-            goes,
-            next,
-            lines::byte_at(notes, k),
-            scratch,
-        );
-        goes = next;
-        p = q;
-        e = n;
+        marks[k] = mark_line(text, i, e, k, paths, loops, calm, notes, ends, run, scratch);
         k += 1;
-        i = j;
+        i = lines::after(text, e);
     }
     k
 }

@@ -6,11 +6,11 @@ ghost use Prim.Native.Nat.{_+_, _-_, _≤_, _<_};
 ghost use lib.ListN.{length, drop, set, getD};
 ghost use Rattle.lines.specs.Lf.{upTo, linesOf};
 ghost use Rattle.names.specs.Names.{regOf};
-ghost use Rattle.parse.specs.Parse.{parseOf, textOf};
+ghost use Rattle.parse.specs.Parse.{textOf};
 ghost use Rattle.words.specs.Runs.{runs};
 ghost use Rattle.place.specs.Region.{isHeader};
 ghost use Rattle.decls.specs.Seen.{markName, markStore, AtMost};
-ghost use Rattle.once.specs.Noted.{OneOf, farName, takeBack, backName, readRuns, StartOf, samePath, storeNote, lineNote, KindIs, NotesOf, EndIs, EndsOf};
+ghost use Rattle.once.specs.Noted.{OneOf, farName, takeBack, backName, readRuns, StartOf, samePath, storeNote, lineNote, NotesOf, EndIs, EndsOf};
 
 // The entry of a table, or 0 past its end.
 fn entry(d: &[usize], i: usize) -> usize
@@ -333,18 +333,4 @@ pub fn end_at(text: &[u8], j: usize, k: usize, ends: &[usize]) -> usize
         return lines::find_byte(text, j, 10);
     }
     e
-}
-
-// What a line is: by its note, where that says so.
-pub fn parse_at(line: &[u8], note: u8) -> parse::Line
-    requires { ⌜ KindIs (now line) note ⌝ }
-    ensures { λ r. ⌜ r ≡ parseOf (now (line .entry)) ⌝ }
-{
-    if note == 1 {
-        return parse::Line::Decl;
-    }
-    if note == 2 {
-        return parse::Line::Other;
-    }
-    parse::parse(line)
 }

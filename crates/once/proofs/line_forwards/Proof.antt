@@ -35,7 +35,7 @@ store-forwards-requires : tie.Need-store-forwards-requires
 store-forwards-requires c κs =
     let a = c .before .before .before .before .before .before .before .before .before .before .args in
     let s = c .before .before .before .p .given .0 .0 in
-    (c .before .before .before .before .before .before .before .before .before .before .pre .1 .0, (blank-less (let h = value-room (s .from) (s .to) (a .line .now) in let q = ap length (c .before .value-of .ensures) in omega arith) (c .before .before .before .before .before .before .before .before .before .before .pre .1 .1 .0), (c .before .before .before .before .before .before .before .before .before .before .pre .1 .1 .1 .0 s (sym (c .before .before .before .before .before .before .before .before .before .before .pre .0) ∙ c .before .before .before .p .given .1), c .before .before .before .before .before .before .before .before .before .before .pre .1 .1 .1 .1 s (sym (c .before .before .before .before .before .before .before .before .before .before .pre .0) ∙ c .before .before .before .p .given .1))))
+    (blank-less (let h = value-room (s .from) (s .to) (a .line .now) in let q = ap length (c .before .value-of .ensures) in omega arith) (c .before .before .before .before .before .before .before .before .before .before .pre .1 .0), (c .before .before .before .before .before .before .before .before .before .before .pre .1 .1 .0 s (sym (c .before .before .before .before .before .before .before .before .before .before .pre .0) ∙ c .before .before .before .p .given .1), c .before .before .before .before .before .before .before .before .before .before .pre .1 .1 .1 s (sym (c .before .before .before .before .before .before .before .before .before .before .pre .0) ∙ c .before .before .before .p .given .1)))
 
 -- src/lib.rt:458:31
 enum-told-2 : tie.Need-enum-told-2

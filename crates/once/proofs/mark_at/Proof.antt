@@ -16,13 +16,9 @@ use Rattle.once.proofs.mark_at.Lts as lts
 use Rattle.lines.proofs.after.Reads as after-reads
 use Rattle.once.proofs.line_forwards.Reads as line-forwards-reads
 
--- src/lib.rt:527:9
-returns : tie.Need-returns
-returns c = (rw (c .if1 .taken) refl, refl)
-
 -- src/lib.rt:530:9
-returns-2 : tie.Need-returns-2
-returns-2 c = let a = c .before .before .before .before .before .before .args in (mark-stays (c .before .if1 .left) (takes-end plain (a .line .now) (region (linesOf (a .run .now))) (a .in-loop) (a .next) (a .text .now) (a .j) (c .if2 .taken)), refl)
+returns : tie.Need-returns
+returns c = let a = c .before .before .before .before .before .args in (mark-stays (takes-end plain (a .line .now) (region (linesOf (a .run .now))) (a .in-loop) (a .next) (a .text .now) (a .j) (c .if1 .taken)), refl)
 
 -- src/lib.rt:532:9
 after-requires : tie.Need-after-requires
@@ -38,7 +34,7 @@ part-line-forwards-start c = search needs
 
 -- src/lib.rt:536:9
 part-line-forwards-end : tie.Need-part-line-forwards-end
-part-line-forwards-end c = let a = c .before .before .before .before .before .before .before .args in omega (arith, find-le 10 (a .text .now) (a .j) (a .e) (omega (arith, c .before .if2 .left)) (c .before .before .before .before .before .before .before .pre .1 .0 .0))
+part-line-forwards-end c = let a = c .before .before .before .before .before .before .args in omega (arith, find-le 10 (a .text .now) (a .j) (a .e) (omega (arith, c .before .if1 .left)) (c .before .before .before .before .before .before .pre .1 .0))
 
 -- src/lib.rt:538:9
 sub-line-forwards-2 : tie.Need-sub-line-forwards-2
@@ -55,41 +51,40 @@ part-line-forwards-end-2 c = search needs
 -- src/lib.rt:533:8
 line-forwards-requires : tie.Need-line-forwards-requires
 line-forwards-requires c κs =
-    let a = c .before .before .before .before .before .before .before .before .before .before .args in
+    let a = c .before .before .before .before .before .before .before .before .before .args in
     let n = c .before .before .before .after in
-    let h : a .j < length (a .text .now) = omega (arith, c .before .before .before .before .if2 .left) in
-    (c .before .before .before .before .before .before .before .before .before .before .pre .0, (c .before .before .before .before .before .before .before .before .before .before .pre .1 .0 .1, (c .before .before .before .before .before .before .before .before .before .before .pre .1 .1 .0, (send-rest (a .text .now) (a .line .now) (a .j) (a .e) (n .result) (a .note) h (c .before .before .before .before .before .before .before .before .before .before .pre .1 .0 .0) (n .ensures) (c .before .before .before .before .before .before .before .before .before .before .pre .1 .1 .1 .0), c .before .before .before .before .before .before .before .before .before .before .pre .1 .1 .1 .1))))
+    let h : a .j < length (a .text .now) = omega (arith, c .before .before .before .before .if1 .left) in
+    (c .before .before .before .before .before .before .before .before .before .pre .0, (c .before .before .before .before .before .before .before .before .before .pre .1 .1 .0, (send-rest (a .text .now) (a .line .now) (a .j) (a .e) (n .result) (a .note) h (c .before .before .before .before .before .before .before .before .before .pre .1 .0) (n .ensures) (c .before .before .before .before .before .before .before .before .before .pre .1 .1 .1 .0), c .before .before .before .before .before .before .before .before .before .pre .1 .1 .1 .1)))
 
 -- src/lib.rt:546:9
 same-length : tie.Need-same-length
 same-length c = search needs
 
 -- src/lib.rt:546:9
-returns-3 : tie.Need-returns-3
-returns-3 c =
-    let a = c .before .before .before .before .before .before .before .before .before .before .before .before .before .before .args in
+returns-2 : tie.Need-returns-2
+returns-2 c =
+    let a = c .before .before .before .before .before .before .before .before .before .before .before .before .before .args in
     let e = c .before .before .before .line-forwards .ensures in
     let n = c .before .before .before .before .before .before .before .after in
-    (mark-stays (c .before .before .before .before .before .before .before .before .before .if1 .left) (sym (takes-line plain (a .line .now) (region (linesOf (a .run .now))) (a .in-loop) (a .next) (a .text .now) (a .j) (a .e) (n .result) (omega (arith, c .before .before .before .before .before .before .before .before .if2 .left)) (c .before .before .before .before .before .before .before .before .before .before .before .before .before .before .pre .1 .0 .0) (n .ensures)) ∙ sym (e .0) ∙ c .if3 .taken), e .1)
+    (mark-stays (sym (takes-line plain (a .line .now) (region (linesOf (a .run .now))) (a .in-loop) (a .next) (a .text .now) (a .j) (a .e) (n .result) (omega (arith, c .before .before .before .before .before .before .before .before .if1 .left)) (c .before .before .before .before .before .before .before .before .before .before .before .before .before .pre .1 .0) (n .ensures)) ∙ sym (e .0) ∙ c .if2 .taken), e .1)
 
 -- src/lib.rt:504:1
 same-length-2 : tie.Need-same-length-2
 same-length-2 c = search needs
 
 -- src/lib.rt:504:1
-returns-4 : tie.Need-returns-4
-returns-4 c =
-    let a = c .before .before .before .before .before .before .before .before .before .before .before .before .before .before .args in
+returns-3 : tie.Need-returns-3
+returns-3 c =
+    let a = c .before .before .before .before .before .before .before .before .before .before .before .before .before .args in
     let e = c .before .before .before .line-forwards .ensures in
     let n = c .before .before .before .before .before .before .before .after in
-    (mark-stays (c .before .before .before .before .before .before .before .before .before .if1 .left) (sym (takes-line plain (a .line .now) (region (linesOf (a .run .now))) (a .in-loop) (a .next) (a .text .now) (a .j) (a .e) (n .result) (omega (arith, c .before .before .before .before .before .before .before .before .if2 .left)) (c .before .before .before .before .before .before .before .before .before .before .before .before .before .before .pre .1 .0 .0) (n .ensures)) ∙ sym (e .0) ∙ c .if3 .left), e .1)
+    (mark-stays (sym (takes-line plain (a .line .now) (region (linesOf (a .run .now))) (a .in-loop) (a .next) (a .text .now) (a .j) (a .e) (n .result) (omega (arith, c .before .before .before .before .before .before .before .before .if1 .left)) (c .before .before .before .before .before .before .before .before .before .before .before .before .before .pre .1 .0) (n .ensures)) ∙ sym (e .0) ∙ c .if2 .left), e .1)
 
 pub mark-at-spec : {M : Type 1} → statement M
 mark-at-spec =
     tie.close
     (tie.spec
     returns
-    returns-2
     after-requires
     sub-line-forwards
     part-line-forwards-start
@@ -99,6 +94,6 @@ mark-at-spec =
     part-line-forwards-end-2
     line-forwards-requires
     same-length
-    returns-3
+    returns-2
     same-length-2
-    returns-4)
+    returns-3)
