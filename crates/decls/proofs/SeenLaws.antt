@@ -22,7 +22,7 @@ use Rattle.parse.specs.declared.Line.{Line}
 use Rattle.parse.specs.declared.Line.the-variants as line
 use Rattle.words.specs.Runs.{flush, runsGo, runs, countBy, readsOf}
 use Rattle.place.specs.Region.{isHeader, untilHeader, region, upHeader, regionLen}
-use Rattle.place.proofs.Regions.{past, end-stop, end-on, end-end, region-at}
+use Rattle.place.proofs.Regions.{past, end-stop, end-on, end-end, region-at, region-le}
 use Rattle.words.proofs.Walk.{Walk, walk-start, walk-name, walk-gap, walk-end}
 use Rattle.reading.specs.Uses.{lineReads, storesBy, lineStores, lineUses, usedIn}
 use Rattle.decls.specs.Seen.{markName, markRuns, markStore, markLine, markLines, AtMost, Says, Quiet, quiet-none, quiet-more}
@@ -339,6 +339,10 @@ module _ {t d₀ d : List ℕ} {a b m i : ℕ} (h : TableInv t d₀ d a b m i) w
     -- the region is that part
     pub table-region : (run : List ℕ) → run ≡ part a b′ t → linesOf run ≡ region (linesOf (drop a t))
     table-region run y = ap linesOf y ∙ region-at t a b′ (marks-once (h .marks) m′ b′ d′ p q r .ends (mark-above (h .marks) m′ b′ d′ p q r))
+
+    -- and lies inside the text
+    pub table-inside : a ≤ length t → (a ≤ b′) × (b′ ≤ length t)
+    table-inside l = let e = marks-once (h .marks) m′ b′ d′ p q r .ends (mark-above (h .marks) m′ b′ d′ p q r) in (omega (arith, e), region-le t a b′ l e)
 
     pub table-says : (run : List ℕ) → run ≡ part a b′ t → Says m′ (linesOf run) d′
     table-says run y = rw (table-region run y) (marks-once (h .marks) m′ b′ d′ p q r .says (mark-above (h .marks) m′ b′ d′ p q r))

@@ -96,7 +96,7 @@ fn prune_with(text: &[u8], seen: &mut [usize], out: &mut [u8]) -> usize
             m = k.mark;
             b = k.end;
             let p = lines::put(out, o, &text[c..i]);
-            o = put_line(line, lines::cut(text, a, b), m, seen, out, p);
+            o = put_line(line, &text[a..b], m, seen, out, p);
             c = n;
             i = k.next;
         } else {

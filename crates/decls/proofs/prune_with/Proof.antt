@@ -7,7 +7,7 @@ use lib.ListN.{length}
 use Rattle.lines.proofs.Tests.{so}
 use Rattle.lines.proofs.OutLaws.{writing-length}
 use Rattle.decls.proofs.Writes.{PruneInv, prune-start, RunAt, run-same, run-new, prune-pass, prune-quiet, held-room, prune-room, prune-on, end-room, prune-end}
-use Rattle.decls.proofs.SeenLaws.{TableInv, table-start, table-new, table-pass, quiet-le, table-quiet, table-region, table-says, table-on}
+use Rattle.decls.proofs.SeenLaws.{TableInv, table-start, table-new, table-pass, quiet-le, table-quiet, table-region, table-inside, table-says, table-on}
 use Rattle.lines.specs.Lf.{part}
 use Rattle.text.specs.Trim.{trimOf}
 use Rattle.parse.specs.Parse.{isDecl}
@@ -19,7 +19,6 @@ use Rattle.decls.proofs.prune_with.Lts as lts
 use Rattle.decls.proofs.put_line.Reads as put-line-reads
 use Rattle.decls.proofs.seen.mark_once.Reads as mark-once-reads
 use Rattle.lines.proofs.after.Reads as after-reads
-use Rattle.lines.proofs.cut.Reads as cut-reads
 use Rattle.lines.proofs.find_byte.Reads as find-byte-reads
 use Rattle.lines.proofs.put.Reads as put-reads
 use Rattle.lines.proofs.put_lines.Reads as put-lines-reads
@@ -99,20 +98,28 @@ put-requires : tie.Need-put-requires Inv-loop μ-loop
 put-requires c κs = let f = c .before .before .before .before .before .before .before .before .before .before .before .before .find-byte in held-room (c .before .before .before .before .before .before .before .before .before .before .before .before .before .before .loop .inv .0) (f .result) (c .before .before .before .before .before .before .before .before .before .before .before .before .before .loop-test .taken) (f .ensures) _ refl (mid (c .before .before .before .before .before .before .before .before .before) .0) _ refl
 
 -- src/lib.rt:99:32
-cut-requires : tie.Need-cut-requires Inv-loop μ-loop
-cut-requires c κs = search needs
+sub-put-line : tie.Need-sub-put-line Inv-loop μ-loop
+sub-put-line c = let h = mid (c .before .before .before .before .before .before .before .before .before .before .before .before .before) in let k = c .before .before .before .before .before .before .before .before .mark-once in omega (arith, table-inside (h .1) (k .result .mark) (k .result .end) _ (k .ensures .0 .0) (k .ensures .0 .1 .0) (k .ensures .1) (omega (arith, h .1 .a≤, c .before .before .before .before .before .before .before .before .before .before .before .before .before .before .before .before .before .loop-test .taken)))
+
+-- src/lib.rt:99:32
+part-put-line-start : tie.Need-part-put-line-start Inv-loop μ-loop
+part-put-line-start c = let h = mid (c .before .before .before .before .before .before .before .before .before .before .before .before .before) in let k = c .before .before .before .before .before .before .before .before .mark-once in omega (arith, table-inside (h .1) (k .result .mark) (k .result .end) _ (k .ensures .0 .0) (k .ensures .0 .1 .0) (k .ensures .1) (omega (arith, h .1 .a≤, c .before .before .before .before .before .before .before .before .before .before .before .before .before .before .before .before .before .loop-test .taken)))
+
+-- src/lib.rt:99:32
+part-put-line-end : tie.Need-part-put-line-end Inv-loop μ-loop
+part-put-line-end c = let h = mid (c .before .before .before .before .before .before .before .before .before .before .before .before .before) in let k = c .before .before .before .before .before .before .before .before .mark-once in omega (arith, table-inside (h .1) (k .result .mark) (k .result .end) _ (k .ensures .0 .0) (k .ensures .0 .1 .0) (k .ensures .1) (omega (arith, h .1 .a≤, c .before .before .before .before .before .before .before .before .before .before .before .before .before .before .before .before .before .loop-test .taken)))
 
 -- src/lib.rt:99:13
 put-line-requires : tie.Need-put-line-requires Inv-loop μ-loop
-put-line-requires c κs = let h = mid (c .before .before .before .before .before .before .before .before .before .before .before .before .before .before .before) in let f = c .before .before .before .before .before .before .before .before .before .before .before .before .before .before .before .before .before .before .find-byte in let k = c .before .before .before .before .before .before .before .before .before .before .mark-once in let r = c .before .before .cut in (so (c .before .before .before .before .before .before .before .before .before .before .before .before .before .before .declares .ensures) (c .before .before .before .before .before .before .before .before .before .before .before .before .before .if2 .taken), (table-says (h .1) (k .result .mark) (k .result .end) _ (k .ensures .0 .0) (k .ensures .0 .1 .0) (k .ensures .1) (r .result .now) (r .ensures), prune-room (c .before .before .before .before .before .before .before .before .before .before .before .before .before .before .before .before .before .before .before .before .loop .inv .0) (f .result) (c .before .before .before .before .before .before .before .before .before .before .before .before .before .before .before .before .before .before .before .loop-test .taken) (f .ensures) _ refl (h .0) _ refl (c .before .before .before .before .before .put .ensures) (r .result .now) (table-region (h .1) (k .result .mark) (k .result .end) _ (k .ensures .0 .0) (k .ensures .0 .1 .0) (k .ensures .1) (r .result .now) (r .ensures))))
+put-line-requires c κs = let h = mid (c .before .before .before .before .before .before .before .before .before .before .before .before .before .before .before .before) in let f = c .before .before .before .before .before .before .before .before .before .before .before .before .before .before .before .before .before .before .before .find-byte in let k = c .before .before .before .before .before .before .before .before .before .before .before .mark-once in (so (c .before .before .before .before .before .before .before .before .before .before .before .before .before .before .before .declares .ensures) (c .before .before .before .before .before .before .before .before .before .before .before .before .before .before .if2 .taken), (table-says (h .1) (k .result .mark) (k .result .end) _ (k .ensures .0 .0) (k .ensures .0 .1 .0) (k .ensures .1) _ refl, prune-room (c .before .before .before .before .before .before .before .before .before .before .before .before .before .before .before .before .before .before .before .before .before .loop .inv .0) (f .result) (c .before .before .before .before .before .before .before .before .before .before .before .before .before .before .before .before .before .before .before .before .loop-test .taken) (f .ensures) _ refl (h .0) _ refl (c .before .before .before .before .before .before .put .ensures) _ (table-region (h .1) (k .result .mark) (k .result .end) _ (k .ensures .0 .0) (k .ensures .0 .1 .0) (k .ensures .1) _ refl)))
 
 -- src/lib.rt:87:5
 loop-less : tie.Need-loop-less Inv-loop μ-loop
-loop-less c = omega (arith, c .before .before .before .before .before .before .before .before .before .before .before .before .before .before .before .after .ensures, c .before .before .before .before .before .before .before .before .before .before .before .before .before .before .before .before .before .before .before .before .before .find-byte .ensures, c .before .before .before .before .before .before .before .before .before .before .before .before .before .before .before .before .before .before .before .before .before .before .loop-test .taken, quiet-le (c .before .before .before .before .before .before .before .before .before .before .before .before .before .mark-once .ensures .0 .1 .1))
+loop-less c = omega (arith, c .before .before .before .before .before .before .before .before .before .before .before .before .before .before .before .before .after .ensures, c .before .before .before .before .before .before .before .before .before .before .before .before .before .before .before .before .before .before .before .before .before .before .find-byte .ensures, c .before .before .before .before .before .before .before .before .before .before .before .before .before .before .before .before .before .before .before .before .before .before .before .loop-test .taken, quiet-le (c .before .before .before .before .before .before .before .before .before .before .before .before .before .before .mark-once .ensures .0 .1 .1))
 
 -- src/lib.rt:87:5
 loop-again : tie.Need-loop-again Inv-loop μ-loop
-loop-again c = let h = mid (c .before .before .before .before .before .before .before .before .before .before .before .before .before .before .before .before .before .before) in let f = c .before .before .before .before .before .before .before .before .before .before .before .before .before .before .before .before .before .before .before .before .before .find-byte in let k = c .before .before .before .before .before .before .before .before .before .before .before .before .before .mark-once in let r = c .before .before .before .before .before .cut in let w = k .ensures .0 .1 .1 in (prune-quiet (prune-on (c .before .before .before .before .before .before .before .before .before .before .before .before .before .before .before .before .before .before .before .before .before .before .before .loop .inv .0) (f .result) (c .before .before .before .before .before .before .before .before .before .before .before .before .before .before .before .before .before .before .before .before .before .before .loop-test .taken) (f .ensures) _ refl (h .0) _ refl (c .before .before .before .before .before .before .before .before .put .ensures) (r .result .now) (table-region (h .1) (k .result .mark) (k .result .end) _ (k .ensures .0 .0) (k .ensures .0 .1 .0) (k .ensures .1) (r .result .now) (r .ensures)) (c .before .before .put-line .ensures) (c .before .before .before .before .before .before .before .before .before .before .before .before .before .before .before .after .ensures)) w, table-quiet (table-on (h .1) (k .result .mark) (k .result .end) _ (k .ensures .0 .0) (k .ensures .0 .1 .0) (k .ensures .1) (f .result) (c .before .before .before .before .before .before .before .before .before .before .before .before .before .before .before .after .result) (c .before .before .before .before .before .before .before .before .before .before .before .before .before .before .before .before .before .before .before .before .before .before .loop-test .taken) (f .ensures) (c .before .before .before .before .before .before .before .before .before .before .before .before .before .before .before .after .ensures)) (k .result .next) w)
+loop-again c = let h = mid (c .before .before .before .before .before .before .before .before .before .before .before .before .before .before .before .before .before .before .before) in let f = c .before .before .before .before .before .before .before .before .before .before .before .before .before .before .before .before .before .before .before .before .before .before .find-byte in let k = c .before .before .before .before .before .before .before .before .before .before .before .before .before .before .mark-once in let w = k .ensures .0 .1 .1 in (prune-quiet (prune-on (c .before .before .before .before .before .before .before .before .before .before .before .before .before .before .before .before .before .before .before .before .before .before .before .before .loop .inv .0) (f .result) (c .before .before .before .before .before .before .before .before .before .before .before .before .before .before .before .before .before .before .before .before .before .before .before .loop-test .taken) (f .ensures) _ refl (h .0) _ refl (c .before .before .before .before .before .before .before .before .before .put .ensures) _ (table-region (h .1) (k .result .mark) (k .result .end) _ (k .ensures .0 .0) (k .ensures .0 .1 .0) (k .ensures .1) _ refl) (c .before .before .put-line .ensures) (c .before .before .before .before .before .before .before .before .before .before .before .before .before .before .before .before .after .ensures)) w, table-quiet (table-on (h .1) (k .result .mark) (k .result .end) _ (k .ensures .0 .0) (k .ensures .0 .1 .0) (k .ensures .1) (f .result) (c .before .before .before .before .before .before .before .before .before .before .before .before .before .before .before .before .after .result) (c .before .before .before .before .before .before .before .before .before .before .before .before .before .before .before .before .before .before .before .before .before .before .before .loop-test .taken) (f .ensures) (c .before .before .before .before .before .before .before .before .before .before .before .before .before .before .before .before .after .ensures)) (k .result .next) w)
 
 -- src/lib.rt:103:13
 after-requires-2 : tie.Need-after-requires-2 Inv-loop μ-loop
@@ -173,7 +180,9 @@ prune-with-spec =
     part-put-start
     part-put-end
     put-requires
-    cut-requires
+    sub-put-line
+    part-put-line-start
+    part-put-line-end
     put-line-requires
     loop-less
     loop-again
