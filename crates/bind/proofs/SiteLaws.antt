@@ -4,12 +4,12 @@ use mathlib.Core.Path.{_≡_, refl, sym, ap, _∙_}
 use mathlib.Core.Bool.{Bool, true, false, cond, not, _&&_, _||_}
 use mathlib.Core.List.{List, [], _∷_, _++_, append-assoc}
 use native.Mathlib.Omega.{arith}
-use borrow.Author.Tests.{eq-eqb, ne-eqb, eqb-true, ltb-true, ltb-false}
+use borrow.Author.Tests.{eq-eqb, ne-eqb, eqb-true}
 use lib.Dec.{eqb, ltb}
 use lib.ListN.{length, getD, set, take, drop, length-set}
 use lib.Seq.{getD-drop}
 use Rattle.lines.specs.Lf.{part, upTo, prefixed, linesOf, partsOf}
-use Rattle.lines.proofs.Tests.{no, and-left, and-right}
+use Rattle.lines.proofs.Tests.{no, and-left, and-right, or-false}
 use Rattle.lines.proofs.LfLaws.{parts-at, parts-at-end, rest-of}
 use Rattle.lines.proofs.OutLaws.{Writing, writing-start, writing-as}
 use Rattle.text.specs.Trim.{fromOf, toOf, trimOf}
@@ -58,6 +58,10 @@ bound-lt t s bs ss v e =
 
 -- ---- pieces
 
+or-more : (a b c : Bool) → a || (b || c) ≡ (a || b) || c
+or-more true b c = refl
+or-more false b c = refl
+
 module _ (f : ℕ → Bool) where
   pass-cons : (p : List ℕ) (ps : List (List ℕ)) (b : Bool) → b ≡ passes f (regOf (trimOf p)) → anyPass f (p ∷ ps) ≡ b || anyPass f ps
   unfolding anyPass
@@ -68,18 +72,12 @@ module _ (f : ℕ → Bool) where
   pass-nil = refl
 
   module _ (s : List ℕ) (i e : ℕ) (h : i ≤ length s) (q : e ≡ i + upTo 44 (drop i s)) (b : Bool) (z : b ≡ passes f (regOf (trimOf (part i e s)))) where
-    pub pass-on : e < length s → b ≡ false → anyPass f (partsOf 44 (drop i s)) ≡ anyPass f (partsOf 44 (drop (e + 1) s))
-    pass-on l y = ap (anyPass f) (parts-at 44 s i e h q l) ∙ pass-cons (part i e s) _ b z ∙ rw y
+    -- a says whether some piece above passes
+    pub pass-on : e < length s → (a : Bool) → a || anyPass f (partsOf 44 (drop i s)) ≡ (a || b) || anyPass f (partsOf 44 (drop (e + 1) s))
+    pass-on l a = ap (λ (x : Bool). a || x) (ap (anyPass f) (parts-at 44 s i e h q l) ∙ pass-cons (part i e s) _ b z) ∙ or-more a b (anyPass f (partsOf 44 (drop (e + 1) s)))
 
-    pub pass-last : length s ≤ e → b ≡ false → anyPass f (partsOf 44 (drop i s)) ≡ false
-    pass-last l y = ap (anyPass f) (parts-at-end 44 s i e h q l) ∙ pass-cons (part i e s) [] b z ∙ rw y pass-nil
-
-    pub pass-hit : b ≡ true → anyPass f (partsOf 44 (drop i s)) ≡ true
-    pass-hit y = go (ltb e (length s)) refl
-      where
-        go : (c : Bool) → ltb e (length s) ≡ c → anyPass f (partsOf 44 (drop i s)) ≡ true
-        go true l = ap (anyPass f) (parts-at 44 s i e h q (ltb-true e (length s) l)) ∙ pass-cons (part i e s) _ b z ∙ rw y
-        go false l = ap (anyPass f) (parts-at-end 44 s i e h q (ltb-false e (length s) l)) ∙ pass-cons (part i e s) _ b z ∙ rw y
+    pub pass-last : length s ≤ e → (a : Bool) → a || anyPass f (partsOf 44 (drop i s)) ≡ a || b
+    pass-last l a = ap (λ (x : Bool). a || x) (ap (anyPass f) (parts-at-end 44 s i e h q l) ∙ pass-cons (part i e s) [] b z ∙ ap (λ (x : Bool). b || x) pass-nil ∙ or-false b)
 
 -- ---- marks
 
@@ -104,6 +102,20 @@ module _ (f : ℕ → Bool) (g : ℕ → ℕ) where
   unfolding notedAll
   noted-all-length [] m = refl
   noted-all-length (p ∷ ps) m = noted-all-length ps (noted f g (regOf (trimOf p)) m) ∙ noted-length (regOf (trimOf p)) m
+
+  -- where no piece passes, the marks stay as they are
+  pub noted-none : (ps : List (List ℕ)) (m : List ℕ) → anyPass f ps ≡ false → notedAll f g ps m ≡ m
+  unfolding anyPass notedAll
+  noted-none [] m e = refl
+  noted-none (p ∷ ps) m e = go (regOf (trimOf p)) e (noted-none ps m)
+    where
+      by : (b : Bool) (k : ℕ) → b || anyPass f ps ≡ false → (anyPass f ps ≡ false → notedAll f g ps m ≡ m) → notedAll f g ps (cond b (set m k 1) m) ≡ m
+      by true k y n = no (sym y)
+      by false k y n = n y
+
+      go : (r : RegName) → passes f r || anyPass f ps ≡ false → (anyPass f ps ≡ false → notedAll f g ps m ≡ m) → notedAll f g ps (noted f g r m) ≡ m
+      go name.None y n = n y
+      go (name.Reg q) y n = by (f (q .0)) (g (q .0)) y n
 
   module _ (s : List ℕ) (i e : ℕ) (h : i ≤ length s) (q : e ≡ i + upTo 44 (drop i s)) (t : List ℕ) (z : t ≡ trimOf (part i e s)) (m m′ : List ℕ) (y : m′ ≡ noted f g (regOf t) m) where
     noted-here : noted f g (regOf (trimOf (part i e s))) m ≡ m′
@@ -183,9 +195,6 @@ module _ (f : ℕ → Bool) (g : ℕ → ℕ) (l t : List ℕ) (z : t ≡ trimOf
   unfolding givesUp
   gives-is = rw (← z) (sym y)
 
-  pub gives-decl : b ≡ true → isDecl t ≡ true
-  gives-decl e = and-left (isDecl t) _ (sym y ∙ e)
-
   pub text-other : b ≡ false → (m : ℕ) → siteText f l m ≡ otherText l m
   unfolding siteText
   text-other e m = rw (gives-is ∙ e)
@@ -230,7 +239,7 @@ module _ (f : ℕ → Bool) (g : ℕ → ℕ) (r : RegName) (m : List ℕ) (q : 
 pub row-at : (t : List ℕ) (s : Site) (v : ℕ) (b : List ℕ) → b ≡ part (s .next) (s .end) t → (f : ℕ) → f ≡ useRow v (linesOf b) → s .row + (f + 1) ≡ markRow t s v
 row-at t s v b e f p = let z : f ≡ useRow v (belowOf t s) = p ∙ ap (λ (x : List ℕ). useRow v (linesOf x)) e in omega arith
 
--- ---- `gives_up`
+-- ---- whether a line gives up a name, by its two tests
 
 module _ (f : ℕ → Bool) (t : List ℕ) (d : Bool) (p : d ≡ isDecl t) where
   pub gives-no : d ≡ false → false ≡ isDecl t && anyPass f (partsOf 44 (bodyOf t))

@@ -2,7 +2,7 @@
 mod index;
 
 ghost use mathlib.Core.Path.{_≡_};
-ghost use mathlib.Core.Bool.{true, false, cond, _&&_};
+ghost use mathlib.Core.Bool.{true, false, cond};
 ghost use mathlib.Core.List.{[], _∷_, _++_};
 ghost use Prim.Native.Nat.{suc, min, _≤_, _<_, _+_, _-_, _^_};
 ghost use lib.Dec.{eqb};
@@ -11,7 +11,6 @@ ghost use Rattle.lines.specs.Lf.{linesOf, partsOf, unlines};
 ghost use Rattle.lines.specs.Out.{Wrote};
 ghost use Rattle.text.specs.Trim.{trimOf};
 ghost use Rattle.names.specs.Names.{regOf, regIs};
-ghost use Rattle.parse.specs.Parse.{bodyOf, isDecl};
 ghost use Rattle.place.specs.Blocks.{blockIds, cleaned};
 ghost use Rattle.place.specs.Starts.{startsGo};
 ghost use Rattle.place.specs.Parents.{idsParents};
@@ -244,25 +243,6 @@ fn store_row(text: &[u8], s: Site, first: &[usize], reg: names::Register) -> usi
     s.row + (f.row + 1)
 }
 
-// Whether a text names a register that is bound.
-fn is_bound(
-    text: &[u8],
-    s: Site,
-    blocks: &[usize],
-    starts: &[u8],
-    seen: &[usize],
-    first: &[usize],
-    t: &[u8],
-) -> bool
-    requires { ⌜ Ready (now text) s (now blocks) (now starts) (now seen) (now first) ⌝ }
-    ensures { λ r. ⌜ r ≡ passes (boundAt (now (text .entry)) s (now (blocks .entry)) (now (starts .entry))) (regOf (now (t .entry))) ⌝ }
-{
-    match names::reg_name(t) {
-        names::RegName::Reg(q) => told(text, s, blocks, starts, seen, first, q),
-        names::RegName::None => false,
-    }
-}
-
 // Whether a text names a register that is not bound.
 fn is_left(
     text: &[u8],
@@ -282,41 +262,7 @@ fn is_left(
     }
 }
 
-// Whether some piece of a declaration is bound.
-fn any_bound(
-    body: &[u8],
-    text: &[u8],
-    s: Site,
-    blocks: &[usize],
-    starts: &[u8],
-    seen: &[usize],
-    first: &[usize],
-) -> bool
-    requires { ⌜ Ready (now text) s (now blocks) (now starts) (now seen) (now first) ⌝ }
-    ensures { λ r. ⌜ r ≡ anyPass (boundAt (now (text .entry)) s (now (blocks .entry)) (now (starts .entry))) (partsOf 44 (now (body .entry))) ⌝ }
-{
-    let mut i = 0;
-    loop {
-        let e = lines::find_byte(body, i, b',');
-        if is_bound(
-            text,
-            s,
-            blocks,
-            starts,
-            seen,
-            first,
-            text::trim(lines::cut(body, i, e)),
-        ) {
-            return true;
-        }
-        if e >= body.len() {
-            return false;
-        }
-        i = e + 1;
-    }
-}
-
-// Marks the line of the store that becomes the declaration of a name, where the name is bound.
+// Whether a name is bound; where it is, marks the line of the store that becomes its declaration.
 fn mark_name(
     text: &[u8],
     s: Site,
@@ -326,23 +272,25 @@ fn mark_name(
     first: &[usize],
     t: &[u8],
     marks: &mut [u8],
-)
+) -> bool
     requires { ⌜ (Ready (now text) s (now blocks) (now starts) (now seen) (now first)) × (s .row + suc (length (belowOf (now text) s)) ≤ length (now marks)) ⌝ }
-    ensures { λ _. ⌜ now (marks .exit) ≡ noted (boundAt (now (text .entry)) s (now (blocks .entry)) (now (starts .entry))) (markRow (now (text .entry)) s) (regOf (now (t .entry))) (now (marks .entry)) ⌝ }
+    ensures answer { λ r. ⌜ r ≡ passes (boundAt (now (text .entry)) s (now (blocks .entry)) (now (starts .entry))) (regOf (now (t .entry))) ⌝ }
+    ensures memory { λ _. ⌜ now (marks .exit) ≡ noted (boundAt (now (text .entry)) s (now (blocks .entry)) (now (starts .entry))) (markRow (now (text .entry)) s) (regOf (now (t .entry))) (now (marks .entry)) ⌝ }
 {
     match names::reg_name(t) {
         names::RegName::Reg(q) => {
             if !told(text, s, blocks, starts, seen, first, q) {
-                return;
+                return false;
             }
             let k = store_row(text, s, first, q);
             marks[k] = 1;
+            true
         }
-        names::RegName::None => {}
+        names::RegName::None => false,
     }
 }
 
-// The same for each piece of a declaration.
+// Whether some piece of a declaration is bound; marks the lines of the stores for all that are.
 fn mark_names(
     body: &[u8],
     text: &[u8],
@@ -352,14 +300,16 @@ fn mark_names(
     seen: &[usize],
     first: &[usize],
     marks: &mut [u8],
-)
+) -> bool
     requires { ⌜ (Ready (now text) s (now blocks) (now starts) (now seen) (now first)) × (s .row + suc (length (belowOf (now text) s)) ≤ length (now marks)) ⌝ }
-    ensures { λ _. ⌜ now (marks .exit) ≡ notedAll (boundAt (now (text .entry)) s (now (blocks .entry)) (now (starts .entry))) (markRow (now (text .entry)) s) (partsOf 44 (now (body .entry))) (now (marks .entry)) ⌝ }
+    ensures answer { λ r. ⌜ r ≡ anyPass (boundAt (now (text .entry)) s (now (blocks .entry)) (now (starts .entry))) (partsOf 44 (now (body .entry))) ⌝ }
+    ensures memory { λ _. ⌜ now (marks .exit) ≡ notedAll (boundAt (now (text .entry)) s (now (blocks .entry)) (now (starts .entry))) (markRow (now (text .entry)) s) (partsOf 44 (now (body .entry))) (now (marks .entry)) ⌝ }
 {
     let mut i = 0;
+    let mut any = false;
     loop {
         let e = lines::find_byte(body, i, b',');
-        mark_name(
+        let b = mark_name(
             text,
             s,
             blocks,
@@ -369,8 +319,9 @@ fn mark_names(
             text::trim(lines::cut(body, i, e)),
             marks,
         );
+        any = any | b;
         if e >= body.len() {
-            return;
+            return any;
         }
         i = e + 1;
     }
@@ -431,33 +382,6 @@ fn put_other(line: &[u8], m: u8, out: &mut [u8], o: usize) -> usize
     lines::put_byte(out, p, 10)
 }
 
-// Whether a trimmed line is a declaration that gives up a name.
-fn gives_up(
-    t: &[u8],
-    text: &[u8],
-    s: Site,
-    blocks: &[usize],
-    starts: &[u8],
-    seen: &[usize],
-    first: &[usize],
-) -> bool
-    requires { ⌜ ReadyFor (now t) (now text) s (now blocks) (now starts) (now seen) (now first) ⌝ }
-    ensures { λ r. ⌜ r ≡ isDecl (now (t .entry)) && anyPass (boundAt (now (text .entry)) s (now (blocks .entry)) (now (starts .entry))) (partsOf 44 (bodyOf (now (t .entry)))) ⌝ }
-{
-    if !parse::is_decl(t) {
-        return false;
-    }
-    any_bound(
-        lines::cut(t, 4, t.len() - 1),
-        text,
-        s,
-        blocks,
-        starts,
-        seen,
-        first,
-    )
-}
-
 // Writes what the line of a site becomes, and marks the stores that take up the names which it gives up, where it may be a declaration.
 fn bind_decl(
     text: &[u8],
@@ -478,12 +402,14 @@ fn bind_decl(
 {
     let line = lines::cut(text, s.from, s.to);
     let t = text::trim(line);
-    if !gives_up(t, text, s, blocks, starts, seen, first) {
-        let row = s.row;
+    let row = s.row;
+    if !parse::is_decl(t) {
         return put_other(line, marks[row], out, o);
     }
     let body = lines::cut(t, 4, t.len() - 1);
-    mark_names(body, text, s, blocks, starts, seen, first, marks);
+    if !mark_names(body, text, s, blocks, starts, seen, first, marks) {
+        return put_other(line, marks[row], out, o);
+    }
     let indent = lines::cut(line, 0, text::trim_from(line));
     put_decl(body, indent, text, s, blocks, starts, seen, first, out, o)
 }

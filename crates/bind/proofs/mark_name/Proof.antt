@@ -1,9 +1,9 @@
 -- `bind::mark_name` meets its contract. Assumes nothing.
 use borrow.Author.Needs.{needs}
 use Rattle.bind.proofs.SiteLaws.{noted-other, noted-kept, noted-new, mark-lt}
-use Rattle.bind.specs.Steps.{boundAt, markRow}
+use Rattle.bind.specs.Steps.{boundAt, markRow, passes}
 use borrow.Author.Tests.{not-true, not-false}
-use mathlib.Core.Path.{sym, _∙_}
+use mathlib.Core.Path.{sym, ap, _∙_}
 use native.Mathlib.Omega.{arith}
 use Rattle.bind.proofs.mark_name.Statement.{statement}
 use Rattle.bind.proofs.mark_name.Tie as tie
@@ -20,7 +20,7 @@ told-requires c κs = search needs
 returns : tie.Need-returns
 returns c =
     let a = c .before .before .before .before .before .before .before .before .before .before .before .before .before .args in
-    noted-kept (boundAt (a .text .now) (a .s) (a .blocks .now) (a .starts .now)) (markRow (a .text .now) (a .s)) _ (a .marks .now) _ (sym (c .before .before .before .before .before .reg-name .ensures) ∙ c .before .before .before .q .given .1) (c .before .told .result) (c .before .told .ensures) (not-true _ (c .if1 .taken))
+    (sym (not-true _ (c .if1 .taken)) ∙ c .before .told .ensures ∙ sym (ap (passes (boundAt (a .text .now) (a .s) (a .blocks .now) (a .starts .now))) (sym (c .before .before .before .before .before .reg-name .ensures) ∙ c .before .before .before .q .given .1)), noted-kept (boundAt (a .text .now) (a .s) (a .blocks .now) (a .starts .now)) (markRow (a .text .now) (a .s)) _ (a .marks .now) _ (sym (c .before .before .before .before .before .reg-name .ensures) ∙ c .before .before .before .q .given .1) (c .before .told .result) (c .before .told .ensures) (not-true _ (c .if1 .taken)))
 
 store-row-requires : tie.Need-store-row-requires
 store-row-requires c κs =
@@ -44,12 +44,12 @@ same-length c = search needs
 returns-2 : tie.Need-returns-2
 returns-2 c =
     let a = c .before .before .before .before .before .before .before .before .before .before .before .before .before .before .args in
-    noted-new (boundAt (a .text .now) (a .s) (a .blocks .now) (a .starts .now)) (markRow (a .text .now) (a .s)) _ (a .marks .now) _ (sym (c .before .before .before .before .before .before .reg-name .ensures) ∙ c .before .before .before .before .q .given .1) (c .before .before .told .result) (c .before .before .told .ensures) (not-false _ (c .before .if1 .left)) _ (c .store-row .ensures)
+    (sym (not-false _ (c .before .if1 .left)) ∙ c .before .before .told .ensures ∙ sym (ap (passes (boundAt (a .text .now) (a .s) (a .blocks .now) (a .starts .now))) (sym (c .before .before .before .before .before .before .reg-name .ensures) ∙ c .before .before .before .before .q .given .1)), noted-new (boundAt (a .text .now) (a .s) (a .blocks .now) (a .starts .now)) (markRow (a .text .now) (a .s)) _ (a .marks .now) _ (sym (c .before .before .before .before .before .before .reg-name .ensures) ∙ c .before .before .before .before .q .given .1) (c .before .before .told .result) (c .before .before .told .ensures) (not-false _ (c .before .if1 .left)) _ (c .store-row .ensures))
 
 returns-3 : tie.Need-returns-3
 returns-3 c =
     let a = c .before .before .before .before .before .before .before .before .before .before .args in
-    noted-other (boundAt (a .text .now) (a .s) (a .blocks .now) (a .starts .now)) (markRow (a .text .now) (a .s)) _ (a .marks .now) (sym (c .before .before .reg-name .ensures) ∙ c .enum-told .given .1)
+    (sym (ap (passes (boundAt (a .text .now) (a .s) (a .blocks .now) (a .starts .now))) (sym (c .before .before .reg-name .ensures) ∙ c .enum-told .given .1)), noted-other (boundAt (a .text .now) (a .s) (a .blocks .now) (a .starts .now)) (markRow (a .text .now) (a .s)) _ (a .marks .now) (sym (c .before .before .reg-name .ensures) ∙ c .enum-told .given .1))
 
 pub mark-name-spec : {M : Type 1} → statement M
 mark-name-spec =

@@ -1,25 +1,31 @@
 -- `bind::mark_names` meets its contract. Assumes nothing.
-use Prim.Native.Nat.{_-_, _≤_}
+use Prim.Native.Nat.{ℕ, _-_, _≤_}
 use native.Mathlib.Omega.{arith}
 use borrow.Author.Needs.{needs}
+use mathlib.Core.Bool.{_||_}
+use mathlib.Core.List.{List}
 use mathlib.Core.Path.{_≡_, refl, sym, ap, _∙_}
 use lib.ListN.{length, drop}
 use Rattle.lines.specs.Lf.{partsOf}
 use Rattle.text.specs.Trim.{trimOf}
 use Rattle.names.specs.Names.{regOf}
-use Rattle.bind.specs.Steps.{boundAt, markRow, notedAll}
-use Rattle.bind.proofs.SiteLaws.{noted-length, noted-on, noted-last}
+use Rattle.bind.specs.Steps.{boundAt, markRow, passes, anyPass, notedAll}
+use Rattle.bind.proofs.SiteLaws.{pass-on, pass-last, noted-length, noted-on, noted-last}
 use Rattle.bind.proofs.mark_names.Statement.{statement}
 use Rattle.bind.proofs.mark_names.Tie as tie
 
 abbrev Inv-loop : tie.InvT-loop
-Inv-loop body text s blocks starts seen first marks₀ i₀ marks i = (i ≤ length body) × ((length marks ≡ length marks₀) × (notedAll (boundAt text s blocks starts) (markRow text s) (partsOf 44 (drop i body)) marks ≡ notedAll (boundAt text s blocks starts) (markRow text s) (partsOf 44 body) marks₀))
+Inv-loop body text s blocks starts seen first marks₀ i₀ any₀ marks i any =
+    (i ≤ length body)
+    × ((length marks ≡ length marks₀)
+    × ((notedAll (boundAt text s blocks starts) (markRow text s) (partsOf 44 (drop i body)) marks ≡ notedAll (boundAt text s blocks starts) (markRow text s) (partsOf 44 body) marks₀)
+    × (any || anyPass (boundAt text s blocks starts) (partsOf 44 (drop i body)) ≡ anyPass (boundAt text s blocks starts) (partsOf 44 body))))
 
 abbrev μ-loop : tie.MeasureT-loop
-μ-loop body text s blocks starts seen first marks₀ i₀ marks i = length body - i
+μ-loop body text s blocks starts seen first marks₀ i₀ any₀ marks i any = length body - i
 
 loop-holds : tie.Need-loop-holds Inv-loop μ-loop
-loop-holds c = (omega arith, (refl, refl))
+loop-holds c = (omega arith, (refl, (refl, refl)))
 
 find-byte-requires : tie.Need-find-byte-requires Inv-loop μ-loop
 find-byte-requires c κs = search needs
@@ -35,12 +41,12 @@ mark-name-requires c κs = (c .before .before .before .before .before .before .b
 
 same-length : tie.Need-same-length Inv-loop μ-loop
 same-length c = let a = c .before .before .before .before .before .before .before .before .before .before .before .before .before .before .before .before .args in
-    ap length (c .before .before .before .mark-name .ensures) ∙ noted-length (boundAt (a .text .now) (a .s) (a .blocks .now) (a .starts .now)) (markRow (a .text .now) (a .s)) (regOf (c .before .before .before .before .before .trim .result .now)) (c .before .before .before .before .before .before .before .before .loop .marks) ∙ c .before .before .before .before .before .before .before .before .loop .inv .1 .0
+    ap length (c .before .before .before .mark-name .ensures .1) ∙ noted-length (boundAt (a .text .now) (a .s) (a .blocks .now) (a .starts .now)) (markRow (a .text .now) (a .s)) (regOf (c .before .before .before .before .before .trim .result .now)) (c .before .before .before .before .before .before .before .before .loop .marks) ∙ c .before .before .before .before .before .before .before .before .loop .inv .1 .0
 
 returns : tie.Need-returns Inv-loop μ-loop
 returns c = let a = c .before .before .before .before .before .before .before .before .before .before .before .before .before .before .before .before .args in
     let f = c .before .before .before .before .before .before .before .find-byte in
-    sym (noted-last (boundAt (a .text .now) (a .s) (a .blocks .now) (a .starts .now)) (markRow (a .text .now) (a .s)) (a .body .now) (c .before .before .before .before .before .before .before .before .loop .i) (f .result) (c .before .before .before .before .before .before .before .before .loop .inv .0) (f .ensures) (c .before .before .before .before .before .trim .result .now) (c .before .before .before .before .before .trim .ensures .0 ∙ ap trimOf (c .before .before .before .before .before .before .cut .ensures)) (c .before .before .before .before .before .before .before .before .loop .marks) _ (c .before .before .before .mark-name .ensures) (c .if1 .taken)) ∙ c .before .before .before .before .before .before .before .before .loop .inv .1 .1
+    (sym (pass-last (boundAt (a .text .now) (a .s) (a .blocks .now) (a .starts .now)) (a .body .now) (c .before .before .before .before .before .before .before .before .loop .i) (f .result) (c .before .before .before .before .before .before .before .before .loop .inv .0) (f .ensures) (c .before .before .before .mark-name .result) (c .before .before .before .mark-name .ensures .0 ∙ ap (λ (t : List ℕ). passes (boundAt (a .text .now) (a .s) (a .blocks .now) (a .starts .now)) (regOf t)) (c .before .before .before .before .before .trim .ensures .0 ∙ ap trimOf (c .before .before .before .before .before .before .cut .ensures))) (c .if1 .taken) (c .before .before .before .before .before .before .before .before .loop .any)) ∙ c .before .before .before .before .before .before .before .before .loop .inv .1 .1 .1, sym (noted-last (boundAt (a .text .now) (a .s) (a .blocks .now) (a .starts .now)) (markRow (a .text .now) (a .s)) (a .body .now) (c .before .before .before .before .before .before .before .before .loop .i) (f .result) (c .before .before .before .before .before .before .before .before .loop .inv .0) (f .ensures) (c .before .before .before .before .before .trim .result .now) (c .before .before .before .before .before .trim .ensures .0 ∙ ap trimOf (c .before .before .before .before .before .before .cut .ensures)) (c .before .before .before .before .before .before .before .before .loop .marks) _ (c .before .before .before .mark-name .ensures .1) (c .if1 .taken)) ∙ c .before .before .before .before .before .before .before .before .loop .inv .1 .1 .0)
 
 add-i : tie.Need-add-i Inv-loop μ-loop
 add-i c = omega arith
@@ -51,7 +57,7 @@ loop-less c = omega (arith, c .before .before .before .before .before .before .b
 loop-again : tie.Need-loop-again Inv-loop μ-loop
 loop-again c = let a = c .before .before .before .before .before .before .before .before .before .before .before .before .before .before .before .before .args in
     let f = c .before .before .before .before .before .before .before .find-byte in
-    (omega arith, (ap length (c .before .before .before .mark-name .ensures) ∙ noted-length (boundAt (a .text .now) (a .s) (a .blocks .now) (a .starts .now)) (markRow (a .text .now) (a .s)) (regOf (c .before .before .before .before .before .trim .result .now)) (c .before .before .before .before .before .before .before .before .loop .marks) ∙ c .before .before .before .before .before .before .before .before .loop .inv .1 .0, sym (noted-on (boundAt (a .text .now) (a .s) (a .blocks .now) (a .starts .now)) (markRow (a .text .now) (a .s)) (a .body .now) (c .before .before .before .before .before .before .before .before .loop .i) (f .result) (c .before .before .before .before .before .before .before .before .loop .inv .0) (f .ensures) (c .before .before .before .before .before .trim .result .now) (c .before .before .before .before .before .trim .ensures .0 ∙ ap trimOf (c .before .before .before .before .before .before .cut .ensures)) (c .before .before .before .before .before .before .before .before .loop .marks) _ (c .before .before .before .mark-name .ensures) (c .if1 .left)) ∙ c .before .before .before .before .before .before .before .before .loop .inv .1 .1))
+    (omega arith, (ap length (c .before .before .before .mark-name .ensures .1) ∙ noted-length (boundAt (a .text .now) (a .s) (a .blocks .now) (a .starts .now)) (markRow (a .text .now) (a .s)) (regOf (c .before .before .before .before .before .trim .result .now)) (c .before .before .before .before .before .before .before .before .loop .marks) ∙ c .before .before .before .before .before .before .before .before .loop .inv .1 .0, (sym (noted-on (boundAt (a .text .now) (a .s) (a .blocks .now) (a .starts .now)) (markRow (a .text .now) (a .s)) (a .body .now) (c .before .before .before .before .before .before .before .before .loop .i) (f .result) (c .before .before .before .before .before .before .before .before .loop .inv .0) (f .ensures) (c .before .before .before .before .before .trim .result .now) (c .before .before .before .before .before .trim .ensures .0 ∙ ap trimOf (c .before .before .before .before .before .before .cut .ensures)) (c .before .before .before .before .before .before .before .before .loop .marks) _ (c .before .before .before .mark-name .ensures .1) (c .if1 .left)) ∙ c .before .before .before .before .before .before .before .before .loop .inv .1 .1 .0, sym (pass-on (boundAt (a .text .now) (a .s) (a .blocks .now) (a .starts .now)) (a .body .now) (c .before .before .before .before .before .before .before .before .loop .i) (f .result) (c .before .before .before .before .before .before .before .before .loop .inv .0) (f .ensures) (c .before .before .before .mark-name .result) (c .before .before .before .mark-name .ensures .0 ∙ ap (λ (t : List ℕ). passes (boundAt (a .text .now) (a .s) (a .blocks .now) (a .starts .now)) (regOf t)) (c .before .before .before .before .before .trim .ensures .0 ∙ ap trimOf (c .before .before .before .before .before .before .cut .ensures))) (c .if1 .left) (c .before .before .before .before .before .before .before .before .loop .any)) ∙ c .before .before .before .before .before .before .before .before .loop .inv .1 .1 .1)))
 
 pub mark-names-spec : {M : Type 1} → statement M
 mark-names-spec =
