@@ -8,7 +8,7 @@ use borrow.Author.Tests.{ltb-true, ltb-false}
 use lib.Dec.{eqb, ltb}
 use lib.ListN.{length, take, drop, getD, set, length-set, length-append}
 use lib.Seq.{take-add, getD-take, getD-drop, take-set-le, drop-set-lt, length-take-le}
-use Rattle.lines.specs.Lf.{part, linesOf, unlines, lacks, noLf}
+use Rattle.lines.specs.Lf.{part, lineStart, linesOf, unlines, lacks, noLf}
 use Rattle.lines.specs.Acts.{Act, keep, become, into, gone, act, apply}
 use Rattle.lines.specs.Out.{Wrote}
 use Rattle.lines.proofs.LfLaws.{part-none, rest-of, lines-unlines}
@@ -25,7 +25,7 @@ use Rattle.calls.specs.declared.Made.the-variants as made
 use Rattle.calls.specs.Leaves.{Leaves, Parsed, store, other}
 use Rattle.calls.specs.LeavesOf.{parsedBy, parsedOf, startsBy, leavesOf}
 use Rattle.calls.specs.Calls.{Item, Row, Walked, Step, end, skip, absorb, linesIn, climb, made, has, actsUp, readLater, storeStep, stepAt, walk}
-use Rattle.calls.specs.Steps.{absorbStep, lineBack, PutAs, ends, puts}
+use Rattle.calls.specs.Steps.{absorbStep, PutAs, ends, puts}
 use Rattle.calls.specs.Tables.{ownerOf, ownersOf, rowsAt, walkAt, lineAt, Keeps, Stands, Placed, Foot, Peaked}
 use Rattle.calls.proofs.Edges.{standing, given, apply-standing, walk-given, Passed, none-yet, onto, ownerBack, by-table, stands, WalkInv, edge-start, edge-skip, edge-absorb, edge-end, edge-top, edge-spent}
 use Rattle.calls.proofs.Owners.{owned}
@@ -328,12 +328,12 @@ module _ {t : List ℕ} {n i f : ℕ} {bs fs owner₀ stack : List ℕ} {m : ℕ
   blocks-in = (omega (arith, told-here .b<, index), (v .ground .n-blocks, omega (arith, told-here .f<, index)))
 
   -- the line above in the text
-  text-line : (q : ℕ) → q ≡ lineBack t (p - 1) → LastLine t p (given (v .rest)) (v .row .item .line) q
+  text-line : (q : ℕ) → q ≡ lineStart t (p - 1) → LastLine t p (given (v .rest)) (v .row .item .line) q
   unfolding given
   text-line q z = last-line t p (given (v .rest)) (v .row .item .line) (omega (arith, v .at .p≤, v .ground .i≤)) (v .at .above) (told-here .clear) q z
 
   pub text-some : 1 ≤ p
-  text-some = let w = text-line (lineBack t (p - 1)) refl in omega (arith, w .whole)
+  text-some = let w = text-line (lineStart t (p - 1)) refl in omega (arith, w .whole)
 
   owners-here : take (suc (k - 1)) owner ≡ ownersOf (actsUp (v .rest) []) ++ (ownerOf (v .row .act) ∷ [])
   owners-here = ap (λ (x : ℕ). take x owner) (sym one-less) ∙ v .at .owners ∙ owners-snoc (v .row) (v .rest)
@@ -360,7 +360,7 @@ module _ {t : List ℕ} {n i f : ℕ} {bs fs owner₀ stack : List ℕ} {m : ℕ
   told-above = v .at .told .1 .1
 
   -- the lines passed, with this one
-  module _ (q : ℕ) (z : q ≡ lineBack t (p - 1)) where
+  module _ (q : ℕ) (z : q ≡ lineStart t (p - 1)) where
     pub between-on : part q i t ≡ unlines (v .row .item .line ∷ linesIn (v .back))
     unfolding unlines
     between-on =
@@ -417,7 +417,7 @@ module _ {t : List ℕ} {n i f : ℕ} {bs fs owner₀ stack : List ℕ} {m : ℕ
         ∙ ap (λ (x : Bool). cond x skip end) (ours-is r e ∙ y)))
 
     -- it is
-    pub drop-on : (q : ℕ) (z : q ≡ lineBack t (p - 1)) (r : Bool) → r ≡ eqb (getD owner (k - 1 + getD owner (k - 1) 0) 0) (n - (k - 1 + getD owner (k - 1) 0)) → r ≡ true →
+    pub drop-on : (q : ℕ) (z : q ≡ lineStart t (p - 1)) (r : Bool) → r ≡ eqb (getD owner (k - 1 + getD owner (k - 1) 0) 0) (n - (k - 1 + getD owner (k - 1) 0)) → r ≡ true →
         (x : List ℕ) → x ≡ part q (p - 1) t → (y : Bool) → y ≡ isHeader x →
         Climb t n i f bs fs owner₀ stack m cur₀ next₀ clean₀ owner cur next clean (k - 1) q h c (over || y) (steps + 1)
     unfolding linesIn ownersIn standing act
@@ -467,13 +467,13 @@ module _ {t : List ℕ} {n i f : ℕ} {bs fs owner₀ stack : List ℕ} {m : ℕ
     up-row : Upright (v .row .act) (v .row .item .line)
     up-row = upright (v .row .act) (v .row .item .line) good-here (told-here .clear) (sym owner-here ∙ g)
 
-    stack-line : (b : ℕ) → b ≡ lineBack stack (h - 1) → LastLine stack h (standing (v .rest)) (up-row .text) b
+    stack-line : (b : ℕ) → b ≡ lineStart stack (h - 1) → LastLine stack h (standing (v .rest)) (up-row .text) b
     unfolding standing
     stack-line b z =
         last-line stack h (standing (v .rest)) (up-row .text) (v .at .h≤) (v .at .upper ∙ ap (λ (x : List (List ℕ)). unlines (standing (v .rest) ++ x)) (up-row .is)) (up-row .clear) b z
 
     pub stack-some : 1 ≤ h
-    stack-some = let w = stack-line (lineBack stack (h - 1)) refl in omega (arith, w .whole)
+    stack-some = let w = stack-line (lineStart stack (h - 1)) refl in omega (arith, w .whole)
 
     -- the step that the definition takes here
     abbrev step-here : Step
@@ -485,7 +485,7 @@ module _ {t : List ℕ} {n i f : ℕ} {bs fs owner₀ stack : List ℕ} {m : ℕ
     step-end : step-here ≡ end → Peaked t n owner₀ owner stack cur h c m
     step-end e = peak (v .ground) (v .same-owner) (v .same-cur) (v .at) (edge-end (v .at .walks) e)
 
-    module _ (b : ℕ) (z : b ≡ lineBack stack (h - 1)) (w : List ℕ) (e : w ≡ part b (h - 1) stack) where
+    module _ (b : ℕ) (z : b ≡ lineStart stack (h - 1)) (w : List ℕ) (e : w ≡ part b (h - 1) stack) where
       text-here : w ≡ up-row .text
       text-here = e ∙ stack-line b z .line
 
@@ -571,7 +571,7 @@ module _ {t : List ℕ} {n i f : ℕ} {bs fs owner₀ stack : List ℕ} {m : ℕ
 
                 -- it was put in, and the row goes into the line
                 pub absorb-on : {cur′ : List ℕ} {c′ : ℕ} → Wrote cur 0 new cur′ c′ →
-                    (q : ℕ) (z₁ : q ≡ lineBack t (p - 1)) (a : List ℕ) → a ≡ part q (p - 1) t → (hd : Bool) → hd ≡ isHeader a →
+                    (q : ℕ) (z₁ : q ≡ lineStart t (p - 1)) (a : List ℕ) → a ≡ part q (p - 1) t → (hd : Bool) → hd ≡ isHeader a →
                     Climb t n i f bs fs owner₀ stack m cur₀ next₀ clean₀ (set owner (k - 1) (n - k + 1)) cur′ next′ clean′ (k - 1) q b c′ (over || hd) (steps + 1)
                 unfolding linesIn ownersIn ownerOf act made
                 absorb-on {cur′} {c′} w q z₁ a e₅ hd e₆ =

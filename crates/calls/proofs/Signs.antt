@@ -23,7 +23,7 @@ use Rattle.words.specs.Runs.{flush, runsGo, runs, countBy, readsOf}
 use Rattle.words.proofs.RunLaws.{count-append}
 use Rattle.forms.specs.Control.{isControl}
 use Rattle.reading.specs.Uses.{lineReads, storesBy, lineStores}
-use Rattle.calls.specs.Steps.{isSecond, mayControl, lineBack}
+use Rattle.calls.specs.Steps.{isSecond, mayControl}
 
 -- ---- a condition or a loop
 
@@ -85,42 +85,3 @@ module _ (t : List ℕ) (r : Bool) where
     pub may-brace : a ≡ false → (b : Bool) → b ≡ holds (125 ∷ []) t → b ≡ mayControl t
     unfolding mayControl
     may-brace k b w = w ∙ sym (rw (sym e ∙ h, sym q ∙ k) refl)
-
--- ---- the scan back within what stands before a place
-
-back-front : (s : List ℕ) (e j : ℕ) → j ≤ e → lineBack (take e s) j ≡ lineBack s j
-unfolding lineBack
-back-front s e zero h = refl
-back-front s e (suc j) h = rw (take-get s e j (omega arith), back-front s e j (omega arith)) refl
-  where
-    take-get : (s : List ℕ) (e j : ℕ) → j < e → getD (take e s) j 0 ≡ getD s j 0
-    take-get [] zero j h = refl
-    take-get [] (suc e) j h = refl
-    take-get (x ∷ s) zero j h = absurd (omega arith)
-    take-get (x ∷ s) (suc e) zero h = refl
-    take-get (x ∷ s) (suc e) (suc j) h = take-get s e j (omega arith)
-
-back-past : (s : List ℕ) (n k : ℕ) → length s ≤ n → lineBack s (n + k) ≡ lineBack s n
-unfolding lineBack
-back-past s n zero h = let z : n + 0 ≡ n = omega arith in ap (lineBack s) z
-back-past s n (suc k) h =
-    let z : n + suc k ≡ suc (n + k) = omega arith in
-    let m : length s ≤ n + k = omega arith in
-    ap (lineBack s) z ∙ rw (List·getD-eq-default s 0 m) (back-past s n k h)
-
-pub back-cut : (s : List ℕ) (e : ℕ) (t : List ℕ) → t ≡ part 0 e s → lineBack t (length t) ≡ lineBack s e
-back-cut s e t q =
-    let z : e - 0 ≡ e = omega arith in
-    let w : t ≡ take e s = q ∙ ap (λ (k : ℕ). take k s) z in
-    let n : length (take e s) ≡ length t = ap length (sym w) in
-    let m : length t ≤ e = omega (arith, n, length-take e s) in
-    let past : lineBack s e ≡ lineBack s (length t) = go (leb e (length s)) refl n in
-    ap (λ (x : List ℕ). lineBack x (length t)) w ∙ back-front s e (length t) m ∙ sym past
-  where
-    go : (b : Bool) → leb e (length s) ≡ b → length (take e s) ≡ length t → lineBack s e ≡ lineBack s (length t)
-    go true h n = let y = leb-true e (length s) h in let x : e ≡ length t = omega (arith, n, length-take e s) in ap (lineBack s) x
-    go false h n =
-        let y = borrow.Author.Tests.leb-false e (length s) h in
-        let x : length s ≡ length t = omega (arith, n, length-take e s) in
-        let p : e ≡ length s + (e - length s) = omega arith in
-        ap (lineBack s) p ∙ back-past s (length s) (e - length s) (omega arith) ∙ ap (lineBack s) x

@@ -6,11 +6,10 @@ use mathlib.Core.List.{List, [], _∷_, _++_, append-assoc, append-nil, reverse,
 use native.Mathlib.Omega.{arith}
 use lib.ListN.{length, take, drop, getD, set, length-append, length-take, length-drop, take-append-drop}
 use lib.Seq.{take-suc, drop-cons, take-at, drop-at, take-take, drop-drop, take-add, length-take-le, getD-set-same, take-set-le, drop-set-lt}
-use Rattle.lines.specs.Lf.{part, unlines, lacks}
+use Rattle.lines.specs.Lf.{part, lineStart, unlines, lacks}
 use Rattle.lines.specs.Acts.{Act, act}
 use Rattle.lines.proofs.ActLaws.{unlines-append}
 use Rattle.calls.specs.Calls.{Row, linesIn, actsUp}
-use Rattle.calls.specs.Steps.{lineBack}
 use Rattle.calls.specs.Tables.{ownerOf, ownersOf}
 use Rattle.calls.proofs.Cut.{acts-more, acts-length}
 use Rattle.calls.proofs.Edges.{given, ownerBack}
@@ -27,7 +26,7 @@ pub record LastLine (s : List ℕ) (h : ℕ) (ls : List (List ℕ)) (l : List �
   pub whole : h ≡ q + length l + 1
 
 pub last-line : (s : List ℕ) (h : ℕ) (ls : List (List ℕ)) (l : List ℕ) → h ≤ length s → take h s ≡ unlines (ls ++ (l ∷ [])) → lacks 10 l ≡ true →
-    (q : ℕ) → q ≡ lineBack s (h - 1) → LastLine s h ls l q
+    (q : ℕ) → q ≡ lineStart s (h - 1) → LastLine s h ls l q
 unfolding unlines
 last-line s h ls l k e f q z =
     let u : List ℕ = unlines ls in
@@ -38,7 +37,7 @@ last-line s h ls l k e f q z =
     sym (take-append-drop h s) ∙ ap (λ (x : List ℕ). x ++ drop h s) a ∙ append-assoc u (l ++ 10 ∷ []) (drop h s)
     ∙ ap (λ (x : List ℕ). u ++ x) (append-assoc l (10 ∷ []) (drop h s)) in
     let v : q ≡ length u =
-    z ∙ ap (lineBack s) m ∙ ap (λ (x : List ℕ). lineBack x (length u + length l)) w ∙ back-line ls l (10 ∷ drop h s) f in
+    z ∙ ap (lineStart s) m ∙ ap (λ (x : List ℕ). lineStart x (length u + length l)) w ∙ back-line ls l (10 ∷ drop h s) f in
     let r : drop q s ≡ l ++ 10 ∷ drop h s = ap (λ (x : ℕ). drop x s) v ∙ ap (drop (length u)) w ∙ drop-at u (l ++ 10 ∷ drop h s) (length u) refl in
     record {
       upper = ap (λ (x : ℕ). take x s) v ∙ ap (take (length u)) w ∙ take-at u (l ++ 10 ∷ drop h s) (length u) refl;

@@ -8,8 +8,9 @@ use borrow.Author.Tests.{eq-eqb, ne-eqb, lt-ltb, le-ltb, ltb-true, ltb-false}
 use lib.Dec.{eqb, ltb}
 use lib.ListN.{length, take, drop, getD, length-append, length-drop, drop-of-length-le, List·getD-append}
 use lib.Seq.{drop-cons, getD-append-add}
-use Rattle.lines.specs.Lf.{part, upTo, prefixed, holds, linesOf, unlines, lacks}
+use Rattle.lines.specs.Lf.{part, upTo, lineStart, prefixed, holds, linesOf, unlines, lacks}
 use Rattle.lines.proofs.LfLaws.{lines-at, lines-end}
+use Rattle.lines.proofs.Starts.{start-here, start-on, start-front}
 use Rattle.lines.proofs.Tests.{no, and-false, eqb-sym}
 use Rattle.text.specs.Trim.{trimStart}
 use Rattle.parse.specs.Parse.{parseOf}
@@ -31,7 +32,7 @@ use Rattle.lines.proofs.OutLaws.{wrote-part}
 use Rattle.calls.specs.Leaves.{newed, operand}
 use Rattle.calls.specs.LeavesOf.{parsedBy, parsedOf, contextOf, isCall, isControlLine, leavesOf}
 use Rattle.calls.specs.Calls.{Step, end, absorb, orEnd, putBy, storesIn, readLater}
-use Rattle.calls.specs.Steps.{breaksDown, absorbStep, lineBack, PutAs, ends, puts}
+use Rattle.calls.specs.Steps.{breaksDown, absorbStep, PutAs, ends, puts}
 use Rattle.calls.specs.declared.Made.{Made}
 use Rattle.calls.specs.declared.Made.the-variants as made
 
@@ -226,30 +227,12 @@ put-step q p = rw q p
 
 -- ---- the scan back to the LF above
 
-back-by : (s : List ℕ) (k j : ℕ) → j ≡ suc k → lineBack s j ≡ cond (eqb (getD s k 0) 10) j (lineBack s k)
-unfolding lineBack
-back-by s k j e = rw e
-
-module _ (s : List ℕ) (j : ℕ) (h : 0 < j) (x : ℕ) (q : x ≡ getD s (j - 1) 0) where
-  back-step : lineBack s j ≡ cond (eqb x 10) j (lineBack s (j - 1))
-  back-step = back-by s (j - 1) j (omega arith) ∙ ap (λ (y : ℕ). cond (eqb y 10) j (lineBack s (j - 1))) (sym q)
-
-  pub back-here : x ≡ 10 → lineBack s j ≡ j
-  back-here e = back-step ∙ rw (eq-eqb x 10 e)
-
-  pub back-on : (x ≡ 10 → ⊥) → lineBack s j ≡ lineBack s (j - 1)
-  back-on n = back-step ∙ rw (ne-eqb x 10 n)
-
-pub back-front : (s : List ℕ) (j : ℕ) → j ≤ 0 → lineBack s j ≡ j
-unfolding lineBack
-back-front s zero h = refl
-back-front s (suc j) h = absurd (omega arith)
-
 -- past bytes that are no LF
-back-run : (s : List ℕ) (n k : ℕ) → ((i : ℕ) → i < k → getD s (n + i) 0 ≡ 10 → ⊥) → lineBack s (n + k) ≡ lineBack s n
-back-run s n zero f = let z : n + 0 ≡ n = omega arith in ap (lineBack s) z
+back-run : (s : List ℕ) (n k : ℕ) → ((i : ℕ) → i < k → getD s (n + i) 0 ≡ 10 → ⊥) → lineStart s (n + k) ≡ lineStart s n
+back-run s n zero f = let z : n + 0 ≡ n = omega arith in ap (lineStart s) z
 back-run s n (suc k) f =
-    back-by s (n + k) (n + suc k) (omega arith) ∙ rw (ne-eqb (getD s (n + k) 0) 10 (f k (omega arith))) (back-run s n k (λ i h. f i (omega arith)))
+    let z : n + suc k - 1 ≡ n + k = omega arith in
+    start-on s (n + suc k) (omega arith) (λ e. f k (omega arith) (ap (λ (i : ℕ). getD s i 0) (sym z) ∙ e)) ∙ ap (lineStart s) z ∙ back-run s n k (λ i h. f i (omega arith))
 
 lacks-at : (l : List ℕ) (i : ℕ) → lacks 10 l ≡ true → i < length l → getD l i 0 ≡ 10 → ⊥
 unfolding lacks
@@ -277,14 +260,14 @@ last-lf (l ∷ ls) h = go (unlines ls) (λ k. last-lf ls k)
         ap (λ (k : ℕ). getD (l ++ 10 ∷ x ∷ u) k 0) n ∙ getD-append-add l (10 ∷ x ∷ u) (suc (length u)) 0 ∙ ap (λ (k : ℕ). getD (x ∷ u) k 0) (sym m) ∙ f (omega arith)
 
 -- below some lines, the last line of a text begins where these end
-pub back-line : (ls : List (List ℕ)) (l more : List ℕ) → lacks 10 l ≡ true → lineBack (unlines ls ++ (l ++ more)) (length (unlines ls) + length l) ≡ length (unlines ls)
+pub back-line : (ls : List (List ℕ)) (l more : List ℕ) → lacks 10 l ≡ true → lineStart (unlines ls ++ (l ++ more)) (length (unlines ls) + length l) ≡ length (unlines ls)
 back-line ls l more h = back-run (unlines ls ++ (l ++ more)) (length (unlines ls)) (length l) inner ∙ front (length (unlines ls)) refl
   where
     inner : (i : ℕ) → i < length l → getD (unlines ls ++ (l ++ more)) (length (unlines ls) + i) 0 ≡ 10 → ⊥
     inner i k e = lacks-at l i h k (sym (getD-append-add (unlines ls) (l ++ more) i 0 ∙ List·getD-append l more 0 i k) ∙ e)
 
-    front : (k : ℕ) → length (unlines ls) ≡ k → lineBack (unlines ls ++ (l ++ more)) (length (unlines ls)) ≡ length (unlines ls)
-    front zero e = back-front (unlines ls ++ (l ++ more)) (length (unlines ls)) (omega arith)
+    front : (k : ℕ) → length (unlines ls) ≡ k → lineStart (unlines ls ++ (l ++ more)) (length (unlines ls)) ≡ length (unlines ls)
+    front zero e = start-front (unlines ls ++ (l ++ more)) (length (unlines ls)) (omega arith)
     front (suc k) e =
-        back-here (unlines ls ++ (l ++ more)) (length (unlines ls)) (omega arith) (getD (unlines ls ++ (l ++ more)) (length (unlines ls) - 1) 0) refl
+        start-here (unlines ls ++ (l ++ more)) (length (unlines ls)) (omega arith)
         (List·getD-append (unlines ls) (l ++ more) 0 (length (unlines ls) - 1) (omega arith) ∙ last-lf ls (omega arith))

@@ -29,11 +29,6 @@ breaksDown f [] os = false
 breaksDown f (l ∷ ls) [] = false
 breaksDown f (l ∷ ls) (o ∷ os) = (eqb o (suc (length os)) && f l) || breaksDown f ls os
 
--- where the line begins that ends before the place e: after the LF above, or at the front
-unfoldable pub lineBack : List ℕ → ℕ → ℕ
-lineBack s zero = 0
-lineBack s (suc j) = cond (eqb (getD s j 0) 10) (suc j) (lineBack s j)
-
 -- the step at a store of register v above a line that is `cur` now, where region, block and start of statement allow it. `taken` are the lines
 -- between the two, and `owner` tells for each how far below it its owner stands.
 unfoldable pub absorbStep : Reading → List ℕ → ℕ → List ℕ → List (List ℕ) → List (List ℕ) → List ℕ → Step

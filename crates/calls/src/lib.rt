@@ -21,7 +21,7 @@ ghost use Rattle.place.specs.Fill.{Filled, flagsOf};
 ghost use Rattle.records.specs.Records.{recordsOf, Holds};
 ghost use Rattle.calls.specs.LeavesOf.{isCall, isControlLine, contextOf, leavesOf};
 ghost use Rattle.calls.specs.Calls.{readLater, putBy, rebuildCallsActs, rebuildCalls};
-ghost use Rattle.calls.specs.Steps.{isSecond, mayControl, breaksDown, absorbStep, lineBack, PutAs};
+ghost use Rattle.calls.specs.Steps.{isSecond, mayControl, breaksDown, absorbStep, PutAs};
 ghost use Rattle.calls.specs.Tables.{rowsAt, Keeps, Stands, Placed, Foot, Peaked, Ready, Turned, Rebuilt, ownersOf};
 
 // What putting a value into a line makes: a line of so many bytes, or nothing.
@@ -211,21 +211,6 @@ fn absorb(
     put_in(line, reg, value, clean, out)
 }
 
-// Where the line begins that ends before a place: after the LF above, or at the front.
-fn line_back(s: &[u8], e: usize) -> usize
-    ensures { λ r. ⌜ r ≡ lineBack (now (s .entry)) e ⌝ }
-{
-    let t = lines::cut(s, 0, e);
-    let mut j = t.len();
-    while 0 < j {
-        if t[j - 1] == 10 {
-            return j;
-        }
-        j -= 1;
-    }
-    j
-}
-
 // Whether the line that a dropped line k went into has gone into line n itself.
 fn is_ours(owner: &[usize], k: usize, n: usize) -> bool
     requires { ⌜ (k + getD (now owner) k 0 < n) × (n ≤ length (now owner)) ⌝ }
@@ -288,7 +273,7 @@ fn walk_up(
     let mut steps: usize = 0;
     while (0 < k) & (steps < 64) {
         steps += 1;
-        let q = line_back(text, p - 1);
+        let q = lines::line_start(text, p - 1);
         if owner[k - 1] != 0 {
             if !is_ours(owner, k - 1, n) {
                 break;
@@ -297,7 +282,7 @@ fn walk_up(
             p = q;
             k -= 1;
         } else {
-            let b = line_back(stack, h - 1);
+            let b = lines::line_start(stack, h - 1);
             let x = lines::cut(stack, b, h - 1);
             let read = parse::parse(x);
             let parse::Line::Store(s) = read else { break };

@@ -18,7 +18,7 @@ use Rattle.calls.proofs.walk_up.Reads as reads
 use Rattle.calls.proofs.walk_up.Lts as lts
 use Rattle.calls.proofs.absorb.Reads as absorb-reads
 use Rattle.calls.proofs.is_ours.Reads as is-ours-reads
-use Rattle.calls.proofs.line_back.Reads as line-back-reads
+use Rattle.lines.proofs.line_start.Reads as line-start-reads
 use Rattle.calls.proofs.may_go.Reads as may-go-reads
 use Rattle.lines.proofs.cut.Reads as cut-reads
 use Rattle.lines.proofs.put.Reads as put-reads
@@ -49,12 +49,12 @@ add-steps : tie.Need-add-steps Inv-loop μ-loop
 add-steps c = omega (arith, step-some (climb-in (c .before .loop .inv) (c .loop-test .taken)))
 
 -- src/lib.rt:239:33
-sub-line-back : tie.Need-sub-line-back Inv-loop μ-loop
-sub-line-back c = text-some (climb-in (c .before .loop .inv) (c .loop-test .taken))
+sub-line-start : tie.Need-sub-line-start Inv-loop μ-loop
+sub-line-start c = text-some (climb-in (c .before .loop .inv) (c .loop-test .taken))
 
 -- src/lib.rt:239:13
-line-back-requires : tie.Need-line-back-requires Inv-loop μ-loop
-line-back-requires c κs = tt
+line-start-requires : tie.Need-line-start-requires Inv-loop μ-loop
+line-start-requires c κs = tt
 
 -- src/lib.rt:240:18
 sub-if1 : tie.Need-sub-if1 Inv-loop μ-loop
@@ -98,15 +98,15 @@ loop-less c = omega (arith, step-some (climb-in (c .before .before .before .befo
 
 -- src/lib.rt:237:5
 loop-again : tie.Need-loop-again Inv-loop μ-loop
-loop-again c = drop-on (climb-in (c .before .before .before .before .before .before .before .before .before .loop .inv) (c .before .before .before .before .before .before .before .before .loop-test .taken)) (c .before .before .before .before .before .if1 .taken) _ (c .before .before .before .before .before .before .before .line-back .ensures) _ (c .before .before .before .is-ours .ensures) (not-false _ (c .before .before .if2 .left)) _ (c .before .cut .ensures) _ (c .is-header .ensures)
+loop-again c = drop-on (climb-in (c .before .before .before .before .before .before .before .before .before .loop .inv) (c .before .before .before .before .before .before .before .before .loop-test .taken)) (c .before .before .before .before .before .if1 .taken) _ (c .before .before .before .before .before .before .before .line-start .ensures) _ (c .before .before .before .is-ours .ensures) (not-false _ (c .before .before .if2 .left)) _ (c .before .cut .ensures) _ (c .is-header .ensures)
 
 -- src/lib.rt:248:38
-sub-line-back-2 : tie.Need-sub-line-back-2 Inv-loop μ-loop
-sub-line-back-2 c = stack-some (climb-in (c .before .before .before .before .loop .inv) (c .before .before .before .loop-test .taken)) (c .if1 .left)
+sub-line-start-2 : tie.Need-sub-line-start-2 Inv-loop μ-loop
+sub-line-start-2 c = stack-some (climb-in (c .before .before .before .before .loop .inv) (c .before .before .before .loop-test .taken)) (c .if1 .left)
 
 -- src/lib.rt:248:17
-line-back-requires-2 : tie.Need-line-back-requires-2 Inv-loop μ-loop
-line-back-requires-2 c κs = tt
+line-start-requires-2 : tie.Need-line-start-requires-2 Inv-loop μ-loop
+line-start-requires-2 c κs = tt
 
 -- src/lib.rt:249:42
 sub-cut-2 : tie.Need-sub-cut-2 Inv-loop μ-loop
@@ -166,7 +166,7 @@ part-absorb-end c = omega (arith, c .before .before .before .before .before .bef
 
 -- src/lib.rt:259:17
 absorb-requires : tie.Need-absorb-requires Inv-loop μ-loop
-absorb-requires c κs = absorb-room (climb-in (c .before .before .before .before .before .before .before .before .before .before .before .before .before .before .before .before .before .before .before .before .before .loop .inv) (c .before .before .before .before .before .before .before .before .before .before .before .before .before .before .before .before .before .before .before .before .loop-test .taken)) (c .before .before .before .before .before .before .before .before .before .before .before .before .before .before .before .before .before .if1 .left) _ (c .before .before .before .before .before .before .before .before .before .before .before .before .before .before .before .before .line-back2 .ensures) _ (c .before .before .before .before .before .before .before .before .before .before .before .before .before .before .before .cut2 .ensures) (c .before .before .before .before .before .before .before .before .before .before .before .before .read .given .0 .0) (sym (c .before .before .before .before .before .before .before .before .before .before .before .before .before .before .parse .ensures) ∙ c .before .before .before .before .before .before .before .before .before .before .before .before .read .given .1) _ (c .before .before .before .before .before .before .before .before .value-of .ensures) _ (c .before .before .before .before .before .before .before .before .before .before .may-go .ensures) (not-false _ (c .before .before .before .before .before .before .before .before .before .if3 .left)) _ _ _ (c .before .before .before .before .before .before .cut3 .ensures) (c .before .before .before .before .before .cut4 .ensures) (c .before .before .before .before .cut5 .ensures)
+absorb-requires c κs = absorb-room (climb-in (c .before .before .before .before .before .before .before .before .before .before .before .before .before .before .before .before .before .before .before .before .before .loop .inv) (c .before .before .before .before .before .before .before .before .before .before .before .before .before .before .before .before .before .before .before .before .loop-test .taken)) (c .before .before .before .before .before .before .before .before .before .before .before .before .before .before .before .before .before .if1 .left) _ (c .before .before .before .before .before .before .before .before .before .before .before .before .before .before .before .before .line-start2 .ensures) _ (c .before .before .before .before .before .before .before .before .before .before .before .before .before .before .before .cut2 .ensures) (c .before .before .before .before .before .before .before .before .before .before .before .before .read .given .0 .0) (sym (c .before .before .before .before .before .before .before .before .before .before .before .before .before .before .parse .ensures) ∙ c .before .before .before .before .before .before .before .before .before .before .before .before .read .given .1) _ (c .before .before .before .before .before .before .before .before .value-of .ensures) _ (c .before .before .before .before .before .before .before .before .before .before .may-go .ensures) (not-false _ (c .before .before .before .before .before .before .before .before .before .if3 .left)) _ _ _ (c .before .before .before .before .before .before .cut3 .ensures) (c .before .before .before .before .before .cut4 .ensures) (c .before .before .before .before .cut5 .ensures)
 
 -- src/lib.rt:260:28
 enum-known-made : tie.Need-enum-known-made Inv-loop μ-loop
@@ -182,7 +182,7 @@ cut-requires-6 c κs = tt
 
 -- src/lib.rt:261:13
 put-requires : tie.Need-put-requires Inv-loop μ-loop
-put-requires c κs = new-room (climb-in (c .before .before .before .before .before .before .before .before .before .before .before .before .before .before .before .before .before .before .before .before .before .before .before .before .before .before .before .before .before .before .before .before .loop .inv) (c .before .before .before .before .before .before .before .before .before .before .before .before .before .before .before .before .before .before .before .before .before .before .before .before .before .before .before .before .before .before .before .loop-test .taken)) (c .before .before .before .before .before .before .before .before .before .before .before .before .before .before .before .before .before .before .before .before .before .before .before .before .before .before .before .before .if1 .left) _ (c .before .before .before .before .before .before .before .before .before .before .before .before .before .before .before .before .before .before .before .before .before .before .before .before .before .before .before .line-back2 .ensures) _ (c .before .before .before .before .before .before .before .before .before .before .before .before .before .before .before .before .before .before .before .before .before .before .before .before .before .before .cut2 .ensures) (c .before .before .before .before .before .before .before .before .before .before .before .before .before .before .before .before .before .before .before .before .before .before .before .read .given .0 .0) (sym (c .before .before .before .before .before .before .before .before .before .before .before .before .before .before .before .before .before .before .before .before .before .before .before .before .before .parse .ensures) ∙ c .before .before .before .before .before .before .before .before .before .before .before .before .before .before .before .before .before .before .before .before .before .before .before .read .given .1) _ (c .before .before .before .before .before .before .before .before .before .before .before .before .before .before .before .before .before .before .before .value-of .ensures) _ (c .before .before .before .before .before .before .before .before .before .before .before .before .before .before .before .before .before .before .before .before .before .may-go .ensures) (not-false _ (c .before .before .before .before .before .before .before .before .before .before .before .before .before .before .before .before .before .before .before .before .if3 .left)) _ _ _ (c .before .before .before .before .before .before .before .before .before .before .before .before .before .before .before .before .before .cut3 .ensures) (c .before .before .before .before .before .before .before .before .before .before .before .before .before .before .before .before .cut4 .ensures) (c .before .before .before .before .before .before .before .before .before .before .before .before .before .before .before .cut5 .ensures) (c .before .before .before .before .before .before .before .before .before .before .absorb .ensures) (c .before .before .before .before .made .given .1) _ (c .cut6 .ensures)
+put-requires c κs = new-room (climb-in (c .before .before .before .before .before .before .before .before .before .before .before .before .before .before .before .before .before .before .before .before .before .before .before .before .before .before .before .before .before .before .before .before .loop .inv) (c .before .before .before .before .before .before .before .before .before .before .before .before .before .before .before .before .before .before .before .before .before .before .before .before .before .before .before .before .before .before .before .loop-test .taken)) (c .before .before .before .before .before .before .before .before .before .before .before .before .before .before .before .before .before .before .before .before .before .before .before .before .before .before .before .before .if1 .left) _ (c .before .before .before .before .before .before .before .before .before .before .before .before .before .before .before .before .before .before .before .before .before .before .before .before .before .before .before .line-start2 .ensures) _ (c .before .before .before .before .before .before .before .before .before .before .before .before .before .before .before .before .before .before .before .before .before .before .before .before .before .before .cut2 .ensures) (c .before .before .before .before .before .before .before .before .before .before .before .before .before .before .before .before .before .before .before .before .before .before .before .read .given .0 .0) (sym (c .before .before .before .before .before .before .before .before .before .before .before .before .before .before .before .before .before .before .before .before .before .before .before .before .before .parse .ensures) ∙ c .before .before .before .before .before .before .before .before .before .before .before .before .before .before .before .before .before .before .before .before .before .before .before .read .given .1) _ (c .before .before .before .before .before .before .before .before .before .before .before .before .before .before .before .before .before .before .before .value-of .ensures) _ (c .before .before .before .before .before .before .before .before .before .before .before .before .before .before .before .before .before .before .before .before .before .may-go .ensures) (not-false _ (c .before .before .before .before .before .before .before .before .before .before .before .before .before .before .before .before .before .before .before .before .if3 .left)) _ _ _ (c .before .before .before .before .before .before .before .before .before .before .before .before .before .before .before .before .before .cut3 .ensures) (c .before .before .before .before .before .before .before .before .before .before .before .before .before .before .before .before .cut4 .ensures) (c .before .before .before .before .before .before .before .before .before .before .before .before .before .before .before .cut5 .ensures) (c .before .before .before .before .before .before .before .before .before .before .absorb .ensures) (c .before .before .before .before .made .given .1) _ (c .cut6 .ensures)
 
 -- src/lib.rt:262:28
 sub-owner : tie.Need-sub-owner Inv-loop μ-loop
@@ -226,7 +226,7 @@ loop-less-2 c = omega (arith, step-some (climb-in (c .before .before .before .be
 
 -- src/lib.rt:237:5
 loop-again-2 : tie.Need-loop-again-2 Inv-loop μ-loop
-loop-again-2 c = absorb-on (climb-in (c .before .before .before .before .before .before .before .before .before .before .before .before .before .before .before .before .before .before .before .before .before .before .before .before .before .before .before .before .before .before .before .before .before .before .before .before .before .loop .inv) (c .before .before .before .before .before .before .before .before .before .before .before .before .before .before .before .before .before .before .before .before .before .before .before .before .before .before .before .before .before .before .before .before .before .before .before .before .loop-test .taken)) (c .before .before .before .before .before .before .before .before .before .before .before .before .before .before .before .before .before .before .before .before .before .before .before .before .before .before .before .before .before .before .before .before .before .if1 .left) _ (c .before .before .before .before .before .before .before .before .before .before .before .before .before .before .before .before .before .before .before .before .before .before .before .before .before .before .before .before .before .before .before .before .line-back2 .ensures) _ (c .before .before .before .before .before .before .before .before .before .before .before .before .before .before .before .before .before .before .before .before .before .before .before .before .before .before .before .before .before .before .before .cut2 .ensures) (c .before .before .before .before .before .before .before .before .before .before .before .before .before .before .before .before .before .before .before .before .before .before .before .before .before .before .before .before .read .given .0 .0) (sym (c .before .before .before .before .before .before .before .before .before .before .before .before .before .before .before .before .before .before .before .before .before .before .before .before .before .before .before .before .before .before .parse .ensures) ∙ c .before .before .before .before .before .before .before .before .before .before .before .before .before .before .before .before .before .before .before .before .before .before .before .before .before .before .before .before .read .given .1) _ (c .before .before .before .before .before .before .before .before .before .before .before .before .before .before .before .before .before .before .before .before .before .before .before .before .value-of .ensures) _ (c .before .before .before .before .before .before .before .before .before .before .before .before .before .before .before .before .before .before .before .before .before .before .before .before .before .before .may-go .ensures) (not-false _ (c .before .before .before .before .before .before .before .before .before .before .before .before .before .before .before .before .before .before .before .before .before .before .before .before .before .if3 .left)) _ _ _ (c .before .before .before .before .before .before .before .before .before .before .before .before .before .before .before .before .before .before .before .before .before .before .cut3 .ensures) (c .before .before .before .before .before .before .before .before .before .before .before .before .before .before .before .before .before .before .before .before .before .cut4 .ensures) (c .before .before .before .before .before .before .before .before .before .before .before .before .before .before .before .before .before .before .before .before .cut5 .ensures) (c .before .before .before .before .before .before .before .before .before .before .before .before .before .before .before .absorb .ensures) (c .before .before .before .before .before .before .before .before .before .made .given .1) _ (c .before .before .before .before .before .cut6 .ensures) (c .before .before .before .before .put .ensures) _ (c .before .before .before .before .before .before .before .before .before .before .before .before .before .before .before .before .before .before .before .before .before .before .before .before .before .before .before .before .before .before .before .before .before .before .before .line-back .ensures) _ (c .before .cut7 .ensures) _ (c .is-header2 .ensures)
+loop-again-2 c = absorb-on (climb-in (c .before .before .before .before .before .before .before .before .before .before .before .before .before .before .before .before .before .before .before .before .before .before .before .before .before .before .before .before .before .before .before .before .before .before .before .before .before .loop .inv) (c .before .before .before .before .before .before .before .before .before .before .before .before .before .before .before .before .before .before .before .before .before .before .before .before .before .before .before .before .before .before .before .before .before .before .before .before .loop-test .taken)) (c .before .before .before .before .before .before .before .before .before .before .before .before .before .before .before .before .before .before .before .before .before .before .before .before .before .before .before .before .before .before .before .before .before .if1 .left) _ (c .before .before .before .before .before .before .before .before .before .before .before .before .before .before .before .before .before .before .before .before .before .before .before .before .before .before .before .before .before .before .before .before .line-start2 .ensures) _ (c .before .before .before .before .before .before .before .before .before .before .before .before .before .before .before .before .before .before .before .before .before .before .before .before .before .before .before .before .before .before .before .cut2 .ensures) (c .before .before .before .before .before .before .before .before .before .before .before .before .before .before .before .before .before .before .before .before .before .before .before .before .before .before .before .before .read .given .0 .0) (sym (c .before .before .before .before .before .before .before .before .before .before .before .before .before .before .before .before .before .before .before .before .before .before .before .before .before .before .before .before .before .before .parse .ensures) ∙ c .before .before .before .before .before .before .before .before .before .before .before .before .before .before .before .before .before .before .before .before .before .before .before .before .before .before .before .before .read .given .1) _ (c .before .before .before .before .before .before .before .before .before .before .before .before .before .before .before .before .before .before .before .before .before .before .before .before .value-of .ensures) _ (c .before .before .before .before .before .before .before .before .before .before .before .before .before .before .before .before .before .before .before .before .before .before .before .before .before .before .may-go .ensures) (not-false _ (c .before .before .before .before .before .before .before .before .before .before .before .before .before .before .before .before .before .before .before .before .before .before .before .before .before .if3 .left)) _ _ _ (c .before .before .before .before .before .before .before .before .before .before .before .before .before .before .before .before .before .before .before .before .before .before .cut3 .ensures) (c .before .before .before .before .before .before .before .before .before .before .before .before .before .before .before .before .before .before .before .before .before .cut4 .ensures) (c .before .before .before .before .before .before .before .before .before .before .before .before .before .before .before .before .before .before .before .before .cut5 .ensures) (c .before .before .before .before .before .before .before .before .before .before .before .before .before .before .before .absorb .ensures) (c .before .before .before .before .before .before .before .before .before .made .given .1) _ (c .before .before .before .before .before .cut6 .ensures) (c .before .before .before .before .put .ensures) _ (c .before .before .before .before .before .before .before .before .before .before .before .before .before .before .before .before .before .before .before .before .before .before .before .before .before .before .before .before .before .before .before .before .before .before .before .line-start .ensures) _ (c .before .cut7 .ensures) _ (c .is-header2 .ensures)
 
 -- src/lib.rt:208:1
 same-length : tie.Need-same-length Inv-loop μ-loop
@@ -286,7 +286,7 @@ same-length-12 c = c .before .before .before .before .before .before .before .be
 
 -- src/lib.rt:208:1
 returns-3 : tie.Need-returns-3 Inv-loop μ-loop
-returns-3 c = other-end (climb-in (c .before .before .before .before .before .before .before .before .loop .inv) (c .before .before .before .before .before .before .before .loop-test .taken)) (c .before .before .before .before .if1 .left) _ (c .before .before .before .line-back2 .ensures) _ (c .before .before .cut2 .ensures) (ap (parsedBy (c .before .before .cut2 .result .now)) (sym (c .before .parse .ensures)) ∙ no-store (c .before .before .cut2 .result .now) (c .before .parse .result) (c .match .keys2))
+returns-3 c = other-end (climb-in (c .before .before .before .before .before .before .before .before .loop .inv) (c .before .before .before .before .before .before .before .loop-test .taken)) (c .before .before .before .before .if1 .left) _ (c .before .before .before .line-start2 .ensures) _ (c .before .before .cut2 .ensures) (ap (parsedBy (c .before .before .cut2 .result .now)) (sym (c .before .parse .ensures)) ∙ no-store (c .before .before .cut2 .result .now) (c .before .parse .result) (c .match .keys2))
 
 -- src/lib.rt:208:1
 same-length-13 : tie.Need-same-length-13 Inv-loop μ-loop
@@ -306,7 +306,7 @@ same-length-16 c = c .before .before .before .before .before .before .before .be
 
 -- src/lib.rt:208:1
 returns-4 : tie.Need-returns-4 Inv-loop μ-loop
-returns-4 c = may-end (climb-in (c .before .before .before .before .before .before .before .before .before .before .before .before .loop .inv) (c .before .before .before .before .before .before .before .before .before .before .before .loop-test .taken)) (c .before .before .before .before .before .before .before .before .if1 .left) _ (c .before .before .before .before .before .before .before .line-back2 .ensures) _ (c .before .before .before .before .before .before .cut2 .ensures) (c .before .before .before .read .given .0 .0) (sym (c .before .before .before .before .before .parse .ensures) ∙ c .before .before .before .read .given .1) (part (c .before .before .before .read .given .0 .0 .from) (c .before .before .before .read .given .0 .0 .to) (c .before .before .before .before .before .before .cut2 .result .now)) refl _ (c .before .may-go .ensures) (not-true _ (c .if3 .taken))
+returns-4 c = may-end (climb-in (c .before .before .before .before .before .before .before .before .before .before .before .before .loop .inv) (c .before .before .before .before .before .before .before .before .before .before .before .loop-test .taken)) (c .before .before .before .before .before .before .before .before .if1 .left) _ (c .before .before .before .before .before .before .before .line-start2 .ensures) _ (c .before .before .before .before .before .before .cut2 .ensures) (c .before .before .before .read .given .0 .0) (sym (c .before .before .before .before .before .parse .ensures) ∙ c .before .before .before .read .given .1) (part (c .before .before .before .read .given .0 .0 .from) (c .before .before .before .read .given .0 .0 .to) (c .before .before .before .before .before .before .cut2 .result .now)) refl _ (c .before .may-go .ensures) (not-true _ (c .if3 .taken))
 
 -- src/lib.rt:208:1
 same-length-17 : tie.Need-same-length-17 Inv-loop μ-loop
@@ -326,7 +326,7 @@ same-length-20 c = put-kept (c .before .before .before .before .before .before .
 
 -- src/lib.rt:208:1
 returns-5 : tie.Need-returns-5 Inv-loop μ-loop
-returns-5 c = none-end (climb-in (c .before .before .before .before .before .before .before .before .before .before .before .before .before .before .before .before .before .before .before .before .before .before .before .before .before .before .before .before .loop .inv) (c .before .before .before .before .before .before .before .before .before .before .before .before .before .before .before .before .before .before .before .before .before .before .before .before .before .before .before .loop-test .taken)) (c .before .before .before .before .before .before .before .before .before .before .before .before .before .before .before .before .before .before .before .before .before .before .before .before .if1 .left) _ (c .before .before .before .before .before .before .before .before .before .before .before .before .before .before .before .before .before .before .before .before .before .before .before .line-back2 .ensures) _ (c .before .before .before .before .before .before .before .before .before .before .before .before .before .before .before .before .before .before .before .before .before .before .cut2 .ensures) (c .before .before .before .before .before .before .before .before .before .before .before .before .before .before .before .before .before .before .before .read .given .0 .0) (sym (c .before .before .before .before .before .before .before .before .before .before .before .before .before .before .before .before .before .before .before .before .before .parse .ensures) ∙ c .before .before .before .before .before .before .before .before .before .before .before .before .before .before .before .before .before .before .before .read .given .1) _ (c .before .before .before .before .before .before .before .before .before .before .before .before .before .before .before .value-of .ensures) _ (c .before .before .before .before .before .before .before .before .before .before .before .before .before .before .before .before .before .may-go .ensures) (not-false _ (c .before .before .before .before .before .before .before .before .before .before .before .before .before .before .before .before .if3 .left)) _ _ _ (c .before .before .before .before .before .before .before .before .before .before .before .before .before .cut3 .ensures) (c .before .before .before .before .before .before .before .before .before .before .before .before .cut4 .ensures) (c .before .before .before .before .before .before .before .before .before .before .before .cut5 .ensures) (c .before .before .before .before .before .before .absorb .ensures) (c .enum-told .given .1)
+returns-5 c = none-end (climb-in (c .before .before .before .before .before .before .before .before .before .before .before .before .before .before .before .before .before .before .before .before .before .before .before .before .before .before .before .before .loop .inv) (c .before .before .before .before .before .before .before .before .before .before .before .before .before .before .before .before .before .before .before .before .before .before .before .before .before .before .before .loop-test .taken)) (c .before .before .before .before .before .before .before .before .before .before .before .before .before .before .before .before .before .before .before .before .before .before .before .before .if1 .left) _ (c .before .before .before .before .before .before .before .before .before .before .before .before .before .before .before .before .before .before .before .before .before .before .before .line-start2 .ensures) _ (c .before .before .before .before .before .before .before .before .before .before .before .before .before .before .before .before .before .before .before .before .before .before .cut2 .ensures) (c .before .before .before .before .before .before .before .before .before .before .before .before .before .before .before .before .before .before .before .read .given .0 .0) (sym (c .before .before .before .before .before .before .before .before .before .before .before .before .before .before .before .before .before .before .before .before .before .parse .ensures) ∙ c .before .before .before .before .before .before .before .before .before .before .before .before .before .before .before .before .before .before .before .read .given .1) _ (c .before .before .before .before .before .before .before .before .before .before .before .before .before .before .before .value-of .ensures) _ (c .before .before .before .before .before .before .before .before .before .before .before .before .before .before .before .before .before .may-go .ensures) (not-false _ (c .before .before .before .before .before .before .before .before .before .before .before .before .before .before .before .before .if3 .left)) _ _ _ (c .before .before .before .before .before .before .before .before .before .before .before .before .before .cut3 .ensures) (c .before .before .before .before .before .before .before .before .before .before .before .before .cut4 .ensures) (c .before .before .before .before .before .before .before .before .before .before .before .cut5 .ensures) (c .before .before .before .before .before .before .absorb .ensures) (c .enum-told .given .1)
 
 pub walk-up-spec : {M : Type 1} → statement M
 walk-up-spec =
@@ -336,8 +336,8 @@ walk-up-spec =
     μ-loop
     loop-holds
     add-steps
-    sub-line-back
-    line-back-requires
+    sub-line-start
+    line-start-requires
     sub-if1
     mul-if1
     slice-read-if1
@@ -349,8 +349,8 @@ walk-up-spec =
     sub-k
     loop-less
     loop-again
-    sub-line-back-2
-    line-back-requires-2
+    sub-line-start-2
+    line-start-requires-2
     sub-cut-2
     cut-requires-2
     parse-requires
