@@ -23,6 +23,9 @@ lacks-eight-fixed = fixed lines.lacks_eight.Reads.Learnt (λ κs a x y l m. l �
 pub find-byte-fixed : Determined lines.find_byte.ended (λ κs z. z) lines.find_byte.Reads.ensures
 find-byte-fixed = fixed lines.find_byte.Reads.Learnt (λ κs a x y l m. l ∙ sym m)
 
+pub line-start-fixed : Determined lines.line_start.ended (λ κs z. z) lines.line_start.Reads.ensures
+line-start-fixed = fixed lines.line_start.Reads.Learnt (λ κs a x y l m. l ∙ sym m)
+
 pub count-byte-fixed : Determined lines.count_byte.ended (λ κs z. z) lines.count_byte.Reads.ensures
 count-byte-fixed = fixed lines.count_byte.Reads.Learnt (λ κs a x y l m. l ∙ sym m)
 
