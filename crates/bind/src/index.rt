@@ -48,7 +48,7 @@ fn read_runs(s: &[u8], b: usize, first: &mut [usize])
     let mut i = words::reg_start(s, 0);
     while i < s.len() {
         let e = words::run_end(s, i);
-        read_name(lines::cut(s, i, e), b, first);
+        read_name(&s[i..e], b, first);
         i = words::reg_start(s, e);
     }
 }
@@ -157,7 +157,7 @@ fn read_lines(text: &[u8], m: usize, b: usize, n: usize, seen: &mut [usize], fir
     let mut k = n;
     while i < text.len() {
         let e = lines::find_byte(text, i, 10);
-        read_line(lines::cut(text, i, e), m, b, k + 1, seen, first);
+        read_line(&text[i..e], m, b, k + 1, seen, first);
         k += 1;
         i = lines::after(text, e);
     }

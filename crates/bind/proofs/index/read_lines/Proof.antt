@@ -2,7 +2,9 @@
 use borrow.Author.Needs.{needs}
 use Prim.Native.Nat.{_-_}
 use native.Mathlib.Omega.{arith}
+use mathlib.Core.Path.{refl}
 use lib.ListN.{length}
+use Rattle.lines.proofs.LfLaws.{find-le}
 use Rattle.bind.proofs.IndexLaws.{ReadsInv, reads-start, reads-room, reads-on, reads-done}
 use Rattle.bind.proofs.index.read_lines.Statement.{statement}
 use Rattle.bind.proofs.index.read_lines.Tie as tie
@@ -19,8 +21,14 @@ loop-holds c = let a = c .before .before .before .args in reads-start (a .m) (a 
 find-byte-requires : tie.Need-find-byte-requires Inv-loop μ-loop
 find-byte-requires c κs = search needs
 
-cut-requires : tie.Need-cut-requires Inv-loop μ-loop
-cut-requires c κs = search needs
+sub-read-line : tie.Need-sub-read-line Inv-loop μ-loop
+sub-read-line c = omega (arith, c .find-byte .ensures)
+
+part-read-line-start : tie.Need-part-read-line-start Inv-loop μ-loop
+part-read-line-start c = omega (arith, c .find-byte .ensures)
+
+part-read-line-end : tie.Need-part-read-line-end Inv-loop μ-loop
+part-read-line-end c = omega (arith, find-le 10 (c .before .before .before .before .before .before .args .text .now) (c .before .before .loop .i) (c .find-byte .result) (omega (arith, c .before .loop-test .taken)) (c .find-byte .ensures))
 
 add-read-line : tie.Need-add-read-line Inv-loop μ-loop
 add-read-line c = omega (arith, reads-room (c .before .before .before .loop .inv) (c .before .before .loop-test .taken) (c .before .before .before .before .before .before .before .pre .1))
@@ -38,7 +46,7 @@ loop-less : tie.Need-loop-less Inv-loop μ-loop
 loop-less c = omega (arith, c .after .ensures, c .before .before .before .before .before .before .before .before .before .find-byte .ensures, c .before .before .before .before .before .before .before .before .before .before .loop-test .taken)
 
 loop-again : tie.Need-loop-again Inv-loop μ-loop
-loop-again c = reads-on (c .before .before .before .before .before .before .before .before .before .before .before .loop .inv) (c .before .before .before .before .before .before .before .before .before .find-byte .result) (c .after .result) (c .before .before .before .before .before .before .before .before .cut .result .now) (c .before .before .before .before .before .before .before .before .before .before .loop-test .taken) (c .before .before .before .before .before .before .before .before .before .find-byte .ensures) (c .before .before .before .before .before .before .before .before .cut .ensures) (c .after .ensures) (c .before .before .before .before .before .read-line .ensures .0) (c .before .before .before .before .before .read-line .ensures .1)
+loop-again c = reads-on (c .before .before .before .before .before .before .before .before .before .before .before .loop .inv) (c .before .before .before .before .before .before .before .before .before .find-byte .result) (c .after .result) _ (c .before .before .before .before .before .before .before .before .before .before .loop-test .taken) (c .before .before .before .before .before .before .before .before .before .find-byte .ensures) refl (c .after .ensures) (c .before .before .before .before .before .read-line .ensures .0) (c .before .before .before .before .before .read-line .ensures .1)
 
 same-length : tie.Need-same-length Inv-loop μ-loop
 same-length c = c .before .loop .inv .long-d
@@ -57,7 +65,9 @@ read-lines-spec =
     μ-loop
     loop-holds
     find-byte-requires
-    cut-requires
+    sub-read-line
+    part-read-line-start
+    part-read-line-end
     add-read-line
     read-line-requires
     add-k

@@ -2,14 +2,15 @@
 use borrow.Author.Needs.{needs}
 use Prim.Native.Nat.{_-_}
 use native.Mathlib.Omega.{arith}
+use mathlib.Core.Path.{refl}
 use lib.ListN.{length}
+use Rattle.words.proofs.RunLaws.{run-inside}
 use Rattle.bind.proofs.IndexLaws.{ReadInv, read-start, read-less, read-on, read-end}
 use Rattle.bind.proofs.index.read_runs.Statement.{statement}
 use Rattle.bind.proofs.index.read_runs.Tie as tie
 use Rattle.bind.proofs.index.read_runs.Reads as reads
 use Rattle.bind.proofs.index.read_runs.Lts as lts
 use Rattle.bind.proofs.index.read_name.Reads as read-name-reads
-use Rattle.lines.proofs.cut.Reads as cut-reads
 use Rattle.words.proofs.reg_start.Reads as reg-start-reads
 use Rattle.words.proofs.run_end.Reads as run-end-reads
 
@@ -32,8 +33,14 @@ run-end-requires : tie.Need-run-end-requires Inv-loop μ-loop
 run-end-requires c κs = search needs
 
 -- src/index.rt:51:19
-cut-requires : tie.Need-cut-requires Inv-loop μ-loop
-cut-requires c κs = search needs
+sub-read-name : tie.Need-sub-read-name Inv-loop μ-loop
+sub-read-name c = omega (arith, c .run-end .ensures)
+
+part-read-name-start : tie.Need-part-read-name-start Inv-loop μ-loop
+part-read-name-start c = omega (arith, c .run-end .ensures)
+
+part-read-name-end : tie.Need-part-read-name-end Inv-loop μ-loop
+part-read-name-end c = omega (arith, c .run-end .ensures, run-inside (c .before .before .before .before .before .before .args .s .now) (c .before .before .loop .i) (omega (arith, c .before .loop-test .taken)))
 
 -- src/index.rt:51:9
 read-name-requires : tie.Need-read-name-requires Inv-loop μ-loop
@@ -49,7 +56,7 @@ loop-less c = omega (arith, c .before .before .before .before .before .before .b
 
 -- src/index.rt:49:5
 loop-again : tie.Need-loop-again Inv-loop μ-loop
-loop-again c = read-on (c .before .before .before .before .before .before .before .before .before .before .before .before .args .b) (c .before .before .before .before .before .before .before .before .loop .inv) (c .before .before .before .before .before .before .before .loop-test .taken) _ (c .before .before .before .before .before .before .run-end .ensures) _ (c .reg-start2 .ensures) (c .before .before .before .before .before .cut .result .now) _ (c .before .before .before .before .before .cut .ensures) (c .before .before .before .read-name .ensures)
+loop-again c = read-on (c .before .before .before .before .before .before .before .before .before .before .before .before .args .b) (c .before .before .before .before .before .before .before .before .loop .inv) (c .before .before .before .before .before .before .before .loop-test .taken) _ (c .before .before .before .before .before .before .run-end .ensures) _ (c .reg-start2 .ensures) _ _ refl (c .before .before .before .read-name .ensures)
 
 -- src/index.rt:45:1
 same-length : tie.Need-same-length Inv-loop μ-loop
@@ -68,7 +75,9 @@ read-runs-spec =
     reg-start-requires
     loop-holds
     run-end-requires
-    cut-requires
+    sub-read-name
+    part-read-name-start
+    part-read-name-end
     read-name-requires
     reg-start-requires-2
     loop-less
