@@ -291,7 +291,7 @@ up-skip b (suc n) (x ∷ xs) h = go (eqb x b) h (up-skip b n xs)
     go true k f = absurd (omega arith)
     go false k f = let r = f (omega arith) in omega arith
 
--- in the first n bytes
+-- the same of the first n bytes alone
 pub up-front : (b n : ℕ) (l : List ℕ) → upTo b (take n l) ≡ min (upTo b l) n
 unfolding upTo
 up-front b zero l = omega arith

@@ -44,6 +44,7 @@ below-at f (suc n) t k h = go (eqb k n) refl (below-at f n (T-right (f n) (below
     go true e g = rw (eqb-true k n e) (T-left (f n) (below f n) t)
     go false e g = let d = eqb-false k n e in g (omega arith)
 
+-- a rule gives 128 for a byte that is 0, and else 0
 right : (ℕ → ℕ) → ℕ → Bool
 right f r = eqb (f r) (cond (eqb r 0) 128 0)
 
@@ -97,7 +98,7 @@ told-marks b k (x ∷ xs) h =
 
 -- ---- the lowest mark
 
--- what a byte leaves of 128 when 1 is taken from it, and its borrow: 128 for a byte that is 0, and else 0
+-- the lowest byte's mark, from the byte less 1 (255 where it borrows): 128 for a byte that is 0, and else 0
 unfoldable lowMark : ℕ → ℕ
 lowMark r = bitAnd (bitAnd ((r + 255) % 256) (bitXor r 255)) 128
 
@@ -110,6 +111,7 @@ unfoldable low : ℕ → ℕ → ℕ → ℕ
 unfolding rep
 low n y d = bitAnd (bitAnd d (bitXor y (rep 255 n))) (rep 128 n)
 
+-- the lowest byte by itself, and the bytes above it
 low-on : (n y r d e : ℕ) → r < 256 → e < 256 → low (suc n) (y * 256 + r) (d * 256 + e) ≡ low n y d * 256 + bitAnd (bitAnd e (bitXor r 255)) 128
 unfolding low rep
 low-on n y r d e h k =
@@ -183,6 +185,7 @@ trailing-lt (suc k) n h d = go (n % 2) refl (trailing-lt k (n / 2) (omega (arith
 -- ---- eight bytes of a text
 
 module _ (s : List ℕ) (j : ℕ) (fits : j + 8 ≤ length s) where
+  -- the bytes, one by one
   abbrev eight : List ℕ
   eight = getD s j 0 ∷ getD s (j + 1) 0 ∷ getD s (j + 2) 0 ∷ getD s (j + 3) 0 ∷ getD s (j + 4) 0 ∷ getD s (j + 5) 0 ∷ getD s (j + 6) 0 ∷ getD s (j + 7) 0 ∷ []
 
@@ -195,6 +198,7 @@ module _ (s : List ℕ) (j : ℕ) (fits : j + 8 ≤ length s) where
   word-eight = rw (eight-is s j fits) (omega arith)
 
   module _ (b x : ℕ) (k : b < 256) (h : (i : ℕ) → getD s i 0 < 256) (e : x ≡ word (take 8 (drop j s))) where
+    -- where they are not b
     differ : bitXor x (b * 0x0101010101010101) ≡ bitXor (word eight) (rep b 8)
     unfolding rep
     differ = ap₂ bitXor (e ∙ ap word (eight-is s j fits)) (omega arith)

@@ -1,10 +1,10 @@
 -- `lines::find_byte` meets its contract. Assumes nothing.
-use Prim.Native.Nat.{ℕ, _+_, _-_, _/_}
+use Prim.Native.Nat.{_+_, _-_}
 use native.Mathlib.Omega.{arith}
 use borrow.Author.Needs.{needs}
-use mathlib.Core.Path.{_≡_, refl, sym, ap, _∙_}
+use mathlib.Core.Path.{_≡_, refl, ap, _∙_}
 use lib.Count.{trailingZeros, trailing-le, trailing-of-zero}
-use lib.ListN.{length, take, drop, length-drop}
+use lib.ListN.{drop}
 use lib.Seq.{drop-drop}
 use Rattle.lines.specs.Lf.{upTo}
 use Rattle.lines.proofs.LfLaws.{up-skip}
