@@ -115,7 +115,7 @@ fn see_pieces(body: &[u8], m: usize, b: usize, seen: &mut [usize], first: &mut [
     let mut i = 0;
     loop {
         let e = lines::find_byte(body, i, b',');
-        see_name(text::trim(lines::cut(body, i, e)), m, b, seen, first);
+        see_name(text::trim(&body[i..e]), m, b, seen, first);
         if e >= body.len() {
             return;
         }

@@ -316,7 +316,7 @@ fn mark_names(
             starts,
             seen,
             first,
-            text::trim(lines::cut(body, i, e)),
+            text::trim(&body[i..e]),
             marks,
         );
         any = any | b;
@@ -348,7 +348,7 @@ fn put_decl(
     let mut p = o;
     loop {
         let e = lines::find_byte(body, i, b',');
-        let t = text::trim(lines::cut(body, i, e));
+        let t = text::trim(&body[i..e]);
         let l = is_left(text, s, blocks, starts, seen, first, t);
         p = decls::print::put_part(indent, o < p, l, t, 1, out, p);
         if e >= body.len() {

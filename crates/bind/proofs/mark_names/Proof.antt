@@ -7,7 +7,7 @@ use mathlib.Core.List.{List}
 use mathlib.Core.Path.{_≡_, refl, sym, ap, _∙_}
 use lib.ListN.{length, drop}
 use Rattle.lines.specs.Lf.{partsOf}
-use Rattle.text.specs.Trim.{trimOf}
+use Rattle.lines.proofs.LfLaws.{find-le}
 use Rattle.names.specs.Names.{regOf}
 use Rattle.bind.specs.Steps.{boundAt, markRow, passes, anyPass, notedAll}
 use Rattle.bind.proofs.SiteLaws.{pass-on, pass-last, noted-length, noted-on, noted-last}
@@ -30,8 +30,14 @@ loop-holds c = (omega arith, (refl, (refl, refl)))
 find-byte-requires : tie.Need-find-byte-requires Inv-loop μ-loop
 find-byte-requires c κs = search needs
 
-cut-requires : tie.Need-cut-requires Inv-loop μ-loop
-cut-requires c κs = search needs
+sub-trim : tie.Need-sub-trim Inv-loop μ-loop
+sub-trim c = omega (arith, c .find-byte .ensures)
+
+part-trim-start : tie.Need-part-trim-start Inv-loop μ-loop
+part-trim-start c = omega (arith, c .find-byte .ensures)
+
+part-trim-end : tie.Need-part-trim-end Inv-loop μ-loop
+part-trim-end c = omega (arith, find-le 44 (c .before .before .before .before .before .before .before .before .before .args .body .now) (c .before .loop .i) (c .find-byte .result) (c .before .loop .inv .0) (c .find-byte .ensures))
 
 trim-requires : tie.Need-trim-requires Inv-loop μ-loop
 trim-requires c κs = search needs
@@ -46,7 +52,7 @@ same-length c = let a = c .before .before .before .before .before .before .befor
 returns : tie.Need-returns Inv-loop μ-loop
 returns c = let a = c .before .before .before .before .before .before .before .before .before .before .before .before .before .before .before .before .args in
     let f = c .before .before .before .before .before .before .before .find-byte in
-    (sym (pass-last (boundAt (a .text .now) (a .s) (a .blocks .now) (a .starts .now)) (a .body .now) (c .before .before .before .before .before .before .before .before .loop .i) (f .result) (c .before .before .before .before .before .before .before .before .loop .inv .0) (f .ensures) (c .before .before .before .mark-name .result) (c .before .before .before .mark-name .ensures .0 ∙ ap (λ (t : List ℕ). passes (boundAt (a .text .now) (a .s) (a .blocks .now) (a .starts .now)) (regOf t)) (c .before .before .before .before .before .trim .ensures .0 ∙ ap trimOf (c .before .before .before .before .before .before .cut .ensures))) (c .if1 .taken) (c .before .before .before .before .before .before .before .before .loop .any)) ∙ c .before .before .before .before .before .before .before .before .loop .inv .1 .1 .1, sym (noted-last (boundAt (a .text .now) (a .s) (a .blocks .now) (a .starts .now)) (markRow (a .text .now) (a .s)) (a .body .now) (c .before .before .before .before .before .before .before .before .loop .i) (f .result) (c .before .before .before .before .before .before .before .before .loop .inv .0) (f .ensures) (c .before .before .before .before .before .trim .result .now) (c .before .before .before .before .before .trim .ensures .0 ∙ ap trimOf (c .before .before .before .before .before .before .cut .ensures)) (c .before .before .before .before .before .before .before .before .loop .marks) _ (c .before .before .before .mark-name .ensures .1) (c .if1 .taken)) ∙ c .before .before .before .before .before .before .before .before .loop .inv .1 .1 .0)
+    (sym (pass-last (boundAt (a .text .now) (a .s) (a .blocks .now) (a .starts .now)) (a .body .now) (c .before .before .before .before .before .before .before .before .loop .i) (f .result) (c .before .before .before .before .before .before .before .before .loop .inv .0) (f .ensures) (c .before .before .before .mark-name .result) (c .before .before .before .mark-name .ensures .0 ∙ ap (λ (t : List ℕ). passes (boundAt (a .text .now) (a .s) (a .blocks .now) (a .starts .now)) (regOf t)) (c .before .before .before .before .before .trim .ensures .0)) (c .if1 .taken) (c .before .before .before .before .before .before .before .before .loop .any)) ∙ c .before .before .before .before .before .before .before .before .loop .inv .1 .1 .1, sym (noted-last (boundAt (a .text .now) (a .s) (a .blocks .now) (a .starts .now)) (markRow (a .text .now) (a .s)) (a .body .now) (c .before .before .before .before .before .before .before .before .loop .i) (f .result) (c .before .before .before .before .before .before .before .before .loop .inv .0) (f .ensures) (c .before .before .before .before .before .trim .result .now) (c .before .before .before .before .before .trim .ensures .0) (c .before .before .before .before .before .before .before .before .loop .marks) _ (c .before .before .before .mark-name .ensures .1) (c .if1 .taken)) ∙ c .before .before .before .before .before .before .before .before .loop .inv .1 .1 .0)
 
 add-i : tie.Need-add-i Inv-loop μ-loop
 add-i c = omega arith
@@ -57,7 +63,7 @@ loop-less c = omega (arith, c .before .before .before .before .before .before .b
 loop-again : tie.Need-loop-again Inv-loop μ-loop
 loop-again c = let a = c .before .before .before .before .before .before .before .before .before .before .before .before .before .before .before .before .args in
     let f = c .before .before .before .before .before .before .before .find-byte in
-    (omega arith, (ap length (c .before .before .before .mark-name .ensures .1) ∙ noted-length (boundAt (a .text .now) (a .s) (a .blocks .now) (a .starts .now)) (markRow (a .text .now) (a .s)) (regOf (c .before .before .before .before .before .trim .result .now)) (c .before .before .before .before .before .before .before .before .loop .marks) ∙ c .before .before .before .before .before .before .before .before .loop .inv .1 .0, (sym (noted-on (boundAt (a .text .now) (a .s) (a .blocks .now) (a .starts .now)) (markRow (a .text .now) (a .s)) (a .body .now) (c .before .before .before .before .before .before .before .before .loop .i) (f .result) (c .before .before .before .before .before .before .before .before .loop .inv .0) (f .ensures) (c .before .before .before .before .before .trim .result .now) (c .before .before .before .before .before .trim .ensures .0 ∙ ap trimOf (c .before .before .before .before .before .before .cut .ensures)) (c .before .before .before .before .before .before .before .before .loop .marks) _ (c .before .before .before .mark-name .ensures .1) (c .if1 .left)) ∙ c .before .before .before .before .before .before .before .before .loop .inv .1 .1 .0, sym (pass-on (boundAt (a .text .now) (a .s) (a .blocks .now) (a .starts .now)) (a .body .now) (c .before .before .before .before .before .before .before .before .loop .i) (f .result) (c .before .before .before .before .before .before .before .before .loop .inv .0) (f .ensures) (c .before .before .before .mark-name .result) (c .before .before .before .mark-name .ensures .0 ∙ ap (λ (t : List ℕ). passes (boundAt (a .text .now) (a .s) (a .blocks .now) (a .starts .now)) (regOf t)) (c .before .before .before .before .before .trim .ensures .0 ∙ ap trimOf (c .before .before .before .before .before .before .cut .ensures))) (c .if1 .left) (c .before .before .before .before .before .before .before .before .loop .any)) ∙ c .before .before .before .before .before .before .before .before .loop .inv .1 .1 .1)))
+    (omega arith, (ap length (c .before .before .before .mark-name .ensures .1) ∙ noted-length (boundAt (a .text .now) (a .s) (a .blocks .now) (a .starts .now)) (markRow (a .text .now) (a .s)) (regOf (c .before .before .before .before .before .trim .result .now)) (c .before .before .before .before .before .before .before .before .loop .marks) ∙ c .before .before .before .before .before .before .before .before .loop .inv .1 .0, (sym (noted-on (boundAt (a .text .now) (a .s) (a .blocks .now) (a .starts .now)) (markRow (a .text .now) (a .s)) (a .body .now) (c .before .before .before .before .before .before .before .before .loop .i) (f .result) (c .before .before .before .before .before .before .before .before .loop .inv .0) (f .ensures) (c .before .before .before .before .before .trim .result .now) (c .before .before .before .before .before .trim .ensures .0) (c .before .before .before .before .before .before .before .before .loop .marks) _ (c .before .before .before .mark-name .ensures .1) (c .if1 .left)) ∙ c .before .before .before .before .before .before .before .before .loop .inv .1 .1 .0, sym (pass-on (boundAt (a .text .now) (a .s) (a .blocks .now) (a .starts .now)) (a .body .now) (c .before .before .before .before .before .before .before .before .loop .i) (f .result) (c .before .before .before .before .before .before .before .before .loop .inv .0) (f .ensures) (c .before .before .before .mark-name .result) (c .before .before .before .mark-name .ensures .0 ∙ ap (λ (t : List ℕ). passes (boundAt (a .text .now) (a .s) (a .blocks .now) (a .starts .now)) (regOf t)) (c .before .before .before .before .before .trim .ensures .0)) (c .if1 .left) (c .before .before .before .before .before .before .before .before .loop .any)) ∙ c .before .before .before .before .before .before .before .before .loop .inv .1 .1 .1)))
 
 pub mark-names-spec : {M : Type 1} → statement M
 mark-names-spec =
@@ -67,7 +73,9 @@ mark-names-spec =
     μ-loop
     loop-holds
     find-byte-requires
-    cut-requires
+    sub-trim
+    part-trim-start
+    part-trim-end
     trim-requires
     mark-name-requires
     same-length
