@@ -1,7 +1,7 @@
 // Cleaning a line: comments go, and a literal leaves `S`; what is read from a cleaned line.
 ghost use mathlib.Core.Path.{_≡_};
 ghost use mathlib.Core.List.{[]};
-ghost use mathlib.Core.Bool.{false, cond};
+ghost use mathlib.Core.Bool.{false, cond, not};
 ghost use Prim.Native.Nat.{ℕ, _+_, _≤_};
 ghost use lib.ListN.{length, take, drop};
 ghost use Rattle.lines.specs.Lf.{all, part};
@@ -361,14 +361,24 @@ pub fn plain_to(s: &[u8]) -> usize
     plain_one(s, j)
 }
 
+// Whether a byte, taken as a code point, is no white space: most are told by being ASCII above the space.
+fn is_dark(b: u8) -> bool
+    ensures { λ r. ⌜ r ≡ not (isWhite b) ⌝ }
+{
+    if (32 < b) & (b < 128) {
+        return true;
+    }
+    !text::is_white(b as u32)
+}
+
 // The last character that is no white space, once the byte `b` below 128 stands after a text with this last one.
 fn low_after(last: u16, b: u8) -> u16
     ensures { λ r. ⌜ r ≡ cond (isWhite b) last b ⌝ }
 {
-    if text::is_white(b as u32) {
-        return last;
+    if is_dark(b) {
+        return b as u16;
     }
-    b as u16
+    last
 }
 
 // The last character that is no white space, once the bytes from `i` to `j`, all below 128, stand after a text with this last one.
@@ -379,7 +389,7 @@ pub fn low_last(s: &[u8], i: usize, j: usize, last: u16) -> u16
     let mut k = j;
     while i < k {
         let b = s[k - 1];
-        if !text::is_white(b as u32) {
+        if is_dark(b) {
             return b as u16;
         }
         k -= 1;

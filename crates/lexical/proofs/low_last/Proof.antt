@@ -11,7 +11,7 @@ use Rattle.lexical.proofs.low_last.Statement.{statement}
 use Rattle.lexical.proofs.low_last.Tie as tie
 use Rattle.lexical.proofs.low_last.Reads as reads
 use Rattle.lexical.proofs.low_last.Lts as lts
-use Rattle.text.proofs.is_white.Reads as is-white-reads
+use Rattle.lexical.proofs.is_dark.Reads as is-dark-reads
 
 abbrev Inv-loop : tie.InvT-loop
 Inv-loop s i j last k₀ k = (k ≤ j) × (lowLast last (part i k s) ≡ lowLast last (part i j s))
@@ -28,17 +28,14 @@ sub-b c = omega arith
 shared-slice-read-b : tie.Need-shared-slice-read-b Inv-loop μ-loop
 shared-slice-read-b c = omega (arith, c .before .before .loop .inv .0, c .before .before .before .before .pre)
 
-cast-is-white : tie.Need-cast-is-white Inv-loop μ-loop
-cast-is-white c = omega (arith, c .shared-slice-known2 .given (c .before .before .loop .k - 1))
-
-is-white-requires : tie.Need-is-white-requires Inv-loop μ-loop
-is-white-requires c κs = tt
+is-dark-requires : tie.Need-is-dark-requires Inv-loop μ-loop
+is-dark-requires c κs = tt
 
 cast-result : tie.Need-cast-result Inv-loop μ-loop
 cast-result c = omega (arith, c .before .before .shared-slice-known2 .given (c .before .before .before .before .loop .k - 1))
 
 returns : tie.Need-returns Inv-loop μ-loop
-returns c = let l = c .before .before .before .before .loop in let a = c .before .before .before .before .before .before in sym (low-here (a .args .last) (a .args .s .now) (a .args .i) (l .k) (c .before .before .before .loop-test .taken) (omega (arith, l .inv .0, a .pre)) (so (c .before .is-white .ensures) (not-true _ (c .if1 .taken)))) ∙ l .inv .1
+returns c = let l = c .before .before .before .before .loop in let a = c .before .before .before .before .before .before in sym (low-here (a .args .last) (a .args .s .now) (a .args .i) (l .k) (c .before .before .before .loop-test .taken) (omega (arith, l .inv .0, a .pre)) (not-true _ (so (c .before .is-dark .ensures) (c .if1 .taken)))) ∙ l .inv .1
 
 sub-k : tie.Need-sub-k Inv-loop μ-loop
 sub-k c = omega arith
@@ -47,7 +44,7 @@ loop-less : tie.Need-loop-less Inv-loop μ-loop
 loop-less c = omega arith
 
 loop-again : tie.Need-loop-again Inv-loop μ-loop
-loop-again c = let l = c .before .before .before .before .loop in let a = c .before .before .before .before .before .before in (omega (arith, l .inv .0), sym (low-on (a .args .last) (a .args .s .now) (a .args .i) (l .k) (c .before .before .before .loop-test .taken) (omega (arith, l .inv .0, a .pre)) (so (c .before .is-white .ensures) (not-false _ (c .if1 .left)))) ∙ l .inv .1)
+loop-again c = let l = c .before .before .before .before .loop in let a = c .before .before .before .before .before .before in (omega (arith, l .inv .0), sym (low-on (a .args .last) (a .args .s .now) (a .args .i) (l .k) (c .before .before .before .loop-test .taken) (omega (arith, l .inv .0, a .pre)) (not-false _ (so (c .before .is-dark .ensures) (c .if1 .left)))) ∙ l .inv .1)
 
 returns-2 : tie.Need-returns-2 Inv-loop μ-loop
 returns-2 c = let l = c .before .loop in let a = c .before .before .before in sym (low-none (a .args .last) (a .args .s .now) (a .args .i) (l .k) (c .loop-test .left)) ∙ l .inv .1
@@ -61,8 +58,7 @@ low-last-spec =
     loop-holds
     sub-b
     shared-slice-read-b
-    cast-is-white
-    is-white-requires
+    is-dark-requires
     cast-result
     returns
     sub-k
