@@ -39,3 +39,6 @@ plain-run-fixed = fixed lexical.plain_run.Reads.Learnt (λ κs a x y l m. λ i. 
 
 pub low-last-fixed : Determined lexical.low_last.ended (λ κs z. z) lexical.low_last.Reads.ensures
 low-last-fixed = fixed lexical.low_last.Reads.Learnt (λ κs a x y l m. l ∙ sym m)
+
+pub front-tail-fixed : Determined lexical.front_tail.ended (λ κs z. z) lexical.front_tail.Reads.ensures
+front-tail-fixed = fixed lexical.front_tail.Reads.Learnt (λ κs a x y l m. l ∙ sym m)

@@ -7,19 +7,20 @@ use native.Mathlib.Omega.{arith}
 use borrow.Author.Tests.{ne-eqb, leb-true, le-leb, lt-leb, ltb-true, ltb-false}
 use lib.Dec.{leb, ltb, eqb}
 use lib.ListN.{length, take, drop, getD, length-append, length-drop}
-use lib.Seq.{drop-drop, getD-drop, append-snoc}
+use lib.Seq.{drop-drop, take-all, getD-drop, append-snoc}
 use Rattle.lines.specs.Lf.{part, all, prefixed}
 use Rattle.lines.proofs.Tests.{no, and-true, or-false, and-left, and-right}
 use Rattle.lines.specs.Out.{Wrote}
 use Rattle.lines.proofs.LfLaws.{part-more}
 use Rattle.lines.proofs.OutLaws.{wrote-then, wrote-length}
 use Rattle.text.specs.White.{isWhite}
+use Rattle.text.specs.Trim.{toOf, endWhite}
 use Rattle.lexical.specs.declared.Kind.the-variants.{Kept, Literal, Gone}
 use Rattle.lexical.specs.declared.Tail.{Tail}
-use Rattle.lexical.specs.Lex.{quoteLen, patternLen, commentLen, patternAfter, lastOf, token, tokenOf, lexGo, pushed, grown}
-use Rattle.lexical.specs.Plain.{isPlain, plainLen, lowLast}
+use Rattle.lexical.specs.Lex.{quoteLen, patternLen, commentLen, patternAfter, lastOf, token, tokenOf, lexGo, front, tailOf, pushed, grown}
+use Rattle.lexical.specs.Plain.{isPlain, plainLen, lowLast, lowTail}
 use Rattle.lexical.proofs.EndLaws.{ends, ends-on, ends-none, cons-at}
-use Rattle.lexical.proofs.TailLaws.{after-low, grown-tail}
+use Rattle.lexical.proofs.TailLaws.{after-low, grown-tail, back-here, back-more, front-more, front-whole}
 use Rattle.lexical.proofs.LexLaws.{LexAt, lex-room, StripInv}
 
 -- ---- the test of a byte
@@ -256,3 +257,71 @@ module _ (s : List ℕ) (i j : ℕ) (q : j ≡ ends plainLen s i) where
           sym (ap (grown t) two
           ∙ two-more t (part i (j - 2) s) (getD s (j - 2) 0) (getD s (j - 1) 0) (plain-take (drop i s) (j - 2 - i) (omega arith)) (low-at (j - 2) (omega arith) (omega arith)) (low-at (j - 1) (omega arith) (omega arith))
           ∙ rw (e₁, e₂, e₃))
+
+-- ---- the digest, each byte taken as a character
+
+-- the first ones of bytes that are all plain
+all-front : (n : ℕ) (l : List ℕ) → all isPlain l ≡ true → all isPlain (take n l) ≡ true
+all-front zero l h = refl
+all-front (suc n) [] h = refl
+all-front (suc n) (x ∷ xs) h = rw (and-left (isPlain x) _ h) (all-front n xs (and-right (isPlain x) _ h))
+
+-- the last character of plain bytes
+last-plain : (l : List ℕ) → all isPlain l ≡ true → lowLast 256 l ≡ lastOf l
+unfolding tailOf lastOf toOf endWhite
+last-plain l h = sym (last-run (tailOf []) l h) ∙ ap (λ (t : Tail). t .last) (grown-tail l [])
+
+-- of plain bytes it is the digest
+pub low-plain : (l : List ℕ) → all isPlain l ≡ true → lowTail l ≡ grown (tailOf []) l
+unfolding lowTail tailOf
+low-plain l h = go ∙ sym (grown-tail l [])
+  where
+    go : lowTail l ≡ tailOf l
+    go = rw (last-plain l h, last-plain (front 1 l) (all-front (length l - 1) l h), last-plain (front 2 l) (all-front (length l - 2) l h))
+
+-- the digest with a byte more
+abbrev lowPushed : ℕ → Tail → Tail
+lowPushed b t = record { byte = b; byte2 = t .byte; last = cond (isWhite b) (t .last) b; last2 = t .last; last3 = t .last2 }
+
+low-pushed : (l : List ℕ) (b : ℕ) → lowTail (l ++ b ∷ []) ≡ lowPushed b (lowTail l)
+unfolding lowTail
+low-pushed l b = rw (← back-here l b, ← back-more l b 1 (omega arith), low-more 256 l b, front-more l b 1, front-more l b 0, front-whole l b)
+
+-- two bytes more
+low-two : (l : List ℕ) (a b : ℕ) → lowTail (l ++ a ∷ b ∷ []) ≡ record {
+  byte = b;
+  byte2 = a;
+  last = cond (isWhite b) (cond (isWhite a) (lowLast 256 l) a) b;
+  last2 = cond (isWhite a) (lowLast 256 l) a;
+  last3 = lowLast 256 l;
+}
+unfolding lowTail
+low-two l a b =
+    ap lowTail (sym (append-snoc l a (b ∷ []))) ∙ low-pushed (l ++ a ∷ []) b
+    ∙ ap (lowPushed b) (low-pushed l a)
+
+-- the ways out of `low_tail`
+pub low-empty : (s : List ℕ) → length s ≡ 0 → tailOf [] ≡ lowTail s
+unfolding tailOf lastOf toOf endWhite lowTail lowLast
+low-empty [] h = refl
+low-empty (x ∷ xs) h = absurd (omega arith)
+
+pub low-single : (s : List ℕ) {r : ℕ} → length s ≡ 1 → r ≡ cond (isWhite (getD s (length s - 1) 0)) 256 (getD s (length s - 1) 0) →
+    record { byte = getD s (length s - 1) 0; byte2 = 0; last = r; last2 = 256; last3 = 256 } ≡ lowTail s
+unfolding lowTail lowLast
+low-single [] h e = absurd (omega arith)
+low-single (x ∷ []) h e = rw e
+low-single (x ∷ y ∷ s) h e = absurd (omega arith)
+
+pub low-ends : (s : List ℕ) {l₁ l₂ l₃ : ℕ} → 2 ≤ length s → l₃ ≡ lowLast 256 (part 0 (length s - 2) s) →
+    l₂ ≡ cond (isWhite (getD s (length s - 2) 0)) l₃ (getD s (length s - 2) 0) → l₁ ≡ cond (isWhite (getD s (length s - 1) 0)) l₂ (getD s (length s - 1) 0) →
+    record { byte = getD s (length s - 1) 0; byte2 = getD s (length s - 2) 0; last = l₁; last2 = l₂; last3 = l₃ } ≡ lowTail s
+low-ends s h e₃ e₂ e₁ =
+    let n : ℕ = length s in
+    let p : n ≡ n - 1 + 1 = omega arith in
+    let q : n - 1 ≡ n - 2 + 1 = omega arith in
+    let one : part 0 (n - 1) s ≡ part 0 (n - 2) s ++ getD s (n - 2) 0 ∷ [] = ap (λ (k : ℕ). part 0 k s) q ∙ part-more s 0 (n - 2) (omega arith) (omega arith) in
+    let two : s ≡ part 0 (n - 1) s ++ getD s (n - 1) 0 ∷ [] = sym (take-all (n - 0) s (omega arith)) ∙ ap (λ (k : ℕ). part 0 k s) p ∙ part-more s 0 (n - 1) (omega arith) (omega arith) in
+    let all-of : s ≡ part 0 (n - 2) s ++ getD s (n - 2) 0 ∷ getD s (n - 1) 0 ∷ [] =
+    two ∙ ap (λ (l : List ℕ). l ++ getD s (n - 1) 0 ∷ []) one ∙ append-snoc (part 0 (n - 2) s) (getD s (n - 2) 0) (getD s (n - 1) 0 ∷ []) in
+    rw (e₁, e₂, e₃) (sym (ap lowTail all-of ∙ low-two (part 0 (n - 2) s) (getD s (n - 2) 0) (getD s (n - 1) 0)))

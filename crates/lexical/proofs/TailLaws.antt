@@ -45,10 +45,10 @@ module _ (out : List ℕ) (b : ℕ) where
   pred : suc (length out) - 1 ≡ length out
   pred = omega arith
 
-  back-here : b ≡ backByte 1 (out ++ b ∷ [])
+  pub back-here : b ≡ backByte 1 (out ++ b ∷ [])
   back-here = rw (size, le-leb 1 (suc (length out)) (omega arith), pred) (sym (getD-append-seam out b [] 0))
 
-  back-more : (k : ℕ) → 0 < k → backByte k out ≡ backByte (suc k) (out ++ b ∷ [])
+  pub back-more : (k : ℕ) → 0 < k → backByte k out ≡ backByte (suc k) (out ++ b ∷ [])
   back-more k h = rw size (go (leb k (length out)) refl)
     where
       go : (t : Bool) → leb k (length out) ≡ t → cond t (getD out (length out - k) 0) 0 ≡ cond (leb (suc k) (suc (length out))) (getD (out ++ b ∷ []) (suc (length out) - suc k) 0) 0
@@ -58,10 +58,13 @@ module _ (out : List ℕ) (b : ℕ) where
           rw (le-leb (suc k) (suc (length out)) (omega arith), q) (sym (List·getD-append out (b ∷ []) 0 (length out - k) (omega arith)))
       go false e = let g = leb-false k (length out) e in rw (lt-leb (suc k) (suc (length out)) (omega arith))
 
-  front-more : (k : ℕ) → front (suc k) (out ++ b ∷ []) ≡ front k out
+  pub front-more : (k : ℕ) → front (suc k) (out ++ b ∷ []) ≡ front k out
   front-more k =
       let q : suc (length out) - suc k ≡ length out - k = omega arith in
       rw (size, q) (take-append-le (length out - k) out (b ∷ []) (omega arith))
+
+  pub front-whole : front 0 out ≡ out
+  front-whole = take-all (length out - 0) out (omega arith)
 
   -- the last character of what stands before the last k bytes, found in the longer text
   last-front : (k e : ℕ) → e ≡ length out - k → lastAt (out ++ b ∷ []) (endWhite (out ++ b ∷ []) 0 e) ≡ lastOf (front k out)
@@ -96,9 +99,6 @@ module _ (out : List ℕ) (b : ℕ) where
   pub push-tail : tailOf (out ++ b ∷ []) ≡ pushed (tailOf out) b
   unfolding tailOf pushed
   push-tail = rw (← back-here, ← back-more 1 (omega arith), last-pushed, front-more 1, front-more 0, front-whole)
-    where
-      front-whole : front 0 out ≡ out
-      front-whole = take-all (length out - 0) out (omega arith)
 
 -- and with further bytes
 pub grown-tail : (bs out : List ℕ) → grown (tailOf out) bs ≡ tailOf (out ++ bs)

@@ -5,6 +5,8 @@ use mathlib.Core.List.{List, [], _∷_}
 use lib.Dec.{eqb, leb, ltb}
 use Rattle.lines.specs.Lf.{all, among, lacks}
 use Rattle.text.specs.White.{isWhite}
+use Rattle.lexical.specs.declared.Tail.{Tail}
+use Rattle.lexical.specs.Lex.{backByte, front}
 
 -- below 123, and no LF, no quote and no `/`
 abbrev pub isPlain : ℕ → Bool
@@ -27,3 +29,14 @@ tame l = all (λ (x : ℕ). isMild x) l && (lacks 47 l && lacks 96 l)
 unfoldable pub lowLast : ℕ → List ℕ → ℕ
 lowLast last [] = last
 lowLast last (b ∷ bs) = lowLast (cond (isWhite b) last b) bs
+
+-- the digest of a text, each byte taken as a character: its last two bytes, and its last character, that of it without its last byte, and that of it without its last two
+unfoldable pub lowTail : List ℕ → Tail
+unfolding lowLast
+lowTail l = record {
+  byte = backByte 1 l;
+  byte2 = backByte 2 l;
+  last = lowLast 256 l;
+  last2 = lowLast 256 (front 1 l);
+  last3 = lowLast 256 (front 2 l);
+}

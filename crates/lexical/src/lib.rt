@@ -9,7 +9,7 @@ ghost use Rattle.lines.specs.Out.{Wrote};
 ghost use Rattle.text.specs.White.{isWhite};
 ghost use Rattle.text.specs.Trim.{point, whiteChar};
 ghost use Rattle.lexical.specs.Lex.{quoteLen, patternLen, commentLen, patternAfter, token, tokenAt, leaves, lastOf, stripLexical, tailOf, lastAfter, pushed, grown, stepOf};
-ghost use Rattle.lexical.specs.Plain.{isPlain, plainLen, isMild, tame, lowLast};
+ghost use Rattle.lexical.specs.Plain.{isPlain, plainLen, isMild, tame, lowLast, lowTail};
 ghost use Rattle.lexical.specs.Phi.{phiRhsPure, sees, seesAll};
 ghost use Rattle.lexical.specs.Idents.{charLen, joins, noWord, nextWord};
 
@@ -419,6 +419,43 @@ fn run_tail(s: &[u8], i: usize, j: usize, t: Tail) -> Tail
         last2,
         last3,
     }
+}
+
+// The tail of a text, each byte taken as a character: what plain bytes leave.
+fn low_tail(s: &[u8]) -> Tail
+    ensures { λ r. ⌜ r ≡ lowTail (now (s .entry)) ⌝ }
+{
+    let n = s.len();
+    if n == 0 {
+        return no_tail();
+    }
+    let b = s[n - 1];
+    if n == 1 {
+        return Tail {
+            byte: b,
+            byte2: 0,
+            last: low_after(256, b),
+            last2: 256,
+            last3: 256,
+        };
+    }
+    let a = s[n - 2];
+    let last3 = low_last(s, 0, n - 2, 256);
+    let last2 = low_after(last3, a);
+    Tail {
+        byte: b,
+        byte2: a,
+        last: low_after(last2, b),
+        last2,
+        last3,
+    }
+}
+
+// The tail of the first `k` bytes of a text, each taken as a character: what plain bytes leave.
+pub fn front_tail(s: &[u8], k: usize) -> Tail
+    ensures { λ r. ⌜ r ≡ lowTail (take k (now (s .entry))) ⌝ }
+{
+    low_tail(lines::cut(s, 0, k))
 }
 
 // Where a run of plain bytes ends, and the tail once it stands after the text.

@@ -21,11 +21,11 @@ use Rattle.lexical.specs.declared.Token.{Token}
 use Rattle.lexical.specs.declared.Step.{Step}
 use Rattle.lexical.specs.declared.Tail.{Tail}
 use Rattle.lexical.specs.Lex.{lastOf, token, tokenAt, leaves, lexGo, stripLexical, tailOf, pushed, grown, stepOf}
-use Rattle.lexical.specs.Plain.{plainLen, lowLast}
+use Rattle.lexical.specs.Plain.{plainLen, lowLast, lowTail}
 use Rattle.lexical.proofs.TokenLaws.{token-kept}
 use Rattle.lexical.proofs.TailLaws.{after-low}
 use Rattle.lexical.proofs.LexLaws.{head-at, LexAt, lex-start, lex-next, lex-on, lex-end}
-use Rattle.lexical.proofs.PlainLaws.{plain-take, lex-plain, last-run}
+use Rattle.lexical.proofs.PlainLaws.{plain-take, lex-plain, last-run, low-plain}
 use Rattle.place.specs.Blocks.{Brace, braceOf, cleaned, blockIds}
 use Rattle.place.specs.Starts.{startsAfter, startsBy, startsGo}
 use Rattle.place.specs.Fill.{Filled, flagsOf}
@@ -107,9 +107,15 @@ module _ {line : List ℕ} {c : ℕ} {u₀ : List ℕ} {n : ℕ} {u : List ℕ} 
       (moved-as (ap braces e) (h .moved), ap (λ (x : Tail). x .last) (h .lex .tail) ∙ ap lastOf e)
 
 -- from the end of the plain bytes at its head
-pub walk-head : (line : List ℕ) (c : ℕ) (u : List ℕ) (n j : ℕ) (t v : Tail) → Room (idsPost line) c u n → t ≡ tailOf [] → j ≡ plainLen line → v ≡ grown t (part 0 j line) →
+walk-head : (line : List ℕ) (c : ℕ) (u : List ℕ) (n j : ℕ) (t v : Tail) → Room (idsPost line) c u n → t ≡ tailOf [] → j ≡ plainLen line → v ≡ grown t (part 0 j line) →
     WalkInv line c u n u j v c n
 walk-head line c u n j t v r e q w = walk-plain (walk-start line c u n t r e) j (omega arith) v w
+
+-- and with the tail that the front's bytes leave, each taken as a character
+pub walk-front : (line : List ℕ) (c : ℕ) (u : List ℕ) (n j : ℕ) {v : Tail} → Room (idsPost line) c u n → j ≡ plainLen line → v ≡ lowTail (take j line) → WalkInv line c u n u j v c n
+walk-front line c u n j {v} r q w =
+    let e : j - 0 ≡ j = omega arith in
+    walk-head line c u n j (tailOf []) v r refl q (w ∙ low-plain (take j line) (plain-take line j (omega arith)) ∙ ap (λ (m : ℕ). grown (tailOf []) (take m line)) (sym e))
 
 no-last : tailOf [] .last ≡ 256
 unfolding tailOf lastOf toOf endWhite

@@ -177,15 +177,14 @@ pub struct At {
     pub last: u16,
 }
 
-// The braces of a line, token by token, from the block `block`, with `n` blocks known.
-fn walk_tokens(line: &[u8], block: u32, up: &mut [u32], n: usize) -> At
-    requires { ⌜ Room (idsPost (now line)) block (now up) n ⌝ }
+// The braces of a line that begins with `k` plain bytes, token by token, from the block `block`, with `n` blocks known.
+fn walk_tokens(line: &[u8], k: usize, block: u32, up: &mut [u32], n: usize) -> At
+    requires { ⌜ (k ≡ plainLen (now line)) × Room (idsPost (now line)) block (now up) n ⌝ }
     ensures { λ r. ⌜ (Moved (idsPost (now (line .entry))) block (now (up .entry)) n (r .block) (now (up .exit)) (r .next))
         × (r .last ≡ lastOf (stripLexical (now (line .entry)))) ⌝ }
 {
-    let head = lexical::plain_run(line, 0, lexical::no_tail());
-    let mut i = head.end;
-    let mut tail = head.tail;
+    let mut i = k;
+    let mut tail = lexical::front_tail(line, k);
     let mut c = block;
     let mut m = n;
     while i < line.len() {
@@ -228,7 +227,7 @@ fn walk_from(line: &[u8], k: usize, block: u32, up: &mut [u32], n: usize) -> At
             last: b as u16,
         };
     }
-    walk_tokens(line, block, up, n)
+    walk_tokens(line, k, block, up, n)
 }
 
 // The braces of a line as `block_ids` counts them, from the block `block`, with `n` blocks known.
