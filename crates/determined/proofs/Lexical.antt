@@ -7,9 +7,6 @@ use Rattle.determined.proofs.Outcomes.{Determined, fixed}
 pub token-at-fixed : Determined lexical.token_at.ended (λ κs z. z) lexical.token_at.Reads.ensures
 token-at-fixed = fixed lexical.token_at.Reads.Learnt (λ κs a x y l m. l ∙ sym m)
 
-pub no-tail-fixed : Determined lexical.no_tail.ended (λ κs z. z) lexical.no_tail.Reads.ensures
-no-tail-fixed = fixed lexical.no_tail.Reads.Learnt (λ κs a x y l m. l ∙ sym m)
-
 pub push-fixed : Determined lexical.push.ended (λ κs z. z) lexical.push.Reads.ensures
 push-fixed = fixed lexical.push.Reads.Learnt (λ κs a x y l m. l ∙ sym m)
 

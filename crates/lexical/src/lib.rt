@@ -154,7 +154,7 @@ pub struct Tail {
 }
 
 // The tail of an empty text.
-pub fn no_tail() -> Tail
+fn no_tail() -> Tail
     ensures { λ r. ⌜ r ≡ tailOf [] ⌝ }
 {
     Tail {
