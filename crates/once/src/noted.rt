@@ -118,7 +118,7 @@ fn note_runs(
     let mut i = words::reg_start(s, 0);
     while i < s.len() {
         let e = words::run_end(s, i);
-        note_name(lines::cut(s, i, e), m, h, n, near, far, notes);
+        note_name(&s[i..e], m, h, n, near, far, notes);
         i = words::reg_start(s, e);
     }
 }
@@ -313,7 +313,7 @@ pub fn note_lines(
         let e = i - 1;
         let k = row_of(n, m);
         let a = start_at(text, e, k, ends);
-        let line = lines::cut(text, a, e);
+        let line = &text[a..e];
         let p = parse::parse(line);
         put_note(k, line_note(p, paths, k, m, h, near, far, stores), notes);
         m += 1;

@@ -1,10 +1,11 @@
 use borrow.Author.Needs.{needs}
-use Prim.Native.Nat.{_+_}
+use Prim.Native.Nat.{ℕ, _+_, _-_}
 use mathlib.Core.Path.{_≡_, refl, sym, ap, _∙_}
+use mathlib.Core.List.{List}
 use borrow.Author.Tests.{not-false}
 use native.Mathlib.Omega.{arith}
 use lib.ListN.{length, length-set}
-use Rattle.lines.specs.Lf.{linesOf}
+use Rattle.lines.specs.Lf.{part, linesOf}
 use Rattle.once.proofs.NoteFills.{NoteInv, once-none, notes-none, note-start, note-lf, note-row, note-count, note-on, ones-of, note-lengths}
 use Rattle.once.proofs.noted.note_lines.Statement.{statement}
 use Rattle.once.proofs.noted.note_lines.Tie as tie
@@ -49,8 +50,14 @@ start-at-requires c κs =
     let p = c .before .before .before .before .before .before .before .before .before .before .before .before .before .pre in
     (note-lf v (c .before .loop-test .taken), (note-count v (c .before .loop-test .taken) (p .0) (c .row-of .result) (c .row-of .ensures), p .1 .1 .1 .1 .1))
 
-cut-requires : tie.Need-cut-requires Inv-loop μ-loop
-cut-requires c κs = search needs
+sub-line : tie.Need-sub-line Inv-loop μ-loop
+sub-line c = omega (arith, c .start-at .ensures .0)
+
+part-line-start : tie.Need-part-line-start Inv-loop μ-loop
+part-line-start c = omega (arith, c .start-at .ensures .0)
+
+part-line-end : tie.Need-part-line-end Inv-loop μ-loop
+part-line-end c = omega (arith, note-lf (c .before .before .before .loop .inv .0) (c .before .before .loop-test .taken) .0)
 
 parse-requires : tie.Need-parse-requires Inv-loop μ-loop
 parse-requires c κs = search needs
@@ -78,9 +85,10 @@ loop-again c =
     let a = c .before .before .before .before .before .before .before .before .before .before .before .before .before .before .before .before .before .before .before .before .before .before .before .before .before .before .before .before .before .before .before .before .before .before .before .before .before .before .args in
     let l = c .before .before .before .before .before .before .before .before .before .before .before .before .before .before .before .before .before .before .before .before .before .before .before .before .before .before .before .loop in
     let r = c .before .before .before .before .before .before .before .before .before .note-line .ensures in
+    let w : List ℕ = part (c .before .before .before .before .before .before .before .before .before .before .before .before .before .before .before .before .before .before .before .before .before .before .before .before .start-at .result) (l .i - 1) (a .text .now) in
     let z = l .inv .1 in
-    let y = note-lengths (length (a .paths .now)) (l .h) (l .m + 1) (l .near) (l .far) (l .stores) _ (c .before .before .before .before .before .before .before .before .before .before .before .before .before .before .before .before .before .before .before .before .before .before .parse .result) (c .before .before .before .before .before .before .before .before .before .before .before .before .before .before .before .before .before .before .before .before .before .before .before .cut .result .now) (r .0) (r .1) in
-    (note-on (l .inv .0) (c .before .before .before .before .before .before .before .before .before .before .before .before .before .before .before .before .before .before .before .before .before .before .before .before .before .before .loop-test .taken) (c .before .before .before .before .before .before .before .before .before .before .before .before .before .before .before .before .before .before .before .before .before .before .before .before .start-at .result) (c .before .before .before .before .before .before .before .before .before .before .before .before .before .before .before .before .before .before .before .before .before .before .before .before .start-at .ensures) (c .before .before .before .before .before .before .before .before .before .before .before .before .before .before .before .before .before .before .before .before .before .before .before .before .before .before .before .before .before .before .before .before .before .before .before .before .before .before .pre .0) (c .before .before .before .before .before .before .before .before .before .before .before .before .before .before .before .before .before .before .before .before .before .before .before .cut .result .now) (c .before .before .before .before .before .before .before .before .before .before .before .before .before .before .before .before .before .before .before .before .before .before .parse .result) (c .before .before .before .before .before .before .before .before .before .before .before .before .before .before .before .before .before .before .before .before .before .before .before .before .before .row-of .result) (c .before .before .before .before .before .before .before .before .before .before .before .before .before .before .before .before .before .before .line-note .result) _ _ _ _ _ (c .head-at .result) (c .before .before .before .before .before .before .before .before .before .before .before .before .before .before .before .before .before .before .before .before .before .before .before .cut .ensures) (c .before .before .before .before .before .before .before .before .before .before .before .before .before .before .before .before .before .before .before .before .before .before .parse .ensures) (c .before .before .before .before .before .before .before .before .before .before .before .before .before .before .before .before .before .before .before .before .before .before .before .before .before .row-of .ensures) (c .before .before .before .before .before .before .before .before .before .before .before .before .before .before .before .before .before .before .line-note .ensures) (c .before .before .before .before .before .before .before .before .before .before .before .before .before .before .before .before .put-note .ensures) (r .0) (r .1) (c .head-at .ensures), (y .0 ∙ z .0, (y .1 .0 ∙ z .1 .0, (y .1 .1 .0 ∙ z .1 .1 .0, y .1 .1 .1 ∙ ap length (c .before .before .before .before .before .before .before .before .before .before .before .before .before .before .before .before .put-note .ensures) ∙ length-set (l .notes) _ _ ∙ z .1 .1 .1))))
+    let y = note-lengths (length (a .paths .now)) (l .h) (l .m + 1) (l .near) (l .far) (l .stores) _ (c .before .before .before .before .before .before .before .before .before .before .before .before .before .before .before .before .before .before .before .before .before .before .parse .result) w (r .0) (r .1) in
+    (note-on (l .inv .0) (c .before .before .before .before .before .before .before .before .before .before .before .before .before .before .before .before .before .before .before .before .before .before .before .before .before .before .loop-test .taken) (c .before .before .before .before .before .before .before .before .before .before .before .before .before .before .before .before .before .before .before .before .before .before .before .before .start-at .result) (c .before .before .before .before .before .before .before .before .before .before .before .before .before .before .before .before .before .before .before .before .before .before .before .before .start-at .ensures) (c .before .before .before .before .before .before .before .before .before .before .before .before .before .before .before .before .before .before .before .before .before .before .before .before .before .before .before .before .before .before .before .before .before .before .before .before .before .before .pre .0) w (c .before .before .before .before .before .before .before .before .before .before .before .before .before .before .before .before .before .before .before .before .before .before .parse .result) (c .before .before .before .before .before .before .before .before .before .before .before .before .before .before .before .before .before .before .before .before .before .before .before .before .before .row-of .result) (c .before .before .before .before .before .before .before .before .before .before .before .before .before .before .before .before .before .before .line-note .result) _ _ _ _ _ (c .head-at .result) refl (c .before .before .before .before .before .before .before .before .before .before .before .before .before .before .before .before .before .before .before .before .before .before .parse .ensures) (c .before .before .before .before .before .before .before .before .before .before .before .before .before .before .before .before .before .before .before .before .before .before .before .before .before .row-of .ensures) (c .before .before .before .before .before .before .before .before .before .before .before .before .before .before .before .before .before .before .line-note .ensures) (c .before .before .before .before .before .before .before .before .before .before .before .before .before .before .before .before .put-note .ensures) (r .0) (r .1) (c .head-at .ensures), (y .0 ∙ z .0, (y .1 .0 ∙ z .1 .0, (y .1 .1 .0 ∙ z .1 .1 .0, y .1 .1 .1 ∙ ap length (c .before .before .before .before .before .before .before .before .before .before .before .before .before .before .before .before .put-note .ensures) ∙ length-set (l .notes) _ _ ∙ z .1 .1 .1))))
 
 same-length : tie.Need-same-length Inv-loop μ-loop
 same-length c = c .before .loop .inv .1 .0
@@ -110,7 +118,9 @@ note-lines-spec =
     sub-e
     row-of-requires
     start-at-requires
-    cut-requires
+    sub-line
+    part-line-start
+    part-line-end
     parse-requires
     line-note-requires
     put-note-requires

@@ -1,13 +1,14 @@
 use borrow.Author.Needs.{needs}
 use Prim.Native.Nat.{_-_}
+use mathlib.Core.Path.{refl}
 use native.Mathlib.Omega.{arith}
 use lib.ListN.{length}
+use Rattle.words.proofs.RunLaws.{run-inside}
 use Rattle.once.proofs.NoteFills.{ReadsInv, reads-start, reads-less, reads-on, reads-end}
 use Rattle.once.proofs.noted.note_runs.Statement.{statement}
 use Rattle.once.proofs.noted.note_runs.Tie as tie
 use Rattle.once.proofs.noted.note_runs.Reads as reads
 use Rattle.once.proofs.noted.note_runs.Lts as lts
-use Rattle.lines.proofs.cut.Reads as cut-reads
 use Rattle.once.proofs.noted.note_name.Reads as note-name-reads
 use Rattle.words.proofs.reg_start.Reads as reg-start-reads
 use Rattle.words.proofs.run_end.Reads as run-end-reads
@@ -31,8 +32,16 @@ run-end-requires : tie.Need-run-end-requires Inv-loop μ-loop
 run-end-requires c κs = search needs
 
 -- src/noted.rt:121:19
-cut-requires : tie.Need-cut-requires Inv-loop μ-loop
-cut-requires c κs = search needs
+sub-note-name : tie.Need-sub-note-name Inv-loop μ-loop
+sub-note-name c = omega (arith, c .run-end .ensures)
+
+-- src/noted.rt:121:19
+part-note-name-start : tie.Need-part-note-name-start Inv-loop μ-loop
+part-note-name-start c = omega (arith, c .run-end .ensures)
+
+-- src/noted.rt:121:19
+part-note-name-end : tie.Need-part-note-name-end Inv-loop μ-loop
+part-note-name-end c = omega (arith, c .run-end .ensures, run-inside (c .before .before .before .before .before .before .before .before .args .s .now) (c .before .before .loop .i) (omega (arith, c .before .loop-test .taken)))
 
 -- src/noted.rt:121:9
 note-name-requires : tie.Need-note-name-requires Inv-loop μ-loop
@@ -53,7 +62,7 @@ loop-again : tie.Need-loop-again Inv-loop μ-loop
 loop-again c =
     let a = c .before .before .before .before .before .before .before .before .before .before .before .before .before .before .before .before .before .before .before .before .args in
     let e = c .before .before .before .before .before .before .before .note-name .ensures in
-    reads-on (a .n) (a .h) (a .m) (c .before .before .before .before .before .before .before .before .before .before .before .before .before .before .loop .inv) (c .before .before .before .before .before .before .before .before .before .before .before .before .before .loop-test .taken) _ (c .before .before .before .before .before .before .before .before .before .before .before .before .run-end .ensures) _ (c .reg-start2 .ensures) (c .before .before .before .before .before .before .before .before .before .before .before .cut .result .now) (c .before .before .before .before .before .before .before .before .before .before .before .cut .ensures) _ (rw (e .0, e .1 .0, e .1 .1))
+    reads-on (a .n) (a .h) (a .m) (c .before .before .before .before .before .before .before .before .before .before .before .before .before .before .loop .inv) (c .before .before .before .before .before .before .before .before .before .before .before .before .before .loop-test .taken) _ (c .before .before .before .before .before .before .before .before .before .before .before .before .run-end .ensures) _ (c .reg-start2 .ensures) _ refl _ (rw (e .0, e .1 .0, e .1 .1))
 
 -- src/noted.rt:107:1
 same-length : tie.Need-same-length Inv-loop μ-loop
@@ -80,7 +89,9 @@ note-runs-spec =
     reg-start-requires
     loop-holds
     run-end-requires
-    cut-requires
+    sub-note-name
+    part-note-name-start
+    part-note-name-end
     note-name-requires
     reg-start-requires-2
     loop-less
