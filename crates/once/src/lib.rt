@@ -594,9 +594,10 @@ fn mark_line(
 
 // Where the region of the line from i to e begins, where `above` is that of the line above.
 fn area_at(text: &[u8], i: usize, e: usize, above: usize) -> usize
+    requires { ⌜ (i ≤ e) × (e ≤ length (now text)) ⌝ }
     ensures { λ r. ⌜ r ≡ areaAt (now (text .entry)) i e above ⌝ }
 {
-    if place::is_header(lines::cut(text, i, e)) {
+    if place::is_header(&text[i..e]) {
         return i;
     }
     above

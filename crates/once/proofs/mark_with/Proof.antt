@@ -4,6 +4,7 @@ use mathlib.Core.Path.{_≡_, refl, ap, _∙_}
 use native.Mathlib.Omega.{arith}
 use lib.ListN.{length, drop}
 use Rattle.lines.specs.Lf.{linesOf}
+use Rattle.lines.proofs.LfLaws.{find-le}
 use Rattle.lines.proofs.OutLaws.{writing-length}
 use Rattle.once.specs.Tables.{Blank}
 use Rattle.once.proofs.Blanks.{blank-as}
@@ -40,7 +41,7 @@ end-at-requires c κs = let l = c .before .loop in c .before .before .before .be
 
 -- src/lib.rt:626:9
 area-at-requires : tie.Need-area-at-requires Inv-loop μ-loop
-area-at-requires c κs = search needs
+area-at-requires c κs = (omega (arith, c .end-at .ensures), find-le 10 (c .before .before .before .before .before .before .before .before .before .before .args .text .now) (c .before .before .loop .i) (c .end-at .result) (omega (arith, c .before .loop-test .taken)) (c .end-at .ensures))
 
 -- src/lib.rt:627:20
 mark-line-requires : tie.Need-mark-line-requires Inv-loop μ-loop
