@@ -28,7 +28,6 @@
  *         text    the listing, only read: any bytes
  *         a to e  work buffers of bytes, each of at least OPTLINES_BYTES
  *         u       a work buffer of 32-bit numbers, of at least OPTLINES_BLOCKS
- *         recs    a work buffer of line records, of at least OPTLINES_RECORDS
  *         out     the result buffer. No result is longer than twice its text, so 2 * text_length is
  *                 always enough
  *         length  where the length of the result is stored
@@ -37,9 +36,9 @@
  *     What stands in a work buffer or in the result buffer before a call does not matter.
  *
  *     The caller sees to the following, and nothing checks it. Each pointer points to as many
- *     elements as its length says, and is aligned for them. None of a to e, u, recs, out, length
- *     and place overlaps any other thing that is lent. A pointer whose length is 0 is not followed,
- *     and may be null. length and place are always followed.
+ *     elements as its length says, and is aligned for them. None of a to e, u, out, length and place
+ *     overlaps any other thing that is lent. A pointer whose length is 0 is not followed, and may
+ *     be null. length and place are always followed.
  *
  * RETURN VALUE
  *     A number, with a length and a place stored. For a refusal *length is 0.
@@ -48,7 +47,7 @@
  *         0 OPTLINES_DONE            the result is written                    0
  *         1 OPTLINES_BAD_PASS        pass is not 1 to 6 (optlines_run_pass)   0
  *         2 OPTLINES_TOO_LONG        text is longer than 16,384 bytes         16384
- *         3 OPTLINES_SHORT_WORK      a to e, u or recs is shorter than stated 0
+ *         3 OPTLINES_SHORT_WORK      a to e or u is shorter than stated       0
  *         4 OPTLINES_NOT_UTF8        text is not UTF-8 (RFC 3629)             first byte of the first
  *                                                                             bad sequence, from 0
  *         5 OPTLINES_TOO_MANY_LINES  more than 1,024 lines                    1024
@@ -58,11 +57,9 @@
  *     So a text that is too long and not UTF-8 gets 2. Nothing else is refused.
  *
  * MEMORY AFTER A CALL
- *         number   out                                        a to e, u, recs
- *         0        the result, then what stood there before   0 in the first OPTLINES_BYTES,
- *                                                             OPTLINES_BLOCKS or OPTLINES_RECORDS
- *                                                             (of a record in all four numbers),
- *                                                             the rest as before
+ *         number   out                                        a to e, u
+ *         0        the result, then what stood there before   0 in the first OPTLINES_BYTES or
+ *                                                             OPTLINES_BLOCKS, the rest as before
  *         7        as before                                  the same as after 0
  *         1 to 6   as before                                  as before
  *
@@ -74,13 +71,11 @@
  * EXAMPLE
  *     static uint8_t work[5][OPTLINES_BYTES], out[2 * OPTLINES_TEXT];
  *     static uint32_t blocks[OPTLINES_BLOCKS];
- *     static struct optlines_record records[OPTLINES_RECORDS];
  *     size_t length, place;
  *
  *     uint8_t number = optlines_optimize(text, text_length, work[0], OPTLINES_BYTES,
  *         work[1], OPTLINES_BYTES, work[2], OPTLINES_BYTES, work[3], OPTLINES_BYTES,
- *         work[4], OPTLINES_BYTES, blocks, OPTLINES_BLOCKS, records, OPTLINES_RECORDS,
- *         out, sizeof out, &length, &place);
+ *         work[4], OPTLINES_BYTES, blocks, OPTLINES_BLOCKS, out, sizeof out, &length, &place);
  *     if (number == OPTLINES_DONE)
  *         fwrite(out, 1, length, stdout);
  *     else
@@ -96,10 +91,9 @@
 extern "C" {
 #endif
 
-/* The stated sizes of the work buffers: bytes of each of a to e, numbers of u, records of recs. */
+/* The stated sizes of the work buffers: bytes of each of a to e, numbers of u. */
 #define OPTLINES_BYTES 32769
 #define OPTLINES_BLOCKS 16384
-#define OPTLINES_RECORDS 1024
 
 /* The limits: bytes of a text, lines of a text, bytes '[' of a line. */
 #define OPTLINES_TEXT 16384
@@ -118,11 +112,6 @@ enum {
     OPTLINES_SHORT_RESULT = 7
 };
 
-/* A line record: where a line begins and ends, its region and its block. Room for them is lent. */
-struct optlines_record {
-    size_t start, end, region, block;
-};
-
 uint8_t optlines_optimize(
     const uint8_t *text, size_t text_length,
     uint8_t *a, size_t a_length,
@@ -131,7 +120,6 @@ uint8_t optlines_optimize(
     uint8_t *d, size_t d_length,
     uint8_t *e, size_t e_length,
     uint32_t *u, size_t u_length,
-    struct optlines_record *recs, size_t recs_length,
     uint8_t *out, size_t out_length,
     size_t *length, size_t *place);
 
@@ -144,7 +132,6 @@ uint8_t optlines_run_pass(
     uint8_t *d, size_t d_length,
     uint8_t *e, size_t e_length,
     uint32_t *u, size_t u_length,
-    struct optlines_record *recs, size_t recs_length,
     uint8_t *out, size_t out_length,
     size_t *length, size_t *place);
 

@@ -12,7 +12,7 @@
 #include <sys/mman.h>
 #include <unistd.h>
 
-enum { WORK = 7, MORE = 3, ROOM = 2 * OPTLINES_TEXT, LONGEST = OPTLINES_TEXT + 64 };
+enum { WORK = 6, MORE = 3, ROOM = 2 * OPTLINES_TEXT, LONGEST = OPTLINES_TEXT + 64 };
 
 /* A lent buffer: as many bytes, at the end of its pages. */
 struct lent {
@@ -51,23 +51,17 @@ static void is_filled(const uint8_t *from, const uint8_t *to, uint8_t fill, cons
             fail(what);
 }
 
-/* The size of an element of a work buffer in bytes. */
-static size_t unit(int k)
-{
-    return k == 5 ? sizeof(uint32_t) : k == 6 ? sizeof(struct optlines_record) : 1;
-}
-
 /* The stated size of a work buffer in bytes. */
 static size_t stated(int k)
 {
-    return unit(k) * (k == 5 ? OPTLINES_BLOCKS : k == 6 ? OPTLINES_RECORDS : OPTLINES_BYTES);
+    return k == 5 ? OPTLINES_BLOCKS * sizeof(uint32_t) : OPTLINES_BYTES;
 }
 
 static uint8_t call(uint8_t pass, size_t *length, size_t *place)
 {
 #define BUFFERS text.from, text.size, work[0].from, work[0].size, work[1].from, work[1].size, work[2].from, work[2].size, \
-    work[3].from, work[3].size, work[4].from, work[4].size, (uint32_t *)work[5].from, work[5].size / unit(5), \
-    (struct optlines_record *)work[6].from, work[6].size / unit(6), out.from, out.size, length, place
+    work[3].from, work[3].size, work[4].from, work[4].size, (uint32_t *)work[5].from, work[5].size / sizeof(uint32_t), \
+    out.from, out.size, length, place
     return pass == 0 ? optlines_optimize(BUFFERS) : optlines_run_pass(pass, BUFFERS);
 }
 
@@ -103,8 +97,10 @@ static void judge(uint8_t pass, uint8_t number, size_t length, size_t place)
 /* One call in buffers full of one byte. */
 static uint8_t turn(const uint8_t *head, uint8_t fill, size_t *length, size_t *place)
 {
-    for (int k = 0; k < WORK; k++)
-        lend(&work[k], head[1] == k + 1 ? stated(k) - unit(k) : stated(k) + unit(k) * (head[1] % (MORE + 1)), fill);
+    for (int k = 0; k < WORK; k++) {
+        size_t unit = k == 5 ? sizeof(uint32_t) : 1;
+        lend(&work[k], stated(k) + (head[1] == k + 1 ? -unit : unit * (head[1] % (MORE + 1))), fill);
+    }
     lend(&out, head[2] == 255 ? ROOM : (size_t)head[2] * head[3] % (ROOM + 1), fill);
     *length = *place = 12345;
     uint8_t number = call(head[0] % 9, length, place);
@@ -121,7 +117,7 @@ int LLVMFuzzerTestOneInput(const uint8_t *data, size_t size)
         return 0;
     if (text.pages == NULL) {
         for (int k = 0; k < WORK; k++)
-            map(&work[k], stated(k) + MORE * unit(k));
+            map(&work[k], stated(k) + MORE * sizeof(uint32_t));
         map(&out, ROOM);
         map(&text, LONGEST);
     }

@@ -1,6 +1,6 @@
 //! Calls the library through the wrapper: the sample, each pass, every refusal, and the lent bytes after each call.
 
-use optlines::{optimize, optimize_in, run_pass, run_pass_in, Record, Refusal, Work, BLOCKS, BYTES, RECORDS, TEXT};
+use optlines::{optimize, optimize_in, run_pass, run_pass_in, Refusal, Work, BLOCKS, BYTES, TEXT};
 
 const SAMPLE: &[u8] = b"function f(a) {\n  let r0, r1, r2;\n  r0 = a;\n  r1 = g(r0);\n  return r1;\n}\n";
 const TIDY: &[u8] = b"function f(a) {\n  let r1 = g(a);\n  return r1;\n}\n";
@@ -8,13 +8,11 @@ const TIDY: &[u8] = b"function f(a) {\n  let r1 = g(a);\n  return r1;\n}\n";
 const SPARE: usize = 8;
 const FILLED: u8 = 0xA5;
 const FILLED_BLOCK: u32 = 0xA5A5_A5A5;
-const FILLED_RECORD: Record = Record { start: 1, end: 2, region: 3, block: 4 };
 
 /// Buffers with some room behind what is stated, filled.
 struct Room {
     bytes: [Vec<u8>; 5],
     blocks: Vec<u32>,
-    records: Vec<Record>,
     out: Vec<u8>,
 }
 
@@ -23,7 +21,6 @@ impl Room {
         Room {
             bytes: [(); 5].map(|()| vec![FILLED; BYTES + SPARE]),
             blocks: vec![FILLED_BLOCK; BLOCKS + SPARE],
-            records: vec![FILLED_RECORD; RECORDS + SPARE],
             out: vec![FILLED; 2 * TEXT],
         }
     }
@@ -39,7 +36,6 @@ impl Room {
             d: &mut d[..lent(4, BYTES)],
             e: &mut e[..lent(5, BYTES)],
             u: &mut self.blocks[..lent(6, BLOCKS)],
-            recs: &mut self.records[..lent(7, RECORDS)],
         };
         let out = &mut self.out[..room];
         if pass == 0 {
@@ -52,13 +48,11 @@ impl Room {
     /// Every lent byte is as include/optlines.h says.
     fn is_as_said(&self, answer: Result<usize, Refusal>) -> bool {
         let ran = matches!(answer, Ok(_) | Err(Refusal::ShortResult(_)));
-        let (zeros, zero_blocks, zero_records) = if ran { (BYTES, BLOCKS, RECORDS) } else { (0, 0, 0) };
+        let (zeros, zero_blocks) = if ran { (BYTES, BLOCKS) } else { (0, 0) };
         let after = |s: &[u8], n: usize| s[..n].iter().all(|b| *b == 0) && s[n..].iter().all(|b| *b == FILLED);
         self.bytes.iter().all(|s| after(s, zeros))
             && self.blocks[..zero_blocks].iter().all(|b| *b == 0)
             && self.blocks[zero_blocks..].iter().all(|b| *b == FILLED_BLOCK)
-            && self.records[..zero_records].iter().all(|r| *r == Record::default())
-            && self.records[zero_records..].iter().all(|r| *r == FILLED_RECORD)
             && self.out[answer.unwrap_or(0)..].iter().all(|b| *b == FILLED)
     }
 }
@@ -104,7 +98,7 @@ fn refusals() {
     }
     assert_eq!(run_pass(0, SAMPLE), Err(Refusal::BadPass));
     expect(0, &long, 1, 0, Err(Refusal::TooLong));
-    for short in 1..=7 {
+    for short in 1..=6 {
         expect(0, b"\xFF", short, 0, Err(Refusal::ShortWork));
     }
     expect(6, b"ab\xED\xA0\x80", 0, 0, Err(Refusal::NotUtf8(2)));

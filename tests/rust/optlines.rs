@@ -4,10 +4,9 @@
 
 #![deny(unsafe_op_in_unsafe_fn)]
 
-/// The stated sizes of the work buffers: bytes of each of `a` to `e`, numbers of `u`, records of `recs`.
+/// The stated sizes of the work buffers: bytes of each of `a` to `e`, numbers of `u`.
 pub const BYTES: usize = 32_769;
 pub const BLOCKS: usize = 16_384;
-pub const RECORDS: usize = 1_024;
 
 /// The longest text that is taken.
 pub const TEXT: usize = 16_384;
@@ -31,16 +30,6 @@ pub enum Refusal {
     ShortResult(usize),
 }
 
-/// A line record: where a line begins and ends, its region and its block. Room for them is lent.
-#[repr(C)]
-#[derive(Clone, Copy, Debug, Default, PartialEq, Eq)]
-pub struct Record {
-    pub start: usize,
-    pub end: usize,
-    pub region: usize,
-    pub block: usize,
-}
-
 /// Lent work buffers. What stands in them before a call does not matter.
 pub struct Work<'a> {
     pub a: &'a mut [u8],
@@ -49,7 +38,6 @@ pub struct Work<'a> {
     pub d: &'a mut [u8],
     pub e: &'a mut [u8],
     pub u: &'a mut [u32],
-    pub recs: &'a mut [Record],
 }
 
 /// The declarations of include/optlines.h.
@@ -66,7 +54,6 @@ mod raw {
                     d: *mut u8, d_length: usize,
                     e: *mut u8, e_length: usize,
                     u: *mut u32, u_length: usize,
-                    recs: *mut super::Record, recs_length: usize,
                     out: *mut u8, out_length: usize,
                     length: *mut usize, place: *mut usize,
                 ) -> u8;)*
@@ -94,7 +81,6 @@ macro_rules! call {
                 $work.d.as_mut_ptr(), $work.d.len(),
                 $work.e.as_mut_ptr(), $work.e.len(),
                 $work.u.as_mut_ptr(), $work.u.len(),
-                $work.recs.as_mut_ptr(), $work.recs.len(),
                 $out.as_mut_ptr(), $out.len(),
                 &mut length, &mut place,
             )
@@ -131,9 +117,8 @@ pub fn run_pass_in(pass: usize, text: &[u8], work: &mut Work, out: &mut [u8]) ->
 fn with_room(text: &[u8], run: impl FnOnce(&mut Work, &mut [u8]) -> Result<usize, Refusal>) -> Result<Vec<u8>, Refusal> {
     let [mut a, mut b, mut c, mut d, mut e] = [(); 5].map(|()| vec![0; BYTES]);
     let mut u = vec![0; BLOCKS];
-    let mut recs = vec![Record::default(); RECORDS];
     let mut out = vec![0; 2 * text.len().min(TEXT)];
-    let mut work = Work { a: &mut a, b: &mut b, c: &mut c, d: &mut d, e: &mut e, u: &mut u, recs: &mut recs };
+    let mut work = Work { a: &mut a, b: &mut b, c: &mut c, d: &mut d, e: &mut e, u: &mut u };
     let length = run(&mut work, &mut out)?;
     out.truncate(length);
     Ok(out)

@@ -8,8 +8,4 @@ pub mod Turns
 pub mod Cut
 pub mod Passes
 pub mod Examples
-pub mod Of_bind_declarators
-pub mod Of_end_at
-pub mod Of_stop_from
-pub mod Of_walk
-pub mod Of_walk_with
+pub mod Of_walk_lines

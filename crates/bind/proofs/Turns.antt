@@ -1,94 +1,92 @@
 -- The walk down the lines by their records: one turn of the loop. Assumes nothing.
-use Prim.Native.Nat.{ℕ, zero, suc, _+_, _-_, _≤_, _<_, min}
+use Prim.Native.Nat.{ℕ, zero, suc, _+_, _-_, _*_, _/_, _%_, _≤_, _<_, _^_, min}
 use mathlib.Core.Path.{_≡_, refl, sym, ap, _∙_, subst}
 use mathlib.Core.Bool.{Bool, true, false, cond}
-use mathlib.Core.List.{List, [], _∷_}
+use mathlib.Core.List.{List}
 use native.Mathlib.Omega.{arith}
 use borrow.Author.Tests.{eq-eqb, ne-eqb}
-use lib.Dec.{eqb}
-use lib.ListN.{length, getD, take, drop}
-use lib.Seq.{drop-cons}
+use lib.Dec.{eqb, ltb}
+use lib.ListN.{length, getD, drop}
 use Rattle.lines.specs.Lf.{part, upTo, linesOf, unlines}
 use Rattle.lines.specs.Out.{Wrote}
 use Rattle.text.specs.Trim.{trimOf}
 use Rattle.place.specs.Region.{isHeader, upHeader, regionLen}
 use Rattle.place.proofs.Regions.{past, end-stop, end-on, end-end}
 use Rattle.place.specs.Fill.{Filled, flagsOf}
+use Rattle.place.proofs.Marks.{Marked, marked-here, marked-on}
 use Rattle.records.specs.declared.LineRec.{LineRec}
-use Rattle.records.specs.Records.{noRec, recAt}
+use Rattle.records.specs.Records.{noRec, recAt, recordsOf, windowAt, Told}
 use Rattle.records.proofs.Down.{Down, down-start, down-some, down-none, down-lt, down-here, down-on}
+use Rattle.records.proofs.Shown.{Shows, told-long, shows-start, shows-here, shows-on, shows-asks, shows-filled}
 use Rattle.decls.specs.Seen.{AtMost}
 use Rattle.reading.specs.Reading.{plain}
 use Rattle.bind.specs.declared.Site.{Site}
 use Rattle.bind.specs.Bind.{bindDeclarators}
 use Rattle.bind.specs.Steps.{lineOf, belowOf, boundAt, markRow, siteText, siteMarks, bindMarks}
 use Rattle.bind.specs.Index.{seenAt, firstAt, ReadyFor}
-use Rattle.bind.specs.Sites.{stopOf, firstSite, siteOf, Walked}
+use Rattle.bind.specs.Sites.{stopBy, firstSite, siteOf, Walked}
 use Rattle.bind.proofs.WalkLaws.{BindInv, RegionAt, region-same, region-new, walk-start, walk-reach, walk-marks, walk-room, walk-on, walk-lt, walk-marked, walk-end, walk-filled}
 use Rattle.bind.proofs.IndexWalk.{IndexInv, IndexAt, index-start, index-same, index-new, region-fits, index-told, index-on}
 
--- ---- where a region ends, by the records below
+-- ---- where a region ends, by the table of ends
 
-stop-nil : (c n : ℕ) → stopOf c n [] ≡ n
-unfolding stopOf
-stop-nil c n = refl
+stop-more : (es : List ℕ) (len m k p : ℕ) (b : Bool) → eqb (getD es k 0 % 2) 1 ≡ b → stopBy es len (suc m) k p ≡ cond b p (stopBy es len m (suc k) (getD es k 0 / 2 + 1))
+unfolding stopBy
+stop-more es len m k p b e = rw e
 
-stop-cons : (c n : ℕ) (r : LineRec) (rs : List LineRec) (b : Bool) → eqb (r .region .0) c ≡ b → stopOf c n (r ∷ rs) ≡ cond b (stopOf c n rs) (r .start)
-unfolding stopOf
-stop-cons c n r rs b e = rw e
+-- the loop of stop_by: the lines before the i-th open no region
+module _ (es : List ℕ) (len n i p : ℕ) where
+  stop-first : i < n → (b : Bool) → eqb (getD es i 0 % 2) 1 ≡ b → stopBy es len (n - i) i p ≡ cond b p (stopBy es len (n - (i + 1)) (i + 1) (getD es i 0 / 2 + 1))
+  stop-first l b e =
+      let z : n - i ≡ suc (n - (i + 1)) = omega arith in
+      let w : suc i ≡ i + 1 = omega arith in
+      ap (λ (m : ℕ). stopBy es len m i p) z
+      ∙ stop-more es len (n - (i + 1)) i p b e
+      ∙ ap (λ (m : ℕ). cond b p (stopBy es len (n - (i + 1)) m (getD es i 0 / 2 + 1))) w
 
--- the loop of stop_from: the records before the i-th are of the region c
-pub stop-on : (d : List LineRec) (c len n i : ℕ) → i < n → n ≤ length d → (r : LineRec) → r ≡ getD d i noRec → r .region .0 ≡ c → stopOf c len (take (n - i) (drop i d)) ≡ stopOf c len (take (n - (i + 1)) (drop (i + 1) d))
-stop-on d c len n i l h r g e =
-    let z : n - i ≡ suc (n - (i + 1)) = omega arith in
-    let w : suc i ≡ i + 1 = omega arith in
-    ap (λ (m : ℕ). stopOf c len (take m (drop i d))) z
-    ∙ ap (λ (x : List LineRec). stopOf c len (take (suc (n - (i + 1))) x)) (drop-cons d i noRec (omega arith))
-    ∙ stop-cons c len (getD d i noRec) (take (n - (i + 1)) (drop (suc i) d)) true (eq-eqb (getD d i noRec .region .0) c (ap (λ (x : LineRec). x .region .0) (sym g) ∙ e))
-    ∙ ap (λ (m : ℕ). stopOf c len (take (n - (i + 1)) (drop m d))) w
+  pub stop-on : i < n → (getD es i 0 % 2 ≡ 1 → ⊥) → stopBy es len (n - i) i p ≡ stopBy es len (n - (i + 1)) (i + 1) (getD es i 0 / 2 + 1)
+  stop-on l e = stop-first l false (ne-eqb (getD es i 0 % 2) 1 e)
 
-pub stop-here : (d : List LineRec) (c len n i : ℕ) → i < n → n ≤ length d → (r : LineRec) → r ≡ getD d i noRec → (r .region .0 ≡ c → ⊥) → stopOf c len (take (n - i) (drop i d)) ≡ r .start
-stop-here d c len n i l h r g e =
-    let z : n - i ≡ suc (n - (i + 1)) = omega arith in
-    ap (λ (m : ℕ). stopOf c len (take m (drop i d))) z
-    ∙ ap (λ (x : List LineRec). stopOf c len (take (suc (n - (i + 1))) x)) (drop-cons d i noRec (omega arith))
-    ∙ stop-cons c len (getD d i noRec) (take (n - (i + 1)) (drop (suc i) d)) false (ne-eqb (getD d i noRec .region .0) c (λ w. e (ap (λ (x : LineRec). x .region .0) g ∙ w)))
-    ∙ ap (λ (x : LineRec). x .start) (sym g)
+  pub stop-here : i < n → getD es i 0 % 2 ≡ 1 → stopBy es len (n - i) i p ≡ p
+  stop-here l e = stop-first l true (eq-eqb (getD es i 0 % 2) 1 e)
 
-pub stop-end : (d : List LineRec) (c len n i : ℕ) → n ≤ i → stopOf c len (take (n - i) (drop i d)) ≡ len
-stop-end d c len n i h = let z : n - i ≡ 0 = omega arith in ap (λ (m : ℕ). stopOf c len (take m (drop i d))) z ∙ stop-nil c len
+  pub stop-end : n ≤ i → stopBy es len (n - i) i p ≡ len
+  unfolding stopBy
+  stop-end h = let z : n - i ≡ 0 = omega arith in ap (λ (m : ℕ). stopBy es len m i p) z
 
--- the records from the k-th up to the n-th, of the lines from p on, tell where the next header stands
-pub stop-is : {t bs : List ℕ} {d : List LineRec} (m : ℕ) {p k c : ℕ} (n : ℕ) → n ≡ length (linesOf t) → n ≡ k + m → p ≤ length t → Down t bs d p k c → stopOf c (length t) (take (n - k) (drop k d)) ≡ p + upHeader 0 (drop p t)
-stop-is {t} {bs} {d} zero {p} {k} {c} n q z l h =
+-- the entries from the k-th up to the n-th, of the lines from p on, tell where the next header stands
+pub stop-is : {t bs es : List ℕ} {d : List LineRec} (m : ℕ) {p k c : ℕ} (n : ℕ) → n ≡ length (linesOf t) → n ≡ k + m → p ≤ length t → Down t bs d p k c → Marked t es p k → (q : ℕ) → (0 < m → q ≡ p) →
+    stopBy es (length t) (n - k) k q ≡ p + upHeader 0 (drop p t)
+stop-is {t} {bs} {es} {d} zero {p} {k} {c} n f z l h g q r =
     let w : length t ≤ p = down-none h (omega arith) in
-    stop-end d c (length t) n k (omega arith) ∙ (let u = end-end t p w in omega arith)
-stop-is {t} {bs} {d} (suc m) {p} {k} {c} n q z l h = go (λ g. stop-is m n q (omega arith) (omega arith) g) (isHeader (part p e t)) refl
+    stop-end es (length t) n k q (omega arith) ∙ (let u = end-end t p w in omega arith)
+stop-is {t} {bs} {es} {d} (suc m) {p} {k} {c} n f z l h g q r = go (isHeader (part p e t)) refl (stop-is m n f (omega arith) (omega arith) below (marked-on g inside e refl refl) (getD es k 0 / 2 + 1))
   where
     e : ℕ
     e = p + upTo 10 (drop p t)
 
     inside : p < length t
-    inside = down-some h (omega (arith, q, z))
-
-    long : n ≤ length d
-    long = let w = h .many in omega arith
-
-    here : getD d k noRec ≡ recAt p e (cond (isHeader (part p e t)) (suc c) c) (getD bs k 0)
-    here = down-here h inside e refl
+    inside = down-some h (omega (arith, f, z))
 
     j : ℕ
     j = min (e + 1) (length t)
 
-    go : (Down t bs d j (k + 1) c → stopOf c (length t) (take (n - (k + 1)) (drop (k + 1) d)) ≡ j + upHeader 0 (drop j t)) → (b : Bool) → isHeader (part p e t) ≡ b →
-        stopOf c (length t) (take (n - k) (drop k d)) ≡ p + upHeader 0 (drop p t)
-    go rest true w =
-        let r : getD d k noRec .region .0 ≡ suc c = ap (λ (x : LineRec). x .region .0) here ∙ ap (λ (b : Bool). cond b (suc c) c) w in
-        stop-here d c (length t) n k (omega arith) long (getD d k noRec) refl (λ y. omega (arith, sym r ∙ y)) ∙ ap (λ (x : LineRec). x .start) here ∙ (let u = end-stop t p e inside refl w in omega arith)
-    go rest false w =
-        let r : getD d k noRec .region .0 ≡ c = ap (λ (x : LineRec). x .region .0) here ∙ ap (λ (b : Bool). cond b (suc c) c) w in
-        let g : Down t bs d j (k + 1) c = subst (λ (x : ℕ). Down t bs d j (k + 1) x) (ap (λ (b : Bool). cond b (suc c) c) w) (down-on h inside e refl refl) in
-        stop-on d c (length t) n k (omega arith) long (getD d k noRec) refl r ∙ rest g
+    below : Down t bs d j (k + 1) (cond (isHeader (part p e t)) (suc c) c)
+    below = down-on h inside e refl refl
+
+    mark : (b : Bool) → isHeader (part p e t) ≡ b → getD es k 0 ≡ 2 * e + cond b 1 0
+    mark b w = marked-here g inside e refl ∙ ap (λ (x : Bool). 2 * e + cond x 1 0) w
+
+    go : (b : Bool) → isHeader (part p e t) ≡ b →
+        ((0 < m → getD es k 0 / 2 + 1 ≡ j) → stopBy es (length t) (n - (k + 1)) (k + 1) (getD es k 0 / 2 + 1) ≡ j + upHeader 0 (drop j t)) →
+        stopBy es (length t) (n - k) k q ≡ p + upHeader 0 (drop p t)
+    go true w rest =
+        let o : getD es k 0 ≡ 2 * e + 1 = mark true w in
+        stop-here es (length t) n k q (omega arith) (omega (arith, o)) ∙ r (omega arith) ∙ (let u = end-stop t p e inside refl w in omega arith)
+    go false w rest =
+        let o : getD es k 0 ≡ 2 * e + 0 = mark false w in
+        stop-on es (length t) n k q (omega arith) (λ y. omega (arith, o, y))
+        ∙ rest (λ y. let v : j < length t = down-some below (omega (arith, f, z, y)) in omega (arith, o, v))
         ∙ past t p e j refl l refl ∙ ap (λ (x : ℕ). p + x) (sym (end-on t p e inside refl w))
 
 pub site-made : (t : List ℕ) (r : LineRec) (a e k j : ℕ) → j ≡ min (r .end + 1) (length t) → record { top = a; from = r .start; to = r .end; next = j; end = e; row = k; block = r .block } ≡ siteOf (length t) r a e k
@@ -98,27 +96,32 @@ site-made t r a e k j y = ap (λ (x : ℕ). record { top = a; from = r .start; t
 -- ---- the loop
 
 -- s is the site above, c its region, and the k-th line is the next
-pub record TurnInv (t : List ℕ) (rs : List LineRec) (n : ℕ) (bs ss d₀ u₀ m₀ o₀ d u m o : List ℕ) (s : Site) (c k p : ℕ) : Type 0 where
+pub record TurnInv (t es : List ℕ) (n : ℕ) (bs ss d₀ u₀ m₀ o₀ d u m o : List ℕ) (s : Site) (c k p : ℕ) : Type 0 where
   pub bind : BindInv t bs ss m₀ m o₀ o (s .top) (s .end) (s .next) k p
   pub index : IndexInv t d₀ u₀ d u (s .top) (s .end) (s .next) k
-  pub down : Down t bs rs (s .next) k c
+  pub down : Down t bs (recordsOf (linesOf t) bs) (s .next) k c
+  pub marked : Marked t es (s .next) k
   pub count : n ≡ length (linesOf t)
 
-pub turn-start : (t : List ℕ) (rs : List LineRec) (n : ℕ) (bs ss d u m o : List ℕ) (s : Site) (x : ℕ) → length d ≡ length u → AtMost 0 d → AtMost 0 u → Walked t rs n bs ss m o →
-    x ≡ stopOf 0 (length t) (take (n - 0) (drop 0 rs)) → s ≡ firstSite x → TurnInv t rs n bs ss d u m o d u m o s 0 0 0
+pub turn-start : (t es : List ℕ) (n : ℕ) (bs ss d u m o : List ℕ) (s : Site) (x : ℕ) {c : ℕ} → length d ≡ length u → AtMost 0 d → AtMost 0 u → Walked t es n bs ss m o →
+    x ≡ stopBy es (length t) (n - 0) 0 0 → s ≡ firstSite x → c ≡ 0 → TurnInv t es n bs ss d u m o d u m o s c 0 0
 unfolding firstSite
-turn-start t rs n bs ss d u m o s x a b c w f e = subst (λ (y : Site). TurnInv t rs n bs ss d u m o d u m o y 0 0 0) (sym e) (record {
-  bind = walk-start t bs ss m o x (w .rows) (w .fits) (w .unmarked) (w .room) (λ e₁ l q g. f ∙ stop-is n n (w .held .count) (omega arith) (omega arith) (down-start (w .held)) ∙ ap (λ (y : ℕ). 0 + y) (end-on t 0 e₁ l q g));
-  index = index-start t d u x a b c;
-  down = down-start (w .held);
-  count = w .held .count;
-})
+turn-start t es n bs ss d u m o s x a b c w f e i =
+    let down : Down t bs (recordsOf (linesOf t) bs) 0 0 0 = down-start (w .told .long) in
+    let marked : Marked t es 0 0 = record { rest = w .told .behind; left = w .told .marks } in
+    subst (λ (y : ℕ). TurnInv t es n bs ss d u m o d u m o s y 0 0) (sym i) (subst (λ (y : Site). TurnInv t es n bs ss d u m o d u m o y 0 0 0) (sym e) (record {
+      bind = walk-start t bs ss m o x (w .rows) (w .fits) (w .unmarked) (w .room) (λ e₁ l q g. f ∙ stop-is n n (w .told .count) (omega arith) (omega arith) down marked 0 (λ _. refl) ∙ ap (λ (y : ℕ). 0 + y) (end-on t 0 e₁ l q g));
+      index = index-start t d u x a b c;
+      down = down;
+      marked = marked;
+      count = w .told .count;
+    }))
 
-pub turn-end : {t : List ℕ} {rs : List LineRec} {n : ℕ} {bs ss d₀ u₀ m₀ o₀ d u m o : List ℕ} {s : Site} {c k p : ℕ} → TurnInv t rs n bs ss d₀ u₀ m₀ o₀ d u m o s c k p → n ≤ k →
+pub turn-end : {t es : List ℕ} {n : ℕ} {bs ss d₀ u₀ m₀ o₀ d u m o : List ℕ} {s : Site} {c k p : ℕ} → TurnInv t es n bs ss d₀ u₀ m₀ o₀ d u m o s c k p → n ≤ k →
     (Wrote o₀ 0 (unlines (bindDeclarators plain (linesOf t))) o p) × (Filled m₀ (flagsOf (bindMarks plain (linesOf t))) m (length (linesOf t)))
 turn-end h l = let q = down-none (h .down) (let e = h .count in omega arith) in (walk-end (h .bind) q, walk-filled (h .bind) q)
 
-module _ {t : List ℕ} {rs : List LineRec} {n : ℕ} {bs ss d₀ u₀ m₀ o₀ d u m o : List ℕ} {s : Site} {c k p : ℕ} (h : TurnInv t rs n bs ss d₀ u₀ m₀ o₀ d u m o s c k p) (l : k < n) where
+module _ {t es : List ℕ} {n : ℕ} {bs ss d₀ u₀ m₀ o₀ d u m o : List ℕ} {s : Site} {c k p : ℕ} (h : TurnInv t es n bs ss d₀ u₀ m₀ o₀ d u m o s c k p) (l : k < n) where
   abbrev from : ℕ
   from = s .next
 
@@ -134,8 +137,8 @@ module _ {t : List ℕ} {rs : List LineRec} {n : ℕ} {bs ss d₀ u₀ m₀ o₀
   inside : from < length t
   inside = down-some (h .down) (let e = h .count in omega arith)
 
-  pub turn-long : n ≤ length rs
-  turn-long = let w = h .down .many in let e = h .count in omega arith
+  abbrev rs : List LineRec
+  rs = recordsOf (linesOf t) bs
 
   pub turn-get : k < length rs
   turn-get = down-lt (h .down) inside to refl .1
@@ -148,8 +151,8 @@ module _ {t : List ℕ} {rs : List LineRec} {n : ℕ} {bs ss d₀ u₀ m₀ o₀
     pub region : RegionAt t (h .bind .us) from to top end
     pub index : IndexAt t d₀ u₀ d u top end from k
 
-  module _ {r : LineRec} {s′ : Site} {x y : ℕ} (g : r ≡ getD rs k noRec) (v : x ≡ cond (eqb (r .region .0) c) (s .end) (stopOf (r .region .0) (length t) (take (n - (k + 1)) (drop (k + 1) rs))))
-      (w : y ≡ cond (eqb (r .region .0) c) (s .top) (r .start)) (z : s′ ≡ siteOf (length t) r y x k) where
+  module _ {r : LineRec} {s′ : Site} (g : r ≡ getD rs k noRec)
+      (z : s′ ≡ siteOf (length t) r (cond (eqb (r .region .0) c) (s .top) (r .start)) (cond (eqb (r .region .0) c) (s .end) (stopBy es (length t) (n - (k + 1)) (k + 1) (min (r .end + 1) (length t)))) k) where
     rec-is : r ≡ recAt from to own (getD bs k 0)
     rec-is = g ∙ down-here (h .down) inside to refl
 
@@ -163,16 +166,18 @@ module _ {t : List ℕ} {rs : List LineRec} {n : ℕ} {bs ss d₀ u₀ m₀ o₀
     abbrev endBy : Bool → ℕ
     endBy b = cond b (s .end) (from + regionLen (drop from t))
 
-    stops : stopOf own (length t) (take (n - (k + 1)) (drop (k + 1) rs)) ≡ from + regionLen (drop from t)
-    stops = stop-is (n - (k + 1)) n (h .count) (omega arith) (omega arith) below ∙ past t from to next refl (h .bind .i≤) refl
+    stops : stopBy es (length t) (n - (k + 1)) (k + 1) next ≡ from + regionLen (drop from t)
+    stops = stop-is (n - (k + 1)) n (h .count) (omega arith) (omega arith) below (marked-on (h .marked) inside to refl refl) next (λ _. refl) ∙ past t from to next refl (h .bind .i≤) refl
+
+    -- the site, by its record
+    made : LineRec → Site
+    made f = siteOf (length t) f (cond (eqb (f .region .0) c) (s .top) (f .start)) (cond (eqb (f .region .0) c) (s .end) (stopBy es (length t) (n - (k + 1)) (k + 1) (min (f .end + 1) (length t)))) k
 
     site-is : (b : Bool) → eqb own c ≡ b → s′ ≡ record { top = topBy b; from = from; to = to; next = next; end = endBy b; row = k; block = getD bs k 0 }
-    unfolding siteOf
+    unfolding siteOf made
     site-is b q =
-        let x′ : x ≡ endBy b = v ∙ ap (λ (f : LineRec). cond (eqb (f .region .0) c) (s .end) (stopOf (f .region .0) (length t) (take (n - (k + 1)) (drop (k + 1) rs)))) rec-is
-        ∙ ap (λ (e : ℕ). cond (eqb own c) (s .end) e) stops ∙ ap endBy q in
-        let y′ : y ≡ topBy b = w ∙ ap (λ (f : LineRec). cond (eqb (f .region .0) c) (s .top) (f .start)) rec-is ∙ ap topBy q in
-        z ∙ ap (λ (f : LineRec). siteOf (length t) f y x k) rec-is ∙ ap (λ (e : ℕ). siteOf (length t) (recAt from to own (getD bs k 0)) e x k) y′ ∙ ap (λ (e : ℕ). siteOf (length t) (recAt from to own (getD bs k 0)) (topBy b) e k) x′
+        z ∙ ap made rec-is ∙ ap (λ (f : Bool). siteOf (length t) (recAt from to own (getD bs k 0)) (topBy f) (cond f (s .end) (stopBy es (length t) (n - (k + 1)) (k + 1) next)) k) q
+        ∙ ap (λ (e : ℕ). siteOf (length t) (recAt from to own (getD bs k 0)) (topBy b) (cond b (s .end) e) k) stops
 
     sited : Sited s′
     sited = go (isHeader (part from to t)) refl
@@ -220,15 +225,53 @@ module _ {t : List ℕ} {rs : List LineRec} {n : ℕ} {bs ss d₀ u₀ m₀ o₀
           )
 
       pub turn-on : {m′ o′ : List ℕ} {c′ p′ : ℕ} → c′ ≡ r .region .0 → Wrote o p (siteText (boundAt t s′ bs ss) (lineOf t s′) (getD m (s′ .row) 0)) o′ p′ → m′ ≡ siteMarks (boundAt t s′ bs ss) (markRow t s′) (lineOf t s′) m →
-          TurnInv t rs n bs ss d₀ u₀ m₀ o₀ d′ u′ m′ o′ s′ c′ (k + 1) p′
+          TurnInv t es n bs ss d₀ u₀ m₀ o₀ d′ u′ m′ o′ s′ c′ (k + 1) p′
       turn-on {m′} {o′} {c′} {p′} e v x =
           let y : Site = record { top = sited .top; from = from; to = to; next = next; end = sited .end; row = k; block = getD bs k 0 } in
           let v′ : Wrote o p (siteText (boundAt t y bs ss) (lineOf t y) (getD m k 0)) o′ p′ = subst (λ (f : Site). Wrote o p (siteText (boundAt t f bs ss) (lineOf t f) (getD m (f .row) 0)) o′ p′) (sited .is) v in
           let x′ : m′ ≡ siteMarks (boundAt t y bs ss) (markRow t y) (lineOf t y) m = subst (λ (f : Site). m′ ≡ siteMarks (boundAt t f bs ss) (markRow t f) (lineOf t f) m) (sited .is) x in
           let i : c′ ≡ own = e ∙ ap (λ (f : LineRec). f .region .0) rec-is in
-          subst (λ (f : Site). TurnInv t rs n bs ss d₀ u₀ m₀ o₀ d′ u′ m′ o′ f c′ (k + 1) p′) (sym (sited .is)) (record {
+          subst (λ (f : Site). TurnInv t es n bs ss d₀ u₀ m₀ o₀ d′ u′ m′ o′ f c′ (k + 1) p′) (sym (sited .is)) (record {
             bind = walk-on (h .bind) to inside refl (sited .region) next refl v′ x′;
             index = index-on (sited .region) inside refl next refl (sited .index) seen-is first-is;
             down = subst (λ (f : ℕ). Down t bs rs next (k + 1) f) (sym i) (down-on (h .down) inside to refl refl);
+            marked = marked-on (h .marked) inside to refl refl;
             count = h .count;
           })
+
+-- ---- the same, with a window w of the records, of which the j-th is the next, and a the one above
+
+pub record Viewed (t es : List ℕ) (n : ℕ) (bs ss d₀ u₀ m₀ o₀ d u m o : List ℕ) (w : List LineRec) (a : LineRec) (s : Site) (j k p : ℕ) : Type 0 where
+  pub turn : TurnInv t es n bs ss d₀ u₀ m₀ o₀ d u m o s (a .region .0) k p
+  pub size : length w ≡ 1024
+  pub shows : Shows (recordsOf (linesOf t) bs) w k j a
+
+pub viewed-start : {t es : List ℕ} {n : ℕ} {bs ss d u m o : List ℕ} {w : List LineRec} {a : LineRec} {s : Site} {x : ℕ} → length d ≡ length u → AtMost 0 d → AtMost 0 u → Walked t es n bs ss m o →
+    x ≡ stopBy es (length t) (n - 0) 0 0 → s ≡ firstSite x → length w ≡ 1024 → a ≡ noRec → Viewed t es n bs ss d u m o d u m o w a s 1024 0 0
+viewed-start {t} {es} {n} {bs} {ss} {d} {u} {m} {o} {w} {a} {s} {x} p q r v f e z i = record {
+  turn = turn-start t es n bs ss d u m o s x p q r v f e (ap (λ (y : LineRec). y .region .0) i);
+  size = z;
+  shows = shows-start _ w 1024 (omega (arith, z)) i;
+}
+
+module _ {t es : List ℕ} {n : ℕ} {bs ss d₀ u₀ m₀ o₀ d u m o : List ℕ} {w : List LineRec} {a : LineRec} {s : Site} {j k p : ℕ} (h : Viewed t es n bs ss d₀ u₀ m₀ o₀ d u m o w a s j k p) (i : Told t es bs n) (l : k < n) where
+  -- what `refill` asks for
+  pub viewed-asks : ((x : ℕ) → getD es x 0 < 2 ^ 64) → (k ≤ n) × ((n ≤ length es) × ((n ≤ length bs) × ((a .region .0 ≤ k) × (a .end < 2 ^ 63))))
+  viewed-asks g = (omega arith, (told-long i .0, (told-long i .1, shows-asks i (h .shows) l g)))
+
+  module _ {j′ : ℕ} {w′ : List LineRec} (x : j′ ≡ cond (ltb j (length w)) j 0) (y : w′ ≡ cond (ltb j (length w)) w (windowAt es bs n k a w)) where
+    filled : (length w′ ≡ length w) × ((j′ < length w′) × Shows (recordsOf (linesOf t) bs) w′ k j′ a)
+    filled = shows-filled i (h .shows) l (let z = h .size in omega arith) x y
+
+    pub viewed-size : length w′ ≡ 1024
+    viewed-size = filled .0 ∙ h .size
+
+    pub viewed-place : j′ < length w′
+    viewed-place = filled .1 .0
+
+    pub viewed-here : {r : LineRec} → r ≡ getD w′ j′ noRec → r ≡ getD (recordsOf (linesOf t) bs) k noRec
+    viewed-here g = g ∙ shows-here (filled .1 .1) (filled .1 .0) (turn-get (h .turn) l)
+
+    pub viewed-on : {r : LineRec} {d′ u′ m′ o′ : List ℕ} {s′ : Site} {p′ : ℕ} → r ≡ getD w′ j′ noRec → TurnInv t es n bs ss d₀ u₀ m₀ o₀ d′ u′ m′ o′ s′ (r .region .0) (k + 1) p′ →
+        Viewed t es n bs ss d₀ u₀ m₀ o₀ d′ u′ m′ o′ w′ r s′ (j′ + 1) (k + 1) p′
+    viewed-on g v = record { turn = v; size = viewed-size; shows = shows-on (filled .1 .1) (viewed-here g) }

@@ -1,22 +1,23 @@
 -- The sites of lines by their records, as the walk goes down. Assumes nothing.
-use Prim.Native.Nat.{ℕ, _+_, _≤_, min}
+use Prim.Native.Nat.{ℕ, zero, suc, _+_, _/_, _%_, _≤_, min}
 use mathlib.Core.Path.{_≡_}
 use mathlib.Core.Bool.{cond}
-use mathlib.Core.List.{List, [], _∷_}
+use mathlib.Core.List.{List}
 use lib.Dec.{eqb}
-use lib.ListN.{length, take, replicate}
+use lib.ListN.{length, getD, take, replicate}
 use Rattle.lines.specs.Lf.{linesOf, unlines}
 use Rattle.records.specs.declared.LineRec.{LineRec}
-use Rattle.records.specs.Records.{Holds}
+use Rattle.records.specs.Records.{Told}
 use Rattle.reading.specs.Reading.{plain}
 use Rattle.bind.specs.declared.Site.{Site}
 use Rattle.bind.specs.Bind.{spots, bindDeclarators}
 use Rattle.bind.specs.Steps.{Rows}
 
--- where the first of some records begins that is not of the region c, or n where there is none
-unfoldable pub stopOf : ℕ → ℕ → List LineRec → ℕ
-stopOf c n [] = n
-stopOf c n (r ∷ rs) = cond (eqb (r .region .0) c) (stopOf c n rs) (r .start)
+-- where the first of m lines begins that opens a region, or n where there is none: the first has k above it and begins at p, and es has where
+-- each line ends and whether it opens a region (place's endMarks)
+unfoldable pub stopBy : List ℕ → ℕ → ℕ → ℕ → ℕ → ℕ
+stopBy es n zero k p = n
+stopBy es n (suc m) k p = cond (eqb (getD es k 0 % 2) 1) p (stopBy es n m (suc k) (getD es k 0 / 2 + 1))
 
 -- above the first line, where the region there ends at e
 unfoldable pub firstSite : ℕ → Site
@@ -26,9 +27,9 @@ firstSite e = record { top = 0; from = 0; to = 0; next = 0; end = e; row = 0; bl
 unfoldable pub siteOf : ℕ → LineRec → ℕ → ℕ → ℕ → Site
 siteOf n r t e k = record { top = t; from = r .start; to = r .end; next = min (r .end + 1) n; end = e; row = k; block = r .block }
 
--- the records and the tables are those of the n lines of t, no line is marked in m, and o has room for the result
-pub record Walked (t : List ℕ) (d : List LineRec) (n : ℕ) (bs ss m o : List ℕ) : Type 0 where
-  pub held : Holds t bs d n
+-- the tables are those of the n lines of t, no line is marked in m, and o has room for the result
+pub record Walked (t es : List ℕ) (n : ℕ) (bs ss m o : List ℕ) : Type 0 where
+  pub told : Told t es bs n
   pub rows : Rows (spots plain (linesOf t)) bs ss
   pub fits : length (linesOf t) ≤ length m
   pub unmarked : take (length (linesOf t)) m ≡ replicate (length (linesOf t)) 0

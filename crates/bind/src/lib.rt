@@ -15,7 +15,7 @@ ghost use Rattle.place.specs.Blocks.{blockIds, cleaned};
 ghost use Rattle.place.specs.Starts.{startsGo};
 ghost use Rattle.place.specs.Parents.{idsParents};
 ghost use Rattle.place.specs.Fill.{Filled, flagsOf};
-ghost use Rattle.records.specs.Records.{recordsOf};
+ghost use Rattle.place.specs.Ends.{endMarks};
 ghost use Rattle.decls.specs.Seen.{AtMost};
 ghost use Rattle.decls.specs.Print.{kept, declText};
 ghost use Rattle.reading.specs.Reading.{plain};
@@ -23,7 +23,7 @@ ghost use Rattle.reading.specs.Uses.{lineStores};
 ghost use Rattle.bind.specs.Bind.{spots, pieceCount, declCount, storeCount, promoted, bindDeclarators};
 ghost use Rattle.bind.specs.Index.{Ready, ReadyFor};
 ghost use Rattle.bind.specs.Steps.{lineOf, belowOf, useRow, storesAt, boundAt, markRow, passes, left, anyPass, noted, notedAll, otherText, siteText, siteMarks, bindMarks, Reach};
-ghost use Rattle.bind.specs.Sites.{stopOf, firstSite, siteOf, Walked};
+ghost use Rattle.bind.specs.Sites.{stopBy, firstSite, siteOf, Walked};
 
 // A line of the text and its region: the region begins at `top` and ends at `end`, the line goes from `from` to `to` and the one below
 // begins at `next`, there are `row` lines above it, and it stands in the block `block`.
@@ -452,39 +452,42 @@ fn clear(marks: &mut [u8], n: usize)
     }
 }
 
-// Where the first of the records from the `j`-th up to the `n`-th begins that is not of the region `c`, or `len` where there is none.
-fn stop_from(recs: &[records::LineRec], j: usize, n: usize, c: place::Region, len: usize) -> usize
-    requires { ⌜ n ≤ length (now recs) ⌝ }
-    ensures { λ r. ⌜ r ≡ stopOf (c .0) len (take (n - j) (drop j (now (recs .entry)))) ⌝ }
+// Where the first line begins that opens a region, of those from the `k`-th up to the `n`-th, or `len` where there is none; the `k`-th begins at `start`.
+fn stop_by(ends: &[usize], k: usize, n: usize, start: usize, len: usize) -> usize
+    requires { ⌜ n ≤ length (now ends) ⌝ }
+    ensures { λ r. ⌜ r ≡ stopBy (now (ends .entry)) len (n - k) k start ⌝ }
 {
-    let mut i = j;
+    let mut i = k;
+    let mut p = start;
     while i < n {
-        let rec = records::get(recs, i);
-        if rec.region.0 != c.0 {
-            return rec.start;
+        let x = ends[i];
+        if x % 2 == 1 {
+            return p;
         }
+        p = x / 2 + 1;
         i += 1;
     }
     len
 }
 
-// Where the region of line `k`, whose record is `rec`, ends in a text of `len` bytes: at `end`, where the line above is of the same region `c`.
+// Where the region of line `k`, whose record is `rec`, ends: at `end`, where the line above is of the same region `c`.
 fn end_at(
-    recs: &[records::LineRec],
+    text: &[u8],
+    ends: &[usize],
     rec: records::LineRec,
     k: usize,
     n: usize,
     c: place::Region,
     end: usize,
-    len: usize,
 ) -> usize
-    requires { ⌜ (k < n) × (n ≤ length (now recs)) ⌝ }
-    ensures { λ r. ⌜ r ≡ cond (eqb (rec .region .0) (c .0)) end (stopOf (rec .region .0) len (take (n - (k + 1)) (drop (k + 1) (now (recs .entry))))) ⌝ }
+    requires { ⌜ (k < n) × (n ≤ length (now ends)) ⌝ }
+    ensures { λ r. ⌜ r ≡ cond (eqb (rec .region .0) (c .0)) end
+        (stopBy (now (ends .entry)) (length (now (text .entry))) (n - (k + 1)) (k + 1) (min (rec .end + 1) (length (now (text .entry))))) ⌝ }
 {
     if rec.region.0 == c.0 {
         return end;
     }
-    stop_from(recs, k + 1, n, rec.region, len)
+    stop_by(ends, k + 1, n, lines::after(text, rec.end), text.len())
 }
 
 // The site above the first line, with the end of the region there.
@@ -528,10 +531,31 @@ fn site_at(text: &[u8], rec: records::LineRec, top: usize, end: usize, k: usize)
     }
 }
 
-// The walk down the `n` lines, by their records, with the tables of blocks and starts, with no line marked, and with an index that is empty.
-fn walk_with(
+// The site of line `k`, by its record, below the site `s` of a line of the region `c`.
+fn site_by(
     text: &[u8],
-    recs: &[records::LineRec],
+    ends: &[usize],
+    rec: records::LineRec,
+    k: usize,
+    n: usize,
+    c: place::Region,
+    s: Site,
+) -> Site
+    requires { ⌜ (k < n) × (n ≤ length (now ends)) ⌝ }
+    ensures { λ r. ⌜ r ≡ siteOf (length (now (text .entry))) rec (cond (eqb (rec .region .0) (c .0)) (s .top) (rec .start))
+        (cond (eqb (rec .region .0) (c .0)) (s .end)
+        (stopBy (now (ends .entry)) (length (now (text .entry))) (n - (k + 1)) (k + 1) (min (rec .end + 1) (length (now (text .entry)))))) k ⌝ }
+{
+    let end = end_at(text, ends, rec, k, n, c, s.end);
+    let top = top_at(rec, c, s.top);
+    site_at(text, rec, top, end, k)
+}
+
+// The walk down the `n` lines, by a window of their records, with the tables of ends, blocks and starts, with no line marked, and with an index that
+// is empty.
+fn walk_lines(
+    text: &[u8],
+    ends: &[usize],
     n: usize,
     blocks: &[usize],
     starts: &[u8],
@@ -541,21 +565,24 @@ fn walk_with(
     out: &mut [u8],
 ) -> usize
     requires { ⌜ ((length (now seen) ≡ length (now first)) × ((AtMost 0 (now seen)) × (AtMost 0 (now first))))
-        × (Walked (now text) (now recs) n (now blocks) (now starts) (now marks) (now out)) ⌝ }
+        × (Walked (now text) (now ends) n (now blocks) (now starts) (now marks) (now out)) ⌝ }
     ensures answer { λ r. ⌜ Wrote (now (out .entry)) 0 (unlines (bindDeclarators plain (linesOf (now (text .entry))))) (now (out .exit)) r ⌝ }
     ensures memory { λ _. ⌜ Filled (now (marks .entry)) (flagsOf (bindMarks plain (linesOf (now (text .entry))))) (now (marks .exit)) (length (linesOf (now (text .entry)))) ⌝ }
 {
-    let mut c = place::Region(0);
-    let mut s = first_site(stop_from(recs, 0, n, c, text.len()));
+    let mut recs = records::window();
+    let mut above = records::blank();
+    let mut s = first_site(stop_by(ends, 0, n, 0, text.len()));
+    let mut j = 1024;
     let mut k = 0;
     let mut o = 0;
     while k < n {
-        let rec = records::get(recs, k);
-        let end = end_at(recs, rec, k, n, c, s.end, text.len());
-        s = site_at(text, rec, top_at(rec, c, s.top), end, k);
-        c = rec.region;
+        j = records::refill(ends, blocks, n, k, j, above, &mut recs);
+        let rec = records::get(&recs, j);
+        s = site_by(text, ends, rec, k, n, above.region, s);
+        above = rec;
         index::read_region(text, s.top, s.from, s.end, k, seen, first);
         o = bind_line(text, s, blocks, starts, seen, first, marks, out, o);
+        j += 1;
         k += 1;
     }
     o
@@ -564,22 +591,22 @@ fn walk_with(
 // The same with an index of its own.
 fn walk(
     text: &[u8],
-    recs: &[records::LineRec],
+    ends: &[usize],
     n: usize,
     blocks: &[usize],
     starts: &[u8],
     marks: &mut [u8],
     out: &mut [u8],
 ) -> usize
-    requires { ⌜ Walked (now text) (now recs) n (now blocks) (now starts) (now marks) (now out) ⌝ }
+    requires { ⌜ Walked (now text) (now ends) n (now blocks) (now starts) (now marks) (now out) ⌝ }
     ensures answer { λ r. ⌜ Wrote (now (out .entry)) 0 (unlines (bindDeclarators plain (linesOf (now (text .entry))))) (now (out .exit)) r ⌝ }
     ensures memory { λ _. ⌜ Filled (now (marks .entry)) (flagsOf (bindMarks plain (linesOf (now (text .entry))))) (now (marks .exit)) (length (linesOf (now (text .entry)))) ⌝ }
 {
     let mut seen = [0usize; 1024];
     let mut first = [0usize; 1024];
-    walk_with(
+    walk_lines(
         text,
-        recs,
+        ends,
         n,
         blocks,
         starts,
@@ -591,11 +618,11 @@ fn walk(
 }
 
 // A register that is declared once and stored once, with that store its first use, on a later line of its region and block that starts a
-// statement, leaves its declaration, and its store becomes one. Each line is followed by one LF. `blocks`, `starts`, `up` and `recs` are
-// left as `records::place_lines` fills them, and `marks` says for each line whether it was such a store.
+// statement, leaves its declaration, and its store becomes one. Each line is followed by one LF. `ends`, `blocks`, `starts` and `up` are
+// left as `place::place_lines` fills them, and `marks` says for each line whether it was such a store.
 pub fn bind_declarators(
     text: &[u8],
-    recs: &mut [records::LineRec],
+    ends: &mut [usize],
     blocks: &mut [usize],
     starts: &mut [u8],
     up: &mut [u32],
@@ -606,15 +633,15 @@ pub fn bind_declarators(
         × ((length (linesOf (now text)) ≤ length (now starts))
         × ((length (idsParents (linesOf (now text))) ≤ length (now up)) × (length (now up) < 2 ^ 32))))
         × ((length (linesOf (now text)) ≤ length (now marks)) × ((length (unlines (bindDeclarators plain (linesOf (now text)))) ≤ length (now out))
-        × (length (linesOf (now text)) ≤ length (now recs)))) ⌝ }
+        × (length (linesOf (now text)) ≤ length (now ends)))) ⌝ }
     ensures answer { λ r. ⌜ Wrote (now (out .entry)) 0 (unlines (bindDeclarators plain (linesOf (now (text .entry))))) (now (out .exit)) r ⌝ }
     ensures tables { λ _. ⌜ (Filled (now (blocks .entry)) (blockIds (linesOf (now (text .entry)))) (now (blocks .exit)) (length (linesOf (now (text .entry)))))
         × ((Filled (now (starts .entry)) (flagsOf (startsGo (cleaned (linesOf (now (text .entry)))) true)) (now (starts .exit)) (length (linesOf (now (text .entry)))))
         × (Filled (now (up .entry)) (idsParents (linesOf (now (text .entry)))) (now (up .exit)) (length (idsParents (linesOf (now (text .entry))))))) ⌝ }
     ensures marked { λ _. ⌜ Filled (now (marks .entry)) (flagsOf (bindMarks plain (linesOf (now (text .entry))))) (now (marks .exit)) (length (linesOf (now (text .entry)))) ⌝ }
-    ensures records { λ _. ⌜ now (recs .exit) ≡ recordsOf (linesOf (now (text .entry))) (blockIds (linesOf (now (text .entry)))) ++ drop (length (linesOf (now (text .entry)))) (now (recs .entry)) ⌝ }
+    ensures ends { λ _. ⌜ Filled (now (ends .entry)) (endMarks 0 (linesOf (now (text .entry)))) (now (ends .exit)) (length (linesOf (now (text .entry)))) ⌝ }
 {
-    let n = records::place_lines(text, blocks, starts, up, recs);
+    let n = place::place_lines(text, blocks, starts, up, ends);
     clear(marks, n);
-    walk(text, recs, n, blocks, starts, marks, out)
+    walk(text, ends, n, blocks, starts, marks, out)
 }

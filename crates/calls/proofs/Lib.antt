@@ -18,6 +18,4 @@ pub mod Turns
 pub mod Wipes
 pub mod Kept
 pub mod Downs
-pub mod Of_rebuild_calls
 pub mod Of_rebuild_lines
-pub mod Of_rebuild_with

@@ -1,10 +1,10 @@
 // rebuild_calls: the values of stores go back into the call that follows them.
 ghost use mathlib.Core.Path.{_≡_};
 ghost use mathlib.Core.Bool.{true, not, _&&_};
-ghost use mathlib.Core.List.{[], _∷_, _++_};
+ghost use mathlib.Core.List.{[], _∷_};
 ghost use Prim.Native.Nat.{_+_, _-_, _≤_, _<_, _^_};
 ghost use lib.Dec.{eqb};
-ghost use lib.ListN.{length, getD, drop, replicate};
+ghost use lib.ListN.{length, getD, replicate};
 ghost use Rattle.lines.specs.Lf.{holds, linesOf, unlines};
 ghost use Rattle.lines.specs.Out.{Wrote};
 ghost use Rattle.words.specs.Hits.{replacedAt};
@@ -18,7 +18,8 @@ ghost use Rattle.place.specs.Blocks.{blockIds, cleaned};
 ghost use Rattle.place.specs.Starts.{startsGo};
 ghost use Rattle.place.specs.Parents.{idsParents};
 ghost use Rattle.place.specs.Fill.{Filled, flagsOf};
-ghost use Rattle.records.specs.Records.{recordsOf, Holds};
+ghost use Rattle.place.specs.Ends.{endMarks};
+ghost use Rattle.records.specs.Records.{Told};
 ghost use Rattle.calls.specs.LeavesOf.{isCall, isControlLine, contextOf, leavesOf};
 ghost use Rattle.calls.specs.Calls.{readLater, putBy, rebuildCallsActs, rebuildCalls};
 ghost use Rattle.calls.specs.Steps.{isSecond, mayControl, breaksDown, absorbStep, PutAs};
@@ -361,10 +362,10 @@ fn turn_line(
     push_line(lines::cut(cur, 0, m), stack, h)
 }
 
-// Puts what becomes of the `m` lines on the stack, by their records, and returns its height.
+// Puts what becomes of the `m` lines on the stack, by a window of their records, and returns its height.
 fn rebuild_lines(
     text: &[u8],
-    recs: &[records::LineRec],
+    ends: &[usize],
     m: usize,
     blocks: &[usize],
     starts: &[u8],
@@ -376,13 +377,17 @@ fn rebuild_lines(
 ) -> usize
     requires { ⌜ (Placed (now text) (now blocks) (now starts))
         × ((length (linesOf (now text)) ≤ length (now owner)) × ((length (now text) < length (now stack))
-        × ((length (now text) ≤ length (now cur)) × ((length (now text) ≤ length (now next)) × ((length (now text) ≤ length (now clean)) × (Holds (now text) (now blocks) (now recs) m)))))) ⌝ }
+        × ((length (now text) ≤ length (now cur)) × ((length (now text) ≤ length (now next)) × ((length (now text) ≤ length (now clean)) × (Told (now text) (now ends) (now blocks) m)))))) ⌝ }
     ensures { λ r. ⌜ Rebuilt (now (text .entry)) (now (owner .entry)) (now (owner .exit)) (now (stack .exit)) r ⌝ }
 {
+    let mut recs = records::window();
+    let mut rec = records::blank();
+    let mut j = 1024;
     let mut n = 0;
     let mut o = 0;
     while n < m {
-        let rec = records::get(recs, n);
+        j = records::refill(ends, blocks, m, n, j, rec, &mut recs);
+        rec = records::get(&recs, j);
         o = turn_line(
             text,
             rec.start,
@@ -397,6 +402,7 @@ fn rebuild_lines(
             next,
             clean,
         );
+        j += 1;
         n += 1;
     }
     o
@@ -416,7 +422,7 @@ fn wipe(s: &mut [u8])
 // Writes what becomes of all lines, with a stack and three more buffers that are wiped at the end.
 fn rebuild_with(
     text: &[u8],
-    recs: &[records::LineRec],
+    ends: &[usize],
     m: usize,
     blocks: &[usize],
     starts: &[u8],
@@ -431,7 +437,7 @@ fn rebuild_with(
         × ((length (linesOf (now text)) ≤ length (now owner)) × ((length (now text) < length (now stack))
         × ((length (now text) ≤ length (now cur)) × ((length (now text) ≤ length (now next)) × ((length (now text) ≤ length (now clean))
         × (length (unlines (rebuildCalls (leavesOf plain) (linesOf (now text)))) ≤ length (now out))))))))
-        × (Holds (now text) (now blocks) (now recs) m) ⌝ }
+        × (Told (now text) (now ends) (now blocks) m) ⌝ }
     ensures answer { λ r. ⌜ Wrote (now (out .entry)) 0 (unlines (rebuildCalls (leavesOf plain) (linesOf (now (text .entry))))) (now (out .exit)) r ⌝ }
     ensures owners { λ _. ⌜ Filled (now (owner .entry)) (ownersOf (rebuildCallsActs (leavesOf plain) (linesOf (now (text .entry))))) (now (owner .exit)) (length (linesOf (now (text .entry)))) ⌝ }
     ensures scratch { λ _. ⌜ (now (stack .exit) ≡ replicate (length (now (stack .entry))) 0)
@@ -440,7 +446,7 @@ fn rebuild_with(
 {
     let o = rebuild_lines(
         text,
-        recs,
+        ends,
         m,
         blocks,
         starts,
@@ -459,11 +465,11 @@ fn rebuild_with(
 }
 
 // The values of stores go back into the call that follows them. Each line is followed by one LF; `owner` gets for each line how far below it
-// the line stands that took it in, or 0, `recs` is left as `records::place_lines` fills it, and the front of the
+// the line stands that took it in, or 0, `ends`, `blocks`, `starts` and `up` are left as `place::place_lines` fills them, and the front of the
 // four buffers before `out` is wiped.
 pub fn rebuild_calls(
     text: &[u8],
-    recs: &mut [records::LineRec],
+    ends: &mut [usize],
     owner: &mut [usize],
     blocks: &mut [usize],
     starts: &mut [u8],
@@ -477,7 +483,7 @@ pub fn rebuild_calls(
     requires { ⌜ ((length (linesOf (now text)) ≤ length (now owner)) × ((length (linesOf (now text)) ≤ length (now blocks)) × (length (linesOf (now text)) ≤ length (now starts))))
         × (((length (idsParents (linesOf (now text))) ≤ length (now up)) × (length (now up) < 2 ^ 32))
         × (((length (now text) < length (now stack)) × ((length (now text) ≤ length (now cur)) × ((length (now text) ≤ length (now next)) × (length (now text) ≤ length (now clean)))))
-        × ((length (unlines (rebuildCalls (leavesOf plain) (linesOf (now text)))) ≤ length (now out)) × (length (linesOf (now text)) ≤ length (now recs))))) ⌝ }
+        × ((length (unlines (rebuildCalls (leavesOf plain) (linesOf (now text)))) ≤ length (now out)) × (length (linesOf (now text)) ≤ length (now ends))))) ⌝ }
     ensures answer { λ r. ⌜ Wrote (now (out .entry)) 0 (unlines (rebuildCalls (leavesOf plain) (linesOf (now (text .entry))))) (now (out .exit)) r ⌝ }
     ensures owners { λ _. ⌜ Filled (now (owner .entry)) (ownersOf (rebuildCallsActs (leavesOf plain) (linesOf (now (text .entry))))) (now (owner .exit)) (length (linesOf (now (text .entry)))) ⌝ }
     ensures tables { λ _. ⌜ (Filled (now (blocks .entry)) (blockIds (linesOf (now (text .entry)))) (now (blocks .exit)) (length (linesOf (now (text .entry)))))
@@ -487,14 +493,14 @@ pub fn rebuild_calls(
         × ((Wrote (now (cur .entry)) 0 (replicate (length (now (text .entry))) 0) (now (cur .exit)) (length (now (text .entry))))
         × ((Wrote (now (next .entry)) 0 (replicate (length (now (text .entry))) 0) (now (next .exit)) (length (now (text .entry))))
         × (Wrote (now (clean .entry)) 0 (replicate (length (now (text .entry))) 0) (now (clean .exit)) (length (now (text .entry)))))) ⌝ }
-    ensures records { λ _. ⌜ now (recs .exit) ≡ recordsOf (linesOf (now (text .entry))) (blockIds (linesOf (now (text .entry)))) ++ drop (length (linesOf (now (text .entry)))) (now (recs .entry)) ⌝ }
+    ensures ends { λ _. ⌜ Filled (now (ends .entry)) (endMarks 0 (linesOf (now (text .entry)))) (now (ends .exit)) (length (linesOf (now (text .entry)))) ⌝ }
 {
     let m = text.len();
     let h = m + 1;
-    let n = records::place_lines(text, blocks, starts, up, recs);
+    let n = place::place_lines(text, blocks, starts, up, ends);
     rebuild_with(
         text,
-        recs,
+        ends,
         n,
         blocks,
         starts,

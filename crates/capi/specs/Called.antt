@@ -3,7 +3,6 @@ use Prim.Native.Nat.{ℕ}
 use mathlib.Core.List.{List}
 use lib.ListN.{length}
 use Rattle.reading.specs.Reading.{plain}
-use Rattle.records.specs.declared.LineRec.{LineRec}
 use Rattle.limits.specs.declared.Answer.{Answer}
 use Rattle.steps.specs.Step.{stepOf}
 use Rattle.passes.specs.Passes.{resultOf}
@@ -17,9 +16,9 @@ tidied t = resultOf (whole plain) t
 abbrev pub passed : ℕ → List ℕ → List ℕ
 passed k t = resultOf (stepOf plain k) t
 
--- the answer for all passes, and for one of them: t the text, a to u and rs the work buffers, o the result buffer
-abbrev pub tidyAnswer : (t a b c d e u : List ℕ) (rs : List LineRec) (o : List ℕ) → Answer
-tidyAnswer t a b c d e u rs o = answerOf (isShort (length a) (length b) (length c) (length d) (length e) (length u) (length rs)) t (tidied t) (length o)
+-- the answer for all passes, and for one of them: t the text, a to u the work buffers, o the result buffer
+abbrev pub tidyAnswer : (t a b c d e u o : List ℕ) → Answer
+tidyAnswer t a b c d e u o = answerOf (isShort (length a) (length b) (length c) (length d) (length e) (length u)) t (tidied t) (length o)
 
-abbrev pub onePassAnswer : ℕ → (t a b c d e u : List ℕ) (rs : List LineRec) (o : List ℕ) → Answer
-onePassAnswer k t a b c d e u rs o = passAnswer k (isShort (length a) (length b) (length c) (length d) (length e) (length u) (length rs)) t (passed k t) (length o)
+abbrev pub onePassAnswer : ℕ → (t a b c d e u o : List ℕ) → Answer
+onePassAnswer k t a b c d e u o = passAnswer k (isShort (length a) (length b) (length c) (length d) (length e) (length u)) t (passed k t) (length o)

@@ -2,7 +2,7 @@
 ghost use mathlib.Core.Path.{_≡_};
 ghost use Rattle.limits.specs.Answer.{numberOf, lengthOf, placeOf};
 ghost use Rattle.limits.specs.Entry.{outAfter};
-ghost use Rattle.opt.specs.Room.{After, recsAfter};
+ghost use Rattle.opt.specs.Room.{After};
 ghost use Rattle.capi.specs.Called.{tidied, passed, tidyAnswer, onePassAnswer};
 
 // Runs all passes over a text. Returns the number of the answer, and stores its length and its place.
@@ -15,19 +15,17 @@ pub extern "C" fn optlines_optimize(
     d: &mut [u8],
     e: &mut [u8],
     u: &mut [u32],
-    recs: &mut [records::LineRec],
     out: &mut [u8],
     size: &mut usize,
     place: &mut usize,
 ) -> u8
-    ensures number { λ r. ⌜ r ≡ numberOf (tidyAnswer (now (text .entry)) (now (a .entry)) (now (b .entry)) (now (c .entry)) (now (d .entry)) (now (e .entry)) (now (u .entry)) (now (recs .entry)) (now (out .entry))) ⌝ }
-    ensures size { λ _. ⌜ now (size .exit) ≡ lengthOf (tidyAnswer (now (text .entry)) (now (a .entry)) (now (b .entry)) (now (c .entry)) (now (d .entry)) (now (e .entry)) (now (u .entry)) (now (recs .entry)) (now (out .entry))) ⌝ }
-    ensures place { λ _. ⌜ now (place .exit) ≡ placeOf (tidyAnswer (now (text .entry)) (now (a .entry)) (now (b .entry)) (now (c .entry)) (now (d .entry)) (now (e .entry)) (now (u .entry)) (now (recs .entry)) (now (out .entry))) ⌝ }
-    ensures result { λ _. ⌜ now (out .exit) ≡ outAfter (tidyAnswer (now (text .entry)) (now (a .entry)) (now (b .entry)) (now (c .entry)) (now (d .entry)) (now (e .entry)) (now (u .entry)) (now (recs .entry)) (now (out .entry))) (tidied (now (text .entry))) (now (out .entry)) ⌝ }
-    ensures work { λ _. ⌜ After (tidyAnswer (now (text .entry)) (now (a .entry)) (now (b .entry)) (now (c .entry)) (now (d .entry)) (now (e .entry)) (now (u .entry)) (now (recs .entry)) (now (out .entry))) (now (a .entry)) (now (b .entry)) (now (c .entry)) (now (d .entry)) (now (e .entry)) (now (u .entry)) (now (a .exit)) (now (b .exit)) (now (c .exit)) (now (d .exit)) (now (e .exit)) (now (u .exit)) ⌝ }
-    ensures records { λ _. ⌜ now (recs .exit) ≡ recsAfter (tidyAnswer (now (text .entry)) (now (a .entry)) (now (b .entry)) (now (c .entry)) (now (d .entry)) (now (e .entry)) (now (u .entry)) (now (recs .entry)) (now (out .entry))) (now (recs .entry)) ⌝ }
+    ensures number { λ r. ⌜ r ≡ numberOf (tidyAnswer (now (text .entry)) (now (a .entry)) (now (b .entry)) (now (c .entry)) (now (d .entry)) (now (e .entry)) (now (u .entry)) (now (out .entry))) ⌝ }
+    ensures size { λ _. ⌜ now (size .exit) ≡ lengthOf (tidyAnswer (now (text .entry)) (now (a .entry)) (now (b .entry)) (now (c .entry)) (now (d .entry)) (now (e .entry)) (now (u .entry)) (now (out .entry))) ⌝ }
+    ensures place { λ _. ⌜ now (place .exit) ≡ placeOf (tidyAnswer (now (text .entry)) (now (a .entry)) (now (b .entry)) (now (c .entry)) (now (d .entry)) (now (e .entry)) (now (u .entry)) (now (out .entry))) ⌝ }
+    ensures result { λ _. ⌜ now (out .exit) ≡ outAfter (tidyAnswer (now (text .entry)) (now (a .entry)) (now (b .entry)) (now (c .entry)) (now (d .entry)) (now (e .entry)) (now (u .entry)) (now (out .entry))) (tidied (now (text .entry))) (now (out .entry)) ⌝ }
+    ensures work { λ _. ⌜ After (tidyAnswer (now (text .entry)) (now (a .entry)) (now (b .entry)) (now (c .entry)) (now (d .entry)) (now (e .entry)) (now (u .entry)) (now (out .entry))) (now (a .entry)) (now (b .entry)) (now (c .entry)) (now (d .entry)) (now (e .entry)) (now (u .entry)) (now (a .exit)) (now (b .exit)) (now (c .exit)) (now (d .exit)) (now (e .exit)) (now (u .exit)) ⌝ }
 {
-    let answer = opt::optimize(text, a, b, c, d, e, u, recs, out);
+    let answer = opt::optimize(text, a, b, c, d, e, u, out);
     *size = limits::length_of(answer);
     *place = limits::place_of(answer);
     limits::number_of(answer)
@@ -44,19 +42,17 @@ pub extern "C" fn optlines_run_pass(
     d: &mut [u8],
     e: &mut [u8],
     u: &mut [u32],
-    recs: &mut [records::LineRec],
     out: &mut [u8],
     size: &mut usize,
     place: &mut usize,
 ) -> u8
-    ensures number { λ r. ⌜ r ≡ numberOf (onePassAnswer pass (now (text .entry)) (now (a .entry)) (now (b .entry)) (now (c .entry)) (now (d .entry)) (now (e .entry)) (now (u .entry)) (now (recs .entry)) (now (out .entry))) ⌝ }
-    ensures size { λ _. ⌜ now (size .exit) ≡ lengthOf (onePassAnswer pass (now (text .entry)) (now (a .entry)) (now (b .entry)) (now (c .entry)) (now (d .entry)) (now (e .entry)) (now (u .entry)) (now (recs .entry)) (now (out .entry))) ⌝ }
-    ensures place { λ _. ⌜ now (place .exit) ≡ placeOf (onePassAnswer pass (now (text .entry)) (now (a .entry)) (now (b .entry)) (now (c .entry)) (now (d .entry)) (now (e .entry)) (now (u .entry)) (now (recs .entry)) (now (out .entry))) ⌝ }
-    ensures result { λ _. ⌜ now (out .exit) ≡ outAfter (onePassAnswer pass (now (text .entry)) (now (a .entry)) (now (b .entry)) (now (c .entry)) (now (d .entry)) (now (e .entry)) (now (u .entry)) (now (recs .entry)) (now (out .entry))) (passed pass (now (text .entry))) (now (out .entry)) ⌝ }
-    ensures work { λ _. ⌜ After (onePassAnswer pass (now (text .entry)) (now (a .entry)) (now (b .entry)) (now (c .entry)) (now (d .entry)) (now (e .entry)) (now (u .entry)) (now (recs .entry)) (now (out .entry))) (now (a .entry)) (now (b .entry)) (now (c .entry)) (now (d .entry)) (now (e .entry)) (now (u .entry)) (now (a .exit)) (now (b .exit)) (now (c .exit)) (now (d .exit)) (now (e .exit)) (now (u .exit)) ⌝ }
-    ensures records { λ _. ⌜ now (recs .exit) ≡ recsAfter (onePassAnswer pass (now (text .entry)) (now (a .entry)) (now (b .entry)) (now (c .entry)) (now (d .entry)) (now (e .entry)) (now (u .entry)) (now (recs .entry)) (now (out .entry))) (now (recs .entry)) ⌝ }
+    ensures number { λ r. ⌜ r ≡ numberOf (onePassAnswer pass (now (text .entry)) (now (a .entry)) (now (b .entry)) (now (c .entry)) (now (d .entry)) (now (e .entry)) (now (u .entry)) (now (out .entry))) ⌝ }
+    ensures size { λ _. ⌜ now (size .exit) ≡ lengthOf (onePassAnswer pass (now (text .entry)) (now (a .entry)) (now (b .entry)) (now (c .entry)) (now (d .entry)) (now (e .entry)) (now (u .entry)) (now (out .entry))) ⌝ }
+    ensures place { λ _. ⌜ now (place .exit) ≡ placeOf (onePassAnswer pass (now (text .entry)) (now (a .entry)) (now (b .entry)) (now (c .entry)) (now (d .entry)) (now (e .entry)) (now (u .entry)) (now (out .entry))) ⌝ }
+    ensures result { λ _. ⌜ now (out .exit) ≡ outAfter (onePassAnswer pass (now (text .entry)) (now (a .entry)) (now (b .entry)) (now (c .entry)) (now (d .entry)) (now (e .entry)) (now (u .entry)) (now (out .entry))) (passed pass (now (text .entry))) (now (out .entry)) ⌝ }
+    ensures work { λ _. ⌜ After (onePassAnswer pass (now (text .entry)) (now (a .entry)) (now (b .entry)) (now (c .entry)) (now (d .entry)) (now (e .entry)) (now (u .entry)) (now (out .entry))) (now (a .entry)) (now (b .entry)) (now (c .entry)) (now (d .entry)) (now (e .entry)) (now (u .entry)) (now (a .exit)) (now (b .exit)) (now (c .exit)) (now (d .exit)) (now (e .exit)) (now (u .exit)) ⌝ }
 {
-    let answer = opt::run_pass(pass, text, a, b, c, d, e, u, recs, out);
+    let answer = opt::run_pass(pass, text, a, b, c, d, e, u, out);
     *size = limits::length_of(answer);
     *place = limits::place_of(answer);
     limits::number_of(answer)

@@ -3,14 +3,13 @@ use Prim.Native.Nat.{ℕ}
 use mathlib.Core.Path.{_≡_, ap, sym, _∙_}
 use mathlib.Core.List.{List}
 use denote.Ref.{now}
-use Rattle.records.specs.declared.LineRec.{LineRec}
 use Rattle.reading.specs.Reading.{plain}
 use Rattle.limits.specs.declared.Answer.{Answer}
 use Rattle.steps.specs.Step.{stepOf}
 use Rattle.passes.specs.Passes.{resultOf}
 use Rattle.opt.specs.Whole.{whole}
 use Rattle.limits.specs.Entry.{byteSize, blockSize, workAfter}
-use Rattle.opt.specs.Room.{After, recsAfter}
+use Rattle.opt.specs.Room.{After}
 use Rattle.opt.proofs as opt
 use Rattle.determined.proofs.Outcomes.{Determined, fixed-by, one, more}
 use Rattle.determined.proofs.Limits.{out-once}
@@ -35,16 +34,12 @@ after-once {r₁} {r₂} {a} {b} {c} {d} {e} {u} p f g rest = (
   ),
 )
 
--- and the line records
-pub recs-once : {r₁ r₂ : Answer} (d : List LineRec) {d₁ d₂ : List LineRec} → r₁ ≡ r₂ → d₁ ≡ recsAfter r₁ d → d₂ ≡ recsAfter r₂ d → d₁ ≡ d₂
-recs-once d p f g = f ∙ (ap (λ r. recsAfter r d) p ∙ sym g)
-
-pub optimize-fixed : Determined opt.optimize.ended (λ κs z. z) opt.Of_optimize.Reads.ensures
-optimize-fixed = fixed-by opt.Of_optimize.Reads.Learnt (λ w κs a x. more w (more w (one w))) (λ κs a x y l m.
+pub optimize-fixed : Determined opt.optimize.ended (λ κs z. z) opt.optimize.Reads.ensures
+optimize-fixed = fixed-by opt.optimize.Reads.Learnt (λ w κs a x. more w (one w)) (λ κs a x y l m.
     let p = l .0 ∙ sym (m .0) in
-    after-once p (l .1 .0 .1) (m .1 .0 .1) (recs-once (now (a .1 .1 .1 .1 .1 .1 .1 .0)) p (l .1 .1) (m .1 .1), (out-once (resultOf (whole plain) (now (a .0))) (now (a .1 .1 .1 .1 .1 .1 .1 .1 .0)) p (l .1 .0 .0) (m .1 .0 .0), p)))
+    after-once p (l .1 .1) (m .1 .1) (out-once (resultOf (whole plain) (now (a .0))) (now (a .1 .1 .1 .1 .1 .1 .1 .0)) p (l .1 .0) (m .1 .0), p))
 
-pub run-pass-fixed : Determined opt.run_pass.ended (λ κs z. z) opt.Of_run_pass.Reads.ensures
-run-pass-fixed = fixed-by opt.Of_run_pass.Reads.Learnt (λ w κs a x. more w (more w (one w))) (λ κs a x y l m.
+pub run-pass-fixed : Determined opt.run_pass.ended (λ κs z. z) opt.run_pass.Reads.ensures
+run-pass-fixed = fixed-by opt.run_pass.Reads.Learnt (λ w κs a x. more w (one w)) (λ κs a x y l m.
     let p = l .0 ∙ sym (m .0) in
-    after-once p (l .1 .0 .1) (m .1 .0 .1) (recs-once (now (a .1 .1 .1 .1 .1 .1 .1 .1 .0)) p (l .1 .1) (m .1 .1), (out-once (resultOf (stepOf plain (a .0)) (now (a .1 .0))) (now (a .1 .1 .1 .1 .1 .1 .1 .1 .1 .0)) p (l .1 .0 .0) (m .1 .0 .0), p)))
+    after-once p (l .1 .1) (m .1 .1) (out-once (resultOf (stepOf plain (a .0)) (now (a .1 .0))) (now (a .1 .1 .1 .1 .1 .1 .1 .1 .0)) p (l .1 .0) (m .1 .0), p))

@@ -24,7 +24,7 @@ blank-once f g rest = (
   ),
 )
 
-pub work-fixed : Determined passes.work.ended (λ κs z. z) passes.Of_work.Reads.ensures
-work-fixed = fixed-by passes.Of_work.Reads.Learnt (λ w κs a x. more w (more w (one w))) (λ κs a x y l m.
+pub work-fixed : Determined passes.work.ended (λ κs z. z) passes.work.Reads.ensures
+work-fixed = fixed-by passes.work.Reads.Learnt (λ w κs a x. more w (one w)) (λ κs a x y l m.
     let p = l .0 ∙ sym (m .0) in
-    blank-once (l .1 .0 .1) (m .1 .0 .1) (l .1 .1 ∙ sym (m .1 .1), (out-once (resultOf (stepsOf plain (a .0) (a .1 .0 - a .0)) (now (a .1 .1 .0))) (now (a .1 .1 .1 .1 .1 .1 .1 .1 .1 .1 .0)) p (l .1 .0 .0) (m .1 .0 .0), p)))
+    blank-once (l .1 .1) (m .1 .1) (out-once (resultOf (stepsOf plain (a .0) (a .1 .0 - a .0)) (now (a .1 .1 .0))) (now (a .1 .1 .1 .1 .1 .1 .1 .1 .1 .0)) p (l .1 .0) (m .1 .0), p))

@@ -27,7 +27,8 @@ pub starts-after-fixed : Determined place.starts_after.ended (λ κs z. z) place
 starts-after-fixed = fixed place.starts_after.Reads.Learnt (λ κs a x y l m. l ∙ sym m)
 
 pub place-lines-fixed : Determined place.place_lines.ended (λ κs z. z) place.place_lines.Reads.ensures
-place-lines-fixed = fixed place.place_lines.Reads.Learnt (λ κs a x y l m. let f = filled-once (l .0) (m .0) in (f .0, (filled-once (l .1 .0) (m .1 .0) .0, (filled-once (l .1 .1) (m .1 .1) .0, f .1))))
+place-lines-fixed = fixed-by place.place_lines.Reads.Learnt (λ w κs a x. more w (one w)) (λ κs a x y l m.
+    let f = filled-once (l .0 .0) (m .0 .0) in (f .0, (filled-once (l .0 .1 .0) (m .0 .1 .0) .0, (filled-once (l .0 .1 .1) (m .0 .1 .1) .0, (filled-once (l .1) (m .1) .0, f .1)))))
 
 pub block-paths-fixed : Determined place.block_paths.ended (λ κs z. z) place.block_paths.Reads.ensures
 block-paths-fixed = fixed-by place.block_paths.Reads.Learnt (λ w κs a x. more w (more w (one w))) (λ κs a x y l m.

@@ -12,5 +12,5 @@ left-once : {k : ℕ} {s c d e u c₁ d₁ e₁ u₁ c₂ d₂ e₂ u₂ : List 
     (c₁ ≡ c₂) × ((d₁ ≡ d₂) × ((e₁ ≡ e₂) × ((u₁ ≡ u₂) × rest)))
 left-once f g rest = (f .c-left ∙ sym (g .c-left), (f .d-left ∙ sym (g .d-left), (f .e-left ∙ sym (g .e-left), (f .u-left ∙ sym (g .u-left), rest))))
 
-pub step-fixed : Determined steps.step.ended (λ κs z. z) steps.Of_step.Reads.ensures
-step-fixed = fixed-by steps.Of_step.Reads.Learnt (λ w κs a x. more w (more w (one w))) (λ κs a x y l m. let p = wrote-once (l .0) (m .0) in (p .0, left-once (l .1 .0) (m .1 .0) (l .1 .1 ∙ sym (m .1 .1), p .1)))
+pub step-fixed : Determined steps.step.ended (λ κs z. z) steps.step.Reads.ensures
+step-fixed = fixed-by steps.step.Reads.Learnt (λ w κs a x. more w (one w)) (λ κs a x y l m. let p = wrote-once (l .0) (m .0) in (p .0, left-once (l .1) (m .1) (p .1)))

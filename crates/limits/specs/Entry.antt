@@ -15,20 +15,17 @@ use Rattle.limits.specs.declared.Answer.{Answer}
 use Rattle.limits.specs.declared.Answer.the-variants.{Done, BadPass, TooLong, ShortWork, NotUtf8, TooManyLines, Crowded, ShortResult}
 use Rattle.limits.specs.Answer.{runs, isDone}
 
--- the stated size of each of the five work buffers of bytes, of the one of numbers, and of the one of line records
+-- the stated size of each of the five work buffers of bytes, and of the one of numbers
 abbrev pub byteSize : ℕ
 byteSize = 32769
 
 abbrev pub blockSize : ℕ
 blockSize = 16384
 
-abbrev pub lineSize : ℕ
-lineSize = 1024
-
--- a lent work buffer is shorter than its stated size: the lengths of the seven
-abbrev pub isShort : ℕ → ℕ → ℕ → ℕ → ℕ → ℕ → ℕ → Bool
-isShort a b c d e u r =
-    ltb a byteSize || (ltb b byteSize || (ltb c byteSize || (ltb d byteSize || (ltb e byteSize || (ltb u blockSize || ltb r lineSize)))))
+-- a lent work buffer is shorter than its stated size: the lengths of the six
+abbrev pub isShort : ℕ → ℕ → ℕ → ℕ → ℕ → ℕ → Bool
+isShort a b c d e u =
+    ltb a byteSize || (ltb b byteSize || (ltb c byteSize || (ltb d byteSize || (ltb e byteSize || ltb u blockSize))))
 
 -- ---- the checks, in their order; `fine` where none refuses
 

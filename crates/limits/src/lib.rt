@@ -7,12 +7,10 @@ ghost use Rattle.limits.specs.declared.Answer.the-variants.{Done};
 ghost use Rattle.limits.specs.Answer.{numberOf, lengthOf, placeOf};
 ghost use Rattle.limits.specs.Entry.{isShort, checkedLines, checked, roomed, outAfter};
 
-// How many bytes of each work buffer are used, how many numbers, and how many line records.
+// How many bytes of each work buffer are used, and how many numbers.
 pub const BYTES: usize = 32769;
 
 pub const BLOCKS: usize = 16384;
-
-pub const LINES: usize = 1024;
 
 // What an entry answers: the length of the result, or why there is none.
 pub enum Answer {
@@ -74,9 +72,9 @@ pub fn place_of(r: Answer) -> usize
     }
 }
 
-// Whether one of seven work buffers, of these lengths, is shorter than its stated size.
-pub fn too_short(a: usize, b: usize, c: usize, d: usize, e: usize, u: usize, recs: usize) -> bool
-    ensures { λ r. ⌜ r ≡ isShort a b c d e u recs ⌝ }
+// Whether one of six work buffers, of these lengths, is shorter than its stated size.
+pub fn too_short(a: usize, b: usize, c: usize, d: usize, e: usize, u: usize) -> bool
+    ensures { λ r. ⌜ r ≡ isShort a b c d e u ⌝ }
 {
     if a < BYTES {
         return true;
@@ -93,10 +91,7 @@ pub fn too_short(a: usize, b: usize, c: usize, d: usize, e: usize, u: usize, rec
     if e < BYTES {
         return true;
     }
-    if u < BLOCKS {
-        return true;
-    }
-    recs < LINES
+    u < BLOCKS
 }
 
 // Why a text is refused by its lines, or `Done` where it is not.

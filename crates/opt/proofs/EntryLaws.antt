@@ -11,8 +11,6 @@ use lib.Seq.{length-take-le}
 use Rattle.lines.specs.Lf.{endsIn}
 use Rattle.lines.specs.Steps.{splitLines, joined}
 use Rattle.lines.proofs.Tests.{no}
-use Rattle.records.specs.declared.LineRec.{LineRec}
-use Rattle.records.specs.Records.{blanks}
 use Rattle.reading.specs.Reading.{Reading}
 use Rattle.limits.specs.declared.Answer.{Answer}
 use Rattle.limits.specs.Answer.{runs}
@@ -20,8 +18,8 @@ use Rattle.limits.proofs.AnswerLaws.{work-kept, work-wiped, roomed-runs}
 use Rattle.steps.specs.Step.{stepOf}
 use Rattle.passes.specs.Passes.{stepsOf, resultOf}
 use Rattle.opt.specs.Whole.{whole}
-use Rattle.limits.specs.Entry.{byteSize, blockSize, lineSize, isShort, roomed, blank}
-use Rattle.opt.specs.Room.{Long, Wiped, After, recsAfter}
+use Rattle.limits.specs.Entry.{byteSize, blockSize, isShort, roomed, blank}
+use Rattle.opt.specs.Room.{Long, Wiped, After}
 
 -- ---- the sizes
 
@@ -29,24 +27,21 @@ or-none : (a b : Bool) → a || b ≡ false → (a ≡ false) × (b ≡ false)
 or-none true b h = no (sym h)
 or-none false b h = (refl, h)
 
-pub long-by : (a b c d e u : List ℕ) (n : ℕ) → isShort (length a) (length b) (length c) (length d) (length e) (length u) n ≡ false → (Long a b c d e u) × (lineSize ≤ n)
-long-by a b c d e u n h =
+pub long-by : (a b c d e u : List ℕ) → isShort (length a) (length b) (length c) (length d) (length e) (length u) ≡ false → Long a b c d e u
+long-by a b c d e u h =
     let p = or-none (ltb (length a) byteSize) _ h in
     let q = or-none (ltb (length b) byteSize) _ (p .1) in
     let r = or-none (ltb (length c) byteSize) _ (q .1) in
     let s = or-none (ltb (length d) byteSize) _ (r .1) in
     let t = or-none (ltb (length e) byteSize) _ (s .1) in
-    let v = or-none (ltb (length u) blockSize) _ (t .1) in (
-      record {
-        a-long = ltb-false (length a) byteSize (p .0);
-        b-long = ltb-false (length b) byteSize (q .0);
-        c-long = ltb-false (length c) byteSize (r .0);
-        d-long = ltb-false (length d) byteSize (s .0);
-        e-long = ltb-false (length e) byteSize (t .0);
-        u-long = ltb-false (length u) blockSize (v .0);
-      },
-      ltb-false n lineSize (v .1),
-    )
+    record {
+      a-long = ltb-false (length a) byteSize (p .0);
+      b-long = ltb-false (length b) byteSize (q .0);
+      c-long = ltb-false (length c) byteSize (r .0);
+      d-long = ltb-false (length d) byteSize (s .0);
+      e-long = ltb-false (length e) byteSize (t .0);
+      u-long = ltb-false (length u) blockSize (t .1);
+    }
 
 -- ---- the stated part of a longer buffer
 
@@ -82,14 +77,6 @@ all-wiped {r} n room {a} {b} {c} {d} {e} {u} q w =
       e-after = work-wiped r byteSize e h (w .e-wiped);
       u-after = work-wiped r blockSize u h (w .u-wiped);
     }
-
-pub recs-kept : (r : Answer) (d : List LineRec) → runs r ≡ false → d ≡ recsAfter r d
-unfolding recsAfter
-recs-kept r d h = rw h
-
-pub recs-wiped : {r : Answer} (n room : ℕ) (d : List LineRec) {d′ : List LineRec} → r ≡ roomed n room → d′ ≡ blanks lineSize ++ drop lineSize d → d′ ≡ recsAfter r d
-unfolding recsAfter
-recs-wiped {r} n room d q e = e ∙ (rw (ap runs q ∙ roomed-runs n room))
 
 -- ---- which passes an entry runs
 

@@ -1,19 +1,10 @@
 -- The work buffers of an entry: how long they are, and what they hold afterwards. Assumes nothing.
 use Prim.Native.Nat.{ℕ, _≤_}
 use mathlib.Core.Path.{_≡_}
-use mathlib.Core.Bool.{cond}
 use mathlib.Core.List.{List, _++_}
 use lib.ListN.{length, drop}
 use Rattle.limits.specs.declared.Answer.{Answer}
-use Rattle.records.specs.declared.LineRec.{LineRec}
-use Rattle.records.specs.Records.{blanks}
-use Rattle.limits.specs.Answer.{runs}
-use Rattle.limits.specs.Entry.{byteSize, blockSize, lineSize, blank, workAfter}
-
--- the line records after an answer: those that are used are zeros where the passes ran, and the rest is as it was
-unfoldable pub recsAfter : Answer → List LineRec → List LineRec
-unfolding runs
-recsAfter r d = cond (runs r) (blanks lineSize ++ drop lineSize d) d
+use Rattle.limits.specs.Entry.{byteSize, blockSize, blank, workAfter}
 
 -- the work buffers are no shorter than their stated sizes
 pub record Long (a b c d e u : List ℕ) : Type 0 where

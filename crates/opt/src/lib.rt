@@ -1,17 +1,15 @@
 // The entries: all passes over a text, or one of them, in lent buffers.
 ghost use mathlib.Core.Path.{_≡_};
 ghost use Prim.Native.Nat.{_≤_, _-_};
-ghost use mathlib.Core.List.{_++_};
-ghost use lib.ListN.{length, drop};
-ghost use Rattle.records.specs.Records.{blanks};
+ghost use lib.ListN.{length};
 ghost use Rattle.lines.specs.Lf.{within};
 ghost use Rattle.lines.specs.Steps.{splitLines};
 ghost use Rattle.reading.specs.Reading.{plain};
-ghost use Rattle.limits.specs.Entry.{lineSize, isShort, roomed, answerOf, passAnswer, outAfter};
+ghost use Rattle.limits.specs.Entry.{isShort, roomed, answerOf, passAnswer, outAfter};
 ghost use Rattle.steps.specs.Step.{stepOf};
 ghost use Rattle.passes.specs.Passes.{stepsOf, resultOf};
 ghost use Rattle.opt.specs.Whole.{whole};
-ghost use Rattle.opt.specs.Room.{Long, Wiped, After, recsAfter};
+ghost use Rattle.opt.specs.Room.{Long, Wiped, After};
 
 // Runs the passes from `k` up to `to` over a text, in the front of longer work buffers.
 fn run(
@@ -24,14 +22,12 @@ fn run(
     d: &mut [u8],
     e: &mut [u8],
     u: &mut [u32],
-    recs: &mut [records::LineRec],
     out: &mut [u8],
 ) -> limits::Answer
-    requires { ⌜ (length (now text) ≤ 16384) × ((length (splitLines (now text)) ≤ 1024) × (Long (now a) (now b) (now c) (now d) (now e) (now u) × (lineSize ≤ length (now recs)))) ⌝ }
+    requires { ⌜ (length (now text) ≤ 16384) × ((length (splitLines (now text)) ≤ 1024) × Long (now a) (now b) (now c) (now d) (now e) (now u)) ⌝ }
     ensures answer { λ r. ⌜ r ≡ roomed (length (resultOf (stepsOf plain k (to - k)) (now (text .entry)))) (length (now (out .entry))) ⌝ }
     ensures memory { λ r. ⌜ (now (out .exit) ≡ outAfter r (resultOf (stepsOf plain k (to - k)) (now (text .entry))) (now (out .entry)))
         × Wiped (now (a .entry)) (now (b .entry)) (now (c .entry)) (now (d .entry)) (now (e .entry)) (now (u .entry)) (now (a .exit)) (now (b .exit)) (now (c .exit)) (now (d .exit)) (now (e .exit)) (now (u .exit)) ⌝ }
-    ensures records { λ _. ⌜ now (recs .exit) ≡ blanks lineSize ++ drop lineSize (now (recs .entry)) ⌝ }
 {
     let n = limits::BYTES;
     let m = limits::BLOCKS;
@@ -45,7 +41,6 @@ fn run(
         &mut d[..n],
         &mut e[..n],
         &mut u[..m],
-        recs,
         out,
     )
 }
@@ -61,33 +56,22 @@ fn tidy(
     d: &mut [u8],
     e: &mut [u8],
     u: &mut [u32],
-    recs: &mut [records::LineRec],
     out: &mut [u8],
 ) -> limits::Answer
-    ensures answer { λ r. ⌜ r ≡ answerOf (isShort (length (now (a .entry))) (length (now (b .entry))) (length (now (c .entry))) (length (now (d .entry))) (length (now (e .entry))) (length (now (u .entry))) (length (now (recs .entry)))) (now (text .entry)) (resultOf (stepsOf plain k (to - k)) (now (text .entry))) (length (now (out .entry))) ⌝ }
+    ensures answer { λ r. ⌜ r ≡ answerOf (isShort (length (now (a .entry))) (length (now (b .entry))) (length (now (c .entry))) (length (now (d .entry))) (length (now (e .entry))) (length (now (u .entry)))) (now (text .entry)) (resultOf (stepsOf plain k (to - k)) (now (text .entry))) (length (now (out .entry))) ⌝ }
     ensures memory { λ r. ⌜ (now (out .exit) ≡ outAfter r (resultOf (stepsOf plain k (to - k)) (now (text .entry))) (now (out .entry)))
         × After r (now (a .entry)) (now (b .entry)) (now (c .entry)) (now (d .entry)) (now (e .entry)) (now (u .entry)) (now (a .exit)) (now (b .exit)) (now (c .exit)) (now (d .exit)) (now (e .exit)) (now (u .exit)) ⌝ }
-    ensures records { λ r. ⌜ now (recs .exit) ≡ recsAfter r (now (recs .entry)) ⌝ }
 {
-    let short = limits::too_short(
-        a.len(),
-        b.len(),
-        c.len(),
-        d.len(),
-        e.len(),
-        u.len(),
-        recs.len(),
-    );
+    let short = limits::too_short(a.len(), b.len(), c.len(), d.len(), e.len(), u.len());
     let r = limits::refused(text, short);
     if limits::number_of(r) != 0 {
         return r;
     }
-    run(k, to, text, a, b, c, d, e, u, recs, out)
+    run(k, to, text, a, b, c, d, e, u, out)
 }
 
 // Removes the lines that declare globals from a text, runs the six passes over it, and writes the result to the front of `out`. Of each of
-// the work buffers `a` to `e` 32,769 bytes are used, and of `u` 16,384 numbers, and of `recs` 1,024 records: these are 0
-// afterwards where the passes ran.
+// the work buffers `a` to `e` 32,769 bytes are used, and of `u` 16,384 numbers: these are 0 afterwards where the passes ran.
 pub fn optimize(
     text: &[u8],
     a: &mut [u8],
@@ -96,15 +80,13 @@ pub fn optimize(
     d: &mut [u8],
     e: &mut [u8],
     u: &mut [u32],
-    recs: &mut [records::LineRec],
     out: &mut [u8],
 ) -> limits::Answer
-    ensures answer { λ r. ⌜ r ≡ answerOf (isShort (length (now (a .entry))) (length (now (b .entry))) (length (now (c .entry))) (length (now (d .entry))) (length (now (e .entry))) (length (now (u .entry))) (length (now (recs .entry)))) (now (text .entry)) (resultOf (whole plain) (now (text .entry))) (length (now (out .entry))) ⌝ }
+    ensures answer { λ r. ⌜ r ≡ answerOf (isShort (length (now (a .entry))) (length (now (b .entry))) (length (now (c .entry))) (length (now (d .entry))) (length (now (e .entry))) (length (now (u .entry)))) (now (text .entry)) (resultOf (whole plain) (now (text .entry))) (length (now (out .entry))) ⌝ }
     ensures memory { λ r. ⌜ (now (out .exit) ≡ outAfter r (resultOf (whole plain) (now (text .entry))) (now (out .entry)))
         × After r (now (a .entry)) (now (b .entry)) (now (c .entry)) (now (d .entry)) (now (e .entry)) (now (u .entry)) (now (a .exit)) (now (b .exit)) (now (c .exit)) (now (d .exit)) (now (e .exit)) (now (u .exit)) ⌝ }
-    ensures records { λ r. ⌜ now (recs .exit) ≡ recsAfter r (now (recs .entry)) ⌝ }
 {
-    tidy(0, 7, text, a, b, c, d, e, u, recs, out)
+    tidy(0, 7, text, a, b, c, d, e, u, out)
 }
 
 // Whether a number is that of a pass.
@@ -124,16 +106,14 @@ pub fn run_pass(
     d: &mut [u8],
     e: &mut [u8],
     u: &mut [u32],
-    recs: &mut [records::LineRec],
     out: &mut [u8],
 ) -> limits::Answer
-    ensures answer { λ r. ⌜ r ≡ passAnswer pass (isShort (length (now (a .entry))) (length (now (b .entry))) (length (now (c .entry))) (length (now (d .entry))) (length (now (e .entry))) (length (now (u .entry))) (length (now (recs .entry)))) (now (text .entry)) (resultOf (stepOf plain pass) (now (text .entry))) (length (now (out .entry))) ⌝ }
+    ensures answer { λ r. ⌜ r ≡ passAnswer pass (isShort (length (now (a .entry))) (length (now (b .entry))) (length (now (c .entry))) (length (now (d .entry))) (length (now (e .entry))) (length (now (u .entry)))) (now (text .entry)) (resultOf (stepOf plain pass) (now (text .entry))) (length (now (out .entry))) ⌝ }
     ensures memory { λ r. ⌜ (now (out .exit) ≡ outAfter r (resultOf (stepOf plain pass) (now (text .entry))) (now (out .entry)))
         × After r (now (a .entry)) (now (b .entry)) (now (c .entry)) (now (d .entry)) (now (e .entry)) (now (u .entry)) (now (a .exit)) (now (b .exit)) (now (c .exit)) (now (d .exit)) (now (e .exit)) (now (u .exit)) ⌝ }
-    ensures records { λ r. ⌜ now (recs .exit) ≡ recsAfter r (now (recs .entry)) ⌝ }
 {
     if !is_pass(pass) {
         return limits::Answer::BadPass;
     }
-    tidy(pass, pass + 1, text, a, b, c, d, e, u, recs, out)
+    tidy(pass, pass + 1, text, a, b, c, d, e, u, out)
 }

@@ -1,18 +1,9 @@
 // What lent memory holds before a call, and whether it is as it should be afterwards.
 
-// What every byte is before a call, every block, and every line record.
+// What every byte is before a call, and every block.
 pub const BYTE: u8 = 165;
 
 pub const BLOCK: u32 = 2779096485;
-
-pub fn line() -> records::LineRec {
-    records::LineRec {
-        start: 1,
-        end: 2,
-        region: place::Region(3),
-        block: 4,
-    }
-}
 
 // Whether all bytes are b. It does not stop at the first that is not: so it takes many at a time.
 fn all_are(s: &[u8], b: u8) -> bool {
@@ -58,19 +49,4 @@ pub fn blocks_as_fixed(s: &[u32], stated: usize, ran: bool) -> bool {
         return all_blocks_are(s, 0);
     }
     all_blocks_are(&s[..stated], 0) & all_blocks_are(&s[stated..], BLOCK)
-}
-
-// Whether two line records are the same.
-fn same_line(x: records::LineRec, y: records::LineRec) -> bool {
-    let p = x.region;
-    let q = y.region;
-    (x.start == y.start) & (x.end == y.end) & (p.0 == q.0) & (x.block == y.block)
-}
-
-// Whether a line record is as it should be: zeros where it was `used`, and what it was else.
-pub fn line_as_fixed(rec: records::LineRec, used: bool) -> bool {
-    if used {
-        return same_line(rec, records::blank());
-    }
-    same_line(rec, line())
 }

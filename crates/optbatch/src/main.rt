@@ -16,8 +16,6 @@ const BYTES: usize = 32769;
 
 const BLOCKS: usize = 16384;
 
-const LINES: usize = 1024;
-
 // Room for a text: one byte more than is taken, so that a longer text is seen.
 fn text_room() -> [u8; 16385]
     ensures { λ r. ⌜ 16385 ≡ length r ⌝ }
@@ -37,14 +35,6 @@ fn block_room() -> [u32; 16392]
     ensures { λ r. ⌜ 16392 ≡ length r ⌝ }
 {
     [lent::BLOCK; 16392]
-}
-
-// A filled buffer of line records, some longer than it has to be.
-fn line_room() -> [records::LineRec; 1032]
-    ensures { λ r. ⌜ 1032 ≡ length r ⌝ }
-{
-    let filled = lent::line();
-    [filled; 1032]
 }
 
 // How much of the work buffer `which` is lent, of `there`: one element less than is stated where the request says so.
@@ -81,13 +71,12 @@ fn run(
     d: &mut [u8],
     e: &mut [u8],
     u: &mut [u32],
-    recs: &mut [records::LineRec],
     out: &mut [u8],
 ) -> Answer {
     if pass == 0 {
-        return opt::optimize(text, a, b, c, d, e, u, recs, out);
+        return opt::optimize(text, a, b, c, d, e, u, out);
     }
-    opt::run_pass(pass as usize, text, a, b, c, d, e, u, recs, out)
+    opt::run_pass(pass as usize, text, a, b, c, d, e, u, out)
 }
 
 // Lends as much of each buffer as the request says.
@@ -100,7 +89,6 @@ fn ask(
     d: &mut [u8],
     e: &mut [u8],
     u: &mut [u32],
-    recs: &mut [records::LineRec],
     out: &mut [u8],
 ) -> Answer {
     let ka = lent_of(a.len(), q.short, 1, BYTES);
@@ -119,7 +107,6 @@ fn ask(
         &mut d[..kd],
         &mut e[..ke],
         &mut u[..ku],
-        recs,
         &mut out[..room],
     )
 }
@@ -134,27 +121,15 @@ fn work_fixed(ran: bool, a: &[u8], b: &[u8], c: &[u8], d: &[u8], e: &[u8], u: &[
         & lent::blocks_as_fixed(u, BLOCKS, ran)
 }
 
-// Whether the line records are as they should be.
-fn lines_fixed(ran: bool, recs: &[records::LineRec]) -> bool {
-    let mut fixed = true;
-    let mut i = 0;
-    while i < recs.len() {
-        fixed &= lent::line_as_fixed(records::get(recs, i), ran & (i < LINES));
-        i += 1;
-    }
-    fixed
-}
-
 // Whether the passes ran.
 fn has_run(got: Answer) -> bool {
     let number = limits::number_of(got);
     (number == 0) | (number == 7)
 }
 
-// Writes an answer, and returns whether it went out; `lines` is whether the line records are as they should be.
+// Writes an answer, and returns whether it went out.
 fn tell(
     got: Answer,
-    lines: bool,
     a: &[u8],
     b: &[u8],
     c: &[u8],
@@ -164,7 +139,7 @@ fn tell(
     out: &[u8],
 ) -> bool {
     let n = limits::length_of(got);
-    let memory = lines & work_fixed(has_run(got), a, b, c, d, e, u) & lent::kept_from(out, n);
+    let memory = work_fixed(has_run(got), a, b, c, d, e, u) & lent::kept_from(out, n);
     wire::write_answer(
         STDOUT_FILENO,
         limits::number_of(got),
@@ -182,7 +157,6 @@ fn answer(q: Request, text: &[u8]) -> bool {
     let mut d = byte_room();
     let mut e = byte_room();
     let mut u = block_room();
-    let mut recs = line_room();
     let mut out = byte_room();
     let got = ask(
         q,
@@ -193,11 +167,9 @@ fn answer(q: Request, text: &[u8]) -> bool {
         &mut d,
         &mut e,
         &mut u,
-        &mut recs,
         &mut out,
     );
-    let lines = lines_fixed(has_run(got), &recs);
-    tell(got, lines, &a, &b, &c, &d, &e, &u, &out)
+    tell(got, &a, &b, &c, &d, &e, &u, &out)
 }
 
 // Reads a request and answers it, and returns whether to go on.

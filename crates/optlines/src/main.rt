@@ -26,14 +26,6 @@ fn block_room() -> [u32; 16384]
     [0; 16384]
 }
 
-// A work buffer of line records.
-fn line_room() -> [records::LineRec; 1024]
-    ensures { λ r. ⌜ 1024 ≡ length r ⌝ }
-{
-    let z = records::blank();
-    [z; 1024]
-}
-
 // Writes what came of a text.
 fn say(answer: Answer, out: &[u8]) {
     let number = limits::number_of(answer);
@@ -56,18 +48,7 @@ fn tidy(text: &[u8], out: &mut [u8]) -> Answer {
     let mut d = work_room();
     let mut e = work_room();
     let mut u = block_room();
-    let mut recs = line_room();
-    opt::optimize(
-        text,
-        &mut a,
-        &mut b,
-        &mut c,
-        &mut d,
-        &mut e,
-        &mut u,
-        &mut recs,
-        out,
-    )
+    opt::optimize(text, &mut a, &mut b, &mut c, &mut d, &mut e, &mut u, out)
 }
 
 fn main() {

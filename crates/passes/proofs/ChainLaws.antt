@@ -4,23 +4,20 @@ use mathlib.Core.Path.{_≡_, refl, sym, ap, _∙_}
 use mathlib.Core.List.{List}
 use native.Mathlib.Omega.{arith}
 use native.Mathlib.Numerals.{add-one}
-use lib.ListN.{length, take, drop}
+use lib.ListN.{length, take}
 use Rattle.lines.specs.Lf.{linesOf, unlines}
 use Rattle.lines.specs.Out.{Wrote}
 use Rattle.lines.specs.Steps.{splitLines}
 use Rattle.lines.proofs.LfLaws.{lines-unlines}
 use Rattle.lines.proofs.StepLaws.{split-room}
 use Rattle.lines.proofs.OutLaws.{wrote-length, wrote-part}
-use Rattle.records.specs.declared.LineRec.{LineRec}
 use Rattle.reading.specs.Reading.{Reading, plain}
 use Rattle.reading.proofs.ByLine.{plain-by-line}
 use Rattle.steps.specs.Step.{stepOf}
 use Rattle.steps.specs.Bounds.{Bounded, Sized}
-use Rattle.steps.specs.Left.{leftRecs}
-use Rattle.steps.proofs.StepLaws.{recs-behind}
 use Rattle.steps.proofs.Tame.{tame-step}
 use Rattle.passes.specs.Passes.{stepsOf}
-use Rattle.limits.specs.Entry.{byteSize, lineSize}
+use Rattle.limits.specs.Entry.{byteSize}
 use Rattle.passes.specs.Buffers.{Front}
 use Rattle.passes.proofs.Between.{Between, between-start, between-on, between-room}
 
@@ -104,20 +101,3 @@ module _ {k to : ℕ} {t a b c d e u : List ℕ} {n j : ℕ} (h : ChainInv k to 
       let z : to - j ≡ 0 = omega arith in
       let g : h .now-lines ≡ stepsOf plain k (to - k) (splitLines t) = sym (ap (λ (m : ℕ). stepsOf plain j m (h .now-lines)) z ∙ steps-none plain j (h .now-lines)) ∙ h .so-far in
       record { fits = h .front .fits; is = h .front .is ∙ ap unlines g }
-
--- ---- the line records, of which what stands behind those that a pass may use stays
-
-pub record RecsInv (d₀ d : List LineRec) : Type 0 where
-  pub long : lineSize ≤ length d
-  pub same : length d ≡ length d₀
-  pub behind : drop lineSize d ≡ drop lineSize d₀
-
-pub recs-start : (d : List LineRec) → lineSize ≤ length d → RecsInv d d
-recs-start d h = record { long = h; same = refl; behind = refl }
-
-pub recs-on : {s : List ℕ} {d₀ d d′ : List LineRec} (k : ℕ) → Bounded s → RecsInv d₀ d → length d′ ≡ length d → d′ ≡ leftRecs k s d → RecsInv d₀ d′
-recs-on {s} {d₀} {d} {d′} k b h l e = record {
-  long = let g = h .long in omega arith;
-  same = l ∙ h .same;
-  behind = ap (drop lineSize) e ∙ recs-behind k s d lineSize (b .lines) ∙ h .behind;
-}

@@ -1,13 +1,11 @@
 // The passes one after the other, over work buffers of the stated sizes.
 ghost use mathlib.Core.Path.{_≡_};
 ghost use Prim.Native.Nat.{_≤_, _-_};
-ghost use mathlib.Core.List.{_++_};
-ghost use lib.ListN.{length, take, drop};
+ghost use lib.ListN.{length, take};
 ghost use Rattle.lines.specs.Lf.{endsIn, linesOf, unlines};
 ghost use Rattle.lines.specs.Steps.{splitLines, joined};
 ghost use Rattle.reading.specs.Reading.{plain};
-ghost use Rattle.limits.specs.Entry.{byteSize, lineSize, roomed, outAfter};
-ghost use Rattle.records.specs.Records.{blanks};
+ghost use Rattle.limits.specs.Entry.{byteSize, roomed, outAfter};
 ghost use Rattle.steps.specs.Bounds.{Sized};
 ghost use Rattle.passes.specs.Passes.{stepsOf, resultOf};
 ghost use Rattle.passes.specs.Buffers.{Front, Blank};
@@ -23,16 +21,14 @@ fn chain(
     d: &mut [u8],
     e: &mut [u8],
     u: &mut [u32],
-    recs: &mut [records::LineRec],
 ) -> usize
-    requires { ⌜ (length (now text) ≤ 16384) × ((length (splitLines (now text)) ≤ 1024) × ((length (now a) ≡ byteSize) × (Sized (now b) (now c) (now d) (now e) (now u) × (lineSize ≤ length (now recs))))) ⌝ }
+    requires { ⌜ (length (now text) ≤ 16384) × ((length (splitLines (now text)) ≤ 1024) × ((length (now a) ≡ byteSize) × Sized (now b) (now c) (now d) (now e) (now u))) ⌝ }
     ensures { λ r. ⌜ Front (now (a .exit)) r (unlines (stepsOf plain k (to - k) (splitLines (now (text .entry))))) ⌝ }
-    ensures records { λ _. ⌜ drop lineSize (now (recs .exit)) ≡ drop lineSize (now (recs .entry)) ⌝ }
 {
     let mut n = lines::split_lines(text, a);
     let mut j = k;
     while j < to {
-        let r = steps::step(j, &a[..n], b, c, d, e, u, recs);
+        let r = steps::step(j, &a[..n], b, c, d, e, u);
         n = lines::put(a, 0, &b[..r]);
         j += 1;
     }
@@ -87,16 +83,13 @@ pub fn work(
     d: &mut [u8],
     e: &mut [u8],
     u: &mut [u32],
-    recs: &mut [records::LineRec],
     out: &mut [u8],
 ) -> limits::Answer
-    requires { ⌜ (length (now text) ≤ 16384) × ((length (splitLines (now text)) ≤ 1024) × ((length (now a) ≡ byteSize) × (Sized (now b) (now c) (now d) (now e) (now u) × (lineSize ≤ length (now recs))))) ⌝ }
+    requires { ⌜ (length (now text) ≤ 16384) × ((length (splitLines (now text)) ≤ 1024) × ((length (now a) ≡ byteSize) × Sized (now b) (now c) (now d) (now e) (now u))) ⌝ }
     ensures answer { λ r. ⌜ r ≡ roomed (length (resultOf (stepsOf plain k (to - k)) (now (text .entry)))) (length (now (out .entry))) ⌝ }
     ensures memory { λ r. ⌜ (now (out .exit) ≡ outAfter r (resultOf (stepsOf plain k (to - k)) (now (text .entry))) (now (out .entry)))
         × Blank (now (a .exit)) (now (b .exit)) (now (c .exit)) (now (d .exit)) (now (e .exit)) (now (u .exit)) ⌝ }
-    ensures records { λ _. ⌜ now (recs .exit) ≡ blanks lineSize ++ drop lineSize (now (recs .entry)) ⌝ }
 {
-    let n = chain(k, to, text, a, b, c, d, e, u, recs);
-    records::clear(recs, limits::LINES);
+    let n = chain(k, to, text, a, b, c, d, e, u);
     close(n, text, a, b, c, d, e, u, out)
 }

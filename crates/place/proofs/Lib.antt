@@ -5,6 +5,7 @@ pub mod Blocks
 pub mod Regional
 pub mod Paths
 pub mod Fills
+pub mod Marks
 pub mod Parents
 pub mod Starts
 pub mod Plains

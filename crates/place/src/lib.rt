@@ -10,7 +10,7 @@ ghost use Rattle.lexical.specs.Plain.{plainLen};
 ghost use Rattle.place.specs.Region.{isHeader, regionNext, regionLen};
 ghost use Rattle.place.specs.Blocks.{opens, closes, braceOf, blockIds, cleaned};
 ghost use Rattle.place.specs.Paths.{pathCloses, blockPaths, tops, isFlat};
-ghost use Rattle.place.specs.Ends.{endsFrom};
+ghost use Rattle.place.specs.Ends.{endsFrom, endMark, endMarks};
 ghost use Rattle.place.specs.Loops.{opensLoop, nestOpen, nestClose, nestLine, insideLoop, startsLoop, someLoop, aboveLoop};
 ghost use Rattle.place.specs.Parents.{around, curBy, Room, Moved, braces, idsPost, idsParents, pathPre, pathOpen, pathPost, pathParents};
 ghost use Rattle.place.specs.Starts.{startsBy, startsGo};
@@ -250,14 +250,33 @@ pub fn starts_after(last: u16, st: bool) -> bool
     (last == 59) | ((last == 123) | ((last == 125) | (last == 58)))
 }
 
-// For each line its block and whether it may begin a statement, and the block around each block.
-pub fn place_lines(text: &[u8], blocks: &mut [usize], starts: &mut [u8], up: &mut [u32]) -> usize
+// Where a line ends, twice over, and one more where it opens a region: both in one number.
+fn end_mark(line: &[u8], e: usize) -> usize
+    requires { ⌜ e < 2 ^ 63 ⌝ }
+    ensures { λ r. ⌜ r ≡ endMark e (now (line .entry)) ⌝ }
+{
+    if is_header(line) {
+        return 2 * e + 1;
+    }
+    2 * e
+}
+
+// For each line its block, whether it may begin a statement, where it ends and whether it opens a region, and the block around each block;
+// returns how many lines there are.
+pub fn place_lines(
+    text: &[u8],
+    blocks: &mut [usize],
+    starts: &mut [u8],
+    up: &mut [u32],
+    ends: &mut [usize],
+) -> usize
     requires { ⌜ (length (linesOf (now text)) ≤ length (now blocks))
         × ((length (linesOf (now text)) ≤ length (now starts))
-        × ((length (idsParents (linesOf (now text))) ≤ length (now up)) × (length (now up) < 2 ^ 32))) ⌝ }
-    ensures { λ r. ⌜ (Filled (now (blocks .entry)) (blockIds (linesOf (now (text .entry)))) (now (blocks .exit)) r)
+        × (((length (idsParents (linesOf (now text))) ≤ length (now up)) × (length (now up) < 2 ^ 32)) × (length (linesOf (now text)) ≤ length (now ends)))) ⌝ }
+    ensures tables { λ r. ⌜ (Filled (now (blocks .entry)) (blockIds (linesOf (now (text .entry)))) (now (blocks .exit)) r)
         × ((Filled (now (starts .entry)) (flagsOf (startsGo (cleaned (linesOf (now (text .entry)))) true)) (now (starts .exit)) r)
         × (Filled (now (up .entry)) (idsParents (linesOf (now (text .entry)))) (now (up .exit)) (length (idsParents (linesOf (now (text .entry))))))) ⌝ }
+    ensures ends { λ r. ⌜ Filled (now (ends .entry)) (endMarks 0 (linesOf (now (text .entry)))) (now (ends .exit)) r ⌝ }
 {
     let mut i = 0;
     let mut k = 0;
@@ -266,10 +285,12 @@ pub fn place_lines(text: &[u8], blocks: &mut [usize], starts: &mut [u8], up: &mu
     let mut st = true;
     while i < text.len() {
         let e = lines::find_byte(text, i, 10);
+        let line = &text[i..e];
+        ends[k] = end_mark(line, e);
         blocks[k] = wide(c);
         starts[k] = flag(st);
         k += 1;
-        let x = walk_line(&text[i..e], c, up, n);
+        let x = walk_line(line, c, up, n);
         c = x.block;
         n = x.next;
         st = starts_after(x.last, st);

@@ -1,19 +1,19 @@
--- Going down the records of a text that `fill` has put there. Assumes nothing.
+-- Going down the records of a text. Assumes nothing.
 use Prim.Native.Nat.{ℕ, zero, suc, _+_, _≤_, _<_, min}
 use mathlib.Core.Path.{_≡_, refl, sym, ap, _∙_}
 use mathlib.Core.Bool.{Bool, true, false, cond}
-use mathlib.Core.List.{List, [], _∷_, _++_}
+use mathlib.Core.List.{List, [], _∷_, _++_, append-nil}
 use native.Mathlib.Omega.{arith}
 use native.Mathlib.Numerals.{add-one}
 use borrow.Author.Tests.{ltb-true, ltb-false}
 use lib.Dec.{ltb}
-use lib.ListN.{length, getD, drop, length-append, length-drop}
+use lib.ListN.{length, getD, drop, length-drop}
 use lib.Seq.{getD-drop, drop-drop}
 use Rattle.lines.specs.Lf.{part, upTo, linesOf}
 use Rattle.lines.proofs.LfLaws.{lines-at, lines-end}
 use Rattle.place.specs.Region.{isHeader}
 use Rattle.records.specs.declared.LineRec.{LineRec}
-use Rattle.records.specs.Records.{noRec, recAt, recordsGo, recordsOf, Holds}
+use Rattle.records.specs.Records.{noRec, recAt, recordsGo, recordsOf}
 use Rattle.records.proofs.Laws.{records-count, records-here}
 
 -- the records from the k-th on are those of the lines from i on, and c is the region above
@@ -24,14 +24,14 @@ pub record Down (t bs : List ℕ) (d : List LineRec) (i k c : ℕ) : Type 0 wher
   pub blocks : length (linesOf t) ≤ length bs
   pub many : length (linesOf t) ≤ length d
 
-pub down-start : {t bs : List ℕ} {d : List LineRec} {n : ℕ} → Holds t bs d n → Down t bs d 0 0 0
+pub down-start : {t bs : List ℕ} → length (linesOf t) ≤ length bs → Down t bs (recordsOf (linesOf t) bs) 0 0 0
 unfolding recordsOf
-down-start {t} {bs} {d} {n} h = record {
-  rest = h .behind;
-  left = h .filled;
+down-start {t} {bs} h = record {
+  rest = [];
+  left = sym (append-nil (recordsOf (linesOf t) bs));
   count = omega arith;
-  blocks = h .long;
-  many = let e = records-count (linesOf t) bs (h .long) in let m = ap length (h .filled) in let v = length-append (recordsOf (linesOf t) bs) (h .behind) in omega arith;
+  blocks = h;
+  many = let e = records-count (linesOf t) bs h in omega arith;
 }
 
 module _ {t bs : List ℕ} {d : List LineRec} {i k c : ℕ} (h : Down t bs d i k c) where

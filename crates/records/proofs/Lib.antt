@@ -2,8 +2,8 @@ pub mod Columns
 pub mod Down
 pub mod Elem
 pub mod Laws
-pub mod Of_clear
+pub mod Of_fill
 pub mod Of_get
-pub mod Of_place_lines
 pub mod Of_put
-pub mod Rows
+pub mod Of_refill
+pub mod Shown

@@ -1,20 +1,18 @@
 -- The record of each line of a text. Assumes nothing.
-use Prim.Native.Nat.{ℕ, suc, _+_, _≤_}
+use Prim.Native.Nat.{ℕ, zero, suc, _+_, _-_, _/_, _%_, _≤_, min}
 use mathlib.Core.Bool.{cond}
 use mathlib.Core.Path.{_≡_}
 use mathlib.Core.List.{List, [], _∷_, _++_}
-use lib.ListN.{length, replicate}
+use lib.Dec.{eqb}
+use lib.ListN.{length, getD, drop}
 use Rattle.lines.specs.Lf.{linesOf}
 use Rattle.place.specs.Region.{isHeader}
+use Rattle.place.specs.Ends.{endMarks}
 use Rattle.records.specs.declared.LineRec.{LineRec}
 
 -- a record of zeros, which also stands past the end
 abbrev pub noRec : LineRec
 noRec = record { start = 0; end = 0; region = record { 0 = 0 }; block = 0 }
-
--- n records of zeros
-abbrev pub blanks : ℕ → List LineRec
-blanks n = replicate n noRec
 
 -- the record of a line from i to e, of the region c and the block b
 abbrev pub recAt : ℕ → ℕ → ℕ → ℕ → LineRec
@@ -33,9 +31,29 @@ unfoldable pub recordsOf : List (List ℕ) → List ℕ → List LineRec
 unfolding recordsGo
 recordsOf ls bs = recordsGo ls bs 0 0
 
--- the first n records of d are those of the lines of t, whose blocks are the first of bs
-pub record Holds (t bs : List ℕ) (d : List LineRec) (n : ℕ) : Type 0 where
+-- ---- the same by tables: es has where each line ends, twice over, and one more where it opens a region (place's endMarks), and bs its block
+
+-- where a line begins that has k above it, the last of them a
+abbrev pub startBelow : ℕ → LineRec → ℕ
+startBelow k a = cond (eqb k 0) 0 (a .end + 1)
+
+-- its record, by its entries x and b
+abbrev pub recBelow : ℕ → LineRec → ℕ → ℕ → LineRec
+recBelow k a x b = recAt (startBelow k a) (x / 2) (a .region .0 + x % 2) b
+
+-- the records of m lines, the first with k above it
+unfoldable pub recordsBy : List ℕ → List ℕ → ℕ → ℕ → LineRec → List LineRec
+recordsBy es bs zero k a = []
+recordsBy es bs (suc m) k a = recBelow k a (getD es k 0) (getD bs k 0) ∷ recordsBy es bs m (suc k) (recBelow k a (getD es k 0) (getD bs k 0))
+
+-- a window d, filled with the records of the lines that have k above them or more, of n in all, as far as it reaches
+unfoldable pub windowAt : List ℕ → List ℕ → ℕ → ℕ → LineRec → List LineRec → List LineRec
+unfolding recordsBy
+windowAt es bs n k a d = recordsBy es bs (min (length d) (n - k)) k a ++ drop (min (length d) (n - k)) d
+
+-- the table es is that of the n lines of t, and bs has an entry for each
+pub record Told (t es bs : List ℕ) (n : ℕ) : Type 0 where
   pub count : n ≡ length (linesOf t)
-  pub behind : List LineRec
-  pub filled : d ≡ recordsOf (linesOf t) bs ++ behind
+  pub behind : List ℕ
+  pub marks : es ≡ endMarks 0 (linesOf t) ++ behind
   pub long : length (linesOf t) ≤ length bs

@@ -1,19 +1,12 @@
-// Line records: for each line of a text where it begins and ends, its region and its block, in one lent slice.
+// Line records: for each line of a text where it begins and ends, its region and its block, a window of them at a time in one lent slice.
 ghost use mathlib.Core.Path.{_≡_};
-ghost use mathlib.Core.Bool.{true, cond};
-ghost use mathlib.Core.List.{_++_};
-ghost use Prim.Native.Nat.{_≤_, _<_, _^_};
-ghost use lib.ListN.{length, getD, set, drop};
-ghost use Rattle.lines.specs.Lf.{linesOf};
-ghost use Rattle.lexical.specs.Lex.{lastOf, stripLexical};
-ghost use Rattle.place.specs.Region.{regionNext};
-ghost use Rattle.place.specs.Blocks.{blockIds, cleaned};
-ghost use Rattle.place.specs.Parents.{Room, Moved, idsPost, idsParents};
-ghost use Rattle.place.specs.Starts.{startsBy, startsGo};
-ghost use Rattle.place.specs.Fill.{Filled, flagsOf};
-ghost use Rattle.records.specs.Records.{noRec, recAt, blanks, recordsOf};
+ghost use mathlib.Core.Bool.{cond};
+ghost use Prim.Native.Nat.{_≤_, _<_, _^_, min};
+ghost use lib.Dec.{ltb};
+ghost use lib.ListN.{length, getD, set, replicate};
+ghost use Rattle.records.specs.Records.{noRec, startBelow, recBelow, windowAt};
 
-// A line of a text: where it begins and ends, its region and its block. It is laid out as in C, which lends such records.
+// A line of a text: where it begins and ends, its region and its block. Its parts stand in this order in memory.
 #[repr(C)]
 pub struct LineRec {
     pub start: usize,
@@ -50,98 +43,88 @@ pub fn blank() -> LineRec
     }
 }
 
-// The record of a line from `i` to `e` in the block `c`; `above` is the region of the line above.
-fn record_at(line: &[u8], i: usize, e: usize, above: place::Region, c: u32) -> LineRec
-    ensures { λ r. ⌜ r ≡ recAt i e (regionNext (above .0) (now (line .entry))) c ⌝ }
-{
-    LineRec {
-        start: i,
-        end: e,
-        region: place::next_region(above, line),
-        block: place::wide(c),
-    }
-}
-
-// Below a line: the open block, how many blocks are known, and whether a statement may begin there.
-struct Below {
-    block: u32,
-    next: usize,
-    starts: bool,
-}
-
-// Notes the block `c` of the line `k` and whether it may begin a statement, and reads its braces, with `n` blocks known.
-fn place_line(
-    line: &[u8],
-    k: usize,
-    c: u32,
-    st: bool,
-    blocks: &mut [usize],
-    starts: &mut [u8],
-    up: &mut [u32],
-    n: usize,
-) -> Below
-    requires { ⌜ (k < length (now blocks)) × ((k < length (now starts)) × Room (idsPost (now line)) c (now up) n) ⌝ }
-    ensures { λ r. ⌜ ((now (blocks .exit) ≡ set (now (blocks .entry)) k c) × (now (starts .exit) ≡ set (now (starts .entry)) k (cond st 1 0)))
-        × ((Moved (idsPost (now (line .entry))) c (now (up .entry)) n (r .block) (now (up .exit)) (r .next))
-        × (r .starts ≡ startsBy (lastOf (stripLexical (now (line .entry)))) st)) ⌝ }
-{
-    blocks[k] = place::wide(c);
-    starts[k] = place::flag(st);
-    let x = place::walk_line(line, c, up, n);
-    Below {
-        block: x.block,
-        next: x.next,
-        starts: place::starts_after(x.last, st),
-    }
-}
-
-// For each line its block, whether it may begin a statement, and its record, and the block around each block; returns how many lines there are.
-pub fn place_lines(
-    text: &[u8],
-    blocks: &mut [usize],
-    starts: &mut [u8],
-    up: &mut [u32],
-    recs: &mut [LineRec],
-) -> usize
-    requires { ⌜ (length (linesOf (now text)) ≤ length (now blocks))
-        × ((length (linesOf (now text)) ≤ length (now starts))
-        × (((length (idsParents (linesOf (now text))) ≤ length (now up)) × (length (now up) < 2 ^ 32)) × (length (linesOf (now text)) ≤ length (now recs)))) ⌝ }
-    ensures tables { λ r. ⌜ (Filled (now (blocks .entry)) (blockIds (linesOf (now (text .entry)))) (now (blocks .exit)) r)
-        × ((Filled (now (starts .entry)) (flagsOf (startsGo (cleaned (linesOf (now (text .entry)))) true)) (now (starts .exit)) r)
-        × (Filled (now (up .entry)) (idsParents (linesOf (now (text .entry)))) (now (up .exit)) (length (idsParents (linesOf (now (text .entry))))))) ⌝ }
-    ensures records { λ _. ⌜ now (recs .exit) ≡ recordsOf (linesOf (now (text .entry))) (blockIds (linesOf (now (text .entry)))) ++ drop (length (linesOf (now (text .entry)))) (now (recs .entry)) ⌝ }
-{
-    let mut i = 0;
-    let mut k = 0;
-    let mut region = place::Region(0);
-    let mut c = 0;
-    let mut n = 0;
-    let mut st = true;
-    while i < text.len() {
-        let e = lines::find_byte(text, i, 10);
-        let line = lines::cut(text, i, e);
-        let rec = record_at(line, i, e, region, c);
-        region = rec.region;
-        put(recs, k, rec);
-        let x = place_line(line, k, c, st, blocks, starts, up, n);
-        c = x.block;
-        n = x.next;
-        st = x.starts;
-        k += 1;
-        i = lines::after(text, e);
-    }
-    k
-}
-
-// Makes the first `n` records zeros.
-pub fn clear(recs: &mut [LineRec], n: usize)
-    requires { ⌜ n ≤ length (now recs) ⌝ }
-    ensures { λ _. ⌜ now (recs .exit) ≡ blanks n ++ drop n (now (recs .entry)) ⌝ }
+// A window of records of zeros.
+pub fn window() -> [LineRec; 1024]
+    ensures { λ r. ⌜ r ≡ replicate 1024 noRec ⌝ }
 {
     let z = blank();
-    let mut k = 0;
-    while k < n {
-        put(recs, k, z);
-        k += 1;
+    [z; 1024]
+}
+
+// Where a line begins that has `k` above it, the last of them `above`.
+fn start_below(k: usize, above: LineRec) -> usize
+    requires { ⌜ above .end < 2 ^ 63 ⌝ }
+    ensures { λ r. ⌜ r ≡ startBelow k above ⌝ }
+{
+    if k == 0 {
+        return 0;
     }
+    above.end + 1
+}
+
+// The record of the line with `k` above it, the last of them `above`, by the tables of ends and of blocks.
+fn record_at(ends: &[usize], blocks: &[usize], k: usize, above: LineRec) -> LineRec
+    requires { ⌜ (k < length (now ends)) × ((k < length (now blocks)) × ((above .region .0 ≤ k) × (above .end < 2 ^ 63))) ⌝ }
+    ensures { λ r. ⌜ r ≡ recBelow k above (getD (now (ends .entry)) k 0) (getD (now (blocks .entry)) k 0) ⌝ }
+{
+    let x = ends[k];
+    LineRec {
+        start: start_below(k, above),
+        end: x / 2,
+        region: place::Region(above.region.0 + x % 2),
+        block: blocks[k],
+    }
+}
+
+// How many records a window of `size` has, of lines of which `rest` are left.
+fn least(size: usize, rest: usize) -> usize
+    ensures { λ r. ⌜ r ≡ min size rest ⌝ }
+{
+    if size < rest {
+        return size;
+    }
+    rest
+}
+
+// Fills a window with the records of the lines that have `k` above them or more, of `n` in all, the last of the `k` being `above`.
+pub fn fill(
+    ends: &[usize],
+    blocks: &[usize],
+    n: usize,
+    k: usize,
+    above: LineRec,
+    recs: &mut [LineRec],
+)
+    requires { ⌜ (k ≤ n) × ((n ≤ length (now ends)) × ((n ≤ length (now blocks)) × ((above .region .0 ≤ k) × (above .end < 2 ^ 63)))) ⌝ }
+    ensures { λ _. ⌜ now (recs .exit) ≡ windowAt (now (ends .entry)) (now (blocks .entry)) n k above (now (recs .entry)) ⌝ }
+{
+    let m = least(recs.len(), n - k);
+    let mut a = above;
+    let mut j = 0;
+    while j < m {
+        a = record_at(ends, blocks, k + j, a);
+        put(recs, j, a);
+        j += 1;
+    }
+}
+
+// Where the record of the line with `k` above it stands in the window: at `j`, or at 0 of the next one, which is filled then.
+pub fn refill(
+    ends: &[usize],
+    blocks: &[usize],
+    n: usize,
+    k: usize,
+    j: usize,
+    above: LineRec,
+    recs: &mut [LineRec],
+) -> usize
+    requires { ⌜ (k ≤ n) × ((n ≤ length (now ends)) × ((n ≤ length (now blocks)) × ((above .region .0 ≤ k) × (above .end < 2 ^ 63)))) ⌝ }
+    ensures place { λ r. ⌜ r ≡ cond (ltb j (length (now (recs .entry)))) j 0 ⌝ }
+    ensures records { λ _. ⌜ now (recs .exit) ≡ cond (ltb j (length (now (recs .entry)))) (now (recs .entry)) (windowAt (now (ends .entry)) (now (blocks .entry)) n k above (now (recs .entry))) ⌝ }
+{
+    if j < recs.len() {
+        return j;
+    }
+    fill(ends, blocks, n, k, above, recs);
+    0
 }

@@ -1,22 +1,14 @@
 -- Laws of the passes by number: which pass a number is, and what it leaves in the work buffers. Assumes nothing.
-use Prim.Native.Nat.{ℕ, _+_, _-_, _≤_}
+use Prim.Native.Nat.{ℕ, _+_}
 use mathlib.Core.Path.{_≡_, refl, sym, ap, _∙_}
-use mathlib.Core.Bool.{Bool, true, false, cond, _||_}
 use mathlib.Core.List.{List, _++_}
 use native.Mathlib.Omega.{arith}
 use borrow.Author.Tests.{eq-eqb, ne-eqb}
-use lib.Dec.{eqb}
 use lib.ListN.{length, drop, replicate}
-use lib.Seq.{drop-append-add, drop-drop}
 use Rattle.lines.specs.Lf.{linesOf, unlines}
 use Rattle.lines.specs.Out.{putAt, Wrote}
 use Rattle.lines.specs.Acts.{apply}
-use Rattle.place.specs.Blocks.{blockIds}
 use Rattle.place.specs.Fill.{Filled}
-use Rattle.place.proofs.Blocks.{length-ids}
-use Rattle.records.specs.declared.LineRec.{LineRec}
-use Rattle.records.specs.Records.{recordsOf}
-use Rattle.records.proofs.Laws.{records-count}
 use Rattle.place.specs.Parents.{idsParents, pathParents}
 use Rattle.reading.specs.Reading.{Reading, plain}
 use Rattle.globals.specs.Globals.{removeGlobals}
@@ -30,7 +22,7 @@ use Rattle.calls.specs.Calls.{rebuildCalls}
 use Rattle.decls.specs.Decls.{pruneDecls}
 use Rattle.bind.specs.Bind.{bindDeclarators}
 use Rattle.steps.specs.Step.{stepOf}
-use Rattle.steps.specs.Left.{leftC, leftD, leftE, leftU, leftRecs, Left}
+use Rattle.steps.specs.Left.{leftC, leftD, leftE, leftU, Left}
 
 -- ---- which pass a number is
 
@@ -130,38 +122,3 @@ calls-left s p q r f = (p .holds, (q .holds, (r .holds, filled-at f)))
 pub bind-left : (s : List ℕ) {u u′ : List ℕ} {n : ℕ} → Filled u (idsParents (linesOf s)) u′ n → u′ ≡ leftU 6 s u
 unfolding leftU
 bind-left s f = filled-at f
-
--- ---- the line records
-
-pub recs-6 : (s : List ℕ) (d : List LineRec) {d′ : List LineRec} → d′ ≡ recordsOf (linesOf s) (blockIds (linesOf s)) ++ drop (length (linesOf s)) d → d′ ≡ leftRecs 6 s d
-unfolding leftRecs
-recs-6 s d e = e
-
-pub recs-4 : (s : List ℕ) (d : List LineRec) {d′ : List LineRec} → d′ ≡ recordsOf (linesOf s) (blockIds (linesOf s)) ++ drop (length (linesOf s)) d → d′ ≡ leftRecs 4 s d
-unfolding leftRecs
-recs-4 s d e = e
-
-pub recs-as : {k j : ℕ} (s : List ℕ) (d : List LineRec) {d′ : List LineRec} → k ≡ j → d′ ≡ leftRecs j s d → d′ ≡ leftRecs k s d
-recs-as s d q h = rw q h
-
-pub recs-else : (k : ℕ) (s : List ℕ) (d : List LineRec) → (k ≡ 4 → ⊥) → (k ≡ 6 → ⊥) → d ≡ leftRecs k s d
-unfolding leftRecs
-recs-else k s d n4 n6 = rw (ne-eqb k 4 n4, ne-eqb k 6 n6)
-
--- what stands behind the records that a pass may use stays
-pub recs-behind : (k : ℕ) (s : List ℕ) (d : List LineRec) (n : ℕ) → length (linesOf s) ≤ n → drop n (leftRecs k s d) ≡ drop n d
-unfolding leftRecs
-recs-behind k s d n h = go (eqb k 4 || eqb k 6)
-  where
-    rs : List LineRec
-    rs = recordsOf (linesOf s) (blockIds (linesOf s))
-
-    many : length rs ≡ length (linesOf s)
-    many = records-count (linesOf s) (blockIds (linesOf s)) (let e = length-ids (linesOf s) in omega arith)
-
-    go : (b : Bool) → drop n (cond b (rs ++ drop (length (linesOf s)) d) d) ≡ drop n d
-    go true =
-        let m : ℕ = length (linesOf s) in
-        let e : n ≡ m + (n - m) = omega arith in
-        ap (λ (x : ℕ). drop x (rs ++ drop m d)) (e ∙ ap (λ (x : ℕ). x + (n - m)) (sym many)) ∙ drop-append-add rs (drop m d) (n - m) ∙ drop-drop (n - m) m d ∙ ap (λ (x : ℕ). drop x d) (sym e)
-    go false = refl

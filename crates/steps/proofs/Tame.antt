@@ -170,12 +170,12 @@ phis-room {s} r =
       ),
     )
 
-pub calls-room : {s : List ℕ} {owner blocks starts up stack cur next clean out recs : ℕ} → Bounded s → up ≡ blockSize → cur ≡ byteSize → next ≡ byteSize → clean ≡ byteSize → out ≡ byteSize → 1024 ≤ recs →
+pub calls-room : {s : List ℕ} {owner blocks starts up stack cur next clean out ends : ℕ} → Bounded s → up ≡ blockSize → cur ≡ byteSize → next ≡ byteSize → clean ≡ byteSize → out ≡ byteSize → 1024 ≤ ends →
     1024 ≤ owner → 1024 ≤ blocks → 1024 ≤ starts → byteSize < stack →
     ((length (linesOf s) ≤ owner) × ((length (linesOf s) ≤ blocks) × (length (linesOf s) ≤ starts)))
     × (((length (idsParents (linesOf s)) ≤ up) × (up < 2 ^ 32))
     × (((length s < stack) × ((length s ≤ cur) × ((length s ≤ next) × (length s ≤ clean))))
-    × ((length (unlines (rebuildCalls (leavesOf plain) (linesOf s))) ≤ out) × (length (linesOf s) ≤ recs))))
+    × ((length (unlines (rebuildCalls (leavesOf plain) (linesOf s))) ≤ out) × (length (linesOf s) ≤ ends))))
 calls-room {s} r qu qc qn ql qo qr ko kb ks kt = (
   (omega (arith, r .lines), (omega (arith, r .lines), omega (arith, r .lines))),
   (
@@ -187,9 +187,9 @@ calls-room {s} r qu qc qn ql qo qr ko kb ks kt = (
   ),
 )
 
-pub bind-room : {s : List ℕ} {blocks starts up marks out recs : ℕ} → Bounded s → up ≡ blockSize → out ≡ byteSize → 1024 ≤ recs → 1024 ≤ blocks → 1024 ≤ starts → 1024 ≤ marks →
+pub bind-room : {s : List ℕ} {blocks starts up marks out ends : ℕ} → Bounded s → up ≡ blockSize → out ≡ byteSize → 1024 ≤ ends → 1024 ≤ blocks → 1024 ≤ starts → 1024 ≤ marks →
     ((length (linesOf s) ≤ blocks) × ((length (linesOf s) ≤ starts) × ((length (idsParents (linesOf s)) ≤ up) × (up < 2 ^ 32))))
-    × ((length (linesOf s) ≤ marks) × ((length (unlines (bindDeclarators plain (linesOf s))) ≤ out) × (length (linesOf s) ≤ recs)))
+    × ((length (linesOf s) ≤ marks) × ((length (unlines (bindDeclarators plain (linesOf s))) ≤ out) × (length (linesOf s) ≤ ends)))
 bind-room {s} r qu qo qr qb qs qm = (
   (omega (arith, r .lines), (omega (arith, r .lines), (omega (arith, ids-parents-text s, r .braces), omega arith))),
   (omega (arith, r .lines), (omega (arith, room-fits (tame-bind plain-by-line) r), omega (arith, r .lines))),

@@ -1,17 +1,14 @@
 -- What a step leaves in the work buffers that it does not write its lines to. Assumes nothing.
 use Prim.Native.Nat.{ℕ}
 use mathlib.Core.Path.{_≡_}
-use mathlib.Core.Bool.{cond, _||_}
-use mathlib.Core.List.{List, _++_}
+use mathlib.Core.Bool.{cond}
+use mathlib.Core.List.{List}
 use lib.Dec.{eqb}
-use lib.ListN.{length, drop, replicate}
+use lib.ListN.{length, replicate}
 use Rattle.lines.specs.Lf.{linesOf, unlines}
 use Rattle.lines.specs.Out.{putAt}
 use Rattle.lines.specs.Acts.{apply}
 use Rattle.place.specs.Parents.{idsParents, pathParents}
-use Rattle.place.specs.Blocks.{blockIds}
-use Rattle.records.specs.declared.LineRec.{LineRec}
-use Rattle.records.specs.Records.{recordsOf}
 use Rattle.reading.specs.Reading.{plain}
 use Rattle.temps.specs.Scratch.{tempScratch}
 use Rattle.once.specs.Once.{onceActs}
@@ -46,10 +43,6 @@ leftU k s u =
     (cond (eqb k 4) (putAt u 0 (idsParents (linesOf s)))
     (cond (eqb k 6) (putAt u 0 (idsParents (linesOf s)))
     u))
-
--- the line records: those of the lines that passes 4 and 6 go down
-unfoldable pub leftRecs : ℕ → List ℕ → List LineRec → List LineRec
-leftRecs k s d = cond (eqb k 4 || eqb k 6) (recordsOf (linesOf s) (blockIds (linesOf s)) ++ drop (length (linesOf s)) d) d
 
 -- the four after step k over the text s
 pub record Left (k : ℕ) (s c d e u c′ d′ e′ u′ : List ℕ) : Type 0 where

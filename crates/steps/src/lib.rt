@@ -9,10 +9,10 @@ ghost use Rattle.once.specs.Once.{optimizeOnce};
 ghost use Rattle.calls.specs.LeavesOf.{leavesOf};
 ghost use Rattle.calls.specs.Calls.{rebuildCalls};
 ghost use Rattle.bind.specs.Bind.{bindDeclarators};
-ghost use Rattle.limits.specs.Entry.{byteSize, blockSize, lineSize};
+ghost use Rattle.limits.specs.Entry.{byteSize, blockSize};
 ghost use Rattle.steps.specs.Step.{stepOf};
 ghost use Rattle.steps.specs.Bounds.{Bounded, Sized};
-ghost use Rattle.steps.specs.Left.{leftC, leftD, leftE, leftU, leftRecs, Left};
+ghost use Rattle.steps.specs.Left.{leftC, leftD, leftE, leftU, Left};
 
 // Runs optimize_once, with its tables for 1,024 lines.
 fn once_step(src: &[u8], scratch: &mut [u8], mid: &mut [u8], u: &mut [u32], dst: &mut [u8]) -> usize
@@ -43,22 +43,21 @@ fn calls_step(
     next: &mut [u8],
     clean: &mut [u8],
     u: &mut [u32],
-    recs: &mut [records::LineRec],
     dst: &mut [u8],
 ) -> usize
-    requires { ⌜ Bounded (now src) × ((length (now cur) ≡ byteSize) × ((length (now next) ≡ byteSize) × ((length (now clean) ≡ byteSize) × ((length (now u) ≡ blockSize) × ((length (now dst) ≡ byteSize) × (lineSize ≤ length (now recs))))))) ⌝ }
+    requires { ⌜ Bounded (now src) × ((length (now cur) ≡ byteSize) × ((length (now next) ≡ byteSize) × ((length (now clean) ≡ byteSize) × ((length (now u) ≡ blockSize) × (length (now dst) ≡ byteSize))))) ⌝ }
     ensures { λ r. ⌜ Wrote (now (dst .entry)) 0 (unlines (rebuildCalls (leavesOf plain) (linesOf (now (src .entry))))) (now (dst .exit)) r ⌝ }
     ensures memory { λ _. ⌜ (now (cur .exit) ≡ leftC 4 (now (src .entry)) (now (cur .entry))) × ((now (next .exit) ≡ leftD 4 (now (src .entry)) (now (next .entry)))
         × ((now (clean .exit) ≡ leftE 4 (now (src .entry)) (now (clean .entry))) × (now (u .exit) ≡ leftU 4 (now (src .entry)) (now (u .entry))))) ⌝ }
-    ensures records { λ _. ⌜ now (recs .exit) ≡ leftRecs 4 (now (src .entry)) (now (recs .entry)) ⌝ }
 {
+    let mut ends = [0usize; 1024];
     let mut owner = [0usize; 1024];
     let mut blocks = [0usize; 1024];
     let mut starts = [0u8; 1024];
     let mut stack = [0u8; 32770];
     calls::rebuild_calls(
         src,
-        recs,
+        &mut ends,
         &mut owner,
         &mut blocks,
         &mut starts,
@@ -72,18 +71,19 @@ fn calls_step(
 }
 
 // Runs bind_declarators, with its tables for 1,024 lines.
-fn bind_step(src: &[u8], u: &mut [u32], recs: &mut [records::LineRec], dst: &mut [u8]) -> usize
-    requires { ⌜ Bounded (now src) × ((length (now u) ≡ blockSize) × ((length (now dst) ≡ byteSize) × (lineSize ≤ length (now recs)))) ⌝ }
+fn bind_step(src: &[u8], u: &mut [u32], dst: &mut [u8]) -> usize
+    requires { ⌜ Bounded (now src) × ((length (now u) ≡ blockSize) × (length (now dst) ≡ byteSize)) ⌝ }
     ensures { λ r. ⌜ Wrote (now (dst .entry)) 0 (unlines (bindDeclarators plain (linesOf (now (src .entry))))) (now (dst .exit)) r ⌝ }
-    ensures memory { λ _. ⌜ (now (u .exit) ≡ leftU 6 (now (src .entry)) (now (u .entry))) × (now (recs .exit) ≡ leftRecs 6 (now (src .entry)) (now (recs .entry))) ⌝ }
+    ensures memory { λ _. ⌜ now (u .exit) ≡ leftU 6 (now (src .entry)) (now (u .entry)) ⌝ }
 {
+    let mut ends = [0usize; 1024];
     let mut blocks = [0usize; 1024];
     let mut starts = [0u8; 1024];
     let mut marks = [0u8; 1024];
-    bind::bind_declarators(src, recs, &mut blocks, &mut starts, u, &mut marks, dst)
+    bind::bind_declarators(src, &mut ends, &mut blocks, &mut starts, u, &mut marks, dst)
 }
 
-// Runs a pass by its number as `step` does, for a number that is neither 4 nor 6.
+// Runs a pass by its number as `step` does, for a number that is not 6.
 fn other_step(
     k: usize,
     src: &[u8],
@@ -93,7 +93,7 @@ fn other_step(
     e: &mut [u8],
     u: &mut [u32],
 ) -> usize
-    requires { ⌜ ((k ≡ 4 → ⊥) × (k ≡ 6 → ⊥)) × (Bounded (now src) × Sized (now dst) (now c) (now d) (now e) (now u)) ⌝ }
+    requires { ⌜ (k ≡ 6 → ⊥) × (Bounded (now src) × Sized (now dst) (now c) (now d) (now e) (now u)) ⌝ }
     ensures { λ r. ⌜ Wrote (now (dst .entry)) 0 (unlines (stepOf plain k (linesOf (now (src .entry))))) (now (dst .exit)) r ⌝ }
     ensures memory { λ _. ⌜ Left k (now (src .entry)) (now (c .entry)) (now (d .entry)) (now (e .entry)) (now (u .entry)) (now (c .exit)) (now (d .exit)) (now (e .exit)) (now (u .exit)) ⌝ }
 {
@@ -108,6 +108,9 @@ fn other_step(
     }
     if k == 3 {
         return phis::prune_dead_phis(src, c, d, e, dst);
+    }
+    if k == 4 {
+        return calls_step(src, c, d, e, u, dst);
     }
     if k == 5 {
         return decls::prune_decls(src, dst);
@@ -125,18 +128,13 @@ pub fn step(
     d: &mut [u8],
     e: &mut [u8],
     u: &mut [u32],
-    recs: &mut [records::LineRec],
 ) -> usize
-    requires { ⌜ (Bounded (now src) × Sized (now dst) (now c) (now d) (now e) (now u)) × (lineSize ≤ length (now recs)) ⌝ }
+    requires { ⌜ Bounded (now src) × Sized (now dst) (now c) (now d) (now e) (now u) ⌝ }
     ensures { λ r. ⌜ Wrote (now (dst .entry)) 0 (unlines (stepOf plain k (linesOf (now (src .entry))))) (now (dst .exit)) r ⌝ }
     ensures memory { λ _. ⌜ Left k (now (src .entry)) (now (c .entry)) (now (d .entry)) (now (e .entry)) (now (u .entry)) (now (c .exit)) (now (d .exit)) (now (e .exit)) (now (u .exit)) ⌝ }
-    ensures records { λ _. ⌜ now (recs .exit) ≡ leftRecs k (now (src .entry)) (now (recs .entry)) ⌝ }
 {
-    if k == 4 {
-        return calls_step(src, c, d, e, u, recs, dst);
-    }
     if k == 6 {
-        return bind_step(src, u, recs, dst);
+        return bind_step(src, u, dst);
     }
     other_step(k, src, dst, c, d, e, u)
 }

@@ -59,7 +59,11 @@ fn say_entries(table: &[usize], n: usize, equal: bool, out: &mut [u8]) -> usize 
 
 // Fills tables with the block of each line and whether it may begin a statement, where they are large enough.
 fn place_lines(a: &[u8], blocks: &mut [usize], starts: &mut [u8], up: &mut [u32]) -> usize {
+    let mut ends = [0usize; 4096];
     let n = lines::count_lines(a);
+    if 4096 < n {
+        return nothing();
+    }
     if blocks.len() < n {
         return nothing();
     }
@@ -72,7 +76,7 @@ fn place_lines(a: &[u8], blocks: &mut [usize], starts: &mut [u8], up: &mut [u32]
     if 4294967295 < up.len() {
         return nothing();
     }
-    place::place_lines(a, blocks, starts, up)
+    place::place_lines(a, blocks, starts, up, &mut ends)
 }
 
 // The block of each line.

@@ -1,31 +1,28 @@
 -- `bind::bind_declarators` meets its contract. Assumes nothing.
-mod Lts
-mod Tie
 use mathlib.Core.Path.{_∙_}
-use lib.ListN.{length, drop}
+use lib.ListN.{length}
 use native.Mathlib.Omega.{arith}
 use borrow.Author.Needs.{needs}
 use Rattle.lines.specs.Lf.{linesOf}
 use Rattle.place.proofs.Fills.{filled-then, filled-length}
-use Rattle.records.proofs.Laws.{holds-ids}
+use Rattle.records.proofs.Shown.{told-ids}
 use Rattle.bind.proofs.WalkLaws.{blocks-fit, rows-filled, table-count, cleared, filled-at}
 use Rattle.bind.proofs.bind_declarators.Statement.{statement}
-use Rattle.bind.proofs.bind_declarators.Proof.Tie as tie
+use Rattle.bind.proofs.bind_declarators.Tie as tie
 
 place-lines-requires : tie.Need-place-lines-requires
 place-lines-requires c κs = search needs
 
 clear-requires : tie.Need-clear-requires
-clear-requires c κs = omega (arith, c .before .before .before .before .before .before .before .before .before .before .before .before .before .before .before .before .before .before .before .pre .1 .0, table-count (linesOf (c .before .before .before .before .before .before .before .before .before .before .before .before .before .before .before .before .before .before .before .args .text .now)) (c .before .before .before .before .before .before .before .before .place-lines .ensures .0 .0))
+clear-requires c κs = omega (arith, c .before .before .before .before .before .before .before .before .before .before .before .before .before .before .before .before .before .before .before .before .before .pre .1 .0, table-count (linesOf (c .before .before .before .before .before .before .before .before .before .before .before .before .before .before .before .before .before .before .before .before .before .args .text .now)) (c .before .before .before .before .before .before .before .before .before .place-lines .ensures .0 .0))
 
 walk-requires : tie.Need-walk-requires
-walk-requires c κs =
-    let a = c .before .before .before .before .before .before .before .before .before .before .before .before .before .before .before .before .before .before .before .before .before .before .before .before .before .before .before .args in
-    let q = c .before .before .before .before .before .before .before .before .before .before .before .before .before .before .before .before .before .before .before .before .before .before .before .before .before .before .before .pre in
-    let p = c .before .before .before .before .before .before .before .before .before .before .before .before .before .before .before .before .place-lines .ensures .0 in
+walk-requires c κs = let a = c .before .before .before .before .before .before .before .before .before .before .before .before .before .before .before .before .before .before .before .before .before .before .before .before .before .before .before .before .before .args in
+    let q = c .before .before .before .before .before .before .before .before .before .before .before .before .before .before .before .before .before .before .before .before .before .before .before .before .before .before .before .before .before .pre in
+    let p = c .before .before .before .before .before .before .before .before .before .before .before .before .before .before .before .before .before .place-lines .ensures .0 in
     let n = table-count (linesOf (a .text .now)) (p .0) in
     record {
-      held = holds-ids (a .text .now) (drop (length (linesOf (a .text .now))) (a .recs .now)) (q .0 .0) (p .0) (c .before .before .before .before .before .before .before .before .before .before .before .before .before .before .before .before .place-lines .ensures .1);
+      told = told-ids (a .text .now) (q .0 .0) (p .0) (c .before .before .before .before .before .before .before .before .before .before .before .before .before .before .before .before .before .place-lines .ensures .1);
       rows = rows-filled (linesOf (a .text .now)) (p .0) (p .1 .0);
       fits = omega (arith, q .1 .0, c .before .before .before .before .before .before .before .clear .ensures .place);
       unmarked = cleared n (c .before .before .before .before .before .before .before .clear .ensures);
@@ -51,14 +48,25 @@ same-length-6 : tie.Need-same-length-6
 same-length-6 c = search needs
 
 returns : tie.Need-returns
-returns c =
-    let a = c .before .before .before .before .before .before .before .before .before .before .before .before .before .before .before .before .before .before .before .before .before .before .before .before .before .before .before .before .before .before .before .before .args in
-    let q = c .before .before .before .before .before .before .before .before .before .before .before .before .before .before .before .before .before .before .before .before .before .before .before .before .before .before .before .before .before .before .before .before .pre in
-    let p = c .before .before .before .before .before .before .before .before .before .before .before .before .before .before .before .before .before .before .before .before .before .place-lines .ensures .0 in
+returns c = let a = c .before .before .before .before .before .before .before .before .before .before .before .before .before .before .before .before .before .before .before .before .before .before .before .before .before .before .before .before .before .before .before .before .before .before .args in
+    let q = c .before .before .before .before .before .before .before .before .before .before .before .before .before .before .before .before .before .before .before .before .before .before .before .before .before .before .before .before .before .before .before .before .before .before .pre in
+    let p = c .before .before .before .before .before .before .before .before .before .before .before .before .before .before .before .before .before .before .before .before .before .before .place-lines .ensures .0 in
     let w = c .before .before .before .before .walk .ensures in
     let m = c .before .before .before .before .before .before .before .before .before .before .before .before .clear .ensures in
     let n = table-count (linesOf (a .text .now)) (p .0) in
-    (w .0, ((filled-at n (p .0), (filled-at n (p .1 .0), p .1 .1)), (filled-then m (w .1) (omega (arith, n, m .place, w .1 .place)), c .before .before .before .before .before .before .before .before .before .before .before .before .before .before .before .before .before .before .before .before .before .place-lines .ensures .1)))
+    (w .0, ((filled-at n (p .0), (filled-at n (p .1 .0), p .1 .1)), (filled-then m (w .1) (omega (arith, n, m .place, w .1 .place)), filled-at n (c .before .before .before .before .before .before .before .before .before .before .before .before .before .before .before .before .before .before .before .before .before .before .place-lines .ensures .1))))
 
 pub bind-declarators-spec : {M : Type 1} → statement M
-bind-declarators-spec = tie.close (tie.spec place-lines-requires clear-requires walk-requires same-length same-length-2 same-length-3 same-length-4 same-length-5 same-length-6 returns)
+bind-declarators-spec =
+    tie.close
+    (tie.spec
+    place-lines-requires
+    clear-requires
+    walk-requires
+    same-length
+    same-length-2
+    same-length-3
+    same-length-4
+    same-length-5
+    same-length-6
+    returns)

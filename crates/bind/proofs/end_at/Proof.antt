@@ -1,23 +1,35 @@
 -- `bind::end_at` meets its contract. Assumes nothing.
-mod Lts
-mod Tie
+use Prim.Native.Nat.{ℕ, _+_, _-_}
+use mathlib.Core.Path.{ap, _∙_}
+use native.Mathlib.Omega.{arith}
 use borrow.Author.Needs.{needs}
 use borrow.Author.Tests.{eq-eqb, ne-eqb}
-use native.Mathlib.Omega.{arith}
+use lib.ListN.{length}
+use Rattle.bind.specs.Sites.{stopBy}
 use Rattle.bind.proofs.end_at.Statement.{statement}
-use Rattle.bind.proofs.end_at.Proof.Tie as tie
+use Rattle.bind.proofs.end_at.Tie as tie
 
 returns : tie.Need-returns
-returns c = let a = c .before .before .before .args in rw (eq-eqb (a .rec .region .0) (a .c .0) (c .if1 .taken))
+returns c = let a = c .before .before .before .before .before .args in rw (eq-eqb (a .rec .region .0) (a .c .0) (c .if1 .taken))
 
-add-stop-from : tie.Need-add-stop-from
-add-stop-from c = omega (arith, c .before .before .before .pre .0, c .before .before .before .fits .n)
+add-stop-by : tie.Need-add-stop-by
+add-stop-by c = omega (arith, c .before .before .before .before .before .pre .0, c .before .before .before .before .before .fits .n)
 
-stop-from-requires : tie.Need-stop-from-requires
-stop-from-requires c κs = c .before .before .before .pre .1
+after-requires : tie.Need-after-requires
+after-requires c κs = tt
+
+stop-by-requires : tie.Need-stop-by-requires
+stop-by-requires c κs = c .before .before .before .before .before .before .pre .1
 
 returns-2 : tie.Need-returns-2
-returns-2 c = let a = c .before .before .before .before .args in rw (ne-eqb (a .rec .region .0) (a .c .0) (c .before .if1 .left)) (c .stop-from .ensures)
+returns-2 c = let a = c .before .before .before .before .before .before .before .args in rw (ne-eqb (a .rec .region .0) (a .c .0) (c .before .before .if1 .left)) (c .stop-by .ensures ∙ ap (λ (x : ℕ). stopBy (a .ends .now) (length (a .text .now)) (a .n - (a .k + 1)) (a .k + 1) x) (c .before .after .ensures))
 
 pub end-at-spec : {M : Type 1} → statement M
-end-at-spec = tie.close (tie.spec returns add-stop-from stop-from-requires returns-2)
+end-at-spec =
+    tie.close
+    (tie.spec
+    returns
+    add-stop-by
+    after-requires
+    stop-by-requires
+    returns-2)

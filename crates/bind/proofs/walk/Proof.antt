@@ -1,20 +1,18 @@
 -- `bind::walk` meets its contract. Assumes nothing.
-mod Lts
-mod Tie
 use borrow.Author.Needs.{needs}
 use mathlib.Core.Path.{refl}
 use Rattle.decls.proofs.SeenLaws.{zeros-most}
 use Rattle.bind.proofs.walk.Statement.{statement}
-use Rattle.bind.proofs.walk.Proof.Tie as tie
+use Rattle.bind.proofs.walk.Tie as tie
 
-slice-aggregate-walk-with : tie.Need-slice-aggregate-walk-with
-slice-aggregate-walk-with c = search needs
+slice-aggregate-walk-lines : tie.Need-slice-aggregate-walk-lines
+slice-aggregate-walk-lines c = search needs
 
-slice-aggregate-walk-with-2 : tie.Need-slice-aggregate-walk-with-2
-slice-aggregate-walk-with-2 c = search needs
+slice-aggregate-walk-lines-2 : tie.Need-slice-aggregate-walk-lines-2
+slice-aggregate-walk-lines-2 c = search needs
 
-walk-with-requires : tie.Need-walk-with-requires
-walk-with-requires c κs = ((refl, (zeros-most 1024, zeros-most 1024)), c .before .before .before .before .before .before .before .before .before .pre)
+walk-lines-requires : tie.Need-walk-lines-requires
+walk-lines-requires c κs = ((refl, (zeros-most 1024, zeros-most 1024)), c .before .before .before .before .before .before .before .before .before .before .pre)
 
 same-length : tie.Need-same-length
 same-length c = search needs
@@ -29,9 +27,9 @@ pub walk-spec : {M : Type 1} → statement M
 walk-spec =
     tie.close
     (tie.spec
-    slice-aggregate-walk-with
-    slice-aggregate-walk-with-2
-    walk-with-requires
+    slice-aggregate-walk-lines
+    slice-aggregate-walk-lines-2
+    walk-lines-requires
     same-length
     same-length-2
     returns)

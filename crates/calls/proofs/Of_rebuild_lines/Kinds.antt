@@ -4,7 +4,6 @@ use borrow.Fn.Kinds
 use borrow.Kind.MutSlice
 use borrow.Kind.ShrSlice
 use borrow.Table.Referent
-use denote.Array
 use mathlib.Core.List
 use mir.Syntax
 
@@ -13,7 +12,7 @@ ps =
     List._∷_
     (ShrSlice.pShrS (Referent.rtF (Referent.fInt Syntax.w8)) 0 tt)
     (List._∷_
-    (ShrSlice.pShrS Elem.R 1 tt)
+    (ShrSlice.pShrS (Referent.rtF (Referent.fInt Syntax.w64)) 1 tt)
     (List._∷_
     (Kinds.pNum Syntax.w64)
     (List._∷_

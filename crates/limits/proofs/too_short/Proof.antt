@@ -1,5 +1,5 @@
 use borrow.Author.Tests.{lt-ltb, le-ltb}
-use Rattle.limits.specs.Entry.{byteSize, blockSize}
+use Rattle.limits.specs.Entry.{byteSize}
 use Rattle.limits.proofs.too_short.Statement.{statement}
 use Rattle.limits.proofs.too_short.Tie as tie
 
@@ -19,10 +19,7 @@ returns-5 : tie.Need-returns-5
 returns-5 c = rw (le-ltb (c .before .before .before .before .before .args .a) byteSize (c .before .before .before .before .if1 .left), le-ltb (c .before .before .before .before .before .args .b) byteSize (c .before .before .before .if2 .left), le-ltb (c .before .before .before .before .before .args .c) byteSize (c .before .before .if3 .left), le-ltb (c .before .before .before .before .before .args .d) byteSize (c .before .if4 .left), lt-ltb (c .before .before .before .before .before .args .e) byteSize (c .if5 .taken))
 
 returns-6 : tie.Need-returns-6
-returns-6 c = rw (le-ltb (c .before .before .before .before .before .before .args .a) byteSize (c .before .before .before .before .before .if1 .left), le-ltb (c .before .before .before .before .before .before .args .b) byteSize (c .before .before .before .before .if2 .left), le-ltb (c .before .before .before .before .before .before .args .c) byteSize (c .before .before .before .if3 .left), le-ltb (c .before .before .before .before .before .before .args .d) byteSize (c .before .before .if4 .left), le-ltb (c .before .before .before .before .before .before .args .e) byteSize (c .before .if5 .left), lt-ltb (c .before .before .before .before .before .before .args .u) blockSize (c .if6 .taken))
-
-returns-7 : tie.Need-returns-7
-returns-7 c = rw (le-ltb (c .before .before .before .before .before .before .args .a) byteSize (c .before .before .before .before .before .if1 .left), le-ltb (c .before .before .before .before .before .before .args .b) byteSize (c .before .before .before .before .if2 .left), le-ltb (c .before .before .before .before .before .before .args .c) byteSize (c .before .before .before .if3 .left), le-ltb (c .before .before .before .before .before .before .args .d) byteSize (c .before .before .if4 .left), le-ltb (c .before .before .before .before .before .before .args .e) byteSize (c .before .if5 .left), le-ltb (c .before .before .before .before .before .before .args .u) blockSize (c .if6 .left))
+returns-6 c = rw (le-ltb (c .before .before .before .before .before .args .a) byteSize (c .before .before .before .before .if1 .left), le-ltb (c .before .before .before .before .before .args .b) byteSize (c .before .before .before .if2 .left), le-ltb (c .before .before .before .before .before .args .c) byteSize (c .before .before .if3 .left), le-ltb (c .before .before .before .before .before .args .d) byteSize (c .before .if4 .left), le-ltb (c .before .before .before .before .before .args .e) byteSize (c .if5 .left))
 
 pub too-short-spec : {M : Type 1} → statement M
 too-short-spec =
@@ -33,5 +30,4 @@ too-short-spec =
     returns-3
     returns-4
     returns-5
-    returns-6
-    returns-7)
+    returns-6)

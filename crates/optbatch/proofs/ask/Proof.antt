@@ -1,12 +1,10 @@
 -- `optbatch::ask` is safe and ends. What is lent has the length that is asked. Assumes nothing.
-mod Lts
-mod Tie
 use native.Mathlib.Omega.{arith}
 use mathlib.Core.Path.{sym}
 use lib.Seq.{length-take-le}
 use borrow.Author.Needs.{needs}
 use Rattle.optbatch.proofs.ask.Statement.{statement}
-use Rattle.optbatch.proofs.ask.Proof.Tie as tie
+use Rattle.optbatch.proofs.ask.Tie as tie
 
 lent-of-requires : tie.Need-lent-of-requires
 lent-of-requires c κs = tt
@@ -95,9 +93,6 @@ same-length-6 c = search needs
 same-length-7 : tie.Need-same-length-7
 same-length-7 c = search needs
 
-same-length-8 : tie.Need-same-length-8
-same-length-8 c = search needs
-
 returns : tie.Need-returns
 returns c = tt
 
@@ -134,5 +129,4 @@ ask-spec =
     same-length-5
     same-length-6
     same-length-7
-    same-length-8
     returns)

@@ -1,10 +1,8 @@
-mod Lts
-mod Tie
 use borrow.Author.Needs.{needs}
 use Rattle.steps.proofs.Tame.{table, bind-room}
-use Rattle.steps.proofs.StepLaws.{bind-left, recs-6}
+use Rattle.steps.proofs.StepLaws.{bind-left}
 use Rattle.steps.proofs.bind_step.Statement.{statement}
-use Rattle.steps.proofs.bind_step.Proof.Tie as tie
+use Rattle.steps.proofs.bind_step.Tie as tie
 
 slice-aggregate-bind-declarators : tie.Need-slice-aggregate-bind-declarators
 slice-aggregate-bind-declarators c = search needs
@@ -15,8 +13,13 @@ slice-aggregate-bind-declarators-2 c = search needs
 slice-aggregate-bind-declarators-3 : tie.Need-slice-aggregate-bind-declarators-3
 slice-aggregate-bind-declarators-3 c = search needs
 
+slice-aggregate-bind-declarators-4 : tie.Need-slice-aggregate-bind-declarators-4
+slice-aggregate-bind-declarators-4 c = search needs
+
 bind-declarators-requires : tie.Need-bind-declarators-requires
-bind-declarators-requires c κs = let p = c .before .before .before .before .before .before .before .before .before .pre in bind-room (p .0) (p .1 .0) (p .1 .1 .0) (p .1 .1 .1) (table 1024) (table 1024) (table 1024)
+bind-declarators-requires c κs =
+    let p = c .before .before .before .before .before .before .before .before .before .pre in
+    bind-room (p .0) (p .1 .0) (p .1 .1) (table 1024) (table 1024) (table 1024) (table 1024)
 
 same-length : tie.Need-same-length
 same-length c = search needs
@@ -24,11 +27,8 @@ same-length c = search needs
 same-length-2 : tie.Need-same-length-2
 same-length-2 c = search needs
 
-same-length-3 : tie.Need-same-length-3
-same-length-3 c = search needs
-
 returns : tie.Need-returns
-returns c = let p = c .before .before .before .before .before .before .before .before .bind-declarators .ensures in (p .0, (bind-left _ (p .1 .0 .1 .1), recs-6 _ _ (p .1 .1 .1)))
+returns c = let p = c .before .before .before .before .before .before .before .before .bind-declarators .ensures in (p .0, bind-left _ (p .1 .0 .1 .1))
 
 pub bind-step-spec : {M : Type 1} → statement M
 bind-step-spec =
@@ -37,8 +37,8 @@ bind-step-spec =
     slice-aggregate-bind-declarators
     slice-aggregate-bind-declarators-2
     slice-aggregate-bind-declarators-3
+    slice-aggregate-bind-declarators-4
     bind-declarators-requires
     same-length
     same-length-2
-    same-length-3
     returns)

@@ -1,10 +1,8 @@
-mod Lts
-mod Tie
 use borrow.Author.Needs.{needs}
 use Rattle.steps.proofs.Tame.{table, calls-room}
-use Rattle.steps.proofs.StepLaws.{calls-left, recs-4}
+use Rattle.steps.proofs.StepLaws.{calls-left}
 use Rattle.steps.proofs.calls_step.Statement.{statement}
-use Rattle.steps.proofs.calls_step.Proof.Tie as tie
+use Rattle.steps.proofs.calls_step.Tie as tie
 
 slice-aggregate-rebuild-calls : tie.Need-slice-aggregate-rebuild-calls
 slice-aggregate-rebuild-calls c = search needs
@@ -18,10 +16,13 @@ slice-aggregate-rebuild-calls-3 c = search needs
 slice-aggregate-rebuild-calls-4 : tie.Need-slice-aggregate-rebuild-calls-4
 slice-aggregate-rebuild-calls-4 c = search needs
 
+slice-aggregate-rebuild-calls-5 : tie.Need-slice-aggregate-rebuild-calls-5
+slice-aggregate-rebuild-calls-5 c = search needs
+
 rebuild-calls-requires : tie.Need-rebuild-calls-requires
 rebuild-calls-requires c κs =
     let p = c .before .before .before .before .before .before .before .before .before .before .before .before .before .before .before .before .pre in
-    calls-room (p .0) (p .1 .1 .1 .1 .0) (p .1 .0) (p .1 .1 .0) (p .1 .1 .1 .0) (p .1 .1 .1 .1 .1 .0) (p .1 .1 .1 .1 .1 .1) (table 1024) (table 1024) (table 1024) (table 32770)
+    calls-room (p .0) (p .1 .1 .1 .1 .0) (p .1 .0) (p .1 .1 .0) (p .1 .1 .1 .0) (p .1 .1 .1 .1 .1) (table 1024) (table 1024) (table 1024) (table 1024) (table 32770)
 
 same-length : tie.Need-same-length
 same-length c = search needs
@@ -38,11 +39,8 @@ same-length-4 c = search needs
 same-length-5 : tie.Need-same-length-5
 same-length-5 c = search needs
 
-same-length-6 : tie.Need-same-length-6
-same-length-6 c = search needs
-
 returns : tie.Need-returns
-returns c = let p = c .before .before .before .before .before .before .before .before .before .before .before .before .before .before .before .rebuild-calls .ensures in (p .0, (calls-left _ (p .1 .1 .1 .0 .1 .0) (p .1 .1 .1 .0 .1 .1 .0) (p .1 .1 .1 .0 .1 .1 .1) (p .1 .1 .0 .1 .1), recs-4 _ _ (p .1 .1 .1 .1)))
+returns c = let p = c .before .before .before .before .before .before .before .before .before .before .before .before .before .before .before .rebuild-calls .ensures in (p .0, calls-left _ (p .1 .1 .1 .0 .1 .0) (p .1 .1 .1 .0 .1 .1 .0) (p .1 .1 .1 .0 .1 .1 .1) (p .1 .1 .0 .1 .1))
 
 pub calls-step-spec : {M : Type 1} → statement M
 calls-step-spec =
@@ -52,11 +50,11 @@ calls-step-spec =
     slice-aggregate-rebuild-calls-2
     slice-aggregate-rebuild-calls-3
     slice-aggregate-rebuild-calls-4
+    slice-aggregate-rebuild-calls-5
     rebuild-calls-requires
     same-length
     same-length-2
     same-length-3
     same-length-4
     same-length-5
-    same-length-6
     returns)

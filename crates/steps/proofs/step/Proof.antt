@@ -1,45 +1,30 @@
-mod Lts
-mod Tie
 use borrow.Author.Needs.{needs}
 use mathlib.Core.Path.{sym, ap}
 use Rattle.lines.specs.Lf.{linesOf, unlines}
 use Rattle.lines.proofs.OutLaws.{wrote-as}
 use Rattle.reading.specs.Reading.{plain}
-use Rattle.steps.proofs.StepLaws.{step-4, step-6, left-4, left-6, left-as, recs-as, recs-else}
+use Rattle.steps.proofs.StepLaws.{step-6, left-6, left-as}
 use Rattle.steps.proofs.step.Statement.{statement}
-use Rattle.steps.proofs.step.Proof.Tie as tie
-
-calls-step-requires : tie.Need-calls-step-requires
-calls-step-requires c κs = let q = c .before .before .before .before .before .before .before .before .before .before .before .before .before .pre in let p = q .0 in (p .0, (p .1 .c-size, (p .1 .d-size, (p .1 .e-size, (p .1 .u-size, (p .1 .b-size, q .1))))))
-
-returns : tie.Need-returns
-returns c =
-    let p = c .before .before .before .before .before .before .before .before .before .before .before .calls-step .ensures in
-    let g = c .before .before .before .before .before .before .before .before .before .before .before .before .before .before .before .before .before .before .before .before .before .before .before .before .before .args in
-    let q = c .before .before .before .before .before .before .before .before .before .before .before .before .before .before .before .before .before .before .if1 .taken in
-    (wrote-as (ap unlines (sym (step-4 plain (g .k) (linesOf (g .src .now)) q))) (p .0), (left-as q (left-4 (p .1 .0)), recs-as (g .src .now) (g .recs .now) q (p .1 .1)))
+use Rattle.steps.proofs.step.Tie as tie
 
 bind-step-requires : tie.Need-bind-step-requires
-bind-step-requires c κs = let p = c .before .before .before .before .before .before .before .before .before .before .before .pre in (p .0 .0, (p .0 .1 .u-size, (p .0 .1 .b-size, p .1)))
-
-returns-2 : tie.Need-returns-2
-returns-2 c =
-    let p = c .before .before .before .before .before .bind-step .ensures in
-    let g = c .before .before .before .before .before .before .before .before .before .before .before .before .before .before .before .before .before .args in
-    let q = c .before .before .before .before .before .before .before .before .before .if2 .taken in
-    (wrote-as (ap unlines (sym (step-6 plain (g .k) (linesOf (g .src .now)) q))) (p .0), (left-as q (left-6 (p .1 .0)), recs-as (g .src .now) (g .recs .now) q (p .1 .1)))
-
-other-step-requires : tie.Need-other-step-requires
-other-step-requires c κs = ((c .before .before .before .before .before .before .if1 .left, c .before .before .before .before .before .if2 .left), c .before .before .before .before .before .before .before .before .before .before .before .before .before .pre .0)
-
-returns-3 : tie.Need-returns-3
-returns-3 c = let p = c .before .before .before .before .before .before .before .before .before .before .other-step .ensures in let g = c .before .before .before .before .before .before .before .before .before .before .before .before .before .before .before .before .before .before .before .before .before .before .before .before .args in (p .0, (p .1, recs-else (g .k) (g .src .now) (g .recs .now) (c .before .before .before .before .before .before .before .before .before .before .before .before .before .before .before .before .before .if1 .left) (c .before .before .before .before .before .before .before .before .before .before .before .before .before .before .before .before .if2 .left)))
+bind-step-requires c κs = let p = c .before .before .before .before .before .before .before .before .before .pre in (p .0, (p .1 .u-size, p .1 .b-size))
 
 same-length : tie.Need-same-length
 same-length c = search needs
 
 same-length-2 : tie.Need-same-length-2
 same-length-2 c = search needs
+
+returns : tie.Need-returns
+returns c =
+    let p = c .before .before .before .before .bind-step .ensures in
+    let g = c .before .before .before .before .before .before .before .before .before .before .before .before .before .before .args in
+    let q = c .before .before .before .before .before .before .before .if1 .taken in
+    (wrote-as (ap unlines (sym (step-6 plain (g .k) (linesOf (g .src .now)) q))) (p .0), left-as q (left-6 (p .1)))
+
+other-step-requires : tie.Need-other-step-requires
+other-step-requires c κs = (c .before .before .before .before .before .if1 .left, c .before .before .before .before .before .before .before .before .before .before .before .before .pre)
 
 same-length-3 : tie.Need-same-length-3
 same-length-3 c = search needs
@@ -56,48 +41,21 @@ same-length-6 c = search needs
 same-length-7 : tie.Need-same-length-7
 same-length-7 c = search needs
 
-same-length-8 : tie.Need-same-length-8
-same-length-8 c = search needs
-
-same-length-9 : tie.Need-same-length-9
-same-length-9 c = search needs
-
-same-length-10 : tie.Need-same-length-10
-same-length-10 c = search needs
-
-same-length-11 : tie.Need-same-length-11
-same-length-11 c = search needs
-
-same-length-12 : tie.Need-same-length-12
-same-length-12 c = search needs
-
-same-length-13 : tie.Need-same-length-13
-same-length-13 c = search needs
-
-same-length-14 : tie.Need-same-length-14
-same-length-14 c = search needs
+returns-2 : tie.Need-returns-2
+returns-2 c = c .before .before .before .before .before .before .before .before .before .before .other-step .ensures
 
 pub step-spec : {M : Type 1} → statement M
 step-spec =
     tie.close
     (tie.spec
-    calls-step-requires
+    bind-step-requires
     same-length
     same-length-2
+    returns
+    other-step-requires
     same-length-3
     same-length-4
     same-length-5
     same-length-6
-    returns
-    bind-step-requires
     same-length-7
-    same-length-8
-    same-length-9
-    returns-2
-    other-step-requires
-    same-length-10
-    same-length-11
-    same-length-12
-    same-length-13
-    same-length-14
-    returns-3)
+    returns-2)

@@ -1,6 +1,8 @@
 -- `vectors::placed::place_lines` is safe and ends. There is room for each line and for each brace that opens. Assumes nothing.
 use borrow.Author.Needs.{needs}
+use Prim.Native.Nat.{ℕ}
 use native.Mathlib.Omega.{arith}
+use lib.ListN.{length-replicate}
 use Rattle.place.proofs.Rooms.{ids-parents-text}
 use Rattle.vectors.proofs.Bounds.{lines-count}
 use Rattle.vectors.proofs.placed.place_lines.Statement.{statement}
@@ -36,8 +38,17 @@ nothing-requires-4 c κs = search needs
 returns-4 : tie.Need-returns-4
 returns-4 c = search needs
 
+nothing-requires-5 : tie.Need-nothing-requires-5
+nothing-requires-5 c κs = search needs
+
+returns-5 : tie.Need-returns-5
+returns-5 c = search needs
+
+slice-aggregate-place-lines : tie.Need-slice-aggregate-place-lines
+slice-aggregate-place-lines c = search needs
+
 place-lines-requires : tie.Need-place-lines-requires
-place-lines-requires c κs = let a = c .before .before .before .before .before .before .before .before .before .before .before .before .before .args .a .now in omega (arith, lines-count a, ids-parents-text a)
+place-lines-requires c κs = let a = c .before .before .before .before .before .before .before .before .before .before .before .before .before .before .before .args .a .now in omega (arith, lines-count a, ids-parents-text a, length-replicate {A = ℕ} 4096 0)
 
 same-length : tie.Need-same-length
 same-length c = search needs
@@ -48,8 +59,8 @@ same-length-2 c = search needs
 same-length-3 : tie.Need-same-length-3
 same-length-3 c = search needs
 
-returns-5 : tie.Need-returns-5
-returns-5 c = search needs
+returns-6 : tie.Need-returns-6
+returns-6 c = search needs
 
 pub place-lines-spec : {M : Type 1} → statement M
 place-lines-spec =
@@ -60,13 +71,16 @@ place-lines-spec =
     returns
     nothing-requires-2
     returns-2
-    count-byte-requires
     nothing-requires-3
     returns-3
+    count-byte-requires
     nothing-requires-4
     returns-4
+    nothing-requires-5
+    returns-5
+    slice-aggregate-place-lines
     place-lines-requires
     same-length
     same-length-2
     same-length-3
-    returns-5)
+    returns-6)

@@ -1,0 +1,22 @@
+use mathlib.Core.Path.{sym}
+use borrow.Author.Tests.{eq-eqb, ne-eqb}
+use borrow.Author.Needs.{needs}
+use Rattle.records.proofs.start_below.Statement.{statement}
+use Rattle.records.proofs.start_below.Tie as tie
+use Rattle.records.proofs.start_below.Reads as reads
+use Rattle.records.proofs.start_below.Lts as lts
+
+-- src/lib.rt:60:9
+returns : tie.Need-returns
+returns c = rw (eq-eqb (c .before .args .k) 0 (c .if1 .taken))
+
+-- src/lib.rt:62:5
+add-result : tie.Need-add-result
+add-result c = search needs
+
+-- src/lib.rt:55:1
+returns-2 : tie.Need-returns-2
+returns-2 c = rw (ne-eqb (c .before .before .args .k) 0 (c .before .if1 .left))
+
+pub start-below-spec : {M : Type 1} → statement M
+start-below-spec = tie.close (tie.spec returns add-result returns-2)

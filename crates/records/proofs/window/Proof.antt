@@ -1,0 +1,19 @@
+use mathlib.Core.Path.{ap}
+use lib.ListN.{replicate}
+use borrow.Author.Needs.{needs}
+use Rattle.records.proofs.window.Statement.{statement}
+use Rattle.records.proofs.window.Tie as tie
+use Rattle.records.proofs.window.Reads as reads
+use Rattle.records.proofs.window.Lts as lts
+use Rattle.records.proofs.blank.Reads as blank-reads
+
+-- src/lib.rt:50:9
+blank-requires : tie.Need-blank-requires
+blank-requires c κs = search needs
+
+-- src/lib.rt:47:1
+returns : tie.Need-returns
+returns c = ap (replicate 1024) (c .blank .ensures)
+
+pub window-spec : {M : Type 1} → statement M
+window-spec = tie.close (tie.spec blank-requires returns)
