@@ -2,6 +2,7 @@
 import os
 import struct
 import subprocess
+import sys
 
 HERE = os.path.dirname(os.path.realpath(__file__))
 TARGET = os.path.join(os.path.dirname(HERE), "target")
@@ -21,8 +22,20 @@ NAMES = {
 
 
 def build(*words):
-    """Builds what is missing below target/original/."""
-    subprocess.run([os.path.join(HERE, "build"), *words], check=True)
+    """Builds what is missing below target/original/. Where that fails, the build has said why."""
+    if subprocess.run([os.path.join(HERE, "build"), *words]).returncode:
+        sys.exit(2)
+
+
+def take_options(text, *options):
+    """Prints a script's own words where its first word asks for them, and ends; an option that it does not have is an error."""
+    if sys.argv[1:2] in (["-h"], ["--help"]):
+        print(text.strip())
+        sys.exit(0)
+    for word in sys.argv[1:]:
+        if word.startswith("-") and word not in options:
+            print(f"{os.path.basename(sys.argv[0])}: no such option: {word} (see --help)", file=sys.stderr)
+            sys.exit(2)
 
 
 def shown(text):
