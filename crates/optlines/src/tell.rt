@@ -1,0 +1,121 @@
+// What the program says on standard error: for a refusal its number, what it means, where it is and what to do, each on a line.
+// A file's name stands behind fixed words, so that no name makes one kind of message look like another.
+use libc::STDERR_FILENO;
+
+fn say(text: &[u8]) {
+    io::write_all(STDERR_FILENO, text);
+}
+
+fn say_number(n: usize) {
+    io::print_decimal(STDERR_FILENO, n as u64);
+}
+
+// Says a text, an argument and the end of the line.
+pub fn say_word(text: &[u8], at: usize) {
+    let mut word = io::buffer();
+    let n = os::arg(at, &mut word);
+    say(text);
+    say(&word[..n]);
+    say(b"\n");
+}
+
+// Says what cannot be done to what, and the system's reason.
+pub fn fail(verb: &[u8], name: &[u8]) {
+    say(b"optlines: cannot ");
+    say(verb);
+    os::fail(name);
+}
+
+// A place from 0 as it is counted from 1.
+fn from_one(n: usize) -> usize {
+    if n < usize::MAX { n + 1 } else { n }
+}
+
+// The place behind `n` bytes `b`, from `from` on; the end of the text where it has fewer.
+fn behind(text: &[u8], from: usize, b: u8, n: usize) -> usize {
+    let mut at = from;
+    let mut left = n;
+    while left > 0 {
+        at = lines::after(text, lines::find_byte(text, at, b));
+        left -= 1;
+    }
+    at
+}
+
+// Where the byte stands that is one `[` too many, in line `n`.
+fn crowded_at(text: &[u8], n: usize) -> usize {
+    let start = behind(text, 0, 10, n);
+    lines::find_byte(text, behind(text, start, b'[', 64), b'[')
+}
+
+// Says where a byte stands: its line and its place in that line, from 1, and its place in the text, from 0.
+fn say_where(what: &[u8], text: &[u8], at: usize) {
+    let line = lines::count_byte(lines::cut(text, 0, at), 10);
+    let start = lines::line_start(text, at);
+    say(b"optlines: ");
+    say(what);
+    say(b" is byte ");
+    say_number(from_one(lines::cut(text, start, at).len()));
+    say(b" of line ");
+    say_number(from_one(line));
+    say(b" (offset ");
+    say_number(at);
+    say(b")\n");
+}
+
+fn say_split() {
+    say(b"optlines: cut the listing between two functions, and tidy the parts one by one\n");
+}
+
+fn explain_pass() {
+    say(b"there is no pass of that number\n");
+    say(b"optlines: the passes have the numbers 1 to 6\n");
+}
+
+fn explain_long(text: &[u8], place: usize) {
+    say(b"it is longer than 16384 bytes\n");
+    say_where(b"the first byte too many", text, place);
+    say_split();
+}
+
+fn explain_utf8(text: &[u8], place: usize) {
+    say(b"it is not UTF-8\n");
+    say_where(b"the first bad byte", text, place);
+    say(
+        b"optlines: convert the listing to UTF-8, as iconv does; a file that was cut can end within a character\n",
+    );
+}
+
+fn explain_lines(text: &[u8], place: usize) {
+    say(b"it has more than 1024 lines\n");
+    say_where(b"the first byte too many", text, behind(text, 0, 10, place));
+    say_split();
+}
+
+fn explain_crowded(text: &[u8], place: usize) {
+    say(b"a line has more than 64 opening brackets [\n");
+    say_where(b"the first bracket too many", text, crowded_at(text, place));
+    say(b"optlines: break that line up, or take it out\n");
+}
+
+// The numbers 3 and 7 are of short buffers, and those of this program are of the stated sizes.
+fn explain_other() {
+    say(b"this program lends too little room, which is a fault of its own\n");
+}
+
+// Tells a person of a refusal.
+pub fn explain(number: u8, place: usize, text: &[u8], name: &[u8]) {
+    say(b"optlines: refused ");
+    say_number(number as usize);
+    say(b" in ");
+    say(name);
+    say(b": ");
+    match number {
+        1 => explain_pass(),
+        2 => explain_long(text, place),
+        4 => explain_utf8(text, place),
+        5 => explain_lines(text, place),
+        6 => explain_crowded(text, place),
+        _ => explain_other(),
+    }
+}
