@@ -2,27 +2,55 @@
  * optlines.h - tidy register listings
  *
  * NAME
- *     optlines_optimize, optlines_run_pass - run all passes, or one, over a register listing
+ *     optlines_tidy - run all passes, or one, in buffers that are kept together
+ *     optlines_optimize, optlines_run_pass - the same in buffers that are lent one by one
  *
  * LINKING
- *     rt staticlib capi      writes target/staticlib/libcapi.a, for x86-64 Linux
- *     cc program.c -Iinclude target/staticlib/libcapi.a
+ *     The library is for x86-64 Linux. Installed (`make lib`, `make install`):
+ *
+ *         cc program.c $(pkg-config --cflags --libs optlines)
+ *
+ *     From the repository, where `rt staticlib capi` has written the archive:
+ *
+ *         cc program.c -Iinclude target/staticlib/libcapi.a
  *
  * DESCRIPTION
- *     optlines_optimize() tidies a listing. It removes the lines that declare globals to the
- *     runtime, runs the six passes in their order, and writes the tidy text to the result buffer.
- *
- *     optlines_run_pass() runs one pass alone and removes no line before it:
+ *     All passes: the lines that declare globals to the runtime go, the six passes run in their
+ *     order, and the tidy text is written to the result buffer. One pass runs alone, and no line
+ *     goes before it:
  *
  *         1  prune_dead_temps      4  rebuild_calls
  *         2  optimize_once         5  prune_decls
  *         3  prune_dead_phis       6  bind_declarators
  *
- *     Neither allocates, neither keeps anything between calls, and neither reads or writes memory
- *     other than what is lent to it and its stack, of which calls took up to 100 KiB where it was
- *     measured. Calls in several threads are free of one another where they lend different buffers.
+ *     optlines_tidy() takes the number of a pass, or 0 for all passes, and works in a struct
+ *     optlines_work, which has every buffer in it. optlines_optimize() runs all passes and
+ *     optlines_run_pass() one, in buffers of the caller's own.
  *
- * WHAT IS LENT
+ *     None of them allocates, keeps anything between calls, or reads or writes memory other than
+ *     what is lent to it and its stack.
+ *
+ * STACK AND THREADS
+ *     A thread needs OPTLINES_STACK bytes of stack left when it calls. Every call that was measured
+ *     took less, with a margin (tests/stack); nothing proves it. The stacks that Linux gives to
+ *     threads by default have room for it, smaller ones may not.
+ *
+ *     Any number of threads may call at once, each with a struct optlines_work, or with lent
+ *     buffers, of its own. They may share a text that none of them writes.
+ *
+ * ONE STRUCT FOR ALL BUFFERS
+ *     A struct optlines_work is some 256 KiB: keep it static or allocate it. It needs no setup,
+ *     what stands in it before a call does not matter, and it may be used again and again. After a
+ *     call the result is in work->out, of the length work->length, and the place of a refusal in
+ *     work->place. Its buffers are as long as stated and lie apart, so that nothing can be lent too
+ *     short or twice: OPTLINES_SHORT_WORK and OPTLINES_SHORT_RESULT do not occur.
+ *
+ *     The text must lie outside *work, since the buffers are written while it is read; it is the
+ *     caller's fault where it does not. Then optlines_tidy() answers OPTLINES_OVERLAP and writes
+ *     nothing but work->length and work->place, which are 0. So to run a pass over a result, copy
+ *     the result first.
+ *
+ * BUFFERS LENT ONE BY ONE
  *     Every buffer is a pointer and then its length, counted in elements.
  *
  *         text    the listing, only read: any bytes
@@ -36,50 +64,90 @@
  *     What stands in a work buffer or in the result buffer before a call does not matter.
  *
  *     The caller sees to the following, and nothing checks it. Each pointer points to as many
- *     elements as its length says, and is aligned for them. None of a to e, u, out, length and place
- *     overlaps any other thing that is lent. A pointer whose length is 0 is not followed, and may
- *     be null. length and place are always followed.
+ *     elements as its length says, and is aligned for them. None of a to e, u, out, length and
+ *     place overlaps any other thing that is lent: where out is a, for one, the answer is
+ *     OPTLINES_DONE and the result is lost. A pointer whose length is 0 is not followed, and may be
+ *     null. length and place are always followed.
  *
  * RETURN VALUE
- *     A number, with a length and a place stored. For a refusal *length is 0.
+ *     A number, with a length and a place stored. For a refusal the length is 0.
  *
- *         number                     when, checked in this order              *place
- *         0 OPTLINES_DONE            the result is written                    0
- *         1 OPTLINES_BAD_PASS        pass is not 1 to 6 (optlines_run_pass)   0
- *         2 OPTLINES_TOO_LONG        text is longer than 16,384 bytes         16384
- *         3 OPTLINES_SHORT_WORK      a to e or u is shorter than stated       0
- *         4 OPTLINES_NOT_UTF8        text is not UTF-8 (RFC 3629)             first byte of the first
- *                                                                             bad sequence, from 0
- *         5 OPTLINES_TOO_MANY_LINES  more than 1,024 lines                    1024
- *         6 OPTLINES_CROWDED         a line with more than 64 bytes '['       that line, from 0
- *         7 OPTLINES_SHORT_RESULT    out is shorter than the result           the length it needs
+ *         number                     when, checked in this order           place
+ *         0 OPTLINES_DONE            the result is written                 0
+ *         1 OPTLINES_BAD_PASS        pass is not 1 to 6 (optlines_tidy:    0
+ *                                    not 0 to 6; optlines_optimize: never)
+ *         2 OPTLINES_TOO_LONG        text is longer than 16,384 bytes      16384
+ *         3 OPTLINES_SHORT_WORK      a to e or u is shorter than stated    0
+ *         4 OPTLINES_NOT_UTF8        text is not UTF-8 (RFC 3629)          first byte of the first
+ *                                                                          bad sequence, from 0
+ *         5 OPTLINES_TOO_MANY_LINES  more than 1,024 lines                 1024
+ *         6 OPTLINES_CROWDED         a line with more than 64 bytes '['    that line, from 0
+ *         7 OPTLINES_SHORT_RESULT    out is shorter than the result        the length it needs
  *
- *     So a text that is too long and not UTF-8 gets 2. Nothing else is refused.
+ *         255 OPTLINES_OVERLAP       text lies in *work (optlines_tidy     0
+ *                                    alone, which checks it first of all)
+ *
+ *     So a text that is too long and not UTF-8 gets 2. Nothing else is refused. A later release may
+ *     have more numbers, so treat every number but 0 as a refusal.
  *
  * MEMORY AFTER A CALL
  *         number   out                                        a to e, u
  *         0        the result, then what stood there before   0 in the first OPTLINES_BYTES or
  *                                                             OPTLINES_BLOCKS, the rest as before
  *         7        as before                                  the same as after 0
- *         1 to 6   as before                                  as before
+ *         others   as before                                  as before
  *
  * WHAT IS PROVED
- *     The answer and every lent byte, as above, for all arguments that meet what is said under WHAT
- *     IS LENT: the contracts of crate capi (docs/CONTRACTS.md). This file is not part of the proof;
- *     tests/bindings calls what it declares.
+ *     The answer and every lent byte of optlines_optimize and optlines_run_pass, as above, for all
+ *     arguments that meet what is said under BUFFERS LENT ONE BY ONE: the contracts of crate capi
+ *     (docs/CONTRACTS.md). This file, and with it optlines_tidy, is not part of the proof;
+ *     tests/bindings calls what it declares, from C and C++.
  *
  * EXAMPLE
- *     static uint8_t work[5][OPTLINES_BYTES], out[2 * OPTLINES_TEXT];
- *     static uint32_t blocks[OPTLINES_BLOCKS];
- *     size_t length, place;
+ *     #include <optlines.h>
+ *     #include <stdio.h>
  *
- *     uint8_t number = optlines_optimize(text, text_length, work[0], OPTLINES_BYTES,
- *         work[1], OPTLINES_BYTES, work[2], OPTLINES_BYTES, work[3], OPTLINES_BYTES,
- *         work[4], OPTLINES_BYTES, blocks, OPTLINES_BLOCKS, out, sizeof out, &length, &place);
- *     if (number == OPTLINES_DONE)
- *         fwrite(out, 1, length, stdout);
- *     else
- *         printf("refused %d %zu\n", number, place);
+ *     static struct optlines_work work;
+ *     static uint8_t text[OPTLINES_TEXT + 1];
+ *
+ *     int main(void)
+ *     {
+ *         size_t length = fread(text, 1, sizeof text, stdin);
+ *         if (ferror(stdin))
+ *             return 2;
+ *
+ *         uint8_t number = optlines_tidy(&work, 0, text, length);
+ *         if (number != OPTLINES_DONE) {
+ *             fprintf(stderr, "refused %d %zu\n", number, work.place);
+ *             return 1;
+ *         }
+ *         size_t written = fwrite(work.out, 1, work.length, stdout);
+ *         return written == work.length && fflush(stdout) == 0 ? 0 : 2;
+ *     }
+ *
+ * EXAMPLE WITH LENT BUFFERS
+ *     #include <optlines.h>
+ *     #include <stdio.h>
+ *
+ *     static uint8_t text[OPTLINES_TEXT + 1], bytes[5][OPTLINES_BYTES], out[2 * OPTLINES_TEXT];
+ *     static uint32_t blocks[OPTLINES_BLOCKS];
+ *
+ *     int main(void)
+ *     {
+ *         size_t text_length = fread(text, 1, sizeof text, stdin), length, place;
+ *         if (ferror(stdin))
+ *             return 2;
+ *
+ *         uint8_t number = optlines_optimize(text, text_length,
+ *             bytes[0], OPTLINES_BYTES, bytes[1], OPTLINES_BYTES, bytes[2], OPTLINES_BYTES,
+ *             bytes[3], OPTLINES_BYTES, bytes[4], OPTLINES_BYTES, blocks, OPTLINES_BLOCKS,
+ *             out, sizeof out, &length, &place);
+ *         if (number != OPTLINES_DONE) {
+ *             fprintf(stderr, "refused %d %zu\n", number, place);
+ *             return 1;
+ *         }
+ *         return fwrite(out, 1, length, stdout) == length && fflush(stdout) == 0 ? 0 : 2;
+ *     }
  */
 #ifndef OPTLINES_H
 #define OPTLINES_H
@@ -100,6 +168,9 @@ extern "C" {
 #define OPTLINES_LINES 1024
 #define OPTLINES_BRACKETS 64
 
+/* Bytes of stack that are enough for a call. */
+#define OPTLINES_STACK 262144
+
 /* The numbers that are returned. */
 enum {
     OPTLINES_DONE = 0,
@@ -109,7 +180,8 @@ enum {
     OPTLINES_NOT_UTF8 = 4,
     OPTLINES_TOO_MANY_LINES = 5,
     OPTLINES_CROWDED = 6,
-    OPTLINES_SHORT_RESULT = 7
+    OPTLINES_SHORT_RESULT = 7,
+    OPTLINES_OVERLAP = 255
 };
 
 uint8_t optlines_optimize(
@@ -134,6 +206,42 @@ uint8_t optlines_run_pass(
     uint32_t *u, size_t u_length,
     uint8_t *out, size_t out_length,
     size_t *length, size_t *place);
+
+/* All that a call of optlines_tidy() writes. */
+struct optlines_work {
+    uint8_t bytes[5][OPTLINES_BYTES];
+    uint32_t blocks[OPTLINES_BLOCKS];
+    uint8_t out[2 * OPTLINES_TEXT];
+    size_t length;
+    size_t place;
+};
+
+/* Whether a text and *work have a byte in common. */
+static inline int optlines_overlap(
+    const struct optlines_work *work, const uint8_t *text, size_t text_length)
+{
+    uintptr_t from = (uintptr_t)work, at = (uintptr_t)text;
+    if (text_length == 0)
+        return 0;
+    return at < from ? from - at < text_length : at - from < sizeof *work;
+}
+
+static inline uint8_t optlines_tidy(
+    struct optlines_work *work, size_t pass, const uint8_t *text, size_t text_length)
+{
+    uint8_t (*w)[OPTLINES_BYTES] = work->bytes;
+    size_t n = OPTLINES_BYTES;
+    if (optlines_overlap(work, text, text_length)) {
+        work->length = work->place = 0;
+        return OPTLINES_OVERLAP;
+    }
+    if (pass == 0)
+        return optlines_optimize(text, text_length, w[0], n, w[1], n, w[2], n, w[3], n, w[4], n,
+            work->blocks, OPTLINES_BLOCKS, work->out, sizeof work->out,
+            &work->length, &work->place);
+    return optlines_run_pass(pass, text, text_length, w[0], n, w[1], n, w[2], n, w[3], n, w[4], n,
+        work->blocks, OPTLINES_BLOCKS, work->out, sizeof work->out, &work->length, &work->place);
+}
 
 #ifdef __cplusplus
 }

@@ -1,0 +1,143 @@
+"""Tidies register listings: a module over the shared library that include/optlines.h declares.
+
+    import optlines
+    tidy = optlines.optimize(text)      # all passes over bytes
+    text = optlines.run_pass(5, text)   # one pass, 1 to 6
+
+Both raise Refused where the library refuses. `call` works in lent buffers, a Work and a result
+buffer, and answers with numbers. Threads may call at once, each with buffers of its own (optimize
+and run_pass bring theirs); a call needs STACK bytes of stack. The library is for x86-64 Linux. It
+is the file OPTLINES_LIBRARY where that is set, else the one that `make lib` writes in the
+repository, else the installed one.
+"""
+import ctypes
+import os
+import platform
+import sys
+
+BYTES = 32769  # the stated size of each of the work buffers a to e
+BLOCKS = 16384  # the stated size of the work buffer u, in numbers of 32 bits
+TEXT = 16384  # the most bytes of a text
+LINES = 1024  # the most lines of a text
+BRACKETS = 64  # the most bytes '[' of a line
+STACK = 262144  # bytes of stack that are enough for a call, as far as it was measured
+
+# The numbers of include/optlines.h.
+(DONE, BAD_PASS, TOO_LONG, SHORT_WORK, NOT_UTF8, TOO_MANY_LINES, CROWDED, SHORT_RESULT) = range(8)
+
+_WORDS = {
+    BAD_PASS: "there is no such pass: they are 1 to 6",
+    TOO_LONG: "the text is longer than %d bytes" % TEXT,
+    SHORT_WORK: "a work buffer is shorter than its stated size",
+    NOT_UTF8: "the text is not UTF-8: see byte {place}, counted from 0",
+    TOO_MANY_LINES: "the text has more than %d lines" % LINES,
+    CROWDED: "line {line} has more than %d bytes '['" % BRACKETS,
+    SHORT_RESULT: "the result needs {place} bytes of room",
+}
+_UNKNOWN = "refused with number {number} and place {place}, unknown to this module"
+_SONAME = "liboptlines.so.1"
+_LARGEST = 2 ** (8 * ctypes.sizeof(ctypes.c_size_t)) - 1
+
+
+class Refused(Exception):
+    """The library gave no result: its number and place (include/optlines.h), and words."""
+
+    def __init__(self, number, place):
+        form = _WORDS.get(number, _UNKNOWN)
+        self.number = number
+        self.place = place
+        self.words = form.format(number=number, place=place, line=place + 1)
+        super().__init__(number, place)
+
+    def __str__(self):
+        return self.words
+
+
+def _path():
+    """The library's file, or its bare name where the system is to find it."""
+    given = os.environ.get("OPTLINES_LIBRARY")
+    if given:
+        return given
+    here = os.path.dirname(os.path.abspath(__file__))
+    built = os.path.normpath(os.path.join(here, "..", "..", "target", "lib", _SONAME))
+    return built if os.path.exists(built) else _SONAME
+
+
+def _check_machine():
+    machine = platform.machine()
+    if not sys.platform.startswith("linux") or machine != "x86_64" or sys.maxsize < 2**32:
+        raise ImportError("optlines: the library is for x86-64 Linux, and this Python is for %s %s"
+                          % (machine, sys.platform))
+
+
+def _load():
+    _check_machine()
+    path = _path()
+    try:
+        library = ctypes.CDLL(path)
+        entries = library.optlines_optimize, library.optlines_run_pass
+    except (OSError, AttributeError) as why:
+        raise ImportError("optlines: cannot load %s (%s): run `make lib` in the repository, or set "
+                          "OPTLINES_LIBRARY to the file" % (path, why)) from why
+    buffer = [ctypes.c_void_p, ctypes.c_size_t]
+    places = [ctypes.POINTER(ctypes.c_size_t)] * 2
+    for entry, first in zip(entries, ([], [ctypes.c_size_t])):
+        # text, a to e, u, out; then where length and place are stored
+        entry.argtypes = first + [ctypes.c_char_p, ctypes.c_size_t] + 7 * buffer + places
+        entry.restype = ctypes.c_uint8
+    return entries
+
+
+_optimize, _run_pass = _load()
+
+
+class Work:
+    """Lent work buffers: `bytes`, five ctypes arrays of c_uint8, and `blocks`, one of c_uint32.
+
+    Fresh ones have the stated sizes. What stands in them before a call does not matter.
+    """
+
+    def __init__(self):
+        self.bytes = [(ctypes.c_uint8 * BYTES)() for _ in range(5)]
+        self.blocks = (ctypes.c_uint32 * BLOCKS)()
+
+    def lent(self):
+        """Each buffer and its length, in the order of the library's arguments."""
+        return [part for each in (*self.bytes, self.blocks) for part in (each, len(each))]
+
+
+def call(number, text, work, out):
+    """Runs all passes (number 0) or one, 1 to 6, over bytes in lent buffers.
+
+    `work` is a Work, `out` a ctypes array of c_uint8. The answer is a tuple: the number of the
+    refusal or 0, how many bytes of `out` are the result, and the place.
+    """
+    if not isinstance(text, bytes):
+        raise TypeError("optlines: the text must be bytes, not %s" % type(text).__name__)
+    length, place = ctypes.c_size_t(), ctypes.c_size_t()
+    lent = [text, len(text), *work.lent(), out, len(out), ctypes.byref(length), ctypes.byref(place)]
+    if number == 0:
+        answer = _optimize(*lent)
+    else:
+        answer = _run_pass(min(max(number, 0), _LARGEST), *lent)  # no number wraps into a pass
+    return answer, length.value, place.value
+
+
+def _result(number, text):
+    out = (ctypes.c_uint8 * (2 * min(len(text), TEXT)))()
+    answer, length, place = call(number, text, Work(), out)
+    if answer != DONE:
+        raise Refused(answer, place)
+    return ctypes.string_at(out, length)
+
+
+def optimize(text):
+    """Runs all passes: the tidy text of a listing. Text and result are bytes."""
+    return _result(0, text)
+
+
+def run_pass(number, text):
+    """Runs one pass, 1 to 6: the text that it gives. Text and result are bytes."""
+    if number == 0:
+        raise Refused(BAD_PASS, 0)
+    return _result(number, text)

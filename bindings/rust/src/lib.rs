@@ -1,0 +1,271 @@
+//! A safe wrapper of the library that `include/optlines.h` declares; that file says what each
+//! function does.
+//!
+//! [`optimize`] and [`run_pass`] bring their own buffers. [`optimize_in`] and [`run_pass_in`] work
+//! in lent ones and allocate nothing. Any number of threads may call at once; each needs [`STACK`]
+//! bytes of stack.
+//!
+//! ```
+//! let tidy = optlines::optimize(b"r3 = greet;\nr4 = 1;\nr3 = r3(r4);\nuse(r3);\n")?;
+//! assert_eq!(tidy, b"use(greet(1));\n");
+//! # Ok::<(), optlines::Refusal>(())
+//! ```
+
+#![deny(unsafe_op_in_unsafe_fn, missing_docs)]
+
+use std::fmt;
+
+/// The stated size of each of the work buffers `a` to `e`.
+pub const BYTES: usize = 32_769;
+/// The stated size of the work buffer `u`, in numbers.
+pub const BLOCKS: usize = 16_384;
+/// The most bytes of a text.
+pub const TEXT: usize = 16_384;
+/// The most lines of a text.
+pub const LINES: usize = 1_024;
+/// The most bytes `[` of a line.
+pub const BRACKETS: usize = 64;
+/// Bytes of stack that are enough for a call, as far as it was measured.
+pub const STACK: usize = 262_144;
+
+/// Why there is no result.
+#[derive(Clone, Copy, Debug, PartialEq, Eq)]
+#[non_exhaustive]
+pub enum Refusal {
+    /// The pass is not 1 to 6.
+    BadPass,
+    /// The text is longer than [`TEXT`] bytes.
+    TooLong,
+    /// A work buffer is shorter than its stated size.
+    ShortWork,
+    /// The text is not UTF-8: the first byte of the first bad sequence, from 0.
+    NotUtf8(usize),
+    /// The text has more than [`LINES`] lines.
+    TooManyLines,
+    /// A line has more than [`BRACKETS`] bytes `[`: the first such line, from 0.
+    Crowded(usize),
+    /// The result buffer is shorter than the result: the length needed.
+    ShortResult(usize),
+    /// A number that this wrapper does not know: the library is a later one.
+    Other {
+        /// What the library answered.
+        number: u8,
+        /// The place that it stored.
+        place: usize,
+    },
+}
+
+impl Refusal {
+    /// The refusal with a number of `include/optlines.h` and the place beside it; 0 is none.
+    fn of(number: u8, place: usize) -> Option<Refusal> {
+        Some(match number {
+            0 => return None,
+            1 => Refusal::BadPass,
+            2 => Refusal::TooLong,
+            3 => Refusal::ShortWork,
+            4 => Refusal::NotUtf8(place),
+            5 => Refusal::TooManyLines,
+            6 => Refusal::Crowded(place),
+            7 => Refusal::ShortResult(place),
+            _ => Refusal::Other { number, place },
+        })
+    }
+
+    /// Its number in `include/optlines.h`.
+    pub fn number(self) -> u8 {
+        match self {
+            Refusal::BadPass => 1,
+            Refusal::TooLong => 2,
+            Refusal::ShortWork => 3,
+            Refusal::NotUtf8(_) => 4,
+            Refusal::TooManyLines => 5,
+            Refusal::Crowded(_) => 6,
+            Refusal::ShortResult(_) => 7,
+            Refusal::Other { number, .. } => number,
+        }
+    }
+
+    /// The place that the library stores beside that number.
+    pub fn place(self) -> usize {
+        match self {
+            Refusal::BadPass | Refusal::ShortWork => 0,
+            Refusal::TooLong => TEXT,
+            Refusal::TooManyLines => LINES,
+            Refusal::NotUtf8(place)
+            | Refusal::Crowded(place)
+            | Refusal::ShortResult(place)
+            | Refusal::Other { place, .. } => place,
+        }
+    }
+}
+
+impl fmt::Display for Refusal {
+    fn fmt(&self, f: &mut fmt::Formatter) -> fmt::Result {
+        match self {
+            Refusal::BadPass => write!(f, "there is no such pass: they are 1 to 6"),
+            Refusal::TooLong => write!(f, "the text is longer than {TEXT} bytes"),
+            Refusal::ShortWork => write!(f, "a work buffer is shorter than its stated size"),
+            Refusal::NotUtf8(at) => {
+                write!(f, "the text is not UTF-8: see byte {at}, counted from 0")
+            }
+            Refusal::TooManyLines => write!(f, "the text has more than {LINES} lines"),
+            Refusal::Crowded(line) => {
+                write!(
+                    f,
+                    "line {} has more than {BRACKETS} bytes '['",
+                    line.saturating_add(1)
+                )
+            }
+            Refusal::ShortResult(need) => write!(f, "the result needs {need} bytes of room"),
+            Refusal::Other { number, place } => {
+                write!(
+                    f,
+                    "refused with number {number} and place {place}, unknown to this wrapper"
+                )
+            }
+        }
+    }
+}
+
+impl std::error::Error for Refusal {}
+
+/// Lent work buffers. What stands in them before a call does not matter.
+pub struct Work<'a> {
+    /// At least [`BYTES`] bytes, as `b` to `e`.
+    pub a: &'a mut [u8],
+    /// See `a`.
+    pub b: &'a mut [u8],
+    /// See `a`.
+    pub c: &'a mut [u8],
+    /// See `a`.
+    pub d: &'a mut [u8],
+    /// See `a`.
+    pub e: &'a mut [u8],
+    /// At least [`BLOCKS`] numbers.
+    pub u: &'a mut [u32],
+}
+
+/// The declarations of include/optlines.h.
+mod raw {
+    macro_rules! declared {
+        ($($name:ident($($first:ident: $kind:ty)?);)*) => {
+            extern "C" {
+                $(pub fn $name(
+                    $($first: $kind,)?
+                    text: *const u8, text_length: usize,
+                    a: *mut u8, a_length: usize,
+                    b: *mut u8, b_length: usize,
+                    c: *mut u8, c_length: usize,
+                    d: *mut u8, d_length: usize,
+                    e: *mut u8, e_length: usize,
+                    u: *mut u32, u_length: usize,
+                    out: *mut u8, out_length: usize,
+                    length: *mut usize, place: *mut usize,
+                ) -> u8;)*
+            }
+        };
+    }
+
+    declared! {
+        optlines_optimize();
+        optlines_run_pass(pass: usize);
+    }
+}
+
+/// Calls one of the two. The slices are alive and apart from one another, which is all that the
+/// library asks.
+macro_rules! call {
+    ($name:ident($($first:expr)?), $text:ident, $work:ident, $out:ident) => {{
+        let (mut length, mut place) = (0, 0);
+        let number = unsafe {
+            raw::$name(
+                $($first,)?
+                $text.as_ptr(), $text.len(),
+                $work.a.as_mut_ptr(), $work.a.len(),
+                $work.b.as_mut_ptr(), $work.b.len(),
+                $work.c.as_mut_ptr(), $work.c.len(),
+                $work.d.as_mut_ptr(), $work.d.len(),
+                $work.e.as_mut_ptr(), $work.e.len(),
+                $work.u.as_mut_ptr(), $work.u.len(),
+                $out.as_mut_ptr(), $out.len(),
+                &mut length, &mut place,
+            )
+        };
+        match Refusal::of(number, place) {
+            None => Ok(length),
+            Some(refusal) => Err(refusal),
+        }
+    }};
+}
+
+/// Runs all passes in lent buffers: how many bytes of `out` are the result.
+pub fn optimize_in(text: &[u8], work: &mut Work, out: &mut [u8]) -> Result<usize, Refusal> {
+    call!(optlines_optimize(), text, work, out)
+}
+
+/// Runs one pass, 1 to 6, in lent buffers: how many bytes of `out` are the result.
+pub fn run_pass_in(
+    pass: usize,
+    text: &[u8],
+    work: &mut Work,
+    out: &mut [u8],
+) -> Result<usize, Refusal> {
+    call!(optlines_run_pass(pass), text, work, out)
+}
+
+/// Lends fresh buffers to `run`. No result is longer than twice its text, so none is refused for
+/// want of room.
+fn with_room(
+    text: &[u8],
+    run: impl FnOnce(&mut Work, &mut [u8]) -> Result<usize, Refusal>,
+) -> Result<Vec<u8>, Refusal> {
+    let [mut a, mut b, mut c, mut d, mut e] = [(); 5].map(|()| vec![0; BYTES]);
+    let mut u = vec![0; BLOCKS];
+    let mut out = vec![0; 2 * text.len().min(TEXT)];
+    let mut work = Work {
+        a: &mut a,
+        b: &mut b,
+        c: &mut c,
+        d: &mut d,
+        e: &mut e,
+        u: &mut u,
+    };
+    let length = run(&mut work, &mut out)?;
+    out.truncate(length);
+    Ok(out)
+}
+
+/// Runs all passes: the tidy text.
+pub fn optimize(text: &[u8]) -> Result<Vec<u8>, Refusal> {
+    with_room(text, |work, out| optimize_in(text, work, out))
+}
+
+/// Runs one pass, 1 to 6: the text that it gives.
+pub fn run_pass(pass: usize, text: &[u8]) -> Result<Vec<u8>, Refusal> {
+    with_room(text, |work, out| run_pass_in(pass, text, work, out))
+}
+
+#[cfg(test)]
+mod tests {
+    use super::Refusal;
+
+    /// Every number and place comes back as it was answered, a number of a later library too.
+    #[test]
+    fn numbers_and_places() {
+        let answers = [
+            (1, 0),
+            (2, 16_384),
+            (3, 0),
+            (4, 9),
+            (5, 1_024),
+            (6, 3),
+            (7, 40),
+        ];
+        for (number, place) in answers.into_iter().chain((8..=255).map(|n| (n, 5))) {
+            let refusal = Refusal::of(number, place).expect("a refusal");
+            assert_eq!((refusal.number(), refusal.place()), (number, place));
+            assert_eq!(number > 7, refusal == Refusal::Other { number, place });
+        }
+        assert_eq!(Refusal::of(0, 0), None);
+    }
+}

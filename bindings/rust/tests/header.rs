@@ -1,0 +1,66 @@
+//! The constants of the wrapper are those of include/optlines.h, which is read as text.
+
+use optlines::{Refusal, BLOCKS, BRACKETS, BYTES, LINES, STACK, TEXT};
+use std::fs;
+
+fn header() -> String {
+    let path = concat!(env!("CARGO_MANIFEST_DIR"), "/../../include/optlines.h");
+    fs::read_to_string(path).unwrap_or_else(|why| panic!("{path}: {why}"))
+}
+
+/// A number of C, and nothing else.
+fn number(text: &str) -> usize {
+    text.parse()
+        .unwrap_or_else(|_| panic!("{text:?} is no number"))
+}
+
+#[test]
+fn every_define() {
+    let text = header();
+    let defined = text
+        .lines()
+        .filter_map(|line| line.strip_prefix("#define OPTLINES_"));
+    let mut found: Vec<(&str, usize)> = defined
+        .filter(|rest| *rest != "H")
+        .map(|rest| {
+            rest.split_once(' ')
+                .unwrap_or_else(|| panic!("{rest:?} has no value"))
+        })
+        .map(|(name, value)| (name, number(value)))
+        .collect();
+    found.sort_unstable();
+    let wanted = [
+        ("BLOCKS", BLOCKS),
+        ("BRACKETS", BRACKETS),
+        ("BYTES", BYTES),
+        ("LINES", LINES),
+        ("STACK", STACK),
+        ("TEXT", TEXT),
+    ];
+    assert_eq!(found, wanted);
+}
+
+#[test]
+fn every_number() {
+    let text = header();
+    let entries = text
+        .lines()
+        .filter_map(|line| line.strip_prefix("    OPTLINES_"));
+    let found: Vec<(&str, usize)> = entries
+        .filter_map(|entry| entry.trim_end_matches(',').split_once(" = "))
+        .map(|(name, value)| (name, number(value)))
+        .collect();
+    let of = |refusal: Refusal| usize::from(refusal.number());
+    let wanted = [
+        ("DONE", 0),
+        ("BAD_PASS", of(Refusal::BadPass)),
+        ("TOO_LONG", of(Refusal::TooLong)),
+        ("SHORT_WORK", of(Refusal::ShortWork)),
+        ("NOT_UTF8", of(Refusal::NotUtf8(0))),
+        ("TOO_MANY_LINES", of(Refusal::TooManyLines)),
+        ("CROWDED", of(Refusal::Crowded(0))),
+        ("SHORT_RESULT", of(Refusal::ShortResult(0))),
+        ("OVERLAP", 255), // of the inline function for C alone
+    ];
+    assert_eq!(found, wanted);
+}
