@@ -63,8 +63,10 @@ fn say_where(what: &[u8], text: &[u8], at: usize) {
     say(b")\n");
 }
 
-fn say_split() {
-    say(b"optlines: cut the listing between two functions, and tidy the parts one by one\n");
+fn say_whole() {
+    say(
+        b"optlines: ask for the listing in smaller scripts; a listing that is cut in parts may lose lines that the whole keeps\n",
+    );
 }
 
 fn explain_pass() {
@@ -75,7 +77,7 @@ fn explain_pass() {
 fn explain_long(text: &[u8], place: usize) {
     say(b"it is longer than 16384 bytes\n");
     say_where(b"the first byte too many", text, place);
-    say_split();
+    say_whole();
 }
 
 fn explain_utf8(text: &[u8], place: usize) {
@@ -89,7 +91,7 @@ fn explain_utf8(text: &[u8], place: usize) {
 fn explain_lines(text: &[u8], place: usize) {
     say(b"it has more than 1024 lines\n");
     say_where(b"the first byte too many", text, behind(text, 0, 10, place));
-    say_split();
+    say_whole();
 }
 
 fn explain_crowded(text: &[u8], place: usize) {
