@@ -1,5 +1,6 @@
 """The two protocols of README.md as bytes and as text to read, for the scripts beside this file."""
 import os
+import signal
 import struct
 import subprocess
 import sys
@@ -28,7 +29,10 @@ def build(*words):
 
 
 def take_options(text, *options):
-    """Prints a script's own words where its first word asks for them, and ends; an option that it does not have is an error."""
+    """Prints a script's own words where its first word asks for them, and ends; an option that it does not have is an error.
+    A signal that ends the script lets it remove its temporary files."""
+    for ending in (signal.SIGHUP, signal.SIGTERM):
+        signal.signal(ending, lambda *_: sys.exit(2))
     if sys.argv[1:2] in (["-h"], ["--help"]):
         print(text.strip())
         sys.exit(0)
