@@ -273,6 +273,11 @@ front() { # NAME WORDS..
         *) set -- "$@" "$word" ;;
         esac
     done
+    serve "$@"
+}
+
+# Does what was asked, once the words are taken apart.
+serve() { # FILES..
     case $folder in -*) folder=./$folder ;; esac
     [ -n "$folder" ] || [ $# -le 1 ] || die 'more than one file is named: -o FOLDER gives each its own result'
     [ -z "$folder" ] || [ $# -gt 0 ] || die '-o wants the files to tidy (see --help)'
