@@ -9,3 +9,4 @@ pub mod Cut
 pub mod Passes
 pub mod Examples
 pub mod Of_walk_lines
+pub mod Of_walk_window

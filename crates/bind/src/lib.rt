@@ -551,9 +551,44 @@ fn site_by(
     site_at(text, rec, top, end, k)
 }
 
-// The walk down the `n` lines, by a window of their records, with the tables of ends, blocks and starts, with no line marked, and with an index that
-// is empty.
+// The walk down the `n` lines, by their records in a lent window, with the tables of ends, blocks and starts, with no line marked, and with an index
+// that is empty.
 fn walk_lines(
+    text: &[u8],
+    ends: &[usize],
+    n: usize,
+    blocks: &[usize],
+    starts: &[u8],
+    seen: &mut [usize],
+    first: &mut [usize],
+    marks: &mut [u8],
+    out: &mut [u8],
+    recs: &mut [records::LineRec],
+) -> usize
+    requires { ⌜ (0 < length (now recs)) × (((length (now seen) ≡ length (now first)) × ((AtMost 0 (now seen)) × (AtMost 0 (now first))))
+        × (Walked (now text) (now ends) n (now blocks) (now starts) (now marks) (now out))) ⌝ }
+    ensures answer { λ r. ⌜ Wrote (now (out .entry)) 0 (unlines (bindDeclarators plain (linesOf (now (text .entry))))) (now (out .exit)) r ⌝ }
+    ensures memory { λ _. ⌜ Filled (now (marks .entry)) (flagsOf (bindMarks plain (linesOf (now (text .entry))))) (now (marks .exit)) (length (linesOf (now (text .entry)))) ⌝ }
+{
+    let mut c = place::Region(0);
+    let mut s = first_site(stop_by(ends, 0, n, 0, text.len()));
+    let mut past = 0;
+    let mut k = 0;
+    let mut o = 0;
+    while k < n {
+        past = records::refill(ends, blocks, n, k, past, recs);
+        let rec = records::get(recs, k + recs.len() - past);
+        s = site_by(text, ends, rec, k, n, c, s);
+        c = rec.region;
+        index::read_region(text, s.top, s.from, s.end, k, seen, first);
+        o = bind_line(text, s, blocks, starts, seen, first, marks, out, o);
+        k += 1;
+    }
+    o
+}
+
+// The same with a window of its own.
+fn walk_window(
     text: &[u8],
     ends: &[usize],
     n: usize,
@@ -570,22 +605,18 @@ fn walk_lines(
     ensures memory { λ _. ⌜ Filled (now (marks .entry)) (flagsOf (bindMarks plain (linesOf (now (text .entry))))) (now (marks .exit)) (length (linesOf (now (text .entry)))) ⌝ }
 {
     let mut recs = records::window();
-    let mut above = records::blank();
-    let mut s = first_site(stop_by(ends, 0, n, 0, text.len()));
-    let mut j = 1024;
-    let mut k = 0;
-    let mut o = 0;
-    while k < n {
-        j = records::refill(ends, blocks, n, k, j, above, &mut recs);
-        let rec = records::get(&recs, j);
-        s = site_by(text, ends, rec, k, n, above.region, s);
-        above = rec;
-        index::read_region(text, s.top, s.from, s.end, k, seen, first);
-        o = bind_line(text, s, blocks, starts, seen, first, marks, out, o);
-        j += 1;
-        k += 1;
-    }
-    o
+    walk_lines(
+        text,
+        ends,
+        n,
+        blocks,
+        starts,
+        seen,
+        first,
+        marks,
+        out,
+        &mut recs,
+    )
 }
 
 // The same with an index of its own.
@@ -604,7 +635,7 @@ fn walk(
 {
     let mut seen = [0usize; 1024];
     let mut first = [0usize; 1024];
-    walk_lines(
+    walk_window(
         text,
         ends,
         n,

@@ -1,5 +1,5 @@
 -- The walk down the lines by their records. Assumes nothing.
-use Prim.Native.Nat.{ℕ, suc, _+_, _≤_, _<_, _^_, min}
+use Prim.Native.Nat.{ℕ, suc, _+_, _-_, _≤_, _<_, _^_, min}
 use mathlib.Core.Path.{_≡_, refl, sym, _∙_, subst}
 use mathlib.Core.Bool.{cond}
 use mathlib.Core.List.{List}
@@ -9,9 +9,9 @@ use lib.ListN.{length, getD, drop}
 use Rattle.lines.specs.Lf.{part, upTo, linesOf}
 use Rattle.place.specs.Region.{isHeader}
 use Rattle.records.specs.declared.LineRec.{LineRec}
-use Rattle.records.specs.Records.{noRec, recAt, recordsOf, windowAt, Told}
+use Rattle.records.specs.Records.{noRec, recAt, recordsOf, Above, lastOf, windowAt, Told}
 use Rattle.records.proofs.Down.{Down, down-start, down-some, down-none, down-lt, down-here, down-on}
-use Rattle.records.proofs.Shown.{Shows, told-long, shows-start, shows-here, shows-on, shows-asks, shows-filled}
+use Rattle.records.proofs.Shown.{Shows, Has, told-long, shows-start, shows-asks, shows-filled}
 use Rattle.calls.specs.Tables.{Ready, Turned, Rebuilt}
 use Rattle.calls.proofs.Turns.{Passes, passes-ready, passes-on, passes-end}
 
@@ -55,41 +55,51 @@ module _ {t : List ℕ} {rs : List LineRec} {m : ℕ} {bs fs owner₀ stack₀ c
       count = h .count;
     }
 
--- ---- the same, with a window of the records
+-- ---- the same, with a window of the records, which ends above the line past
 
-pub record Viewed (t : List ℕ) (m : ℕ) (bs fs owner₀ stack₀ cur₀ next₀ clean₀ owner stack cur next clean : List ℕ) (d : List LineRec) (a : LineRec) (j n o : ℕ) : Type 0 where
+pub record Viewed (t : List ℕ) (m : ℕ) (bs fs owner₀ stack₀ cur₀ next₀ clean₀ owner stack cur next clean : List ℕ) (d₀ d : List LineRec) (past n o : ℕ) : Type 0 where
   pub lined : Lined t (recordsOf (linesOf t) bs) m bs fs owner₀ stack₀ cur₀ next₀ clean₀ owner stack cur next clean n o
-  pub size : length d ≡ 1024
-  pub shows : Shows (recordsOf (linesOf t) bs) d n j a
+  pub some : 0 < length d
+  pub same : length d ≡ length d₀
+  pub low : n ≤ past
+  pub high : past ≤ n + length d
+  pub shows : Shows (recordsOf (linesOf t) bs) d past
 
-pub viewed-start : {t es : List ℕ} {m : ℕ} {bs fs owner stack cur next clean : List ℕ} {d : List LineRec} {a : LineRec} → Passes t bs fs owner stack cur next clean owner stack cur next clean 0 0 0 → Told t es bs m →
-    length d ≡ 1024 → a ≡ noRec → Viewed t m bs fs owner stack cur next clean owner stack cur next clean d a 1024 0 0
-viewed-start {t} {d = d} p h s e = record { lined = lined-start p h; size = s; shows = shows-start _ d 1024 (omega (arith, s)) e }
+pub viewed-start : {t es : List ℕ} {m : ℕ} {bs fs owner stack cur next clean : List ℕ} {d : List LineRec} → Passes t bs fs owner stack cur next clean owner stack cur next clean 0 0 0 → Told t es bs m → 0 < length d →
+    Viewed t m bs fs owner stack cur next clean owner stack cur next clean d d 0 0 0
+viewed-start {d = d} p h w = record { lined = lined-start p h; some = w; same = refl; low = omega arith; high = omega arith; shows = shows-start _ d }
 
-module _ {t es : List ℕ} {m : ℕ} {bs fs owner₀ stack₀ cur₀ next₀ clean₀ owner stack cur next clean : List ℕ} {d : List LineRec} {a : LineRec} {j n o : ℕ}
-    (h : Viewed t m bs fs owner₀ stack₀ cur₀ next₀ clean₀ owner stack cur next clean d a j n o) (k : Told t es bs m) (l : n < m) where
+module _ {t es : List ℕ} {m : ℕ} {bs fs owner₀ stack₀ cur₀ next₀ clean₀ owner stack cur next clean : List ℕ} {d₀ d : List LineRec} {past n o : ℕ}
+    (h : Viewed t m bs fs owner₀ stack₀ cur₀ next₀ clean₀ owner stack cur next clean d₀ d past n o) (k : Told t es bs m) (l : n < m) where
   -- what `refill` asks for
-  pub viewed-asks : ((i : ℕ) → getD es i 0 < 2 ^ 64) → (n ≤ m) × ((m ≤ length es) × ((m ≤ length bs) × ((a .region .0 ≤ n) × (a .end < 2 ^ 63))))
-  viewed-asks g = (omega arith, (told-long k .0, (told-long k .1, shows-asks k (h .shows) l g)))
+  pub viewed-asks : ((i : ℕ) → getD es i 0 < 2 ^ 64) → ((n ≤ m) × ((m ≤ length es) × ((m ≤ length bs) × (0 < length d)))) × (past ≤ n → Above past (lastOf d))
+  viewed-asks g = ((omega arith, (told-long k .0, (told-long k .1, h .some))), λ q. shows-asks k (h .shows) (h .some) (omega (arith, q, l)) g)
 
-  module _ {j′ : ℕ} {d′ : List LineRec} (p : j′ ≡ cond (ltb j (length d)) j 0) (q : d′ ≡ cond (ltb j (length d)) d (windowAt es bs m n a d)) where
-    filled : (length d′ ≡ length d) × ((j′ < length d′) × Shows (recordsOf (linesOf t) bs) d′ n j′ a)
-    filled = shows-filled k (h .shows) l (let s = h .size in omega arith) p q
+  module _ {past′ : ℕ} {d′ : List LineRec} (p : past′ ≡ cond (ltb n past) past (past + length d)) (q : d′ ≡ cond (ltb n past) d (windowAt es bs m past d)) where
+    filled : Has k (h .shows) (h .some) n past′ d′
+    filled = shows-filled k (h .shows) (h .some) l (h .low) (h .high) p q
 
-    pub viewed-size : length d′ ≡ 1024
-    viewed-size = filled .0 ∙ h .size
+    -- where the record of the line stands
+    pub viewed-reach : (past′ ≤ n + length d′) × (n + length d′ - past′ < length d′)
+    viewed-reach = let f = filled in (f .above, let u = f .above in let v = f .below in omega (arith, u, v))
 
-    pub viewed-place : j′ < length d′
-    viewed-place = filled .1 .0
-
-    module _ {r : LineRec} (g : r ≡ getD d′ j′ noRec) where
+    module _ {r : LineRec} (g : r ≡ getD d′ (n + length d′ - past′) noRec) where
       here : r ≡ getD (recordsOf (linesOf t) bs) n noRec
-      here = g ∙ shows-here (filled .1 .1) (filled .1 .0) (lined-get (h .lined) l)
+      here = g ∙ filled .shows .front n (filled .below) (filled .above) (lined-get (h .lined) l)
 
       pub viewed-ready : Ready t n (r .start) (r .end) bs fs owner stack o cur next clean
       viewed-ready = lined-ready (h .lined) l here
 
       pub viewed-on : {owner′ stack′ cur′ next′ clean′ : List ℕ} {o′ : ℕ} → Turned t n owner owner′ stack′ o o′ →
           length owner′ ≡ length owner → length stack′ ≡ length stack → length cur′ ≡ length cur → length next′ ≡ length next → length clean′ ≡ length clean →
-          Viewed t m bs fs owner₀ stack₀ cur₀ next₀ clean₀ owner′ stack′ cur′ next′ clean′ d′ r (j′ + 1) (n + 1) o′
-      viewed-on w a b c d e = record { lined = lined-on (h .lined) l w a b c d e; size = viewed-size; shows = shows-on (filled .1 .1) here }
+          Viewed t m bs fs owner₀ stack₀ cur₀ next₀ clean₀ owner′ stack′ cur′ next′ clean′ d₀ d′ past′ (n + 1) o′
+      viewed-on w a b c e f =
+          let z = filled in
+          record {
+            lined = lined-on (h .lined) l w a b c e f;
+            some = let x = z .same in let y = h .some in omega (arith, x, y);
+            same = z .same ∙ h .same;
+            low = let x = z .below in omega (arith, x);
+            high = let x = z .above in omega (arith, x);
+            shows = z .shows;
+          }

@@ -19,3 +19,4 @@ pub mod Wipes
 pub mod Kept
 pub mod Downs
 pub mod Of_rebuild_lines
+pub mod Of_rebuild_window

@@ -362,8 +362,52 @@ fn turn_line(
     push_line(lines::cut(cur, 0, m), stack, h)
 }
 
-// Puts what becomes of the `m` lines on the stack, by a window of their records, and returns its height.
+// Puts what becomes of the `m` lines on the stack, by their records in a lent window, and returns its height.
 fn rebuild_lines(
+    text: &[u8],
+    ends: &[usize],
+    m: usize,
+    blocks: &[usize],
+    starts: &[u8],
+    owner: &mut [usize],
+    stack: &mut [u8],
+    cur: &mut [u8],
+    next: &mut [u8],
+    clean: &mut [u8],
+    recs: &mut [records::LineRec],
+) -> usize
+    requires { ⌜ (0 < length (now recs)) × ((Placed (now text) (now blocks) (now starts))
+        × ((length (linesOf (now text)) ≤ length (now owner)) × ((length (now text) < length (now stack))
+        × ((length (now text) ≤ length (now cur)) × ((length (now text) ≤ length (now next)) × ((length (now text) ≤ length (now clean)) × (Told (now text) (now ends) (now blocks) m))))))) ⌝ }
+    ensures { λ r. ⌜ Rebuilt (now (text .entry)) (now (owner .entry)) (now (owner .exit)) (now (stack .exit)) r ⌝ }
+{
+    let mut past = 0;
+    let mut n = 0;
+    let mut o = 0;
+    while n < m {
+        past = records::refill(ends, blocks, m, n, past, recs);
+        let rec = records::get(recs, n + recs.len() - past);
+        o = turn_line(
+            text,
+            rec.start,
+            rec.end,
+            n,
+            blocks,
+            starts,
+            owner,
+            stack,
+            o,
+            cur,
+            next,
+            clean,
+        );
+        n += 1;
+    }
+    o
+}
+
+// The same with a window of its own.
+fn rebuild_window(
     text: &[u8],
     ends: &[usize],
     m: usize,
@@ -381,31 +425,19 @@ fn rebuild_lines(
     ensures { λ r. ⌜ Rebuilt (now (text .entry)) (now (owner .entry)) (now (owner .exit)) (now (stack .exit)) r ⌝ }
 {
     let mut recs = records::window();
-    let mut rec = records::blank();
-    let mut j = 1024;
-    let mut n = 0;
-    let mut o = 0;
-    while n < m {
-        j = records::refill(ends, blocks, m, n, j, rec, &mut recs);
-        rec = records::get(&recs, j);
-        o = turn_line(
-            text,
-            rec.start,
-            rec.end,
-            n,
-            blocks,
-            starts,
-            owner,
-            stack,
-            o,
-            cur,
-            next,
-            clean,
-        );
-        j += 1;
-        n += 1;
-    }
-    o
+    rebuild_lines(
+        text,
+        ends,
+        m,
+        blocks,
+        starts,
+        owner,
+        stack,
+        cur,
+        next,
+        clean,
+        &mut recs,
+    )
 }
 
 // Writes zeros over all of a buffer.
@@ -444,7 +476,7 @@ fn rebuild_with(
         × ((now (cur .exit) ≡ replicate (length (now (cur .entry))) 0)
         × ((now (next .exit) ≡ replicate (length (now (next .entry))) 0) × (now (clean .exit) ≡ replicate (length (now (clean .entry))) 0))) ⌝ }
 {
-    let o = rebuild_lines(
+    let o = rebuild_window(
         text,
         ends,
         m,

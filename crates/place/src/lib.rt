@@ -250,12 +250,15 @@ pub fn starts_after(last: u16, st: bool) -> bool
     (last == 59) | ((last == 123) | ((last == 125) | (last == 58)))
 }
 
-// Where a line ends, twice over, and one more where it opens a region: both in one number.
+// Where a line ends, twice over, and one more where it opens a region: both in one number. Most lines begin with a space.
 fn end_mark(line: &[u8], e: usize) -> usize
     requires { ⌜ e < 2 ^ 63 ⌝ }
     ensures { λ r. ⌜ r ≡ endMark e (now (line .entry)) ⌝ }
 {
-    if is_header(line) {
+    if lines::byte_at(line, 0) == 32 {
+        return 2 * e;
+    }
+    if opens_region(line) {
         return 2 * e + 1;
     }
     2 * e

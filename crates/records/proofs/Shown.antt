@@ -17,75 +17,80 @@ use Rattle.place.proofs.Blocks.{length-ids}
 use Rattle.place.proofs.Fills.{filled-length}
 use Rattle.place.proofs.Marks.{marks-length}
 use Rattle.records.specs.declared.LineRec.{LineRec}
-use Rattle.records.specs.Records.{noRec, recAt, recordsGo, recordsOf, recBelow, recordsBy, windowAt, Told}
+use Rattle.records.specs.Records.{noRec, recAt, recordsGo, recordsOf, startBelow, regionBelow, Above, recBy, recordsBy, lastOf, windowAt, Told}
 use Rattle.records.proofs.Laws.{Filling, filling-start, filling-as, filling-place, filling-put, filling-end, records-count}
 
 -- ---- the loop of `fill`
 
-pub by-length : (es bs : List ℕ) (m k : ℕ) (a : LineRec) → length (recordsBy es bs m k a) ≡ m
+pub by-length : (es bs : List ℕ) (m k i c : ℕ) → length (recordsBy es bs m k i c) ≡ m
 unfolding recordsBy
-by-length es bs zero k a = refl
-by-length es bs (suc m) k a = ap suc (by-length es bs m (suc k) (recBelow k a (getD es k 0) (getD bs k 0)))
+by-length es bs zero k i c = refl
+by-length es bs (suc m) k i c = ap suc (by-length es bs m (suc k) (getD es k 0 / 2 + 1) (c + getD es k 0 % 2))
 
-by-more : (es bs : List ℕ) (n m k k′ : ℕ) (a : LineRec) → n ≡ suc m → suc k ≡ k′ →
-    recordsBy es bs n k a ≡ recBelow k a (getD es k 0) (getD bs k 0) ∷ recordsBy es bs m k′ (recBelow k a (getD es k 0) (getD bs k 0))
+by-more : (es bs : List ℕ) (n m k k′ i c : ℕ) → n ≡ suc m → suc k ≡ k′ →
+    recordsBy es bs n k i c ≡ recBy i c (getD es k 0) (getD bs k 0) ∷ recordsBy es bs m k′ (getD es k 0 / 2 + 1) (c + getD es k 0 % 2)
 unfolding recordsBy
-by-more es bs n m k k′ a e f =
-    ap (λ (x : ℕ). recordsBy es bs x k a) e ∙ ap (λ (x : ℕ). recBelow k a (getD es k 0) (getD bs k 0) ∷ recordsBy es bs m x (recBelow k a (getD es k 0) (getD bs k 0))) f
+by-more es bs n m k k′ i c e f =
+    ap (λ (x : ℕ). recordsBy es bs x k i c) e ∙ ap (λ (x : ℕ). recBy i c (getD es k 0) (getD bs k 0) ∷ recordsBy es bs m x (getD es k 0 / 2 + 1) (c + getD es k 0 % 2)) f
 
-by-none : (es bs : List ℕ) (n k : ℕ) (a : LineRec) → n ≡ 0 → recordsBy es bs n k a ≡ []
+by-none : (es bs : List ℕ) (n k i c : ℕ) → n ≡ 0 → recordsBy es bs n k i c ≡ []
 unfolding recordsBy
-by-none es bs n k a e = ap (λ (x : ℕ). recordsBy es bs x k a) e
+by-none es bs n k i c e = ap (λ (x : ℕ). recordsBy es bs x k i c) e
 
--- j of the m records are put, and a is the record above the next
-pub record WindowInv (es bs : List ℕ) (n k : ℕ) (a₀ : LineRec) (d₀ d : List LineRec) (m j : ℕ) (a : LineRec) : Type 0 where
+-- j of the m records are put: the next line begins at i, and c is the region above it
+pub record WindowInv (es bs : List ℕ) (n k : ℕ) (d₀ d : List LineRec) (m i₀ c₀ i c j : ℕ) : Type 0 where
   pub count : m ≡ min (length d₀) (n - k)
-  pub filling : Filling (recordsBy es bs m k a₀) (recordsBy es bs (m - j) (k + j) a) d₀ d j
-  pub low : a .region .0 ≤ k + j
-  pub end : a .end < 2 ^ 63
+  pub start : i₀ ≡ startBelow k (lastOf d₀)
+  pub region : c₀ ≡ regionBelow k (lastOf d₀)
+  pub filling : Filling (recordsBy es bs m k i₀ c₀) (recordsBy es bs (m - j) (k + j) i c) d₀ d j
+  pub low : c ≤ k + j
 
-pub window-start : (es bs : List ℕ) (n k : ℕ) (a : LineRec) (d : List LineRec) (m : ℕ) → m ≡ min (length d) (n - k) → a .region .0 ≤ k → a .end < 2 ^ 63 → WindowInv es bs n k a d d m 0 a
-window-start es bs n k a d m c l e = record {
-  count = c;
-  filling = filling-as (ap (λ (x : ℕ). recordsBy es bs x k a) (let z : m ≡ m - 0 = omega arith in z) ∙ ap (λ (x : ℕ). recordsBy es bs (m - 0) x a) (let z : k ≡ k + 0 = omega arith in z))
-      (filling-start (recordsBy es bs m k a) d (omega (arith, c, by-length es bs m k a)));
-  low = omega arith;
-  end = e;
-}
+pub window-start : (es bs : List ℕ) (n k : ℕ) (d : List LineRec) {m i c : ℕ} {a : LineRec} → m ≡ min (length d) (n - k) → a ≡ lastOf d → i ≡ startBelow k a → c ≡ regionBelow k a → regionBelow k (lastOf d) ≤ k → WindowInv es bs n k d d m i c i c 0
+window-start es bs n k d {m} {i} {c} {a} e g p q l =
+    let z : c ≡ regionBelow k (lastOf d) = q ∙ ap (regionBelow k) g in
+    record {
+      count = e;
+      start = p ∙ ap (startBelow k) g;
+      region = z;
+      filling = filling-as (ap (λ (x : ℕ). recordsBy es bs x k i c) (let z : m ≡ m - 0 = omega arith in z) ∙ ap (λ (x : ℕ). recordsBy es bs (m - 0) x i c) (let z : k ≡ k + 0 = omega arith in z))
+          (filling-start (recordsBy es bs m k i c) d (omega (arith, e, by-length es bs m k i c)));
+      low = omega (arith, z, l);
+    }
 
-module _ {es bs : List ℕ} {n k : ℕ} {a₀ : LineRec} {d₀ d : List LineRec} {m j : ℕ} {a : LineRec} (h : WindowInv es bs n k a₀ d₀ d m j a) where
-  pub window-done : m ≤ j → d ≡ windowAt es bs n k a₀ d₀
+module _ {es bs : List ℕ} {n k : ℕ} {d₀ d : List LineRec} {m i₀ c₀ i c j : ℕ} (h : WindowInv es bs n k d₀ d m i₀ c₀ i c j) where
+  pub window-done : m ≤ j → d ≡ windowAt es bs n k d₀
   unfolding windowAt
   window-done l =
-      let f = filling-end (filling-as (by-none es bs (m - j) (k + j) a (omega arith)) (h .filling)) in
-      f .1 ∙ ap (λ (x : ℕ). recordsBy es bs m k a₀ ++ drop x d₀) (by-length es bs m k a₀) ∙ ap (λ (x : ℕ). recordsBy es bs x k a₀ ++ drop x d₀) (h .count)
+      let f = filling-end (filling-as (by-none es bs (m - j) (k + j) i c (omega arith)) (h .filling)) in
+      f .1 ∙ ap (λ (x : ℕ). recordsBy es bs m k i₀ c₀ ++ drop x d₀) (by-length es bs m k i₀ c₀) ∙ ap (λ (x : ℕ). recordsBy es bs x k i₀ c₀ ++ drop x d₀) (h .count)
+      ∙ ap (λ (x : ℕ). recordsBy es bs (min (length d₀) (n - k)) k x c₀ ++ drop (min (length d₀) (n - k)) d₀) (h .start)
+      ∙ ap (λ (x : ℕ). recordsBy es bs (min (length d₀) (n - k)) k (startBelow k (lastOf d₀)) x ++ drop (min (length d₀) (n - k)) d₀) (h .region)
 
   module _ (l : j < m) where
-    here : recordsBy es bs (m - j) (k + j) a ≡ recBelow (k + j) a (getD es (k + j) 0) (getD bs (k + j) 0) ∷ recordsBy es bs (m - (j + 1)) (k + (j + 1)) (recBelow (k + j) a (getD es (k + j) 0) (getD bs (k + j) 0))
-    here = by-more es bs (m - j) (m - (j + 1)) (k + j) (k + (j + 1)) a (omega arith) (omega arith)
+    here : recordsBy es bs (m - j) (k + j) i c ≡ recBy i c (getD es (k + j) 0) (getD bs (k + j) 0) ∷ recordsBy es bs (m - (j + 1)) (k + (j + 1)) (getD es (k + j) 0 / 2 + 1) (c + getD es (k + j) 0 % 2)
+    here = by-more es bs (m - j) (m - (j + 1)) (k + j) (k + (j + 1)) i c (omega arith) (omega arith)
 
     pub window-lt : (k + j < n) × (j < length d)
     window-lt = (let c = h .count in omega arith, filling-place (filling-as here (h .filling)))
 
-    pub window-on : {d′ : List LineRec} {a′ : LineRec} → a′ ≡ recBelow (k + j) a (getD es (k + j) 0) (getD bs (k + j) 0) → getD es (k + j) 0 < 2 ^ 64 → d′ ≡ set d j a′ → WindowInv es bs n k a₀ d₀ d′ m (j + 1) a′
-    window-on {d′} {a′} e b s =
-        let x : ℕ = getD es (k + j) 0 in
-        let p : a′ .region .0 ≡ a .region .0 + x % 2 = ap (λ (r : LineRec). r .region .0) e in
-        let q : a′ .end ≡ x / 2 = ap (λ (r : LineRec). r .end) e in
-        let g : recordsBy es bs (m - j) (k + j) a ≡ a′ ∷ recordsBy es bs (m - (j + 1)) (k + (j + 1)) a′ = here ∙ ap (λ (r : LineRec). r ∷ recordsBy es bs (m - (j + 1)) (k + (j + 1)) r) (sym e) in
+    pub window-on : {d′ : List LineRec} {r : LineRec} → r ≡ recBy i c (getD es (k + j) 0) (getD bs (k + j) 0) → d′ ≡ set d j r → WindowInv es bs n k d₀ d′ m i₀ c₀ (r .end + 1) (r .region .0) (j + 1)
+    window-on {d′} {r} e s =
+        let p : r .region .0 ≡ c + getD es (k + j) 0 % 2 = ap (λ (x : LineRec). x .region .0) e in
+        let g : recordsBy es bs (m - j) (k + j) i c ≡ r ∷ recordsBy es bs (m - (j + 1)) (k + (j + 1)) (r .end + 1) (r .region .0) =
+        here ∙ ap (λ (x : LineRec). x ∷ recordsBy es bs (m - (j + 1)) (k + (j + 1)) (x .end + 1) (x .region .0)) (sym e) in
         record {
           count = h .count;
+          start = h .start;
+          region = h .region;
           filling = filling-put s (filling-as g (h .filling));
           low = let w = h .low in omega (arith, p, w);
-          end = omega (arith, q, b);
         }
 
--- ---- the records by tables are the records of the lines
+    -- and the next line begins where a number may point
+    pub window-end : {r : LineRec} → r ≡ recBy i c (getD es (k + j) 0) (getD bs (k + j) 0) → getD es (k + j) 0 < 2 ^ 64 → r .end + 1 < 2 ^ 64
+    window-end {r} e b = let q : r .end ≡ getD es (k + j) 0 / 2 = ap (λ (x : LineRec). x .end) e in omega (arith, q, b)
 
--- the record above the k-th of some records
-pub aboveIn : List LineRec → ℕ → LineRec
-aboveIn rs zero = noRec
-aboveIn rs (suc k) = getD rs k noRec
+-- ---- the records by tables are the records of the lines
 
 -- where the k-th begins and the region above it, where the first begins at i and c is the region above it
 startAt : ℕ → List LineRec → ℕ → ℕ
@@ -131,12 +136,6 @@ entry-at (l ∷ ls) (b ∷ bs) x i c (suc k) h q =
     ∙ ap (λ (s : ℕ). recAt s (y / 2) (regionAt (cond (isHeader l) (suc c) c) rs k + y % 2) (getD bs k 0)) (start-below i r rs k)
     ∙ ap (λ (s : ℕ). recAt (startAt i (r ∷ rs) (suc k)) (y / 2) (s + y % 2) (getD bs k 0)) (region-below c r rs k)
 
-first-start : (rs : List LineRec) (k b y z : ℕ) → recAt (startAt 0 rs k) y (regionAt 0 rs k + z) b ≡ recAt (cond (eqb k 0) 0 (aboveIn rs k .end + 1)) y (aboveIn rs k .region .0 + z) b
-unfolding startAt regionAt aboveIn
-first-start rs zero b y z = refl
-first-start rs (suc k) b y z =
-    ap (λ (s : ℕ). recAt s y (getD rs k noRec .region .0 + z) b) (sym (add-one (getD rs k noRec .end)) ∙ ap (λ (b : Bool). cond b 0 (getD rs k noRec .end + 1)) (sym (ne-eqb (suc k) 0 (λ e. omega (arith, e)))))
-
 -- what `place_lines` leaves
 pub told-ids : (t : List ℕ) {b b′ e e′ : List ℕ} {n : ℕ} → length (linesOf t) ≤ length b → Filled b (blockIds (linesOf t)) b′ n → Filled e (endMarks 0 (linesOf t)) e′ n → Told t e′ b′ n
 told-ids t {b} {b′} {e} h f g =
@@ -159,100 +158,123 @@ module _ {t es bs : List ℕ} {n : ℕ} (h : Told t es bs n) where
   pub all-count : length all ≡ n
   all-count = records-count (linesOf t) bs (h .long) ∙ sym (h .count)
 
-  pub record-below : (k : ℕ) → k < n → getD all k noRec ≡ recBelow k (aboveIn all k) (getD es k 0) (getD bs k 0)
+  record-below : (k : ℕ) → k < n → getD all k noRec ≡ recBy (startAt 0 all k) (regionAt 0 all k) (getD es k 0) (getD bs k 0)
   unfolding recordsOf
   record-below k l =
       entry-at (linesOf t) bs (h .behind) 0 0 k (h .long) (let c = h .count in omega arith)
       ∙ ap (λ (xs : List ℕ). recAt (startAt 0 all k) (getD xs k 0 / 2) (regionAt 0 all k + getD xs k 0 % 2) (getD bs k 0)) (sym (h .marks))
-      ∙ first-start all k (getD bs k 0) (getD es k 0 / 2) (getD es k 0 % 2)
 
   -- the m records from the k-th on
-  by-at : (m k d : ℕ) (a : LineRec) → k + m ≤ n → d < m → a ≡ aboveIn all k → getD (recordsBy es bs m k a) d noRec ≡ getD all (k + d) noRec
-  unfolding recordsBy aboveIn
-  by-at zero k d a p q e = absurd (omega (arith, q))
-  by-at (suc m) k zero a p q e =
-      ap (λ (r : LineRec). recBelow k r (getD es k 0) (getD bs k 0)) e ∙ sym (record-below k (omega (arith, p))) ∙ ap (λ (x : ℕ). getD all x noRec) (let z : k ≡ k + 0 = omega arith in z)
-  by-at (suc m) k (suc d) a p q e =
-      by-at m (suc k) d (recBelow k a (getD es k 0) (getD bs k 0)) (omega (arith, p)) (omega (arith, q))
-      (ap (λ (r : LineRec). recBelow k r (getD es k 0) (getD bs k 0)) e ∙ sym (record-below k (omega (arith, p))))
+  by-at : (m k d i c : ℕ) → k + m ≤ n → d < m → i ≡ startAt 0 all k → c ≡ regionAt 0 all k → getD (recordsBy es bs m k i c) d noRec ≡ getD all (k + d) noRec
+  unfolding recordsBy startAt regionAt
+  by-at zero k d i c p q e f = absurd (omega (arith, q))
+  by-at (suc m) k zero i c p q e f =
+      ap (λ (x : ℕ). recBy x c (getD es k 0) (getD bs k 0)) e ∙ ap (λ (x : ℕ). recBy (startAt 0 all k) x (getD es k 0) (getD bs k 0)) f
+      ∙ sym (record-below k (omega (arith, p))) ∙ ap (λ (x : ℕ). getD all x noRec) (let z : k ≡ k + 0 = omega arith in z)
+  by-at (suc m) k (suc d) i c p q e f =
+      let r = record-below k (omega (arith, p)) in
+      by-at m (suc k) d (getD es k 0 / 2 + 1) (c + getD es k 0 % 2) (omega (arith, p)) (omega (arith, q))
+      (add-one (getD es k 0 / 2) ∙ ap (λ (x : LineRec). suc (x .end)) (sym r))
+      (ap (λ (x : ℕ). x + getD es k 0 % 2) f ∙ ap (λ (x : LineRec). x .region .0) (sym r))
       ∙ ap (λ (x : ℕ). getD all x noRec) (let z : suc k + d ≡ k + suc d = omega arith in z)
 
-  pub above-low : (k : ℕ) → k ≤ n → aboveIn all k .region .0 ≤ k
-  unfolding aboveIn
-  above-low zero l = omega arith
-  above-low (suc k) l =
+  region-low : (k : ℕ) → k ≤ n → regionAt 0 all k ≤ k
+  unfolding regionAt
+  region-low zero l = omega arith
+  region-low (suc k) l =
       let p = ap (λ (r : LineRec). r .region .0) (record-below k (omega (arith, l))) in
-      let q = above-low k (omega (arith, l)) in
+      let q = region-low k (omega (arith, l)) in
       omega (arith, p, q)
 
-  pub above-end : (k : ℕ) → k ≤ n → ((i : ℕ) → getD es i 0 < 2 ^ 64) → aboveIn all k .end < 2 ^ 63
-  unfolding aboveIn
-  above-end zero l g = omega arith
-  above-end (suc k) l g = let p = ap (λ (r : LineRec). r .end) (record-below k (omega (arith, l))) in omega (arith, p, g k)
+  start-low : (k : ℕ) → k ≤ n → ((i : ℕ) → getD es i 0 < 2 ^ 64) → startAt 0 all k ≤ 2 ^ 63
+  unfolding startAt
+  start-low zero l g = omega arith
+  start-low (suc k) l g = let p = ap (λ (r : LineRec). r .end) (record-below k (omega (arith, l))) in omega (arith, p, g k)
 
 -- ---- going down the lines by a window
 
--- the window d has from its j-th record on those of rs from the k-th on, and a is the record above
-pub record Shows (rs d : List LineRec) (k j : ℕ) (a : LineRec) : Type 0 where
-  pub above : a ≡ aboveIn rs k
-  pub front : (i : ℕ) → j + i < length d → k + i < length rs → getD d (j + i) noRec ≡ getD rs (k + i) noRec
+-- the window d ends above the line past, and has the records of rs there
+pub record Shows (rs d : List LineRec) (past : ℕ) : Type 0 where
+  pub front : (x : ℕ) → x < past → past ≤ x + length d → x < length rs → getD d (x + length d - past) noRec ≡ getD rs x noRec
 
--- a window that is used up
-pub shows-start : (rs d : List LineRec) (j : ℕ) {a : LineRec} → length d ≤ j → a ≡ noRec → Shows rs d 0 j a
-unfolding aboveIn
-shows-start rs d j l e = record { above = e; front = λ i p q. absurd (omega (arith, l, p)) }
+-- a window that is still to be filled
+pub shows-start : (rs d : List LineRec) → Shows rs d 0
+shows-start rs d = record { front = λ x p q r. absurd (omega (arith, p)) }
 
-pub shows-here : {rs d : List LineRec} {k j : ℕ} {a : LineRec} → Shows rs d k j a → j < length d → k < length rs → getD d j noRec ≡ getD rs k noRec
-shows-here {rs} {d} {k} {j} h p q =
-    ap (λ (x : ℕ). getD d x noRec) (let z : j ≡ j + 0 = omega arith in z) ∙ h .front 0 (omega (arith, p)) (omega (arith, q)) ∙ ap (λ (x : ℕ). getD rs x noRec) (let z : k + 0 ≡ k = omega arith in z)
+last-is : {rs d : List LineRec} (p : ℕ) → Shows rs d (suc p) → 0 < length d → p < length rs → lastOf d ≡ getD rs p noRec
+last-is {rs} {d} p h w l = ap (λ (x : ℕ). getD d x noRec) (let z : length d - 1 ≡ p + length d - suc p = omega (arith, w) in z) ∙ h .front p (omega arith) (omega (arith, w)) l
 
-pub shows-on : {rs d : List LineRec} {k j : ℕ} {a r : LineRec} → Shows rs d k j a → r ≡ getD rs k noRec → Shows rs d (k + 1) (j + 1) r
-unfolding aboveIn
-shows-on {rs} {d} {k} {j} h e = record {
-  above = e ∙ ap (aboveIn rs) (sym (add-one k));
-  front = λ i p q.
-      ap (λ (x : ℕ). getD d x noRec) (let z : j + 1 + i ≡ j + suc i = omega arith in z) ∙ h .front (suc i) (omega (arith, p)) (omega (arith, q))
-      ∙ ap (λ (x : ℕ). getD rs x noRec) (let z : k + suc i ≡ k + 1 + i = omega arith in z);
-}
+last-start : {rs d : List LineRec} (p : ℕ) → Shows rs d p → 0 < length d → p ≤ length rs → startBelow p (lastOf d) ≡ startAt 0 rs p
+unfolding startAt
+last-start zero h w l = refl
+last-start {rs} {d} (suc p) h w l =
+    ap (λ (b : Bool). cond b 0 (lastOf d .end + 1)) (ne-eqb (suc p) 0 (λ e. omega (arith, e))) ∙ add-one (lastOf d .end) ∙ ap (λ (r : LineRec). suc (r .end)) (last-is p h w (omega (arith, l)))
+
+last-region : {rs d : List LineRec} (p : ℕ) → Shows rs d p → 0 < length d → p ≤ length rs → regionBelow p (lastOf d) ≡ regionAt 0 rs p
+unfolding regionAt
+last-region zero h w l = refl
+last-region {rs} {d} (suc p) h w l = ap (λ (b : Bool). cond b 0 (lastOf d .region .0)) (ne-eqb (suc p) 0 (λ e. omega (arith, e))) ∙ ap (λ (r : LineRec). r .region .0) (last-is p h w (omega (arith, l)))
 
 front-at : (xs ys : List LineRec) (i : ℕ) → i < length xs → getD (xs ++ ys) i noRec ≡ getD xs i noRec
 front-at [] ys i l = absurd (omega (arith, l))
 front-at (x ∷ xs) ys zero l = refl
 front-at (x ∷ xs) ys (suc i) l = front-at xs ys i (omega (arith, l))
 
-module _ {t es bs : List ℕ} {n : ℕ} (h : Told t es bs n) {d : List LineRec} {k j : ℕ} {a : LineRec} (s : Shows (recordsOf (linesOf t) bs) d k j a) (l : k < n) where
+module _ {t es bs : List ℕ} {n : ℕ} (h : Told t es bs n) {d : List LineRec} {past : ℕ} (s : Shows (recordsOf (linesOf t) bs) d past) (w : 0 < length d) where
   -- what `refill` asks for
-  pub shows-asks : ((i : ℕ) → getD es i 0 < 2 ^ 64) → (a .region .0 ≤ k) × (a .end < 2 ^ 63)
-  shows-asks g = subst (λ (r : LineRec). (r .region .0 ≤ k) × (r .end < 2 ^ 63)) (sym (s .above)) (above-low h k (omega arith), above-end h k (omega arith) g)
+  pub shows-asks : past ≤ n → ((i : ℕ) → getD es i 0 < 2 ^ 64) → Above past (lastOf d)
+  shows-asks l g =
+      let c = all-count h in (
+        omega (arith, last-start past s w (omega (arith, l, c)), start-low h past l g),
+        omega (arith, last-region past s w (omega (arith, l, c)), region-low h past l),
+      )
 
-  filled : (i : ℕ) → i < length d → k + i < length (recordsOf (linesOf t) bs) → getD (windowAt es bs n k a d) i noRec ≡ getD (recordsOf (linesOf t) bs) (k + i) noRec
+  filled : (i : ℕ) → past ≤ n → i < length d → past + i < length (recordsOf (linesOf t) bs) → getD (windowAt es bs n past d) i noRec ≡ getD (recordsOf (linesOf t) bs) (past + i) noRec
   unfolding windowAt
-  filled i p q =
-      let m : ℕ = min (length d) (n - k) in
+  filled i l p q =
+      let m : ℕ = min (length d) (n - past) in
+      let x : ℕ = startBelow past (lastOf d) in
+      let y : ℕ = regionBelow past (lastOf d) in
       let c = all-count h in
-      let z = by-length es bs m k a in
-      front-at (recordsBy es bs m k a) (drop m d) i (omega (arith, z, p, q, c)) ∙ by-at h m k i a (omega (arith, l)) (omega (arith, p, q, c)) (s .above)
+      let z = by-length es bs m past x y in
+      front-at (recordsBy es bs m past x y) (drop m d) i (omega (arith, z, p, q, c))
+      ∙ by-at h m past i x y (omega (arith, l)) (omega (arith, p, q, c)) (last-start past s w (omega (arith, l, c))) (last-region past s w (omega (arith, l, c)))
 
-  window-length : length (windowAt es bs n k a d) ≡ length d
+  window-length : length (windowAt es bs n past d) ≡ length d
   unfolding windowAt
   window-length =
-      let m : ℕ = min (length d) (n - k) in
-      let z = by-length es bs m k a in
-      omega (arith, length-append (recordsBy es bs m k a) (drop m d), length-drop m d, z)
+      let m : ℕ = min (length d) (n - past) in
+      let z = by-length es bs m past (startBelow past (lastOf d)) (regionBelow past (lastOf d)) in
+      omega (arith, length-append (recordsBy es bs m past (startBelow past (lastOf d)) (regionBelow past (lastOf d))) (drop m d), length-drop m d, z)
 
-  -- and what it leaves
-  pub shows-filled : {j′ : ℕ} {d′ : List LineRec} → 0 < length d → j′ ≡ cond (ltb j (length d)) j 0 → d′ ≡ cond (ltb j (length d)) d (windowAt es bs n k a d) →
-      (length d′ ≡ length d) × ((j′ < length d′) × Shows (recordsOf (linesOf t) bs) d′ k j′ a)
-  shows-filled {j′} {d′} w e f = go (ltb j (length d)) refl
+  -- and what it leaves: the window has the k-th line
+  pub record Has (k past′ : ℕ) (d′ : List LineRec) : Type 0 where
+    pub same : length d′ ≡ length d
+    pub below : k < past′
+    pub above : past′ ≤ k + length d′
+    pub shows : Shows (recordsOf (linesOf t) bs) d′ past′
+
+  pub shows-filled : {k past′ : ℕ} {d′ : List LineRec} → k < n → k ≤ past → past ≤ k + length d → past′ ≡ cond (ltb k past) past (past + length d) → d′ ≡ cond (ltb k past) d (windowAt es bs n past d) → Has k past′ d′
+  shows-filled {k} {past′} {d′} l low high e f = go (ltb k past) refl
     where
-      to : (x : ℕ) (y : List LineRec) → j′ ≡ x → d′ ≡ y → (length y ≡ length d) × ((x < length y) × Shows (recordsOf (linesOf t) bs) y k x a) →
-          (length d′ ≡ length d) × ((j′ < length d′) × Shows (recordsOf (linesOf t) bs) d′ k j′ a)
-      to x y p q g =
-          subst (λ (v : ℕ). (length d′ ≡ length d) × ((v < length d′) × Shows (recordsOf (linesOf t) bs) d′ k v a)) (sym p)
-          (subst (λ (v : List LineRec). (length v ≡ length d) × ((x < length v) × Shows (recordsOf (linesOf t) bs) v k x a)) (sym q) g)
+      to : (x : ℕ) (y : List LineRec) → past′ ≡ x → d′ ≡ y → Has k x y → Has k past′ d′
+      to x y p q g = subst (λ (v : ℕ). Has k v d′) (sym p) (subst (λ (v : List LineRec). Has k x v) (sym q) g)
 
-      go : (b : Bool) → ltb j (length d) ≡ b → (length d′ ≡ length d) × ((j′ < length d′) × Shows (recordsOf (linesOf t) bs) d′ k j′ a)
-      go true z = to j d (e ∙ ap (λ (b : Bool). cond b j 0) z) (f ∙ ap (λ (b : Bool). cond b d (windowAt es bs n k a d)) z) (refl, (ltb-true j (length d) z, s))
+      go : (b : Bool) → ltb k past ≡ b → Has k past′ d′
+      go true z =
+          to past d (e ∙ ap (λ (b : Bool). cond b past (past + length d)) z) (f ∙ ap (λ (b : Bool). cond b d (windowAt es bs n past d)) z)
+          (record { same = refl; below = ltb-true k past z; above = high; shows = s })
       go false z =
-          to 0 (windowAt es bs n k a d) (e ∙ ap (λ (b : Bool). cond b j 0) z) (f ∙ ap (λ (b : Bool). cond b d (windowAt es bs n k a d)) z)
-          (window-length, (omega (arith, window-length, w), record { above = s .above; front = λ i p q. ap (λ (x : ℕ). getD (windowAt es bs n k a d) x noRec) (let v : 0 + i ≡ i = omega arith in v) ∙ filled i (omega (arith, p, window-length)) q }))
+          let u : past ≤ k = ltb-false k past z in
+          to (past + length d) (windowAt es bs n past d) (e ∙ ap (λ (b : Bool). cond b past (past + length d)) z) (f ∙ ap (λ (b : Bool). cond b d (windowAt es bs n past d)) z)
+          (record {
+            same = window-length;
+            below = omega (arith, low, w);
+            above = omega (arith, u, window-length);
+            shows = record {
+              front = λ x p q r.
+                  ap (λ (v : ℕ). getD (windowAt es bs n past d) v noRec) (let v : x + length (windowAt es bs n past d) - (past + length d) ≡ x - past = omega (arith, window-length) in v)
+                  ∙ filled (x - past) (omega (arith, u, l)) (omega (arith, p, w)) (omega (arith, p, q, r, window-length))
+                  ∙ ap (λ (v : ℕ). getD (recordsOf (linesOf t) bs) v noRec) (let v : past + (x - past) ≡ x = omega (arith, q, window-length) in v);
+            };
+          })

@@ -1,5 +1,5 @@
 -- The record of each line of a text. Assumes nothing.
-use Prim.Native.Nat.{ℕ, zero, suc, _+_, _-_, _/_, _%_, _≤_, min}
+use Prim.Native.Nat.{ℕ, zero, suc, _+_, _-_, _/_, _%_, _^_, _≤_, min}
 use mathlib.Core.Bool.{cond}
 use mathlib.Core.Path.{_≡_}
 use mathlib.Core.List.{List, [], _∷_, _++_}
@@ -37,19 +37,32 @@ recordsOf ls bs = recordsGo ls bs 0 0
 abbrev pub startBelow : ℕ → LineRec → ℕ
 startBelow k a = cond (eqb k 0) 0 (a .end + 1)
 
--- its record, by its entries x and b
-abbrev pub recBelow : ℕ → LineRec → ℕ → ℕ → LineRec
-recBelow k a x b = recAt (startBelow k a) (x / 2) (a .region .0 + x % 2) b
+-- the region above it
+abbrev pub regionBelow : ℕ → LineRec → ℕ
+regionBelow k a = cond (eqb k 0) 0 (a .region .0)
+
+-- numbers that such an a may have
+abbrev pub Above : ℕ → LineRec → Type 0
+Above k a = (startBelow k a ≤ 2 ^ 63) × (regionBelow k a ≤ k)
+
+-- the record of a line by its entries x and b: it begins at i, and c is the region above it
+abbrev pub recBy : ℕ → ℕ → ℕ → ℕ → LineRec
+recBy i c x b = recAt i (x / 2) (c + x % 2) b
 
 -- the records of m lines, the first with k above it
-unfoldable pub recordsBy : List ℕ → List ℕ → ℕ → ℕ → LineRec → List LineRec
-recordsBy es bs zero k a = []
-recordsBy es bs (suc m) k a = recBelow k a (getD es k 0) (getD bs k 0) ∷ recordsBy es bs m (suc k) (recBelow k a (getD es k 0) (getD bs k 0))
+unfoldable pub recordsBy : List ℕ → List ℕ → ℕ → ℕ → ℕ → ℕ → List LineRec
+recordsBy es bs zero k i c = []
+recordsBy es bs (suc m) k i c = recBy i c (getD es k 0) (getD bs k 0) ∷ recordsBy es bs m (suc k) (getD es k 0 / 2 + 1) (c + getD es k 0 % 2)
 
--- a window d, filled with the records of the lines that have k above them or more, of n in all, as far as it reaches
-unfoldable pub windowAt : List ℕ → List ℕ → ℕ → ℕ → LineRec → List LineRec → List LineRec
+-- the last record of a window
+abbrev pub lastOf : List LineRec → LineRec
+lastOf d = getD d (length d - 1) noRec
+
+-- a window d, whose last record is that of the line above, filled with the records of the lines that have k above them or more, of n in all, as
+-- far as it reaches
+unfoldable pub windowAt : List ℕ → List ℕ → ℕ → ℕ → List LineRec → List LineRec
 unfolding recordsBy
-windowAt es bs n k a d = recordsBy es bs (min (length d) (n - k)) k a ++ drop (min (length d) (n - k)) d
+windowAt es bs n k d = recordsBy es bs (min (length d) (n - k)) k (startBelow k (lastOf d)) (regionBelow k (lastOf d)) ++ drop (min (length d) (n - k)) d
 
 -- the table es is that of the n lines of t, and bs has an entry for each
 pub record Told (t es bs : List ℕ) (n : ℕ) : Type 0 where

@@ -1,10 +1,10 @@
 // Line records: for each line of a text where it begins and ends, its region and its block, a window of them at a time in one lent slice.
 ghost use mathlib.Core.Path.{_≡_};
 ghost use mathlib.Core.Bool.{cond};
-ghost use Prim.Native.Nat.{_≤_, _<_, _^_, min};
+ghost use Prim.Native.Nat.{_+_, _≤_, _<_, _^_, min};
 ghost use lib.Dec.{ltb};
 ghost use lib.ListN.{length, getD, set, replicate};
-ghost use Rattle.records.specs.Records.{noRec, startBelow, recBelow, windowAt};
+ghost use Rattle.records.specs.Records.{noRec, lastOf, startBelow, regionBelow, recBy, Above, windowAt};
 
 // A line of a text: where it begins and ends, its region and its block. Its parts stand in this order in memory.
 #[repr(C)]
@@ -44,16 +44,16 @@ pub fn blank() -> LineRec
 }
 
 // A window of records of zeros.
-pub fn window() -> [LineRec; 1024]
-    ensures { λ r. ⌜ r ≡ replicate 1024 noRec ⌝ }
+pub fn window() -> [LineRec; 256]
+    ensures { λ r. ⌜ r ≡ replicate 256 noRec ⌝ }
 {
     let z = blank();
-    [z; 1024]
+    [z; 256]
 }
 
 // Where a line begins that has `k` above it, the last of them `above`.
 fn start_below(k: usize, above: LineRec) -> usize
-    requires { ⌜ above .end < 2 ^ 63 ⌝ }
+    requires { ⌜ startBelow k above ≤ 2 ^ 63 ⌝ }
     ensures { λ r. ⌜ r ≡ startBelow k above ⌝ }
 {
     if k == 0 {
@@ -62,16 +62,32 @@ fn start_below(k: usize, above: LineRec) -> usize
     above.end + 1
 }
 
-// The record of the line with `k` above it, the last of them `above`, by the tables of ends and of blocks.
-fn record_at(ends: &[usize], blocks: &[usize], k: usize, above: LineRec) -> LineRec
-    requires { ⌜ (k < length (now ends)) × ((k < length (now blocks)) × ((above .region .0 ≤ k) × (above .end < 2 ^ 63))) ⌝ }
-    ensures { λ r. ⌜ r ≡ recBelow k above (getD (now (ends .entry)) k 0) (getD (now (blocks .entry)) k 0) ⌝ }
+// The region above it.
+fn region_below(k: usize, above: LineRec) -> place::Region
+    ensures { λ r. ⌜ r .0 ≡ regionBelow k above ⌝ }
+{
+    if k == 0 {
+        return place::Region(0);
+    }
+    above.region
+}
+
+// The record of the line with `k` above it, by the tables of ends and of blocks: it begins at `start`, and `above` is the region above it.
+fn record_at(
+    ends: &[usize],
+    blocks: &[usize],
+    k: usize,
+    start: usize,
+    above: place::Region,
+) -> LineRec
+    requires { ⌜ (k < length (now ends)) × ((k < length (now blocks)) × (above .0 ≤ k)) ⌝ }
+    ensures { λ r. ⌜ r ≡ recBy start (above .0) (getD (now (ends .entry)) k 0) (getD (now (blocks .entry)) k 0) ⌝ }
 {
     let x = ends[k];
     LineRec {
-        start: start_below(k, above),
+        start,
         end: x / 2,
-        region: place::Region(above.region.0 + x % 2),
+        region: place::Region(above.0 + x % 2),
         block: blocks[k],
     }
 }
@@ -86,45 +102,43 @@ fn least(size: usize, rest: usize) -> usize
     rest
 }
 
-// Fills a window with the records of the lines that have `k` above them or more, of `n` in all, the last of the `k` being `above`.
-pub fn fill(
-    ends: &[usize],
-    blocks: &[usize],
-    n: usize,
-    k: usize,
-    above: LineRec,
-    recs: &mut [LineRec],
-)
-    requires { ⌜ (k ≤ n) × ((n ≤ length (now ends)) × ((n ≤ length (now blocks)) × ((above .region .0 ≤ k) × (above .end < 2 ^ 63)))) ⌝ }
-    ensures { λ _. ⌜ now (recs .exit) ≡ windowAt (now (ends .entry)) (now (blocks .entry)) n k above (now (recs .entry)) ⌝ }
+// Fills a window with the records of the lines that have `k` above them or more, of `n` in all. Its last record is that of the line above, where
+// there is one.
+pub fn fill(ends: &[usize], blocks: &[usize], n: usize, k: usize, recs: &mut [LineRec])
+    requires { ⌜ ((k ≤ n) × ((n ≤ length (now ends)) × ((n ≤ length (now blocks)) × (0 < length (now recs))))) × (Above k (lastOf (now recs))) ⌝ }
+    ensures { λ _. ⌜ now (recs .exit) ≡ windowAt (now (ends .entry)) (now (blocks .entry)) n k (now (recs .entry)) ⌝ }
 {
     let m = least(recs.len(), n - k);
-    let mut a = above;
+    let above = get(recs, recs.len() - 1);
+    let mut i = start_below(k, above);
+    let mut c = region_below(k, above);
     let mut j = 0;
     while j < m {
-        a = record_at(ends, blocks, k + j, a);
-        put(recs, j, a);
+        let rec = record_at(ends, blocks, k + j, i, c);
+        put(recs, j, rec);
+        i = rec.end + 1;
+        c = rec.region;
         j += 1;
     }
 }
 
-// Where the record of the line with `k` above it stands in the window: at `j`, or at 0 of the next one, which is filled then.
+// Has the line with `k` above it in the window, whose last record is that of the line above `past`: where it is past the window, the next one is
+// filled. Returns how many lines are above the end of the window.
 pub fn refill(
     ends: &[usize],
     blocks: &[usize],
     n: usize,
     k: usize,
-    j: usize,
-    above: LineRec,
+    past: usize,
     recs: &mut [LineRec],
 ) -> usize
-    requires { ⌜ (k ≤ n) × ((n ≤ length (now ends)) × ((n ≤ length (now blocks)) × ((above .region .0 ≤ k) × (above .end < 2 ^ 63)))) ⌝ }
-    ensures place { λ r. ⌜ r ≡ cond (ltb j (length (now (recs .entry)))) j 0 ⌝ }
-    ensures records { λ _. ⌜ now (recs .exit) ≡ cond (ltb j (length (now (recs .entry)))) (now (recs .entry)) (windowAt (now (ends .entry)) (now (blocks .entry)) n k above (now (recs .entry))) ⌝ }
+    requires { ⌜ ((k ≤ n) × ((n ≤ length (now ends)) × ((n ≤ length (now blocks)) × (0 < length (now recs))))) × (past ≤ k → Above past (lastOf (now recs))) ⌝ }
+    ensures place { λ r. ⌜ r ≡ cond (ltb k past) past (past + length (now (recs .entry))) ⌝ }
+    ensures records { λ _. ⌜ now (recs .exit) ≡ cond (ltb k past) (now (recs .entry)) (windowAt (now (ends .entry)) (now (blocks .entry)) n past (now (recs .entry))) ⌝ }
 {
-    if j < recs.len() {
-        return j;
+    if k < past {
+        return past;
     }
-    fill(ends, blocks, n, k, above, recs);
-    0
+    fill(ends, blocks, n, past, recs);
+    past + recs.len()
 }

@@ -79,7 +79,6 @@ module _ (κs : Lifetimes.Lfts 3) where
       (a .1 .1 .0)
       (a .1 .1 .1 .0)
       (a .1 .1 .1 .1 .0)
-      (a .1 .1 .1 .1 .1 .0)
   requires-1·read =
       λ a g. Read.all-models
       (λ w. fill.requires-1
@@ -93,8 +92,7 @@ module _ (κs : Lifetimes.Lfts 3) where
       (a .1 .0)
       (a .1 .1 .0)
       (a .1 .1 .1 .0)
-      (a .1 .1 .1 .1 .0)
-      (a .1 .1 .1 .1 .1 .0))
+      (a .1 .1 .1 .1 .0))
       (λ w. search Read.reads)
       (λ w. Path'.refl)
       (λ w. Path'.refl)
@@ -126,13 +124,11 @@ module _ (κs : Lifetimes.Lfts 3) where
       (a .1 .1 .0)
       (a .1 .1 .1 .0)
       (a .1 .1 .1 .1 .0)
-      (a .1 .1 .1 .1 .1 .0)
       record { entry = a .0; exit = s .0 }
       record { entry = a .1 .0; exit = s .1 .0 }
       record { entry = a .1 .1 .0; exit = s .1 .1 .0 }
       record { entry = a .1 .1 .1 .0; exit = s .1 .1 .1 .0 }
       record { entry = a .1 .1 .1 .1 .0; exit = s .1 .1 .1 .1 .0 }
-      record { entry = a .1 .1 .1 .1 .1 .0; exit = s .1 .1 .1 .1 .1 .0 }
       r
   ensures-1·read =
       λ a g r s. Read.all-models
@@ -148,13 +144,11 @@ module _ (κs : Lifetimes.Lfts 3) where
       (a .1 .1 .0)
       (a .1 .1 .1 .0)
       (a .1 .1 .1 .1 .0)
-      (a .1 .1 .1 .1 .1 .0)
       record { entry = a .0; exit = s .0 }
       record { entry = a .1 .0; exit = s .1 .0 }
       record { entry = a .1 .1 .0; exit = s .1 .1 .0 }
       record { entry = a .1 .1 .1 .0; exit = s .1 .1 .1 .0 }
       record { entry = a .1 .1 .1 .1 .0; exit = s .1 .1 .1 .1 .0 }
-      record { entry = a .1 .1 .1 .1 .1 .0; exit = s .1 .1 .1 .1 .1 .0 }
       r)
       (λ w. search Read.reads)
       (λ w. Path'.refl)

@@ -91,7 +91,6 @@ module _ (κs : Lifetimes.Lfts 3) where
       (a .1 .1 .1 .0)
       (a .1 .1 .1 .1 .0)
       (a .1 .1 .1 .1 .1 .0)
-      (a .1 .1 .1 .1 .1 .1 .0)
   requires-1·read =
       λ a g. Read.all-models
       (λ w. refill.requires-1
@@ -106,8 +105,7 @@ module _ (κs : Lifetimes.Lfts 3) where
       (a .1 .1 .0)
       (a .1 .1 .1 .0)
       (a .1 .1 .1 .1 .0)
-      (a .1 .1 .1 .1 .1 .0)
-      (a .1 .1 .1 .1 .1 .1 .0))
+      (a .1 .1 .1 .1 .1 .0))
       (λ w. search Read.reads)
       (λ w. Path'.refl)
       (λ w. Path'.refl)
@@ -140,14 +138,12 @@ module _ (κs : Lifetimes.Lfts 3) where
       (a .1 .1 .1 .0)
       (a .1 .1 .1 .1 .0)
       (a .1 .1 .1 .1 .1 .0)
-      (a .1 .1 .1 .1 .1 .1 .0)
       record { entry = a .0; exit = s .0 }
       record { entry = a .1 .0; exit = s .1 .0 }
       record { entry = a .1 .1 .0; exit = s .1 .1 .0 }
       record { entry = a .1 .1 .1 .0; exit = s .1 .1 .1 .0 }
       record { entry = a .1 .1 .1 .1 .0; exit = s .1 .1 .1 .1 .0 }
       record { entry = a .1 .1 .1 .1 .1 .0; exit = s .1 .1 .1 .1 .1 .0 }
-      record { entry = a .1 .1 .1 .1 .1 .1 .0; exit = s .1 .1 .1 .1 .1 .1 .0 }
       r
   ensures-place·read =
       λ a g r s. Read.all-models
@@ -164,14 +160,12 @@ module _ (κs : Lifetimes.Lfts 3) where
       (a .1 .1 .1 .0)
       (a .1 .1 .1 .1 .0)
       (a .1 .1 .1 .1 .1 .0)
-      (a .1 .1 .1 .1 .1 .1 .0)
       record { entry = a .0; exit = s .0 }
       record { entry = a .1 .0; exit = s .1 .0 }
       record { entry = a .1 .1 .0; exit = s .1 .1 .0 }
       record { entry = a .1 .1 .1 .0; exit = s .1 .1 .1 .0 }
       record { entry = a .1 .1 .1 .1 .0; exit = s .1 .1 .1 .1 .0 }
       record { entry = a .1 .1 .1 .1 .1 .0; exit = s .1 .1 .1 .1 .1 .0 }
-      record { entry = a .1 .1 .1 .1 .1 .1 .0; exit = s .1 .1 .1 .1 .1 .1 .0 }
       r)
       (λ w. search Read.reads)
       (λ w. Path'.refl)
@@ -199,14 +193,12 @@ module _ (κs : Lifetimes.Lfts 3) where
       (a .1 .1 .1 .0)
       (a .1 .1 .1 .1 .0)
       (a .1 .1 .1 .1 .1 .0)
-      (a .1 .1 .1 .1 .1 .1 .0)
       record { entry = a .0; exit = s .0 }
       record { entry = a .1 .0; exit = s .1 .0 }
       record { entry = a .1 .1 .0; exit = s .1 .1 .0 }
       record { entry = a .1 .1 .1 .0; exit = s .1 .1 .1 .0 }
       record { entry = a .1 .1 .1 .1 .0; exit = s .1 .1 .1 .1 .0 }
       record { entry = a .1 .1 .1 .1 .1 .0; exit = s .1 .1 .1 .1 .1 .0 }
-      record { entry = a .1 .1 .1 .1 .1 .1 .0; exit = s .1 .1 .1 .1 .1 .1 .0 }
       r
   ensures-records·read =
       λ a g r s. Read.all-models
@@ -223,14 +215,12 @@ module _ (κs : Lifetimes.Lfts 3) where
       (a .1 .1 .1 .0)
       (a .1 .1 .1 .1 .0)
       (a .1 .1 .1 .1 .1 .0)
-      (a .1 .1 .1 .1 .1 .1 .0)
       record { entry = a .0; exit = s .0 }
       record { entry = a .1 .0; exit = s .1 .0 }
       record { entry = a .1 .1 .0; exit = s .1 .1 .0 }
       record { entry = a .1 .1 .1 .0; exit = s .1 .1 .1 .0 }
       record { entry = a .1 .1 .1 .1 .0; exit = s .1 .1 .1 .1 .0 }
       record { entry = a .1 .1 .1 .1 .1 .0; exit = s .1 .1 .1 .1 .1 .0 }
-      record { entry = a .1 .1 .1 .1 .1 .1 .0; exit = s .1 .1 .1 .1 .1 .1 .0 }
       r)
       (λ w. search Read.reads)
       (λ w. Path'.refl)
@@ -258,14 +248,12 @@ module _ (κs : Lifetimes.Lfts 3) where
       (a .1 .1 .1 .0)
       (a .1 .1 .1 .1 .0)
       (a .1 .1 .1 .1 .1 .0)
-      (a .1 .1 .1 .1 .1 .1 .0)
       record { entry = a .0; exit = s .0 }
       record { entry = a .1 .0; exit = s .1 .0 }
       record { entry = a .1 .1 .0; exit = s .1 .1 .0 }
       record { entry = a .1 .1 .1 .0; exit = s .1 .1 .1 .0 }
       record { entry = a .1 .1 .1 .1 .0; exit = s .1 .1 .1 .1 .0 }
       record { entry = a .1 .1 .1 .1 .1 .0; exit = s .1 .1 .1 .1 .1 .0 }
-      record { entry = a .1 .1 .1 .1 .1 .1 .0; exit = s .1 .1 .1 .1 .1 .1 .0 }
       r)
       (λ w. refill.ensures-records
       (w .𝓤)
@@ -280,14 +268,12 @@ module _ (κs : Lifetimes.Lfts 3) where
       (a .1 .1 .1 .0)
       (a .1 .1 .1 .1 .0)
       (a .1 .1 .1 .1 .1 .0)
-      (a .1 .1 .1 .1 .1 .1 .0)
       record { entry = a .0; exit = s .0 }
       record { entry = a .1 .0; exit = s .1 .0 }
       record { entry = a .1 .1 .0; exit = s .1 .1 .0 }
       record { entry = a .1 .1 .1 .0; exit = s .1 .1 .1 .0 }
       record { entry = a .1 .1 .1 .1 .0; exit = s .1 .1 .1 .1 .0 }
       record { entry = a .1 .1 .1 .1 .1 .0; exit = s .1 .1 .1 .1 .1 .0 }
-      record { entry = a .1 .1 .1 .1 .1 .1 .0; exit = s .1 .1 .1 .1 .1 .1 .0 }
       r)
       (ensures-place·read a g r s)
       (ensures-records·read a g r s)

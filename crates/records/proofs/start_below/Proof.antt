@@ -1,4 +1,7 @@
-use mathlib.Core.Path.{sym}
+use Prim.Native.Nat.{_+_, _≤_, _^_}
+use mathlib.Core.Path.{sym, subst}
+use mathlib.Core.Bool.{Bool, cond}
+use native.Mathlib.Omega.{arith}
 use borrow.Author.Tests.{eq-eqb, ne-eqb}
 use borrow.Author.Needs.{needs}
 use Rattle.records.proofs.start_below.Statement.{statement}
@@ -12,7 +15,7 @@ returns c = rw (eq-eqb (c .before .args .k) 0 (c .if1 .taken))
 
 -- src/lib.rt:62:5
 add-result : tie.Need-add-result
-add-result c = search needs
+add-result c = let a = c .before .before .args in omega (arith, subst (λ (b : Bool). cond b 0 (a .above .end + 1) ≤ 2 ^ 63) (ne-eqb (a .k) 0 (c .before .if1 .left)) (c .before .before .pre))
 
 -- src/lib.rt:55:1
 returns-2 : tie.Need-returns-2

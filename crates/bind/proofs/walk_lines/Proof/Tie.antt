@@ -21,18 +21,12 @@ use Rattle.bind.proofs.Of_walk_lines.Kinds
 use Rattle.bind.proofs.walk_lines.Proof.Lts
 use Rattle.bind.proofs.Of_walk_lines.Reads as Reads'5
 use Rattle.bind.proofs.walk_lines.Statement
-use Rattle.records.proofs.blank.Met as Met'5
-use Rattle.records.proofs.blank.Reads as Reads'6
-use Rattle.records.proofs.blank.Symbol as Symbol'5
-use Rattle.records.proofs.get.Met as Met'6
-use Rattle.records.proofs.Of_get.Reads as Reads'7
-use Rattle.records.proofs.get.Symbol as Symbol'6
-use Rattle.records.proofs.refill.Met as Met'7
-use Rattle.records.proofs.Of_refill.Reads as Reads'8
-use Rattle.records.proofs.refill.Symbol as Symbol'7
-use Rattle.records.proofs.window.Met as Met'8
-use Rattle.records.proofs.window.Reads as Reads'9
-use Rattle.records.proofs.window.Symbol as Symbol'8
+use Rattle.records.proofs.get.Met as Met'5
+use Rattle.records.proofs.Of_get.Reads as Reads'6
+use Rattle.records.proofs.get.Symbol as Symbol'5
+use Rattle.records.proofs.refill.Met as Met'6
+use Rattle.records.proofs.Of_refill.Reads as Reads'7
+use Rattle.records.proofs.refill.Symbol as Symbol'6
 use borrow.Fn.Run
 use borrow.Fn.Written
 use contract.Running
@@ -45,18 +39,14 @@ MeasureT-loop = Lts.MeasureT-loop
 
 abbrev pub Start : (Inv : InvT-loop) → (μ : MeasureT-loop) → Type 0
 Start = λ Inv μ. Lts.Start (
-  Reads'9.Asked,
-  Reads'9.Learnt,
-  Reads'6.Asked,
-  Reads'6.Learnt,
   Reads'4.Asked,
   Reads'4.Learnt,
   Reads'.Asked,
   Reads'.Learnt,
-  Reads'8.Asked,
-  Reads'8.Learnt,
   Reads'7.Asked,
   Reads'7.Learnt,
+  Reads'6.Asked,
+  Reads'6.Learnt,
   Reads'3.Asked,
   Reads'3.Learnt,
   Reads''.Asked,
@@ -67,18 +57,14 @@ Start = λ Inv μ. Lts.Start (
 
 abbrev pub After-shared-slice-known : (Inv : InvT-loop) → (μ : MeasureT-loop) → Type 0
 After-shared-slice-known = λ Inv μ. Lts.After-shared-slice-known (
-  Reads'9.Asked,
-  Reads'9.Learnt,
-  Reads'6.Asked,
-  Reads'6.Learnt,
   Reads'4.Asked,
   Reads'4.Learnt,
   Reads'.Asked,
   Reads'.Learnt,
-  Reads'8.Asked,
-  Reads'8.Learnt,
   Reads'7.Asked,
   Reads'7.Learnt,
+  Reads'6.Asked,
+  Reads'6.Learnt,
   Reads'3.Asked,
   Reads'3.Learnt,
   Reads''.Asked,
@@ -89,18 +75,14 @@ After-shared-slice-known = λ Inv μ. Lts.After-shared-slice-known (
 
 abbrev pub After-shared-slice-known2 : (Inv : InvT-loop) → (μ : MeasureT-loop) → Type 0
 After-shared-slice-known2 = λ Inv μ. Lts.After-shared-slice-known2 (
-  Reads'9.Asked,
-  Reads'9.Learnt,
-  Reads'6.Asked,
-  Reads'6.Learnt,
   Reads'4.Asked,
   Reads'4.Learnt,
   Reads'.Asked,
   Reads'.Learnt,
-  Reads'8.Asked,
-  Reads'8.Learnt,
   Reads'7.Asked,
   Reads'7.Learnt,
+  Reads'6.Asked,
+  Reads'6.Learnt,
   Reads'3.Asked,
   Reads'3.Learnt,
   Reads''.Asked,
@@ -111,18 +93,14 @@ After-shared-slice-known2 = λ Inv μ. Lts.After-shared-slice-known2 (
 
 abbrev pub After-shared-slice-known3 : (Inv : InvT-loop) → (μ : MeasureT-loop) → Type 0
 After-shared-slice-known3 = λ Inv μ. Lts.After-shared-slice-known3 (
-  Reads'9.Asked,
-  Reads'9.Learnt,
-  Reads'6.Asked,
-  Reads'6.Learnt,
   Reads'4.Asked,
   Reads'4.Learnt,
   Reads'.Asked,
   Reads'.Learnt,
-  Reads'8.Asked,
-  Reads'8.Learnt,
   Reads'7.Asked,
   Reads'7.Learnt,
+  Reads'6.Asked,
+  Reads'6.Learnt,
   Reads'3.Asked,
   Reads'3.Learnt,
   Reads''.Asked,
@@ -133,18 +111,14 @@ After-shared-slice-known3 = λ Inv μ. Lts.After-shared-slice-known3 (
 
 abbrev pub After-shared-slice-known4 : (Inv : InvT-loop) → (μ : MeasureT-loop) → Type 0
 After-shared-slice-known4 = λ Inv μ. Lts.After-shared-slice-known4 (
-  Reads'9.Asked,
-  Reads'9.Learnt,
-  Reads'6.Asked,
-  Reads'6.Learnt,
   Reads'4.Asked,
   Reads'4.Learnt,
   Reads'.Asked,
   Reads'.Learnt,
-  Reads'8.Asked,
-  Reads'8.Learnt,
   Reads'7.Asked,
   Reads'7.Learnt,
+  Reads'6.Asked,
+  Reads'6.Learnt,
   Reads'3.Asked,
   Reads'3.Learnt,
   Reads''.Asked,
@@ -155,18 +129,14 @@ After-shared-slice-known4 = λ Inv μ. Lts.After-shared-slice-known4 (
 
 abbrev pub After-slice-known : (Inv : InvT-loop) → (μ : MeasureT-loop) → Type 0
 After-slice-known = λ Inv μ. Lts.After-slice-known (
-  Reads'9.Asked,
-  Reads'9.Learnt,
-  Reads'6.Asked,
-  Reads'6.Learnt,
   Reads'4.Asked,
   Reads'4.Learnt,
   Reads'.Asked,
   Reads'.Learnt,
-  Reads'8.Asked,
-  Reads'8.Learnt,
   Reads'7.Asked,
   Reads'7.Learnt,
+  Reads'6.Asked,
+  Reads'6.Learnt,
   Reads'3.Asked,
   Reads'3.Learnt,
   Reads''.Asked,
@@ -177,18 +147,14 @@ After-slice-known = λ Inv μ. Lts.After-slice-known (
 
 abbrev pub After-slice-known2 : (Inv : InvT-loop) → (μ : MeasureT-loop) → Type 0
 After-slice-known2 = λ Inv μ. Lts.After-slice-known2 (
-  Reads'9.Asked,
-  Reads'9.Learnt,
-  Reads'6.Asked,
-  Reads'6.Learnt,
   Reads'4.Asked,
   Reads'4.Learnt,
   Reads'.Asked,
   Reads'.Learnt,
-  Reads'8.Asked,
-  Reads'8.Learnt,
   Reads'7.Asked,
   Reads'7.Learnt,
+  Reads'6.Asked,
+  Reads'6.Learnt,
   Reads'3.Asked,
   Reads'3.Learnt,
   Reads''.Asked,
@@ -199,18 +165,14 @@ After-slice-known2 = λ Inv μ. Lts.After-slice-known2 (
 
 abbrev pub After-slice-known3 : (Inv : InvT-loop) → (μ : MeasureT-loop) → Type 0
 After-slice-known3 = λ Inv μ. Lts.After-slice-known3 (
-  Reads'9.Asked,
-  Reads'9.Learnt,
-  Reads'6.Asked,
-  Reads'6.Learnt,
   Reads'4.Asked,
   Reads'4.Learnt,
   Reads'.Asked,
   Reads'.Learnt,
-  Reads'8.Asked,
-  Reads'8.Learnt,
   Reads'7.Asked,
   Reads'7.Learnt,
+  Reads'6.Asked,
+  Reads'6.Learnt,
   Reads'3.Asked,
   Reads'3.Learnt,
   Reads''.Asked,
@@ -221,62 +183,14 @@ After-slice-known3 = λ Inv μ. Lts.After-slice-known3 (
 
 abbrev pub After-slice-known4 : (Inv : InvT-loop) → (μ : MeasureT-loop) → Type 0
 After-slice-known4 = λ Inv μ. Lts.After-slice-known4 (
-  Reads'9.Asked,
-  Reads'9.Learnt,
-  Reads'6.Asked,
-  Reads'6.Learnt,
   Reads'4.Asked,
   Reads'4.Learnt,
   Reads'.Asked,
   Reads'.Learnt,
-  Reads'8.Asked,
-  Reads'8.Learnt,
   Reads'7.Asked,
   Reads'7.Learnt,
-  Reads'3.Asked,
-  Reads'3.Learnt,
-  Reads''.Asked,
-  Reads''.Learnt,
-  Reads.Asked,
-  Reads.Learnt,
-) Reads'5.Pre Reads'5.Post Inv μ
-
-abbrev pub After-window : (Inv : InvT-loop) → (μ : MeasureT-loop) → Type 0
-After-window = λ Inv μ. Lts.After-window (
-  Reads'9.Asked,
-  Reads'9.Learnt,
   Reads'6.Asked,
   Reads'6.Learnt,
-  Reads'4.Asked,
-  Reads'4.Learnt,
-  Reads'.Asked,
-  Reads'.Learnt,
-  Reads'8.Asked,
-  Reads'8.Learnt,
-  Reads'7.Asked,
-  Reads'7.Learnt,
-  Reads'3.Asked,
-  Reads'3.Learnt,
-  Reads''.Asked,
-  Reads''.Learnt,
-  Reads.Asked,
-  Reads.Learnt,
-) Reads'5.Pre Reads'5.Post Inv μ
-
-abbrev pub After-blank : (Inv : InvT-loop) → (μ : MeasureT-loop) → Type 0
-After-blank = λ Inv μ. Lts.After-blank (
-  Reads'9.Asked,
-  Reads'9.Learnt,
-  Reads'6.Asked,
-  Reads'6.Learnt,
-  Reads'4.Asked,
-  Reads'4.Learnt,
-  Reads'.Asked,
-  Reads'.Learnt,
-  Reads'8.Asked,
-  Reads'8.Learnt,
-  Reads'7.Asked,
-  Reads'7.Learnt,
   Reads'3.Asked,
   Reads'3.Learnt,
   Reads''.Asked,
@@ -287,18 +201,14 @@ After-blank = λ Inv μ. Lts.After-blank (
 
 abbrev pub After-stop-by : (Inv : InvT-loop) → (μ : MeasureT-loop) → Type 0
 After-stop-by = λ Inv μ. Lts.After-stop-by (
-  Reads'9.Asked,
-  Reads'9.Learnt,
-  Reads'6.Asked,
-  Reads'6.Learnt,
   Reads'4.Asked,
   Reads'4.Learnt,
   Reads'.Asked,
   Reads'.Learnt,
-  Reads'8.Asked,
-  Reads'8.Learnt,
   Reads'7.Asked,
   Reads'7.Learnt,
+  Reads'6.Asked,
+  Reads'6.Learnt,
   Reads'3.Asked,
   Reads'3.Learnt,
   Reads''.Asked,
@@ -309,18 +219,14 @@ After-stop-by = λ Inv μ. Lts.After-stop-by (
 
 abbrev pub After-first-site : (Inv : InvT-loop) → (μ : MeasureT-loop) → Type 0
 After-first-site = λ Inv μ. Lts.After-first-site (
-  Reads'9.Asked,
-  Reads'9.Learnt,
-  Reads'6.Asked,
-  Reads'6.Learnt,
   Reads'4.Asked,
   Reads'4.Learnt,
   Reads'.Asked,
   Reads'.Learnt,
-  Reads'8.Asked,
-  Reads'8.Learnt,
   Reads'7.Asked,
   Reads'7.Learnt,
+  Reads'6.Asked,
+  Reads'6.Learnt,
   Reads'3.Asked,
   Reads'3.Learnt,
   Reads''.Asked,
@@ -331,18 +237,14 @@ After-first-site = λ Inv μ. Lts.After-first-site (
 
 abbrev pub At-loop : (Inv : InvT-loop) → (μ : MeasureT-loop) → Type 0
 At-loop = λ Inv μ. Lts.At-loop (
-  Reads'9.Asked,
-  Reads'9.Learnt,
-  Reads'6.Asked,
-  Reads'6.Learnt,
   Reads'4.Asked,
   Reads'4.Learnt,
   Reads'.Asked,
   Reads'.Learnt,
-  Reads'8.Asked,
-  Reads'8.Learnt,
   Reads'7.Asked,
   Reads'7.Learnt,
+  Reads'6.Asked,
+  Reads'6.Learnt,
   Reads'3.Asked,
   Reads'3.Learnt,
   Reads''.Asked,
@@ -353,18 +255,14 @@ At-loop = λ Inv μ. Lts.At-loop (
 
 abbrev pub In-loop : (Inv : InvT-loop) → (μ : MeasureT-loop) → Type 0
 In-loop = λ Inv μ. Lts.In-loop (
-  Reads'9.Asked,
-  Reads'9.Learnt,
-  Reads'6.Asked,
-  Reads'6.Learnt,
   Reads'4.Asked,
   Reads'4.Learnt,
   Reads'.Asked,
   Reads'.Learnt,
-  Reads'8.Asked,
-  Reads'8.Learnt,
   Reads'7.Asked,
   Reads'7.Learnt,
+  Reads'6.Asked,
+  Reads'6.Learnt,
   Reads'3.Asked,
   Reads'3.Learnt,
   Reads''.Asked,
@@ -375,18 +273,14 @@ In-loop = λ Inv μ. Lts.In-loop (
 
 abbrev pub After-loop : (Inv : InvT-loop) → (μ : MeasureT-loop) → Type 0
 After-loop = λ Inv μ. Lts.After-loop (
-  Reads'9.Asked,
-  Reads'9.Learnt,
-  Reads'6.Asked,
-  Reads'6.Learnt,
   Reads'4.Asked,
   Reads'4.Learnt,
   Reads'.Asked,
   Reads'.Learnt,
-  Reads'8.Asked,
-  Reads'8.Learnt,
   Reads'7.Asked,
   Reads'7.Learnt,
+  Reads'6.Asked,
+  Reads'6.Learnt,
   Reads'3.Asked,
   Reads'3.Learnt,
   Reads''.Asked,
@@ -395,20 +289,16 @@ After-loop = λ Inv μ. Lts.After-loop (
   Reads.Learnt,
 ) Reads'5.Pre Reads'5.Post Inv μ
 
-abbrev pub After-recs : (Inv : InvT-loop) → (μ : MeasureT-loop) → Type 0
-After-recs = λ Inv μ. Lts.After-recs (
-  Reads'9.Asked,
-  Reads'9.Learnt,
-  Reads'6.Asked,
-  Reads'6.Learnt,
+abbrev pub After-refill-arg : (Inv : InvT-loop) → (μ : MeasureT-loop) → Type 0
+After-refill-arg = λ Inv μ. Lts.After-refill-arg (
   Reads'4.Asked,
   Reads'4.Learnt,
   Reads'.Asked,
   Reads'.Learnt,
-  Reads'8.Asked,
-  Reads'8.Learnt,
   Reads'7.Asked,
   Reads'7.Learnt,
+  Reads'6.Asked,
+  Reads'6.Learnt,
   Reads'3.Asked,
   Reads'3.Learnt,
   Reads''.Asked,
@@ -419,18 +309,14 @@ After-recs = λ Inv μ. Lts.After-recs (
 
 abbrev pub After-refill : (Inv : InvT-loop) → (μ : MeasureT-loop) → Type 0
 After-refill = λ Inv μ. Lts.After-refill (
-  Reads'9.Asked,
-  Reads'9.Learnt,
-  Reads'6.Asked,
-  Reads'6.Learnt,
   Reads'4.Asked,
   Reads'4.Learnt,
   Reads'.Asked,
   Reads'.Learnt,
-  Reads'8.Asked,
-  Reads'8.Learnt,
   Reads'7.Asked,
   Reads'7.Learnt,
+  Reads'6.Asked,
+  Reads'6.Learnt,
   Reads'3.Asked,
   Reads'3.Learnt,
   Reads''.Asked,
@@ -439,20 +325,16 @@ After-refill = λ Inv μ. Lts.After-refill (
   Reads.Learnt,
 ) Reads'5.Pre Reads'5.Post Inv μ
 
-abbrev pub After-recs2 : (Inv : InvT-loop) → (μ : MeasureT-loop) → Type 0
-After-recs2 = λ Inv μ. Lts.After-recs2 (
-  Reads'9.Asked,
-  Reads'9.Learnt,
-  Reads'6.Asked,
-  Reads'6.Learnt,
+abbrev pub After-recs : (Inv : InvT-loop) → (μ : MeasureT-loop) → Type 0
+After-recs = λ Inv μ. Lts.After-recs (
   Reads'4.Asked,
   Reads'4.Learnt,
   Reads'.Asked,
   Reads'.Learnt,
-  Reads'8.Asked,
-  Reads'8.Learnt,
   Reads'7.Asked,
   Reads'7.Learnt,
+  Reads'6.Asked,
+  Reads'6.Learnt,
   Reads'3.Asked,
   Reads'3.Learnt,
   Reads''.Asked,
@@ -461,20 +343,16 @@ After-recs2 = λ Inv μ. Lts.After-recs2 (
   Reads.Learnt,
 ) Reads'5.Pre Reads'5.Post Inv μ
 
-abbrev pub After-recs3 : (Inv : InvT-loop) → (μ : MeasureT-loop) → Type 0
-After-recs3 = λ Inv μ. Lts.After-recs3 (
-  Reads'9.Asked,
-  Reads'9.Learnt,
-  Reads'6.Asked,
-  Reads'6.Learnt,
+abbrev pub After-get-arg : (Inv : InvT-loop) → (μ : MeasureT-loop) → Type 0
+After-get-arg = λ Inv μ. Lts.After-get-arg (
   Reads'4.Asked,
   Reads'4.Learnt,
   Reads'.Asked,
   Reads'.Learnt,
-  Reads'8.Asked,
-  Reads'8.Learnt,
   Reads'7.Asked,
   Reads'7.Learnt,
+  Reads'6.Asked,
+  Reads'6.Learnt,
   Reads'3.Asked,
   Reads'3.Learnt,
   Reads''.Asked,
@@ -485,18 +363,14 @@ After-recs3 = λ Inv μ. Lts.After-recs3 (
 
 abbrev pub After-get : (Inv : InvT-loop) → (μ : MeasureT-loop) → Type 0
 After-get = λ Inv μ. Lts.After-get (
-  Reads'9.Asked,
-  Reads'9.Learnt,
-  Reads'6.Asked,
-  Reads'6.Learnt,
   Reads'4.Asked,
   Reads'4.Learnt,
   Reads'.Asked,
   Reads'.Learnt,
-  Reads'8.Asked,
-  Reads'8.Learnt,
   Reads'7.Asked,
   Reads'7.Learnt,
+  Reads'6.Asked,
+  Reads'6.Learnt,
   Reads'3.Asked,
   Reads'3.Learnt,
   Reads''.Asked,
@@ -507,18 +381,32 @@ After-get = λ Inv μ. Lts.After-get (
 
 abbrev pub After-site-by : (Inv : InvT-loop) → (μ : MeasureT-loop) → Type 0
 After-site-by = λ Inv μ. Lts.After-site-by (
-  Reads'9.Asked,
-  Reads'9.Learnt,
-  Reads'6.Asked,
-  Reads'6.Learnt,
   Reads'4.Asked,
   Reads'4.Learnt,
   Reads'.Asked,
   Reads'.Learnt,
-  Reads'8.Asked,
-  Reads'8.Learnt,
   Reads'7.Asked,
   Reads'7.Learnt,
+  Reads'6.Asked,
+  Reads'6.Learnt,
+  Reads'3.Asked,
+  Reads'3.Learnt,
+  Reads''.Asked,
+  Reads''.Learnt,
+  Reads.Asked,
+  Reads.Learnt,
+) Reads'5.Pre Reads'5.Post Inv μ
+
+abbrev pub After-c : (Inv : InvT-loop) → (μ : MeasureT-loop) → Type 0
+After-c = λ Inv μ. Lts.After-c (
+  Reads'4.Asked,
+  Reads'4.Learnt,
+  Reads'.Asked,
+  Reads'.Learnt,
+  Reads'7.Asked,
+  Reads'7.Learnt,
+  Reads'6.Asked,
+  Reads'6.Learnt,
   Reads'3.Asked,
   Reads'3.Learnt,
   Reads''.Asked,
@@ -529,18 +417,14 @@ After-site-by = λ Inv μ. Lts.After-site-by (
 
 abbrev pub After-read-region-arg : (Inv : InvT-loop) → (μ : MeasureT-loop) → Type 0
 After-read-region-arg = λ Inv μ. Lts.After-read-region-arg (
-  Reads'9.Asked,
-  Reads'9.Learnt,
-  Reads'6.Asked,
-  Reads'6.Learnt,
   Reads'4.Asked,
   Reads'4.Learnt,
   Reads'.Asked,
   Reads'.Learnt,
-  Reads'8.Asked,
-  Reads'8.Learnt,
   Reads'7.Asked,
   Reads'7.Learnt,
+  Reads'6.Asked,
+  Reads'6.Learnt,
   Reads'3.Asked,
   Reads'3.Learnt,
   Reads''.Asked,
@@ -551,18 +435,14 @@ After-read-region-arg = λ Inv μ. Lts.After-read-region-arg (
 
 abbrev pub After-read-region-arg2 : (Inv : InvT-loop) → (μ : MeasureT-loop) → Type 0
 After-read-region-arg2 = λ Inv μ. Lts.After-read-region-arg2 (
-  Reads'9.Asked,
-  Reads'9.Learnt,
-  Reads'6.Asked,
-  Reads'6.Learnt,
   Reads'4.Asked,
   Reads'4.Learnt,
   Reads'.Asked,
   Reads'.Learnt,
-  Reads'8.Asked,
-  Reads'8.Learnt,
   Reads'7.Asked,
   Reads'7.Learnt,
+  Reads'6.Asked,
+  Reads'6.Learnt,
   Reads'3.Asked,
   Reads'3.Learnt,
   Reads''.Asked,
@@ -573,18 +453,14 @@ After-read-region-arg2 = λ Inv μ. Lts.After-read-region-arg2 (
 
 abbrev pub After-read-region : (Inv : InvT-loop) → (μ : MeasureT-loop) → Type 0
 After-read-region = λ Inv μ. Lts.After-read-region (
-  Reads'9.Asked,
-  Reads'9.Learnt,
-  Reads'6.Asked,
-  Reads'6.Learnt,
   Reads'4.Asked,
   Reads'4.Learnt,
   Reads'.Asked,
   Reads'.Learnt,
-  Reads'8.Asked,
-  Reads'8.Learnt,
   Reads'7.Asked,
   Reads'7.Learnt,
+  Reads'6.Asked,
+  Reads'6.Learnt,
   Reads'3.Asked,
   Reads'3.Learnt,
   Reads''.Asked,
@@ -595,18 +471,14 @@ After-read-region = λ Inv μ. Lts.After-read-region (
 
 abbrev pub After-seen : (Inv : InvT-loop) → (μ : MeasureT-loop) → Type 0
 After-seen = λ Inv μ. Lts.After-seen (
-  Reads'9.Asked,
-  Reads'9.Learnt,
-  Reads'6.Asked,
-  Reads'6.Learnt,
   Reads'4.Asked,
   Reads'4.Learnt,
   Reads'.Asked,
   Reads'.Learnt,
-  Reads'8.Asked,
-  Reads'8.Learnt,
   Reads'7.Asked,
   Reads'7.Learnt,
+  Reads'6.Asked,
+  Reads'6.Learnt,
   Reads'3.Asked,
   Reads'3.Learnt,
   Reads''.Asked,
@@ -617,18 +489,14 @@ After-seen = λ Inv μ. Lts.After-seen (
 
 abbrev pub After-slice-known5 : (Inv : InvT-loop) → (μ : MeasureT-loop) → Type 0
 After-slice-known5 = λ Inv μ. Lts.After-slice-known5 (
-  Reads'9.Asked,
-  Reads'9.Learnt,
-  Reads'6.Asked,
-  Reads'6.Learnt,
   Reads'4.Asked,
   Reads'4.Learnt,
   Reads'.Asked,
   Reads'.Learnt,
-  Reads'8.Asked,
-  Reads'8.Learnt,
   Reads'7.Asked,
   Reads'7.Learnt,
+  Reads'6.Asked,
+  Reads'6.Learnt,
   Reads'3.Asked,
   Reads'3.Learnt,
   Reads''.Asked,
@@ -639,18 +507,14 @@ After-slice-known5 = λ Inv μ. Lts.After-slice-known5 (
 
 abbrev pub After-first : (Inv : InvT-loop) → (μ : MeasureT-loop) → Type 0
 After-first = λ Inv μ. Lts.After-first (
-  Reads'9.Asked,
-  Reads'9.Learnt,
-  Reads'6.Asked,
-  Reads'6.Learnt,
   Reads'4.Asked,
   Reads'4.Learnt,
   Reads'.Asked,
   Reads'.Learnt,
-  Reads'8.Asked,
-  Reads'8.Learnt,
   Reads'7.Asked,
   Reads'7.Learnt,
+  Reads'6.Asked,
+  Reads'6.Learnt,
   Reads'3.Asked,
   Reads'3.Learnt,
   Reads''.Asked,
@@ -661,18 +525,14 @@ After-first = λ Inv μ. Lts.After-first (
 
 abbrev pub After-slice-known6 : (Inv : InvT-loop) → (μ : MeasureT-loop) → Type 0
 After-slice-known6 = λ Inv μ. Lts.After-slice-known6 (
-  Reads'9.Asked,
-  Reads'9.Learnt,
-  Reads'6.Asked,
-  Reads'6.Learnt,
   Reads'4.Asked,
   Reads'4.Learnt,
   Reads'.Asked,
   Reads'.Learnt,
-  Reads'8.Asked,
-  Reads'8.Learnt,
   Reads'7.Asked,
   Reads'7.Learnt,
+  Reads'6.Asked,
+  Reads'6.Learnt,
   Reads'3.Asked,
   Reads'3.Learnt,
   Reads''.Asked,
@@ -683,18 +543,14 @@ After-slice-known6 = λ Inv μ. Lts.After-slice-known6 (
 
 abbrev pub After-bind-line-arg : (Inv : InvT-loop) → (μ : MeasureT-loop) → Type 0
 After-bind-line-arg = λ Inv μ. Lts.After-bind-line-arg (
-  Reads'9.Asked,
-  Reads'9.Learnt,
-  Reads'6.Asked,
-  Reads'6.Learnt,
   Reads'4.Asked,
   Reads'4.Learnt,
   Reads'.Asked,
   Reads'.Learnt,
-  Reads'8.Asked,
-  Reads'8.Learnt,
   Reads'7.Asked,
   Reads'7.Learnt,
+  Reads'6.Asked,
+  Reads'6.Learnt,
   Reads'3.Asked,
   Reads'3.Learnt,
   Reads''.Asked,
@@ -705,18 +561,14 @@ After-bind-line-arg = λ Inv μ. Lts.After-bind-line-arg (
 
 abbrev pub After-bind-line-arg2 : (Inv : InvT-loop) → (μ : MeasureT-loop) → Type 0
 After-bind-line-arg2 = λ Inv μ. Lts.After-bind-line-arg2 (
-  Reads'9.Asked,
-  Reads'9.Learnt,
-  Reads'6.Asked,
-  Reads'6.Learnt,
   Reads'4.Asked,
   Reads'4.Learnt,
   Reads'.Asked,
   Reads'.Learnt,
-  Reads'8.Asked,
-  Reads'8.Learnt,
   Reads'7.Asked,
   Reads'7.Learnt,
+  Reads'6.Asked,
+  Reads'6.Learnt,
   Reads'3.Asked,
   Reads'3.Learnt,
   Reads''.Asked,
@@ -727,18 +579,14 @@ After-bind-line-arg2 = λ Inv μ. Lts.After-bind-line-arg2 (
 
 abbrev pub After-bind-line-arg3 : (Inv : InvT-loop) → (μ : MeasureT-loop) → Type 0
 After-bind-line-arg3 = λ Inv μ. Lts.After-bind-line-arg3 (
-  Reads'9.Asked,
-  Reads'9.Learnt,
-  Reads'6.Asked,
-  Reads'6.Learnt,
   Reads'4.Asked,
   Reads'4.Learnt,
   Reads'.Asked,
   Reads'.Learnt,
-  Reads'8.Asked,
-  Reads'8.Learnt,
   Reads'7.Asked,
   Reads'7.Learnt,
+  Reads'6.Asked,
+  Reads'6.Learnt,
   Reads'3.Asked,
   Reads'3.Learnt,
   Reads''.Asked,
@@ -749,18 +597,14 @@ After-bind-line-arg3 = λ Inv μ. Lts.After-bind-line-arg3 (
 
 abbrev pub After-bind-line-arg4 : (Inv : InvT-loop) → (μ : MeasureT-loop) → Type 0
 After-bind-line-arg4 = λ Inv μ. Lts.After-bind-line-arg4 (
-  Reads'9.Asked,
-  Reads'9.Learnt,
-  Reads'6.Asked,
-  Reads'6.Learnt,
   Reads'4.Asked,
   Reads'4.Learnt,
   Reads'.Asked,
   Reads'.Learnt,
-  Reads'8.Asked,
-  Reads'8.Learnt,
   Reads'7.Asked,
   Reads'7.Learnt,
+  Reads'6.Asked,
+  Reads'6.Learnt,
   Reads'3.Asked,
   Reads'3.Learnt,
   Reads''.Asked,
@@ -771,18 +615,14 @@ After-bind-line-arg4 = λ Inv μ. Lts.After-bind-line-arg4 (
 
 abbrev pub After-bind-line : (Inv : InvT-loop) → (μ : MeasureT-loop) → Type 0
 After-bind-line = λ Inv μ. Lts.After-bind-line (
-  Reads'9.Asked,
-  Reads'9.Learnt,
-  Reads'6.Asked,
-  Reads'6.Learnt,
   Reads'4.Asked,
   Reads'4.Learnt,
   Reads'.Asked,
   Reads'.Learnt,
-  Reads'8.Asked,
-  Reads'8.Learnt,
   Reads'7.Asked,
   Reads'7.Learnt,
+  Reads'6.Asked,
+  Reads'6.Learnt,
   Reads'3.Asked,
   Reads'3.Learnt,
   Reads''.Asked,
@@ -793,18 +633,14 @@ After-bind-line = λ Inv μ. Lts.After-bind-line (
 
 abbrev pub After-marks : (Inv : InvT-loop) → (μ : MeasureT-loop) → Type 0
 After-marks = λ Inv μ. Lts.After-marks (
-  Reads'9.Asked,
-  Reads'9.Learnt,
-  Reads'6.Asked,
-  Reads'6.Learnt,
   Reads'4.Asked,
   Reads'4.Learnt,
   Reads'.Asked,
   Reads'.Learnt,
-  Reads'8.Asked,
-  Reads'8.Learnt,
   Reads'7.Asked,
   Reads'7.Learnt,
+  Reads'6.Asked,
+  Reads'6.Learnt,
   Reads'3.Asked,
   Reads'3.Learnt,
   Reads''.Asked,
@@ -815,18 +651,14 @@ After-marks = λ Inv μ. Lts.After-marks (
 
 abbrev pub After-slice-known7 : (Inv : InvT-loop) → (μ : MeasureT-loop) → Type 0
 After-slice-known7 = λ Inv μ. Lts.After-slice-known7 (
-  Reads'9.Asked,
-  Reads'9.Learnt,
-  Reads'6.Asked,
-  Reads'6.Learnt,
   Reads'4.Asked,
   Reads'4.Learnt,
   Reads'.Asked,
   Reads'.Learnt,
-  Reads'8.Asked,
-  Reads'8.Learnt,
   Reads'7.Asked,
   Reads'7.Learnt,
+  Reads'6.Asked,
+  Reads'6.Learnt,
   Reads'3.Asked,
   Reads'3.Learnt,
   Reads''.Asked,
@@ -837,18 +669,14 @@ After-slice-known7 = λ Inv μ. Lts.After-slice-known7 (
 
 abbrev pub After-out : (Inv : InvT-loop) → (μ : MeasureT-loop) → Type 0
 After-out = λ Inv μ. Lts.After-out (
-  Reads'9.Asked,
-  Reads'9.Learnt,
-  Reads'6.Asked,
-  Reads'6.Learnt,
   Reads'4.Asked,
   Reads'4.Learnt,
   Reads'.Asked,
   Reads'.Learnt,
-  Reads'8.Asked,
-  Reads'8.Learnt,
   Reads'7.Asked,
   Reads'7.Learnt,
+  Reads'6.Asked,
+  Reads'6.Learnt,
   Reads'3.Asked,
   Reads'3.Learnt,
   Reads''.Asked,
@@ -859,62 +687,14 @@ After-out = λ Inv μ. Lts.After-out (
 
 abbrev pub After-slice-known8 : (Inv : InvT-loop) → (μ : MeasureT-loop) → Type 0
 After-slice-known8 = λ Inv μ. Lts.After-slice-known8 (
-  Reads'9.Asked,
-  Reads'9.Learnt,
-  Reads'6.Asked,
-  Reads'6.Learnt,
   Reads'4.Asked,
   Reads'4.Learnt,
   Reads'.Asked,
   Reads'.Learnt,
-  Reads'8.Asked,
-  Reads'8.Learnt,
   Reads'7.Asked,
   Reads'7.Learnt,
-  Reads'3.Asked,
-  Reads'3.Learnt,
-  Reads''.Asked,
-  Reads''.Learnt,
-  Reads.Asked,
-  Reads.Learnt,
-) Reads'5.Pre Reads'5.Post Inv μ
-
-abbrev pub Need-window-requires : (Inv : InvT-loop) → (μ : MeasureT-loop) → Type 0
-Need-window-requires = λ Inv μ. Lts.Need-window-requires (
-  Reads'9.Asked,
-  Reads'9.Learnt,
   Reads'6.Asked,
   Reads'6.Learnt,
-  Reads'4.Asked,
-  Reads'4.Learnt,
-  Reads'.Asked,
-  Reads'.Learnt,
-  Reads'8.Asked,
-  Reads'8.Learnt,
-  Reads'7.Asked,
-  Reads'7.Learnt,
-  Reads'3.Asked,
-  Reads'3.Learnt,
-  Reads''.Asked,
-  Reads''.Learnt,
-  Reads.Asked,
-  Reads.Learnt,
-) Reads'5.Pre Reads'5.Post Inv μ
-
-abbrev pub Need-blank-requires : (Inv : InvT-loop) → (μ : MeasureT-loop) → Type 0
-Need-blank-requires = λ Inv μ. Lts.Need-blank-requires (
-  Reads'9.Asked,
-  Reads'9.Learnt,
-  Reads'6.Asked,
-  Reads'6.Learnt,
-  Reads'4.Asked,
-  Reads'4.Learnt,
-  Reads'.Asked,
-  Reads'.Learnt,
-  Reads'8.Asked,
-  Reads'8.Learnt,
-  Reads'7.Asked,
-  Reads'7.Learnt,
   Reads'3.Asked,
   Reads'3.Learnt,
   Reads''.Asked,
@@ -925,18 +705,14 @@ Need-blank-requires = λ Inv μ. Lts.Need-blank-requires (
 
 abbrev pub Need-stop-by-requires : (Inv : InvT-loop) → (μ : MeasureT-loop) → Type 0
 Need-stop-by-requires = λ Inv μ. Lts.Need-stop-by-requires (
-  Reads'9.Asked,
-  Reads'9.Learnt,
-  Reads'6.Asked,
-  Reads'6.Learnt,
   Reads'4.Asked,
   Reads'4.Learnt,
   Reads'.Asked,
   Reads'.Learnt,
-  Reads'8.Asked,
-  Reads'8.Learnt,
   Reads'7.Asked,
   Reads'7.Learnt,
+  Reads'6.Asked,
+  Reads'6.Learnt,
   Reads'3.Asked,
   Reads'3.Learnt,
   Reads''.Asked,
@@ -947,18 +723,14 @@ Need-stop-by-requires = λ Inv μ. Lts.Need-stop-by-requires (
 
 abbrev pub Need-first-site-requires : (Inv : InvT-loop) → (μ : MeasureT-loop) → Type 0
 Need-first-site-requires = λ Inv μ. Lts.Need-first-site-requires (
-  Reads'9.Asked,
-  Reads'9.Learnt,
-  Reads'6.Asked,
-  Reads'6.Learnt,
   Reads'4.Asked,
   Reads'4.Learnt,
   Reads'.Asked,
   Reads'.Learnt,
-  Reads'8.Asked,
-  Reads'8.Learnt,
   Reads'7.Asked,
   Reads'7.Learnt,
+  Reads'6.Asked,
+  Reads'6.Learnt,
   Reads'3.Asked,
   Reads'3.Learnt,
   Reads''.Asked,
@@ -969,40 +741,14 @@ Need-first-site-requires = λ Inv μ. Lts.Need-first-site-requires (
 
 abbrev pub Need-loop-holds : (Inv : InvT-loop) → (μ : MeasureT-loop) → Type 0
 Need-loop-holds = λ Inv μ. Lts.Need-loop-holds (
-  Reads'9.Asked,
-  Reads'9.Learnt,
-  Reads'6.Asked,
-  Reads'6.Learnt,
   Reads'4.Asked,
   Reads'4.Learnt,
   Reads'.Asked,
   Reads'.Learnt,
-  Reads'8.Asked,
-  Reads'8.Learnt,
   Reads'7.Asked,
   Reads'7.Learnt,
-  Reads'3.Asked,
-  Reads'3.Learnt,
-  Reads''.Asked,
-  Reads''.Learnt,
-  Reads.Asked,
-  Reads.Learnt,
-) Reads'5.Pre Reads'5.Post Inv μ
-
-abbrev pub Need-slice-aggregate-refill : (Inv : InvT-loop) → (μ : MeasureT-loop) → Type 0
-Need-slice-aggregate-refill = λ Inv μ. Lts.Need-slice-aggregate-refill (
-  Reads'9.Asked,
-  Reads'9.Learnt,
   Reads'6.Asked,
   Reads'6.Learnt,
-  Reads'4.Asked,
-  Reads'4.Learnt,
-  Reads'.Asked,
-  Reads'.Learnt,
-  Reads'8.Asked,
-  Reads'8.Learnt,
-  Reads'7.Asked,
-  Reads'7.Learnt,
   Reads'3.Asked,
   Reads'3.Learnt,
   Reads''.Asked,
@@ -1013,18 +759,14 @@ Need-slice-aggregate-refill = λ Inv μ. Lts.Need-slice-aggregate-refill (
 
 abbrev pub Need-refill-requires : (Inv : InvT-loop) → (μ : MeasureT-loop) → Type 0
 Need-refill-requires = λ Inv μ. Lts.Need-refill-requires (
-  Reads'9.Asked,
-  Reads'9.Learnt,
-  Reads'6.Asked,
-  Reads'6.Learnt,
   Reads'4.Asked,
   Reads'4.Learnt,
   Reads'.Asked,
   Reads'.Learnt,
-  Reads'8.Asked,
-  Reads'8.Learnt,
   Reads'7.Asked,
   Reads'7.Learnt,
+  Reads'6.Asked,
+  Reads'6.Learnt,
   Reads'3.Asked,
   Reads'3.Learnt,
   Reads''.Asked,
@@ -1033,20 +775,34 @@ Need-refill-requires = λ Inv μ. Lts.Need-refill-requires (
   Reads.Learnt,
 ) Reads'5.Pre Reads'5.Post Inv μ
 
-abbrev pub Need-slice-aggregate-get : (Inv : InvT-loop) → (μ : MeasureT-loop) → Type 0
-Need-slice-aggregate-get = λ Inv μ. Lts.Need-slice-aggregate-get (
-  Reads'9.Asked,
-  Reads'9.Learnt,
-  Reads'6.Asked,
-  Reads'6.Learnt,
+abbrev pub Need-add-get : (Inv : InvT-loop) → (μ : MeasureT-loop) → Type 0
+Need-add-get = λ Inv μ. Lts.Need-add-get (
   Reads'4.Asked,
   Reads'4.Learnt,
   Reads'.Asked,
   Reads'.Learnt,
-  Reads'8.Asked,
-  Reads'8.Learnt,
   Reads'7.Asked,
   Reads'7.Learnt,
+  Reads'6.Asked,
+  Reads'6.Learnt,
+  Reads'3.Asked,
+  Reads'3.Learnt,
+  Reads''.Asked,
+  Reads''.Learnt,
+  Reads.Asked,
+  Reads.Learnt,
+) Reads'5.Pre Reads'5.Post Inv μ
+
+abbrev pub Need-sub-get : (Inv : InvT-loop) → (μ : MeasureT-loop) → Type 0
+Need-sub-get = λ Inv μ. Lts.Need-sub-get (
+  Reads'4.Asked,
+  Reads'4.Learnt,
+  Reads'.Asked,
+  Reads'.Learnt,
+  Reads'7.Asked,
+  Reads'7.Learnt,
+  Reads'6.Asked,
+  Reads'6.Learnt,
   Reads'3.Asked,
   Reads'3.Learnt,
   Reads''.Asked,
@@ -1057,18 +813,14 @@ Need-slice-aggregate-get = λ Inv μ. Lts.Need-slice-aggregate-get (
 
 abbrev pub Need-get-requires : (Inv : InvT-loop) → (μ : MeasureT-loop) → Type 0
 Need-get-requires = λ Inv μ. Lts.Need-get-requires (
-  Reads'9.Asked,
-  Reads'9.Learnt,
-  Reads'6.Asked,
-  Reads'6.Learnt,
   Reads'4.Asked,
   Reads'4.Learnt,
   Reads'.Asked,
   Reads'.Learnt,
-  Reads'8.Asked,
-  Reads'8.Learnt,
   Reads'7.Asked,
   Reads'7.Learnt,
+  Reads'6.Asked,
+  Reads'6.Learnt,
   Reads'3.Asked,
   Reads'3.Learnt,
   Reads''.Asked,
@@ -1079,18 +831,14 @@ Need-get-requires = λ Inv μ. Lts.Need-get-requires (
 
 abbrev pub Need-site-by-requires : (Inv : InvT-loop) → (μ : MeasureT-loop) → Type 0
 Need-site-by-requires = λ Inv μ. Lts.Need-site-by-requires (
-  Reads'9.Asked,
-  Reads'9.Learnt,
-  Reads'6.Asked,
-  Reads'6.Learnt,
   Reads'4.Asked,
   Reads'4.Learnt,
   Reads'.Asked,
   Reads'.Learnt,
-  Reads'8.Asked,
-  Reads'8.Learnt,
   Reads'7.Asked,
   Reads'7.Learnt,
+  Reads'6.Asked,
+  Reads'6.Learnt,
   Reads'3.Asked,
   Reads'3.Learnt,
   Reads''.Asked,
@@ -1101,18 +849,14 @@ Need-site-by-requires = λ Inv μ. Lts.Need-site-by-requires (
 
 abbrev pub Need-read-region-requires : (Inv : InvT-loop) → (μ : MeasureT-loop) → Type 0
 Need-read-region-requires = λ Inv μ. Lts.Need-read-region-requires (
-  Reads'9.Asked,
-  Reads'9.Learnt,
-  Reads'6.Asked,
-  Reads'6.Learnt,
   Reads'4.Asked,
   Reads'4.Learnt,
   Reads'.Asked,
   Reads'.Learnt,
-  Reads'8.Asked,
-  Reads'8.Learnt,
   Reads'7.Asked,
   Reads'7.Learnt,
+  Reads'6.Asked,
+  Reads'6.Learnt,
   Reads'3.Asked,
   Reads'3.Learnt,
   Reads''.Asked,
@@ -1123,40 +867,14 @@ Need-read-region-requires = λ Inv μ. Lts.Need-read-region-requires (
 
 abbrev pub Need-bind-line-requires : (Inv : InvT-loop) → (μ : MeasureT-loop) → Type 0
 Need-bind-line-requires = λ Inv μ. Lts.Need-bind-line-requires (
-  Reads'9.Asked,
-  Reads'9.Learnt,
-  Reads'6.Asked,
-  Reads'6.Learnt,
   Reads'4.Asked,
   Reads'4.Learnt,
   Reads'.Asked,
   Reads'.Learnt,
-  Reads'8.Asked,
-  Reads'8.Learnt,
   Reads'7.Asked,
   Reads'7.Learnt,
-  Reads'3.Asked,
-  Reads'3.Learnt,
-  Reads''.Asked,
-  Reads''.Learnt,
-  Reads.Asked,
-  Reads.Learnt,
-) Reads'5.Pre Reads'5.Post Inv μ
-
-abbrev pub Need-add-j : (Inv : InvT-loop) → (μ : MeasureT-loop) → Type 0
-Need-add-j = λ Inv μ. Lts.Need-add-j (
-  Reads'9.Asked,
-  Reads'9.Learnt,
   Reads'6.Asked,
   Reads'6.Learnt,
-  Reads'4.Asked,
-  Reads'4.Learnt,
-  Reads'.Asked,
-  Reads'.Learnt,
-  Reads'8.Asked,
-  Reads'8.Learnt,
-  Reads'7.Asked,
-  Reads'7.Learnt,
   Reads'3.Asked,
   Reads'3.Learnt,
   Reads''.Asked,
@@ -1167,18 +885,14 @@ Need-add-j = λ Inv μ. Lts.Need-add-j (
 
 abbrev pub Need-add-k : (Inv : InvT-loop) → (μ : MeasureT-loop) → Type 0
 Need-add-k = λ Inv μ. Lts.Need-add-k (
-  Reads'9.Asked,
-  Reads'9.Learnt,
-  Reads'6.Asked,
-  Reads'6.Learnt,
   Reads'4.Asked,
   Reads'4.Learnt,
   Reads'.Asked,
   Reads'.Learnt,
-  Reads'8.Asked,
-  Reads'8.Learnt,
   Reads'7.Asked,
   Reads'7.Learnt,
+  Reads'6.Asked,
+  Reads'6.Learnt,
   Reads'3.Asked,
   Reads'3.Learnt,
   Reads''.Asked,
@@ -1189,18 +903,14 @@ Need-add-k = λ Inv μ. Lts.Need-add-k (
 
 abbrev pub Need-loop-less : (Inv : InvT-loop) → (μ : MeasureT-loop) → Type 0
 Need-loop-less = λ Inv μ. Lts.Need-loop-less (
-  Reads'9.Asked,
-  Reads'9.Learnt,
-  Reads'6.Asked,
-  Reads'6.Learnt,
   Reads'4.Asked,
   Reads'4.Learnt,
   Reads'.Asked,
   Reads'.Learnt,
-  Reads'8.Asked,
-  Reads'8.Learnt,
   Reads'7.Asked,
   Reads'7.Learnt,
+  Reads'6.Asked,
+  Reads'6.Learnt,
   Reads'3.Asked,
   Reads'3.Learnt,
   Reads''.Asked,
@@ -1211,18 +921,14 @@ Need-loop-less = λ Inv μ. Lts.Need-loop-less (
 
 abbrev pub Need-loop-again : (Inv : InvT-loop) → (μ : MeasureT-loop) → Type 0
 Need-loop-again = λ Inv μ. Lts.Need-loop-again (
-  Reads'9.Asked,
-  Reads'9.Learnt,
-  Reads'6.Asked,
-  Reads'6.Learnt,
   Reads'4.Asked,
   Reads'4.Learnt,
   Reads'.Asked,
   Reads'.Learnt,
-  Reads'8.Asked,
-  Reads'8.Learnt,
   Reads'7.Asked,
   Reads'7.Learnt,
+  Reads'6.Asked,
+  Reads'6.Learnt,
   Reads'3.Asked,
   Reads'3.Learnt,
   Reads''.Asked,
@@ -1233,18 +939,14 @@ Need-loop-again = λ Inv μ. Lts.Need-loop-again (
 
 abbrev pub Need-same-length : (Inv : InvT-loop) → (μ : MeasureT-loop) → Type 0
 Need-same-length = λ Inv μ. Lts.Need-same-length (
-  Reads'9.Asked,
-  Reads'9.Learnt,
-  Reads'6.Asked,
-  Reads'6.Learnt,
   Reads'4.Asked,
   Reads'4.Learnt,
   Reads'.Asked,
   Reads'.Learnt,
-  Reads'8.Asked,
-  Reads'8.Learnt,
   Reads'7.Asked,
   Reads'7.Learnt,
+  Reads'6.Asked,
+  Reads'6.Learnt,
   Reads'3.Asked,
   Reads'3.Learnt,
   Reads''.Asked,
@@ -1255,18 +957,14 @@ Need-same-length = λ Inv μ. Lts.Need-same-length (
 
 abbrev pub Need-same-length-2 : (Inv : InvT-loop) → (μ : MeasureT-loop) → Type 0
 Need-same-length-2 = λ Inv μ. Lts.Need-same-length-2 (
-  Reads'9.Asked,
-  Reads'9.Learnt,
-  Reads'6.Asked,
-  Reads'6.Learnt,
   Reads'4.Asked,
   Reads'4.Learnt,
   Reads'.Asked,
   Reads'.Learnt,
-  Reads'8.Asked,
-  Reads'8.Learnt,
   Reads'7.Asked,
   Reads'7.Learnt,
+  Reads'6.Asked,
+  Reads'6.Learnt,
   Reads'3.Asked,
   Reads'3.Learnt,
   Reads''.Asked,
@@ -1277,18 +975,14 @@ Need-same-length-2 = λ Inv μ. Lts.Need-same-length-2 (
 
 abbrev pub Need-same-length-3 : (Inv : InvT-loop) → (μ : MeasureT-loop) → Type 0
 Need-same-length-3 = λ Inv μ. Lts.Need-same-length-3 (
-  Reads'9.Asked,
-  Reads'9.Learnt,
-  Reads'6.Asked,
-  Reads'6.Learnt,
   Reads'4.Asked,
   Reads'4.Learnt,
   Reads'.Asked,
   Reads'.Learnt,
-  Reads'8.Asked,
-  Reads'8.Learnt,
   Reads'7.Asked,
   Reads'7.Learnt,
+  Reads'6.Asked,
+  Reads'6.Learnt,
   Reads'3.Asked,
   Reads'3.Learnt,
   Reads''.Asked,
@@ -1299,18 +993,32 @@ Need-same-length-3 = λ Inv μ. Lts.Need-same-length-3 (
 
 abbrev pub Need-same-length-4 : (Inv : InvT-loop) → (μ : MeasureT-loop) → Type 0
 Need-same-length-4 = λ Inv μ. Lts.Need-same-length-4 (
-  Reads'9.Asked,
-  Reads'9.Learnt,
-  Reads'6.Asked,
-  Reads'6.Learnt,
   Reads'4.Asked,
   Reads'4.Learnt,
   Reads'.Asked,
   Reads'.Learnt,
-  Reads'8.Asked,
-  Reads'8.Learnt,
   Reads'7.Asked,
   Reads'7.Learnt,
+  Reads'6.Asked,
+  Reads'6.Learnt,
+  Reads'3.Asked,
+  Reads'3.Learnt,
+  Reads''.Asked,
+  Reads''.Learnt,
+  Reads.Asked,
+  Reads.Learnt,
+) Reads'5.Pre Reads'5.Post Inv μ
+
+abbrev pub Need-same-length-5 : (Inv : InvT-loop) → (μ : MeasureT-loop) → Type 0
+Need-same-length-5 = λ Inv μ. Lts.Need-same-length-5 (
+  Reads'4.Asked,
+  Reads'4.Learnt,
+  Reads'.Asked,
+  Reads'.Learnt,
+  Reads'7.Asked,
+  Reads'7.Learnt,
+  Reads'6.Asked,
+  Reads'6.Learnt,
   Reads'3.Asked,
   Reads'3.Learnt,
   Reads''.Asked,
@@ -1321,18 +1029,14 @@ Need-same-length-4 = λ Inv μ. Lts.Need-same-length-4 (
 
 abbrev pub Need-returns : (Inv : InvT-loop) → (μ : MeasureT-loop) → Type 0
 Need-returns = λ Inv μ. Lts.Need-returns (
-  Reads'9.Asked,
-  Reads'9.Learnt,
-  Reads'6.Asked,
-  Reads'6.Learnt,
   Reads'4.Asked,
   Reads'4.Learnt,
   Reads'.Asked,
   Reads'.Learnt,
-  Reads'8.Asked,
-  Reads'8.Learnt,
   Reads'7.Asked,
   Reads'7.Learnt,
+  Reads'6.Asked,
+  Reads'6.Learnt,
   Reads'3.Asked,
   Reads'3.Learnt,
   Reads''.Asked,
@@ -1345,19 +1049,16 @@ module _ {M : Type 1} where
   pub spec :
       (Inv : InvT-loop) →
       (μ : MeasureT-loop) →
-      (answer : Need-window-requires Inv μ) →
-      (answer : Need-blank-requires Inv μ) →
       (answer : Need-stop-by-requires Inv μ) →
       (answer : Need-first-site-requires Inv μ) →
       (answer : Need-loop-holds Inv μ) →
-      (answer : Need-slice-aggregate-refill Inv μ) →
       (answer : Need-refill-requires Inv μ) →
-      (answer : Need-slice-aggregate-get Inv μ) →
+      (answer : Need-add-get Inv μ) →
+      (answer : Need-sub-get Inv μ) →
       (answer : Need-get-requires Inv μ) →
       (answer : Need-site-by-requires Inv μ) →
       (answer : Need-read-region-requires Inv μ) →
       (answer : Need-bind-line-requires Inv μ) →
-      (answer : Need-add-j Inv μ) →
       (answer : Need-add-k Inv μ) →
       (answer : Need-loop-less Inv μ) →
       (answer : Need-loop-again Inv μ) →
@@ -1365,20 +1066,17 @@ module _ {M : Type 1} where
       (answer : Need-same-length-2 Inv μ) →
       (answer : Need-same-length-3 Inv μ) →
       (answer : Need-same-length-4 Inv μ) →
+      (answer : Need-same-length-5 Inv μ) →
       (answer : Need-returns Inv μ) →
       Lts.Closed (
-        Reads'9.Asked,
-        Reads'9.Learnt,
-        Reads'6.Asked,
-        Reads'6.Learnt,
         Reads'4.Asked,
         Reads'4.Learnt,
         Reads'.Asked,
         Reads'.Learnt,
-        Reads'8.Asked,
-        Reads'8.Learnt,
         Reads'7.Asked,
         Reads'7.Learnt,
+        Reads'6.Asked,
+        Reads'6.Learnt,
         Reads'3.Asked,
         Reads'3.Learnt,
         Reads''.Asked,
@@ -1389,19 +1087,15 @@ module _ {M : Type 1} where
   spec =
       λ Inv μ answer answer' answer'' answer'3 answer'4 answer'5 answer'6 answer'7 answer'8
       answer'9 answer'10 answer'11 answer'12 answer'13 answer'14 answer'15 answer'16 answer'17
-      answer'18 answer'19 answer'20. Lts.spec (
-        Reads'9.Asked,
-        Reads'9.Learnt,
-        Reads'6.Asked,
-        Reads'6.Learnt,
+      answer'18. Lts.spec (
         Reads'4.Asked,
         Reads'4.Learnt,
         Reads'.Asked,
         Reads'.Learnt,
-        Reads'8.Asked,
-        Reads'8.Learnt,
         Reads'7.Asked,
         Reads'7.Learnt,
+        Reads'6.Asked,
+        Reads'6.Learnt,
         Reads'3.Asked,
         Reads'3.Learnt,
         Reads''.Asked,
@@ -1432,23 +1126,17 @@ module _ {M : Type 1} where
       answer'16
       answer'17
       answer'18
-      answer'19
-      answer'20
 
   -- antt refused `close` as it was built: the module's report says why
   pub close : Lts.Closed (
-    Reads'9.Asked,
-    Reads'9.Learnt,
-    Reads'6.Asked,
-    Reads'6.Learnt,
     Reads'4.Asked,
     Reads'4.Learnt,
     Reads'.Asked,
     Reads'.Learnt,
-    Reads'8.Asked,
-    Reads'8.Learnt,
     Reads'7.Asked,
     Reads'7.Learnt,
+    Reads'6.Asked,
+    Reads'6.Learnt,
     Reads'3.Asked,
     Reads'3.Learnt,
     Reads''.Asked,
@@ -1459,7 +1147,7 @@ module _ {M : Type 1} where
   unfolding Code.routine Running.tablesOf
   close =
       λ closed 𝓤 H 𝓜 𝓖 𝓡. Written.close
-      8
+      9
       Kinds.ps
       Kinds.r
       Reads'5.Ghost
@@ -1483,20 +1171,6 @@ module _ {M : Type 1} where
       (𝓖 .A)
       (Running.givenOf 𝓤 H 𝓜 𝓖)
       (Run.Over 𝓤 H 𝓜 𝓖 𝓡 Code.env)
-      (Reads'9.known
-      record { M = M; 𝓤 = 𝓤; H = H; 𝓜 = 𝓜; 𝓖 = 𝓖; 𝓡 = 𝓡 }
-      Code.env
-      Symbol'8.name
-      Symbol'8.routine
-      Code.calls-records·window
-      (Met'8.met 𝓤 H 𝓜 𝓖 𝓡))
-      (Reads'6.known
-      record { M = M; 𝓤 = 𝓤; H = H; 𝓜 = 𝓜; 𝓖 = 𝓖; 𝓡 = 𝓡 }
-      Code.env
-      Symbol'5.name
-      Symbol'5.routine
-      Code.calls-records·blank
-      (Met'5.met 𝓤 H 𝓜 𝓖 𝓡))
       (Reads'4.known
       record { M = M; 𝓤 = 𝓤; H = H; 𝓜 = 𝓜; 𝓖 = 𝓖; 𝓡 = 𝓡 }
       Code.env
@@ -1511,20 +1185,20 @@ module _ {M : Type 1} where
       Symbol'.routine
       Code.calls-bind·first-site
       (Met'.met 𝓤 H 𝓜 𝓖 𝓡))
-      (Reads'8.known
-      record { M = M; 𝓤 = 𝓤; H = H; 𝓜 = 𝓜; 𝓖 = 𝓖; 𝓡 = 𝓡 }
-      Code.env
-      Symbol'7.name
-      Symbol'7.routine
-      Code.calls-records·refill
-      (Met'7.met 𝓤 H 𝓜 𝓖 𝓡))
       (Reads'7.known
       record { M = M; 𝓤 = 𝓤; H = H; 𝓜 = 𝓜; 𝓖 = 𝓖; 𝓡 = 𝓡 }
       Code.env
       Symbol'6.name
       Symbol'6.routine
-      Code.calls-records·get
+      Code.calls-records·refill
       (Met'6.met 𝓤 H 𝓜 𝓖 𝓡))
+      (Reads'6.known
+      record { M = M; 𝓤 = 𝓤; H = H; 𝓜 = 𝓜; 𝓖 = 𝓖; 𝓡 = 𝓡 }
+      Code.env
+      Symbol'5.name
+      Symbol'5.routine
+      Code.calls-records·get
+      (Met'5.met 𝓤 H 𝓜 𝓖 𝓡))
       (Reads'3.known
       record { M = M; 𝓤 = 𝓤; H = H; 𝓜 = 𝓜; 𝓖 = 𝓖; 𝓡 = 𝓡 }
       Code.env

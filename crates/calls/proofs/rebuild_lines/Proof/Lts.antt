@@ -12,35 +12,26 @@ use borrow.Fn.Frame
 use borrow.Fn.Function
 use borrow.Fn.Kinds
 use borrow.Fn.Plain
-use borrow.Kind.Array
 use borrow.Kind.MutSlice
 use borrow.Kind.Num
 use borrow.Kind.ShrSlice
 use borrow.Kind.Value
-use borrow.Rule.Array.Borrow
-use borrow.Rule.Array.Init
-use borrow.Rule.Array.Rows
-use borrow.Rule.Array.Share
-use borrow.Rule.Array.Whole
 use borrow.Rule.Lifetime
 use borrow.Rule.Local
-use borrow.Rule.LocalCopy
 use borrow.Rule.Scalar
 use borrow.Rule.Slice.Know
 use borrow.Rule.Slice.Mut
 use borrow.Rule.Slice.Relend
+use borrow.Rule.Slice.Reshare
 use borrow.Rule.Slice.Shared
-use borrow.Rule.Yields
 use borrow.Struct.Reads
-use borrow.Table.Copies
-use borrow.Table.Own
 use borrow.Table.Reads as Reads'
 use borrow.Table.Referent
 use borrow.Table.Row
-use borrow.Table.Rows as Rows'
+use borrow.Table.Rows
 use borrow.Table.Typed
 use contract.Lifetimes
-use denote.Array as Array'
+use denote.Array
 use denote.Exit
 use denote.Struct.Declared
 use denote.Struct.Laws as Laws'
@@ -57,7 +48,7 @@ use mir.Val
 use prog.Wp
 use types.Kit
 
-abbrev pub ps : List.List (Kinds.PK 9)
+abbrev pub ps : List.List (Kinds.PK 10)
 ps =
     List._∷_
     (ShrSlice.pShrS (Referent.rtF (Referent.fInt Syntax.w8)) 0 tt)
@@ -77,15 +68,23 @@ ps =
     (MutSlice.pMutS (Referent.rtF (Referent.fInt Syntax.w8)) 6 tt)
     (List._∷_
     (MutSlice.pMutS (Referent.rtF (Referent.fInt Syntax.w8)) 7 tt)
-    (List._∷_ (MutSlice.pMutS (Referent.rtF (Referent.fInt Syntax.w8)) 8 tt) List.[])))))))))
+    (List._∷_
+    (MutSlice.pMutS (Referent.rtF (Referent.fInt Syntax.w8)) 8 tt)
+    (List._∷_
+    (MutSlice.pMutS Elem.R 9 tt)
+    List.[]))))))))))
 
-abbrev pub r : Kinds.RK 9
+abbrev pub r : Kinds.RK 10
 r = Num.rNum Syntax.w64
 
 abbrev pub xs : List.List Syntax.Ty
 xs =
     List._∷_
-    (Syntax.tyArray Elem.held 1024)
+    (Syntax.tyInt Syntax.w64)
+    (List._∷_
+    (Syntax.tyInt Syntax.w64)
+    (List._∷_
+    (Syntax.tyInt Syntax.w64)
     (List._∷_
     (Syntax.tyStruct
     (List._∷_
@@ -137,20 +136,9 @@ xs =
     (Syntax.tcons (Syntax.tyInt Syntax.w64) Syntax.tnil))
     (Syntax.tcons (Syntax.tyInt Syntax.w64) Syntax.tnil)))))
     (List._∷_
-    (Syntax.tyInt Syntax.w64)
-    (List._∷_
-    (Syntax.tyInt Syntax.w64)
-    (List._∷_
-    (Syntax.tyInt Syntax.w64)
-    (List._∷_
-    (Syntax.tyArray Elem.held 1024)
-    (List._∷_
     Syntax.tyBool
     (List._∷_
-    (Syntax.tyRef
-    Syntax.erased
-    Syntax.mut
-    (Syntax.tyArray Elem.ty 1024))
+    (Syntax.tyRef Syntax.erased Syntax.mut Elem.ty)
     (List._∷_
     (Syntax.tyStruct
     (List._∷_ 38 (List._∷_ 91 (List._∷_ 93 List.[])))
@@ -158,10 +146,7 @@ xs =
     (Syntax.tyRef Syntax.erased Syntax.mut Elem.ty)
     (Syntax.tcons (Syntax.tyInt Syntax.w64) Syntax.tnil)))
     (List._∷_
-    (Syntax.tyRef
-    Syntax.erased
-    Syntax.imm
-    (Syntax.tyArray Elem.ty 1024))
+    (Syntax.tyRef Syntax.erased Syntax.imm Elem.ty)
     (List._∷_
     (Syntax.tyStruct
     (List._∷_ 38 (List._∷_ 91 (List._∷_ 93 List.[])))
@@ -169,6 +154,12 @@ xs =
     (Syntax.tyRef Syntax.erased Syntax.imm Elem.ty)
     (Syntax.tcons (Syntax.tyInt Syntax.w64) Syntax.tnil)))
     (List._∷_
+    (Syntax.tyInt Syntax.w64)
+    (List._∷_
+    (Syntax.tyInt Syntax.w64)
+    (List._∷_
+    (Syntax.tyInt Syntax.w64)
+    (List._∷_
     (Syntax.tyRef Syntax.erased Syntax.mut (Syntax.tyInt Syntax.w64))
     (List._∷_
     (Syntax.tyStruct
@@ -208,87 +199,44 @@ xs =
     (Syntax.tcons
     (Syntax.tyRef Syntax.erased Syntax.mut (Syntax.tyInt Syntax.w8))
     (Syntax.tcons (Syntax.tyInt Syntax.w64) Syntax.tnil)))
-    List.[]))))))))))))))))))))
+    List.[])))))))))))))))))))))
 
 abbrev pub m : Nat.ℕ
 m = 7
 
-abbrev pub ps·0 : List.List (Kinds.PK 0)
-ps·0 = List.[]
-
-abbrev pub r·0 : Kinds.RK 0
-r·0 =
-    Array.rArr
-    Elem.e
-    Elem.e-laws
-    1024
-
-abbrev pub ps·1 : List.List (Kinds.PK 0)
-ps·1 = List.[]
-
-abbrev pub r·1 : Kinds.RK 0
-r·1 = Value.rVal record {
-  ty = Declared.row LineRec.the-type;
-  one = Path'.refl;
-  val = Laws'.val LineRec.the-type Laws.the-laws;
-  tells = Laws'.tells LineRec.the-type Laws.the-laws;
-  still = Laws'.still LineRec.the-type Laws.the-copy Exit.yes;
-  row = Rows'.whole (Declared.row LineRec.the-type);
-  rd = λ x. x;
-  mk = λ x. x;
-} λ M 𝓤 H A W. record {
-  copies = Laws'.copy LineRec.the-type Laws.the-copy 𝓤 H A W;
-  lawful = Laws'.lawful LineRec.the-type Laws.the-laws 𝓤 H A W;
-  makes = Laws'.makes LineRec.the-type Laws.the-plain 𝓤 H A;
-  in-mem = Local.mem-whole 𝓤 H A W (Declared.row LineRec.the-type);
-  of-mem = Local.whole-mem 𝓤 H A W (Declared.row LineRec.the-type);
-}
-
-abbrev pub ps·2 : List.List (Kinds.PK 3)
-ps·2 =
+abbrev pub ps·0 : List.List (Kinds.PK 3)
+ps·0 =
     List._∷_
     (ShrSlice.pShrS (Referent.rtF (Referent.fInt Syntax.w64)) 0 tt)
     (List._∷_
     (ShrSlice.pShrS (Referent.rtF (Referent.fInt Syntax.w64)) 1 tt)
     (List._∷_
     (Num.pNum Syntax.w64)
-    (List._∷_ (Num.pNum Syntax.w64) (List._∷_ (Num.pNum Syntax.w64) (List._∷_ (Value.pVal record {
-      ty = Declared.row LineRec.the-type;
-      one = Path'.refl;
-      val = Laws'.val LineRec.the-type Laws.the-laws;
-      tells = Laws'.tells LineRec.the-type Laws.the-laws;
-      still = Laws'.still LineRec.the-type Laws.the-copy Exit.yes;
-      row = Rows'.whole (Declared.row LineRec.the-type);
-      rd = λ x. x;
-      mk = λ x. x;
-    } λ M 𝓤 H A W. record {
-      copies = Laws'.copy LineRec.the-type Laws.the-copy 𝓤 H A W;
-      lawful = Laws'.lawful LineRec.the-type Laws.the-laws 𝓤 H A W;
-      makes = Laws'.makes LineRec.the-type Laws.the-plain 𝓤 H A;
-      in-mem = Local.mem-whole 𝓤 H A W (Declared.row LineRec.the-type);
-      of-mem = Local.whole-mem 𝓤 H A W (Declared.row LineRec.the-type);
-    })
+    (List._∷_
+    (Num.pNum Syntax.w64)
+    (List._∷_
+    (Num.pNum Syntax.w64)
     (List._∷_
     (MutSlice.pMutS Elem.R 2 tt)
-    List.[]))))))
+    List.[])))))
 
-abbrev pub r·2 : Kinds.RK 3
-r·2 = Num.rNum Syntax.w64
+abbrev pub r·0 : Kinds.RK 3
+r·0 = Num.rNum Syntax.w64
 
-abbrev pub ps·3 : List.List (Kinds.PK 1)
-ps·3 =
+abbrev pub ps·1 : List.List (Kinds.PK 1)
+ps·1 =
     List._∷_
     (ShrSlice.pShrS Elem.R 0 tt)
     (List._∷_ (Num.pNum Syntax.w64) List.[])
 
-abbrev pub r·3 : Kinds.RK 1
-r·3 = Value.rVal record {
+abbrev pub r·1 : Kinds.RK 1
+r·1 = Value.rVal record {
   ty = Declared.row LineRec.the-type;
   one = Path'.refl;
   val = Laws'.val LineRec.the-type Laws.the-laws;
   tells = Laws'.tells LineRec.the-type Laws.the-laws;
   still = Laws'.still LineRec.the-type Laws.the-copy Exit.yes;
-  row = Rows'.whole (Declared.row LineRec.the-type);
+  row = Rows.whole (Declared.row LineRec.the-type);
   rd = λ x. x;
   mk = λ x. x;
 } λ M 𝓤 H A W. record {
@@ -299,8 +247,8 @@ r·3 = Value.rVal record {
   of-mem = Local.whole-mem 𝓤 H A W (Declared.row LineRec.the-type);
 }
 
-abbrev pub ps·4 : List.List (Kinds.PK 8)
-ps·4 =
+abbrev pub ps·2 : List.List (Kinds.PK 8)
+ps·2 =
     List._∷_
     (ShrSlice.pShrS (Referent.rtF (Referent.fInt Syntax.w8)) 0 tt)
     (List._∷_
@@ -325,8 +273,8 @@ ps·4 =
     (MutSlice.pMutS (Referent.rtF (Referent.fInt Syntax.w8)) 6 tt)
     (List._∷_ (MutSlice.pMutS (Referent.rtF (Referent.fInt Syntax.w8)) 7 tt) List.[])))))))))))
 
-abbrev pub r·4 : Kinds.RK 8
-r·4 = Num.rNum Syntax.w64
+abbrev pub r·2 : Kinds.RK 8
+r·2 = Num.rNum Syntax.w64
 
 abbrev pub hs : List.List Syntax.Home
 hs =
@@ -353,8 +301,6 @@ hs =
     (List._∷_
     Syntax.valueLocal
     (List._∷_
-    Syntax.memorySlot
-    (List._∷_
     Syntax.valueLocal
     (List._∷_
     Syntax.valueLocal
@@ -390,58 +336,65 @@ hs =
     Syntax.valueLocal
     (List._∷_
     Syntax.valueLocal
-    (List._∷_ Syntax.valueLocal (List._∷_ Syntax.valueLocal List.[])))))))))))))))))))))))))))))))
+    (List._∷_
+    Syntax.valueLocal
+    (List._∷_
+    Syntax.valueLocal
+    (List._∷_
+    Syntax.valueLocal
+    (List._∷_
+    Syntax.valueLocal
+    (List._∷_ Syntax.valueLocal List.[])))))))))))))))))))))))))))))))))
 
 abbrev b0 : Syntax.Body
-b0 = Syntax.call "records::window" List.[] (Syntax.place 16 List.[])
+b0 = Syntax.assign (Syntax.place 12 List.[]) (Syntax.rvOpd (Syntax.int Syntax.w64 0))
 
 abbrev b1 : Syntax.Body
-b1 = Syntax.assign (Syntax.place 11 List.[]) (Syntax.rvOpd (Syntax.copy (Syntax.place 16 List.[])))
+b1 = Syntax.assign (Syntax.place 13 List.[]) (Syntax.rvOpd (Syntax.int Syntax.w64 0))
 
 abbrev b2 : Syntax.Body
-b2 = Syntax.call "records::blank" List.[] (Syntax.place 12 List.[])
+b2 = Syntax.assign (Syntax.place 14 List.[]) (Syntax.rvOpd (Syntax.int Syntax.w64 0))
 
 abbrev b3 : Syntax.Body
-b3 = Syntax.assign (Syntax.place 13 List.[]) (Syntax.rvOpd (Syntax.intBig Syntax.w64 1024))
-
-abbrev b4 : Syntax.Body
-b4 = Syntax.assign (Syntax.place 14 List.[]) (Syntax.rvOpd (Syntax.int Syntax.w64 0))
-
-abbrev b5 : Syntax.Body
-b5 = Syntax.assign (Syntax.place 15 List.[]) (Syntax.rvOpd (Syntax.int Syntax.w64 0))
-
-abbrev b6 : Syntax.Body
-b6 =
+b3 =
     Syntax.assign
-    (Syntax.place 17 List.[])
+    (Syntax.place 16 List.[])
     (Syntax.op2
     (Syntax.lt Syntax.unsigned)
-    (Syntax.copy (Syntax.place 14 List.[]))
+    (Syntax.copy (Syntax.place 13 List.[]))
     (Syntax.copy (Syntax.place 3 List.[])))
 
+abbrev b4 : Syntax.Body
+b4 = Syntax.skip
+
+abbrev b5 : Syntax.Body
+b5 = Syntax.exit 1
+
+abbrev b6 : Syntax.Body
+b6 = Syntax.cond (Syntax.copy (Syntax.place 16 List.[])) b4 b5
+
 abbrev b7 : Syntax.Body
-b7 = Syntax.skip
+b7 =
+    Syntax.assign
+    (Syntax.place 17 List.[])
+    (Syntax.addrOf
+    (Syntax.place
+    11
+    (List._∷_
+    (Syntax.field 0)
+    (List._∷_ (Syntax.deref Elem.held) List.[]))))
 
 abbrev b8 : Syntax.Body
-b8 = Syntax.exit 1
-
-abbrev b9 : Syntax.Body
-b9 = Syntax.cond (Syntax.copy (Syntax.place 17 List.[])) b7 b8
-
-abbrev b10 : Syntax.Body
-b10 = Syntax.assign (Syntax.place 18 List.[]) (Syntax.addrOf (Syntax.place 11 List.[]))
-
-abbrev b11 : Syntax.Body
-b11 =
+b8 =
     Syntax.assign
-    (Syntax.place 19 List.[])
+    (Syntax.place 18 List.[])
     (Syntax.aggregate
     (List._∷_
-    (Syntax.copy (Syntax.place 18 List.[]))
-    (List._∷_ (Syntax.intBig Syntax.w64 1024) List.[])))
+    (Syntax.copy (Syntax.place 17 List.[]))
+    (List._∷_ (Syntax.copy (Syntax.place 11 (List._∷_ (Syntax.field 1) List.[]))) List.[])))
 
-abbrev b12 : Syntax.Body
-b12 =
+abbrev b9 : Syntax.Body
+b9 =
     Syntax.call
     "records::refill"
     (List._∷_
@@ -451,39 +404,69 @@ b12 =
     (List._∷_
     (Syntax.copy (Syntax.place 3 List.[]))
     (List._∷_
-    (Syntax.copy (Syntax.place 14 List.[]))
-    (List._∷_
     (Syntax.copy (Syntax.place 13 List.[]))
     (List._∷_
     (Syntax.copy (Syntax.place 12 List.[]))
-    (List._∷_ (Syntax.copy (Syntax.place 19 List.[])) List.[])))))))
-    (Syntax.place 13 List.[])
+    (List._∷_ (Syntax.copy (Syntax.place 18 List.[])) List.[]))))))
+    (Syntax.place 12 List.[])
+
+abbrev b10 : Syntax.Body
+b10 =
+    Syntax.assign
+    (Syntax.place 19 List.[])
+    (Syntax.addrOf
+    (Syntax.place
+    11
+    (List._∷_
+    (Syntax.field 0)
+    (List._∷_ (Syntax.deref Elem.held) List.[]))))
+
+abbrev b11 : Syntax.Body
+b11 =
+    Syntax.assign
+    (Syntax.place 20 List.[])
+    (Syntax.aggregate
+    (List._∷_
+    (Syntax.copy (Syntax.place 19 List.[]))
+    (List._∷_ (Syntax.copy (Syntax.place 11 (List._∷_ (Syntax.field 1) List.[]))) List.[])))
+
+abbrev b12 : Syntax.Body
+b12 =
+    Syntax.assign
+    (Syntax.place 21 List.[])
+    (Syntax.rvOpd (Syntax.copy (Syntax.place 11 (List._∷_ (Syntax.field 1) List.[]))))
 
 abbrev b13 : Syntax.Body
-b13 = Syntax.assign (Syntax.place 20 List.[]) (Syntax.addrOf (Syntax.place 11 List.[]))
+b13 =
+    Syntax.assign
+    (Syntax.place 22 List.[])
+    (Syntax.op2
+    (Syntax.add Syntax.unsigned)
+    (Syntax.copy (Syntax.place 13 List.[]))
+    (Syntax.copy (Syntax.place 21 List.[])))
 
 abbrev b14 : Syntax.Body
 b14 =
     Syntax.assign
-    (Syntax.place 21 List.[])
-    (Syntax.aggregate
-    (List._∷_
-    (Syntax.copy (Syntax.place 20 List.[]))
-    (List._∷_ (Syntax.intBig Syntax.w64 1024) List.[])))
+    (Syntax.place 23 List.[])
+    (Syntax.op2
+    (Syntax.sub Syntax.unsigned)
+    (Syntax.copy (Syntax.place 22 List.[]))
+    (Syntax.copy (Syntax.place 12 List.[])))
 
 abbrev b15 : Syntax.Body
 b15 =
     Syntax.call
     "records::get"
     (List._∷_
-    (Syntax.copy (Syntax.place 21 List.[]))
-    (List._∷_ (Syntax.copy (Syntax.place 13 List.[])) List.[]))
-    (Syntax.place 12 List.[])
+    (Syntax.copy (Syntax.place 20 List.[]))
+    (List._∷_ (Syntax.copy (Syntax.place 23 List.[])) List.[]))
+    (Syntax.place 15 List.[])
 
 abbrev b16 : Syntax.Body
 b16 =
     Syntax.assign
-    (Syntax.place 22 List.[])
+    (Syntax.place 24 List.[])
     (Syntax.addrOf
     (Syntax.place
     6
@@ -492,16 +475,16 @@ b16 =
 abbrev b17 : Syntax.Body
 b17 =
     Syntax.assign
-    (Syntax.place 23 List.[])
+    (Syntax.place 25 List.[])
     (Syntax.aggregate
     (List._∷_
-    (Syntax.copy (Syntax.place 22 List.[]))
+    (Syntax.copy (Syntax.place 24 List.[]))
     (List._∷_ (Syntax.copy (Syntax.place 6 (List._∷_ (Syntax.field 1) List.[]))) List.[])))
 
 abbrev b18 : Syntax.Body
 b18 =
     Syntax.assign
-    (Syntax.place 24 List.[])
+    (Syntax.place 26 List.[])
     (Syntax.addrOf
     (Syntax.place
     7
@@ -510,16 +493,16 @@ b18 =
 abbrev b19 : Syntax.Body
 b19 =
     Syntax.assign
-    (Syntax.place 25 List.[])
+    (Syntax.place 27 List.[])
     (Syntax.aggregate
     (List._∷_
-    (Syntax.copy (Syntax.place 24 List.[]))
+    (Syntax.copy (Syntax.place 26 List.[]))
     (List._∷_ (Syntax.copy (Syntax.place 7 (List._∷_ (Syntax.field 1) List.[]))) List.[])))
 
 abbrev b20 : Syntax.Body
 b20 =
     Syntax.assign
-    (Syntax.place 26 List.[])
+    (Syntax.place 28 List.[])
     (Syntax.addrOf
     (Syntax.place
     8
@@ -528,16 +511,16 @@ b20 =
 abbrev b21 : Syntax.Body
 b21 =
     Syntax.assign
-    (Syntax.place 27 List.[])
+    (Syntax.place 29 List.[])
     (Syntax.aggregate
     (List._∷_
-    (Syntax.copy (Syntax.place 26 List.[]))
+    (Syntax.copy (Syntax.place 28 List.[]))
     (List._∷_ (Syntax.copy (Syntax.place 8 (List._∷_ (Syntax.field 1) List.[]))) List.[])))
 
 abbrev b22 : Syntax.Body
 b22 =
     Syntax.assign
-    (Syntax.place 28 List.[])
+    (Syntax.place 30 List.[])
     (Syntax.addrOf
     (Syntax.place
     9
@@ -546,16 +529,16 @@ b22 =
 abbrev b23 : Syntax.Body
 b23 =
     Syntax.assign
-    (Syntax.place 29 List.[])
+    (Syntax.place 31 List.[])
     (Syntax.aggregate
     (List._∷_
-    (Syntax.copy (Syntax.place 28 List.[]))
+    (Syntax.copy (Syntax.place 30 List.[]))
     (List._∷_ (Syntax.copy (Syntax.place 9 (List._∷_ (Syntax.field 1) List.[]))) List.[])))
 
 abbrev b24 : Syntax.Body
 b24 =
     Syntax.assign
-    (Syntax.place 30 List.[])
+    (Syntax.place 32 List.[])
     (Syntax.addrOf
     (Syntax.place
     10
@@ -564,10 +547,10 @@ b24 =
 abbrev b25 : Syntax.Body
 b25 =
     Syntax.assign
-    (Syntax.place 31 List.[])
+    (Syntax.place 33 List.[])
     (Syntax.aggregate
     (List._∷_
-    (Syntax.copy (Syntax.place 30 List.[]))
+    (Syntax.copy (Syntax.place 32 List.[]))
     (List._∷_ (Syntax.copy (Syntax.place 10 (List._∷_ (Syntax.field 1) List.[]))) List.[])))
 
 abbrev b26 : Syntax.Body
@@ -577,27 +560,27 @@ b26 =
     (List._∷_
     (Syntax.copy (Syntax.place 1 List.[]))
     (List._∷_
-    (Syntax.copy (Syntax.place 12 (List._∷_ (Syntax.field 0) List.[])))
+    (Syntax.copy (Syntax.place 15 (List._∷_ (Syntax.field 0) List.[])))
     (List._∷_
-    (Syntax.copy (Syntax.place 12 (List._∷_ (Syntax.field 1) List.[])))
+    (Syntax.copy (Syntax.place 15 (List._∷_ (Syntax.field 1) List.[])))
     (List._∷_
-    (Syntax.copy (Syntax.place 14 List.[]))
+    (Syntax.copy (Syntax.place 13 List.[]))
     (List._∷_
     (Syntax.copy (Syntax.place 4 List.[]))
     (List._∷_
     (Syntax.copy (Syntax.place 5 List.[]))
     (List._∷_
-    (Syntax.copy (Syntax.place 23 List.[]))
-    (List._∷_
     (Syntax.copy (Syntax.place 25 List.[]))
-    (List._∷_
-    (Syntax.copy (Syntax.place 15 List.[]))
     (List._∷_
     (Syntax.copy (Syntax.place 27 List.[]))
     (List._∷_
+    (Syntax.copy (Syntax.place 14 List.[]))
+    (List._∷_
     (Syntax.copy (Syntax.place 29 List.[]))
-    (List._∷_ (Syntax.copy (Syntax.place 31 List.[])) List.[]))))))))))))
-    (Syntax.place 15 List.[])
+    (List._∷_
+    (Syntax.copy (Syntax.place 31 List.[]))
+    (List._∷_ (Syntax.copy (Syntax.place 33 List.[])) List.[]))))))))))))
+    (Syntax.place 14 List.[])
 
 abbrev b27 : Syntax.Body
 b27 =
@@ -609,148 +592,132 @@ b27 =
     (Syntax.int Syntax.w64 1))
 
 abbrev b28 : Syntax.Body
-b28 =
-    Syntax.assign
-    (Syntax.place 14 List.[])
-    (Syntax.op2
-    (Syntax.add Syntax.unsigned)
-    (Syntax.copy (Syntax.place 14 List.[]))
-    (Syntax.int Syntax.w64 1))
+b28 = Syntax.seq b26 b27
 
 abbrev b29 : Syntax.Body
-b29 = Syntax.seq b27 b28
+b29 = Syntax.seq b25 b28
 
 abbrev b30 : Syntax.Body
-b30 = Syntax.seq b26 b29
+b30 = Syntax.seq b24 b29
 
 abbrev b31 : Syntax.Body
-b31 = Syntax.seq b25 b30
+b31 = Syntax.seq b23 b30
 
 abbrev b32 : Syntax.Body
-b32 = Syntax.seq b24 b31
+b32 = Syntax.seq b22 b31
 
 abbrev b33 : Syntax.Body
-b33 = Syntax.seq b23 b32
+b33 = Syntax.seq b21 b32
 
 abbrev b34 : Syntax.Body
-b34 = Syntax.seq b22 b33
+b34 = Syntax.seq b20 b33
 
 abbrev b35 : Syntax.Body
-b35 = Syntax.seq b21 b34
+b35 = Syntax.seq b19 b34
 
 abbrev b36 : Syntax.Body
-b36 = Syntax.seq b20 b35
+b36 = Syntax.seq b18 b35
 
 abbrev b37 : Syntax.Body
-b37 = Syntax.seq b19 b36
+b37 = Syntax.seq b17 b36
 
 abbrev b38 : Syntax.Body
-b38 = Syntax.seq b18 b37
+b38 = Syntax.seq b16 b37
 
 abbrev b39 : Syntax.Body
-b39 = Syntax.seq b17 b38
+b39 = Syntax.seq b15 b38
 
 abbrev b40 : Syntax.Body
-b40 = Syntax.seq b16 b39
+b40 = Syntax.seq b14 b39
 
 abbrev b41 : Syntax.Body
-b41 = Syntax.seq b15 b40
+b41 = Syntax.seq b13 b40
 
 abbrev b42 : Syntax.Body
-b42 = Syntax.seq b14 b41
+b42 = Syntax.seq b12 b41
 
 abbrev b43 : Syntax.Body
-b43 = Syntax.seq b13 b42
+b43 = Syntax.seq b11 b42
 
 abbrev b44 : Syntax.Body
-b44 = Syntax.seq b12 b43
+b44 = Syntax.seq b10 b43
 
 abbrev b45 : Syntax.Body
-b45 = Syntax.seq b11 b44
+b45 = Syntax.seq b9 b44
 
 abbrev b46 : Syntax.Body
-b46 = Syntax.seq b10 b45
+b46 = Syntax.seq b8 b45
 
 abbrev b47 : Syntax.Body
-b47 = Syntax.seq b9 b46
+b47 = Syntax.seq b7 b46
 
 abbrev b48 : Syntax.Body
 b48 = Syntax.seq b6 b47
 
 abbrev b49 : Syntax.Body
-b49 = Syntax.loop b48
+b49 = Syntax.seq b3 b48
 
 abbrev b50 : Syntax.Body
-b50 = Syntax.block b49
+b50 = Syntax.loop b49
 
 abbrev b51 : Syntax.Body
-b51 = Syntax.assign (Syntax.place 0 List.[]) (Syntax.rvOpd (Syntax.copy (Syntax.place 15 List.[])))
+b51 = Syntax.block b50
 
 abbrev b52 : Syntax.Body
-b52 = Syntax.return
+b52 = Syntax.assign (Syntax.place 0 List.[]) (Syntax.rvOpd (Syntax.copy (Syntax.place 14 List.[])))
 
 abbrev b53 : Syntax.Body
-b53 = Syntax.seq b51 b52
+b53 = Syntax.return
 
 abbrev b54 : Syntax.Body
-b54 = Syntax.seq b50 b53
+b54 = Syntax.seq b52 b53
 
 abbrev b55 : Syntax.Body
-b55 = Syntax.seq b5 b54
+b55 = Syntax.seq b51 b54
 
 abbrev b56 : Syntax.Body
-b56 = Syntax.seq b4 b55
+b56 = Syntax.seq b2 b55
 
 abbrev b57 : Syntax.Body
-b57 = Syntax.seq b3 b56
+b57 = Syntax.seq b1 b56
 
 abbrev b58 : Syntax.Body
-b58 = Syntax.seq b2 b57
-
-abbrev b59 : Syntax.Body
-b59 = Syntax.seq b1 b58
-
-abbrev b60 : Syntax.Body
-b60 = Syntax.seq b0 b59
+b58 = Syntax.seq b0 b57
 
 abbrev pub body : Syntax.Body
-body = b60
+body = b58
 
 abbrev pub Claims : Type 1
 Claims =
-    Kinds.In 0 ps·0 ×
-    Kinds.Out 0 ps·0 r·0 ×
-    Kinds.In 0 ps·1 ×
-    Kinds.Out 0 ps·1 r·1 ×
-    Kinds.In 3 ps·2 ×
-    Kinds.Out 3 ps·2 r·2 ×
-    Kinds.In 1 ps·3 ×
-    Kinds.Out 1 ps·3 r·3 ×
-    Kinds.In 8 ps·4 ×
-    Kinds.Out 8 ps·4 r·4
+    Kinds.In 3 ps·0 ×
+    Kinds.Out 3 ps·0 r·0 ×
+    Kinds.In 1 ps·1 ×
+    Kinds.Out 1 ps·1 r·1 ×
+    Kinds.In 8 ps·2 ×
+    Kinds.Out 8 ps·2 r·2
 
 abbrev pub t0 : List.List Row.Entry
-t0 = List._∷_ (0, Rows'.any-gone (Syntax.tyInt Syntax.w64)) (List._∷_ (
+t0 = List._∷_ (0, Rows.any-gone (Syntax.tyInt Syntax.w64)) (List._∷_ (
   1,
-  Rows'.sslice
+  Rows.sslice
       (Referent.rtF (Referent.fInt Syntax.w8))
       (Syntax.tyRef (Syntax.named 0) Syntax.imm (Syntax.tyInt Syntax.w8))
       0,
 ) (List._∷_ (
   2,
-  Rows'.sslice
+  Rows.sslice
       (Referent.rtF (Referent.fInt Syntax.w64))
       (Syntax.tyRef (Syntax.named 1) Syntax.imm (Syntax.tyInt Syntax.w64))
       1,
-) (List._∷_ (3, Rows'.sc-here (Row.sInt Syntax.w64)) (List._∷_ (
+) (List._∷_ (3, Rows.sc-here (Row.sInt Syntax.w64)) (List._∷_ (
   4,
-  Rows'.sslice
+  Rows.sslice
       (Referent.rtF (Referent.fInt Syntax.w64))
       (Syntax.tyRef (Syntax.named 2) Syntax.imm (Syntax.tyInt Syntax.w64))
       2,
 ) (List._∷_ (
   5,
-  Rows'.sslice
+  Rows.sslice
       (Referent.rtF (Referent.fInt Syntax.w8))
       (Syntax.tyRef (Syntax.named 3) Syntax.imm (Syntax.tyInt Syntax.w8))
       3,
@@ -786,10 +753,16 @@ t0 = List._∷_ (0, Rows'.any-gone (Syntax.tyInt Syntax.w64)) (List._∷_ (
       8,
 ) (List._∷_ (
   11,
-  Rows'.any-gone (Syntax.tyArray Elem.held 1024),
-) (List._∷_ (
-  12,
-  Rows'.any-gone
+  Mut.mslice
+      Elem.R
+      (Syntax.tyRef (Syntax.named 9) Syntax.mut Elem.ty)
+      9,
+) (List._∷_ (12, Rows.any-gone (Syntax.tyInt Syntax.w64)) (List._∷_ (
+  13,
+  Rows.any-gone (Syntax.tyInt Syntax.w64),
+) (List._∷_ (14, Rows.any-gone (Syntax.tyInt Syntax.w64)) (List._∷_ (
+  15,
+  Rows.any-gone
       (Syntax.tyStruct
       (List._∷_
       114
@@ -839,74 +812,53 @@ t0 = List._∷_ (0, Rows'.any-gone (Syntax.tyInt Syntax.w64)) (List._∷_ (
       (List._∷_ 101 (List._∷_ 103 (List._∷_ 105 (List._∷_ 111 (List._∷_ 110 List.[])))))))))))))
       (Syntax.tcons (Syntax.tyInt Syntax.w64) Syntax.tnil))
       (Syntax.tcons (Syntax.tyInt Syntax.w64) Syntax.tnil))))),
-) (List._∷_ (13, Rows'.any-gone (Syntax.tyInt Syntax.w64)) (List._∷_ (
-  14,
-  Rows'.any-gone (Syntax.tyInt Syntax.w64),
-) (List._∷_ (15, Rows'.any-gone (Syntax.tyInt Syntax.w64)) List.[])))))))))))))))
+) List.[])))))))))))))))
 
 abbrev pub t1 : List.List Row.Entry
-t1 = List._∷_ (
-  16,
-  Rows'.any-gone (Syntax.tyArray Elem.held 1024),
-) (List._∷_ (17, Rows'.any-gone Syntax.tyBool) (List._∷_ (
-  18,
-  Rows'.any-gone
-      (Syntax.tyRef
-      Syntax.erased
-      Syntax.mut
-      (Syntax.tyArray Elem.ty 1024)),
+t1 = List._∷_ (16, Rows.any-gone Syntax.tyBool) (List._∷_ (
+  17,
+  Rows.any-gone
+      (Syntax.tyRef Syntax.erased Syntax.mut Elem.ty),
 ) (List._∷_ (
-  19,
-  Rows'.any-gone
+  18,
+  Rows.any-gone
       (Syntax.tyStruct
       (List._∷_ 38 (List._∷_ 91 (List._∷_ 93 List.[])))
       (Syntax.tcons
       (Syntax.tyRef Syntax.erased Syntax.mut Elem.ty)
       (Syntax.tcons (Syntax.tyInt Syntax.w64) Syntax.tnil))),
 ) (List._∷_ (
-  20,
-  Rows'.any-gone
-      (Syntax.tyRef
-      Syntax.erased
-      Syntax.imm
-      (Syntax.tyArray Elem.ty 1024)),
+  19,
+  Rows.any-gone
+      (Syntax.tyRef Syntax.erased Syntax.imm Elem.ty),
 ) (List._∷_ (
-  21,
-  Rows'.any-gone
+  20,
+  Rows.any-gone
       (Syntax.tyStruct
       (List._∷_ 38 (List._∷_ 91 (List._∷_ 93 List.[])))
       (Syntax.tcons
       (Syntax.tyRef Syntax.erased Syntax.imm Elem.ty)
       (Syntax.tcons (Syntax.tyInt Syntax.w64) Syntax.tnil))),
+) (List._∷_ (21, Rows.any-gone (Syntax.tyInt Syntax.w64)) (List._∷_ (
+  22,
+  Rows.any-gone (Syntax.tyInt Syntax.w64),
+) (List._∷_ (23, Rows.any-gone (Syntax.tyInt Syntax.w64)) (List._∷_ (
+  24,
+  Rows.any-gone (Syntax.tyRef Syntax.erased Syntax.mut (Syntax.tyInt Syntax.w64)),
+) (List._∷_ (
+  25,
+  Rows.any-gone
+      (Syntax.tyStruct
+      (List._∷_ 38 (List._∷_ 91 (List._∷_ 93 List.[])))
+      (Syntax.tcons
+      (Syntax.tyRef Syntax.erased Syntax.mut (Syntax.tyInt Syntax.w64))
+      (Syntax.tcons (Syntax.tyInt Syntax.w64) Syntax.tnil))),
 )
+    (List._∷_
+    (26, Rows.any-gone (Syntax.tyRef Syntax.erased Syntax.mut (Syntax.tyInt Syntax.w8)))
     (List._∷_ (
-      22,
-      Rows'.any-gone (Syntax.tyRef Syntax.erased Syntax.mut (Syntax.tyInt Syntax.w64)),
-    ) (List._∷_ (
-      23,
-      Rows'.any-gone
-          (Syntax.tyStruct
-          (List._∷_ 38 (List._∷_ 91 (List._∷_ 93 List.[])))
-          (Syntax.tcons
-          (Syntax.tyRef Syntax.erased Syntax.mut (Syntax.tyInt Syntax.w64))
-          (Syntax.tcons (Syntax.tyInt Syntax.w64) Syntax.tnil))),
-    ) (List._∷_ (
-      24,
-      Rows'.any-gone (Syntax.tyRef Syntax.erased Syntax.mut (Syntax.tyInt Syntax.w8)),
-    ) (List._∷_ (
-      25,
-      Rows'.any-gone
-          (Syntax.tyStruct
-          (List._∷_ 38 (List._∷_ 91 (List._∷_ 93 List.[])))
-          (Syntax.tcons
-          (Syntax.tyRef Syntax.erased Syntax.mut (Syntax.tyInt Syntax.w8))
-          (Syntax.tcons (Syntax.tyInt Syntax.w64) Syntax.tnil))),
-    ) (List._∷_ (
-      26,
-      Rows'.any-gone (Syntax.tyRef Syntax.erased Syntax.mut (Syntax.tyInt Syntax.w8)),
-    ) (List._∷_ (
       27,
-      Rows'.any-gone
+      Rows.any-gone
           (Syntax.tyStruct
           (List._∷_ 38 (List._∷_ 91 (List._∷_ 93 List.[])))
           (Syntax.tcons
@@ -914,10 +866,10 @@ t1 = List._∷_ (
           (Syntax.tcons (Syntax.tyInt Syntax.w64) Syntax.tnil))),
     ) (List._∷_ (
       28,
-      Rows'.any-gone (Syntax.tyRef Syntax.erased Syntax.mut (Syntax.tyInt Syntax.w8)),
+      Rows.any-gone (Syntax.tyRef Syntax.erased Syntax.mut (Syntax.tyInt Syntax.w8)),
     ) (List._∷_ (
       29,
-      Rows'.any-gone
+      Rows.any-gone
           (Syntax.tyStruct
           (List._∷_ 38 (List._∷_ 91 (List._∷_ 93 List.[])))
           (Syntax.tcons
@@ -925,10 +877,10 @@ t1 = List._∷_ (
           (Syntax.tcons (Syntax.tyInt Syntax.w64) Syntax.tnil))),
     ) (List._∷_ (
       30,
-      Rows'.any-gone (Syntax.tyRef Syntax.erased Syntax.mut (Syntax.tyInt Syntax.w8)),
+      Rows.any-gone (Syntax.tyRef Syntax.erased Syntax.mut (Syntax.tyInt Syntax.w8)),
     ) (List._∷_ (
       31,
-      Rows'.any-gone
+      Rows.any-gone
           (Syntax.tyStruct
           (List._∷_ 38 (List._∷_ 91 (List._∷_ 93 List.[])))
           (Syntax.tcons
@@ -937,616 +889,41 @@ t1 = List._∷_ (
     ) List.[])))))))))))))))
 
 abbrev pub t2 : List.List Row.Entry
-t2 = List._∷_ (0, Rows'.sc-here (Row.sInt Syntax.w64)) (List._∷_ (
-  1,
-  Rows'.sslice
-      (Referent.rtF (Referent.fInt Syntax.w8))
-      (Syntax.tyRef (Syntax.named 0) Syntax.imm (Syntax.tyInt Syntax.w8))
-      0,
-) (List._∷_ (
-  2,
-  Rows'.sslice
-      (Referent.rtF (Referent.fInt Syntax.w64))
-      (Syntax.tyRef (Syntax.named 1) Syntax.imm (Syntax.tyInt Syntax.w64))
-      1,
-) (List._∷_ (3, Rows'.any-gone (Syntax.tyInt Syntax.w64)) (List._∷_ (
-  4,
-  Rows'.sslice
-      (Referent.rtF (Referent.fInt Syntax.w64))
-      (Syntax.tyRef (Syntax.named 2) Syntax.imm (Syntax.tyInt Syntax.w64))
-      2,
-) (List._∷_ (
-  5,
-  Rows'.sslice
-      (Referent.rtF (Referent.fInt Syntax.w8))
-      (Syntax.tyRef (Syntax.named 3) Syntax.imm (Syntax.tyInt Syntax.w8))
-      3,
-) (List._∷_ (
-  6,
-  Mut.mslice
-      (Referent.rtF (Referent.fInt Syntax.w64))
-      (Syntax.tyRef (Syntax.named 4) Syntax.mut (Syntax.tyInt Syntax.w64))
-      4,
-) (List._∷_ (
-  7,
-  Mut.mslice
-      (Referent.rtF (Referent.fInt Syntax.w8))
-      (Syntax.tyRef (Syntax.named 5) Syntax.mut (Syntax.tyInt Syntax.w8))
-      5,
-) (List._∷_ (
-  8,
-  Mut.mslice
-      (Referent.rtF (Referent.fInt Syntax.w8))
-      (Syntax.tyRef (Syntax.named 6) Syntax.mut (Syntax.tyInt Syntax.w8))
-      6,
-) (List._∷_ (
-  9,
-  Mut.mslice
-      (Referent.rtF (Referent.fInt Syntax.w8))
-      (Syntax.tyRef (Syntax.named 7) Syntax.mut (Syntax.tyInt Syntax.w8))
-      7,
-) (List._∷_ (
-  10,
-  Mut.mslice
-      (Referent.rtF (Referent.fInt Syntax.w8))
-      (Syntax.tyRef (Syntax.named 8) Syntax.mut (Syntax.tyInt Syntax.w8))
-      8,
-) (List._∷_ (
-  11,
-  Rows'.any-gone (Syntax.tyArray Elem.held 1024),
-) (List._∷_ (
-  12,
-  Rows'.any-gone
-      (Syntax.tyStruct
-      (List._∷_
-      114
-      (List._∷_
-      101
-      (List._∷_
-      99
-      (List._∷_
-      111
-      (List._∷_
-      114
-      (List._∷_
-      100
-      (List._∷_
-      115
-      (List._∷_
-      58
-      (List._∷_
-      58
-      (List._∷_
-      76
-      (List._∷_
-      105
-      (List._∷_ 110 (List._∷_ 101 (List._∷_ 82 (List._∷_ 101 (List._∷_ 99 List.[]))))))))))))))))
-      (Syntax.tcons
-      (Syntax.tyInt Syntax.w64)
-      (Syntax.tcons
-      (Syntax.tyInt Syntax.w64)
-      (Syntax.tcons
-      (Syntax.tyStruct
-      (List._∷_
-      112
-      (List._∷_
-      108
-      (List._∷_
-      97
-      (List._∷_
-      99
-      (List._∷_
-      101
-      (List._∷_
-      58
-      (List._∷_
-      58
-      (List._∷_
-      82
-      (List._∷_ 101 (List._∷_ 103 (List._∷_ 105 (List._∷_ 111 (List._∷_ 110 List.[])))))))))))))
-      (Syntax.tcons (Syntax.tyInt Syntax.w64) Syntax.tnil))
-      (Syntax.tcons (Syntax.tyInt Syntax.w64) Syntax.tnil))))),
-) (List._∷_ (13, Rows'.any-gone (Syntax.tyInt Syntax.w64)) (List._∷_ (
-  14,
-  Rows'.any-gone (Syntax.tyInt Syntax.w64),
-) (List._∷_ (15, Rows'.any-gone (Syntax.tyInt Syntax.w64)) List.[])))))))))))))))
+t2 =
+    List._∷_
+    (32, Rows.any-gone (Syntax.tyRef Syntax.erased Syntax.mut (Syntax.tyInt Syntax.w8)))
+    (List._∷_ (
+      33,
+      Rows.any-gone
+          (Syntax.tyStruct
+          (List._∷_ 38 (List._∷_ 91 (List._∷_ 93 List.[])))
+          (Syntax.tcons
+          (Syntax.tyRef Syntax.erased Syntax.mut (Syntax.tyInt Syntax.w8))
+          (Syntax.tcons (Syntax.tyInt Syntax.w64) Syntax.tnil))),
+    ) List.[])
 
 abbrev pub t3 : List.List Row.Entry
-t3 =
-    List._∷_
-    (16, Rows.arrF Elem.R 1024 0)
-    (List._∷_ (17, Rows'.any-gone Syntax.tyBool) (List._∷_ (
-      18,
-      Rows'.any-gone
-          (Syntax.tyRef
-          Syntax.erased
-          Syntax.mut
-          (Syntax.tyArray Elem.ty 1024)),
-    ) (List._∷_ (
-      19,
-      Rows'.any-gone
-          (Syntax.tyStruct
-          (List._∷_ 38 (List._∷_ 91 (List._∷_ 93 List.[])))
-          (Syntax.tcons
-          (Syntax.tyRef Syntax.erased Syntax.mut Elem.ty)
-          (Syntax.tcons (Syntax.tyInt Syntax.w64) Syntax.tnil))),
-    ) (List._∷_ (
-      20,
-      Rows'.any-gone
-          (Syntax.tyRef
-          Syntax.erased
-          Syntax.imm
-          (Syntax.tyArray Elem.ty 1024)),
-    ) (List._∷_ (
-      21,
-      Rows'.any-gone
-          (Syntax.tyStruct
-          (List._∷_ 38 (List._∷_ 91 (List._∷_ 93 List.[])))
-          (Syntax.tcons
-          (Syntax.tyRef Syntax.erased Syntax.imm Elem.ty)
-          (Syntax.tcons (Syntax.tyInt Syntax.w64) Syntax.tnil))),
-    ) (List._∷_ (
-      22,
-      Rows'.any-gone (Syntax.tyRef Syntax.erased Syntax.mut (Syntax.tyInt Syntax.w64)),
-    ) (List._∷_ (
-      23,
-      Rows'.any-gone
-          (Syntax.tyStruct
-          (List._∷_ 38 (List._∷_ 91 (List._∷_ 93 List.[])))
-          (Syntax.tcons
-          (Syntax.tyRef Syntax.erased Syntax.mut (Syntax.tyInt Syntax.w64))
-          (Syntax.tcons (Syntax.tyInt Syntax.w64) Syntax.tnil))),
-    ) (List._∷_ (
-      24,
-      Rows'.any-gone (Syntax.tyRef Syntax.erased Syntax.mut (Syntax.tyInt Syntax.w8)),
-    ) (List._∷_ (
-      25,
-      Rows'.any-gone
-          (Syntax.tyStruct
-          (List._∷_ 38 (List._∷_ 91 (List._∷_ 93 List.[])))
-          (Syntax.tcons
-          (Syntax.tyRef Syntax.erased Syntax.mut (Syntax.tyInt Syntax.w8))
-          (Syntax.tcons (Syntax.tyInt Syntax.w64) Syntax.tnil))),
-    ) (List._∷_ (
-      26,
-      Rows'.any-gone (Syntax.tyRef Syntax.erased Syntax.mut (Syntax.tyInt Syntax.w8)),
-    ) (List._∷_ (
-      27,
-      Rows'.any-gone
-          (Syntax.tyStruct
-          (List._∷_ 38 (List._∷_ 91 (List._∷_ 93 List.[])))
-          (Syntax.tcons
-          (Syntax.tyRef Syntax.erased Syntax.mut (Syntax.tyInt Syntax.w8))
-          (Syntax.tcons (Syntax.tyInt Syntax.w64) Syntax.tnil))),
-    ) (List._∷_ (
-      28,
-      Rows'.any-gone (Syntax.tyRef Syntax.erased Syntax.mut (Syntax.tyInt Syntax.w8)),
-    ) (List._∷_ (
-      29,
-      Rows'.any-gone
-          (Syntax.tyStruct
-          (List._∷_ 38 (List._∷_ 91 (List._∷_ 93 List.[])))
-          (Syntax.tcons
-          (Syntax.tyRef Syntax.erased Syntax.mut (Syntax.tyInt Syntax.w8))
-          (Syntax.tcons (Syntax.tyInt Syntax.w64) Syntax.tnil))),
-    ) (List._∷_ (
-      30,
-      Rows'.any-gone (Syntax.tyRef Syntax.erased Syntax.mut (Syntax.tyInt Syntax.w8)),
-    ) (List._∷_ (
-      31,
-      Rows'.any-gone
-          (Syntax.tyStruct
-          (List._∷_ 38 (List._∷_ 91 (List._∷_ 93 List.[])))
-          (Syntax.tcons
-          (Syntax.tyRef Syntax.erased Syntax.mut (Syntax.tyInt Syntax.w8))
-          (Syntax.tcons (Syntax.tyInt Syntax.w64) Syntax.tnil))),
-    ) List.[])))))))))))))))
-
-abbrev pub t4 : List.List Row.Entry
-t4 = List._∷_ (0, Rows'.any-gone (Syntax.tyInt Syntax.w64)) (List._∷_ (
+t3 = List._∷_ (0, Rows.sc-here (Row.sInt Syntax.w64)) (List._∷_ (
   1,
-  Rows'.sslice
+  Rows.sslice
       (Referent.rtF (Referent.fInt Syntax.w8))
       (Syntax.tyRef (Syntax.named 0) Syntax.imm (Syntax.tyInt Syntax.w8))
       0,
 ) (List._∷_ (
   2,
-  Rows'.sslice
+  Rows.sslice
       (Referent.rtF (Referent.fInt Syntax.w64))
       (Syntax.tyRef (Syntax.named 1) Syntax.imm (Syntax.tyInt Syntax.w64))
       1,
-) (List._∷_ (3, Rows'.sc-here (Row.sInt Syntax.w64)) (List._∷_ (
+) (List._∷_ (3, Rows.any-gone (Syntax.tyInt Syntax.w64)) (List._∷_ (
   4,
-  Rows'.sslice
+  Rows.sslice
       (Referent.rtF (Referent.fInt Syntax.w64))
       (Syntax.tyRef (Syntax.named 2) Syntax.imm (Syntax.tyInt Syntax.w64))
       2,
 ) (List._∷_ (
   5,
-  Rows'.sslice
-      (Referent.rtF (Referent.fInt Syntax.w8))
-      (Syntax.tyRef (Syntax.named 3) Syntax.imm (Syntax.tyInt Syntax.w8))
-      3,
-) (List._∷_ (
-  6,
-  Mut.mslice
-      (Referent.rtF (Referent.fInt Syntax.w64))
-      (Syntax.tyRef (Syntax.named 4) Syntax.mut (Syntax.tyInt Syntax.w64))
-      4,
-) (List._∷_ (
-  7,
-  Mut.mslice
-      (Referent.rtF (Referent.fInt Syntax.w8))
-      (Syntax.tyRef (Syntax.named 5) Syntax.mut (Syntax.tyInt Syntax.w8))
-      5,
-) (List._∷_ (
-  8,
-  Mut.mslice
-      (Referent.rtF (Referent.fInt Syntax.w8))
-      (Syntax.tyRef (Syntax.named 6) Syntax.mut (Syntax.tyInt Syntax.w8))
-      6,
-) (List._∷_ (
-  9,
-  Mut.mslice
-      (Referent.rtF (Referent.fInt Syntax.w8))
-      (Syntax.tyRef (Syntax.named 7) Syntax.mut (Syntax.tyInt Syntax.w8))
-      7,
-) (List._∷_ (
-  10,
-  Mut.mslice
-      (Referent.rtF (Referent.fInt Syntax.w8))
-      (Syntax.tyRef (Syntax.named 8) Syntax.mut (Syntax.tyInt Syntax.w8))
-      8,
-)
-    (List._∷_
-    (11, Rows.arrF Elem.R 1024 0)
-    (List._∷_ (
-      12,
-      Rows'.any-gone
-          (Syntax.tyStruct
-          (List._∷_
-          114
-          (List._∷_
-          101
-          (List._∷_
-          99
-          (List._∷_
-          111
-          (List._∷_
-          114
-          (List._∷_
-          100
-          (List._∷_
-          115
-          (List._∷_
-          58
-          (List._∷_
-          58
-          (List._∷_
-          76
-          (List._∷_
-          105
-          (List._∷_
-          110
-          (List._∷_ 101 (List._∷_ 82 (List._∷_ 101 (List._∷_ 99 List.[]))))))))))))))))
-          (Syntax.tcons
-          (Syntax.tyInt Syntax.w64)
-          (Syntax.tcons
-          (Syntax.tyInt Syntax.w64)
-          (Syntax.tcons
-          (Syntax.tyStruct
-          (List._∷_
-          112
-          (List._∷_
-          108
-          (List._∷_
-          97
-          (List._∷_
-          99
-          (List._∷_
-          101
-          (List._∷_
-          58
-          (List._∷_
-          58
-          (List._∷_
-          82
-          (List._∷_
-          101
-          (List._∷_ 103 (List._∷_ 105 (List._∷_ 111 (List._∷_ 110 List.[])))))))))))))
-          (Syntax.tcons (Syntax.tyInt Syntax.w64) Syntax.tnil))
-          (Syntax.tcons (Syntax.tyInt Syntax.w64) Syntax.tnil))))),
-    ) (List._∷_ (13, Rows'.any-gone (Syntax.tyInt Syntax.w64)) (List._∷_ (
-      14,
-      Rows'.any-gone (Syntax.tyInt Syntax.w64),
-    ) (List._∷_ (15, Rows'.any-gone (Syntax.tyInt Syntax.w64)) List.[])))))))))))))))
-
-abbrev pub t5 : List.List Row.Entry
-t5 = List._∷_ (0, Rows'.any-gone (Syntax.tyInt Syntax.w64)) (List._∷_ (
-  1,
-  Rows'.sslice
-      (Referent.rtF (Referent.fInt Syntax.w8))
-      (Syntax.tyRef (Syntax.named 0) Syntax.imm (Syntax.tyInt Syntax.w8))
-      0,
-) (List._∷_ (
-  2,
-  Rows'.sslice
-      (Referent.rtF (Referent.fInt Syntax.w64))
-      (Syntax.tyRef (Syntax.named 1) Syntax.imm (Syntax.tyInt Syntax.w64))
-      1,
-) (List._∷_ (3, Rows'.sc-here (Row.sInt Syntax.w64)) (List._∷_ (
-  4,
-  Rows'.sslice
-      (Referent.rtF (Referent.fInt Syntax.w64))
-      (Syntax.tyRef (Syntax.named 2) Syntax.imm (Syntax.tyInt Syntax.w64))
-      2,
-) (List._∷_ (
-  5,
-  Rows'.sslice
-      (Referent.rtF (Referent.fInt Syntax.w8))
-      (Syntax.tyRef (Syntax.named 3) Syntax.imm (Syntax.tyInt Syntax.w8))
-      3,
-) (List._∷_ (
-  6,
-  Mut.mslice
-      (Referent.rtF (Referent.fInt Syntax.w64))
-      (Syntax.tyRef (Syntax.named 4) Syntax.mut (Syntax.tyInt Syntax.w64))
-      4,
-) (List._∷_ (
-  7,
-  Mut.mslice
-      (Referent.rtF (Referent.fInt Syntax.w8))
-      (Syntax.tyRef (Syntax.named 5) Syntax.mut (Syntax.tyInt Syntax.w8))
-      5,
-) (List._∷_ (
-  8,
-  Mut.mslice
-      (Referent.rtF (Referent.fInt Syntax.w8))
-      (Syntax.tyRef (Syntax.named 6) Syntax.mut (Syntax.tyInt Syntax.w8))
-      6,
-) (List._∷_ (
-  9,
-  Mut.mslice
-      (Referent.rtF (Referent.fInt Syntax.w8))
-      (Syntax.tyRef (Syntax.named 7) Syntax.mut (Syntax.tyInt Syntax.w8))
-      7,
-) (List._∷_ (
-  10,
-  Mut.mslice
-      (Referent.rtF (Referent.fInt Syntax.w8))
-      (Syntax.tyRef (Syntax.named 8) Syntax.mut (Syntax.tyInt Syntax.w8))
-      8,
-)
-    (List._∷_
-    (11, Rows.arrF Elem.R 1024 0)
-    (List._∷_ (12, Rows'.whole (Declared.row LineRec.the-type)) (List._∷_ (
-      13,
-      Rows'.any-gone (Syntax.tyInt Syntax.w64),
-    ) (List._∷_ (14, Rows'.any-gone (Syntax.tyInt Syntax.w64)) (List._∷_ (
-      15,
-      Rows'.any-gone (Syntax.tyInt Syntax.w64),
-    ) List.[])))))))))))))))
-
-abbrev pub t6 : List.List Row.Entry
-t6 = List._∷_ (0, Rows'.any-gone (Syntax.tyInt Syntax.w64)) (List._∷_ (
-  1,
-  Rows'.sslice
-      (Referent.rtF (Referent.fInt Syntax.w8))
-      (Syntax.tyRef (Syntax.named 0) Syntax.imm (Syntax.tyInt Syntax.w8))
-      0,
-) (List._∷_ (
-  2,
-  Rows'.sslice
-      (Referent.rtF (Referent.fInt Syntax.w64))
-      (Syntax.tyRef (Syntax.named 1) Syntax.imm (Syntax.tyInt Syntax.w64))
-      1,
-) (List._∷_ (3, Rows'.sc-here (Row.sInt Syntax.w64)) (List._∷_ (
-  4,
-  Rows'.sslice
-      (Referent.rtF (Referent.fInt Syntax.w64))
-      (Syntax.tyRef (Syntax.named 2) Syntax.imm (Syntax.tyInt Syntax.w64))
-      2,
-) (List._∷_ (
-  5,
-  Rows'.sslice
-      (Referent.rtF (Referent.fInt Syntax.w8))
-      (Syntax.tyRef (Syntax.named 3) Syntax.imm (Syntax.tyInt Syntax.w8))
-      3,
-) (List._∷_ (
-  6,
-  Mut.mslice
-      (Referent.rtF (Referent.fInt Syntax.w64))
-      (Syntax.tyRef (Syntax.named 4) Syntax.mut (Syntax.tyInt Syntax.w64))
-      4,
-) (List._∷_ (
-  7,
-  Mut.mslice
-      (Referent.rtF (Referent.fInt Syntax.w8))
-      (Syntax.tyRef (Syntax.named 5) Syntax.mut (Syntax.tyInt Syntax.w8))
-      5,
-) (List._∷_ (
-  8,
-  Mut.mslice
-      (Referent.rtF (Referent.fInt Syntax.w8))
-      (Syntax.tyRef (Syntax.named 6) Syntax.mut (Syntax.tyInt Syntax.w8))
-      6,
-) (List._∷_ (
-  9,
-  Mut.mslice
-      (Referent.rtF (Referent.fInt Syntax.w8))
-      (Syntax.tyRef (Syntax.named 7) Syntax.mut (Syntax.tyInt Syntax.w8))
-      7,
-) (List._∷_ (
-  10,
-  Mut.mslice
-      (Referent.rtF (Referent.fInt Syntax.w8))
-      (Syntax.tyRef (Syntax.named 8) Syntax.mut (Syntax.tyInt Syntax.w8))
-      8,
-)
-    (List._∷_
-    (11, Rows.arrF Elem.R 1024 0)
-    (List._∷_ (12, Rows'.whole (Declared.row LineRec.the-type)) (List._∷_ (
-      13,
-      Rows'.sc-here (Row.sInt Syntax.w64),
-    ) (List._∷_ (14, Rows'.any-gone (Syntax.tyInt Syntax.w64)) (List._∷_ (
-      15,
-      Rows'.any-gone (Syntax.tyInt Syntax.w64),
-    ) List.[])))))))))))))))
-
-abbrev pub t7 : List.List Row.Entry
-t7 = List._∷_ (0, Rows'.any-gone (Syntax.tyInt Syntax.w64)) (List._∷_ (
-  1,
-  Rows'.sslice
-      (Referent.rtF (Referent.fInt Syntax.w8))
-      (Syntax.tyRef (Syntax.named 0) Syntax.imm (Syntax.tyInt Syntax.w8))
-      0,
-) (List._∷_ (
-  2,
-  Rows'.sslice
-      (Referent.rtF (Referent.fInt Syntax.w64))
-      (Syntax.tyRef (Syntax.named 1) Syntax.imm (Syntax.tyInt Syntax.w64))
-      1,
-) (List._∷_ (3, Rows'.sc-here (Row.sInt Syntax.w64)) (List._∷_ (
-  4,
-  Rows'.sslice
-      (Referent.rtF (Referent.fInt Syntax.w64))
-      (Syntax.tyRef (Syntax.named 2) Syntax.imm (Syntax.tyInt Syntax.w64))
-      2,
-) (List._∷_ (
-  5,
-  Rows'.sslice
-      (Referent.rtF (Referent.fInt Syntax.w8))
-      (Syntax.tyRef (Syntax.named 3) Syntax.imm (Syntax.tyInt Syntax.w8))
-      3,
-) (List._∷_ (
-  6,
-  Mut.mslice
-      (Referent.rtF (Referent.fInt Syntax.w64))
-      (Syntax.tyRef (Syntax.named 4) Syntax.mut (Syntax.tyInt Syntax.w64))
-      4,
-) (List._∷_ (
-  7,
-  Mut.mslice
-      (Referent.rtF (Referent.fInt Syntax.w8))
-      (Syntax.tyRef (Syntax.named 5) Syntax.mut (Syntax.tyInt Syntax.w8))
-      5,
-) (List._∷_ (
-  8,
-  Mut.mslice
-      (Referent.rtF (Referent.fInt Syntax.w8))
-      (Syntax.tyRef (Syntax.named 6) Syntax.mut (Syntax.tyInt Syntax.w8))
-      6,
-) (List._∷_ (
-  9,
-  Mut.mslice
-      (Referent.rtF (Referent.fInt Syntax.w8))
-      (Syntax.tyRef (Syntax.named 7) Syntax.mut (Syntax.tyInt Syntax.w8))
-      7,
-) (List._∷_ (
-  10,
-  Mut.mslice
-      (Referent.rtF (Referent.fInt Syntax.w8))
-      (Syntax.tyRef (Syntax.named 8) Syntax.mut (Syntax.tyInt Syntax.w8))
-      8,
-)
-    (List._∷_
-    (11, Rows.arrF Elem.R 1024 0)
-    (List._∷_ (12, Rows'.whole (Declared.row LineRec.the-type)) (List._∷_ (
-      13,
-      Rows'.sc-here (Row.sInt Syntax.w64),
-    ) (List._∷_ (14, Rows'.sc-here (Row.sInt Syntax.w64)) (List._∷_ (
-      15,
-      Rows'.any-gone (Syntax.tyInt Syntax.w64),
-    ) List.[])))))))))))))))
-
-abbrev pub t8 : List.List Row.Entry
-t8 = List._∷_ (0, Rows'.any-gone (Syntax.tyInt Syntax.w64)) (List._∷_ (
-  1,
-  Rows'.sslice
-      (Referent.rtF (Referent.fInt Syntax.w8))
-      (Syntax.tyRef (Syntax.named 0) Syntax.imm (Syntax.tyInt Syntax.w8))
-      0,
-) (List._∷_ (
-  2,
-  Rows'.sslice
-      (Referent.rtF (Referent.fInt Syntax.w64))
-      (Syntax.tyRef (Syntax.named 1) Syntax.imm (Syntax.tyInt Syntax.w64))
-      1,
-) (List._∷_ (3, Rows'.sc-here (Row.sInt Syntax.w64)) (List._∷_ (
-  4,
-  Rows'.sslice
-      (Referent.rtF (Referent.fInt Syntax.w64))
-      (Syntax.tyRef (Syntax.named 2) Syntax.imm (Syntax.tyInt Syntax.w64))
-      2,
-) (List._∷_ (
-  5,
-  Rows'.sslice
-      (Referent.rtF (Referent.fInt Syntax.w8))
-      (Syntax.tyRef (Syntax.named 3) Syntax.imm (Syntax.tyInt Syntax.w8))
-      3,
-) (List._∷_ (
-  6,
-  Mut.mslice
-      (Referent.rtF (Referent.fInt Syntax.w64))
-      (Syntax.tyRef (Syntax.named 4) Syntax.mut (Syntax.tyInt Syntax.w64))
-      4,
-) (List._∷_ (
-  7,
-  Mut.mslice
-      (Referent.rtF (Referent.fInt Syntax.w8))
-      (Syntax.tyRef (Syntax.named 5) Syntax.mut (Syntax.tyInt Syntax.w8))
-      5,
-) (List._∷_ (
-  8,
-  Mut.mslice
-      (Referent.rtF (Referent.fInt Syntax.w8))
-      (Syntax.tyRef (Syntax.named 6) Syntax.mut (Syntax.tyInt Syntax.w8))
-      6,
-) (List._∷_ (
-  9,
-  Mut.mslice
-      (Referent.rtF (Referent.fInt Syntax.w8))
-      (Syntax.tyRef (Syntax.named 7) Syntax.mut (Syntax.tyInt Syntax.w8))
-      7,
-) (List._∷_ (
-  10,
-  Mut.mslice
-      (Referent.rtF (Referent.fInt Syntax.w8))
-      (Syntax.tyRef (Syntax.named 8) Syntax.mut (Syntax.tyInt Syntax.w8))
-      8,
-)
-    (List._∷_
-    (11, Rows.arrF Elem.R 1024 0)
-    (List._∷_ (12, Rows'.whole (Declared.row LineRec.the-type)) (List._∷_ (
-      13,
-      Rows'.sc-here (Row.sInt Syntax.w64),
-    ) (List._∷_ (14, Rows'.sc-here (Row.sInt Syntax.w64)) (List._∷_ (
-      15,
-      Rows'.sc-here (Row.sInt Syntax.w64),
-    ) List.[])))))))))))))))
-
-abbrev pub t9 : List.List Row.Entry
-t9 = List._∷_ (0, Rows'.any-gone (Syntax.tyInt Syntax.w64)) (List._∷_ (
-  1,
-  Rows'.sslice
-      (Referent.rtF (Referent.fInt Syntax.w8))
-      (Syntax.tyRef (Syntax.named 0) Syntax.imm (Syntax.tyInt Syntax.w8))
-      0,
-) (List._∷_ (
-  2,
-  Rows'.sslice
-      (Referent.rtF (Referent.fInt Syntax.w64))
-      (Syntax.tyRef (Syntax.named 1) Syntax.imm (Syntax.tyInt Syntax.w64))
-      1,
-) (List._∷_ (3, Rows'.sc-here (Row.sInt Syntax.w64)) (List._∷_ (
-  4,
-  Rows'.sslice
-      (Referent.rtF (Referent.fInt Syntax.w64))
-      (Syntax.tyRef (Syntax.named 2) Syntax.imm (Syntax.tyInt Syntax.w64))
-      2,
-) (List._∷_ (
-  5,
-  Rows'.sslice
+  Rows.sslice
       (Referent.rtF (Referent.fInt Syntax.w8))
       (Syntax.tyRef (Syntax.named 3) Syntax.imm (Syntax.tyInt Syntax.w8))
       3,
@@ -1582,10 +959,16 @@ t9 = List._∷_ (0, Rows'.any-gone (Syntax.tyInt Syntax.w64)) (List._∷_ (
       8,
 ) (List._∷_ (
   11,
-  Rows'.any-gone (Syntax.tyArray Elem.held 1024),
-) (List._∷_ (
-  12,
-  Rows'.any-gone
+  Mut.mslice
+      Elem.R
+      (Syntax.tyRef (Syntax.named 9) Syntax.mut Elem.ty)
+      9,
+) (List._∷_ (12, Rows.any-gone (Syntax.tyInt Syntax.w64)) (List._∷_ (
+  13,
+  Rows.any-gone (Syntax.tyInt Syntax.w64),
+) (List._∷_ (14, Rows.any-gone (Syntax.tyInt Syntax.w64)) (List._∷_ (
+  15,
+  Rows.any-gone
       (Syntax.tyStruct
       (List._∷_
       114
@@ -1635,74 +1018,407 @@ t9 = List._∷_ (0, Rows'.any-gone (Syntax.tyInt Syntax.w64)) (List._∷_ (
       (List._∷_ 101 (List._∷_ 103 (List._∷_ 105 (List._∷_ 111 (List._∷_ 110 List.[])))))))))))))
       (Syntax.tcons (Syntax.tyInt Syntax.w64) Syntax.tnil))
       (Syntax.tcons (Syntax.tyInt Syntax.w64) Syntax.tnil))))),
-) (List._∷_ (13, Rows'.sc-here (Row.sInt Syntax.w64)) (List._∷_ (
-  14,
-  Rows'.sc-here (Row.sInt Syntax.w64),
-) (List._∷_ (15, Rows'.sc-here (Row.sInt Syntax.w64)) List.[])))))))))))))))
+) List.[])))))))))))))))
 
-abbrev pub t10 : List.List Row.Entry
-t10 = List._∷_ (
-  16,
-  Rows'.any-gone (Syntax.tyArray Elem.held 1024),
-) (List._∷_ (17, Rows'.sc-here Row.sBool) (List._∷_ (
-  18,
-  Rows'.any-gone
-      (Syntax.tyRef
-      Syntax.erased
-      Syntax.mut
-      (Syntax.tyArray Elem.ty 1024)),
+abbrev pub t4 : List.List Row.Entry
+t4 = List._∷_ (0, Rows.any-gone (Syntax.tyInt Syntax.w64)) (List._∷_ (
+  1,
+  Rows.sslice
+      (Referent.rtF (Referent.fInt Syntax.w8))
+      (Syntax.tyRef (Syntax.named 0) Syntax.imm (Syntax.tyInt Syntax.w8))
+      0,
 ) (List._∷_ (
-  19,
-  Rows'.any-gone
+  2,
+  Rows.sslice
+      (Referent.rtF (Referent.fInt Syntax.w64))
+      (Syntax.tyRef (Syntax.named 1) Syntax.imm (Syntax.tyInt Syntax.w64))
+      1,
+) (List._∷_ (3, Rows.sc-here (Row.sInt Syntax.w64)) (List._∷_ (
+  4,
+  Rows.sslice
+      (Referent.rtF (Referent.fInt Syntax.w64))
+      (Syntax.tyRef (Syntax.named 2) Syntax.imm (Syntax.tyInt Syntax.w64))
+      2,
+) (List._∷_ (
+  5,
+  Rows.sslice
+      (Referent.rtF (Referent.fInt Syntax.w8))
+      (Syntax.tyRef (Syntax.named 3) Syntax.imm (Syntax.tyInt Syntax.w8))
+      3,
+) (List._∷_ (
+  6,
+  Mut.mslice
+      (Referent.rtF (Referent.fInt Syntax.w64))
+      (Syntax.tyRef (Syntax.named 4) Syntax.mut (Syntax.tyInt Syntax.w64))
+      4,
+) (List._∷_ (
+  7,
+  Mut.mslice
+      (Referent.rtF (Referent.fInt Syntax.w8))
+      (Syntax.tyRef (Syntax.named 5) Syntax.mut (Syntax.tyInt Syntax.w8))
+      5,
+) (List._∷_ (
+  8,
+  Mut.mslice
+      (Referent.rtF (Referent.fInt Syntax.w8))
+      (Syntax.tyRef (Syntax.named 6) Syntax.mut (Syntax.tyInt Syntax.w8))
+      6,
+) (List._∷_ (
+  9,
+  Mut.mslice
+      (Referent.rtF (Referent.fInt Syntax.w8))
+      (Syntax.tyRef (Syntax.named 7) Syntax.mut (Syntax.tyInt Syntax.w8))
+      7,
+) (List._∷_ (
+  10,
+  Mut.mslice
+      (Referent.rtF (Referent.fInt Syntax.w8))
+      (Syntax.tyRef (Syntax.named 8) Syntax.mut (Syntax.tyInt Syntax.w8))
+      8,
+) (List._∷_ (
+  11,
+  Mut.mslice
+      Elem.R
+      (Syntax.tyRef (Syntax.named 9) Syntax.mut Elem.ty)
+      9,
+) (List._∷_ (12, Rows.sc-here (Row.sInt Syntax.w64)) (List._∷_ (
+  13,
+  Rows.any-gone (Syntax.tyInt Syntax.w64),
+) (List._∷_ (14, Rows.any-gone (Syntax.tyInt Syntax.w64)) (List._∷_ (
+  15,
+  Rows.any-gone
+      (Syntax.tyStruct
+      (List._∷_
+      114
+      (List._∷_
+      101
+      (List._∷_
+      99
+      (List._∷_
+      111
+      (List._∷_
+      114
+      (List._∷_
+      100
+      (List._∷_
+      115
+      (List._∷_
+      58
+      (List._∷_
+      58
+      (List._∷_
+      76
+      (List._∷_
+      105
+      (List._∷_ 110 (List._∷_ 101 (List._∷_ 82 (List._∷_ 101 (List._∷_ 99 List.[]))))))))))))))))
+      (Syntax.tcons
+      (Syntax.tyInt Syntax.w64)
+      (Syntax.tcons
+      (Syntax.tyInt Syntax.w64)
+      (Syntax.tcons
+      (Syntax.tyStruct
+      (List._∷_
+      112
+      (List._∷_
+      108
+      (List._∷_
+      97
+      (List._∷_
+      99
+      (List._∷_
+      101
+      (List._∷_
+      58
+      (List._∷_
+      58
+      (List._∷_
+      82
+      (List._∷_ 101 (List._∷_ 103 (List._∷_ 105 (List._∷_ 111 (List._∷_ 110 List.[])))))))))))))
+      (Syntax.tcons (Syntax.tyInt Syntax.w64) Syntax.tnil))
+      (Syntax.tcons (Syntax.tyInt Syntax.w64) Syntax.tnil))))),
+) List.[])))))))))))))))
+
+abbrev pub t5 : List.List Row.Entry
+t5 = List._∷_ (0, Rows.any-gone (Syntax.tyInt Syntax.w64)) (List._∷_ (
+  1,
+  Rows.sslice
+      (Referent.rtF (Referent.fInt Syntax.w8))
+      (Syntax.tyRef (Syntax.named 0) Syntax.imm (Syntax.tyInt Syntax.w8))
+      0,
+) (List._∷_ (
+  2,
+  Rows.sslice
+      (Referent.rtF (Referent.fInt Syntax.w64))
+      (Syntax.tyRef (Syntax.named 1) Syntax.imm (Syntax.tyInt Syntax.w64))
+      1,
+) (List._∷_ (3, Rows.sc-here (Row.sInt Syntax.w64)) (List._∷_ (
+  4,
+  Rows.sslice
+      (Referent.rtF (Referent.fInt Syntax.w64))
+      (Syntax.tyRef (Syntax.named 2) Syntax.imm (Syntax.tyInt Syntax.w64))
+      2,
+) (List._∷_ (
+  5,
+  Rows.sslice
+      (Referent.rtF (Referent.fInt Syntax.w8))
+      (Syntax.tyRef (Syntax.named 3) Syntax.imm (Syntax.tyInt Syntax.w8))
+      3,
+) (List._∷_ (
+  6,
+  Mut.mslice
+      (Referent.rtF (Referent.fInt Syntax.w64))
+      (Syntax.tyRef (Syntax.named 4) Syntax.mut (Syntax.tyInt Syntax.w64))
+      4,
+) (List._∷_ (
+  7,
+  Mut.mslice
+      (Referent.rtF (Referent.fInt Syntax.w8))
+      (Syntax.tyRef (Syntax.named 5) Syntax.mut (Syntax.tyInt Syntax.w8))
+      5,
+) (List._∷_ (
+  8,
+  Mut.mslice
+      (Referent.rtF (Referent.fInt Syntax.w8))
+      (Syntax.tyRef (Syntax.named 6) Syntax.mut (Syntax.tyInt Syntax.w8))
+      6,
+) (List._∷_ (
+  9,
+  Mut.mslice
+      (Referent.rtF (Referent.fInt Syntax.w8))
+      (Syntax.tyRef (Syntax.named 7) Syntax.mut (Syntax.tyInt Syntax.w8))
+      7,
+) (List._∷_ (
+  10,
+  Mut.mslice
+      (Referent.rtF (Referent.fInt Syntax.w8))
+      (Syntax.tyRef (Syntax.named 8) Syntax.mut (Syntax.tyInt Syntax.w8))
+      8,
+) (List._∷_ (
+  11,
+  Mut.mslice
+      Elem.R
+      (Syntax.tyRef (Syntax.named 9) Syntax.mut Elem.ty)
+      9,
+) (List._∷_ (12, Rows.sc-here (Row.sInt Syntax.w64)) (List._∷_ (
+  13,
+  Rows.sc-here (Row.sInt Syntax.w64),
+) (List._∷_ (14, Rows.any-gone (Syntax.tyInt Syntax.w64)) (List._∷_ (
+  15,
+  Rows.any-gone
+      (Syntax.tyStruct
+      (List._∷_
+      114
+      (List._∷_
+      101
+      (List._∷_
+      99
+      (List._∷_
+      111
+      (List._∷_
+      114
+      (List._∷_
+      100
+      (List._∷_
+      115
+      (List._∷_
+      58
+      (List._∷_
+      58
+      (List._∷_
+      76
+      (List._∷_
+      105
+      (List._∷_ 110 (List._∷_ 101 (List._∷_ 82 (List._∷_ 101 (List._∷_ 99 List.[]))))))))))))))))
+      (Syntax.tcons
+      (Syntax.tyInt Syntax.w64)
+      (Syntax.tcons
+      (Syntax.tyInt Syntax.w64)
+      (Syntax.tcons
+      (Syntax.tyStruct
+      (List._∷_
+      112
+      (List._∷_
+      108
+      (List._∷_
+      97
+      (List._∷_
+      99
+      (List._∷_
+      101
+      (List._∷_
+      58
+      (List._∷_
+      58
+      (List._∷_
+      82
+      (List._∷_ 101 (List._∷_ 103 (List._∷_ 105 (List._∷_ 111 (List._∷_ 110 List.[])))))))))))))
+      (Syntax.tcons (Syntax.tyInt Syntax.w64) Syntax.tnil))
+      (Syntax.tcons (Syntax.tyInt Syntax.w64) Syntax.tnil))))),
+) List.[])))))))))))))))
+
+abbrev pub t6 : List.List Row.Entry
+t6 = List._∷_ (0, Rows.any-gone (Syntax.tyInt Syntax.w64)) (List._∷_ (
+  1,
+  Rows.sslice
+      (Referent.rtF (Referent.fInt Syntax.w8))
+      (Syntax.tyRef (Syntax.named 0) Syntax.imm (Syntax.tyInt Syntax.w8))
+      0,
+) (List._∷_ (
+  2,
+  Rows.sslice
+      (Referent.rtF (Referent.fInt Syntax.w64))
+      (Syntax.tyRef (Syntax.named 1) Syntax.imm (Syntax.tyInt Syntax.w64))
+      1,
+) (List._∷_ (3, Rows.sc-here (Row.sInt Syntax.w64)) (List._∷_ (
+  4,
+  Rows.sslice
+      (Referent.rtF (Referent.fInt Syntax.w64))
+      (Syntax.tyRef (Syntax.named 2) Syntax.imm (Syntax.tyInt Syntax.w64))
+      2,
+) (List._∷_ (
+  5,
+  Rows.sslice
+      (Referent.rtF (Referent.fInt Syntax.w8))
+      (Syntax.tyRef (Syntax.named 3) Syntax.imm (Syntax.tyInt Syntax.w8))
+      3,
+) (List._∷_ (
+  6,
+  Mut.mslice
+      (Referent.rtF (Referent.fInt Syntax.w64))
+      (Syntax.tyRef (Syntax.named 4) Syntax.mut (Syntax.tyInt Syntax.w64))
+      4,
+) (List._∷_ (
+  7,
+  Mut.mslice
+      (Referent.rtF (Referent.fInt Syntax.w8))
+      (Syntax.tyRef (Syntax.named 5) Syntax.mut (Syntax.tyInt Syntax.w8))
+      5,
+) (List._∷_ (
+  8,
+  Mut.mslice
+      (Referent.rtF (Referent.fInt Syntax.w8))
+      (Syntax.tyRef (Syntax.named 6) Syntax.mut (Syntax.tyInt Syntax.w8))
+      6,
+) (List._∷_ (
+  9,
+  Mut.mslice
+      (Referent.rtF (Referent.fInt Syntax.w8))
+      (Syntax.tyRef (Syntax.named 7) Syntax.mut (Syntax.tyInt Syntax.w8))
+      7,
+) (List._∷_ (
+  10,
+  Mut.mslice
+      (Referent.rtF (Referent.fInt Syntax.w8))
+      (Syntax.tyRef (Syntax.named 8) Syntax.mut (Syntax.tyInt Syntax.w8))
+      8,
+) (List._∷_ (
+  11,
+  Mut.mslice
+      Elem.R
+      (Syntax.tyRef (Syntax.named 9) Syntax.mut Elem.ty)
+      9,
+) (List._∷_ (12, Rows.sc-here (Row.sInt Syntax.w64)) (List._∷_ (
+  13,
+  Rows.sc-here (Row.sInt Syntax.w64),
+) (List._∷_ (14, Rows.sc-here (Row.sInt Syntax.w64)) (List._∷_ (
+  15,
+  Rows.any-gone
+      (Syntax.tyStruct
+      (List._∷_
+      114
+      (List._∷_
+      101
+      (List._∷_
+      99
+      (List._∷_
+      111
+      (List._∷_
+      114
+      (List._∷_
+      100
+      (List._∷_
+      115
+      (List._∷_
+      58
+      (List._∷_
+      58
+      (List._∷_
+      76
+      (List._∷_
+      105
+      (List._∷_ 110 (List._∷_ 101 (List._∷_ 82 (List._∷_ 101 (List._∷_ 99 List.[]))))))))))))))))
+      (Syntax.tcons
+      (Syntax.tyInt Syntax.w64)
+      (Syntax.tcons
+      (Syntax.tyInt Syntax.w64)
+      (Syntax.tcons
+      (Syntax.tyStruct
+      (List._∷_
+      112
+      (List._∷_
+      108
+      (List._∷_
+      97
+      (List._∷_
+      99
+      (List._∷_
+      101
+      (List._∷_
+      58
+      (List._∷_
+      58
+      (List._∷_
+      82
+      (List._∷_ 101 (List._∷_ 103 (List._∷_ 105 (List._∷_ 111 (List._∷_ 110 List.[])))))))))))))
+      (Syntax.tcons (Syntax.tyInt Syntax.w64) Syntax.tnil))
+      (Syntax.tcons (Syntax.tyInt Syntax.w64) Syntax.tnil))))),
+) List.[])))))))))))))))
+
+abbrev pub t7 : List.List Row.Entry
+t7 = List._∷_ (16, Rows.sc-here Row.sBool) (List._∷_ (
+  17,
+  Rows.any-gone
+      (Syntax.tyRef Syntax.erased Syntax.mut Elem.ty),
+) (List._∷_ (
+  18,
+  Rows.any-gone
       (Syntax.tyStruct
       (List._∷_ 38 (List._∷_ 91 (List._∷_ 93 List.[])))
       (Syntax.tcons
       (Syntax.tyRef Syntax.erased Syntax.mut Elem.ty)
       (Syntax.tcons (Syntax.tyInt Syntax.w64) Syntax.tnil))),
 ) (List._∷_ (
-  20,
-  Rows'.any-gone
-      (Syntax.tyRef
-      Syntax.erased
-      Syntax.imm
-      (Syntax.tyArray Elem.ty 1024)),
+  19,
+  Rows.any-gone
+      (Syntax.tyRef Syntax.erased Syntax.imm Elem.ty),
 ) (List._∷_ (
-  21,
-  Rows'.any-gone
+  20,
+  Rows.any-gone
       (Syntax.tyStruct
       (List._∷_ 38 (List._∷_ 91 (List._∷_ 93 List.[])))
       (Syntax.tcons
       (Syntax.tyRef Syntax.erased Syntax.imm Elem.ty)
       (Syntax.tcons (Syntax.tyInt Syntax.w64) Syntax.tnil))),
+) (List._∷_ (21, Rows.any-gone (Syntax.tyInt Syntax.w64)) (List._∷_ (
+  22,
+  Rows.any-gone (Syntax.tyInt Syntax.w64),
+) (List._∷_ (23, Rows.any-gone (Syntax.tyInt Syntax.w64)) (List._∷_ (
+  24,
+  Rows.any-gone (Syntax.tyRef Syntax.erased Syntax.mut (Syntax.tyInt Syntax.w64)),
+) (List._∷_ (
+  25,
+  Rows.any-gone
+      (Syntax.tyStruct
+      (List._∷_ 38 (List._∷_ 91 (List._∷_ 93 List.[])))
+      (Syntax.tcons
+      (Syntax.tyRef Syntax.erased Syntax.mut (Syntax.tyInt Syntax.w64))
+      (Syntax.tcons (Syntax.tyInt Syntax.w64) Syntax.tnil))),
 )
+    (List._∷_
+    (26, Rows.any-gone (Syntax.tyRef Syntax.erased Syntax.mut (Syntax.tyInt Syntax.w8)))
     (List._∷_ (
-      22,
-      Rows'.any-gone (Syntax.tyRef Syntax.erased Syntax.mut (Syntax.tyInt Syntax.w64)),
-    ) (List._∷_ (
-      23,
-      Rows'.any-gone
-          (Syntax.tyStruct
-          (List._∷_ 38 (List._∷_ 91 (List._∷_ 93 List.[])))
-          (Syntax.tcons
-          (Syntax.tyRef Syntax.erased Syntax.mut (Syntax.tyInt Syntax.w64))
-          (Syntax.tcons (Syntax.tyInt Syntax.w64) Syntax.tnil))),
-    ) (List._∷_ (
-      24,
-      Rows'.any-gone (Syntax.tyRef Syntax.erased Syntax.mut (Syntax.tyInt Syntax.w8)),
-    ) (List._∷_ (
-      25,
-      Rows'.any-gone
-          (Syntax.tyStruct
-          (List._∷_ 38 (List._∷_ 91 (List._∷_ 93 List.[])))
-          (Syntax.tcons
-          (Syntax.tyRef Syntax.erased Syntax.mut (Syntax.tyInt Syntax.w8))
-          (Syntax.tcons (Syntax.tyInt Syntax.w64) Syntax.tnil))),
-    ) (List._∷_ (
-      26,
-      Rows'.any-gone (Syntax.tyRef Syntax.erased Syntax.mut (Syntax.tyInt Syntax.w8)),
-    ) (List._∷_ (
       27,
-      Rows'.any-gone
+      Rows.any-gone
           (Syntax.tyStruct
           (List._∷_ 38 (List._∷_ 91 (List._∷_ 93 List.[])))
           (Syntax.tcons
@@ -1710,10 +1426,10 @@ t10 = List._∷_ (
           (Syntax.tcons (Syntax.tyInt Syntax.w64) Syntax.tnil))),
     ) (List._∷_ (
       28,
-      Rows'.any-gone (Syntax.tyRef Syntax.erased Syntax.mut (Syntax.tyInt Syntax.w8)),
+      Rows.any-gone (Syntax.tyRef Syntax.erased Syntax.mut (Syntax.tyInt Syntax.w8)),
     ) (List._∷_ (
       29,
-      Rows'.any-gone
+      Rows.any-gone
           (Syntax.tyStruct
           (List._∷_ 38 (List._∷_ 91 (List._∷_ 93 List.[])))
           (Syntax.tcons
@@ -1721,10 +1437,278 @@ t10 = List._∷_ (
           (Syntax.tcons (Syntax.tyInt Syntax.w64) Syntax.tnil))),
     ) (List._∷_ (
       30,
-      Rows'.any-gone (Syntax.tyRef Syntax.erased Syntax.mut (Syntax.tyInt Syntax.w8)),
+      Rows.any-gone (Syntax.tyRef Syntax.erased Syntax.mut (Syntax.tyInt Syntax.w8)),
     ) (List._∷_ (
       31,
-      Rows'.any-gone
+      Rows.any-gone
+          (Syntax.tyStruct
+          (List._∷_ 38 (List._∷_ 91 (List._∷_ 93 List.[])))
+          (Syntax.tcons
+          (Syntax.tyRef Syntax.erased Syntax.mut (Syntax.tyInt Syntax.w8))
+          (Syntax.tcons (Syntax.tyInt Syntax.w64) Syntax.tnil))),
+    ) List.[])))))))))))))))
+
+abbrev pub t8 : List.List Row.Entry
+t8 = List._∷_ (0, Rows.any-gone (Syntax.tyInt Syntax.w64)) (List._∷_ (
+  1,
+  Rows.sslice
+      (Referent.rtF (Referent.fInt Syntax.w8))
+      (Syntax.tyRef (Syntax.named 0) Syntax.imm (Syntax.tyInt Syntax.w8))
+      0,
+) (List._∷_ (
+  2,
+  Rows.sslice
+      (Referent.rtF (Referent.fInt Syntax.w64))
+      (Syntax.tyRef (Syntax.named 1) Syntax.imm (Syntax.tyInt Syntax.w64))
+      1,
+) (List._∷_ (3, Rows.sc-here (Row.sInt Syntax.w64)) (List._∷_ (
+  4,
+  Rows.sslice
+      (Referent.rtF (Referent.fInt Syntax.w64))
+      (Syntax.tyRef (Syntax.named 2) Syntax.imm (Syntax.tyInt Syntax.w64))
+      2,
+) (List._∷_ (
+  5,
+  Rows.sslice
+      (Referent.rtF (Referent.fInt Syntax.w8))
+      (Syntax.tyRef (Syntax.named 3) Syntax.imm (Syntax.tyInt Syntax.w8))
+      3,
+) (List._∷_ (
+  6,
+  Mut.mslice
+      (Referent.rtF (Referent.fInt Syntax.w64))
+      (Syntax.tyRef (Syntax.named 4) Syntax.mut (Syntax.tyInt Syntax.w64))
+      4,
+) (List._∷_ (
+  7,
+  Mut.mslice
+      (Referent.rtF (Referent.fInt Syntax.w8))
+      (Syntax.tyRef (Syntax.named 5) Syntax.mut (Syntax.tyInt Syntax.w8))
+      5,
+) (List._∷_ (
+  8,
+  Mut.mslice
+      (Referent.rtF (Referent.fInt Syntax.w8))
+      (Syntax.tyRef (Syntax.named 6) Syntax.mut (Syntax.tyInt Syntax.w8))
+      6,
+) (List._∷_ (
+  9,
+  Mut.mslice
+      (Referent.rtF (Referent.fInt Syntax.w8))
+      (Syntax.tyRef (Syntax.named 7) Syntax.mut (Syntax.tyInt Syntax.w8))
+      7,
+) (List._∷_ (
+  10,
+  Mut.mslice
+      (Referent.rtF (Referent.fInt Syntax.w8))
+      (Syntax.tyRef (Syntax.named 8) Syntax.mut (Syntax.tyInt Syntax.w8))
+      8,
+) (List._∷_ (
+  11,
+  Relend.mslice-owed
+      Elem.R
+      (Syntax.tyRef (Syntax.named 9) Syntax.mut Elem.ty)
+      9
+      10
+      Row.off,
+) (List._∷_ (12, Rows.sc-here (Row.sInt Syntax.w64)) (List._∷_ (
+  13,
+  Rows.sc-here (Row.sInt Syntax.w64),
+) (List._∷_ (14, Rows.sc-here (Row.sInt Syntax.w64)) (List._∷_ (
+  15,
+  Rows.any-gone
+      (Syntax.tyStruct
+      (List._∷_
+      114
+      (List._∷_
+      101
+      (List._∷_
+      99
+      (List._∷_
+      111
+      (List._∷_
+      114
+      (List._∷_
+      100
+      (List._∷_
+      115
+      (List._∷_
+      58
+      (List._∷_
+      58
+      (List._∷_
+      76
+      (List._∷_
+      105
+      (List._∷_ 110 (List._∷_ 101 (List._∷_ 82 (List._∷_ 101 (List._∷_ 99 List.[]))))))))))))))))
+      (Syntax.tcons
+      (Syntax.tyInt Syntax.w64)
+      (Syntax.tcons
+      (Syntax.tyInt Syntax.w64)
+      (Syntax.tcons
+      (Syntax.tyStruct
+      (List._∷_
+      112
+      (List._∷_
+      108
+      (List._∷_
+      97
+      (List._∷_
+      99
+      (List._∷_
+      101
+      (List._∷_
+      58
+      (List._∷_
+      58
+      (List._∷_
+      82
+      (List._∷_ 101 (List._∷_ 103 (List._∷_ 105 (List._∷_ 111 (List._∷_ 110 List.[])))))))))))))
+      (Syntax.tcons (Syntax.tyInt Syntax.w64) Syntax.tnil))
+      (Syntax.tcons (Syntax.tyInt Syntax.w64) Syntax.tnil))))),
+) List.[])))))))))))))))
+
+abbrev pub t9 : List.List Row.Entry
+t9 = List._∷_ (16, Rows.any-gone Syntax.tyBool) (List._∷_ (
+  17,
+  Relend.msptr
+      Elem.R
+      (Syntax.tyRef Syntax.erased Syntax.mut Elem.ty)
+      10,
+) (List._∷_ (
+  18,
+  Rows.any-gone
+      (Syntax.tyStruct
+      (List._∷_ 38 (List._∷_ 91 (List._∷_ 93 List.[])))
+      (Syntax.tcons
+      (Syntax.tyRef Syntax.erased Syntax.mut Elem.ty)
+      (Syntax.tcons (Syntax.tyInt Syntax.w64) Syntax.tnil))),
+) (List._∷_ (
+  19,
+  Rows.any-gone
+      (Syntax.tyRef Syntax.erased Syntax.imm Elem.ty),
+) (List._∷_ (
+  20,
+  Rows.any-gone
+      (Syntax.tyStruct
+      (List._∷_ 38 (List._∷_ 91 (List._∷_ 93 List.[])))
+      (Syntax.tcons
+      (Syntax.tyRef Syntax.erased Syntax.imm Elem.ty)
+      (Syntax.tcons (Syntax.tyInt Syntax.w64) Syntax.tnil))),
+) (List._∷_ (21, Rows.any-gone (Syntax.tyInt Syntax.w64)) (List._∷_ (
+  22,
+  Rows.any-gone (Syntax.tyInt Syntax.w64),
+) (List._∷_ (23, Rows.any-gone (Syntax.tyInt Syntax.w64)) (List._∷_ (
+  24,
+  Rows.any-gone (Syntax.tyRef Syntax.erased Syntax.mut (Syntax.tyInt Syntax.w64)),
+) (List._∷_ (
+  25,
+  Rows.any-gone
+      (Syntax.tyStruct
+      (List._∷_ 38 (List._∷_ 91 (List._∷_ 93 List.[])))
+      (Syntax.tcons
+      (Syntax.tyRef Syntax.erased Syntax.mut (Syntax.tyInt Syntax.w64))
+      (Syntax.tcons (Syntax.tyInt Syntax.w64) Syntax.tnil))),
+)
+    (List._∷_
+    (26, Rows.any-gone (Syntax.tyRef Syntax.erased Syntax.mut (Syntax.tyInt Syntax.w8)))
+    (List._∷_ (
+      27,
+      Rows.any-gone
+          (Syntax.tyStruct
+          (List._∷_ 38 (List._∷_ 91 (List._∷_ 93 List.[])))
+          (Syntax.tcons
+          (Syntax.tyRef Syntax.erased Syntax.mut (Syntax.tyInt Syntax.w8))
+          (Syntax.tcons (Syntax.tyInt Syntax.w64) Syntax.tnil))),
+    ) (List._∷_ (
+      28,
+      Rows.any-gone (Syntax.tyRef Syntax.erased Syntax.mut (Syntax.tyInt Syntax.w8)),
+    ) (List._∷_ (
+      29,
+      Rows.any-gone
+          (Syntax.tyStruct
+          (List._∷_ 38 (List._∷_ 91 (List._∷_ 93 List.[])))
+          (Syntax.tcons
+          (Syntax.tyRef Syntax.erased Syntax.mut (Syntax.tyInt Syntax.w8))
+          (Syntax.tcons (Syntax.tyInt Syntax.w64) Syntax.tnil))),
+    ) (List._∷_ (
+      30,
+      Rows.any-gone (Syntax.tyRef Syntax.erased Syntax.mut (Syntax.tyInt Syntax.w8)),
+    ) (List._∷_ (
+      31,
+      Rows.any-gone
+          (Syntax.tyStruct
+          (List._∷_ 38 (List._∷_ 91 (List._∷_ 93 List.[])))
+          (Syntax.tcons
+          (Syntax.tyRef Syntax.erased Syntax.mut (Syntax.tyInt Syntax.w8))
+          (Syntax.tcons (Syntax.tyInt Syntax.w64) Syntax.tnil))),
+    ) List.[])))))))))))))))
+
+abbrev pub t10 : List.List Row.Entry
+t10 = List._∷_ (16, Rows.any-gone Syntax.tyBool) (List._∷_ (
+  17,
+  Rows.any-gone
+      (Syntax.tyRef Syntax.erased Syntax.mut Elem.ty),
+) (List._∷_ (
+  18,
+  Mut.mslice
+      Elem.R
+      (Syntax.tyRef Syntax.erased Syntax.mut Elem.ty)
+      10,
+) (List._∷_ (
+  19,
+  Rows.any-gone
+      (Syntax.tyRef Syntax.erased Syntax.imm Elem.ty),
+) (List._∷_ (
+  20,
+  Rows.any-gone
+      (Syntax.tyStruct
+      (List._∷_ 38 (List._∷_ 91 (List._∷_ 93 List.[])))
+      (Syntax.tcons
+      (Syntax.tyRef Syntax.erased Syntax.imm Elem.ty)
+      (Syntax.tcons (Syntax.tyInt Syntax.w64) Syntax.tnil))),
+) (List._∷_ (21, Rows.any-gone (Syntax.tyInt Syntax.w64)) (List._∷_ (
+  22,
+  Rows.any-gone (Syntax.tyInt Syntax.w64),
+) (List._∷_ (23, Rows.any-gone (Syntax.tyInt Syntax.w64)) (List._∷_ (
+  24,
+  Rows.any-gone (Syntax.tyRef Syntax.erased Syntax.mut (Syntax.tyInt Syntax.w64)),
+) (List._∷_ (
+  25,
+  Rows.any-gone
+      (Syntax.tyStruct
+      (List._∷_ 38 (List._∷_ 91 (List._∷_ 93 List.[])))
+      (Syntax.tcons
+      (Syntax.tyRef Syntax.erased Syntax.mut (Syntax.tyInt Syntax.w64))
+      (Syntax.tcons (Syntax.tyInt Syntax.w64) Syntax.tnil))),
+)
+    (List._∷_
+    (26, Rows.any-gone (Syntax.tyRef Syntax.erased Syntax.mut (Syntax.tyInt Syntax.w8)))
+    (List._∷_ (
+      27,
+      Rows.any-gone
+          (Syntax.tyStruct
+          (List._∷_ 38 (List._∷_ 91 (List._∷_ 93 List.[])))
+          (Syntax.tcons
+          (Syntax.tyRef Syntax.erased Syntax.mut (Syntax.tyInt Syntax.w8))
+          (Syntax.tcons (Syntax.tyInt Syntax.w64) Syntax.tnil))),
+    ) (List._∷_ (
+      28,
+      Rows.any-gone (Syntax.tyRef Syntax.erased Syntax.mut (Syntax.tyInt Syntax.w8)),
+    ) (List._∷_ (
+      29,
+      Rows.any-gone
+          (Syntax.tyStruct
+          (List._∷_ 38 (List._∷_ 91 (List._∷_ 93 List.[])))
+          (Syntax.tcons
+          (Syntax.tyRef Syntax.erased Syntax.mut (Syntax.tyInt Syntax.w8))
+          (Syntax.tcons (Syntax.tyInt Syntax.w64) Syntax.tnil))),
+    ) (List._∷_ (
+      30,
+      Rows.any-gone (Syntax.tyRef Syntax.erased Syntax.mut (Syntax.tyInt Syntax.w8)),
+    ) (List._∷_ (
+      31,
+      Rows.any-gone
           (Syntax.tyStruct
           (List._∷_ 38 (List._∷_ 91 (List._∷_ 93 List.[])))
           (Syntax.tcons
@@ -1733,202 +1717,47 @@ t10 = List._∷_ (
     ) List.[])))))))))))))))
 
 abbrev pub t11 : List.List Row.Entry
-t11 = List._∷_ (0, Rows'.any-gone (Syntax.tyInt Syntax.w64)) (List._∷_ (
-  1,
-  Rows'.sslice
-      (Referent.rtF (Referent.fInt Syntax.w8))
-      (Syntax.tyRef (Syntax.named 0) Syntax.imm (Syntax.tyInt Syntax.w8))
-      0,
+t11 = List._∷_ (16, Rows.any-gone Syntax.tyBool) (List._∷_ (
+  17,
+  Rows.any-gone
+      (Syntax.tyRef Syntax.erased Syntax.mut Elem.ty),
 ) (List._∷_ (
-  2,
-  Rows'.sslice
-      (Referent.rtF (Referent.fInt Syntax.w64))
-      (Syntax.tyRef (Syntax.named 1) Syntax.imm (Syntax.tyInt Syntax.w64))
-      1,
-) (List._∷_ (3, Rows'.sc-here (Row.sInt Syntax.w64)) (List._∷_ (
-  4,
-  Rows'.sslice
-      (Referent.rtF (Referent.fInt Syntax.w64))
-      (Syntax.tyRef (Syntax.named 2) Syntax.imm (Syntax.tyInt Syntax.w64))
-      2,
-) (List._∷_ (
-  5,
-  Rows'.sslice
-      (Referent.rtF (Referent.fInt Syntax.w8))
-      (Syntax.tyRef (Syntax.named 3) Syntax.imm (Syntax.tyInt Syntax.w8))
-      3,
-) (List._∷_ (
-  6,
-  Mut.mslice
-      (Referent.rtF (Referent.fInt Syntax.w64))
-      (Syntax.tyRef (Syntax.named 4) Syntax.mut (Syntax.tyInt Syntax.w64))
-      4,
-) (List._∷_ (
-  7,
-  Mut.mslice
-      (Referent.rtF (Referent.fInt Syntax.w8))
-      (Syntax.tyRef (Syntax.named 5) Syntax.mut (Syntax.tyInt Syntax.w8))
-      5,
-) (List._∷_ (
-  8,
-  Mut.mslice
-      (Referent.rtF (Referent.fInt Syntax.w8))
-      (Syntax.tyRef (Syntax.named 6) Syntax.mut (Syntax.tyInt Syntax.w8))
-      6,
-) (List._∷_ (
-  9,
-  Mut.mslice
-      (Referent.rtF (Referent.fInt Syntax.w8))
-      (Syntax.tyRef (Syntax.named 7) Syntax.mut (Syntax.tyInt Syntax.w8))
-      7,
-) (List._∷_ (
-  10,
-  Mut.mslice
-      (Referent.rtF (Referent.fInt Syntax.w8))
-      (Syntax.tyRef (Syntax.named 8) Syntax.mut (Syntax.tyInt Syntax.w8))
-      8,
-) (List._∷_ (
-  11,
-  Rows'.any-gone (Syntax.tyArray Elem.held 1024),
-) (List._∷_ (12, Rows'.whole (Declared.row LineRec.the-type)) (List._∷_ (
-  13,
-  Rows'.sc-here (Row.sInt Syntax.w64),
-) (List._∷_ (14, Rows'.sc-here (Row.sInt Syntax.w64)) (List._∷_ (
-  15,
-  Rows'.sc-here (Row.sInt Syntax.w64),
-) List.[])))))))))))))))
-
-abbrev pub t12 : List.List Row.Entry
-t12 = List._∷_ (0, Rows'.any-gone (Syntax.tyInt Syntax.w64)) (List._∷_ (
-  1,
-  Rows'.sslice
-      (Referent.rtF (Referent.fInt Syntax.w8))
-      (Syntax.tyRef (Syntax.named 0) Syntax.imm (Syntax.tyInt Syntax.w8))
-      0,
-) (List._∷_ (
-  2,
-  Rows'.sslice
-      (Referent.rtF (Referent.fInt Syntax.w64))
-      (Syntax.tyRef (Syntax.named 1) Syntax.imm (Syntax.tyInt Syntax.w64))
-      1,
-) (List._∷_ (3, Rows'.sc-here (Row.sInt Syntax.w64)) (List._∷_ (
-  4,
-  Rows'.sslice
-      (Referent.rtF (Referent.fInt Syntax.w64))
-      (Syntax.tyRef (Syntax.named 2) Syntax.imm (Syntax.tyInt Syntax.w64))
-      2,
-) (List._∷_ (
-  5,
-  Rows'.sslice
-      (Referent.rtF (Referent.fInt Syntax.w8))
-      (Syntax.tyRef (Syntax.named 3) Syntax.imm (Syntax.tyInt Syntax.w8))
-      3,
-) (List._∷_ (
-  6,
-  Mut.mslice
-      (Referent.rtF (Referent.fInt Syntax.w64))
-      (Syntax.tyRef (Syntax.named 4) Syntax.mut (Syntax.tyInt Syntax.w64))
-      4,
-) (List._∷_ (
-  7,
-  Mut.mslice
-      (Referent.rtF (Referent.fInt Syntax.w8))
-      (Syntax.tyRef (Syntax.named 5) Syntax.mut (Syntax.tyInt Syntax.w8))
-      5,
-) (List._∷_ (
-  8,
-  Mut.mslice
-      (Referent.rtF (Referent.fInt Syntax.w8))
-      (Syntax.tyRef (Syntax.named 6) Syntax.mut (Syntax.tyInt Syntax.w8))
-      6,
-) (List._∷_ (
-  9,
-  Mut.mslice
-      (Referent.rtF (Referent.fInt Syntax.w8))
-      (Syntax.tyRef (Syntax.named 7) Syntax.mut (Syntax.tyInt Syntax.w8))
-      7,
-) (List._∷_ (
-  10,
-  Mut.mslice
-      (Referent.rtF (Referent.fInt Syntax.w8))
-      (Syntax.tyRef (Syntax.named 8) Syntax.mut (Syntax.tyInt Syntax.w8))
-      8,
-) (List._∷_ (
-  11,
-  Rows.arr-owed Elem.R 1024 9,
-) (List._∷_ (12, Rows'.whole (Declared.row LineRec.the-type)) (List._∷_ (
-  13,
-  Rows'.sc-here (Row.sInt Syntax.w64),
-) (List._∷_ (14, Rows'.sc-here (Row.sInt Syntax.w64)) (List._∷_ (
-  15,
-  Rows'.sc-here (Row.sInt Syntax.w64),
-) List.[])))))))))))))))
-
-abbrev pub t13 : List.List Row.Entry
-t13 = List._∷_ (
-  16,
-  Rows'.any-gone (Syntax.tyArray Elem.held 1024),
-) (List._∷_ (17, Rows'.any-gone Syntax.tyBool) (List._∷_ (
   18,
-  Relend.msptr
+  Mut.msleft
       Elem.R
-      (Syntax.tyRef
-      Syntax.erased
-      Syntax.mut
-      (Syntax.tyArray Elem.ty 1024))
-      9,
+      (Syntax.tyRef Syntax.erased Syntax.mut Elem.ty),
 ) (List._∷_ (
   19,
-  Rows'.any-gone
-      (Syntax.tyStruct
-      (List._∷_ 38 (List._∷_ 91 (List._∷_ 93 List.[])))
-      (Syntax.tcons
-      (Syntax.tyRef Syntax.erased Syntax.mut Elem.ty)
-      (Syntax.tcons (Syntax.tyInt Syntax.w64) Syntax.tnil))),
+  Rows.any-gone
+      (Syntax.tyRef Syntax.erased Syntax.imm Elem.ty),
 ) (List._∷_ (
   20,
-  Rows'.any-gone
-      (Syntax.tyRef
-      Syntax.erased
-      Syntax.imm
-      (Syntax.tyArray Elem.ty 1024)),
-) (List._∷_ (
-  21,
-  Rows'.any-gone
+  Rows.any-gone
       (Syntax.tyStruct
       (List._∷_ 38 (List._∷_ 91 (List._∷_ 93 List.[])))
       (Syntax.tcons
       (Syntax.tyRef Syntax.erased Syntax.imm Elem.ty)
       (Syntax.tcons (Syntax.tyInt Syntax.w64) Syntax.tnil))),
+) (List._∷_ (21, Rows.any-gone (Syntax.tyInt Syntax.w64)) (List._∷_ (
+  22,
+  Rows.any-gone (Syntax.tyInt Syntax.w64),
+) (List._∷_ (23, Rows.any-gone (Syntax.tyInt Syntax.w64)) (List._∷_ (
+  24,
+  Rows.any-gone (Syntax.tyRef Syntax.erased Syntax.mut (Syntax.tyInt Syntax.w64)),
+) (List._∷_ (
+  25,
+  Rows.any-gone
+      (Syntax.tyStruct
+      (List._∷_ 38 (List._∷_ 91 (List._∷_ 93 List.[])))
+      (Syntax.tcons
+      (Syntax.tyRef Syntax.erased Syntax.mut (Syntax.tyInt Syntax.w64))
+      (Syntax.tcons (Syntax.tyInt Syntax.w64) Syntax.tnil))),
 )
+    (List._∷_
+    (26, Rows.any-gone (Syntax.tyRef Syntax.erased Syntax.mut (Syntax.tyInt Syntax.w8)))
     (List._∷_ (
-      22,
-      Rows'.any-gone (Syntax.tyRef Syntax.erased Syntax.mut (Syntax.tyInt Syntax.w64)),
-    ) (List._∷_ (
-      23,
-      Rows'.any-gone
-          (Syntax.tyStruct
-          (List._∷_ 38 (List._∷_ 91 (List._∷_ 93 List.[])))
-          (Syntax.tcons
-          (Syntax.tyRef Syntax.erased Syntax.mut (Syntax.tyInt Syntax.w64))
-          (Syntax.tcons (Syntax.tyInt Syntax.w64) Syntax.tnil))),
-    ) (List._∷_ (
-      24,
-      Rows'.any-gone (Syntax.tyRef Syntax.erased Syntax.mut (Syntax.tyInt Syntax.w8)),
-    ) (List._∷_ (
-      25,
-      Rows'.any-gone
-          (Syntax.tyStruct
-          (List._∷_ 38 (List._∷_ 91 (List._∷_ 93 List.[])))
-          (Syntax.tcons
-          (Syntax.tyRef Syntax.erased Syntax.mut (Syntax.tyInt Syntax.w8))
-          (Syntax.tcons (Syntax.tyInt Syntax.w64) Syntax.tnil))),
-    ) (List._∷_ (
-      26,
-      Rows'.any-gone (Syntax.tyRef Syntax.erased Syntax.mut (Syntax.tyInt Syntax.w8)),
-    ) (List._∷_ (
       27,
-      Rows'.any-gone
+      Rows.any-gone
           (Syntax.tyStruct
           (List._∷_ 38 (List._∷_ 91 (List._∷_ 93 List.[])))
           (Syntax.tcons
@@ -1936,10 +1765,10 @@ t13 = List._∷_ (
           (Syntax.tcons (Syntax.tyInt Syntax.w64) Syntax.tnil))),
     ) (List._∷_ (
       28,
-      Rows'.any-gone (Syntax.tyRef Syntax.erased Syntax.mut (Syntax.tyInt Syntax.w8)),
+      Rows.any-gone (Syntax.tyRef Syntax.erased Syntax.mut (Syntax.tyInt Syntax.w8)),
     ) (List._∷_ (
       29,
-      Rows'.any-gone
+      Rows.any-gone
           (Syntax.tyStruct
           (List._∷_ 38 (List._∷_ 91 (List._∷_ 93 List.[])))
           (Syntax.tcons
@@ -1947,10 +1776,206 @@ t13 = List._∷_ (
           (Syntax.tcons (Syntax.tyInt Syntax.w64) Syntax.tnil))),
     ) (List._∷_ (
       30,
-      Rows'.any-gone (Syntax.tyRef Syntax.erased Syntax.mut (Syntax.tyInt Syntax.w8)),
+      Rows.any-gone (Syntax.tyRef Syntax.erased Syntax.mut (Syntax.tyInt Syntax.w8)),
     ) (List._∷_ (
       31,
-      Rows'.any-gone
+      Rows.any-gone
+          (Syntax.tyStruct
+          (List._∷_ 38 (List._∷_ 91 (List._∷_ 93 List.[])))
+          (Syntax.tcons
+          (Syntax.tyRef Syntax.erased Syntax.mut (Syntax.tyInt Syntax.w8))
+          (Syntax.tcons (Syntax.tyInt Syntax.w64) Syntax.tnil))),
+    ) List.[])))))))))))))))
+
+abbrev pub t12 : List.List Row.Entry
+t12 = List._∷_ (0, Rows.any-gone (Syntax.tyInt Syntax.w64)) (List._∷_ (
+  1,
+  Rows.sslice
+      (Referent.rtF (Referent.fInt Syntax.w8))
+      (Syntax.tyRef (Syntax.named 0) Syntax.imm (Syntax.tyInt Syntax.w8))
+      0,
+) (List._∷_ (
+  2,
+  Rows.sslice
+      (Referent.rtF (Referent.fInt Syntax.w64))
+      (Syntax.tyRef (Syntax.named 1) Syntax.imm (Syntax.tyInt Syntax.w64))
+      1,
+) (List._∷_ (3, Rows.sc-here (Row.sInt Syntax.w64)) (List._∷_ (
+  4,
+  Rows.sslice
+      (Referent.rtF (Referent.fInt Syntax.w64))
+      (Syntax.tyRef (Syntax.named 2) Syntax.imm (Syntax.tyInt Syntax.w64))
+      2,
+) (List._∷_ (
+  5,
+  Rows.sslice
+      (Referent.rtF (Referent.fInt Syntax.w8))
+      (Syntax.tyRef (Syntax.named 3) Syntax.imm (Syntax.tyInt Syntax.w8))
+      3,
+) (List._∷_ (
+  6,
+  Mut.mslice
+      (Referent.rtF (Referent.fInt Syntax.w64))
+      (Syntax.tyRef (Syntax.named 4) Syntax.mut (Syntax.tyInt Syntax.w64))
+      4,
+) (List._∷_ (
+  7,
+  Mut.mslice
+      (Referent.rtF (Referent.fInt Syntax.w8))
+      (Syntax.tyRef (Syntax.named 5) Syntax.mut (Syntax.tyInt Syntax.w8))
+      5,
+) (List._∷_ (
+  8,
+  Mut.mslice
+      (Referent.rtF (Referent.fInt Syntax.w8))
+      (Syntax.tyRef (Syntax.named 6) Syntax.mut (Syntax.tyInt Syntax.w8))
+      6,
+) (List._∷_ (
+  9,
+  Mut.mslice
+      (Referent.rtF (Referent.fInt Syntax.w8))
+      (Syntax.tyRef (Syntax.named 7) Syntax.mut (Syntax.tyInt Syntax.w8))
+      7,
+) (List._∷_ (
+  10,
+  Mut.mslice
+      (Referent.rtF (Referent.fInt Syntax.w8))
+      (Syntax.tyRef (Syntax.named 8) Syntax.mut (Syntax.tyInt Syntax.w8))
+      8,
+) (List._∷_ (
+  11,
+  Reshare.mslice-owedS
+      Elem.R
+      (Syntax.tyRef (Syntax.named 9) Syntax.mut Elem.ty)
+      9
+      11
+      Row.off,
+) (List._∷_ (12, Rows.sc-here (Row.sInt Syntax.w64)) (List._∷_ (
+  13,
+  Rows.sc-here (Row.sInt Syntax.w64),
+) (List._∷_ (14, Rows.sc-here (Row.sInt Syntax.w64)) (List._∷_ (
+  15,
+  Rows.any-gone
+      (Syntax.tyStruct
+      (List._∷_
+      114
+      (List._∷_
+      101
+      (List._∷_
+      99
+      (List._∷_
+      111
+      (List._∷_
+      114
+      (List._∷_
+      100
+      (List._∷_
+      115
+      (List._∷_
+      58
+      (List._∷_
+      58
+      (List._∷_
+      76
+      (List._∷_
+      105
+      (List._∷_ 110 (List._∷_ 101 (List._∷_ 82 (List._∷_ 101 (List._∷_ 99 List.[]))))))))))))))))
+      (Syntax.tcons
+      (Syntax.tyInt Syntax.w64)
+      (Syntax.tcons
+      (Syntax.tyInt Syntax.w64)
+      (Syntax.tcons
+      (Syntax.tyStruct
+      (List._∷_
+      112
+      (List._∷_
+      108
+      (List._∷_
+      97
+      (List._∷_
+      99
+      (List._∷_
+      101
+      (List._∷_
+      58
+      (List._∷_
+      58
+      (List._∷_
+      82
+      (List._∷_ 101 (List._∷_ 103 (List._∷_ 105 (List._∷_ 111 (List._∷_ 110 List.[])))))))))))))
+      (Syntax.tcons (Syntax.tyInt Syntax.w64) Syntax.tnil))
+      (Syntax.tcons (Syntax.tyInt Syntax.w64) Syntax.tnil))))),
+) List.[])))))))))))))))
+
+abbrev pub t13 : List.List Row.Entry
+t13 = List._∷_ (16, Rows.any-gone Syntax.tyBool) (List._∷_ (
+  17,
+  Rows.any-gone
+      (Syntax.tyRef Syntax.erased Syntax.mut Elem.ty),
+) (List._∷_ (
+  18,
+  Rows.any-gone
+      (Syntax.tyStruct
+      (List._∷_ 38 (List._∷_ 91 (List._∷_ 93 List.[])))
+      (Syntax.tcons
+      (Syntax.tyRef Syntax.erased Syntax.mut Elem.ty)
+      (Syntax.tcons (Syntax.tyInt Syntax.w64) Syntax.tnil))),
+) (List._∷_ (
+  19,
+  Relend.ssptr
+      Elem.R
+      (Syntax.tyRef Syntax.erased Syntax.imm Elem.ty)
+      11,
+) (List._∷_ (
+  20,
+  Rows.any-gone
+      (Syntax.tyStruct
+      (List._∷_ 38 (List._∷_ 91 (List._∷_ 93 List.[])))
+      (Syntax.tcons
+      (Syntax.tyRef Syntax.erased Syntax.imm Elem.ty)
+      (Syntax.tcons (Syntax.tyInt Syntax.w64) Syntax.tnil))),
+) (List._∷_ (21, Rows.any-gone (Syntax.tyInt Syntax.w64)) (List._∷_ (
+  22,
+  Rows.any-gone (Syntax.tyInt Syntax.w64),
+) (List._∷_ (23, Rows.any-gone (Syntax.tyInt Syntax.w64)) (List._∷_ (
+  24,
+  Rows.any-gone (Syntax.tyRef Syntax.erased Syntax.mut (Syntax.tyInt Syntax.w64)),
+) (List._∷_ (
+  25,
+  Rows.any-gone
+      (Syntax.tyStruct
+      (List._∷_ 38 (List._∷_ 91 (List._∷_ 93 List.[])))
+      (Syntax.tcons
+      (Syntax.tyRef Syntax.erased Syntax.mut (Syntax.tyInt Syntax.w64))
+      (Syntax.tcons (Syntax.tyInt Syntax.w64) Syntax.tnil))),
+)
+    (List._∷_
+    (26, Rows.any-gone (Syntax.tyRef Syntax.erased Syntax.mut (Syntax.tyInt Syntax.w8)))
+    (List._∷_ (
+      27,
+      Rows.any-gone
+          (Syntax.tyStruct
+          (List._∷_ 38 (List._∷_ 91 (List._∷_ 93 List.[])))
+          (Syntax.tcons
+          (Syntax.tyRef Syntax.erased Syntax.mut (Syntax.tyInt Syntax.w8))
+          (Syntax.tcons (Syntax.tyInt Syntax.w64) Syntax.tnil))),
+    ) (List._∷_ (
+      28,
+      Rows.any-gone (Syntax.tyRef Syntax.erased Syntax.mut (Syntax.tyInt Syntax.w8)),
+    ) (List._∷_ (
+      29,
+      Rows.any-gone
+          (Syntax.tyStruct
+          (List._∷_ 38 (List._∷_ 91 (List._∷_ 93 List.[])))
+          (Syntax.tcons
+          (Syntax.tyRef Syntax.erased Syntax.mut (Syntax.tyInt Syntax.w8))
+          (Syntax.tcons (Syntax.tyInt Syntax.w64) Syntax.tnil))),
+    ) (List._∷_ (
+      30,
+      Rows.any-gone (Syntax.tyRef Syntax.erased Syntax.mut (Syntax.tyInt Syntax.w8)),
+    ) (List._∷_ (
+      31,
+      Rows.any-gone
           (Syntax.tyStruct
           (List._∷_ 38 (List._∷_ 91 (List._∷_ 93 List.[])))
           (Syntax.tcons
@@ -1959,66 +1984,48 @@ t13 = List._∷_ (
     ) List.[])))))))))))))))
 
 abbrev pub t14 : List.List Row.Entry
-t14 = List._∷_ (
-  16,
-  Rows'.any-gone (Syntax.tyArray Elem.held 1024),
-) (List._∷_ (17, Rows'.any-gone Syntax.tyBool) (List._∷_ (
+t14 = List._∷_ (16, Rows.any-gone Syntax.tyBool) (List._∷_ (
+  17,
+  Rows.any-gone
+      (Syntax.tyRef Syntax.erased Syntax.mut Elem.ty),
+) (List._∷_ (
   18,
-  Rows'.any-gone
-      (Syntax.tyRef
-      Syntax.erased
-      Syntax.mut
-      (Syntax.tyArray Elem.ty 1024)),
-) (List._∷_ (
-  19,
-  Mut.mslice
-      Elem.R
-      (Syntax.tyRef Syntax.erased Syntax.mut Elem.ty)
-      9,
-) (List._∷_ (
-  20,
-  Rows'.any-gone
-      (Syntax.tyRef
-      Syntax.erased
-      Syntax.imm
-      (Syntax.tyArray Elem.ty 1024)),
-) (List._∷_ (
-  21,
-  Rows'.any-gone
+  Rows.any-gone
       (Syntax.tyStruct
       (List._∷_ 38 (List._∷_ 91 (List._∷_ 93 List.[])))
       (Syntax.tcons
+      (Syntax.tyRef Syntax.erased Syntax.mut Elem.ty)
+      (Syntax.tcons (Syntax.tyInt Syntax.w64) Syntax.tnil))),
+) (List._∷_ (
+  19,
+  Rows.any-gone
+      (Syntax.tyRef Syntax.erased Syntax.imm Elem.ty),
+) (List._∷_ (
+  20,
+  Rows.sslice
+      Elem.R
       (Syntax.tyRef Syntax.erased Syntax.imm Elem.ty)
+      11,
+) (List._∷_ (21, Rows.any-gone (Syntax.tyInt Syntax.w64)) (List._∷_ (
+  22,
+  Rows.any-gone (Syntax.tyInt Syntax.w64),
+) (List._∷_ (23, Rows.any-gone (Syntax.tyInt Syntax.w64)) (List._∷_ (
+  24,
+  Rows.any-gone (Syntax.tyRef Syntax.erased Syntax.mut (Syntax.tyInt Syntax.w64)),
+) (List._∷_ (
+  25,
+  Rows.any-gone
+      (Syntax.tyStruct
+      (List._∷_ 38 (List._∷_ 91 (List._∷_ 93 List.[])))
+      (Syntax.tcons
+      (Syntax.tyRef Syntax.erased Syntax.mut (Syntax.tyInt Syntax.w64))
       (Syntax.tcons (Syntax.tyInt Syntax.w64) Syntax.tnil))),
 )
+    (List._∷_
+    (26, Rows.any-gone (Syntax.tyRef Syntax.erased Syntax.mut (Syntax.tyInt Syntax.w8)))
     (List._∷_ (
-      22,
-      Rows'.any-gone (Syntax.tyRef Syntax.erased Syntax.mut (Syntax.tyInt Syntax.w64)),
-    ) (List._∷_ (
-      23,
-      Rows'.any-gone
-          (Syntax.tyStruct
-          (List._∷_ 38 (List._∷_ 91 (List._∷_ 93 List.[])))
-          (Syntax.tcons
-          (Syntax.tyRef Syntax.erased Syntax.mut (Syntax.tyInt Syntax.w64))
-          (Syntax.tcons (Syntax.tyInt Syntax.w64) Syntax.tnil))),
-    ) (List._∷_ (
-      24,
-      Rows'.any-gone (Syntax.tyRef Syntax.erased Syntax.mut (Syntax.tyInt Syntax.w8)),
-    ) (List._∷_ (
-      25,
-      Rows'.any-gone
-          (Syntax.tyStruct
-          (List._∷_ 38 (List._∷_ 91 (List._∷_ 93 List.[])))
-          (Syntax.tcons
-          (Syntax.tyRef Syntax.erased Syntax.mut (Syntax.tyInt Syntax.w8))
-          (Syntax.tcons (Syntax.tyInt Syntax.w64) Syntax.tnil))),
-    ) (List._∷_ (
-      26,
-      Rows'.any-gone (Syntax.tyRef Syntax.erased Syntax.mut (Syntax.tyInt Syntax.w8)),
-    ) (List._∷_ (
       27,
-      Rows'.any-gone
+      Rows.any-gone
           (Syntax.tyStruct
           (List._∷_ 38 (List._∷_ 91 (List._∷_ 93 List.[])))
           (Syntax.tcons
@@ -2026,10 +2033,10 @@ t14 = List._∷_ (
           (Syntax.tcons (Syntax.tyInt Syntax.w64) Syntax.tnil))),
     ) (List._∷_ (
       28,
-      Rows'.any-gone (Syntax.tyRef Syntax.erased Syntax.mut (Syntax.tyInt Syntax.w8)),
+      Rows.any-gone (Syntax.tyRef Syntax.erased Syntax.mut (Syntax.tyInt Syntax.w8)),
     ) (List._∷_ (
       29,
-      Rows'.any-gone
+      Rows.any-gone
           (Syntax.tyStruct
           (List._∷_ 38 (List._∷_ 91 (List._∷_ 93 List.[])))
           (Syntax.tcons
@@ -2037,10 +2044,10 @@ t14 = List._∷_ (
           (Syntax.tcons (Syntax.tyInt Syntax.w64) Syntax.tnil))),
     ) (List._∷_ (
       30,
-      Rows'.any-gone (Syntax.tyRef Syntax.erased Syntax.mut (Syntax.tyInt Syntax.w8)),
+      Rows.any-gone (Syntax.tyRef Syntax.erased Syntax.mut (Syntax.tyInt Syntax.w8)),
     ) (List._∷_ (
       31,
-      Rows'.any-gone
+      Rows.any-gone
           (Syntax.tyStruct
           (List._∷_ 38 (List._∷_ 91 (List._∷_ 93 List.[])))
           (Syntax.tcons
@@ -2049,65 +2056,48 @@ t14 = List._∷_ (
     ) List.[])))))))))))))))
 
 abbrev pub t15 : List.List Row.Entry
-t15 = List._∷_ (
-  16,
-  Rows'.any-gone (Syntax.tyArray Elem.held 1024),
-) (List._∷_ (17, Rows'.any-gone Syntax.tyBool) (List._∷_ (
-  18,
-  Rows'.any-gone
-      (Syntax.tyRef
-      Syntax.erased
-      Syntax.mut
-      (Syntax.tyArray Elem.ty 1024)),
-) (List._∷_ (
-  19,
-  Mut.msleft
-      Elem.R
+t15 = List._∷_ (16, Rows.any-gone Syntax.tyBool) (List._∷_ (
+  17,
+  Rows.any-gone
       (Syntax.tyRef Syntax.erased Syntax.mut Elem.ty),
 ) (List._∷_ (
-  20,
-  Rows'.any-gone
-      (Syntax.tyRef
-      Syntax.erased
-      Syntax.imm
-      (Syntax.tyArray Elem.ty 1024)),
-) (List._∷_ (
-  21,
-  Rows'.any-gone
+  18,
+  Rows.any-gone
       (Syntax.tyStruct
       (List._∷_ 38 (List._∷_ 91 (List._∷_ 93 List.[])))
       (Syntax.tcons
+      (Syntax.tyRef Syntax.erased Syntax.mut Elem.ty)
+      (Syntax.tcons (Syntax.tyInt Syntax.w64) Syntax.tnil))),
+) (List._∷_ (
+  19,
+  Rows.any-gone
+      (Syntax.tyRef Syntax.erased Syntax.imm Elem.ty),
+) (List._∷_ (
+  20,
+  Rows.sslice
+      Elem.R
       (Syntax.tyRef Syntax.erased Syntax.imm Elem.ty)
+      11,
+) (List._∷_ (21, Rows.sc-here (Row.sInt Syntax.w64)) (List._∷_ (
+  22,
+  Rows.any-gone (Syntax.tyInt Syntax.w64),
+) (List._∷_ (23, Rows.any-gone (Syntax.tyInt Syntax.w64)) (List._∷_ (
+  24,
+  Rows.any-gone (Syntax.tyRef Syntax.erased Syntax.mut (Syntax.tyInt Syntax.w64)),
+) (List._∷_ (
+  25,
+  Rows.any-gone
+      (Syntax.tyStruct
+      (List._∷_ 38 (List._∷_ 91 (List._∷_ 93 List.[])))
+      (Syntax.tcons
+      (Syntax.tyRef Syntax.erased Syntax.mut (Syntax.tyInt Syntax.w64))
       (Syntax.tcons (Syntax.tyInt Syntax.w64) Syntax.tnil))),
 )
+    (List._∷_
+    (26, Rows.any-gone (Syntax.tyRef Syntax.erased Syntax.mut (Syntax.tyInt Syntax.w8)))
     (List._∷_ (
-      22,
-      Rows'.any-gone (Syntax.tyRef Syntax.erased Syntax.mut (Syntax.tyInt Syntax.w64)),
-    ) (List._∷_ (
-      23,
-      Rows'.any-gone
-          (Syntax.tyStruct
-          (List._∷_ 38 (List._∷_ 91 (List._∷_ 93 List.[])))
-          (Syntax.tcons
-          (Syntax.tyRef Syntax.erased Syntax.mut (Syntax.tyInt Syntax.w64))
-          (Syntax.tcons (Syntax.tyInt Syntax.w64) Syntax.tnil))),
-    ) (List._∷_ (
-      24,
-      Rows'.any-gone (Syntax.tyRef Syntax.erased Syntax.mut (Syntax.tyInt Syntax.w8)),
-    ) (List._∷_ (
-      25,
-      Rows'.any-gone
-          (Syntax.tyStruct
-          (List._∷_ 38 (List._∷_ 91 (List._∷_ 93 List.[])))
-          (Syntax.tcons
-          (Syntax.tyRef Syntax.erased Syntax.mut (Syntax.tyInt Syntax.w8))
-          (Syntax.tcons (Syntax.tyInt Syntax.w64) Syntax.tnil))),
-    ) (List._∷_ (
-      26,
-      Rows'.any-gone (Syntax.tyRef Syntax.erased Syntax.mut (Syntax.tyInt Syntax.w8)),
-    ) (List._∷_ (
       27,
-      Rows'.any-gone
+      Rows.any-gone
           (Syntax.tyStruct
           (List._∷_ 38 (List._∷_ 91 (List._∷_ 93 List.[])))
           (Syntax.tcons
@@ -2115,10 +2105,10 @@ t15 = List._∷_ (
           (Syntax.tcons (Syntax.tyInt Syntax.w64) Syntax.tnil))),
     ) (List._∷_ (
       28,
-      Rows'.any-gone (Syntax.tyRef Syntax.erased Syntax.mut (Syntax.tyInt Syntax.w8)),
+      Rows.any-gone (Syntax.tyRef Syntax.erased Syntax.mut (Syntax.tyInt Syntax.w8)),
     ) (List._∷_ (
       29,
-      Rows'.any-gone
+      Rows.any-gone
           (Syntax.tyStruct
           (List._∷_ 38 (List._∷_ 91 (List._∷_ 93 List.[])))
           (Syntax.tcons
@@ -2126,10 +2116,10 @@ t15 = List._∷_ (
           (Syntax.tcons (Syntax.tyInt Syntax.w64) Syntax.tnil))),
     ) (List._∷_ (
       30,
-      Rows'.any-gone (Syntax.tyRef Syntax.erased Syntax.mut (Syntax.tyInt Syntax.w8)),
+      Rows.any-gone (Syntax.tyRef Syntax.erased Syntax.mut (Syntax.tyInt Syntax.w8)),
     ) (List._∷_ (
       31,
-      Rows'.any-gone
+      Rows.any-gone
           (Syntax.tyStruct
           (List._∷_ 38 (List._∷_ 91 (List._∷_ 93 List.[])))
           (Syntax.tcons
@@ -2138,419 +2128,48 @@ t15 = List._∷_ (
     ) List.[])))))))))))))))
 
 abbrev pub t16 : List.List Row.Entry
-t16 = List._∷_ (0, Rows'.any-gone (Syntax.tyInt Syntax.w64)) (List._∷_ (
-  1,
-  Rows'.sslice
-      (Referent.rtF (Referent.fInt Syntax.w8))
-      (Syntax.tyRef (Syntax.named 0) Syntax.imm (Syntax.tyInt Syntax.w8))
-      0,
+t16 = List._∷_ (16, Rows.any-gone Syntax.tyBool) (List._∷_ (
+  17,
+  Rows.any-gone
+      (Syntax.tyRef Syntax.erased Syntax.mut Elem.ty),
 ) (List._∷_ (
-  2,
-  Rows'.sslice
-      (Referent.rtF (Referent.fInt Syntax.w64))
-      (Syntax.tyRef (Syntax.named 1) Syntax.imm (Syntax.tyInt Syntax.w64))
-      1,
-) (List._∷_ (3, Rows'.sc-here (Row.sInt Syntax.w64)) (List._∷_ (
-  4,
-  Rows'.sslice
-      (Referent.rtF (Referent.fInt Syntax.w64))
-      (Syntax.tyRef (Syntax.named 2) Syntax.imm (Syntax.tyInt Syntax.w64))
-      2,
-) (List._∷_ (
-  5,
-  Rows'.sslice
-      (Referent.rtF (Referent.fInt Syntax.w8))
-      (Syntax.tyRef (Syntax.named 3) Syntax.imm (Syntax.tyInt Syntax.w8))
-      3,
-) (List._∷_ (
-  6,
-  Mut.mslice
-      (Referent.rtF (Referent.fInt Syntax.w64))
-      (Syntax.tyRef (Syntax.named 4) Syntax.mut (Syntax.tyInt Syntax.w64))
-      4,
-) (List._∷_ (
-  7,
-  Mut.mslice
-      (Referent.rtF (Referent.fInt Syntax.w8))
-      (Syntax.tyRef (Syntax.named 5) Syntax.mut (Syntax.tyInt Syntax.w8))
-      5,
-) (List._∷_ (
-  8,
-  Mut.mslice
-      (Referent.rtF (Referent.fInt Syntax.w8))
-      (Syntax.tyRef (Syntax.named 6) Syntax.mut (Syntax.tyInt Syntax.w8))
-      6,
-) (List._∷_ (
-  9,
-  Mut.mslice
-      (Referent.rtF (Referent.fInt Syntax.w8))
-      (Syntax.tyRef (Syntax.named 7) Syntax.mut (Syntax.tyInt Syntax.w8))
-      7,
-) (List._∷_ (
-  10,
-  Mut.mslice
-      (Referent.rtF (Referent.fInt Syntax.w8))
-      (Syntax.tyRef (Syntax.named 8) Syntax.mut (Syntax.tyInt Syntax.w8))
-      8,
-) (List._∷_ (
-  11,
-  Rows.arr-owed Elem.R 1024 9,
-) (List._∷_ (
-  12,
-  Rows'.any-gone
-      (Syntax.tyStruct
-      (List._∷_
-      114
-      (List._∷_
-      101
-      (List._∷_
-      99
-      (List._∷_
-      111
-      (List._∷_
-      114
-      (List._∷_
-      100
-      (List._∷_
-      115
-      (List._∷_
-      58
-      (List._∷_
-      58
-      (List._∷_
-      76
-      (List._∷_
-      105
-      (List._∷_ 110 (List._∷_ 101 (List._∷_ 82 (List._∷_ 101 (List._∷_ 99 List.[]))))))))))))))))
-      (Syntax.tcons
-      (Syntax.tyInt Syntax.w64)
-      (Syntax.tcons
-      (Syntax.tyInt Syntax.w64)
-      (Syntax.tcons
-      (Syntax.tyStruct
-      (List._∷_
-      112
-      (List._∷_
-      108
-      (List._∷_
-      97
-      (List._∷_
-      99
-      (List._∷_
-      101
-      (List._∷_
-      58
-      (List._∷_
-      58
-      (List._∷_
-      82
-      (List._∷_ 101 (List._∷_ 103 (List._∷_ 105 (List._∷_ 111 (List._∷_ 110 List.[])))))))))))))
-      (Syntax.tcons (Syntax.tyInt Syntax.w64) Syntax.tnil))
-      (Syntax.tcons (Syntax.tyInt Syntax.w64) Syntax.tnil))))),
-) (List._∷_ (13, Rows'.sc-here (Row.sInt Syntax.w64)) (List._∷_ (
-  14,
-  Rows'.sc-here (Row.sInt Syntax.w64),
-) (List._∷_ (15, Rows'.sc-here (Row.sInt Syntax.w64)) List.[])))))))))))))))
-
-abbrev pub t17 : List.List Row.Entry
-t17 = List._∷_ (0, Rows'.any-gone (Syntax.tyInt Syntax.w64)) (List._∷_ (
-  1,
-  Rows'.sslice
-      (Referent.rtF (Referent.fInt Syntax.w8))
-      (Syntax.tyRef (Syntax.named 0) Syntax.imm (Syntax.tyInt Syntax.w8))
-      0,
-) (List._∷_ (
-  2,
-  Rows'.sslice
-      (Referent.rtF (Referent.fInt Syntax.w64))
-      (Syntax.tyRef (Syntax.named 1) Syntax.imm (Syntax.tyInt Syntax.w64))
-      1,
-) (List._∷_ (3, Rows'.sc-here (Row.sInt Syntax.w64)) (List._∷_ (
-  4,
-  Rows'.sslice
-      (Referent.rtF (Referent.fInt Syntax.w64))
-      (Syntax.tyRef (Syntax.named 2) Syntax.imm (Syntax.tyInt Syntax.w64))
-      2,
-) (List._∷_ (
-  5,
-  Rows'.sslice
-      (Referent.rtF (Referent.fInt Syntax.w8))
-      (Syntax.tyRef (Syntax.named 3) Syntax.imm (Syntax.tyInt Syntax.w8))
-      3,
-) (List._∷_ (
-  6,
-  Mut.mslice
-      (Referent.rtF (Referent.fInt Syntax.w64))
-      (Syntax.tyRef (Syntax.named 4) Syntax.mut (Syntax.tyInt Syntax.w64))
-      4,
-) (List._∷_ (
-  7,
-  Mut.mslice
-      (Referent.rtF (Referent.fInt Syntax.w8))
-      (Syntax.tyRef (Syntax.named 5) Syntax.mut (Syntax.tyInt Syntax.w8))
-      5,
-) (List._∷_ (
-  8,
-  Mut.mslice
-      (Referent.rtF (Referent.fInt Syntax.w8))
-      (Syntax.tyRef (Syntax.named 6) Syntax.mut (Syntax.tyInt Syntax.w8))
-      6,
-) (List._∷_ (
-  9,
-  Mut.mslice
-      (Referent.rtF (Referent.fInt Syntax.w8))
-      (Syntax.tyRef (Syntax.named 7) Syntax.mut (Syntax.tyInt Syntax.w8))
-      7,
-) (List._∷_ (
-  10,
-  Mut.mslice
-      (Referent.rtF (Referent.fInt Syntax.w8))
-      (Syntax.tyRef (Syntax.named 8) Syntax.mut (Syntax.tyInt Syntax.w8))
-      8,
-)
-    (List._∷_
-    (11, Rows.arrF Elem.R 1024 0)
-    (List._∷_ (
-      12,
-      Rows'.any-gone
-          (Syntax.tyStruct
-          (List._∷_
-          114
-          (List._∷_
-          101
-          (List._∷_
-          99
-          (List._∷_
-          111
-          (List._∷_
-          114
-          (List._∷_
-          100
-          (List._∷_
-          115
-          (List._∷_
-          58
-          (List._∷_
-          58
-          (List._∷_
-          76
-          (List._∷_
-          105
-          (List._∷_
-          110
-          (List._∷_ 101 (List._∷_ 82 (List._∷_ 101 (List._∷_ 99 List.[]))))))))))))))))
-          (Syntax.tcons
-          (Syntax.tyInt Syntax.w64)
-          (Syntax.tcons
-          (Syntax.tyInt Syntax.w64)
-          (Syntax.tcons
-          (Syntax.tyStruct
-          (List._∷_
-          112
-          (List._∷_
-          108
-          (List._∷_
-          97
-          (List._∷_
-          99
-          (List._∷_
-          101
-          (List._∷_
-          58
-          (List._∷_
-          58
-          (List._∷_
-          82
-          (List._∷_
-          101
-          (List._∷_ 103 (List._∷_ 105 (List._∷_ 111 (List._∷_ 110 List.[])))))))))))))
-          (Syntax.tcons (Syntax.tyInt Syntax.w64) Syntax.tnil))
-          (Syntax.tcons (Syntax.tyInt Syntax.w64) Syntax.tnil))))),
-    ) (List._∷_ (13, Rows'.sc-here (Row.sInt Syntax.w64)) (List._∷_ (
-      14,
-      Rows'.sc-here (Row.sInt Syntax.w64),
-    ) (List._∷_ (15, Rows'.sc-here (Row.sInt Syntax.w64)) List.[])))))))))))))))
-
-abbrev pub t18 : List.List Row.Entry
-t18 = List._∷_ (0, Rows'.any-gone (Syntax.tyInt Syntax.w64)) (List._∷_ (
-  1,
-  Rows'.sslice
-      (Referent.rtF (Referent.fInt Syntax.w8))
-      (Syntax.tyRef (Syntax.named 0) Syntax.imm (Syntax.tyInt Syntax.w8))
-      0,
-) (List._∷_ (
-  2,
-  Rows'.sslice
-      (Referent.rtF (Referent.fInt Syntax.w64))
-      (Syntax.tyRef (Syntax.named 1) Syntax.imm (Syntax.tyInt Syntax.w64))
-      1,
-) (List._∷_ (3, Rows'.sc-here (Row.sInt Syntax.w64)) (List._∷_ (
-  4,
-  Rows'.sslice
-      (Referent.rtF (Referent.fInt Syntax.w64))
-      (Syntax.tyRef (Syntax.named 2) Syntax.imm (Syntax.tyInt Syntax.w64))
-      2,
-) (List._∷_ (
-  5,
-  Rows'.sslice
-      (Referent.rtF (Referent.fInt Syntax.w8))
-      (Syntax.tyRef (Syntax.named 3) Syntax.imm (Syntax.tyInt Syntax.w8))
-      3,
-) (List._∷_ (
-  6,
-  Mut.mslice
-      (Referent.rtF (Referent.fInt Syntax.w64))
-      (Syntax.tyRef (Syntax.named 4) Syntax.mut (Syntax.tyInt Syntax.w64))
-      4,
-) (List._∷_ (
-  7,
-  Mut.mslice
-      (Referent.rtF (Referent.fInt Syntax.w8))
-      (Syntax.tyRef (Syntax.named 5) Syntax.mut (Syntax.tyInt Syntax.w8))
-      5,
-) (List._∷_ (
-  8,
-  Mut.mslice
-      (Referent.rtF (Referent.fInt Syntax.w8))
-      (Syntax.tyRef (Syntax.named 6) Syntax.mut (Syntax.tyInt Syntax.w8))
-      6,
-) (List._∷_ (
-  9,
-  Mut.mslice
-      (Referent.rtF (Referent.fInt Syntax.w8))
-      (Syntax.tyRef (Syntax.named 7) Syntax.mut (Syntax.tyInt Syntax.w8))
-      7,
-) (List._∷_ (
-  10,
-  Mut.mslice
-      (Referent.rtF (Referent.fInt Syntax.w8))
-      (Syntax.tyRef (Syntax.named 8) Syntax.mut (Syntax.tyInt Syntax.w8))
-      8,
-) (List._∷_ (
-  11,
-  Rows.arr-shr Elem.R 1024 10,
-) (List._∷_ (
-  12,
-  Rows'.any-gone
-      (Syntax.tyStruct
-      (List._∷_
-      114
-      (List._∷_
-      101
-      (List._∷_
-      99
-      (List._∷_
-      111
-      (List._∷_
-      114
-      (List._∷_
-      100
-      (List._∷_
-      115
-      (List._∷_
-      58
-      (List._∷_
-      58
-      (List._∷_
-      76
-      (List._∷_
-      105
-      (List._∷_ 110 (List._∷_ 101 (List._∷_ 82 (List._∷_ 101 (List._∷_ 99 List.[]))))))))))))))))
-      (Syntax.tcons
-      (Syntax.tyInt Syntax.w64)
-      (Syntax.tcons
-      (Syntax.tyInt Syntax.w64)
-      (Syntax.tcons
-      (Syntax.tyStruct
-      (List._∷_
-      112
-      (List._∷_
-      108
-      (List._∷_
-      97
-      (List._∷_
-      99
-      (List._∷_
-      101
-      (List._∷_
-      58
-      (List._∷_
-      58
-      (List._∷_
-      82
-      (List._∷_ 101 (List._∷_ 103 (List._∷_ 105 (List._∷_ 111 (List._∷_ 110 List.[])))))))))))))
-      (Syntax.tcons (Syntax.tyInt Syntax.w64) Syntax.tnil))
-      (Syntax.tcons (Syntax.tyInt Syntax.w64) Syntax.tnil))))),
-) (List._∷_ (13, Rows'.sc-here (Row.sInt Syntax.w64)) (List._∷_ (
-  14,
-  Rows'.sc-here (Row.sInt Syntax.w64),
-) (List._∷_ (15, Rows'.sc-here (Row.sInt Syntax.w64)) List.[])))))))))))))))
-
-abbrev pub t19 : List.List Row.Entry
-t19 = List._∷_ (
-  16,
-  Rows'.any-gone (Syntax.tyArray Elem.held 1024),
-) (List._∷_ (17, Rows'.any-gone Syntax.tyBool) (List._∷_ (
   18,
-  Rows'.any-gone
-      (Syntax.tyRef
-      Syntax.erased
-      Syntax.mut
-      (Syntax.tyArray Elem.ty 1024)),
-) (List._∷_ (
-  19,
-  Rows'.any-gone
+  Rows.any-gone
       (Syntax.tyStruct
       (List._∷_ 38 (List._∷_ 91 (List._∷_ 93 List.[])))
       (Syntax.tcons
       (Syntax.tyRef Syntax.erased Syntax.mut Elem.ty)
       (Syntax.tcons (Syntax.tyInt Syntax.w64) Syntax.tnil))),
 ) (List._∷_ (
-  20,
-  Relend.ssptr
-      Elem.R
-      (Syntax.tyRef
-      Syntax.erased
-      Syntax.imm
-      (Syntax.tyArray Elem.ty 1024))
-      10,
+  19,
+  Rows.any-gone
+      (Syntax.tyRef Syntax.erased Syntax.imm Elem.ty),
 ) (List._∷_ (
-  21,
-  Rows'.any-gone
+  20,
+  Rows.sslice
+      Elem.R
+      (Syntax.tyRef Syntax.erased Syntax.imm Elem.ty)
+      11,
+) (List._∷_ (21, Rows.sc-here (Row.sInt Syntax.w64)) (List._∷_ (
+  22,
+  Rows.sc-here (Row.sInt Syntax.w64),
+) (List._∷_ (23, Rows.any-gone (Syntax.tyInt Syntax.w64)) (List._∷_ (
+  24,
+  Rows.any-gone (Syntax.tyRef Syntax.erased Syntax.mut (Syntax.tyInt Syntax.w64)),
+) (List._∷_ (
+  25,
+  Rows.any-gone
       (Syntax.tyStruct
       (List._∷_ 38 (List._∷_ 91 (List._∷_ 93 List.[])))
       (Syntax.tcons
-      (Syntax.tyRef Syntax.erased Syntax.imm Elem.ty)
+      (Syntax.tyRef Syntax.erased Syntax.mut (Syntax.tyInt Syntax.w64))
       (Syntax.tcons (Syntax.tyInt Syntax.w64) Syntax.tnil))),
 )
+    (List._∷_
+    (26, Rows.any-gone (Syntax.tyRef Syntax.erased Syntax.mut (Syntax.tyInt Syntax.w8)))
     (List._∷_ (
-      22,
-      Rows'.any-gone (Syntax.tyRef Syntax.erased Syntax.mut (Syntax.tyInt Syntax.w64)),
-    ) (List._∷_ (
-      23,
-      Rows'.any-gone
-          (Syntax.tyStruct
-          (List._∷_ 38 (List._∷_ 91 (List._∷_ 93 List.[])))
-          (Syntax.tcons
-          (Syntax.tyRef Syntax.erased Syntax.mut (Syntax.tyInt Syntax.w64))
-          (Syntax.tcons (Syntax.tyInt Syntax.w64) Syntax.tnil))),
-    ) (List._∷_ (
-      24,
-      Rows'.any-gone (Syntax.tyRef Syntax.erased Syntax.mut (Syntax.tyInt Syntax.w8)),
-    ) (List._∷_ (
-      25,
-      Rows'.any-gone
-          (Syntax.tyStruct
-          (List._∷_ 38 (List._∷_ 91 (List._∷_ 93 List.[])))
-          (Syntax.tcons
-          (Syntax.tyRef Syntax.erased Syntax.mut (Syntax.tyInt Syntax.w8))
-          (Syntax.tcons (Syntax.tyInt Syntax.w64) Syntax.tnil))),
-    ) (List._∷_ (
-      26,
-      Rows'.any-gone (Syntax.tyRef Syntax.erased Syntax.mut (Syntax.tyInt Syntax.w8)),
-    ) (List._∷_ (
       27,
-      Rows'.any-gone
+      Rows.any-gone
           (Syntax.tyStruct
           (List._∷_ 38 (List._∷_ 91 (List._∷_ 93 List.[])))
           (Syntax.tcons
@@ -2558,10 +2177,10 @@ t19 = List._∷_ (
           (Syntax.tcons (Syntax.tyInt Syntax.w64) Syntax.tnil))),
     ) (List._∷_ (
       28,
-      Rows'.any-gone (Syntax.tyRef Syntax.erased Syntax.mut (Syntax.tyInt Syntax.w8)),
+      Rows.any-gone (Syntax.tyRef Syntax.erased Syntax.mut (Syntax.tyInt Syntax.w8)),
     ) (List._∷_ (
       29,
-      Rows'.any-gone
+      Rows.any-gone
           (Syntax.tyStruct
           (List._∷_ 38 (List._∷_ 91 (List._∷_ 93 List.[])))
           (Syntax.tcons
@@ -2569,10 +2188,226 @@ t19 = List._∷_ (
           (Syntax.tcons (Syntax.tyInt Syntax.w64) Syntax.tnil))),
     ) (List._∷_ (
       30,
-      Rows'.any-gone (Syntax.tyRef Syntax.erased Syntax.mut (Syntax.tyInt Syntax.w8)),
+      Rows.any-gone (Syntax.tyRef Syntax.erased Syntax.mut (Syntax.tyInt Syntax.w8)),
     ) (List._∷_ (
       31,
-      Rows'.any-gone
+      Rows.any-gone
+          (Syntax.tyStruct
+          (List._∷_ 38 (List._∷_ 91 (List._∷_ 93 List.[])))
+          (Syntax.tcons
+          (Syntax.tyRef Syntax.erased Syntax.mut (Syntax.tyInt Syntax.w8))
+          (Syntax.tcons (Syntax.tyInt Syntax.w64) Syntax.tnil))),
+    ) List.[])))))))))))))))
+
+abbrev pub t17 : List.List Row.Entry
+t17 = List._∷_ (16, Rows.any-gone Syntax.tyBool) (List._∷_ (
+  17,
+  Rows.any-gone
+      (Syntax.tyRef Syntax.erased Syntax.mut Elem.ty),
+) (List._∷_ (
+  18,
+  Rows.any-gone
+      (Syntax.tyStruct
+      (List._∷_ 38 (List._∷_ 91 (List._∷_ 93 List.[])))
+      (Syntax.tcons
+      (Syntax.tyRef Syntax.erased Syntax.mut Elem.ty)
+      (Syntax.tcons (Syntax.tyInt Syntax.w64) Syntax.tnil))),
+) (List._∷_ (
+  19,
+  Rows.any-gone
+      (Syntax.tyRef Syntax.erased Syntax.imm Elem.ty),
+) (List._∷_ (
+  20,
+  Rows.sslice
+      Elem.R
+      (Syntax.tyRef Syntax.erased Syntax.imm Elem.ty)
+      11,
+) (List._∷_ (21, Rows.any-gone (Syntax.tyInt Syntax.w64)) (List._∷_ (
+  22,
+  Rows.sc-here (Row.sInt Syntax.w64),
+) (List._∷_ (23, Rows.any-gone (Syntax.tyInt Syntax.w64)) (List._∷_ (
+  24,
+  Rows.any-gone (Syntax.tyRef Syntax.erased Syntax.mut (Syntax.tyInt Syntax.w64)),
+) (List._∷_ (
+  25,
+  Rows.any-gone
+      (Syntax.tyStruct
+      (List._∷_ 38 (List._∷_ 91 (List._∷_ 93 List.[])))
+      (Syntax.tcons
+      (Syntax.tyRef Syntax.erased Syntax.mut (Syntax.tyInt Syntax.w64))
+      (Syntax.tcons (Syntax.tyInt Syntax.w64) Syntax.tnil))),
+)
+    (List._∷_
+    (26, Rows.any-gone (Syntax.tyRef Syntax.erased Syntax.mut (Syntax.tyInt Syntax.w8)))
+    (List._∷_ (
+      27,
+      Rows.any-gone
+          (Syntax.tyStruct
+          (List._∷_ 38 (List._∷_ 91 (List._∷_ 93 List.[])))
+          (Syntax.tcons
+          (Syntax.tyRef Syntax.erased Syntax.mut (Syntax.tyInt Syntax.w8))
+          (Syntax.tcons (Syntax.tyInt Syntax.w64) Syntax.tnil))),
+    ) (List._∷_ (
+      28,
+      Rows.any-gone (Syntax.tyRef Syntax.erased Syntax.mut (Syntax.tyInt Syntax.w8)),
+    ) (List._∷_ (
+      29,
+      Rows.any-gone
+          (Syntax.tyStruct
+          (List._∷_ 38 (List._∷_ 91 (List._∷_ 93 List.[])))
+          (Syntax.tcons
+          (Syntax.tyRef Syntax.erased Syntax.mut (Syntax.tyInt Syntax.w8))
+          (Syntax.tcons (Syntax.tyInt Syntax.w64) Syntax.tnil))),
+    ) (List._∷_ (
+      30,
+      Rows.any-gone (Syntax.tyRef Syntax.erased Syntax.mut (Syntax.tyInt Syntax.w8)),
+    ) (List._∷_ (
+      31,
+      Rows.any-gone
+          (Syntax.tyStruct
+          (List._∷_ 38 (List._∷_ 91 (List._∷_ 93 List.[])))
+          (Syntax.tcons
+          (Syntax.tyRef Syntax.erased Syntax.mut (Syntax.tyInt Syntax.w8))
+          (Syntax.tcons (Syntax.tyInt Syntax.w64) Syntax.tnil))),
+    ) List.[])))))))))))))))
+
+abbrev pub t18 : List.List Row.Entry
+t18 = List._∷_ (16, Rows.any-gone Syntax.tyBool) (List._∷_ (
+  17,
+  Rows.any-gone
+      (Syntax.tyRef Syntax.erased Syntax.mut Elem.ty),
+) (List._∷_ (
+  18,
+  Rows.any-gone
+      (Syntax.tyStruct
+      (List._∷_ 38 (List._∷_ 91 (List._∷_ 93 List.[])))
+      (Syntax.tcons
+      (Syntax.tyRef Syntax.erased Syntax.mut Elem.ty)
+      (Syntax.tcons (Syntax.tyInt Syntax.w64) Syntax.tnil))),
+) (List._∷_ (
+  19,
+  Rows.any-gone
+      (Syntax.tyRef Syntax.erased Syntax.imm Elem.ty),
+) (List._∷_ (
+  20,
+  Rows.sslice
+      Elem.R
+      (Syntax.tyRef Syntax.erased Syntax.imm Elem.ty)
+      11,
+) (List._∷_ (21, Rows.any-gone (Syntax.tyInt Syntax.w64)) (List._∷_ (
+  22,
+  Rows.sc-here (Row.sInt Syntax.w64),
+) (List._∷_ (23, Rows.sc-here (Row.sInt Syntax.w64)) (List._∷_ (
+  24,
+  Rows.any-gone (Syntax.tyRef Syntax.erased Syntax.mut (Syntax.tyInt Syntax.w64)),
+) (List._∷_ (
+  25,
+  Rows.any-gone
+      (Syntax.tyStruct
+      (List._∷_ 38 (List._∷_ 91 (List._∷_ 93 List.[])))
+      (Syntax.tcons
+      (Syntax.tyRef Syntax.erased Syntax.mut (Syntax.tyInt Syntax.w64))
+      (Syntax.tcons (Syntax.tyInt Syntax.w64) Syntax.tnil))),
+)
+    (List._∷_
+    (26, Rows.any-gone (Syntax.tyRef Syntax.erased Syntax.mut (Syntax.tyInt Syntax.w8)))
+    (List._∷_ (
+      27,
+      Rows.any-gone
+          (Syntax.tyStruct
+          (List._∷_ 38 (List._∷_ 91 (List._∷_ 93 List.[])))
+          (Syntax.tcons
+          (Syntax.tyRef Syntax.erased Syntax.mut (Syntax.tyInt Syntax.w8))
+          (Syntax.tcons (Syntax.tyInt Syntax.w64) Syntax.tnil))),
+    ) (List._∷_ (
+      28,
+      Rows.any-gone (Syntax.tyRef Syntax.erased Syntax.mut (Syntax.tyInt Syntax.w8)),
+    ) (List._∷_ (
+      29,
+      Rows.any-gone
+          (Syntax.tyStruct
+          (List._∷_ 38 (List._∷_ 91 (List._∷_ 93 List.[])))
+          (Syntax.tcons
+          (Syntax.tyRef Syntax.erased Syntax.mut (Syntax.tyInt Syntax.w8))
+          (Syntax.tcons (Syntax.tyInt Syntax.w64) Syntax.tnil))),
+    ) (List._∷_ (
+      30,
+      Rows.any-gone (Syntax.tyRef Syntax.erased Syntax.mut (Syntax.tyInt Syntax.w8)),
+    ) (List._∷_ (
+      31,
+      Rows.any-gone
+          (Syntax.tyStruct
+          (List._∷_ 38 (List._∷_ 91 (List._∷_ 93 List.[])))
+          (Syntax.tcons
+          (Syntax.tyRef Syntax.erased Syntax.mut (Syntax.tyInt Syntax.w8))
+          (Syntax.tcons (Syntax.tyInt Syntax.w64) Syntax.tnil))),
+    ) List.[])))))))))))))))
+
+abbrev pub t19 : List.List Row.Entry
+t19 = List._∷_ (16, Rows.any-gone Syntax.tyBool) (List._∷_ (
+  17,
+  Rows.any-gone
+      (Syntax.tyRef Syntax.erased Syntax.mut Elem.ty),
+) (List._∷_ (
+  18,
+  Rows.any-gone
+      (Syntax.tyStruct
+      (List._∷_ 38 (List._∷_ 91 (List._∷_ 93 List.[])))
+      (Syntax.tcons
+      (Syntax.tyRef Syntax.erased Syntax.mut Elem.ty)
+      (Syntax.tcons (Syntax.tyInt Syntax.w64) Syntax.tnil))),
+) (List._∷_ (
+  19,
+  Rows.any-gone
+      (Syntax.tyRef Syntax.erased Syntax.imm Elem.ty),
+) (List._∷_ (
+  20,
+  Rows.sslice
+      Elem.R
+      (Syntax.tyRef Syntax.erased Syntax.imm Elem.ty)
+      11,
+) (List._∷_ (21, Rows.any-gone (Syntax.tyInt Syntax.w64)) (List._∷_ (
+  22,
+  Rows.any-gone (Syntax.tyInt Syntax.w64),
+) (List._∷_ (23, Rows.sc-here (Row.sInt Syntax.w64)) (List._∷_ (
+  24,
+  Rows.any-gone (Syntax.tyRef Syntax.erased Syntax.mut (Syntax.tyInt Syntax.w64)),
+) (List._∷_ (
+  25,
+  Rows.any-gone
+      (Syntax.tyStruct
+      (List._∷_ 38 (List._∷_ 91 (List._∷_ 93 List.[])))
+      (Syntax.tcons
+      (Syntax.tyRef Syntax.erased Syntax.mut (Syntax.tyInt Syntax.w64))
+      (Syntax.tcons (Syntax.tyInt Syntax.w64) Syntax.tnil))),
+)
+    (List._∷_
+    (26, Rows.any-gone (Syntax.tyRef Syntax.erased Syntax.mut (Syntax.tyInt Syntax.w8)))
+    (List._∷_ (
+      27,
+      Rows.any-gone
+          (Syntax.tyStruct
+          (List._∷_ 38 (List._∷_ 91 (List._∷_ 93 List.[])))
+          (Syntax.tcons
+          (Syntax.tyRef Syntax.erased Syntax.mut (Syntax.tyInt Syntax.w8))
+          (Syntax.tcons (Syntax.tyInt Syntax.w64) Syntax.tnil))),
+    ) (List._∷_ (
+      28,
+      Rows.any-gone (Syntax.tyRef Syntax.erased Syntax.mut (Syntax.tyInt Syntax.w8)),
+    ) (List._∷_ (
+      29,
+      Rows.any-gone
+          (Syntax.tyStruct
+          (List._∷_ 38 (List._∷_ 91 (List._∷_ 93 List.[])))
+          (Syntax.tcons
+          (Syntax.tyRef Syntax.erased Syntax.mut (Syntax.tyInt Syntax.w8))
+          (Syntax.tcons (Syntax.tyInt Syntax.w64) Syntax.tnil))),
+    ) (List._∷_ (
+      30,
+      Rows.any-gone (Syntax.tyRef Syntax.erased Syntax.mut (Syntax.tyInt Syntax.w8)),
+    ) (List._∷_ (
+      31,
+      Rows.any-gone
           (Syntax.tyStruct
           (List._∷_ 38 (List._∷_ 91 (List._∷_ 93 List.[])))
           (Syntax.tcons
@@ -2581,117 +2416,27 @@ t19 = List._∷_ (
     ) List.[])))))))))))))))
 
 abbrev pub t20 : List.List Row.Entry
-t20 = List._∷_ (
-  16,
-  Rows'.any-gone (Syntax.tyArray Elem.held 1024),
-) (List._∷_ (17, Rows'.any-gone Syntax.tyBool) (List._∷_ (
-  18,
-  Rows'.any-gone
-      (Syntax.tyRef
-      Syntax.erased
-      Syntax.mut
-      (Syntax.tyArray Elem.ty 1024)),
-) (List._∷_ (
-  19,
-  Rows'.any-gone
-      (Syntax.tyStruct
-      (List._∷_ 38 (List._∷_ 91 (List._∷_ 93 List.[])))
-      (Syntax.tcons
-      (Syntax.tyRef Syntax.erased Syntax.mut Elem.ty)
-      (Syntax.tcons (Syntax.tyInt Syntax.w64) Syntax.tnil))),
-) (List._∷_ (
-  20,
-  Rows'.any-gone
-      (Syntax.tyRef
-      Syntax.erased
-      Syntax.imm
-      (Syntax.tyArray Elem.ty 1024)),
-) (List._∷_ (
-  21,
-  Rows'.sslice
-      Elem.R
-      (Syntax.tyRef Syntax.erased Syntax.imm Elem.ty)
-      10,
-)
-    (List._∷_ (
-      22,
-      Rows'.any-gone (Syntax.tyRef Syntax.erased Syntax.mut (Syntax.tyInt Syntax.w64)),
-    ) (List._∷_ (
-      23,
-      Rows'.any-gone
-          (Syntax.tyStruct
-          (List._∷_ 38 (List._∷_ 91 (List._∷_ 93 List.[])))
-          (Syntax.tcons
-          (Syntax.tyRef Syntax.erased Syntax.mut (Syntax.tyInt Syntax.w64))
-          (Syntax.tcons (Syntax.tyInt Syntax.w64) Syntax.tnil))),
-    ) (List._∷_ (
-      24,
-      Rows'.any-gone (Syntax.tyRef Syntax.erased Syntax.mut (Syntax.tyInt Syntax.w8)),
-    ) (List._∷_ (
-      25,
-      Rows'.any-gone
-          (Syntax.tyStruct
-          (List._∷_ 38 (List._∷_ 91 (List._∷_ 93 List.[])))
-          (Syntax.tcons
-          (Syntax.tyRef Syntax.erased Syntax.mut (Syntax.tyInt Syntax.w8))
-          (Syntax.tcons (Syntax.tyInt Syntax.w64) Syntax.tnil))),
-    ) (List._∷_ (
-      26,
-      Rows'.any-gone (Syntax.tyRef Syntax.erased Syntax.mut (Syntax.tyInt Syntax.w8)),
-    ) (List._∷_ (
-      27,
-      Rows'.any-gone
-          (Syntax.tyStruct
-          (List._∷_ 38 (List._∷_ 91 (List._∷_ 93 List.[])))
-          (Syntax.tcons
-          (Syntax.tyRef Syntax.erased Syntax.mut (Syntax.tyInt Syntax.w8))
-          (Syntax.tcons (Syntax.tyInt Syntax.w64) Syntax.tnil))),
-    ) (List._∷_ (
-      28,
-      Rows'.any-gone (Syntax.tyRef Syntax.erased Syntax.mut (Syntax.tyInt Syntax.w8)),
-    ) (List._∷_ (
-      29,
-      Rows'.any-gone
-          (Syntax.tyStruct
-          (List._∷_ 38 (List._∷_ 91 (List._∷_ 93 List.[])))
-          (Syntax.tcons
-          (Syntax.tyRef Syntax.erased Syntax.mut (Syntax.tyInt Syntax.w8))
-          (Syntax.tcons (Syntax.tyInt Syntax.w64) Syntax.tnil))),
-    ) (List._∷_ (
-      30,
-      Rows'.any-gone (Syntax.tyRef Syntax.erased Syntax.mut (Syntax.tyInt Syntax.w8)),
-    ) (List._∷_ (
-      31,
-      Rows'.any-gone
-          (Syntax.tyStruct
-          (List._∷_ 38 (List._∷_ 91 (List._∷_ 93 List.[])))
-          (Syntax.tcons
-          (Syntax.tyRef Syntax.erased Syntax.mut (Syntax.tyInt Syntax.w8))
-          (Syntax.tcons (Syntax.tyInt Syntax.w64) Syntax.tnil))),
-    ) List.[])))))))))))))))
-
-abbrev pub t21 : List.List Row.Entry
-t21 = List._∷_ (0, Rows'.any-gone (Syntax.tyInt Syntax.w64)) (List._∷_ (
+t20 = List._∷_ (0, Rows.any-gone (Syntax.tyInt Syntax.w64)) (List._∷_ (
   1,
-  Rows'.sslice
+  Rows.sslice
       (Referent.rtF (Referent.fInt Syntax.w8))
       (Syntax.tyRef (Syntax.named 0) Syntax.imm (Syntax.tyInt Syntax.w8))
       0,
 ) (List._∷_ (
   2,
-  Rows'.sslice
+  Rows.sslice
       (Referent.rtF (Referent.fInt Syntax.w64))
       (Syntax.tyRef (Syntax.named 1) Syntax.imm (Syntax.tyInt Syntax.w64))
       1,
-) (List._∷_ (3, Rows'.sc-here (Row.sInt Syntax.w64)) (List._∷_ (
+) (List._∷_ (3, Rows.sc-here (Row.sInt Syntax.w64)) (List._∷_ (
   4,
-  Rows'.sslice
+  Rows.sslice
       (Referent.rtF (Referent.fInt Syntax.w64))
       (Syntax.tyRef (Syntax.named 2) Syntax.imm (Syntax.tyInt Syntax.w64))
       2,
 ) (List._∷_ (
   5,
-  Rows'.sslice
+  Rows.sslice
       (Referent.rtF (Referent.fInt Syntax.w8))
       (Syntax.tyRef (Syntax.named 3) Syntax.imm (Syntax.tyInt Syntax.w8))
       3,
@@ -2727,37 +2472,185 @@ t21 = List._∷_ (0, Rows'.any-gone (Syntax.tyInt Syntax.w64)) (List._∷_ (
       8,
 ) (List._∷_ (
   11,
-  Rows.arr-shr Elem.R 1024 10,
-) (List._∷_ (12, Rows'.whole (Declared.row LineRec.the-type)) (List._∷_ (
+  Reshare.mslice-owedS
+      Elem.R
+      (Syntax.tyRef (Syntax.named 9) Syntax.mut Elem.ty)
+      9
+      11
+      Row.off,
+) (List._∷_ (12, Rows.sc-here (Row.sInt Syntax.w64)) (List._∷_ (
   13,
-  Rows'.sc-here (Row.sInt Syntax.w64),
-) (List._∷_ (14, Rows'.sc-here (Row.sInt Syntax.w64)) (List._∷_ (
+  Rows.sc-here (Row.sInt Syntax.w64),
+) (List._∷_ (14, Rows.sc-here (Row.sInt Syntax.w64)) (List._∷_ (
   15,
-  Rows'.sc-here (Row.sInt Syntax.w64),
+  Rows.whole (Declared.row LineRec.the-type),
 ) List.[])))))))))))))))
 
+abbrev pub t21 : List.List Row.Entry
+t21 = List._∷_ (16, Rows.any-gone Syntax.tyBool) (List._∷_ (
+  17,
+  Rows.any-gone
+      (Syntax.tyRef Syntax.erased Syntax.mut Elem.ty),
+) (List._∷_ (
+  18,
+  Rows.any-gone
+      (Syntax.tyStruct
+      (List._∷_ 38 (List._∷_ 91 (List._∷_ 93 List.[])))
+      (Syntax.tcons
+      (Syntax.tyRef Syntax.erased Syntax.mut Elem.ty)
+      (Syntax.tcons (Syntax.tyInt Syntax.w64) Syntax.tnil))),
+) (List._∷_ (
+  19,
+  Rows.any-gone
+      (Syntax.tyRef Syntax.erased Syntax.imm Elem.ty),
+) (List._∷_ (
+  20,
+  Rows.any-gone
+      (Syntax.tyStruct
+      (List._∷_ 38 (List._∷_ 91 (List._∷_ 93 List.[])))
+      (Syntax.tcons
+      (Syntax.tyRef Syntax.erased Syntax.imm Elem.ty)
+      (Syntax.tcons (Syntax.tyInt Syntax.w64) Syntax.tnil))),
+) (List._∷_ (21, Rows.any-gone (Syntax.tyInt Syntax.w64)) (List._∷_ (
+  22,
+  Rows.any-gone (Syntax.tyInt Syntax.w64),
+) (List._∷_ (23, Rows.sc-here (Row.sInt Syntax.w64)) (List._∷_ (
+  24,
+  Rows.any-gone (Syntax.tyRef Syntax.erased Syntax.mut (Syntax.tyInt Syntax.w64)),
+) (List._∷_ (
+  25,
+  Rows.any-gone
+      (Syntax.tyStruct
+      (List._∷_ 38 (List._∷_ 91 (List._∷_ 93 List.[])))
+      (Syntax.tcons
+      (Syntax.tyRef Syntax.erased Syntax.mut (Syntax.tyInt Syntax.w64))
+      (Syntax.tcons (Syntax.tyInt Syntax.w64) Syntax.tnil))),
+)
+    (List._∷_
+    (26, Rows.any-gone (Syntax.tyRef Syntax.erased Syntax.mut (Syntax.tyInt Syntax.w8)))
+    (List._∷_ (
+      27,
+      Rows.any-gone
+          (Syntax.tyStruct
+          (List._∷_ 38 (List._∷_ 91 (List._∷_ 93 List.[])))
+          (Syntax.tcons
+          (Syntax.tyRef Syntax.erased Syntax.mut (Syntax.tyInt Syntax.w8))
+          (Syntax.tcons (Syntax.tyInt Syntax.w64) Syntax.tnil))),
+    ) (List._∷_ (
+      28,
+      Rows.any-gone (Syntax.tyRef Syntax.erased Syntax.mut (Syntax.tyInt Syntax.w8)),
+    ) (List._∷_ (
+      29,
+      Rows.any-gone
+          (Syntax.tyStruct
+          (List._∷_ 38 (List._∷_ 91 (List._∷_ 93 List.[])))
+          (Syntax.tcons
+          (Syntax.tyRef Syntax.erased Syntax.mut (Syntax.tyInt Syntax.w8))
+          (Syntax.tcons (Syntax.tyInt Syntax.w64) Syntax.tnil))),
+    ) (List._∷_ (
+      30,
+      Rows.any-gone (Syntax.tyRef Syntax.erased Syntax.mut (Syntax.tyInt Syntax.w8)),
+    ) (List._∷_ (
+      31,
+      Rows.any-gone
+          (Syntax.tyStruct
+          (List._∷_ 38 (List._∷_ 91 (List._∷_ 93 List.[])))
+          (Syntax.tcons
+          (Syntax.tyRef Syntax.erased Syntax.mut (Syntax.tyInt Syntax.w8))
+          (Syntax.tcons (Syntax.tyInt Syntax.w64) Syntax.tnil))),
+    ) List.[])))))))))))))))
+
 abbrev pub t22 : List.List Row.Entry
-t22 = List._∷_ (0, Rows'.any-gone (Syntax.tyInt Syntax.w64)) (List._∷_ (
+t22 = List._∷_ (0, Rows.any-gone (Syntax.tyInt Syntax.w64)) (List._∷_ (
   1,
-  Rows'.sslice
+  Rows.sslice
       (Referent.rtF (Referent.fInt Syntax.w8))
       (Syntax.tyRef (Syntax.named 0) Syntax.imm (Syntax.tyInt Syntax.w8))
       0,
 ) (List._∷_ (
   2,
-  Rows'.sslice
+  Rows.sslice
       (Referent.rtF (Referent.fInt Syntax.w64))
       (Syntax.tyRef (Syntax.named 1) Syntax.imm (Syntax.tyInt Syntax.w64))
       1,
-) (List._∷_ (3, Rows'.sc-here (Row.sInt Syntax.w64)) (List._∷_ (
+) (List._∷_ (3, Rows.sc-here (Row.sInt Syntax.w64)) (List._∷_ (
   4,
-  Rows'.sslice
+  Rows.sslice
       (Referent.rtF (Referent.fInt Syntax.w64))
       (Syntax.tyRef (Syntax.named 2) Syntax.imm (Syntax.tyInt Syntax.w64))
       2,
 ) (List._∷_ (
   5,
-  Rows'.sslice
+  Rows.sslice
+      (Referent.rtF (Referent.fInt Syntax.w8))
+      (Syntax.tyRef (Syntax.named 3) Syntax.imm (Syntax.tyInt Syntax.w8))
+      3,
+) (List._∷_ (
+  6,
+  Mut.mslice
+      (Referent.rtF (Referent.fInt Syntax.w64))
+      (Syntax.tyRef (Syntax.named 4) Syntax.mut (Syntax.tyInt Syntax.w64))
+      4,
+) (List._∷_ (
+  7,
+  Mut.mslice
+      (Referent.rtF (Referent.fInt Syntax.w8))
+      (Syntax.tyRef (Syntax.named 5) Syntax.mut (Syntax.tyInt Syntax.w8))
+      5,
+) (List._∷_ (
+  8,
+  Mut.mslice
+      (Referent.rtF (Referent.fInt Syntax.w8))
+      (Syntax.tyRef (Syntax.named 6) Syntax.mut (Syntax.tyInt Syntax.w8))
+      6,
+) (List._∷_ (
+  9,
+  Mut.mslice
+      (Referent.rtF (Referent.fInt Syntax.w8))
+      (Syntax.tyRef (Syntax.named 7) Syntax.mut (Syntax.tyInt Syntax.w8))
+      7,
+) (List._∷_ (
+  10,
+  Mut.mslice
+      (Referent.rtF (Referent.fInt Syntax.w8))
+      (Syntax.tyRef (Syntax.named 8) Syntax.mut (Syntax.tyInt Syntax.w8))
+      8,
+) (List._∷_ (
+  11,
+  Mut.mslice
+      Elem.R
+      (Syntax.tyRef (Syntax.named 9) Syntax.mut Elem.ty)
+      9,
+) (List._∷_ (12, Rows.sc-here (Row.sInt Syntax.w64)) (List._∷_ (
+  13,
+  Rows.sc-here (Row.sInt Syntax.w64),
+) (List._∷_ (14, Rows.sc-here (Row.sInt Syntax.w64)) (List._∷_ (
+  15,
+  Rows.whole (Declared.row LineRec.the-type),
+) List.[])))))))))))))))
+
+abbrev pub t23 : List.List Row.Entry
+t23 = List._∷_ (0, Rows.any-gone (Syntax.tyInt Syntax.w64)) (List._∷_ (
+  1,
+  Rows.sslice
+      (Referent.rtF (Referent.fInt Syntax.w8))
+      (Syntax.tyRef (Syntax.named 0) Syntax.imm (Syntax.tyInt Syntax.w8))
+      0,
+) (List._∷_ (
+  2,
+  Rows.sslice
+      (Referent.rtF (Referent.fInt Syntax.w64))
+      (Syntax.tyRef (Syntax.named 1) Syntax.imm (Syntax.tyInt Syntax.w64))
+      1,
+) (List._∷_ (3, Rows.sc-here (Row.sInt Syntax.w64)) (List._∷_ (
+  4,
+  Rows.sslice
+      (Referent.rtF (Referent.fInt Syntax.w64))
+      (Syntax.tyRef (Syntax.named 2) Syntax.imm (Syntax.tyInt Syntax.w64))
+      2,
+) (List._∷_ (
+  5,
+  Rows.sslice
       (Referent.rtF (Referent.fInt Syntax.w8))
       (Syntax.tyRef (Syntax.named 3) Syntax.imm (Syntax.tyInt Syntax.w8))
       3,
@@ -2767,7 +2660,7 @@ t22 = List._∷_ (0, Rows'.any-gone (Syntax.tyInt Syntax.w64)) (List._∷_ (
       (Referent.rtF (Referent.fInt Syntax.w64))
       (Syntax.tyRef (Syntax.named 4) Syntax.mut (Syntax.tyInt Syntax.w64))
       4
-      11
+      12
       Row.off,
 ) (List._∷_ (
   7,
@@ -2793,83 +2686,68 @@ t22 = List._∷_ (0, Rows'.any-gone (Syntax.tyInt Syntax.w64)) (List._∷_ (
       (Referent.rtF (Referent.fInt Syntax.w8))
       (Syntax.tyRef (Syntax.named 8) Syntax.mut (Syntax.tyInt Syntax.w8))
       8,
-)
-    (List._∷_
-    (11, Rows.arrF Elem.R 1024 0)
-    (List._∷_ (12, Rows'.whole (Declared.row LineRec.the-type)) (List._∷_ (
-      13,
-      Rows'.sc-here (Row.sInt Syntax.w64),
-    ) (List._∷_ (14, Rows'.sc-here (Row.sInt Syntax.w64)) (List._∷_ (
-      15,
-      Rows'.sc-here (Row.sInt Syntax.w64),
-    ) List.[])))))))))))))))
-
-abbrev pub t23 : List.List Row.Entry
-t23 = List._∷_ (
-  16,
-  Rows'.any-gone (Syntax.tyArray Elem.held 1024),
-) (List._∷_ (17, Rows'.any-gone Syntax.tyBool) (List._∷_ (
-  18,
-  Rows'.any-gone
-      (Syntax.tyRef
-      Syntax.erased
-      Syntax.mut
-      (Syntax.tyArray Elem.ty 1024)),
 ) (List._∷_ (
-  19,
-  Rows'.any-gone
+  11,
+  Mut.mslice
+      Elem.R
+      (Syntax.tyRef (Syntax.named 9) Syntax.mut Elem.ty)
+      9,
+) (List._∷_ (12, Rows.sc-here (Row.sInt Syntax.w64)) (List._∷_ (
+  13,
+  Rows.sc-here (Row.sInt Syntax.w64),
+) (List._∷_ (14, Rows.sc-here (Row.sInt Syntax.w64)) (List._∷_ (
+  15,
+  Rows.whole (Declared.row LineRec.the-type),
+) List.[])))))))))))))))
+
+abbrev pub t24 : List.List Row.Entry
+t24 = List._∷_ (16, Rows.any-gone Syntax.tyBool) (List._∷_ (
+  17,
+  Rows.any-gone
+      (Syntax.tyRef Syntax.erased Syntax.mut Elem.ty),
+) (List._∷_ (
+  18,
+  Rows.any-gone
       (Syntax.tyStruct
       (List._∷_ 38 (List._∷_ 91 (List._∷_ 93 List.[])))
       (Syntax.tcons
       (Syntax.tyRef Syntax.erased Syntax.mut Elem.ty)
       (Syntax.tcons (Syntax.tyInt Syntax.w64) Syntax.tnil))),
 ) (List._∷_ (
-  20,
-  Rows'.any-gone
-      (Syntax.tyRef
-      Syntax.erased
-      Syntax.imm
-      (Syntax.tyArray Elem.ty 1024)),
+  19,
+  Rows.any-gone
+      (Syntax.tyRef Syntax.erased Syntax.imm Elem.ty),
 ) (List._∷_ (
-  21,
-  Rows'.any-gone
+  20,
+  Rows.any-gone
       (Syntax.tyStruct
       (List._∷_ 38 (List._∷_ 91 (List._∷_ 93 List.[])))
       (Syntax.tcons
       (Syntax.tyRef Syntax.erased Syntax.imm Elem.ty)
       (Syntax.tcons (Syntax.tyInt Syntax.w64) Syntax.tnil))),
-) (List._∷_ (
+) (List._∷_ (21, Rows.any-gone (Syntax.tyInt Syntax.w64)) (List._∷_ (
   22,
+  Rows.any-gone (Syntax.tyInt Syntax.w64),
+) (List._∷_ (23, Rows.any-gone (Syntax.tyInt Syntax.w64)) (List._∷_ (
+  24,
   Relend.msptr
       (Referent.rtF (Referent.fInt Syntax.w64))
       (Syntax.tyRef Syntax.erased Syntax.mut (Syntax.tyInt Syntax.w64))
-      11,
+      12,
 ) (List._∷_ (
-  23,
-  Rows'.any-gone
+  25,
+  Rows.any-gone
       (Syntax.tyStruct
       (List._∷_ 38 (List._∷_ 91 (List._∷_ 93 List.[])))
       (Syntax.tcons
       (Syntax.tyRef Syntax.erased Syntax.mut (Syntax.tyInt Syntax.w64))
       (Syntax.tcons (Syntax.tyInt Syntax.w64) Syntax.tnil))),
 )
+    (List._∷_
+    (26, Rows.any-gone (Syntax.tyRef Syntax.erased Syntax.mut (Syntax.tyInt Syntax.w8)))
     (List._∷_ (
-      24,
-      Rows'.any-gone (Syntax.tyRef Syntax.erased Syntax.mut (Syntax.tyInt Syntax.w8)),
-    ) (List._∷_ (
-      25,
-      Rows'.any-gone
-          (Syntax.tyStruct
-          (List._∷_ 38 (List._∷_ 91 (List._∷_ 93 List.[])))
-          (Syntax.tcons
-          (Syntax.tyRef Syntax.erased Syntax.mut (Syntax.tyInt Syntax.w8))
-          (Syntax.tcons (Syntax.tyInt Syntax.w64) Syntax.tnil))),
-    ) (List._∷_ (
-      26,
-      Rows'.any-gone (Syntax.tyRef Syntax.erased Syntax.mut (Syntax.tyInt Syntax.w8)),
-    ) (List._∷_ (
       27,
-      Rows'.any-gone
+      Rows.any-gone
           (Syntax.tyStruct
           (List._∷_ 38 (List._∷_ 91 (List._∷_ 93 List.[])))
           (Syntax.tcons
@@ -2877,10 +2755,10 @@ t23 = List._∷_ (
           (Syntax.tcons (Syntax.tyInt Syntax.w64) Syntax.tnil))),
     ) (List._∷_ (
       28,
-      Rows'.any-gone (Syntax.tyRef Syntax.erased Syntax.mut (Syntax.tyInt Syntax.w8)),
+      Rows.any-gone (Syntax.tyRef Syntax.erased Syntax.mut (Syntax.tyInt Syntax.w8)),
     ) (List._∷_ (
       29,
-      Rows'.any-gone
+      Rows.any-gone
           (Syntax.tyStruct
           (List._∷_ 38 (List._∷_ 91 (List._∷_ 93 List.[])))
           (Syntax.tcons
@@ -2888,100 +2766,10 @@ t23 = List._∷_ (
           (Syntax.tcons (Syntax.tyInt Syntax.w64) Syntax.tnil))),
     ) (List._∷_ (
       30,
-      Rows'.any-gone (Syntax.tyRef Syntax.erased Syntax.mut (Syntax.tyInt Syntax.w8)),
+      Rows.any-gone (Syntax.tyRef Syntax.erased Syntax.mut (Syntax.tyInt Syntax.w8)),
     ) (List._∷_ (
       31,
-      Rows'.any-gone
-          (Syntax.tyStruct
-          (List._∷_ 38 (List._∷_ 91 (List._∷_ 93 List.[])))
-          (Syntax.tcons
-          (Syntax.tyRef Syntax.erased Syntax.mut (Syntax.tyInt Syntax.w8))
-          (Syntax.tcons (Syntax.tyInt Syntax.w64) Syntax.tnil))),
-    ) List.[])))))))))))))))
-
-abbrev pub t24 : List.List Row.Entry
-t24 = List._∷_ (
-  16,
-  Rows'.any-gone (Syntax.tyArray Elem.held 1024),
-) (List._∷_ (17, Rows'.any-gone Syntax.tyBool) (List._∷_ (
-  18,
-  Rows'.any-gone
-      (Syntax.tyRef
-      Syntax.erased
-      Syntax.mut
-      (Syntax.tyArray Elem.ty 1024)),
-) (List._∷_ (
-  19,
-  Rows'.any-gone
-      (Syntax.tyStruct
-      (List._∷_ 38 (List._∷_ 91 (List._∷_ 93 List.[])))
-      (Syntax.tcons
-      (Syntax.tyRef Syntax.erased Syntax.mut Elem.ty)
-      (Syntax.tcons (Syntax.tyInt Syntax.w64) Syntax.tnil))),
-) (List._∷_ (
-  20,
-  Rows'.any-gone
-      (Syntax.tyRef
-      Syntax.erased
-      Syntax.imm
-      (Syntax.tyArray Elem.ty 1024)),
-) (List._∷_ (
-  21,
-  Rows'.any-gone
-      (Syntax.tyStruct
-      (List._∷_ 38 (List._∷_ 91 (List._∷_ 93 List.[])))
-      (Syntax.tcons
-      (Syntax.tyRef Syntax.erased Syntax.imm Elem.ty)
-      (Syntax.tcons (Syntax.tyInt Syntax.w64) Syntax.tnil))),
-)
-    (List._∷_ (
-      22,
-      Rows'.any-gone (Syntax.tyRef Syntax.erased Syntax.mut (Syntax.tyInt Syntax.w64)),
-    ) (List._∷_ (
-      23,
-      Mut.mslice
-          (Referent.rtF (Referent.fInt Syntax.w64))
-          (Syntax.tyRef Syntax.erased Syntax.mut (Syntax.tyInt Syntax.w64))
-          11,
-    ) (List._∷_ (
-      24,
-      Rows'.any-gone (Syntax.tyRef Syntax.erased Syntax.mut (Syntax.tyInt Syntax.w8)),
-    ) (List._∷_ (
-      25,
-      Rows'.any-gone
-          (Syntax.tyStruct
-          (List._∷_ 38 (List._∷_ 91 (List._∷_ 93 List.[])))
-          (Syntax.tcons
-          (Syntax.tyRef Syntax.erased Syntax.mut (Syntax.tyInt Syntax.w8))
-          (Syntax.tcons (Syntax.tyInt Syntax.w64) Syntax.tnil))),
-    ) (List._∷_ (
-      26,
-      Rows'.any-gone (Syntax.tyRef Syntax.erased Syntax.mut (Syntax.tyInt Syntax.w8)),
-    ) (List._∷_ (
-      27,
-      Rows'.any-gone
-          (Syntax.tyStruct
-          (List._∷_ 38 (List._∷_ 91 (List._∷_ 93 List.[])))
-          (Syntax.tcons
-          (Syntax.tyRef Syntax.erased Syntax.mut (Syntax.tyInt Syntax.w8))
-          (Syntax.tcons (Syntax.tyInt Syntax.w64) Syntax.tnil))),
-    ) (List._∷_ (
-      28,
-      Rows'.any-gone (Syntax.tyRef Syntax.erased Syntax.mut (Syntax.tyInt Syntax.w8)),
-    ) (List._∷_ (
-      29,
-      Rows'.any-gone
-          (Syntax.tyStruct
-          (List._∷_ 38 (List._∷_ 91 (List._∷_ 93 List.[])))
-          (Syntax.tcons
-          (Syntax.tyRef Syntax.erased Syntax.mut (Syntax.tyInt Syntax.w8))
-          (Syntax.tcons (Syntax.tyInt Syntax.w64) Syntax.tnil))),
-    ) (List._∷_ (
-      30,
-      Rows'.any-gone (Syntax.tyRef Syntax.erased Syntax.mut (Syntax.tyInt Syntax.w8)),
-    ) (List._∷_ (
-      31,
-      Rows'.any-gone
+      Rows.any-gone
           (Syntax.tyStruct
           (List._∷_ 38 (List._∷_ 91 (List._∷_ 93 List.[])))
           (Syntax.tcons
@@ -2990,27 +2778,99 @@ t24 = List._∷_ (
     ) List.[])))))))))))))))
 
 abbrev pub t25 : List.List Row.Entry
-t25 = List._∷_ (0, Rows'.any-gone (Syntax.tyInt Syntax.w64)) (List._∷_ (
+t25 = List._∷_ (16, Rows.any-gone Syntax.tyBool) (List._∷_ (
+  17,
+  Rows.any-gone
+      (Syntax.tyRef Syntax.erased Syntax.mut Elem.ty),
+) (List._∷_ (
+  18,
+  Rows.any-gone
+      (Syntax.tyStruct
+      (List._∷_ 38 (List._∷_ 91 (List._∷_ 93 List.[])))
+      (Syntax.tcons
+      (Syntax.tyRef Syntax.erased Syntax.mut Elem.ty)
+      (Syntax.tcons (Syntax.tyInt Syntax.w64) Syntax.tnil))),
+) (List._∷_ (
+  19,
+  Rows.any-gone
+      (Syntax.tyRef Syntax.erased Syntax.imm Elem.ty),
+) (List._∷_ (
+  20,
+  Rows.any-gone
+      (Syntax.tyStruct
+      (List._∷_ 38 (List._∷_ 91 (List._∷_ 93 List.[])))
+      (Syntax.tcons
+      (Syntax.tyRef Syntax.erased Syntax.imm Elem.ty)
+      (Syntax.tcons (Syntax.tyInt Syntax.w64) Syntax.tnil))),
+) (List._∷_ (21, Rows.any-gone (Syntax.tyInt Syntax.w64)) (List._∷_ (
+  22,
+  Rows.any-gone (Syntax.tyInt Syntax.w64),
+) (List._∷_ (23, Rows.any-gone (Syntax.tyInt Syntax.w64)) (List._∷_ (
+  24,
+  Rows.any-gone (Syntax.tyRef Syntax.erased Syntax.mut (Syntax.tyInt Syntax.w64)),
+) (List._∷_ (
+  25,
+  Mut.mslice
+      (Referent.rtF (Referent.fInt Syntax.w64))
+      (Syntax.tyRef Syntax.erased Syntax.mut (Syntax.tyInt Syntax.w64))
+      12,
+)
+    (List._∷_
+    (26, Rows.any-gone (Syntax.tyRef Syntax.erased Syntax.mut (Syntax.tyInt Syntax.w8)))
+    (List._∷_ (
+      27,
+      Rows.any-gone
+          (Syntax.tyStruct
+          (List._∷_ 38 (List._∷_ 91 (List._∷_ 93 List.[])))
+          (Syntax.tcons
+          (Syntax.tyRef Syntax.erased Syntax.mut (Syntax.tyInt Syntax.w8))
+          (Syntax.tcons (Syntax.tyInt Syntax.w64) Syntax.tnil))),
+    ) (List._∷_ (
+      28,
+      Rows.any-gone (Syntax.tyRef Syntax.erased Syntax.mut (Syntax.tyInt Syntax.w8)),
+    ) (List._∷_ (
+      29,
+      Rows.any-gone
+          (Syntax.tyStruct
+          (List._∷_ 38 (List._∷_ 91 (List._∷_ 93 List.[])))
+          (Syntax.tcons
+          (Syntax.tyRef Syntax.erased Syntax.mut (Syntax.tyInt Syntax.w8))
+          (Syntax.tcons (Syntax.tyInt Syntax.w64) Syntax.tnil))),
+    ) (List._∷_ (
+      30,
+      Rows.any-gone (Syntax.tyRef Syntax.erased Syntax.mut (Syntax.tyInt Syntax.w8)),
+    ) (List._∷_ (
+      31,
+      Rows.any-gone
+          (Syntax.tyStruct
+          (List._∷_ 38 (List._∷_ 91 (List._∷_ 93 List.[])))
+          (Syntax.tcons
+          (Syntax.tyRef Syntax.erased Syntax.mut (Syntax.tyInt Syntax.w8))
+          (Syntax.tcons (Syntax.tyInt Syntax.w64) Syntax.tnil))),
+    ) List.[])))))))))))))))
+
+abbrev pub t26 : List.List Row.Entry
+t26 = List._∷_ (0, Rows.any-gone (Syntax.tyInt Syntax.w64)) (List._∷_ (
   1,
-  Rows'.sslice
+  Rows.sslice
       (Referent.rtF (Referent.fInt Syntax.w8))
       (Syntax.tyRef (Syntax.named 0) Syntax.imm (Syntax.tyInt Syntax.w8))
       0,
 ) (List._∷_ (
   2,
-  Rows'.sslice
+  Rows.sslice
       (Referent.rtF (Referent.fInt Syntax.w64))
       (Syntax.tyRef (Syntax.named 1) Syntax.imm (Syntax.tyInt Syntax.w64))
       1,
-) (List._∷_ (3, Rows'.sc-here (Row.sInt Syntax.w64)) (List._∷_ (
+) (List._∷_ (3, Rows.sc-here (Row.sInt Syntax.w64)) (List._∷_ (
   4,
-  Rows'.sslice
+  Rows.sslice
       (Referent.rtF (Referent.fInt Syntax.w64))
       (Syntax.tyRef (Syntax.named 2) Syntax.imm (Syntax.tyInt Syntax.w64))
       2,
 ) (List._∷_ (
   5,
-  Rows'.sslice
+  Rows.sslice
       (Referent.rtF (Referent.fInt Syntax.w8))
       (Syntax.tyRef (Syntax.named 3) Syntax.imm (Syntax.tyInt Syntax.w8))
       3,
@@ -3020,7 +2880,7 @@ t25 = List._∷_ (0, Rows'.any-gone (Syntax.tyInt Syntax.w64)) (List._∷_ (
       (Referent.rtF (Referent.fInt Syntax.w64))
       (Syntax.tyRef (Syntax.named 4) Syntax.mut (Syntax.tyInt Syntax.w64))
       4
-      11
+      12
       Row.off,
 ) (List._∷_ (
   7,
@@ -3028,7 +2888,7 @@ t25 = List._∷_ (0, Rows'.any-gone (Syntax.tyInt Syntax.w64)) (List._∷_ (
       (Referent.rtF (Referent.fInt Syntax.w8))
       (Syntax.tyRef (Syntax.named 5) Syntax.mut (Syntax.tyInt Syntax.w8))
       5
-      12
+      13
       Row.off,
 ) (List._∷_ (
   8,
@@ -3048,180 +2908,77 @@ t25 = List._∷_ (0, Rows'.any-gone (Syntax.tyInt Syntax.w64)) (List._∷_ (
       (Referent.rtF (Referent.fInt Syntax.w8))
       (Syntax.tyRef (Syntax.named 8) Syntax.mut (Syntax.tyInt Syntax.w8))
       8,
-)
-    (List._∷_
-    (11, Rows.arrF Elem.R 1024 0)
-    (List._∷_ (12, Rows'.whole (Declared.row LineRec.the-type)) (List._∷_ (
-      13,
-      Rows'.sc-here (Row.sInt Syntax.w64),
-    ) (List._∷_ (14, Rows'.sc-here (Row.sInt Syntax.w64)) (List._∷_ (
-      15,
-      Rows'.sc-here (Row.sInt Syntax.w64),
-    ) List.[])))))))))))))))
-
-abbrev pub t26 : List.List Row.Entry
-t26 = List._∷_ (
-  16,
-  Rows'.any-gone (Syntax.tyArray Elem.held 1024),
-) (List._∷_ (17, Rows'.any-gone Syntax.tyBool) (List._∷_ (
-  18,
-  Rows'.any-gone
-      (Syntax.tyRef
-      Syntax.erased
-      Syntax.mut
-      (Syntax.tyArray Elem.ty 1024)),
 ) (List._∷_ (
-  19,
-  Rows'.any-gone
-      (Syntax.tyStruct
-      (List._∷_ 38 (List._∷_ 91 (List._∷_ 93 List.[])))
-      (Syntax.tcons
-      (Syntax.tyRef Syntax.erased Syntax.mut Elem.ty)
-      (Syntax.tcons (Syntax.tyInt Syntax.w64) Syntax.tnil))),
-) (List._∷_ (
-  20,
-  Rows'.any-gone
-      (Syntax.tyRef
-      Syntax.erased
-      Syntax.imm
-      (Syntax.tyArray Elem.ty 1024)),
-) (List._∷_ (
-  21,
-  Rows'.any-gone
-      (Syntax.tyStruct
-      (List._∷_ 38 (List._∷_ 91 (List._∷_ 93 List.[])))
-      (Syntax.tcons
-      (Syntax.tyRef Syntax.erased Syntax.imm Elem.ty)
-      (Syntax.tcons (Syntax.tyInt Syntax.w64) Syntax.tnil))),
-)
-    (List._∷_ (
-      22,
-      Rows'.any-gone (Syntax.tyRef Syntax.erased Syntax.mut (Syntax.tyInt Syntax.w64)),
-    ) (List._∷_ (
-      23,
-      Mut.mslice
-          (Referent.rtF (Referent.fInt Syntax.w64))
-          (Syntax.tyRef Syntax.erased Syntax.mut (Syntax.tyInt Syntax.w64))
-          11,
-    ) (List._∷_ (
-      24,
-      Relend.msptr
-          (Referent.rtF (Referent.fInt Syntax.w8))
-          (Syntax.tyRef Syntax.erased Syntax.mut (Syntax.tyInt Syntax.w8))
-          12,
-    ) (List._∷_ (
-      25,
-      Rows'.any-gone
-          (Syntax.tyStruct
-          (List._∷_ 38 (List._∷_ 91 (List._∷_ 93 List.[])))
-          (Syntax.tcons
-          (Syntax.tyRef Syntax.erased Syntax.mut (Syntax.tyInt Syntax.w8))
-          (Syntax.tcons (Syntax.tyInt Syntax.w64) Syntax.tnil))),
-    ) (List._∷_ (
-      26,
-      Rows'.any-gone (Syntax.tyRef Syntax.erased Syntax.mut (Syntax.tyInt Syntax.w8)),
-    ) (List._∷_ (
-      27,
-      Rows'.any-gone
-          (Syntax.tyStruct
-          (List._∷_ 38 (List._∷_ 91 (List._∷_ 93 List.[])))
-          (Syntax.tcons
-          (Syntax.tyRef Syntax.erased Syntax.mut (Syntax.tyInt Syntax.w8))
-          (Syntax.tcons (Syntax.tyInt Syntax.w64) Syntax.tnil))),
-    ) (List._∷_ (
-      28,
-      Rows'.any-gone (Syntax.tyRef Syntax.erased Syntax.mut (Syntax.tyInt Syntax.w8)),
-    ) (List._∷_ (
-      29,
-      Rows'.any-gone
-          (Syntax.tyStruct
-          (List._∷_ 38 (List._∷_ 91 (List._∷_ 93 List.[])))
-          (Syntax.tcons
-          (Syntax.tyRef Syntax.erased Syntax.mut (Syntax.tyInt Syntax.w8))
-          (Syntax.tcons (Syntax.tyInt Syntax.w64) Syntax.tnil))),
-    ) (List._∷_ (
-      30,
-      Rows'.any-gone (Syntax.tyRef Syntax.erased Syntax.mut (Syntax.tyInt Syntax.w8)),
-    ) (List._∷_ (
-      31,
-      Rows'.any-gone
-          (Syntax.tyStruct
-          (List._∷_ 38 (List._∷_ 91 (List._∷_ 93 List.[])))
-          (Syntax.tcons
-          (Syntax.tyRef Syntax.erased Syntax.mut (Syntax.tyInt Syntax.w8))
-          (Syntax.tcons (Syntax.tyInt Syntax.w64) Syntax.tnil))),
-    ) List.[])))))))))))))))
+  11,
+  Mut.mslice
+      Elem.R
+      (Syntax.tyRef (Syntax.named 9) Syntax.mut Elem.ty)
+      9,
+) (List._∷_ (12, Rows.sc-here (Row.sInt Syntax.w64)) (List._∷_ (
+  13,
+  Rows.sc-here (Row.sInt Syntax.w64),
+) (List._∷_ (14, Rows.sc-here (Row.sInt Syntax.w64)) (List._∷_ (
+  15,
+  Rows.whole (Declared.row LineRec.the-type),
+) List.[])))))))))))))))
 
 abbrev pub t27 : List.List Row.Entry
-t27 = List._∷_ (
-  16,
-  Rows'.any-gone (Syntax.tyArray Elem.held 1024),
-) (List._∷_ (17, Rows'.any-gone Syntax.tyBool) (List._∷_ (
-  18,
-  Rows'.any-gone
-      (Syntax.tyRef
-      Syntax.erased
-      Syntax.mut
-      (Syntax.tyArray Elem.ty 1024)),
+t27 = List._∷_ (16, Rows.any-gone Syntax.tyBool) (List._∷_ (
+  17,
+  Rows.any-gone
+      (Syntax.tyRef Syntax.erased Syntax.mut Elem.ty),
 ) (List._∷_ (
-  19,
-  Rows'.any-gone
+  18,
+  Rows.any-gone
       (Syntax.tyStruct
       (List._∷_ 38 (List._∷_ 91 (List._∷_ 93 List.[])))
       (Syntax.tcons
       (Syntax.tyRef Syntax.erased Syntax.mut Elem.ty)
       (Syntax.tcons (Syntax.tyInt Syntax.w64) Syntax.tnil))),
 ) (List._∷_ (
-  20,
-  Rows'.any-gone
-      (Syntax.tyRef
-      Syntax.erased
-      Syntax.imm
-      (Syntax.tyArray Elem.ty 1024)),
+  19,
+  Rows.any-gone
+      (Syntax.tyRef Syntax.erased Syntax.imm Elem.ty),
 ) (List._∷_ (
-  21,
-  Rows'.any-gone
+  20,
+  Rows.any-gone
       (Syntax.tyStruct
       (List._∷_ 38 (List._∷_ 91 (List._∷_ 93 List.[])))
       (Syntax.tcons
       (Syntax.tyRef Syntax.erased Syntax.imm Elem.ty)
       (Syntax.tcons (Syntax.tyInt Syntax.w64) Syntax.tnil))),
+) (List._∷_ (21, Rows.any-gone (Syntax.tyInt Syntax.w64)) (List._∷_ (
+  22,
+  Rows.any-gone (Syntax.tyInt Syntax.w64),
+) (List._∷_ (23, Rows.any-gone (Syntax.tyInt Syntax.w64)) (List._∷_ (
+  24,
+  Rows.any-gone (Syntax.tyRef Syntax.erased Syntax.mut (Syntax.tyInt Syntax.w64)),
+) (List._∷_ (
+  25,
+  Mut.mslice
+      (Referent.rtF (Referent.fInt Syntax.w64))
+      (Syntax.tyRef Syntax.erased Syntax.mut (Syntax.tyInt Syntax.w64))
+      12,
+) (List._∷_ (
+  26,
+  Relend.msptr
+      (Referent.rtF (Referent.fInt Syntax.w8))
+      (Syntax.tyRef Syntax.erased Syntax.mut (Syntax.tyInt Syntax.w8))
+      13,
+) (List._∷_ (
+  27,
+  Rows.any-gone
+      (Syntax.tyStruct
+      (List._∷_ 38 (List._∷_ 91 (List._∷_ 93 List.[])))
+      (Syntax.tcons
+      (Syntax.tyRef Syntax.erased Syntax.mut (Syntax.tyInt Syntax.w8))
+      (Syntax.tcons (Syntax.tyInt Syntax.w64) Syntax.tnil))),
 )
+    (List._∷_
+    (28, Rows.any-gone (Syntax.tyRef Syntax.erased Syntax.mut (Syntax.tyInt Syntax.w8)))
     (List._∷_ (
-      22,
-      Rows'.any-gone (Syntax.tyRef Syntax.erased Syntax.mut (Syntax.tyInt Syntax.w64)),
-    ) (List._∷_ (
-      23,
-      Mut.mslice
-          (Referent.rtF (Referent.fInt Syntax.w64))
-          (Syntax.tyRef Syntax.erased Syntax.mut (Syntax.tyInt Syntax.w64))
-          11,
-    ) (List._∷_ (
-      24,
-      Rows'.any-gone (Syntax.tyRef Syntax.erased Syntax.mut (Syntax.tyInt Syntax.w8)),
-    ) (List._∷_ (
-      25,
-      Mut.mslice
-          (Referent.rtF (Referent.fInt Syntax.w8))
-          (Syntax.tyRef Syntax.erased Syntax.mut (Syntax.tyInt Syntax.w8))
-          12,
-    ) (List._∷_ (
-      26,
-      Rows'.any-gone (Syntax.tyRef Syntax.erased Syntax.mut (Syntax.tyInt Syntax.w8)),
-    ) (List._∷_ (
-      27,
-      Rows'.any-gone
-          (Syntax.tyStruct
-          (List._∷_ 38 (List._∷_ 91 (List._∷_ 93 List.[])))
-          (Syntax.tcons
-          (Syntax.tyRef Syntax.erased Syntax.mut (Syntax.tyInt Syntax.w8))
-          (Syntax.tcons (Syntax.tyInt Syntax.w64) Syntax.tnil))),
-    ) (List._∷_ (
-      28,
-      Rows'.any-gone (Syntax.tyRef Syntax.erased Syntax.mut (Syntax.tyInt Syntax.w8)),
-    ) (List._∷_ (
       29,
-      Rows'.any-gone
+      Rows.any-gone
           (Syntax.tyStruct
           (List._∷_ 38 (List._∷_ 91 (List._∷_ 93 List.[])))
           (Syntax.tcons
@@ -3229,10 +2986,10 @@ t27 = List._∷_ (
           (Syntax.tcons (Syntax.tyInt Syntax.w64) Syntax.tnil))),
     ) (List._∷_ (
       30,
-      Rows'.any-gone (Syntax.tyRef Syntax.erased Syntax.mut (Syntax.tyInt Syntax.w8)),
+      Rows.any-gone (Syntax.tyRef Syntax.erased Syntax.mut (Syntax.tyInt Syntax.w8)),
     ) (List._∷_ (
       31,
-      Rows'.any-gone
+      Rows.any-gone
           (Syntax.tyStruct
           (List._∷_ 38 (List._∷_ 91 (List._∷_ 93 List.[])))
           (Syntax.tcons
@@ -3241,27 +2998,97 @@ t27 = List._∷_ (
     ) List.[])))))))))))))))
 
 abbrev pub t28 : List.List Row.Entry
-t28 = List._∷_ (0, Rows'.any-gone (Syntax.tyInt Syntax.w64)) (List._∷_ (
+t28 = List._∷_ (16, Rows.any-gone Syntax.tyBool) (List._∷_ (
+  17,
+  Rows.any-gone
+      (Syntax.tyRef Syntax.erased Syntax.mut Elem.ty),
+) (List._∷_ (
+  18,
+  Rows.any-gone
+      (Syntax.tyStruct
+      (List._∷_ 38 (List._∷_ 91 (List._∷_ 93 List.[])))
+      (Syntax.tcons
+      (Syntax.tyRef Syntax.erased Syntax.mut Elem.ty)
+      (Syntax.tcons (Syntax.tyInt Syntax.w64) Syntax.tnil))),
+) (List._∷_ (
+  19,
+  Rows.any-gone
+      (Syntax.tyRef Syntax.erased Syntax.imm Elem.ty),
+) (List._∷_ (
+  20,
+  Rows.any-gone
+      (Syntax.tyStruct
+      (List._∷_ 38 (List._∷_ 91 (List._∷_ 93 List.[])))
+      (Syntax.tcons
+      (Syntax.tyRef Syntax.erased Syntax.imm Elem.ty)
+      (Syntax.tcons (Syntax.tyInt Syntax.w64) Syntax.tnil))),
+) (List._∷_ (21, Rows.any-gone (Syntax.tyInt Syntax.w64)) (List._∷_ (
+  22,
+  Rows.any-gone (Syntax.tyInt Syntax.w64),
+) (List._∷_ (23, Rows.any-gone (Syntax.tyInt Syntax.w64)) (List._∷_ (
+  24,
+  Rows.any-gone (Syntax.tyRef Syntax.erased Syntax.mut (Syntax.tyInt Syntax.w64)),
+) (List._∷_ (
+  25,
+  Mut.mslice
+      (Referent.rtF (Referent.fInt Syntax.w64))
+      (Syntax.tyRef Syntax.erased Syntax.mut (Syntax.tyInt Syntax.w64))
+      12,
+)
+    (List._∷_
+    (26, Rows.any-gone (Syntax.tyRef Syntax.erased Syntax.mut (Syntax.tyInt Syntax.w8)))
+    (List._∷_ (
+      27,
+      Mut.mslice
+          (Referent.rtF (Referent.fInt Syntax.w8))
+          (Syntax.tyRef Syntax.erased Syntax.mut (Syntax.tyInt Syntax.w8))
+          13,
+    ) (List._∷_ (
+      28,
+      Rows.any-gone (Syntax.tyRef Syntax.erased Syntax.mut (Syntax.tyInt Syntax.w8)),
+    ) (List._∷_ (
+      29,
+      Rows.any-gone
+          (Syntax.tyStruct
+          (List._∷_ 38 (List._∷_ 91 (List._∷_ 93 List.[])))
+          (Syntax.tcons
+          (Syntax.tyRef Syntax.erased Syntax.mut (Syntax.tyInt Syntax.w8))
+          (Syntax.tcons (Syntax.tyInt Syntax.w64) Syntax.tnil))),
+    ) (List._∷_ (
+      30,
+      Rows.any-gone (Syntax.tyRef Syntax.erased Syntax.mut (Syntax.tyInt Syntax.w8)),
+    ) (List._∷_ (
+      31,
+      Rows.any-gone
+          (Syntax.tyStruct
+          (List._∷_ 38 (List._∷_ 91 (List._∷_ 93 List.[])))
+          (Syntax.tcons
+          (Syntax.tyRef Syntax.erased Syntax.mut (Syntax.tyInt Syntax.w8))
+          (Syntax.tcons (Syntax.tyInt Syntax.w64) Syntax.tnil))),
+    ) List.[])))))))))))))))
+
+abbrev pub t29 : List.List Row.Entry
+t29 = List._∷_ (0, Rows.any-gone (Syntax.tyInt Syntax.w64)) (List._∷_ (
   1,
-  Rows'.sslice
+  Rows.sslice
       (Referent.rtF (Referent.fInt Syntax.w8))
       (Syntax.tyRef (Syntax.named 0) Syntax.imm (Syntax.tyInt Syntax.w8))
       0,
 ) (List._∷_ (
   2,
-  Rows'.sslice
+  Rows.sslice
       (Referent.rtF (Referent.fInt Syntax.w64))
       (Syntax.tyRef (Syntax.named 1) Syntax.imm (Syntax.tyInt Syntax.w64))
       1,
-) (List._∷_ (3, Rows'.sc-here (Row.sInt Syntax.w64)) (List._∷_ (
+) (List._∷_ (3, Rows.sc-here (Row.sInt Syntax.w64)) (List._∷_ (
   4,
-  Rows'.sslice
+  Rows.sslice
       (Referent.rtF (Referent.fInt Syntax.w64))
       (Syntax.tyRef (Syntax.named 2) Syntax.imm (Syntax.tyInt Syntax.w64))
       2,
 ) (List._∷_ (
   5,
-  Rows'.sslice
+  Rows.sslice
       (Referent.rtF (Referent.fInt Syntax.w8))
       (Syntax.tyRef (Syntax.named 3) Syntax.imm (Syntax.tyInt Syntax.w8))
       3,
@@ -3271,7 +3098,7 @@ t28 = List._∷_ (0, Rows'.any-gone (Syntax.tyInt Syntax.w64)) (List._∷_ (
       (Referent.rtF (Referent.fInt Syntax.w64))
       (Syntax.tyRef (Syntax.named 4) Syntax.mut (Syntax.tyInt Syntax.w64))
       4
-      11
+      12
       Row.off,
 ) (List._∷_ (
   7,
@@ -3279,7 +3106,7 @@ t28 = List._∷_ (0, Rows'.any-gone (Syntax.tyInt Syntax.w64)) (List._∷_ (
       (Referent.rtF (Referent.fInt Syntax.w8))
       (Syntax.tyRef (Syntax.named 5) Syntax.mut (Syntax.tyInt Syntax.w8))
       5
-      12
+      13
       Row.off,
 ) (List._∷_ (
   8,
@@ -3287,7 +3114,7 @@ t28 = List._∷_ (0, Rows'.any-gone (Syntax.tyInt Syntax.w64)) (List._∷_ (
       (Referent.rtF (Referent.fInt Syntax.w8))
       (Syntax.tyRef (Syntax.named 6) Syntax.mut (Syntax.tyInt Syntax.w8))
       6
-      13
+      14
       Row.off,
 ) (List._∷_ (
   9,
@@ -3301,90 +3128,75 @@ t28 = List._∷_ (0, Rows'.any-gone (Syntax.tyInt Syntax.w64)) (List._∷_ (
       (Referent.rtF (Referent.fInt Syntax.w8))
       (Syntax.tyRef (Syntax.named 8) Syntax.mut (Syntax.tyInt Syntax.w8))
       8,
-)
-    (List._∷_
-    (11, Rows.arrF Elem.R 1024 0)
-    (List._∷_ (12, Rows'.whole (Declared.row LineRec.the-type)) (List._∷_ (
-      13,
-      Rows'.sc-here (Row.sInt Syntax.w64),
-    ) (List._∷_ (14, Rows'.sc-here (Row.sInt Syntax.w64)) (List._∷_ (
-      15,
-      Rows'.sc-here (Row.sInt Syntax.w64),
-    ) List.[])))))))))))))))
-
-abbrev pub t29 : List.List Row.Entry
-t29 = List._∷_ (
-  16,
-  Rows'.any-gone (Syntax.tyArray Elem.held 1024),
-) (List._∷_ (17, Rows'.any-gone Syntax.tyBool) (List._∷_ (
-  18,
-  Rows'.any-gone
-      (Syntax.tyRef
-      Syntax.erased
-      Syntax.mut
-      (Syntax.tyArray Elem.ty 1024)),
 ) (List._∷_ (
-  19,
-  Rows'.any-gone
+  11,
+  Mut.mslice
+      Elem.R
+      (Syntax.tyRef (Syntax.named 9) Syntax.mut Elem.ty)
+      9,
+) (List._∷_ (12, Rows.sc-here (Row.sInt Syntax.w64)) (List._∷_ (
+  13,
+  Rows.sc-here (Row.sInt Syntax.w64),
+) (List._∷_ (14, Rows.sc-here (Row.sInt Syntax.w64)) (List._∷_ (
+  15,
+  Rows.whole (Declared.row LineRec.the-type),
+) List.[])))))))))))))))
+
+abbrev pub t30 : List.List Row.Entry
+t30 = List._∷_ (16, Rows.any-gone Syntax.tyBool) (List._∷_ (
+  17,
+  Rows.any-gone
+      (Syntax.tyRef Syntax.erased Syntax.mut Elem.ty),
+) (List._∷_ (
+  18,
+  Rows.any-gone
       (Syntax.tyStruct
       (List._∷_ 38 (List._∷_ 91 (List._∷_ 93 List.[])))
       (Syntax.tcons
       (Syntax.tyRef Syntax.erased Syntax.mut Elem.ty)
       (Syntax.tcons (Syntax.tyInt Syntax.w64) Syntax.tnil))),
 ) (List._∷_ (
-  20,
-  Rows'.any-gone
-      (Syntax.tyRef
-      Syntax.erased
-      Syntax.imm
-      (Syntax.tyArray Elem.ty 1024)),
+  19,
+  Rows.any-gone
+      (Syntax.tyRef Syntax.erased Syntax.imm Elem.ty),
 ) (List._∷_ (
-  21,
-  Rows'.any-gone
+  20,
+  Rows.any-gone
       (Syntax.tyStruct
       (List._∷_ 38 (List._∷_ 91 (List._∷_ 93 List.[])))
       (Syntax.tcons
       (Syntax.tyRef Syntax.erased Syntax.imm Elem.ty)
       (Syntax.tcons (Syntax.tyInt Syntax.w64) Syntax.tnil))),
+) (List._∷_ (21, Rows.any-gone (Syntax.tyInt Syntax.w64)) (List._∷_ (
+  22,
+  Rows.any-gone (Syntax.tyInt Syntax.w64),
+) (List._∷_ (23, Rows.any-gone (Syntax.tyInt Syntax.w64)) (List._∷_ (
+  24,
+  Rows.any-gone (Syntax.tyRef Syntax.erased Syntax.mut (Syntax.tyInt Syntax.w64)),
+) (List._∷_ (
+  25,
+  Mut.mslice
+      (Referent.rtF (Referent.fInt Syntax.w64))
+      (Syntax.tyRef Syntax.erased Syntax.mut (Syntax.tyInt Syntax.w64))
+      12,
 )
+    (List._∷_
+    (26, Rows.any-gone (Syntax.tyRef Syntax.erased Syntax.mut (Syntax.tyInt Syntax.w8)))
     (List._∷_ (
-      22,
-      Rows'.any-gone (Syntax.tyRef Syntax.erased Syntax.mut (Syntax.tyInt Syntax.w64)),
-    ) (List._∷_ (
-      23,
-      Mut.mslice
-          (Referent.rtF (Referent.fInt Syntax.w64))
-          (Syntax.tyRef Syntax.erased Syntax.mut (Syntax.tyInt Syntax.w64))
-          11,
-    ) (List._∷_ (
-      24,
-      Rows'.any-gone (Syntax.tyRef Syntax.erased Syntax.mut (Syntax.tyInt Syntax.w8)),
-    ) (List._∷_ (
-      25,
+      27,
       Mut.mslice
           (Referent.rtF (Referent.fInt Syntax.w8))
           (Syntax.tyRef Syntax.erased Syntax.mut (Syntax.tyInt Syntax.w8))
-          12,
+          13,
     ) (List._∷_ (
-      26,
+      28,
       Relend.msptr
           (Referent.rtF (Referent.fInt Syntax.w8))
           (Syntax.tyRef Syntax.erased Syntax.mut (Syntax.tyInt Syntax.w8))
-          13,
-    ) (List._∷_ (
-      27,
-      Rows'.any-gone
-          (Syntax.tyStruct
-          (List._∷_ 38 (List._∷_ 91 (List._∷_ 93 List.[])))
-          (Syntax.tcons
-          (Syntax.tyRef Syntax.erased Syntax.mut (Syntax.tyInt Syntax.w8))
-          (Syntax.tcons (Syntax.tyInt Syntax.w64) Syntax.tnil))),
-    ) (List._∷_ (
-      28,
-      Rows'.any-gone (Syntax.tyRef Syntax.erased Syntax.mut (Syntax.tyInt Syntax.w8)),
+          14,
     ) (List._∷_ (
       29,
-      Rows'.any-gone
+      Rows.any-gone
           (Syntax.tyStruct
           (List._∷_ 38 (List._∷_ 91 (List._∷_ 93 List.[])))
           (Syntax.tcons
@@ -3392,96 +3204,10 @@ t29 = List._∷_ (
           (Syntax.tcons (Syntax.tyInt Syntax.w64) Syntax.tnil))),
     ) (List._∷_ (
       30,
-      Rows'.any-gone (Syntax.tyRef Syntax.erased Syntax.mut (Syntax.tyInt Syntax.w8)),
+      Rows.any-gone (Syntax.tyRef Syntax.erased Syntax.mut (Syntax.tyInt Syntax.w8)),
     ) (List._∷_ (
       31,
-      Rows'.any-gone
-          (Syntax.tyStruct
-          (List._∷_ 38 (List._∷_ 91 (List._∷_ 93 List.[])))
-          (Syntax.tcons
-          (Syntax.tyRef Syntax.erased Syntax.mut (Syntax.tyInt Syntax.w8))
-          (Syntax.tcons (Syntax.tyInt Syntax.w64) Syntax.tnil))),
-    ) List.[])))))))))))))))
-
-abbrev pub t30 : List.List Row.Entry
-t30 = List._∷_ (
-  16,
-  Rows'.any-gone (Syntax.tyArray Elem.held 1024),
-) (List._∷_ (17, Rows'.any-gone Syntax.tyBool) (List._∷_ (
-  18,
-  Rows'.any-gone
-      (Syntax.tyRef
-      Syntax.erased
-      Syntax.mut
-      (Syntax.tyArray Elem.ty 1024)),
-) (List._∷_ (
-  19,
-  Rows'.any-gone
-      (Syntax.tyStruct
-      (List._∷_ 38 (List._∷_ 91 (List._∷_ 93 List.[])))
-      (Syntax.tcons
-      (Syntax.tyRef Syntax.erased Syntax.mut Elem.ty)
-      (Syntax.tcons (Syntax.tyInt Syntax.w64) Syntax.tnil))),
-) (List._∷_ (
-  20,
-  Rows'.any-gone
-      (Syntax.tyRef
-      Syntax.erased
-      Syntax.imm
-      (Syntax.tyArray Elem.ty 1024)),
-) (List._∷_ (
-  21,
-  Rows'.any-gone
-      (Syntax.tyStruct
-      (List._∷_ 38 (List._∷_ 91 (List._∷_ 93 List.[])))
-      (Syntax.tcons
-      (Syntax.tyRef Syntax.erased Syntax.imm Elem.ty)
-      (Syntax.tcons (Syntax.tyInt Syntax.w64) Syntax.tnil))),
-)
-    (List._∷_ (
-      22,
-      Rows'.any-gone (Syntax.tyRef Syntax.erased Syntax.mut (Syntax.tyInt Syntax.w64)),
-    ) (List._∷_ (
-      23,
-      Mut.mslice
-          (Referent.rtF (Referent.fInt Syntax.w64))
-          (Syntax.tyRef Syntax.erased Syntax.mut (Syntax.tyInt Syntax.w64))
-          11,
-    ) (List._∷_ (
-      24,
-      Rows'.any-gone (Syntax.tyRef Syntax.erased Syntax.mut (Syntax.tyInt Syntax.w8)),
-    ) (List._∷_ (
-      25,
-      Mut.mslice
-          (Referent.rtF (Referent.fInt Syntax.w8))
-          (Syntax.tyRef Syntax.erased Syntax.mut (Syntax.tyInt Syntax.w8))
-          12,
-    ) (List._∷_ (
-      26,
-      Rows'.any-gone (Syntax.tyRef Syntax.erased Syntax.mut (Syntax.tyInt Syntax.w8)),
-    ) (List._∷_ (
-      27,
-      Mut.mslice
-          (Referent.rtF (Referent.fInt Syntax.w8))
-          (Syntax.tyRef Syntax.erased Syntax.mut (Syntax.tyInt Syntax.w8))
-          13,
-    ) (List._∷_ (
-      28,
-      Rows'.any-gone (Syntax.tyRef Syntax.erased Syntax.mut (Syntax.tyInt Syntax.w8)),
-    ) (List._∷_ (
-      29,
-      Rows'.any-gone
-          (Syntax.tyStruct
-          (List._∷_ 38 (List._∷_ 91 (List._∷_ 93 List.[])))
-          (Syntax.tcons
-          (Syntax.tyRef Syntax.erased Syntax.mut (Syntax.tyInt Syntax.w8))
-          (Syntax.tcons (Syntax.tyInt Syntax.w64) Syntax.tnil))),
-    ) (List._∷_ (
-      30,
-      Rows'.any-gone (Syntax.tyRef Syntax.erased Syntax.mut (Syntax.tyInt Syntax.w8)),
-    ) (List._∷_ (
-      31,
-      Rows'.any-gone
+      Rows.any-gone
           (Syntax.tyStruct
           (List._∷_ 38 (List._∷_ 91 (List._∷_ 93 List.[])))
           (Syntax.tcons
@@ -3490,27 +3216,95 @@ t30 = List._∷_ (
     ) List.[])))))))))))))))
 
 abbrev pub t31 : List.List Row.Entry
-t31 = List._∷_ (0, Rows'.any-gone (Syntax.tyInt Syntax.w64)) (List._∷_ (
+t31 = List._∷_ (16, Rows.any-gone Syntax.tyBool) (List._∷_ (
+  17,
+  Rows.any-gone
+      (Syntax.tyRef Syntax.erased Syntax.mut Elem.ty),
+) (List._∷_ (
+  18,
+  Rows.any-gone
+      (Syntax.tyStruct
+      (List._∷_ 38 (List._∷_ 91 (List._∷_ 93 List.[])))
+      (Syntax.tcons
+      (Syntax.tyRef Syntax.erased Syntax.mut Elem.ty)
+      (Syntax.tcons (Syntax.tyInt Syntax.w64) Syntax.tnil))),
+) (List._∷_ (
+  19,
+  Rows.any-gone
+      (Syntax.tyRef Syntax.erased Syntax.imm Elem.ty),
+) (List._∷_ (
+  20,
+  Rows.any-gone
+      (Syntax.tyStruct
+      (List._∷_ 38 (List._∷_ 91 (List._∷_ 93 List.[])))
+      (Syntax.tcons
+      (Syntax.tyRef Syntax.erased Syntax.imm Elem.ty)
+      (Syntax.tcons (Syntax.tyInt Syntax.w64) Syntax.tnil))),
+) (List._∷_ (21, Rows.any-gone (Syntax.tyInt Syntax.w64)) (List._∷_ (
+  22,
+  Rows.any-gone (Syntax.tyInt Syntax.w64),
+) (List._∷_ (23, Rows.any-gone (Syntax.tyInt Syntax.w64)) (List._∷_ (
+  24,
+  Rows.any-gone (Syntax.tyRef Syntax.erased Syntax.mut (Syntax.tyInt Syntax.w64)),
+) (List._∷_ (
+  25,
+  Mut.mslice
+      (Referent.rtF (Referent.fInt Syntax.w64))
+      (Syntax.tyRef Syntax.erased Syntax.mut (Syntax.tyInt Syntax.w64))
+      12,
+)
+    (List._∷_
+    (26, Rows.any-gone (Syntax.tyRef Syntax.erased Syntax.mut (Syntax.tyInt Syntax.w8)))
+    (List._∷_ (
+      27,
+      Mut.mslice
+          (Referent.rtF (Referent.fInt Syntax.w8))
+          (Syntax.tyRef Syntax.erased Syntax.mut (Syntax.tyInt Syntax.w8))
+          13,
+    ) (List._∷_ (
+      28,
+      Rows.any-gone (Syntax.tyRef Syntax.erased Syntax.mut (Syntax.tyInt Syntax.w8)),
+    ) (List._∷_ (
+      29,
+      Mut.mslice
+          (Referent.rtF (Referent.fInt Syntax.w8))
+          (Syntax.tyRef Syntax.erased Syntax.mut (Syntax.tyInt Syntax.w8))
+          14,
+    ) (List._∷_ (
+      30,
+      Rows.any-gone (Syntax.tyRef Syntax.erased Syntax.mut (Syntax.tyInt Syntax.w8)),
+    ) (List._∷_ (
+      31,
+      Rows.any-gone
+          (Syntax.tyStruct
+          (List._∷_ 38 (List._∷_ 91 (List._∷_ 93 List.[])))
+          (Syntax.tcons
+          (Syntax.tyRef Syntax.erased Syntax.mut (Syntax.tyInt Syntax.w8))
+          (Syntax.tcons (Syntax.tyInt Syntax.w64) Syntax.tnil))),
+    ) List.[])))))))))))))))
+
+abbrev pub t32 : List.List Row.Entry
+t32 = List._∷_ (0, Rows.any-gone (Syntax.tyInt Syntax.w64)) (List._∷_ (
   1,
-  Rows'.sslice
+  Rows.sslice
       (Referent.rtF (Referent.fInt Syntax.w8))
       (Syntax.tyRef (Syntax.named 0) Syntax.imm (Syntax.tyInt Syntax.w8))
       0,
 ) (List._∷_ (
   2,
-  Rows'.sslice
+  Rows.sslice
       (Referent.rtF (Referent.fInt Syntax.w64))
       (Syntax.tyRef (Syntax.named 1) Syntax.imm (Syntax.tyInt Syntax.w64))
       1,
-) (List._∷_ (3, Rows'.sc-here (Row.sInt Syntax.w64)) (List._∷_ (
+) (List._∷_ (3, Rows.sc-here (Row.sInt Syntax.w64)) (List._∷_ (
   4,
-  Rows'.sslice
+  Rows.sslice
       (Referent.rtF (Referent.fInt Syntax.w64))
       (Syntax.tyRef (Syntax.named 2) Syntax.imm (Syntax.tyInt Syntax.w64))
       2,
 ) (List._∷_ (
   5,
-  Rows'.sslice
+  Rows.sslice
       (Referent.rtF (Referent.fInt Syntax.w8))
       (Syntax.tyRef (Syntax.named 3) Syntax.imm (Syntax.tyInt Syntax.w8))
       3,
@@ -3520,7 +3314,7 @@ t31 = List._∷_ (0, Rows'.any-gone (Syntax.tyInt Syntax.w64)) (List._∷_ (
       (Referent.rtF (Referent.fInt Syntax.w64))
       (Syntax.tyRef (Syntax.named 4) Syntax.mut (Syntax.tyInt Syntax.w64))
       4
-      11
+      12
       Row.off,
 ) (List._∷_ (
   7,
@@ -3528,7 +3322,7 @@ t31 = List._∷_ (0, Rows'.any-gone (Syntax.tyInt Syntax.w64)) (List._∷_ (
       (Referent.rtF (Referent.fInt Syntax.w8))
       (Syntax.tyRef (Syntax.named 5) Syntax.mut (Syntax.tyInt Syntax.w8))
       5
-      12
+      13
       Row.off,
 ) (List._∷_ (
   8,
@@ -3536,7 +3330,7 @@ t31 = List._∷_ (0, Rows'.any-gone (Syntax.tyInt Syntax.w64)) (List._∷_ (
       (Referent.rtF (Referent.fInt Syntax.w8))
       (Syntax.tyRef (Syntax.named 6) Syntax.mut (Syntax.tyInt Syntax.w8))
       6
-      13
+      14
       Row.off,
 ) (List._∷_ (
   9,
@@ -3544,7 +3338,7 @@ t31 = List._∷_ (0, Rows'.any-gone (Syntax.tyInt Syntax.w64)) (List._∷_ (
       (Referent.rtF (Referent.fInt Syntax.w8))
       (Syntax.tyRef (Syntax.named 7) Syntax.mut (Syntax.tyInt Syntax.w8))
       7
-      14
+      15
       Row.off,
 ) (List._∷_ (
   10,
@@ -3552,74 +3346,61 @@ t31 = List._∷_ (0, Rows'.any-gone (Syntax.tyInt Syntax.w64)) (List._∷_ (
       (Referent.rtF (Referent.fInt Syntax.w8))
       (Syntax.tyRef (Syntax.named 8) Syntax.mut (Syntax.tyInt Syntax.w8))
       8,
-)
-    (List._∷_
-    (11, Rows.arrF Elem.R 1024 0)
-    (List._∷_ (12, Rows'.whole (Declared.row LineRec.the-type)) (List._∷_ (
-      13,
-      Rows'.sc-here (Row.sInt Syntax.w64),
-    ) (List._∷_ (14, Rows'.sc-here (Row.sInt Syntax.w64)) (List._∷_ (
-      15,
-      Rows'.sc-here (Row.sInt Syntax.w64),
-    ) List.[])))))))))))))))
-
-abbrev pub t32 : List.List Row.Entry
-t32 = List._∷_ (
-  16,
-  Rows'.any-gone (Syntax.tyArray Elem.held 1024),
-) (List._∷_ (17, Rows'.any-gone Syntax.tyBool) (List._∷_ (
-  18,
-  Rows'.any-gone
-      (Syntax.tyRef
-      Syntax.erased
-      Syntax.mut
-      (Syntax.tyArray Elem.ty 1024)),
 ) (List._∷_ (
-  19,
-  Rows'.any-gone
+  11,
+  Mut.mslice
+      Elem.R
+      (Syntax.tyRef (Syntax.named 9) Syntax.mut Elem.ty)
+      9,
+) (List._∷_ (12, Rows.sc-here (Row.sInt Syntax.w64)) (List._∷_ (
+  13,
+  Rows.sc-here (Row.sInt Syntax.w64),
+) (List._∷_ (14, Rows.sc-here (Row.sInt Syntax.w64)) (List._∷_ (
+  15,
+  Rows.whole (Declared.row LineRec.the-type),
+) List.[])))))))))))))))
+
+abbrev pub t33 : List.List Row.Entry
+t33 = List._∷_ (16, Rows.any-gone Syntax.tyBool) (List._∷_ (
+  17,
+  Rows.any-gone
+      (Syntax.tyRef Syntax.erased Syntax.mut Elem.ty),
+) (List._∷_ (
+  18,
+  Rows.any-gone
       (Syntax.tyStruct
       (List._∷_ 38 (List._∷_ 91 (List._∷_ 93 List.[])))
       (Syntax.tcons
       (Syntax.tyRef Syntax.erased Syntax.mut Elem.ty)
       (Syntax.tcons (Syntax.tyInt Syntax.w64) Syntax.tnil))),
 ) (List._∷_ (
-  20,
-  Rows'.any-gone
-      (Syntax.tyRef
-      Syntax.erased
-      Syntax.imm
-      (Syntax.tyArray Elem.ty 1024)),
+  19,
+  Rows.any-gone
+      (Syntax.tyRef Syntax.erased Syntax.imm Elem.ty),
 ) (List._∷_ (
-  21,
-  Rows'.any-gone
+  20,
+  Rows.any-gone
       (Syntax.tyStruct
       (List._∷_ 38 (List._∷_ 91 (List._∷_ 93 List.[])))
       (Syntax.tcons
       (Syntax.tyRef Syntax.erased Syntax.imm Elem.ty)
       (Syntax.tcons (Syntax.tyInt Syntax.w64) Syntax.tnil))),
+) (List._∷_ (21, Rows.any-gone (Syntax.tyInt Syntax.w64)) (List._∷_ (
+  22,
+  Rows.any-gone (Syntax.tyInt Syntax.w64),
+) (List._∷_ (23, Rows.any-gone (Syntax.tyInt Syntax.w64)) (List._∷_ (
+  24,
+  Rows.any-gone (Syntax.tyRef Syntax.erased Syntax.mut (Syntax.tyInt Syntax.w64)),
+) (List._∷_ (
+  25,
+  Mut.mslice
+      (Referent.rtF (Referent.fInt Syntax.w64))
+      (Syntax.tyRef Syntax.erased Syntax.mut (Syntax.tyInt Syntax.w64))
+      12,
 )
+    (List._∷_
+    (26, Rows.any-gone (Syntax.tyRef Syntax.erased Syntax.mut (Syntax.tyInt Syntax.w8)))
     (List._∷_ (
-      22,
-      Rows'.any-gone (Syntax.tyRef Syntax.erased Syntax.mut (Syntax.tyInt Syntax.w64)),
-    ) (List._∷_ (
-      23,
-      Mut.mslice
-          (Referent.rtF (Referent.fInt Syntax.w64))
-          (Syntax.tyRef Syntax.erased Syntax.mut (Syntax.tyInt Syntax.w64))
-          11,
-    ) (List._∷_ (
-      24,
-      Rows'.any-gone (Syntax.tyRef Syntax.erased Syntax.mut (Syntax.tyInt Syntax.w8)),
-    ) (List._∷_ (
-      25,
-      Mut.mslice
-          (Referent.rtF (Referent.fInt Syntax.w8))
-          (Syntax.tyRef Syntax.erased Syntax.mut (Syntax.tyInt Syntax.w8))
-          12,
-    ) (List._∷_ (
-      26,
-      Rows'.any-gone (Syntax.tyRef Syntax.erased Syntax.mut (Syntax.tyInt Syntax.w8)),
-    ) (List._∷_ (
       27,
       Mut.mslice
           (Referent.rtF (Referent.fInt Syntax.w8))
@@ -3627,108 +3408,22 @@ t32 = List._∷_ (
           13,
     ) (List._∷_ (
       28,
+      Rows.any-gone (Syntax.tyRef Syntax.erased Syntax.mut (Syntax.tyInt Syntax.w8)),
+    ) (List._∷_ (
+      29,
+      Mut.mslice
+          (Referent.rtF (Referent.fInt Syntax.w8))
+          (Syntax.tyRef Syntax.erased Syntax.mut (Syntax.tyInt Syntax.w8))
+          14,
+    ) (List._∷_ (
+      30,
       Relend.msptr
           (Referent.rtF (Referent.fInt Syntax.w8))
           (Syntax.tyRef Syntax.erased Syntax.mut (Syntax.tyInt Syntax.w8))
-          14,
-    ) (List._∷_ (
-      29,
-      Rows'.any-gone
-          (Syntax.tyStruct
-          (List._∷_ 38 (List._∷_ 91 (List._∷_ 93 List.[])))
-          (Syntax.tcons
-          (Syntax.tyRef Syntax.erased Syntax.mut (Syntax.tyInt Syntax.w8))
-          (Syntax.tcons (Syntax.tyInt Syntax.w64) Syntax.tnil))),
-    ) (List._∷_ (
-      30,
-      Rows'.any-gone (Syntax.tyRef Syntax.erased Syntax.mut (Syntax.tyInt Syntax.w8)),
+          15,
     ) (List._∷_ (
       31,
-      Rows'.any-gone
-          (Syntax.tyStruct
-          (List._∷_ 38 (List._∷_ 91 (List._∷_ 93 List.[])))
-          (Syntax.tcons
-          (Syntax.tyRef Syntax.erased Syntax.mut (Syntax.tyInt Syntax.w8))
-          (Syntax.tcons (Syntax.tyInt Syntax.w64) Syntax.tnil))),
-    ) List.[])))))))))))))))
-
-abbrev pub t33 : List.List Row.Entry
-t33 = List._∷_ (
-  16,
-  Rows'.any-gone (Syntax.tyArray Elem.held 1024),
-) (List._∷_ (17, Rows'.any-gone Syntax.tyBool) (List._∷_ (
-  18,
-  Rows'.any-gone
-      (Syntax.tyRef
-      Syntax.erased
-      Syntax.mut
-      (Syntax.tyArray Elem.ty 1024)),
-) (List._∷_ (
-  19,
-  Rows'.any-gone
-      (Syntax.tyStruct
-      (List._∷_ 38 (List._∷_ 91 (List._∷_ 93 List.[])))
-      (Syntax.tcons
-      (Syntax.tyRef Syntax.erased Syntax.mut Elem.ty)
-      (Syntax.tcons (Syntax.tyInt Syntax.w64) Syntax.tnil))),
-) (List._∷_ (
-  20,
-  Rows'.any-gone
-      (Syntax.tyRef
-      Syntax.erased
-      Syntax.imm
-      (Syntax.tyArray Elem.ty 1024)),
-) (List._∷_ (
-  21,
-  Rows'.any-gone
-      (Syntax.tyStruct
-      (List._∷_ 38 (List._∷_ 91 (List._∷_ 93 List.[])))
-      (Syntax.tcons
-      (Syntax.tyRef Syntax.erased Syntax.imm Elem.ty)
-      (Syntax.tcons (Syntax.tyInt Syntax.w64) Syntax.tnil))),
-)
-    (List._∷_ (
-      22,
-      Rows'.any-gone (Syntax.tyRef Syntax.erased Syntax.mut (Syntax.tyInt Syntax.w64)),
-    ) (List._∷_ (
-      23,
-      Mut.mslice
-          (Referent.rtF (Referent.fInt Syntax.w64))
-          (Syntax.tyRef Syntax.erased Syntax.mut (Syntax.tyInt Syntax.w64))
-          11,
-    ) (List._∷_ (
-      24,
-      Rows'.any-gone (Syntax.tyRef Syntax.erased Syntax.mut (Syntax.tyInt Syntax.w8)),
-    ) (List._∷_ (
-      25,
-      Mut.mslice
-          (Referent.rtF (Referent.fInt Syntax.w8))
-          (Syntax.tyRef Syntax.erased Syntax.mut (Syntax.tyInt Syntax.w8))
-          12,
-    ) (List._∷_ (
-      26,
-      Rows'.any-gone (Syntax.tyRef Syntax.erased Syntax.mut (Syntax.tyInt Syntax.w8)),
-    ) (List._∷_ (
-      27,
-      Mut.mslice
-          (Referent.rtF (Referent.fInt Syntax.w8))
-          (Syntax.tyRef Syntax.erased Syntax.mut (Syntax.tyInt Syntax.w8))
-          13,
-    ) (List._∷_ (
-      28,
-      Rows'.any-gone (Syntax.tyRef Syntax.erased Syntax.mut (Syntax.tyInt Syntax.w8)),
-    ) (List._∷_ (
-      29,
-      Mut.mslice
-          (Referent.rtF (Referent.fInt Syntax.w8))
-          (Syntax.tyRef Syntax.erased Syntax.mut (Syntax.tyInt Syntax.w8))
-          14,
-    ) (List._∷_ (
-      30,
-      Rows'.any-gone (Syntax.tyRef Syntax.erased Syntax.mut (Syntax.tyInt Syntax.w8)),
-    ) (List._∷_ (
-      31,
-      Rows'.any-gone
+      Rows.any-gone
           (Syntax.tyStruct
           (List._∷_ 38 (List._∷_ 91 (List._∷_ 93 List.[])))
           (Syntax.tcons
@@ -3737,27 +3432,93 @@ t33 = List._∷_ (
     ) List.[])))))))))))))))
 
 abbrev pub t34 : List.List Row.Entry
-t34 = List._∷_ (0, Rows'.any-gone (Syntax.tyInt Syntax.w64)) (List._∷_ (
+t34 = List._∷_ (16, Rows.any-gone Syntax.tyBool) (List._∷_ (
+  17,
+  Rows.any-gone
+      (Syntax.tyRef Syntax.erased Syntax.mut Elem.ty),
+) (List._∷_ (
+  18,
+  Rows.any-gone
+      (Syntax.tyStruct
+      (List._∷_ 38 (List._∷_ 91 (List._∷_ 93 List.[])))
+      (Syntax.tcons
+      (Syntax.tyRef Syntax.erased Syntax.mut Elem.ty)
+      (Syntax.tcons (Syntax.tyInt Syntax.w64) Syntax.tnil))),
+) (List._∷_ (
+  19,
+  Rows.any-gone
+      (Syntax.tyRef Syntax.erased Syntax.imm Elem.ty),
+) (List._∷_ (
+  20,
+  Rows.any-gone
+      (Syntax.tyStruct
+      (List._∷_ 38 (List._∷_ 91 (List._∷_ 93 List.[])))
+      (Syntax.tcons
+      (Syntax.tyRef Syntax.erased Syntax.imm Elem.ty)
+      (Syntax.tcons (Syntax.tyInt Syntax.w64) Syntax.tnil))),
+) (List._∷_ (21, Rows.any-gone (Syntax.tyInt Syntax.w64)) (List._∷_ (
+  22,
+  Rows.any-gone (Syntax.tyInt Syntax.w64),
+) (List._∷_ (23, Rows.any-gone (Syntax.tyInt Syntax.w64)) (List._∷_ (
+  24,
+  Rows.any-gone (Syntax.tyRef Syntax.erased Syntax.mut (Syntax.tyInt Syntax.w64)),
+) (List._∷_ (
+  25,
+  Mut.mslice
+      (Referent.rtF (Referent.fInt Syntax.w64))
+      (Syntax.tyRef Syntax.erased Syntax.mut (Syntax.tyInt Syntax.w64))
+      12,
+)
+    (List._∷_
+    (26, Rows.any-gone (Syntax.tyRef Syntax.erased Syntax.mut (Syntax.tyInt Syntax.w8)))
+    (List._∷_ (
+      27,
+      Mut.mslice
+          (Referent.rtF (Referent.fInt Syntax.w8))
+          (Syntax.tyRef Syntax.erased Syntax.mut (Syntax.tyInt Syntax.w8))
+          13,
+    ) (List._∷_ (
+      28,
+      Rows.any-gone (Syntax.tyRef Syntax.erased Syntax.mut (Syntax.tyInt Syntax.w8)),
+    ) (List._∷_ (
+      29,
+      Mut.mslice
+          (Referent.rtF (Referent.fInt Syntax.w8))
+          (Syntax.tyRef Syntax.erased Syntax.mut (Syntax.tyInt Syntax.w8))
+          14,
+    ) (List._∷_ (
+      30,
+      Rows.any-gone (Syntax.tyRef Syntax.erased Syntax.mut (Syntax.tyInt Syntax.w8)),
+    ) (List._∷_ (
+      31,
+      Mut.mslice
+          (Referent.rtF (Referent.fInt Syntax.w8))
+          (Syntax.tyRef Syntax.erased Syntax.mut (Syntax.tyInt Syntax.w8))
+          15,
+    ) List.[])))))))))))))))
+
+abbrev pub t35 : List.List Row.Entry
+t35 = List._∷_ (0, Rows.any-gone (Syntax.tyInt Syntax.w64)) (List._∷_ (
   1,
-  Rows'.sslice
+  Rows.sslice
       (Referent.rtF (Referent.fInt Syntax.w8))
       (Syntax.tyRef (Syntax.named 0) Syntax.imm (Syntax.tyInt Syntax.w8))
       0,
 ) (List._∷_ (
   2,
-  Rows'.sslice
+  Rows.sslice
       (Referent.rtF (Referent.fInt Syntax.w64))
       (Syntax.tyRef (Syntax.named 1) Syntax.imm (Syntax.tyInt Syntax.w64))
       1,
-) (List._∷_ (3, Rows'.sc-here (Row.sInt Syntax.w64)) (List._∷_ (
+) (List._∷_ (3, Rows.sc-here (Row.sInt Syntax.w64)) (List._∷_ (
   4,
-  Rows'.sslice
+  Rows.sslice
       (Referent.rtF (Referent.fInt Syntax.w64))
       (Syntax.tyRef (Syntax.named 2) Syntax.imm (Syntax.tyInt Syntax.w64))
       2,
 ) (List._∷_ (
   5,
-  Rows'.sslice
+  Rows.sslice
       (Referent.rtF (Referent.fInt Syntax.w8))
       (Syntax.tyRef (Syntax.named 3) Syntax.imm (Syntax.tyInt Syntax.w8))
       3,
@@ -3767,7 +3528,7 @@ t34 = List._∷_ (0, Rows'.any-gone (Syntax.tyInt Syntax.w64)) (List._∷_ (
       (Referent.rtF (Referent.fInt Syntax.w64))
       (Syntax.tyRef (Syntax.named 4) Syntax.mut (Syntax.tyInt Syntax.w64))
       4
-      11
+      12
       Row.off,
 ) (List._∷_ (
   7,
@@ -3775,7 +3536,7 @@ t34 = List._∷_ (0, Rows'.any-gone (Syntax.tyInt Syntax.w64)) (List._∷_ (
       (Referent.rtF (Referent.fInt Syntax.w8))
       (Syntax.tyRef (Syntax.named 5) Syntax.mut (Syntax.tyInt Syntax.w8))
       5
-      12
+      13
       Row.off,
 ) (List._∷_ (
   8,
@@ -3783,7 +3544,7 @@ t34 = List._∷_ (0, Rows'.any-gone (Syntax.tyInt Syntax.w64)) (List._∷_ (
       (Referent.rtF (Referent.fInt Syntax.w8))
       (Syntax.tyRef (Syntax.named 6) Syntax.mut (Syntax.tyInt Syntax.w8))
       6
-      13
+      14
       Row.off,
 ) (List._∷_ (
   9,
@@ -3791,7 +3552,7 @@ t34 = List._∷_ (0, Rows'.any-gone (Syntax.tyInt Syntax.w64)) (List._∷_ (
       (Referent.rtF (Referent.fInt Syntax.w8))
       (Syntax.tyRef (Syntax.named 7) Syntax.mut (Syntax.tyInt Syntax.w8))
       7
-      14
+      15
       Row.off,
 ) (List._∷_ (
   10,
@@ -3799,250 +3560,98 @@ t34 = List._∷_ (0, Rows'.any-gone (Syntax.tyInt Syntax.w64)) (List._∷_ (
       (Referent.rtF (Referent.fInt Syntax.w8))
       (Syntax.tyRef (Syntax.named 8) Syntax.mut (Syntax.tyInt Syntax.w8))
       8
-      15
+      16
       Row.off,
-)
-    (List._∷_
-    (11, Rows.arrF Elem.R 1024 0)
-    (List._∷_ (12, Rows'.whole (Declared.row LineRec.the-type)) (List._∷_ (
-      13,
-      Rows'.sc-here (Row.sInt Syntax.w64),
-    ) (List._∷_ (14, Rows'.sc-here (Row.sInt Syntax.w64)) (List._∷_ (
-      15,
-      Rows'.sc-here (Row.sInt Syntax.w64),
-    ) List.[])))))))))))))))
-
-abbrev pub t35 : List.List Row.Entry
-t35 = List._∷_ (
-  16,
-  Rows'.any-gone (Syntax.tyArray Elem.held 1024),
-) (List._∷_ (17, Rows'.any-gone Syntax.tyBool) (List._∷_ (
-  18,
-  Rows'.any-gone
-      (Syntax.tyRef
-      Syntax.erased
-      Syntax.mut
-      (Syntax.tyArray Elem.ty 1024)),
 ) (List._∷_ (
-  19,
-  Rows'.any-gone
-      (Syntax.tyStruct
-      (List._∷_ 38 (List._∷_ 91 (List._∷_ 93 List.[])))
-      (Syntax.tcons
-      (Syntax.tyRef Syntax.erased Syntax.mut Elem.ty)
-      (Syntax.tcons (Syntax.tyInt Syntax.w64) Syntax.tnil))),
-) (List._∷_ (
-  20,
-  Rows'.any-gone
-      (Syntax.tyRef
-      Syntax.erased
-      Syntax.imm
-      (Syntax.tyArray Elem.ty 1024)),
-) (List._∷_ (
-  21,
-  Rows'.any-gone
-      (Syntax.tyStruct
-      (List._∷_ 38 (List._∷_ 91 (List._∷_ 93 List.[])))
-      (Syntax.tcons
-      (Syntax.tyRef Syntax.erased Syntax.imm Elem.ty)
-      (Syntax.tcons (Syntax.tyInt Syntax.w64) Syntax.tnil))),
-)
-    (List._∷_ (
-      22,
-      Rows'.any-gone (Syntax.tyRef Syntax.erased Syntax.mut (Syntax.tyInt Syntax.w64)),
-    ) (List._∷_ (
-      23,
-      Mut.mslice
-          (Referent.rtF (Referent.fInt Syntax.w64))
-          (Syntax.tyRef Syntax.erased Syntax.mut (Syntax.tyInt Syntax.w64))
-          11,
-    ) (List._∷_ (
-      24,
-      Rows'.any-gone (Syntax.tyRef Syntax.erased Syntax.mut (Syntax.tyInt Syntax.w8)),
-    ) (List._∷_ (
-      25,
-      Mut.mslice
-          (Referent.rtF (Referent.fInt Syntax.w8))
-          (Syntax.tyRef Syntax.erased Syntax.mut (Syntax.tyInt Syntax.w8))
-          12,
-    ) (List._∷_ (
-      26,
-      Rows'.any-gone (Syntax.tyRef Syntax.erased Syntax.mut (Syntax.tyInt Syntax.w8)),
-    ) (List._∷_ (
-      27,
-      Mut.mslice
-          (Referent.rtF (Referent.fInt Syntax.w8))
-          (Syntax.tyRef Syntax.erased Syntax.mut (Syntax.tyInt Syntax.w8))
-          13,
-    ) (List._∷_ (
-      28,
-      Rows'.any-gone (Syntax.tyRef Syntax.erased Syntax.mut (Syntax.tyInt Syntax.w8)),
-    ) (List._∷_ (
-      29,
-      Mut.mslice
-          (Referent.rtF (Referent.fInt Syntax.w8))
-          (Syntax.tyRef Syntax.erased Syntax.mut (Syntax.tyInt Syntax.w8))
-          14,
-    ) (List._∷_ (
-      30,
-      Relend.msptr
-          (Referent.rtF (Referent.fInt Syntax.w8))
-          (Syntax.tyRef Syntax.erased Syntax.mut (Syntax.tyInt Syntax.w8))
-          15,
-    ) (List._∷_ (
-      31,
-      Rows'.any-gone
-          (Syntax.tyStruct
-          (List._∷_ 38 (List._∷_ 91 (List._∷_ 93 List.[])))
-          (Syntax.tcons
-          (Syntax.tyRef Syntax.erased Syntax.mut (Syntax.tyInt Syntax.w8))
-          (Syntax.tcons (Syntax.tyInt Syntax.w64) Syntax.tnil))),
-    ) List.[])))))))))))))))
+  11,
+  Mut.mslice
+      Elem.R
+      (Syntax.tyRef (Syntax.named 9) Syntax.mut Elem.ty)
+      9,
+) (List._∷_ (12, Rows.sc-here (Row.sInt Syntax.w64)) (List._∷_ (
+  13,
+  Rows.sc-here (Row.sInt Syntax.w64),
+) (List._∷_ (14, Rows.sc-here (Row.sInt Syntax.w64)) (List._∷_ (
+  15,
+  Rows.whole (Declared.row LineRec.the-type),
+) List.[])))))))))))))))
 
 abbrev pub t36 : List.List Row.Entry
 t36 = List._∷_ (
-  16,
-  Rows'.any-gone (Syntax.tyArray Elem.held 1024),
-) (List._∷_ (17, Rows'.any-gone Syntax.tyBool) (List._∷_ (
-  18,
-  Rows'.any-gone
-      (Syntax.tyRef
-      Syntax.erased
-      Syntax.mut
-      (Syntax.tyArray Elem.ty 1024)),
+  32,
+  Relend.msptr
+      (Referent.rtF (Referent.fInt Syntax.w8))
+      (Syntax.tyRef Syntax.erased Syntax.mut (Syntax.tyInt Syntax.w8))
+      16,
 ) (List._∷_ (
-  19,
-  Rows'.any-gone
+  33,
+  Rows.any-gone
       (Syntax.tyStruct
       (List._∷_ 38 (List._∷_ 91 (List._∷_ 93 List.[])))
       (Syntax.tcons
-      (Syntax.tyRef Syntax.erased Syntax.mut Elem.ty)
+      (Syntax.tyRef Syntax.erased Syntax.mut (Syntax.tyInt Syntax.w8))
       (Syntax.tcons (Syntax.tyInt Syntax.w64) Syntax.tnil))),
-) (List._∷_ (
-  20,
-  Rows'.any-gone
-      (Syntax.tyRef
-      Syntax.erased
-      Syntax.imm
-      (Syntax.tyArray Elem.ty 1024)),
-) (List._∷_ (
-  21,
-  Rows'.any-gone
-      (Syntax.tyStruct
-      (List._∷_ 38 (List._∷_ 91 (List._∷_ 93 List.[])))
-      (Syntax.tcons
-      (Syntax.tyRef Syntax.erased Syntax.imm Elem.ty)
-      (Syntax.tcons (Syntax.tyInt Syntax.w64) Syntax.tnil))),
-)
-    (List._∷_ (
-      22,
-      Rows'.any-gone (Syntax.tyRef Syntax.erased Syntax.mut (Syntax.tyInt Syntax.w64)),
-    ) (List._∷_ (
-      23,
-      Mut.mslice
-          (Referent.rtF (Referent.fInt Syntax.w64))
-          (Syntax.tyRef Syntax.erased Syntax.mut (Syntax.tyInt Syntax.w64))
-          11,
-    ) (List._∷_ (
-      24,
-      Rows'.any-gone (Syntax.tyRef Syntax.erased Syntax.mut (Syntax.tyInt Syntax.w8)),
-    ) (List._∷_ (
-      25,
-      Mut.mslice
-          (Referent.rtF (Referent.fInt Syntax.w8))
-          (Syntax.tyRef Syntax.erased Syntax.mut (Syntax.tyInt Syntax.w8))
-          12,
-    ) (List._∷_ (
-      26,
-      Rows'.any-gone (Syntax.tyRef Syntax.erased Syntax.mut (Syntax.tyInt Syntax.w8)),
-    ) (List._∷_ (
-      27,
-      Mut.mslice
-          (Referent.rtF (Referent.fInt Syntax.w8))
-          (Syntax.tyRef Syntax.erased Syntax.mut (Syntax.tyInt Syntax.w8))
-          13,
-    ) (List._∷_ (
-      28,
-      Rows'.any-gone (Syntax.tyRef Syntax.erased Syntax.mut (Syntax.tyInt Syntax.w8)),
-    ) (List._∷_ (
-      29,
-      Mut.mslice
-          (Referent.rtF (Referent.fInt Syntax.w8))
-          (Syntax.tyRef Syntax.erased Syntax.mut (Syntax.tyInt Syntax.w8))
-          14,
-    ) (List._∷_ (
-      30,
-      Rows'.any-gone (Syntax.tyRef Syntax.erased Syntax.mut (Syntax.tyInt Syntax.w8)),
-    ) (List._∷_ (
-      31,
-      Mut.mslice
-          (Referent.rtF (Referent.fInt Syntax.w8))
-          (Syntax.tyRef Syntax.erased Syntax.mut (Syntax.tyInt Syntax.w8))
-          15,
-    ) List.[])))))))))))))))
+) List.[])
 
 abbrev pub t37 : List.List Row.Entry
 t37 = List._∷_ (
-  16,
-  Rows'.any-gone (Syntax.tyArray Elem.held 1024),
-) (List._∷_ (17, Rows'.any-gone Syntax.tyBool) (List._∷_ (
-  18,
-  Rows'.any-gone
-      (Syntax.tyRef
-      Syntax.erased
-      Syntax.mut
-      (Syntax.tyArray Elem.ty 1024)),
+  32,
+  Rows.any-gone (Syntax.tyRef Syntax.erased Syntax.mut (Syntax.tyInt Syntax.w8)),
 ) (List._∷_ (
-  19,
-  Rows'.any-gone
+  33,
+  Mut.mslice
+      (Referent.rtF (Referent.fInt Syntax.w8))
+      (Syntax.tyRef Syntax.erased Syntax.mut (Syntax.tyInt Syntax.w8))
+      16,
+) List.[])
+
+abbrev pub t38 : List.List Row.Entry
+t38 = List._∷_ (16, Rows.any-gone Syntax.tyBool) (List._∷_ (
+  17,
+  Rows.any-gone
+      (Syntax.tyRef Syntax.erased Syntax.mut Elem.ty),
+) (List._∷_ (
+  18,
+  Rows.any-gone
       (Syntax.tyStruct
       (List._∷_ 38 (List._∷_ 91 (List._∷_ 93 List.[])))
       (Syntax.tcons
       (Syntax.tyRef Syntax.erased Syntax.mut Elem.ty)
       (Syntax.tcons (Syntax.tyInt Syntax.w64) Syntax.tnil))),
 ) (List._∷_ (
-  20,
-  Rows'.any-gone
-      (Syntax.tyRef
-      Syntax.erased
-      Syntax.imm
-      (Syntax.tyArray Elem.ty 1024)),
+  19,
+  Rows.any-gone
+      (Syntax.tyRef Syntax.erased Syntax.imm Elem.ty),
 ) (List._∷_ (
-  21,
-  Rows'.any-gone
+  20,
+  Rows.any-gone
       (Syntax.tyStruct
       (List._∷_ 38 (List._∷_ 91 (List._∷_ 93 List.[])))
       (Syntax.tcons
       (Syntax.tyRef Syntax.erased Syntax.imm Elem.ty)
       (Syntax.tcons (Syntax.tyInt Syntax.w64) Syntax.tnil))),
+) (List._∷_ (21, Rows.any-gone (Syntax.tyInt Syntax.w64)) (List._∷_ (
+  22,
+  Rows.any-gone (Syntax.tyInt Syntax.w64),
+) (List._∷_ (23, Rows.any-gone (Syntax.tyInt Syntax.w64)) (List._∷_ (
+  24,
+  Rows.any-gone (Syntax.tyRef Syntax.erased Syntax.mut (Syntax.tyInt Syntax.w64)),
+) (List._∷_ (
+  25,
+  Mut.msleft
+      (Referent.rtF (Referent.fInt Syntax.w64))
+      (Syntax.tyRef Syntax.erased Syntax.mut (Syntax.tyInt Syntax.w64)),
 )
+    (List._∷_
+    (26, Rows.any-gone (Syntax.tyRef Syntax.erased Syntax.mut (Syntax.tyInt Syntax.w8)))
     (List._∷_ (
-      22,
-      Rows'.any-gone (Syntax.tyRef Syntax.erased Syntax.mut (Syntax.tyInt Syntax.w64)),
-    ) (List._∷_ (
-      23,
-      Mut.msleft
-          (Referent.rtF (Referent.fInt Syntax.w64))
-          (Syntax.tyRef Syntax.erased Syntax.mut (Syntax.tyInt Syntax.w64)),
-    ) (List._∷_ (
-      24,
-      Rows'.any-gone (Syntax.tyRef Syntax.erased Syntax.mut (Syntax.tyInt Syntax.w8)),
-    ) (List._∷_ (
-      25,
-      Mut.msleft
-          (Referent.rtF (Referent.fInt Syntax.w8))
-          (Syntax.tyRef Syntax.erased Syntax.mut (Syntax.tyInt Syntax.w8)),
-    ) (List._∷_ (
-      26,
-      Rows'.any-gone (Syntax.tyRef Syntax.erased Syntax.mut (Syntax.tyInt Syntax.w8)),
-    ) (List._∷_ (
       27,
       Mut.msleft
           (Referent.rtF (Referent.fInt Syntax.w8))
           (Syntax.tyRef Syntax.erased Syntax.mut (Syntax.tyInt Syntax.w8)),
     ) (List._∷_ (
       28,
-      Rows'.any-gone (Syntax.tyRef Syntax.erased Syntax.mut (Syntax.tyInt Syntax.w8)),
+      Rows.any-gone (Syntax.tyRef Syntax.erased Syntax.mut (Syntax.tyInt Syntax.w8)),
     ) (List._∷_ (
       29,
       Mut.msleft
@@ -4050,153 +3659,329 @@ t37 = List._∷_ (
           (Syntax.tyRef Syntax.erased Syntax.mut (Syntax.tyInt Syntax.w8)),
     ) (List._∷_ (
       30,
-      Rows'.any-gone (Syntax.tyRef Syntax.erased Syntax.mut (Syntax.tyInt Syntax.w8)),
+      Rows.any-gone (Syntax.tyRef Syntax.erased Syntax.mut (Syntax.tyInt Syntax.w8)),
     ) (List._∷_ (
       31,
       Mut.msleft
           (Referent.rtF (Referent.fInt Syntax.w8))
           (Syntax.tyRef Syntax.erased Syntax.mut (Syntax.tyInt Syntax.w8)),
-    ) List.[])))))))))))))))
-
-abbrev pub t38 : List.List Row.Entry
-t38 = List._∷_ (0, Rows'.any-gone (Syntax.tyInt Syntax.w64)) (List._∷_ (
-  1,
-  Rows'.sslice
-      (Referent.rtF (Referent.fInt Syntax.w8))
-      (Syntax.tyRef (Syntax.named 0) Syntax.imm (Syntax.tyInt Syntax.w8))
-      0,
-) (List._∷_ (
-  2,
-  Rows'.sslice
-      (Referent.rtF (Referent.fInt Syntax.w64))
-      (Syntax.tyRef (Syntax.named 1) Syntax.imm (Syntax.tyInt Syntax.w64))
-      1,
-) (List._∷_ (3, Rows'.sc-here (Row.sInt Syntax.w64)) (List._∷_ (
-  4,
-  Rows'.sslice
-      (Referent.rtF (Referent.fInt Syntax.w64))
-      (Syntax.tyRef (Syntax.named 2) Syntax.imm (Syntax.tyInt Syntax.w64))
-      2,
-) (List._∷_ (
-  5,
-  Rows'.sslice
-      (Referent.rtF (Referent.fInt Syntax.w8))
-      (Syntax.tyRef (Syntax.named 3) Syntax.imm (Syntax.tyInt Syntax.w8))
-      3,
-) (List._∷_ (
-  6,
-  Mut.mslice
-      (Referent.rtF (Referent.fInt Syntax.w64))
-      (Syntax.tyRef (Syntax.named 4) Syntax.mut (Syntax.tyInt Syntax.w64))
-      4,
-) (List._∷_ (
-  7,
-  Relend.mslice-owed
-      (Referent.rtF (Referent.fInt Syntax.w8))
-      (Syntax.tyRef (Syntax.named 5) Syntax.mut (Syntax.tyInt Syntax.w8))
-      5
-      12
-      Row.off,
-) (List._∷_ (
-  8,
-  Relend.mslice-owed
-      (Referent.rtF (Referent.fInt Syntax.w8))
-      (Syntax.tyRef (Syntax.named 6) Syntax.mut (Syntax.tyInt Syntax.w8))
-      6
-      13
-      Row.off,
-) (List._∷_ (
-  9,
-  Relend.mslice-owed
-      (Referent.rtF (Referent.fInt Syntax.w8))
-      (Syntax.tyRef (Syntax.named 7) Syntax.mut (Syntax.tyInt Syntax.w8))
-      7
-      14
-      Row.off,
-) (List._∷_ (
-  10,
-  Relend.mslice-owed
-      (Referent.rtF (Referent.fInt Syntax.w8))
-      (Syntax.tyRef (Syntax.named 8) Syntax.mut (Syntax.tyInt Syntax.w8))
-      8
-      15
-      Row.off,
-)
-    (List._∷_
-    (11, Rows.arrF Elem.R 1024 0)
-    (List._∷_ (12, Rows'.whole (Declared.row LineRec.the-type)) (List._∷_ (
-      13,
-      Rows'.sc-here (Row.sInt Syntax.w64),
-    ) (List._∷_ (14, Rows'.sc-here (Row.sInt Syntax.w64)) (List._∷_ (
-      15,
-      Rows'.sc-here (Row.sInt Syntax.w64),
     ) List.[])))))))))))))))
 
 abbrev pub t39 : List.List Row.Entry
 t39 = List._∷_ (
-  16,
-  Rows'.any-gone (Syntax.tyArray Elem.held 1024),
-) (List._∷_ (17, Rows'.any-gone Syntax.tyBool) (List._∷_ (
-  18,
-  Rows'.any-gone
-      (Syntax.tyRef
-      Syntax.erased
-      Syntax.mut
-      (Syntax.tyArray Elem.ty 1024)),
+  32,
+  Rows.any-gone (Syntax.tyRef Syntax.erased Syntax.mut (Syntax.tyInt Syntax.w8)),
 ) (List._∷_ (
-  19,
-  Rows'.any-gone
+  33,
+  Mut.msleft
+      (Referent.rtF (Referent.fInt Syntax.w8))
+      (Syntax.tyRef Syntax.erased Syntax.mut (Syntax.tyInt Syntax.w8)),
+) List.[])
+
+abbrev pub t40 : List.List Row.Entry
+t40 = List._∷_ (0, Rows.any-gone (Syntax.tyInt Syntax.w64)) (List._∷_ (
+  1,
+  Rows.sslice
+      (Referent.rtF (Referent.fInt Syntax.w8))
+      (Syntax.tyRef (Syntax.named 0) Syntax.imm (Syntax.tyInt Syntax.w8))
+      0,
+) (List._∷_ (
+  2,
+  Rows.sslice
+      (Referent.rtF (Referent.fInt Syntax.w64))
+      (Syntax.tyRef (Syntax.named 1) Syntax.imm (Syntax.tyInt Syntax.w64))
+      1,
+) (List._∷_ (3, Rows.sc-here (Row.sInt Syntax.w64)) (List._∷_ (
+  4,
+  Rows.sslice
+      (Referent.rtF (Referent.fInt Syntax.w64))
+      (Syntax.tyRef (Syntax.named 2) Syntax.imm (Syntax.tyInt Syntax.w64))
+      2,
+) (List._∷_ (
+  5,
+  Rows.sslice
+      (Referent.rtF (Referent.fInt Syntax.w8))
+      (Syntax.tyRef (Syntax.named 3) Syntax.imm (Syntax.tyInt Syntax.w8))
+      3,
+) (List._∷_ (
+  6,
+  Relend.mslice-owed
+      (Referent.rtF (Referent.fInt Syntax.w64))
+      (Syntax.tyRef (Syntax.named 4) Syntax.mut (Syntax.tyInt Syntax.w64))
+      4
+      12
+      Row.off,
+) (List._∷_ (
+  7,
+  Relend.mslice-owed
+      (Referent.rtF (Referent.fInt Syntax.w8))
+      (Syntax.tyRef (Syntax.named 5) Syntax.mut (Syntax.tyInt Syntax.w8))
+      5
+      13
+      Row.off,
+) (List._∷_ (
+  8,
+  Relend.mslice-owed
+      (Referent.rtF (Referent.fInt Syntax.w8))
+      (Syntax.tyRef (Syntax.named 6) Syntax.mut (Syntax.tyInt Syntax.w8))
+      6
+      14
+      Row.off,
+) (List._∷_ (
+  9,
+  Relend.mslice-owed
+      (Referent.rtF (Referent.fInt Syntax.w8))
+      (Syntax.tyRef (Syntax.named 7) Syntax.mut (Syntax.tyInt Syntax.w8))
+      7
+      15
+      Row.off,
+) (List._∷_ (
+  10,
+  Relend.mslice-owed
+      (Referent.rtF (Referent.fInt Syntax.w8))
+      (Syntax.tyRef (Syntax.named 8) Syntax.mut (Syntax.tyInt Syntax.w8))
+      8
+      16
+      Row.off,
+) (List._∷_ (
+  11,
+  Mut.mslice
+      Elem.R
+      (Syntax.tyRef (Syntax.named 9) Syntax.mut Elem.ty)
+      9,
+) (List._∷_ (12, Rows.sc-here (Row.sInt Syntax.w64)) (List._∷_ (
+  13,
+  Rows.sc-here (Row.sInt Syntax.w64),
+) (List._∷_ (14, Rows.sc-here (Row.sInt Syntax.w64)) (List._∷_ (
+  15,
+  Rows.any-gone
+      (Syntax.tyStruct
+      (List._∷_
+      114
+      (List._∷_
+      101
+      (List._∷_
+      99
+      (List._∷_
+      111
+      (List._∷_
+      114
+      (List._∷_
+      100
+      (List._∷_
+      115
+      (List._∷_
+      58
+      (List._∷_
+      58
+      (List._∷_
+      76
+      (List._∷_
+      105
+      (List._∷_ 110 (List._∷_ 101 (List._∷_ 82 (List._∷_ 101 (List._∷_ 99 List.[]))))))))))))))))
+      (Syntax.tcons
+      (Syntax.tyInt Syntax.w64)
+      (Syntax.tcons
+      (Syntax.tyInt Syntax.w64)
+      (Syntax.tcons
+      (Syntax.tyStruct
+      (List._∷_
+      112
+      (List._∷_
+      108
+      (List._∷_
+      97
+      (List._∷_
+      99
+      (List._∷_
+      101
+      (List._∷_
+      58
+      (List._∷_
+      58
+      (List._∷_
+      82
+      (List._∷_ 101 (List._∷_ 103 (List._∷_ 105 (List._∷_ 111 (List._∷_ 110 List.[])))))))))))))
+      (Syntax.tcons (Syntax.tyInt Syntax.w64) Syntax.tnil))
+      (Syntax.tcons (Syntax.tyInt Syntax.w64) Syntax.tnil))))),
+) List.[])))))))))))))))
+
+abbrev pub t41 : List.List Row.Entry
+t41 = List._∷_ (0, Rows.any-gone (Syntax.tyInt Syntax.w64)) (List._∷_ (
+  1,
+  Rows.sslice
+      (Referent.rtF (Referent.fInt Syntax.w8))
+      (Syntax.tyRef (Syntax.named 0) Syntax.imm (Syntax.tyInt Syntax.w8))
+      0,
+) (List._∷_ (
+  2,
+  Rows.sslice
+      (Referent.rtF (Referent.fInt Syntax.w64))
+      (Syntax.tyRef (Syntax.named 1) Syntax.imm (Syntax.tyInt Syntax.w64))
+      1,
+) (List._∷_ (3, Rows.sc-here (Row.sInt Syntax.w64)) (List._∷_ (
+  4,
+  Rows.sslice
+      (Referent.rtF (Referent.fInt Syntax.w64))
+      (Syntax.tyRef (Syntax.named 2) Syntax.imm (Syntax.tyInt Syntax.w64))
+      2,
+) (List._∷_ (
+  5,
+  Rows.sslice
+      (Referent.rtF (Referent.fInt Syntax.w8))
+      (Syntax.tyRef (Syntax.named 3) Syntax.imm (Syntax.tyInt Syntax.w8))
+      3,
+) (List._∷_ (
+  6,
+  Mut.mslice
+      (Referent.rtF (Referent.fInt Syntax.w64))
+      (Syntax.tyRef (Syntax.named 4) Syntax.mut (Syntax.tyInt Syntax.w64))
+      4,
+) (List._∷_ (
+  7,
+  Relend.mslice-owed
+      (Referent.rtF (Referent.fInt Syntax.w8))
+      (Syntax.tyRef (Syntax.named 5) Syntax.mut (Syntax.tyInt Syntax.w8))
+      5
+      13
+      Row.off,
+) (List._∷_ (
+  8,
+  Relend.mslice-owed
+      (Referent.rtF (Referent.fInt Syntax.w8))
+      (Syntax.tyRef (Syntax.named 6) Syntax.mut (Syntax.tyInt Syntax.w8))
+      6
+      14
+      Row.off,
+) (List._∷_ (
+  9,
+  Relend.mslice-owed
+      (Referent.rtF (Referent.fInt Syntax.w8))
+      (Syntax.tyRef (Syntax.named 7) Syntax.mut (Syntax.tyInt Syntax.w8))
+      7
+      15
+      Row.off,
+) (List._∷_ (
+  10,
+  Relend.mslice-owed
+      (Referent.rtF (Referent.fInt Syntax.w8))
+      (Syntax.tyRef (Syntax.named 8) Syntax.mut (Syntax.tyInt Syntax.w8))
+      8
+      16
+      Row.off,
+) (List._∷_ (
+  11,
+  Mut.mslice
+      Elem.R
+      (Syntax.tyRef (Syntax.named 9) Syntax.mut Elem.ty)
+      9,
+) (List._∷_ (12, Rows.sc-here (Row.sInt Syntax.w64)) (List._∷_ (
+  13,
+  Rows.sc-here (Row.sInt Syntax.w64),
+) (List._∷_ (14, Rows.sc-here (Row.sInt Syntax.w64)) (List._∷_ (
+  15,
+  Rows.any-gone
+      (Syntax.tyStruct
+      (List._∷_
+      114
+      (List._∷_
+      101
+      (List._∷_
+      99
+      (List._∷_
+      111
+      (List._∷_
+      114
+      (List._∷_
+      100
+      (List._∷_
+      115
+      (List._∷_
+      58
+      (List._∷_
+      58
+      (List._∷_
+      76
+      (List._∷_
+      105
+      (List._∷_ 110 (List._∷_ 101 (List._∷_ 82 (List._∷_ 101 (List._∷_ 99 List.[]))))))))))))))))
+      (Syntax.tcons
+      (Syntax.tyInt Syntax.w64)
+      (Syntax.tcons
+      (Syntax.tyInt Syntax.w64)
+      (Syntax.tcons
+      (Syntax.tyStruct
+      (List._∷_
+      112
+      (List._∷_
+      108
+      (List._∷_
+      97
+      (List._∷_
+      99
+      (List._∷_
+      101
+      (List._∷_
+      58
+      (List._∷_
+      58
+      (List._∷_
+      82
+      (List._∷_ 101 (List._∷_ 103 (List._∷_ 105 (List._∷_ 111 (List._∷_ 110 List.[])))))))))))))
+      (Syntax.tcons (Syntax.tyInt Syntax.w64) Syntax.tnil))
+      (Syntax.tcons (Syntax.tyInt Syntax.w64) Syntax.tnil))))),
+) List.[])))))))))))))))
+
+abbrev pub t42 : List.List Row.Entry
+t42 = List._∷_ (16, Rows.any-gone Syntax.tyBool) (List._∷_ (
+  17,
+  Rows.any-gone
+      (Syntax.tyRef Syntax.erased Syntax.mut Elem.ty),
+) (List._∷_ (
+  18,
+  Rows.any-gone
       (Syntax.tyStruct
       (List._∷_ 38 (List._∷_ 91 (List._∷_ 93 List.[])))
       (Syntax.tcons
       (Syntax.tyRef Syntax.erased Syntax.mut Elem.ty)
       (Syntax.tcons (Syntax.tyInt Syntax.w64) Syntax.tnil))),
 ) (List._∷_ (
-  20,
-  Rows'.any-gone
-      (Syntax.tyRef
-      Syntax.erased
-      Syntax.imm
-      (Syntax.tyArray Elem.ty 1024)),
+  19,
+  Rows.any-gone
+      (Syntax.tyRef Syntax.erased Syntax.imm Elem.ty),
 ) (List._∷_ (
-  21,
-  Rows'.any-gone
+  20,
+  Rows.any-gone
       (Syntax.tyStruct
       (List._∷_ 38 (List._∷_ 91 (List._∷_ 93 List.[])))
       (Syntax.tcons
       (Syntax.tyRef Syntax.erased Syntax.imm Elem.ty)
       (Syntax.tcons (Syntax.tyInt Syntax.w64) Syntax.tnil))),
+) (List._∷_ (21, Rows.any-gone (Syntax.tyInt Syntax.w64)) (List._∷_ (
+  22,
+  Rows.any-gone (Syntax.tyInt Syntax.w64),
+) (List._∷_ (23, Rows.any-gone (Syntax.tyInt Syntax.w64)) (List._∷_ (
+  24,
+  Rows.any-gone (Syntax.tyRef Syntax.erased Syntax.mut (Syntax.tyInt Syntax.w64)),
+) (List._∷_ (
+  25,
+  Rows.any-gone
+      (Syntax.tyStruct
+      (List._∷_ 38 (List._∷_ 91 (List._∷_ 93 List.[])))
+      (Syntax.tcons
+      (Syntax.tyRef Syntax.erased Syntax.mut (Syntax.tyInt Syntax.w64))
+      (Syntax.tcons (Syntax.tyInt Syntax.w64) Syntax.tnil))),
 )
+    (List._∷_
+    (26, Rows.any-gone (Syntax.tyRef Syntax.erased Syntax.mut (Syntax.tyInt Syntax.w8)))
     (List._∷_ (
-      22,
-      Rows'.any-gone (Syntax.tyRef Syntax.erased Syntax.mut (Syntax.tyInt Syntax.w64)),
-    ) (List._∷_ (
-      23,
-      Rows'.any-gone
-          (Syntax.tyStruct
-          (List._∷_ 38 (List._∷_ 91 (List._∷_ 93 List.[])))
-          (Syntax.tcons
-          (Syntax.tyRef Syntax.erased Syntax.mut (Syntax.tyInt Syntax.w64))
-          (Syntax.tcons (Syntax.tyInt Syntax.w64) Syntax.tnil))),
-    ) (List._∷_ (
-      24,
-      Rows'.any-gone (Syntax.tyRef Syntax.erased Syntax.mut (Syntax.tyInt Syntax.w8)),
-    ) (List._∷_ (
-      25,
-      Mut.msleft
-          (Referent.rtF (Referent.fInt Syntax.w8))
-          (Syntax.tyRef Syntax.erased Syntax.mut (Syntax.tyInt Syntax.w8)),
-    ) (List._∷_ (
-      26,
-      Rows'.any-gone (Syntax.tyRef Syntax.erased Syntax.mut (Syntax.tyInt Syntax.w8)),
-    ) (List._∷_ (
       27,
       Mut.msleft
           (Referent.rtF (Referent.fInt Syntax.w8))
           (Syntax.tyRef Syntax.erased Syntax.mut (Syntax.tyInt Syntax.w8)),
     ) (List._∷_ (
       28,
-      Rows'.any-gone (Syntax.tyRef Syntax.erased Syntax.mut (Syntax.tyInt Syntax.w8)),
+      Rows.any-gone (Syntax.tyRef Syntax.erased Syntax.mut (Syntax.tyInt Syntax.w8)),
     ) (List._∷_ (
       29,
       Mut.msleft
@@ -4204,7 +3989,7 @@ t39 = List._∷_ (
           (Syntax.tyRef Syntax.erased Syntax.mut (Syntax.tyInt Syntax.w8)),
     ) (List._∷_ (
       30,
-      Rows'.any-gone (Syntax.tyRef Syntax.erased Syntax.mut (Syntax.tyInt Syntax.w8)),
+      Rows.any-gone (Syntax.tyRef Syntax.erased Syntax.mut (Syntax.tyInt Syntax.w8)),
     ) (List._∷_ (
       31,
       Mut.msleft
@@ -4212,28 +3997,28 @@ t39 = List._∷_ (
           (Syntax.tyRef Syntax.erased Syntax.mut (Syntax.tyInt Syntax.w8)),
     ) List.[])))))))))))))))
 
-abbrev pub t40 : List.List Row.Entry
-t40 = List._∷_ (0, Rows'.any-gone (Syntax.tyInt Syntax.w64)) (List._∷_ (
+abbrev pub t43 : List.List Row.Entry
+t43 = List._∷_ (0, Rows.any-gone (Syntax.tyInt Syntax.w64)) (List._∷_ (
   1,
-  Rows'.sslice
+  Rows.sslice
       (Referent.rtF (Referent.fInt Syntax.w8))
       (Syntax.tyRef (Syntax.named 0) Syntax.imm (Syntax.tyInt Syntax.w8))
       0,
 ) (List._∷_ (
   2,
-  Rows'.sslice
+  Rows.sslice
       (Referent.rtF (Referent.fInt Syntax.w64))
       (Syntax.tyRef (Syntax.named 1) Syntax.imm (Syntax.tyInt Syntax.w64))
       1,
-) (List._∷_ (3, Rows'.sc-here (Row.sInt Syntax.w64)) (List._∷_ (
+) (List._∷_ (3, Rows.sc-here (Row.sInt Syntax.w64)) (List._∷_ (
   4,
-  Rows'.sslice
+  Rows.sslice
       (Referent.rtF (Referent.fInt Syntax.w64))
       (Syntax.tyRef (Syntax.named 2) Syntax.imm (Syntax.tyInt Syntax.w64))
       2,
 ) (List._∷_ (
   5,
-  Rows'.sslice
+  Rows.sslice
       (Referent.rtF (Referent.fInt Syntax.w8))
       (Syntax.tyRef (Syntax.named 3) Syntax.imm (Syntax.tyInt Syntax.w8))
       3,
@@ -4255,7 +4040,7 @@ t40 = List._∷_ (0, Rows'.any-gone (Syntax.tyInt Syntax.w64)) (List._∷_ (
       (Referent.rtF (Referent.fInt Syntax.w8))
       (Syntax.tyRef (Syntax.named 6) Syntax.mut (Syntax.tyInt Syntax.w8))
       6
-      13
+      14
       Row.off,
 ) (List._∷_ (
   9,
@@ -4263,7 +4048,7 @@ t40 = List._∷_ (0, Rows'.any-gone (Syntax.tyInt Syntax.w64)) (List._∷_ (
       (Referent.rtF (Referent.fInt Syntax.w8))
       (Syntax.tyRef (Syntax.named 7) Syntax.mut (Syntax.tyInt Syntax.w8))
       7
-      14
+      15
       Row.off,
 ) (List._∷_ (
   10,
@@ -4271,389 +4056,306 @@ t40 = List._∷_ (0, Rows'.any-gone (Syntax.tyInt Syntax.w64)) (List._∷_ (
       (Referent.rtF (Referent.fInt Syntax.w8))
       (Syntax.tyRef (Syntax.named 8) Syntax.mut (Syntax.tyInt Syntax.w8))
       8
-      15
-      Row.off,
-)
-    (List._∷_
-    (11, Rows.arrF Elem.R 1024 0)
-    (List._∷_ (12, Rows'.whole (Declared.row LineRec.the-type)) (List._∷_ (
-      13,
-      Rows'.sc-here (Row.sInt Syntax.w64),
-    ) (List._∷_ (14, Rows'.sc-here (Row.sInt Syntax.w64)) (List._∷_ (
-      15,
-      Rows'.sc-here (Row.sInt Syntax.w64),
-    ) List.[])))))))))))))))
-
-abbrev pub t41 : List.List Row.Entry
-t41 = List._∷_ (
-  16,
-  Rows'.any-gone (Syntax.tyArray Elem.held 1024),
-) (List._∷_ (17, Rows'.any-gone Syntax.tyBool) (List._∷_ (
-  18,
-  Rows'.any-gone
-      (Syntax.tyRef
-      Syntax.erased
-      Syntax.mut
-      (Syntax.tyArray Elem.ty 1024)),
-) (List._∷_ (
-  19,
-  Rows'.any-gone
-      (Syntax.tyStruct
-      (List._∷_ 38 (List._∷_ 91 (List._∷_ 93 List.[])))
-      (Syntax.tcons
-      (Syntax.tyRef Syntax.erased Syntax.mut Elem.ty)
-      (Syntax.tcons (Syntax.tyInt Syntax.w64) Syntax.tnil))),
-) (List._∷_ (
-  20,
-  Rows'.any-gone
-      (Syntax.tyRef
-      Syntax.erased
-      Syntax.imm
-      (Syntax.tyArray Elem.ty 1024)),
-) (List._∷_ (
-  21,
-  Rows'.any-gone
-      (Syntax.tyStruct
-      (List._∷_ 38 (List._∷_ 91 (List._∷_ 93 List.[])))
-      (Syntax.tcons
-      (Syntax.tyRef Syntax.erased Syntax.imm Elem.ty)
-      (Syntax.tcons (Syntax.tyInt Syntax.w64) Syntax.tnil))),
-)
-    (List._∷_ (
-      22,
-      Rows'.any-gone (Syntax.tyRef Syntax.erased Syntax.mut (Syntax.tyInt Syntax.w64)),
-    ) (List._∷_ (
-      23,
-      Rows'.any-gone
-          (Syntax.tyStruct
-          (List._∷_ 38 (List._∷_ 91 (List._∷_ 93 List.[])))
-          (Syntax.tcons
-          (Syntax.tyRef Syntax.erased Syntax.mut (Syntax.tyInt Syntax.w64))
-          (Syntax.tcons (Syntax.tyInt Syntax.w64) Syntax.tnil))),
-    ) (List._∷_ (
-      24,
-      Rows'.any-gone (Syntax.tyRef Syntax.erased Syntax.mut (Syntax.tyInt Syntax.w8)),
-    ) (List._∷_ (
-      25,
-      Rows'.any-gone
-          (Syntax.tyStruct
-          (List._∷_ 38 (List._∷_ 91 (List._∷_ 93 List.[])))
-          (Syntax.tcons
-          (Syntax.tyRef Syntax.erased Syntax.mut (Syntax.tyInt Syntax.w8))
-          (Syntax.tcons (Syntax.tyInt Syntax.w64) Syntax.tnil))),
-    ) (List._∷_ (
-      26,
-      Rows'.any-gone (Syntax.tyRef Syntax.erased Syntax.mut (Syntax.tyInt Syntax.w8)),
-    ) (List._∷_ (
-      27,
-      Mut.msleft
-          (Referent.rtF (Referent.fInt Syntax.w8))
-          (Syntax.tyRef Syntax.erased Syntax.mut (Syntax.tyInt Syntax.w8)),
-    ) (List._∷_ (
-      28,
-      Rows'.any-gone (Syntax.tyRef Syntax.erased Syntax.mut (Syntax.tyInt Syntax.w8)),
-    ) (List._∷_ (
-      29,
-      Mut.msleft
-          (Referent.rtF (Referent.fInt Syntax.w8))
-          (Syntax.tyRef Syntax.erased Syntax.mut (Syntax.tyInt Syntax.w8)),
-    ) (List._∷_ (
-      30,
-      Rows'.any-gone (Syntax.tyRef Syntax.erased Syntax.mut (Syntax.tyInt Syntax.w8)),
-    ) (List._∷_ (
-      31,
-      Mut.msleft
-          (Referent.rtF (Referent.fInt Syntax.w8))
-          (Syntax.tyRef Syntax.erased Syntax.mut (Syntax.tyInt Syntax.w8)),
-    ) List.[])))))))))))))))
-
-abbrev pub t42 : List.List Row.Entry
-t42 = List._∷_ (0, Rows'.any-gone (Syntax.tyInt Syntax.w64)) (List._∷_ (
-  1,
-  Rows'.sslice
-      (Referent.rtF (Referent.fInt Syntax.w8))
-      (Syntax.tyRef (Syntax.named 0) Syntax.imm (Syntax.tyInt Syntax.w8))
-      0,
-) (List._∷_ (
-  2,
-  Rows'.sslice
-      (Referent.rtF (Referent.fInt Syntax.w64))
-      (Syntax.tyRef (Syntax.named 1) Syntax.imm (Syntax.tyInt Syntax.w64))
-      1,
-) (List._∷_ (3, Rows'.sc-here (Row.sInt Syntax.w64)) (List._∷_ (
-  4,
-  Rows'.sslice
-      (Referent.rtF (Referent.fInt Syntax.w64))
-      (Syntax.tyRef (Syntax.named 2) Syntax.imm (Syntax.tyInt Syntax.w64))
-      2,
-) (List._∷_ (
-  5,
-  Rows'.sslice
-      (Referent.rtF (Referent.fInt Syntax.w8))
-      (Syntax.tyRef (Syntax.named 3) Syntax.imm (Syntax.tyInt Syntax.w8))
-      3,
-) (List._∷_ (
-  6,
-  Mut.mslice
-      (Referent.rtF (Referent.fInt Syntax.w64))
-      (Syntax.tyRef (Syntax.named 4) Syntax.mut (Syntax.tyInt Syntax.w64))
-      4,
-) (List._∷_ (
-  7,
-  Mut.mslice
-      (Referent.rtF (Referent.fInt Syntax.w8))
-      (Syntax.tyRef (Syntax.named 5) Syntax.mut (Syntax.tyInt Syntax.w8))
-      5,
-) (List._∷_ (
-  8,
-  Mut.mslice
-      (Referent.rtF (Referent.fInt Syntax.w8))
-      (Syntax.tyRef (Syntax.named 6) Syntax.mut (Syntax.tyInt Syntax.w8))
-      6,
-) (List._∷_ (
-  9,
-  Relend.mslice-owed
-      (Referent.rtF (Referent.fInt Syntax.w8))
-      (Syntax.tyRef (Syntax.named 7) Syntax.mut (Syntax.tyInt Syntax.w8))
-      7
-      14
+      16
       Row.off,
 ) (List._∷_ (
-  10,
-  Relend.mslice-owed
-      (Referent.rtF (Referent.fInt Syntax.w8))
-      (Syntax.tyRef (Syntax.named 8) Syntax.mut (Syntax.tyInt Syntax.w8))
-      8
-      15
-      Row.off,
-)
-    (List._∷_
-    (11, Rows.arrF Elem.R 1024 0)
-    (List._∷_ (12, Rows'.whole (Declared.row LineRec.the-type)) (List._∷_ (
-      13,
-      Rows'.sc-here (Row.sInt Syntax.w64),
-    ) (List._∷_ (14, Rows'.sc-here (Row.sInt Syntax.w64)) (List._∷_ (
-      15,
-      Rows'.sc-here (Row.sInt Syntax.w64),
-    ) List.[])))))))))))))))
-
-abbrev pub t43 : List.List Row.Entry
-t43 = List._∷_ (
-  16,
-  Rows'.any-gone (Syntax.tyArray Elem.held 1024),
-) (List._∷_ (17, Rows'.any-gone Syntax.tyBool) (List._∷_ (
-  18,
-  Rows'.any-gone
-      (Syntax.tyRef
-      Syntax.erased
-      Syntax.mut
-      (Syntax.tyArray Elem.ty 1024)),
-) (List._∷_ (
-  19,
-  Rows'.any-gone
+  11,
+  Mut.mslice
+      Elem.R
+      (Syntax.tyRef (Syntax.named 9) Syntax.mut Elem.ty)
+      9,
+) (List._∷_ (12, Rows.sc-here (Row.sInt Syntax.w64)) (List._∷_ (
+  13,
+  Rows.sc-here (Row.sInt Syntax.w64),
+) (List._∷_ (14, Rows.sc-here (Row.sInt Syntax.w64)) (List._∷_ (
+  15,
+  Rows.any-gone
       (Syntax.tyStruct
-      (List._∷_ 38 (List._∷_ 91 (List._∷_ 93 List.[])))
+      (List._∷_
+      114
+      (List._∷_
+      101
+      (List._∷_
+      99
+      (List._∷_
+      111
+      (List._∷_
+      114
+      (List._∷_
+      100
+      (List._∷_
+      115
+      (List._∷_
+      58
+      (List._∷_
+      58
+      (List._∷_
+      76
+      (List._∷_
+      105
+      (List._∷_ 110 (List._∷_ 101 (List._∷_ 82 (List._∷_ 101 (List._∷_ 99 List.[]))))))))))))))))
       (Syntax.tcons
-      (Syntax.tyRef Syntax.erased Syntax.mut Elem.ty)
-      (Syntax.tcons (Syntax.tyInt Syntax.w64) Syntax.tnil))),
-) (List._∷_ (
-  20,
-  Rows'.any-gone
-      (Syntax.tyRef
-      Syntax.erased
-      Syntax.imm
-      (Syntax.tyArray Elem.ty 1024)),
-) (List._∷_ (
-  21,
-  Rows'.any-gone
+      (Syntax.tyInt Syntax.w64)
+      (Syntax.tcons
+      (Syntax.tyInt Syntax.w64)
+      (Syntax.tcons
       (Syntax.tyStruct
-      (List._∷_ 38 (List._∷_ 91 (List._∷_ 93 List.[])))
-      (Syntax.tcons
-      (Syntax.tyRef Syntax.erased Syntax.imm Elem.ty)
-      (Syntax.tcons (Syntax.tyInt Syntax.w64) Syntax.tnil))),
-)
-    (List._∷_ (
-      22,
-      Rows'.any-gone (Syntax.tyRef Syntax.erased Syntax.mut (Syntax.tyInt Syntax.w64)),
-    ) (List._∷_ (
-      23,
-      Rows'.any-gone
-          (Syntax.tyStruct
-          (List._∷_ 38 (List._∷_ 91 (List._∷_ 93 List.[])))
-          (Syntax.tcons
-          (Syntax.tyRef Syntax.erased Syntax.mut (Syntax.tyInt Syntax.w64))
-          (Syntax.tcons (Syntax.tyInt Syntax.w64) Syntax.tnil))),
-    ) (List._∷_ (
-      24,
-      Rows'.any-gone (Syntax.tyRef Syntax.erased Syntax.mut (Syntax.tyInt Syntax.w8)),
-    ) (List._∷_ (
-      25,
-      Rows'.any-gone
-          (Syntax.tyStruct
-          (List._∷_ 38 (List._∷_ 91 (List._∷_ 93 List.[])))
-          (Syntax.tcons
-          (Syntax.tyRef Syntax.erased Syntax.mut (Syntax.tyInt Syntax.w8))
-          (Syntax.tcons (Syntax.tyInt Syntax.w64) Syntax.tnil))),
-    ) (List._∷_ (
-      26,
-      Rows'.any-gone (Syntax.tyRef Syntax.erased Syntax.mut (Syntax.tyInt Syntax.w8)),
-    ) (List._∷_ (
-      27,
-      Rows'.any-gone
-          (Syntax.tyStruct
-          (List._∷_ 38 (List._∷_ 91 (List._∷_ 93 List.[])))
-          (Syntax.tcons
-          (Syntax.tyRef Syntax.erased Syntax.mut (Syntax.tyInt Syntax.w8))
-          (Syntax.tcons (Syntax.tyInt Syntax.w64) Syntax.tnil))),
-    ) (List._∷_ (
-      28,
-      Rows'.any-gone (Syntax.tyRef Syntax.erased Syntax.mut (Syntax.tyInt Syntax.w8)),
-    ) (List._∷_ (
-      29,
-      Mut.msleft
-          (Referent.rtF (Referent.fInt Syntax.w8))
-          (Syntax.tyRef Syntax.erased Syntax.mut (Syntax.tyInt Syntax.w8)),
-    ) (List._∷_ (
-      30,
-      Rows'.any-gone (Syntax.tyRef Syntax.erased Syntax.mut (Syntax.tyInt Syntax.w8)),
-    ) (List._∷_ (
-      31,
-      Mut.msleft
-          (Referent.rtF (Referent.fInt Syntax.w8))
-          (Syntax.tyRef Syntax.erased Syntax.mut (Syntax.tyInt Syntax.w8)),
-    ) List.[])))))))))))))))
+      (List._∷_
+      112
+      (List._∷_
+      108
+      (List._∷_
+      97
+      (List._∷_
+      99
+      (List._∷_
+      101
+      (List._∷_
+      58
+      (List._∷_
+      58
+      (List._∷_
+      82
+      (List._∷_ 101 (List._∷_ 103 (List._∷_ 105 (List._∷_ 111 (List._∷_ 110 List.[])))))))))))))
+      (Syntax.tcons (Syntax.tyInt Syntax.w64) Syntax.tnil))
+      (Syntax.tcons (Syntax.tyInt Syntax.w64) Syntax.tnil))))),
+) List.[])))))))))))))))
 
 abbrev pub t44 : List.List Row.Entry
-t44 = List._∷_ (0, Rows'.any-gone (Syntax.tyInt Syntax.w64)) (List._∷_ (
-  1,
-  Rows'.sslice
-      (Referent.rtF (Referent.fInt Syntax.w8))
-      (Syntax.tyRef (Syntax.named 0) Syntax.imm (Syntax.tyInt Syntax.w8))
-      0,
+t44 = List._∷_ (16, Rows.any-gone Syntax.tyBool) (List._∷_ (
+  17,
+  Rows.any-gone
+      (Syntax.tyRef Syntax.erased Syntax.mut Elem.ty),
 ) (List._∷_ (
-  2,
-  Rows'.sslice
-      (Referent.rtF (Referent.fInt Syntax.w64))
-      (Syntax.tyRef (Syntax.named 1) Syntax.imm (Syntax.tyInt Syntax.w64))
-      1,
-) (List._∷_ (3, Rows'.sc-here (Row.sInt Syntax.w64)) (List._∷_ (
-  4,
-  Rows'.sslice
-      (Referent.rtF (Referent.fInt Syntax.w64))
-      (Syntax.tyRef (Syntax.named 2) Syntax.imm (Syntax.tyInt Syntax.w64))
-      2,
+  18,
+  Rows.any-gone
+      (Syntax.tyStruct
+      (List._∷_ 38 (List._∷_ 91 (List._∷_ 93 List.[])))
+      (Syntax.tcons
+      (Syntax.tyRef Syntax.erased Syntax.mut Elem.ty)
+      (Syntax.tcons (Syntax.tyInt Syntax.w64) Syntax.tnil))),
 ) (List._∷_ (
-  5,
-  Rows'.sslice
-      (Referent.rtF (Referent.fInt Syntax.w8))
-      (Syntax.tyRef (Syntax.named 3) Syntax.imm (Syntax.tyInt Syntax.w8))
-      3,
+  19,
+  Rows.any-gone
+      (Syntax.tyRef Syntax.erased Syntax.imm Elem.ty),
 ) (List._∷_ (
-  6,
-  Mut.mslice
-      (Referent.rtF (Referent.fInt Syntax.w64))
-      (Syntax.tyRef (Syntax.named 4) Syntax.mut (Syntax.tyInt Syntax.w64))
-      4,
+  20,
+  Rows.any-gone
+      (Syntax.tyStruct
+      (List._∷_ 38 (List._∷_ 91 (List._∷_ 93 List.[])))
+      (Syntax.tcons
+      (Syntax.tyRef Syntax.erased Syntax.imm Elem.ty)
+      (Syntax.tcons (Syntax.tyInt Syntax.w64) Syntax.tnil))),
+) (List._∷_ (21, Rows.any-gone (Syntax.tyInt Syntax.w64)) (List._∷_ (
+  22,
+  Rows.any-gone (Syntax.tyInt Syntax.w64),
+) (List._∷_ (23, Rows.any-gone (Syntax.tyInt Syntax.w64)) (List._∷_ (
+  24,
+  Rows.any-gone (Syntax.tyRef Syntax.erased Syntax.mut (Syntax.tyInt Syntax.w64)),
 ) (List._∷_ (
-  7,
-  Mut.mslice
-      (Referent.rtF (Referent.fInt Syntax.w8))
-      (Syntax.tyRef (Syntax.named 5) Syntax.mut (Syntax.tyInt Syntax.w8))
-      5,
-) (List._∷_ (
-  8,
-  Mut.mslice
-      (Referent.rtF (Referent.fInt Syntax.w8))
-      (Syntax.tyRef (Syntax.named 6) Syntax.mut (Syntax.tyInt Syntax.w8))
-      6,
-) (List._∷_ (
-  9,
-  Mut.mslice
-      (Referent.rtF (Referent.fInt Syntax.w8))
-      (Syntax.tyRef (Syntax.named 7) Syntax.mut (Syntax.tyInt Syntax.w8))
-      7,
-) (List._∷_ (
-  10,
-  Relend.mslice-owed
-      (Referent.rtF (Referent.fInt Syntax.w8))
-      (Syntax.tyRef (Syntax.named 8) Syntax.mut (Syntax.tyInt Syntax.w8))
-      8
-      15
-      Row.off,
+  25,
+  Rows.any-gone
+      (Syntax.tyStruct
+      (List._∷_ 38 (List._∷_ 91 (List._∷_ 93 List.[])))
+      (Syntax.tcons
+      (Syntax.tyRef Syntax.erased Syntax.mut (Syntax.tyInt Syntax.w64))
+      (Syntax.tcons (Syntax.tyInt Syntax.w64) Syntax.tnil))),
 )
     (List._∷_
-    (11, Rows.arrF Elem.R 1024 0)
-    (List._∷_ (12, Rows'.whole (Declared.row LineRec.the-type)) (List._∷_ (
-      13,
-      Rows'.sc-here (Row.sInt Syntax.w64),
-    ) (List._∷_ (14, Rows'.sc-here (Row.sInt Syntax.w64)) (List._∷_ (
-      15,
-      Rows'.sc-here (Row.sInt Syntax.w64),
+    (26, Rows.any-gone (Syntax.tyRef Syntax.erased Syntax.mut (Syntax.tyInt Syntax.w8)))
+    (List._∷_ (
+      27,
+      Rows.any-gone
+          (Syntax.tyStruct
+          (List._∷_ 38 (List._∷_ 91 (List._∷_ 93 List.[])))
+          (Syntax.tcons
+          (Syntax.tyRef Syntax.erased Syntax.mut (Syntax.tyInt Syntax.w8))
+          (Syntax.tcons (Syntax.tyInt Syntax.w64) Syntax.tnil))),
+    ) (List._∷_ (
+      28,
+      Rows.any-gone (Syntax.tyRef Syntax.erased Syntax.mut (Syntax.tyInt Syntax.w8)),
+    ) (List._∷_ (
+      29,
+      Mut.msleft
+          (Referent.rtF (Referent.fInt Syntax.w8))
+          (Syntax.tyRef Syntax.erased Syntax.mut (Syntax.tyInt Syntax.w8)),
+    ) (List._∷_ (
+      30,
+      Rows.any-gone (Syntax.tyRef Syntax.erased Syntax.mut (Syntax.tyInt Syntax.w8)),
+    ) (List._∷_ (
+      31,
+      Mut.msleft
+          (Referent.rtF (Referent.fInt Syntax.w8))
+          (Syntax.tyRef Syntax.erased Syntax.mut (Syntax.tyInt Syntax.w8)),
     ) List.[])))))))))))))))
 
 abbrev pub t45 : List.List Row.Entry
-t45 = List._∷_ (
-  16,
-  Rows'.any-gone (Syntax.tyArray Elem.held 1024),
-) (List._∷_ (17, Rows'.any-gone Syntax.tyBool) (List._∷_ (
-  18,
-  Rows'.any-gone
-      (Syntax.tyRef
-      Syntax.erased
-      Syntax.mut
-      (Syntax.tyArray Elem.ty 1024)),
+t45 = List._∷_ (0, Rows.any-gone (Syntax.tyInt Syntax.w64)) (List._∷_ (
+  1,
+  Rows.sslice
+      (Referent.rtF (Referent.fInt Syntax.w8))
+      (Syntax.tyRef (Syntax.named 0) Syntax.imm (Syntax.tyInt Syntax.w8))
+      0,
 ) (List._∷_ (
-  19,
-  Rows'.any-gone
+  2,
+  Rows.sslice
+      (Referent.rtF (Referent.fInt Syntax.w64))
+      (Syntax.tyRef (Syntax.named 1) Syntax.imm (Syntax.tyInt Syntax.w64))
+      1,
+) (List._∷_ (3, Rows.sc-here (Row.sInt Syntax.w64)) (List._∷_ (
+  4,
+  Rows.sslice
+      (Referent.rtF (Referent.fInt Syntax.w64))
+      (Syntax.tyRef (Syntax.named 2) Syntax.imm (Syntax.tyInt Syntax.w64))
+      2,
+) (List._∷_ (
+  5,
+  Rows.sslice
+      (Referent.rtF (Referent.fInt Syntax.w8))
+      (Syntax.tyRef (Syntax.named 3) Syntax.imm (Syntax.tyInt Syntax.w8))
+      3,
+) (List._∷_ (
+  6,
+  Mut.mslice
+      (Referent.rtF (Referent.fInt Syntax.w64))
+      (Syntax.tyRef (Syntax.named 4) Syntax.mut (Syntax.tyInt Syntax.w64))
+      4,
+) (List._∷_ (
+  7,
+  Mut.mslice
+      (Referent.rtF (Referent.fInt Syntax.w8))
+      (Syntax.tyRef (Syntax.named 5) Syntax.mut (Syntax.tyInt Syntax.w8))
+      5,
+) (List._∷_ (
+  8,
+  Mut.mslice
+      (Referent.rtF (Referent.fInt Syntax.w8))
+      (Syntax.tyRef (Syntax.named 6) Syntax.mut (Syntax.tyInt Syntax.w8))
+      6,
+) (List._∷_ (
+  9,
+  Relend.mslice-owed
+      (Referent.rtF (Referent.fInt Syntax.w8))
+      (Syntax.tyRef (Syntax.named 7) Syntax.mut (Syntax.tyInt Syntax.w8))
+      7
+      15
+      Row.off,
+) (List._∷_ (
+  10,
+  Relend.mslice-owed
+      (Referent.rtF (Referent.fInt Syntax.w8))
+      (Syntax.tyRef (Syntax.named 8) Syntax.mut (Syntax.tyInt Syntax.w8))
+      8
+      16
+      Row.off,
+) (List._∷_ (
+  11,
+  Mut.mslice
+      Elem.R
+      (Syntax.tyRef (Syntax.named 9) Syntax.mut Elem.ty)
+      9,
+) (List._∷_ (12, Rows.sc-here (Row.sInt Syntax.w64)) (List._∷_ (
+  13,
+  Rows.sc-here (Row.sInt Syntax.w64),
+) (List._∷_ (14, Rows.sc-here (Row.sInt Syntax.w64)) (List._∷_ (
+  15,
+  Rows.any-gone
+      (Syntax.tyStruct
+      (List._∷_
+      114
+      (List._∷_
+      101
+      (List._∷_
+      99
+      (List._∷_
+      111
+      (List._∷_
+      114
+      (List._∷_
+      100
+      (List._∷_
+      115
+      (List._∷_
+      58
+      (List._∷_
+      58
+      (List._∷_
+      76
+      (List._∷_
+      105
+      (List._∷_ 110 (List._∷_ 101 (List._∷_ 82 (List._∷_ 101 (List._∷_ 99 List.[]))))))))))))))))
+      (Syntax.tcons
+      (Syntax.tyInt Syntax.w64)
+      (Syntax.tcons
+      (Syntax.tyInt Syntax.w64)
+      (Syntax.tcons
+      (Syntax.tyStruct
+      (List._∷_
+      112
+      (List._∷_
+      108
+      (List._∷_
+      97
+      (List._∷_
+      99
+      (List._∷_
+      101
+      (List._∷_
+      58
+      (List._∷_
+      58
+      (List._∷_
+      82
+      (List._∷_ 101 (List._∷_ 103 (List._∷_ 105 (List._∷_ 111 (List._∷_ 110 List.[])))))))))))))
+      (Syntax.tcons (Syntax.tyInt Syntax.w64) Syntax.tnil))
+      (Syntax.tcons (Syntax.tyInt Syntax.w64) Syntax.tnil))))),
+) List.[])))))))))))))))
+
+abbrev pub t46 : List.List Row.Entry
+t46 = List._∷_ (16, Rows.any-gone Syntax.tyBool) (List._∷_ (
+  17,
+  Rows.any-gone
+      (Syntax.tyRef Syntax.erased Syntax.mut Elem.ty),
+) (List._∷_ (
+  18,
+  Rows.any-gone
       (Syntax.tyStruct
       (List._∷_ 38 (List._∷_ 91 (List._∷_ 93 List.[])))
       (Syntax.tcons
       (Syntax.tyRef Syntax.erased Syntax.mut Elem.ty)
       (Syntax.tcons (Syntax.tyInt Syntax.w64) Syntax.tnil))),
 ) (List._∷_ (
-  20,
-  Rows'.any-gone
-      (Syntax.tyRef
-      Syntax.erased
-      Syntax.imm
-      (Syntax.tyArray Elem.ty 1024)),
+  19,
+  Rows.any-gone
+      (Syntax.tyRef Syntax.erased Syntax.imm Elem.ty),
 ) (List._∷_ (
-  21,
-  Rows'.any-gone
+  20,
+  Rows.any-gone
       (Syntax.tyStruct
       (List._∷_ 38 (List._∷_ 91 (List._∷_ 93 List.[])))
       (Syntax.tcons
       (Syntax.tyRef Syntax.erased Syntax.imm Elem.ty)
       (Syntax.tcons (Syntax.tyInt Syntax.w64) Syntax.tnil))),
+) (List._∷_ (21, Rows.any-gone (Syntax.tyInt Syntax.w64)) (List._∷_ (
+  22,
+  Rows.any-gone (Syntax.tyInt Syntax.w64),
+) (List._∷_ (23, Rows.any-gone (Syntax.tyInt Syntax.w64)) (List._∷_ (
+  24,
+  Rows.any-gone (Syntax.tyRef Syntax.erased Syntax.mut (Syntax.tyInt Syntax.w64)),
+) (List._∷_ (
+  25,
+  Rows.any-gone
+      (Syntax.tyStruct
+      (List._∷_ 38 (List._∷_ 91 (List._∷_ 93 List.[])))
+      (Syntax.tcons
+      (Syntax.tyRef Syntax.erased Syntax.mut (Syntax.tyInt Syntax.w64))
+      (Syntax.tcons (Syntax.tyInt Syntax.w64) Syntax.tnil))),
 )
+    (List._∷_
+    (26, Rows.any-gone (Syntax.tyRef Syntax.erased Syntax.mut (Syntax.tyInt Syntax.w8)))
     (List._∷_ (
-      22,
-      Rows'.any-gone (Syntax.tyRef Syntax.erased Syntax.mut (Syntax.tyInt Syntax.w64)),
-    ) (List._∷_ (
-      23,
-      Rows'.any-gone
-          (Syntax.tyStruct
-          (List._∷_ 38 (List._∷_ 91 (List._∷_ 93 List.[])))
-          (Syntax.tcons
-          (Syntax.tyRef Syntax.erased Syntax.mut (Syntax.tyInt Syntax.w64))
-          (Syntax.tcons (Syntax.tyInt Syntax.w64) Syntax.tnil))),
-    ) (List._∷_ (
-      24,
-      Rows'.any-gone (Syntax.tyRef Syntax.erased Syntax.mut (Syntax.tyInt Syntax.w8)),
-    ) (List._∷_ (
-      25,
-      Rows'.any-gone
-          (Syntax.tyStruct
-          (List._∷_ 38 (List._∷_ 91 (List._∷_ 93 List.[])))
-          (Syntax.tcons
-          (Syntax.tyRef Syntax.erased Syntax.mut (Syntax.tyInt Syntax.w8))
-          (Syntax.tcons (Syntax.tyInt Syntax.w64) Syntax.tnil))),
-    ) (List._∷_ (
-      26,
-      Rows'.any-gone (Syntax.tyRef Syntax.erased Syntax.mut (Syntax.tyInt Syntax.w8)),
-    ) (List._∷_ (
       27,
-      Rows'.any-gone
+      Rows.any-gone
           (Syntax.tyStruct
           (List._∷_ 38 (List._∷_ 91 (List._∷_ 93 List.[])))
           (Syntax.tcons
@@ -4661,10 +4363,10 @@ t45 = List._∷_ (
           (Syntax.tcons (Syntax.tyInt Syntax.w64) Syntax.tnil))),
     ) (List._∷_ (
       28,
-      Rows'.any-gone (Syntax.tyRef Syntax.erased Syntax.mut (Syntax.tyInt Syntax.w8)),
+      Rows.any-gone (Syntax.tyRef Syntax.erased Syntax.mut (Syntax.tyInt Syntax.w8)),
     ) (List._∷_ (
       29,
-      Rows'.any-gone
+      Rows.any-gone
           (Syntax.tyStruct
           (List._∷_ 38 (List._∷_ 91 (List._∷_ 93 List.[])))
           (Syntax.tcons
@@ -4672,7 +4374,7 @@ t45 = List._∷_ (
           (Syntax.tcons (Syntax.tyInt Syntax.w64) Syntax.tnil))),
     ) (List._∷_ (
       30,
-      Rows'.any-gone (Syntax.tyRef Syntax.erased Syntax.mut (Syntax.tyInt Syntax.w8)),
+      Rows.any-gone (Syntax.tyRef Syntax.erased Syntax.mut (Syntax.tyInt Syntax.w8)),
     ) (List._∷_ (
       31,
       Mut.msleft
@@ -4680,143 +4382,28 @@ t45 = List._∷_ (
           (Syntax.tyRef Syntax.erased Syntax.mut (Syntax.tyInt Syntax.w8)),
     ) List.[])))))))))))))))
 
-abbrev pub t46 : List.List Row.Entry
-t46 = List._∷_ (0, Rows'.sc-here (Row.sInt Syntax.w64)) (List._∷_ (
-  1,
-  Rows'.sslice
-      (Referent.rtF (Referent.fInt Syntax.w8))
-      (Syntax.tyRef (Syntax.named 0) Syntax.imm (Syntax.tyInt Syntax.w8))
-      0,
-) (List._∷_ (
-  2,
-  Rows'.sslice
-      (Referent.rtF (Referent.fInt Syntax.w64))
-      (Syntax.tyRef (Syntax.named 1) Syntax.imm (Syntax.tyInt Syntax.w64))
-      1,
-) (List._∷_ (3, Rows'.sc-here (Row.sInt Syntax.w64)) (List._∷_ (
-  4,
-  Rows'.sslice
-      (Referent.rtF (Referent.fInt Syntax.w64))
-      (Syntax.tyRef (Syntax.named 2) Syntax.imm (Syntax.tyInt Syntax.w64))
-      2,
-) (List._∷_ (
-  5,
-  Rows'.sslice
-      (Referent.rtF (Referent.fInt Syntax.w8))
-      (Syntax.tyRef (Syntax.named 3) Syntax.imm (Syntax.tyInt Syntax.w8))
-      3,
-) (List._∷_ (
-  6,
-  Mut.mslice
-      (Referent.rtF (Referent.fInt Syntax.w64))
-      (Syntax.tyRef (Syntax.named 4) Syntax.mut (Syntax.tyInt Syntax.w64))
-      4,
-) (List._∷_ (
-  7,
-  Mut.mslice
-      (Referent.rtF (Referent.fInt Syntax.w8))
-      (Syntax.tyRef (Syntax.named 5) Syntax.mut (Syntax.tyInt Syntax.w8))
-      5,
-) (List._∷_ (
-  8,
-  Mut.mslice
-      (Referent.rtF (Referent.fInt Syntax.w8))
-      (Syntax.tyRef (Syntax.named 6) Syntax.mut (Syntax.tyInt Syntax.w8))
-      6,
-) (List._∷_ (
-  9,
-  Mut.mslice
-      (Referent.rtF (Referent.fInt Syntax.w8))
-      (Syntax.tyRef (Syntax.named 7) Syntax.mut (Syntax.tyInt Syntax.w8))
-      7,
-) (List._∷_ (
-  10,
-  Mut.mslice
-      (Referent.rtF (Referent.fInt Syntax.w8))
-      (Syntax.tyRef (Syntax.named 8) Syntax.mut (Syntax.tyInt Syntax.w8))
-      8,
-) (List._∷_ (
-  11,
-  Rows'.any-gone (Syntax.tyArray Elem.held 1024),
-) (List._∷_ (
-  12,
-  Rows'.any-gone
-      (Syntax.tyStruct
-      (List._∷_
-      114
-      (List._∷_
-      101
-      (List._∷_
-      99
-      (List._∷_
-      111
-      (List._∷_
-      114
-      (List._∷_
-      100
-      (List._∷_
-      115
-      (List._∷_
-      58
-      (List._∷_
-      58
-      (List._∷_
-      76
-      (List._∷_
-      105
-      (List._∷_ 110 (List._∷_ 101 (List._∷_ 82 (List._∷_ 101 (List._∷_ 99 List.[]))))))))))))))))
-      (Syntax.tcons
-      (Syntax.tyInt Syntax.w64)
-      (Syntax.tcons
-      (Syntax.tyInt Syntax.w64)
-      (Syntax.tcons
-      (Syntax.tyStruct
-      (List._∷_
-      112
-      (List._∷_
-      108
-      (List._∷_
-      97
-      (List._∷_
-      99
-      (List._∷_
-      101
-      (List._∷_
-      58
-      (List._∷_
-      58
-      (List._∷_
-      82
-      (List._∷_ 101 (List._∷_ 103 (List._∷_ 105 (List._∷_ 111 (List._∷_ 110 List.[])))))))))))))
-      (Syntax.tcons (Syntax.tyInt Syntax.w64) Syntax.tnil))
-      (Syntax.tcons (Syntax.tyInt Syntax.w64) Syntax.tnil))))),
-) (List._∷_ (13, Rows'.sc-here (Row.sInt Syntax.w64)) (List._∷_ (
-  14,
-  Rows'.sc-here (Row.sInt Syntax.w64),
-) (List._∷_ (15, Rows'.sc-here (Row.sInt Syntax.w64)) List.[])))))))))))))))
-
 abbrev pub t47 : List.List Row.Entry
-t47 = List._∷_ (0, Rows'.sc-here (Row.sInt Syntax.w64)) (List._∷_ (
+t47 = List._∷_ (0, Rows.any-gone (Syntax.tyInt Syntax.w64)) (List._∷_ (
   1,
-  Rows'.sslice
+  Rows.sslice
       (Referent.rtF (Referent.fInt Syntax.w8))
       (Syntax.tyRef (Syntax.named 0) Syntax.imm (Syntax.tyInt Syntax.w8))
       0,
 ) (List._∷_ (
   2,
-  Rows'.sslice
+  Rows.sslice
       (Referent.rtF (Referent.fInt Syntax.w64))
       (Syntax.tyRef (Syntax.named 1) Syntax.imm (Syntax.tyInt Syntax.w64))
       1,
-) (List._∷_ (3, Rows'.sc-here (Row.sInt Syntax.w64)) (List._∷_ (
+) (List._∷_ (3, Rows.sc-here (Row.sInt Syntax.w64)) (List._∷_ (
   4,
-  Rows'.sslice
+  Rows.sslice
       (Referent.rtF (Referent.fInt Syntax.w64))
       (Syntax.tyRef (Syntax.named 2) Syntax.imm (Syntax.tyInt Syntax.w64))
       2,
 ) (List._∷_ (
   5,
-  Rows'.sslice
+  Rows.sslice
       (Referent.rtF (Referent.fInt Syntax.w8))
       (Syntax.tyRef (Syntax.named 3) Syntax.imm (Syntax.tyInt Syntax.w8))
       3,
@@ -4846,16 +4433,24 @@ t47 = List._∷_ (0, Rows'.sc-here (Row.sInt Syntax.w64)) (List._∷_ (
       7,
 ) (List._∷_ (
   10,
-  Mut.mslice
+  Relend.mslice-owed
       (Referent.rtF (Referent.fInt Syntax.w8))
       (Syntax.tyRef (Syntax.named 8) Syntax.mut (Syntax.tyInt Syntax.w8))
-      8,
+      8
+      16
+      Row.off,
 ) (List._∷_ (
   11,
-  Rows'.any-gone (Syntax.tyArray Elem.held 1024),
-) (List._∷_ (
-  12,
-  Rows'.any-gone
+  Mut.mslice
+      Elem.R
+      (Syntax.tyRef (Syntax.named 9) Syntax.mut Elem.ty)
+      9,
+) (List._∷_ (12, Rows.sc-here (Row.sInt Syntax.w64)) (List._∷_ (
+  13,
+  Rows.sc-here (Row.sInt Syntax.w64),
+) (List._∷_ (14, Rows.sc-here (Row.sInt Syntax.w64)) (List._∷_ (
+  15,
+  Rows.any-gone
       (Syntax.tyStruct
       (List._∷_
       114
@@ -4905,33 +4500,30 @@ t47 = List._∷_ (0, Rows'.sc-here (Row.sInt Syntax.w64)) (List._∷_ (
       (List._∷_ 101 (List._∷_ 103 (List._∷_ 105 (List._∷_ 111 (List._∷_ 110 List.[])))))))))))))
       (Syntax.tcons (Syntax.tyInt Syntax.w64) Syntax.tnil))
       (Syntax.tcons (Syntax.tyInt Syntax.w64) Syntax.tnil))))),
-) (List._∷_ (13, Rows'.any-gone (Syntax.tyInt Syntax.w64)) (List._∷_ (
-  14,
-  Rows'.sc-here (Row.sInt Syntax.w64),
-) (List._∷_ (15, Rows'.sc-here (Row.sInt Syntax.w64)) List.[])))))))))))))))
+) List.[])))))))))))))))
 
 abbrev pub t48 : List.List Row.Entry
-t48 = List._∷_ (0, Rows'.sc-here (Row.sInt Syntax.w64)) (List._∷_ (
+t48 = List._∷_ (0, Rows.sc-here (Row.sInt Syntax.w64)) (List._∷_ (
   1,
-  Rows'.sslice
+  Rows.sslice
       (Referent.rtF (Referent.fInt Syntax.w8))
       (Syntax.tyRef (Syntax.named 0) Syntax.imm (Syntax.tyInt Syntax.w8))
       0,
 ) (List._∷_ (
   2,
-  Rows'.sslice
+  Rows.sslice
       (Referent.rtF (Referent.fInt Syntax.w64))
       (Syntax.tyRef (Syntax.named 1) Syntax.imm (Syntax.tyInt Syntax.w64))
       1,
-) (List._∷_ (3, Rows'.sc-here (Row.sInt Syntax.w64)) (List._∷_ (
+) (List._∷_ (3, Rows.sc-here (Row.sInt Syntax.w64)) (List._∷_ (
   4,
-  Rows'.sslice
+  Rows.sslice
       (Referent.rtF (Referent.fInt Syntax.w64))
       (Syntax.tyRef (Syntax.named 2) Syntax.imm (Syntax.tyInt Syntax.w64))
       2,
 ) (List._∷_ (
   5,
-  Rows'.sslice
+  Rows.sslice
       (Referent.rtF (Referent.fInt Syntax.w8))
       (Syntax.tyRef (Syntax.named 3) Syntax.imm (Syntax.tyInt Syntax.w8))
       3,
@@ -4967,10 +4559,16 @@ t48 = List._∷_ (0, Rows'.sc-here (Row.sInt Syntax.w64)) (List._∷_ (
       8,
 ) (List._∷_ (
   11,
-  Rows'.any-gone (Syntax.tyArray Elem.held 1024),
-) (List._∷_ (
-  12,
-  Rows'.any-gone
+  Mut.mslice
+      Elem.R
+      (Syntax.tyRef (Syntax.named 9) Syntax.mut Elem.ty)
+      9,
+) (List._∷_ (12, Rows.sc-here (Row.sInt Syntax.w64)) (List._∷_ (
+  13,
+  Rows.sc-here (Row.sInt Syntax.w64),
+) (List._∷_ (14, Rows.sc-here (Row.sInt Syntax.w64)) (List._∷_ (
+  15,
+  Rows.any-gone
       (Syntax.tyStruct
       (List._∷_
       114
@@ -5020,33 +4618,30 @@ t48 = List._∷_ (0, Rows'.sc-here (Row.sInt Syntax.w64)) (List._∷_ (
       (List._∷_ 101 (List._∷_ 103 (List._∷_ 105 (List._∷_ 111 (List._∷_ 110 List.[])))))))))))))
       (Syntax.tcons (Syntax.tyInt Syntax.w64) Syntax.tnil))
       (Syntax.tcons (Syntax.tyInt Syntax.w64) Syntax.tnil))))),
-) (List._∷_ (13, Rows'.any-gone (Syntax.tyInt Syntax.w64)) (List._∷_ (
-  14,
-  Rows'.any-gone (Syntax.tyInt Syntax.w64),
-) (List._∷_ (15, Rows'.sc-here (Row.sInt Syntax.w64)) List.[])))))))))))))))
+) List.[])))))))))))))))
 
 abbrev pub t49 : List.List Row.Entry
-t49 = List._∷_ (0, Rows'.sc-here (Row.sInt Syntax.w64)) (List._∷_ (
+t49 = List._∷_ (0, Rows.sc-here (Row.sInt Syntax.w64)) (List._∷_ (
   1,
-  Rows'.sslice
+  Rows.sslice
       (Referent.rtF (Referent.fInt Syntax.w8))
       (Syntax.tyRef (Syntax.named 0) Syntax.imm (Syntax.tyInt Syntax.w8))
       0,
 ) (List._∷_ (
   2,
-  Rows'.sslice
+  Rows.sslice
       (Referent.rtF (Referent.fInt Syntax.w64))
       (Syntax.tyRef (Syntax.named 1) Syntax.imm (Syntax.tyInt Syntax.w64))
       1,
-) (List._∷_ (3, Rows'.sc-here (Row.sInt Syntax.w64)) (List._∷_ (
+) (List._∷_ (3, Rows.sc-here (Row.sInt Syntax.w64)) (List._∷_ (
   4,
-  Rows'.sslice
+  Rows.sslice
       (Referent.rtF (Referent.fInt Syntax.w64))
       (Syntax.tyRef (Syntax.named 2) Syntax.imm (Syntax.tyInt Syntax.w64))
       2,
 ) (List._∷_ (
   5,
-  Rows'.sslice
+  Rows.sslice
       (Referent.rtF (Referent.fInt Syntax.w8))
       (Syntax.tyRef (Syntax.named 3) Syntax.imm (Syntax.tyInt Syntax.w8))
       3,
@@ -5082,10 +4677,16 @@ t49 = List._∷_ (0, Rows'.sc-here (Row.sInt Syntax.w64)) (List._∷_ (
       8,
 ) (List._∷_ (
   11,
-  Rows'.any-gone (Syntax.tyArray Elem.held 1024),
-) (List._∷_ (
-  12,
-  Rows'.any-gone
+  Mut.mslice
+      Elem.R
+      (Syntax.tyRef (Syntax.named 9) Syntax.mut Elem.ty)
+      9,
+) (List._∷_ (12, Rows.any-gone (Syntax.tyInt Syntax.w64)) (List._∷_ (
+  13,
+  Rows.sc-here (Row.sInt Syntax.w64),
+) (List._∷_ (14, Rows.sc-here (Row.sInt Syntax.w64)) (List._∷_ (
+  15,
+  Rows.any-gone
       (Syntax.tyStruct
       (List._∷_
       114
@@ -5135,220 +4736,450 @@ t49 = List._∷_ (0, Rows'.sc-here (Row.sInt Syntax.w64)) (List._∷_ (
       (List._∷_ 101 (List._∷_ 103 (List._∷_ 105 (List._∷_ 111 (List._∷_ 110 List.[])))))))))))))
       (Syntax.tcons (Syntax.tyInt Syntax.w64) Syntax.tnil))
       (Syntax.tcons (Syntax.tyInt Syntax.w64) Syntax.tnil))))),
-) (List._∷_ (13, Rows'.any-gone (Syntax.tyInt Syntax.w64)) (List._∷_ (
-  14,
-  Rows'.any-gone (Syntax.tyInt Syntax.w64),
-) (List._∷_ (15, Rows'.any-gone (Syntax.tyInt Syntax.w64)) List.[])))))))))))))))
+) List.[])))))))))))))))
+
+abbrev pub t50 : List.List Row.Entry
+t50 = List._∷_ (0, Rows.sc-here (Row.sInt Syntax.w64)) (List._∷_ (
+  1,
+  Rows.sslice
+      (Referent.rtF (Referent.fInt Syntax.w8))
+      (Syntax.tyRef (Syntax.named 0) Syntax.imm (Syntax.tyInt Syntax.w8))
+      0,
+) (List._∷_ (
+  2,
+  Rows.sslice
+      (Referent.rtF (Referent.fInt Syntax.w64))
+      (Syntax.tyRef (Syntax.named 1) Syntax.imm (Syntax.tyInt Syntax.w64))
+      1,
+) (List._∷_ (3, Rows.sc-here (Row.sInt Syntax.w64)) (List._∷_ (
+  4,
+  Rows.sslice
+      (Referent.rtF (Referent.fInt Syntax.w64))
+      (Syntax.tyRef (Syntax.named 2) Syntax.imm (Syntax.tyInt Syntax.w64))
+      2,
+) (List._∷_ (
+  5,
+  Rows.sslice
+      (Referent.rtF (Referent.fInt Syntax.w8))
+      (Syntax.tyRef (Syntax.named 3) Syntax.imm (Syntax.tyInt Syntax.w8))
+      3,
+) (List._∷_ (
+  6,
+  Mut.mslice
+      (Referent.rtF (Referent.fInt Syntax.w64))
+      (Syntax.tyRef (Syntax.named 4) Syntax.mut (Syntax.tyInt Syntax.w64))
+      4,
+) (List._∷_ (
+  7,
+  Mut.mslice
+      (Referent.rtF (Referent.fInt Syntax.w8))
+      (Syntax.tyRef (Syntax.named 5) Syntax.mut (Syntax.tyInt Syntax.w8))
+      5,
+) (List._∷_ (
+  8,
+  Mut.mslice
+      (Referent.rtF (Referent.fInt Syntax.w8))
+      (Syntax.tyRef (Syntax.named 6) Syntax.mut (Syntax.tyInt Syntax.w8))
+      6,
+) (List._∷_ (
+  9,
+  Mut.mslice
+      (Referent.rtF (Referent.fInt Syntax.w8))
+      (Syntax.tyRef (Syntax.named 7) Syntax.mut (Syntax.tyInt Syntax.w8))
+      7,
+) (List._∷_ (
+  10,
+  Mut.mslice
+      (Referent.rtF (Referent.fInt Syntax.w8))
+      (Syntax.tyRef (Syntax.named 8) Syntax.mut (Syntax.tyInt Syntax.w8))
+      8,
+) (List._∷_ (
+  11,
+  Mut.mslice
+      Elem.R
+      (Syntax.tyRef (Syntax.named 9) Syntax.mut Elem.ty)
+      9,
+) (List._∷_ (12, Rows.any-gone (Syntax.tyInt Syntax.w64)) (List._∷_ (
+  13,
+  Rows.any-gone (Syntax.tyInt Syntax.w64),
+) (List._∷_ (14, Rows.sc-here (Row.sInt Syntax.w64)) (List._∷_ (
+  15,
+  Rows.any-gone
+      (Syntax.tyStruct
+      (List._∷_
+      114
+      (List._∷_
+      101
+      (List._∷_
+      99
+      (List._∷_
+      111
+      (List._∷_
+      114
+      (List._∷_
+      100
+      (List._∷_
+      115
+      (List._∷_
+      58
+      (List._∷_
+      58
+      (List._∷_
+      76
+      (List._∷_
+      105
+      (List._∷_ 110 (List._∷_ 101 (List._∷_ 82 (List._∷_ 101 (List._∷_ 99 List.[]))))))))))))))))
+      (Syntax.tcons
+      (Syntax.tyInt Syntax.w64)
+      (Syntax.tcons
+      (Syntax.tyInt Syntax.w64)
+      (Syntax.tcons
+      (Syntax.tyStruct
+      (List._∷_
+      112
+      (List._∷_
+      108
+      (List._∷_
+      97
+      (List._∷_
+      99
+      (List._∷_
+      101
+      (List._∷_
+      58
+      (List._∷_
+      58
+      (List._∷_
+      82
+      (List._∷_ 101 (List._∷_ 103 (List._∷_ 105 (List._∷_ 111 (List._∷_ 110 List.[])))))))))))))
+      (Syntax.tcons (Syntax.tyInt Syntax.w64) Syntax.tnil))
+      (Syntax.tcons (Syntax.tyInt Syntax.w64) Syntax.tnil))))),
+) List.[])))))))))))))))
+
+abbrev pub t51 : List.List Row.Entry
+t51 = List._∷_ (0, Rows.sc-here (Row.sInt Syntax.w64)) (List._∷_ (
+  1,
+  Rows.sslice
+      (Referent.rtF (Referent.fInt Syntax.w8))
+      (Syntax.tyRef (Syntax.named 0) Syntax.imm (Syntax.tyInt Syntax.w8))
+      0,
+) (List._∷_ (
+  2,
+  Rows.sslice
+      (Referent.rtF (Referent.fInt Syntax.w64))
+      (Syntax.tyRef (Syntax.named 1) Syntax.imm (Syntax.tyInt Syntax.w64))
+      1,
+) (List._∷_ (3, Rows.sc-here (Row.sInt Syntax.w64)) (List._∷_ (
+  4,
+  Rows.sslice
+      (Referent.rtF (Referent.fInt Syntax.w64))
+      (Syntax.tyRef (Syntax.named 2) Syntax.imm (Syntax.tyInt Syntax.w64))
+      2,
+) (List._∷_ (
+  5,
+  Rows.sslice
+      (Referent.rtF (Referent.fInt Syntax.w8))
+      (Syntax.tyRef (Syntax.named 3) Syntax.imm (Syntax.tyInt Syntax.w8))
+      3,
+) (List._∷_ (
+  6,
+  Mut.mslice
+      (Referent.rtF (Referent.fInt Syntax.w64))
+      (Syntax.tyRef (Syntax.named 4) Syntax.mut (Syntax.tyInt Syntax.w64))
+      4,
+) (List._∷_ (
+  7,
+  Mut.mslice
+      (Referent.rtF (Referent.fInt Syntax.w8))
+      (Syntax.tyRef (Syntax.named 5) Syntax.mut (Syntax.tyInt Syntax.w8))
+      5,
+) (List._∷_ (
+  8,
+  Mut.mslice
+      (Referent.rtF (Referent.fInt Syntax.w8))
+      (Syntax.tyRef (Syntax.named 6) Syntax.mut (Syntax.tyInt Syntax.w8))
+      6,
+) (List._∷_ (
+  9,
+  Mut.mslice
+      (Referent.rtF (Referent.fInt Syntax.w8))
+      (Syntax.tyRef (Syntax.named 7) Syntax.mut (Syntax.tyInt Syntax.w8))
+      7,
+) (List._∷_ (
+  10,
+  Mut.mslice
+      (Referent.rtF (Referent.fInt Syntax.w8))
+      (Syntax.tyRef (Syntax.named 8) Syntax.mut (Syntax.tyInt Syntax.w8))
+      8,
+) (List._∷_ (
+  11,
+  Mut.mslice
+      Elem.R
+      (Syntax.tyRef (Syntax.named 9) Syntax.mut Elem.ty)
+      9,
+) (List._∷_ (12, Rows.any-gone (Syntax.tyInt Syntax.w64)) (List._∷_ (
+  13,
+  Rows.any-gone (Syntax.tyInt Syntax.w64),
+) (List._∷_ (14, Rows.any-gone (Syntax.tyInt Syntax.w64)) (List._∷_ (
+  15,
+  Rows.any-gone
+      (Syntax.tyStruct
+      (List._∷_
+      114
+      (List._∷_
+      101
+      (List._∷_
+      99
+      (List._∷_
+      111
+      (List._∷_
+      114
+      (List._∷_
+      100
+      (List._∷_
+      115
+      (List._∷_
+      58
+      (List._∷_
+      58
+      (List._∷_
+      76
+      (List._∷_
+      105
+      (List._∷_ 110 (List._∷_ 101 (List._∷_ 82 (List._∷_ 101 (List._∷_ 99 List.[]))))))))))))))))
+      (Syntax.tcons
+      (Syntax.tyInt Syntax.w64)
+      (Syntax.tcons
+      (Syntax.tyInt Syntax.w64)
+      (Syntax.tcons
+      (Syntax.tyStruct
+      (List._∷_
+      112
+      (List._∷_
+      108
+      (List._∷_
+      97
+      (List._∷_
+      99
+      (List._∷_
+      101
+      (List._∷_
+      58
+      (List._∷_
+      58
+      (List._∷_
+      82
+      (List._∷_ 101 (List._∷_ 103 (List._∷_ 105 (List._∷_ 111 (List._∷_ 110 List.[])))))))))))))
+      (Syntax.tcons (Syntax.tyInt Syntax.w64) Syntax.tnil))
+      (Syntax.tcons (Syntax.tyInt Syntax.w64) Syntax.tnil))))),
+) List.[])))))))))))))))
 
 abbrev pub T0 : Row.Cx
-T0 = record { locals = List._++_ t0 t1; slots = List.[] }
+T0 = record { locals = List._++_ t0 (List._++_ t1 t2); slots = List.[] }
 
 abbrev pub T1 : Row.Cx
-T1 = record { locals = List._++_ t2 t1; slots = List.[] }
+T1 = record { locals = List._++_ t3 (List._++_ t1 t2); slots = List.[] }
 
 abbrev pub T2 : Row.Cx
-T2 = record { locals = List._++_ t0 t1; slots = List.[] }
+T2 = record { locals = List._++_ t0 (List._++_ t1 t2); slots = List.[] }
 
 abbrev pub T3 : Row.Cx
-T3 = record { locals = List._++_ t0 t1; slots = List.[] }
+T3 = record { locals = List._++_ t0 (List._++_ t1 t2); slots = List.[] }
 
 abbrev pub T4 : Row.Cx
-T4 = record { locals = List._++_ t0 t1; slots = List.[] }
+T4 = record { locals = List._++_ t0 (List._++_ t1 t2); slots = List.[] }
 
 abbrev pub T5 : Row.Cx
-T5 = record { locals = List._++_ t0 t1; slots = List.[] }
+T5 = record { locals = List._++_ t0 (List._++_ t1 t2); slots = List.[] }
 
 abbrev pub T6 : Row.Cx
-T6 = record { locals = List._++_ t0 t1; slots = List.[] }
+T6 = record { locals = List._++_ t0 (List._++_ t1 t2); slots = List.[] }
 
 abbrev pub T7 : Row.Cx
-T7 = record { locals = List._++_ t0 t1; slots = List.[] }
+T7 = record { locals = List._++_ t0 (List._++_ t1 t2); slots = List.[] }
 
 abbrev pub T8 : Row.Cx
-T8 = record { locals = List._++_ t0 t1; slots = List.[] }
+T8 = record { locals = List._++_ t0 (List._++_ t1 t2); slots = List.[] }
 
 abbrev pub T9 : Row.Cx
-T9 = record { locals = List._++_ t0 t1; slots = List.[] }
+T9 = record { locals = List._++_ t0 (List._++_ t1 t2); slots = List.[] }
 
 abbrev pub T10 : Row.Cx
-T10 = record { locals = List._++_ t0 t1; slots = List.[] }
+T10 = record { locals = List._++_ t0 (List._++_ t1 t2); slots = List.[] }
 
 abbrev pub T11 : Row.Cx
-T11 = record { locals = List._++_ t0 t3; slots = List.[] }
+T11 = record { locals = List._++_ t4 (List._++_ t1 t2); slots = List.[] }
 
 abbrev pub T12 : Row.Cx
-T12 = record { locals = List._++_ t4 t3; slots = List.[] }
+T12 = record { locals = List._++_ t5 (List._++_ t1 t2); slots = List.[] }
 
 abbrev pub T13 : Row.Cx
-T13 = record { locals = List._++_ t4 t1; slots = List.[] }
+T13 = record { locals = List._++_ t6 (List._++_ t1 t2); slots = List.[] }
 
 abbrev pub T14 : Row.Cx
-T14 = record { locals = List._++_ t5 t1; slots = List.[] }
+T14 = record { locals = List._++_ t6 (List._++_ t1 t2); slots = List.[] }
 
 abbrev pub T15 : Row.Cx
-T15 = record { locals = List._++_ t6 t1; slots = List.[] }
+T15 = record { locals = List._++_ t6 (List._++_ t7 t2); slots = List.[] }
 
 abbrev pub T16 : Row.Cx
-T16 = record { locals = List._++_ t7 t1; slots = List.[] }
+T16 = record { locals = List._++_ t6 (List._++_ t1 t2); slots = List.[] }
 
 abbrev pub T17 : Row.Cx
-T17 = record { locals = List._++_ t8 t1; slots = List.[] }
+T17 = record { locals = List._++_ t6 (List._++_ t1 t2); slots = List.[] }
 
 abbrev pub T18 : Row.Cx
-T18 = record { locals = List._++_ t9 t1; slots = List.[] }
-
-abbrev pub T19 : Row.Cx
-T19 = record { locals = List._++_ t8 t10; slots = List.[] }
+T18 = record { locals = List._++_ t6 (List._++_ t1 t2); slots = List.[] }
 
 abbrev pub T20 : Row.Cx
-T20 = record { locals = List._++_ t8 t1; slots = List.[] }
+T20 = record { locals = List._++_ t8 (List._++_ t9 t2); slots = List.[] }
 
 abbrev pub T21 : Row.Cx
-T21 = record { locals = List._++_ t8 t1; slots = List.[] }
+T21 = record { locals = List._++_ t8 (List._++_ t10 t2); slots = List.[] }
 
 abbrev pub T22 : Row.Cx
-T22 = record { locals = List._++_ t11 t10; slots = List.[] }
-
-abbrev pub T23 : Row.Cx
-T23 = record { locals = List._++_ t9 t10; slots = List.[] }
+T22 = record { locals = List._++_ t8 (List._++_ t11 t2); slots = List.[] }
 
 abbrev pub T24 : Row.Cx
-T24 = record { locals = List._++_ t9 t1; slots = List.[] }
-
-abbrev pub T26 : Row.Cx
-T26 = record { locals = List._++_ t12 t13; slots = List.[] }
+T24 = record { locals = List._++_ t6 (List._++_ t1 t2); slots = List.[] }
 
 abbrev pub T27 : Row.Cx
-T27 = record { locals = List._++_ t12 t14; slots = List.[] }
+T27 = record { locals = List._++_ t12 (List._++_ t13 t2); slots = List.[] }
 
 abbrev pub T28 : Row.Cx
-T28 = record { locals = List._++_ t12 t15; slots = List.[] }
+T28 = record { locals = List._++_ t12 (List._++_ t14 t2); slots = List.[] }
 
 abbrev pub T29 : Row.Cx
-T29 = record { locals = List._++_ t16 t15; slots = List.[] }
+T29 = record { locals = List._++_ t12 (List._++_ t15 t2); slots = List.[] }
+
+abbrev pub T30 : Row.Cx
+T30 = record { locals = List._++_ t12 (List._++_ t16 t2); slots = List.[] }
 
 abbrev pub T31 : Row.Cx
-T31 = record { locals = List._++_ t17 t1; slots = List.[] }
+T31 = record { locals = List._++_ t12 (List._++_ t17 t2); slots = List.[] }
+
+abbrev pub T32 : Row.Cx
+T32 = record { locals = List._++_ t12 (List._++_ t18 t2); slots = List.[] }
+
+abbrev pub T33 : Row.Cx
+T33 = record { locals = List._++_ t12 (List._++_ t19 t2); slots = List.[] }
 
 abbrev pub T34 : Row.Cx
-T34 = record { locals = List._++_ t18 t19; slots = List.[] }
+T34 = record { locals = List._++_ t20 (List._++_ t19 t2); slots = List.[] }
 
 abbrev pub T35 : Row.Cx
-T35 = record { locals = List._++_ t18 t20; slots = List.[] }
+T35 = record { locals = List._++_ t20 (List._++_ t21 t2); slots = List.[] }
 
 abbrev pub T36 : Row.Cx
-T36 = record { locals = List._++_ t21 t20; slots = List.[] }
+T36 = record { locals = List._++_ t20 (List._++_ t1 t2); slots = List.[] }
 
-abbrev pub T37 : Row.Cx
-T37 = record { locals = List._++_ t21 t1; slots = List.[] }
+abbrev pub T38 : Row.Cx
+T38 = record { locals = List._++_ t22 (List._++_ t1 t2); slots = List.[] }
 
-abbrev pub T39 : Row.Cx
-T39 = record { locals = List._++_ t8 t1; slots = List.[] }
+abbrev pub T41 : Row.Cx
+T41 = record { locals = List._++_ t23 (List._++_ t24 t2); slots = List.[] }
 
 abbrev pub T42 : Row.Cx
-T42 = record { locals = List._++_ t22 t23; slots = List.[] }
+T42 = record { locals = List._++_ t23 (List._++_ t25 t2); slots = List.[] }
 
-abbrev pub T43 : Row.Cx
-T43 = record { locals = List._++_ t22 t24; slots = List.[] }
+abbrev pub T44 : Row.Cx
+T44 = record { locals = List._++_ t26 (List._++_ t27 t2); slots = List.[] }
 
 abbrev pub T45 : Row.Cx
-T45 = record { locals = List._++_ t25 t26; slots = List.[] }
+T45 = record { locals = List._++_ t26 (List._++_ t28 t2); slots = List.[] }
 
-abbrev pub T46 : Row.Cx
-T46 = record { locals = List._++_ t25 t27; slots = List.[] }
+abbrev pub T47 : Row.Cx
+T47 = record { locals = List._++_ t29 (List._++_ t30 t2); slots = List.[] }
 
 abbrev pub T48 : Row.Cx
-T48 = record { locals = List._++_ t28 t29; slots = List.[] }
+T48 = record { locals = List._++_ t29 (List._++_ t31 t2); slots = List.[] }
 
-abbrev pub T49 : Row.Cx
-T49 = record { locals = List._++_ t28 t30; slots = List.[] }
+abbrev pub T50 : Row.Cx
+T50 = record { locals = List._++_ t32 (List._++_ t33 t2); slots = List.[] }
 
 abbrev pub T51 : Row.Cx
-T51 = record { locals = List._++_ t31 t32; slots = List.[] }
+T51 = record { locals = List._++_ t32 (List._++_ t34 t2); slots = List.[] }
 
-abbrev pub T52 : Row.Cx
-T52 = record { locals = List._++_ t31 t33; slots = List.[] }
+abbrev pub T53 : Row.Cx
+T53 = record { locals = List._++_ t35 (List._++_ t34 t36); slots = List.[] }
 
 abbrev pub T54 : Row.Cx
-T54 = record { locals = List._++_ t34 t35; slots = List.[] }
+T54 = record { locals = List._++_ t35 (List._++_ t34 t37); slots = List.[] }
 
 abbrev pub T55 : Row.Cx
-T55 = record { locals = List._++_ t34 t36; slots = List.[] }
+T55 = record { locals = List._++_ t35 (List._++_ t38 t39); slots = List.[] }
 
 abbrev pub T56 : Row.Cx
-T56 = record { locals = List._++_ t34 t37; slots = List.[] }
+T56 = record { locals = List._++_ t40 (List._++_ t38 t39); slots = List.[] }
 
 abbrev pub T58 : Row.Cx
-T58 = record { locals = List._++_ t38 t39; slots = List.[] }
+T58 = record { locals = List._++_ t41 (List._++_ t42 t39); slots = List.[] }
 
 abbrev pub T59 : Row.Cx
-T59 = record { locals = List._++_ t38 t39; slots = List.[] }
+T59 = record { locals = List._++_ t41 (List._++_ t42 t39); slots = List.[] }
 
 abbrev pub T62 : Row.Cx
-T62 = record { locals = List._++_ t40 t41; slots = List.[] }
+T62 = record { locals = List._++_ t43 (List._++_ t44 t39); slots = List.[] }
 
 abbrev pub T63 : Row.Cx
-T63 = record { locals = List._++_ t40 t41; slots = List.[] }
+T63 = record { locals = List._++_ t43 (List._++_ t44 t39); slots = List.[] }
 
 abbrev pub T66 : Row.Cx
-T66 = record { locals = List._++_ t42 t43; slots = List.[] }
+T66 = record { locals = List._++_ t45 (List._++_ t46 t39); slots = List.[] }
 
 abbrev pub T67 : Row.Cx
-T67 = record { locals = List._++_ t42 t43; slots = List.[] }
+T67 = record { locals = List._++_ t45 (List._++_ t46 t39); slots = List.[] }
 
 abbrev pub T70 : Row.Cx
-T70 = record { locals = List._++_ t44 t45; slots = List.[] }
+T70 = record { locals = List._++_ t47 (List._++_ t1 t39); slots = List.[] }
 
 abbrev pub T71 : Row.Cx
-T71 = record { locals = List._++_ t44 t45; slots = List.[] }
+T71 = record { locals = List._++_ t47 (List._++_ t1 t39); slots = List.[] }
 
 abbrev pub T74 : Row.Cx
-T74 = record { locals = List._++_ t8 t1; slots = List.[] }
+T74 = record { locals = List._++_ t6 (List._++_ t1 t2); slots = List.[] }
 
 abbrev pub T75 : Row.Cx
-T75 = record { locals = List._++_ t8 t1; slots = List.[] }
+T75 = record { locals = List._++_ t6 (List._++_ t1 t2); slots = List.[] }
 
 abbrev pub T77 : Row.Cx
-T77 = record { locals = List._++_ t8 t1; slots = List.[] }
+T77 = record { locals = List._++_ t6 (List._++_ t1 t2); slots = List.[] }
 
 abbrev pub T78 : Row.Cx
-T78 = record { locals = List._++_ t8 t1; slots = List.[] }
+T78 = record { locals = List._++_ t48 (List._++_ t1 t2); slots = List.[] }
 
 abbrev pub T79 : Row.Cx
-T79 = record { locals = List._++_ t46 t1; slots = List.[] }
+T79 = record { locals = List._++_ t49 (List._++_ t1 t2); slots = List.[] }
 
 abbrev pub T80 : Row.Cx
-T80 = record { locals = List._++_ t47 t1; slots = List.[] }
+T80 = record { locals = List._++_ t50 (List._++_ t1 t2); slots = List.[] }
 
 abbrev pub T81 : Row.Cx
-T81 = record { locals = List._++_ t48 t1; slots = List.[] }
+T81 = record { locals = List._++_ t51 (List._++_ t1 t2); slots = List.[] }
 
 abbrev pub T82 : Row.Cx
-T82 = record { locals = List._++_ t49 t1; slots = List.[] }
-
-abbrev pub T83 : Row.Cx
-T83 = record { locals = List._++_ t2 t1; slots = List.[] }
+T82 = record { locals = List._++_ t3 (List._++_ t1 t2); slots = List.[] }
 
 abbrev pub O0 : Typed.Outs
 O0 = record { next = Option.none; exits = List.[]; returns = Option.some T1 }
 
 abbrev pub O1 : Typed.Outs
-O1 = Typed.withNext (Option.some T18) O0
+O1 = Typed.withNext (Option.some T14) O0
 
 abbrev pub O2 : Typed.Outs
 O2 = Typed.inBlock₀ O1
 
 abbrev pub O3 : Typed.Outs
-O3 = Typed.inLoop₀ T17 O2
+O3 = Typed.inLoop₀ T13 O2
 
 abbrev pub O4 : Typed.Outs
-O4 = Typed.withNext (Option.some T20) O3
+O4 = Typed.withNext (Option.some T16) O3
 
 abbrev pub InvT-loop : Type 1
 InvT-loop =
     List.List (Referent.rtF (Referent.fInt Syntax.w8) .Denot) →
     List.List (Referent.rtF (Referent.fInt Syntax.w64) .Denot) →
-    Rows'.sc-here (Row.sInt Syntax.w64) .Mod →
+    Rows.sc-here (Row.sInt Syntax.w64) .Mod →
     List.List (Referent.rtF (Referent.fInt Syntax.w64) .Denot) →
     List.List (Referent.rtF (Referent.fInt Syntax.w8) .Denot) →
     List.List (Referent.rtF (Referent.fInt Syntax.w64) .Denot) →
@@ -5356,28 +5187,26 @@ InvT-loop =
     List.List (Referent.rtF (Referent.fInt Syntax.w8) .Denot) →
     List.List (Referent.rtF (Referent.fInt Syntax.w8) .Denot) →
     List.List (Referent.rtF (Referent.fInt Syntax.w8) .Denot) →
-    Rows.arrF Elem.R 1024 0 .Mod →
-    Rows'.whole (Declared.row LineRec.the-type) .Mod →
-    Rows'.sc-here (Row.sInt Syntax.w64) .Mod →
-    Rows'.sc-here (Row.sInt Syntax.w64) .Mod →
-    Rows'.sc-here (Row.sInt Syntax.w64) .Mod →
+    List.List (Elem.R .Denot) →
+    Rows.sc-here (Row.sInt Syntax.w64) .Mod →
+    Rows.sc-here (Row.sInt Syntax.w64) .Mod →
+    Rows.sc-here (Row.sInt Syntax.w64) .Mod →
     List.List (Referent.rtF (Referent.fInt Syntax.w64) .Denot) →
     List.List (Referent.rtF (Referent.fInt Syntax.w8) .Denot) →
     List.List (Referent.rtF (Referent.fInt Syntax.w8) .Denot) →
     List.List (Referent.rtF (Referent.fInt Syntax.w8) .Denot) →
     List.List (Referent.rtF (Referent.fInt Syntax.w8) .Denot) →
-    Rows.arrF Elem.R 1024 0 .Mod →
-    Rows'.whole (Declared.row LineRec.the-type) .Mod →
-    Rows'.sc-here (Row.sInt Syntax.w64) .Mod →
-    Rows'.sc-here (Row.sInt Syntax.w64) .Mod →
-    Rows'.sc-here (Row.sInt Syntax.w64) .Mod →
+    List.List (Elem.R .Denot) →
+    Rows.sc-here (Row.sInt Syntax.w64) .Mod →
+    Rows.sc-here (Row.sInt Syntax.w64) .Mod →
+    Rows.sc-here (Row.sInt Syntax.w64) .Mod →
     Type 0
 
 abbrev pub MeasureT-loop : Type 0
 MeasureT-loop =
     List.List (Referent.rtF (Referent.fInt Syntax.w8) .Denot) →
     List.List (Referent.rtF (Referent.fInt Syntax.w64) .Denot) →
-    Rows'.sc-here (Row.sInt Syntax.w64) .Mod →
+    Rows.sc-here (Row.sInt Syntax.w64) .Mod →
     List.List (Referent.rtF (Referent.fInt Syntax.w64) .Denot) →
     List.List (Referent.rtF (Referent.fInt Syntax.w8) .Denot) →
     List.List (Referent.rtF (Referent.fInt Syntax.w64) .Denot) →
@@ -5385,27 +5214,25 @@ MeasureT-loop =
     List.List (Referent.rtF (Referent.fInt Syntax.w8) .Denot) →
     List.List (Referent.rtF (Referent.fInt Syntax.w8) .Denot) →
     List.List (Referent.rtF (Referent.fInt Syntax.w8) .Denot) →
-    Rows.arrF Elem.R 1024 0 .Mod →
-    Rows'.whole (Declared.row LineRec.the-type) .Mod →
-    Rows'.sc-here (Row.sInt Syntax.w64) .Mod →
-    Rows'.sc-here (Row.sInt Syntax.w64) .Mod →
-    Rows'.sc-here (Row.sInt Syntax.w64) .Mod →
+    List.List (Elem.R .Denot) →
+    Rows.sc-here (Row.sInt Syntax.w64) .Mod →
+    Rows.sc-here (Row.sInt Syntax.w64) .Mod →
+    Rows.sc-here (Row.sInt Syntax.w64) .Mod →
     List.List (Referent.rtF (Referent.fInt Syntax.w64) .Denot) →
     List.List (Referent.rtF (Referent.fInt Syntax.w8) .Denot) →
     List.List (Referent.rtF (Referent.fInt Syntax.w8) .Denot) →
     List.List (Referent.rtF (Referent.fInt Syntax.w8) .Denot) →
     List.List (Referent.rtF (Referent.fInt Syntax.w8) .Denot) →
-    Rows.arrF Elem.R 1024 0 .Mod →
-    Rows'.whole (Declared.row LineRec.the-type) .Mod →
-    Rows'.sc-here (Row.sInt Syntax.w64) .Mod →
-    Rows'.sc-here (Row.sInt Syntax.w64) .Mod →
-    Rows'.sc-here (Row.sInt Syntax.w64) .Mod →
+    List.List (Elem.R .Denot) →
+    Rows.sc-here (Row.sInt Syntax.w64) .Mod →
+    Rows.sc-here (Row.sInt Syntax.w64) .Mod →
+    Rows.sc-here (Row.sInt Syntax.w64) .Mod →
     Nat.ℕ
 
 module _ (claims· : Claims) where
-  abbrev s0 : (bs : List.List Nat.ℕ) → Typed.Gives T0 T2
+  abbrev s0 : Typed.Gives T0 T2
   s0 =
-      λ bs. Know.k-shs-known
+      Know.k-shs-known
       (Referent.fInt Syntax.w8)
       T0
       1
@@ -5415,9 +5242,9 @@ module _ (claims· : Claims) where
       0
       λ x. x
 
-  abbrev s1 : (bs : List.List Nat.ℕ) → Typed.Gives T2 T3
+  abbrev s1 : Typed.Gives T2 T3
   s1 =
-      λ bs. Know.k-shs-known
+      Know.k-shs-known
       (Referent.fInt Syntax.w64)
       T2
       2
@@ -5427,9 +5254,9 @@ module _ (claims· : Claims) where
       0
       λ x. x
 
-  abbrev s2 : (bs : List.List Nat.ℕ) → Typed.Gives T3 T4
+  abbrev s2 : Typed.Gives T3 T4
   s2 =
-      λ bs. Know.k-shs-known
+      Know.k-shs-known
       (Referent.fInt Syntax.w64)
       T3
       4
@@ -5439,9 +5266,9 @@ module _ (claims· : Claims) where
       0
       λ x. x
 
-  abbrev s3 : (bs : List.List Nat.ℕ) → Typed.Gives T4 T5
+  abbrev s3 : Typed.Gives T4 T5
   s3 =
-      λ bs. Know.k-shs-known
+      Know.k-shs-known
       (Referent.fInt Syntax.w8)
       T4
       5
@@ -5451,9 +5278,9 @@ module _ (claims· : Claims) where
       0
       λ x. x
 
-  abbrev s4 : (bs : List.List Nat.ℕ) → Typed.Gives T5 T6
+  abbrev s4 : Typed.Gives T5 T6
   s4 =
-      λ bs. Know.k-sl-known
+      Know.k-sl-known
       (Referent.fInt Syntax.w64)
       T5
       6
@@ -5463,9 +5290,9 @@ module _ (claims· : Claims) where
       0
       λ x. x
 
-  abbrev s5 : (bs : List.List Nat.ℕ) → Typed.Gives T6 T7
+  abbrev s5 : Typed.Gives T6 T7
   s5 =
-      λ bs. Know.k-sl-known
+      Know.k-sl-known
       (Referent.fInt Syntax.w8)
       T6
       7
@@ -5475,9 +5302,9 @@ module _ (claims· : Claims) where
       0
       λ x. x
 
-  abbrev s6 : (bs : List.List Nat.ℕ) → Typed.Gives T7 T8
+  abbrev s6 : Typed.Gives T7 T8
   s6 =
-      λ bs. Know.k-sl-known
+      Know.k-sl-known
       (Referent.fInt Syntax.w8)
       T7
       8
@@ -5487,9 +5314,9 @@ module _ (claims· : Claims) where
       0
       λ x. x
 
-  abbrev s7 : (bs : List.List Nat.ℕ) → Typed.Gives T8 T9
+  abbrev s7 : Typed.Gives T8 T9
   s7 =
-      λ bs. Know.k-sl-known
+      Know.k-sl-known
       (Referent.fInt Syntax.w8)
       T8
       9
@@ -5499,9 +5326,9 @@ module _ (claims· : Claims) where
       0
       λ x. x
 
-  abbrev s8 : (bs : List.List Nat.ℕ) → Typed.Gives T9 T10
+  abbrev s8 : Typed.Gives T9 T10
   s8 =
-      λ bs. Know.k-sl-known
+      Know.k-sl-known
       (Referent.fInt Syntax.w8)
       T9
       10
@@ -5511,245 +5338,86 @@ module _ (claims· : Claims) where
       0
       λ x. x
 
-  abbrev s9 : (bs : List.List Nat.ℕ) → Typed.Both T10 T11
+  abbrev s9 : Typed.Mo T10 → Typed.Mo T11
   s9 =
-      λ bs. Call.callB
-      ps·0
-      r·0
-      (claims· .0)
-      (claims· .1)
+      Scalar.n-use
       T10
-      tt
-      16
-      List.[]
-      (Syntax.tyArray Elem.held 1024)
-
-  abbrev s10 : (bs : List.List Nat.ℕ) → Typed.Mo T11 → Typed.Mo T12
-  s10 =
-      λ bs. LocalCopy.n-val-copy
-      T11
-      16
-      11
-      (Array'.Array Elem.R 1024)
-      (Rows.arrF Elem.R 1024 0)
-      (Rows.arrF Elem.R 1024 0)
-      (λ x. x)
-      (λ x. x)
-      λ x. x
-
-  abbrev s11 : (bs : List.List Nat.ℕ) → Typed.Mo T12 → Typed.Mo T13
-  s11 =
-      λ bs. Scalar.n-room
-      T12
-      16
-      (Syntax.tyArray Elem.held 1024)
-
-  abbrev s12 : (bs : List.List Nat.ℕ) → Typed.Both T13 T14
-  s12 =
-      λ bs. Call.callB
-      ps·1
-      r·1
-      (claims· .2)
-      (claims· .3)
-      T13
-      tt
+      (Scalar.oInt Syntax.w64 0)
       12
-      List.[]
-      (Syntax.tyStruct
-      (List._∷_
-      114
-      (List._∷_
-      101
-      (List._∷_
-      99
-      (List._∷_
-      111
-      (List._∷_
-      114
-      (List._∷_
-      100
-      (List._∷_
-      115
-      (List._∷_
-      58
-      (List._∷_
-      58
-      (List._∷_
-      76
-      (List._∷_
-      105
-      (List._∷_ 110 (List._∷_ 101 (List._∷_ 82 (List._∷_ 101 (List._∷_ 99 List.[]))))))))))))))))
-      (Syntax.tcons
-      (Syntax.tyInt Syntax.w64)
-      (Syntax.tcons
-      (Syntax.tyInt Syntax.w64)
-      (Syntax.tcons
-      (Syntax.tyStruct
-      (List._∷_
-      112
-      (List._∷_
-      108
-      (List._∷_
-      97
-      (List._∷_
-      99
-      (List._∷_
-      101
-      (List._∷_
-      58
-      (List._∷_
-      58
-      (List._∷_
-      82
-      (List._∷_ 101 (List._∷_ 103 (List._∷_ 105 (List._∷_ 111 (List._∷_ 110 List.[])))))))))))))
-      (Syntax.tcons (Syntax.tyInt Syntax.w64) Syntax.tnil))
-      (Syntax.tcons (Syntax.tyInt Syntax.w64) Syntax.tnil)))))
-
-  abbrev s13 : (bs : List.List Nat.ℕ) → Typed.Mo T14 → Typed.Mo T15
-  s13 =
-      λ bs. Scalar.n-use
-      T14
-      (Scalar.oBig Syntax.w64 1024)
-      13
-      (Rows'.sc-here (Row.sInt Syntax.w64))
+      (Rows.sc-here (Row.sInt Syntax.w64))
       (Row.sInt Syntax.w64 .of)
 
-  abbrev s14 : (bs : List.List Nat.ℕ) → Typed.Mo T15 → Typed.Mo T16
-  s14 =
-      λ bs. Scalar.n-use
-      T15
+  abbrev s10 : Typed.Mo T11 → Typed.Mo T12
+  s10 =
+      Scalar.n-use
+      T11
+      (Scalar.oInt Syntax.w64 0)
+      13
+      (Rows.sc-here (Row.sInt Syntax.w64))
+      (Row.sInt Syntax.w64 .of)
+
+  abbrev s11 : Typed.Mo T12 → Typed.Mo T13
+  s11 =
+      Scalar.n-use
+      T12
       (Scalar.oInt Syntax.w64 0)
       14
-      (Rows'.sc-here (Row.sInt Syntax.w64))
+      (Rows.sc-here (Row.sInt Syntax.w64))
       (Row.sInt Syntax.w64 .of)
 
-  abbrev s15 : (bs : List.List Nat.ℕ) → Typed.Mo T16 → Typed.Mo T17
-  s15 =
-      λ bs. Scalar.n-use
-      T16
-      (Scalar.oInt Syntax.w64 0)
-      15
-      (Rows'.sc-here (Row.sInt Syntax.w64))
-      (Row.sInt Syntax.w64 .of)
-
-  abbrev s16 : (bs : List.List Nat.ℕ) → Typed.Asks T17 T19
-  s16 =
-      λ bs. Scalar.k-op2
-      T17
+  abbrev s12 : Typed.Asks T13 T15
+  s12 =
+      Scalar.k-op2
+      T13
       (Syntax.lt Syntax.unsigned)
-      (Scalar.oAt 14 (Syntax.tyInt Syntax.w64) (Row.valS (Row.sInt Syntax.w64)))
+      (Scalar.oAt 13 (Syntax.tyInt Syntax.w64) (Row.valS (Row.sInt Syntax.w64)))
       (Scalar.oAt 3 (Syntax.tyInt Syntax.w64) (Row.valS (Row.sInt Syntax.w64)))
-      17
-      (Rows'.sc-here Row.sBool)
+      16
+      (Rows.sc-here Row.sBool)
       (Row.sBool .of)
 
-  abbrev s17 : (bs : List.List Nat.ℕ) → Typed.Mo T19 → Typed.Mo T21
-  s17 = λ bs. Scalar.n-room T19 17 Syntax.tyBool
+  abbrev s13 : Typed.Mo T15 → Typed.Mo T17
+  s13 = Scalar.n-room T15 16 Syntax.tyBool
 
-  abbrev s18 : (bs : List.List Nat.ℕ) → Typed.Mo T19 → Typed.Mo T22
-  s18 =
-      λ bs. Scalar.n-room
-      T19
-      11
-      (Syntax.tyArray Elem.held 1024)
+  abbrev s14 : Typed.Mo T15 → Typed.Mo T18
+  s14 = Scalar.n-room T15 16 Syntax.tyBool
 
-  abbrev s19 : (bs : List.List Nat.ℕ) → Typed.Mo T22 → Typed.Mo T23
-  s19 =
-      λ bs. Scalar.n-room
-      T22
-      12
-      (Syntax.tyStruct
-      (List._∷_
-      114
-      (List._∷_
-      101
-      (List._∷_
-      99
-      (List._∷_
-      111
-      (List._∷_
-      114
-      (List._∷_
-      100
-      (List._∷_
-      115
-      (List._∷_
-      58
-      (List._∷_
-      58
-      (List._∷_
-      76
-      (List._∷_
-      105
-      (List._∷_ 110 (List._∷_ 101 (List._∷_ 82 (List._∷_ 101 (List._∷_ 99 List.[]))))))))))))))))
-      (Syntax.tcons
-      (Syntax.tyInt Syntax.w64)
-      (Syntax.tcons
-      (Syntax.tyInt Syntax.w64)
-      (Syntax.tcons
-      (Syntax.tyStruct
-      (List._∷_
-      112
-      (List._∷_
-      108
-      (List._∷_
-      97
-      (List._∷_
-      99
-      (List._∷_
-      101
-      (List._∷_
-      58
-      (List._∷_
-      58
-      (List._∷_
-      82
-      (List._∷_ 101 (List._∷_ 103 (List._∷_ 105 (List._∷_ 111 (List._∷_ 110 List.[])))))))))))))
-      (Syntax.tcons (Syntax.tyInt Syntax.w64) Syntax.tnil))
-      (Syntax.tcons (Syntax.tyInt Syntax.w64) Syntax.tnil)))))
-
-  abbrev s20 : (bs : List.List Nat.ℕ) → Typed.Mo T23 → Typed.Mo T24
-  s20 = λ bs. Scalar.n-room T23 17 Syntax.tyBool
-
-  abbrev s22 : (bs : List.List Nat.ℕ) → Typed.Gives T20 T26
-  s22 =
-      λ bs. Borrow.k-arr-borrow
+  abbrev s16 : Typed.Gives T16 T20
+  s16 =
+      Relend.k-sl-relend
       Elem.R
-      T20
-      (Row.hd
-      0
-      (Row.tl
-      (Row.tl
-      (Row.tl (Row.tl (Row.tl (Row.tl (Row.tl (Row.tl (Row.tl (Row.tl (Row.tl bs))))))))))))
+      T16
       11
-      18
-      1024
+      17
       9
-      (Syntax.tyRef
-      Syntax.erased
-      Syntax.mut
-      (Syntax.tyArray Elem.ty 1024))
+      10
+      (Syntax.tyRef (Syntax.named 9) Syntax.mut Elem.ty)
+      (Syntax.tyRef Syntax.erased Syntax.mut Elem.ty)
+      Row.off
       λ x. x
 
-  abbrev s23 : (bs : List.List Nat.ℕ) → Typed.Asks T26 T27
-  s23 =
-      λ bs. Relend.k-sl-aggregate
+  abbrev s17 : Typed.Asks T20 T21
+  s17 =
+      Relend.k-sl-aggregate
       Elem.R
       (Relend.asMut Elem.R)
-      T26
+      T20
+      17
       18
-      19
-      9
-      (Syntax.tyRef
-      Syntax.erased
-      Syntax.mut
-      (Syntax.tyArray Elem.ty 1024))
+      10
+      (Syntax.tyRef Syntax.erased Syntax.mut Elem.ty)
       (Syntax.tyRef Syntax.erased Syntax.mut Elem.ty)
       (λ x. x)
-      (Scalar.oBig Syntax.w64 1024)
+      (Scalar.oFld
+      11
+      (List._∷_ (Syntax.field 1) List.[])
+      (Syntax.tyInt Syntax.w64)
+      8
+      λ v. Shared.lenV
+      (v .0))
 
-  abbrev s24 : (bs : List.List Nat.ℕ) → Typed.Both T27 T28
-  s24 = λ bs. Call.callB ps·2 r·2 (claims· .4) (claims· .5) T27 (
+  abbrev s18 : Typed.Both T21 T22
+  s18 = Call.callB ps·0 r·0 (claims· .0) (claims· .1) T21 (
     record {
       pos = 2;
       ty = Syntax.tyRef (Syntax.named 1) Syntax.imm (Syntax.tyInt Syntax.w64);
@@ -5764,140 +5432,129 @@ module _ (claims· : Claims) where
       (
         Num.vAt 3 λ x. x,
         (
-          Num.vAt 14 λ x. x,
+          Num.vAt 13 λ x. x,
           (
-            Num.vAt 13 λ x. x,
+            Num.vAt 12 λ x. x,
             (
-              record { pos = 12; st = List.[]; d = 0; at = λ x. x },
-              (
-                record {
-                  pos = 19;
-                  ty = Syntax.tyRef
-                      Syntax.erased
-                      Syntax.mut
-                      Elem.ty;
-                  ref = λ x. x;
-                },
-                tt,
-              ),
+              record {
+                pos = 18;
+                ty = Syntax.tyRef
+                    Syntax.erased
+                    Syntax.mut
+                    Elem.ty;
+                ref = λ x. x;
+              },
+              tt,
             ),
           ),
         ),
       ),
     ),
-  ) 13 (List._∷_ 1 (List._∷_ 2 (List._∷_ 9 List.[]))) (Syntax.tyInt Syntax.w64)
+  ) 12 (List._∷_ 1 (List._∷_ 2 (List._∷_ 10 List.[]))) (Syntax.tyInt Syntax.w64)
 
-  abbrev s25 : (bs : List.List Nat.ℕ) → Typed.Mo T28 → Typed.Mo T29
-  s25 =
-      λ bs. Scalar.n-room
-      T28
-      12
-      (Syntax.tyStruct
-      (List._∷_
-      114
-      (List._∷_
-      101
-      (List._∷_
-      99
-      (List._∷_
-      111
-      (List._∷_
-      114
-      (List._∷_
-      100
-      (List._∷_
-      115
-      (List._∷_
-      58
-      (List._∷_
-      58
-      (List._∷_
-      76
-      (List._∷_
-      105
-      (List._∷_ 110 (List._∷_ 101 (List._∷_ 82 (List._∷_ 101 (List._∷_ 99 List.[]))))))))))))))))
-      (Syntax.tcons
-      (Syntax.tyInt Syntax.w64)
-      (Syntax.tcons
-      (Syntax.tyInt Syntax.w64)
-      (Syntax.tcons
-      (Syntax.tyStruct
-      (List._∷_
-      112
-      (List._∷_
-      108
-      (List._∷_
-      97
-      (List._∷_
-      99
-      (List._∷_
-      101
-      (List._∷_
-      58
-      (List._∷_
-      58
-      (List._∷_
-      82
-      (List._∷_ 101 (List._∷_ 103 (List._∷_ 105 (List._∷_ 111 (List._∷_ 110 List.[])))))))))))))
-      (Syntax.tcons (Syntax.tyInt Syntax.w64) Syntax.tnil))
-      (Syntax.tcons (Syntax.tyInt Syntax.w64) Syntax.tnil)))))
-
-  abbrev s27 : (bs : List.List Nat.ℕ) → Typed.Both T29 T31
-  s27 =
-      λ bs. Borrow.k-back-arr
+  abbrev s20 : Typed.Both T22 T24
+  s20 =
+      Relend.k-back-sl
       Elem.R
-      T29
-      19
+      T22
+      18
       11
       9
-      1024
+      10
+      (Syntax.tyRef (Syntax.named 9) Syntax.mut Elem.ty)
       (Syntax.tyRef Syntax.erased Syntax.mut Elem.ty)
+      Row.off
       (λ x. x)
       λ x. x
 
-  abbrev s30 : (bs : List.List Nat.ℕ) → Typed.Gives T31 T34
-  s30 =
-      λ bs. Share.k-arr-share
+  abbrev s23 : Typed.Gives T24 T27
+  s23 =
+      Reshare.k-sl-reshare
       Elem.R
-      T31
+      T24
       11
-      20
-      1024
-      10
-      (Syntax.tyRef
-      Syntax.erased
-      Syntax.imm
-      (Syntax.tyArray Elem.ty 1024))
+      19
+      9
+      11
+      (Syntax.tyRef (Syntax.named 9) Syntax.mut Elem.ty)
+      (Syntax.tyRef Syntax.erased Syntax.imm Elem.ty)
+      Row.off
       λ x. x
 
-  abbrev s31 : (bs : List.List Nat.ℕ) → Typed.Asks T34 T35
-  s31 =
-      λ bs. Relend.k-sl-aggregate
+  abbrev s24 : Typed.Asks T27 T28
+  s24 =
+      Relend.k-sl-aggregate
       Elem.R
       (Relend.asShr Elem.R)
-      T34
+      T27
+      19
       20
-      21
-      10
-      (Syntax.tyRef
-      Syntax.erased
-      Syntax.imm
-      (Syntax.tyArray Elem.ty 1024))
+      11
+      (Syntax.tyRef Syntax.erased Syntax.imm Elem.ty)
       (Syntax.tyRef Syntax.erased Syntax.imm Elem.ty)
       (λ x. x)
-      (Scalar.oBig Syntax.w64 1024)
+      (Scalar.oFld
+      11
+      (List._∷_ (Syntax.field 1) List.[])
+      (Syntax.tyInt Syntax.w64)
+      8
+      λ v. Shared.lenV
+      (v .0))
 
-  abbrev s32 : (bs : List.List Nat.ℕ) → Typed.Both T35 T36
-  s32 = λ bs. Call.callB ps·3 r·3 (claims· .6) (claims· .7) T35 (
+  abbrev s25 : Typed.Mo T28 → Typed.Mo T29
+  s25 =
+      Scalar.n-use
+      T28
+      (Scalar.oFld
+      11
+      (List._∷_ (Syntax.field 1) List.[])
+      (Syntax.tyInt Syntax.w64)
+      8
+      λ v. Shared.lenV
+      (v .0))
+      21
+      (Rows.sc-here (Row.sInt Syntax.w64))
+      (Row.sInt Syntax.w64 .of)
+
+  abbrev s26 : Typed.Asks T29 T30
+  s26 =
+      Scalar.k-op2
+      T29
+      (Syntax.add Syntax.unsigned)
+      (Scalar.oAt 13 (Syntax.tyInt Syntax.w64) (Row.valS (Row.sInt Syntax.w64)))
+      (Scalar.oAt 21 (Syntax.tyInt Syntax.w64) (Row.valS (Row.sInt Syntax.w64)))
+      22
+      (Rows.sc-here (Row.sInt Syntax.w64))
+      (Row.sInt Syntax.w64 .of)
+
+  abbrev s27 : Typed.Mo T30 → Typed.Mo T31
+  s27 = Scalar.n-room T30 21 (Syntax.tyInt Syntax.w64)
+
+  abbrev s28 : Typed.Asks T31 T32
+  s28 =
+      Scalar.k-op2
+      T31
+      (Syntax.sub Syntax.unsigned)
+      (Scalar.oAt 22 (Syntax.tyInt Syntax.w64) (Row.valS (Row.sInt Syntax.w64)))
+      (Scalar.oAt 12 (Syntax.tyInt Syntax.w64) (Row.valS (Row.sInt Syntax.w64)))
+      23
+      (Rows.sc-here (Row.sInt Syntax.w64))
+      (Row.sInt Syntax.w64 .of)
+
+  abbrev s29 : Typed.Mo T32 → Typed.Mo T33
+  s29 = Scalar.n-room T32 22 (Syntax.tyInt Syntax.w64)
+
+  abbrev s30 : Typed.Both T33 T34
+  s30 = Call.callB ps·1 r·1 (claims· .2) (claims· .3) T33 (
     record {
-      pos = 21;
+      pos = 20;
       ty = Syntax.tyRef Syntax.erased Syntax.imm Elem.ty;
       ref = λ x. x;
     },
-    (Num.vAt 13 λ x. x, tt),
+    (Num.vAt 23 λ x. x, tt),
   )
-      12
-      (List._∷_ 10 List.[])
+      15
+      (List._∷_ 11 List.[])
       (Syntax.tyStruct
       (List._∷_
       114
@@ -5948,50 +5605,55 @@ module _ (claims· : Claims) where
       (Syntax.tcons (Syntax.tyInt Syntax.w64) Syntax.tnil))
       (Syntax.tcons (Syntax.tyInt Syntax.w64) Syntax.tnil)))))
 
-  abbrev s33 : (bs : List.List Nat.ℕ) → Typed.Mo T36 → Typed.Mo T37
-  s33 =
-      λ bs. Scalar.n-room
-      T36
-      21
+  abbrev s31 : Typed.Mo T34 → Typed.Mo T35
+  s31 =
+      Scalar.n-room
+      T34
+      20
       (Syntax.tyStruct
       (List._∷_ 38 (List._∷_ 91 (List._∷_ 93 List.[])))
       (Syntax.tcons
       (Syntax.tyRef Syntax.erased Syntax.imm Elem.ty)
       (Syntax.tcons (Syntax.tyInt Syntax.w64) Syntax.tnil)))
 
-  abbrev s35 : (bs : List.List Nat.ℕ) → Typed.Mo T37 → Typed.Mo T39
-  s35 =
-      λ bs. Share.n-back-arr-shr
+  abbrev s32 : Typed.Mo T35 → Typed.Mo T36
+  s32 = Scalar.n-room T35 23 (Syntax.tyInt Syntax.w64)
+
+  abbrev s34 : Typed.Mo T36 → Typed.Mo T38
+  s34 =
+      Reshare.n-back-sl-shr
       Elem.R
-      T37
+      T36
       11
-      1024
-      10
+      9
+      11
+      (Syntax.tyRef (Syntax.named 9) Syntax.mut Elem.ty)
+      Row.off
       λ x. x
 
-  abbrev s38 : (bs : List.List Nat.ℕ) → Typed.Gives T39 T42
-  s38 =
-      λ bs. Relend.k-sl-relend
+  abbrev s37 : Typed.Gives T38 T41
+  s37 =
+      Relend.k-sl-relend
       (Referent.rtF (Referent.fInt Syntax.w64))
-      T39
+      T38
       6
-      22
+      24
       4
-      11
+      12
       (Syntax.tyRef (Syntax.named 4) Syntax.mut (Syntax.tyInt Syntax.w64))
       (Syntax.tyRef Syntax.erased Syntax.mut (Syntax.tyInt Syntax.w64))
       Row.off
       λ x. x
 
-  abbrev s39 : (bs : List.List Nat.ℕ) → Typed.Asks T42 T43
-  s39 =
-      λ bs. Relend.k-sl-aggregate
+  abbrev s38 : Typed.Asks T41 T42
+  s38 =
+      Relend.k-sl-aggregate
       (Referent.rtF (Referent.fInt Syntax.w64))
       (Relend.asMut (Referent.rtF (Referent.fInt Syntax.w64)))
-      T42
-      22
-      23
-      11
+      T41
+      24
+      25
+      12
       (Syntax.tyRef Syntax.erased Syntax.mut (Syntax.tyInt Syntax.w64))
       (Syntax.tyRef Syntax.erased Syntax.mut (Syntax.tyInt Syntax.w64))
       (λ x. x)
@@ -6003,60 +5665,26 @@ module _ (claims· : Claims) where
       λ v. Shared.lenV
       (v .0))
 
-  abbrev s41 : (bs : List.List Nat.ℕ) → Typed.Gives T43 T45
-  s41 =
-      λ bs. Relend.k-sl-relend
+  abbrev s40 : Typed.Gives T42 T44
+  s40 =
+      Relend.k-sl-relend
       (Referent.rtF (Referent.fInt Syntax.w8))
-      T43
+      T42
       7
-      24
+      26
       5
-      12
+      13
       (Syntax.tyRef (Syntax.named 5) Syntax.mut (Syntax.tyInt Syntax.w8))
       (Syntax.tyRef Syntax.erased Syntax.mut (Syntax.tyInt Syntax.w8))
       Row.off
       λ x. x
 
-  abbrev s42 : (bs : List.List Nat.ℕ) → Typed.Asks T45 T46
-  s42 =
-      λ bs. Relend.k-sl-aggregate
+  abbrev s41 : Typed.Asks T44 T45
+  s41 =
+      Relend.k-sl-aggregate
       (Referent.rtF (Referent.fInt Syntax.w8))
       (Relend.asMut (Referent.rtF (Referent.fInt Syntax.w8)))
-      T45
-      24
-      25
-      12
-      (Syntax.tyRef Syntax.erased Syntax.mut (Syntax.tyInt Syntax.w8))
-      (Syntax.tyRef Syntax.erased Syntax.mut (Syntax.tyInt Syntax.w8))
-      (λ x. x)
-      (Scalar.oFld
-      7
-      (List._∷_ (Syntax.field 1) List.[])
-      (Syntax.tyInt Syntax.w64)
-      8
-      λ v. Shared.lenV
-      (v .0))
-
-  abbrev s44 : (bs : List.List Nat.ℕ) → Typed.Gives T46 T48
-  s44 =
-      λ bs. Relend.k-sl-relend
-      (Referent.rtF (Referent.fInt Syntax.w8))
-      T46
-      8
-      26
-      6
-      13
-      (Syntax.tyRef (Syntax.named 6) Syntax.mut (Syntax.tyInt Syntax.w8))
-      (Syntax.tyRef Syntax.erased Syntax.mut (Syntax.tyInt Syntax.w8))
-      Row.off
-      λ x. x
-
-  abbrev s45 : (bs : List.List Nat.ℕ) → Typed.Asks T48 T49
-  s45 =
-      λ bs. Relend.k-sl-aggregate
-      (Referent.rtF (Referent.fInt Syntax.w8))
-      (Relend.asMut (Referent.rtF (Referent.fInt Syntax.w8)))
-      T48
+      T44
       26
       27
       13
@@ -6064,33 +5692,33 @@ module _ (claims· : Claims) where
       (Syntax.tyRef Syntax.erased Syntax.mut (Syntax.tyInt Syntax.w8))
       (λ x. x)
       (Scalar.oFld
-      8
+      7
       (List._∷_ (Syntax.field 1) List.[])
       (Syntax.tyInt Syntax.w64)
       8
       λ v. Shared.lenV
       (v .0))
 
-  abbrev s47 : (bs : List.List Nat.ℕ) → Typed.Gives T49 T51
-  s47 =
-      λ bs. Relend.k-sl-relend
+  abbrev s43 : Typed.Gives T45 T47
+  s43 =
+      Relend.k-sl-relend
       (Referent.rtF (Referent.fInt Syntax.w8))
-      T49
-      9
+      T45
+      8
       28
-      7
+      6
       14
-      (Syntax.tyRef (Syntax.named 7) Syntax.mut (Syntax.tyInt Syntax.w8))
+      (Syntax.tyRef (Syntax.named 6) Syntax.mut (Syntax.tyInt Syntax.w8))
       (Syntax.tyRef Syntax.erased Syntax.mut (Syntax.tyInt Syntax.w8))
       Row.off
       λ x. x
 
-  abbrev s48 : (bs : List.List Nat.ℕ) → Typed.Asks T51 T52
-  s48 =
-      λ bs. Relend.k-sl-aggregate
+  abbrev s44 : Typed.Asks T47 T48
+  s44 =
+      Relend.k-sl-aggregate
       (Referent.rtF (Referent.fInt Syntax.w8))
       (Relend.asMut (Referent.rtF (Referent.fInt Syntax.w8)))
-      T51
+      T47
       28
       29
       14
@@ -6098,6 +5726,40 @@ module _ (claims· : Claims) where
       (Syntax.tyRef Syntax.erased Syntax.mut (Syntax.tyInt Syntax.w8))
       (λ x. x)
       (Scalar.oFld
+      8
+      (List._∷_ (Syntax.field 1) List.[])
+      (Syntax.tyInt Syntax.w64)
+      8
+      λ v. Shared.lenV
+      (v .0))
+
+  abbrev s46 : Typed.Gives T48 T50
+  s46 =
+      Relend.k-sl-relend
+      (Referent.rtF (Referent.fInt Syntax.w8))
+      T48
+      9
+      30
+      7
+      15
+      (Syntax.tyRef (Syntax.named 7) Syntax.mut (Syntax.tyInt Syntax.w8))
+      (Syntax.tyRef Syntax.erased Syntax.mut (Syntax.tyInt Syntax.w8))
+      Row.off
+      λ x. x
+
+  abbrev s47 : Typed.Asks T50 T51
+  s47 =
+      Relend.k-sl-aggregate
+      (Referent.rtF (Referent.fInt Syntax.w8))
+      (Relend.asMut (Referent.rtF (Referent.fInt Syntax.w8)))
+      T50
+      30
+      31
+      15
+      (Syntax.tyRef Syntax.erased Syntax.mut (Syntax.tyInt Syntax.w8))
+      (Syntax.tyRef Syntax.erased Syntax.mut (Syntax.tyInt Syntax.w8))
+      (λ x. x)
+      (Scalar.oFld
       9
       (List._∷_ (Syntax.field 1) List.[])
       (Syntax.tyInt Syntax.w64)
@@ -6105,29 +5767,29 @@ module _ (claims· : Claims) where
       λ v. Shared.lenV
       (v .0))
 
-  abbrev s50 : (bs : List.List Nat.ℕ) → Typed.Gives T52 T54
-  s50 =
-      λ bs. Relend.k-sl-relend
+  abbrev s49 : Typed.Gives T51 T53
+  s49 =
+      Relend.k-sl-relend
       (Referent.rtF (Referent.fInt Syntax.w8))
-      T52
+      T51
       10
-      30
+      32
       8
-      15
+      16
       (Syntax.tyRef (Syntax.named 8) Syntax.mut (Syntax.tyInt Syntax.w8))
       (Syntax.tyRef Syntax.erased Syntax.mut (Syntax.tyInt Syntax.w8))
       Row.off
       λ x. x
 
-  abbrev s51 : (bs : List.List Nat.ℕ) → Typed.Asks T54 T55
-  s51 =
-      λ bs. Relend.k-sl-aggregate
+  abbrev s50 : Typed.Asks T53 T54
+  s50 =
+      Relend.k-sl-aggregate
       (Referent.rtF (Referent.fInt Syntax.w8))
       (Relend.asMut (Referent.rtF (Referent.fInt Syntax.w8)))
-      T54
-      30
-      31
-      15
+      T53
+      32
+      33
+      16
       (Syntax.tyRef Syntax.erased Syntax.mut (Syntax.tyInt Syntax.w8))
       (Syntax.tyRef Syntax.erased Syntax.mut (Syntax.tyInt Syntax.w8))
       (λ x. x)
@@ -6139,19 +5801,19 @@ module _ (claims· : Claims) where
       λ v. Shared.lenV
       (v .0))
 
-  abbrev s52 : (bs : List.List Nat.ℕ) → Typed.Both T55 T56
-  s52 = λ bs. Call.callB ps·4 r·4 (claims· .8) (claims· .9) T55 (
+  abbrev s51 : Typed.Both T54 T55
+  s51 = Call.callB ps·2 r·2 (claims· .4) (claims· .5) T54 (
     record {
       pos = 1;
       ty = Syntax.tyRef (Syntax.named 0) Syntax.imm (Syntax.tyInt Syntax.w8);
       ref = λ x. x;
     },
     (
-      Num.vFld 12 (List._∷_ (Syntax.field 0) List.[]) 0 λ x. LineRec.struct .as-values x .0,
+      Num.vFld 15 (List._∷_ (Syntax.field 0) List.[]) 0 λ x. LineRec.struct .as-values x .0,
       (
-        Num.vFld 12 (List._∷_ (Syntax.field 1) List.[]) 8 λ x. LineRec.struct .as-values x .1 .0,
+        Num.vFld 15 (List._∷_ (Syntax.field 1) List.[]) 8 λ x. LineRec.struct .as-values x .1 .0,
         (
-          Num.vAt 14 λ x. x,
+          Num.vAt 13 λ x. x,
           (
             record {
               pos = 4;
@@ -6166,33 +5828,33 @@ module _ (claims· : Claims) where
               },
               (
                 record {
-                  pos = 23;
+                  pos = 25;
                   ty = Syntax.tyRef Syntax.erased Syntax.mut (Syntax.tyInt Syntax.w64);
                   ref = λ x. x;
                 },
                 (
                   record {
-                    pos = 25;
+                    pos = 27;
                     ty = Syntax.tyRef Syntax.erased Syntax.mut (Syntax.tyInt Syntax.w8);
                     ref = λ x. x;
                   },
                   (
-                    Num.vAt 15 λ x. x,
+                    Num.vAt 14 λ x. x,
                     (
                       record {
-                        pos = 27;
+                        pos = 29;
                         ty = Syntax.tyRef Syntax.erased Syntax.mut (Syntax.tyInt Syntax.w8);
                         ref = λ x. x;
                       },
                       (
                         record {
-                          pos = 29;
+                          pos = 31;
                           ty = Syntax.tyRef Syntax.erased Syntax.mut (Syntax.tyInt Syntax.w8);
                           ref = λ x. x;
                         },
                         (
                           record {
-                            pos = 31;
+                            pos = 33;
                             ty = Syntax.tyRef Syntax.erased Syntax.mut (Syntax.tyInt Syntax.w8);
                             ref = λ x. x;
                           },
@@ -6209,32 +5871,87 @@ module _ (claims· : Claims) where
       ),
     ),
   )
-      15
+      14
       (List._∷_
       0
       (List._∷_
       2
-      (List._∷_ 3 (List._∷_ 11 (List._∷_ 12 (List._∷_ 13 (List._∷_ 14 (List._∷_ 15 List.[]))))))))
+      (List._∷_ 3 (List._∷_ 12 (List._∷_ 13 (List._∷_ 14 (List._∷_ 15 (List._∷_ 16 List.[]))))))))
       (Syntax.tyInt Syntax.w64)
 
-  abbrev s54 : (bs : List.List Nat.ℕ) → Typed.Both T56 T58
+  abbrev s52 : Typed.Mo T55 → Typed.Mo T56
+  s52 =
+      Scalar.n-room
+      T55
+      15
+      (Syntax.tyStruct
+      (List._∷_
+      114
+      (List._∷_
+      101
+      (List._∷_
+      99
+      (List._∷_
+      111
+      (List._∷_
+      114
+      (List._∷_
+      100
+      (List._∷_
+      115
+      (List._∷_
+      58
+      (List._∷_
+      58
+      (List._∷_
+      76
+      (List._∷_
+      105
+      (List._∷_ 110 (List._∷_ 101 (List._∷_ 82 (List._∷_ 101 (List._∷_ 99 List.[]))))))))))))))))
+      (Syntax.tcons
+      (Syntax.tyInt Syntax.w64)
+      (Syntax.tcons
+      (Syntax.tyInt Syntax.w64)
+      (Syntax.tcons
+      (Syntax.tyStruct
+      (List._∷_
+      112
+      (List._∷_
+      108
+      (List._∷_
+      97
+      (List._∷_
+      99
+      (List._∷_
+      101
+      (List._∷_
+      58
+      (List._∷_
+      58
+      (List._∷_
+      82
+      (List._∷_ 101 (List._∷_ 103 (List._∷_ 105 (List._∷_ 111 (List._∷_ 110 List.[])))))))))))))
+      (Syntax.tcons (Syntax.tyInt Syntax.w64) Syntax.tnil))
+      (Syntax.tcons (Syntax.tyInt Syntax.w64) Syntax.tnil)))))
+
+  abbrev s54 : Typed.Both T56 T58
   s54 =
-      λ bs. Relend.k-back-sl
+      Relend.k-back-sl
       (Referent.rtF (Referent.fInt Syntax.w64))
       T56
-      23
+      25
       6
       4
-      11
+      12
       (Syntax.tyRef (Syntax.named 4) Syntax.mut (Syntax.tyInt Syntax.w64))
       (Syntax.tyRef Syntax.erased Syntax.mut (Syntax.tyInt Syntax.w64))
       Row.off
       (λ x. x)
       λ x. x
 
-  abbrev s55 : (bs : List.List Nat.ℕ) → Typed.Gives T58 T59
+  abbrev s55 : Typed.Gives T58 T59
   s55 =
-      λ bs. Know.k-sl-known
+      Know.k-sl-known
       (Referent.fInt Syntax.w64)
       T58
       6
@@ -6244,24 +5961,24 @@ module _ (claims· : Claims) where
       0
       λ x. x
 
-  abbrev s58 : (bs : List.List Nat.ℕ) → Typed.Both T59 T62
+  abbrev s58 : Typed.Both T59 T62
   s58 =
-      λ bs. Relend.k-back-sl
+      Relend.k-back-sl
       (Referent.rtF (Referent.fInt Syntax.w8))
       T59
-      25
+      27
       7
       5
-      12
+      13
       (Syntax.tyRef (Syntax.named 5) Syntax.mut (Syntax.tyInt Syntax.w8))
       (Syntax.tyRef Syntax.erased Syntax.mut (Syntax.tyInt Syntax.w8))
       Row.off
       (λ x. x)
       λ x. x
 
-  abbrev s59 : (bs : List.List Nat.ℕ) → Typed.Gives T62 T63
+  abbrev s59 : Typed.Gives T62 T63
   s59 =
-      λ bs. Know.k-sl-known
+      Know.k-sl-known
       (Referent.fInt Syntax.w8)
       T62
       7
@@ -6271,24 +5988,24 @@ module _ (claims· : Claims) where
       0
       λ x. x
 
-  abbrev s62 : (bs : List.List Nat.ℕ) → Typed.Both T63 T66
+  abbrev s62 : Typed.Both T63 T66
   s62 =
-      λ bs. Relend.k-back-sl
+      Relend.k-back-sl
       (Referent.rtF (Referent.fInt Syntax.w8))
       T63
-      27
+      29
       8
       6
-      13
+      14
       (Syntax.tyRef (Syntax.named 6) Syntax.mut (Syntax.tyInt Syntax.w8))
       (Syntax.tyRef Syntax.erased Syntax.mut (Syntax.tyInt Syntax.w8))
       Row.off
       (λ x. x)
       λ x. x
 
-  abbrev s63 : (bs : List.List Nat.ℕ) → Typed.Gives T66 T67
+  abbrev s63 : Typed.Gives T66 T67
   s63 =
-      λ bs. Know.k-sl-known
+      Know.k-sl-known
       (Referent.fInt Syntax.w8)
       T66
       8
@@ -6298,24 +6015,24 @@ module _ (claims· : Claims) where
       0
       λ x. x
 
-  abbrev s66 : (bs : List.List Nat.ℕ) → Typed.Both T67 T70
+  abbrev s66 : Typed.Both T67 T70
   s66 =
-      λ bs. Relend.k-back-sl
+      Relend.k-back-sl
       (Referent.rtF (Referent.fInt Syntax.w8))
       T67
-      29
+      31
       9
       7
-      14
+      15
       (Syntax.tyRef (Syntax.named 7) Syntax.mut (Syntax.tyInt Syntax.w8))
       (Syntax.tyRef Syntax.erased Syntax.mut (Syntax.tyInt Syntax.w8))
       Row.off
       (λ x. x)
       λ x. x
 
-  abbrev s67 : (bs : List.List Nat.ℕ) → Typed.Gives T70 T71
+  abbrev s67 : Typed.Gives T70 T71
   s67 =
-      λ bs. Know.k-sl-known
+      Know.k-sl-known
       (Referent.fInt Syntax.w8)
       T70
       9
@@ -6325,24 +6042,24 @@ module _ (claims· : Claims) where
       0
       λ x. x
 
-  abbrev s70 : (bs : List.List Nat.ℕ) → Typed.Both T71 T74
+  abbrev s70 : Typed.Both T71 T74
   s70 =
-      λ bs. Relend.k-back-sl
+      Relend.k-back-sl
       (Referent.rtF (Referent.fInt Syntax.w8))
       T71
-      31
+      33
       10
       8
-      15
+      16
       (Syntax.tyRef (Syntax.named 8) Syntax.mut (Syntax.tyInt Syntax.w8))
       (Syntax.tyRef Syntax.erased Syntax.mut (Syntax.tyInt Syntax.w8))
       Row.off
       (λ x. x)
       λ x. x
 
-  abbrev s71 : (bs : List.List Nat.ℕ) → Typed.Gives T74 T75
+  abbrev s71 : Typed.Gives T74 T75
   s71 =
-      λ bs. Know.k-sl-known
+      Know.k-sl-known
       (Referent.fInt Syntax.w8)
       T74
       10
@@ -6352,48 +6069,37 @@ module _ (claims· : Claims) where
       0
       λ x. x
 
-  abbrev s73 : (bs : List.List Nat.ℕ) → Typed.Asks T75 T77
+  abbrev s73 : Typed.Asks T75 T77
   s73 =
-      λ bs. Scalar.k-op2
+      Scalar.k-op2
       T75
       (Syntax.add Syntax.unsigned)
       (Scalar.oAt 13 (Syntax.tyInt Syntax.w64) (Row.valS (Row.sInt Syntax.w64)))
       (Scalar.oInt Syntax.w64 1)
       13
-      (Rows'.sc-here (Row.sInt Syntax.w64))
+      (Rows.sc-here (Row.sInt Syntax.w64))
       (Row.sInt Syntax.w64 .of)
 
-  abbrev s74 : (bs : List.List Nat.ℕ) → Typed.Asks T77 T78
+  abbrev s74 : Typed.Mo T14 → Typed.Mo T78
   s74 =
-      λ bs. Scalar.k-op2
-      T77
-      (Syntax.add Syntax.unsigned)
+      Scalar.n-use
+      T14
       (Scalar.oAt 14 (Syntax.tyInt Syntax.w64) (Row.valS (Row.sInt Syntax.w64)))
-      (Scalar.oInt Syntax.w64 1)
-      14
-      (Rows'.sc-here (Row.sInt Syntax.w64))
-      (Row.sInt Syntax.w64 .of)
-
-  abbrev s75 : (bs : List.List Nat.ℕ) → Typed.Mo T18 → Typed.Mo T79
-  s75 =
-      λ bs. Scalar.n-use
-      T18
-      (Scalar.oAt 15 (Syntax.tyInt Syntax.w64) (Row.valS (Row.sInt Syntax.w64)))
       0
-      (Rows'.sc-here (Row.sInt Syntax.w64))
+      (Rows.sc-here (Row.sInt Syntax.w64))
       (Row.sInt Syntax.w64 .of)
 
-  abbrev s76 : (bs : List.List Nat.ℕ) → Typed.Mo T79 → Typed.Mo T80
-  s76 = λ bs. Scalar.n-room T79 13 (Syntax.tyInt Syntax.w64)
+  abbrev s75 : Typed.Mo T78 → Typed.Mo T79
+  s75 = Scalar.n-room T78 12 (Syntax.tyInt Syntax.w64)
 
-  abbrev s77 : (bs : List.List Nat.ℕ) → Typed.Mo T80 → Typed.Mo T81
-  s77 = λ bs. Scalar.n-room T80 14 (Syntax.tyInt Syntax.w64)
+  abbrev s76 : Typed.Mo T79 → Typed.Mo T80
+  s76 = Scalar.n-room T79 13 (Syntax.tyInt Syntax.w64)
 
-  abbrev s78 : (bs : List.List Nat.ℕ) → Typed.Mo T81 → Typed.Mo T82
-  s78 = λ bs. Scalar.n-room T81 15 (Syntax.tyInt Syntax.w64)
+  abbrev s77 : Typed.Mo T80 → Typed.Mo T81
+  s77 = Scalar.n-room T80 14 (Syntax.tyInt Syntax.w64)
 
-  abbrev s79 : (bs : List.List Nat.ℕ) → Typed.Mo T82 → Typed.Mo T83
-  s79 = λ bs. Scalar.n-room T82 3 (Syntax.tyInt Syntax.w64)
+  abbrev s78 : Typed.Mo T81 → Typed.Mo T82
+  s78 = Scalar.n-room T81 3 (Syntax.tyInt Syntax.w64)
 
   abbrev put0 :
       List.List (Referent.rtF (Referent.fInt Syntax.w64) .Denot) ×
@@ -6401,311 +6107,318 @@ module _ (claims· : Claims) where
       List.List (Referent.rtF (Referent.fInt Syntax.w8) .Denot) ×
       List.List (Referent.rtF (Referent.fInt Syntax.w8) .Denot) ×
       List.List (Referent.rtF (Referent.fInt Syntax.w8) .Denot) ×
-      Rows.arrF Elem.R 1024 0 .Mod ×
-      Rows'.whole (Declared.row LineRec.the-type) .Mod ×
-      Rows'.sc-here (Row.sInt Syntax.w64) .Mod ×
-      Rows'.sc-here (Row.sInt Syntax.w64) .Mod ×
-      Rows'.sc-here (Row.sInt Syntax.w64) .Mod →
-      Typed.Mo T17 →
-      Typed.Mo T17
+      List.List (Elem.R .Denot) ×
+      Rows.sc-here (Row.sInt Syntax.w64) .Mod ×
+      Rows.sc-here (Row.sInt Syntax.w64) .Mod ×
+      Rows.sc-here (Row.sInt Syntax.w64) .Mod →
+      Typed.Mo T13 →
+      Typed.Mo T13
   put0 =
       λ vs u. Row.set
-      15
-      (15, Rows'.sc-here (Row.sInt Syntax.w64))
-      (vs .9)
-      (T17 .locals)
-      (Row.set 14 (14, Rows'.sc-here (Row.sInt Syntax.w64)) (vs .8) (T17 .locals) (Row.set 13 (
-        13,
-        Rows'.sc-here (Row.sInt Syntax.w64),
-      )
-      (vs .7)
-      (T17 .locals)
-      (Row.set
-      12
-      (12, Rows'.whole (Declared.row LineRec.the-type))
-      (vs .6)
-      (T17 .locals)
-      (Row.set 11 (
+      14
+      (14, Rows.sc-here (Row.sInt Syntax.w64))
+      (vs .8)
+      (T13 .locals)
+      (Row.set 13 (13, Rows.sc-here (Row.sInt Syntax.w64)) (vs .7) (T13 .locals) (Row.set 12 (
+        12,
+        Rows.sc-here (Row.sInt Syntax.w64),
+      ) (vs .6) (T13 .locals) (Row.set 11 (
         11,
-        Rows.arrF Elem.R 1024 0,
-      ) (vs .5) (T17 .locals) (Row.set 10 (
+        Mut.mslice
+            Elem.R
+            (Syntax.tyRef
+            (Syntax.named 9)
+            Syntax.mut
+            Elem.ty)
+            9,
+      ) record {
+        ptr = Row.get 11 (T13 .locals) u .ptr;
+        name = Row.get 11 (T13 .locals) u .name;
+        now = vs .5;
+      } (T13 .locals) (Row.set 10 (
         10,
         Mut.mslice
             (Referent.rtF (Referent.fInt Syntax.w8))
             (Syntax.tyRef (Syntax.named 8) Syntax.mut (Syntax.tyInt Syntax.w8))
             8,
       ) record {
-        ptr = Row.get 10 (T17 .locals) u .ptr;
-        name = Row.get 10 (T17 .locals) u .name;
+        ptr = Row.get 10 (T13 .locals) u .ptr;
+        name = Row.get 10 (T13 .locals) u .name;
         now = vs .4;
-      } (T17 .locals) (Row.set 9 (
+      } (T13 .locals) (Row.set 9 (
         9,
         Mut.mslice
             (Referent.rtF (Referent.fInt Syntax.w8))
             (Syntax.tyRef (Syntax.named 7) Syntax.mut (Syntax.tyInt Syntax.w8))
             7,
       ) record {
-        ptr = Row.get 9 (T17 .locals) u .ptr;
-        name = Row.get 9 (T17 .locals) u .name;
+        ptr = Row.get 9 (T13 .locals) u .ptr;
+        name = Row.get 9 (T13 .locals) u .name;
         now = vs .3;
-      } (T17 .locals) (Row.set 8 (
+      } (T13 .locals) (Row.set 8 (
         8,
         Mut.mslice
             (Referent.rtF (Referent.fInt Syntax.w8))
             (Syntax.tyRef (Syntax.named 6) Syntax.mut (Syntax.tyInt Syntax.w8))
             6,
       ) record {
-        ptr = Row.get 8 (T17 .locals) u .ptr;
-        name = Row.get 8 (T17 .locals) u .name;
+        ptr = Row.get 8 (T13 .locals) u .ptr;
+        name = Row.get 8 (T13 .locals) u .name;
         now = vs .2;
-      } (T17 .locals) (Row.set 7 (
+      } (T13 .locals) (Row.set 7 (
         7,
         Mut.mslice
             (Referent.rtF (Referent.fInt Syntax.w8))
             (Syntax.tyRef (Syntax.named 5) Syntax.mut (Syntax.tyInt Syntax.w8))
             5,
       ) record {
-        ptr = Row.get 7 (T17 .locals) u .ptr;
-        name = Row.get 7 (T17 .locals) u .name;
+        ptr = Row.get 7 (T13 .locals) u .ptr;
+        name = Row.get 7 (T13 .locals) u .name;
         now = vs .1;
-      } (T17 .locals) (Row.set 6 (
+      } (T13 .locals) (Row.set 6 (
         6,
         Mut.mslice
             (Referent.rtF (Referent.fInt Syntax.w64))
             (Syntax.tyRef (Syntax.named 4) Syntax.mut (Syntax.tyInt Syntax.w64))
             4,
       ) record {
-        ptr = Row.get 6 (T17 .locals) u .ptr;
-        name = Row.get 6 (T17 .locals) u .name;
+        ptr = Row.get 6 (T13 .locals) u .ptr;
+        name = Row.get 6 (T13 .locals) u .name;
         now = vs .0;
-      } (T17 .locals) u)))))))))
+      } (T13 .locals) u))))))))
 
-  module _ (Pre· : (κs : Lifetimes.Lfts 9) → Kinds.Dens κs ps → Type 0)
-      (Post· : (κs : Lifetimes.Lfts 9) → (a : Kinds.Dens κs ps) → Kinds.Plain 9 ps r κs) where
+  module _ (Pre· : (κs : Lifetimes.Lfts 10) → Kinds.Dens κs ps → Type 0)
+      (Post· : (κs : Lifetimes.Lfts 10) → (a : Kinds.Dens κs ps) → Kinds.Plain 10 ps r κs) where
     module _ (M : Type 1) where
       abbrev pub Closed : Type 2
       Closed =
           (𝓤 : URA.URA M) (H : Wp.Heap 𝓤) (A : Atoms.Atoms 𝓤) (W : Kit.Given 𝓤 H A) (𝓣 : Wp.Tables
-          𝓤 H) (known0 : Plain.Known 𝓤 H A W 𝓣 0 ps·0 r·0 (claims· .0) (claims· .1)
-          "records::window") (known1 : Plain.Known 𝓤 H A W 𝓣 0 ps·1 r·1 (claims· .2) (claims· .3)
-          "records::blank") (known2 : Plain.Known 𝓤 H A W 𝓣 3 ps·2 r·2 (claims· .4) (claims· .5)
-          "records::refill") (known3 : Plain.Known 𝓤 H A W 𝓣 1 ps·3 r·3 (claims· .6) (claims· .7)
-          "records::get") (known4 : Plain.Known 𝓤 H A W 𝓣 8 ps·4 r·4 (claims· .8) (claims· .9)
-          "calls::turn_line") → Statement.Triple 𝓤 (Wp.WpFn 𝓤 H (𝓣 .C) (𝓣 .Λ) (Function.fnOf 9 ps r
-          xs m hs body)) (Function.plainOf 𝓤 H A 9 ps r Pre· Post·)
+          𝓤 H) (known0 : Plain.Known 𝓤 H A W 𝓣 3 ps·0 r·0 (claims· .0) (claims· .1)
+          "records::refill") (known1 : Plain.Known 𝓤 H A W 𝓣 1 ps·1 r·1 (claims· .2) (claims· .3)
+          "records::get") (known2 : Plain.Known 𝓤 H A W 𝓣 8 ps·2 r·2 (claims· .4) (claims· .5)
+          "calls::turn_line") → Statement.Triple 𝓤 (Wp.WpFn 𝓤 H (𝓣 .C) (𝓣 .Λ) (Function.fnOf 10 ps
+          r xs m hs body)) (Function.plainOf 𝓤 H A 10 ps r Pre· Post·)
 
     module _ (Inv·0 : InvT-loop) (μ·0 : MeasureT-loop) where
-      abbrev at0 : (bs : List.List Nat.ℕ) → Typed.TF T21 O4
-      at0 = λ bs. Typed.atNext O4
+      abbrev at0 : Typed.TF T17 O4
+      at0 = Typed.atNext O4
 
-      abbrev at1 : (bs : List.List Nat.ℕ) → Typed.TF T19 O4
-      at1 = λ bs. λ Ψ. Typed.pass T19 T21 (s17 bs) (at0 bs Ψ)
+      abbrev at1 : Typed.TF T15 O4
+      at1 = λ Ψ. Typed.pass T15 T17 s13 (at0 Ψ)
 
-      abbrev at2 : (bs : List.List Nat.ℕ) → Typed.TF T24 O4
-      at2 = λ bs. Typed.atExit 1 O4
+      abbrev at2 : Typed.TF T18 O4
+      at2 = Typed.atExit 1 O4
 
-      abbrev at3 : (bs : List.List Nat.ℕ) → Typed.TF T23 O4
-      at3 = λ bs. λ Ψ. Typed.pass T23 T24 (s20 bs) (at2 bs Ψ)
+      abbrev at3 : Typed.TF T15 O4
+      at3 = λ Ψ. Typed.pass T15 T18 s14 (at2 Ψ)
 
-      abbrev at4 : (bs : List.List Nat.ℕ) → Typed.TF T22 O4
-      at4 = λ bs. λ Ψ. Typed.pass T22 T23 (s19 bs) (at3 bs Ψ)
+      abbrev at4 : Typed.TF T15 O4
+      at4 = Scalar.Φcond T15 O4 16 (λ x. x) at1 at3
 
-      abbrev at5 : (bs : List.List Nat.ℕ) → Typed.TF T19 O4
-      at5 = λ bs. λ Ψ. Typed.pass T19 T22 (s18 bs) (at4 bs Ψ)
+      abbrev at5 : Typed.TF T75 O3
+      at5 = λ Ψ. Typed.ask s73 (Typed.atNext O3 Ψ)
 
-      abbrev at6 : (bs : List.List Nat.ℕ) → Typed.TF T19 O4
-      at6 = λ bs. Scalar.Φcond T19 O4 17 (λ x. x) (at1 bs) (at5 bs)
+      abbrev at6 : Typed.TF T75 O3
+      at6 = λ Ψ. at5 Ψ
 
-      abbrev at7 : (bs : List.List Nat.ℕ) → Typed.TF T77 O3
-      at7 = λ bs. λ Ψ. Typed.ask (s74 bs) (Typed.atNext O3 Ψ)
+      abbrev at7 : Typed.TF T74 O3
+      at7 = λ Ψ. Typed.give s71 (at6 Ψ)
 
-      abbrev at8 : (bs : List.List Nat.ℕ) → Typed.TF T75 O3
-      at8 = λ bs. λ Ψ. Typed.ask (s73 bs) (at7 bs Ψ)
+      abbrev at8 : Typed.TF T71 O3
+      at8 = λ Ψ. Typed.both s70 (at7 Ψ)
 
-      abbrev at9 : (bs : List.List Nat.ℕ) → Typed.TF T75 O3
-      at9 = λ bs. λ Ψ. at8 bs Ψ
+      abbrev at9 : Typed.TF T71 O3
+      at9 = λ Ψ. at8 Ψ
 
-      abbrev at10 : (bs : List.List Nat.ℕ) → Typed.TF T74 O3
-      at10 = λ bs. λ Ψ. Typed.give (s71 bs) (at9 bs Ψ)
+      abbrev at10 : Typed.TF T71 O3
+      at10 = λ Ψ. at9 Ψ
 
-      abbrev at11 : (bs : List.List Nat.ℕ) → Typed.TF T71 O3
-      at11 = λ bs. λ Ψ. Typed.both (s70 bs) (at10 bs Ψ)
+      abbrev at11 : Typed.TF T70 O3
+      at11 = λ Ψ. Typed.give s67 (at10 Ψ)
 
-      abbrev at12 : (bs : List.List Nat.ℕ) → Typed.TF T71 O3
-      at12 = λ bs. λ Ψ. at11 bs Ψ
+      abbrev at12 : Typed.TF T67 O3
+      at12 = λ Ψ. Typed.both s66 (at11 Ψ)
 
-      abbrev at13 : (bs : List.List Nat.ℕ) → Typed.TF T71 O3
-      at13 = λ bs. λ Ψ. at12 bs Ψ
+      abbrev at13 : Typed.TF T67 O3
+      at13 = λ Ψ. at12 Ψ
 
-      abbrev at14 : (bs : List.List Nat.ℕ) → Typed.TF T70 O3
-      at14 = λ bs. λ Ψ. Typed.give (s67 bs) (at13 bs Ψ)
+      abbrev at14 : Typed.TF T67 O3
+      at14 = λ Ψ. at13 Ψ
 
-      abbrev at15 : (bs : List.List Nat.ℕ) → Typed.TF T67 O3
-      at15 = λ bs. λ Ψ. Typed.both (s66 bs) (at14 bs Ψ)
+      abbrev at15 : Typed.TF T66 O3
+      at15 = λ Ψ. Typed.give s63 (at14 Ψ)
 
-      abbrev at16 : (bs : List.List Nat.ℕ) → Typed.TF T67 O3
-      at16 = λ bs. λ Ψ. at15 bs Ψ
+      abbrev at16 : Typed.TF T63 O3
+      at16 = λ Ψ. Typed.both s62 (at15 Ψ)
 
-      abbrev at17 : (bs : List.List Nat.ℕ) → Typed.TF T67 O3
-      at17 = λ bs. λ Ψ. at16 bs Ψ
+      abbrev at17 : Typed.TF T63 O3
+      at17 = λ Ψ. at16 Ψ
 
-      abbrev at18 : (bs : List.List Nat.ℕ) → Typed.TF T66 O3
-      at18 = λ bs. λ Ψ. Typed.give (s63 bs) (at17 bs Ψ)
+      abbrev at18 : Typed.TF T63 O3
+      at18 = λ Ψ. at17 Ψ
 
-      abbrev at19 : (bs : List.List Nat.ℕ) → Typed.TF T63 O3
-      at19 = λ bs. λ Ψ. Typed.both (s62 bs) (at18 bs Ψ)
+      abbrev at19 : Typed.TF T62 O3
+      at19 = λ Ψ. Typed.give s59 (at18 Ψ)
 
-      abbrev at20 : (bs : List.List Nat.ℕ) → Typed.TF T63 O3
-      at20 = λ bs. λ Ψ. at19 bs Ψ
+      abbrev at20 : Typed.TF T59 O3
+      at20 = λ Ψ. Typed.both s58 (at19 Ψ)
 
-      abbrev at21 : (bs : List.List Nat.ℕ) → Typed.TF T63 O3
-      at21 = λ bs. λ Ψ. at20 bs Ψ
+      abbrev at21 : Typed.TF T59 O3
+      at21 = λ Ψ. at20 Ψ
 
-      abbrev at22 : (bs : List.List Nat.ℕ) → Typed.TF T62 O3
-      at22 = λ bs. λ Ψ. Typed.give (s59 bs) (at21 bs Ψ)
+      abbrev at22 : Typed.TF T59 O3
+      at22 = λ Ψ. at21 Ψ
 
-      abbrev at23 : (bs : List.List Nat.ℕ) → Typed.TF T59 O3
-      at23 = λ bs. λ Ψ. Typed.both (s58 bs) (at22 bs Ψ)
+      abbrev at23 : Typed.TF T58 O3
+      at23 = λ Ψ. Typed.give s55 (at22 Ψ)
 
-      abbrev at24 : (bs : List.List Nat.ℕ) → Typed.TF T59 O3
-      at24 = λ bs. λ Ψ. at23 bs Ψ
+      abbrev at24 : Typed.TF T56 O3
+      at24 = λ Ψ. Typed.both s54 (at23 Ψ)
 
-      abbrev at25 : (bs : List.List Nat.ℕ) → Typed.TF T59 O3
-      at25 = λ bs. λ Ψ. at24 bs Ψ
+      abbrev at25 : Typed.TF T56 O3
+      at25 = λ Ψ. at24 Ψ
 
-      abbrev at26 : (bs : List.List Nat.ℕ) → Typed.TF T58 O3
-      at26 = λ bs. λ Ψ. Typed.give (s55 bs) (at25 bs Ψ)
+      abbrev at26 : Typed.TF T55 O3
+      at26 = λ Ψ. Typed.pass T55 T56 s52 (at25 Ψ)
 
-      abbrev at27 : (bs : List.List Nat.ℕ) → Typed.TF T56 O3
-      at27 = λ bs. λ Ψ. Typed.both (s54 bs) (at26 bs Ψ)
+      abbrev at27 : Typed.TF T54 O3
+      at27 = λ Ψ. Typed.both s51 (at26 Ψ)
 
-      abbrev at28 : (bs : List.List Nat.ℕ) → Typed.TF T56 O3
-      at28 = λ bs. λ Ψ. at27 bs Ψ
+      abbrev at28 : Typed.TF T53 O3
+      at28 = λ Ψ. Typed.ask s50 (at27 Ψ)
 
-      abbrev at29 : (bs : List.List Nat.ℕ) → Typed.TF T55 O3
-      at29 = λ bs. λ Ψ. Typed.both (s52 bs) (at28 bs Ψ)
+      abbrev at29 : Typed.TF T51 O3
+      at29 = λ Ψ. Typed.give s49 (at28 Ψ)
 
-      abbrev at30 : (bs : List.List Nat.ℕ) → Typed.TF T54 O3
-      at30 = λ bs. λ Ψ. Typed.ask (s51 bs) (at29 bs Ψ)
+      abbrev at30 : Typed.TF T51 O3
+      at30 = λ Ψ. at29 Ψ
 
-      abbrev at31 : (bs : List.List Nat.ℕ) → Typed.TF T52 O3
-      at31 = λ bs. λ Ψ. Typed.give (s50 bs) (at30 bs Ψ)
+      abbrev at31 : Typed.TF T50 O3
+      at31 = λ Ψ. Typed.ask s47 (at30 Ψ)
 
-      abbrev at32 : (bs : List.List Nat.ℕ) → Typed.TF T52 O3
-      at32 = λ bs. λ Ψ. at31 bs Ψ
+      abbrev at32 : Typed.TF T48 O3
+      at32 = λ Ψ. Typed.give s46 (at31 Ψ)
 
-      abbrev at33 : (bs : List.List Nat.ℕ) → Typed.TF T51 O3
-      at33 = λ bs. λ Ψ. Typed.ask (s48 bs) (at32 bs Ψ)
+      abbrev at33 : Typed.TF T48 O3
+      at33 = λ Ψ. at32 Ψ
 
-      abbrev at34 : (bs : List.List Nat.ℕ) → Typed.TF T49 O3
-      at34 = λ bs. λ Ψ. Typed.give (s47 bs) (at33 bs Ψ)
+      abbrev at34 : Typed.TF T47 O3
+      at34 = λ Ψ. Typed.ask s44 (at33 Ψ)
 
-      abbrev at35 : (bs : List.List Nat.ℕ) → Typed.TF T49 O3
-      at35 = λ bs. λ Ψ. at34 bs Ψ
+      abbrev at35 : Typed.TF T45 O3
+      at35 = λ Ψ. Typed.give s43 (at34 Ψ)
 
-      abbrev at36 : (bs : List.List Nat.ℕ) → Typed.TF T48 O3
-      at36 = λ bs. λ Ψ. Typed.ask (s45 bs) (at35 bs Ψ)
+      abbrev at36 : Typed.TF T45 O3
+      at36 = λ Ψ. at35 Ψ
 
-      abbrev at37 : (bs : List.List Nat.ℕ) → Typed.TF T46 O3
-      at37 = λ bs. λ Ψ. Typed.give (s44 bs) (at36 bs Ψ)
+      abbrev at37 : Typed.TF T44 O3
+      at37 = λ Ψ. Typed.ask s41 (at36 Ψ)
 
-      abbrev at38 : (bs : List.List Nat.ℕ) → Typed.TF T46 O3
-      at38 = λ bs. λ Ψ. at37 bs Ψ
+      abbrev at38 : Typed.TF T42 O3
+      at38 = λ Ψ. Typed.give s40 (at37 Ψ)
 
-      abbrev at39 : (bs : List.List Nat.ℕ) → Typed.TF T45 O3
-      at39 = λ bs. λ Ψ. Typed.ask (s42 bs) (at38 bs Ψ)
+      abbrev at39 : Typed.TF T42 O3
+      at39 = λ Ψ. at38 Ψ
 
-      abbrev at40 : (bs : List.List Nat.ℕ) → Typed.TF T43 O3
-      at40 = λ bs. λ Ψ. Typed.give (s41 bs) (at39 bs Ψ)
+      abbrev at40 : Typed.TF T41 O3
+      at40 = λ Ψ. Typed.ask s38 (at39 Ψ)
 
-      abbrev at41 : (bs : List.List Nat.ℕ) → Typed.TF T43 O3
-      at41 = λ bs. λ Ψ. at40 bs Ψ
+      abbrev at41 : Typed.TF T38 O3
+      at41 = λ Ψ. Typed.give s37 (at40 Ψ)
 
-      abbrev at42 : (bs : List.List Nat.ℕ) → Typed.TF T42 O3
-      at42 = λ bs. λ Ψ. Typed.ask (s39 bs) (at41 bs Ψ)
+      abbrev at42 : Typed.TF T38 O3
+      at42 = λ Ψ. at41 Ψ
 
-      abbrev at43 : (bs : List.List Nat.ℕ) → Typed.TF T39 O3
-      at43 = λ bs. λ Ψ. Typed.give (s38 bs) (at42 bs Ψ)
+      abbrev at43 : Typed.TF T38 O3
+      at43 = λ Ψ. at42 Ψ
 
-      abbrev at44 : (bs : List.List Nat.ℕ) → Typed.TF T39 O3
-      at44 = λ bs. λ Ψ. at43 bs Ψ
+      abbrev at44 : Typed.TF T36 O3
+      at44 = λ Ψ. Typed.pass T36 T38 s34 (at43 Ψ)
 
-      abbrev at45 : (bs : List.List Nat.ℕ) → Typed.TF T39 O3
-      at45 = λ bs. λ Ψ. at44 bs Ψ
+      abbrev at45 : Typed.TF T36 O3
+      at45 = λ Ψ. at44 Ψ
 
-      abbrev at46 : (bs : List.List Nat.ℕ) → Typed.TF T37 O3
-      at46 = λ bs. λ Ψ. Typed.pass T37 T39 (s35 bs) (at45 bs Ψ)
+      abbrev at46 : Typed.TF T35 O3
+      at46 = λ Ψ. Typed.pass T35 T36 s32 (at45 Ψ)
 
-      abbrev at47 : (bs : List.List Nat.ℕ) → Typed.TF T37 O3
-      at47 = λ bs. λ Ψ. at46 bs Ψ
+      abbrev at47 : Typed.TF T34 O3
+      at47 = λ Ψ. Typed.pass T34 T35 s31 (at46 Ψ)
 
-      abbrev at48 : (bs : List.List Nat.ℕ) → Typed.TF T36 O3
-      at48 = λ bs. λ Ψ. Typed.pass T36 T37 (s33 bs) (at47 bs Ψ)
+      abbrev at48 : Typed.TF T33 O3
+      at48 = λ Ψ. Typed.both s30 (at47 Ψ)
 
-      abbrev at49 : (bs : List.List Nat.ℕ) → Typed.TF T35 O3
-      at49 = λ bs. λ Ψ. Typed.both (s32 bs) (at48 bs Ψ)
+      abbrev at49 : Typed.TF T32 O3
+      at49 = λ Ψ. Typed.pass T32 T33 s29 (at48 Ψ)
 
-      abbrev at50 : (bs : List.List Nat.ℕ) → Typed.TF T34 O3
-      at50 = λ bs. λ Ψ. Typed.ask (s31 bs) (at49 bs Ψ)
+      abbrev at50 : Typed.TF T31 O3
+      at50 = λ Ψ. Typed.ask s28 (at49 Ψ)
 
-      abbrev at51 : (bs : List.List Nat.ℕ) → Typed.TF T31 O3
-      at51 = λ bs. λ Ψ. Typed.give (s30 bs) (at50 bs Ψ)
+      abbrev at51 : Typed.TF T30 O3
+      at51 = λ Ψ. Typed.pass T30 T31 s27 (at50 Ψ)
 
-      abbrev at52 : (bs : List.List Nat.ℕ) → Typed.TF T31 O3
-      at52 = λ bs. λ Ψ. at51 bs Ψ
+      abbrev at52 : Typed.TF T29 O3
+      at52 = λ Ψ. Typed.ask s26 (at51 Ψ)
 
-      abbrev at53 : (bs : List.List Nat.ℕ) → Typed.TF T31 O3
-      at53 = λ bs. λ Ψ. at52 bs Ψ
+      abbrev at53 : Typed.TF T28 O3
+      at53 = λ Ψ. Typed.pass T28 T29 s25 (at52 Ψ)
 
-      abbrev at54 : (bs : List.List Nat.ℕ) → Typed.TF T29 O3
-      at54 = λ bs. λ Ψ. Typed.both (s27 bs) (at53 bs Ψ)
+      abbrev at54 : Typed.TF T27 O3
+      at54 = λ Ψ. Typed.ask s24 (at53 Ψ)
 
-      abbrev at55 : (bs : List.List Nat.ℕ) → Typed.TF T29 O3
-      at55 = λ bs. λ Ψ. at54 bs Ψ
+      abbrev at55 : Typed.TF T24 O3
+      at55 = λ Ψ. Typed.give s23 (at54 Ψ)
 
-      abbrev at56 : (bs : List.List Nat.ℕ) → Typed.TF T28 O3
-      at56 = λ bs. λ Ψ. Typed.pass T28 T29 (s25 bs) (at55 bs Ψ)
+      abbrev at56 : Typed.TF T24 O3
+      at56 = λ Ψ. at55 Ψ
 
-      abbrev at57 : (bs : List.List Nat.ℕ) → Typed.TF T27 O3
-      at57 = λ bs. λ Ψ. Typed.both (s24 bs) (at56 bs Ψ)
+      abbrev at57 : Typed.TF T24 O3
+      at57 = λ Ψ. at56 Ψ
 
-      abbrev at58 : (bs : List.List Nat.ℕ) → Typed.TF T26 O3
-      at58 = λ bs. λ Ψ. Typed.ask (s23 bs) (at57 bs Ψ)
+      abbrev at58 : Typed.TF T22 O3
+      at58 = λ Ψ. Typed.both s20 (at57 Ψ)
 
-      abbrev at59 : (bs : List.List Nat.ℕ) → Typed.TF T20 O3
-      at59 = λ bs. λ Ψ. Typed.give (s22 bs) (at58 bs Ψ)
+      abbrev at59 : Typed.TF T22 O3
+      at59 = λ Ψ. at58 Ψ
 
-      abbrev at60 : (bs : List.List Nat.ℕ) → Typed.TF T20 O3
-      at60 = λ bs. λ Ψ. at59 bs Ψ
+      abbrev at60 : Typed.TF T21 O3
+      at60 = λ Ψ. Typed.both s18 (at59 Ψ)
 
-      abbrev at61 : (bs : List.List Nat.ℕ) → Typed.TF T19 O3
-      at61 = λ bs. λ Ψ. at6 bs (Typed.wantNext T20 O3 (at60 bs Ψ) Ψ)
+      abbrev at61 : Typed.TF T20 O3
+      at61 = λ Ψ. Typed.ask s17 (at60 Ψ)
 
-      abbrev at62 : (bs : List.List Nat.ℕ) → Typed.TF T17 O3
-      at62 = λ bs. λ Ψ. Typed.ask (s16 bs) (at61 bs Ψ)
+      abbrev at62 : Typed.TF T16 O3
+      at62 = λ Ψ. Typed.give s16 (at61 Ψ)
 
-      abbrev at63 : (bs : List.List Nat.ℕ) → Typed.TF T17 O2
-      at63 =
-          λ bs. Typed.LoopBy
-          T17
+      abbrev at63 : Typed.TF T16 O3
+      at63 = λ Ψ. at62 Ψ
+
+      abbrev at64 : Typed.TF T15 O3
+      at64 = λ Ψ. at4 (Typed.wantNext T16 O3 (at63 Ψ) Ψ)
+
+      abbrev at65 : Typed.TF T13 O3
+      at65 = λ Ψ. Typed.ask s12 (at64 Ψ)
+
+      abbrev at66 : Typed.TF T13 O2
+      at66 =
+          Typed.LoopBy
+          T13
           O2
           put0
           (λ u vs. Inv·0
-          (Row.get 1 (T17 .locals) u .now)
-          (Row.get 2 (T17 .locals) u .now)
-          (Row.get 3 (T17 .locals) u)
-          (Row.get 4 (T17 .locals) u .now)
-          (Row.get 5 (T17 .locals) u .now)
-          (Row.get 6 (T17 .locals) u .now)
-          (Row.get 7 (T17 .locals) u .now)
-          (Row.get 8 (T17 .locals) u .now)
-          (Row.get 9 (T17 .locals) u .now)
-          (Row.get 10 (T17 .locals) u .now)
-          (Row.get 11 (T17 .locals) u)
-          (Row.get 12 (T17 .locals) u)
-          (Row.get 13 (T17 .locals) u)
-          (Row.get 14 (T17 .locals) u)
-          (Row.get 15 (T17 .locals) u)
+          (Row.get 1 (T13 .locals) u .now)
+          (Row.get 2 (T13 .locals) u .now)
+          (Row.get 3 (T13 .locals) u)
+          (Row.get 4 (T13 .locals) u .now)
+          (Row.get 5 (T13 .locals) u .now)
+          (Row.get 6 (T13 .locals) u .now)
+          (Row.get 7 (T13 .locals) u .now)
+          (Row.get 8 (T13 .locals) u .now)
+          (Row.get 9 (T13 .locals) u .now)
+          (Row.get 10 (T13 .locals) u .now)
+          (Row.get 11 (T13 .locals) u .now)
+          (Row.get 12 (T13 .locals) u)
+          (Row.get 13 (T13 .locals) u)
+          (Row.get 14 (T13 .locals) u)
           (vs .0)
           (vs .1)
           (vs .2)
@@ -6714,24 +6427,22 @@ module _ (claims· : Claims) where
           (vs .5)
           (vs .6)
           (vs .7)
-          (vs .8)
-          (vs .9))
+          (vs .8))
           (λ u vs. μ·0
-          (Row.get 1 (T17 .locals) u .now)
-          (Row.get 2 (T17 .locals) u .now)
-          (Row.get 3 (T17 .locals) u)
-          (Row.get 4 (T17 .locals) u .now)
-          (Row.get 5 (T17 .locals) u .now)
-          (Row.get 6 (T17 .locals) u .now)
-          (Row.get 7 (T17 .locals) u .now)
-          (Row.get 8 (T17 .locals) u .now)
-          (Row.get 9 (T17 .locals) u .now)
-          (Row.get 10 (T17 .locals) u .now)
-          (Row.get 11 (T17 .locals) u)
-          (Row.get 12 (T17 .locals) u)
-          (Row.get 13 (T17 .locals) u)
-          (Row.get 14 (T17 .locals) u)
-          (Row.get 15 (T17 .locals) u)
+          (Row.get 1 (T13 .locals) u .now)
+          (Row.get 2 (T13 .locals) u .now)
+          (Row.get 3 (T13 .locals) u)
+          (Row.get 4 (T13 .locals) u .now)
+          (Row.get 5 (T13 .locals) u .now)
+          (Row.get 6 (T13 .locals) u .now)
+          (Row.get 7 (T13 .locals) u .now)
+          (Row.get 8 (T13 .locals) u .now)
+          (Row.get 9 (T13 .locals) u .now)
+          (Row.get 10 (T13 .locals) u .now)
+          (Row.get 11 (T13 .locals) u .now)
+          (Row.get 12 (T13 .locals) u)
+          (Row.get 13 (T13 .locals) u)
+          (Row.get 14 (T13 .locals) u)
           (vs .0)
           (vs .1)
           (vs .2)
@@ -6740,118 +6451,431 @@ module _ (claims· : Claims) where
           (vs .5)
           (vs .6)
           (vs .7)
-          (vs .8)
-          (vs .9))
-          (at62 bs)
+          (vs .8))
+          at65
 
-      abbrev at64 : (bs : List.List Nat.ℕ) → Typed.TF T17 O1
-      at64 = λ bs. λ Ψ. at63 bs (Typed.inBlock O1 Ψ)
+      abbrev at67 : Typed.TF T13 O1
+      at67 = λ Ψ. at66 (Typed.inBlock O1 Ψ)
 
-      abbrev at65 : (bs : List.List Nat.ℕ) → Typed.TF T83 O0
-      at65 = λ bs. Typed.atRet O0
+      abbrev at68 : Typed.TF T82 O0
+      at68 = Typed.atRet O0
 
-      abbrev at66 : (bs : List.List Nat.ℕ) → Typed.TF T82 O0
-      at66 = λ bs. λ Ψ. Typed.pass T82 T83 (s79 bs) (at65 bs Ψ)
+      abbrev at69 : Typed.TF T81 O0
+      at69 = λ Ψ. Typed.pass T81 T82 s78 (at68 Ψ)
 
-      abbrev at67 : (bs : List.List Nat.ℕ) → Typed.TF T81 O0
-      at67 = λ bs. λ Ψ. Typed.pass T81 T82 (s78 bs) (at66 bs Ψ)
+      abbrev at70 : Typed.TF T80 O0
+      at70 = λ Ψ. Typed.pass T80 T81 s77 (at69 Ψ)
 
-      abbrev at68 : (bs : List.List Nat.ℕ) → Typed.TF T80 O0
-      at68 = λ bs. λ Ψ. Typed.pass T80 T81 (s77 bs) (at67 bs Ψ)
+      abbrev at71 : Typed.TF T79 O0
+      at71 = λ Ψ. Typed.pass T79 T80 s76 (at70 Ψ)
 
-      abbrev at69 : (bs : List.List Nat.ℕ) → Typed.TF T79 O0
-      at69 = λ bs. λ Ψ. Typed.pass T79 T80 (s76 bs) (at68 bs Ψ)
+      abbrev at72 : Typed.TF T78 O0
+      at72 = λ Ψ. Typed.pass T78 T79 s75 (at71 Ψ)
 
-      abbrev at70 : (bs : List.List Nat.ℕ) → Typed.TF T18 O0
-      at70 = λ bs. λ Ψ. Typed.pass T18 T79 (s75 bs) (at69 bs Ψ)
+      abbrev at73 : Typed.TF T14 O0
+      at73 = λ Ψ. Typed.pass T14 T78 s74 (at72 Ψ)
 
-      abbrev at71 : (bs : List.List Nat.ℕ) → Typed.TF T17 O0
-      at71 = λ bs. λ Ψ. at64 bs (Typed.wantNext T18 O0 (at70 bs Ψ) Ψ)
+      abbrev at74 : Typed.TF T13 O0
+      at74 = λ Ψ. at67 (Typed.wantNext T14 O0 (at73 Ψ) Ψ)
 
-      abbrev at72 : (bs : List.List Nat.ℕ) → Typed.TF T16 O0
-      at72 = λ bs. λ Ψ. Typed.pass T16 T17 (s15 bs) (at71 bs Ψ)
+      abbrev at75 : Typed.TF T12 O0
+      at75 = λ Ψ. Typed.pass T12 T13 s11 (at74 Ψ)
 
-      abbrev at73 : (bs : List.List Nat.ℕ) → Typed.TF T15 O0
-      at73 = λ bs. λ Ψ. Typed.pass T15 T16 (s14 bs) (at72 bs Ψ)
+      abbrev at76 : Typed.TF T11 O0
+      at76 = λ Ψ. Typed.pass T11 T12 s10 (at75 Ψ)
 
-      abbrev at74 : (bs : List.List Nat.ℕ) → Typed.TF T14 O0
-      at74 = λ bs. λ Ψ. Typed.pass T14 T15 (s13 bs) (at73 bs Ψ)
+      abbrev at77 : Typed.TF T10 O0
+      at77 = λ Ψ. Typed.pass T10 T11 s9 (at76 Ψ)
 
-      abbrev at75 : (bs : List.List Nat.ℕ) → Typed.TF T13 O0
-      at75 = λ bs. λ Ψ. Typed.both (s12 bs) (at74 bs Ψ)
+      abbrev at78 : Typed.TF T9 O0
+      at78 = λ Ψ. Typed.give s8 (at77 Ψ)
 
-      abbrev at76 : (bs : List.List Nat.ℕ) → Typed.TF T12 O0
-      at76 = λ bs. λ Ψ. Typed.pass T12 T13 (s11 bs) (at75 bs Ψ)
+      abbrev at79 : Typed.TF T8 O0
+      at79 = λ Ψ. Typed.give s7 (at78 Ψ)
 
-      abbrev at77 : (bs : List.List Nat.ℕ) → Typed.TF T11 O0
-      at77 = λ bs. λ Ψ. Typed.pass T11 T12 (s10 bs) (at76 bs Ψ)
+      abbrev at80 : Typed.TF T7 O0
+      at80 = λ Ψ. Typed.give s6 (at79 Ψ)
 
-      abbrev at78 : (bs : List.List Nat.ℕ) → Typed.TF T10 O0
-      at78 = λ bs. λ Ψ. Typed.both (s9 bs) (at77 bs Ψ)
+      abbrev at81 : Typed.TF T6 O0
+      at81 = λ Ψ. Typed.give s5 (at80 Ψ)
 
-      abbrev at79 : (bs : List.List Nat.ℕ) → Typed.TF T9 O0
-      at79 = λ bs. λ Ψ. Typed.give (s8 bs) (at78 bs Ψ)
+      abbrev at82 : Typed.TF T5 O0
+      at82 = λ Ψ. Typed.give s4 (at81 Ψ)
 
-      abbrev at80 : (bs : List.List Nat.ℕ) → Typed.TF T8 O0
-      at80 = λ bs. λ Ψ. Typed.give (s7 bs) (at79 bs Ψ)
+      abbrev at83 : Typed.TF T4 O0
+      at83 = λ Ψ. Typed.give s3 (at82 Ψ)
 
-      abbrev at81 : (bs : List.List Nat.ℕ) → Typed.TF T7 O0
-      at81 = λ bs. λ Ψ. Typed.give (s6 bs) (at80 bs Ψ)
+      abbrev at84 : Typed.TF T3 O0
+      at84 = λ Ψ. Typed.give s2 (at83 Ψ)
 
-      abbrev at82 : (bs : List.List Nat.ℕ) → Typed.TF T6 O0
-      at82 = λ bs. λ Ψ. Typed.give (s5 bs) (at81 bs Ψ)
+      abbrev at85 : Typed.TF T2 O0
+      at85 = λ Ψ. Typed.give s1 (at84 Ψ)
 
-      abbrev at83 : (bs : List.List Nat.ℕ) → Typed.TF T5 O0
-      at83 = λ bs. λ Ψ. Typed.give (s4 bs) (at82 bs Ψ)
+      abbrev at86 : Typed.TF T0 O0
+      at86 = λ Ψ. Typed.give s0 (at85 Ψ)
 
-      abbrev at84 : (bs : List.List Nat.ℕ) → Typed.TF T4 O0
-      at84 = λ bs. λ Ψ. Typed.give (s3 bs) (at83 bs Ψ)
-
-      abbrev at85 : (bs : List.List Nat.ℕ) → Typed.TF T3 O0
-      at85 = λ bs. λ Ψ. Typed.give (s2 bs) (at84 bs Ψ)
-
-      abbrev at86 : (bs : List.List Nat.ℕ) → Typed.TF T2 O0
-      at86 = λ bs. λ Ψ. Typed.give (s1 bs) (at85 bs Ψ)
-
-      abbrev at87 : (bs : List.List Nat.ℕ) → Typed.TF T0 O0
-      at87 = λ bs. λ Ψ. Typed.give (s0 bs) (at86 bs Ψ)
-
-      abbrev pub Φ : (bs : List.List Nat.ℕ) → Typed.TF T0 O0
-      Φ = λ bs. at87 bs
+      abbrev pub Φ : Typed.TF T0 O0
+      Φ = at86
 
       module _ {M : Type 1} (𝓤 : URA.URA M) (H : Wp.Heap 𝓤) (A : Atoms.Atoms 𝓤)
           (W : Kit.Given 𝓤 H A) (𝓣 : Wp.Tables 𝓤 H) where
         abbrev Knowns : Type 1
         Knowns =
-            Plain.Known 𝓤 H A W 𝓣 0 ps·0 r·0 (claims· .0) (claims· .1) "records::window" ×
-            Plain.Known 𝓤 H A W 𝓣 0 ps·1 r·1 (claims· .2) (claims· .3) "records::blank" ×
-            Plain.Known 𝓤 H A W 𝓣 3 ps·2 r·2 (claims· .4) (claims· .5) "records::refill" ×
-            Plain.Known 𝓤 H A W 𝓣 1 ps·3 r·3 (claims· .6) (claims· .7) "records::get" ×
-            Plain.Known 𝓤 H A W 𝓣 8 ps·4 r·4 (claims· .8) (claims· .9) "calls::turn_line"
+            Plain.Known 𝓤 H A W 𝓣 3 ps·0 r·0 (claims· .0) (claims· .1) "records::refill" ×
+            Plain.Known 𝓤 H A W 𝓣 1 ps·1 r·1 (claims· .2) (claims· .3) "records::get" ×
+            Plain.Known 𝓤 H A W 𝓣 8 ps·2 r·2 (claims· .4) (claims· .5) "calls::turn_line"
 
-      module _ (κs : Lifetimes.Lfts 9) (qs : Lifetimes.Shares 9) where
-        abbrev g22 : List.List Row.Entry
-        g22 = List._∷_ (0, Rows'.any-gone (Syntax.tyInt Syntax.w64)) (List._∷_ (
+      module _ (κs : Lifetimes.Lfts 10) (qs : Lifetimes.Shares 10) where
+        abbrev g8 : List.List Row.Entry
+        g8 = List._∷_ (0, Rows.any-gone (Syntax.tyInt Syntax.w64)) (List._∷_ (
           1,
-          Rows'.sslice
+          Rows.sslice
               (Referent.rtF (Referent.fInt Syntax.w8))
               (Syntax.tyRef (Syntax.named 0) Syntax.imm (Syntax.tyInt Syntax.w8))
               0,
         ) (List._∷_ (
           2,
-          Rows'.sslice
+          Rows.sslice
               (Referent.rtF (Referent.fInt Syntax.w64))
               (Syntax.tyRef (Syntax.named 1) Syntax.imm (Syntax.tyInt Syntax.w64))
               1,
-        ) (List._∷_ (3, Rows'.sc-here (Row.sInt Syntax.w64)) (List._∷_ (
+        ) (List._∷_ (3, Rows.sc-here (Row.sInt Syntax.w64)) (List._∷_ (
           4,
-          Rows'.sslice
+          Rows.sslice
               (Referent.rtF (Referent.fInt Syntax.w64))
               (Syntax.tyRef (Syntax.named 2) Syntax.imm (Syntax.tyInt Syntax.w64))
               2,
         ) (List._∷_ (
           5,
-          Rows'.sslice
+          Rows.sslice
+              (Referent.rtF (Referent.fInt Syntax.w8))
+              (Syntax.tyRef (Syntax.named 3) Syntax.imm (Syntax.tyInt Syntax.w8))
+              3,
+        ) (List._∷_ (
+          6,
+          Mut.mslice
+              (Referent.rtF (Referent.fInt Syntax.w64))
+              (Syntax.tyRef (Syntax.named 4) Syntax.mut (Syntax.tyInt Syntax.w64))
+              4,
+        ) (List._∷_ (
+          7,
+          Mut.mslice
+              (Referent.rtF (Referent.fInt Syntax.w8))
+              (Syntax.tyRef (Syntax.named 5) Syntax.mut (Syntax.tyInt Syntax.w8))
+              5,
+        ) (List._∷_ (
+          8,
+          Mut.mslice
+              (Referent.rtF (Referent.fInt Syntax.w8))
+              (Syntax.tyRef (Syntax.named 6) Syntax.mut (Syntax.tyInt Syntax.w8))
+              6,
+        ) (List._∷_ (
+          9,
+          Mut.mslice
+              (Referent.rtF (Referent.fInt Syntax.w8))
+              (Syntax.tyRef (Syntax.named 7) Syntax.mut (Syntax.tyInt Syntax.w8))
+              7,
+        ) (List._∷_ (
+          10,
+          Mut.mslice
+              (Referent.rtF (Referent.fInt Syntax.w8))
+              (Syntax.tyRef (Syntax.named 8) Syntax.mut (Syntax.tyInt Syntax.w8))
+              8,
+        ) (List._∷_ (
+          11,
+          Relend.mslice-owed
+              Elem.R
+              (Syntax.tyRef
+              (Syntax.named 9)
+              Syntax.mut
+              Elem.ty)
+              9
+              10
+              (Row.lease (κs .1 .1 .1 .1 .1 .1 .1 .1 .1 .0) (qs .1 .1 .1 .1 .1 .1 .1 .1 .1 .0)),
+        ) (List._∷_ (12, Rows.sc-here (Row.sInt Syntax.w64)) (List._∷_ (
+          13,
+          Rows.sc-here (Row.sInt Syntax.w64),
+        ) (List._∷_ (14, Rows.sc-here (Row.sInt Syntax.w64)) (List._∷_ (
+          15,
+          Rows.any-gone
+              (Syntax.tyStruct
+              (List._∷_
+              114
+              (List._∷_
+              101
+              (List._∷_
+              99
+              (List._∷_
+              111
+              (List._∷_
+              114
+              (List._∷_
+              100
+              (List._∷_
+              115
+              (List._∷_
+              58
+              (List._∷_
+              58
+              (List._∷_
+              76
+              (List._∷_
+              105
+              (List._∷_
+              110
+              (List._∷_ 101 (List._∷_ 82 (List._∷_ 101 (List._∷_ 99 List.[]))))))))))))))))
+              (Syntax.tcons
+              (Syntax.tyInt Syntax.w64)
+              (Syntax.tcons
+              (Syntax.tyInt Syntax.w64)
+              (Syntax.tcons
+              (Syntax.tyStruct
+              (List._∷_
+              112
+              (List._∷_
+              108
+              (List._∷_
+              97
+              (List._∷_
+              99
+              (List._∷_
+              101
+              (List._∷_
+              58
+              (List._∷_
+              58
+              (List._∷_
+              82
+              (List._∷_
+              101
+              (List._∷_ 103 (List._∷_ 105 (List._∷_ 111 (List._∷_ 110 List.[])))))))))))))
+              (Syntax.tcons (Syntax.tyInt Syntax.w64) Syntax.tnil))
+              (Syntax.tcons (Syntax.tyInt Syntax.w64) Syntax.tnil))))),
+        ) List.[])))))))))))))))
+
+        abbrev g12 : List.List Row.Entry
+        g12 = List._∷_ (0, Rows.any-gone (Syntax.tyInt Syntax.w64)) (List._∷_ (
+          1,
+          Rows.sslice
+              (Referent.rtF (Referent.fInt Syntax.w8))
+              (Syntax.tyRef (Syntax.named 0) Syntax.imm (Syntax.tyInt Syntax.w8))
+              0,
+        ) (List._∷_ (
+          2,
+          Rows.sslice
+              (Referent.rtF (Referent.fInt Syntax.w64))
+              (Syntax.tyRef (Syntax.named 1) Syntax.imm (Syntax.tyInt Syntax.w64))
+              1,
+        ) (List._∷_ (3, Rows.sc-here (Row.sInt Syntax.w64)) (List._∷_ (
+          4,
+          Rows.sslice
+              (Referent.rtF (Referent.fInt Syntax.w64))
+              (Syntax.tyRef (Syntax.named 2) Syntax.imm (Syntax.tyInt Syntax.w64))
+              2,
+        ) (List._∷_ (
+          5,
+          Rows.sslice
+              (Referent.rtF (Referent.fInt Syntax.w8))
+              (Syntax.tyRef (Syntax.named 3) Syntax.imm (Syntax.tyInt Syntax.w8))
+              3,
+        ) (List._∷_ (
+          6,
+          Mut.mslice
+              (Referent.rtF (Referent.fInt Syntax.w64))
+              (Syntax.tyRef (Syntax.named 4) Syntax.mut (Syntax.tyInt Syntax.w64))
+              4,
+        ) (List._∷_ (
+          7,
+          Mut.mslice
+              (Referent.rtF (Referent.fInt Syntax.w8))
+              (Syntax.tyRef (Syntax.named 5) Syntax.mut (Syntax.tyInt Syntax.w8))
+              5,
+        ) (List._∷_ (
+          8,
+          Mut.mslice
+              (Referent.rtF (Referent.fInt Syntax.w8))
+              (Syntax.tyRef (Syntax.named 6) Syntax.mut (Syntax.tyInt Syntax.w8))
+              6,
+        ) (List._∷_ (
+          9,
+          Mut.mslice
+              (Referent.rtF (Referent.fInt Syntax.w8))
+              (Syntax.tyRef (Syntax.named 7) Syntax.mut (Syntax.tyInt Syntax.w8))
+              7,
+        ) (List._∷_ (
+          10,
+          Mut.mslice
+              (Referent.rtF (Referent.fInt Syntax.w8))
+              (Syntax.tyRef (Syntax.named 8) Syntax.mut (Syntax.tyInt Syntax.w8))
+              8,
+        ) (List._∷_ (
+          11,
+          Reshare.mslice-owedS
+              Elem.R
+              (Syntax.tyRef
+              (Syntax.named 9)
+              Syntax.mut
+              Elem.ty)
+              9
+              11
+              (Row.lease (κs .1 .1 .1 .1 .1 .1 .1 .1 .1 .0) (qs .1 .1 .1 .1 .1 .1 .1 .1 .1 .0)),
+        ) (List._∷_ (12, Rows.sc-here (Row.sInt Syntax.w64)) (List._∷_ (
+          13,
+          Rows.sc-here (Row.sInt Syntax.w64),
+        ) (List._∷_ (14, Rows.sc-here (Row.sInt Syntax.w64)) (List._∷_ (
+          15,
+          Rows.any-gone
+              (Syntax.tyStruct
+              (List._∷_
+              114
+              (List._∷_
+              101
+              (List._∷_
+              99
+              (List._∷_
+              111
+              (List._∷_
+              114
+              (List._∷_
+              100
+              (List._∷_
+              115
+              (List._∷_
+              58
+              (List._∷_
+              58
+              (List._∷_
+              76
+              (List._∷_
+              105
+              (List._∷_
+              110
+              (List._∷_ 101 (List._∷_ 82 (List._∷_ 101 (List._∷_ 99 List.[]))))))))))))))))
+              (Syntax.tcons
+              (Syntax.tyInt Syntax.w64)
+              (Syntax.tcons
+              (Syntax.tyInt Syntax.w64)
+              (Syntax.tcons
+              (Syntax.tyStruct
+              (List._∷_
+              112
+              (List._∷_
+              108
+              (List._∷_
+              97
+              (List._∷_
+              99
+              (List._∷_
+              101
+              (List._∷_
+              58
+              (List._∷_
+              58
+              (List._∷_
+              82
+              (List._∷_
+              101
+              (List._∷_ 103 (List._∷_ 105 (List._∷_ 111 (List._∷_ 110 List.[])))))))))))))
+              (Syntax.tcons (Syntax.tyInt Syntax.w64) Syntax.tnil))
+              (Syntax.tcons (Syntax.tyInt Syntax.w64) Syntax.tnil))))),
+        ) List.[])))))))))))))))
+
+        abbrev g20 : List.List Row.Entry
+        g20 = List._∷_ (0, Rows.any-gone (Syntax.tyInt Syntax.w64)) (List._∷_ (
+          1,
+          Rows.sslice
+              (Referent.rtF (Referent.fInt Syntax.w8))
+              (Syntax.tyRef (Syntax.named 0) Syntax.imm (Syntax.tyInt Syntax.w8))
+              0,
+        ) (List._∷_ (
+          2,
+          Rows.sslice
+              (Referent.rtF (Referent.fInt Syntax.w64))
+              (Syntax.tyRef (Syntax.named 1) Syntax.imm (Syntax.tyInt Syntax.w64))
+              1,
+        ) (List._∷_ (3, Rows.sc-here (Row.sInt Syntax.w64)) (List._∷_ (
+          4,
+          Rows.sslice
+              (Referent.rtF (Referent.fInt Syntax.w64))
+              (Syntax.tyRef (Syntax.named 2) Syntax.imm (Syntax.tyInt Syntax.w64))
+              2,
+        ) (List._∷_ (
+          5,
+          Rows.sslice
+              (Referent.rtF (Referent.fInt Syntax.w8))
+              (Syntax.tyRef (Syntax.named 3) Syntax.imm (Syntax.tyInt Syntax.w8))
+              3,
+        ) (List._∷_ (
+          6,
+          Mut.mslice
+              (Referent.rtF (Referent.fInt Syntax.w64))
+              (Syntax.tyRef (Syntax.named 4) Syntax.mut (Syntax.tyInt Syntax.w64))
+              4,
+        ) (List._∷_ (
+          7,
+          Mut.mslice
+              (Referent.rtF (Referent.fInt Syntax.w8))
+              (Syntax.tyRef (Syntax.named 5) Syntax.mut (Syntax.tyInt Syntax.w8))
+              5,
+        ) (List._∷_ (
+          8,
+          Mut.mslice
+              (Referent.rtF (Referent.fInt Syntax.w8))
+              (Syntax.tyRef (Syntax.named 6) Syntax.mut (Syntax.tyInt Syntax.w8))
+              6,
+        ) (List._∷_ (
+          9,
+          Mut.mslice
+              (Referent.rtF (Referent.fInt Syntax.w8))
+              (Syntax.tyRef (Syntax.named 7) Syntax.mut (Syntax.tyInt Syntax.w8))
+              7,
+        ) (List._∷_ (
+          10,
+          Mut.mslice
+              (Referent.rtF (Referent.fInt Syntax.w8))
+              (Syntax.tyRef (Syntax.named 8) Syntax.mut (Syntax.tyInt Syntax.w8))
+              8,
+        ) (List._∷_ (
+          11,
+          Reshare.mslice-owedS
+              Elem.R
+              (Syntax.tyRef
+              (Syntax.named 9)
+              Syntax.mut
+              Elem.ty)
+              9
+              11
+              (Row.lease (κs .1 .1 .1 .1 .1 .1 .1 .1 .1 .0) (qs .1 .1 .1 .1 .1 .1 .1 .1 .1 .0)),
+        ) (List._∷_ (12, Rows.sc-here (Row.sInt Syntax.w64)) (List._∷_ (
+          13,
+          Rows.sc-here (Row.sInt Syntax.w64),
+        ) (List._∷_ (14, Rows.sc-here (Row.sInt Syntax.w64)) (List._∷_ (
+          15,
+          Rows.whole (Declared.row LineRec.the-type),
+        ) List.[])))))))))))))))
+
+        abbrev g23 : List.List Row.Entry
+        g23 = List._∷_ (0, Rows.any-gone (Syntax.tyInt Syntax.w64)) (List._∷_ (
+          1,
+          Rows.sslice
+              (Referent.rtF (Referent.fInt Syntax.w8))
+              (Syntax.tyRef (Syntax.named 0) Syntax.imm (Syntax.tyInt Syntax.w8))
+              0,
+        ) (List._∷_ (
+          2,
+          Rows.sslice
+              (Referent.rtF (Referent.fInt Syntax.w64))
+              (Syntax.tyRef (Syntax.named 1) Syntax.imm (Syntax.tyInt Syntax.w64))
+              1,
+        ) (List._∷_ (3, Rows.sc-here (Row.sInt Syntax.w64)) (List._∷_ (
+          4,
+          Rows.sslice
+              (Referent.rtF (Referent.fInt Syntax.w64))
+              (Syntax.tyRef (Syntax.named 2) Syntax.imm (Syntax.tyInt Syntax.w64))
+              2,
+        ) (List._∷_ (
+          5,
+          Rows.sslice
               (Referent.rtF (Referent.fInt Syntax.w8))
               (Syntax.tyRef (Syntax.named 3) Syntax.imm (Syntax.tyInt Syntax.w8))
               3,
@@ -6861,7 +6885,7 @@ module _ (claims· : Claims) where
               (Referent.rtF (Referent.fInt Syntax.w64))
               (Syntax.tyRef (Syntax.named 4) Syntax.mut (Syntax.tyInt Syntax.w64))
               4
-              11
+              12
               (Row.lease (κs .1 .1 .1 .1 .0) (qs .1 .1 .1 .1 .0)),
         ) (List._∷_ (
           7,
@@ -6889,37 +6913,43 @@ module _ (claims· : Claims) where
               8,
         ) (List._∷_ (
           11,
-          Rows.arrF Elem.R 1024 0,
-        ) (List._∷_ (12, Rows'.whole (Declared.row LineRec.the-type)) (List._∷_ (
+          Mut.mslice
+              Elem.R
+              (Syntax.tyRef
+              (Syntax.named 9)
+              Syntax.mut
+              Elem.ty)
+              9,
+        ) (List._∷_ (12, Rows.sc-here (Row.sInt Syntax.w64)) (List._∷_ (
           13,
-          Rows'.sc-here (Row.sInt Syntax.w64),
-        ) (List._∷_ (14, Rows'.sc-here (Row.sInt Syntax.w64)) (List._∷_ (
+          Rows.sc-here (Row.sInt Syntax.w64),
+        ) (List._∷_ (14, Rows.sc-here (Row.sInt Syntax.w64)) (List._∷_ (
           15,
-          Rows'.sc-here (Row.sInt Syntax.w64),
+          Rows.whole (Declared.row LineRec.the-type),
         ) List.[])))))))))))))))
 
-        abbrev g25 : List.List Row.Entry
-        g25 = List._∷_ (0, Rows'.any-gone (Syntax.tyInt Syntax.w64)) (List._∷_ (
+        abbrev g26 : List.List Row.Entry
+        g26 = List._∷_ (0, Rows.any-gone (Syntax.tyInt Syntax.w64)) (List._∷_ (
           1,
-          Rows'.sslice
+          Rows.sslice
               (Referent.rtF (Referent.fInt Syntax.w8))
               (Syntax.tyRef (Syntax.named 0) Syntax.imm (Syntax.tyInt Syntax.w8))
               0,
         ) (List._∷_ (
           2,
-          Rows'.sslice
+          Rows.sslice
               (Referent.rtF (Referent.fInt Syntax.w64))
               (Syntax.tyRef (Syntax.named 1) Syntax.imm (Syntax.tyInt Syntax.w64))
               1,
-        ) (List._∷_ (3, Rows'.sc-here (Row.sInt Syntax.w64)) (List._∷_ (
+        ) (List._∷_ (3, Rows.sc-here (Row.sInt Syntax.w64)) (List._∷_ (
           4,
-          Rows'.sslice
+          Rows.sslice
               (Referent.rtF (Referent.fInt Syntax.w64))
               (Syntax.tyRef (Syntax.named 2) Syntax.imm (Syntax.tyInt Syntax.w64))
               2,
         ) (List._∷_ (
           5,
-          Rows'.sslice
+          Rows.sslice
               (Referent.rtF (Referent.fInt Syntax.w8))
               (Syntax.tyRef (Syntax.named 3) Syntax.imm (Syntax.tyInt Syntax.w8))
               3,
@@ -6929,7 +6959,7 @@ module _ (claims· : Claims) where
               (Referent.rtF (Referent.fInt Syntax.w64))
               (Syntax.tyRef (Syntax.named 4) Syntax.mut (Syntax.tyInt Syntax.w64))
               4
-              11
+              12
               (Row.lease (κs .1 .1 .1 .1 .0) (qs .1 .1 .1 .1 .0)),
         ) (List._∷_ (
           7,
@@ -6937,7 +6967,7 @@ module _ (claims· : Claims) where
               (Referent.rtF (Referent.fInt Syntax.w8))
               (Syntax.tyRef (Syntax.named 5) Syntax.mut (Syntax.tyInt Syntax.w8))
               5
-              12
+              13
               (Row.lease (κs .1 .1 .1 .1 .1 .0) (qs .1 .1 .1 .1 .1 .0)),
         ) (List._∷_ (
           8,
@@ -6959,37 +6989,43 @@ module _ (claims· : Claims) where
               8,
         ) (List._∷_ (
           11,
-          Rows.arrF Elem.R 1024 0,
-        ) (List._∷_ (12, Rows'.whole (Declared.row LineRec.the-type)) (List._∷_ (
+          Mut.mslice
+              Elem.R
+              (Syntax.tyRef
+              (Syntax.named 9)
+              Syntax.mut
+              Elem.ty)
+              9,
+        ) (List._∷_ (12, Rows.sc-here (Row.sInt Syntax.w64)) (List._∷_ (
           13,
-          Rows'.sc-here (Row.sInt Syntax.w64),
-        ) (List._∷_ (14, Rows'.sc-here (Row.sInt Syntax.w64)) (List._∷_ (
+          Rows.sc-here (Row.sInt Syntax.w64),
+        ) (List._∷_ (14, Rows.sc-here (Row.sInt Syntax.w64)) (List._∷_ (
           15,
-          Rows'.sc-here (Row.sInt Syntax.w64),
+          Rows.whole (Declared.row LineRec.the-type),
         ) List.[])))))))))))))))
 
-        abbrev g28 : List.List Row.Entry
-        g28 = List._∷_ (0, Rows'.any-gone (Syntax.tyInt Syntax.w64)) (List._∷_ (
+        abbrev g29 : List.List Row.Entry
+        g29 = List._∷_ (0, Rows.any-gone (Syntax.tyInt Syntax.w64)) (List._∷_ (
           1,
-          Rows'.sslice
+          Rows.sslice
               (Referent.rtF (Referent.fInt Syntax.w8))
               (Syntax.tyRef (Syntax.named 0) Syntax.imm (Syntax.tyInt Syntax.w8))
               0,
         ) (List._∷_ (
           2,
-          Rows'.sslice
+          Rows.sslice
               (Referent.rtF (Referent.fInt Syntax.w64))
               (Syntax.tyRef (Syntax.named 1) Syntax.imm (Syntax.tyInt Syntax.w64))
               1,
-        ) (List._∷_ (3, Rows'.sc-here (Row.sInt Syntax.w64)) (List._∷_ (
+        ) (List._∷_ (3, Rows.sc-here (Row.sInt Syntax.w64)) (List._∷_ (
           4,
-          Rows'.sslice
+          Rows.sslice
               (Referent.rtF (Referent.fInt Syntax.w64))
               (Syntax.tyRef (Syntax.named 2) Syntax.imm (Syntax.tyInt Syntax.w64))
               2,
         ) (List._∷_ (
           5,
-          Rows'.sslice
+          Rows.sslice
               (Referent.rtF (Referent.fInt Syntax.w8))
               (Syntax.tyRef (Syntax.named 3) Syntax.imm (Syntax.tyInt Syntax.w8))
               3,
@@ -6999,7 +7035,7 @@ module _ (claims· : Claims) where
               (Referent.rtF (Referent.fInt Syntax.w64))
               (Syntax.tyRef (Syntax.named 4) Syntax.mut (Syntax.tyInt Syntax.w64))
               4
-              11
+              12
               (Row.lease (κs .1 .1 .1 .1 .0) (qs .1 .1 .1 .1 .0)),
         ) (List._∷_ (
           7,
@@ -7007,7 +7043,7 @@ module _ (claims· : Claims) where
               (Referent.rtF (Referent.fInt Syntax.w8))
               (Syntax.tyRef (Syntax.named 5) Syntax.mut (Syntax.tyInt Syntax.w8))
               5
-              12
+              13
               (Row.lease (κs .1 .1 .1 .1 .1 .0) (qs .1 .1 .1 .1 .1 .0)),
         ) (List._∷_ (
           8,
@@ -7015,7 +7051,7 @@ module _ (claims· : Claims) where
               (Referent.rtF (Referent.fInt Syntax.w8))
               (Syntax.tyRef (Syntax.named 6) Syntax.mut (Syntax.tyInt Syntax.w8))
               6
-              13
+              14
               (Row.lease (κs .1 .1 .1 .1 .1 .1 .0) (qs .1 .1 .1 .1 .1 .1 .0)),
         ) (List._∷_ (
           9,
@@ -7031,37 +7067,43 @@ module _ (claims· : Claims) where
               8,
         ) (List._∷_ (
           11,
-          Rows.arrF Elem.R 1024 0,
-        ) (List._∷_ (12, Rows'.whole (Declared.row LineRec.the-type)) (List._∷_ (
+          Mut.mslice
+              Elem.R
+              (Syntax.tyRef
+              (Syntax.named 9)
+              Syntax.mut
+              Elem.ty)
+              9,
+        ) (List._∷_ (12, Rows.sc-here (Row.sInt Syntax.w64)) (List._∷_ (
           13,
-          Rows'.sc-here (Row.sInt Syntax.w64),
-        ) (List._∷_ (14, Rows'.sc-here (Row.sInt Syntax.w64)) (List._∷_ (
+          Rows.sc-here (Row.sInt Syntax.w64),
+        ) (List._∷_ (14, Rows.sc-here (Row.sInt Syntax.w64)) (List._∷_ (
           15,
-          Rows'.sc-here (Row.sInt Syntax.w64),
+          Rows.whole (Declared.row LineRec.the-type),
         ) List.[])))))))))))))))
 
-        abbrev g31 : List.List Row.Entry
-        g31 = List._∷_ (0, Rows'.any-gone (Syntax.tyInt Syntax.w64)) (List._∷_ (
+        abbrev g32 : List.List Row.Entry
+        g32 = List._∷_ (0, Rows.any-gone (Syntax.tyInt Syntax.w64)) (List._∷_ (
           1,
-          Rows'.sslice
+          Rows.sslice
               (Referent.rtF (Referent.fInt Syntax.w8))
               (Syntax.tyRef (Syntax.named 0) Syntax.imm (Syntax.tyInt Syntax.w8))
               0,
         ) (List._∷_ (
           2,
-          Rows'.sslice
+          Rows.sslice
               (Referent.rtF (Referent.fInt Syntax.w64))
               (Syntax.tyRef (Syntax.named 1) Syntax.imm (Syntax.tyInt Syntax.w64))
               1,
-        ) (List._∷_ (3, Rows'.sc-here (Row.sInt Syntax.w64)) (List._∷_ (
+        ) (List._∷_ (3, Rows.sc-here (Row.sInt Syntax.w64)) (List._∷_ (
           4,
-          Rows'.sslice
+          Rows.sslice
               (Referent.rtF (Referent.fInt Syntax.w64))
               (Syntax.tyRef (Syntax.named 2) Syntax.imm (Syntax.tyInt Syntax.w64))
               2,
         ) (List._∷_ (
           5,
-          Rows'.sslice
+          Rows.sslice
               (Referent.rtF (Referent.fInt Syntax.w8))
               (Syntax.tyRef (Syntax.named 3) Syntax.imm (Syntax.tyInt Syntax.w8))
               3,
@@ -7071,7 +7113,7 @@ module _ (claims· : Claims) where
               (Referent.rtF (Referent.fInt Syntax.w64))
               (Syntax.tyRef (Syntax.named 4) Syntax.mut (Syntax.tyInt Syntax.w64))
               4
-              11
+              12
               (Row.lease (κs .1 .1 .1 .1 .0) (qs .1 .1 .1 .1 .0)),
         ) (List._∷_ (
           7,
@@ -7079,7 +7121,7 @@ module _ (claims· : Claims) where
               (Referent.rtF (Referent.fInt Syntax.w8))
               (Syntax.tyRef (Syntax.named 5) Syntax.mut (Syntax.tyInt Syntax.w8))
               5
-              12
+              13
               (Row.lease (κs .1 .1 .1 .1 .1 .0) (qs .1 .1 .1 .1 .1 .0)),
         ) (List._∷_ (
           8,
@@ -7087,7 +7129,7 @@ module _ (claims· : Claims) where
               (Referent.rtF (Referent.fInt Syntax.w8))
               (Syntax.tyRef (Syntax.named 6) Syntax.mut (Syntax.tyInt Syntax.w8))
               6
-              13
+              14
               (Row.lease (κs .1 .1 .1 .1 .1 .1 .0) (qs .1 .1 .1 .1 .1 .1 .0)),
         ) (List._∷_ (
           9,
@@ -7095,7 +7137,7 @@ module _ (claims· : Claims) where
               (Referent.rtF (Referent.fInt Syntax.w8))
               (Syntax.tyRef (Syntax.named 7) Syntax.mut (Syntax.tyInt Syntax.w8))
               7
-              14
+              15
               (Row.lease (κs .1 .1 .1 .1 .1 .1 .1 .0) (qs .1 .1 .1 .1 .1 .1 .1 .0)),
         ) (List._∷_ (
           10,
@@ -7105,37 +7147,43 @@ module _ (claims· : Claims) where
               8,
         ) (List._∷_ (
           11,
-          Rows.arrF Elem.R 1024 0,
-        ) (List._∷_ (12, Rows'.whole (Declared.row LineRec.the-type)) (List._∷_ (
+          Mut.mslice
+              Elem.R
+              (Syntax.tyRef
+              (Syntax.named 9)
+              Syntax.mut
+              Elem.ty)
+              9,
+        ) (List._∷_ (12, Rows.sc-here (Row.sInt Syntax.w64)) (List._∷_ (
           13,
-          Rows'.sc-here (Row.sInt Syntax.w64),
-        ) (List._∷_ (14, Rows'.sc-here (Row.sInt Syntax.w64)) (List._∷_ (
+          Rows.sc-here (Row.sInt Syntax.w64),
+        ) (List._∷_ (14, Rows.sc-here (Row.sInt Syntax.w64)) (List._∷_ (
           15,
-          Rows'.sc-here (Row.sInt Syntax.w64),
+          Rows.whole (Declared.row LineRec.the-type),
         ) List.[])))))))))))))))
 
-        abbrev g34 : List.List Row.Entry
-        g34 = List._∷_ (0, Rows'.any-gone (Syntax.tyInt Syntax.w64)) (List._∷_ (
+        abbrev g35 : List.List Row.Entry
+        g35 = List._∷_ (0, Rows.any-gone (Syntax.tyInt Syntax.w64)) (List._∷_ (
           1,
-          Rows'.sslice
+          Rows.sslice
               (Referent.rtF (Referent.fInt Syntax.w8))
               (Syntax.tyRef (Syntax.named 0) Syntax.imm (Syntax.tyInt Syntax.w8))
               0,
         ) (List._∷_ (
           2,
-          Rows'.sslice
+          Rows.sslice
               (Referent.rtF (Referent.fInt Syntax.w64))
               (Syntax.tyRef (Syntax.named 1) Syntax.imm (Syntax.tyInt Syntax.w64))
               1,
-        ) (List._∷_ (3, Rows'.sc-here (Row.sInt Syntax.w64)) (List._∷_ (
+        ) (List._∷_ (3, Rows.sc-here (Row.sInt Syntax.w64)) (List._∷_ (
           4,
-          Rows'.sslice
+          Rows.sslice
               (Referent.rtF (Referent.fInt Syntax.w64))
               (Syntax.tyRef (Syntax.named 2) Syntax.imm (Syntax.tyInt Syntax.w64))
               2,
         ) (List._∷_ (
           5,
-          Rows'.sslice
+          Rows.sslice
               (Referent.rtF (Referent.fInt Syntax.w8))
               (Syntax.tyRef (Syntax.named 3) Syntax.imm (Syntax.tyInt Syntax.w8))
               3,
@@ -7145,7 +7193,7 @@ module _ (claims· : Claims) where
               (Referent.rtF (Referent.fInt Syntax.w64))
               (Syntax.tyRef (Syntax.named 4) Syntax.mut (Syntax.tyInt Syntax.w64))
               4
-              11
+              12
               (Row.lease (κs .1 .1 .1 .1 .0) (qs .1 .1 .1 .1 .0)),
         ) (List._∷_ (
           7,
@@ -7153,7 +7201,7 @@ module _ (claims· : Claims) where
               (Referent.rtF (Referent.fInt Syntax.w8))
               (Syntax.tyRef (Syntax.named 5) Syntax.mut (Syntax.tyInt Syntax.w8))
               5
-              12
+              13
               (Row.lease (κs .1 .1 .1 .1 .1 .0) (qs .1 .1 .1 .1 .1 .0)),
         ) (List._∷_ (
           8,
@@ -7161,7 +7209,7 @@ module _ (claims· : Claims) where
               (Referent.rtF (Referent.fInt Syntax.w8))
               (Syntax.tyRef (Syntax.named 6) Syntax.mut (Syntax.tyInt Syntax.w8))
               6
-              13
+              14
               (Row.lease (κs .1 .1 .1 .1 .1 .1 .0) (qs .1 .1 .1 .1 .1 .1 .0)),
         ) (List._∷_ (
           9,
@@ -7169,7 +7217,7 @@ module _ (claims· : Claims) where
               (Referent.rtF (Referent.fInt Syntax.w8))
               (Syntax.tyRef (Syntax.named 7) Syntax.mut (Syntax.tyInt Syntax.w8))
               7
-              14
+              15
               (Row.lease (κs .1 .1 .1 .1 .1 .1 .1 .0) (qs .1 .1 .1 .1 .1 .1 .1 .0)),
         ) (List._∷_ (
           10,
@@ -7177,115 +7225,315 @@ module _ (claims· : Claims) where
               (Referent.rtF (Referent.fInt Syntax.w8))
               (Syntax.tyRef (Syntax.named 8) Syntax.mut (Syntax.tyInt Syntax.w8))
               8
-              15
+              16
               (Row.lease (κs .1 .1 .1 .1 .1 .1 .1 .1 .0) (qs .1 .1 .1 .1 .1 .1 .1 .1 .0)),
         ) (List._∷_ (
           11,
-          Rows.arrF Elem.R 1024 0,
-        ) (List._∷_ (12, Rows'.whole (Declared.row LineRec.the-type)) (List._∷_ (
-          13,
-          Rows'.sc-here (Row.sInt Syntax.w64),
-        ) (List._∷_ (14, Rows'.sc-here (Row.sInt Syntax.w64)) (List._∷_ (
-          15,
-          Rows'.sc-here (Row.sInt Syntax.w64),
-        ) List.[])))))))))))))))
-
-        abbrev g38 : List.List Row.Entry
-        g38 = List._∷_ (0, Rows'.any-gone (Syntax.tyInt Syntax.w64)) (List._∷_ (
-          1,
-          Rows'.sslice
-              (Referent.rtF (Referent.fInt Syntax.w8))
-              (Syntax.tyRef (Syntax.named 0) Syntax.imm (Syntax.tyInt Syntax.w8))
-              0,
-        ) (List._∷_ (
-          2,
-          Rows'.sslice
-              (Referent.rtF (Referent.fInt Syntax.w64))
-              (Syntax.tyRef (Syntax.named 1) Syntax.imm (Syntax.tyInt Syntax.w64))
-              1,
-        ) (List._∷_ (3, Rows'.sc-here (Row.sInt Syntax.w64)) (List._∷_ (
-          4,
-          Rows'.sslice
-              (Referent.rtF (Referent.fInt Syntax.w64))
-              (Syntax.tyRef (Syntax.named 2) Syntax.imm (Syntax.tyInt Syntax.w64))
-              2,
-        ) (List._∷_ (
-          5,
-          Rows'.sslice
-              (Referent.rtF (Referent.fInt Syntax.w8))
-              (Syntax.tyRef (Syntax.named 3) Syntax.imm (Syntax.tyInt Syntax.w8))
-              3,
-        ) (List._∷_ (
-          6,
           Mut.mslice
-              (Referent.rtF (Referent.fInt Syntax.w64))
-              (Syntax.tyRef (Syntax.named 4) Syntax.mut (Syntax.tyInt Syntax.w64))
-              4,
-        ) (List._∷_ (
-          7,
-          Relend.mslice-owed
-              (Referent.rtF (Referent.fInt Syntax.w8))
-              (Syntax.tyRef (Syntax.named 5) Syntax.mut (Syntax.tyInt Syntax.w8))
-              5
-              12
-              (Row.lease (κs .1 .1 .1 .1 .1 .0) (qs .1 .1 .1 .1 .1 .0)),
-        ) (List._∷_ (
-          8,
-          Relend.mslice-owed
-              (Referent.rtF (Referent.fInt Syntax.w8))
-              (Syntax.tyRef (Syntax.named 6) Syntax.mut (Syntax.tyInt Syntax.w8))
-              6
-              13
-              (Row.lease (κs .1 .1 .1 .1 .1 .1 .0) (qs .1 .1 .1 .1 .1 .1 .0)),
-        ) (List._∷_ (
-          9,
-          Relend.mslice-owed
-              (Referent.rtF (Referent.fInt Syntax.w8))
-              (Syntax.tyRef (Syntax.named 7) Syntax.mut (Syntax.tyInt Syntax.w8))
-              7
-              14
-              (Row.lease (κs .1 .1 .1 .1 .1 .1 .1 .0) (qs .1 .1 .1 .1 .1 .1 .1 .0)),
-        ) (List._∷_ (
-          10,
-          Relend.mslice-owed
-              (Referent.rtF (Referent.fInt Syntax.w8))
-              (Syntax.tyRef (Syntax.named 8) Syntax.mut (Syntax.tyInt Syntax.w8))
-              8
-              15
-              (Row.lease (κs .1 .1 .1 .1 .1 .1 .1 .1 .0) (qs .1 .1 .1 .1 .1 .1 .1 .1 .0)),
-        ) (List._∷_ (
-          11,
-          Rows.arrF Elem.R 1024 0,
-        ) (List._∷_ (12, Rows'.whole (Declared.row LineRec.the-type)) (List._∷_ (
+              Elem.R
+              (Syntax.tyRef
+              (Syntax.named 9)
+              Syntax.mut
+              Elem.ty)
+              9,
+        ) (List._∷_ (12, Rows.sc-here (Row.sInt Syntax.w64)) (List._∷_ (
           13,
-          Rows'.sc-here (Row.sInt Syntax.w64),
-        ) (List._∷_ (14, Rows'.sc-here (Row.sInt Syntax.w64)) (List._∷_ (
+          Rows.sc-here (Row.sInt Syntax.w64),
+        ) (List._∷_ (14, Rows.sc-here (Row.sInt Syntax.w64)) (List._∷_ (
           15,
-          Rows'.sc-here (Row.sInt Syntax.w64),
+          Rows.whole (Declared.row LineRec.the-type),
         ) List.[])))))))))))))))
 
         abbrev g40 : List.List Row.Entry
-        g40 = List._∷_ (0, Rows'.any-gone (Syntax.tyInt Syntax.w64)) (List._∷_ (
+        g40 = List._∷_ (0, Rows.any-gone (Syntax.tyInt Syntax.w64)) (List._∷_ (
           1,
-          Rows'.sslice
+          Rows.sslice
               (Referent.rtF (Referent.fInt Syntax.w8))
               (Syntax.tyRef (Syntax.named 0) Syntax.imm (Syntax.tyInt Syntax.w8))
               0,
         ) (List._∷_ (
           2,
-          Rows'.sslice
+          Rows.sslice
               (Referent.rtF (Referent.fInt Syntax.w64))
               (Syntax.tyRef (Syntax.named 1) Syntax.imm (Syntax.tyInt Syntax.w64))
               1,
-        ) (List._∷_ (3, Rows'.sc-here (Row.sInt Syntax.w64)) (List._∷_ (
+        ) (List._∷_ (3, Rows.sc-here (Row.sInt Syntax.w64)) (List._∷_ (
           4,
-          Rows'.sslice
+          Rows.sslice
               (Referent.rtF (Referent.fInt Syntax.w64))
               (Syntax.tyRef (Syntax.named 2) Syntax.imm (Syntax.tyInt Syntax.w64))
               2,
         ) (List._∷_ (
           5,
-          Rows'.sslice
+          Rows.sslice
+              (Referent.rtF (Referent.fInt Syntax.w8))
+              (Syntax.tyRef (Syntax.named 3) Syntax.imm (Syntax.tyInt Syntax.w8))
+              3,
+        ) (List._∷_ (
+          6,
+          Relend.mslice-owed
+              (Referent.rtF (Referent.fInt Syntax.w64))
+              (Syntax.tyRef (Syntax.named 4) Syntax.mut (Syntax.tyInt Syntax.w64))
+              4
+              12
+              (Row.lease (κs .1 .1 .1 .1 .0) (qs .1 .1 .1 .1 .0)),
+        ) (List._∷_ (
+          7,
+          Relend.mslice-owed
+              (Referent.rtF (Referent.fInt Syntax.w8))
+              (Syntax.tyRef (Syntax.named 5) Syntax.mut (Syntax.tyInt Syntax.w8))
+              5
+              13
+              (Row.lease (κs .1 .1 .1 .1 .1 .0) (qs .1 .1 .1 .1 .1 .0)),
+        ) (List._∷_ (
+          8,
+          Relend.mslice-owed
+              (Referent.rtF (Referent.fInt Syntax.w8))
+              (Syntax.tyRef (Syntax.named 6) Syntax.mut (Syntax.tyInt Syntax.w8))
+              6
+              14
+              (Row.lease (κs .1 .1 .1 .1 .1 .1 .0) (qs .1 .1 .1 .1 .1 .1 .0)),
+        ) (List._∷_ (
+          9,
+          Relend.mslice-owed
+              (Referent.rtF (Referent.fInt Syntax.w8))
+              (Syntax.tyRef (Syntax.named 7) Syntax.mut (Syntax.tyInt Syntax.w8))
+              7
+              15
+              (Row.lease (κs .1 .1 .1 .1 .1 .1 .1 .0) (qs .1 .1 .1 .1 .1 .1 .1 .0)),
+        ) (List._∷_ (
+          10,
+          Relend.mslice-owed
+              (Referent.rtF (Referent.fInt Syntax.w8))
+              (Syntax.tyRef (Syntax.named 8) Syntax.mut (Syntax.tyInt Syntax.w8))
+              8
+              16
+              (Row.lease (κs .1 .1 .1 .1 .1 .1 .1 .1 .0) (qs .1 .1 .1 .1 .1 .1 .1 .1 .0)),
+        ) (List._∷_ (
+          11,
+          Mut.mslice
+              Elem.R
+              (Syntax.tyRef
+              (Syntax.named 9)
+              Syntax.mut
+              Elem.ty)
+              9,
+        ) (List._∷_ (12, Rows.sc-here (Row.sInt Syntax.w64)) (List._∷_ (
+          13,
+          Rows.sc-here (Row.sInt Syntax.w64),
+        ) (List._∷_ (14, Rows.sc-here (Row.sInt Syntax.w64)) (List._∷_ (
+          15,
+          Rows.any-gone
+              (Syntax.tyStruct
+              (List._∷_
+              114
+              (List._∷_
+              101
+              (List._∷_
+              99
+              (List._∷_
+              111
+              (List._∷_
+              114
+              (List._∷_
+              100
+              (List._∷_
+              115
+              (List._∷_
+              58
+              (List._∷_
+              58
+              (List._∷_
+              76
+              (List._∷_
+              105
+              (List._∷_
+              110
+              (List._∷_ 101 (List._∷_ 82 (List._∷_ 101 (List._∷_ 99 List.[]))))))))))))))))
+              (Syntax.tcons
+              (Syntax.tyInt Syntax.w64)
+              (Syntax.tcons
+              (Syntax.tyInt Syntax.w64)
+              (Syntax.tcons
+              (Syntax.tyStruct
+              (List._∷_
+              112
+              (List._∷_
+              108
+              (List._∷_
+              97
+              (List._∷_
+              99
+              (List._∷_
+              101
+              (List._∷_
+              58
+              (List._∷_
+              58
+              (List._∷_
+              82
+              (List._∷_
+              101
+              (List._∷_ 103 (List._∷_ 105 (List._∷_ 111 (List._∷_ 110 List.[])))))))))))))
+              (Syntax.tcons (Syntax.tyInt Syntax.w64) Syntax.tnil))
+              (Syntax.tcons (Syntax.tyInt Syntax.w64) Syntax.tnil))))),
+        ) List.[])))))))))))))))
+
+        abbrev g41 : List.List Row.Entry
+        g41 = List._∷_ (0, Rows.any-gone (Syntax.tyInt Syntax.w64)) (List._∷_ (
+          1,
+          Rows.sslice
+              (Referent.rtF (Referent.fInt Syntax.w8))
+              (Syntax.tyRef (Syntax.named 0) Syntax.imm (Syntax.tyInt Syntax.w8))
+              0,
+        ) (List._∷_ (
+          2,
+          Rows.sslice
+              (Referent.rtF (Referent.fInt Syntax.w64))
+              (Syntax.tyRef (Syntax.named 1) Syntax.imm (Syntax.tyInt Syntax.w64))
+              1,
+        ) (List._∷_ (3, Rows.sc-here (Row.sInt Syntax.w64)) (List._∷_ (
+          4,
+          Rows.sslice
+              (Referent.rtF (Referent.fInt Syntax.w64))
+              (Syntax.tyRef (Syntax.named 2) Syntax.imm (Syntax.tyInt Syntax.w64))
+              2,
+        ) (List._∷_ (
+          5,
+          Rows.sslice
+              (Referent.rtF (Referent.fInt Syntax.w8))
+              (Syntax.tyRef (Syntax.named 3) Syntax.imm (Syntax.tyInt Syntax.w8))
+              3,
+        ) (List._∷_ (
+          6,
+          Mut.mslice
+              (Referent.rtF (Referent.fInt Syntax.w64))
+              (Syntax.tyRef (Syntax.named 4) Syntax.mut (Syntax.tyInt Syntax.w64))
+              4,
+        ) (List._∷_ (
+          7,
+          Relend.mslice-owed
+              (Referent.rtF (Referent.fInt Syntax.w8))
+              (Syntax.tyRef (Syntax.named 5) Syntax.mut (Syntax.tyInt Syntax.w8))
+              5
+              13
+              (Row.lease (κs .1 .1 .1 .1 .1 .0) (qs .1 .1 .1 .1 .1 .0)),
+        ) (List._∷_ (
+          8,
+          Relend.mslice-owed
+              (Referent.rtF (Referent.fInt Syntax.w8))
+              (Syntax.tyRef (Syntax.named 6) Syntax.mut (Syntax.tyInt Syntax.w8))
+              6
+              14
+              (Row.lease (κs .1 .1 .1 .1 .1 .1 .0) (qs .1 .1 .1 .1 .1 .1 .0)),
+        ) (List._∷_ (
+          9,
+          Relend.mslice-owed
+              (Referent.rtF (Referent.fInt Syntax.w8))
+              (Syntax.tyRef (Syntax.named 7) Syntax.mut (Syntax.tyInt Syntax.w8))
+              7
+              15
+              (Row.lease (κs .1 .1 .1 .1 .1 .1 .1 .0) (qs .1 .1 .1 .1 .1 .1 .1 .0)),
+        ) (List._∷_ (
+          10,
+          Relend.mslice-owed
+              (Referent.rtF (Referent.fInt Syntax.w8))
+              (Syntax.tyRef (Syntax.named 8) Syntax.mut (Syntax.tyInt Syntax.w8))
+              8
+              16
+              (Row.lease (κs .1 .1 .1 .1 .1 .1 .1 .1 .0) (qs .1 .1 .1 .1 .1 .1 .1 .1 .0)),
+        ) (List._∷_ (
+          11,
+          Mut.mslice
+              Elem.R
+              (Syntax.tyRef
+              (Syntax.named 9)
+              Syntax.mut
+              Elem.ty)
+              9,
+        ) (List._∷_ (12, Rows.sc-here (Row.sInt Syntax.w64)) (List._∷_ (
+          13,
+          Rows.sc-here (Row.sInt Syntax.w64),
+        ) (List._∷_ (14, Rows.sc-here (Row.sInt Syntax.w64)) (List._∷_ (
+          15,
+          Rows.any-gone
+              (Syntax.tyStruct
+              (List._∷_
+              114
+              (List._∷_
+              101
+              (List._∷_
+              99
+              (List._∷_
+              111
+              (List._∷_
+              114
+              (List._∷_
+              100
+              (List._∷_
+              115
+              (List._∷_
+              58
+              (List._∷_
+              58
+              (List._∷_
+              76
+              (List._∷_
+              105
+              (List._∷_
+              110
+              (List._∷_ 101 (List._∷_ 82 (List._∷_ 101 (List._∷_ 99 List.[]))))))))))))))))
+              (Syntax.tcons
+              (Syntax.tyInt Syntax.w64)
+              (Syntax.tcons
+              (Syntax.tyInt Syntax.w64)
+              (Syntax.tcons
+              (Syntax.tyStruct
+              (List._∷_
+              112
+              (List._∷_
+              108
+              (List._∷_
+              97
+              (List._∷_
+              99
+              (List._∷_
+              101
+              (List._∷_
+              58
+              (List._∷_
+              58
+              (List._∷_
+              82
+              (List._∷_
+              101
+              (List._∷_ 103 (List._∷_ 105 (List._∷_ 111 (List._∷_ 110 List.[])))))))))))))
+              (Syntax.tcons (Syntax.tyInt Syntax.w64) Syntax.tnil))
+              (Syntax.tcons (Syntax.tyInt Syntax.w64) Syntax.tnil))))),
+        ) List.[])))))))))))))))
+
+        abbrev g43 : List.List Row.Entry
+        g43 = List._∷_ (0, Rows.any-gone (Syntax.tyInt Syntax.w64)) (List._∷_ (
+          1,
+          Rows.sslice
+              (Referent.rtF (Referent.fInt Syntax.w8))
+              (Syntax.tyRef (Syntax.named 0) Syntax.imm (Syntax.tyInt Syntax.w8))
+              0,
+        ) (List._∷_ (
+          2,
+          Rows.sslice
+              (Referent.rtF (Referent.fInt Syntax.w64))
+              (Syntax.tyRef (Syntax.named 1) Syntax.imm (Syntax.tyInt Syntax.w64))
+              1,
+        ) (List._∷_ (3, Rows.sc-here (Row.sInt Syntax.w64)) (List._∷_ (
+          4,
+          Rows.sslice
+              (Referent.rtF (Referent.fInt Syntax.w64))
+              (Syntax.tyRef (Syntax.named 2) Syntax.imm (Syntax.tyInt Syntax.w64))
+              2,
+        ) (List._∷_ (
+          5,
+          Rows.sslice
               (Referent.rtF (Referent.fInt Syntax.w8))
               (Syntax.tyRef (Syntax.named 3) Syntax.imm (Syntax.tyInt Syntax.w8))
               3,
@@ -7307,7 +7555,7 @@ module _ (claims· : Claims) where
               (Referent.rtF (Referent.fInt Syntax.w8))
               (Syntax.tyRef (Syntax.named 6) Syntax.mut (Syntax.tyInt Syntax.w8))
               6
-              13
+              14
               (Row.lease (κs .1 .1 .1 .1 .1 .1 .0) (qs .1 .1 .1 .1 .1 .1 .0)),
         ) (List._∷_ (
           9,
@@ -7315,7 +7563,7 @@ module _ (claims· : Claims) where
               (Referent.rtF (Referent.fInt Syntax.w8))
               (Syntax.tyRef (Syntax.named 7) Syntax.mut (Syntax.tyInt Syntax.w8))
               7
-              14
+              15
               (Row.lease (κs .1 .1 .1 .1 .1 .1 .1 .0) (qs .1 .1 .1 .1 .1 .1 .1 .0)),
         ) (List._∷_ (
           10,
@@ -7323,41 +7571,100 @@ module _ (claims· : Claims) where
               (Referent.rtF (Referent.fInt Syntax.w8))
               (Syntax.tyRef (Syntax.named 8) Syntax.mut (Syntax.tyInt Syntax.w8))
               8
-              15
+              16
               (Row.lease (κs .1 .1 .1 .1 .1 .1 .1 .1 .0) (qs .1 .1 .1 .1 .1 .1 .1 .1 .0)),
         ) (List._∷_ (
           11,
-          Rows.arrF Elem.R 1024 0,
-        ) (List._∷_ (12, Rows'.whole (Declared.row LineRec.the-type)) (List._∷_ (
+          Mut.mslice
+              Elem.R
+              (Syntax.tyRef
+              (Syntax.named 9)
+              Syntax.mut
+              Elem.ty)
+              9,
+        ) (List._∷_ (12, Rows.sc-here (Row.sInt Syntax.w64)) (List._∷_ (
           13,
-          Rows'.sc-here (Row.sInt Syntax.w64),
-        ) (List._∷_ (14, Rows'.sc-here (Row.sInt Syntax.w64)) (List._∷_ (
+          Rows.sc-here (Row.sInt Syntax.w64),
+        ) (List._∷_ (14, Rows.sc-here (Row.sInt Syntax.w64)) (List._∷_ (
           15,
-          Rows'.sc-here (Row.sInt Syntax.w64),
+          Rows.any-gone
+              (Syntax.tyStruct
+              (List._∷_
+              114
+              (List._∷_
+              101
+              (List._∷_
+              99
+              (List._∷_
+              111
+              (List._∷_
+              114
+              (List._∷_
+              100
+              (List._∷_
+              115
+              (List._∷_
+              58
+              (List._∷_
+              58
+              (List._∷_
+              76
+              (List._∷_
+              105
+              (List._∷_
+              110
+              (List._∷_ 101 (List._∷_ 82 (List._∷_ 101 (List._∷_ 99 List.[]))))))))))))))))
+              (Syntax.tcons
+              (Syntax.tyInt Syntax.w64)
+              (Syntax.tcons
+              (Syntax.tyInt Syntax.w64)
+              (Syntax.tcons
+              (Syntax.tyStruct
+              (List._∷_
+              112
+              (List._∷_
+              108
+              (List._∷_
+              97
+              (List._∷_
+              99
+              (List._∷_
+              101
+              (List._∷_
+              58
+              (List._∷_
+              58
+              (List._∷_
+              82
+              (List._∷_
+              101
+              (List._∷_ 103 (List._∷_ 105 (List._∷_ 111 (List._∷_ 110 List.[])))))))))))))
+              (Syntax.tcons (Syntax.tyInt Syntax.w64) Syntax.tnil))
+              (Syntax.tcons (Syntax.tyInt Syntax.w64) Syntax.tnil))))),
         ) List.[])))))))))))))))
 
-        abbrev g42 : List.List Row.Entry
-        g42 = List._∷_ (0, Rows'.any-gone (Syntax.tyInt Syntax.w64)) (List._∷_ (
+        abbrev g45 : List.List Row.Entry
+        g45 = List._∷_ (0, Rows.any-gone (Syntax.tyInt Syntax.w64)) (List._∷_ (
           1,
-          Rows'.sslice
+          Rows.sslice
               (Referent.rtF (Referent.fInt Syntax.w8))
               (Syntax.tyRef (Syntax.named 0) Syntax.imm (Syntax.tyInt Syntax.w8))
               0,
         ) (List._∷_ (
           2,
-          Rows'.sslice
+          Rows.sslice
               (Referent.rtF (Referent.fInt Syntax.w64))
               (Syntax.tyRef (Syntax.named 1) Syntax.imm (Syntax.tyInt Syntax.w64))
               1,
-        ) (List._∷_ (3, Rows'.sc-here (Row.sInt Syntax.w64)) (List._∷_ (
+        ) (List._∷_ (3, Rows.sc-here (Row.sInt Syntax.w64)) (List._∷_ (
           4,
-          Rows'.sslice
+          Rows.sslice
               (Referent.rtF (Referent.fInt Syntax.w64))
               (Syntax.tyRef (Syntax.named 2) Syntax.imm (Syntax.tyInt Syntax.w64))
               2,
         ) (List._∷_ (
           5,
-          Rows'.sslice
+          Rows.sslice
               (Referent.rtF (Referent.fInt Syntax.w8))
               (Syntax.tyRef (Syntax.named 3) Syntax.imm (Syntax.tyInt Syntax.w8))
               3,
@@ -7385,7 +7692,7 @@ module _ (claims· : Claims) where
               (Referent.rtF (Referent.fInt Syntax.w8))
               (Syntax.tyRef (Syntax.named 7) Syntax.mut (Syntax.tyInt Syntax.w8))
               7
-              14
+              15
               (Row.lease (κs .1 .1 .1 .1 .1 .1 .1 .0) (qs .1 .1 .1 .1 .1 .1 .1 .0)),
         ) (List._∷_ (
           10,
@@ -7393,41 +7700,100 @@ module _ (claims· : Claims) where
               (Referent.rtF (Referent.fInt Syntax.w8))
               (Syntax.tyRef (Syntax.named 8) Syntax.mut (Syntax.tyInt Syntax.w8))
               8
-              15
+              16
               (Row.lease (κs .1 .1 .1 .1 .1 .1 .1 .1 .0) (qs .1 .1 .1 .1 .1 .1 .1 .1 .0)),
         ) (List._∷_ (
           11,
-          Rows.arrF Elem.R 1024 0,
-        ) (List._∷_ (12, Rows'.whole (Declared.row LineRec.the-type)) (List._∷_ (
+          Mut.mslice
+              Elem.R
+              (Syntax.tyRef
+              (Syntax.named 9)
+              Syntax.mut
+              Elem.ty)
+              9,
+        ) (List._∷_ (12, Rows.sc-here (Row.sInt Syntax.w64)) (List._∷_ (
           13,
-          Rows'.sc-here (Row.sInt Syntax.w64),
-        ) (List._∷_ (14, Rows'.sc-here (Row.sInt Syntax.w64)) (List._∷_ (
+          Rows.sc-here (Row.sInt Syntax.w64),
+        ) (List._∷_ (14, Rows.sc-here (Row.sInt Syntax.w64)) (List._∷_ (
           15,
-          Rows'.sc-here (Row.sInt Syntax.w64),
+          Rows.any-gone
+              (Syntax.tyStruct
+              (List._∷_
+              114
+              (List._∷_
+              101
+              (List._∷_
+              99
+              (List._∷_
+              111
+              (List._∷_
+              114
+              (List._∷_
+              100
+              (List._∷_
+              115
+              (List._∷_
+              58
+              (List._∷_
+              58
+              (List._∷_
+              76
+              (List._∷_
+              105
+              (List._∷_
+              110
+              (List._∷_ 101 (List._∷_ 82 (List._∷_ 101 (List._∷_ 99 List.[]))))))))))))))))
+              (Syntax.tcons
+              (Syntax.tyInt Syntax.w64)
+              (Syntax.tcons
+              (Syntax.tyInt Syntax.w64)
+              (Syntax.tcons
+              (Syntax.tyStruct
+              (List._∷_
+              112
+              (List._∷_
+              108
+              (List._∷_
+              97
+              (List._∷_
+              99
+              (List._∷_
+              101
+              (List._∷_
+              58
+              (List._∷_
+              58
+              (List._∷_
+              82
+              (List._∷_
+              101
+              (List._∷_ 103 (List._∷_ 105 (List._∷_ 111 (List._∷_ 110 List.[])))))))))))))
+              (Syntax.tcons (Syntax.tyInt Syntax.w64) Syntax.tnil))
+              (Syntax.tcons (Syntax.tyInt Syntax.w64) Syntax.tnil))))),
         ) List.[])))))))))))))))
 
-        abbrev g44 : List.List Row.Entry
-        g44 = List._∷_ (0, Rows'.any-gone (Syntax.tyInt Syntax.w64)) (List._∷_ (
+        abbrev g47 : List.List Row.Entry
+        g47 = List._∷_ (0, Rows.any-gone (Syntax.tyInt Syntax.w64)) (List._∷_ (
           1,
-          Rows'.sslice
+          Rows.sslice
               (Referent.rtF (Referent.fInt Syntax.w8))
               (Syntax.tyRef (Syntax.named 0) Syntax.imm (Syntax.tyInt Syntax.w8))
               0,
         ) (List._∷_ (
           2,
-          Rows'.sslice
+          Rows.sslice
               (Referent.rtF (Referent.fInt Syntax.w64))
               (Syntax.tyRef (Syntax.named 1) Syntax.imm (Syntax.tyInt Syntax.w64))
               1,
-        ) (List._∷_ (3, Rows'.sc-here (Row.sInt Syntax.w64)) (List._∷_ (
+        ) (List._∷_ (3, Rows.sc-here (Row.sInt Syntax.w64)) (List._∷_ (
           4,
-          Rows'.sslice
+          Rows.sslice
               (Referent.rtF (Referent.fInt Syntax.w64))
               (Syntax.tyRef (Syntax.named 2) Syntax.imm (Syntax.tyInt Syntax.w64))
               2,
         ) (List._∷_ (
           5,
-          Rows'.sslice
+          Rows.sslice
               (Referent.rtF (Referent.fInt Syntax.w8))
               (Syntax.tyRef (Syntax.named 3) Syntax.imm (Syntax.tyInt Syntax.w8))
               3,
@@ -7461,22 +7827,81 @@ module _ (claims· : Claims) where
               (Referent.rtF (Referent.fInt Syntax.w8))
               (Syntax.tyRef (Syntax.named 8) Syntax.mut (Syntax.tyInt Syntax.w8))
               8
-              15
+              16
               (Row.lease (κs .1 .1 .1 .1 .1 .1 .1 .1 .0) (qs .1 .1 .1 .1 .1 .1 .1 .1 .0)),
         ) (List._∷_ (
           11,
-          Rows.arrF Elem.R 1024 0,
-        ) (List._∷_ (12, Rows'.whole (Declared.row LineRec.the-type)) (List._∷_ (
+          Mut.mslice
+              Elem.R
+              (Syntax.tyRef
+              (Syntax.named 9)
+              Syntax.mut
+              Elem.ty)
+              9,
+        ) (List._∷_ (12, Rows.sc-here (Row.sInt Syntax.w64)) (List._∷_ (
           13,
-          Rows'.sc-here (Row.sInt Syntax.w64),
-        ) (List._∷_ (14, Rows'.sc-here (Row.sInt Syntax.w64)) (List._∷_ (
+          Rows.sc-here (Row.sInt Syntax.w64),
+        ) (List._∷_ (14, Rows.sc-here (Row.sInt Syntax.w64)) (List._∷_ (
           15,
-          Rows'.sc-here (Row.sInt Syntax.w64),
+          Rows.any-gone
+              (Syntax.tyStruct
+              (List._∷_
+              114
+              (List._∷_
+              101
+              (List._∷_
+              99
+              (List._∷_
+              111
+              (List._∷_
+              114
+              (List._∷_
+              100
+              (List._∷_
+              115
+              (List._∷_
+              58
+              (List._∷_
+              58
+              (List._∷_
+              76
+              (List._∷_
+              105
+              (List._∷_
+              110
+              (List._∷_ 101 (List._∷_ 82 (List._∷_ 101 (List._∷_ 99 List.[]))))))))))))))))
+              (Syntax.tcons
+              (Syntax.tyInt Syntax.w64)
+              (Syntax.tcons
+              (Syntax.tyInt Syntax.w64)
+              (Syntax.tcons
+              (Syntax.tyStruct
+              (List._∷_
+              112
+              (List._∷_
+              108
+              (List._∷_
+              97
+              (List._∷_
+              99
+              (List._∷_
+              101
+              (List._∷_
+              58
+              (List._∷_
+              58
+              (List._∷_
+              82
+              (List._∷_
+              101
+              (List._∷_ 103 (List._∷_ 105 (List._∷_ 111 (List._∷_ 110 List.[])))))))))))))
+              (Syntax.tcons (Syntax.tyInt Syntax.w64) Syntax.tnil))
+              (Syntax.tcons (Syntax.tyInt Syntax.w64) Syntax.tnil))))),
         ) List.[])))))))))))))))
 
         abbrev G0 : Row.Cx
         G0 = record {
-          locals = List._++_ t0 t1;
+          locals = List._++_ t0 (List._++_ t1 t2);
           slots = List._∷_
               (Row.lease (κs .0) (qs .0))
               (List._∷_
@@ -7496,19 +7921,21 @@ module _ (claims· : Claims) where
               (List._∷_
               (Row.lease (κs .1 .1 .1 .1 .1 .1 .1 .1 .0) (qs .1 .1 .1 .1 .1 .1 .1 .1 .0))
               (List._∷_
-              Row.off
+              (Row.lease (κs .1 .1 .1 .1 .1 .1 .1 .1 .1 .0) (qs .1 .1 .1 .1 .1 .1 .1 .1 .1 .0))
               (List._∷_
               Row.off
               (List._∷_
               Row.off
               (List._∷_
               Row.off
-              (List._∷_ Row.off (List._∷_ Row.off (List._∷_ Row.off List.[])))))))))))))));
+              (List._∷_
+              Row.off
+              (List._∷_ Row.off (List._∷_ Row.off (List._∷_ Row.off List.[]))))))))))))))));
         }
 
         abbrev G1 : Row.Cx
         G1 = record {
-          locals = List._++_ t2 t1;
+          locals = List._++_ t3 (List._++_ t1 t2);
           slots = List._∷_
               (Row.lease (κs .0) (qs .0))
               (List._∷_
@@ -7528,19 +7955,21 @@ module _ (claims· : Claims) where
               (List._∷_
               (Row.lease (κs .1 .1 .1 .1 .1 .1 .1 .1 .0) (qs .1 .1 .1 .1 .1 .1 .1 .1 .0))
               (List._∷_
-              Row.off
+              (Row.lease (κs .1 .1 .1 .1 .1 .1 .1 .1 .1 .0) (qs .1 .1 .1 .1 .1 .1 .1 .1 .1 .0))
               (List._∷_
               Row.off
               (List._∷_
               Row.off
               (List._∷_
               Row.off
-              (List._∷_ Row.off (List._∷_ Row.off (List._∷_ Row.off List.[])))))))))))))));
+              (List._∷_
+              Row.off
+              (List._∷_ Row.off (List._∷_ Row.off (List._∷_ Row.off List.[]))))))))))))))));
         }
 
         abbrev G2 : Row.Cx
         G2 = record {
-          locals = List._++_ t0 t1;
+          locals = List._++_ t0 (List._++_ t1 t2);
           slots = List._∷_
               (Row.lease (κs .0) (qs .0))
               (List._∷_
@@ -7560,19 +7989,21 @@ module _ (claims· : Claims) where
               (List._∷_
               (Row.lease (κs .1 .1 .1 .1 .1 .1 .1 .1 .0) (qs .1 .1 .1 .1 .1 .1 .1 .1 .0))
               (List._∷_
-              Row.off
+              (Row.lease (κs .1 .1 .1 .1 .1 .1 .1 .1 .1 .0) (qs .1 .1 .1 .1 .1 .1 .1 .1 .1 .0))
               (List._∷_
               Row.off
               (List._∷_
               Row.off
               (List._∷_
               Row.off
-              (List._∷_ Row.off (List._∷_ Row.off (List._∷_ Row.off List.[])))))))))))))));
+              (List._∷_
+              Row.off
+              (List._∷_ Row.off (List._∷_ Row.off (List._∷_ Row.off List.[]))))))))))))))));
         }
 
         abbrev G3 : Row.Cx
         G3 = record {
-          locals = List._++_ t0 t1;
+          locals = List._++_ t0 (List._++_ t1 t2);
           slots = List._∷_
               (Row.lease (κs .0) (qs .0))
               (List._∷_
@@ -7592,19 +8023,21 @@ module _ (claims· : Claims) where
               (List._∷_
               (Row.lease (κs .1 .1 .1 .1 .1 .1 .1 .1 .0) (qs .1 .1 .1 .1 .1 .1 .1 .1 .0))
               (List._∷_
-              Row.off
+              (Row.lease (κs .1 .1 .1 .1 .1 .1 .1 .1 .1 .0) (qs .1 .1 .1 .1 .1 .1 .1 .1 .1 .0))
               (List._∷_
               Row.off
               (List._∷_
               Row.off
               (List._∷_
               Row.off
-              (List._∷_ Row.off (List._∷_ Row.off (List._∷_ Row.off List.[])))))))))))))));
+              (List._∷_
+              Row.off
+              (List._∷_ Row.off (List._∷_ Row.off (List._∷_ Row.off List.[]))))))))))))))));
         }
 
         abbrev G4 : Row.Cx
         G4 = record {
-          locals = List._++_ t0 t1;
+          locals = List._++_ t0 (List._++_ t1 t2);
           slots = List._∷_
               (Row.lease (κs .0) (qs .0))
               (List._∷_
@@ -7624,19 +8057,21 @@ module _ (claims· : Claims) where
               (List._∷_
               (Row.lease (κs .1 .1 .1 .1 .1 .1 .1 .1 .0) (qs .1 .1 .1 .1 .1 .1 .1 .1 .0))
               (List._∷_
-              Row.off
+              (Row.lease (κs .1 .1 .1 .1 .1 .1 .1 .1 .1 .0) (qs .1 .1 .1 .1 .1 .1 .1 .1 .1 .0))
               (List._∷_
               Row.off
               (List._∷_
               Row.off
               (List._∷_
               Row.off
-              (List._∷_ Row.off (List._∷_ Row.off (List._∷_ Row.off List.[])))))))))))))));
+              (List._∷_
+              Row.off
+              (List._∷_ Row.off (List._∷_ Row.off (List._∷_ Row.off List.[]))))))))))))))));
         }
 
         abbrev G5 : Row.Cx
         G5 = record {
-          locals = List._++_ t0 t1;
+          locals = List._++_ t0 (List._++_ t1 t2);
           slots = List._∷_
               (Row.lease (κs .0) (qs .0))
               (List._∷_
@@ -7656,19 +8091,21 @@ module _ (claims· : Claims) where
               (List._∷_
               (Row.lease (κs .1 .1 .1 .1 .1 .1 .1 .1 .0) (qs .1 .1 .1 .1 .1 .1 .1 .1 .0))
               (List._∷_
-              Row.off
+              (Row.lease (κs .1 .1 .1 .1 .1 .1 .1 .1 .1 .0) (qs .1 .1 .1 .1 .1 .1 .1 .1 .1 .0))
               (List._∷_
               Row.off
               (List._∷_
               Row.off
               (List._∷_
               Row.off
-              (List._∷_ Row.off (List._∷_ Row.off (List._∷_ Row.off List.[])))))))))))))));
+              (List._∷_
+              Row.off
+              (List._∷_ Row.off (List._∷_ Row.off (List._∷_ Row.off List.[]))))))))))))))));
         }
 
         abbrev G6 : Row.Cx
         G6 = record {
-          locals = List._++_ t0 t1;
+          locals = List._++_ t0 (List._++_ t1 t2);
           slots = List._∷_
               (Row.lease (κs .0) (qs .0))
               (List._∷_
@@ -7688,19 +8125,21 @@ module _ (claims· : Claims) where
               (List._∷_
               (Row.lease (κs .1 .1 .1 .1 .1 .1 .1 .1 .0) (qs .1 .1 .1 .1 .1 .1 .1 .1 .0))
               (List._∷_
-              Row.off
+              (Row.lease (κs .1 .1 .1 .1 .1 .1 .1 .1 .1 .0) (qs .1 .1 .1 .1 .1 .1 .1 .1 .1 .0))
               (List._∷_
               Row.off
               (List._∷_
               Row.off
               (List._∷_
               Row.off
-              (List._∷_ Row.off (List._∷_ Row.off (List._∷_ Row.off List.[])))))))))))))));
+              (List._∷_
+              Row.off
+              (List._∷_ Row.off (List._∷_ Row.off (List._∷_ Row.off List.[]))))))))))))))));
         }
 
         abbrev G7 : Row.Cx
         G7 = record {
-          locals = List._++_ t0 t1;
+          locals = List._++_ t0 (List._++_ t1 t2);
           slots = List._∷_
               (Row.lease (κs .0) (qs .0))
               (List._∷_
@@ -7720,19 +8159,21 @@ module _ (claims· : Claims) where
               (List._∷_
               (Row.lease (κs .1 .1 .1 .1 .1 .1 .1 .1 .0) (qs .1 .1 .1 .1 .1 .1 .1 .1 .0))
               (List._∷_
-              Row.off
+              (Row.lease (κs .1 .1 .1 .1 .1 .1 .1 .1 .1 .0) (qs .1 .1 .1 .1 .1 .1 .1 .1 .1 .0))
               (List._∷_
               Row.off
               (List._∷_
               Row.off
               (List._∷_
               Row.off
-              (List._∷_ Row.off (List._∷_ Row.off (List._∷_ Row.off List.[])))))))))))))));
+              (List._∷_
+              Row.off
+              (List._∷_ Row.off (List._∷_ Row.off (List._∷_ Row.off List.[]))))))))))))))));
         }
 
         abbrev G8 : Row.Cx
         G8 = record {
-          locals = List._++_ t0 t1;
+          locals = List._++_ t0 (List._++_ t1 t2);
           slots = List._∷_
               (Row.lease (κs .0) (qs .0))
               (List._∷_
@@ -7752,19 +8193,21 @@ module _ (claims· : Claims) where
               (List._∷_
               (Row.lease (κs .1 .1 .1 .1 .1 .1 .1 .1 .0) (qs .1 .1 .1 .1 .1 .1 .1 .1 .0))
               (List._∷_
-              Row.off
+              (Row.lease (κs .1 .1 .1 .1 .1 .1 .1 .1 .1 .0) (qs .1 .1 .1 .1 .1 .1 .1 .1 .1 .0))
               (List._∷_
               Row.off
               (List._∷_
               Row.off
               (List._∷_
               Row.off
-              (List._∷_ Row.off (List._∷_ Row.off (List._∷_ Row.off List.[])))))))))))))));
+              (List._∷_
+              Row.off
+              (List._∷_ Row.off (List._∷_ Row.off (List._∷_ Row.off List.[]))))))))))))))));
         }
 
         abbrev G9 : Row.Cx
         G9 = record {
-          locals = List._++_ t0 t1;
+          locals = List._++_ t0 (List._++_ t1 t2);
           slots = List._∷_
               (Row.lease (κs .0) (qs .0))
               (List._∷_
@@ -7784,19 +8227,21 @@ module _ (claims· : Claims) where
               (List._∷_
               (Row.lease (κs .1 .1 .1 .1 .1 .1 .1 .1 .0) (qs .1 .1 .1 .1 .1 .1 .1 .1 .0))
               (List._∷_
-              Row.off
+              (Row.lease (κs .1 .1 .1 .1 .1 .1 .1 .1 .1 .0) (qs .1 .1 .1 .1 .1 .1 .1 .1 .1 .0))
               (List._∷_
               Row.off
               (List._∷_
               Row.off
               (List._∷_
               Row.off
-              (List._∷_ Row.off (List._∷_ Row.off (List._∷_ Row.off List.[])))))))))))))));
+              (List._∷_
+              Row.off
+              (List._∷_ Row.off (List._∷_ Row.off (List._∷_ Row.off List.[]))))))))))))))));
         }
 
         abbrev G10 : Row.Cx
         G10 = record {
-          locals = List._++_ t0 t1;
+          locals = List._++_ t0 (List._++_ t1 t2);
           slots = List._∷_
               (Row.lease (κs .0) (qs .0))
               (List._∷_
@@ -7816,19 +8261,21 @@ module _ (claims· : Claims) where
               (List._∷_
               (Row.lease (κs .1 .1 .1 .1 .1 .1 .1 .1 .0) (qs .1 .1 .1 .1 .1 .1 .1 .1 .0))
               (List._∷_
-              Row.off
+              (Row.lease (κs .1 .1 .1 .1 .1 .1 .1 .1 .1 .0) (qs .1 .1 .1 .1 .1 .1 .1 .1 .1 .0))
               (List._∷_
               Row.off
               (List._∷_
               Row.off
               (List._∷_
               Row.off
-              (List._∷_ Row.off (List._∷_ Row.off (List._∷_ Row.off List.[])))))))))))))));
+              (List._∷_
+              Row.off
+              (List._∷_ Row.off (List._∷_ Row.off (List._∷_ Row.off List.[]))))))))))))))));
         }
 
         abbrev G11 : Row.Cx
         G11 = record {
-          locals = List._++_ t0 t3;
+          locals = List._++_ t4 (List._++_ t1 t2);
           slots = List._∷_
               (Row.lease (κs .0) (qs .0))
               (List._∷_
@@ -7848,19 +8295,21 @@ module _ (claims· : Claims) where
               (List._∷_
               (Row.lease (κs .1 .1 .1 .1 .1 .1 .1 .1 .0) (qs .1 .1 .1 .1 .1 .1 .1 .1 .0))
               (List._∷_
-              Row.off
+              (Row.lease (κs .1 .1 .1 .1 .1 .1 .1 .1 .1 .0) (qs .1 .1 .1 .1 .1 .1 .1 .1 .1 .0))
               (List._∷_
               Row.off
               (List._∷_
               Row.off
               (List._∷_
               Row.off
-              (List._∷_ Row.off (List._∷_ Row.off (List._∷_ Row.off List.[])))))))))))))));
+              (List._∷_
+              Row.off
+              (List._∷_ Row.off (List._∷_ Row.off (List._∷_ Row.off List.[]))))))))))))))));
         }
 
         abbrev G12 : Row.Cx
         G12 = record {
-          locals = List._++_ t4 t3;
+          locals = List._++_ t5 (List._++_ t1 t2);
           slots = List._∷_
               (Row.lease (κs .0) (qs .0))
               (List._∷_
@@ -7880,19 +8329,21 @@ module _ (claims· : Claims) where
               (List._∷_
               (Row.lease (κs .1 .1 .1 .1 .1 .1 .1 .1 .0) (qs .1 .1 .1 .1 .1 .1 .1 .1 .0))
               (List._∷_
-              Row.off
+              (Row.lease (κs .1 .1 .1 .1 .1 .1 .1 .1 .1 .0) (qs .1 .1 .1 .1 .1 .1 .1 .1 .1 .0))
               (List._∷_
               Row.off
               (List._∷_
               Row.off
               (List._∷_
               Row.off
-              (List._∷_ Row.off (List._∷_ Row.off (List._∷_ Row.off List.[])))))))))))))));
+              (List._∷_
+              Row.off
+              (List._∷_ Row.off (List._∷_ Row.off (List._∷_ Row.off List.[]))))))))))))))));
         }
 
         abbrev G13 : Row.Cx
         G13 = record {
-          locals = List._++_ t4 t1;
+          locals = List._++_ t6 (List._++_ t1 t2);
           slots = List._∷_
               (Row.lease (κs .0) (qs .0))
               (List._∷_
@@ -7912,19 +8363,21 @@ module _ (claims· : Claims) where
               (List._∷_
               (Row.lease (κs .1 .1 .1 .1 .1 .1 .1 .1 .0) (qs .1 .1 .1 .1 .1 .1 .1 .1 .0))
               (List._∷_
-              Row.off
+              (Row.lease (κs .1 .1 .1 .1 .1 .1 .1 .1 .1 .0) (qs .1 .1 .1 .1 .1 .1 .1 .1 .1 .0))
               (List._∷_
               Row.off
               (List._∷_
               Row.off
               (List._∷_
               Row.off
-              (List._∷_ Row.off (List._∷_ Row.off (List._∷_ Row.off List.[])))))))))))))));
+              (List._∷_
+              Row.off
+              (List._∷_ Row.off (List._∷_ Row.off (List._∷_ Row.off List.[]))))))))))))))));
         }
 
         abbrev G14 : Row.Cx
         G14 = record {
-          locals = List._++_ t5 t1;
+          locals = List._++_ t6 (List._++_ t1 t2);
           slots = List._∷_
               (Row.lease (κs .0) (qs .0))
               (List._∷_
@@ -7944,19 +8397,21 @@ module _ (claims· : Claims) where
               (List._∷_
               (Row.lease (κs .1 .1 .1 .1 .1 .1 .1 .1 .0) (qs .1 .1 .1 .1 .1 .1 .1 .1 .0))
               (List._∷_
-              Row.off
+              (Row.lease (κs .1 .1 .1 .1 .1 .1 .1 .1 .1 .0) (qs .1 .1 .1 .1 .1 .1 .1 .1 .1 .0))
               (List._∷_
               Row.off
               (List._∷_
               Row.off
               (List._∷_
               Row.off
-              (List._∷_ Row.off (List._∷_ Row.off (List._∷_ Row.off List.[])))))))))))))));
+              (List._∷_
+              Row.off
+              (List._∷_ Row.off (List._∷_ Row.off (List._∷_ Row.off List.[]))))))))))))))));
         }
 
         abbrev G15 : Row.Cx
         G15 = record {
-          locals = List._++_ t6 t1;
+          locals = List._++_ t6 (List._++_ t7 t2);
           slots = List._∷_
               (Row.lease (κs .0) (qs .0))
               (List._∷_
@@ -7976,19 +8431,21 @@ module _ (claims· : Claims) where
               (List._∷_
               (Row.lease (κs .1 .1 .1 .1 .1 .1 .1 .1 .0) (qs .1 .1 .1 .1 .1 .1 .1 .1 .0))
               (List._∷_
-              Row.off
+              (Row.lease (κs .1 .1 .1 .1 .1 .1 .1 .1 .1 .0) (qs .1 .1 .1 .1 .1 .1 .1 .1 .1 .0))
               (List._∷_
               Row.off
               (List._∷_
               Row.off
               (List._∷_
               Row.off
-              (List._∷_ Row.off (List._∷_ Row.off (List._∷_ Row.off List.[])))))))))))))));
+              (List._∷_
+              Row.off
+              (List._∷_ Row.off (List._∷_ Row.off (List._∷_ Row.off List.[]))))))))))))))));
         }
 
         abbrev G16 : Row.Cx
         G16 = record {
-          locals = List._++_ t7 t1;
+          locals = List._++_ t6 (List._++_ t1 t2);
           slots = List._∷_
               (Row.lease (κs .0) (qs .0))
               (List._∷_
@@ -8008,19 +8465,21 @@ module _ (claims· : Claims) where
               (List._∷_
               (Row.lease (κs .1 .1 .1 .1 .1 .1 .1 .1 .0) (qs .1 .1 .1 .1 .1 .1 .1 .1 .0))
               (List._∷_
-              Row.off
+              (Row.lease (κs .1 .1 .1 .1 .1 .1 .1 .1 .1 .0) (qs .1 .1 .1 .1 .1 .1 .1 .1 .1 .0))
               (List._∷_
               Row.off
               (List._∷_
               Row.off
               (List._∷_
               Row.off
-              (List._∷_ Row.off (List._∷_ Row.off (List._∷_ Row.off List.[])))))))))))))));
+              (List._∷_
+              Row.off
+              (List._∷_ Row.off (List._∷_ Row.off (List._∷_ Row.off List.[]))))))))))))))));
         }
 
         abbrev G17 : Row.Cx
         G17 = record {
-          locals = List._++_ t8 t1;
+          locals = List._++_ t6 (List._++_ t1 t2);
           slots = List._∷_
               (Row.lease (κs .0) (qs .0))
               (List._∷_
@@ -8040,19 +8499,21 @@ module _ (claims· : Claims) where
               (List._∷_
               (Row.lease (κs .1 .1 .1 .1 .1 .1 .1 .1 .0) (qs .1 .1 .1 .1 .1 .1 .1 .1 .0))
               (List._∷_
-              Row.off
+              (Row.lease (κs .1 .1 .1 .1 .1 .1 .1 .1 .1 .0) (qs .1 .1 .1 .1 .1 .1 .1 .1 .1 .0))
               (List._∷_
               Row.off
               (List._∷_
               Row.off
               (List._∷_
               Row.off
-              (List._∷_ Row.off (List._∷_ Row.off (List._∷_ Row.off List.[])))))))))))))));
+              (List._∷_
+              Row.off
+              (List._∷_ Row.off (List._∷_ Row.off (List._∷_ Row.off List.[]))))))))))))))));
         }
 
         abbrev G18 : Row.Cx
         G18 = record {
-          locals = List._++_ t9 t1;
+          locals = List._++_ t6 (List._++_ t1 t2);
           slots = List._∷_
               (Row.lease (κs .0) (qs .0))
               (List._∷_
@@ -8072,19 +8533,21 @@ module _ (claims· : Claims) where
               (List._∷_
               (Row.lease (κs .1 .1 .1 .1 .1 .1 .1 .1 .0) (qs .1 .1 .1 .1 .1 .1 .1 .1 .0))
               (List._∷_
-              Row.off
+              (Row.lease (κs .1 .1 .1 .1 .1 .1 .1 .1 .1 .0) (qs .1 .1 .1 .1 .1 .1 .1 .1 .1 .0))
               (List._∷_
               Row.off
               (List._∷_
               Row.off
               (List._∷_
               Row.off
-              (List._∷_ Row.off (List._∷_ Row.off (List._∷_ Row.off List.[])))))))))))))));
+              (List._∷_
+              Row.off
+              (List._∷_ Row.off (List._∷_ Row.off (List._∷_ Row.off List.[]))))))))))))))));
         }
 
         abbrev G19 : Row.Cx
         G19 = record {
-          locals = List._++_ t8 t10;
+          locals = List._++_ t6 (List._++_ t1 t2);
           slots = List._∷_
               (Row.lease (κs .0) (qs .0))
               (List._∷_
@@ -8104,19 +8567,21 @@ module _ (claims· : Claims) where
               (List._∷_
               (Row.lease (κs .1 .1 .1 .1 .1 .1 .1 .1 .0) (qs .1 .1 .1 .1 .1 .1 .1 .1 .0))
               (List._∷_
-              Row.off
+              (Row.lease (κs .1 .1 .1 .1 .1 .1 .1 .1 .1 .0) (qs .1 .1 .1 .1 .1 .1 .1 .1 .1 .0))
+              (List._∷_
+              Row.alive
               (List._∷_
               Row.off
               (List._∷_
               Row.off
               (List._∷_
               Row.off
-              (List._∷_ Row.off (List._∷_ Row.off (List._∷_ Row.off List.[])))))))))))))));
+              (List._∷_ Row.off (List._∷_ Row.off (List._∷_ Row.off List.[]))))))))))))))));
         }
 
         abbrev G20 : Row.Cx
         G20 = record {
-          locals = List._++_ t8 t1;
+          locals = List._++_ g8 (List._++_ t9 t2);
           slots = List._∷_
               (Row.lease (κs .0) (qs .0))
               (List._∷_
@@ -8138,17 +8603,19 @@ module _ (claims· : Claims) where
               (List._∷_
               Row.off
               (List._∷_
-              Row.off
+              Row.alive
               (List._∷_
               Row.off
               (List._∷_
               Row.off
-              (List._∷_ Row.off (List._∷_ Row.off (List._∷_ Row.off List.[])))))))))))))));
+              (List._∷_
+              Row.off
+              (List._∷_ Row.off (List._∷_ Row.off (List._∷_ Row.off List.[]))))))))))))))));
         }
 
         abbrev G21 : Row.Cx
         G21 = record {
-          locals = List._++_ t8 t1;
+          locals = List._++_ g8 (List._++_ t10 t2);
           slots = List._∷_
               (Row.lease (κs .0) (qs .0))
               (List._∷_
@@ -8170,17 +8637,19 @@ module _ (claims· : Claims) where
               (List._∷_
               Row.off
               (List._∷_
-              Row.off
+              Row.alive
               (List._∷_
               Row.off
               (List._∷_
               Row.off
-              (List._∷_ Row.off (List._∷_ Row.off (List._∷_ Row.off List.[])))))))))))))));
+              (List._∷_
+              Row.off
+              (List._∷_ Row.off (List._∷_ Row.off (List._∷_ Row.off List.[]))))))))))))))));
         }
 
         abbrev G22 : Row.Cx
         G22 = record {
-          locals = List._++_ t11 t10;
+          locals = List._++_ g8 (List._++_ t11 t2);
           slots = List._∷_
               (Row.lease (κs .0) (qs .0))
               (List._∷_
@@ -8202,17 +8671,19 @@ module _ (claims· : Claims) where
               (List._∷_
               Row.off
               (List._∷_
-              Row.off
+              Row.alive
               (List._∷_
               Row.off
               (List._∷_
               Row.off
-              (List._∷_ Row.off (List._∷_ Row.off (List._∷_ Row.off List.[])))))))))))))));
+              (List._∷_
+              Row.off
+              (List._∷_ Row.off (List._∷_ Row.off (List._∷_ Row.off List.[]))))))))))))))));
         }
 
         abbrev G23 : Row.Cx
         G23 = record {
-          locals = List._++_ t9 t10;
+          locals = List._++_ g8 (List._++_ t11 t2);
           slots = List._∷_
               (Row.lease (κs .0) (qs .0))
               (List._∷_
@@ -8234,17 +8705,19 @@ module _ (claims· : Claims) where
               (List._∷_
               Row.off
               (List._∷_
-              Row.off
+              Row.dead
               (List._∷_
               Row.off
               (List._∷_
               Row.off
-              (List._∷_ Row.off (List._∷_ Row.off (List._∷_ Row.off List.[])))))))))))))));
+              (List._∷_
+              Row.off
+              (List._∷_ Row.off (List._∷_ Row.off (List._∷_ Row.off List.[]))))))))))))))));
         }
 
         abbrev G24 : Row.Cx
         G24 = record {
-          locals = List._++_ t9 t1;
+          locals = List._++_ t6 (List._++_ t1 t2);
           slots = List._∷_
               (Row.lease (κs .0) (qs .0))
               (List._∷_
@@ -8264,19 +8737,21 @@ module _ (claims· : Claims) where
               (List._∷_
               (Row.lease (κs .1 .1 .1 .1 .1 .1 .1 .1 .0) (qs .1 .1 .1 .1 .1 .1 .1 .1 .0))
               (List._∷_
-              Row.off
+              (Row.lease (κs .1 .1 .1 .1 .1 .1 .1 .1 .1 .0) (qs .1 .1 .1 .1 .1 .1 .1 .1 .1 .0))
+              (List._∷_
+              Row.dead
               (List._∷_
               Row.off
               (List._∷_
               Row.off
               (List._∷_
               Row.off
-              (List._∷_ Row.off (List._∷_ Row.off (List._∷_ Row.off List.[])))))))))))))));
+              (List._∷_ Row.off (List._∷_ Row.off (List._∷_ Row.off List.[]))))))))))))))));
         }
 
         abbrev G25 : Row.Cx
         G25 = record {
-          locals = List._++_ t8 t1;
+          locals = List._++_ t6 (List._++_ t1 t2);
           slots = List._∷_
               (Row.lease (κs .0) (qs .0))
               (List._∷_
@@ -8296,19 +8771,21 @@ module _ (claims· : Claims) where
               (List._∷_
               (Row.lease (κs .1 .1 .1 .1 .1 .1 .1 .1 .0) (qs .1 .1 .1 .1 .1 .1 .1 .1 .0))
               (List._∷_
-              Row.alive
+              (Row.lease (κs .1 .1 .1 .1 .1 .1 .1 .1 .1 .0) (qs .1 .1 .1 .1 .1 .1 .1 .1 .1 .0))
               (List._∷_
               Row.off
               (List._∷_
               Row.off
               (List._∷_
               Row.off
-              (List._∷_ Row.off (List._∷_ Row.off (List._∷_ Row.off List.[])))))))))))))));
+              (List._∷_
+              Row.off
+              (List._∷_ Row.off (List._∷_ Row.off (List._∷_ Row.off List.[]))))))))))))))));
         }
 
         abbrev G26 : Row.Cx
         G26 = record {
-          locals = List._++_ t12 t13;
+          locals = List._++_ t6 (List._++_ t1 t2);
           slots = List._∷_
               (Row.lease (κs .0) (qs .0))
               (List._∷_
@@ -8328,19 +8805,21 @@ module _ (claims· : Claims) where
               (List._∷_
               (Row.lease (κs .1 .1 .1 .1 .1 .1 .1 .1 .0) (qs .1 .1 .1 .1 .1 .1 .1 .1 .0))
               (List._∷_
+              (Row.lease (κs .1 .1 .1 .1 .1 .1 .1 .1 .1 .0) (qs .1 .1 .1 .1 .1 .1 .1 .1 .1 .0))
+              (List._∷_
+              Row.off
+              (List._∷_
               Row.alive
               (List._∷_
               Row.off
               (List._∷_
               Row.off
-              (List._∷_
-              Row.off
-              (List._∷_ Row.off (List._∷_ Row.off (List._∷_ Row.off List.[])))))))))))))));
+              (List._∷_ Row.off (List._∷_ Row.off (List._∷_ Row.off List.[]))))))))))))))));
         }
 
         abbrev G27 : Row.Cx
         G27 = record {
-          locals = List._++_ t12 t14;
+          locals = List._++_ g12 (List._++_ t13 t2);
           slots = List._∷_
               (Row.lease (κs .0) (qs .0))
               (List._∷_
@@ -8360,19 +8839,21 @@ module _ (claims· : Claims) where
               (List._∷_
               (Row.lease (κs .1 .1 .1 .1 .1 .1 .1 .1 .0) (qs .1 .1 .1 .1 .1 .1 .1 .1 .0))
               (List._∷_
+              Row.off
+              (List._∷_
+              Row.off
+              (List._∷_
               Row.alive
               (List._∷_
               Row.off
               (List._∷_
               Row.off
-              (List._∷_
-              Row.off
-              (List._∷_ Row.off (List._∷_ Row.off (List._∷_ Row.off List.[])))))))))))))));
+              (List._∷_ Row.off (List._∷_ Row.off (List._∷_ Row.off List.[]))))))))))))))));
         }
 
         abbrev G28 : Row.Cx
         G28 = record {
-          locals = List._++_ t12 t15;
+          locals = List._++_ g12 (List._++_ t14 t2);
           slots = List._∷_
               (Row.lease (κs .0) (qs .0))
               (List._∷_
@@ -8392,19 +8873,21 @@ module _ (claims· : Claims) where
               (List._∷_
               (Row.lease (κs .1 .1 .1 .1 .1 .1 .1 .1 .0) (qs .1 .1 .1 .1 .1 .1 .1 .1 .0))
               (List._∷_
+              Row.off
+              (List._∷_
+              Row.off
+              (List._∷_
               Row.alive
               (List._∷_
               Row.off
               (List._∷_
               Row.off
-              (List._∷_
-              Row.off
-              (List._∷_ Row.off (List._∷_ Row.off (List._∷_ Row.off List.[])))))))))))))));
+              (List._∷_ Row.off (List._∷_ Row.off (List._∷_ Row.off List.[]))))))))))))))));
         }
 
         abbrev G29 : Row.Cx
         G29 = record {
-          locals = List._++_ t16 t15;
+          locals = List._++_ g12 (List._++_ t15 t2);
           slots = List._∷_
               (Row.lease (κs .0) (qs .0))
               (List._∷_
@@ -8424,19 +8907,21 @@ module _ (claims· : Claims) where
               (List._∷_
               (Row.lease (κs .1 .1 .1 .1 .1 .1 .1 .1 .0) (qs .1 .1 .1 .1 .1 .1 .1 .1 .0))
               (List._∷_
+              Row.off
+              (List._∷_
+              Row.off
+              (List._∷_
               Row.alive
               (List._∷_
               Row.off
               (List._∷_
               Row.off
-              (List._∷_
-              Row.off
-              (List._∷_ Row.off (List._∷_ Row.off (List._∷_ Row.off List.[])))))))))))))));
+              (List._∷_ Row.off (List._∷_ Row.off (List._∷_ Row.off List.[]))))))))))))))));
         }
 
         abbrev G30 : Row.Cx
         G30 = record {
-          locals = List._++_ t16 t15;
+          locals = List._++_ g12 (List._++_ t16 t2);
           slots = List._∷_
               (Row.lease (κs .0) (qs .0))
               (List._∷_
@@ -8456,19 +8941,21 @@ module _ (claims· : Claims) where
               (List._∷_
               (Row.lease (κs .1 .1 .1 .1 .1 .1 .1 .1 .0) (qs .1 .1 .1 .1 .1 .1 .1 .1 .0))
               (List._∷_
-              Row.dead
-              (List._∷_
               Row.off
               (List._∷_
               Row.off
               (List._∷_
+              Row.alive
+              (List._∷_
               Row.off
-              (List._∷_ Row.off (List._∷_ Row.off (List._∷_ Row.off List.[])))))))))))))));
+              (List._∷_
+              Row.off
+              (List._∷_ Row.off (List._∷_ Row.off (List._∷_ Row.off List.[]))))))))))))))));
         }
 
         abbrev G31 : Row.Cx
         G31 = record {
-          locals = List._++_ t17 t1;
+          locals = List._++_ g12 (List._++_ t17 t2);
           slots = List._∷_
               (Row.lease (κs .0) (qs .0))
               (List._∷_
@@ -8488,19 +8975,21 @@ module _ (claims· : Claims) where
               (List._∷_
               (Row.lease (κs .1 .1 .1 .1 .1 .1 .1 .1 .0) (qs .1 .1 .1 .1 .1 .1 .1 .1 .0))
               (List._∷_
-              Row.dead
-              (List._∷_
               Row.off
               (List._∷_
               Row.off
               (List._∷_
+              Row.alive
+              (List._∷_
               Row.off
-              (List._∷_ Row.off (List._∷_ Row.off (List._∷_ Row.off List.[])))))))))))))));
+              (List._∷_
+              Row.off
+              (List._∷_ Row.off (List._∷_ Row.off (List._∷_ Row.off List.[]))))))))))))))));
         }
 
         abbrev G32 : Row.Cx
         G32 = record {
-          locals = List._++_ t17 t1;
+          locals = List._++_ g12 (List._++_ t18 t2);
           slots = List._∷_
               (Row.lease (κs .0) (qs .0))
               (List._∷_
@@ -8524,15 +9013,17 @@ module _ (claims· : Claims) where
               (List._∷_
               Row.off
               (List._∷_
+              Row.alive
+              (List._∷_
               Row.off
               (List._∷_
               Row.off
-              (List._∷_ Row.off (List._∷_ Row.off (List._∷_ Row.off List.[])))))))))))))));
+              (List._∷_ Row.off (List._∷_ Row.off (List._∷_ Row.off List.[]))))))))))))))));
         }
 
         abbrev G33 : Row.Cx
         G33 = record {
-          locals = List._++_ t17 t1;
+          locals = List._++_ g12 (List._++_ t19 t2);
           slots = List._∷_
               (Row.lease (κs .0) (qs .0))
               (List._∷_
@@ -8554,17 +9045,19 @@ module _ (claims· : Claims) where
               (List._∷_
               Row.off
               (List._∷_
+              Row.off
+              (List._∷_
               Row.alive
               (List._∷_
               Row.off
               (List._∷_
               Row.off
-              (List._∷_ Row.off (List._∷_ Row.off (List._∷_ Row.off List.[])))))))))))))));
+              (List._∷_ Row.off (List._∷_ Row.off (List._∷_ Row.off List.[]))))))))))))))));
         }
 
         abbrev G34 : Row.Cx
         G34 = record {
-          locals = List._++_ t18 t19;
+          locals = List._++_ g20 (List._++_ t19 t2);
           slots = List._∷_
               (Row.lease (κs .0) (qs .0))
               (List._∷_
@@ -8586,17 +9079,19 @@ module _ (claims· : Claims) where
               (List._∷_
               Row.off
               (List._∷_
+              Row.off
+              (List._∷_
               Row.alive
               (List._∷_
               Row.off
               (List._∷_
               Row.off
-              (List._∷_ Row.off (List._∷_ Row.off (List._∷_ Row.off List.[])))))))))))))));
+              (List._∷_ Row.off (List._∷_ Row.off (List._∷_ Row.off List.[]))))))))))))))));
         }
 
         abbrev G35 : Row.Cx
         G35 = record {
-          locals = List._++_ t18 t20;
+          locals = List._++_ g20 (List._++_ t21 t2);
           slots = List._∷_
               (Row.lease (κs .0) (qs .0))
               (List._∷_
@@ -8618,17 +9113,19 @@ module _ (claims· : Claims) where
               (List._∷_
               Row.off
               (List._∷_
+              Row.off
+              (List._∷_
               Row.alive
               (List._∷_
               Row.off
               (List._∷_
               Row.off
-              (List._∷_ Row.off (List._∷_ Row.off (List._∷_ Row.off List.[])))))))))))))));
+              (List._∷_ Row.off (List._∷_ Row.off (List._∷_ Row.off List.[]))))))))))))))));
         }
 
         abbrev G36 : Row.Cx
         G36 = record {
-          locals = List._++_ t21 t20;
+          locals = List._++_ g20 (List._++_ t1 t2);
           slots = List._∷_
               (Row.lease (κs .0) (qs .0))
               (List._∷_
@@ -8650,17 +9147,19 @@ module _ (claims· : Claims) where
               (List._∷_
               Row.off
               (List._∷_
+              Row.off
+              (List._∷_
               Row.alive
               (List._∷_
               Row.off
               (List._∷_
               Row.off
-              (List._∷_ Row.off (List._∷_ Row.off (List._∷_ Row.off List.[])))))))))))))));
+              (List._∷_ Row.off (List._∷_ Row.off (List._∷_ Row.off List.[]))))))))))))))));
         }
 
         abbrev G37 : Row.Cx
         G37 = record {
-          locals = List._++_ t21 t1;
+          locals = List._++_ g20 (List._++_ t1 t2);
           slots = List._∷_
               (Row.lease (κs .0) (qs .0))
               (List._∷_
@@ -8682,17 +9181,19 @@ module _ (claims· : Claims) where
               (List._∷_
               Row.off
               (List._∷_
-              Row.alive
+              Row.off
+              (List._∷_
+              Row.dead
               (List._∷_
               Row.off
               (List._∷_
               Row.off
-              (List._∷_ Row.off (List._∷_ Row.off (List._∷_ Row.off List.[])))))))))))))));
+              (List._∷_ Row.off (List._∷_ Row.off (List._∷_ Row.off List.[]))))))))))))))));
         }
 
         abbrev G38 : Row.Cx
         G38 = record {
-          locals = List._++_ t21 t1;
+          locals = List._++_ t22 (List._++_ t1 t2);
           slots = List._∷_
               (Row.lease (κs .0) (qs .0))
               (List._∷_
@@ -8712,6 +9213,8 @@ module _ (claims· : Claims) where
               (List._∷_
               (Row.lease (κs .1 .1 .1 .1 .1 .1 .1 .1 .0) (qs .1 .1 .1 .1 .1 .1 .1 .1 .0))
               (List._∷_
+              (Row.lease (κs .1 .1 .1 .1 .1 .1 .1 .1 .1 .0) (qs .1 .1 .1 .1 .1 .1 .1 .1 .1 .0))
+              (List._∷_
               Row.off
               (List._∷_
               Row.dead
@@ -8719,12 +9222,12 @@ module _ (claims· : Claims) where
               Row.off
               (List._∷_
               Row.off
-              (List._∷_ Row.off (List._∷_ Row.off (List._∷_ Row.off List.[])))))))))))))));
+              (List._∷_ Row.off (List._∷_ Row.off (List._∷_ Row.off List.[]))))))))))))))));
         }
 
         abbrev G39 : Row.Cx
         G39 = record {
-          locals = List._++_ t8 t1;
+          locals = List._++_ t22 (List._++_ t1 t2);
           slots = List._∷_
               (Row.lease (κs .0) (qs .0))
               (List._∷_
@@ -8744,19 +9247,21 @@ module _ (claims· : Claims) where
               (List._∷_
               (Row.lease (κs .1 .1 .1 .1 .1 .1 .1 .1 .0) (qs .1 .1 .1 .1 .1 .1 .1 .1 .0))
               (List._∷_
-              Row.off
-              (List._∷_
-              Row.dead
+              (Row.lease (κs .1 .1 .1 .1 .1 .1 .1 .1 .1 .0) (qs .1 .1 .1 .1 .1 .1 .1 .1 .1 .0))
               (List._∷_
               Row.off
               (List._∷_
               Row.off
-              (List._∷_ Row.off (List._∷_ Row.off (List._∷_ Row.off List.[])))))))))))))));
+              (List._∷_
+              Row.off
+              (List._∷_
+              Row.off
+              (List._∷_ Row.off (List._∷_ Row.off (List._∷_ Row.off List.[]))))))))))))))));
         }
 
         abbrev G40 : Row.Cx
         G40 = record {
-          locals = List._++_ t8 t1;
+          locals = List._++_ t22 (List._++_ t1 t2);
           slots = List._∷_
               (Row.lease (κs .0) (qs .0))
               (List._∷_
@@ -8776,19 +9281,21 @@ module _ (claims· : Claims) where
               (List._∷_
               (Row.lease (κs .1 .1 .1 .1 .1 .1 .1 .1 .0) (qs .1 .1 .1 .1 .1 .1 .1 .1 .0))
               (List._∷_
-              Row.off
+              (Row.lease (κs .1 .1 .1 .1 .1 .1 .1 .1 .1 .0) (qs .1 .1 .1 .1 .1 .1 .1 .1 .1 .0))
               (List._∷_
               Row.off
               (List._∷_
               Row.off
               (List._∷_
+              Row.alive
+              (List._∷_
               Row.off
-              (List._∷_ Row.off (List._∷_ Row.off (List._∷_ Row.off List.[])))))))))))))));
+              (List._∷_ Row.off (List._∷_ Row.off (List._∷_ Row.off List.[]))))))))))))))));
         }
 
         abbrev G41 : Row.Cx
         G41 = record {
-          locals = List._++_ t8 t1;
+          locals = List._++_ g23 (List._++_ t24 t2);
           slots = List._∷_
               (Row.lease (κs .0) (qs .0))
               (List._∷_
@@ -8798,7 +9305,7 @@ module _ (claims· : Claims) where
               (List._∷_
               (Row.lease (κs .1 .1 .1 .0) (qs .1 .1 .1 .0))
               (List._∷_
-              (Row.lease (κs .1 .1 .1 .1 .0) (qs .1 .1 .1 .1 .0))
+              Row.off
               (List._∷_
               (Row.lease (κs .1 .1 .1 .1 .1 .0) (qs .1 .1 .1 .1 .1 .0))
               (List._∷_
@@ -8808,6 +9315,8 @@ module _ (claims· : Claims) where
               (List._∷_
               (Row.lease (κs .1 .1 .1 .1 .1 .1 .1 .1 .0) (qs .1 .1 .1 .1 .1 .1 .1 .1 .0))
               (List._∷_
+              (Row.lease (κs .1 .1 .1 .1 .1 .1 .1 .1 .1 .0) (qs .1 .1 .1 .1 .1 .1 .1 .1 .1 .0))
+              (List._∷_
               Row.off
               (List._∷_
               Row.off
@@ -8815,12 +9324,12 @@ module _ (claims· : Claims) where
               Row.alive
               (List._∷_
               Row.off
-              (List._∷_ Row.off (List._∷_ Row.off (List._∷_ Row.off List.[])))))))))))))));
+              (List._∷_ Row.off (List._∷_ Row.off (List._∷_ Row.off List.[]))))))))))))))));
         }
 
         abbrev G42 : Row.Cx
         G42 = record {
-          locals = List._++_ g22 t23;
+          locals = List._++_ g23 (List._++_ t25 t2);
           slots = List._∷_
               (Row.lease (κs .0) (qs .0))
               (List._∷_
@@ -8840,6 +9349,8 @@ module _ (claims· : Claims) where
               (List._∷_
               (Row.lease (κs .1 .1 .1 .1 .1 .1 .1 .1 .0) (qs .1 .1 .1 .1 .1 .1 .1 .1 .0))
               (List._∷_
+              (Row.lease (κs .1 .1 .1 .1 .1 .1 .1 .1 .1 .0) (qs .1 .1 .1 .1 .1 .1 .1 .1 .1 .0))
+              (List._∷_
               Row.off
               (List._∷_
               Row.off
@@ -8847,12 +9358,12 @@ module _ (claims· : Claims) where
               Row.alive
               (List._∷_
               Row.off
-              (List._∷_ Row.off (List._∷_ Row.off (List._∷_ Row.off List.[])))))))))))))));
+              (List._∷_ Row.off (List._∷_ Row.off (List._∷_ Row.off List.[]))))))))))))))));
         }
 
         abbrev G43 : Row.Cx
         G43 = record {
-          locals = List._++_ g22 t24;
+          locals = List._++_ g23 (List._++_ t25 t2);
           slots = List._∷_
               (Row.lease (κs .0) (qs .0))
               (List._∷_
@@ -8872,19 +9383,21 @@ module _ (claims· : Claims) where
               (List._∷_
               (Row.lease (κs .1 .1 .1 .1 .1 .1 .1 .1 .0) (qs .1 .1 .1 .1 .1 .1 .1 .1 .0))
               (List._∷_
+              (Row.lease (κs .1 .1 .1 .1 .1 .1 .1 .1 .1 .0) (qs .1 .1 .1 .1 .1 .1 .1 .1 .1 .0))
+              (List._∷_
               Row.off
               (List._∷_
               Row.off
               (List._∷_
               Row.alive
               (List._∷_
-              Row.off
-              (List._∷_ Row.off (List._∷_ Row.off (List._∷_ Row.off List.[])))))))))))))));
+              Row.alive
+              (List._∷_ Row.off (List._∷_ Row.off (List._∷_ Row.off List.[]))))))))))))))));
         }
 
         abbrev G44 : Row.Cx
         G44 = record {
-          locals = List._++_ g22 t24;
+          locals = List._++_ g26 (List._++_ t27 t2);
           slots = List._∷_
               (Row.lease (κs .0) (qs .0))
               (List._∷_
@@ -8896,7 +9409,7 @@ module _ (claims· : Claims) where
               (List._∷_
               Row.off
               (List._∷_
-              (Row.lease (κs .1 .1 .1 .1 .1 .0) (qs .1 .1 .1 .1 .1 .0))
+              Row.off
               (List._∷_
               (Row.lease (κs .1 .1 .1 .1 .1 .1 .0) (qs .1 .1 .1 .1 .1 .1 .0))
               (List._∷_
@@ -8904,6 +9417,8 @@ module _ (claims· : Claims) where
               (List._∷_
               (Row.lease (κs .1 .1 .1 .1 .1 .1 .1 .1 .0) (qs .1 .1 .1 .1 .1 .1 .1 .1 .0))
               (List._∷_
+              (Row.lease (κs .1 .1 .1 .1 .1 .1 .1 .1 .1 .0) (qs .1 .1 .1 .1 .1 .1 .1 .1 .1 .0))
+              (List._∷_
               Row.off
               (List._∷_
               Row.off
@@ -8911,12 +9426,12 @@ module _ (claims· : Claims) where
               Row.alive
               (List._∷_
               Row.alive
-              (List._∷_ Row.off (List._∷_ Row.off (List._∷_ Row.off List.[])))))))))))))));
+              (List._∷_ Row.off (List._∷_ Row.off (List._∷_ Row.off List.[]))))))))))))))));
         }
 
         abbrev G45 : Row.Cx
         G45 = record {
-          locals = List._++_ g25 t26;
+          locals = List._++_ g26 (List._++_ t28 t2);
           slots = List._∷_
               (Row.lease (κs .0) (qs .0))
               (List._∷_
@@ -8936,6 +9451,8 @@ module _ (claims· : Claims) where
               (List._∷_
               (Row.lease (κs .1 .1 .1 .1 .1 .1 .1 .1 .0) (qs .1 .1 .1 .1 .1 .1 .1 .1 .0))
               (List._∷_
+              (Row.lease (κs .1 .1 .1 .1 .1 .1 .1 .1 .1 .0) (qs .1 .1 .1 .1 .1 .1 .1 .1 .1 .0))
+              (List._∷_
               Row.off
               (List._∷_
               Row.off
@@ -8943,12 +9460,12 @@ module _ (claims· : Claims) where
               Row.alive
               (List._∷_
               Row.alive
-              (List._∷_ Row.off (List._∷_ Row.off (List._∷_ Row.off List.[])))))))))))))));
+              (List._∷_ Row.off (List._∷_ Row.off (List._∷_ Row.off List.[]))))))))))))))));
         }
 
         abbrev G46 : Row.Cx
         G46 = record {
-          locals = List._++_ g25 t27;
+          locals = List._++_ g26 (List._++_ t28 t2);
           slots = List._∷_
               (Row.lease (κs .0) (qs .0))
               (List._∷_
@@ -8968,6 +9485,8 @@ module _ (claims· : Claims) where
               (List._∷_
               (Row.lease (κs .1 .1 .1 .1 .1 .1 .1 .1 .0) (qs .1 .1 .1 .1 .1 .1 .1 .1 .0))
               (List._∷_
+              (Row.lease (κs .1 .1 .1 .1 .1 .1 .1 .1 .1 .0) (qs .1 .1 .1 .1 .1 .1 .1 .1 .1 .0))
+              (List._∷_
               Row.off
               (List._∷_
               Row.off
@@ -8975,12 +9494,12 @@ module _ (claims· : Claims) where
               Row.alive
               (List._∷_
               Row.alive
-              (List._∷_ Row.off (List._∷_ Row.off (List._∷_ Row.off List.[])))))))))))))));
+              (List._∷_ Row.alive (List._∷_ Row.off (List._∷_ Row.off List.[]))))))))))))))));
         }
 
         abbrev G47 : Row.Cx
         G47 = record {
-          locals = List._++_ g25 t27;
+          locals = List._++_ g29 (List._++_ t30 t2);
           slots = List._∷_
               (Row.lease (κs .0) (qs .0))
               (List._∷_
@@ -8994,12 +9513,14 @@ module _ (claims· : Claims) where
               (List._∷_
               Row.off
               (List._∷_
-              (Row.lease (κs .1 .1 .1 .1 .1 .1 .0) (qs .1 .1 .1 .1 .1 .1 .0))
+              Row.off
               (List._∷_
               (Row.lease (κs .1 .1 .1 .1 .1 .1 .1 .0) (qs .1 .1 .1 .1 .1 .1 .1 .0))
               (List._∷_
               (Row.lease (κs .1 .1 .1 .1 .1 .1 .1 .1 .0) (qs .1 .1 .1 .1 .1 .1 .1 .1 .0))
               (List._∷_
+              (Row.lease (κs .1 .1 .1 .1 .1 .1 .1 .1 .1 .0) (qs .1 .1 .1 .1 .1 .1 .1 .1 .1 .0))
+              (List._∷_
               Row.off
               (List._∷_
               Row.off
@@ -9007,12 +9528,12 @@ module _ (claims· : Claims) where
               Row.alive
               (List._∷_
               Row.alive
-              (List._∷_ Row.alive (List._∷_ Row.off (List._∷_ Row.off List.[])))))))))))))));
+              (List._∷_ Row.alive (List._∷_ Row.off (List._∷_ Row.off List.[]))))))))))))))));
         }
 
         abbrev G48 : Row.Cx
         G48 = record {
-          locals = List._++_ g28 t29;
+          locals = List._++_ g29 (List._++_ t31 t2);
           slots = List._∷_
               (Row.lease (κs .0) (qs .0))
               (List._∷_
@@ -9032,6 +9553,8 @@ module _ (claims· : Claims) where
               (List._∷_
               (Row.lease (κs .1 .1 .1 .1 .1 .1 .1 .1 .0) (qs .1 .1 .1 .1 .1 .1 .1 .1 .0))
               (List._∷_
+              (Row.lease (κs .1 .1 .1 .1 .1 .1 .1 .1 .1 .0) (qs .1 .1 .1 .1 .1 .1 .1 .1 .1 .0))
+              (List._∷_
               Row.off
               (List._∷_
               Row.off
@@ -9039,12 +9562,12 @@ module _ (claims· : Claims) where
               Row.alive
               (List._∷_
               Row.alive
-              (List._∷_ Row.alive (List._∷_ Row.off (List._∷_ Row.off List.[])))))))))))))));
+              (List._∷_ Row.alive (List._∷_ Row.off (List._∷_ Row.off List.[]))))))))))))))));
         }
 
         abbrev G49 : Row.Cx
         G49 = record {
-          locals = List._++_ g28 t30;
+          locals = List._++_ g29 (List._++_ t31 t2);
           slots = List._∷_
               (Row.lease (κs .0) (qs .0))
               (List._∷_
@@ -9064,6 +9587,8 @@ module _ (claims· : Claims) where
               (List._∷_
               (Row.lease (κs .1 .1 .1 .1 .1 .1 .1 .1 .0) (qs .1 .1 .1 .1 .1 .1 .1 .1 .0))
               (List._∷_
+              (Row.lease (κs .1 .1 .1 .1 .1 .1 .1 .1 .1 .0) (qs .1 .1 .1 .1 .1 .1 .1 .1 .1 .0))
+              (List._∷_
               Row.off
               (List._∷_
               Row.off
@@ -9071,12 +9596,12 @@ module _ (claims· : Claims) where
               Row.alive
               (List._∷_
               Row.alive
-              (List._∷_ Row.alive (List._∷_ Row.off (List._∷_ Row.off List.[])))))))))))))));
+              (List._∷_ Row.alive (List._∷_ Row.alive (List._∷_ Row.off List.[]))))))))))))))));
         }
 
         abbrev G50 : Row.Cx
         G50 = record {
-          locals = List._++_ g28 t30;
+          locals = List._++_ g32 (List._++_ t33 t2);
           slots = List._∷_
               (Row.lease (κs .0) (qs .0))
               (List._∷_
@@ -9092,10 +9617,12 @@ module _ (claims· : Claims) where
               (List._∷_
               Row.off
               (List._∷_
-              (Row.lease (κs .1 .1 .1 .1 .1 .1 .1 .0) (qs .1 .1 .1 .1 .1 .1 .1 .0))
+              Row.off
               (List._∷_
               (Row.lease (κs .1 .1 .1 .1 .1 .1 .1 .1 .0) (qs .1 .1 .1 .1 .1 .1 .1 .1 .0))
               (List._∷_
+              (Row.lease (κs .1 .1 .1 .1 .1 .1 .1 .1 .1 .0) (qs .1 .1 .1 .1 .1 .1 .1 .1 .1 .0))
+              (List._∷_
               Row.off
               (List._∷_
               Row.off
@@ -9103,12 +9630,12 @@ module _ (claims· : Claims) where
               Row.alive
               (List._∷_
               Row.alive
-              (List._∷_ Row.alive (List._∷_ Row.alive (List._∷_ Row.off List.[])))))))))))))));
+              (List._∷_ Row.alive (List._∷_ Row.alive (List._∷_ Row.off List.[]))))))))))))))));
         }
 
         abbrev G51 : Row.Cx
         G51 = record {
-          locals = List._++_ g31 t32;
+          locals = List._++_ g32 (List._++_ t34 t2);
           slots = List._∷_
               (Row.lease (κs .0) (qs .0))
               (List._∷_
@@ -9128,6 +9655,8 @@ module _ (claims· : Claims) where
               (List._∷_
               (Row.lease (κs .1 .1 .1 .1 .1 .1 .1 .1 .0) (qs .1 .1 .1 .1 .1 .1 .1 .1 .0))
               (List._∷_
+              (Row.lease (κs .1 .1 .1 .1 .1 .1 .1 .1 .1 .0) (qs .1 .1 .1 .1 .1 .1 .1 .1 .1 .0))
+              (List._∷_
               Row.off
               (List._∷_
               Row.off
@@ -9135,12 +9664,12 @@ module _ (claims· : Claims) where
               Row.alive
               (List._∷_
               Row.alive
-              (List._∷_ Row.alive (List._∷_ Row.alive (List._∷_ Row.off List.[])))))))))))))));
+              (List._∷_ Row.alive (List._∷_ Row.alive (List._∷_ Row.off List.[]))))))))))))))));
         }
 
         abbrev G52 : Row.Cx
         G52 = record {
-          locals = List._++_ g31 t33;
+          locals = List._++_ g32 (List._++_ t34 t2);
           slots = List._∷_
               (Row.lease (κs .0) (qs .0))
               (List._∷_
@@ -9160,6 +9689,8 @@ module _ (claims· : Claims) where
               (List._∷_
               (Row.lease (κs .1 .1 .1 .1 .1 .1 .1 .1 .0) (qs .1 .1 .1 .1 .1 .1 .1 .1 .0))
               (List._∷_
+              (Row.lease (κs .1 .1 .1 .1 .1 .1 .1 .1 .1 .0) (qs .1 .1 .1 .1 .1 .1 .1 .1 .1 .0))
+              (List._∷_
               Row.off
               (List._∷_
               Row.off
@@ -9167,12 +9698,12 @@ module _ (claims· : Claims) where
               Row.alive
               (List._∷_
               Row.alive
-              (List._∷_ Row.alive (List._∷_ Row.alive (List._∷_ Row.off List.[])))))))))))))));
+              (List._∷_ Row.alive (List._∷_ Row.alive (List._∷_ Row.alive List.[]))))))))))))))));
         }
 
         abbrev G53 : Row.Cx
         G53 = record {
-          locals = List._++_ g31 t33;
+          locals = List._++_ g35 (List._++_ t34 t36);
           slots = List._∷_
               (Row.lease (κs .0) (qs .0))
               (List._∷_
@@ -9190,7 +9721,9 @@ module _ (claims· : Claims) where
               (List._∷_
               Row.off
               (List._∷_
-              (Row.lease (κs .1 .1 .1 .1 .1 .1 .1 .1 .0) (qs .1 .1 .1 .1 .1 .1 .1 .1 .0))
+              Row.off
+              (List._∷_
+              (Row.lease (κs .1 .1 .1 .1 .1 .1 .1 .1 .1 .0) (qs .1 .1 .1 .1 .1 .1 .1 .1 .1 .0))
               (List._∷_
               Row.off
               (List._∷_
@@ -9199,12 +9732,12 @@ module _ (claims· : Claims) where
               Row.alive
               (List._∷_
               Row.alive
-              (List._∷_ Row.alive (List._∷_ Row.alive (List._∷_ Row.alive List.[])))))))))))))));
+              (List._∷_ Row.alive (List._∷_ Row.alive (List._∷_ Row.alive List.[]))))))))))))))));
         }
 
         abbrev G54 : Row.Cx
         G54 = record {
-          locals = List._++_ g34 t35;
+          locals = List._++_ g35 (List._++_ t34 t37);
           slots = List._∷_
               (Row.lease (κs .0) (qs .0))
               (List._∷_
@@ -9224,6 +9757,8 @@ module _ (claims· : Claims) where
               (List._∷_
               Row.off
               (List._∷_
+              (Row.lease (κs .1 .1 .1 .1 .1 .1 .1 .1 .1 .0) (qs .1 .1 .1 .1 .1 .1 .1 .1 .1 .0))
+              (List._∷_
               Row.off
               (List._∷_
               Row.off
@@ -9231,12 +9766,12 @@ module _ (claims· : Claims) where
               Row.alive
               (List._∷_
               Row.alive
-              (List._∷_ Row.alive (List._∷_ Row.alive (List._∷_ Row.alive List.[])))))))))))))));
+              (List._∷_ Row.alive (List._∷_ Row.alive (List._∷_ Row.alive List.[]))))))))))))))));
         }
 
         abbrev G55 : Row.Cx
         G55 = record {
-          locals = List._++_ g34 t36;
+          locals = List._++_ g35 (List._++_ t38 t39);
           slots = List._∷_
               (Row.lease (κs .0) (qs .0))
               (List._∷_
@@ -9256,6 +9791,8 @@ module _ (claims· : Claims) where
               (List._∷_
               Row.off
               (List._∷_
+              (Row.lease (κs .1 .1 .1 .1 .1 .1 .1 .1 .1 .0) (qs .1 .1 .1 .1 .1 .1 .1 .1 .1 .0))
+              (List._∷_
               Row.off
               (List._∷_
               Row.off
@@ -9263,12 +9800,12 @@ module _ (claims· : Claims) where
               Row.alive
               (List._∷_
               Row.alive
-              (List._∷_ Row.alive (List._∷_ Row.alive (List._∷_ Row.alive List.[])))))))))))))));
+              (List._∷_ Row.alive (List._∷_ Row.alive (List._∷_ Row.alive List.[]))))))))))))))));
         }
 
         abbrev G56 : Row.Cx
         G56 = record {
-          locals = List._++_ g34 t37;
+          locals = List._++_ g40 (List._++_ t38 t39);
           slots = List._∷_
               (Row.lease (κs .0) (qs .0))
               (List._∷_
@@ -9288,6 +9825,8 @@ module _ (claims· : Claims) where
               (List._∷_
               Row.off
               (List._∷_
+              (Row.lease (κs .1 .1 .1 .1 .1 .1 .1 .1 .1 .0) (qs .1 .1 .1 .1 .1 .1 .1 .1 .1 .0))
+              (List._∷_
               Row.off
               (List._∷_
               Row.off
@@ -9295,12 +9834,12 @@ module _ (claims· : Claims) where
               Row.alive
               (List._∷_
               Row.alive
-              (List._∷_ Row.alive (List._∷_ Row.alive (List._∷_ Row.alive List.[])))))))))))))));
+              (List._∷_ Row.alive (List._∷_ Row.alive (List._∷_ Row.alive List.[]))))))))))))))));
         }
 
         abbrev G57 : Row.Cx
         G57 = record {
-          locals = List._++_ g34 t37;
+          locals = List._++_ g40 (List._++_ t38 t39);
           slots = List._∷_
               (Row.lease (κs .0) (qs .0))
               (List._∷_
@@ -9320,6 +9859,8 @@ module _ (claims· : Claims) where
               (List._∷_
               Row.off
               (List._∷_
+              (Row.lease (κs .1 .1 .1 .1 .1 .1 .1 .1 .1 .0) (qs .1 .1 .1 .1 .1 .1 .1 .1 .1 .0))
+              (List._∷_
               Row.off
               (List._∷_
               Row.off
@@ -9327,12 +9868,12 @@ module _ (claims· : Claims) where
               Row.dead
               (List._∷_
               Row.alive
-              (List._∷_ Row.alive (List._∷_ Row.alive (List._∷_ Row.alive List.[])))))))))))))));
+              (List._∷_ Row.alive (List._∷_ Row.alive (List._∷_ Row.alive List.[]))))))))))))))));
         }
 
         abbrev G58 : Row.Cx
         G58 = record {
-          locals = List._++_ g38 t39;
+          locals = List._++_ g41 (List._++_ t42 t39);
           slots = List._∷_
               (Row.lease (κs .0) (qs .0))
               (List._∷_
@@ -9352,6 +9893,8 @@ module _ (claims· : Claims) where
               (List._∷_
               Row.off
               (List._∷_
+              (Row.lease (κs .1 .1 .1 .1 .1 .1 .1 .1 .1 .0) (qs .1 .1 .1 .1 .1 .1 .1 .1 .1 .0))
+              (List._∷_
               Row.off
               (List._∷_
               Row.off
@@ -9359,12 +9902,12 @@ module _ (claims· : Claims) where
               Row.dead
               (List._∷_
               Row.alive
-              (List._∷_ Row.alive (List._∷_ Row.alive (List._∷_ Row.alive List.[])))))))))))))));
+              (List._∷_ Row.alive (List._∷_ Row.alive (List._∷_ Row.alive List.[]))))))))))))))));
         }
 
         abbrev G59 : Row.Cx
         G59 = record {
-          locals = List._++_ g38 t39;
+          locals = List._++_ g41 (List._++_ t42 t39);
           slots = List._∷_
               (Row.lease (κs .0) (qs .0))
               (List._∷_
@@ -9384,6 +9927,8 @@ module _ (claims· : Claims) where
               (List._∷_
               Row.off
               (List._∷_
+              (Row.lease (κs .1 .1 .1 .1 .1 .1 .1 .1 .1 .0) (qs .1 .1 .1 .1 .1 .1 .1 .1 .1 .0))
+              (List._∷_
               Row.off
               (List._∷_
               Row.off
@@ -9391,12 +9936,12 @@ module _ (claims· : Claims) where
               Row.dead
               (List._∷_
               Row.alive
-              (List._∷_ Row.alive (List._∷_ Row.alive (List._∷_ Row.alive List.[])))))))))))))));
+              (List._∷_ Row.alive (List._∷_ Row.alive (List._∷_ Row.alive List.[]))))))))))))))));
         }
 
         abbrev G60 : Row.Cx
         G60 = record {
-          locals = List._++_ g38 t39;
+          locals = List._++_ g41 (List._++_ t42 t39);
           slots = List._∷_
               (Row.lease (κs .0) (qs .0))
               (List._∷_
@@ -9415,6 +9960,8 @@ module _ (claims· : Claims) where
               Row.off
               (List._∷_
               Row.off
+              (List._∷_
+              (Row.lease (κs .1 .1 .1 .1 .1 .1 .1 .1 .1 .0) (qs .1 .1 .1 .1 .1 .1 .1 .1 .1 .0))
               (List._∷_
               Row.off
               (List._∷_
@@ -9423,12 +9970,12 @@ module _ (claims· : Claims) where
               Row.off
               (List._∷_
               Row.alive
-              (List._∷_ Row.alive (List._∷_ Row.alive (List._∷_ Row.alive List.[])))))))))))))));
+              (List._∷_ Row.alive (List._∷_ Row.alive (List._∷_ Row.alive List.[]))))))))))))))));
         }
 
         abbrev G61 : Row.Cx
         G61 = record {
-          locals = List._++_ g38 t39;
+          locals = List._++_ g41 (List._++_ t42 t39);
           slots = List._∷_
               (Row.lease (κs .0) (qs .0))
               (List._∷_
@@ -9448,6 +9995,8 @@ module _ (claims· : Claims) where
               (List._∷_
               Row.off
               (List._∷_
+              (Row.lease (κs .1 .1 .1 .1 .1 .1 .1 .1 .1 .0) (qs .1 .1 .1 .1 .1 .1 .1 .1 .1 .0))
+              (List._∷_
               Row.off
               (List._∷_
               Row.off
@@ -9455,12 +10004,12 @@ module _ (claims· : Claims) where
               Row.off
               (List._∷_
               Row.dead
-              (List._∷_ Row.alive (List._∷_ Row.alive (List._∷_ Row.alive List.[])))))))))))))));
+              (List._∷_ Row.alive (List._∷_ Row.alive (List._∷_ Row.alive List.[]))))))))))))))));
         }
 
         abbrev G62 : Row.Cx
         G62 = record {
-          locals = List._++_ g40 t41;
+          locals = List._++_ g43 (List._++_ t44 t39);
           slots = List._∷_
               (Row.lease (κs .0) (qs .0))
               (List._∷_
@@ -9480,6 +10029,8 @@ module _ (claims· : Claims) where
               (List._∷_
               Row.off
               (List._∷_
+              (Row.lease (κs .1 .1 .1 .1 .1 .1 .1 .1 .1 .0) (qs .1 .1 .1 .1 .1 .1 .1 .1 .1 .0))
+              (List._∷_
               Row.off
               (List._∷_
               Row.off
@@ -9487,12 +10038,12 @@ module _ (claims· : Claims) where
               Row.off
               (List._∷_
               Row.dead
-              (List._∷_ Row.alive (List._∷_ Row.alive (List._∷_ Row.alive List.[])))))))))))))));
+              (List._∷_ Row.alive (List._∷_ Row.alive (List._∷_ Row.alive List.[]))))))))))))))));
         }
 
         abbrev G63 : Row.Cx
         G63 = record {
-          locals = List._++_ g40 t41;
+          locals = List._++_ g43 (List._++_ t44 t39);
           slots = List._∷_
               (Row.lease (κs .0) (qs .0))
               (List._∷_
@@ -9511,6 +10062,8 @@ module _ (claims· : Claims) where
               Row.off
               (List._∷_
               Row.off
+              (List._∷_
+              (Row.lease (κs .1 .1 .1 .1 .1 .1 .1 .1 .1 .0) (qs .1 .1 .1 .1 .1 .1 .1 .1 .1 .0))
               (List._∷_
               Row.off
               (List._∷_
@@ -9519,12 +10072,12 @@ module _ (claims· : Claims) where
               Row.off
               (List._∷_
               Row.dead
-              (List._∷_ Row.alive (List._∷_ Row.alive (List._∷_ Row.alive List.[])))))))))))))));
+              (List._∷_ Row.alive (List._∷_ Row.alive (List._∷_ Row.alive List.[]))))))))))))))));
         }
 
         abbrev G64 : Row.Cx
         G64 = record {
-          locals = List._++_ g40 t41;
+          locals = List._++_ g43 (List._++_ t44 t39);
           slots = List._∷_
               (Row.lease (κs .0) (qs .0))
               (List._∷_
@@ -9544,19 +10097,21 @@ module _ (claims· : Claims) where
               (List._∷_
               Row.off
               (List._∷_
-              Row.off
+              (Row.lease (κs .1 .1 .1 .1 .1 .1 .1 .1 .1 .0) (qs .1 .1 .1 .1 .1 .1 .1 .1 .1 .0))
               (List._∷_
               Row.off
               (List._∷_
               Row.off
               (List._∷_
               Row.off
-              (List._∷_ Row.alive (List._∷_ Row.alive (List._∷_ Row.alive List.[])))))))))))))));
+              (List._∷_
+              Row.off
+              (List._∷_ Row.alive (List._∷_ Row.alive (List._∷_ Row.alive List.[]))))))))))))))));
         }
 
         abbrev G65 : Row.Cx
         G65 = record {
-          locals = List._++_ g40 t41;
+          locals = List._++_ g43 (List._++_ t44 t39);
           slots = List._∷_
               (Row.lease (κs .0) (qs .0))
               (List._∷_
@@ -9576,19 +10131,21 @@ module _ (claims· : Claims) where
               (List._∷_
               Row.off
               (List._∷_
-              Row.off
+              (Row.lease (κs .1 .1 .1 .1 .1 .1 .1 .1 .1 .0) (qs .1 .1 .1 .1 .1 .1 .1 .1 .1 .0))
               (List._∷_
               Row.off
               (List._∷_
               Row.off
               (List._∷_
               Row.off
-              (List._∷_ Row.dead (List._∷_ Row.alive (List._∷_ Row.alive List.[])))))))))))))));
+              (List._∷_
+              Row.off
+              (List._∷_ Row.dead (List._∷_ Row.alive (List._∷_ Row.alive List.[]))))))))))))))));
         }
 
         abbrev G66 : Row.Cx
         G66 = record {
-          locals = List._++_ g42 t43;
+          locals = List._++_ g45 (List._++_ t46 t39);
           slots = List._∷_
               (Row.lease (κs .0) (qs .0))
               (List._∷_
@@ -9608,19 +10165,21 @@ module _ (claims· : Claims) where
               (List._∷_
               Row.off
               (List._∷_
-              Row.off
+              (Row.lease (κs .1 .1 .1 .1 .1 .1 .1 .1 .1 .0) (qs .1 .1 .1 .1 .1 .1 .1 .1 .1 .0))
               (List._∷_
               Row.off
               (List._∷_
               Row.off
               (List._∷_
               Row.off
-              (List._∷_ Row.dead (List._∷_ Row.alive (List._∷_ Row.alive List.[])))))))))))))));
+              (List._∷_
+              Row.off
+              (List._∷_ Row.dead (List._∷_ Row.alive (List._∷_ Row.alive List.[]))))))))))))))));
         }
 
         abbrev G67 : Row.Cx
         G67 = record {
-          locals = List._++_ g42 t43;
+          locals = List._++_ g45 (List._++_ t46 t39);
           slots = List._∷_
               (Row.lease (κs .0) (qs .0))
               (List._∷_
@@ -9640,19 +10199,21 @@ module _ (claims· : Claims) where
               (List._∷_
               Row.off
               (List._∷_
-              Row.off
+              (Row.lease (κs .1 .1 .1 .1 .1 .1 .1 .1 .1 .0) (qs .1 .1 .1 .1 .1 .1 .1 .1 .1 .0))
               (List._∷_
               Row.off
               (List._∷_
               Row.off
               (List._∷_
               Row.off
-              (List._∷_ Row.dead (List._∷_ Row.alive (List._∷_ Row.alive List.[])))))))))))))));
+              (List._∷_
+              Row.off
+              (List._∷_ Row.dead (List._∷_ Row.alive (List._∷_ Row.alive List.[]))))))))))))))));
         }
 
         abbrev G68 : Row.Cx
         G68 = record {
-          locals = List._++_ g42 t43;
+          locals = List._++_ g45 (List._++_ t46 t39);
           slots = List._∷_
               (Row.lease (κs .0) (qs .0))
               (List._∷_
@@ -9672,19 +10233,21 @@ module _ (claims· : Claims) where
               (List._∷_
               Row.off
               (List._∷_
-              Row.off
+              (Row.lease (κs .1 .1 .1 .1 .1 .1 .1 .1 .1 .0) (qs .1 .1 .1 .1 .1 .1 .1 .1 .1 .0))
               (List._∷_
               Row.off
               (List._∷_
               Row.off
               (List._∷_
               Row.off
-              (List._∷_ Row.off (List._∷_ Row.alive (List._∷_ Row.alive List.[])))))))))))))));
+              (List._∷_
+              Row.off
+              (List._∷_ Row.off (List._∷_ Row.alive (List._∷_ Row.alive List.[]))))))))))))))));
         }
 
         abbrev G69 : Row.Cx
         G69 = record {
-          locals = List._++_ g42 t43;
+          locals = List._++_ g45 (List._++_ t46 t39);
           slots = List._∷_
               (Row.lease (κs .0) (qs .0))
               (List._∷_
@@ -9704,19 +10267,21 @@ module _ (claims· : Claims) where
               (List._∷_
               Row.off
               (List._∷_
-              Row.off
+              (Row.lease (κs .1 .1 .1 .1 .1 .1 .1 .1 .1 .0) (qs .1 .1 .1 .1 .1 .1 .1 .1 .1 .0))
               (List._∷_
               Row.off
               (List._∷_
               Row.off
               (List._∷_
               Row.off
-              (List._∷_ Row.off (List._∷_ Row.dead (List._∷_ Row.alive List.[])))))))))))))));
+              (List._∷_
+              Row.off
+              (List._∷_ Row.off (List._∷_ Row.dead (List._∷_ Row.alive List.[]))))))))))))))));
         }
 
         abbrev G70 : Row.Cx
         G70 = record {
-          locals = List._++_ g44 t45;
+          locals = List._++_ g47 (List._++_ t1 t39);
           slots = List._∷_
               (Row.lease (κs .0) (qs .0))
               (List._∷_
@@ -9736,19 +10301,21 @@ module _ (claims· : Claims) where
               (List._∷_
               Row.off
               (List._∷_
-              Row.off
+              (Row.lease (κs .1 .1 .1 .1 .1 .1 .1 .1 .1 .0) (qs .1 .1 .1 .1 .1 .1 .1 .1 .1 .0))
               (List._∷_
               Row.off
               (List._∷_
               Row.off
               (List._∷_
               Row.off
-              (List._∷_ Row.off (List._∷_ Row.dead (List._∷_ Row.alive List.[])))))))))))))));
+              (List._∷_
+              Row.off
+              (List._∷_ Row.off (List._∷_ Row.dead (List._∷_ Row.alive List.[]))))))))))))))));
         }
 
         abbrev G71 : Row.Cx
         G71 = record {
-          locals = List._++_ g44 t45;
+          locals = List._++_ g47 (List._++_ t1 t39);
           slots = List._∷_
               (Row.lease (κs .0) (qs .0))
               (List._∷_
@@ -9768,19 +10335,21 @@ module _ (claims· : Claims) where
               (List._∷_
               Row.off
               (List._∷_
-              Row.off
+              (Row.lease (κs .1 .1 .1 .1 .1 .1 .1 .1 .1 .0) (qs .1 .1 .1 .1 .1 .1 .1 .1 .1 .0))
               (List._∷_
               Row.off
               (List._∷_
               Row.off
               (List._∷_
               Row.off
-              (List._∷_ Row.off (List._∷_ Row.dead (List._∷_ Row.alive List.[])))))))))))))));
+              (List._∷_
+              Row.off
+              (List._∷_ Row.off (List._∷_ Row.dead (List._∷_ Row.alive List.[]))))))))))))))));
         }
 
         abbrev G72 : Row.Cx
         G72 = record {
-          locals = List._++_ g44 t45;
+          locals = List._++_ g47 (List._++_ t1 t39);
           slots = List._∷_
               (Row.lease (κs .0) (qs .0))
               (List._∷_
@@ -9800,19 +10369,21 @@ module _ (claims· : Claims) where
               (List._∷_
               Row.off
               (List._∷_
-              Row.off
+              (Row.lease (κs .1 .1 .1 .1 .1 .1 .1 .1 .1 .0) (qs .1 .1 .1 .1 .1 .1 .1 .1 .1 .0))
               (List._∷_
               Row.off
               (List._∷_
               Row.off
               (List._∷_
               Row.off
-              (List._∷_ Row.off (List._∷_ Row.off (List._∷_ Row.alive List.[])))))))))))))));
+              (List._∷_
+              Row.off
+              (List._∷_ Row.off (List._∷_ Row.off (List._∷_ Row.alive List.[]))))))))))))))));
         }
 
         abbrev G73 : Row.Cx
         G73 = record {
-          locals = List._++_ g44 t45;
+          locals = List._++_ g47 (List._++_ t1 t39);
           slots = List._∷_
               (Row.lease (κs .0) (qs .0))
               (List._∷_
@@ -9832,19 +10403,21 @@ module _ (claims· : Claims) where
               (List._∷_
               Row.off
               (List._∷_
-              Row.off
+              (Row.lease (κs .1 .1 .1 .1 .1 .1 .1 .1 .1 .0) (qs .1 .1 .1 .1 .1 .1 .1 .1 .1 .0))
               (List._∷_
               Row.off
               (List._∷_
               Row.off
               (List._∷_
               Row.off
-              (List._∷_ Row.off (List._∷_ Row.off (List._∷_ Row.dead List.[])))))))))))))));
+              (List._∷_
+              Row.off
+              (List._∷_ Row.off (List._∷_ Row.off (List._∷_ Row.dead List.[]))))))))))))))));
         }
 
         abbrev G74 : Row.Cx
         G74 = record {
-          locals = List._++_ t8 t1;
+          locals = List._++_ t6 (List._++_ t1 t2);
           slots = List._∷_
               (Row.lease (κs .0) (qs .0))
               (List._∷_
@@ -9864,19 +10437,21 @@ module _ (claims· : Claims) where
               (List._∷_
               (Row.lease (κs .1 .1 .1 .1 .1 .1 .1 .1 .0) (qs .1 .1 .1 .1 .1 .1 .1 .1 .0))
               (List._∷_
-              Row.off
+              (Row.lease (κs .1 .1 .1 .1 .1 .1 .1 .1 .1 .0) (qs .1 .1 .1 .1 .1 .1 .1 .1 .1 .0))
               (List._∷_
               Row.off
               (List._∷_
               Row.off
               (List._∷_
               Row.off
-              (List._∷_ Row.off (List._∷_ Row.off (List._∷_ Row.dead List.[])))))))))))))));
+              (List._∷_
+              Row.off
+              (List._∷_ Row.off (List._∷_ Row.off (List._∷_ Row.dead List.[]))))))))))))))));
         }
 
         abbrev G75 : Row.Cx
         G75 = record {
-          locals = List._++_ t8 t1;
+          locals = List._++_ t6 (List._++_ t1 t2);
           slots = List._∷_
               (Row.lease (κs .0) (qs .0))
               (List._∷_
@@ -9896,19 +10471,21 @@ module _ (claims· : Claims) where
               (List._∷_
               (Row.lease (κs .1 .1 .1 .1 .1 .1 .1 .1 .0) (qs .1 .1 .1 .1 .1 .1 .1 .1 .0))
               (List._∷_
-              Row.off
+              (Row.lease (κs .1 .1 .1 .1 .1 .1 .1 .1 .1 .0) (qs .1 .1 .1 .1 .1 .1 .1 .1 .1 .0))
               (List._∷_
               Row.off
               (List._∷_
               Row.off
               (List._∷_
               Row.off
-              (List._∷_ Row.off (List._∷_ Row.off (List._∷_ Row.dead List.[])))))))))))))));
+              (List._∷_
+              Row.off
+              (List._∷_ Row.off (List._∷_ Row.off (List._∷_ Row.dead List.[]))))))))))))))));
         }
 
         abbrev G76 : Row.Cx
         G76 = record {
-          locals = List._++_ t8 t1;
+          locals = List._++_ t6 (List._++_ t1 t2);
           slots = List._∷_
               (Row.lease (κs .0) (qs .0))
               (List._∷_
@@ -9928,19 +10505,21 @@ module _ (claims· : Claims) where
               (List._∷_
               (Row.lease (κs .1 .1 .1 .1 .1 .1 .1 .1 .0) (qs .1 .1 .1 .1 .1 .1 .1 .1 .0))
               (List._∷_
-              Row.off
+              (Row.lease (κs .1 .1 .1 .1 .1 .1 .1 .1 .1 .0) (qs .1 .1 .1 .1 .1 .1 .1 .1 .1 .0))
               (List._∷_
               Row.off
               (List._∷_
               Row.off
               (List._∷_
               Row.off
-              (List._∷_ Row.off (List._∷_ Row.off (List._∷_ Row.off List.[])))))))))))))));
+              (List._∷_
+              Row.off
+              (List._∷_ Row.off (List._∷_ Row.off (List._∷_ Row.off List.[]))))))))))))))));
         }
 
         abbrev G77 : Row.Cx
         G77 = record {
-          locals = List._++_ t8 t1;
+          locals = List._++_ t6 (List._++_ t1 t2);
           slots = List._∷_
               (Row.lease (κs .0) (qs .0))
               (List._∷_
@@ -9960,19 +10539,21 @@ module _ (claims· : Claims) where
               (List._∷_
               (Row.lease (κs .1 .1 .1 .1 .1 .1 .1 .1 .0) (qs .1 .1 .1 .1 .1 .1 .1 .1 .0))
               (List._∷_
-              Row.off
+              (Row.lease (κs .1 .1 .1 .1 .1 .1 .1 .1 .1 .0) (qs .1 .1 .1 .1 .1 .1 .1 .1 .1 .0))
               (List._∷_
               Row.off
               (List._∷_
               Row.off
               (List._∷_
               Row.off
-              (List._∷_ Row.off (List._∷_ Row.off (List._∷_ Row.off List.[])))))))))))))));
+              (List._∷_
+              Row.off
+              (List._∷_ Row.off (List._∷_ Row.off (List._∷_ Row.off List.[]))))))))))))))));
         }
 
         abbrev G78 : Row.Cx
         G78 = record {
-          locals = List._++_ t8 t1;
+          locals = List._++_ t48 (List._++_ t1 t2);
           slots = List._∷_
               (Row.lease (κs .0) (qs .0))
               (List._∷_
@@ -9992,19 +10573,21 @@ module _ (claims· : Claims) where
               (List._∷_
               (Row.lease (κs .1 .1 .1 .1 .1 .1 .1 .1 .0) (qs .1 .1 .1 .1 .1 .1 .1 .1 .0))
               (List._∷_
-              Row.off
+              (Row.lease (κs .1 .1 .1 .1 .1 .1 .1 .1 .1 .0) (qs .1 .1 .1 .1 .1 .1 .1 .1 .1 .0))
               (List._∷_
               Row.off
               (List._∷_
               Row.off
               (List._∷_
               Row.off
-              (List._∷_ Row.off (List._∷_ Row.off (List._∷_ Row.off List.[])))))))))))))));
+              (List._∷_
+              Row.off
+              (List._∷_ Row.off (List._∷_ Row.off (List._∷_ Row.off List.[]))))))))))))))));
         }
 
         abbrev G79 : Row.Cx
         G79 = record {
-          locals = List._++_ t46 t1;
+          locals = List._++_ t49 (List._++_ t1 t2);
           slots = List._∷_
               (Row.lease (κs .0) (qs .0))
               (List._∷_
@@ -10024,19 +10607,21 @@ module _ (claims· : Claims) where
               (List._∷_
               (Row.lease (κs .1 .1 .1 .1 .1 .1 .1 .1 .0) (qs .1 .1 .1 .1 .1 .1 .1 .1 .0))
               (List._∷_
-              Row.off
+              (Row.lease (κs .1 .1 .1 .1 .1 .1 .1 .1 .1 .0) (qs .1 .1 .1 .1 .1 .1 .1 .1 .1 .0))
               (List._∷_
               Row.off
               (List._∷_
               Row.off
               (List._∷_
               Row.off
-              (List._∷_ Row.off (List._∷_ Row.off (List._∷_ Row.off List.[])))))))))))))));
+              (List._∷_
+              Row.off
+              (List._∷_ Row.off (List._∷_ Row.off (List._∷_ Row.off List.[]))))))))))))))));
         }
 
         abbrev G80 : Row.Cx
         G80 = record {
-          locals = List._++_ t47 t1;
+          locals = List._++_ t50 (List._++_ t1 t2);
           slots = List._∷_
               (Row.lease (κs .0) (qs .0))
               (List._∷_
@@ -10056,19 +10641,21 @@ module _ (claims· : Claims) where
               (List._∷_
               (Row.lease (κs .1 .1 .1 .1 .1 .1 .1 .1 .0) (qs .1 .1 .1 .1 .1 .1 .1 .1 .0))
               (List._∷_
-              Row.off
+              (Row.lease (κs .1 .1 .1 .1 .1 .1 .1 .1 .1 .0) (qs .1 .1 .1 .1 .1 .1 .1 .1 .1 .0))
               (List._∷_
               Row.off
               (List._∷_
               Row.off
               (List._∷_
               Row.off
-              (List._∷_ Row.off (List._∷_ Row.off (List._∷_ Row.off List.[])))))))))))))));
+              (List._∷_
+              Row.off
+              (List._∷_ Row.off (List._∷_ Row.off (List._∷_ Row.off List.[]))))))))))))))));
         }
 
         abbrev G81 : Row.Cx
         G81 = record {
-          locals = List._++_ t48 t1;
+          locals = List._++_ t51 (List._++_ t1 t2);
           slots = List._∷_
               (Row.lease (κs .0) (qs .0))
               (List._∷_
@@ -10088,19 +10675,21 @@ module _ (claims· : Claims) where
               (List._∷_
               (Row.lease (κs .1 .1 .1 .1 .1 .1 .1 .1 .0) (qs .1 .1 .1 .1 .1 .1 .1 .1 .0))
               (List._∷_
-              Row.off
+              (Row.lease (κs .1 .1 .1 .1 .1 .1 .1 .1 .1 .0) (qs .1 .1 .1 .1 .1 .1 .1 .1 .1 .0))
               (List._∷_
               Row.off
               (List._∷_
               Row.off
               (List._∷_
               Row.off
-              (List._∷_ Row.off (List._∷_ Row.off (List._∷_ Row.off List.[])))))))))))))));
+              (List._∷_
+              Row.off
+              (List._∷_ Row.off (List._∷_ Row.off (List._∷_ Row.off List.[]))))))))))))))));
         }
 
         abbrev G82 : Row.Cx
         G82 = record {
-          locals = List._++_ t49 t1;
+          locals = List._++_ t3 (List._++_ t1 t2);
           slots = List._∷_
               (Row.lease (κs .0) (qs .0))
               (List._∷_
@@ -10120,37 +10709,7 @@ module _ (claims· : Claims) where
               (List._∷_
               (Row.lease (κs .1 .1 .1 .1 .1 .1 .1 .1 .0) (qs .1 .1 .1 .1 .1 .1 .1 .1 .0))
               (List._∷_
-              Row.off
-              (List._∷_
-              Row.off
-              (List._∷_
-              Row.off
-              (List._∷_
-              Row.off
-              (List._∷_ Row.off (List._∷_ Row.off (List._∷_ Row.off List.[])))))))))))))));
-        }
-
-        abbrev G83 : Row.Cx
-        G83 = record {
-          locals = List._++_ t2 t1;
-          slots = List._∷_
-              (Row.lease (κs .0) (qs .0))
-              (List._∷_
-              (Row.lease (κs .1 .0) (qs .1 .0))
-              (List._∷_
-              (Row.lease (κs .1 .1 .0) (qs .1 .1 .0))
-              (List._∷_
-              (Row.lease (κs .1 .1 .1 .0) (qs .1 .1 .1 .0))
-              (List._∷_
-              (Row.lease (κs .1 .1 .1 .1 .0) (qs .1 .1 .1 .1 .0))
-              (List._∷_
-              (Row.lease (κs .1 .1 .1 .1 .1 .0) (qs .1 .1 .1 .1 .1 .0))
-              (List._∷_
-              (Row.lease (κs .1 .1 .1 .1 .1 .1 .0) (qs .1 .1 .1 .1 .1 .1 .0))
-              (List._∷_
-              (Row.lease (κs .1 .1 .1 .1 .1 .1 .1 .0) (qs .1 .1 .1 .1 .1 .1 .1 .0))
-              (List._∷_
-              (Row.lease (κs .1 .1 .1 .1 .1 .1 .1 .1 .0) (qs .1 .1 .1 .1 .1 .1 .1 .1 .0))
+              (Row.lease (κs .1 .1 .1 .1 .1 .1 .1 .1 .1 .0) (qs .1 .1 .1 .1 .1 .1 .1 .1 .1 .0))
               (List._∷_
               Row.off
               (List._∷_
@@ -10159,34 +10718,34 @@ module _ (claims· : Claims) where
               Row.off
               (List._∷_
               Row.off
-              (List._∷_ Row.off (List._∷_ Row.off (List._∷_ Row.off List.[])))))))))))))));
+              (List._∷_ Row.off (List._∷_ Row.off (List._∷_ Row.off List.[]))))))))))))))));
         }
 
         abbrev Δ0 : Typed.Outs
         Δ0 = record { next = Option.none; exits = List.[]; returns = Option.some G1 }
 
         abbrev Δ1 : Typed.Outs
-        Δ1 = Typed.withNext (Option.some G18) Δ0
+        Δ1 = Typed.withNext (Option.some G14) Δ0
 
         abbrev Δ2 : Typed.Outs
         Δ2 = Typed.inBlock₀ Δ1
 
         abbrev Δ3 : Typed.Outs
-        Δ3 = Typed.inLoop₀ G17 Δ2
+        Δ3 = Typed.inLoop₀ G13 Δ2
 
         abbrev Δ4 : Typed.Outs
-        Δ4 = Typed.withNext (Option.some G20) Δ3
+        Δ4 = Typed.withNext (Option.some G16) Δ3
 
         module _ {M : Type 1} (𝓤 : URA.URA M) (H : Wp.Heap 𝓤) (A : Atoms.Atoms 𝓤)
             (W : Kit.Given 𝓤 H A) (𝓣 : Wp.Tables 𝓤 H) (known : Knowns 𝓤 H A W 𝓣)
-            (bs : List.List Nat.ℕ) (bd : Lifetimes.AllOutlive 9 (Kinds.osR r) κs) where
+            (bs : List.List Nat.ℕ) (bd : Lifetimes.AllOutlive 10 (Kinds.osR r) κs) where
           abbrev E : Wp.Env 𝓤 H
           E = Frame.EnvOf 𝓤 H (List._∷_ (Kinds.tyR r) (Enter.tysP ps xs)) bs
 
-          d0 : Typed.Typed 𝓤 H A 𝓣 E G21 b7 Δ4 (at0 bs)
+          d0 : Typed.Typed 𝓤 H A 𝓣 E G17 b4 Δ4 at0
           d0 = Typed.t-skip 𝓤 H A W 𝓣 E Δ4 tt
 
-          d1 : Typed.Typed 𝓤 H A 𝓣 E G19 b7 Δ4 (at1 bs)
+          d1 : Typed.Typed 𝓤 H A 𝓣 E G15 b4 Δ4 at1
           d1 =
               Typed.g-pre
               𝓤
@@ -10195,19 +10754,19 @@ module _ (claims· : Claims) where
               W
               𝓣
               E
-              G19
-              G21
-              b7
+              G15
+              G17
+              b4
               Δ4
-              (Typed.pass T19 T21 (s17 bs))
-              (at0 bs)
-              (Scalar.g-room 𝓤 H A W E G19 17 Syntax.tyBool (Scalar.room-sc 𝓤 H A W Row.sBool))
+              (Typed.pass T15 T17 s13)
+              at0
+              (Scalar.g-room 𝓤 H A W E G15 16 Syntax.tyBool (Scalar.room-sc 𝓤 H A W Row.sBool))
               d0
 
-          d2 : Typed.Typed 𝓤 H A 𝓣 E G24 b8 Δ4 (at2 bs)
+          d2 : Typed.Typed 𝓤 H A 𝓣 E G18 b5 Δ4 at2
           d2 = Typed.t-exit 𝓤 H A W 𝓣 E 1 Δ4 tt
 
-          d3 : Typed.Typed 𝓤 H A 𝓣 E G23 b8 Δ4 (at3 bs)
+          d3 : Typed.Typed 𝓤 H A 𝓣 E G15 b5 Δ4 at3
           d3 =
               Typed.g-pre
               𝓤
@@ -10216,17 +10775,77 @@ module _ (claims· : Claims) where
               W
               𝓣
               E
-              G23
-              G24
-              b8
+              G15
+              G18
+              b5
               Δ4
-              (Typed.pass T23 T24 (s20 bs))
-              (at2 bs)
-              (Scalar.g-room 𝓤 H A W E G23 17 Syntax.tyBool (Scalar.room-sc 𝓤 H A W Row.sBool))
+              (Typed.pass T15 T18 s14)
+              at2
+              (Scalar.g-room 𝓤 H A W E G15 16 Syntax.tyBool (Scalar.room-sc 𝓤 H A W Row.sBool))
               d2
 
-          d4 : Typed.Typed 𝓤 H A 𝓣 E G22 b8 Δ4 (at4 bs)
+          d4 : Typed.Typed 𝓤 H A 𝓣 E G15 b6 Δ4 at4
           d4 =
+              Scalar.t-cond
+              𝓤
+              H
+              A
+              W
+              E
+              𝓣
+              G15
+              16
+              (λ x. x)
+              b4
+              b5
+              Δ4
+              at1
+              at3
+              (Scalar.reads-sc 𝓤 H A W Row.sBool)
+              Path'.refl
+              d1
+              d3
+
+          d5 : Typed.Typed 𝓤 H A 𝓣 E G76 b27 Δ3 at5
+          d5 =
+              Typed.s-typed
+              𝓤
+              H
+              A
+              W
+              𝓣
+              E
+              G76
+              b27
+              Δ3
+              (Typed.ask s73)
+              tt
+              (Scalar.t-op2
+              𝓤
+              H
+              A
+              W
+              E
+              𝓣
+              G76
+              (Syntax.add Syntax.unsigned)
+              (Scalar.oAt 13 (Syntax.tyInt Syntax.w64) (Row.valS (Row.sInt Syntax.w64)))
+              (Scalar.oInt Syntax.w64 1)
+              13
+              (Rows.sc-here (Row.sInt Syntax.w64))
+              (Syntax.tyInt Syntax.w64)
+              (Row.valS (Row.sInt Syntax.w64))
+              (Row.sInt Syntax.w64 .of)
+              (Scalar.reads-sc 𝓤 H A W (Row.sInt Syntax.w64), Path'.refl)
+              tt
+              (Scalar.room-sc 𝓤 H A W (Row.sInt Syntax.w64))
+              (Scalar.holds-sc 𝓤 H A W (Row.sInt Syntax.w64))
+              Path'.refl
+              (λ u. Path'.refl)
+              λ u. tt)
+
+          d6 : Typed.Typed 𝓤 H A 𝓣 E G75 b27 Δ3 at6
+          d6 =
               Typed.g-pre
               𝓤
               H
@@ -10234,20 +10853,675 @@ module _ (claims· : Claims) where
               W
               𝓣
               E
-              G22
-              G23
-              b8
-              Δ4
-              (Typed.pass T22 T23 (s19 bs))
-              (at3 bs)
+              G75
+              G76
+              b27
+              Δ3
+              (λ Ψ. Ψ)
+              at5
+              (Lifetime.g-forget 𝓤 H A W E G75 16 Row.dead Path'.refl)
+              d5
+
+          d7 : Typed.Typed 𝓤 H A 𝓣 E G74 b27 Δ3 at7
+          d7 =
+              Typed.g-pre
+              𝓤
+              H
+              A
+              W
+              𝓣
+              E
+              G74
+              G75
+              b27
+              Δ3
+              (Typed.give s71)
+              at6
+              (Know.g-sl-known
+              𝓤
+              H
+              A
+              W
+              (Referent.fInt Syntax.w8)
+              E
+              G74
+              10
+              8
+              (Syntax.tyRef (Syntax.named 8) Syntax.mut (Syntax.tyInt Syntax.w8))
+              (Row.lease (κs .1 .1 .1 .1 .1 .1 .1 .1 .0) (qs .1 .1 .1 .1 .1 .1 .1 .1 .0))
+              0
+              (λ x. x)
+              record { fits = Dec'.lit< tt }
+              (Reads'.as-is
+              𝓤
+              H
+              A
+              (Mut.mslice
+              (Referent.rtF (Referent.fInt Syntax.w8))
+              (Syntax.tyRef (Syntax.named 8) Syntax.mut (Syntax.tyInt Syntax.w8))
+              8))
+              Path'.refl
+              tt)
+              d6
+
+          d8 : Typed.Typed 𝓤 H A 𝓣 E G73 b27 Δ3 at8
+          d8 =
+              Typed.g-pre
+              𝓤
+              H
+              A
+              W
+              𝓣
+              E
+              G73
+              G74
+              b27
+              Δ3
+              (Typed.both s70)
+              at7
+              (Relend.g-back-sl
+              𝓤
+              H
+              A
+              W
+              E
+              (Referent.rtF (Referent.fInt Syntax.w8))
+              G73
+              33
+              10
+              8
+              16
+              (Syntax.tyRef (Syntax.named 8) Syntax.mut (Syntax.tyInt Syntax.w8))
+              (Syntax.tyRef Syntax.erased Syntax.mut (Syntax.tyInt Syntax.w8))
+              (Row.lease (κs .1 .1 .1 .1 .1 .1 .1 .1 .0) (qs .1 .1 .1 .1 .1 .1 .1 .1 .0))
+              (λ x. x)
+              (λ x. x)
+              (Reads'.as-is
+              𝓤
+              H
+              A
+              (Mut.msleft
+              (Referent.rtF (Referent.fInt Syntax.w8))
+              (Syntax.tyRef Syntax.erased Syntax.mut (Syntax.tyInt Syntax.w8))))
+              (Reads'.as-is
+              𝓤
+              H
+              A
+              (Relend.mslice-owed
+              (Referent.rtF (Referent.fInt Syntax.w8))
+              (Syntax.tyRef (Syntax.named 8) Syntax.mut (Syntax.tyInt Syntax.w8))
+              8
+              16
+              (Row.lease (κs .1 .1 .1 .1 .1 .1 .1 .1 .0) (qs .1 .1 .1 .1 .1 .1 .1 .1 .0))))
+              Path'.refl
+              Path'.refl)
+              d7
+
+          d9 : Typed.Typed 𝓤 H A 𝓣 E G72 b27 Δ3 at9
+          d9 =
+              Typed.g-pre
+              𝓤
+              H
+              A
+              W
+              𝓣
+              E
+              G72
+              G73
+              b27
+              Δ3
+              (λ Ψ. Ψ)
+              at8
+              (Lifetime.g-end 𝓤 H A W E G72 16 Path'.refl)
+              d8
+
+          d10 : Typed.Typed 𝓤 H A 𝓣 E G71 b27 Δ3 at10
+          d10 =
+              Typed.g-pre
+              𝓤
+              H
+              A
+              W
+              𝓣
+              E
+              G71
+              G72
+              b27
+              Δ3
+              (λ Ψ. Ψ)
+              at9
+              (Lifetime.g-forget 𝓤 H A W E G71 15 Row.dead Path'.refl)
+              d9
+
+          d11 : Typed.Typed 𝓤 H A 𝓣 E G70 b27 Δ3 at11
+          d11 =
+              Typed.g-pre
+              𝓤
+              H
+              A
+              W
+              𝓣
+              E
+              G70
+              G71
+              b27
+              Δ3
+              (Typed.give s67)
+              at10
+              (Know.g-sl-known
+              𝓤
+              H
+              A
+              W
+              (Referent.fInt Syntax.w8)
+              E
+              G70
+              9
+              7
+              (Syntax.tyRef (Syntax.named 7) Syntax.mut (Syntax.tyInt Syntax.w8))
+              (Row.lease (κs .1 .1 .1 .1 .1 .1 .1 .0) (qs .1 .1 .1 .1 .1 .1 .1 .0))
+              0
+              (λ x. x)
+              record { fits = Dec'.lit< tt }
+              (Reads'.as-is
+              𝓤
+              H
+              A
+              (Mut.mslice
+              (Referent.rtF (Referent.fInt Syntax.w8))
+              (Syntax.tyRef (Syntax.named 7) Syntax.mut (Syntax.tyInt Syntax.w8))
+              7))
+              Path'.refl
+              tt)
+              d10
+
+          d12 : Typed.Typed 𝓤 H A 𝓣 E G69 b27 Δ3 at12
+          d12 =
+              Typed.g-pre
+              𝓤
+              H
+              A
+              W
+              𝓣
+              E
+              G69
+              G70
+              b27
+              Δ3
+              (Typed.both s66)
+              at11
+              (Relend.g-back-sl
+              𝓤
+              H
+              A
+              W
+              E
+              (Referent.rtF (Referent.fInt Syntax.w8))
+              G69
+              31
+              9
+              7
+              15
+              (Syntax.tyRef (Syntax.named 7) Syntax.mut (Syntax.tyInt Syntax.w8))
+              (Syntax.tyRef Syntax.erased Syntax.mut (Syntax.tyInt Syntax.w8))
+              (Row.lease (κs .1 .1 .1 .1 .1 .1 .1 .0) (qs .1 .1 .1 .1 .1 .1 .1 .0))
+              (λ x. x)
+              (λ x. x)
+              (Reads'.as-is
+              𝓤
+              H
+              A
+              (Mut.msleft
+              (Referent.rtF (Referent.fInt Syntax.w8))
+              (Syntax.tyRef Syntax.erased Syntax.mut (Syntax.tyInt Syntax.w8))))
+              (Reads'.as-is
+              𝓤
+              H
+              A
+              (Relend.mslice-owed
+              (Referent.rtF (Referent.fInt Syntax.w8))
+              (Syntax.tyRef (Syntax.named 7) Syntax.mut (Syntax.tyInt Syntax.w8))
+              7
+              15
+              (Row.lease (κs .1 .1 .1 .1 .1 .1 .1 .0) (qs .1 .1 .1 .1 .1 .1 .1 .0))))
+              Path'.refl
+              Path'.refl)
+              d11
+
+          d13 : Typed.Typed 𝓤 H A 𝓣 E G68 b27 Δ3 at13
+          d13 =
+              Typed.g-pre
+              𝓤
+              H
+              A
+              W
+              𝓣
+              E
+              G68
+              G69
+              b27
+              Δ3
+              (λ Ψ. Ψ)
+              at12
+              (Lifetime.g-end 𝓤 H A W E G68 15 Path'.refl)
+              d12
+
+          d14 : Typed.Typed 𝓤 H A 𝓣 E G67 b27 Δ3 at14
+          d14 =
+              Typed.g-pre
+              𝓤
+              H
+              A
+              W
+              𝓣
+              E
+              G67
+              G68
+              b27
+              Δ3
+              (λ Ψ. Ψ)
+              at13
+              (Lifetime.g-forget 𝓤 H A W E G67 14 Row.dead Path'.refl)
+              d13
+
+          d15 : Typed.Typed 𝓤 H A 𝓣 E G66 b27 Δ3 at15
+          d15 =
+              Typed.g-pre
+              𝓤
+              H
+              A
+              W
+              𝓣
+              E
+              G66
+              G67
+              b27
+              Δ3
+              (Typed.give s63)
+              at14
+              (Know.g-sl-known
+              𝓤
+              H
+              A
+              W
+              (Referent.fInt Syntax.w8)
+              E
+              G66
+              8
+              6
+              (Syntax.tyRef (Syntax.named 6) Syntax.mut (Syntax.tyInt Syntax.w8))
+              (Row.lease (κs .1 .1 .1 .1 .1 .1 .0) (qs .1 .1 .1 .1 .1 .1 .0))
+              0
+              (λ x. x)
+              record { fits = Dec'.lit< tt }
+              (Reads'.as-is
+              𝓤
+              H
+              A
+              (Mut.mslice
+              (Referent.rtF (Referent.fInt Syntax.w8))
+              (Syntax.tyRef (Syntax.named 6) Syntax.mut (Syntax.tyInt Syntax.w8))
+              6))
+              Path'.refl
+              tt)
+              d14
+
+          d16 : Typed.Typed 𝓤 H A 𝓣 E G65 b27 Δ3 at16
+          d16 =
+              Typed.g-pre
+              𝓤
+              H
+              A
+              W
+              𝓣
+              E
+              G65
+              G66
+              b27
+              Δ3
+              (Typed.both s62)
+              at15
+              (Relend.g-back-sl
+              𝓤
+              H
+              A
+              W
+              E
+              (Referent.rtF (Referent.fInt Syntax.w8))
+              G65
+              29
+              8
+              6
+              14
+              (Syntax.tyRef (Syntax.named 6) Syntax.mut (Syntax.tyInt Syntax.w8))
+              (Syntax.tyRef Syntax.erased Syntax.mut (Syntax.tyInt Syntax.w8))
+              (Row.lease (κs .1 .1 .1 .1 .1 .1 .0) (qs .1 .1 .1 .1 .1 .1 .0))
+              (λ x. x)
+              (λ x. x)
+              (Reads'.as-is
+              𝓤
+              H
+              A
+              (Mut.msleft
+              (Referent.rtF (Referent.fInt Syntax.w8))
+              (Syntax.tyRef Syntax.erased Syntax.mut (Syntax.tyInt Syntax.w8))))
+              (Reads'.as-is
+              𝓤
+              H
+              A
+              (Relend.mslice-owed
+              (Referent.rtF (Referent.fInt Syntax.w8))
+              (Syntax.tyRef (Syntax.named 6) Syntax.mut (Syntax.tyInt Syntax.w8))
+              6
+              14
+              (Row.lease (κs .1 .1 .1 .1 .1 .1 .0) (qs .1 .1 .1 .1 .1 .1 .0))))
+              Path'.refl
+              Path'.refl)
+              d15
+
+          d17 : Typed.Typed 𝓤 H A 𝓣 E G64 b27 Δ3 at17
+          d17 =
+              Typed.g-pre
+              𝓤
+              H
+              A
+              W
+              𝓣
+              E
+              G64
+              G65
+              b27
+              Δ3
+              (λ Ψ. Ψ)
+              at16
+              (Lifetime.g-end 𝓤 H A W E G64 14 Path'.refl)
+              d16
+
+          d18 : Typed.Typed 𝓤 H A 𝓣 E G63 b27 Δ3 at18
+          d18 =
+              Typed.g-pre
+              𝓤
+              H
+              A
+              W
+              𝓣
+              E
+              G63
+              G64
+              b27
+              Δ3
+              (λ Ψ. Ψ)
+              at17
+              (Lifetime.g-forget 𝓤 H A W E G63 13 Row.dead Path'.refl)
+              d17
+
+          d19 : Typed.Typed 𝓤 H A 𝓣 E G62 b27 Δ3 at19
+          d19 =
+              Typed.g-pre
+              𝓤
+              H
+              A
+              W
+              𝓣
+              E
+              G62
+              G63
+              b27
+              Δ3
+              (Typed.give s59)
+              at18
+              (Know.g-sl-known
+              𝓤
+              H
+              A
+              W
+              (Referent.fInt Syntax.w8)
+              E
+              G62
+              7
+              5
+              (Syntax.tyRef (Syntax.named 5) Syntax.mut (Syntax.tyInt Syntax.w8))
+              (Row.lease (κs .1 .1 .1 .1 .1 .0) (qs .1 .1 .1 .1 .1 .0))
+              0
+              (λ x. x)
+              record { fits = Dec'.lit< tt }
+              (Reads'.as-is
+              𝓤
+              H
+              A
+              (Mut.mslice
+              (Referent.rtF (Referent.fInt Syntax.w8))
+              (Syntax.tyRef (Syntax.named 5) Syntax.mut (Syntax.tyInt Syntax.w8))
+              5))
+              Path'.refl
+              tt)
+              d18
+
+          d20 : Typed.Typed 𝓤 H A 𝓣 E G61 b27 Δ3 at20
+          d20 =
+              Typed.g-pre
+              𝓤
+              H
+              A
+              W
+              𝓣
+              E
+              G61
+              G62
+              b27
+              Δ3
+              (Typed.both s58)
+              at19
+              (Relend.g-back-sl
+              𝓤
+              H
+              A
+              W
+              E
+              (Referent.rtF (Referent.fInt Syntax.w8))
+              G61
+              27
+              7
+              5
+              13
+              (Syntax.tyRef (Syntax.named 5) Syntax.mut (Syntax.tyInt Syntax.w8))
+              (Syntax.tyRef Syntax.erased Syntax.mut (Syntax.tyInt Syntax.w8))
+              (Row.lease (κs .1 .1 .1 .1 .1 .0) (qs .1 .1 .1 .1 .1 .0))
+              (λ x. x)
+              (λ x. x)
+              (Reads'.as-is
+              𝓤
+              H
+              A
+              (Mut.msleft
+              (Referent.rtF (Referent.fInt Syntax.w8))
+              (Syntax.tyRef Syntax.erased Syntax.mut (Syntax.tyInt Syntax.w8))))
+              (Reads'.as-is
+              𝓤
+              H
+              A
+              (Relend.mslice-owed
+              (Referent.rtF (Referent.fInt Syntax.w8))
+              (Syntax.tyRef (Syntax.named 5) Syntax.mut (Syntax.tyInt Syntax.w8))
+              5
+              13
+              (Row.lease (κs .1 .1 .1 .1 .1 .0) (qs .1 .1 .1 .1 .1 .0))))
+              Path'.refl
+              Path'.refl)
+              d19
+
+          d21 : Typed.Typed 𝓤 H A 𝓣 E G60 b27 Δ3 at21
+          d21 =
+              Typed.g-pre
+              𝓤
+              H
+              A
+              W
+              𝓣
+              E
+              G60
+              G61
+              b27
+              Δ3
+              (λ Ψ. Ψ)
+              at20
+              (Lifetime.g-end 𝓤 H A W E G60 13 Path'.refl)
+              d20
+
+          d22 : Typed.Typed 𝓤 H A 𝓣 E G59 b27 Δ3 at22
+          d22 =
+              Typed.g-pre
+              𝓤
+              H
+              A
+              W
+              𝓣
+              E
+              G59
+              G60
+              b27
+              Δ3
+              (λ Ψ. Ψ)
+              at21
+              (Lifetime.g-forget 𝓤 H A W E G59 12 Row.dead Path'.refl)
+              d21
+
+          d23 : Typed.Typed 𝓤 H A 𝓣 E G58 b27 Δ3 at23
+          d23 =
+              Typed.g-pre
+              𝓤
+              H
+              A
+              W
+              𝓣
+              E
+              G58
+              G59
+              b27
+              Δ3
+              (Typed.give s55)
+              at22
+              (Know.g-sl-known
+              𝓤
+              H
+              A
+              W
+              (Referent.fInt Syntax.w64)
+              E
+              G58
+              6
+              4
+              (Syntax.tyRef (Syntax.named 4) Syntax.mut (Syntax.tyInt Syntax.w64))
+              (Row.lease (κs .1 .1 .1 .1 .0) (qs .1 .1 .1 .1 .0))
+              0
+              (λ x. x)
+              record { fits = Dec'.lit< tt }
+              (Reads'.as-is
+              𝓤
+              H
+              A
+              (Mut.mslice
+              (Referent.rtF (Referent.fInt Syntax.w64))
+              (Syntax.tyRef (Syntax.named 4) Syntax.mut (Syntax.tyInt Syntax.w64))
+              4))
+              Path'.refl
+              tt)
+              d22
+
+          d24 : Typed.Typed 𝓤 H A 𝓣 E G57 b27 Δ3 at24
+          d24 =
+              Typed.g-pre
+              𝓤
+              H
+              A
+              W
+              𝓣
+              E
+              G57
+              G58
+              b27
+              Δ3
+              (Typed.both s54)
+              at23
+              (Relend.g-back-sl
+              𝓤
+              H
+              A
+              W
+              E
+              (Referent.rtF (Referent.fInt Syntax.w64))
+              G57
+              25
+              6
+              4
+              12
+              (Syntax.tyRef (Syntax.named 4) Syntax.mut (Syntax.tyInt Syntax.w64))
+              (Syntax.tyRef Syntax.erased Syntax.mut (Syntax.tyInt Syntax.w64))
+              (Row.lease (κs .1 .1 .1 .1 .0) (qs .1 .1 .1 .1 .0))
+              (λ x. x)
+              (λ x. x)
+              (Reads'.as-is
+              𝓤
+              H
+              A
+              (Mut.msleft
+              (Referent.rtF (Referent.fInt Syntax.w64))
+              (Syntax.tyRef Syntax.erased Syntax.mut (Syntax.tyInt Syntax.w64))))
+              (Reads'.as-is
+              𝓤
+              H
+              A
+              (Relend.mslice-owed
+              (Referent.rtF (Referent.fInt Syntax.w64))
+              (Syntax.tyRef (Syntax.named 4) Syntax.mut (Syntax.tyInt Syntax.w64))
+              4
+              12
+              (Row.lease (κs .1 .1 .1 .1 .0) (qs .1 .1 .1 .1 .0))))
+              Path'.refl
+              Path'.refl)
+              d23
+
+          d25 : Typed.Typed 𝓤 H A 𝓣 E G56 b27 Δ3 at25
+          d25 =
+              Typed.g-pre
+              𝓤
+              H
+              A
+              W
+              𝓣
+              E
+              G56
+              G57
+              b27
+              Δ3
+              (λ Ψ. Ψ)
+              at24
+              (Lifetime.g-end 𝓤 H A W E G56 12 Path'.refl)
+              d24
+
+          d26 : Typed.Typed 𝓤 H A 𝓣 E G55 b27 Δ3 at26
+          d26 =
+              Typed.g-pre
+              𝓤
+              H
+              A
+              W
+              𝓣
+              E
+              G55
+              G56
+              b27
+              Δ3
+              (Typed.pass T55 T56 s52)
+              at25
               (Scalar.g-room
               𝓤
               H
               A
               W
               E
-              G22
-              12
+              G55
+              15
               (Syntax.tyStruct
               (List._∷_
               114
@@ -10361,802 +11635,10 @@ module _ (claims· : Claims) where
               (Syntax.tcons (Syntax.tyInt Syntax.w64) Syntax.tnil))
               (Syntax.tcons (Syntax.tyInt Syntax.w64) Syntax.tnil)))))
               Path'.refl))
-              d3
-
-          d5 : Typed.Typed 𝓤 H A 𝓣 E G19 b8 Δ4 (at5 bs)
-          d5 =
-              Typed.g-pre
-              𝓤
-              H
-              A
-              W
-              𝓣
-              E
-              G19
-              G22
-              b8
-              Δ4
-              (Typed.pass T19 T22 (s18 bs))
-              (at4 bs)
-              (Scalar.g-room
-              𝓤
-              H
-              A
-              W
-              E
-              G19
-              11
-              (Syntax.tyArray Elem.held 1024)
-              (Init.room-arr
-              𝓤
-              H
-              A
-              W
-              Elem.R
-              1024
-              0
-              1024
-              Path'.refl))
-              d4
-
-          d6 : Typed.Typed 𝓤 H A 𝓣 E G19 b9 Δ4 (at6 bs)
-          d6 =
-              Scalar.t-cond
-              𝓤
-              H
-              A
-              W
-              E
-              𝓣
-              G19
-              17
-              (λ x. x)
-              b7
-              b8
-              Δ4
-              (at1 bs)
-              (at5 bs)
-              (Scalar.reads-sc 𝓤 H A W Row.sBool)
-              Path'.refl
-              d1
-              d5
-
-          d7 : Typed.Typed 𝓤 H A 𝓣 E G77 b28 Δ3 (at7 bs)
-          d7 =
-              Typed.s-typed
-              𝓤
-              H
-              A
-              W
-              𝓣
-              E
-              G77
-              b28
-              Δ3
-              (Typed.ask (s74 bs))
-              tt
-              (Scalar.t-op2
-              𝓤
-              H
-              A
-              W
-              E
-              𝓣
-              G77
-              (Syntax.add Syntax.unsigned)
-              (Scalar.oAt 14 (Syntax.tyInt Syntax.w64) (Row.valS (Row.sInt Syntax.w64)))
-              (Scalar.oInt Syntax.w64 1)
-              14
-              (Rows'.sc-here (Row.sInt Syntax.w64))
-              (Syntax.tyInt Syntax.w64)
-              (Row.valS (Row.sInt Syntax.w64))
-              (Row.sInt Syntax.w64 .of)
-              (Scalar.reads-sc 𝓤 H A W (Row.sInt Syntax.w64), Path'.refl)
-              tt
-              (Scalar.room-sc 𝓤 H A W (Row.sInt Syntax.w64))
-              (Scalar.holds-sc 𝓤 H A W (Row.sInt Syntax.w64))
-              Path'.refl
-              (λ u. Path'.refl)
-              λ u. tt)
-
-          d8 : Typed.Typed 𝓤 H A 𝓣 E G76 b29 Δ3 (at8 bs)
-          d8 =
-              Typed.s-seq
-              𝓤
-              H
-              A
-              W
-              𝓣
-              E
-              G76
-              G77
-              b27
-              b28
-              Δ3
-              (Typed.ask (s73 bs))
-              (at7 bs)
-              (Scalar.t-op2
-              𝓤
-              H
-              A
-              W
-              E
-              𝓣
-              G76
-              (Syntax.add Syntax.unsigned)
-              (Scalar.oAt 13 (Syntax.tyInt Syntax.w64) (Row.valS (Row.sInt Syntax.w64)))
-              (Scalar.oInt Syntax.w64 1)
-              13
-              (Rows'.sc-here (Row.sInt Syntax.w64))
-              (Syntax.tyInt Syntax.w64)
-              (Row.valS (Row.sInt Syntax.w64))
-              (Row.sInt Syntax.w64 .of)
-              (Scalar.reads-sc 𝓤 H A W (Row.sInt Syntax.w64), Path'.refl)
-              tt
-              (Scalar.room-sc 𝓤 H A W (Row.sInt Syntax.w64))
-              (Scalar.holds-sc 𝓤 H A W (Row.sInt Syntax.w64))
-              Path'.refl
-              (λ u. Path'.refl)
-              λ u. tt)
-              d7
-
-          d9 : Typed.Typed 𝓤 H A 𝓣 E G75 b29 Δ3 (at9 bs)
-          d9 =
-              Typed.g-pre
-              𝓤
-              H
-              A
-              W
-              𝓣
-              E
-              G75
-              G76
-              b29
-              Δ3
-              (λ Ψ. Ψ)
-              (at8 bs)
-              (Lifetime.g-forget 𝓤 H A W E G75 15 Row.dead Path'.refl)
-              d8
-
-          d10 : Typed.Typed 𝓤 H A 𝓣 E G74 b29 Δ3 (at10 bs)
-          d10 =
-              Typed.g-pre
-              𝓤
-              H
-              A
-              W
-              𝓣
-              E
-              G74
-              G75
-              b29
-              Δ3
-              (Typed.give (s71 bs))
-              (at9 bs)
-              (Know.g-sl-known
-              𝓤
-              H
-              A
-              W
-              (Referent.fInt Syntax.w8)
-              E
-              G74
-              10
-              8
-              (Syntax.tyRef (Syntax.named 8) Syntax.mut (Syntax.tyInt Syntax.w8))
-              (Row.lease (κs .1 .1 .1 .1 .1 .1 .1 .1 .0) (qs .1 .1 .1 .1 .1 .1 .1 .1 .0))
-              0
-              (λ x. x)
-              record { fits = Dec'.lit< tt }
-              (Reads'.as-is
-              𝓤
-              H
-              A
-              (Mut.mslice
-              (Referent.rtF (Referent.fInt Syntax.w8))
-              (Syntax.tyRef (Syntax.named 8) Syntax.mut (Syntax.tyInt Syntax.w8))
-              8))
-              Path'.refl
-              tt)
-              d9
-
-          d11 : Typed.Typed 𝓤 H A 𝓣 E G73 b29 Δ3 (at11 bs)
-          d11 =
-              Typed.g-pre
-              𝓤
-              H
-              A
-              W
-              𝓣
-              E
-              G73
-              G74
-              b29
-              Δ3
-              (Typed.both (s70 bs))
-              (at10 bs)
-              (Relend.g-back-sl
-              𝓤
-              H
-              A
-              W
-              E
-              (Referent.rtF (Referent.fInt Syntax.w8))
-              G73
-              31
-              10
-              8
-              15
-              (Syntax.tyRef (Syntax.named 8) Syntax.mut (Syntax.tyInt Syntax.w8))
-              (Syntax.tyRef Syntax.erased Syntax.mut (Syntax.tyInt Syntax.w8))
-              (Row.lease (κs .1 .1 .1 .1 .1 .1 .1 .1 .0) (qs .1 .1 .1 .1 .1 .1 .1 .1 .0))
-              (λ x. x)
-              (λ x. x)
-              (Reads'.as-is
-              𝓤
-              H
-              A
-              (Mut.msleft
-              (Referent.rtF (Referent.fInt Syntax.w8))
-              (Syntax.tyRef Syntax.erased Syntax.mut (Syntax.tyInt Syntax.w8))))
-              (Reads'.as-is
-              𝓤
-              H
-              A
-              (Relend.mslice-owed
-              (Referent.rtF (Referent.fInt Syntax.w8))
-              (Syntax.tyRef (Syntax.named 8) Syntax.mut (Syntax.tyInt Syntax.w8))
-              8
-              15
-              (Row.lease (κs .1 .1 .1 .1 .1 .1 .1 .1 .0) (qs .1 .1 .1 .1 .1 .1 .1 .1 .0))))
-              Path'.refl
-              Path'.refl)
-              d10
-
-          d12 : Typed.Typed 𝓤 H A 𝓣 E G72 b29 Δ3 (at12 bs)
-          d12 =
-              Typed.g-pre
-              𝓤
-              H
-              A
-              W
-              𝓣
-              E
-              G72
-              G73
-              b29
-              Δ3
-              (λ Ψ. Ψ)
-              (at11 bs)
-              (Lifetime.g-end 𝓤 H A W E G72 15 Path'.refl)
-              d11
-
-          d13 : Typed.Typed 𝓤 H A 𝓣 E G71 b29 Δ3 (at13 bs)
-          d13 =
-              Typed.g-pre
-              𝓤
-              H
-              A
-              W
-              𝓣
-              E
-              G71
-              G72
-              b29
-              Δ3
-              (λ Ψ. Ψ)
-              (at12 bs)
-              (Lifetime.g-forget 𝓤 H A W E G71 14 Row.dead Path'.refl)
-              d12
-
-          d14 : Typed.Typed 𝓤 H A 𝓣 E G70 b29 Δ3 (at14 bs)
-          d14 =
-              Typed.g-pre
-              𝓤
-              H
-              A
-              W
-              𝓣
-              E
-              G70
-              G71
-              b29
-              Δ3
-              (Typed.give (s67 bs))
-              (at13 bs)
-              (Know.g-sl-known
-              𝓤
-              H
-              A
-              W
-              (Referent.fInt Syntax.w8)
-              E
-              G70
-              9
-              7
-              (Syntax.tyRef (Syntax.named 7) Syntax.mut (Syntax.tyInt Syntax.w8))
-              (Row.lease (κs .1 .1 .1 .1 .1 .1 .1 .0) (qs .1 .1 .1 .1 .1 .1 .1 .0))
-              0
-              (λ x. x)
-              record { fits = Dec'.lit< tt }
-              (Reads'.as-is
-              𝓤
-              H
-              A
-              (Mut.mslice
-              (Referent.rtF (Referent.fInt Syntax.w8))
-              (Syntax.tyRef (Syntax.named 7) Syntax.mut (Syntax.tyInt Syntax.w8))
-              7))
-              Path'.refl
-              tt)
-              d13
-
-          d15 : Typed.Typed 𝓤 H A 𝓣 E G69 b29 Δ3 (at15 bs)
-          d15 =
-              Typed.g-pre
-              𝓤
-              H
-              A
-              W
-              𝓣
-              E
-              G69
-              G70
-              b29
-              Δ3
-              (Typed.both (s66 bs))
-              (at14 bs)
-              (Relend.g-back-sl
-              𝓤
-              H
-              A
-              W
-              E
-              (Referent.rtF (Referent.fInt Syntax.w8))
-              G69
-              29
-              9
-              7
-              14
-              (Syntax.tyRef (Syntax.named 7) Syntax.mut (Syntax.tyInt Syntax.w8))
-              (Syntax.tyRef Syntax.erased Syntax.mut (Syntax.tyInt Syntax.w8))
-              (Row.lease (κs .1 .1 .1 .1 .1 .1 .1 .0) (qs .1 .1 .1 .1 .1 .1 .1 .0))
-              (λ x. x)
-              (λ x. x)
-              (Reads'.as-is
-              𝓤
-              H
-              A
-              (Mut.msleft
-              (Referent.rtF (Referent.fInt Syntax.w8))
-              (Syntax.tyRef Syntax.erased Syntax.mut (Syntax.tyInt Syntax.w8))))
-              (Reads'.as-is
-              𝓤
-              H
-              A
-              (Relend.mslice-owed
-              (Referent.rtF (Referent.fInt Syntax.w8))
-              (Syntax.tyRef (Syntax.named 7) Syntax.mut (Syntax.tyInt Syntax.w8))
-              7
-              14
-              (Row.lease (κs .1 .1 .1 .1 .1 .1 .1 .0) (qs .1 .1 .1 .1 .1 .1 .1 .0))))
-              Path'.refl
-              Path'.refl)
-              d14
-
-          d16 : Typed.Typed 𝓤 H A 𝓣 E G68 b29 Δ3 (at16 bs)
-          d16 =
-              Typed.g-pre
-              𝓤
-              H
-              A
-              W
-              𝓣
-              E
-              G68
-              G69
-              b29
-              Δ3
-              (λ Ψ. Ψ)
-              (at15 bs)
-              (Lifetime.g-end 𝓤 H A W E G68 14 Path'.refl)
-              d15
-
-          d17 : Typed.Typed 𝓤 H A 𝓣 E G67 b29 Δ3 (at17 bs)
-          d17 =
-              Typed.g-pre
-              𝓤
-              H
-              A
-              W
-              𝓣
-              E
-              G67
-              G68
-              b29
-              Δ3
-              (λ Ψ. Ψ)
-              (at16 bs)
-              (Lifetime.g-forget 𝓤 H A W E G67 13 Row.dead Path'.refl)
-              d16
-
-          d18 : Typed.Typed 𝓤 H A 𝓣 E G66 b29 Δ3 (at18 bs)
-          d18 =
-              Typed.g-pre
-              𝓤
-              H
-              A
-              W
-              𝓣
-              E
-              G66
-              G67
-              b29
-              Δ3
-              (Typed.give (s63 bs))
-              (at17 bs)
-              (Know.g-sl-known
-              𝓤
-              H
-              A
-              W
-              (Referent.fInt Syntax.w8)
-              E
-              G66
-              8
-              6
-              (Syntax.tyRef (Syntax.named 6) Syntax.mut (Syntax.tyInt Syntax.w8))
-              (Row.lease (κs .1 .1 .1 .1 .1 .1 .0) (qs .1 .1 .1 .1 .1 .1 .0))
-              0
-              (λ x. x)
-              record { fits = Dec'.lit< tt }
-              (Reads'.as-is
-              𝓤
-              H
-              A
-              (Mut.mslice
-              (Referent.rtF (Referent.fInt Syntax.w8))
-              (Syntax.tyRef (Syntax.named 6) Syntax.mut (Syntax.tyInt Syntax.w8))
-              6))
-              Path'.refl
-              tt)
-              d17
-
-          d19 : Typed.Typed 𝓤 H A 𝓣 E G65 b29 Δ3 (at19 bs)
-          d19 =
-              Typed.g-pre
-              𝓤
-              H
-              A
-              W
-              𝓣
-              E
-              G65
-              G66
-              b29
-              Δ3
-              (Typed.both (s62 bs))
-              (at18 bs)
-              (Relend.g-back-sl
-              𝓤
-              H
-              A
-              W
-              E
-              (Referent.rtF (Referent.fInt Syntax.w8))
-              G65
-              27
-              8
-              6
-              13
-              (Syntax.tyRef (Syntax.named 6) Syntax.mut (Syntax.tyInt Syntax.w8))
-              (Syntax.tyRef Syntax.erased Syntax.mut (Syntax.tyInt Syntax.w8))
-              (Row.lease (κs .1 .1 .1 .1 .1 .1 .0) (qs .1 .1 .1 .1 .1 .1 .0))
-              (λ x. x)
-              (λ x. x)
-              (Reads'.as-is
-              𝓤
-              H
-              A
-              (Mut.msleft
-              (Referent.rtF (Referent.fInt Syntax.w8))
-              (Syntax.tyRef Syntax.erased Syntax.mut (Syntax.tyInt Syntax.w8))))
-              (Reads'.as-is
-              𝓤
-              H
-              A
-              (Relend.mslice-owed
-              (Referent.rtF (Referent.fInt Syntax.w8))
-              (Syntax.tyRef (Syntax.named 6) Syntax.mut (Syntax.tyInt Syntax.w8))
-              6
-              13
-              (Row.lease (κs .1 .1 .1 .1 .1 .1 .0) (qs .1 .1 .1 .1 .1 .1 .0))))
-              Path'.refl
-              Path'.refl)
-              d18
-
-          d20 : Typed.Typed 𝓤 H A 𝓣 E G64 b29 Δ3 (at20 bs)
-          d20 =
-              Typed.g-pre
-              𝓤
-              H
-              A
-              W
-              𝓣
-              E
-              G64
-              G65
-              b29
-              Δ3
-              (λ Ψ. Ψ)
-              (at19 bs)
-              (Lifetime.g-end 𝓤 H A W E G64 13 Path'.refl)
-              d19
-
-          d21 : Typed.Typed 𝓤 H A 𝓣 E G63 b29 Δ3 (at21 bs)
-          d21 =
-              Typed.g-pre
-              𝓤
-              H
-              A
-              W
-              𝓣
-              E
-              G63
-              G64
-              b29
-              Δ3
-              (λ Ψ. Ψ)
-              (at20 bs)
-              (Lifetime.g-forget 𝓤 H A W E G63 12 Row.dead Path'.refl)
-              d20
-
-          d22 : Typed.Typed 𝓤 H A 𝓣 E G62 b29 Δ3 (at22 bs)
-          d22 =
-              Typed.g-pre
-              𝓤
-              H
-              A
-              W
-              𝓣
-              E
-              G62
-              G63
-              b29
-              Δ3
-              (Typed.give (s59 bs))
-              (at21 bs)
-              (Know.g-sl-known
-              𝓤
-              H
-              A
-              W
-              (Referent.fInt Syntax.w8)
-              E
-              G62
-              7
-              5
-              (Syntax.tyRef (Syntax.named 5) Syntax.mut (Syntax.tyInt Syntax.w8))
-              (Row.lease (κs .1 .1 .1 .1 .1 .0) (qs .1 .1 .1 .1 .1 .0))
-              0
-              (λ x. x)
-              record { fits = Dec'.lit< tt }
-              (Reads'.as-is
-              𝓤
-              H
-              A
-              (Mut.mslice
-              (Referent.rtF (Referent.fInt Syntax.w8))
-              (Syntax.tyRef (Syntax.named 5) Syntax.mut (Syntax.tyInt Syntax.w8))
-              5))
-              Path'.refl
-              tt)
-              d21
-
-          d23 : Typed.Typed 𝓤 H A 𝓣 E G61 b29 Δ3 (at23 bs)
-          d23 =
-              Typed.g-pre
-              𝓤
-              H
-              A
-              W
-              𝓣
-              E
-              G61
-              G62
-              b29
-              Δ3
-              (Typed.both (s58 bs))
-              (at22 bs)
-              (Relend.g-back-sl
-              𝓤
-              H
-              A
-              W
-              E
-              (Referent.rtF (Referent.fInt Syntax.w8))
-              G61
-              25
-              7
-              5
-              12
-              (Syntax.tyRef (Syntax.named 5) Syntax.mut (Syntax.tyInt Syntax.w8))
-              (Syntax.tyRef Syntax.erased Syntax.mut (Syntax.tyInt Syntax.w8))
-              (Row.lease (κs .1 .1 .1 .1 .1 .0) (qs .1 .1 .1 .1 .1 .0))
-              (λ x. x)
-              (λ x. x)
-              (Reads'.as-is
-              𝓤
-              H
-              A
-              (Mut.msleft
-              (Referent.rtF (Referent.fInt Syntax.w8))
-              (Syntax.tyRef Syntax.erased Syntax.mut (Syntax.tyInt Syntax.w8))))
-              (Reads'.as-is
-              𝓤
-              H
-              A
-              (Relend.mslice-owed
-              (Referent.rtF (Referent.fInt Syntax.w8))
-              (Syntax.tyRef (Syntax.named 5) Syntax.mut (Syntax.tyInt Syntax.w8))
-              5
-              12
-              (Row.lease (κs .1 .1 .1 .1 .1 .0) (qs .1 .1 .1 .1 .1 .0))))
-              Path'.refl
-              Path'.refl)
-              d22
-
-          d24 : Typed.Typed 𝓤 H A 𝓣 E G60 b29 Δ3 (at24 bs)
-          d24 =
-              Typed.g-pre
-              𝓤
-              H
-              A
-              W
-              𝓣
-              E
-              G60
-              G61
-              b29
-              Δ3
-              (λ Ψ. Ψ)
-              (at23 bs)
-              (Lifetime.g-end 𝓤 H A W E G60 12 Path'.refl)
-              d23
-
-          d25 : Typed.Typed 𝓤 H A 𝓣 E G59 b29 Δ3 (at25 bs)
-          d25 =
-              Typed.g-pre
-              𝓤
-              H
-              A
-              W
-              𝓣
-              E
-              G59
-              G60
-              b29
-              Δ3
-              (λ Ψ. Ψ)
-              (at24 bs)
-              (Lifetime.g-forget 𝓤 H A W E G59 11 Row.dead Path'.refl)
-              d24
-
-          d26 : Typed.Typed 𝓤 H A 𝓣 E G58 b29 Δ3 (at26 bs)
-          d26 =
-              Typed.g-pre
-              𝓤
-              H
-              A
-              W
-              𝓣
-              E
-              G58
-              G59
-              b29
-              Δ3
-              (Typed.give (s55 bs))
-              (at25 bs)
-              (Know.g-sl-known
-              𝓤
-              H
-              A
-              W
-              (Referent.fInt Syntax.w64)
-              E
-              G58
-              6
-              4
-              (Syntax.tyRef (Syntax.named 4) Syntax.mut (Syntax.tyInt Syntax.w64))
-              (Row.lease (κs .1 .1 .1 .1 .0) (qs .1 .1 .1 .1 .0))
-              0
-              (λ x. x)
-              record { fits = Dec'.lit< tt }
-              (Reads'.as-is
-              𝓤
-              H
-              A
-              (Mut.mslice
-              (Referent.rtF (Referent.fInt Syntax.w64))
-              (Syntax.tyRef (Syntax.named 4) Syntax.mut (Syntax.tyInt Syntax.w64))
-              4))
-              Path'.refl
-              tt)
               d25
 
-          d27 : Typed.Typed 𝓤 H A 𝓣 E G57 b29 Δ3 (at27 bs)
+          d27 : Typed.Typed 𝓤 H A 𝓣 E G54 b28 Δ3 at27
           d27 =
-              Typed.g-pre
-              𝓤
-              H
-              A
-              W
-              𝓣
-              E
-              G57
-              G58
-              b29
-              Δ3
-              (Typed.both (s54 bs))
-              (at26 bs)
-              (Relend.g-back-sl
-              𝓤
-              H
-              A
-              W
-              E
-              (Referent.rtF (Referent.fInt Syntax.w64))
-              G57
-              23
-              6
-              4
-              11
-              (Syntax.tyRef (Syntax.named 4) Syntax.mut (Syntax.tyInt Syntax.w64))
-              (Syntax.tyRef Syntax.erased Syntax.mut (Syntax.tyInt Syntax.w64))
-              (Row.lease (κs .1 .1 .1 .1 .0) (qs .1 .1 .1 .1 .0))
-              (λ x. x)
-              (λ x. x)
-              (Reads'.as-is
-              𝓤
-              H
-              A
-              (Mut.msleft
-              (Referent.rtF (Referent.fInt Syntax.w64))
-              (Syntax.tyRef Syntax.erased Syntax.mut (Syntax.tyInt Syntax.w64))))
-              (Reads'.as-is
-              𝓤
-              H
-              A
-              (Relend.mslice-owed
-              (Referent.rtF (Referent.fInt Syntax.w64))
-              (Syntax.tyRef (Syntax.named 4) Syntax.mut (Syntax.tyInt Syntax.w64))
-              4
-              11
-              (Row.lease (κs .1 .1 .1 .1 .0) (qs .1 .1 .1 .1 .0))))
-              Path'.refl
-              Path'.refl)
-              d26
-
-          d28 : Typed.Typed 𝓤 H A 𝓣 E G56 b29 Δ3 (at28 bs)
-          d28 =
-              Typed.g-pre
-              𝓤
-              H
-              A
-              W
-              𝓣
-              E
-              G56
-              G57
-              b29
-              Δ3
-              (λ Ψ. Ψ)
-              (at27 bs)
-              (Lifetime.g-end 𝓤 H A W E G56 11 Path'.refl)
-              d27
-
-          d29 : Typed.Typed 𝓤 H A 𝓣 E G55 b30 Δ3 (at29 bs)
-          d29 =
               Typed.s-seq
               𝓤
               H
@@ -11164,13 +11646,13 @@ module _ (claims· : Claims) where
               W
               𝓣
               E
+              G54
               G55
-              G56
               b26
-              b29
+              b27
               Δ3
-              (Typed.both (s52 bs))
-              (at28 bs)
+              (Typed.both s51)
+              at26
               (Plain.t-call-plain
               𝓤
               H
@@ -11178,15 +11660,15 @@ module _ (claims· : Claims) where
               W
               𝓣
               8
-              ps·4
-              r·4
-              (claims· .8)
-              (claims· .9)
+              ps·2
+              r·2
+              (claims· .4)
+              (claims· .5)
               "calls::turn_line"
-              (known .4)
+              (known .2)
               E
               (λ pos β. β)
-              G55 (
+              G54 (
                 record {
                   pos = 1;
                   ty = Syntax.tyRef (Syntax.named 0) Syntax.imm (Syntax.tyInt Syntax.w8);
@@ -11194,20 +11676,20 @@ module _ (claims· : Claims) where
                 },
                 (
                   Num.vFld
-                      12
+                      15
                       (List._∷_ (Syntax.field 0) List.[])
                       0
                       λ x. LineRec.struct .as-values
                       x .0,
                   (
                     Num.vFld
-                        12
+                        15
                         (List._∷_ (Syntax.field 1) List.[])
                         8
                         λ x. LineRec.struct .as-values
                         x .1 .0,
                     (
-                      Num.vAt 14 λ x. x,
+                      Num.vAt 13 λ x. x,
                       (
                         record {
                           pos = 4;
@@ -11222,13 +11704,13 @@ module _ (claims· : Claims) where
                           },
                           (
                             record {
-                              pos = 23;
+                              pos = 25;
                               ty = Syntax.tyRef Syntax.erased Syntax.mut (Syntax.tyInt Syntax.w64);
                               ref = λ x. x;
                             },
                             (
                               record {
-                                pos = 25;
+                                pos = 27;
                                 ty = Syntax.tyRef
                                     Syntax.erased
                                     Syntax.mut
@@ -11236,10 +11718,10 @@ module _ (claims· : Claims) where
                                 ref = λ x. x;
                               },
                               (
-                                Num.vAt 15 λ x. x,
+                                Num.vAt 14 λ x. x,
                                 (
                                   record {
-                                    pos = 27;
+                                    pos = 29;
                                     ty = Syntax.tyRef
                                         Syntax.erased
                                         Syntax.mut
@@ -11248,7 +11730,7 @@ module _ (claims· : Claims) where
                                   },
                                   (
                                     record {
-                                      pos = 29;
+                                      pos = 31;
                                       ty = Syntax.tyRef
                                           Syntax.erased
                                           Syntax.mut
@@ -11257,7 +11739,7 @@ module _ (claims· : Claims) where
                                     },
                                     (
                                       record {
-                                        pos = 31;
+                                        pos = 33;
                                         ty = Syntax.tyRef
                                             Syntax.erased
                                             Syntax.mut
@@ -11277,15 +11759,15 @@ module _ (claims· : Claims) where
                   ),
                 ),
               )
-              15
+              14
               (List._∷_
               0
               (List._∷_
               2
               (List._∷_
               3
-              (List._∷_ 11 (List._∷_ 12 (List._∷_ 13 (List._∷_ 14 (List._∷_ 15 List.[]))))))))
-              (Call.sub-id 𝓤 H A W (G55 .slots)) (
+              (List._∷_ 12 (List._∷_ 13 (List._∷_ 14 (List._∷_ 15 (List._∷_ 16 List.[]))))))))
+              (Call.sub-id 𝓤 H A W (G54 .slots)) (
                 ShrSlice.spares-sslice
                     𝓤
                     H
@@ -11379,7 +11861,7 @@ module _ (claims· : Claims) where
                                 (Mut.mslice
                                 (Referent.rtF (Referent.fInt Syntax.w64))
                                 (Syntax.tyRef Syntax.erased Syntax.mut (Syntax.tyInt Syntax.w64))
-                                11),
+                                12),
                             Mut.reads-mslice
                                 𝓤
                                 H
@@ -11387,7 +11869,7 @@ module _ (claims· : Claims) where
                                 W
                                 (Referent.rtF (Referent.fInt Syntax.w64))
                                 (Syntax.tyRef Syntax.erased Syntax.mut (Syntax.tyInt Syntax.w64))
-                                11,
+                                12,
                             Path'.refl,
                             (
                               Reads'.as-is
@@ -11397,7 +11879,7 @@ module _ (claims· : Claims) where
                                   (Mut.mslice
                                   (Referent.rtF (Referent.fInt Syntax.w8))
                                   (Syntax.tyRef Syntax.erased Syntax.mut (Syntax.tyInt Syntax.w8))
-                                  12),
+                                  13),
                               Mut.reads-mslice
                                   𝓤
                                   H
@@ -11405,7 +11887,7 @@ module _ (claims· : Claims) where
                                   W
                                   (Referent.rtF (Referent.fInt Syntax.w8))
                                   (Syntax.tyRef Syntax.erased Syntax.mut (Syntax.tyInt Syntax.w8))
-                                  12,
+                                  13,
                               Path'.refl,
                               (
                                 (Scalar.reads-sc 𝓤 H A W (Row.sInt Syntax.w64), Path'.refl),
@@ -11420,7 +11902,7 @@ module _ (claims· : Claims) where
                                       Syntax.erased
                                       Syntax.mut
                                       (Syntax.tyInt Syntax.w8))
-                                      13),
+                                      14),
                                   Mut.reads-mslice
                                       𝓤
                                       H
@@ -11431,7 +11913,7 @@ module _ (claims· : Claims) where
                                       Syntax.erased
                                       Syntax.mut
                                       (Syntax.tyInt Syntax.w8))
-                                      13,
+                                      14,
                                   Path'.refl,
                                   (
                                     Reads'.as-is
@@ -11444,7 +11926,7 @@ module _ (claims· : Claims) where
                                         Syntax.erased
                                         Syntax.mut
                                         (Syntax.tyInt Syntax.w8))
-                                        14),
+                                        15),
                                     Mut.reads-mslice
                                         𝓤
                                         H
@@ -11455,7 +11937,7 @@ module _ (claims· : Claims) where
                                         Syntax.erased
                                         Syntax.mut
                                         (Syntax.tyInt Syntax.w8))
-                                        14,
+                                        15,
                                     Path'.refl,
                                     (
                                       Reads'.as-is
@@ -11468,7 +11950,7 @@ module _ (claims· : Claims) where
                                           Syntax.erased
                                           Syntax.mut
                                           (Syntax.tyInt Syntax.w8))
-                                          15),
+                                          16),
                                       Mut.reads-mslice
                                           𝓤
                                           H
@@ -11479,7 +11961,7 @@ module _ (claims· : Claims) where
                                           Syntax.erased
                                           Syntax.mut
                                           (Syntax.tyInt Syntax.w8))
-                                          15,
+                                          16,
                                       Path'.refl,
                                       tt,
                                     ),
@@ -11497,10 +11979,10 @@ module _ (claims· : Claims) where
               (Scalar.room-sc 𝓤 H A W (Row.sInt Syntax.w64))
               (tt, (tt, (tt, (tt, (tt, (tt, (tt, (tt, tt))))))))
               Path'.refl)
-              d28
+              d26
 
-          d30 : Typed.Typed 𝓤 H A 𝓣 E G54 b31 Δ3 (at30 bs)
-          d30 =
+          d28 : Typed.Typed 𝓤 H A 𝓣 E G53 b29 Δ3 at28
+          d28 =
               Typed.s-seq
               𝓤
               H
@@ -11508,13 +11990,13 @@ module _ (claims· : Claims) where
               W
               𝓣
               E
+              G53
               G54
-              G55
               b25
-              b30
+              b28
               Δ3
-              (Typed.ask (s51 bs))
-              (at29 bs)
+              (Typed.ask s50)
+              at27
               (Relend.t-sl-aggregate
               𝓤
               H
@@ -11524,10 +12006,10 @@ module _ (claims· : Claims) where
               (Referent.rtF (Referent.fInt Syntax.w8))
               𝓣
               (Relend.asMut (Referent.rtF (Referent.fInt Syntax.w8)))
-              G54
-              30
-              31
-              15
+              G53
+              32
+              33
+              16
               (Syntax.tyRef Syntax.erased Syntax.mut (Syntax.tyInt Syntax.w8))
               (Syntax.tyRef Syntax.erased Syntax.mut (Syntax.tyInt Syntax.w8))
               (λ x. x)
@@ -11545,7 +12027,7 @@ module _ (claims· : Claims) where
               (Relend.msptr
               (Referent.rtF (Referent.fInt Syntax.w8))
               (Syntax.tyRef Syntax.erased Syntax.mut (Syntax.tyInt Syntax.w8))
-              15))
+              16))
               (Reads'.room-gone
               𝓤
               H
@@ -11563,7 +12045,7 @@ module _ (claims· : Claims) where
                     (Referent.rtF (Referent.fInt Syntax.w8))
                     (Syntax.tyRef (Syntax.named 8) Syntax.mut (Syntax.tyInt Syntax.w8))
                     8
-                    15
+                    16
                     (Row.lease (κs .1 .1 .1 .1 .1 .1 .1 .1 .0) (qs .1 .1 .1 .1 .1 .1 .1 .1 .0))
                     8
                     Path'.refl,
@@ -11572,10 +12054,10 @@ module _ (claims· : Claims) where
               Path'.refl
               Path'.refl
               λ b o k. tt)
-              d29
+              d27
 
-          d31 : Typed.Typed 𝓤 H A 𝓣 E G53 b32 Δ3 (at31 bs)
-          d31 =
+          d29 : Typed.Typed 𝓤 H A 𝓣 E G52 b30 Δ3 at29
+          d29 =
               Typed.s-seq
               𝓤
               H
@@ -11583,13 +12065,13 @@ module _ (claims· : Claims) where
               W
               𝓣
               E
+              G52
               G53
-              G54
               b24
-              b31
+              b29
               Δ3
-              (Typed.give (s50 bs))
-              (at30 bs)
+              (Typed.give s49)
+              at28
               (Relend.t-sl-relend
               𝓤
               H
@@ -11598,11 +12080,11 @@ module _ (claims· : Claims) where
               E
               (Referent.rtF (Referent.fInt Syntax.w8))
               𝓣
-              G53
+              G52
               10
-              30
+              32
               8
-              15
+              16
               (Syntax.tyRef (Syntax.named 8) Syntax.mut (Syntax.tyInt Syntax.w8))
               (Syntax.tyRef Syntax.erased Syntax.mut (Syntax.tyInt Syntax.w8))
               (Row.lease (κs .1 .1 .1 .1 .1 .1 .1 .1 .0) (qs .1 .1 .1 .1 .1 .1 .1 .1 .0))
@@ -11627,10 +12109,10 @@ module _ (claims· : Claims) where
               Path'.refl
               Path'.refl
               λ b o. tt)
-              d30
+              d28
 
-          d32 : Typed.Typed 𝓤 H A 𝓣 E G52 b32 Δ3 (at32 bs)
-          d32 =
+          d30 : Typed.Typed 𝓤 H A 𝓣 E G51 b30 Δ3 at30
+          d30 =
               Typed.g-pre
               𝓤
               H
@@ -11638,13 +12120,13 @@ module _ (claims· : Claims) where
               W
               𝓣
               E
+              G51
               G52
-              G53
-              b32
+              b30
               Δ3
               (λ Ψ. Ψ)
-              (at31 bs)
-              (Lifetime.g-begin 𝓤 H A W E G52 15 (
+              at29
+              (Lifetime.g-begin 𝓤 H A W E G51 16 (
                 tt,
                 (
                   tt,
@@ -11702,7 +12184,13 @@ module _ (claims· : Claims) where
                                                                       tt,
                                                                       (
                                                                         tt,
-                                                                        (tt, (tt, (tt, tt))),
+                                                                        (
+                                                                          tt,
+                                                                          (
+                                                                            tt,
+                                                                            (tt, (tt, (tt, tt))),
+                                                                          ),
+                                                                        ),
                                                                       ),
                                                                     ),
                                                                   ),
@@ -11732,10 +12220,10 @@ module _ (claims· : Claims) where
                   ),
                 ),
               ))
-              d31
+              d29
 
-          d33 : Typed.Typed 𝓤 H A 𝓣 E G51 b33 Δ3 (at33 bs)
-          d33 =
+          d31 : Typed.Typed 𝓤 H A 𝓣 E G50 b31 Δ3 at31
+          d31 =
               Typed.s-seq
               𝓤
               H
@@ -11743,13 +12231,13 @@ module _ (claims· : Claims) where
               W
               𝓣
               E
+              G50
               G51
-              G52
               b23
-              b32
+              b30
               Δ3
-              (Typed.ask (s48 bs))
-              (at32 bs)
+              (Typed.ask s47)
+              at30
               (Relend.t-sl-aggregate
               𝓤
               H
@@ -11759,10 +12247,10 @@ module _ (claims· : Claims) where
               (Referent.rtF (Referent.fInt Syntax.w8))
               𝓣
               (Relend.asMut (Referent.rtF (Referent.fInt Syntax.w8)))
-              G51
-              28
-              29
-              14
+              G50
+              30
+              31
+              15
               (Syntax.tyRef Syntax.erased Syntax.mut (Syntax.tyInt Syntax.w8))
               (Syntax.tyRef Syntax.erased Syntax.mut (Syntax.tyInt Syntax.w8))
               (λ x. x)
@@ -11780,7 +12268,7 @@ module _ (claims· : Claims) where
               (Relend.msptr
               (Referent.rtF (Referent.fInt Syntax.w8))
               (Syntax.tyRef Syntax.erased Syntax.mut (Syntax.tyInt Syntax.w8))
-              14))
+              15))
               (Reads'.room-gone
               𝓤
               H
@@ -11798,7 +12286,7 @@ module _ (claims· : Claims) where
                     (Referent.rtF (Referent.fInt Syntax.w8))
                     (Syntax.tyRef (Syntax.named 7) Syntax.mut (Syntax.tyInt Syntax.w8))
                     7
-                    14
+                    15
                     (Row.lease (κs .1 .1 .1 .1 .1 .1 .1 .0) (qs .1 .1 .1 .1 .1 .1 .1 .0))
                     8
                     Path'.refl,
@@ -11807,10 +12295,10 @@ module _ (claims· : Claims) where
               Path'.refl
               Path'.refl
               λ b o k. tt)
-              d32
+              d30
 
-          d34 : Typed.Typed 𝓤 H A 𝓣 E G50 b34 Δ3 (at34 bs)
-          d34 =
+          d32 : Typed.Typed 𝓤 H A 𝓣 E G49 b32 Δ3 at32
+          d32 =
               Typed.s-seq
               𝓤
               H
@@ -11818,13 +12306,13 @@ module _ (claims· : Claims) where
               W
               𝓣
               E
+              G49
               G50
-              G51
               b22
-              b33
+              b31
               Δ3
-              (Typed.give (s47 bs))
-              (at33 bs)
+              (Typed.give s46)
+              at31
               (Relend.t-sl-relend
               𝓤
               H
@@ -11833,11 +12321,11 @@ module _ (claims· : Claims) where
               E
               (Referent.rtF (Referent.fInt Syntax.w8))
               𝓣
-              G50
+              G49
               9
-              28
+              30
               7
-              14
+              15
               (Syntax.tyRef (Syntax.named 7) Syntax.mut (Syntax.tyInt Syntax.w8))
               (Syntax.tyRef Syntax.erased Syntax.mut (Syntax.tyInt Syntax.w8))
               (Row.lease (κs .1 .1 .1 .1 .1 .1 .1 .0) (qs .1 .1 .1 .1 .1 .1 .1 .0))
@@ -11862,10 +12350,10 @@ module _ (claims· : Claims) where
               Path'.refl
               Path'.refl
               λ b o. tt)
-              d33
+              d31
 
-          d35 : Typed.Typed 𝓤 H A 𝓣 E G49 b34 Δ3 (at35 bs)
-          d35 =
+          d33 : Typed.Typed 𝓤 H A 𝓣 E G48 b32 Δ3 at33
+          d33 =
               Typed.g-pre
               𝓤
               H
@@ -11873,13 +12361,13 @@ module _ (claims· : Claims) where
               W
               𝓣
               E
+              G48
               G49
-              G50
-              b34
+              b32
               Δ3
               (λ Ψ. Ψ)
-              (at34 bs)
-              (Lifetime.g-begin 𝓤 H A W E G49 14 (
+              at32
+              (Lifetime.g-begin 𝓤 H A W E G48 15 (
                 tt,
                 (
                   tt,
@@ -11937,7 +12425,13 @@ module _ (claims· : Claims) where
                                                                       tt,
                                                                       (
                                                                         tt,
-                                                                        (tt, (tt, (tt, tt))),
+                                                                        (
+                                                                          tt,
+                                                                          (
+                                                                            tt,
+                                                                            (tt, (tt, (tt, tt))),
+                                                                          ),
+                                                                        ),
                                                                       ),
                                                                     ),
                                                                   ),
@@ -11967,10 +12461,10 @@ module _ (claims· : Claims) where
                   ),
                 ),
               ))
-              d34
+              d32
 
-          d36 : Typed.Typed 𝓤 H A 𝓣 E G48 b35 Δ3 (at36 bs)
-          d36 =
+          d34 : Typed.Typed 𝓤 H A 𝓣 E G47 b33 Δ3 at34
+          d34 =
               Typed.s-seq
               𝓤
               H
@@ -11978,13 +12472,13 @@ module _ (claims· : Claims) where
               W
               𝓣
               E
+              G47
               G48
-              G49
               b21
-              b34
+              b32
               Δ3
-              (Typed.ask (s45 bs))
-              (at35 bs)
+              (Typed.ask s44)
+              at33
               (Relend.t-sl-aggregate
               𝓤
               H
@@ -11994,10 +12488,10 @@ module _ (claims· : Claims) where
               (Referent.rtF (Referent.fInt Syntax.w8))
               𝓣
               (Relend.asMut (Referent.rtF (Referent.fInt Syntax.w8)))
-              G48
-              26
-              27
-              13
+              G47
+              28
+              29
+              14
               (Syntax.tyRef Syntax.erased Syntax.mut (Syntax.tyInt Syntax.w8))
               (Syntax.tyRef Syntax.erased Syntax.mut (Syntax.tyInt Syntax.w8))
               (λ x. x)
@@ -12015,7 +12509,7 @@ module _ (claims· : Claims) where
               (Relend.msptr
               (Referent.rtF (Referent.fInt Syntax.w8))
               (Syntax.tyRef Syntax.erased Syntax.mut (Syntax.tyInt Syntax.w8))
-              13))
+              14))
               (Reads'.room-gone
               𝓤
               H
@@ -12033,7 +12527,7 @@ module _ (claims· : Claims) where
                     (Referent.rtF (Referent.fInt Syntax.w8))
                     (Syntax.tyRef (Syntax.named 6) Syntax.mut (Syntax.tyInt Syntax.w8))
                     6
-                    13
+                    14
                     (Row.lease (κs .1 .1 .1 .1 .1 .1 .0) (qs .1 .1 .1 .1 .1 .1 .0))
                     8
                     Path'.refl,
@@ -12042,10 +12536,10 @@ module _ (claims· : Claims) where
               Path'.refl
               Path'.refl
               λ b o k. tt)
-              d35
+              d33
 
-          d37 : Typed.Typed 𝓤 H A 𝓣 E G47 b36 Δ3 (at37 bs)
-          d37 =
+          d35 : Typed.Typed 𝓤 H A 𝓣 E G46 b34 Δ3 at35
+          d35 =
               Typed.s-seq
               𝓤
               H
@@ -12053,13 +12547,13 @@ module _ (claims· : Claims) where
               W
               𝓣
               E
+              G46
               G47
-              G48
               b20
-              b35
+              b33
               Δ3
-              (Typed.give (s44 bs))
-              (at36 bs)
+              (Typed.give s43)
+              at34
               (Relend.t-sl-relend
               𝓤
               H
@@ -12068,11 +12562,11 @@ module _ (claims· : Claims) where
               E
               (Referent.rtF (Referent.fInt Syntax.w8))
               𝓣
-              G47
+              G46
               8
-              26
+              28
               6
-              13
+              14
               (Syntax.tyRef (Syntax.named 6) Syntax.mut (Syntax.tyInt Syntax.w8))
               (Syntax.tyRef Syntax.erased Syntax.mut (Syntax.tyInt Syntax.w8))
               (Row.lease (κs .1 .1 .1 .1 .1 .1 .0) (qs .1 .1 .1 .1 .1 .1 .0))
@@ -12097,10 +12591,10 @@ module _ (claims· : Claims) where
               Path'.refl
               Path'.refl
               λ b o. tt)
-              d36
+              d34
 
-          d38 : Typed.Typed 𝓤 H A 𝓣 E G46 b36 Δ3 (at38 bs)
-          d38 =
+          d36 : Typed.Typed 𝓤 H A 𝓣 E G45 b34 Δ3 at36
+          d36 =
               Typed.g-pre
               𝓤
               H
@@ -12108,13 +12602,13 @@ module _ (claims· : Claims) where
               W
               𝓣
               E
+              G45
               G46
-              G47
-              b36
+              b34
               Δ3
               (λ Ψ. Ψ)
-              (at37 bs)
-              (Lifetime.g-begin 𝓤 H A W E G46 13 (
+              at35
+              (Lifetime.g-begin 𝓤 H A W E G45 14 (
                 tt,
                 (
                   tt,
@@ -12172,7 +12666,13 @@ module _ (claims· : Claims) where
                                                                       tt,
                                                                       (
                                                                         tt,
-                                                                        (tt, (tt, (tt, tt))),
+                                                                        (
+                                                                          tt,
+                                                                          (
+                                                                            tt,
+                                                                            (tt, (tt, (tt, tt))),
+                                                                          ),
+                                                                        ),
                                                                       ),
                                                                     ),
                                                                   ),
@@ -12202,10 +12702,10 @@ module _ (claims· : Claims) where
                   ),
                 ),
               ))
-              d37
+              d35
 
-          d39 : Typed.Typed 𝓤 H A 𝓣 E G45 b37 Δ3 (at39 bs)
-          d39 =
+          d37 : Typed.Typed 𝓤 H A 𝓣 E G44 b35 Δ3 at37
+          d37 =
               Typed.s-seq
               𝓤
               H
@@ -12213,13 +12713,13 @@ module _ (claims· : Claims) where
               W
               𝓣
               E
+              G44
               G45
-              G46
               b19
-              b36
+              b34
               Δ3
-              (Typed.ask (s42 bs))
-              (at38 bs)
+              (Typed.ask s41)
+              at36
               (Relend.t-sl-aggregate
               𝓤
               H
@@ -12229,10 +12729,10 @@ module _ (claims· : Claims) where
               (Referent.rtF (Referent.fInt Syntax.w8))
               𝓣
               (Relend.asMut (Referent.rtF (Referent.fInt Syntax.w8)))
-              G45
-              24
-              25
-              12
+              G44
+              26
+              27
+              13
               (Syntax.tyRef Syntax.erased Syntax.mut (Syntax.tyInt Syntax.w8))
               (Syntax.tyRef Syntax.erased Syntax.mut (Syntax.tyInt Syntax.w8))
               (λ x. x)
@@ -12250,7 +12750,7 @@ module _ (claims· : Claims) where
               (Relend.msptr
               (Referent.rtF (Referent.fInt Syntax.w8))
               (Syntax.tyRef Syntax.erased Syntax.mut (Syntax.tyInt Syntax.w8))
-              12))
+              13))
               (Reads'.room-gone
               𝓤
               H
@@ -12268,7 +12768,7 @@ module _ (claims· : Claims) where
                     (Referent.rtF (Referent.fInt Syntax.w8))
                     (Syntax.tyRef (Syntax.named 5) Syntax.mut (Syntax.tyInt Syntax.w8))
                     5
-                    12
+                    13
                     (Row.lease (κs .1 .1 .1 .1 .1 .0) (qs .1 .1 .1 .1 .1 .0))
                     8
                     Path'.refl,
@@ -12277,10 +12777,10 @@ module _ (claims· : Claims) where
               Path'.refl
               Path'.refl
               λ b o k. tt)
-              d38
+              d36
 
-          d40 : Typed.Typed 𝓤 H A 𝓣 E G44 b38 Δ3 (at40 bs)
-          d40 =
+          d38 : Typed.Typed 𝓤 H A 𝓣 E G43 b36 Δ3 at38
+          d38 =
               Typed.s-seq
               𝓤
               H
@@ -12288,13 +12788,13 @@ module _ (claims· : Claims) where
               W
               𝓣
               E
+              G43
               G44
-              G45
               b18
-              b37
+              b35
               Δ3
-              (Typed.give (s41 bs))
-              (at39 bs)
+              (Typed.give s40)
+              at37
               (Relend.t-sl-relend
               𝓤
               H
@@ -12303,11 +12803,11 @@ module _ (claims· : Claims) where
               E
               (Referent.rtF (Referent.fInt Syntax.w8))
               𝓣
-              G44
+              G43
               7
-              24
+              26
               5
-              12
+              13
               (Syntax.tyRef (Syntax.named 5) Syntax.mut (Syntax.tyInt Syntax.w8))
               (Syntax.tyRef Syntax.erased Syntax.mut (Syntax.tyInt Syntax.w8))
               (Row.lease (κs .1 .1 .1 .1 .1 .0) (qs .1 .1 .1 .1 .1 .0))
@@ -12332,10 +12832,10 @@ module _ (claims· : Claims) where
               Path'.refl
               Path'.refl
               λ b o. tt)
-              d39
+              d37
 
-          d41 : Typed.Typed 𝓤 H A 𝓣 E G43 b38 Δ3 (at41 bs)
-          d41 =
+          d39 : Typed.Typed 𝓤 H A 𝓣 E G42 b36 Δ3 at39
+          d39 =
               Typed.g-pre
               𝓤
               H
@@ -12343,13 +12843,13 @@ module _ (claims· : Claims) where
               W
               𝓣
               E
+              G42
               G43
-              G44
-              b38
+              b36
               Δ3
               (λ Ψ. Ψ)
-              (at40 bs)
-              (Lifetime.g-begin 𝓤 H A W E G43 12 (
+              at38
+              (Lifetime.g-begin 𝓤 H A W E G42 13 (
                 tt,
                 (
                   tt,
@@ -12407,7 +12907,13 @@ module _ (claims· : Claims) where
                                                                       tt,
                                                                       (
                                                                         tt,
-                                                                        (tt, (tt, (tt, tt))),
+                                                                        (
+                                                                          tt,
+                                                                          (
+                                                                            tt,
+                                                                            (tt, (tt, (tt, tt))),
+                                                                          ),
+                                                                        ),
                                                                       ),
                                                                     ),
                                                                   ),
@@ -12437,10 +12943,10 @@ module _ (claims· : Claims) where
                   ),
                 ),
               ))
-              d40
+              d38
 
-          d42 : Typed.Typed 𝓤 H A 𝓣 E G42 b39 Δ3 (at42 bs)
-          d42 =
+          d40 : Typed.Typed 𝓤 H A 𝓣 E G41 b37 Δ3 at40
+          d40 =
               Typed.s-seq
               𝓤
               H
@@ -12448,13 +12954,13 @@ module _ (claims· : Claims) where
               W
               𝓣
               E
+              G41
               G42
-              G43
               b17
-              b38
+              b36
               Δ3
-              (Typed.ask (s39 bs))
-              (at41 bs)
+              (Typed.ask s38)
+              at39
               (Relend.t-sl-aggregate
               𝓤
               H
@@ -12464,10 +12970,10 @@ module _ (claims· : Claims) where
               (Referent.rtF (Referent.fInt Syntax.w64))
               𝓣
               (Relend.asMut (Referent.rtF (Referent.fInt Syntax.w64)))
-              G42
-              22
-              23
-              11
+              G41
+              24
+              25
+              12
               (Syntax.tyRef Syntax.erased Syntax.mut (Syntax.tyInt Syntax.w64))
               (Syntax.tyRef Syntax.erased Syntax.mut (Syntax.tyInt Syntax.w64))
               (λ x. x)
@@ -12485,7 +12991,7 @@ module _ (claims· : Claims) where
               (Relend.msptr
               (Referent.rtF (Referent.fInt Syntax.w64))
               (Syntax.tyRef Syntax.erased Syntax.mut (Syntax.tyInt Syntax.w64))
-              11))
+              12))
               (Reads'.room-gone
               𝓤
               H
@@ -12503,7 +13009,7 @@ module _ (claims· : Claims) where
                     (Referent.rtF (Referent.fInt Syntax.w64))
                     (Syntax.tyRef (Syntax.named 4) Syntax.mut (Syntax.tyInt Syntax.w64))
                     4
-                    11
+                    12
                     (Row.lease (κs .1 .1 .1 .1 .0) (qs .1 .1 .1 .1 .0))
                     8
                     Path'.refl,
@@ -12512,10 +13018,10 @@ module _ (claims· : Claims) where
               Path'.refl
               Path'.refl
               λ b o k. tt)
-              d41
+              d39
 
-          d43 : Typed.Typed 𝓤 H A 𝓣 E G41 b40 Δ3 (at43 bs)
-          d43 =
+          d41 : Typed.Typed 𝓤 H A 𝓣 E G40 b38 Δ3 at41
+          d41 =
               Typed.s-seq
               𝓤
               H
@@ -12523,13 +13029,13 @@ module _ (claims· : Claims) where
               W
               𝓣
               E
+              G40
               G41
-              G42
               b16
-              b39
+              b37
               Δ3
-              (Typed.give (s38 bs))
-              (at42 bs)
+              (Typed.give s37)
+              at40
               (Relend.t-sl-relend
               𝓤
               H
@@ -12538,11 +13044,11 @@ module _ (claims· : Claims) where
               E
               (Referent.rtF (Referent.fInt Syntax.w64))
               𝓣
-              G41
+              G40
               6
-              22
+              24
               4
-              11
+              12
               (Syntax.tyRef (Syntax.named 4) Syntax.mut (Syntax.tyInt Syntax.w64))
               (Syntax.tyRef Syntax.erased Syntax.mut (Syntax.tyInt Syntax.w64))
               (Row.lease (κs .1 .1 .1 .1 .0) (qs .1 .1 .1 .1 .0))
@@ -12567,10 +13073,10 @@ module _ (claims· : Claims) where
               Path'.refl
               Path'.refl
               λ b o. tt)
-              d42
+              d40
 
-          d44 : Typed.Typed 𝓤 H A 𝓣 E G40 b40 Δ3 (at44 bs)
-          d44 =
+          d42 : Typed.Typed 𝓤 H A 𝓣 E G39 b38 Δ3 at42
+          d42 =
               Typed.g-pre
               𝓤
               H
@@ -12578,13 +13084,13 @@ module _ (claims· : Claims) where
               W
               𝓣
               E
+              G39
               G40
-              G41
-              b40
+              b38
               Δ3
               (λ Ψ. Ψ)
-              (at43 bs)
-              (Lifetime.g-begin 𝓤 H A W E G40 11 (
+              at41
+              (Lifetime.g-begin 𝓤 H A W E G39 12 (
                 tt,
                 (
                   tt,
@@ -12642,7 +13148,13 @@ module _ (claims· : Claims) where
                                                                       tt,
                                                                       (
                                                                         tt,
-                                                                        (tt, (tt, (tt, tt))),
+                                                                        (
+                                                                          tt,
+                                                                          (
+                                                                            tt,
+                                                                            (tt, (tt, (tt, tt))),
+                                                                          ),
+                                                                        ),
                                                                       ),
                                                                     ),
                                                                   ),
@@ -12672,9 +13184,76 @@ module _ (claims· : Claims) where
                   ),
                 ),
               ))
+              d41
+
+          d43 : Typed.Typed 𝓤 H A 𝓣 E G38 b38 Δ3 at43
+          d43 =
+              Typed.g-pre
+              𝓤
+              H
+              A
+              W
+              𝓣
+              E
+              G38
+              G39
+              b38
+              Δ3
+              (λ Ψ. Ψ)
+              at42
+              (Lifetime.g-forget 𝓤 H A W E G38 11 Row.dead Path'.refl)
+              d42
+
+          d44 : Typed.Typed 𝓤 H A 𝓣 E G37 b38 Δ3 at44
+          d44 =
+              Typed.g-pre
+              𝓤
+              H
+              A
+              W
+              𝓣
+              E
+              G37
+              G38
+              b38
+              Δ3
+              (Typed.pass T36 T38 s34)
+              at43
+              (Reshare.g-back-sl-shr
+              𝓤
+              H
+              A
+              W
+              E
+              Elem.R
+              G37
+              11
+              9
+              11
+              (Syntax.tyRef
+              (Syntax.named 9)
+              Syntax.mut
+              Elem.ty)
+              (Row.lease (κs .1 .1 .1 .1 .1 .1 .1 .1 .1 .0) (qs .1 .1 .1 .1 .1 .1 .1 .1 .1 .0))
+              (λ x. x)
+              (Reads'.as-is
+              𝓤
+              H
+              A
+              (Reshare.mslice-owedS
+              Elem.R
+              (Syntax.tyRef
+              (Syntax.named 9)
+              Syntax.mut
+              Elem.ty)
+              9
+              11
+              (Row.lease (κs .1 .1 .1 .1 .1 .1 .1 .1 .1 .0) (qs .1 .1 .1 .1 .1 .1 .1 .1 .1 .0))))
+              Path'.refl
+              Path'.refl)
               d43
 
-          d45 : Typed.Typed 𝓤 H A 𝓣 E G39 b40 Δ3 (at45 bs)
+          d45 : Typed.Typed 𝓤 H A 𝓣 E G36 b38 Δ3 at45
           d45 =
               Typed.g-pre
               𝓤
@@ -12683,16 +13262,16 @@ module _ (claims· : Claims) where
               W
               𝓣
               E
-              G39
-              G40
-              b40
+              G36
+              G37
+              b38
               Δ3
               (λ Ψ. Ψ)
-              (at44 bs)
-              (Lifetime.g-forget 𝓤 H A W E G39 10 Row.dead Path'.refl)
+              at44
+              (Lifetime.g-end 𝓤 H A W E G36 11 Path'.refl)
               d44
 
-          d46 : Typed.Typed 𝓤 H A 𝓣 E G38 b40 Δ3 (at46 bs)
+          d46 : Typed.Typed 𝓤 H A 𝓣 E G35 b38 Δ3 at46
           d46 =
               Typed.g-pre
               𝓤
@@ -12701,33 +13280,25 @@ module _ (claims· : Claims) where
               W
               𝓣
               E
-              G38
-              G39
-              b40
+              G35
+              G36
+              b38
               Δ3
-              (Typed.pass T37 T39 (s35 bs))
-              (at45 bs)
-              (Share.g-back-arr-shr
+              (Typed.pass T35 T36 s32)
+              at45
+              (Scalar.g-room
               𝓤
               H
               A
               W
               E
-              Elem.R
-              G38
-              11
-              1024
-              10
-              (λ x. x)
-              (Reads'.as-is
-              𝓤
-              H
-              A
-              (Rows.arr-shr Elem.R 1024 10))
-              Path'.refl)
+              G35
+              23
+              (Syntax.tyInt Syntax.w64)
+              (Scalar.room-sc 𝓤 H A W (Row.sInt Syntax.w64)))
               d45
 
-          d47 : Typed.Typed 𝓤 H A 𝓣 E G37 b40 Δ3 (at47 bs)
+          d47 : Typed.Typed 𝓤 H A 𝓣 E G34 b38 Δ3 at47
           d47 =
               Typed.g-pre
               𝓤
@@ -12736,38 +13307,20 @@ module _ (claims· : Claims) where
               W
               𝓣
               E
-              G37
-              G38
-              b40
+              G34
+              G35
+              b38
               Δ3
-              (λ Ψ. Ψ)
-              (at46 bs)
-              (Lifetime.g-end 𝓤 H A W E G37 10 Path'.refl)
-              d46
-
-          d48 : Typed.Typed 𝓤 H A 𝓣 E G36 b40 Δ3 (at48 bs)
-          d48 =
-              Typed.g-pre
-              𝓤
-              H
-              A
-              W
-              𝓣
-              E
-              G36
-              G37
-              b40
-              Δ3
-              (Typed.pass T36 T37 (s33 bs))
-              (at47 bs)
+              (Typed.pass T34 T35 s31)
+              at46
               (Scalar.g-room
               𝓤
               H
               A
               W
               E
-              G36
-              21
+              G34
+              20
               (Syntax.tyStruct
               (List._∷_ 38 (List._∷_ 91 (List._∷_ 93 List.[])))
               (Syntax.tcons
@@ -12786,11 +13339,11 @@ module _ (claims· : Claims) where
               Syntax.erased
               Syntax.imm
               Elem.ty)
-              10))
-              d47
+              11))
+              d46
 
-          d49 : Typed.Typed 𝓤 H A 𝓣 E G35 b41 Δ3 (at49 bs)
-          d49 =
+          d48 : Typed.Typed 𝓤 H A 𝓣 E G33 b39 Δ3 at48
+          d48 =
               Typed.s-seq
               𝓤
               H
@@ -12798,13 +13351,13 @@ module _ (claims· : Claims) where
               W
               𝓣
               E
-              G35
-              G36
+              G33
+              G34
               b15
-              b40
+              b38
               Δ3
-              (Typed.both (s32 bs))
-              (at48 bs)
+              (Typed.both s30)
+              at47
               (Plain.t-call-plain
               𝓤
               H
@@ -12812,28 +13365,28 @@ module _ (claims· : Claims) where
               W
               𝓣
               1
-              ps·3
-              r·3
-              (claims· .6)
-              (claims· .7)
+              ps·1
+              r·1
+              (claims· .2)
+              (claims· .3)
               "records::get"
-              (known .3)
+              (known .1)
               E
               (λ pos β. β)
-              G35 (
+              G33 (
                 record {
-                  pos = 21;
+                  pos = 20;
                   ty = Syntax.tyRef
                       Syntax.erased
                       Syntax.imm
                       Elem.ty;
                   ref = λ x. x;
                 },
-                (Num.vAt 13 λ x. x, tt),
+                (Num.vAt 23 λ x. x, tt),
               )
-              12
-              (List._∷_ 10 List.[])
-              (Call.sub-id 𝓤 H A W (G35 .slots)) (
+              15
+              (List._∷_ 11 List.[])
+              (Call.sub-id 𝓤 H A W (G33 .slots)) (
                 ShrSlice.spares-sslice
                     𝓤
                     H
@@ -12844,7 +13397,7 @@ module _ (claims· : Claims) where
                     Syntax.erased
                     Syntax.imm
                     Elem.ty)
-                    10,
+                    11,
                 Shared.reads-sslice
                     𝓤
                     H
@@ -12855,7 +13408,7 @@ module _ (claims· : Claims) where
                     Syntax.erased
                     Syntax.imm
                     Elem.ty)
-                    10,
+                    11,
                 Path'.refl,
                 ((Scalar.reads-sc 𝓤 H A W (Row.sInt Syntax.w64), Path'.refl), tt),
               )
@@ -12918,9 +13471,36 @@ module _ (claims· : Claims) where
               (Syntax.tcons (Syntax.tyInt Syntax.w64) Syntax.tnil))))))
               (tt, tt)
               Path'.refl)
+              d47
+
+          d49 : Typed.Typed 𝓤 H A 𝓣 E G32 b39 Δ3 at49
+          d49 =
+              Typed.g-pre
+              𝓤
+              H
+              A
+              W
+              𝓣
+              E
+              G32
+              G33
+              b39
+              Δ3
+              (Typed.pass T32 T33 s29)
+              at48
+              (Scalar.g-room
+              𝓤
+              H
+              A
+              W
+              E
+              G32
+              22
+              (Syntax.tyInt Syntax.w64)
+              (Scalar.room-sc 𝓤 H A W (Row.sInt Syntax.w64)))
               d48
 
-          d50 : Typed.Typed 𝓤 H A 𝓣 E G34 b42 Δ3 (at50 bs)
+          d50 : Typed.Typed 𝓤 H A 𝓣 E G31 b40 Δ3 at50
           d50 =
               Typed.s-seq
               𝓤
@@ -12929,13 +13509,184 @@ module _ (claims· : Claims) where
               W
               𝓣
               E
-              G34
-              G35
+              G31
+              G32
               b14
+              b39
+              Δ3
+              (Typed.ask s28)
+              at49
+              (Scalar.t-op2
+              𝓤
+              H
+              A
+              W
+              E
+              𝓣
+              G31
+              (Syntax.sub Syntax.unsigned)
+              (Scalar.oAt 22 (Syntax.tyInt Syntax.w64) (Row.valS (Row.sInt Syntax.w64)))
+              (Scalar.oAt 12 (Syntax.tyInt Syntax.w64) (Row.valS (Row.sInt Syntax.w64)))
+              23
+              (Rows.sc-here (Row.sInt Syntax.w64))
+              (Syntax.tyInt Syntax.w64)
+              (Row.valS (Row.sInt Syntax.w64))
+              (Row.sInt Syntax.w64 .of)
+              (Scalar.reads-sc 𝓤 H A W (Row.sInt Syntax.w64), Path'.refl)
+              (Scalar.reads-sc 𝓤 H A W (Row.sInt Syntax.w64), Path'.refl)
+              (Reads'.room-gone 𝓤 H A (Syntax.tyInt Syntax.w64))
+              (Scalar.holds-sc 𝓤 H A W (Row.sInt Syntax.w64))
+              Path'.refl
+              (λ u. Path'.refl)
+              λ u. tt)
+              d49
+
+          d51 : Typed.Typed 𝓤 H A 𝓣 E G30 b40 Δ3 at51
+          d51 =
+              Typed.g-pre
+              𝓤
+              H
+              A
+              W
+              𝓣
+              E
+              G30
+              G31
+              b40
+              Δ3
+              (Typed.pass T30 T31 s27)
+              at50
+              (Scalar.g-room
+              𝓤
+              H
+              A
+              W
+              E
+              G30
+              21
+              (Syntax.tyInt Syntax.w64)
+              (Scalar.room-sc 𝓤 H A W (Row.sInt Syntax.w64)))
+              d50
+
+          d52 : Typed.Typed 𝓤 H A 𝓣 E G29 b41 Δ3 at52
+          d52 =
+              Typed.s-seq
+              𝓤
+              H
+              A
+              W
+              𝓣
+              E
+              G29
+              G30
+              b13
+              b40
+              Δ3
+              (Typed.ask s26)
+              at51
+              (Scalar.t-op2
+              𝓤
+              H
+              A
+              W
+              E
+              𝓣
+              G29
+              (Syntax.add Syntax.unsigned)
+              (Scalar.oAt 13 (Syntax.tyInt Syntax.w64) (Row.valS (Row.sInt Syntax.w64)))
+              (Scalar.oAt 21 (Syntax.tyInt Syntax.w64) (Row.valS (Row.sInt Syntax.w64)))
+              22
+              (Rows.sc-here (Row.sInt Syntax.w64))
+              (Syntax.tyInt Syntax.w64)
+              (Row.valS (Row.sInt Syntax.w64))
+              (Row.sInt Syntax.w64 .of)
+              (Scalar.reads-sc 𝓤 H A W (Row.sInt Syntax.w64), Path'.refl)
+              (Scalar.reads-sc 𝓤 H A W (Row.sInt Syntax.w64), Path'.refl)
+              (Reads'.room-gone 𝓤 H A (Syntax.tyInt Syntax.w64))
+              (Scalar.holds-sc 𝓤 H A W (Row.sInt Syntax.w64))
+              Path'.refl
+              (λ u. Path'.refl)
+              λ u. tt)
+              d51
+
+          d53 : Typed.Typed 𝓤 H A 𝓣 E G28 b42 Δ3 at53
+          d53 =
+              Typed.s-seq
+              𝓤
+              H
+              A
+              W
+              𝓣
+              E
+              G28
+              G29
+              b12
               b41
               Δ3
-              (Typed.ask (s31 bs))
-              (at49 bs)
+              (Typed.pass T28 T29 s25)
+              at52
+              (Scalar.t-use
+              𝓤
+              H
+              A
+              W
+              E
+              𝓣
+              G28
+              (Scalar.oFld
+              11
+              (List._∷_ (Syntax.field 1) List.[])
+              (Syntax.tyInt Syntax.w64)
+              8
+              λ v. Shared.lenV
+              (v .0))
+              21
+              (Rows.sc-here (Row.sInt Syntax.w64))
+              (Syntax.tyInt Syntax.w64)
+              (Row.valS (Row.sInt Syntax.w64))
+              (Row.sInt Syntax.w64 .of) (
+                Reshare.reads-owedS-len
+                    𝓤
+                    H
+                    A
+                    W
+                    Elem.R
+                    (Syntax.tyRef
+                    (Syntax.named 9)
+                    Syntax.mut
+                    Elem.ty)
+                    9
+                    11
+                    (Row.lease
+                    (κs .1 .1 .1 .1 .1 .1 .1 .1 .1 .0)
+                    (qs .1 .1 .1 .1 .1 .1 .1 .1 .1 .0))
+                    8
+                    Path'.refl,
+                Path'.refl,
+              )
+              (Reads'.room-gone 𝓤 H A (Syntax.tyInt Syntax.w64))
+              (Scalar.holds-sc 𝓤 H A W (Row.sInt Syntax.w64))
+              Path'.refl
+              (λ u. Path'.refl)
+              λ u. tt)
+              d52
+
+          d54 : Typed.Typed 𝓤 H A 𝓣 E G27 b43 Δ3 at54
+          d54 =
+              Typed.s-seq
+              𝓤
+              H
+              A
+              W
+              𝓣
+              E
+              G27
+              G28
+              b11
+              b42
+              Δ3
+              (Typed.ask s24)
+              at53
               (Relend.t-sl-aggregate
               𝓤
               H
@@ -12945,20 +13696,26 @@ module _ (claims· : Claims) where
               Elem.R
               𝓣
               (Relend.asShr Elem.R)
-              G34
+              G27
+              19
               20
-              21
-              10
+              11
               (Syntax.tyRef
               Syntax.erased
               Syntax.imm
-              (Syntax.tyArray Elem.ty 1024))
+              Elem.ty)
               (Syntax.tyRef
               Syntax.erased
               Syntax.imm
               Elem.ty)
               (λ x. x)
-              (Scalar.oBig Syntax.w64 1024)
+              (Scalar.oFld
+              11
+              (List._∷_ (Syntax.field 1) List.[])
+              (Syntax.tyInt Syntax.w64)
+              8
+              λ v. Shared.lenV
+              (v .0))
               (Reads'.as-is
               𝓤
               H
@@ -12968,8 +13725,8 @@ module _ (claims· : Claims) where
               (Syntax.tyRef
               Syntax.erased
               Syntax.imm
-              (Syntax.tyArray Elem.ty 1024))
-              10))
+              Elem.ty)
+              11))
               (Reads'.room-gone
               𝓤
               H
@@ -12981,15 +13738,33 @@ module _ (claims· : Claims) where
               Syntax.erased
               Syntax.imm
               Elem.ty)
-              (Syntax.tcons (Syntax.tyInt Syntax.w64) Syntax.tnil))))
-              record { lower = record { fits = Dec'.lit< tt } }
+              (Syntax.tcons (Syntax.tyInt Syntax.w64) Syntax.tnil)))) (
+                Reshare.reads-owedS-len
+                    𝓤
+                    H
+                    A
+                    W
+                    Elem.R
+                    (Syntax.tyRef
+                    (Syntax.named 9)
+                    Syntax.mut
+                    Elem.ty)
+                    9
+                    11
+                    (Row.lease
+                    (κs .1 .1 .1 .1 .1 .1 .1 .1 .1 .0)
+                    (qs .1 .1 .1 .1 .1 .1 .1 .1 .1 .0))
+                    8
+                    Path'.refl,
+                Path'.refl,
+              )
               Path'.refl
               Path'.refl
               λ b o k. tt)
-              d49
+              d53
 
-          d51 : Typed.Typed 𝓤 H A 𝓣 E G33 b43 Δ3 (at51 bs)
-          d51 =
+          d55 : Typed.Typed 𝓤 H A 𝓣 E G26 b44 Δ3 at55
+          d55 =
               Typed.s-seq
               𝓤
               H
@@ -12997,36 +13772,48 @@ module _ (claims· : Claims) where
               W
               𝓣
               E
-              G33
-              G34
-              b13
-              b42
+              G26
+              G27
+              b10
+              b43
               Δ3
-              (Typed.give (s30 bs))
-              (at50 bs)
-              (Share.t-arr-share
+              (Typed.give s23)
+              at54
+              (Reshare.t-sl-reshare
               𝓤
               H
               A
               W
               E
-              𝓣
               Elem.R
-              G33
+              𝓣
+              G26
               11
-              20
-              1024
-              10
+              19
+              9
+              11
+              (Syntax.tyRef
+              (Syntax.named 9)
+              Syntax.mut
+              Elem.ty)
               (Syntax.tyRef
               Syntax.erased
               Syntax.imm
-              (Syntax.tyArray Elem.ty 1024))
+              Elem.ty)
+              (Row.lease (κs .1 .1 .1 .1 .1 .1 .1 .1 .1 .0) (qs .1 .1 .1 .1 .1 .1 .1 .1 .1 .0))
+              0
               (λ x. x)
               (Reads'.as-is
               𝓤
               H
               A
-              (Rows.arrF Elem.R 1024 0))
+              (Mut.mslice
+              Elem.R
+              (Syntax.tyRef
+              (Syntax.named 9)
+              Syntax.mut
+              Elem.ty)
+              9))
               (Reads'.room-gone
               𝓤
               H
@@ -13034,14 +13821,17 @@ module _ (claims· : Claims) where
               (Syntax.tyRef
               Syntax.erased
               Syntax.imm
-              (Syntax.tyArray Elem.ty 1024)))
+              Elem.ty))
               Path'.refl
-              (λ b o. tt)
-              (Dec'.lit< tt, Dec'.lit< tt))
-              d50
+              tt
+              Path'.refl
+              Path'.refl
+              Path'.refl
+              λ b o. tt)
+              d54
 
-          d52 : Typed.Typed 𝓤 H A 𝓣 E G32 b43 Δ3 (at52 bs)
-          d52 =
+          d56 : Typed.Typed 𝓤 H A 𝓣 E G25 b44 Δ3 at56
+          d56 =
               Typed.g-pre
               𝓤
               H
@@ -13049,13 +13839,13 @@ module _ (claims· : Claims) where
               W
               𝓣
               E
-              G32
-              G33
-              b43
+              G25
+              G26
+              b44
               Δ3
               (λ Ψ. Ψ)
-              (at51 bs)
-              (Lifetime.g-begin 𝓤 H A W E G32 10 (
+              at55
+              (Lifetime.g-begin 𝓤 H A W E G25 11 (
                 tt,
                 (
                   tt,
@@ -13113,7 +13903,13 @@ module _ (claims· : Claims) where
                                                                       tt,
                                                                       (
                                                                         tt,
-                                                                        (tt, (tt, (tt, tt))),
+                                                                        (
+                                                                          tt,
+                                                                          (
+                                                                            tt,
+                                                                            (tt, (tt, (tt, tt))),
+                                                                          ),
+                                                                        ),
                                                                       ),
                                                                     ),
                                                                   ),
@@ -13143,10 +13939,10 @@ module _ (claims· : Claims) where
                   ),
                 ),
               ))
-              d51
+              d55
 
-          d53 : Typed.Typed 𝓤 H A 𝓣 E G31 b43 Δ3 (at53 bs)
-          d53 =
+          d57 : Typed.Typed 𝓤 H A 𝓣 E G24 b44 Δ3 at57
+          d57 =
               Typed.g-pre
               𝓤
               H
@@ -13154,17 +13950,17 @@ module _ (claims· : Claims) where
               W
               𝓣
               E
-              G31
-              G32
-              b43
+              G24
+              G25
+              b44
               Δ3
               (λ Ψ. Ψ)
-              (at52 bs)
-              (Lifetime.g-forget 𝓤 H A W E G31 9 Row.dead Path'.refl)
-              d52
+              at56
+              (Lifetime.g-forget 𝓤 H A W E G24 10 Row.dead Path'.refl)
+              d56
 
-          d54 : Typed.Typed 𝓤 H A 𝓣 E G30 b43 Δ3 (at54 bs)
-          d54 =
+          d58 : Typed.Typed 𝓤 H A 𝓣 E G23 b44 Δ3 at58
+          d58 =
               Typed.g-pre
               𝓤
               H
@@ -13172,28 +13968,33 @@ module _ (claims· : Claims) where
               W
               𝓣
               E
-              G30
-              G31
-              b43
+              G23
+              G24
+              b44
               Δ3
-              (Typed.both (s27 bs))
-              (at53 bs)
-              (Borrow.g-back-arr
+              (Typed.both s20)
+              at57
+              (Relend.g-back-sl
               𝓤
               H
               A
               W
               E
               Elem.R
-              G30
-              19
+              G23
+              18
               11
               9
-              1024
+              10
+              (Syntax.tyRef
+              (Syntax.named 9)
+              Syntax.mut
+              Elem.ty)
               (Syntax.tyRef
               Syntax.erased
               Syntax.mut
               Elem.ty)
+              (Row.lease (κs .1 .1 .1 .1 .1 .1 .1 .1 .1 .0) (qs .1 .1 .1 .1 .1 .1 .1 .1 .1 .0))
               (λ x. x)
               (λ x. x)
               (Reads'.as-is
@@ -13210,12 +14011,21 @@ module _ (claims· : Claims) where
               𝓤
               H
               A
-              (Rows.arr-owed Elem.R 1024 9))
+              (Relend.mslice-owed
+              Elem.R
+              (Syntax.tyRef
+              (Syntax.named 9)
+              Syntax.mut
+              Elem.ty)
+              9
+              10
+              (Row.lease (κs .1 .1 .1 .1 .1 .1 .1 .1 .1 .0) (qs .1 .1 .1 .1 .1 .1 .1 .1 .1 .0))))
+              Path'.refl
               Path'.refl)
-              d53
+              d57
 
-          d55 : Typed.Typed 𝓤 H A 𝓣 E G29 b43 Δ3 (at55 bs)
-          d55 =
+          d59 : Typed.Typed 𝓤 H A 𝓣 E G22 b44 Δ3 at59
+          d59 =
               Typed.g-pre
               𝓤
               H
@@ -13223,155 +14033,17 @@ module _ (claims· : Claims) where
               W
               𝓣
               E
-              G29
-              G30
-              b43
+              G22
+              G23
+              b44
               Δ3
               (λ Ψ. Ψ)
-              (at54 bs)
-              (Lifetime.g-end 𝓤 H A W E G29 9 Path'.refl)
-              d54
+              at58
+              (Lifetime.g-end 𝓤 H A W E G22 10 Path'.refl)
+              d58
 
-          d56 : Typed.Typed 𝓤 H A 𝓣 E G28 b43 Δ3 (at56 bs)
-          d56 =
-              Typed.g-pre
-              𝓤
-              H
-              A
-              W
-              𝓣
-              E
-              G28
-              G29
-              b43
-              Δ3
-              (Typed.pass T28 T29 (s25 bs))
-              (at55 bs)
-              (Scalar.g-room
-              𝓤
-              H
-              A
-              W
-              E
-              G28
-              12
-              (Syntax.tyStruct
-              (List._∷_
-              114
-              (List._∷_
-              101
-              (List._∷_
-              99
-              (List._∷_
-              111
-              (List._∷_
-              114
-              (List._∷_
-              100
-              (List._∷_
-              115
-              (List._∷_
-              58
-              (List._∷_
-              58
-              (List._∷_
-              76
-              (List._∷_
-              105
-              (List._∷_
-              110
-              (List._∷_ 101 (List._∷_ 82 (List._∷_ 101 (List._∷_ 99 List.[]))))))))))))))))
-              (Syntax.tcons
-              (Syntax.tyInt Syntax.w64)
-              (Syntax.tcons
-              (Syntax.tyInt Syntax.w64)
-              (Syntax.tcons
-              (Syntax.tyStruct
-              (List._∷_
-              112
-              (List._∷_
-              108
-              (List._∷_
-              97
-              (List._∷_
-              99
-              (List._∷_
-              101
-              (List._∷_
-              58
-              (List._∷_
-              58
-              (List._∷_
-              82
-              (List._∷_
-              101
-              (List._∷_ 103 (List._∷_ 105 (List._∷_ 111 (List._∷_ 110 List.[])))))))))))))
-              (Syntax.tcons (Syntax.tyInt Syntax.w64) Syntax.tnil))
-              (Syntax.tcons (Syntax.tyInt Syntax.w64) Syntax.tnil)))))
-              (Local.room-whole
-              𝓤
-              H
-              A
-              W
-              (Declared.row LineRec.the-type)
-              (Syntax.tyStruct
-              (List._∷_
-              114
-              (List._∷_
-              101
-              (List._∷_
-              99
-              (List._∷_
-              111
-              (List._∷_
-              114
-              (List._∷_
-              100
-              (List._∷_
-              115
-              (List._∷_
-              58
-              (List._∷_
-              58
-              (List._∷_
-              76
-              (List._∷_
-              105
-              (List._∷_
-              110
-              (List._∷_ 101 (List._∷_ 82 (List._∷_ 101 (List._∷_ 99 List.[]))))))))))))))))
-              (Syntax.tcons
-              (Syntax.tyInt Syntax.w64)
-              (Syntax.tcons
-              (Syntax.tyInt Syntax.w64)
-              (Syntax.tcons
-              (Syntax.tyStruct
-              (List._∷_
-              112
-              (List._∷_
-              108
-              (List._∷_
-              97
-              (List._∷_
-              99
-              (List._∷_
-              101
-              (List._∷_
-              58
-              (List._∷_
-              58
-              (List._∷_
-              82
-              (List._∷_
-              101
-              (List._∷_ 103 (List._∷_ 105 (List._∷_ 111 (List._∷_ 110 List.[])))))))))))))
-              (Syntax.tcons (Syntax.tyInt Syntax.w64) Syntax.tnil))
-              (Syntax.tcons (Syntax.tyInt Syntax.w64) Syntax.tnil)))))
-              Path'.refl))
-              d55
-
-          d57 : Typed.Typed 𝓤 H A 𝓣 E G27 b44 Δ3 (at57 bs)
-          d57 =
+          d60 : Typed.Typed 𝓤 H A 𝓣 E G21 b45 Δ3 at60
+          d60 =
               Typed.s-seq
               𝓤
               H
@@ -13379,13 +14051,13 @@ module _ (claims· : Claims) where
               W
               𝓣
               E
-              G27
-              G28
-              b12
-              b43
+              G21
+              G22
+              b9
+              b44
               Δ3
-              (Typed.both (s24 bs))
-              (at56 bs)
+              (Typed.both s18)
+              at59
               (Plain.t-call-plain
               𝓤
               H
@@ -13393,15 +14065,15 @@ module _ (claims· : Claims) where
               W
               𝓣
               3
-              ps·2
-              r·2
-              (claims· .4)
-              (claims· .5)
+              ps·0
+              r·0
+              (claims· .0)
+              (claims· .1)
               "records::refill"
-              (known .2)
+              (known .0)
               E
               (λ pos β. β)
-              G27 (
+              G21 (
                 record {
                   pos = 2;
                   ty = Syntax.tyRef (Syntax.named 1) Syntax.imm (Syntax.tyInt Syntax.w64);
@@ -13416,31 +14088,28 @@ module _ (claims· : Claims) where
                   (
                     Num.vAt 3 λ x. x,
                     (
-                      Num.vAt 14 λ x. x,
+                      Num.vAt 13 λ x. x,
                       (
-                        Num.vAt 13 λ x. x,
+                        Num.vAt 12 λ x. x,
                         (
-                          record { pos = 12; st = List.[]; d = 0; at = λ x. x },
-                          (
-                            record {
-                              pos = 19;
-                              ty = Syntax.tyRef
-                                  Syntax.erased
-                                  Syntax.mut
-                                  Elem.ty;
-                              ref = λ x. x;
-                            },
-                            tt,
-                          ),
+                          record {
+                            pos = 18;
+                            ty = Syntax.tyRef
+                                Syntax.erased
+                                Syntax.mut
+                                Elem.ty;
+                            ref = λ x. x;
+                          },
+                          tt,
                         ),
                       ),
                     ),
                   ),
                 ),
               )
-              13
-              (List._∷_ 1 (List._∷_ 2 (List._∷_ 9 List.[])))
-              (Call.sub-id 𝓤 H A W (G27 .slots)) (
+              12
+              (List._∷_ 1 (List._∷_ 2 (List._∷_ 10 List.[])))
+              (Call.sub-id 𝓤 H A W (G21 .slots)) (
                 ShrSlice.spares-sslice
                     𝓤
                     H
@@ -13483,68 +14152,30 @@ module _ (claims· : Claims) where
                       (
                         (Scalar.reads-sc 𝓤 H A W (Row.sInt Syntax.w64), Path'.refl),
                         (
-                          (
-                            Yields.yields-copy
-                                𝓤
-                                H
-                                A
-                                W
-                                (λ ρ. Unit)
-                                (Declared.row LineRec.the-type)
-                                Path'.refl
-                                (Copies.cStruct
-                                LineRec.the-type
-                                Laws.the-laws
-                                Laws.the-copy .copy
-                                𝓤
-                                H
-                                A
-                                W)
-                                (Rows'.whole (Declared.row LineRec.the-type))
-                                (λ x. x)
-                                (λ x. x)
-                                (λ ρ told. Local.mem-whole
-                                𝓤
-                                H
-                                A
-                                W
-                                (Declared.row LineRec.the-type)
-                                ρ)
-                                λ ρ told. Local.whole-mem
-                                𝓤
-                                H
-                                A
-                                W
-                                (Declared.row LineRec.the-type)
-                                ρ,
-                            Path'.refl,
-                          ),
-                          (
-                            Reads'.as-is
-                                𝓤
-                                H
-                                A
-                                (Mut.mslice
-                                Elem.R
-                                (Syntax.tyRef
-                                Syntax.erased
-                                Syntax.mut
-                                Elem.ty)
-                                9),
-                            Mut.reads-mslice
-                                𝓤
-                                H
-                                A
-                                W
-                                Elem.R
-                                (Syntax.tyRef
-                                Syntax.erased
-                                Syntax.mut
-                                Elem.ty)
-                                9,
-                            Path'.refl,
-                            tt,
-                          ),
+                          Reads'.as-is
+                              𝓤
+                              H
+                              A
+                              (Mut.mslice
+                              Elem.R
+                              (Syntax.tyRef
+                              Syntax.erased
+                              Syntax.mut
+                              Elem.ty)
+                              10),
+                          Mut.reads-mslice
+                              𝓤
+                              H
+                              A
+                              W
+                              Elem.R
+                              (Syntax.tyRef
+                              Syntax.erased
+                              Syntax.mut
+                              Elem.ty)
+                              10,
+                          Path'.refl,
+                          tt,
                         ),
                       ),
                     ),
@@ -13554,10 +14185,10 @@ module _ (claims· : Claims) where
               (Scalar.room-sc 𝓤 H A W (Row.sInt Syntax.w64))
               (tt, (tt, (tt, tt)))
               Path'.refl)
-              d56
+              d59
 
-          d58 : Typed.Typed 𝓤 H A 𝓣 E G26 b45 Δ3 (at58 bs)
-          d58 =
+          d61 : Typed.Typed 𝓤 H A 𝓣 E G20 b46 Δ3 at61
+          d61 =
               Typed.s-seq
               𝓤
               H
@@ -13565,13 +14196,13 @@ module _ (claims· : Claims) where
               W
               𝓣
               E
-              G26
-              G27
-              b11
-              b44
+              G20
+              G21
+              b8
+              b45
               Δ3
-              (Typed.ask (s23 bs))
-              (at57 bs)
+              (Typed.ask s17)
+              at60
               (Relend.t-sl-aggregate
               𝓤
               H
@@ -13581,20 +14212,26 @@ module _ (claims· : Claims) where
               Elem.R
               𝓣
               (Relend.asMut Elem.R)
-              G26
+              G20
+              17
               18
-              19
-              9
+              10
               (Syntax.tyRef
               Syntax.erased
               Syntax.mut
-              (Syntax.tyArray Elem.ty 1024))
+              Elem.ty)
               (Syntax.tyRef
               Syntax.erased
               Syntax.mut
               Elem.ty)
               (λ x. x)
-              (Scalar.oBig Syntax.w64 1024)
+              (Scalar.oFld
+              11
+              (List._∷_ (Syntax.field 1) List.[])
+              (Syntax.tyInt Syntax.w64)
+              8
+              λ v. Shared.lenV
+              (v .0))
               (Reads'.as-is
               𝓤
               H
@@ -13604,8 +14241,8 @@ module _ (claims· : Claims) where
               (Syntax.tyRef
               Syntax.erased
               Syntax.mut
-              (Syntax.tyArray Elem.ty 1024))
-              9))
+              Elem.ty)
+              10))
               (Reads'.room-gone
               𝓤
               H
@@ -13617,15 +14254,33 @@ module _ (claims· : Claims) where
               Syntax.erased
               Syntax.mut
               Elem.ty)
-              (Syntax.tcons (Syntax.tyInt Syntax.w64) Syntax.tnil))))
-              record { lower = record { fits = Dec'.lit< tt } }
+              (Syntax.tcons (Syntax.tyInt Syntax.w64) Syntax.tnil)))) (
+                Relend.reads-owed-len
+                    𝓤
+                    H
+                    A
+                    W
+                    Elem.R
+                    (Syntax.tyRef
+                    (Syntax.named 9)
+                    Syntax.mut
+                    Elem.ty)
+                    9
+                    10
+                    (Row.lease
+                    (κs .1 .1 .1 .1 .1 .1 .1 .1 .1 .0)
+                    (qs .1 .1 .1 .1 .1 .1 .1 .1 .1 .0))
+                    8
+                    Path'.refl,
+                Path'.refl,
+              )
               Path'.refl
               Path'.refl
               λ b o k. tt)
-              d57
+              d60
 
-          d59 : Typed.Typed 𝓤 H A 𝓣 E G25 b46 Δ3 (at59 bs)
-          d59 =
+          d62 : Typed.Typed 𝓤 H A 𝓣 E G19 b47 Δ3 at62
+          d62 =
               Typed.s-seq
               𝓤
               H
@@ -13633,36 +14288,48 @@ module _ (claims· : Claims) where
               W
               𝓣
               E
-              G25
-              G26
-              b10
-              b45
+              G19
+              G20
+              b7
+              b46
               Δ3
-              (Typed.give (s22 bs))
-              (at58 bs)
-              (Borrow.t-arr-borrow
+              (Typed.give s16)
+              at61
+              (Relend.t-sl-relend
               𝓤
               H
               A
               W
               E
-              𝓣
               Elem.R
-              G25
+              𝓣
+              G19
               11
-              18
-              1024
+              17
               9
+              10
+              (Syntax.tyRef
+              (Syntax.named 9)
+              Syntax.mut
+              Elem.ty)
               (Syntax.tyRef
               Syntax.erased
               Syntax.mut
-              (Syntax.tyArray Elem.ty 1024))
+              Elem.ty)
+              (Row.lease (κs .1 .1 .1 .1 .1 .1 .1 .1 .1 .0) (qs .1 .1 .1 .1 .1 .1 .1 .1 .1 .0))
+              0
               (λ x. x)
               (Reads'.as-is
               𝓤
               H
               A
-              (Rows.arrF Elem.R 1024 0))
+              (Mut.mslice
+              Elem.R
+              (Syntax.tyRef
+              (Syntax.named 9)
+              Syntax.mut
+              Elem.ty)
+              9))
               (Reads'.room-gone
               𝓤
               H
@@ -13670,14 +14337,17 @@ module _ (claims· : Claims) where
               (Syntax.tyRef
               Syntax.erased
               Syntax.mut
-              (Syntax.tyArray Elem.ty 1024)))
+              Elem.ty))
               Path'.refl
-              (λ b o. tt)
-              (Dec'.lit< tt, Dec'.lit< tt))
-              d58
+              tt
+              Path'.refl
+              Path'.refl
+              Path'.refl
+              λ b o. tt)
+              d61
 
-          d60 : Typed.Typed 𝓤 H A 𝓣 E G20 b46 Δ3 (at60 bs)
-          d60 =
+          d63 : Typed.Typed 𝓤 H A 𝓣 E G16 b47 Δ3 at63
+          d63 =
               Typed.g-pre
               𝓤
               H
@@ -13685,13 +14355,13 @@ module _ (claims· : Claims) where
               W
               𝓣
               E
-              G20
-              G25
-              b46
+              G16
+              G19
+              b47
               Δ3
               (λ Ψ. Ψ)
-              (at59 bs)
-              (Lifetime.g-begin 𝓤 H A W E G20 9 (
+              at62
+              (Lifetime.g-begin 𝓤 H A W E G16 10 (
                 tt,
                 (
                   tt,
@@ -13749,7 +14419,13 @@ module _ (claims· : Claims) where
                                                                       tt,
                                                                       (
                                                                         tt,
-                                                                        (tt, (tt, (tt, tt))),
+                                                                        (
+                                                                          tt,
+                                                                          (
+                                                                            tt,
+                                                                            (tt, (tt, (tt, tt))),
+                                                                          ),
+                                                                        ),
                                                                       ),
                                                                     ),
                                                                   ),
@@ -13779,13 +14455,13 @@ module _ (claims· : Claims) where
                   ),
                 ),
               ))
-              d59
+              d62
 
-          d61 : Typed.Typed 𝓤 H A 𝓣 E G19 b47 Δ3 (at61 bs)
-          d61 = Typed.t-seq 𝓤 H A W 𝓣 E G19 G20 b9 b46 Δ3 (at6 bs) (at60 bs) d6 d60
+          d64 : Typed.Typed 𝓤 H A 𝓣 E G15 b48 Δ3 at64
+          d64 = Typed.t-seq 𝓤 H A W 𝓣 E G15 G16 b6 b47 Δ3 at4 at63 d4 d63
 
-          d62 : Typed.Typed 𝓤 H A 𝓣 E G17 b48 Δ3 (at62 bs)
-          d62 =
+          d65 : Typed.Typed 𝓤 H A 𝓣 E G13 b49 Δ3 at65
+          d65 =
               Typed.s-seq
               𝓤
               H
@@ -13793,13 +14469,13 @@ module _ (claims· : Claims) where
               W
               𝓣
               E
-              G17
-              G19
-              b6
-              b47
+              G13
+              G15
+              b3
+              b48
               Δ3
-              (Typed.ask (s16 bs))
-              (at61 bs)
+              (Typed.ask s12)
+              at64
               (Scalar.t-op2
               𝓤
               H
@@ -13807,12 +14483,12 @@ module _ (claims· : Claims) where
               W
               E
               𝓣
-              G17
+              G13
               (Syntax.lt Syntax.unsigned)
-              (Scalar.oAt 14 (Syntax.tyInt Syntax.w64) (Row.valS (Row.sInt Syntax.w64)))
+              (Scalar.oAt 13 (Syntax.tyInt Syntax.w64) (Row.valS (Row.sInt Syntax.w64)))
               (Scalar.oAt 3 (Syntax.tyInt Syntax.w64) (Row.valS (Row.sInt Syntax.w64)))
-              17
-              (Rows'.sc-here Row.sBool)
+              16
+              (Rows.sc-here Row.sBool)
               Syntax.tyBool
               (Row.valS Row.sBool)
               (Row.sBool .of)
@@ -13823,10 +14499,10 @@ module _ (claims· : Claims) where
               Path'.refl
               (λ u. Path'.refl)
               λ u. tt)
-              d61
+              d64
 
-          d63 : Typed.Typed 𝓤 H A 𝓣 E G17 b49 Δ2 (at63 bs)
-          d63 =
+          d66 : Typed.Typed 𝓤 H A 𝓣 E G13 b50 Δ2 at66
+          d66 =
               Typed.t-loop-by
               𝓤
               H
@@ -13834,26 +14510,25 @@ module _ (claims· : Claims) where
               W
               𝓣
               E
-              G17
-              b48
+              G13
+              b49
               Δ2
               put0
               (λ u vs. Inv·0
-              (Row.get 1 (T17 .locals) u .now)
-              (Row.get 2 (T17 .locals) u .now)
-              (Row.get 3 (T17 .locals) u)
-              (Row.get 4 (T17 .locals) u .now)
-              (Row.get 5 (T17 .locals) u .now)
-              (Row.get 6 (T17 .locals) u .now)
-              (Row.get 7 (T17 .locals) u .now)
-              (Row.get 8 (T17 .locals) u .now)
-              (Row.get 9 (T17 .locals) u .now)
-              (Row.get 10 (T17 .locals) u .now)
-              (Row.get 11 (T17 .locals) u)
-              (Row.get 12 (T17 .locals) u)
-              (Row.get 13 (T17 .locals) u)
-              (Row.get 14 (T17 .locals) u)
-              (Row.get 15 (T17 .locals) u)
+              (Row.get 1 (T13 .locals) u .now)
+              (Row.get 2 (T13 .locals) u .now)
+              (Row.get 3 (T13 .locals) u)
+              (Row.get 4 (T13 .locals) u .now)
+              (Row.get 5 (T13 .locals) u .now)
+              (Row.get 6 (T13 .locals) u .now)
+              (Row.get 7 (T13 .locals) u .now)
+              (Row.get 8 (T13 .locals) u .now)
+              (Row.get 9 (T13 .locals) u .now)
+              (Row.get 10 (T13 .locals) u .now)
+              (Row.get 11 (T13 .locals) u .now)
+              (Row.get 12 (T13 .locals) u)
+              (Row.get 13 (T13 .locals) u)
+              (Row.get 14 (T13 .locals) u)
               (vs .0)
               (vs .1)
               (vs .2)
@@ -13862,24 +14537,22 @@ module _ (claims· : Claims) where
               (vs .5)
               (vs .6)
               (vs .7)
-              (vs .8)
-              (vs .9))
+              (vs .8))
               (λ u vs. μ·0
-              (Row.get 1 (T17 .locals) u .now)
-              (Row.get 2 (T17 .locals) u .now)
-              (Row.get 3 (T17 .locals) u)
-              (Row.get 4 (T17 .locals) u .now)
-              (Row.get 5 (T17 .locals) u .now)
-              (Row.get 6 (T17 .locals) u .now)
-              (Row.get 7 (T17 .locals) u .now)
-              (Row.get 8 (T17 .locals) u .now)
-              (Row.get 9 (T17 .locals) u .now)
-              (Row.get 10 (T17 .locals) u .now)
-              (Row.get 11 (T17 .locals) u)
-              (Row.get 12 (T17 .locals) u)
-              (Row.get 13 (T17 .locals) u)
-              (Row.get 14 (T17 .locals) u)
-              (Row.get 15 (T17 .locals) u)
+              (Row.get 1 (T13 .locals) u .now)
+              (Row.get 2 (T13 .locals) u .now)
+              (Row.get 3 (T13 .locals) u)
+              (Row.get 4 (T13 .locals) u .now)
+              (Row.get 5 (T13 .locals) u .now)
+              (Row.get 6 (T13 .locals) u .now)
+              (Row.get 7 (T13 .locals) u .now)
+              (Row.get 8 (T13 .locals) u .now)
+              (Row.get 9 (T13 .locals) u .now)
+              (Row.get 10 (T13 .locals) u .now)
+              (Row.get 11 (T13 .locals) u .now)
+              (Row.get 12 (T13 .locals) u)
+              (Row.get 13 (T13 .locals) u)
+              (Row.get 14 (T13 .locals) u)
               (vs .0)
               (vs .1)
               (vs .2)
@@ -13888,19 +14561,18 @@ module _ (claims· : Claims) where
               (vs .5)
               (vs .6)
               (vs .7)
-              (vs .8)
-              (vs .9))
-              (at62 bs)
-              d62
+              (vs .8))
+              at65
+              d65
 
-          d64 : Typed.Typed 𝓤 H A 𝓣 E G17 b50 Δ1 (at64 bs)
-          d64 = Typed.t-block 𝓤 H A W 𝓣 E G17 b49 Δ1 (at63 bs) d63
+          d67 : Typed.Typed 𝓤 H A 𝓣 E G13 b51 Δ1 at67
+          d67 = Typed.t-block 𝓤 H A W 𝓣 E G13 b50 Δ1 at66 d66
 
-          d65 : Typed.Typed 𝓤 H A 𝓣 E G83 b52 Δ0 (at65 bs)
-          d65 = Typed.t-return 𝓤 H A W 𝓣 E Δ0 tt
+          d68 : Typed.Typed 𝓤 H A 𝓣 E G82 b53 Δ0 at68
+          d68 = Typed.t-return 𝓤 H A W 𝓣 E Δ0 tt
 
-          d66 : Typed.Typed 𝓤 H A 𝓣 E G82 b52 Δ0 (at66 bs)
-          d66 =
+          d69 : Typed.Typed 𝓤 H A 𝓣 E G81 b53 Δ0 at69
+          d69 =
               Typed.g-pre
               𝓤
               H
@@ -13908,53 +14580,26 @@ module _ (claims· : Claims) where
               W
               𝓣
               E
+              G81
               G82
-              G83
-              b52
+              b53
               Δ0
-              (Typed.pass T82 T83 (s79 bs))
-              (at65 bs)
+              (Typed.pass T81 T82 s78)
+              at68
               (Scalar.g-room
               𝓤
               H
               A
               W
               E
-              G82
+              G81
               3
               (Syntax.tyInt Syntax.w64)
               (Scalar.room-sc 𝓤 H A W (Row.sInt Syntax.w64)))
-              d65
+              d68
 
-          d67 : Typed.Typed 𝓤 H A 𝓣 E G81 b52 Δ0 (at67 bs)
-          d67 =
-              Typed.g-pre
-              𝓤
-              H
-              A
-              W
-              𝓣
-              E
-              G81
-              G82
-              b52
-              Δ0
-              (Typed.pass T81 T82 (s78 bs))
-              (at66 bs)
-              (Scalar.g-room
-              𝓤
-              H
-              A
-              W
-              E
-              G81
-              15
-              (Syntax.tyInt Syntax.w64)
-              (Scalar.room-sc 𝓤 H A W (Row.sInt Syntax.w64)))
-              d66
-
-          d68 : Typed.Typed 𝓤 H A 𝓣 E G80 b52 Δ0 (at68 bs)
-          d68 =
+          d70 : Typed.Typed 𝓤 H A 𝓣 E G80 b53 Δ0 at70
+          d70 =
               Typed.g-pre
               𝓤
               H
@@ -13964,10 +14609,10 @@ module _ (claims· : Claims) where
               E
               G80
               G81
-              b52
+              b53
               Δ0
-              (Typed.pass T80 T81 (s77 bs))
-              (at67 bs)
+              (Typed.pass T80 T81 s77)
+              at69
               (Scalar.g-room
               𝓤
               H
@@ -13978,10 +14623,10 @@ module _ (claims· : Claims) where
               14
               (Syntax.tyInt Syntax.w64)
               (Scalar.room-sc 𝓤 H A W (Row.sInt Syntax.w64)))
-              d67
+              d69
 
-          d69 : Typed.Typed 𝓤 H A 𝓣 E G79 b52 Δ0 (at69 bs)
-          d69 =
+          d71 : Typed.Typed 𝓤 H A 𝓣 E G79 b53 Δ0 at71
+          d71 =
               Typed.g-pre
               𝓤
               H
@@ -13991,10 +14636,10 @@ module _ (claims· : Claims) where
               E
               G79
               G80
-              b52
+              b53
               Δ0
-              (Typed.pass T79 T80 (s76 bs))
-              (at68 bs)
+              (Typed.pass T79 T80 s76)
+              at70
               (Scalar.g-room
               𝓤
               H
@@ -14005,10 +14650,37 @@ module _ (claims· : Claims) where
               13
               (Syntax.tyInt Syntax.w64)
               (Scalar.room-sc 𝓤 H A W (Row.sInt Syntax.w64)))
-              d68
+              d70
 
-          d70 : Typed.Typed 𝓤 H A 𝓣 E G18 b53 Δ0 (at70 bs)
-          d70 =
+          d72 : Typed.Typed 𝓤 H A 𝓣 E G78 b53 Δ0 at72
+          d72 =
+              Typed.g-pre
+              𝓤
+              H
+              A
+              W
+              𝓣
+              E
+              G78
+              G79
+              b53
+              Δ0
+              (Typed.pass T78 T79 s75)
+              at71
+              (Scalar.g-room
+              𝓤
+              H
+              A
+              W
+              E
+              G78
+              12
+              (Syntax.tyInt Syntax.w64)
+              (Scalar.room-sc 𝓤 H A W (Row.sInt Syntax.w64)))
+              d71
+
+          d73 : Typed.Typed 𝓤 H A 𝓣 E G14 b54 Δ0 at73
+          d73 =
               Typed.s-seq
               𝓤
               H
@@ -14016,13 +14688,13 @@ module _ (claims· : Claims) where
               W
               𝓣
               E
-              G18
-              G79
-              b51
+              G14
+              G78
               b52
+              b53
               Δ0
-              (Typed.pass T18 T79 (s75 bs))
-              (at69 bs)
+              (Typed.pass T14 T78 s74)
+              at72
               (Scalar.t-use
               𝓤
               H
@@ -14030,10 +14702,10 @@ module _ (claims· : Claims) where
               W
               E
               𝓣
-              G18
-              (Scalar.oAt 15 (Syntax.tyInt Syntax.w64) (Row.valS (Row.sInt Syntax.w64)))
+              G14
+              (Scalar.oAt 14 (Syntax.tyInt Syntax.w64) (Row.valS (Row.sInt Syntax.w64)))
               0
-              (Rows'.sc-here (Row.sInt Syntax.w64))
+              (Rows.sc-here (Row.sInt Syntax.w64))
               (Syntax.tyInt Syntax.w64)
               (Row.valS (Row.sInt Syntax.w64))
               (Row.sInt Syntax.w64 .of)
@@ -14043,126 +14715,12 @@ module _ (claims· : Claims) where
               Path'.refl
               (λ u. Path'.refl)
               λ u. tt)
-              d69
-
-          d71 : Typed.Typed 𝓤 H A 𝓣 E G17 b54 Δ0 (at71 bs)
-          d71 = Typed.t-seq 𝓤 H A W 𝓣 E G17 G18 b50 b53 Δ0 (at64 bs) (at70 bs) d64 d70
-
-          d72 : Typed.Typed 𝓤 H A 𝓣 E G16 b55 Δ0 (at72 bs)
-          d72 =
-              Typed.s-seq
-              𝓤
-              H
-              A
-              W
-              𝓣
-              E
-              G16
-              G17
-              b5
-              b54
-              Δ0
-              (Typed.pass T16 T17 (s15 bs))
-              (at71 bs)
-              (Scalar.t-use
-              𝓤
-              H
-              A
-              W
-              E
-              𝓣
-              G16
-              (Scalar.oInt Syntax.w64 0)
-              15
-              (Rows'.sc-here (Row.sInt Syntax.w64))
-              (Syntax.tyInt Syntax.w64)
-              (Row.valS (Row.sInt Syntax.w64))
-              (Row.sInt Syntax.w64 .of)
-              tt
-              (Reads'.room-gone 𝓤 H A (Syntax.tyInt Syntax.w64))
-              (Scalar.holds-sc 𝓤 H A W (Row.sInt Syntax.w64))
-              Path'.refl
-              (λ u. Path'.refl)
-              λ u. tt)
-              d71
-
-          d73 : Typed.Typed 𝓤 H A 𝓣 E G15 b56 Δ0 (at73 bs)
-          d73 =
-              Typed.s-seq
-              𝓤
-              H
-              A
-              W
-              𝓣
-              E
-              G15
-              G16
-              b4
-              b55
-              Δ0
-              (Typed.pass T15 T16 (s14 bs))
-              (at72 bs)
-              (Scalar.t-use
-              𝓤
-              H
-              A
-              W
-              E
-              𝓣
-              G15
-              (Scalar.oInt Syntax.w64 0)
-              14
-              (Rows'.sc-here (Row.sInt Syntax.w64))
-              (Syntax.tyInt Syntax.w64)
-              (Row.valS (Row.sInt Syntax.w64))
-              (Row.sInt Syntax.w64 .of)
-              tt
-              (Reads'.room-gone 𝓤 H A (Syntax.tyInt Syntax.w64))
-              (Scalar.holds-sc 𝓤 H A W (Row.sInt Syntax.w64))
-              Path'.refl
-              (λ u. Path'.refl)
-              λ u. tt)
               d72
 
-          d74 : Typed.Typed 𝓤 H A 𝓣 E G14 b57 Δ0 (at74 bs)
-          d74 =
-              Typed.s-seq
-              𝓤
-              H
-              A
-              W
-              𝓣
-              E
-              G14
-              G15
-              b3
-              b56
-              Δ0
-              (Typed.pass T14 T15 (s13 bs))
-              (at73 bs)
-              (Scalar.t-use
-              𝓤
-              H
-              A
-              W
-              E
-              𝓣
-              G14
-              (Scalar.oBig Syntax.w64 1024)
-              13
-              (Rows'.sc-here (Row.sInt Syntax.w64))
-              (Syntax.tyInt Syntax.w64)
-              (Row.valS (Row.sInt Syntax.w64))
-              (Row.sInt Syntax.w64 .of)
-              record { lower = record { fits = Dec'.lit< tt } }
-              (Reads'.room-gone 𝓤 H A (Syntax.tyInt Syntax.w64))
-              (Scalar.holds-sc 𝓤 H A W (Row.sInt Syntax.w64))
-              Path'.refl
-              (λ u. Path'.refl)
-              λ u. tt)
-              d73
+          d74 : Typed.Typed 𝓤 H A 𝓣 E G13 b55 Δ0 at74
+          d74 = Typed.t-seq 𝓤 H A W 𝓣 E G13 G14 b51 b54 Δ0 at67 at73 d67 d73
 
-          d75 : Typed.Typed 𝓤 H A 𝓣 E G13 b58 Δ0 (at75 bs)
+          d75 : Typed.Typed 𝓤 H A 𝓣 E G12 b56 Δ0 at75
           d75 =
               Typed.s-seq
               𝓤
@@ -14171,133 +14729,37 @@ module _ (claims· : Claims) where
               W
               𝓣
               E
+              G12
               G13
-              G14
               b2
-              b57
+              b55
               Δ0
-              (Typed.both (s12 bs))
-              (at74 bs)
-              (Plain.t-call-plain
+              (Typed.pass T12 T13 s11)
+              at74
+              (Scalar.t-use
               𝓤
               H
               A
               W
-              𝓣
-              0
-              ps·1
-              r·1
-              (claims· .2)
-              (claims· .3)
-              "records::blank"
-              (known .1)
               E
-              (λ pos β. β)
-              G13
-              tt
-              12
-              List.[]
-              (Call.sub-id 𝓤 H A W (G13 .slots))
-              tt
-              (Reads'.room-gone
-              𝓤
-              H
-              A
-              (Syntax.tyStruct
-              (List._∷_
-              114
-              (List._∷_
-              101
-              (List._∷_
-              99
-              (List._∷_
-              111
-              (List._∷_
-              114
-              (List._∷_
-              100
-              (List._∷_
-              115
-              (List._∷_
-              58
-              (List._∷_
-              58
-              (List._∷_
-              76
-              (List._∷_
-              105
-              (List._∷_
-              110
-              (List._∷_ 101 (List._∷_ 82 (List._∷_ 101 (List._∷_ 99 List.[]))))))))))))))))
-              (Syntax.tcons
+              𝓣
+              G12
+              (Scalar.oInt Syntax.w64 0)
+              14
+              (Rows.sc-here (Row.sInt Syntax.w64))
               (Syntax.tyInt Syntax.w64)
-              (Syntax.tcons
-              (Syntax.tyInt Syntax.w64)
-              (Syntax.tcons
-              (Syntax.tyStruct
-              (List._∷_
-              112
-              (List._∷_
-              108
-              (List._∷_
-              97
-              (List._∷_
-              99
-              (List._∷_
-              101
-              (List._∷_
-              58
-              (List._∷_
-              58
-              (List._∷_
-              82
-              (List._∷_
-              101
-              (List._∷_ 103 (List._∷_ 105 (List._∷_ 111 (List._∷_ 110 List.[])))))))))))))
-              (Syntax.tcons (Syntax.tyInt Syntax.w64) Syntax.tnil))
-              (Syntax.tcons (Syntax.tyInt Syntax.w64) Syntax.tnil))))))
+              (Row.valS (Row.sInt Syntax.w64))
+              (Row.sInt Syntax.w64 .of)
               tt
-              Path'.refl)
+              (Reads'.room-gone 𝓤 H A (Syntax.tyInt Syntax.w64))
+              (Scalar.holds-sc 𝓤 H A W (Row.sInt Syntax.w64))
+              Path'.refl
+              (λ u. Path'.refl)
+              λ u. tt)
               d74
 
-          d76 : Typed.Typed 𝓤 H A 𝓣 E G12 b58 Δ0 (at76 bs)
+          d76 : Typed.Typed 𝓤 H A 𝓣 E G11 b57 Δ0 at76
           d76 =
-              Typed.g-pre
-              𝓤
-              H
-              A
-              W
-              𝓣
-              E
-              G12
-              G13
-              b58
-              Δ0
-              (Typed.pass T12 T13 (s11 bs))
-              (at75 bs)
-              (Scalar.g-room
-              𝓤
-              H
-              A
-              W
-              E
-              G12
-              16
-              (Syntax.tyArray Elem.held 1024)
-              (Init.room-arr
-              𝓤
-              H
-              A
-              W
-              Elem.R
-              1024
-              0
-              1024
-              Path'.refl))
-              d75
-
-          d77 : Typed.Typed 𝓤 H A 𝓣 E G11 b59 Δ0 (at77 bs)
-          d77 =
               Typed.s-seq
               𝓤
               H
@@ -14308,97 +14770,34 @@ module _ (claims· : Claims) where
               G11
               G12
               b1
-              b58
+              b56
               Δ0
-              (Typed.pass T11 T12 (s10 bs))
-              (at76 bs)
-              (LocalCopy.t-val-copy
+              (Typed.pass T11 T12 s10)
+              at75
+              (Scalar.t-use
               𝓤
               H
               A
               W
               E
               𝓣
-              (λ ρ. Unit)
               G11
-              16
-              11
-              (Array'.Array Elem.R 1024)
-              (Syntax.tyArray Elem.held 1024)
-              (Syntax.tyArray Elem.held 1024)
-              (Rows.arrF Elem.R 1024 0)
-              (Rows.arrF Elem.R 1024 0)
-              (λ x. x)
-              (λ x. x)
-              (λ x. x)
-              Path'.refl
-              (Own.told-none 𝓤 H A (G11 .slots))
-              (Yields.yields-copy
-              𝓤
-              H
-              A
-              W
-              (λ ρ. Unit)
-              (Array'.Array Elem.R 1024)
-              Path'.refl
-              (Copies.cArr
-              Elem.R
-              Elem.cp
-              1024 .copy
-              𝓤
-              H
-              A
-              W)
-              (Rows.arrF Elem.R 1024 0)
-              (λ x. x)
-              (λ x. x)
-              (λ ρ told. Whole.mem-arr
-              𝓤
-              H
-              A
-              W
-              Elem.R
-              1024
-              ρ)
-              λ ρ told. Whole.arr-mem
-              𝓤
-              H
-              A
-              W
-              Elem.R
-              1024
+              (Scalar.oInt Syntax.w64 0)
+              13
+              (Rows.sc-here (Row.sInt Syntax.w64))
+              (Syntax.tyInt Syntax.w64)
+              (Row.valS (Row.sInt Syntax.w64))
+              (Row.sInt Syntax.w64 .of)
               tt
-              ρ)
-              (Reads'.room-gone
-              𝓤
-              H
-              A
-              (Syntax.tyArray Elem.held 1024))
-              (Yields.makes-mem
-              𝓤
-              H
-              A
-              W
-              (λ ρ. Unit)
-              (Array'.Array Elem.R 1024)
+              (Reads'.room-gone 𝓤 H A (Syntax.tyInt Syntax.w64))
+              (Scalar.holds-sc 𝓤 H A W (Row.sInt Syntax.w64))
               Path'.refl
-              (Rows.arrF Elem.R 1024 0)
-              (λ x. x)
-              λ ρ told. Whole.arr-mem
-              𝓤
-              H
-              A
-              W
-              Elem.R
-              1024
-              tt
-              ρ)
-              Path'.refl
-              Path'.refl)
-              d76
+              (λ u. Path'.refl)
+              λ u. tt)
+              d75
 
-          d78 : Typed.Typed 𝓤 H A 𝓣 E G10 b60 Δ0 (at78 bs)
-          d78 =
+          d77 : Typed.Typed 𝓤 H A 𝓣 E G10 b58 Δ0 at77
+          d77 =
               Typed.s-seq
               𝓤
               H
@@ -14409,42 +14808,34 @@ module _ (claims· : Claims) where
               G10
               G11
               b0
-              b59
+              b57
               Δ0
-              (Typed.both (s9 bs))
-              (at77 bs)
-              (Plain.t-call-plain
+              (Typed.pass T10 T11 s9)
+              at76
+              (Scalar.t-use
               𝓤
               H
               A
               W
-              𝓣
-              0
-              ps·0
-              r·0
-              (claims· .0)
-              (claims· .1)
-              "records::window"
-              (known .0)
               E
-              (λ pos β. β)
+              𝓣
               G10
+              (Scalar.oInt Syntax.w64 0)
+              12
+              (Rows.sc-here (Row.sInt Syntax.w64))
+              (Syntax.tyInt Syntax.w64)
+              (Row.valS (Row.sInt Syntax.w64))
+              (Row.sInt Syntax.w64 .of)
               tt
-              16
-              List.[]
-              (Call.sub-id 𝓤 H A W (G10 .slots))
-              tt
-              (Reads'.room-gone
-              𝓤
-              H
-              A
-              (Syntax.tyArray Elem.held 1024))
-              tt
-              Path'.refl)
-              d77
+              (Reads'.room-gone 𝓤 H A (Syntax.tyInt Syntax.w64))
+              (Scalar.holds-sc 𝓤 H A W (Row.sInt Syntax.w64))
+              Path'.refl
+              (λ u. Path'.refl)
+              λ u. tt)
+              d76
 
-          d79 : Typed.Typed 𝓤 H A 𝓣 E G9 b60 Δ0 (at79 bs)
-          d79 =
+          d78 : Typed.Typed 𝓤 H A 𝓣 E G9 b58 Δ0 at78
+          d78 =
               Typed.g-pre
               𝓤
               H
@@ -14454,10 +14845,10 @@ module _ (claims· : Claims) where
               E
               G9
               G10
-              b60
+              b58
               Δ0
-              (Typed.give (s8 bs))
-              (at78 bs)
+              (Typed.give s8)
+              at77
               (Know.g-sl-known
               𝓤
               H
@@ -14483,10 +14874,10 @@ module _ (claims· : Claims) where
               8))
               Path'.refl
               tt)
-              d78
+              d77
 
-          d80 : Typed.Typed 𝓤 H A 𝓣 E G8 b60 Δ0 (at80 bs)
-          d80 =
+          d79 : Typed.Typed 𝓤 H A 𝓣 E G8 b58 Δ0 at79
+          d79 =
               Typed.g-pre
               𝓤
               H
@@ -14496,10 +14887,10 @@ module _ (claims· : Claims) where
               E
               G8
               G9
-              b60
+              b58
               Δ0
-              (Typed.give (s7 bs))
-              (at79 bs)
+              (Typed.give s7)
+              at78
               (Know.g-sl-known
               𝓤
               H
@@ -14525,10 +14916,10 @@ module _ (claims· : Claims) where
               7))
               Path'.refl
               tt)
-              d79
+              d78
 
-          d81 : Typed.Typed 𝓤 H A 𝓣 E G7 b60 Δ0 (at81 bs)
-          d81 =
+          d80 : Typed.Typed 𝓤 H A 𝓣 E G7 b58 Δ0 at80
+          d80 =
               Typed.g-pre
               𝓤
               H
@@ -14538,10 +14929,10 @@ module _ (claims· : Claims) where
               E
               G7
               G8
-              b60
+              b58
               Δ0
-              (Typed.give (s6 bs))
-              (at80 bs)
+              (Typed.give s6)
+              at79
               (Know.g-sl-known
               𝓤
               H
@@ -14567,10 +14958,10 @@ module _ (claims· : Claims) where
               6))
               Path'.refl
               tt)
-              d80
+              d79
 
-          d82 : Typed.Typed 𝓤 H A 𝓣 E G6 b60 Δ0 (at82 bs)
-          d82 =
+          d81 : Typed.Typed 𝓤 H A 𝓣 E G6 b58 Δ0 at81
+          d81 =
               Typed.g-pre
               𝓤
               H
@@ -14580,10 +14971,10 @@ module _ (claims· : Claims) where
               E
               G6
               G7
-              b60
+              b58
               Δ0
-              (Typed.give (s5 bs))
-              (at81 bs)
+              (Typed.give s5)
+              at80
               (Know.g-sl-known
               𝓤
               H
@@ -14609,10 +15000,10 @@ module _ (claims· : Claims) where
               5))
               Path'.refl
               tt)
-              d81
+              d80
 
-          d83 : Typed.Typed 𝓤 H A 𝓣 E G5 b60 Δ0 (at83 bs)
-          d83 =
+          d82 : Typed.Typed 𝓤 H A 𝓣 E G5 b58 Δ0 at82
+          d82 =
               Typed.g-pre
               𝓤
               H
@@ -14622,10 +15013,10 @@ module _ (claims· : Claims) where
               E
               G5
               G6
-              b60
+              b58
               Δ0
-              (Typed.give (s4 bs))
-              (at82 bs)
+              (Typed.give s4)
+              at81
               (Know.g-sl-known
               𝓤
               H
@@ -14651,10 +15042,10 @@ module _ (claims· : Claims) where
               4))
               Path'.refl
               tt)
-              d82
+              d81
 
-          d84 : Typed.Typed 𝓤 H A 𝓣 E G4 b60 Δ0 (at84 bs)
-          d84 =
+          d83 : Typed.Typed 𝓤 H A 𝓣 E G4 b58 Δ0 at83
+          d83 =
               Typed.g-pre
               𝓤
               H
@@ -14664,10 +15055,10 @@ module _ (claims· : Claims) where
               E
               G4
               G5
-              b60
+              b58
               Δ0
-              (Typed.give (s3 bs))
-              (at83 bs)
+              (Typed.give s3)
+              at82
               (Know.g-shs-known
               𝓤
               H
@@ -14687,16 +15078,16 @@ module _ (claims· : Claims) where
               𝓤
               H
               A
-              (Rows'.sslice
+              (Rows.sslice
               (Referent.rtF (Referent.fInt Syntax.w8))
               (Syntax.tyRef (Syntax.named 3) Syntax.imm (Syntax.tyInt Syntax.w8))
               3))
               Path'.refl
               tt)
-              d83
+              d82
 
-          d85 : Typed.Typed 𝓤 H A 𝓣 E G3 b60 Δ0 (at85 bs)
-          d85 =
+          d84 : Typed.Typed 𝓤 H A 𝓣 E G3 b58 Δ0 at84
+          d84 =
               Typed.g-pre
               𝓤
               H
@@ -14706,10 +15097,10 @@ module _ (claims· : Claims) where
               E
               G3
               G4
-              b60
+              b58
               Δ0
-              (Typed.give (s2 bs))
-              (at84 bs)
+              (Typed.give s2)
+              at83
               (Know.g-shs-known
               𝓤
               H
@@ -14729,16 +15120,16 @@ module _ (claims· : Claims) where
               𝓤
               H
               A
-              (Rows'.sslice
+              (Rows.sslice
               (Referent.rtF (Referent.fInt Syntax.w64))
               (Syntax.tyRef (Syntax.named 2) Syntax.imm (Syntax.tyInt Syntax.w64))
               2))
               Path'.refl
               tt)
-              d84
+              d83
 
-          d86 : Typed.Typed 𝓤 H A 𝓣 E G2 b60 Δ0 (at86 bs)
-          d86 =
+          d85 : Typed.Typed 𝓤 H A 𝓣 E G2 b58 Δ0 at85
+          d85 =
               Typed.g-pre
               𝓤
               H
@@ -14748,10 +15139,10 @@ module _ (claims· : Claims) where
               E
               G2
               G3
-              b60
+              b58
               Δ0
-              (Typed.give (s1 bs))
-              (at85 bs)
+              (Typed.give s1)
+              at84
               (Know.g-shs-known
               𝓤
               H
@@ -14771,16 +15162,16 @@ module _ (claims· : Claims) where
               𝓤
               H
               A
-              (Rows'.sslice
+              (Rows.sslice
               (Referent.rtF (Referent.fInt Syntax.w64))
               (Syntax.tyRef (Syntax.named 1) Syntax.imm (Syntax.tyInt Syntax.w64))
               1))
               Path'.refl
               tt)
-              d85
+              d84
 
-          d87 : Typed.Typed 𝓤 H A 𝓣 E G0 b60 Δ0 (at87 bs)
-          d87 =
+          d86 : Typed.Typed 𝓤 H A 𝓣 E G0 b58 Δ0 at86
+          d86 =
               Typed.g-pre
               𝓤
               H
@@ -14790,10 +15181,10 @@ module _ (claims· : Claims) where
               E
               G0
               G2
-              b60
+              b58
               Δ0
-              (Typed.give (s0 bs))
-              (at86 bs)
+              (Typed.give s0)
+              at85
               (Know.g-shs-known
               𝓤
               H
@@ -14813,13 +15204,13 @@ module _ (claims· : Claims) where
               𝓤
               H
               A
-              (Rows'.sslice
+              (Rows.sslice
               (Referent.rtF (Referent.fInt Syntax.w8))
               (Syntax.tyRef (Syntax.named 0) Syntax.imm (Syntax.tyInt Syntax.w8))
               0))
               Path'.refl
               tt)
-              d86
+              d85
 
           pub typed :
               Typed.Typed
@@ -14828,42 +15219,45 @@ module _ (claims· : Claims) where
               A
               𝓣
               E
-              (Function.Γin 9 ps r xs m κs qs)
-              b60
-              (Function.Δret 9 ps r xs m κs qs)
-              (Φ bs)
-          typed = d87
+              (Function.Γin 10 ps r xs m κs qs)
+              b58
+              (Function.Δret 10 ps r xs m κs qs)
+              Φ
+          typed = d86
 
-      module _ (κs : Lifetimes.Lfts 9) where
+      module _ (κs : Lifetimes.Lfts 10) where
         pub record Args : Type 0 where
-          pub text : Kinds.Den {n = 9}
+          pub text : Kinds.Den {n = 10}
               κs
               (ShrSlice.pShrS (Referent.rtF (Referent.fInt Syntax.w8)) 0 tt)
-          pub ends : Kinds.Den {n = 9}
+          pub ends : Kinds.Den {n = 10}
               κs
               (ShrSlice.pShrS (Referent.rtF (Referent.fInt Syntax.w64)) 1 tt)
-          pub m : Kinds.Den {n = 9} κs (Num.pNum Syntax.w64)
-          pub blocks : Kinds.Den {n = 9}
+          pub m : Kinds.Den {n = 10} κs (Num.pNum Syntax.w64)
+          pub blocks : Kinds.Den {n = 10}
               κs
               (ShrSlice.pShrS (Referent.rtF (Referent.fInt Syntax.w64)) 2 tt)
-          pub starts : Kinds.Den {n = 9}
+          pub starts : Kinds.Den {n = 10}
               κs
               (ShrSlice.pShrS (Referent.rtF (Referent.fInt Syntax.w8)) 3 tt)
-          pub owner : Kinds.Den {n = 9}
+          pub owner : Kinds.Den {n = 10}
               κs
               (MutSlice.pMutS (Referent.rtF (Referent.fInt Syntax.w64)) 4 tt)
-          pub stack : Kinds.Den {n = 9}
+          pub stack : Kinds.Den {n = 10}
               κs
               (MutSlice.pMutS (Referent.rtF (Referent.fInt Syntax.w8)) 5 tt)
-          pub cur : Kinds.Den {n = 9}
+          pub cur : Kinds.Den {n = 10}
               κs
               (MutSlice.pMutS (Referent.rtF (Referent.fInt Syntax.w8)) 6 tt)
-          pub next : Kinds.Den {n = 9}
+          pub next : Kinds.Den {n = 10}
               κs
               (MutSlice.pMutS (Referent.rtF (Referent.fInt Syntax.w8)) 7 tt)
-          pub clean : Kinds.Den {n = 9}
+          pub clean : Kinds.Den {n = 10}
               κs
               (MutSlice.pMutS (Referent.rtF (Referent.fInt Syntax.w8)) 8 tt)
+          pub recs : Kinds.Den {n = 10}
+              κs
+              (MutSlice.pMutS Elem.R 9 tt)
 
         abbrev pub dens : (a : Args) → Kinds.Dens κs ps
         dens = λ a. (
@@ -14874,7 +15268,10 @@ module _ (claims· : Claims) where
               a .m,
               (
                 a .blocks,
-                (a .starts, (a .owner, (a .stack, (a .cur, (a .next, (a .clean, tt)))))),
+                (
+                  a .starts,
+                  (a .owner, (a .stack, (a .cur, (a .next, (a .clean, (a .recs, tt)))))),
+                ),
               ),
             ),
           ),
@@ -14884,13 +15281,11 @@ module _ (claims· : Claims) where
           pub record Ranges : Type 0 where
             pub m : Val.Fits Syntax.w64 (args· .m)
 
-      abbrev pub m0 :
-          (κs : Lifetimes.Lfts 9) → (args : Args κs) → (blocks : List.List Nat.ℕ) → Typed.Mo T0
-      m0 = λ κs args blocks. (tt, Enter.partsP κs 1 ps xs (dens κs args))
+      abbrev pub m0 : (κs : Lifetimes.Lfts 10) → (args : Args κs) → Typed.Mo T0
+      m0 = λ κs args. (tt, Enter.partsP κs 1 ps xs (dens κs args))
 
-      abbrev W0 :
-          (κs : Lifetimes.Lfts 9) → (args : Args κs) → (blocks : List.List Nat.ℕ) → Typed.Want O0
-      W0 = λ κs args blocks. (
+      abbrev W0 : (κs : Lifetimes.Lfts 10) → (args : Args κs) → Typed.Want O0
+      W0 = λ κs args. (
         λ u. ⊥,
         tt,
         λ u. Enter.Fixs κs 1 ps xs (dens κs args) (u .1) ×
@@ -14899,35 +15294,26 @@ module _ (claims· : Claims) where
             (dens κs args)
             (Function.resV r κs (u .0))
             (Clauses.atExit
-            (Kinds.endedOf 9 ps r)
+            (Kinds.endedOf 10 ps r)
             κs
             (dens κs args)
             (Enter.lastsP κs 1 ps xs (dens κs args) (u .1))),
       )
 
       pub record Start : Type 0 where
-        pub κs : Lifetimes.Lfts 9
+        pub κs : Lifetimes.Lfts 10
         pub args : Args κs
-        pub blocks : List.List Nat.ℕ
         pub good : Kinds.GoodsP κs ps (dens κs args)
         pub fits : Ranges κs args
         pub pre : Pre· κs (dens κs args)
 
       abbrev pub m1 :
-          (before : Start) →
-          (given : s0 (before .blocks) .gives (m0 (before .κs) (before .args) (before .blocks))) →
-          Typed.Mo T2
-      m1 =
-          λ before given. s0
-          (before .blocks) .next
-          (m0 (before .κs) (before .args) (before .blocks))
-          given
+          (before : Start) → (given : s0 .gives (m0 (before .κs) (before .args))) → Typed.Mo T2
+      m1 = λ before given. s0 .next (m0 (before .κs) (before .args)) given
 
       module _ (before· : Start) where
         pub record After-shared-slice-known·own : Type 0 where
-          pub given : s0
-              (before· .blocks) .gives
-              (m0 (before· .κs) (before· .args) (before· .blocks))
+          pub given : s0 .gives (m0 (before· .κs) (before· .args))
 
       pub record After-shared-slice-known : Type 0 where
         pub before : Start
@@ -14935,21 +15321,13 @@ module _ (claims· : Claims) where
 
       abbrev pub m2 :
           (before : After-shared-slice-known) →
-          (given : s1
-          (before .before .blocks) .gives
-          (m1 (before .before) (before .shared-slice-known .given))) →
+          (given : s1 .gives (m1 (before .before) (before .shared-slice-known .given))) →
           Typed.Mo T3
-      m2 =
-          λ before given. s1
-          (before .before .blocks) .next
-          (m1 (before .before) (before .shared-slice-known .given))
-          given
+      m2 = λ before given. s1 .next (m1 (before .before) (before .shared-slice-known .given)) given
 
       module _ (before· : After-shared-slice-known) where
         pub record After-shared-slice-known2·own : Type 0 where
-          pub given : s1
-              (before· .before .blocks) .gives
-              (m1 (before· .before) (before· .shared-slice-known .given))
+          pub given : s1 .gives (m1 (before· .before) (before· .shared-slice-known .given))
 
       pub record After-shared-slice-known2 : Type 0 where
         pub before : After-shared-slice-known
@@ -14957,21 +15335,14 @@ module _ (claims· : Claims) where
 
       abbrev pub m3 :
           (before : After-shared-slice-known2) →
-          (given : s2
-          (before .before .before .blocks) .gives
-          (m2 (before .before) (before .shared-slice-known2 .given))) →
+          (given : s2 .gives (m2 (before .before) (before .shared-slice-known2 .given))) →
           Typed.Mo T4
       m3 =
-          λ before given. s2
-          (before .before .before .blocks) .next
-          (m2 (before .before) (before .shared-slice-known2 .given))
-          given
+          λ before given. s2 .next (m2 (before .before) (before .shared-slice-known2 .given)) given
 
       module _ (before· : After-shared-slice-known2) where
         pub record After-shared-slice-known3·own : Type 0 where
-          pub given : s2
-              (before· .before .before .blocks) .gives
-              (m2 (before· .before) (before· .shared-slice-known2 .given))
+          pub given : s2 .gives (m2 (before· .before) (before· .shared-slice-known2 .given))
 
       pub record After-shared-slice-known3 : Type 0 where
         pub before : After-shared-slice-known2
@@ -14979,21 +15350,14 @@ module _ (claims· : Claims) where
 
       abbrev pub m4 :
           (before : After-shared-slice-known3) →
-          (given : s3
-          (before .before .before .before .blocks) .gives
-          (m3 (before .before) (before .shared-slice-known3 .given))) →
+          (given : s3 .gives (m3 (before .before) (before .shared-slice-known3 .given))) →
           Typed.Mo T5
       m4 =
-          λ before given. s3
-          (before .before .before .before .blocks) .next
-          (m3 (before .before) (before .shared-slice-known3 .given))
-          given
+          λ before given. s3 .next (m3 (before .before) (before .shared-slice-known3 .given)) given
 
       module _ (before· : After-shared-slice-known3) where
         pub record After-shared-slice-known4·own : Type 0 where
-          pub given : s3
-              (before· .before .before .before .blocks) .gives
-              (m3 (before· .before) (before· .shared-slice-known3 .given))
+          pub given : s3 .gives (m3 (before· .before) (before· .shared-slice-known3 .given))
 
       pub record After-shared-slice-known4 : Type 0 where
         pub before : After-shared-slice-known3
@@ -15001,21 +15365,14 @@ module _ (claims· : Claims) where
 
       abbrev pub m5 :
           (before : After-shared-slice-known4) →
-          (given : s4
-          (before .before .before .before .before .blocks) .gives
-          (m4 (before .before) (before .shared-slice-known4 .given))) →
+          (given : s4 .gives (m4 (before .before) (before .shared-slice-known4 .given))) →
           Typed.Mo T6
       m5 =
-          λ before given. s4
-          (before .before .before .before .before .blocks) .next
-          (m4 (before .before) (before .shared-slice-known4 .given))
-          given
+          λ before given. s4 .next (m4 (before .before) (before .shared-slice-known4 .given)) given
 
       module _ (before· : After-shared-slice-known4) where
         pub record After-slice-known·own : Type 0 where
-          pub given : s4
-              (before· .before .before .before .before .blocks) .gives
-              (m4 (before· .before) (before· .shared-slice-known4 .given))
+          pub given : s4 .gives (m4 (before· .before) (before· .shared-slice-known4 .given))
 
       pub record After-slice-known : Type 0 where
         pub before : After-shared-slice-known4
@@ -15023,21 +15380,13 @@ module _ (claims· : Claims) where
 
       abbrev pub m6 :
           (before : After-slice-known) →
-          (given : s5
-          (before .before .before .before .before .before .blocks) .gives
-          (m5 (before .before) (before .slice-known .given))) →
+          (given : s5 .gives (m5 (before .before) (before .slice-known .given))) →
           Typed.Mo T7
-      m6 =
-          λ before given. s5
-          (before .before .before .before .before .before .blocks) .next
-          (m5 (before .before) (before .slice-known .given))
-          given
+      m6 = λ before given. s5 .next (m5 (before .before) (before .slice-known .given)) given
 
       module _ (before· : After-slice-known) where
         pub record After-slice-known2·own : Type 0 where
-          pub given : s5
-              (before· .before .before .before .before .before .blocks) .gives
-              (m5 (before· .before) (before· .slice-known .given))
+          pub given : s5 .gives (m5 (before· .before) (before· .slice-known .given))
 
       pub record After-slice-known2 : Type 0 where
         pub before : After-slice-known
@@ -15045,21 +15394,13 @@ module _ (claims· : Claims) where
 
       abbrev pub m7 :
           (before : After-slice-known2) →
-          (given : s6
-          (before .before .before .before .before .before .before .blocks) .gives
-          (m6 (before .before) (before .slice-known2 .given))) →
+          (given : s6 .gives (m6 (before .before) (before .slice-known2 .given))) →
           Typed.Mo T8
-      m7 =
-          λ before given. s6
-          (before .before .before .before .before .before .before .blocks) .next
-          (m6 (before .before) (before .slice-known2 .given))
-          given
+      m7 = λ before given. s6 .next (m6 (before .before) (before .slice-known2 .given)) given
 
       module _ (before· : After-slice-known2) where
         pub record After-slice-known3·own : Type 0 where
-          pub given : s6
-              (before· .before .before .before .before .before .before .blocks) .gives
-              (m6 (before· .before) (before· .slice-known2 .given))
+          pub given : s6 .gives (m6 (before· .before) (before· .slice-known2 .given))
 
       pub record After-slice-known3 : Type 0 where
         pub before : After-slice-known2
@@ -15067,21 +15408,13 @@ module _ (claims· : Claims) where
 
       abbrev pub m8 :
           (before : After-slice-known3) →
-          (given : s7
-          (before .before .before .before .before .before .before .before .blocks) .gives
-          (m7 (before .before) (before .slice-known3 .given))) →
+          (given : s7 .gives (m7 (before .before) (before .slice-known3 .given))) →
           Typed.Mo T9
-      m8 =
-          λ before given. s7
-          (before .before .before .before .before .before .before .before .blocks) .next
-          (m7 (before .before) (before .slice-known3 .given))
-          given
+      m8 = λ before given. s7 .next (m7 (before .before) (before .slice-known3 .given)) given
 
       module _ (before· : After-slice-known3) where
         pub record After-slice-known4·own : Type 0 where
-          pub given : s7
-              (before· .before .before .before .before .before .before .before .blocks) .gives
-              (m7 (before· .before) (before· .slice-known3 .given))
+          pub given : s7 .gives (m7 (before· .before) (before· .slice-known3 .given))
 
       pub record After-slice-known4 : Type 0 where
         pub before : After-slice-known3
@@ -15089,243 +15422,113 @@ module _ (claims· : Claims) where
 
       abbrev pub m9 :
           (before : After-slice-known4) →
-          (given : s8
-          (before .before .before .before .before .before .before .before .before .blocks) .gives
-          (m8 (before .before) (before .slice-known4 .given))) →
+          (given : s8 .gives (m8 (before .before) (before .slice-known4 .given))) →
           Typed.Mo T10
-      m9 =
-          λ before given. s8
-          (before .before .before .before .before .before .before .before .before .blocks) .next
-          (m8 (before .before) (before .slice-known4 .given))
-          given
+      m9 = λ before given. s8 .next (m8 (before .before) (before .slice-known4 .given)) given
+
+      abbrev pub m10 :
+          (before : After-slice-known4) →
+          (given : s8 .gives (m8 (before .before) (before .slice-known4 .given))) →
+          Typed.Mo T11
+      m10 = λ before given. s9 (m9 before given)
+
+      abbrev pub m11 :
+          (before : After-slice-known4) →
+          (given : s8 .gives (m8 (before .before) (before .slice-known4 .given))) →
+          Typed.Mo T12
+      m11 = λ before given. s10 (m10 before given)
+
+      abbrev pub m12 :
+          (before : After-slice-known4) →
+          (given : s8 .gives (m8 (before .before) (before .slice-known4 .given))) →
+          Typed.Mo T13
+      m12 = λ before given. s11 (m11 before given)
+
+      abbrev W1 :
+          (before : After-slice-known4) →
+          (given : s8 .gives (m8 (before .before) (before .slice-known4 .given))) →
+          Typed.Want O1
+      W1 =
+          λ before given. Typed.wantNext
+          T14
+          O0
+          (at73
+          (W0
+          (before .before .before .before .before .before .before .before .before .κs)
+          (before .before .before .before .before .before .before .before .before .args)))
+          (W0
+          (before .before .before .before .before .before .before .before .before .κs)
+          (before .before .before .before .before .before .before .before .before .args))
+
+      abbrev W2 :
+          (before : After-slice-known4) →
+          (given : s8 .gives (m8 (before .before) (before .slice-known4 .given))) →
+          Typed.Want O2
+      W2 = λ before given. Typed.inBlock O1 (W1 before given)
 
       module _ (before· : After-slice-known4) where
         pub record After-slice-known5·own : Type 0 where
-          pub given : s8
-              (before· .before .before .before .before .before .before .before .before .blocks)
-              .gives
-              (m8 (before· .before) (before· .slice-known4 .given))
+          pub given : s8 .gives (m8 (before· .before) (before· .slice-known4 .given))
 
       pub record After-slice-known5 : Type 0 where
         pub before : After-slice-known4
         pub slice-known5 : After-slice-known5·own before
 
-      abbrev pub Need-window-requires : Type 0
-      Need-window-requires =
-          (c : After-slice-known5) →
-          s9
-          (c .before .before .before .before .before .before .before .before .before .blocks) .asks
-          (m9 (c .before) (c .slice-known5 .given))
-
-      abbrev pub m10 :
-          (before : After-slice-known5) → (given : s9
-          (before .before .before .before .before .before .before .before .before .before .blocks)
-          .gives (m9 (before .before) (before .slice-known5 .given))) → Typed.Mo T11
-      m10 =
-          λ before given. s9
-          (before .before .before .before .before .before .before .before .before .before .blocks)
-          .next (m9 (before .before) (before .slice-known5 .given)) given
-
-      module _ (before· : After-slice-known5) where
-        abbrev pub After-window·own : Type 0
-        After-window·own =
-            Called.Called
-            ps·0
-            r·0
-            (claims· .1)
-            T10
-            tt
-            (m9 (before· .before) (before· .slice-known5 .given))
-
-      pub record After-window : Type 0 where
-        pub before : After-slice-known5
-        pub window : After-window·own before
-
-      abbrev pub After-window·gave :
-          (c : After-window) → s9
-          (c .before .before .before .before .before .before .before .before .before .before
-          .blocks) .gives (m9 (c .before .before) (c .before .slice-known5 .given))
-      After-window·gave =
-          λ c. Called.given
-          ps·0
-          r·0
-          (claims· .1)
-          T10
-          tt
-          (m9 (c .before .before) (c .before .slice-known5 .given))
-          (c .window)
-
-      abbrev pub m11 :
-          (before : After-slice-known5) → (given : s9
-          (before .before .before .before .before .before .before .before .before .before .blocks)
-          .gives (m9 (before .before) (before .slice-known5 .given))) → Typed.Mo T12
-      m11 =
-          λ before given. s10
-          (before .before .before .before .before .before .before .before .before .before .blocks)
-          (m10 before given)
-
-      abbrev pub m12 :
-          (before : After-slice-known5) → (given : s9
-          (before .before .before .before .before .before .before .before .before .before .blocks)
-          .gives (m9 (before .before) (before .slice-known5 .given))) → Typed.Mo T13
-      m12 =
-          λ before given. s11
-          (before .before .before .before .before .before .before .before .before .before .blocks)
-          (m11 before given)
-
-      abbrev pub Need-blank-requires : Type 0
-      Need-blank-requires =
-          (c : After-window) → s12
-          (c .before .before .before .before .before .before .before .before .before .before
-          .blocks) .asks (m12 (c .before) (After-window·gave c))
-
-      abbrev pub m13 :
-          (before : After-window) → (given : s12
-          (before .before .before .before .before .before .before .before .before .before .before
-          .blocks) .gives (m12 (before .before) (After-window·gave before))) → Typed.Mo T14
-      m13 =
-          λ before given. s12
-          (before .before .before .before .before .before .before .before .before .before .before
-          .blocks) .next (m12 (before .before) (After-window·gave before)) given
-
-      module _ (before· : After-window) where
-        abbrev pub After-blank·own : Type 0
-        After-blank·own =
-            Called.Called
-            ps·1
-            r·1
-            (claims· .3)
-            T13
-            tt
-            (m12 (before· .before) (After-window·gave before·))
-
-      pub record After-blank : Type 0 where
-        pub before : After-window
-        pub blank : After-blank·own before
-
-      abbrev pub After-blank·gave :
-          (c : After-blank) → s12
-          (c .before .before .before .before .before .before .before .before .before .before
-          .before .blocks) .gives (m12 (c .before .before) (After-window·gave (c .before)))
-      After-blank·gave =
-          λ c. Called.given
-          ps·1
-          r·1
-          (claims· .3)
-          T13
-          tt
-          (m12 (c .before .before) (After-window·gave (c .before)))
-          (c .blank)
-
-      abbrev pub m14 :
-          (before : After-window) → (given : s12
-          (before .before .before .before .before .before .before .before .before .before .before
-          .blocks) .gives (m12 (before .before) (After-window·gave before))) → Typed.Mo T15
-      m14 =
-          λ before given. s13
-          (before .before .before .before .before .before .before .before .before .before .before
-          .blocks) (m13 before given)
-
-      abbrev pub m15 :
-          (before : After-window) → (given : s12
-          (before .before .before .before .before .before .before .before .before .before .before
-          .blocks) .gives (m12 (before .before) (After-window·gave before))) → Typed.Mo T16
-      m15 =
-          λ before given. s14
-          (before .before .before .before .before .before .before .before .before .before .before
-          .blocks) (m14 before given)
-
-      abbrev pub m16 :
-          (before : After-window) → (given : s12
-          (before .before .before .before .before .before .before .before .before .before .before
-          .blocks) .gives (m12 (before .before) (After-window·gave before))) → Typed.Mo T17
-      m16 =
-          λ before given. s15
-          (before .before .before .before .before .before .before .before .before .before .before
-          .blocks) (m15 before given)
-
-      abbrev W1 :
-          (before : After-window) → (given : s12
-          (before .before .before .before .before .before .before .before .before .before .before
-          .blocks) .gives (m12 (before .before) (After-window·gave before))) → Typed.Want O1
-      W1 =
-          λ before given. Typed.wantNext T18 O0 (at70
-          (before .before .before .before .before .before .before .before .before .before .before
-          .blocks) (W0
-          (before .before .before .before .before .before .before .before .before .before .before
-          .κs)
-          (before .before .before .before .before .before .before .before .before .before .before
-          .args)
-          (before .before .before .before .before .before .before .before .before .before .before
-          .blocks))) (W0
-          (before .before .before .before .before .before .before .before .before .before .before
-          .κs)
-          (before .before .before .before .before .before .before .before .before .before .before
-          .args)
-          (before .before .before .before .before .before .before .before .before .before .before
-          .blocks))
-
-      abbrev W2 :
-          (before : After-window) → (given : s12
-          (before .before .before .before .before .before .before .before .before .before .before
-          .blocks) .gives (m12 (before .before) (After-window·gave before))) → Typed.Want O2
-      W2 = λ before given. Typed.inBlock O1 (W1 before given)
-
       abbrev pub Need-loop-holds : Type 0
       Need-loop-holds =
-          (c : After-blank) →
+          (c : After-slice-known5) →
           Inv·0
-          (Row.get 1 (T17 .locals) (m16 (c .before) (After-blank·gave c)) .now)
-          (Row.get 2 (T17 .locals) (m16 (c .before) (After-blank·gave c)) .now)
-          (Row.get 3 (T17 .locals) (m16 (c .before) (After-blank·gave c)))
-          (Row.get 4 (T17 .locals) (m16 (c .before) (After-blank·gave c)) .now)
-          (Row.get 5 (T17 .locals) (m16 (c .before) (After-blank·gave c)) .now)
-          (Row.get 6 (T17 .locals) (m16 (c .before) (After-blank·gave c)) .now)
-          (Row.get 7 (T17 .locals) (m16 (c .before) (After-blank·gave c)) .now)
-          (Row.get 8 (T17 .locals) (m16 (c .before) (After-blank·gave c)) .now)
-          (Row.get 9 (T17 .locals) (m16 (c .before) (After-blank·gave c)) .now)
-          (Row.get 10 (T17 .locals) (m16 (c .before) (After-blank·gave c)) .now)
-          (Row.get 11 (T17 .locals) (m16 (c .before) (After-blank·gave c)))
-          (Row.get 12 (T17 .locals) (m16 (c .before) (After-blank·gave c)))
-          (Row.get 13 (T17 .locals) (m16 (c .before) (After-blank·gave c)))
-          (Row.get 14 (T17 .locals) (m16 (c .before) (After-blank·gave c)))
-          (Row.get 15 (T17 .locals) (m16 (c .before) (After-blank·gave c)))
-          (Row.get 6 (T17 .locals) (m16 (c .before) (After-blank·gave c)) .now)
-          (Row.get 7 (T17 .locals) (m16 (c .before) (After-blank·gave c)) .now)
-          (Row.get 8 (T17 .locals) (m16 (c .before) (After-blank·gave c)) .now)
-          (Row.get 9 (T17 .locals) (m16 (c .before) (After-blank·gave c)) .now)
-          (Row.get 10 (T17 .locals) (m16 (c .before) (After-blank·gave c)) .now)
-          (Row.get 11 (T17 .locals) (m16 (c .before) (After-blank·gave c)))
-          (Row.get 12 (T17 .locals) (m16 (c .before) (After-blank·gave c)))
-          (Row.get 13 (T17 .locals) (m16 (c .before) (After-blank·gave c)))
-          (Row.get 14 (T17 .locals) (m16 (c .before) (After-blank·gave c)))
-          (Row.get 15 (T17 .locals) (m16 (c .before) (After-blank·gave c)))
+          (Row.get 1 (T13 .locals) (m12 (c .before) (c .slice-known5 .given)) .now)
+          (Row.get 2 (T13 .locals) (m12 (c .before) (c .slice-known5 .given)) .now)
+          (Row.get 3 (T13 .locals) (m12 (c .before) (c .slice-known5 .given)))
+          (Row.get 4 (T13 .locals) (m12 (c .before) (c .slice-known5 .given)) .now)
+          (Row.get 5 (T13 .locals) (m12 (c .before) (c .slice-known5 .given)) .now)
+          (Row.get 6 (T13 .locals) (m12 (c .before) (c .slice-known5 .given)) .now)
+          (Row.get 7 (T13 .locals) (m12 (c .before) (c .slice-known5 .given)) .now)
+          (Row.get 8 (T13 .locals) (m12 (c .before) (c .slice-known5 .given)) .now)
+          (Row.get 9 (T13 .locals) (m12 (c .before) (c .slice-known5 .given)) .now)
+          (Row.get 10 (T13 .locals) (m12 (c .before) (c .slice-known5 .given)) .now)
+          (Row.get 11 (T13 .locals) (m12 (c .before) (c .slice-known5 .given)) .now)
+          (Row.get 12 (T13 .locals) (m12 (c .before) (c .slice-known5 .given)))
+          (Row.get 13 (T13 .locals) (m12 (c .before) (c .slice-known5 .given)))
+          (Row.get 14 (T13 .locals) (m12 (c .before) (c .slice-known5 .given)))
+          (Row.get 6 (T13 .locals) (m12 (c .before) (c .slice-known5 .given)) .now)
+          (Row.get 7 (T13 .locals) (m12 (c .before) (c .slice-known5 .given)) .now)
+          (Row.get 8 (T13 .locals) (m12 (c .before) (c .slice-known5 .given)) .now)
+          (Row.get 9 (T13 .locals) (m12 (c .before) (c .slice-known5 .given)) .now)
+          (Row.get 10 (T13 .locals) (m12 (c .before) (c .slice-known5 .given)) .now)
+          (Row.get 11 (T13 .locals) (m12 (c .before) (c .slice-known5 .given)) .now)
+          (Row.get 12 (T13 .locals) (m12 (c .before) (c .slice-known5 .given)))
+          (Row.get 13 (T13 .locals) (m12 (c .before) (c .slice-known5 .given)))
+          (Row.get 14 (T13 .locals) (m12 (c .before) (c .slice-known5 .given)))
 
-      abbrev pub m17 :
-          (before : After-blank) →
+      abbrev pub m13 :
+          (before : After-slice-known5) →
           (owner : List.List (Referent.rtF (Referent.fInt Syntax.w64) .Denot)) →
           (stack : List.List (Referent.rtF (Referent.fInt Syntax.w8) .Denot)) →
           (cur : List.List (Referent.rtF (Referent.fInt Syntax.w8) .Denot)) →
           (next : List.List (Referent.rtF (Referent.fInt Syntax.w8) .Denot)) →
           (clean : List.List (Referent.rtF (Referent.fInt Syntax.w8) .Denot)) →
-          (recs : Rows.arrF
-          Elem.R
-          1024
-          0 .Mod) →
-          (rec : Rows'.whole (Declared.row LineRec.the-type) .Mod) →
-          (j : Rows'.sc-here (Row.sInt Syntax.w64) .Mod) →
-          (n : Rows'.sc-here (Row.sInt Syntax.w64) .Mod) →
-          (o : Rows'.sc-here (Row.sInt Syntax.w64) .Mod) →
-          Typed.Mo T17
-      m17 = λ before owner stack cur next clean recs rec j n o. Row.set 15 (
-        15,
-        Rows'.sc-here (Row.sInt Syntax.w64),
-      ) o (Row.setRow 14 (14, Rows'.sc-here (Row.sInt Syntax.w64)) (Row.setRow 13 (
-        13,
-        Rows'.sc-here (Row.sInt Syntax.w64),
-      ) (Row.setRow 12 (12, Rows'.whole (Declared.row LineRec.the-type)) (Row.setRow 11 (
+          (recs : List.List (Elem.R .Denot)) →
+          (past : Rows.sc-here (Row.sInt Syntax.w64) .Mod) →
+          (n : Rows.sc-here (Row.sInt Syntax.w64) .Mod) →
+          (o : Rows.sc-here (Row.sInt Syntax.w64) .Mod) →
+          Typed.Mo T13
+      m13 = λ before owner stack cur next clean recs past n o. Row.set 14 (
+        14,
+        Rows.sc-here (Row.sInt Syntax.w64),
+      ) o (Row.setRow 13 (13, Rows.sc-here (Row.sInt Syntax.w64)) (Row.setRow 12 (
+        12,
+        Rows.sc-here (Row.sInt Syntax.w64),
+      ) (Row.setRow 11 (
         11,
-        Rows.arrF Elem.R 1024 0,
+        Mut.mslice
+            Elem.R
+            (Syntax.tyRef
+            (Syntax.named 9)
+            Syntax.mut
+            Elem.ty)
+            9,
       ) (Row.setRow 10 (
         10,
         Mut.mslice
@@ -15356,50 +15559,19 @@ module _ (claims· : Claims) where
             (Referent.rtF (Referent.fInt Syntax.w64))
             (Syntax.tyRef (Syntax.named 4) Syntax.mut (Syntax.tyInt Syntax.w64))
             4,
-      ) (T17 .locals))))))))))
-          (Row.set 14 (14, Rows'.sc-here (Row.sInt Syntax.w64)) n (Row.setRow 13 (
-            13,
-            Rows'.sc-here (Row.sInt Syntax.w64),
-          ) (Row.setRow 12 (12, Rows'.whole (Declared.row LineRec.the-type)) (Row.setRow 11 (
-            11,
-            Rows.arrF Elem.R 1024 0,
-          ) (Row.setRow 10 (
-            10,
-            Mut.mslice
-                (Referent.rtF (Referent.fInt Syntax.w8))
-                (Syntax.tyRef (Syntax.named 8) Syntax.mut (Syntax.tyInt Syntax.w8))
-                8,
-          ) (Row.setRow 9 (
-            9,
-            Mut.mslice
-                (Referent.rtF (Referent.fInt Syntax.w8))
-                (Syntax.tyRef (Syntax.named 7) Syntax.mut (Syntax.tyInt Syntax.w8))
-                7,
-          ) (Row.setRow 8 (
-            8,
-            Mut.mslice
-                (Referent.rtF (Referent.fInt Syntax.w8))
-                (Syntax.tyRef (Syntax.named 6) Syntax.mut (Syntax.tyInt Syntax.w8))
-                6,
-          ) (Row.setRow 7 (
-            7,
-            Mut.mslice
-                (Referent.rtF (Referent.fInt Syntax.w8))
-                (Syntax.tyRef (Syntax.named 5) Syntax.mut (Syntax.tyInt Syntax.w8))
-                5,
-          ) (Row.setRow 6 (
-            6,
-            Mut.mslice
-                (Referent.rtF (Referent.fInt Syntax.w64))
-                (Syntax.tyRef (Syntax.named 4) Syntax.mut (Syntax.tyInt Syntax.w64))
-                4,
-          ) (T17 .locals)))))))))
-          (Row.set 13 (13, Rows'.sc-here (Row.sInt Syntax.w64)) j (Row.setRow 12 (
+      ) (T13 .locals)))))))))
+          (Row.set 13 (13, Rows.sc-here (Row.sInt Syntax.w64)) n (Row.setRow 12 (
             12,
-            Rows'.whole (Declared.row LineRec.the-type),
+            Rows.sc-here (Row.sInt Syntax.w64),
           ) (Row.setRow 11 (
             11,
-            Rows.arrF Elem.R 1024 0,
+            Mut.mslice
+                Elem.R
+                (Syntax.tyRef
+                (Syntax.named 9)
+                Syntax.mut
+                Elem.ty)
+                9,
           ) (Row.setRow 10 (
             10,
             Mut.mslice
@@ -15430,10 +15602,16 @@ module _ (claims· : Claims) where
                 (Referent.rtF (Referent.fInt Syntax.w64))
                 (Syntax.tyRef (Syntax.named 4) Syntax.mut (Syntax.tyInt Syntax.w64))
                 4,
-          ) (T17 .locals))))))))
-          (Row.set 12 (12, Rows'.whole (Declared.row LineRec.the-type)) rec (Row.setRow 11 (
+          ) (T13 .locals))))))))
+          (Row.set 12 (12, Rows.sc-here (Row.sInt Syntax.w64)) past (Row.setRow 11 (
             11,
-            Rows.arrF Elem.R 1024 0,
+            Mut.mslice
+                Elem.R
+                (Syntax.tyRef
+                (Syntax.named 9)
+                Syntax.mut
+                Elem.ty)
+                9,
           ) (Row.setRow 10 (
             10,
             Mut.mslice
@@ -15464,10 +15642,26 @@ module _ (claims· : Claims) where
                 (Referent.rtF (Referent.fInt Syntax.w64))
                 (Syntax.tyRef (Syntax.named 4) Syntax.mut (Syntax.tyInt Syntax.w64))
                 4,
-          ) (T17 .locals))))))) (Row.set 11 (
+          ) (T13 .locals))))))) (Row.set 11 (
             11,
-            Rows.arrF Elem.R 1024 0,
-          ) recs (Row.setRow 10 (
+            Mut.mslice
+                Elem.R
+                (Syntax.tyRef
+                (Syntax.named 9)
+                Syntax.mut
+                Elem.ty)
+                9,
+          ) record {
+            ptr = Row.get
+                11
+                (T13 .locals)
+                (m12 (before .before) (before .slice-known5 .given)) .ptr;
+            name = Row.get
+                11
+                (T13 .locals)
+                (m12 (before .before) (before .slice-known5 .given)) .name;
+            now = recs;
+          } (Row.setRow 10 (
             10,
             Mut.mslice
                 (Referent.rtF (Referent.fInt Syntax.w8))
@@ -15497,15 +15691,21 @@ module _ (claims· : Claims) where
                 (Referent.rtF (Referent.fInt Syntax.w64))
                 (Syntax.tyRef (Syntax.named 4) Syntax.mut (Syntax.tyInt Syntax.w64))
                 4,
-          ) (T17 .locals)))))) (Row.set 10 (
+          ) (T13 .locals)))))) (Row.set 10 (
             10,
             Mut.mslice
                 (Referent.rtF (Referent.fInt Syntax.w8))
                 (Syntax.tyRef (Syntax.named 8) Syntax.mut (Syntax.tyInt Syntax.w8))
                 8,
           ) record {
-            ptr = Row.get 10 (T17 .locals) (m16 (before .before) (After-blank·gave before)) .ptr;
-            name = Row.get 10 (T17 .locals) (m16 (before .before) (After-blank·gave before)) .name;
+            ptr = Row.get
+                10
+                (T13 .locals)
+                (m12 (before .before) (before .slice-known5 .given)) .ptr;
+            name = Row.get
+                10
+                (T13 .locals)
+                (m12 (before .before) (before .slice-known5 .given)) .name;
             now = clean;
           } (Row.setRow 9 (
             9,
@@ -15531,15 +15731,21 @@ module _ (claims· : Claims) where
                 (Referent.rtF (Referent.fInt Syntax.w64))
                 (Syntax.tyRef (Syntax.named 4) Syntax.mut (Syntax.tyInt Syntax.w64))
                 4,
-          ) (T17 .locals))))) (Row.set 9 (
+          ) (T13 .locals))))) (Row.set 9 (
             9,
             Mut.mslice
                 (Referent.rtF (Referent.fInt Syntax.w8))
                 (Syntax.tyRef (Syntax.named 7) Syntax.mut (Syntax.tyInt Syntax.w8))
                 7,
           ) record {
-            ptr = Row.get 9 (T17 .locals) (m16 (before .before) (After-blank·gave before)) .ptr;
-            name = Row.get 9 (T17 .locals) (m16 (before .before) (After-blank·gave before)) .name;
+            ptr = Row.get
+                9
+                (T13 .locals)
+                (m12 (before .before) (before .slice-known5 .given)) .ptr;
+            name = Row.get
+                9
+                (T13 .locals)
+                (m12 (before .before) (before .slice-known5 .given)) .name;
             now = next;
           } (Row.setRow 8 (
             8,
@@ -15559,15 +15765,21 @@ module _ (claims· : Claims) where
                 (Referent.rtF (Referent.fInt Syntax.w64))
                 (Syntax.tyRef (Syntax.named 4) Syntax.mut (Syntax.tyInt Syntax.w64))
                 4,
-          ) (T17 .locals)))) (Row.set 8 (
+          ) (T13 .locals)))) (Row.set 8 (
             8,
             Mut.mslice
                 (Referent.rtF (Referent.fInt Syntax.w8))
                 (Syntax.tyRef (Syntax.named 6) Syntax.mut (Syntax.tyInt Syntax.w8))
                 6,
           ) record {
-            ptr = Row.get 8 (T17 .locals) (m16 (before .before) (After-blank·gave before)) .ptr;
-            name = Row.get 8 (T17 .locals) (m16 (before .before) (After-blank·gave before)) .name;
+            ptr = Row.get
+                8
+                (T13 .locals)
+                (m12 (before .before) (before .slice-known5 .given)) .ptr;
+            name = Row.get
+                8
+                (T13 .locals)
+                (m12 (before .before) (before .slice-known5 .given)) .name;
             now = cur;
           } (Row.setRow 7 (
             7,
@@ -15581,15 +15793,21 @@ module _ (claims· : Claims) where
                 (Referent.rtF (Referent.fInt Syntax.w64))
                 (Syntax.tyRef (Syntax.named 4) Syntax.mut (Syntax.tyInt Syntax.w64))
                 4,
-          ) (T17 .locals))) (Row.set 7 (
+          ) (T13 .locals))) (Row.set 7 (
             7,
             Mut.mslice
                 (Referent.rtF (Referent.fInt Syntax.w8))
                 (Syntax.tyRef (Syntax.named 5) Syntax.mut (Syntax.tyInt Syntax.w8))
                 5,
           ) record {
-            ptr = Row.get 7 (T17 .locals) (m16 (before .before) (After-blank·gave before)) .ptr;
-            name = Row.get 7 (T17 .locals) (m16 (before .before) (After-blank·gave before)) .name;
+            ptr = Row.get
+                7
+                (T13 .locals)
+                (m12 (before .before) (before .slice-known5 .given)) .ptr;
+            name = Row.get
+                7
+                (T13 .locals)
+                (m12 (before .before) (before .slice-known5 .given)) .name;
             now = stack;
           } (Row.setRow 6 (
             6,
@@ -15597,151 +15815,185 @@ module _ (claims· : Claims) where
                 (Referent.rtF (Referent.fInt Syntax.w64))
                 (Syntax.tyRef (Syntax.named 4) Syntax.mut (Syntax.tyInt Syntax.w64))
                 4,
-          ) (T17 .locals)) (Row.set 6 (
+          ) (T13 .locals)) (Row.set 6 (
             6,
             Mut.mslice
                 (Referent.rtF (Referent.fInt Syntax.w64))
                 (Syntax.tyRef (Syntax.named 4) Syntax.mut (Syntax.tyInt Syntax.w64))
                 4,
           ) record {
-            ptr = Row.get 6 (T17 .locals) (m16 (before .before) (After-blank·gave before)) .ptr;
-            name = Row.get 6 (T17 .locals) (m16 (before .before) (After-blank·gave before)) .name;
+            ptr = Row.get
+                6
+                (T13 .locals)
+                (m12 (before .before) (before .slice-known5 .given)) .ptr;
+            name = Row.get
+                6
+                (T13 .locals)
+                (m12 (before .before) (before .slice-known5 .given)) .name;
             now = owner;
-          } (T17 .locals) (m16 (before .before) (After-blank·gave before)))))))))))
+          } (T13 .locals) (m12 (before .before) (before .slice-known5 .given))))))))))
 
       abbrev W3 :
-          (before : After-blank) →
+          (before : After-slice-known5) →
           (owner : List.List (Referent.rtF (Referent.fInt Syntax.w64) .Denot)) →
           (stack : List.List (Referent.rtF (Referent.fInt Syntax.w8) .Denot)) →
           (cur : List.List (Referent.rtF (Referent.fInt Syntax.w8) .Denot)) →
           (next : List.List (Referent.rtF (Referent.fInt Syntax.w8) .Denot)) →
           (clean : List.List (Referent.rtF (Referent.fInt Syntax.w8) .Denot)) →
-          (recs : Rows.arrF
-          Elem.R
-          1024
-          0 .Mod) →
-          (rec : Rows'.whole (Declared.row LineRec.the-type) .Mod) →
-          (j : Rows'.sc-here (Row.sInt Syntax.w64) .Mod) →
-          (n : Rows'.sc-here (Row.sInt Syntax.w64) .Mod) →
-          (o : Rows'.sc-here (Row.sInt Syntax.w64) .Mod) →
+          (recs : List.List (Elem.R .Denot)) →
+          (past : Rows.sc-here (Row.sInt Syntax.w64) .Mod) →
+          (n : Rows.sc-here (Row.sInt Syntax.w64) .Mod) →
+          (o : Rows.sc-here (Row.sInt Syntax.w64) .Mod) →
           Typed.Want O3
       W3 =
-          λ before owner stack cur next clean recs rec j n o. Typed.inLoop T17 O2 (Typed.Round T17
-          O2 put0 (λ u vs. Inv·0 (Row.get 1 (T17 .locals) u .now) (Row.get 2 (T17 .locals) u .now)
-          (Row.get 3 (T17 .locals) u) (Row.get 4 (T17 .locals) u .now) (Row.get 5 (T17 .locals)
-          u .now) (Row.get 6 (T17 .locals) u .now) (Row.get 7 (T17 .locals) u .now) (Row.get 8
-          (T17 .locals) u .now) (Row.get 9 (T17 .locals) u .now) (Row.get 10 (T17 .locals) u .now)
-          (Row.get 11 (T17 .locals) u) (Row.get 12 (T17 .locals) u) (Row.get 13 (T17 .locals) u)
-          (Row.get 14 (T17 .locals) u) (Row.get 15 (T17 .locals) u) (vs .0) (vs .1) (vs .2) (vs .3)
-          (vs .4) (vs .5) (vs .6) (vs .7) (vs .8) (vs .9)) (λ u vs. μ·0 (Row.get 1 (T17 .locals)
-          u .now) (Row.get 2 (T17 .locals) u .now) (Row.get 3 (T17 .locals) u) (Row.get 4
-          (T17 .locals) u .now) (Row.get 5 (T17 .locals) u .now) (Row.get 6 (T17 .locals) u .now)
-          (Row.get 7 (T17 .locals) u .now) (Row.get 8 (T17 .locals) u .now) (Row.get 9
-          (T17 .locals) u .now) (Row.get 10 (T17 .locals) u .now) (Row.get 11 (T17 .locals) u)
-          (Row.get 12 (T17 .locals) u) (Row.get 13 (T17 .locals) u) (Row.get 14 (T17 .locals) u)
-          (Row.get 15 (T17 .locals) u) (vs .0) (vs .1) (vs .2) (vs .3) (vs .4) (vs .5) (vs .6)
-          (vs .7) (vs .8) (vs .9)) (at62
-          (before .before .before .before .before .before .before .before .before .before .before
-          .before .blocks)) (m16 (before .before) (After-blank·gave before))
-          (owner, stack, cur, next, clean, recs, rec, j, n, o)) (W2 (before .before)
-          (After-blank·gave before))
+          λ before owner stack cur next clean recs past n o. Typed.inLoop
+          T13
+          O2
+          (Typed.Round
+          T13
+          O2
+          put0
+          (λ u vs. Inv·0
+          (Row.get 1 (T13 .locals) u .now)
+          (Row.get 2 (T13 .locals) u .now)
+          (Row.get 3 (T13 .locals) u)
+          (Row.get 4 (T13 .locals) u .now)
+          (Row.get 5 (T13 .locals) u .now)
+          (Row.get 6 (T13 .locals) u .now)
+          (Row.get 7 (T13 .locals) u .now)
+          (Row.get 8 (T13 .locals) u .now)
+          (Row.get 9 (T13 .locals) u .now)
+          (Row.get 10 (T13 .locals) u .now)
+          (Row.get 11 (T13 .locals) u .now)
+          (Row.get 12 (T13 .locals) u)
+          (Row.get 13 (T13 .locals) u)
+          (Row.get 14 (T13 .locals) u)
+          (vs .0)
+          (vs .1)
+          (vs .2)
+          (vs .3)
+          (vs .4)
+          (vs .5)
+          (vs .6)
+          (vs .7)
+          (vs .8))
+          (λ u vs. μ·0
+          (Row.get 1 (T13 .locals) u .now)
+          (Row.get 2 (T13 .locals) u .now)
+          (Row.get 3 (T13 .locals) u)
+          (Row.get 4 (T13 .locals) u .now)
+          (Row.get 5 (T13 .locals) u .now)
+          (Row.get 6 (T13 .locals) u .now)
+          (Row.get 7 (T13 .locals) u .now)
+          (Row.get 8 (T13 .locals) u .now)
+          (Row.get 9 (T13 .locals) u .now)
+          (Row.get 10 (T13 .locals) u .now)
+          (Row.get 11 (T13 .locals) u .now)
+          (Row.get 12 (T13 .locals) u)
+          (Row.get 13 (T13 .locals) u)
+          (Row.get 14 (T13 .locals) u)
+          (vs .0)
+          (vs .1)
+          (vs .2)
+          (vs .3)
+          (vs .4)
+          (vs .5)
+          (vs .6)
+          (vs .7)
+          (vs .8))
+          at65
+          (m12 (before .before) (before .slice-known5 .given))
+          (owner, stack, cur, next, clean, recs, past, n, o))
+          (W2 (before .before) (before .slice-known5 .given))
 
-      abbrev pub m18 :
-          (before : After-blank) →
+      abbrev pub m14 :
+          (before : After-slice-known5) →
           (owner : List.List (Referent.rtF (Referent.fInt Syntax.w64) .Denot)) →
           (stack : List.List (Referent.rtF (Referent.fInt Syntax.w8) .Denot)) →
           (cur : List.List (Referent.rtF (Referent.fInt Syntax.w8) .Denot)) →
           (next : List.List (Referent.rtF (Referent.fInt Syntax.w8) .Denot)) →
           (clean : List.List (Referent.rtF (Referent.fInt Syntax.w8) .Denot)) →
-          (recs : Rows.arrF
-          Elem.R
-          1024
-          0 .Mod) →
-          (rec : Rows'.whole (Declared.row LineRec.the-type) .Mod) →
-          (j : Rows'.sc-here (Row.sInt Syntax.w64) .Mod) →
-          (n : Rows'.sc-here (Row.sInt Syntax.w64) .Mod) →
-          (o : Rows'.sc-here (Row.sInt Syntax.w64) .Mod) →
-          Typed.Mo T19
-      m18 =
-          λ before owner stack cur next clean recs rec j n o. s16
-          (before .before .before .before .before .before .before .before .before .before .before
-          .before .blocks) .next (m17 before owner stack cur next clean recs rec j n o)
+          (recs : List.List (Elem.R .Denot)) →
+          (past : Rows.sc-here (Row.sInt Syntax.w64) .Mod) →
+          (n : Rows.sc-here (Row.sInt Syntax.w64) .Mod) →
+          (o : Rows.sc-here (Row.sInt Syntax.w64) .Mod) →
+          Typed.Mo T15
+      m14 =
+          λ before owner stack cur next clean recs past n o. s12 .next
+          (m13 before owner stack cur next clean recs past n o)
 
       abbrev W4 :
-          (before : After-blank) →
+          (before : After-slice-known5) →
           (owner : List.List (Referent.rtF (Referent.fInt Syntax.w64) .Denot)) →
           (stack : List.List (Referent.rtF (Referent.fInt Syntax.w8) .Denot)) →
           (cur : List.List (Referent.rtF (Referent.fInt Syntax.w8) .Denot)) →
           (next : List.List (Referent.rtF (Referent.fInt Syntax.w8) .Denot)) →
           (clean : List.List (Referent.rtF (Referent.fInt Syntax.w8) .Denot)) →
-          (recs : Rows.arrF
-          Elem.R
-          1024
-          0 .Mod) →
-          (rec : Rows'.whole (Declared.row LineRec.the-type) .Mod) →
-          (j : Rows'.sc-here (Row.sInt Syntax.w64) .Mod) →
-          (n : Rows'.sc-here (Row.sInt Syntax.w64) .Mod) →
-          (o : Rows'.sc-here (Row.sInt Syntax.w64) .Mod) →
+          (recs : List.List (Elem.R .Denot)) →
+          (past : Rows.sc-here (Row.sInt Syntax.w64) .Mod) →
+          (n : Rows.sc-here (Row.sInt Syntax.w64) .Mod) →
+          (o : Rows.sc-here (Row.sInt Syntax.w64) .Mod) →
           Typed.Want O4
       W4 =
-          λ before owner stack cur next clean recs rec j n o. Typed.wantNext T20 O3 (at60
-          (before .before .before .before .before .before .before .before .before .before .before
-          .before .blocks) (W3 before owner stack cur next clean recs rec j n o)) (W3 before owner
-          stack cur next clean recs rec j n o)
+          λ before owner stack cur next clean recs past n o. Typed.wantNext
+          T16
+          O3
+          (at63 (W3 before owner stack cur next clean recs past n o))
+          (W3 before owner stack cur next clean recs past n o)
 
-      module _ (before· : After-blank) where
+      module _ (before· : After-slice-known5) where
         pub record At-loop·own : Type 0 where
           pub owner : List.List (Referent.rtF (Referent.fInt Syntax.w64) .Denot)
           pub stack : List.List (Referent.rtF (Referent.fInt Syntax.w8) .Denot)
           pub cur : List.List (Referent.rtF (Referent.fInt Syntax.w8) .Denot)
           pub next : List.List (Referent.rtF (Referent.fInt Syntax.w8) .Denot)
           pub clean : List.List (Referent.rtF (Referent.fInt Syntax.w8) .Denot)
-          pub recs : Rows.arrF
-              Elem.R
-              1024
-              0 .Mod
-          pub rec : Rows'.whole (Declared.row LineRec.the-type) .Mod
-          pub j : Rows'.sc-here (Row.sInt Syntax.w64) .Mod
-          pub n : Rows'.sc-here (Row.sInt Syntax.w64) .Mod
-          pub o : Rows'.sc-here (Row.sInt Syntax.w64) .Mod
+          pub recs : List.List (Elem.R .Denot)
+          pub past : Rows.sc-here (Row.sInt Syntax.w64) .Mod
+          pub n : Rows.sc-here (Row.sInt Syntax.w64) .Mod
+          pub o : Rows.sc-here (Row.sInt Syntax.w64) .Mod
           pub inv : Inv·0
-              (Row.get 1 (T17 .locals) (m16 (before· .before) (After-blank·gave before·)) .now)
-              (Row.get 2 (T17 .locals) (m16 (before· .before) (After-blank·gave before·)) .now)
-              (Row.get 3 (T17 .locals) (m16 (before· .before) (After-blank·gave before·)))
-              (Row.get 4 (T17 .locals) (m16 (before· .before) (After-blank·gave before·)) .now)
-              (Row.get 5 (T17 .locals) (m16 (before· .before) (After-blank·gave before·)) .now)
-              (Row.get 6 (T17 .locals) (m16 (before· .before) (After-blank·gave before·)) .now)
-              (Row.get 7 (T17 .locals) (m16 (before· .before) (After-blank·gave before·)) .now)
-              (Row.get 8 (T17 .locals) (m16 (before· .before) (After-blank·gave before·)) .now)
-              (Row.get 9 (T17 .locals) (m16 (before· .before) (After-blank·gave before·)) .now)
-              (Row.get 10 (T17 .locals) (m16 (before· .before) (After-blank·gave before·)) .now)
-              (Row.get 11 (T17 .locals) (m16 (before· .before) (After-blank·gave before·)))
-              (Row.get 12 (T17 .locals) (m16 (before· .before) (After-blank·gave before·)))
-              (Row.get 13 (T17 .locals) (m16 (before· .before) (After-blank·gave before·)))
-              (Row.get 14 (T17 .locals) (m16 (before· .before) (After-blank·gave before·)))
-              (Row.get 15 (T17 .locals) (m16 (before· .before) (After-blank·gave before·)))
+              (Row.get 1 (T13 .locals) (m12 (before· .before) (before· .slice-known5 .given)) .now)
+              (Row.get 2 (T13 .locals) (m12 (before· .before) (before· .slice-known5 .given)) .now)
+              (Row.get 3 (T13 .locals) (m12 (before· .before) (before· .slice-known5 .given)))
+              (Row.get 4 (T13 .locals) (m12 (before· .before) (before· .slice-known5 .given)) .now)
+              (Row.get 5 (T13 .locals) (m12 (before· .before) (before· .slice-known5 .given)) .now)
+              (Row.get 6 (T13 .locals) (m12 (before· .before) (before· .slice-known5 .given)) .now)
+              (Row.get 7 (T13 .locals) (m12 (before· .before) (before· .slice-known5 .given)) .now)
+              (Row.get 8 (T13 .locals) (m12 (before· .before) (before· .slice-known5 .given)) .now)
+              (Row.get 9 (T13 .locals) (m12 (before· .before) (before· .slice-known5 .given)) .now)
+              (Row.get
+              10
+              (T13 .locals)
+              (m12 (before· .before) (before· .slice-known5 .given)) .now)
+              (Row.get
+              11
+              (T13 .locals)
+              (m12 (before· .before) (before· .slice-known5 .given)) .now)
+              (Row.get 12 (T13 .locals) (m12 (before· .before) (before· .slice-known5 .given)))
+              (Row.get 13 (T13 .locals) (m12 (before· .before) (before· .slice-known5 .given)))
+              (Row.get 14 (T13 .locals) (m12 (before· .before) (before· .slice-known5 .given)))
               owner
               stack
               cur
               next
               clean
               recs
-              rec
-              j
+              past
               n
               o
 
       pub record At-loop : Type 0 where
-        pub before : After-blank
+        pub before : After-slice-known5
         pub loop : At-loop·own before
 
       module _ (before· : At-loop) where
         pub record In-loop·own : Type 0 where
           pub taken : Nat._<_
               (Row.get
-              14
-              (T17 .locals)
-              (m17
+              13
+              (T13 .locals)
+              (m13
               (before· .before)
               (before· .loop .owner)
               (before· .loop .stack)
@@ -15749,14 +16001,13 @@ module _ (claims· : Claims) where
               (before· .loop .next)
               (before· .loop .clean)
               (before· .loop .recs)
-              (before· .loop .rec)
-              (before· .loop .j)
+              (before· .loop .past)
               (before· .loop .n)
               (before· .loop .o)))
               (Row.get
               3
-              (T17 .locals)
-              (m17
+              (T13 .locals)
+              (m13
               (before· .before)
               (before· .loop .owner)
               (before· .loop .stack)
@@ -15764,8 +16015,7 @@ module _ (claims· : Claims) where
               (before· .loop .next)
               (before· .loop .clean)
               (before· .loop .recs)
-              (before· .loop .rec)
-              (before· .loop .j)
+              (before· .loop .past)
               (before· .loop .n)
               (before· .loop .o)))
 
@@ -15773,13 +16023,19 @@ module _ (claims· : Claims) where
         pub before : At-loop
         pub loop-test : In-loop·own before
 
-      abbrev pub m19 : (before : At-loop) → Typed.Mo T21
-      m19 =
-          λ before. s17
-          (before .before .before .before .before .before .before .before .before .before .before
-          .before .before .blocks) (m18 (before .before) (before .loop .owner)
-          (before .loop .stack) (before .loop .cur) (before .loop .next) (before .loop .clean)
-          (before .loop .recs) (before .loop .rec) (before .loop .j) (before .loop .n)
+      abbrev pub m15 : (before : At-loop) → Typed.Mo T17
+      m15 =
+          λ before. s13
+          (m14
+          (before .before)
+          (before .loop .owner)
+          (before .loop .stack)
+          (before .loop .cur)
+          (before .loop .next)
+          (before .loop .clean)
+          (before .loop .recs)
+          (before .loop .past)
+          (before .loop .n)
           (before .loop .o))
 
       module _ (before· : At-loop) where
@@ -15787,8 +16043,8 @@ module _ (claims· : Claims) where
           pub left : Nat._≤_
               (Row.get
               3
-              (T17 .locals)
-              (m17
+              (T13 .locals)
+              (m13
               (before· .before)
               (before· .loop .owner)
               (before· .loop .stack)
@@ -15796,14 +16052,13 @@ module _ (claims· : Claims) where
               (before· .loop .next)
               (before· .loop .clean)
               (before· .loop .recs)
-              (before· .loop .rec)
-              (before· .loop .j)
+              (before· .loop .past)
               (before· .loop .n)
               (before· .loop .o)))
               (Row.get
-              14
-              (T17 .locals)
-              (m17
+              13
+              (T13 .locals)
+              (m13
               (before· .before)
               (before· .loop .owner)
               (before· .loop .stack)
@@ -15811,8 +16066,7 @@ module _ (claims· : Claims) where
               (before· .loop .next)
               (before· .loop .clean)
               (before· .loop .recs)
-              (before· .loop .rec)
-              (before· .loop .j)
+              (before· .loop .past)
               (before· .loop .n)
               (before· .loop .o)))
 
@@ -15820,81 +16074,50 @@ module _ (claims· : Claims) where
         pub before : At-loop
         pub loop-test : After-loop·own before
 
-      abbrev pub m20 : (before : At-loop) → Typed.Mo T22
-      m20 =
-          λ before. s18
-          (before .before .before .before .before .before .before .before .before .before .before
-          .before .before .blocks) (m18 (before .before) (before .loop .owner)
-          (before .loop .stack) (before .loop .cur) (before .loop .next) (before .loop .clean)
-          (before .loop .recs) (before .loop .rec) (before .loop .j) (before .loop .n)
+      abbrev pub m16 : (before : At-loop) → Typed.Mo T18
+      m16 =
+          λ before. s14
+          (m14
+          (before .before)
+          (before .loop .owner)
+          (before .loop .stack)
+          (before .loop .cur)
+          (before .loop .next)
+          (before .loop .clean)
+          (before .loop .recs)
+          (before .loop .past)
+          (before .loop .n)
           (before .loop .o))
 
-      abbrev pub m21 : (before : At-loop) → Typed.Mo T23
-      m21 =
-          λ before. s19
-          (before .before .before .before .before .before .before .before .before .before .before
-          .before .before .blocks) (m20 before)
+      abbrev pub m17 :
+          (before : In-loop) → (given : s16 .gives (m15 (before .before))) → Typed.Mo T20
+      m17 = λ before given. s16 .next (m15 (before .before)) given
 
-      abbrev pub m22 : (before : At-loop) → Typed.Mo T24
-      m22 =
-          λ before. s20
-          (before .before .before .before .before .before .before .before .before .before .before
-          .before .before .blocks) (m21 before)
-
-      abbrev pub m23 :
-          (before : In-loop) → (given : s22
-          (before .before .before .before .before .before .before .before .before .before .before
-          .before .before .before .blocks) .gives (m19 (before .before))) → Typed.Mo T26
-      m23 =
-          λ before given. s22
-          (before .before .before .before .before .before .before .before .before .before .before
-          .before .before .before .blocks) .next (m19 (before .before)) given
+      abbrev pub m18 :
+          (before : In-loop) → (given : s16 .gives (m15 (before .before))) → Typed.Mo T21
+      m18 = λ before given. s17 .next (m17 before given)
 
       module _ (before· : In-loop) where
-        pub record After-recs·own : Type 0 where
-          pub given : s22
-              (before· .before .before .before .before .before .before .before .before .before
-              .before .before .before .before .blocks) .gives
-              (m19 (before· .before))
+        pub record After-refill-arg·own : Type 0 where
+          pub given : s16 .gives (m15 (before· .before))
 
-      pub record After-recs : Type 0 where
+      pub record After-refill-arg : Type 0 where
         pub before : In-loop
-        pub recs : After-recs·own before
-
-      abbrev pub Need-slice-aggregate-refill : Type 0
-      Need-slice-aggregate-refill =
-          (c : After-recs) →
-          Relend.CountIs T26 18 19 (λ x. x) (λ u. 1024) (m23 (c .before) (c .recs .given))
-
-      abbrev pub m24 :
-          (before : In-loop) → (given : s22
-          (before .before .before .before .before .before .before .before .before .before .before
-          .before .before .before .blocks) .gives (m19 (before .before))) → Typed.Mo T27
-      m24 =
-          λ before given. s23
-          (before .before .before .before .before .before .before .before .before .before .before
-          .before .before .before .blocks) .next (m23 before given)
+        pub refill-arg : After-refill-arg·own before
 
       abbrev pub Need-refill-requires : Type 0
       Need-refill-requires =
-          (c : After-recs) → s24
-          (c .before .before .before .before .before .before .before .before .before .before
-          .before .before .before .before .blocks) .asks (m24 (c .before) (c .recs .given))
+          (c : After-refill-arg) → s18 .asks (m18 (c .before) (c .refill-arg .given))
 
-      abbrev pub m25 :
-          (before : After-recs) → (given : s24
-          (before .before .before .before .before .before .before .before .before .before .before
-          .before .before .before .before .blocks) .gives (m24 (before .before)
-          (before .recs .given))) → Typed.Mo T28
-      m25 =
-          λ before given. s24
-          (before .before .before .before .before .before .before .before .before .before .before
-          .before .before .before .before .blocks) .next (m24 (before .before)
-          (before .recs .given)) given
+      abbrev pub m19 :
+          (before : After-refill-arg) →
+          (given : s18 .gives (m18 (before .before) (before .refill-arg .given))) →
+          Typed.Mo T22
+      m19 = λ before given. s18 .next (m18 (before .before) (before .refill-arg .given)) given
 
-      module _ (before· : After-recs) where
+      module _ (before· : After-refill-arg) where
         abbrev pub After-refill·own : Type 0
-        After-refill·own = Called.Called ps·2 r·2 (claims· .5) T27 (
+        After-refill·own = Called.Called ps·0 r·0 (claims· .1) T21 (
           record {
             pos = 2;
             ty = Syntax.tyRef (Syntax.named 1) Syntax.imm (Syntax.tyInt Syntax.w64);
@@ -15909,39 +16132,33 @@ module _ (claims· : Claims) where
             (
               Num.vAt 3 λ x. x,
               (
-                Num.vAt 14 λ x. x,
+                Num.vAt 13 λ x. x,
                 (
-                  Num.vAt 13 λ x. x,
+                  Num.vAt 12 λ x. x,
                   (
-                    record { pos = 12; st = List.[]; d = 0; at = λ x. x },
-                    (
-                      record {
-                        pos = 19;
-                        ty = Syntax.tyRef
-                            Syntax.erased
-                            Syntax.mut
-                            Elem.ty;
-                        ref = λ x. x;
-                      },
-                      tt,
-                    ),
+                    record {
+                      pos = 18;
+                      ty = Syntax.tyRef
+                          Syntax.erased
+                          Syntax.mut
+                          Elem.ty;
+                      ref = λ x. x;
+                    },
+                    tt,
                   ),
                 ),
               ),
             ),
           ),
-        ) (m24 (before· .before) (before· .recs .given))
+        ) (m18 (before· .before) (before· .refill-arg .given))
 
       pub record After-refill : Type 0 where
-        pub before : After-recs
+        pub before : After-refill-arg
         pub refill : After-refill·own before
 
       abbrev pub After-refill·gave :
-          (c : After-refill) → s24
-          (c .before .before .before .before .before .before .before .before .before .before
-          .before .before .before .before .before .blocks) .gives (m24 (c .before .before)
-          (c .before .recs .given))
-      After-refill·gave = λ c. Called.given ps·2 r·2 (claims· .5) T27 (
+          (c : After-refill) → s18 .gives (m18 (c .before .before) (c .before .refill-arg .given))
+      After-refill·gave = λ c. Called.given ps·0 r·0 (claims· .1) T21 (
         record {
           pos = 2;
           ty = Syntax.tyRef (Syntax.named 1) Syntax.imm (Syntax.tyInt Syntax.w64);
@@ -15956,338 +16173,250 @@ module _ (claims· : Claims) where
           (
             Num.vAt 3 λ x. x,
             (
-              Num.vAt 14 λ x. x,
+              Num.vAt 13 λ x. x,
               (
-                Num.vAt 13 λ x. x,
+                Num.vAt 12 λ x. x,
                 (
-                  record { pos = 12; st = List.[]; d = 0; at = λ x. x },
-                  (
-                    record {
-                      pos = 19;
-                      ty = Syntax.tyRef
-                          Syntax.erased
-                          Syntax.mut
-                          Elem.ty;
-                      ref = λ x. x;
-                    },
-                    tt,
-                  ),
+                  record {
+                    pos = 18;
+                    ty = Syntax.tyRef
+                        Syntax.erased
+                        Syntax.mut
+                        Elem.ty;
+                    ref = λ x. x;
+                  },
+                  tt,
                 ),
               ),
             ),
           ),
         ),
-      ) (m24 (c .before .before) (c .before .recs .given)) (c .refill)
+      ) (m18 (c .before .before) (c .before .refill-arg .given)) (c .refill)
 
-      abbrev pub m26 :
-          (before : After-recs) → (given : s24
-          (before .before .before .before .before .before .before .before .before .before .before
-          .before .before .before .before .blocks) .gives (m24 (before .before)
-          (before .recs .given))) → Typed.Mo T29
-      m26 =
-          λ before given. s25
-          (before .before .before .before .before .before .before .before .before .before .before
-          .before .before .before .before .blocks) (m25 before given)
-
-      abbrev pub m27 :
-          (before : After-refill) → (given : s27
-          (before .before .before .before .before .before .before .before .before .before .before
-          .before .before .before .before .before .blocks) .gives (m26 (before .before)
-          (After-refill·gave before))) → Typed.Mo T31
-      m27 =
-          λ before given. s27
-          (before .before .before .before .before .before .before .before .before .before .before
-          .before .before .before .before .before .blocks) .next (m26 (before .before)
-          (After-refill·gave before)) given
+      abbrev pub m20 :
+          (before : After-refill) →
+          (given : s20 .gives (m19 (before .before) (After-refill·gave before))) →
+          Typed.Mo T24
+      m20 = λ before given. s20 .next (m19 (before .before) (After-refill·gave before)) given
 
       module _ (before· : After-refill) where
-        pub record After-recs2·own : Type 0 where
-          pub given : s27
-              (before· .before .before .before .before .before .before .before .before .before
-              .before .before .before .before .before .before .blocks) .gives
-              (m26 (before· .before) (After-refill·gave before·))
+        pub record After-recs·own : Type 0 where
+          pub given : s20 .gives (m19 (before· .before) (After-refill·gave before·))
 
-      pub record After-recs2 : Type 0 where
+      pub record After-recs : Type 0 where
         pub before : After-refill
-        pub recs2 : After-recs2·own before
+        pub recs : After-recs·own before
 
-      abbrev pub m28 :
-          (before : After-recs2) → (given : s30
-          (before .before .before .before .before .before .before .before .before .before .before
-          .before .before .before .before .before .before .blocks) .gives (m27 (before .before)
-          (before .recs2 .given))) → Typed.Mo T34
-      m28 =
-          λ before given. s30
-          (before .before .before .before .before .before .before .before .before .before .before
-          .before .before .before .before .before .before .blocks) .next (m27 (before .before)
-          (before .recs2 .given)) given
+      abbrev pub m21 :
+          (before : After-recs) →
+          (given : s23 .gives (m20 (before .before) (before .recs .given))) →
+          Typed.Mo T27
+      m21 = λ before given. s23 .next (m20 (before .before) (before .recs .given)) given
 
-      module _ (before· : After-recs2) where
-        pub record After-recs3·own : Type 0 where
-          pub given : s30
-              (before· .before .before .before .before .before .before .before .before .before
-              .before .before .before .before .before .before .before .blocks) .gives
-              (m27 (before· .before) (before· .recs2 .given))
+      abbrev pub m22 :
+          (before : After-recs) →
+          (given : s23 .gives (m20 (before .before) (before .recs .given))) →
+          Typed.Mo T28
+      m22 = λ before given. s24 .next (m21 before given)
 
-      pub record After-recs3 : Type 0 where
-        pub before : After-recs2
-        pub recs3 : After-recs3·own before
+      abbrev pub m23 :
+          (before : After-recs) →
+          (given : s23 .gives (m20 (before .before) (before .recs .given))) →
+          Typed.Mo T29
+      m23 = λ before given. s25 (m22 before given)
 
-      abbrev pub Need-slice-aggregate-get : Type 0
-      Need-slice-aggregate-get =
-          (c : After-recs3) →
-          Relend.CountIs T34 20 21 (λ x. x) (λ u. 1024) (m28 (c .before) (c .recs3 .given))
+      module _ (before· : After-recs) where
+        pub record After-get-arg·own : Type 0 where
+          pub given : s23 .gives (m20 (before· .before) (before· .recs .given))
 
-      abbrev pub m29 :
-          (before : After-recs2) → (given : s30
-          (before .before .before .before .before .before .before .before .before .before .before
-          .before .before .before .before .before .before .blocks) .gives (m27 (before .before)
-          (before .recs2 .given))) → Typed.Mo T35
-      m29 =
-          λ before given. s31
-          (before .before .before .before .before .before .before .before .before .before .before
-          .before .before .before .before .before .before .blocks) .next (m28 before given)
+      pub record After-get-arg : Type 0 where
+        pub before : After-recs
+        pub get-arg : After-get-arg·own before
+
+      abbrev pub Need-add-get : Type 0
+      Need-add-get = (c : After-get-arg) → s26 .asks (m23 (c .before) (c .get-arg .given))
+
+      abbrev pub m24 :
+          (before : After-recs) →
+          (given : s23 .gives (m20 (before .before) (before .recs .given))) →
+          Typed.Mo T30
+      m24 = λ before given. s26 .next (m23 before given)
+
+      abbrev pub m25 :
+          (before : After-recs) →
+          (given : s23 .gives (m20 (before .before) (before .recs .given))) →
+          Typed.Mo T31
+      m25 = λ before given. s27 (m24 before given)
+
+      abbrev pub Need-sub-get : Type 0
+      Need-sub-get = (c : After-get-arg) → s28 .asks (m25 (c .before) (c .get-arg .given))
+
+      abbrev pub m26 :
+          (before : After-recs) →
+          (given : s23 .gives (m20 (before .before) (before .recs .given))) →
+          Typed.Mo T32
+      m26 = λ before given. s28 .next (m25 before given)
+
+      abbrev pub m27 :
+          (before : After-recs) →
+          (given : s23 .gives (m20 (before .before) (before .recs .given))) →
+          Typed.Mo T33
+      m27 = λ before given. s29 (m26 before given)
 
       abbrev pub Need-get-requires : Type 0
-      Need-get-requires =
-          (c : After-recs3) → s32
-          (c .before .before .before .before .before .before .before .before .before .before
-          .before .before .before .before .before .before .before .blocks) .asks (m29 (c .before)
-          (c .recs3 .given))
+      Need-get-requires = (c : After-get-arg) → s30 .asks (m27 (c .before) (c .get-arg .given))
 
-      abbrev pub m30 :
-          (before : After-recs3) → (given : s32
-          (before .before .before .before .before .before .before .before .before .before .before
-          .before .before .before .before .before .before .before .blocks) .gives (m29
-          (before .before) (before .recs3 .given))) → Typed.Mo T36
-      m30 =
-          λ before given. s32
-          (before .before .before .before .before .before .before .before .before .before .before
-          .before .before .before .before .before .before .before .blocks) .next (m29
-          (before .before) (before .recs3 .given)) given
+      abbrev pub m28 :
+          (before : After-get-arg) →
+          (given : s30 .gives (m27 (before .before) (before .get-arg .given))) →
+          Typed.Mo T34
+      m28 = λ before given. s30 .next (m27 (before .before) (before .get-arg .given)) given
 
-      module _ (before· : After-recs3) where
+      module _ (before· : After-get-arg) where
         abbrev pub After-get·own : Type 0
-        After-get·own = Called.Called ps·3 r·3 (claims· .7) T35 (
+        After-get·own = Called.Called ps·1 r·1 (claims· .3) T33 (
           record {
-            pos = 21;
+            pos = 20;
             ty = Syntax.tyRef
                 Syntax.erased
                 Syntax.imm
                 Elem.ty;
             ref = λ x. x;
           },
-          (Num.vAt 13 λ x. x, tt),
-        ) (m29 (before· .before) (before· .recs3 .given))
+          (Num.vAt 23 λ x. x, tt),
+        ) (m27 (before· .before) (before· .get-arg .given))
 
       pub record After-get : Type 0 where
-        pub before : After-recs3
+        pub before : After-get-arg
         pub get : After-get·own before
 
       abbrev pub After-get·gave :
-          (c : After-get) → s32
-          (c .before .before .before .before .before .before .before .before .before .before
-          .before .before .before .before .before .before .before .before .blocks) .gives (m29
-          (c .before .before) (c .before .recs3 .given))
-      After-get·gave = λ c. Called.given ps·3 r·3 (claims· .7) T35 (
+          (c : After-get) → s30 .gives (m27 (c .before .before) (c .before .get-arg .given))
+      After-get·gave = λ c. Called.given ps·1 r·1 (claims· .3) T33 (
         record {
-          pos = 21;
+          pos = 20;
           ty = Syntax.tyRef
               Syntax.erased
               Syntax.imm
               Elem.ty;
           ref = λ x. x;
         },
-        (Num.vAt 13 λ x. x, tt),
-      ) (m29 (c .before .before) (c .before .recs3 .given)) (c .get)
+        (Num.vAt 23 λ x. x, tt),
+      ) (m27 (c .before .before) (c .before .get-arg .given)) (c .get)
+
+      abbrev pub m29 :
+          (before : After-get-arg) →
+          (given : s30 .gives (m27 (before .before) (before .get-arg .given))) →
+          Typed.Mo T35
+      m29 = λ before given. s31 (m28 before given)
+
+      abbrev pub m30 :
+          (before : After-get-arg) →
+          (given : s30 .gives (m27 (before .before) (before .get-arg .given))) →
+          Typed.Mo T36
+      m30 = λ before given. s32 (m29 before given)
 
       abbrev pub m31 :
-          (before : After-recs3) → (given : s32
-          (before .before .before .before .before .before .before .before .before .before .before
-          .before .before .before .before .before .before .before .blocks) .gives (m29
-          (before .before) (before .recs3 .given))) → Typed.Mo T37
-      m31 =
-          λ before given. s33
-          (before .before .before .before .before .before .before .before .before .before .before
-          .before .before .before .before .before .before .before .blocks) (m30 before given)
+          (before : After-get-arg) →
+          (given : s30 .gives (m27 (before .before) (before .get-arg .given))) →
+          Typed.Mo T38
+      m31 = λ before given. s34 (m30 before given)
 
       abbrev pub m32 :
-          (before : After-recs3) → (given : s32
-          (before .before .before .before .before .before .before .before .before .before .before
-          .before .before .before .before .before .before .before .blocks) .gives (m29
-          (before .before) (before .recs3 .given))) → Typed.Mo T39
-      m32 =
-          λ before given. s35
-          (before .before .before .before .before .before .before .before .before .before .before
-          .before .before .before .before .before .before .before .blocks) (m31 before given)
+          (before : After-get) →
+          (given : s37 .gives (m31 (before .before) (After-get·gave before))) →
+          Typed.Mo T41
+      m32 = λ before given. s37 .next (m31 (before .before) (After-get·gave before)) given
 
       abbrev pub m33 :
-          (before : After-get) → (given : s38
-          (before .before .before .before .before .before .before .before .before .before .before
-          .before .before .before .before .before .before .before .before .blocks) .gives (m32
-          (before .before) (After-get·gave before))) → Typed.Mo T42
-      m33 =
-          λ before given. s38
-          (before .before .before .before .before .before .before .before .before .before .before
-          .before .before .before .before .before .before .before .before .blocks) .next (m32
-          (before .before) (After-get·gave before)) given
-
-      abbrev pub m34 :
-          (before : After-get) → (given : s38
-          (before .before .before .before .before .before .before .before .before .before .before
-          .before .before .before .before .before .before .before .before .blocks) .gives (m32
-          (before .before) (After-get·gave before))) → Typed.Mo T43
-      m34 =
-          λ before given. s39
-          (before .before .before .before .before .before .before .before .before .before .before
-          .before .before .before .before .before .before .before .before .blocks) .next (m33
-          before given)
+          (before : After-get) →
+          (given : s37 .gives (m31 (before .before) (After-get·gave before))) →
+          Typed.Mo T42
+      m33 = λ before given. s38 .next (m32 before given)
 
       module _ (before· : After-get) where
         pub record After-turn-line-arg·own : Type 0 where
-          pub given : s38
-              (before· .before .before .before .before .before .before .before .before .before
-              .before .before .before .before .before .before .before .before .before .blocks)
-              .gives
-              (m32 (before· .before) (After-get·gave before·))
+          pub given : s37 .gives (m31 (before· .before) (After-get·gave before·))
 
       pub record After-turn-line-arg : Type 0 where
         pub before : After-get
         pub turn-line-arg : After-turn-line-arg·own before
 
-      abbrev pub m35 :
-          (before : After-turn-line-arg) → (given : s41
-          (before .before .before .before .before .before .before .before .before .before .before
-          .before .before .before .before .before .before .before .before .before .blocks) .gives
-          (m34 (before .before) (before .turn-line-arg .given))) → Typed.Mo T45
-      m35 =
-          λ before given. s41
-          (before .before .before .before .before .before .before .before .before .before .before
-          .before .before .before .before .before .before .before .before .before .blocks) .next
-          (m34 (before .before) (before .turn-line-arg .given)) given
+      abbrev pub m34 :
+          (before : After-turn-line-arg) →
+          (given : s40 .gives (m33 (before .before) (before .turn-line-arg .given))) →
+          Typed.Mo T44
+      m34 = λ before given. s40 .next (m33 (before .before) (before .turn-line-arg .given)) given
 
-      abbrev pub m36 :
-          (before : After-turn-line-arg) → (given : s41
-          (before .before .before .before .before .before .before .before .before .before .before
-          .before .before .before .before .before .before .before .before .before .blocks) .gives
-          (m34 (before .before) (before .turn-line-arg .given))) → Typed.Mo T46
-      m36 =
-          λ before given. s42
-          (before .before .before .before .before .before .before .before .before .before .before
-          .before .before .before .before .before .before .before .before .before .blocks) .next
-          (m35 before given)
+      abbrev pub m35 :
+          (before : After-turn-line-arg) →
+          (given : s40 .gives (m33 (before .before) (before .turn-line-arg .given))) →
+          Typed.Mo T45
+      m35 = λ before given. s41 .next (m34 before given)
 
       module _ (before· : After-turn-line-arg) where
         pub record After-turn-line-arg2·own : Type 0 where
-          pub given : s41
-              (before· .before .before .before .before .before .before .before .before .before
-              .before .before .before .before .before .before .before .before .before .before
-              .blocks) .gives
-              (m34 (before· .before) (before· .turn-line-arg .given))
+          pub given : s40 .gives (m33 (before· .before) (before· .turn-line-arg .given))
 
       pub record After-turn-line-arg2 : Type 0 where
         pub before : After-turn-line-arg
         pub turn-line-arg2 : After-turn-line-arg2·own before
 
-      abbrev pub m37 :
-          (before : After-turn-line-arg2) → (given : s44
-          (before .before .before .before .before .before .before .before .before .before .before
-          .before .before .before .before .before .before .before .before .before .before .blocks)
-          .gives (m36 (before .before) (before .turn-line-arg2 .given))) → Typed.Mo T48
-      m37 =
-          λ before given. s44
-          (before .before .before .before .before .before .before .before .before .before .before
-          .before .before .before .before .before .before .before .before .before .before .blocks)
-          .next (m36 (before .before) (before .turn-line-arg2 .given)) given
+      abbrev pub m36 :
+          (before : After-turn-line-arg2) →
+          (given : s43 .gives (m35 (before .before) (before .turn-line-arg2 .given))) →
+          Typed.Mo T47
+      m36 = λ before given. s43 .next (m35 (before .before) (before .turn-line-arg2 .given)) given
 
-      abbrev pub m38 :
-          (before : After-turn-line-arg2) → (given : s44
-          (before .before .before .before .before .before .before .before .before .before .before
-          .before .before .before .before .before .before .before .before .before .before .blocks)
-          .gives (m36 (before .before) (before .turn-line-arg2 .given))) → Typed.Mo T49
-      m38 =
-          λ before given. s45
-          (before .before .before .before .before .before .before .before .before .before .before
-          .before .before .before .before .before .before .before .before .before .before .blocks)
-          .next (m37 before given)
+      abbrev pub m37 :
+          (before : After-turn-line-arg2) →
+          (given : s43 .gives (m35 (before .before) (before .turn-line-arg2 .given))) →
+          Typed.Mo T48
+      m37 = λ before given. s44 .next (m36 before given)
 
       module _ (before· : After-turn-line-arg2) where
         pub record After-turn-line-arg3·own : Type 0 where
-          pub given : s44
-              (before· .before .before .before .before .before .before .before .before .before
-              .before .before .before .before .before .before .before .before .before .before
-              .before .blocks) .gives
-              (m36 (before· .before) (before· .turn-line-arg2 .given))
+          pub given : s43 .gives (m35 (before· .before) (before· .turn-line-arg2 .given))
 
       pub record After-turn-line-arg3 : Type 0 where
         pub before : After-turn-line-arg2
         pub turn-line-arg3 : After-turn-line-arg3·own before
 
-      abbrev pub m39 :
-          (before : After-turn-line-arg3) → (given : s47
-          (before .before .before .before .before .before .before .before .before .before .before
-          .before .before .before .before .before .before .before .before .before .before .before
-          .blocks) .gives (m38 (before .before) (before .turn-line-arg3 .given))) → Typed.Mo T51
-      m39 =
-          λ before given. s47
-          (before .before .before .before .before .before .before .before .before .before .before
-          .before .before .before .before .before .before .before .before .before .before .before
-          .blocks) .next (m38 (before .before) (before .turn-line-arg3 .given)) given
+      abbrev pub m38 :
+          (before : After-turn-line-arg3) →
+          (given : s46 .gives (m37 (before .before) (before .turn-line-arg3 .given))) →
+          Typed.Mo T50
+      m38 = λ before given. s46 .next (m37 (before .before) (before .turn-line-arg3 .given)) given
 
-      abbrev pub m40 :
-          (before : After-turn-line-arg3) → (given : s47
-          (before .before .before .before .before .before .before .before .before .before .before
-          .before .before .before .before .before .before .before .before .before .before .before
-          .blocks) .gives (m38 (before .before) (before .turn-line-arg3 .given))) → Typed.Mo T52
-      m40 =
-          λ before given. s48
-          (before .before .before .before .before .before .before .before .before .before .before
-          .before .before .before .before .before .before .before .before .before .before .before
-          .blocks) .next (m39 before given)
+      abbrev pub m39 :
+          (before : After-turn-line-arg3) →
+          (given : s46 .gives (m37 (before .before) (before .turn-line-arg3 .given))) →
+          Typed.Mo T51
+      m39 = λ before given. s47 .next (m38 before given)
 
       module _ (before· : After-turn-line-arg3) where
         pub record After-turn-line-arg4·own : Type 0 where
-          pub given : s47
-              (before· .before .before .before .before .before .before .before .before .before
-              .before .before .before .before .before .before .before .before .before .before
-              .before .before .blocks) .gives
-              (m38 (before· .before) (before· .turn-line-arg3 .given))
+          pub given : s46 .gives (m37 (before· .before) (before· .turn-line-arg3 .given))
 
       pub record After-turn-line-arg4 : Type 0 where
         pub before : After-turn-line-arg3
         pub turn-line-arg4 : After-turn-line-arg4·own before
 
-      abbrev pub m41 :
-          (before : After-turn-line-arg4) → (given : s50
-          (before .before .before .before .before .before .before .before .before .before .before
-          .before .before .before .before .before .before .before .before .before .before .before
-          .before .blocks) .gives (m40 (before .before) (before .turn-line-arg4 .given))) →
-          Typed.Mo T54
-      m41 =
-          λ before given. s50
-          (before .before .before .before .before .before .before .before .before .before .before
-          .before .before .before .before .before .before .before .before .before .before .before
-          .before .blocks) .next (m40 (before .before) (before .turn-line-arg4 .given)) given
+      abbrev pub m40 :
+          (before : After-turn-line-arg4) →
+          (given : s49 .gives (m39 (before .before) (before .turn-line-arg4 .given))) →
+          Typed.Mo T53
+      m40 = λ before given. s49 .next (m39 (before .before) (before .turn-line-arg4 .given)) given
 
-      abbrev pub m42 :
-          (before : After-turn-line-arg4) → (given : s50
-          (before .before .before .before .before .before .before .before .before .before .before
-          .before .before .before .before .before .before .before .before .before .before .before
-          .before .blocks) .gives (m40 (before .before) (before .turn-line-arg4 .given))) →
-          Typed.Mo T55
-      m42 =
-          λ before given. s51
-          (before .before .before .before .before .before .before .before .before .before .before
-          .before .before .before .before .before .before .before .before .before .before .before
-          .before .blocks) .next (m41 before given)
+      abbrev pub m41 :
+          (before : After-turn-line-arg4) →
+          (given : s49 .gives (m39 (before .before) (before .turn-line-arg4 .given))) →
+          Typed.Mo T54
+      m41 = λ before given. s50 .next (m40 before given)
 
       module _ (before· : After-turn-line-arg4) where
         pub record After-turn-line-arg5·own : Type 0 where
-          pub given : s50
-              (before· .before .before .before .before .before .before .before .before .before
-              .before .before .before .before .before .before .before .before .before .before
-              .before .before .before .blocks) .gives
-              (m40 (before· .before) (before· .turn-line-arg4 .given))
+          pub given : s49 .gives (m39 (before· .before) (before· .turn-line-arg4 .given))
 
       pub record After-turn-line-arg5 : Type 0 where
         pub before : After-turn-line-arg4
@@ -16295,43 +16424,33 @@ module _ (claims· : Claims) where
 
       abbrev pub Need-turn-line-requires : Type 0
       Need-turn-line-requires =
-          (c : After-turn-line-arg5) → s52
-          (c .before .before .before .before .before .before .before .before .before .before
-          .before .before .before .before .before .before .before .before .before .before .before
-          .before .before .blocks) .asks (m42 (c .before) (c .turn-line-arg5 .given))
+          (c : After-turn-line-arg5) → s51 .asks (m41 (c .before) (c .turn-line-arg5 .given))
 
-      abbrev pub m43 :
-          (before : After-turn-line-arg5) → (given : s52
-          (before .before .before .before .before .before .before .before .before .before .before
-          .before .before .before .before .before .before .before .before .before .before .before
-          .before .before .blocks) .gives (m42 (before .before) (before .turn-line-arg5 .given))) →
-          Typed.Mo T56
-      m43 =
-          λ before given. s52
-          (before .before .before .before .before .before .before .before .before .before .before
-          .before .before .before .before .before .before .before .before .before .before .before
-          .before .before .blocks) .next (m42 (before .before) (before .turn-line-arg5 .given))
-          given
+      abbrev pub m42 :
+          (before : After-turn-line-arg5) →
+          (given : s51 .gives (m41 (before .before) (before .turn-line-arg5 .given))) →
+          Typed.Mo T55
+      m42 = λ before given. s51 .next (m41 (before .before) (before .turn-line-arg5 .given)) given
 
       module _ (before· : After-turn-line-arg5) where
         abbrev pub After-turn-line·own : Type 0
-        After-turn-line·own = Called.Called ps·4 r·4 (claims· .9) T55 (
+        After-turn-line·own = Called.Called ps·2 r·2 (claims· .5) T54 (
           record {
             pos = 1;
             ty = Syntax.tyRef (Syntax.named 0) Syntax.imm (Syntax.tyInt Syntax.w8);
             ref = λ x. x;
           },
           (
-            Num.vFld 12 (List._∷_ (Syntax.field 0) List.[]) 0 λ x. LineRec.struct .as-values x .0,
+            Num.vFld 15 (List._∷_ (Syntax.field 0) List.[]) 0 λ x. LineRec.struct .as-values x .0,
             (
               Num.vFld
-                  12
+                  15
                   (List._∷_ (Syntax.field 1) List.[])
                   8
                   λ x. LineRec.struct .as-values
                   x .1 .0,
               (
-                Num.vAt 14 λ x. x,
+                Num.vAt 13 λ x. x,
                 (
                   record {
                     pos = 4;
@@ -16346,27 +16465,27 @@ module _ (claims· : Claims) where
                     },
                     (
                       record {
-                        pos = 23;
+                        pos = 25;
                         ty = Syntax.tyRef Syntax.erased Syntax.mut (Syntax.tyInt Syntax.w64);
                         ref = λ x. x;
                       },
                       (
                         record {
-                          pos = 25;
+                          pos = 27;
                           ty = Syntax.tyRef Syntax.erased Syntax.mut (Syntax.tyInt Syntax.w8);
                           ref = λ x. x;
                         },
                         (
-                          Num.vAt 15 λ x. x,
+                          Num.vAt 14 λ x. x,
                           (
                             record {
-                              pos = 27;
+                              pos = 29;
                               ty = Syntax.tyRef Syntax.erased Syntax.mut (Syntax.tyInt Syntax.w8);
                               ref = λ x. x;
                             },
                             (
                               record {
-                                pos = 29;
+                                pos = 31;
                                 ty = Syntax.tyRef
                                     Syntax.erased
                                     Syntax.mut
@@ -16375,7 +16494,7 @@ module _ (claims· : Claims) where
                               },
                               (
                                 record {
-                                  pos = 31;
+                                  pos = 33;
                                   ty = Syntax.tyRef
                                       Syntax.erased
                                       Syntax.mut
@@ -16394,35 +16513,32 @@ module _ (claims· : Claims) where
               ),
             ),
           ),
-        ) (m42 (before· .before) (before· .turn-line-arg5 .given))
+        ) (m41 (before· .before) (before· .turn-line-arg5 .given))
 
       pub record After-turn-line : Type 0 where
         pub before : After-turn-line-arg5
         pub turn-line : After-turn-line·own before
 
       abbrev pub After-turn-line·gave :
-          (c : After-turn-line) → s52
-          (c .before .before .before .before .before .before .before .before .before .before
-          .before .before .before .before .before .before .before .before .before .before .before
-          .before .before .before .blocks) .gives (m42 (c .before .before)
-          (c .before .turn-line-arg5 .given))
-      After-turn-line·gave = λ c. Called.given ps·4 r·4 (claims· .9) T55 (
+          (c : After-turn-line) →
+          s51 .gives (m41 (c .before .before) (c .before .turn-line-arg5 .given))
+      After-turn-line·gave = λ c. Called.given ps·2 r·2 (claims· .5) T54 (
         record {
           pos = 1;
           ty = Syntax.tyRef (Syntax.named 0) Syntax.imm (Syntax.tyInt Syntax.w8);
           ref = λ x. x;
         },
         (
-          Num.vFld 12 (List._∷_ (Syntax.field 0) List.[]) 0 λ x. LineRec.struct .as-values x .0,
+          Num.vFld 15 (List._∷_ (Syntax.field 0) List.[]) 0 λ x. LineRec.struct .as-values x .0,
           (
             Num.vFld
-                12
+                15
                 (List._∷_ (Syntax.field 1) List.[])
                 8
                 λ x. LineRec.struct .as-values
                 x .1 .0,
             (
-              Num.vAt 14 λ x. x,
+              Num.vAt 13 λ x. x,
               (
                 record {
                   pos = 4;
@@ -16437,33 +16553,33 @@ module _ (claims· : Claims) where
                   },
                   (
                     record {
-                      pos = 23;
+                      pos = 25;
                       ty = Syntax.tyRef Syntax.erased Syntax.mut (Syntax.tyInt Syntax.w64);
                       ref = λ x. x;
                     },
                     (
                       record {
-                        pos = 25;
+                        pos = 27;
                         ty = Syntax.tyRef Syntax.erased Syntax.mut (Syntax.tyInt Syntax.w8);
                         ref = λ x. x;
                       },
                       (
-                        Num.vAt 15 λ x. x,
+                        Num.vAt 14 λ x. x,
                         (
                           record {
-                            pos = 27;
+                            pos = 29;
                             ty = Syntax.tyRef Syntax.erased Syntax.mut (Syntax.tyInt Syntax.w8);
                             ref = λ x. x;
                           },
                           (
                             record {
-                              pos = 29;
+                              pos = 31;
                               ty = Syntax.tyRef Syntax.erased Syntax.mut (Syntax.tyInt Syntax.w8);
                               ref = λ x. x;
                             },
                             (
                               record {
-                                pos = 31;
+                                pos = 33;
                                 ty = Syntax.tyRef
                                     Syntax.erased
                                     Syntax.mut
@@ -16482,499 +16598,344 @@ module _ (claims· : Claims) where
             ),
           ),
         ),
-      ) (m42 (c .before .before) (c .before .turn-line-arg5 .given)) (c .turn-line)
+      ) (m41 (c .before .before) (c .before .turn-line-arg5 .given)) (c .turn-line)
+
+      abbrev pub m43 :
+          (before : After-turn-line-arg5) →
+          (given : s51 .gives (m41 (before .before) (before .turn-line-arg5 .given))) →
+          Typed.Mo T56
+      m43 = λ before given. s52 (m42 before given)
 
       abbrev pub m44 :
-          (before : After-turn-line) → (given : s54
-          (before .before .before .before .before .before .before .before .before .before .before
-          .before .before .before .before .before .before .before .before .before .before .before
-          .before .before .before .blocks) .gives (m43 (before .before) (After-turn-line·gave
-          before))) → Typed.Mo T58
-      m44 =
-          λ before given. s54
-          (before .before .before .before .before .before .before .before .before .before .before
-          .before .before .before .before .before .before .before .before .before .before .before
-          .before .before .before .blocks) .next (m43 (before .before) (After-turn-line·gave
-          before)) given
+          (before : After-turn-line) →
+          (given : s54 .gives (m43 (before .before) (After-turn-line·gave before))) →
+          Typed.Mo T58
+      m44 = λ before given. s54 .next (m43 (before .before) (After-turn-line·gave before)) given
 
       module _ (before· : After-turn-line) where
         pub record After-owner·own : Type 0 where
-          pub given : s54
-              (before· .before .before .before .before .before .before .before .before .before
-              .before .before .before .before .before .before .before .before .before .before
-              .before .before .before .before .before .blocks) .gives
-              (m43 (before· .before) (After-turn-line·gave before·))
+          pub given : s54 .gives (m43 (before· .before) (After-turn-line·gave before·))
 
       pub record After-owner : Type 0 where
         pub before : After-turn-line
         pub owner : After-owner·own before
 
       abbrev pub m45 :
-          (before : After-owner) → (given : s55
-          (before .before .before .before .before .before .before .before .before .before .before
-          .before .before .before .before .before .before .before .before .before .before .before
-          .before .before .before .before .blocks) .gives (m44 (before .before)
-          (before .owner .given))) → Typed.Mo T59
-      m45 =
-          λ before given. s55
-          (before .before .before .before .before .before .before .before .before .before .before
-          .before .before .before .before .before .before .before .before .before .before .before
-          .before .before .before .before .blocks) .next (m44 (before .before)
-          (before .owner .given)) given
+          (before : After-owner) →
+          (given : s55 .gives (m44 (before .before) (before .owner .given))) →
+          Typed.Mo T59
+      m45 = λ before given. s55 .next (m44 (before .before) (before .owner .given)) given
 
       module _ (before· : After-owner) where
         pub record After-slice-known6·own : Type 0 where
-          pub given : s55
-              (before· .before .before .before .before .before .before .before .before .before
-              .before .before .before .before .before .before .before .before .before .before
-              .before .before .before .before .before .before .blocks) .gives
-              (m44 (before· .before) (before· .owner .given))
+          pub given : s55 .gives (m44 (before· .before) (before· .owner .given))
 
       pub record After-slice-known6 : Type 0 where
         pub before : After-owner
         pub slice-known6 : After-slice-known6·own before
 
       abbrev pub m46 :
-          (before : After-slice-known6) → (given : s58
-          (before .before .before .before .before .before .before .before .before .before .before
-          .before .before .before .before .before .before .before .before .before .before .before
-          .before .before .before .before .before .blocks) .gives (m45 (before .before)
-          (before .slice-known6 .given))) → Typed.Mo T62
-      m46 =
-          λ before given. s58
-          (before .before .before .before .before .before .before .before .before .before .before
-          .before .before .before .before .before .before .before .before .before .before .before
-          .before .before .before .before .before .blocks) .next (m45 (before .before)
-          (before .slice-known6 .given)) given
+          (before : After-slice-known6) →
+          (given : s58 .gives (m45 (before .before) (before .slice-known6 .given))) →
+          Typed.Mo T62
+      m46 = λ before given. s58 .next (m45 (before .before) (before .slice-known6 .given)) given
 
       module _ (before· : After-slice-known6) where
         pub record After-stack·own : Type 0 where
-          pub given : s58
-              (before· .before .before .before .before .before .before .before .before .before
-              .before .before .before .before .before .before .before .before .before .before
-              .before .before .before .before .before .before .before .blocks) .gives
-              (m45 (before· .before) (before· .slice-known6 .given))
+          pub given : s58 .gives (m45 (before· .before) (before· .slice-known6 .given))
 
       pub record After-stack : Type 0 where
         pub before : After-slice-known6
         pub stack : After-stack·own before
 
       abbrev pub m47 :
-          (before : After-stack) → (given : s59
-          (before .before .before .before .before .before .before .before .before .before .before
-          .before .before .before .before .before .before .before .before .before .before .before
-          .before .before .before .before .before .before .blocks) .gives (m46 (before .before)
-          (before .stack .given))) → Typed.Mo T63
-      m47 =
-          λ before given. s59
-          (before .before .before .before .before .before .before .before .before .before .before
-          .before .before .before .before .before .before .before .before .before .before .before
-          .before .before .before .before .before .before .blocks) .next (m46 (before .before)
-          (before .stack .given)) given
+          (before : After-stack) →
+          (given : s59 .gives (m46 (before .before) (before .stack .given))) →
+          Typed.Mo T63
+      m47 = λ before given. s59 .next (m46 (before .before) (before .stack .given)) given
 
       module _ (before· : After-stack) where
         pub record After-slice-known7·own : Type 0 where
-          pub given : s59
-              (before· .before .before .before .before .before .before .before .before .before
-              .before .before .before .before .before .before .before .before .before .before
-              .before .before .before .before .before .before .before .before .blocks) .gives
-              (m46 (before· .before) (before· .stack .given))
+          pub given : s59 .gives (m46 (before· .before) (before· .stack .given))
 
       pub record After-slice-known7 : Type 0 where
         pub before : After-stack
         pub slice-known7 : After-slice-known7·own before
 
       abbrev pub m48 :
-          (before : After-slice-known7) → (given : s62
-          (before .before .before .before .before .before .before .before .before .before .before
-          .before .before .before .before .before .before .before .before .before .before .before
-          .before .before .before .before .before .before .before .blocks) .gives (m47
-          (before .before) (before .slice-known7 .given))) → Typed.Mo T66
-      m48 =
-          λ before given. s62
-          (before .before .before .before .before .before .before .before .before .before .before
-          .before .before .before .before .before .before .before .before .before .before .before
-          .before .before .before .before .before .before .before .blocks) .next (m47
-          (before .before) (before .slice-known7 .given)) given
+          (before : After-slice-known7) →
+          (given : s62 .gives (m47 (before .before) (before .slice-known7 .given))) →
+          Typed.Mo T66
+      m48 = λ before given. s62 .next (m47 (before .before) (before .slice-known7 .given)) given
 
       module _ (before· : After-slice-known7) where
         pub record After-cur·own : Type 0 where
-          pub given : s62
-              (before· .before .before .before .before .before .before .before .before .before
-              .before .before .before .before .before .before .before .before .before .before
-              .before .before .before .before .before .before .before .before .before .blocks)
-              .gives
-              (m47 (before· .before) (before· .slice-known7 .given))
+          pub given : s62 .gives (m47 (before· .before) (before· .slice-known7 .given))
 
       pub record After-cur : Type 0 where
         pub before : After-slice-known7
         pub cur : After-cur·own before
 
       abbrev pub m49 :
-          (before : After-cur) → (given : s63
-          (before .before .before .before .before .before .before .before .before .before .before
-          .before .before .before .before .before .before .before .before .before .before .before
-          .before .before .before .before .before .before .before .before .blocks) .gives (m48
-          (before .before) (before .cur .given))) → Typed.Mo T67
-      m49 =
-          λ before given. s63
-          (before .before .before .before .before .before .before .before .before .before .before
-          .before .before .before .before .before .before .before .before .before .before .before
-          .before .before .before .before .before .before .before .before .blocks) .next (m48
-          (before .before) (before .cur .given)) given
+          (before : After-cur) →
+          (given : s63 .gives (m48 (before .before) (before .cur .given))) →
+          Typed.Mo T67
+      m49 = λ before given. s63 .next (m48 (before .before) (before .cur .given)) given
 
       module _ (before· : After-cur) where
         pub record After-slice-known8·own : Type 0 where
-          pub given : s63
-              (before· .before .before .before .before .before .before .before .before .before
-              .before .before .before .before .before .before .before .before .before .before
-              .before .before .before .before .before .before .before .before .before .before
-              .blocks) .gives
-              (m48 (before· .before) (before· .cur .given))
+          pub given : s63 .gives (m48 (before· .before) (before· .cur .given))
 
       pub record After-slice-known8 : Type 0 where
         pub before : After-cur
         pub slice-known8 : After-slice-known8·own before
 
       abbrev pub m50 :
-          (before : After-slice-known8) → (given : s66
-          (before .before .before .before .before .before .before .before .before .before .before
-          .before .before .before .before .before .before .before .before .before .before .before
-          .before .before .before .before .before .before .before .before .before .blocks) .gives
-          (m49 (before .before) (before .slice-known8 .given))) → Typed.Mo T70
-      m50 =
-          λ before given. s66
-          (before .before .before .before .before .before .before .before .before .before .before
-          .before .before .before .before .before .before .before .before .before .before .before
-          .before .before .before .before .before .before .before .before .before .blocks) .next
-          (m49 (before .before) (before .slice-known8 .given)) given
+          (before : After-slice-known8) →
+          (given : s66 .gives (m49 (before .before) (before .slice-known8 .given))) →
+          Typed.Mo T70
+      m50 = λ before given. s66 .next (m49 (before .before) (before .slice-known8 .given)) given
 
       module _ (before· : After-slice-known8) where
         pub record After-next·own : Type 0 where
-          pub given : s66
-              (before· .before .before .before .before .before .before .before .before .before
-              .before .before .before .before .before .before .before .before .before .before
-              .before .before .before .before .before .before .before .before .before .before
-              .before .blocks) .gives
-              (m49 (before· .before) (before· .slice-known8 .given))
+          pub given : s66 .gives (m49 (before· .before) (before· .slice-known8 .given))
 
       pub record After-next : Type 0 where
         pub before : After-slice-known8
         pub next : After-next·own before
 
       abbrev pub m51 :
-          (before : After-next) → (given : s67
-          (before .before .before .before .before .before .before .before .before .before .before
-          .before .before .before .before .before .before .before .before .before .before .before
-          .before .before .before .before .before .before .before .before .before .before .blocks)
-          .gives (m50 (before .before) (before .next .given))) → Typed.Mo T71
-      m51 =
-          λ before given. s67
-          (before .before .before .before .before .before .before .before .before .before .before
-          .before .before .before .before .before .before .before .before .before .before .before
-          .before .before .before .before .before .before .before .before .before .before .blocks)
-          .next (m50 (before .before) (before .next .given)) given
+          (before : After-next) →
+          (given : s67 .gives (m50 (before .before) (before .next .given))) →
+          Typed.Mo T71
+      m51 = λ before given. s67 .next (m50 (before .before) (before .next .given)) given
 
       module _ (before· : After-next) where
         pub record After-slice-known9·own : Type 0 where
-          pub given : s67
-              (before· .before .before .before .before .before .before .before .before .before
-              .before .before .before .before .before .before .before .before .before .before
-              .before .before .before .before .before .before .before .before .before .before
-              .before .before .blocks) .gives
-              (m50 (before· .before) (before· .next .given))
+          pub given : s67 .gives (m50 (before· .before) (before· .next .given))
 
       pub record After-slice-known9 : Type 0 where
         pub before : After-next
         pub slice-known9 : After-slice-known9·own before
 
       abbrev pub m52 :
-          (before : After-slice-known9) → (given : s70
-          (before .before .before .before .before .before .before .before .before .before .before
-          .before .before .before .before .before .before .before .before .before .before .before
-          .before .before .before .before .before .before .before .before .before .before .before
-          .blocks) .gives (m51 (before .before) (before .slice-known9 .given))) → Typed.Mo T74
-      m52 =
-          λ before given. s70
-          (before .before .before .before .before .before .before .before .before .before .before
-          .before .before .before .before .before .before .before .before .before .before .before
-          .before .before .before .before .before .before .before .before .before .before .before
-          .blocks) .next (m51 (before .before) (before .slice-known9 .given)) given
+          (before : After-slice-known9) →
+          (given : s70 .gives (m51 (before .before) (before .slice-known9 .given))) →
+          Typed.Mo T74
+      m52 = λ before given. s70 .next (m51 (before .before) (before .slice-known9 .given)) given
 
       module _ (before· : After-slice-known9) where
         pub record After-clean·own : Type 0 where
-          pub given : s70
-              (before· .before .before .before .before .before .before .before .before .before
-              .before .before .before .before .before .before .before .before .before .before
-              .before .before .before .before .before .before .before .before .before .before
-              .before .before .before .blocks) .gives
-              (m51 (before· .before) (before· .slice-known9 .given))
+          pub given : s70 .gives (m51 (before· .before) (before· .slice-known9 .given))
 
       pub record After-clean : Type 0 where
         pub before : After-slice-known9
         pub clean : After-clean·own before
 
       abbrev pub m53 :
-          (before : After-clean) → (given : s71
-          (before .before .before .before .before .before .before .before .before .before .before
-          .before .before .before .before .before .before .before .before .before .before .before
-          .before .before .before .before .before .before .before .before .before .before .before
-          .before .blocks) .gives (m52 (before .before) (before .clean .given))) → Typed.Mo T75
-      m53 =
-          λ before given. s71
-          (before .before .before .before .before .before .before .before .before .before .before
-          .before .before .before .before .before .before .before .before .before .before .before
-          .before .before .before .before .before .before .before .before .before .before .before
-          .before .blocks) .next (m52 (before .before) (before .clean .given)) given
+          (before : After-clean) →
+          (given : s71 .gives (m52 (before .before) (before .clean .given))) →
+          Typed.Mo T75
+      m53 = λ before given. s71 .next (m52 (before .before) (before .clean .given)) given
 
       module _ (before· : After-clean) where
         pub record After-slice-known10·own : Type 0 where
-          pub given : s71
-              (before· .before .before .before .before .before .before .before .before .before
-              .before .before .before .before .before .before .before .before .before .before
-              .before .before .before .before .before .before .before .before .before .before
-              .before .before .before .before .blocks) .gives
-              (m52 (before· .before) (before· .clean .given))
+          pub given : s71 .gives (m52 (before· .before) (before· .clean .given))
 
       pub record After-slice-known10 : Type 0 where
         pub before : After-clean
         pub slice-known10 : After-slice-known10·own before
 
-      abbrev pub Need-add-j : Type 0
-      Need-add-j =
-          (c : After-slice-known10) → s73
-          (c .before .before .before .before .before .before .before .before .before .before
-          .before .before .before .before .before .before .before .before .before .before .before
-          .before .before .before .before .before .before .before .before .before .before .before
-          .before .before .blocks) .asks (m53 (c .before) (c .slice-known10 .given))
-
-      abbrev pub m54 :
-          (before : After-clean) → (given : s71
-          (before .before .before .before .before .before .before .before .before .before .before
-          .before .before .before .before .before .before .before .before .before .before .before
-          .before .before .before .before .before .before .before .before .before .before .before
-          .before .blocks) .gives (m52 (before .before) (before .clean .given))) → Typed.Mo T77
-      m54 =
-          λ before given. s73
-          (before .before .before .before .before .before .before .before .before .before .before
-          .before .before .before .before .before .before .before .before .before .before .before
-          .before .before .before .before .before .before .before .before .before .before .before
-          .before .blocks) .next (m53 before given)
-
       abbrev pub Need-add-n : Type 0
       Need-add-n =
-          (c : After-slice-known10) → s74
-          (c .before .before .before .before .before .before .before .before .before .before
-          .before .before .before .before .before .before .before .before .before .before .before
-          .before .before .before .before .before .before .before .before .before .before .before
-          .before .before .blocks) .asks (m54 (c .before) (c .slice-known10 .given))
+          (c : After-slice-known10) → s73 .asks (m53 (c .before) (c .slice-known10 .given))
 
-      abbrev pub m55 :
-          (before : After-clean) → (given : s71
-          (before .before .before .before .before .before .before .before .before .before .before
-          .before .before .before .before .before .before .before .before .before .before .before
-          .before .before .before .before .before .before .before .before .before .before .before
-          .before .blocks) .gives (m52 (before .before) (before .clean .given))) → Typed.Mo T78
-      m55 =
-          λ before given. s74
-          (before .before .before .before .before .before .before .before .before .before .before
-          .before .before .before .before .before .before .before .before .before .before .before
-          .before .before .before .before .before .before .before .before .before .before .before
-          .before .blocks) .next (m54 before given)
+      abbrev pub m54 :
+          (before : After-clean) →
+          (given : s71 .gives (m52 (before .before) (before .clean .given))) →
+          Typed.Mo T77
+      m54 = λ before given. s73 .next (m53 before given)
 
       abbrev pub Need-loop-less : Type 0
       Need-loop-less =
-          (c : After-slice-known10) → Nat._<_ (μ·0 (Row.get 1 (T17 .locals) (m16
+          (c : After-slice-known10) → Nat._<_ (μ·0 (Row.get 1 (T13 .locals) (m12
           (c .before .before .before .before .before .before .before .before .before .before
           .before .before .before .before .before .before .before .before .before .before .before
-          .before .before .before) (After-blank·gave
+          .before .before .before)
           (c .before .before .before .before .before .before .before .before .before .before
           .before .before .before .before .before .before .before .before .before .before .before
-          .before .before))) .now) (Row.get 2 (T17 .locals) (m16
+          .before .before .slice-known5 .given)) .now) (Row.get 2 (T13 .locals) (m12
           (c .before .before .before .before .before .before .before .before .before .before
           .before .before .before .before .before .before .before .before .before .before .before
-          .before .before .before) (After-blank·gave
+          .before .before .before)
           (c .before .before .before .before .before .before .before .before .before .before
           .before .before .before .before .before .before .before .before .before .before .before
-          .before .before))) .now) (Row.get 3 (T17 .locals) (m16
+          .before .before .slice-known5 .given)) .now) (Row.get 3 (T13 .locals) (m12
           (c .before .before .before .before .before .before .before .before .before .before
           .before .before .before .before .before .before .before .before .before .before .before
-          .before .before .before) (After-blank·gave
+          .before .before .before)
           (c .before .before .before .before .before .before .before .before .before .before
           .before .before .before .before .before .before .before .before .before .before .before
-          .before .before)))) (Row.get 4 (T17 .locals) (m16
+          .before .before .slice-known5 .given))) (Row.get 4 (T13 .locals) (m12
           (c .before .before .before .before .before .before .before .before .before .before
           .before .before .before .before .before .before .before .before .before .before .before
-          .before .before .before) (After-blank·gave
+          .before .before .before)
           (c .before .before .before .before .before .before .before .before .before .before
           .before .before .before .before .before .before .before .before .before .before .before
-          .before .before))) .now) (Row.get 5 (T17 .locals) (m16
+          .before .before .slice-known5 .given)) .now) (Row.get 5 (T13 .locals) (m12
           (c .before .before .before .before .before .before .before .before .before .before
           .before .before .before .before .before .before .before .before .before .before .before
-          .before .before .before) (After-blank·gave
+          .before .before .before)
           (c .before .before .before .before .before .before .before .before .before .before
           .before .before .before .before .before .before .before .before .before .before .before
-          .before .before))) .now) (Row.get 6 (T17 .locals) (m16
+          .before .before .slice-known5 .given)) .now) (Row.get 6 (T13 .locals) (m12
           (c .before .before .before .before .before .before .before .before .before .before
           .before .before .before .before .before .before .before .before .before .before .before
-          .before .before .before) (After-blank·gave
+          .before .before .before)
           (c .before .before .before .before .before .before .before .before .before .before
           .before .before .before .before .before .before .before .before .before .before .before
-          .before .before))) .now) (Row.get 7 (T17 .locals) (m16
+          .before .before .slice-known5 .given)) .now) (Row.get 7 (T13 .locals) (m12
           (c .before .before .before .before .before .before .before .before .before .before
           .before .before .before .before .before .before .before .before .before .before .before
-          .before .before .before) (After-blank·gave
+          .before .before .before)
           (c .before .before .before .before .before .before .before .before .before .before
           .before .before .before .before .before .before .before .before .before .before .before
-          .before .before))) .now) (Row.get 8 (T17 .locals) (m16
+          .before .before .slice-known5 .given)) .now) (Row.get 8 (T13 .locals) (m12
           (c .before .before .before .before .before .before .before .before .before .before
           .before .before .before .before .before .before .before .before .before .before .before
-          .before .before .before) (After-blank·gave
+          .before .before .before)
           (c .before .before .before .before .before .before .before .before .before .before
           .before .before .before .before .before .before .before .before .before .before .before
-          .before .before))) .now) (Row.get 9 (T17 .locals) (m16
+          .before .before .slice-known5 .given)) .now) (Row.get 9 (T13 .locals) (m12
           (c .before .before .before .before .before .before .before .before .before .before
           .before .before .before .before .before .before .before .before .before .before .before
-          .before .before .before) (After-blank·gave
+          .before .before .before)
           (c .before .before .before .before .before .before .before .before .before .before
           .before .before .before .before .before .before .before .before .before .before .before
-          .before .before))) .now) (Row.get 10 (T17 .locals) (m16
+          .before .before .slice-known5 .given)) .now) (Row.get 10 (T13 .locals) (m12
           (c .before .before .before .before .before .before .before .before .before .before
           .before .before .before .before .before .before .before .before .before .before .before
-          .before .before .before) (After-blank·gave
+          .before .before .before)
           (c .before .before .before .before .before .before .before .before .before .before
           .before .before .before .before .before .before .before .before .before .before .before
-          .before .before))) .now) (Row.get 11 (T17 .locals) (m16
+          .before .before .slice-known5 .given)) .now) (Row.get 11 (T13 .locals) (m12
           (c .before .before .before .before .before .before .before .before .before .before
           .before .before .before .before .before .before .before .before .before .before .before
-          .before .before .before) (After-blank·gave
+          .before .before .before)
           (c .before .before .before .before .before .before .before .before .before .before
           .before .before .before .before .before .before .before .before .before .before .before
-          .before .before)))) (Row.get 12 (T17 .locals) (m16
+          .before .before .slice-known5 .given)) .now) (Row.get 12 (T13 .locals) (m12
           (c .before .before .before .before .before .before .before .before .before .before
           .before .before .before .before .before .before .before .before .before .before .before
-          .before .before .before) (After-blank·gave
+          .before .before .before)
           (c .before .before .before .before .before .before .before .before .before .before
           .before .before .before .before .before .before .before .before .before .before .before
-          .before .before)))) (Row.get 13 (T17 .locals) (m16
+          .before .before .slice-known5 .given))) (Row.get 13 (T13 .locals) (m12
           (c .before .before .before .before .before .before .before .before .before .before
           .before .before .before .before .before .before .before .before .before .before .before
-          .before .before .before) (After-blank·gave
+          .before .before .before)
           (c .before .before .before .before .before .before .before .before .before .before
           .before .before .before .before .before .before .before .before .before .before .before
-          .before .before)))) (Row.get 14 (T17 .locals) (m16
+          .before .before .slice-known5 .given))) (Row.get 14 (T13 .locals) (m12
           (c .before .before .before .before .before .before .before .before .before .before
           .before .before .before .before .before .before .before .before .before .before .before
-          .before .before .before) (After-blank·gave
+          .before .before .before)
           (c .before .before .before .before .before .before .before .before .before .before
           .before .before .before .before .before .before .before .before .before .before .before
-          .before .before)))) (Row.get 15 (T17 .locals) (m16
+          .before .before .slice-known5 .given))) (Row.get 6 (T13 .locals) (m54 (c .before)
+          (c .slice-known10 .given)) .now) (Row.get 7 (T13 .locals) (m54 (c .before)
+          (c .slice-known10 .given)) .now) (Row.get 8 (T13 .locals) (m54 (c .before)
+          (c .slice-known10 .given)) .now) (Row.get 9 (T13 .locals) (m54 (c .before)
+          (c .slice-known10 .given)) .now) (Row.get 10 (T13 .locals) (m54 (c .before)
+          (c .slice-known10 .given)) .now) (Row.get 11 (T13 .locals) (m54 (c .before)
+          (c .slice-known10 .given)) .now) (Row.get 12 (T13 .locals) (m54 (c .before)
+          (c .slice-known10 .given))) (Row.get 13 (T13 .locals) (m54 (c .before)
+          (c .slice-known10 .given))) (Row.get 14 (T13 .locals) (m54 (c .before)
+          (c .slice-known10 .given)))) (μ·0 (Row.get 1 (T13 .locals) (m12
           (c .before .before .before .before .before .before .before .before .before .before
           .before .before .before .before .before .before .before .before .before .before .before
-          .before .before .before) (After-blank·gave
+          .before .before .before)
           (c .before .before .before .before .before .before .before .before .before .before
           .before .before .before .before .before .before .before .before .before .before .before
-          .before .before)))) (Row.get 6 (T17 .locals) (m55 (c .before)
-          (c .slice-known10 .given)) .now) (Row.get 7 (T17 .locals) (m55 (c .before)
-          (c .slice-known10 .given)) .now) (Row.get 8 (T17 .locals) (m55 (c .before)
-          (c .slice-known10 .given)) .now) (Row.get 9 (T17 .locals) (m55 (c .before)
-          (c .slice-known10 .given)) .now) (Row.get 10 (T17 .locals) (m55 (c .before)
-          (c .slice-known10 .given)) .now) (Row.get 11 (T17 .locals) (m55 (c .before)
-          (c .slice-known10 .given))) (Row.get 12 (T17 .locals) (m55 (c .before)
-          (c .slice-known10 .given))) (Row.get 13 (T17 .locals) (m55 (c .before)
-          (c .slice-known10 .given))) (Row.get 14 (T17 .locals) (m55 (c .before)
-          (c .slice-known10 .given))) (Row.get 15 (T17 .locals) (m55 (c .before)
-          (c .slice-known10 .given)))) (μ·0 (Row.get 1 (T17 .locals) (m16
+          .before .before .slice-known5 .given)) .now) (Row.get 2 (T13 .locals) (m12
           (c .before .before .before .before .before .before .before .before .before .before
           .before .before .before .before .before .before .before .before .before .before .before
-          .before .before .before) (After-blank·gave
+          .before .before .before)
           (c .before .before .before .before .before .before .before .before .before .before
           .before .before .before .before .before .before .before .before .before .before .before
-          .before .before))) .now) (Row.get 2 (T17 .locals) (m16
+          .before .before .slice-known5 .given)) .now) (Row.get 3 (T13 .locals) (m12
           (c .before .before .before .before .before .before .before .before .before .before
           .before .before .before .before .before .before .before .before .before .before .before
-          .before .before .before) (After-blank·gave
+          .before .before .before)
           (c .before .before .before .before .before .before .before .before .before .before
           .before .before .before .before .before .before .before .before .before .before .before
-          .before .before))) .now) (Row.get 3 (T17 .locals) (m16
+          .before .before .slice-known5 .given))) (Row.get 4 (T13 .locals) (m12
           (c .before .before .before .before .before .before .before .before .before .before
           .before .before .before .before .before .before .before .before .before .before .before
-          .before .before .before) (After-blank·gave
+          .before .before .before)
           (c .before .before .before .before .before .before .before .before .before .before
           .before .before .before .before .before .before .before .before .before .before .before
-          .before .before)))) (Row.get 4 (T17 .locals) (m16
+          .before .before .slice-known5 .given)) .now) (Row.get 5 (T13 .locals) (m12
           (c .before .before .before .before .before .before .before .before .before .before
           .before .before .before .before .before .before .before .before .before .before .before
-          .before .before .before) (After-blank·gave
+          .before .before .before)
           (c .before .before .before .before .before .before .before .before .before .before
           .before .before .before .before .before .before .before .before .before .before .before
-          .before .before))) .now) (Row.get 5 (T17 .locals) (m16
+          .before .before .slice-known5 .given)) .now) (Row.get 6 (T13 .locals) (m12
           (c .before .before .before .before .before .before .before .before .before .before
           .before .before .before .before .before .before .before .before .before .before .before
-          .before .before .before) (After-blank·gave
+          .before .before .before)
           (c .before .before .before .before .before .before .before .before .before .before
           .before .before .before .before .before .before .before .before .before .before .before
-          .before .before))) .now) (Row.get 6 (T17 .locals) (m16
+          .before .before .slice-known5 .given)) .now) (Row.get 7 (T13 .locals) (m12
           (c .before .before .before .before .before .before .before .before .before .before
           .before .before .before .before .before .before .before .before .before .before .before
-          .before .before .before) (After-blank·gave
+          .before .before .before)
           (c .before .before .before .before .before .before .before .before .before .before
           .before .before .before .before .before .before .before .before .before .before .before
-          .before .before))) .now) (Row.get 7 (T17 .locals) (m16
+          .before .before .slice-known5 .given)) .now) (Row.get 8 (T13 .locals) (m12
           (c .before .before .before .before .before .before .before .before .before .before
           .before .before .before .before .before .before .before .before .before .before .before
-          .before .before .before) (After-blank·gave
+          .before .before .before)
           (c .before .before .before .before .before .before .before .before .before .before
           .before .before .before .before .before .before .before .before .before .before .before
-          .before .before))) .now) (Row.get 8 (T17 .locals) (m16
+          .before .before .slice-known5 .given)) .now) (Row.get 9 (T13 .locals) (m12
           (c .before .before .before .before .before .before .before .before .before .before
           .before .before .before .before .before .before .before .before .before .before .before
-          .before .before .before) (After-blank·gave
+          .before .before .before)
           (c .before .before .before .before .before .before .before .before .before .before
           .before .before .before .before .before .before .before .before .before .before .before
-          .before .before))) .now) (Row.get 9 (T17 .locals) (m16
+          .before .before .slice-known5 .given)) .now) (Row.get 10 (T13 .locals) (m12
           (c .before .before .before .before .before .before .before .before .before .before
           .before .before .before .before .before .before .before .before .before .before .before
-          .before .before .before) (After-blank·gave
+          .before .before .before)
           (c .before .before .before .before .before .before .before .before .before .before
           .before .before .before .before .before .before .before .before .before .before .before
-          .before .before))) .now) (Row.get 10 (T17 .locals) (m16
+          .before .before .slice-known5 .given)) .now) (Row.get 11 (T13 .locals) (m12
           (c .before .before .before .before .before .before .before .before .before .before
           .before .before .before .before .before .before .before .before .before .before .before
-          .before .before .before) (After-blank·gave
+          .before .before .before)
           (c .before .before .before .before .before .before .before .before .before .before
           .before .before .before .before .before .before .before .before .before .before .before
-          .before .before))) .now) (Row.get 11 (T17 .locals) (m16
+          .before .before .slice-known5 .given)) .now) (Row.get 12 (T13 .locals) (m12
           (c .before .before .before .before .before .before .before .before .before .before
           .before .before .before .before .before .before .before .before .before .before .before
-          .before .before .before) (After-blank·gave
+          .before .before .before)
           (c .before .before .before .before .before .before .before .before .before .before
           .before .before .before .before .before .before .before .before .before .before .before
-          .before .before)))) (Row.get 12 (T17 .locals) (m16
+          .before .before .slice-known5 .given))) (Row.get 13 (T13 .locals) (m12
           (c .before .before .before .before .before .before .before .before .before .before
           .before .before .before .before .before .before .before .before .before .before .before
-          .before .before .before) (After-blank·gave
+          .before .before .before)
           (c .before .before .before .before .before .before .before .before .before .before
           .before .before .before .before .before .before .before .before .before .before .before
-          .before .before)))) (Row.get 13 (T17 .locals) (m16
+          .before .before .slice-known5 .given))) (Row.get 14 (T13 .locals) (m12
           (c .before .before .before .before .before .before .before .before .before .before
           .before .before .before .before .before .before .before .before .before .before .before
-          .before .before .before) (After-blank·gave
+          .before .before .before)
           (c .before .before .before .before .before .before .before .before .before .before
           .before .before .before .before .before .before .before .before .before .before .before
-          .before .before)))) (Row.get 14 (T17 .locals) (m16
-          (c .before .before .before .before .before .before .before .before .before .before
-          .before .before .before .before .before .before .before .before .before .before .before
-          .before .before .before) (After-blank·gave
-          (c .before .before .before .before .before .before .before .before .before .before
-          .before .before .before .before .before .before .before .before .before .before .before
-          .before .before)))) (Row.get 15 (T17 .locals) (m16
-          (c .before .before .before .before .before .before .before .before .before .before
-          .before .before .before .before .before .before .before .before .before .before .before
-          .before .before .before) (After-blank·gave
-          (c .before .before .before .before .before .before .before .before .before .before
-          .before .before .before .before .before .before .before .before .before .before .before
-          .before .before))))
+          .before .before .slice-known5 .given)))
           (c .before .before .before .before .before .before .before .before .before .before
           .before .before .before .before .before .before .before .before .before .before .before
           .before .loop .owner)
@@ -16995,10 +16956,7 @@ module _ (claims· : Claims) where
           .before .loop .recs)
           (c .before .before .before .before .before .before .before .before .before .before
           .before .before .before .before .before .before .before .before .before .before .before
-          .before .loop .rec)
-          (c .before .before .before .before .before .before .before .before .before .before
-          .before .before .before .before .before .before .before .before .before .before .before
-          .before .loop .j)
+          .before .loop .past)
           (c .before .before .before .before .before .before .before .before .before .before
           .before .before .before .before .before .before .before .before .before .before .before
           .before .loop .n)
@@ -17008,222 +16966,203 @@ module _ (claims· : Claims) where
 
       abbrev pub Need-loop-again : Type 0
       Need-loop-again =
-          (c : After-slice-known10) → Inv·0 (Row.get 1 (T17 .locals) (m16
+          (c : After-slice-known10) → Inv·0 (Row.get 1 (T13 .locals) (m12
           (c .before .before .before .before .before .before .before .before .before .before
           .before .before .before .before .before .before .before .before .before .before .before
-          .before .before .before) (After-blank·gave
+          .before .before .before)
           (c .before .before .before .before .before .before .before .before .before .before
           .before .before .before .before .before .before .before .before .before .before .before
-          .before .before))) .now) (Row.get 2 (T17 .locals) (m16
+          .before .before .slice-known5 .given)) .now) (Row.get 2 (T13 .locals) (m12
           (c .before .before .before .before .before .before .before .before .before .before
           .before .before .before .before .before .before .before .before .before .before .before
-          .before .before .before) (After-blank·gave
+          .before .before .before)
           (c .before .before .before .before .before .before .before .before .before .before
           .before .before .before .before .before .before .before .before .before .before .before
-          .before .before))) .now) (Row.get 3 (T17 .locals) (m16
+          .before .before .slice-known5 .given)) .now) (Row.get 3 (T13 .locals) (m12
           (c .before .before .before .before .before .before .before .before .before .before
           .before .before .before .before .before .before .before .before .before .before .before
-          .before .before .before) (After-blank·gave
+          .before .before .before)
           (c .before .before .before .before .before .before .before .before .before .before
           .before .before .before .before .before .before .before .before .before .before .before
-          .before .before)))) (Row.get 4 (T17 .locals) (m16
+          .before .before .slice-known5 .given))) (Row.get 4 (T13 .locals) (m12
           (c .before .before .before .before .before .before .before .before .before .before
           .before .before .before .before .before .before .before .before .before .before .before
-          .before .before .before) (After-blank·gave
+          .before .before .before)
           (c .before .before .before .before .before .before .before .before .before .before
           .before .before .before .before .before .before .before .before .before .before .before
-          .before .before))) .now) (Row.get 5 (T17 .locals) (m16
+          .before .before .slice-known5 .given)) .now) (Row.get 5 (T13 .locals) (m12
           (c .before .before .before .before .before .before .before .before .before .before
           .before .before .before .before .before .before .before .before .before .before .before
-          .before .before .before) (After-blank·gave
+          .before .before .before)
           (c .before .before .before .before .before .before .before .before .before .before
           .before .before .before .before .before .before .before .before .before .before .before
-          .before .before))) .now) (Row.get 6 (T17 .locals) (m16
+          .before .before .slice-known5 .given)) .now) (Row.get 6 (T13 .locals) (m12
           (c .before .before .before .before .before .before .before .before .before .before
           .before .before .before .before .before .before .before .before .before .before .before
-          .before .before .before) (After-blank·gave
+          .before .before .before)
           (c .before .before .before .before .before .before .before .before .before .before
           .before .before .before .before .before .before .before .before .before .before .before
-          .before .before))) .now) (Row.get 7 (T17 .locals) (m16
+          .before .before .slice-known5 .given)) .now) (Row.get 7 (T13 .locals) (m12
           (c .before .before .before .before .before .before .before .before .before .before
           .before .before .before .before .before .before .before .before .before .before .before
-          .before .before .before) (After-blank·gave
+          .before .before .before)
           (c .before .before .before .before .before .before .before .before .before .before
           .before .before .before .before .before .before .before .before .before .before .before
-          .before .before))) .now) (Row.get 8 (T17 .locals) (m16
+          .before .before .slice-known5 .given)) .now) (Row.get 8 (T13 .locals) (m12
           (c .before .before .before .before .before .before .before .before .before .before
           .before .before .before .before .before .before .before .before .before .before .before
-          .before .before .before) (After-blank·gave
+          .before .before .before)
           (c .before .before .before .before .before .before .before .before .before .before
           .before .before .before .before .before .before .before .before .before .before .before
-          .before .before))) .now) (Row.get 9 (T17 .locals) (m16
+          .before .before .slice-known5 .given)) .now) (Row.get 9 (T13 .locals) (m12
           (c .before .before .before .before .before .before .before .before .before .before
           .before .before .before .before .before .before .before .before .before .before .before
-          .before .before .before) (After-blank·gave
+          .before .before .before)
           (c .before .before .before .before .before .before .before .before .before .before
           .before .before .before .before .before .before .before .before .before .before .before
-          .before .before))) .now) (Row.get 10 (T17 .locals) (m16
+          .before .before .slice-known5 .given)) .now) (Row.get 10 (T13 .locals) (m12
           (c .before .before .before .before .before .before .before .before .before .before
           .before .before .before .before .before .before .before .before .before .before .before
-          .before .before .before) (After-blank·gave
+          .before .before .before)
           (c .before .before .before .before .before .before .before .before .before .before
           .before .before .before .before .before .before .before .before .before .before .before
-          .before .before))) .now) (Row.get 11 (T17 .locals) (m16
+          .before .before .slice-known5 .given)) .now) (Row.get 11 (T13 .locals) (m12
           (c .before .before .before .before .before .before .before .before .before .before
           .before .before .before .before .before .before .before .before .before .before .before
-          .before .before .before) (After-blank·gave
+          .before .before .before)
           (c .before .before .before .before .before .before .before .before .before .before
           .before .before .before .before .before .before .before .before .before .before .before
-          .before .before)))) (Row.get 12 (T17 .locals) (m16
+          .before .before .slice-known5 .given)) .now) (Row.get 12 (T13 .locals) (m12
           (c .before .before .before .before .before .before .before .before .before .before
           .before .before .before .before .before .before .before .before .before .before .before
-          .before .before .before) (After-blank·gave
+          .before .before .before)
           (c .before .before .before .before .before .before .before .before .before .before
           .before .before .before .before .before .before .before .before .before .before .before
-          .before .before)))) (Row.get 13 (T17 .locals) (m16
+          .before .before .slice-known5 .given))) (Row.get 13 (T13 .locals) (m12
           (c .before .before .before .before .before .before .before .before .before .before
           .before .before .before .before .before .before .before .before .before .before .before
-          .before .before .before) (After-blank·gave
+          .before .before .before)
           (c .before .before .before .before .before .before .before .before .before .before
           .before .before .before .before .before .before .before .before .before .before .before
-          .before .before)))) (Row.get 14 (T17 .locals) (m16
+          .before .before .slice-known5 .given))) (Row.get 14 (T13 .locals) (m12
           (c .before .before .before .before .before .before .before .before .before .before
           .before .before .before .before .before .before .before .before .before .before .before
-          .before .before .before) (After-blank·gave
+          .before .before .before)
           (c .before .before .before .before .before .before .before .before .before .before
           .before .before .before .before .before .before .before .before .before .before .before
-          .before .before)))) (Row.get 15 (T17 .locals) (m16
-          (c .before .before .before .before .before .before .before .before .before .before
-          .before .before .before .before .before .before .before .before .before .before .before
-          .before .before .before) (After-blank·gave
-          (c .before .before .before .before .before .before .before .before .before .before
-          .before .before .before .before .before .before .before .before .before .before .before
-          .before .before)))) (Row.get 6 (T17 .locals) (m55 (c .before)
-          (c .slice-known10 .given)) .now) (Row.get 7 (T17 .locals) (m55 (c .before)
-          (c .slice-known10 .given)) .now) (Row.get 8 (T17 .locals) (m55 (c .before)
-          (c .slice-known10 .given)) .now) (Row.get 9 (T17 .locals) (m55 (c .before)
-          (c .slice-known10 .given)) .now) (Row.get 10 (T17 .locals) (m55 (c .before)
-          (c .slice-known10 .given)) .now) (Row.get 11 (T17 .locals) (m55 (c .before)
-          (c .slice-known10 .given))) (Row.get 12 (T17 .locals) (m55 (c .before)
-          (c .slice-known10 .given))) (Row.get 13 (T17 .locals) (m55 (c .before)
-          (c .slice-known10 .given))) (Row.get 14 (T17 .locals) (m55 (c .before)
-          (c .slice-known10 .given))) (Row.get 15 (T17 .locals) (m55 (c .before)
+          .before .before .slice-known5 .given))) (Row.get 6 (T13 .locals) (m54 (c .before)
+          (c .slice-known10 .given)) .now) (Row.get 7 (T13 .locals) (m54 (c .before)
+          (c .slice-known10 .given)) .now) (Row.get 8 (T13 .locals) (m54 (c .before)
+          (c .slice-known10 .given)) .now) (Row.get 9 (T13 .locals) (m54 (c .before)
+          (c .slice-known10 .given)) .now) (Row.get 10 (T13 .locals) (m54 (c .before)
+          (c .slice-known10 .given)) .now) (Row.get 11 (T13 .locals) (m54 (c .before)
+          (c .slice-known10 .given)) .now) (Row.get 12 (T13 .locals) (m54 (c .before)
+          (c .slice-known10 .given))) (Row.get 13 (T13 .locals) (m54 (c .before)
+          (c .slice-known10 .given))) (Row.get 14 (T13 .locals) (m54 (c .before)
           (c .slice-known10 .given)))
 
+      abbrev pub m55 : (before : At-loop) → Typed.Mo T78
+      m55 = λ before. s74 (m16 before)
+
       abbrev pub m56 : (before : At-loop) → Typed.Mo T79
-      m56 =
-          λ before. s75
-          (before .before .before .before .before .before .before .before .before .before .before
-          .before .before .blocks) (m22 before)
+      m56 = λ before. s75 (m55 before)
 
       abbrev pub m57 : (before : At-loop) → Typed.Mo T80
-      m57 =
-          λ before. s76
-          (before .before .before .before .before .before .before .before .before .before .before
-          .before .before .blocks) (m56 before)
+      m57 = λ before. s76 (m56 before)
 
       abbrev pub m58 : (before : At-loop) → Typed.Mo T81
-      m58 =
-          λ before. s77
-          (before .before .before .before .before .before .before .before .before .before .before
-          .before .before .blocks) (m57 before)
+      m58 = λ before. s77 (m57 before)
 
       abbrev pub m59 : (before : At-loop) → Typed.Mo T82
-      m59 =
-          λ before. s78
-          (before .before .before .before .before .before .before .before .before .before .before
-          .before .before .blocks) (m58 before)
-
-      abbrev pub m60 : (before : At-loop) → Typed.Mo T83
-      m60 =
-          λ before. s79
-          (before .before .before .before .before .before .before .before .before .before .before
-          .before .before .blocks) (m59 before)
+      m59 = λ before. s78 (m58 before)
 
       abbrev pub Need-same-length : Type 0
       Need-same-length =
-          (c : After-loop) → MutSlice.SameLen (Row.get 6 (T83 .locals) (m60 (c .before))) (dens
+          (c : After-loop) → MutSlice.SameLen (Row.get 6 (T82 .locals) (m59 (c .before))) (dens
           (c .before .before .before .before .before .before .before .before .before .before
-          .before .before .before .κs)
+          .before .κs)
           (c .before .before .before .before .before .before .before .before .before .before
-          .before .before .before .args) .1 .1 .1 .1 .1 .0)
+          .before .args) .1 .1 .1 .1 .1 .0)
 
       abbrev pub Need-same-length-2 : Type 0
       Need-same-length-2 =
-          (c : After-loop) → MutSlice.SameLen (Row.get 7 (T83 .locals) (m60 (c .before))) (dens
+          (c : After-loop) → MutSlice.SameLen (Row.get 7 (T82 .locals) (m59 (c .before))) (dens
           (c .before .before .before .before .before .before .before .before .before .before
-          .before .before .before .κs)
+          .before .κs)
           (c .before .before .before .before .before .before .before .before .before .before
-          .before .before .before .args) .1 .1 .1 .1 .1 .1 .0)
+          .before .args) .1 .1 .1 .1 .1 .1 .0)
 
       abbrev pub Need-same-length-3 : Type 0
       Need-same-length-3 =
-          (c : After-loop) → MutSlice.SameLen (Row.get 8 (T83 .locals) (m60 (c .before))) (dens
+          (c : After-loop) → MutSlice.SameLen (Row.get 8 (T82 .locals) (m59 (c .before))) (dens
           (c .before .before .before .before .before .before .before .before .before .before
-          .before .before .before .κs)
+          .before .κs)
           (c .before .before .before .before .before .before .before .before .before .before
-          .before .before .before .args) .1 .1 .1 .1 .1 .1 .1 .0)
+          .before .args) .1 .1 .1 .1 .1 .1 .1 .0)
 
       abbrev pub Need-same-length-4 : Type 0
       Need-same-length-4 =
-          (c : After-loop) → MutSlice.SameLen (Row.get 9 (T83 .locals) (m60 (c .before))) (dens
+          (c : After-loop) → MutSlice.SameLen (Row.get 9 (T82 .locals) (m59 (c .before))) (dens
           (c .before .before .before .before .before .before .before .before .before .before
-          .before .before .before .κs)
+          .before .κs)
           (c .before .before .before .before .before .before .before .before .before .before
-          .before .before .before .args) .1 .1 .1 .1 .1 .1 .1 .1 .0)
+          .before .args) .1 .1 .1 .1 .1 .1 .1 .1 .0)
 
       abbrev pub Need-same-length-5 : Type 0
       Need-same-length-5 =
-          (c : After-loop) → MutSlice.SameLen (Row.get 10 (T83 .locals) (m60 (c .before))) (dens
+          (c : After-loop) → MutSlice.SameLen (Row.get 10 (T82 .locals) (m59 (c .before))) (dens
           (c .before .before .before .before .before .before .before .before .before .before
-          .before .before .before .κs)
+          .before .κs)
           (c .before .before .before .before .before .before .before .before .before .before
-          .before .before .before .args) .1 .1 .1 .1 .1 .1 .1 .1 .1 .0)
+          .before .args) .1 .1 .1 .1 .1 .1 .1 .1 .1 .0)
+
+      abbrev pub Need-same-length-6 : Type 0
+      Need-same-length-6 =
+          (c : After-loop) → MutSlice.SameLen (Row.get 11 (T82 .locals) (m59 (c .before))) (dens
+          (c .before .before .before .before .before .before .before .before .before .before
+          .before .κs)
+          (c .before .before .before .before .before .before .before .before .before .before
+          .before .args) .1 .1 .1 .1 .1 .1 .1 .1 .1 .1 .0)
 
       abbrev pub Need-returns : Type 0
       Need-returns =
           (c : After-loop) → Post·
           (c .before .before .before .before .before .before .before .before .before .before
-          .before .before .before .κs) (dens
+          .before .κs) (dens
           (c .before .before .before .before .before .before .before .before .before .before
-          .before .before .before .κs)
+          .before .κs)
           (c .before .before .before .before .before .before .before .before .before .before
-          .before .before .before .args)) (Function.resV r
+          .before .args)) (Function.resV r
           (c .before .before .before .before .before .before .before .before .before .before
-          .before .before .before .κs) (m60 (c .before) .0)) (Clauses.atExit (Kinds.endedOf 9 ps r)
+          .before .κs) (m59 (c .before) .0)) (Clauses.atExit (Kinds.endedOf 10 ps r)
           (c .before .before .before .before .before .before .before .before .before .before
-          .before .before .before .κs) (dens
+          .before .κs) (dens
           (c .before .before .before .before .before .before .before .before .before .before
-          .before .before .before .κs)
+          .before .κs)
           (c .before .before .before .before .before .before .before .before .before .before
-          .before .before .before .args)) (Enter.lastsP
+          .before .args)) (Enter.lastsP
           (c .before .before .before .before .before .before .before .before .before .before
-          .before .before .before .κs) 1 ps xs (dens
+          .before .κs) 1 ps xs (dens
           (c .before .before .before .before .before .before .before .before .before .before
-          .before .before .before .κs)
+          .before .κs)
           (c .before .before .before .before .before .before .before .before .before .before
-          .before .before .before .args)) (m60 (c .before) .1)))
+          .before .args)) (m59 (c .before) .1)))
 
-      module _ (window-requires : Need-window-requires) (blank-requires : Need-blank-requires)
-          (loop-holds : Need-loop-holds) (slice-aggregate-refill : Need-slice-aggregate-refill)
-          (refill-requires : Need-refill-requires) (slice-aggregate-get : Need-slice-aggregate-get)
-          (get-requires : Need-get-requires) (turn-line-requires : Need-turn-line-requires)
-          (add-j : Need-add-j) (add-n : Need-add-n) (loop-less : Need-loop-less)
-          (loop-again : Need-loop-again) (same-length : Need-same-length)
-          (same-length-2 : Need-same-length-2) (same-length-3 : Need-same-length-3)
-          (same-length-4 : Need-same-length-4) (same-length-5 : Need-same-length-5)
+      module _ (loop-holds : Need-loop-holds) (refill-requires : Need-refill-requires)
+          (add-get : Need-add-get) (sub-get : Need-sub-get) (get-requires : Need-get-requires)
+          (turn-line-requires : Need-turn-line-requires) (add-n : Need-add-n)
+          (loop-less : Need-loop-less) (loop-again : Need-loop-again)
+          (same-length : Need-same-length) (same-length-2 : Need-same-length-2)
+          (same-length-3 : Need-same-length-3) (same-length-4 : Need-same-length-4)
+          (same-length-5 : Need-same-length-5) (same-length-6 : Need-same-length-6)
           (returns : Need-returns) where
-        lay9 :
-            (c : After-loop) → at70
+        lay7 :
+            (c : After-loop) → at73 (W0
             (c .before .before .before .before .before .before .before .before .before .before
-            .before .before .before .blocks) (W0
+            .before .κs)
             (c .before .before .before .before .before .before .before .before .before .before
-            .before .before .before .κs)
-            (c .before .before .before .before .before .before .before .before .before .before
-            .before .before .before .args)
-            (c .before .before .before .before .before .before .before .before .before .before
-            .before .before .before .blocks)) (m22 (c .before))
-        lay9 = λ c. (
+            .before .args)) (m16 (c .before))
+        lay7 = λ c. (
           (
             Path'.refl,
             (
@@ -17235,55 +17174,66 @@ module _ (claims· : Claims) where
                   (
                     Path'.refl,
                     (
-                      MutSlice.fix-len (Row.get 6 (T83 .locals) (m60 (c .before)) .ptr) (Row.get 6
-                          (T83 .locals) (m60 (c .before)) .name) (Row.get 6 (T83 .locals) (m60
+                      MutSlice.fix-len (Row.get 6 (T82 .locals) (m59 (c .before)) .ptr) (Row.get 6
+                          (T82 .locals) (m59 (c .before)) .name) (Row.get 6 (T82 .locals) (m59
                           (c .before)) .now) (dens
                           (c .before .before .before .before .before .before .before .before
-                          .before .before .before .before .before .κs)
+                          .before .before .before .κs)
                           (c .before .before .before .before .before .before .before .before
-                          .before .before .before .before .before .args) .1 .1 .1 .1 .1 .0 .now)
-                          (same-length record { before = c .before; loop-test = c .loop-test }),
+                          .before .before .before .args) .1 .1 .1 .1 .1 .0 .now) (same-length
+                          record { before = c .before; loop-test = c .loop-test }),
                       (
-                        MutSlice.fix-len (Row.get 7 (T83 .locals) (m60 (c .before)) .ptr) (Row.get
-                            7 (T83 .locals) (m60 (c .before)) .name) (Row.get 7 (T83 .locals) (m60
+                        MutSlice.fix-len (Row.get 7 (T82 .locals) (m59 (c .before)) .ptr) (Row.get
+                            7 (T82 .locals) (m59 (c .before)) .name) (Row.get 7 (T82 .locals) (m59
                             (c .before)) .now) (dens
                             (c .before .before .before .before .before .before .before .before
-                            .before .before .before .before .before .κs)
+                            .before .before .before .κs)
                             (c .before .before .before .before .before .before .before .before
-                            .before .before .before .before .before .args) .1 .1 .1 .1 .1 .1 .0
-                            .now) (same-length-2
+                            .before .before .before .args) .1 .1 .1 .1 .1 .1 .0 .now)
+                            (same-length-2
                             record { before = c .before; loop-test = c .loop-test }),
                         (
-                          MutSlice.fix-len (Row.get 8 (T83 .locals) (m60 (c .before)) .ptr)
-                              (Row.get 8 (T83 .locals) (m60 (c .before)) .name) (Row.get 8
-                              (T83 .locals) (m60 (c .before)) .now) (dens
+                          MutSlice.fix-len (Row.get 8 (T82 .locals) (m59 (c .before)) .ptr)
+                              (Row.get 8 (T82 .locals) (m59 (c .before)) .name) (Row.get 8
+                              (T82 .locals) (m59 (c .before)) .now) (dens
                               (c .before .before .before .before .before .before .before .before
-                              .before .before .before .before .before .κs)
+                              .before .before .before .κs)
                               (c .before .before .before .before .before .before .before .before
-                              .before .before .before .before .before .args) .1 .1 .1 .1 .1 .1 .1
-                              .0 .now) (same-length-3
+                              .before .before .before .args) .1 .1 .1 .1 .1 .1 .1 .0 .now)
+                              (same-length-3
                               record { before = c .before; loop-test = c .loop-test }),
                           (
-                            MutSlice.fix-len (Row.get 9 (T83 .locals) (m60 (c .before)) .ptr)
-                                (Row.get 9 (T83 .locals) (m60 (c .before)) .name) (Row.get 9
-                                (T83 .locals) (m60 (c .before)) .now) (dens
+                            MutSlice.fix-len (Row.get 9 (T82 .locals) (m59 (c .before)) .ptr)
+                                (Row.get 9 (T82 .locals) (m59 (c .before)) .name) (Row.get 9
+                                (T82 .locals) (m59 (c .before)) .now) (dens
                                 (c .before .before .before .before .before .before .before .before
-                                .before .before .before .before .before .κs)
+                                .before .before .before .κs)
                                 (c .before .before .before .before .before .before .before .before
-                                .before .before .before .before .before .args) .1 .1 .1 .1 .1 .1 .1
-                                .1 .0 .now) (same-length-4
+                                .before .before .before .args) .1 .1 .1 .1 .1 .1 .1 .1 .0 .now)
+                                (same-length-4
                                 record { before = c .before; loop-test = c .loop-test }),
                             (
-                              MutSlice.fix-len (Row.get 10 (T83 .locals) (m60 (c .before)) .ptr)
-                                  (Row.get 10 (T83 .locals) (m60 (c .before)) .name) (Row.get 10
-                                  (T83 .locals) (m60 (c .before)) .now) (dens
+                              MutSlice.fix-len (Row.get 10 (T82 .locals) (m59 (c .before)) .ptr)
+                                  (Row.get 10 (T82 .locals) (m59 (c .before)) .name) (Row.get 10
+                                  (T82 .locals) (m59 (c .before)) .now) (dens
                                   (c .before .before .before .before .before .before .before
-                                  .before .before .before .before .before .before .κs)
+                                  .before .before .before .before .κs)
                                   (c .before .before .before .before .before .before .before
-                                  .before .before .before .before .before .before .args) .1 .1 .1
-                                  .1 .1 .1 .1 .1 .1 .0 .now) (same-length-5
+                                  .before .before .before .before .args) .1 .1 .1 .1 .1 .1 .1 .1 .1
+                                  .0 .now) (same-length-5
                                   record { before = c .before; loop-test = c .loop-test }),
-                              tt,
+                              (
+                                MutSlice.fix-len (Row.get 11 (T82 .locals) (m59 (c .before)) .ptr)
+                                    (Row.get 11 (T82 .locals) (m59 (c .before)) .name) (Row.get 11
+                                    (T82 .locals) (m59 (c .before)) .now) (dens
+                                    (c .before .before .before .before .before .before .before
+                                    .before .before .before .before .κs)
+                                    (c .before .before .before .before .before .before .before
+                                    .before .before .before .before .args) .1 .1 .1 .1 .1 .1 .1 .1
+                                    .1 .1 .0 .now) (same-length-6
+                                    record { before = c .before; loop-test = c .loop-test }),
+                                tt,
+                              ),
                             ),
                           ),
                         ),
@@ -17297,11 +17247,8 @@ module _ (claims· : Claims) where
           returns record { before = c .before; loop-test = c .loop-test },
         )
 
-        lay8 :
-            (c : After-turn-line) → at28
-            (c .before .before .before .before .before .before .before .before .before .before
-            .before .before .before .before .before .before .before .before .before .before .before
-            .before .before .before .blocks) (W3
+        lay6 :
+            (c : After-turn-line) → at26 (W3
             (c .before .before .before .before .before .before .before .before .before .before
             .before .before .before)
             (c .before .before .before .before .before .before .before .before .before .before
@@ -17317,14 +17264,12 @@ module _ (claims· : Claims) where
             (c .before .before .before .before .before .before .before .before .before .before
             .before .before .loop .recs)
             (c .before .before .before .before .before .before .before .before .before .before
-            .before .before .loop .rec)
-            (c .before .before .before .before .before .before .before .before .before .before
-            .before .before .loop .j)
+            .before .before .loop .past)
             (c .before .before .before .before .before .before .before .before .before .before
             .before .before .loop .n)
             (c .before .before .before .before .before .before .before .before .before .before
-            .before .before .loop .o)) (m43 (c .before) (After-turn-line·gave c))
-        lay8 = λ c. (
+            .before .before .loop .o)) (m42 (c .before) (After-turn-line·gave c))
+        lay6 = λ c. (
           Path'.refl,
           λ g. λ g'. (
             Path'.refl,
@@ -17335,7 +17280,7 @@ module _ (claims· : Claims) where
                 λ g'6. λ g'7. (
                   Path'.refl,
                   λ g'8. λ g'9. (
-                    add-j record {
+                    add-n record {
                       before = record {
                         before = record {
                           before = record {
@@ -17370,7 +17315,357 @@ module _ (claims· : Claims) where
                       slice-known10 = record { given = g'9 };
                     },
                     (
-                      add-n record {
+                      μ·0
+                          (Row.get 1 (T13 .locals) (m12
+                          (c .before .before .before .before .before .before .before .before
+                          .before .before .before .before .before .before)
+                          (c .before .before .before .before .before .before .before .before
+                          .before .before .before .before .before .slice-known5 .given)) .now)
+                          (Row.get 2 (T13 .locals) (m12
+                          (c .before .before .before .before .before .before .before .before
+                          .before .before .before .before .before .before)
+                          (c .before .before .before .before .before .before .before .before
+                          .before .before .before .before .before .slice-known5 .given)) .now)
+                          (Row.get 3 (T13 .locals) (m12
+                          (c .before .before .before .before .before .before .before .before
+                          .before .before .before .before .before .before)
+                          (c .before .before .before .before .before .before .before .before
+                          .before .before .before .before .before .slice-known5 .given)))
+                          (Row.get 4 (T13 .locals) (m12
+                          (c .before .before .before .before .before .before .before .before
+                          .before .before .before .before .before .before)
+                          (c .before .before .before .before .before .before .before .before
+                          .before .before .before .before .before .slice-known5 .given)) .now)
+                          (Row.get 5 (T13 .locals) (m12
+                          (c .before .before .before .before .before .before .before .before
+                          .before .before .before .before .before .before)
+                          (c .before .before .before .before .before .before .before .before
+                          .before .before .before .before .before .slice-known5 .given)) .now)
+                          (Row.get 6 (T13 .locals) (m12
+                          (c .before .before .before .before .before .before .before .before
+                          .before .before .before .before .before .before)
+                          (c .before .before .before .before .before .before .before .before
+                          .before .before .before .before .before .slice-known5 .given)) .now)
+                          (Row.get 7 (T13 .locals) (m12
+                          (c .before .before .before .before .before .before .before .before
+                          .before .before .before .before .before .before)
+                          (c .before .before .before .before .before .before .before .before
+                          .before .before .before .before .before .slice-known5 .given)) .now)
+                          (Row.get 8 (T13 .locals) (m12
+                          (c .before .before .before .before .before .before .before .before
+                          .before .before .before .before .before .before)
+                          (c .before .before .before .before .before .before .before .before
+                          .before .before .before .before .before .slice-known5 .given)) .now)
+                          (Row.get 9 (T13 .locals) (m12
+                          (c .before .before .before .before .before .before .before .before
+                          .before .before .before .before .before .before)
+                          (c .before .before .before .before .before .before .before .before
+                          .before .before .before .before .before .slice-known5 .given)) .now)
+                          (Row.get 10 (T13 .locals) (m12
+                          (c .before .before .before .before .before .before .before .before
+                          .before .before .before .before .before .before)
+                          (c .before .before .before .before .before .before .before .before
+                          .before .before .before .before .before .slice-known5 .given)) .now)
+                          (Row.get 11 (T13 .locals) (m12
+                          (c .before .before .before .before .before .before .before .before
+                          .before .before .before .before .before .before)
+                          (c .before .before .before .before .before .before .before .before
+                          .before .before .before .before .before .slice-known5 .given)) .now)
+                          (Row.get 12 (T13 .locals) (m12
+                          (c .before .before .before .before .before .before .before .before
+                          .before .before .before .before .before .before)
+                          (c .before .before .before .before .before .before .before .before
+                          .before .before .before .before .before .slice-known5 .given)))
+                          (Row.get 13 (T13 .locals) (m12
+                          (c .before .before .before .before .before .before .before .before
+                          .before .before .before .before .before .before)
+                          (c .before .before .before .before .before .before .before .before
+                          .before .before .before .before .before .slice-known5 .given)))
+                          (Row.get 14 (T13 .locals) (m12
+                          (c .before .before .before .before .before .before .before .before
+                          .before .before .before .before .before .before)
+                          (c .before .before .before .before .before .before .before .before
+                          .before .before .before .before .before .slice-known5 .given)))
+                          (Row.get 6 (T13 .locals) (m54 record {
+                            before = record {
+                              before = record {
+                                before = record {
+                                  before = record {
+                                    before = record {
+                                      before = record {
+                                        before = record {
+                                          before = record {
+                                            before = record {
+                                              before = c .before;
+                                              turn-line = c .turn-line;
+                                            };
+                                            owner = record { given = g };
+                                          };
+                                          slice-known6 = record { given = g' };
+                                        };
+                                        stack = record { given = g'' };
+                                      };
+                                      slice-known7 = record { given = g'3 };
+                                    };
+                                    cur = record { given = g'4 };
+                                  };
+                                  slice-known8 = record { given = g'5 };
+                                };
+                                next = record { given = g'6 };
+                              };
+                              slice-known9 = record { given = g'7 };
+                            };
+                            clean = record { given = g'8 };
+                          } g'9) .now)
+                          (Row.get 7 (T13 .locals) (m54 record {
+                            before = record {
+                              before = record {
+                                before = record {
+                                  before = record {
+                                    before = record {
+                                      before = record {
+                                        before = record {
+                                          before = record {
+                                            before = record {
+                                              before = c .before;
+                                              turn-line = c .turn-line;
+                                            };
+                                            owner = record { given = g };
+                                          };
+                                          slice-known6 = record { given = g' };
+                                        };
+                                        stack = record { given = g'' };
+                                      };
+                                      slice-known7 = record { given = g'3 };
+                                    };
+                                    cur = record { given = g'4 };
+                                  };
+                                  slice-known8 = record { given = g'5 };
+                                };
+                                next = record { given = g'6 };
+                              };
+                              slice-known9 = record { given = g'7 };
+                            };
+                            clean = record { given = g'8 };
+                          } g'9) .now)
+                          (Row.get 8 (T13 .locals) (m54 record {
+                            before = record {
+                              before = record {
+                                before = record {
+                                  before = record {
+                                    before = record {
+                                      before = record {
+                                        before = record {
+                                          before = record {
+                                            before = record {
+                                              before = c .before;
+                                              turn-line = c .turn-line;
+                                            };
+                                            owner = record { given = g };
+                                          };
+                                          slice-known6 = record { given = g' };
+                                        };
+                                        stack = record { given = g'' };
+                                      };
+                                      slice-known7 = record { given = g'3 };
+                                    };
+                                    cur = record { given = g'4 };
+                                  };
+                                  slice-known8 = record { given = g'5 };
+                                };
+                                next = record { given = g'6 };
+                              };
+                              slice-known9 = record { given = g'7 };
+                            };
+                            clean = record { given = g'8 };
+                          } g'9) .now)
+                          (Row.get 9 (T13 .locals) (m54 record {
+                            before = record {
+                              before = record {
+                                before = record {
+                                  before = record {
+                                    before = record {
+                                      before = record {
+                                        before = record {
+                                          before = record {
+                                            before = record {
+                                              before = c .before;
+                                              turn-line = c .turn-line;
+                                            };
+                                            owner = record { given = g };
+                                          };
+                                          slice-known6 = record { given = g' };
+                                        };
+                                        stack = record { given = g'' };
+                                      };
+                                      slice-known7 = record { given = g'3 };
+                                    };
+                                    cur = record { given = g'4 };
+                                  };
+                                  slice-known8 = record { given = g'5 };
+                                };
+                                next = record { given = g'6 };
+                              };
+                              slice-known9 = record { given = g'7 };
+                            };
+                            clean = record { given = g'8 };
+                          } g'9) .now)
+                          (Row.get 10 (T13 .locals) (m54 record {
+                            before = record {
+                              before = record {
+                                before = record {
+                                  before = record {
+                                    before = record {
+                                      before = record {
+                                        before = record {
+                                          before = record {
+                                            before = record {
+                                              before = c .before;
+                                              turn-line = c .turn-line;
+                                            };
+                                            owner = record { given = g };
+                                          };
+                                          slice-known6 = record { given = g' };
+                                        };
+                                        stack = record { given = g'' };
+                                      };
+                                      slice-known7 = record { given = g'3 };
+                                    };
+                                    cur = record { given = g'4 };
+                                  };
+                                  slice-known8 = record { given = g'5 };
+                                };
+                                next = record { given = g'6 };
+                              };
+                              slice-known9 = record { given = g'7 };
+                            };
+                            clean = record { given = g'8 };
+                          } g'9) .now)
+                          (Row.get 11 (T13 .locals) (m54 record {
+                            before = record {
+                              before = record {
+                                before = record {
+                                  before = record {
+                                    before = record {
+                                      before = record {
+                                        before = record {
+                                          before = record {
+                                            before = record {
+                                              before = c .before;
+                                              turn-line = c .turn-line;
+                                            };
+                                            owner = record { given = g };
+                                          };
+                                          slice-known6 = record { given = g' };
+                                        };
+                                        stack = record { given = g'' };
+                                      };
+                                      slice-known7 = record { given = g'3 };
+                                    };
+                                    cur = record { given = g'4 };
+                                  };
+                                  slice-known8 = record { given = g'5 };
+                                };
+                                next = record { given = g'6 };
+                              };
+                              slice-known9 = record { given = g'7 };
+                            };
+                            clean = record { given = g'8 };
+                          } g'9) .now)
+                          (Row.get 12 (T13 .locals) (m54 record {
+                            before = record {
+                              before = record {
+                                before = record {
+                                  before = record {
+                                    before = record {
+                                      before = record {
+                                        before = record {
+                                          before = record {
+                                            before = record {
+                                              before = c .before;
+                                              turn-line = c .turn-line;
+                                            };
+                                            owner = record { given = g };
+                                          };
+                                          slice-known6 = record { given = g' };
+                                        };
+                                        stack = record { given = g'' };
+                                      };
+                                      slice-known7 = record { given = g'3 };
+                                    };
+                                    cur = record { given = g'4 };
+                                  };
+                                  slice-known8 = record { given = g'5 };
+                                };
+                                next = record { given = g'6 };
+                              };
+                              slice-known9 = record { given = g'7 };
+                            };
+                            clean = record { given = g'8 };
+                          } g'9))
+                          (Row.get 13 (T13 .locals) (m54 record {
+                            before = record {
+                              before = record {
+                                before = record {
+                                  before = record {
+                                    before = record {
+                                      before = record {
+                                        before = record {
+                                          before = record {
+                                            before = record {
+                                              before = c .before;
+                                              turn-line = c .turn-line;
+                                            };
+                                            owner = record { given = g };
+                                          };
+                                          slice-known6 = record { given = g' };
+                                        };
+                                        stack = record { given = g'' };
+                                      };
+                                      slice-known7 = record { given = g'3 };
+                                    };
+                                    cur = record { given = g'4 };
+                                  };
+                                  slice-known8 = record { given = g'5 };
+                                };
+                                next = record { given = g'6 };
+                              };
+                              slice-known9 = record { given = g'7 };
+                            };
+                            clean = record { given = g'8 };
+                          } g'9))
+                          (Row.get 14 (T13 .locals) (m54 record {
+                            before = record {
+                              before = record {
+                                before = record {
+                                  before = record {
+                                    before = record {
+                                      before = record {
+                                        before = record {
+                                          before = record {
+                                            before = record {
+                                              before = c .before;
+                                              turn-line = c .turn-line;
+                                            };
+                                            owner = record { given = g };
+                                          };
+                                          slice-known6 = record { given = g' };
+                                        };
+                                        stack = record { given = g'' };
+                                      };
+                                      slice-known7 = record { given = g'3 };
+                                    };
+                                    cur = record { given = g'4 };
+                                  };
+                                  slice-known8 = record { given = g'5 };
+                                };
+                                next = record { given = g'6 };
+                              };
+                              slice-known9 = record { given = g'7 };
+                            };
+                            clean = record { given = g'8 };
+                          } g'9)),
+                      loop-less record {
                         before = record {
                           before = record {
                             before = record {
@@ -17405,83 +17700,9 @@ module _ (claims· : Claims) where
                         slice-known10 = record { given = g'9 };
                       },
                       (
-                        μ·0
-                            (Row.get 1 (T17 .locals) (m16
-                            (c .before .before .before .before .before .before .before .before
-                            .before .before .before .before .before .before) (After-blank·gave
-                            (c .before .before .before .before .before .before .before .before
-                            .before .before .before .before .before))) .now)
-                            (Row.get 2 (T17 .locals) (m16
-                            (c .before .before .before .before .before .before .before .before
-                            .before .before .before .before .before .before) (After-blank·gave
-                            (c .before .before .before .before .before .before .before .before
-                            .before .before .before .before .before))) .now)
-                            (Row.get 3 (T17 .locals) (m16
-                            (c .before .before .before .before .before .before .before .before
-                            .before .before .before .before .before .before) (After-blank·gave
-                            (c .before .before .before .before .before .before .before .before
-                            .before .before .before .before .before))))
-                            (Row.get 4 (T17 .locals) (m16
-                            (c .before .before .before .before .before .before .before .before
-                            .before .before .before .before .before .before) (After-blank·gave
-                            (c .before .before .before .before .before .before .before .before
-                            .before .before .before .before .before))) .now)
-                            (Row.get 5 (T17 .locals) (m16
-                            (c .before .before .before .before .before .before .before .before
-                            .before .before .before .before .before .before) (After-blank·gave
-                            (c .before .before .before .before .before .before .before .before
-                            .before .before .before .before .before))) .now)
-                            (Row.get 6 (T17 .locals) (m16
-                            (c .before .before .before .before .before .before .before .before
-                            .before .before .before .before .before .before) (After-blank·gave
-                            (c .before .before .before .before .before .before .before .before
-                            .before .before .before .before .before))) .now)
-                            (Row.get 7 (T17 .locals) (m16
-                            (c .before .before .before .before .before .before .before .before
-                            .before .before .before .before .before .before) (After-blank·gave
-                            (c .before .before .before .before .before .before .before .before
-                            .before .before .before .before .before))) .now)
-                            (Row.get 8 (T17 .locals) (m16
-                            (c .before .before .before .before .before .before .before .before
-                            .before .before .before .before .before .before) (After-blank·gave
-                            (c .before .before .before .before .before .before .before .before
-                            .before .before .before .before .before))) .now)
-                            (Row.get 9 (T17 .locals) (m16
-                            (c .before .before .before .before .before .before .before .before
-                            .before .before .before .before .before .before) (After-blank·gave
-                            (c .before .before .before .before .before .before .before .before
-                            .before .before .before .before .before))) .now)
-                            (Row.get 10 (T17 .locals) (m16
-                            (c .before .before .before .before .before .before .before .before
-                            .before .before .before .before .before .before) (After-blank·gave
-                            (c .before .before .before .before .before .before .before .before
-                            .before .before .before .before .before))) .now)
-                            (Row.get 11 (T17 .locals) (m16
-                            (c .before .before .before .before .before .before .before .before
-                            .before .before .before .before .before .before) (After-blank·gave
-                            (c .before .before .before .before .before .before .before .before
-                            .before .before .before .before .before))))
-                            (Row.get 12 (T17 .locals) (m16
-                            (c .before .before .before .before .before .before .before .before
-                            .before .before .before .before .before .before) (After-blank·gave
-                            (c .before .before .before .before .before .before .before .before
-                            .before .before .before .before .before))))
-                            (Row.get 13 (T17 .locals) (m16
-                            (c .before .before .before .before .before .before .before .before
-                            .before .before .before .before .before .before) (After-blank·gave
-                            (c .before .before .before .before .before .before .before .before
-                            .before .before .before .before .before))))
-                            (Row.get 14 (T17 .locals) (m16
-                            (c .before .before .before .before .before .before .before .before
-                            .before .before .before .before .before .before) (After-blank·gave
-                            (c .before .before .before .before .before .before .before .before
-                            .before .before .before .before .before))))
-                            (Row.get 15 (T17 .locals) (m16
-                            (c .before .before .before .before .before .before .before .before
-                            .before .before .before .before .before .before) (After-blank·gave
-                            (c .before .before .before .before .before .before .before .before
-                            .before .before .before .before .before))))
-                            (Row.get 6 (T17 .locals) (m55 record {
+                        (
+                          Row.get 6 (T13 .locals) (m54 record {
+                            before = record {
                               before = record {
                                 before = record {
                                   before = record {
@@ -17490,29 +17711,29 @@ module _ (claims· : Claims) where
                                         before = record {
                                           before = record {
                                             before = record {
-                                              before = record {
-                                                before = c .before;
-                                                turn-line = c .turn-line;
-                                              };
-                                              owner = record { given = g };
+                                              before = c .before;
+                                              turn-line = c .turn-line;
                                             };
-                                            slice-known6 = record { given = g' };
+                                            owner = record { given = g };
                                           };
-                                          stack = record { given = g'' };
+                                          slice-known6 = record { given = g' };
                                         };
-                                        slice-known7 = record { given = g'3 };
+                                        stack = record { given = g'' };
                                       };
-                                      cur = record { given = g'4 };
+                                      slice-known7 = record { given = g'3 };
                                     };
-                                    slice-known8 = record { given = g'5 };
+                                    cur = record { given = g'4 };
                                   };
-                                  next = record { given = g'6 };
+                                  slice-known8 = record { given = g'5 };
                                 };
-                                slice-known9 = record { given = g'7 };
+                                next = record { given = g'6 };
                               };
-                              clean = record { given = g'8 };
-                            } g'9) .now)
-                            (Row.get 7 (T17 .locals) (m55 record {
+                              slice-known9 = record { given = g'7 };
+                            };
+                            clean = record { given = g'8 };
+                          } g'9) .now,
+                          Row.get 7 (T13 .locals) (m54 record {
+                            before = record {
                               before = record {
                                 before = record {
                                   before = record {
@@ -17521,29 +17742,29 @@ module _ (claims· : Claims) where
                                         before = record {
                                           before = record {
                                             before = record {
-                                              before = record {
-                                                before = c .before;
-                                                turn-line = c .turn-line;
-                                              };
-                                              owner = record { given = g };
+                                              before = c .before;
+                                              turn-line = c .turn-line;
                                             };
-                                            slice-known6 = record { given = g' };
+                                            owner = record { given = g };
                                           };
-                                          stack = record { given = g'' };
+                                          slice-known6 = record { given = g' };
                                         };
-                                        slice-known7 = record { given = g'3 };
+                                        stack = record { given = g'' };
                                       };
-                                      cur = record { given = g'4 };
+                                      slice-known7 = record { given = g'3 };
                                     };
-                                    slice-known8 = record { given = g'5 };
+                                    cur = record { given = g'4 };
                                   };
-                                  next = record { given = g'6 };
+                                  slice-known8 = record { given = g'5 };
                                 };
-                                slice-known9 = record { given = g'7 };
+                                next = record { given = g'6 };
                               };
-                              clean = record { given = g'8 };
-                            } g'9) .now)
-                            (Row.get 8 (T17 .locals) (m55 record {
+                              slice-known9 = record { given = g'7 };
+                            };
+                            clean = record { given = g'8 };
+                          } g'9) .now,
+                          Row.get 8 (T13 .locals) (m54 record {
+                            before = record {
                               before = record {
                                 before = record {
                                   before = record {
@@ -17552,29 +17773,29 @@ module _ (claims· : Claims) where
                                         before = record {
                                           before = record {
                                             before = record {
-                                              before = record {
-                                                before = c .before;
-                                                turn-line = c .turn-line;
-                                              };
-                                              owner = record { given = g };
+                                              before = c .before;
+                                              turn-line = c .turn-line;
                                             };
-                                            slice-known6 = record { given = g' };
+                                            owner = record { given = g };
                                           };
-                                          stack = record { given = g'' };
+                                          slice-known6 = record { given = g' };
                                         };
-                                        slice-known7 = record { given = g'3 };
+                                        stack = record { given = g'' };
                                       };
-                                      cur = record { given = g'4 };
+                                      slice-known7 = record { given = g'3 };
                                     };
-                                    slice-known8 = record { given = g'5 };
+                                    cur = record { given = g'4 };
                                   };
-                                  next = record { given = g'6 };
+                                  slice-known8 = record { given = g'5 };
                                 };
-                                slice-known9 = record { given = g'7 };
+                                next = record { given = g'6 };
                               };
-                              clean = record { given = g'8 };
-                            } g'9) .now)
-                            (Row.get 9 (T17 .locals) (m55 record {
+                              slice-known9 = record { given = g'7 };
+                            };
+                            clean = record { given = g'8 };
+                          } g'9) .now,
+                          Row.get 9 (T13 .locals) (m54 record {
+                            before = record {
                               before = record {
                                 before = record {
                                   before = record {
@@ -17583,29 +17804,29 @@ module _ (claims· : Claims) where
                                         before = record {
                                           before = record {
                                             before = record {
-                                              before = record {
-                                                before = c .before;
-                                                turn-line = c .turn-line;
-                                              };
-                                              owner = record { given = g };
+                                              before = c .before;
+                                              turn-line = c .turn-line;
                                             };
-                                            slice-known6 = record { given = g' };
+                                            owner = record { given = g };
                                           };
-                                          stack = record { given = g'' };
+                                          slice-known6 = record { given = g' };
                                         };
-                                        slice-known7 = record { given = g'3 };
+                                        stack = record { given = g'' };
                                       };
-                                      cur = record { given = g'4 };
+                                      slice-known7 = record { given = g'3 };
                                     };
-                                    slice-known8 = record { given = g'5 };
+                                    cur = record { given = g'4 };
                                   };
-                                  next = record { given = g'6 };
+                                  slice-known8 = record { given = g'5 };
                                 };
-                                slice-known9 = record { given = g'7 };
+                                next = record { given = g'6 };
                               };
-                              clean = record { given = g'8 };
-                            } g'9) .now)
-                            (Row.get 10 (T17 .locals) (m55 record {
+                              slice-known9 = record { given = g'7 };
+                            };
+                            clean = record { given = g'8 };
+                          } g'9) .now,
+                          Row.get 10 (T13 .locals) (m54 record {
+                            before = record {
                               before = record {
                                 before = record {
                                   before = record {
@@ -17614,29 +17835,29 @@ module _ (claims· : Claims) where
                                         before = record {
                                           before = record {
                                             before = record {
-                                              before = record {
-                                                before = c .before;
-                                                turn-line = c .turn-line;
-                                              };
-                                              owner = record { given = g };
+                                              before = c .before;
+                                              turn-line = c .turn-line;
                                             };
-                                            slice-known6 = record { given = g' };
+                                            owner = record { given = g };
                                           };
-                                          stack = record { given = g'' };
+                                          slice-known6 = record { given = g' };
                                         };
-                                        slice-known7 = record { given = g'3 };
+                                        stack = record { given = g'' };
                                       };
-                                      cur = record { given = g'4 };
+                                      slice-known7 = record { given = g'3 };
                                     };
-                                    slice-known8 = record { given = g'5 };
+                                    cur = record { given = g'4 };
                                   };
-                                  next = record { given = g'6 };
+                                  slice-known8 = record { given = g'5 };
                                 };
-                                slice-known9 = record { given = g'7 };
+                                next = record { given = g'6 };
                               };
-                              clean = record { given = g'8 };
-                            } g'9) .now)
-                            (Row.get 11 (T17 .locals) (m55 record {
+                              slice-known9 = record { given = g'7 };
+                            };
+                            clean = record { given = g'8 };
+                          } g'9) .now,
+                          Row.get 11 (T13 .locals) (m54 record {
+                            before = record {
                               before = record {
                                 before = record {
                                   before = record {
@@ -17645,29 +17866,29 @@ module _ (claims· : Claims) where
                                         before = record {
                                           before = record {
                                             before = record {
-                                              before = record {
-                                                before = c .before;
-                                                turn-line = c .turn-line;
-                                              };
-                                              owner = record { given = g };
+                                              before = c .before;
+                                              turn-line = c .turn-line;
                                             };
-                                            slice-known6 = record { given = g' };
+                                            owner = record { given = g };
                                           };
-                                          stack = record { given = g'' };
+                                          slice-known6 = record { given = g' };
                                         };
-                                        slice-known7 = record { given = g'3 };
+                                        stack = record { given = g'' };
                                       };
-                                      cur = record { given = g'4 };
+                                      slice-known7 = record { given = g'3 };
                                     };
-                                    slice-known8 = record { given = g'5 };
+                                    cur = record { given = g'4 };
                                   };
-                                  next = record { given = g'6 };
+                                  slice-known8 = record { given = g'5 };
                                 };
-                                slice-known9 = record { given = g'7 };
+                                next = record { given = g'6 };
                               };
-                              clean = record { given = g'8 };
-                            } g'9))
-                            (Row.get 12 (T17 .locals) (m55 record {
+                              slice-known9 = record { given = g'7 };
+                            };
+                            clean = record { given = g'8 };
+                          } g'9) .now,
+                          Row.get 12 (T13 .locals) (m54 record {
+                            before = record {
                               before = record {
                                 before = record {
                                   before = record {
@@ -17676,29 +17897,29 @@ module _ (claims· : Claims) where
                                         before = record {
                                           before = record {
                                             before = record {
-                                              before = record {
-                                                before = c .before;
-                                                turn-line = c .turn-line;
-                                              };
-                                              owner = record { given = g };
+                                              before = c .before;
+                                              turn-line = c .turn-line;
                                             };
-                                            slice-known6 = record { given = g' };
+                                            owner = record { given = g };
                                           };
-                                          stack = record { given = g'' };
+                                          slice-known6 = record { given = g' };
                                         };
-                                        slice-known7 = record { given = g'3 };
+                                        stack = record { given = g'' };
                                       };
-                                      cur = record { given = g'4 };
+                                      slice-known7 = record { given = g'3 };
                                     };
-                                    slice-known8 = record { given = g'5 };
+                                    cur = record { given = g'4 };
                                   };
-                                  next = record { given = g'6 };
+                                  slice-known8 = record { given = g'5 };
                                 };
-                                slice-known9 = record { given = g'7 };
+                                next = record { given = g'6 };
                               };
-                              clean = record { given = g'8 };
-                            } g'9))
-                            (Row.get 13 (T17 .locals) (m55 record {
+                              slice-known9 = record { given = g'7 };
+                            };
+                            clean = record { given = g'8 };
+                          } g'9),
+                          Row.get 13 (T13 .locals) (m54 record {
+                            before = record {
                               before = record {
                                 before = record {
                                   before = record {
@@ -17707,29 +17928,29 @@ module _ (claims· : Claims) where
                                         before = record {
                                           before = record {
                                             before = record {
-                                              before = record {
-                                                before = c .before;
-                                                turn-line = c .turn-line;
-                                              };
-                                              owner = record { given = g };
+                                              before = c .before;
+                                              turn-line = c .turn-line;
                                             };
-                                            slice-known6 = record { given = g' };
+                                            owner = record { given = g };
                                           };
-                                          stack = record { given = g'' };
+                                          slice-known6 = record { given = g' };
                                         };
-                                        slice-known7 = record { given = g'3 };
+                                        stack = record { given = g'' };
                                       };
-                                      cur = record { given = g'4 };
+                                      slice-known7 = record { given = g'3 };
                                     };
-                                    slice-known8 = record { given = g'5 };
+                                    cur = record { given = g'4 };
                                   };
-                                  next = record { given = g'6 };
+                                  slice-known8 = record { given = g'5 };
                                 };
-                                slice-known9 = record { given = g'7 };
+                                next = record { given = g'6 };
                               };
-                              clean = record { given = g'8 };
-                            } g'9))
-                            (Row.get 14 (T17 .locals) (m55 record {
+                              slice-known9 = record { given = g'7 };
+                            };
+                            clean = record { given = g'8 };
+                          } g'9),
+                          Row.get 14 (T13 .locals) (m54 record {
+                            before = record {
                               before = record {
                                 before = record {
                                   before = record {
@@ -17738,29 +17959,31 @@ module _ (claims· : Claims) where
                                         before = record {
                                           before = record {
                                             before = record {
-                                              before = record {
-                                                before = c .before;
-                                                turn-line = c .turn-line;
-                                              };
-                                              owner = record { given = g };
+                                              before = c .before;
+                                              turn-line = c .turn-line;
                                             };
-                                            slice-known6 = record { given = g' };
+                                            owner = record { given = g };
                                           };
-                                          stack = record { given = g'' };
+                                          slice-known6 = record { given = g' };
                                         };
-                                        slice-known7 = record { given = g'3 };
+                                        stack = record { given = g'' };
                                       };
-                                      cur = record { given = g'4 };
+                                      slice-known7 = record { given = g'3 };
                                     };
-                                    slice-known8 = record { given = g'5 };
+                                    cur = record { given = g'4 };
                                   };
-                                  next = record { given = g'6 };
+                                  slice-known8 = record { given = g'5 };
                                 };
-                                slice-known9 = record { given = g'7 };
+                                next = record { given = g'6 };
                               };
-                              clean = record { given = g'8 };
-                            } g'9))
-                            (Row.get 15 (T17 .locals) (m55 record {
+                              slice-known9 = record { given = g'7 };
+                            };
+                            clean = record { given = g'8 };
+                          } g'9),
+                        ),
+                        Path'.refl {a = m54 record {
+                          before = record {
+                            before = record {
                               before = record {
                                 before = record {
                                   before = record {
@@ -17768,30 +17991,28 @@ module _ (claims· : Claims) where
                                       before = record {
                                         before = record {
                                           before = record {
-                                            before = record {
-                                              before = record {
-                                                before = c .before;
-                                                turn-line = c .turn-line;
-                                              };
-                                              owner = record { given = g };
-                                            };
-                                            slice-known6 = record { given = g' };
+                                            before = c .before;
+                                            turn-line = c .turn-line;
                                           };
-                                          stack = record { given = g'' };
+                                          owner = record { given = g };
                                         };
-                                        slice-known7 = record { given = g'3 };
+                                        slice-known6 = record { given = g' };
                                       };
-                                      cur = record { given = g'4 };
+                                      stack = record { given = g'' };
                                     };
-                                    slice-known8 = record { given = g'5 };
+                                    slice-known7 = record { given = g'3 };
                                   };
-                                  next = record { given = g'6 };
+                                  cur = record { given = g'4 };
                                 };
-                                slice-known9 = record { given = g'7 };
+                                slice-known8 = record { given = g'5 };
                               };
-                              clean = record { given = g'8 };
-                            } g'9)),
-                        loop-less record {
+                              next = record { given = g'6 };
+                            };
+                            slice-known9 = record { given = g'7 };
+                          };
+                          clean = record { given = g'8 };
+                        } g'9},
+                        loop-again record {
                           before = record {
                             before = record {
                               before = record {
@@ -17825,9 +18046,78 @@ module _ (claims· : Claims) where
                           };
                           slice-known10 = record { given = g'9 };
                         },
-                        (
-                          (
-                            Row.get 6 (T17 .locals) (m55 record {
+                        Path'.refl {a = μ·0
+                            (Row.get 1 (T13 .locals) (m12
+                            (c .before .before .before .before .before .before .before .before
+                            .before .before .before .before .before .before)
+                            (c .before .before .before .before .before .before .before .before
+                            .before .before .before .before .before .slice-known5 .given)) .now)
+                            (Row.get 2 (T13 .locals) (m12
+                            (c .before .before .before .before .before .before .before .before
+                            .before .before .before .before .before .before)
+                            (c .before .before .before .before .before .before .before .before
+                            .before .before .before .before .before .slice-known5 .given)) .now)
+                            (Row.get 3 (T13 .locals) (m12
+                            (c .before .before .before .before .before .before .before .before
+                            .before .before .before .before .before .before)
+                            (c .before .before .before .before .before .before .before .before
+                            .before .before .before .before .before .slice-known5 .given)))
+                            (Row.get 4 (T13 .locals) (m12
+                            (c .before .before .before .before .before .before .before .before
+                            .before .before .before .before .before .before)
+                            (c .before .before .before .before .before .before .before .before
+                            .before .before .before .before .before .slice-known5 .given)) .now)
+                            (Row.get 5 (T13 .locals) (m12
+                            (c .before .before .before .before .before .before .before .before
+                            .before .before .before .before .before .before)
+                            (c .before .before .before .before .before .before .before .before
+                            .before .before .before .before .before .slice-known5 .given)) .now)
+                            (Row.get 6 (T13 .locals) (m12
+                            (c .before .before .before .before .before .before .before .before
+                            .before .before .before .before .before .before)
+                            (c .before .before .before .before .before .before .before .before
+                            .before .before .before .before .before .slice-known5 .given)) .now)
+                            (Row.get 7 (T13 .locals) (m12
+                            (c .before .before .before .before .before .before .before .before
+                            .before .before .before .before .before .before)
+                            (c .before .before .before .before .before .before .before .before
+                            .before .before .before .before .before .slice-known5 .given)) .now)
+                            (Row.get 8 (T13 .locals) (m12
+                            (c .before .before .before .before .before .before .before .before
+                            .before .before .before .before .before .before)
+                            (c .before .before .before .before .before .before .before .before
+                            .before .before .before .before .before .slice-known5 .given)) .now)
+                            (Row.get 9 (T13 .locals) (m12
+                            (c .before .before .before .before .before .before .before .before
+                            .before .before .before .before .before .before)
+                            (c .before .before .before .before .before .before .before .before
+                            .before .before .before .before .before .slice-known5 .given)) .now)
+                            (Row.get 10 (T13 .locals) (m12
+                            (c .before .before .before .before .before .before .before .before
+                            .before .before .before .before .before .before)
+                            (c .before .before .before .before .before .before .before .before
+                            .before .before .before .before .before .slice-known5 .given)) .now)
+                            (Row.get 11 (T13 .locals) (m12
+                            (c .before .before .before .before .before .before .before .before
+                            .before .before .before .before .before .before)
+                            (c .before .before .before .before .before .before .before .before
+                            .before .before .before .before .before .slice-known5 .given)) .now)
+                            (Row.get 12 (T13 .locals) (m12
+                            (c .before .before .before .before .before .before .before .before
+                            .before .before .before .before .before .before)
+                            (c .before .before .before .before .before .before .before .before
+                            .before .before .before .before .before .slice-known5 .given)))
+                            (Row.get 13 (T13 .locals) (m12
+                            (c .before .before .before .before .before .before .before .before
+                            .before .before .before .before .before .before)
+                            (c .before .before .before .before .before .before .before .before
+                            .before .before .before .before .before .slice-known5 .given)))
+                            (Row.get 14 (T13 .locals) (m12
+                            (c .before .before .before .before .before .before .before .before
+                            .before .before .before .before .before .before)
+                            (c .before .before .before .before .before .before .before .before
+                            .before .before .before .before .before .slice-known5 .given)))
+                            (Row.get 6 (T13 .locals) (m54 record {
                               before = record {
                                 before = record {
                                   before = record {
@@ -17857,8 +18147,8 @@ module _ (claims· : Claims) where
                                 slice-known9 = record { given = g'7 };
                               };
                               clean = record { given = g'8 };
-                            } g'9) .now,
-                            Row.get 7 (T17 .locals) (m55 record {
+                            } g'9) .now)
+                            (Row.get 7 (T13 .locals) (m54 record {
                               before = record {
                                 before = record {
                                   before = record {
@@ -17888,8 +18178,8 @@ module _ (claims· : Claims) where
                                 slice-known9 = record { given = g'7 };
                               };
                               clean = record { given = g'8 };
-                            } g'9) .now,
-                            Row.get 8 (T17 .locals) (m55 record {
+                            } g'9) .now)
+                            (Row.get 8 (T13 .locals) (m54 record {
                               before = record {
                                 before = record {
                                   before = record {
@@ -17919,8 +18209,8 @@ module _ (claims· : Claims) where
                                 slice-known9 = record { given = g'7 };
                               };
                               clean = record { given = g'8 };
-                            } g'9) .now,
-                            Row.get 9 (T17 .locals) (m55 record {
+                            } g'9) .now)
+                            (Row.get 9 (T13 .locals) (m54 record {
                               before = record {
                                 before = record {
                                   before = record {
@@ -17950,8 +18240,8 @@ module _ (claims· : Claims) where
                                 slice-known9 = record { given = g'7 };
                               };
                               clean = record { given = g'8 };
-                            } g'9) .now,
-                            Row.get 10 (T17 .locals) (m55 record {
+                            } g'9) .now)
+                            (Row.get 10 (T13 .locals) (m54 record {
                               before = record {
                                 before = record {
                                   before = record {
@@ -17981,8 +18271,8 @@ module _ (claims· : Claims) where
                                 slice-known9 = record { given = g'7 };
                               };
                               clean = record { given = g'8 };
-                            } g'9) .now,
-                            Row.get 11 (T17 .locals) (m55 record {
+                            } g'9) .now)
+                            (Row.get 11 (T13 .locals) (m54 record {
                               before = record {
                                 before = record {
                                   before = record {
@@ -18012,8 +18302,8 @@ module _ (claims· : Claims) where
                                 slice-known9 = record { given = g'7 };
                               };
                               clean = record { given = g'8 };
-                            } g'9),
-                            Row.get 12 (T17 .locals) (m55 record {
+                            } g'9) .now)
+                            (Row.get 12 (T13 .locals) (m54 record {
                               before = record {
                                 before = record {
                                   before = record {
@@ -18043,8 +18333,8 @@ module _ (claims· : Claims) where
                                 slice-known9 = record { given = g'7 };
                               };
                               clean = record { given = g'8 };
-                            } g'9),
-                            Row.get 13 (T17 .locals) (m55 record {
+                            } g'9))
+                            (Row.get 13 (T13 .locals) (m54 record {
                               before = record {
                                 before = record {
                                   before = record {
@@ -18074,8 +18364,8 @@ module _ (claims· : Claims) where
                                 slice-known9 = record { given = g'7 };
                               };
                               clean = record { given = g'8 };
-                            } g'9),
-                            Row.get 14 (T17 .locals) (m55 record {
+                            } g'9))
+                            (Row.get 14 (T13 .locals) (m54 record {
                               before = record {
                                 before = record {
                                   before = record {
@@ -18105,491 +18395,7 @@ module _ (claims· : Claims) where
                                 slice-known9 = record { given = g'7 };
                               };
                               clean = record { given = g'8 };
-                            } g'9),
-                            Row.get 15 (T17 .locals) (m55 record {
-                              before = record {
-                                before = record {
-                                  before = record {
-                                    before = record {
-                                      before = record {
-                                        before = record {
-                                          before = record {
-                                            before = record {
-                                              before = record {
-                                                before = c .before;
-                                                turn-line = c .turn-line;
-                                              };
-                                              owner = record { given = g };
-                                            };
-                                            slice-known6 = record { given = g' };
-                                          };
-                                          stack = record { given = g'' };
-                                        };
-                                        slice-known7 = record { given = g'3 };
-                                      };
-                                      cur = record { given = g'4 };
-                                    };
-                                    slice-known8 = record { given = g'5 };
-                                  };
-                                  next = record { given = g'6 };
-                                };
-                                slice-known9 = record { given = g'7 };
-                              };
-                              clean = record { given = g'8 };
-                            } g'9),
-                          ),
-                          Path'.refl {a = m55 record {
-                            before = record {
-                              before = record {
-                                before = record {
-                                  before = record {
-                                    before = record {
-                                      before = record {
-                                        before = record {
-                                          before = record {
-                                            before = record {
-                                              before = c .before;
-                                              turn-line = c .turn-line;
-                                            };
-                                            owner = record { given = g };
-                                          };
-                                          slice-known6 = record { given = g' };
-                                        };
-                                        stack = record { given = g'' };
-                                      };
-                                      slice-known7 = record { given = g'3 };
-                                    };
-                                    cur = record { given = g'4 };
-                                  };
-                                  slice-known8 = record { given = g'5 };
-                                };
-                                next = record { given = g'6 };
-                              };
-                              slice-known9 = record { given = g'7 };
-                            };
-                            clean = record { given = g'8 };
-                          } g'9},
-                          loop-again record {
-                            before = record {
-                              before = record {
-                                before = record {
-                                  before = record {
-                                    before = record {
-                                      before = record {
-                                        before = record {
-                                          before = record {
-                                            before = record {
-                                              before = record {
-                                                before = c .before;
-                                                turn-line = c .turn-line;
-                                              };
-                                              owner = record { given = g };
-                                            };
-                                            slice-known6 = record { given = g' };
-                                          };
-                                          stack = record { given = g'' };
-                                        };
-                                        slice-known7 = record { given = g'3 };
-                                      };
-                                      cur = record { given = g'4 };
-                                    };
-                                    slice-known8 = record { given = g'5 };
-                                  };
-                                  next = record { given = g'6 };
-                                };
-                                slice-known9 = record { given = g'7 };
-                              };
-                              clean = record { given = g'8 };
-                            };
-                            slice-known10 = record { given = g'9 };
-                          },
-                          Path'.refl {a = μ·0
-                              (Row.get 1 (T17 .locals) (m16
-                              (c .before .before .before .before .before .before .before .before
-                              .before .before .before .before .before .before) (After-blank·gave
-                              (c .before .before .before .before .before .before .before .before
-                              .before .before .before .before .before))) .now)
-                              (Row.get 2 (T17 .locals) (m16
-                              (c .before .before .before .before .before .before .before .before
-                              .before .before .before .before .before .before) (After-blank·gave
-                              (c .before .before .before .before .before .before .before .before
-                              .before .before .before .before .before))) .now)
-                              (Row.get 3 (T17 .locals) (m16
-                              (c .before .before .before .before .before .before .before .before
-                              .before .before .before .before .before .before) (After-blank·gave
-                              (c .before .before .before .before .before .before .before .before
-                              .before .before .before .before .before))))
-                              (Row.get 4 (T17 .locals) (m16
-                              (c .before .before .before .before .before .before .before .before
-                              .before .before .before .before .before .before) (After-blank·gave
-                              (c .before .before .before .before .before .before .before .before
-                              .before .before .before .before .before))) .now)
-                              (Row.get 5 (T17 .locals) (m16
-                              (c .before .before .before .before .before .before .before .before
-                              .before .before .before .before .before .before) (After-blank·gave
-                              (c .before .before .before .before .before .before .before .before
-                              .before .before .before .before .before))) .now)
-                              (Row.get 6 (T17 .locals) (m16
-                              (c .before .before .before .before .before .before .before .before
-                              .before .before .before .before .before .before) (After-blank·gave
-                              (c .before .before .before .before .before .before .before .before
-                              .before .before .before .before .before))) .now)
-                              (Row.get 7 (T17 .locals) (m16
-                              (c .before .before .before .before .before .before .before .before
-                              .before .before .before .before .before .before) (After-blank·gave
-                              (c .before .before .before .before .before .before .before .before
-                              .before .before .before .before .before))) .now)
-                              (Row.get 8 (T17 .locals) (m16
-                              (c .before .before .before .before .before .before .before .before
-                              .before .before .before .before .before .before) (After-blank·gave
-                              (c .before .before .before .before .before .before .before .before
-                              .before .before .before .before .before))) .now)
-                              (Row.get 9 (T17 .locals) (m16
-                              (c .before .before .before .before .before .before .before .before
-                              .before .before .before .before .before .before) (After-blank·gave
-                              (c .before .before .before .before .before .before .before .before
-                              .before .before .before .before .before))) .now)
-                              (Row.get 10 (T17 .locals) (m16
-                              (c .before .before .before .before .before .before .before .before
-                              .before .before .before .before .before .before) (After-blank·gave
-                              (c .before .before .before .before .before .before .before .before
-                              .before .before .before .before .before))) .now)
-                              (Row.get 11 (T17 .locals) (m16
-                              (c .before .before .before .before .before .before .before .before
-                              .before .before .before .before .before .before) (After-blank·gave
-                              (c .before .before .before .before .before .before .before .before
-                              .before .before .before .before .before))))
-                              (Row.get 12 (T17 .locals) (m16
-                              (c .before .before .before .before .before .before .before .before
-                              .before .before .before .before .before .before) (After-blank·gave
-                              (c .before .before .before .before .before .before .before .before
-                              .before .before .before .before .before))))
-                              (Row.get 13 (T17 .locals) (m16
-                              (c .before .before .before .before .before .before .before .before
-                              .before .before .before .before .before .before) (After-blank·gave
-                              (c .before .before .before .before .before .before .before .before
-                              .before .before .before .before .before))))
-                              (Row.get 14 (T17 .locals) (m16
-                              (c .before .before .before .before .before .before .before .before
-                              .before .before .before .before .before .before) (After-blank·gave
-                              (c .before .before .before .before .before .before .before .before
-                              .before .before .before .before .before))))
-                              (Row.get 15 (T17 .locals) (m16
-                              (c .before .before .before .before .before .before .before .before
-                              .before .before .before .before .before .before) (After-blank·gave
-                              (c .before .before .before .before .before .before .before .before
-                              .before .before .before .before .before))))
-                              (Row.get 6 (T17 .locals) (m55 record {
-                                before = record {
-                                  before = record {
-                                    before = record {
-                                      before = record {
-                                        before = record {
-                                          before = record {
-                                            before = record {
-                                              before = record {
-                                                before = record {
-                                                  before = c .before;
-                                                  turn-line = c .turn-line;
-                                                };
-                                                owner = record { given = g };
-                                              };
-                                              slice-known6 = record { given = g' };
-                                            };
-                                            stack = record { given = g'' };
-                                          };
-                                          slice-known7 = record { given = g'3 };
-                                        };
-                                        cur = record { given = g'4 };
-                                      };
-                                      slice-known8 = record { given = g'5 };
-                                    };
-                                    next = record { given = g'6 };
-                                  };
-                                  slice-known9 = record { given = g'7 };
-                                };
-                                clean = record { given = g'8 };
-                              } g'9) .now)
-                              (Row.get 7 (T17 .locals) (m55 record {
-                                before = record {
-                                  before = record {
-                                    before = record {
-                                      before = record {
-                                        before = record {
-                                          before = record {
-                                            before = record {
-                                              before = record {
-                                                before = record {
-                                                  before = c .before;
-                                                  turn-line = c .turn-line;
-                                                };
-                                                owner = record { given = g };
-                                              };
-                                              slice-known6 = record { given = g' };
-                                            };
-                                            stack = record { given = g'' };
-                                          };
-                                          slice-known7 = record { given = g'3 };
-                                        };
-                                        cur = record { given = g'4 };
-                                      };
-                                      slice-known8 = record { given = g'5 };
-                                    };
-                                    next = record { given = g'6 };
-                                  };
-                                  slice-known9 = record { given = g'7 };
-                                };
-                                clean = record { given = g'8 };
-                              } g'9) .now)
-                              (Row.get 8 (T17 .locals) (m55 record {
-                                before = record {
-                                  before = record {
-                                    before = record {
-                                      before = record {
-                                        before = record {
-                                          before = record {
-                                            before = record {
-                                              before = record {
-                                                before = record {
-                                                  before = c .before;
-                                                  turn-line = c .turn-line;
-                                                };
-                                                owner = record { given = g };
-                                              };
-                                              slice-known6 = record { given = g' };
-                                            };
-                                            stack = record { given = g'' };
-                                          };
-                                          slice-known7 = record { given = g'3 };
-                                        };
-                                        cur = record { given = g'4 };
-                                      };
-                                      slice-known8 = record { given = g'5 };
-                                    };
-                                    next = record { given = g'6 };
-                                  };
-                                  slice-known9 = record { given = g'7 };
-                                };
-                                clean = record { given = g'8 };
-                              } g'9) .now)
-                              (Row.get 9 (T17 .locals) (m55 record {
-                                before = record {
-                                  before = record {
-                                    before = record {
-                                      before = record {
-                                        before = record {
-                                          before = record {
-                                            before = record {
-                                              before = record {
-                                                before = record {
-                                                  before = c .before;
-                                                  turn-line = c .turn-line;
-                                                };
-                                                owner = record { given = g };
-                                              };
-                                              slice-known6 = record { given = g' };
-                                            };
-                                            stack = record { given = g'' };
-                                          };
-                                          slice-known7 = record { given = g'3 };
-                                        };
-                                        cur = record { given = g'4 };
-                                      };
-                                      slice-known8 = record { given = g'5 };
-                                    };
-                                    next = record { given = g'6 };
-                                  };
-                                  slice-known9 = record { given = g'7 };
-                                };
-                                clean = record { given = g'8 };
-                              } g'9) .now)
-                              (Row.get 10 (T17 .locals) (m55 record {
-                                before = record {
-                                  before = record {
-                                    before = record {
-                                      before = record {
-                                        before = record {
-                                          before = record {
-                                            before = record {
-                                              before = record {
-                                                before = record {
-                                                  before = c .before;
-                                                  turn-line = c .turn-line;
-                                                };
-                                                owner = record { given = g };
-                                              };
-                                              slice-known6 = record { given = g' };
-                                            };
-                                            stack = record { given = g'' };
-                                          };
-                                          slice-known7 = record { given = g'3 };
-                                        };
-                                        cur = record { given = g'4 };
-                                      };
-                                      slice-known8 = record { given = g'5 };
-                                    };
-                                    next = record { given = g'6 };
-                                  };
-                                  slice-known9 = record { given = g'7 };
-                                };
-                                clean = record { given = g'8 };
-                              } g'9) .now)
-                              (Row.get 11 (T17 .locals) (m55 record {
-                                before = record {
-                                  before = record {
-                                    before = record {
-                                      before = record {
-                                        before = record {
-                                          before = record {
-                                            before = record {
-                                              before = record {
-                                                before = record {
-                                                  before = c .before;
-                                                  turn-line = c .turn-line;
-                                                };
-                                                owner = record { given = g };
-                                              };
-                                              slice-known6 = record { given = g' };
-                                            };
-                                            stack = record { given = g'' };
-                                          };
-                                          slice-known7 = record { given = g'3 };
-                                        };
-                                        cur = record { given = g'4 };
-                                      };
-                                      slice-known8 = record { given = g'5 };
-                                    };
-                                    next = record { given = g'6 };
-                                  };
-                                  slice-known9 = record { given = g'7 };
-                                };
-                                clean = record { given = g'8 };
-                              } g'9))
-                              (Row.get 12 (T17 .locals) (m55 record {
-                                before = record {
-                                  before = record {
-                                    before = record {
-                                      before = record {
-                                        before = record {
-                                          before = record {
-                                            before = record {
-                                              before = record {
-                                                before = record {
-                                                  before = c .before;
-                                                  turn-line = c .turn-line;
-                                                };
-                                                owner = record { given = g };
-                                              };
-                                              slice-known6 = record { given = g' };
-                                            };
-                                            stack = record { given = g'' };
-                                          };
-                                          slice-known7 = record { given = g'3 };
-                                        };
-                                        cur = record { given = g'4 };
-                                      };
-                                      slice-known8 = record { given = g'5 };
-                                    };
-                                    next = record { given = g'6 };
-                                  };
-                                  slice-known9 = record { given = g'7 };
-                                };
-                                clean = record { given = g'8 };
-                              } g'9))
-                              (Row.get 13 (T17 .locals) (m55 record {
-                                before = record {
-                                  before = record {
-                                    before = record {
-                                      before = record {
-                                        before = record {
-                                          before = record {
-                                            before = record {
-                                              before = record {
-                                                before = record {
-                                                  before = c .before;
-                                                  turn-line = c .turn-line;
-                                                };
-                                                owner = record { given = g };
-                                              };
-                                              slice-known6 = record { given = g' };
-                                            };
-                                            stack = record { given = g'' };
-                                          };
-                                          slice-known7 = record { given = g'3 };
-                                        };
-                                        cur = record { given = g'4 };
-                                      };
-                                      slice-known8 = record { given = g'5 };
-                                    };
-                                    next = record { given = g'6 };
-                                  };
-                                  slice-known9 = record { given = g'7 };
-                                };
-                                clean = record { given = g'8 };
-                              } g'9))
-                              (Row.get 14 (T17 .locals) (m55 record {
-                                before = record {
-                                  before = record {
-                                    before = record {
-                                      before = record {
-                                        before = record {
-                                          before = record {
-                                            before = record {
-                                              before = record {
-                                                before = record {
-                                                  before = c .before;
-                                                  turn-line = c .turn-line;
-                                                };
-                                                owner = record { given = g };
-                                              };
-                                              slice-known6 = record { given = g' };
-                                            };
-                                            stack = record { given = g'' };
-                                          };
-                                          slice-known7 = record { given = g'3 };
-                                        };
-                                        cur = record { given = g'4 };
-                                      };
-                                      slice-known8 = record { given = g'5 };
-                                    };
-                                    next = record { given = g'6 };
-                                  };
-                                  slice-known9 = record { given = g'7 };
-                                };
-                                clean = record { given = g'8 };
-                              } g'9))
-                              (Row.get 15 (T17 .locals) (m55 record {
-                                before = record {
-                                  before = record {
-                                    before = record {
-                                      before = record {
-                                        before = record {
-                                          before = record {
-                                            before = record {
-                                              before = record {
-                                                before = record {
-                                                  before = c .before;
-                                                  turn-line = c .turn-line;
-                                                };
-                                                owner = record { given = g };
-                                              };
-                                              slice-known6 = record { given = g' };
-                                            };
-                                            stack = record { given = g'' };
-                                          };
-                                          slice-known7 = record { given = g'3 };
-                                        };
-                                        cur = record { given = g'4 };
-                                      };
-                                      slice-known8 = record { given = g'5 };
-                                    };
-                                    next = record { given = g'6 };
-                                  };
-                                  slice-known9 = record { given = g'7 };
-                                };
-                                clean = record { given = g'8 };
-                              } g'9))},
-                        ),
+                            } g'9))},
                       ),
                     ),
                   ),
@@ -18599,10 +18405,10 @@ module _ (claims· : Claims) where
           ),
         )
 
-        lay7 :
-            (c : After-get) → at48
-            (c .before .before .before .before .before .before .before .before .before .before
-            .before .before .before .before .before .before .before .before .blocks) (W3
+        lay5 :
+            (c : After-get) →
+            at47
+            (W3
             (c .before .before .before .before .before .before .before)
             (c .before .before .before .before .before .before .loop .owner)
             (c .before .before .before .before .before .before .loop .stack)
@@ -18610,12 +18416,11 @@ module _ (claims· : Claims) where
             (c .before .before .before .before .before .before .loop .next)
             (c .before .before .before .before .before .before .loop .clean)
             (c .before .before .before .before .before .before .loop .recs)
-            (c .before .before .before .before .before .before .loop .rec)
-            (c .before .before .before .before .before .before .loop .j)
+            (c .before .before .before .before .before .before .loop .past)
             (c .before .before .before .before .before .before .loop .n)
-            (c .before .before .before .before .before .before .loop .o)) (m30 (c .before)
-            (After-get·gave c))
-        lay7 = λ c. λ g. (
+            (c .before .before .before .before .before .before .loop .o))
+            (m28 (c .before) (After-get·gave c))
+        lay5 = λ c. λ g. (
           Path'.refl,
           λ g'. (
             Path'.refl,
@@ -18642,7 +18447,7 @@ module _ (claims· : Claims) where
                       };
                       turn-line-arg5 = record { given = g'4 };
                     },
-                    λ g'5. lay8 record {
+                    λ g'5. lay6 record {
                       before = record {
                         before = record {
                           before = record {
@@ -18659,7 +18464,7 @@ module _ (claims· : Claims) where
                         };
                         turn-line-arg5 = record { given = g'4 };
                       };
-                      turn-line = Called.called ps·4 r·4 (claims· .9) T55 (
+                      turn-line = Called.called ps·2 r·2 (claims· .5) T54 (
                         record {
                           pos = 1;
                           ty = Syntax.tyRef (Syntax.named 0) Syntax.imm (Syntax.tyInt Syntax.w8);
@@ -18667,20 +18472,20 @@ module _ (claims· : Claims) where
                         },
                         (
                           Num.vFld
-                              12
+                              15
                               (List._∷_ (Syntax.field 0) List.[])
                               0
                               λ x. LineRec.struct .as-values
                               x .0,
                           (
                             Num.vFld
-                                12
+                                15
                                 (List._∷_ (Syntax.field 1) List.[])
                                 8
                                 λ x. LineRec.struct .as-values
                                 x .1 .0,
                             (
-                              Num.vAt 14 λ x. x,
+                              Num.vAt 13 λ x. x,
                               (
                                 record {
                                   pos = 4;
@@ -18701,7 +18506,7 @@ module _ (claims· : Claims) where
                                   },
                                   (
                                     record {
-                                      pos = 23;
+                                      pos = 25;
                                       ty = Syntax.tyRef
                                           Syntax.erased
                                           Syntax.mut
@@ -18710,7 +18515,7 @@ module _ (claims· : Claims) where
                                     },
                                     (
                                       record {
-                                        pos = 25;
+                                        pos = 27;
                                         ty = Syntax.tyRef
                                             Syntax.erased
                                             Syntax.mut
@@ -18718,10 +18523,10 @@ module _ (claims· : Claims) where
                                         ref = λ x. x;
                                       },
                                       (
-                                        Num.vAt 15 λ x. x,
+                                        Num.vAt 14 λ x. x,
                                         (
                                           record {
-                                            pos = 27;
+                                            pos = 29;
                                             ty = Syntax.tyRef
                                                 Syntax.erased
                                                 Syntax.mut
@@ -18730,7 +18535,7 @@ module _ (claims· : Claims) where
                                           },
                                           (
                                             record {
-                                              pos = 29;
+                                              pos = 31;
                                               ty = Syntax.tyRef
                                                   Syntax.erased
                                                   Syntax.mut
@@ -18739,7 +18544,7 @@ module _ (claims· : Claims) where
                                             },
                                             (
                                               record {
-                                                pos = 31;
+                                                pos = 33;
                                                 ty = Syntax.tyRef
                                                     Syntax.erased
                                                     Syntax.mut
@@ -18758,7 +18563,7 @@ module _ (claims· : Claims) where
                             ),
                           ),
                         ),
-                      ) (m42 record {
+                      ) (m41 record {
                         before = record {
                           before = record {
                             before = record {
@@ -18779,90 +18584,106 @@ module _ (claims· : Claims) where
           ),
         )
 
-        lay6 :
-            (c : After-refill) → at56
-            (c .before .before .before .before .before .before .before .before .before .before
-            .before .before .before .before .before .blocks) (W3
-            (c .before .before .before .before) (c .before .before .before .loop .owner)
-            (c .before .before .before .loop .stack) (c .before .before .before .loop .cur)
-            (c .before .before .before .loop .next) (c .before .before .before .loop .clean)
-            (c .before .before .before .loop .recs) (c .before .before .before .loop .rec)
-            (c .before .before .before .loop .j) (c .before .before .before .loop .n)
-            (c .before .before .before .loop .o)) (m25 (c .before) (After-refill·gave c))
-        lay6 = λ c. (
+        lay4 :
+            (c : After-refill) →
+            at59
+            (W3
+            (c .before .before .before .before)
+            (c .before .before .before .loop .owner)
+            (c .before .before .before .loop .stack)
+            (c .before .before .before .loop .cur)
+            (c .before .before .before .loop .next)
+            (c .before .before .before .loop .clean)
+            (c .before .before .before .loop .recs)
+            (c .before .before .before .loop .past)
+            (c .before .before .before .loop .n)
+            (c .before .before .before .loop .o))
+            (m19 (c .before) (After-refill·gave c))
+        lay4 = λ c. (
           Path'.refl,
           λ g. λ g'. (
-            Relend.count-is T34 20 21 (λ x. x) (λ u. 1024) (m28 record {
-              before = record { before = c .before; refill = c .refill };
-              recs2 = record { given = g };
-            } g') (slice-aggregate-get record {
-              before = record {
-                before = record { before = c .before; refill = c .refill };
-                recs2 = record { given = g };
-              };
-              recs3 = record { given = g' };
-            }),
+            Path'.refl,
             (
-              get-requires record {
+              add-get record {
                 before = record {
                   before = record { before = c .before; refill = c .refill };
-                  recs2 = record { given = g };
+                  recs = record { given = g };
                 };
-                recs3 = record { given = g' };
+                get-arg = record { given = g' };
               },
-              λ g''. lay7 record {
-                before = record {
+              (
+                sub-get record {
                   before = record {
                     before = record { before = c .before; refill = c .refill };
-                    recs2 = record { given = g };
+                    recs = record { given = g };
                   };
-                  recs3 = record { given = g' };
-                };
-                get = Called.called ps·3 r·3 (claims· .7) T35 (
-                  record {
-                    pos = 21;
-                    ty = Syntax.tyRef
-                        Syntax.erased
-                        Syntax.imm
-                        Elem.ty;
-                    ref = λ x. x;
+                  get-arg = record { given = g' };
+                },
+                (
+                  get-requires record {
+                    before = record {
+                      before = record { before = c .before; refill = c .refill };
+                      recs = record { given = g };
+                    };
+                    get-arg = record { given = g' };
                   },
-                  (Num.vAt 13 λ x. x, tt),
-                ) (m29 record {
-                  before = record { before = c .before; refill = c .refill };
-                  recs2 = record { given = g };
-                } g') g'';
-              },
+                  λ g''. lay5 record {
+                    before = record {
+                      before = record {
+                        before = record { before = c .before; refill = c .refill };
+                        recs = record { given = g };
+                      };
+                      get-arg = record { given = g' };
+                    };
+                    get = Called.called ps·1 r·1 (claims· .3) T33 (
+                      record {
+                        pos = 20;
+                        ty = Syntax.tyRef
+                            Syntax.erased
+                            Syntax.imm
+                            Elem.ty;
+                        ref = λ x. x;
+                      },
+                      (Num.vAt 23 λ x. x, tt),
+                    ) (m27 record {
+                      before = record { before = c .before; refill = c .refill };
+                      recs = record { given = g };
+                    } g') g'';
+                  },
+                ),
+              ),
             ),
           ),
         )
 
-        lay5 :
-            (c : In-loop) → at60
-            (c .before .before .before .before .before .before .before .before .before .before
-            .before .before .before .blocks) (W3 (c .before .before) (c .before .loop .owner)
-            (c .before .loop .stack) (c .before .loop .cur) (c .before .loop .next)
-            (c .before .loop .clean) (c .before .loop .recs) (c .before .loop .rec)
-            (c .before .loop .j) (c .before .loop .n) (c .before .loop .o)) (m19 (c .before))
-        lay5 = λ c. λ g. (
-          Relend.count-is T26 18 19 (λ x. x) (λ u. 1024) (m23 record {
-            before = c .before;
-            loop-test = c .loop-test;
-          } g) (slice-aggregate-refill record {
-            before = record { before = c .before; loop-test = c .loop-test };
-            recs = record { given = g };
-          }),
+        lay3 :
+            (c : In-loop) →
+            at63
+            (W3
+            (c .before .before)
+            (c .before .loop .owner)
+            (c .before .loop .stack)
+            (c .before .loop .cur)
+            (c .before .loop .next)
+            (c .before .loop .clean)
+            (c .before .loop .recs)
+            (c .before .loop .past)
+            (c .before .loop .n)
+            (c .before .loop .o))
+            (m15 (c .before))
+        lay3 = λ c. λ g. (
+          Path'.refl,
           (
             refill-requires record {
               before = record { before = c .before; loop-test = c .loop-test };
-              recs = record { given = g };
+              refill-arg = record { given = g };
             },
-            λ g'. lay6 record {
+            λ g'. lay4 record {
               before = record {
                 before = record { before = c .before; loop-test = c .loop-test };
-                recs = record { given = g };
+                refill-arg = record { given = g };
               };
-              refill = Called.called ps·2 r·2 (claims· .5) T27 (
+              refill = Called.called ps·0 r·0 (claims· .1) T21 (
                 record {
                   pos = 2;
                   ty = Syntax.tyRef (Syntax.named 1) Syntax.imm (Syntax.tyInt Syntax.w64);
@@ -18877,220 +18698,314 @@ module _ (claims· : Claims) where
                   (
                     Num.vAt 3 λ x. x,
                     (
-                      Num.vAt 14 λ x. x,
+                      Num.vAt 13 λ x. x,
                       (
-                        Num.vAt 13 λ x. x,
+                        Num.vAt 12 λ x. x,
                         (
-                          record { pos = 12; st = List.[]; d = 0; at = λ x. x },
-                          (
-                            record {
-                              pos = 19;
-                              ty = Syntax.tyRef
-                                  Syntax.erased
-                                  Syntax.mut
-                                  Elem.ty;
-                              ref = λ x. x;
-                            },
-                            tt,
-                          ),
+                          record {
+                            pos = 18;
+                            ty = Syntax.tyRef
+                                Syntax.erased
+                                Syntax.mut
+                                Elem.ty;
+                            ref = λ x. x;
+                          },
+                          tt,
                         ),
                       ),
                     ),
                   ),
                 ),
-              ) (m24 record { before = c .before; loop-test = c .loop-test } g) g';
+              ) (m18 record { before = c .before; loop-test = c .loop-test } g) g';
             },
           ),
         )
 
-        lay4 :
-            (c : After-loop) → at5
-            (c .before .before .before .before .before .before .before .before .before .before
-            .before .before .before .blocks) (W4 (c .before .before) (c .before .loop .owner)
-            (c .before .loop .stack) (c .before .loop .cur) (c .before .loop .next)
-            (c .before .loop .clean) (c .before .loop .recs) (c .before .loop .rec)
-            (c .before .loop .j) (c .before .loop .n) (c .before .loop .o)) (m18
-            (c .before .before) (c .before .loop .owner) (c .before .loop .stack)
-            (c .before .loop .cur) (c .before .loop .next) (c .before .loop .clean)
-            (c .before .loop .recs) (c .before .loop .rec) (c .before .loop .j)
-            (c .before .loop .n) (c .before .loop .o))
-        lay4 = λ c. lay9 record { before = c .before; loop-test = c .loop-test }
-
-        lay3 :
-            (c : In-loop) → at1
-            (c .before .before .before .before .before .before .before .before .before .before
-            .before .before .before .blocks) (W4 (c .before .before) (c .before .loop .owner)
-            (c .before .loop .stack) (c .before .loop .cur) (c .before .loop .next)
-            (c .before .loop .clean) (c .before .loop .recs) (c .before .loop .rec)
-            (c .before .loop .j) (c .before .loop .n) (c .before .loop .o)) (m18
-            (c .before .before) (c .before .loop .owner) (c .before .loop .stack)
-            (c .before .loop .cur) (c .before .loop .next) (c .before .loop .clean)
-            (c .before .loop .recs) (c .before .loop .rec) (c .before .loop .j)
-            (c .before .loop .n) (c .before .loop .o))
-        lay3 = λ c. lay5 record { before = c .before; loop-test = c .loop-test }
-
         lay2 :
-            (c : After-blank) → at74
-            (c .before .before .before .before .before .before .before .before .before .before
-            .before .blocks) (W0
-            (c .before .before .before .before .before .before .before .before .before .before
-            .before .κs)
-            (c .before .before .before .before .before .before .before .before .before .before
-            .before .args)
-            (c .before .before .before .before .before .before .before .before .before .before
-            .before .blocks)) (m13 (c .before) (After-blank·gave c))
-        lay2 = λ c. (
-          (
-            (
-              Row.get 6 (T17 .locals) (m16 (c .before) (After-blank·gave c)) .now,
-              Row.get 7 (T17 .locals) (m16 (c .before) (After-blank·gave c)) .now,
-              Row.get 8 (T17 .locals) (m16 (c .before) (After-blank·gave c)) .now,
-              Row.get 9 (T17 .locals) (m16 (c .before) (After-blank·gave c)) .now,
-              Row.get 10 (T17 .locals) (m16 (c .before) (After-blank·gave c)) .now,
-              Row.get 11 (T17 .locals) (m16 (c .before) (After-blank·gave c)),
-              Row.get 12 (T17 .locals) (m16 (c .before) (After-blank·gave c)),
-              Row.get 13 (T17 .locals) (m16 (c .before) (After-blank·gave c)),
-              Row.get 14 (T17 .locals) (m16 (c .before) (After-blank·gave c)),
-              Row.get 15 (T17 .locals) (m16 (c .before) (After-blank·gave c)),
-            ),
-            Path'.refl {a = m16 (c .before) (After-blank·gave c)},
-            loop-holds record { before = c .before; blank = c .blank },
-          ),
-          λ vs inv. (
-            tt,
-            (
-              λ taken. lay3 record {
-                before = record {
-                  before = record { before = c .before; blank = c .blank };
-                  loop = record {
-                    owner = vs .0;
-                    stack = vs .1;
-                    cur = vs .2;
-                    next = vs .3;
-                    clean = vs .4;
-                    recs = vs .5;
-                    rec = vs .6;
-                    j = vs .7;
-                    n = vs .8;
-                    o = vs .9;
-                    inv = inv;
-                  };
-                };
-                loop-test = record {
-                  taken = Tests.ltb-true (Row.get 14 (T17 .locals) (m17 record {
-                    before = c .before;
-                    blank = c .blank;
-                  }
-                      (vs .0)
-                      (vs .1)
-                      (vs .2)
-                      (vs .3)
-                      (vs .4)
-                      (vs .5)
-                      (vs .6)
-                      (vs .7)
-                      (vs .8)
-                      (vs .9)))
-                      (Row.get 3 (T17 .locals) (m17 record {
-                        before = c .before;
-                        blank = c .blank;
-                      }
-                      (vs .0)
-                      (vs .1)
-                      (vs .2)
-                      (vs .3)
-                      (vs .4)
-                      (vs .5)
-                      (vs .6)
-                      (vs .7)
-                      (vs .8)
-                      (vs .9)))
-                      taken;
-                };
-              },
-              λ left. lay4 record {
-                before = record {
-                  before = record { before = c .before; blank = c .blank };
-                  loop = record {
-                    owner = vs .0;
-                    stack = vs .1;
-                    cur = vs .2;
-                    next = vs .3;
-                    clean = vs .4;
-                    recs = vs .5;
-                    rec = vs .6;
-                    j = vs .7;
-                    n = vs .8;
-                    o = vs .9;
-                    inv = inv;
-                  };
-                };
-                loop-test = record {
-                  left = Tests.ltb-false (Row.get 14 (T17 .locals) (m17 record {
-                    before = c .before;
-                    blank = c .blank;
-                  }
-                      (vs .0)
-                      (vs .1)
-                      (vs .2)
-                      (vs .3)
-                      (vs .4)
-                      (vs .5)
-                      (vs .6)
-                      (vs .7)
-                      (vs .8)
-                      (vs .9)))
-                      (Row.get 3 (T17 .locals) (m17 record {
-                        before = c .before;
-                        blank = c .blank;
-                      }
-                      (vs .0)
-                      (vs .1)
-                      (vs .2)
-                      (vs .3)
-                      (vs .4)
-                      (vs .5)
-                      (vs .6)
-                      (vs .7)
-                      (vs .8)
-                      (vs .9)))
-                      left;
-                };
-              },
-            ),
-          ),
-        )
+            (c : After-loop) →
+            at3
+            (W4
+            (c .before .before)
+            (c .before .loop .owner)
+            (c .before .loop .stack)
+            (c .before .loop .cur)
+            (c .before .loop .next)
+            (c .before .loop .clean)
+            (c .before .loop .recs)
+            (c .before .loop .past)
+            (c .before .loop .n)
+            (c .before .loop .o))
+            (m14
+            (c .before .before)
+            (c .before .loop .owner)
+            (c .before .loop .stack)
+            (c .before .loop .cur)
+            (c .before .loop .next)
+            (c .before .loop .clean)
+            (c .before .loop .recs)
+            (c .before .loop .past)
+            (c .before .loop .n)
+            (c .before .loop .o))
+        lay2 = λ c. lay7 record { before = c .before; loop-test = c .loop-test }
 
         lay1 :
-            (c : After-window) → at77
-            (c .before .before .before .before .before .before .before .before .before .before
-            .blocks) (W0
-            (c .before .before .before .before .before .before .before .before .before .before .κs)
-            (c .before .before .before .before .before .before .before .before .before .before
-            .args)
-            (c .before .before .before .before .before .before .before .before .before .before
-            .blocks)) (m10 (c .before) (After-window·gave c))
-        lay1 = λ c. (
-          blank-requires record { before = c .before; window = c .window },
-          λ g. lay2 record {
-            before = record { before = c .before; window = c .window };
-            blank = Called.called
-                ps·1
-                r·1
-                (claims· .3)
-                T13
-                tt
-                (m12 (c .before) (After-window·gave c))
-                g;
-          },
-        )
+            (c : In-loop) →
+            at1
+            (W4
+            (c .before .before)
+            (c .before .loop .owner)
+            (c .before .loop .stack)
+            (c .before .loop .cur)
+            (c .before .loop .next)
+            (c .before .loop .clean)
+            (c .before .loop .recs)
+            (c .before .loop .past)
+            (c .before .loop .n)
+            (c .before .loop .o))
+            (m14
+            (c .before .before)
+            (c .before .loop .owner)
+            (c .before .loop .stack)
+            (c .before .loop .cur)
+            (c .before .loop .next)
+            (c .before .loop .clean)
+            (c .before .loop .recs)
+            (c .before .loop .past)
+            (c .before .loop .n)
+            (c .before .loop .o))
+        lay1 = λ c. lay3 record { before = c .before; loop-test = c .loop-test }
 
-        pub laid :
-            (c : Start) →
-            at87 (c .blocks) (W0 (c .κs) (c .args) (c .blocks)) (m0 (c .κs) (c .args) (c .blocks))
+        pub laid : (c : Start) → at86 (W0 (c .κs) (c .args)) (m0 (c .κs) (c .args))
         laid = λ c. λ g. λ g'. λ g''. λ g'3. λ g'4. λ g'5. λ g'6. λ g'7. λ g'8. (
-          window-requires record {
-            before = record {
+          (
+            (
+              Row.get 6 (T13 .locals) (m12 record {
+                before = record {
+                  before = record {
+                    before = record {
+                      before = record {
+                        before = record {
+                          before = record {
+                            before = record {
+                              before = c;
+                              shared-slice-known = record { given = g };
+                            };
+                            shared-slice-known2 = record { given = g' };
+                          };
+                          shared-slice-known3 = record { given = g'' };
+                        };
+                        shared-slice-known4 = record { given = g'3 };
+                      };
+                      slice-known = record { given = g'4 };
+                    };
+                    slice-known2 = record { given = g'5 };
+                  };
+                  slice-known3 = record { given = g'6 };
+                };
+                slice-known4 = record { given = g'7 };
+              } g'8) .now,
+              Row.get 7 (T13 .locals) (m12 record {
+                before = record {
+                  before = record {
+                    before = record {
+                      before = record {
+                        before = record {
+                          before = record {
+                            before = record {
+                              before = c;
+                              shared-slice-known = record { given = g };
+                            };
+                            shared-slice-known2 = record { given = g' };
+                          };
+                          shared-slice-known3 = record { given = g'' };
+                        };
+                        shared-slice-known4 = record { given = g'3 };
+                      };
+                      slice-known = record { given = g'4 };
+                    };
+                    slice-known2 = record { given = g'5 };
+                  };
+                  slice-known3 = record { given = g'6 };
+                };
+                slice-known4 = record { given = g'7 };
+              } g'8) .now,
+              Row.get 8 (T13 .locals) (m12 record {
+                before = record {
+                  before = record {
+                    before = record {
+                      before = record {
+                        before = record {
+                          before = record {
+                            before = record {
+                              before = c;
+                              shared-slice-known = record { given = g };
+                            };
+                            shared-slice-known2 = record { given = g' };
+                          };
+                          shared-slice-known3 = record { given = g'' };
+                        };
+                        shared-slice-known4 = record { given = g'3 };
+                      };
+                      slice-known = record { given = g'4 };
+                    };
+                    slice-known2 = record { given = g'5 };
+                  };
+                  slice-known3 = record { given = g'6 };
+                };
+                slice-known4 = record { given = g'7 };
+              } g'8) .now,
+              Row.get 9 (T13 .locals) (m12 record {
+                before = record {
+                  before = record {
+                    before = record {
+                      before = record {
+                        before = record {
+                          before = record {
+                            before = record {
+                              before = c;
+                              shared-slice-known = record { given = g };
+                            };
+                            shared-slice-known2 = record { given = g' };
+                          };
+                          shared-slice-known3 = record { given = g'' };
+                        };
+                        shared-slice-known4 = record { given = g'3 };
+                      };
+                      slice-known = record { given = g'4 };
+                    };
+                    slice-known2 = record { given = g'5 };
+                  };
+                  slice-known3 = record { given = g'6 };
+                };
+                slice-known4 = record { given = g'7 };
+              } g'8) .now,
+              Row.get 10 (T13 .locals) (m12 record {
+                before = record {
+                  before = record {
+                    before = record {
+                      before = record {
+                        before = record {
+                          before = record {
+                            before = record {
+                              before = c;
+                              shared-slice-known = record { given = g };
+                            };
+                            shared-slice-known2 = record { given = g' };
+                          };
+                          shared-slice-known3 = record { given = g'' };
+                        };
+                        shared-slice-known4 = record { given = g'3 };
+                      };
+                      slice-known = record { given = g'4 };
+                    };
+                    slice-known2 = record { given = g'5 };
+                  };
+                  slice-known3 = record { given = g'6 };
+                };
+                slice-known4 = record { given = g'7 };
+              } g'8) .now,
+              Row.get 11 (T13 .locals) (m12 record {
+                before = record {
+                  before = record {
+                    before = record {
+                      before = record {
+                        before = record {
+                          before = record {
+                            before = record {
+                              before = c;
+                              shared-slice-known = record { given = g };
+                            };
+                            shared-slice-known2 = record { given = g' };
+                          };
+                          shared-slice-known3 = record { given = g'' };
+                        };
+                        shared-slice-known4 = record { given = g'3 };
+                      };
+                      slice-known = record { given = g'4 };
+                    };
+                    slice-known2 = record { given = g'5 };
+                  };
+                  slice-known3 = record { given = g'6 };
+                };
+                slice-known4 = record { given = g'7 };
+              } g'8) .now,
+              Row.get 12 (T13 .locals) (m12 record {
+                before = record {
+                  before = record {
+                    before = record {
+                      before = record {
+                        before = record {
+                          before = record {
+                            before = record {
+                              before = c;
+                              shared-slice-known = record { given = g };
+                            };
+                            shared-slice-known2 = record { given = g' };
+                          };
+                          shared-slice-known3 = record { given = g'' };
+                        };
+                        shared-slice-known4 = record { given = g'3 };
+                      };
+                      slice-known = record { given = g'4 };
+                    };
+                    slice-known2 = record { given = g'5 };
+                  };
+                  slice-known3 = record { given = g'6 };
+                };
+                slice-known4 = record { given = g'7 };
+              } g'8),
+              Row.get 13 (T13 .locals) (m12 record {
+                before = record {
+                  before = record {
+                    before = record {
+                      before = record {
+                        before = record {
+                          before = record {
+                            before = record {
+                              before = c;
+                              shared-slice-known = record { given = g };
+                            };
+                            shared-slice-known2 = record { given = g' };
+                          };
+                          shared-slice-known3 = record { given = g'' };
+                        };
+                        shared-slice-known4 = record { given = g'3 };
+                      };
+                      slice-known = record { given = g'4 };
+                    };
+                    slice-known2 = record { given = g'5 };
+                  };
+                  slice-known3 = record { given = g'6 };
+                };
+                slice-known4 = record { given = g'7 };
+              } g'8),
+              Row.get 14 (T13 .locals) (m12 record {
+                before = record {
+                  before = record {
+                    before = record {
+                      before = record {
+                        before = record {
+                          before = record {
+                            before = record {
+                              before = c;
+                              shared-slice-known = record { given = g };
+                            };
+                            shared-slice-known2 = record { given = g' };
+                          };
+                          shared-slice-known3 = record { given = g'' };
+                        };
+                        shared-slice-known4 = record { given = g'3 };
+                      };
+                      slice-known = record { given = g'4 };
+                    };
+                    slice-known2 = record { given = g'5 };
+                  };
+                  slice-known3 = record { given = g'6 };
+                };
+                slice-known4 = record { given = g'7 };
+              } g'8),
+            ),
+            Path'.refl {a = m12 record {
               before = record {
                 before = record {
                   before = record {
@@ -19114,11 +19029,8 @@ module _ (claims· : Claims) where
                 slice-known3 = record { given = g'6 };
               };
               slice-known4 = record { given = g'7 };
-            };
-            slice-known5 = record { given = g'8 };
-          },
-          λ g'9. lay1 record {
-            before = record {
+            } g'8},
+            loop-holds record {
               before = record {
                 before = record {
                   before = record {
@@ -19145,42 +19057,228 @@ module _ (claims· : Claims) where
                 slice-known4 = record { given = g'7 };
               };
               slice-known5 = record { given = g'8 };
-            };
-            window = Called.called ps·0 r·0 (claims· .1) T10 tt (m9 record {
-              before = record {
+            },
+          ),
+          λ vs inv. (
+            tt,
+            (
+              λ taken. lay1 record {
                 before = record {
                   before = record {
                     before = record {
                       before = record {
                         before = record {
                           before = record {
-                            before = c;
-                            shared-slice-known = record { given = g };
+                            before = record {
+                              before = record {
+                                before = record {
+                                  before = record {
+                                    before = c;
+                                    shared-slice-known = record { given = g };
+                                  };
+                                  shared-slice-known2 = record { given = g' };
+                                };
+                                shared-slice-known3 = record { given = g'' };
+                              };
+                              shared-slice-known4 = record { given = g'3 };
+                            };
+                            slice-known = record { given = g'4 };
                           };
-                          shared-slice-known2 = record { given = g' };
+                          slice-known2 = record { given = g'5 };
                         };
-                        shared-slice-known3 = record { given = g'' };
+                        slice-known3 = record { given = g'6 };
                       };
-                      shared-slice-known4 = record { given = g'3 };
+                      slice-known4 = record { given = g'7 };
                     };
-                    slice-known = record { given = g'4 };
+                    slice-known5 = record { given = g'8 };
                   };
-                  slice-known2 = record { given = g'5 };
+                  loop = record {
+                    owner = vs .0;
+                    stack = vs .1;
+                    cur = vs .2;
+                    next = vs .3;
+                    clean = vs .4;
+                    recs = vs .5;
+                    past = vs .6;
+                    n = vs .7;
+                    o = vs .8;
+                    inv = inv;
+                  };
                 };
-                slice-known3 = record { given = g'6 };
-              };
-              slice-known4 = record { given = g'7 };
-            } g'8) g'9;
-          },
+                loop-test = record {
+                  taken = Tests.ltb-true (Row.get 13 (T13 .locals) (m13 record {
+                    before = record {
+                      before = record {
+                        before = record {
+                          before = record {
+                            before = record {
+                              before = record {
+                                before = record {
+                                  before = record {
+                                    before = c;
+                                    shared-slice-known = record { given = g };
+                                  };
+                                  shared-slice-known2 = record { given = g' };
+                                };
+                                shared-slice-known3 = record { given = g'' };
+                              };
+                              shared-slice-known4 = record { given = g'3 };
+                            };
+                            slice-known = record { given = g'4 };
+                          };
+                          slice-known2 = record { given = g'5 };
+                        };
+                        slice-known3 = record { given = g'6 };
+                      };
+                      slice-known4 = record { given = g'7 };
+                    };
+                    slice-known5 = record { given = g'8 };
+                  } (vs .0) (vs .1) (vs .2) (vs .3) (vs .4) (vs .5) (vs .6) (vs .7) (vs .8)))
+                      (Row.get 3 (T13 .locals) (m13 record {
+                        before = record {
+                          before = record {
+                            before = record {
+                              before = record {
+                                before = record {
+                                  before = record {
+                                    before = record {
+                                      before = record {
+                                        before = c;
+                                        shared-slice-known = record { given = g };
+                                      };
+                                      shared-slice-known2 = record { given = g' };
+                                    };
+                                    shared-slice-known3 = record { given = g'' };
+                                  };
+                                  shared-slice-known4 = record { given = g'3 };
+                                };
+                                slice-known = record { given = g'4 };
+                              };
+                              slice-known2 = record { given = g'5 };
+                            };
+                            slice-known3 = record { given = g'6 };
+                          };
+                          slice-known4 = record { given = g'7 };
+                        };
+                        slice-known5 = record { given = g'8 };
+                      } (vs .0) (vs .1) (vs .2) (vs .3) (vs .4) (vs .5) (vs .6) (vs .7) (vs .8)))
+                      taken;
+                };
+              },
+              λ left. lay2 record {
+                before = record {
+                  before = record {
+                    before = record {
+                      before = record {
+                        before = record {
+                          before = record {
+                            before = record {
+                              before = record {
+                                before = record {
+                                  before = record {
+                                    before = c;
+                                    shared-slice-known = record { given = g };
+                                  };
+                                  shared-slice-known2 = record { given = g' };
+                                };
+                                shared-slice-known3 = record { given = g'' };
+                              };
+                              shared-slice-known4 = record { given = g'3 };
+                            };
+                            slice-known = record { given = g'4 };
+                          };
+                          slice-known2 = record { given = g'5 };
+                        };
+                        slice-known3 = record { given = g'6 };
+                      };
+                      slice-known4 = record { given = g'7 };
+                    };
+                    slice-known5 = record { given = g'8 };
+                  };
+                  loop = record {
+                    owner = vs .0;
+                    stack = vs .1;
+                    cur = vs .2;
+                    next = vs .3;
+                    clean = vs .4;
+                    recs = vs .5;
+                    past = vs .6;
+                    n = vs .7;
+                    o = vs .8;
+                    inv = inv;
+                  };
+                };
+                loop-test = record {
+                  left = Tests.ltb-false (Row.get 13 (T13 .locals) (m13 record {
+                    before = record {
+                      before = record {
+                        before = record {
+                          before = record {
+                            before = record {
+                              before = record {
+                                before = record {
+                                  before = record {
+                                    before = c;
+                                    shared-slice-known = record { given = g };
+                                  };
+                                  shared-slice-known2 = record { given = g' };
+                                };
+                                shared-slice-known3 = record { given = g'' };
+                              };
+                              shared-slice-known4 = record { given = g'3 };
+                            };
+                            slice-known = record { given = g'4 };
+                          };
+                          slice-known2 = record { given = g'5 };
+                        };
+                        slice-known3 = record { given = g'6 };
+                      };
+                      slice-known4 = record { given = g'7 };
+                    };
+                    slice-known5 = record { given = g'8 };
+                  } (vs .0) (vs .1) (vs .2) (vs .3) (vs .4) (vs .5) (vs .6) (vs .7) (vs .8)))
+                      (Row.get 3 (T13 .locals) (m13 record {
+                        before = record {
+                          before = record {
+                            before = record {
+                              before = record {
+                                before = record {
+                                  before = record {
+                                    before = record {
+                                      before = record {
+                                        before = c;
+                                        shared-slice-known = record { given = g };
+                                      };
+                                      shared-slice-known2 = record { given = g' };
+                                    };
+                                    shared-slice-known3 = record { given = g'' };
+                                  };
+                                  shared-slice-known4 = record { given = g'3 };
+                                };
+                                slice-known = record { given = g'4 };
+                              };
+                              slice-known2 = record { given = g'5 };
+                            };
+                            slice-known3 = record { given = g'6 };
+                          };
+                          slice-known4 = record { given = g'7 };
+                        };
+                        slice-known5 = record { given = g'8 };
+                      } (vs .0) (vs .1) (vs .2) (vs .3) (vs .4) (vs .5) (vs .6) (vs .7) (vs .8)))
+                      left;
+                };
+              },
+            ),
+          ),
         )
 
-        module _ (κs : Lifetimes.Lfts 9) (qs : Lifetimes.Shares 9) where
+        module _ (κs : Lifetimes.Lfts 10) (qs : Lifetimes.Shares 10) where
           pub asked :
               (a : Kinds.Dens κs ps) →
               (good : Kinds.GoodsP κs ps a) →
               (pre : Pre· κs a) →
               (bs : List.List Nat.ℕ) →
-              Φ bs (Any.wantQ 9 ps r xs m κs qs a (Post· κs a)) (Function.init 9 ps r xs m κs qs a)
+              Φ (Any.wantQ 10 ps r xs m κs qs a (Post· κs a)) (Function.init 10 ps r xs m κs qs a)
           asked = λ a good pre bs. laid record {
             κs = κs;
             args = record {
@@ -19194,8 +19292,8 @@ module _ (claims· : Claims) where
               cur = a .1 .1 .1 .1 .1 .1 .1 .0;
               next = a .1 .1 .1 .1 .1 .1 .1 .1 .0;
               clean = a .1 .1 .1 .1 .1 .1 .1 .1 .1 .0;
+              recs = a .1 .1 .1 .1 .1 .1 .1 .1 .1 .1 .0;
             };
-            blocks = bs;
             good = good;
             fits = record { m = record { fits = good .1 .1 .0 .1 } };
             pre = pre;
@@ -19203,27 +19301,25 @@ module _ (claims· : Claims) where
 
         module _ {M : Type 1} (𝓤 : URA.URA M) (H : Wp.Heap 𝓤) (A : Atoms.Atoms 𝓤)
             (W : Kit.Given 𝓤 H A) (𝓣 : Wp.Tables 𝓤 H)
-            (known0 : Plain.Known 𝓤 H A W 𝓣 0 ps·0 r·0 (claims· .0) (claims· .1) "records::window")
-            (known1 : Plain.Known 𝓤 H A W 𝓣 0 ps·1 r·1 (claims· .2) (claims· .3) "records::blank")
-            (known2 : Plain.Known 𝓤 H A W 𝓣 3 ps·2 r·2 (claims· .4) (claims· .5) "records::refill")
-            (known3 : Plain.Known 𝓤 H A W 𝓣 1 ps·3 r·3 (claims· .6) (claims· .7) "records::get")
-            (known4 : Plain.Known
+            (known0 : Plain.Known 𝓤 H A W 𝓣 3 ps·0 r·0 (claims· .0) (claims· .1) "records::refill")
+            (known1 : Plain.Known 𝓤 H A W 𝓣 1 ps·1 r·1 (claims· .2) (claims· .3) "records::get")
+            (known2 : Plain.Known
             𝓤
             H
             A
             W
             𝓣
             8
-            ps·4
-            r·4
-            (claims· .8)
-            (claims· .9)
+            ps·2
+            r·2
+            (claims· .4)
+            (claims· .5)
             "calls::turn_line") where
           pub spec :
               Statement.Triple
               𝓤
-              (Wp.WpFn 𝓤 H (𝓣 .C) (𝓣 .Λ) (Function.fnOf 9 ps r xs m hs body))
-              (Function.plainOf 𝓤 H A 9 ps r Pre· Post·)
+              (Wp.WpFn 𝓤 H (𝓣 .C) (𝓣 .Λ) (Function.fnOf 10 ps r xs m hs body))
+              (Function.plainOf 𝓤 H A 10 ps r Pre· Post·)
           spec =
               Plain.t-fn-plain
               𝓤
@@ -19231,25 +19327,15 @@ module _ (claims· : Claims) where
               A
               W
               𝓣
-              9
+              10
               ps
               r
               xs
               m
               hs
               body
-              (λ κs qs bs. Φ bs)
-              (λ κs qs bs bd. typed
-              κs
-              qs
-              𝓤
-              H
-              A
-              W
-              𝓣
-              (known0, known1, known2, known3, known4)
-              bs
-              bd)
+              (λ κs qs bs. Φ)
+              (λ κs qs bs bd. typed κs qs 𝓤 H A W 𝓣 (known0, known1, known2) bs bd)
               Pre·
               Post·
               asked

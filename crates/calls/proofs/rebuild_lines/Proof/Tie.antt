@@ -9,18 +9,12 @@ use Rattle.calls.proofs.rebuild_lines.Statement
 use Rattle.calls.proofs.turn_line.Met
 use Rattle.calls.proofs.turn_line.Reads as Reads'
 use Rattle.calls.proofs.turn_line.Symbol
-use Rattle.records.proofs.blank.Met as Met'
-use Rattle.records.proofs.blank.Reads as Reads''
-use Rattle.records.proofs.blank.Symbol as Symbol'
-use Rattle.records.proofs.get.Met as Met''
-use Rattle.records.proofs.Of_get.Reads as Reads'3
-use Rattle.records.proofs.get.Symbol as Symbol''
-use Rattle.records.proofs.refill.Met as Met'3
-use Rattle.records.proofs.Of_refill.Reads as Reads'4
-use Rattle.records.proofs.refill.Symbol as Symbol'3
-use Rattle.records.proofs.window.Met as Met'4
-use Rattle.records.proofs.window.Reads as Reads'5
-use Rattle.records.proofs.window.Symbol as Symbol'4
+use Rattle.records.proofs.get.Met as Met'
+use Rattle.records.proofs.Of_get.Reads as Reads''
+use Rattle.records.proofs.get.Symbol as Symbol'
+use Rattle.records.proofs.refill.Met as Met''
+use Rattle.records.proofs.Of_refill.Reads as Reads'3
+use Rattle.records.proofs.refill.Symbol as Symbol''
 use borrow.Fn.Run
 use borrow.Fn.Written
 use contract.Running
@@ -33,756 +27,500 @@ MeasureT-loop = Lts.MeasureT-loop
 
 abbrev pub Start : (Inv : InvT-loop) → (μ : MeasureT-loop) → Type 0
 Start = λ Inv μ. Lts.Start (
-  Reads'5.Asked,
-  Reads'5.Learnt,
-  Reads''.Asked,
-  Reads''.Learnt,
-  Reads'4.Asked,
-  Reads'4.Learnt,
   Reads'3.Asked,
   Reads'3.Learnt,
+  Reads''.Asked,
+  Reads''.Learnt,
   Reads'.Asked,
   Reads'.Learnt,
 ) Reads.Pre Reads.Post Inv μ
 
 abbrev pub After-shared-slice-known : (Inv : InvT-loop) → (μ : MeasureT-loop) → Type 0
 After-shared-slice-known = λ Inv μ. Lts.After-shared-slice-known (
-  Reads'5.Asked,
-  Reads'5.Learnt,
-  Reads''.Asked,
-  Reads''.Learnt,
-  Reads'4.Asked,
-  Reads'4.Learnt,
   Reads'3.Asked,
   Reads'3.Learnt,
+  Reads''.Asked,
+  Reads''.Learnt,
   Reads'.Asked,
   Reads'.Learnt,
 ) Reads.Pre Reads.Post Inv μ
 
 abbrev pub After-shared-slice-known2 : (Inv : InvT-loop) → (μ : MeasureT-loop) → Type 0
 After-shared-slice-known2 = λ Inv μ. Lts.After-shared-slice-known2 (
-  Reads'5.Asked,
-  Reads'5.Learnt,
-  Reads''.Asked,
-  Reads''.Learnt,
-  Reads'4.Asked,
-  Reads'4.Learnt,
   Reads'3.Asked,
   Reads'3.Learnt,
+  Reads''.Asked,
+  Reads''.Learnt,
   Reads'.Asked,
   Reads'.Learnt,
 ) Reads.Pre Reads.Post Inv μ
 
 abbrev pub After-shared-slice-known3 : (Inv : InvT-loop) → (μ : MeasureT-loop) → Type 0
 After-shared-slice-known3 = λ Inv μ. Lts.After-shared-slice-known3 (
-  Reads'5.Asked,
-  Reads'5.Learnt,
-  Reads''.Asked,
-  Reads''.Learnt,
-  Reads'4.Asked,
-  Reads'4.Learnt,
   Reads'3.Asked,
   Reads'3.Learnt,
+  Reads''.Asked,
+  Reads''.Learnt,
   Reads'.Asked,
   Reads'.Learnt,
 ) Reads.Pre Reads.Post Inv μ
 
 abbrev pub After-shared-slice-known4 : (Inv : InvT-loop) → (μ : MeasureT-loop) → Type 0
 After-shared-slice-known4 = λ Inv μ. Lts.After-shared-slice-known4 (
-  Reads'5.Asked,
-  Reads'5.Learnt,
-  Reads''.Asked,
-  Reads''.Learnt,
-  Reads'4.Asked,
-  Reads'4.Learnt,
   Reads'3.Asked,
   Reads'3.Learnt,
+  Reads''.Asked,
+  Reads''.Learnt,
   Reads'.Asked,
   Reads'.Learnt,
 ) Reads.Pre Reads.Post Inv μ
 
 abbrev pub After-slice-known : (Inv : InvT-loop) → (μ : MeasureT-loop) → Type 0
 After-slice-known = λ Inv μ. Lts.After-slice-known (
-  Reads'5.Asked,
-  Reads'5.Learnt,
-  Reads''.Asked,
-  Reads''.Learnt,
-  Reads'4.Asked,
-  Reads'4.Learnt,
   Reads'3.Asked,
   Reads'3.Learnt,
+  Reads''.Asked,
+  Reads''.Learnt,
   Reads'.Asked,
   Reads'.Learnt,
 ) Reads.Pre Reads.Post Inv μ
 
 abbrev pub After-slice-known2 : (Inv : InvT-loop) → (μ : MeasureT-loop) → Type 0
 After-slice-known2 = λ Inv μ. Lts.After-slice-known2 (
-  Reads'5.Asked,
-  Reads'5.Learnt,
-  Reads''.Asked,
-  Reads''.Learnt,
-  Reads'4.Asked,
-  Reads'4.Learnt,
   Reads'3.Asked,
   Reads'3.Learnt,
+  Reads''.Asked,
+  Reads''.Learnt,
   Reads'.Asked,
   Reads'.Learnt,
 ) Reads.Pre Reads.Post Inv μ
 
 abbrev pub After-slice-known3 : (Inv : InvT-loop) → (μ : MeasureT-loop) → Type 0
 After-slice-known3 = λ Inv μ. Lts.After-slice-known3 (
-  Reads'5.Asked,
-  Reads'5.Learnt,
-  Reads''.Asked,
-  Reads''.Learnt,
-  Reads'4.Asked,
-  Reads'4.Learnt,
   Reads'3.Asked,
   Reads'3.Learnt,
+  Reads''.Asked,
+  Reads''.Learnt,
   Reads'.Asked,
   Reads'.Learnt,
 ) Reads.Pre Reads.Post Inv μ
 
 abbrev pub After-slice-known4 : (Inv : InvT-loop) → (μ : MeasureT-loop) → Type 0
 After-slice-known4 = λ Inv μ. Lts.After-slice-known4 (
-  Reads'5.Asked,
-  Reads'5.Learnt,
-  Reads''.Asked,
-  Reads''.Learnt,
-  Reads'4.Asked,
-  Reads'4.Learnt,
   Reads'3.Asked,
   Reads'3.Learnt,
+  Reads''.Asked,
+  Reads''.Learnt,
   Reads'.Asked,
   Reads'.Learnt,
 ) Reads.Pre Reads.Post Inv μ
 
 abbrev pub After-slice-known5 : (Inv : InvT-loop) → (μ : MeasureT-loop) → Type 0
 After-slice-known5 = λ Inv μ. Lts.After-slice-known5 (
-  Reads'5.Asked,
-  Reads'5.Learnt,
-  Reads''.Asked,
-  Reads''.Learnt,
-  Reads'4.Asked,
-  Reads'4.Learnt,
   Reads'3.Asked,
   Reads'3.Learnt,
-  Reads'.Asked,
-  Reads'.Learnt,
-) Reads.Pre Reads.Post Inv μ
-
-abbrev pub After-window : (Inv : InvT-loop) → (μ : MeasureT-loop) → Type 0
-After-window = λ Inv μ. Lts.After-window (
-  Reads'5.Asked,
-  Reads'5.Learnt,
   Reads''.Asked,
   Reads''.Learnt,
-  Reads'4.Asked,
-  Reads'4.Learnt,
-  Reads'3.Asked,
-  Reads'3.Learnt,
-  Reads'.Asked,
-  Reads'.Learnt,
-) Reads.Pre Reads.Post Inv μ
-
-abbrev pub After-blank : (Inv : InvT-loop) → (μ : MeasureT-loop) → Type 0
-After-blank = λ Inv μ. Lts.After-blank (
-  Reads'5.Asked,
-  Reads'5.Learnt,
-  Reads''.Asked,
-  Reads''.Learnt,
-  Reads'4.Asked,
-  Reads'4.Learnt,
-  Reads'3.Asked,
-  Reads'3.Learnt,
   Reads'.Asked,
   Reads'.Learnt,
 ) Reads.Pre Reads.Post Inv μ
 
 abbrev pub At-loop : (Inv : InvT-loop) → (μ : MeasureT-loop) → Type 0
 At-loop = λ Inv μ. Lts.At-loop (
-  Reads'5.Asked,
-  Reads'5.Learnt,
-  Reads''.Asked,
-  Reads''.Learnt,
-  Reads'4.Asked,
-  Reads'4.Learnt,
   Reads'3.Asked,
   Reads'3.Learnt,
+  Reads''.Asked,
+  Reads''.Learnt,
   Reads'.Asked,
   Reads'.Learnt,
 ) Reads.Pre Reads.Post Inv μ
 
 abbrev pub In-loop : (Inv : InvT-loop) → (μ : MeasureT-loop) → Type 0
 In-loop = λ Inv μ. Lts.In-loop (
-  Reads'5.Asked,
-  Reads'5.Learnt,
-  Reads''.Asked,
-  Reads''.Learnt,
-  Reads'4.Asked,
-  Reads'4.Learnt,
   Reads'3.Asked,
   Reads'3.Learnt,
+  Reads''.Asked,
+  Reads''.Learnt,
   Reads'.Asked,
   Reads'.Learnt,
 ) Reads.Pre Reads.Post Inv μ
 
 abbrev pub After-loop : (Inv : InvT-loop) → (μ : MeasureT-loop) → Type 0
 After-loop = λ Inv μ. Lts.After-loop (
-  Reads'5.Asked,
-  Reads'5.Learnt,
-  Reads''.Asked,
-  Reads''.Learnt,
-  Reads'4.Asked,
-  Reads'4.Learnt,
   Reads'3.Asked,
   Reads'3.Learnt,
+  Reads''.Asked,
+  Reads''.Learnt,
   Reads'.Asked,
   Reads'.Learnt,
 ) Reads.Pre Reads.Post Inv μ
 
-abbrev pub After-recs : (Inv : InvT-loop) → (μ : MeasureT-loop) → Type 0
-After-recs = λ Inv μ. Lts.After-recs (
-  Reads'5.Asked,
-  Reads'5.Learnt,
-  Reads''.Asked,
-  Reads''.Learnt,
-  Reads'4.Asked,
-  Reads'4.Learnt,
+abbrev pub After-refill-arg : (Inv : InvT-loop) → (μ : MeasureT-loop) → Type 0
+After-refill-arg = λ Inv μ. Lts.After-refill-arg (
   Reads'3.Asked,
   Reads'3.Learnt,
+  Reads''.Asked,
+  Reads''.Learnt,
   Reads'.Asked,
   Reads'.Learnt,
 ) Reads.Pre Reads.Post Inv μ
 
 abbrev pub After-refill : (Inv : InvT-loop) → (μ : MeasureT-loop) → Type 0
 After-refill = λ Inv μ. Lts.After-refill (
-  Reads'5.Asked,
-  Reads'5.Learnt,
-  Reads''.Asked,
-  Reads''.Learnt,
-  Reads'4.Asked,
-  Reads'4.Learnt,
   Reads'3.Asked,
   Reads'3.Learnt,
+  Reads''.Asked,
+  Reads''.Learnt,
   Reads'.Asked,
   Reads'.Learnt,
 ) Reads.Pre Reads.Post Inv μ
 
-abbrev pub After-recs2 : (Inv : InvT-loop) → (μ : MeasureT-loop) → Type 0
-After-recs2 = λ Inv μ. Lts.After-recs2 (
-  Reads'5.Asked,
-  Reads'5.Learnt,
-  Reads''.Asked,
-  Reads''.Learnt,
-  Reads'4.Asked,
-  Reads'4.Learnt,
+abbrev pub After-recs : (Inv : InvT-loop) → (μ : MeasureT-loop) → Type 0
+After-recs = λ Inv μ. Lts.After-recs (
   Reads'3.Asked,
   Reads'3.Learnt,
+  Reads''.Asked,
+  Reads''.Learnt,
   Reads'.Asked,
   Reads'.Learnt,
 ) Reads.Pre Reads.Post Inv μ
 
-abbrev pub After-recs3 : (Inv : InvT-loop) → (μ : MeasureT-loop) → Type 0
-After-recs3 = λ Inv μ. Lts.After-recs3 (
-  Reads'5.Asked,
-  Reads'5.Learnt,
-  Reads''.Asked,
-  Reads''.Learnt,
-  Reads'4.Asked,
-  Reads'4.Learnt,
+abbrev pub After-get-arg : (Inv : InvT-loop) → (μ : MeasureT-loop) → Type 0
+After-get-arg = λ Inv μ. Lts.After-get-arg (
   Reads'3.Asked,
   Reads'3.Learnt,
+  Reads''.Asked,
+  Reads''.Learnt,
   Reads'.Asked,
   Reads'.Learnt,
 ) Reads.Pre Reads.Post Inv μ
 
 abbrev pub After-get : (Inv : InvT-loop) → (μ : MeasureT-loop) → Type 0
 After-get = λ Inv μ. Lts.After-get (
-  Reads'5.Asked,
-  Reads'5.Learnt,
-  Reads''.Asked,
-  Reads''.Learnt,
-  Reads'4.Asked,
-  Reads'4.Learnt,
   Reads'3.Asked,
   Reads'3.Learnt,
+  Reads''.Asked,
+  Reads''.Learnt,
   Reads'.Asked,
   Reads'.Learnt,
 ) Reads.Pre Reads.Post Inv μ
 
 abbrev pub After-turn-line-arg : (Inv : InvT-loop) → (μ : MeasureT-loop) → Type 0
 After-turn-line-arg = λ Inv μ. Lts.After-turn-line-arg (
-  Reads'5.Asked,
-  Reads'5.Learnt,
-  Reads''.Asked,
-  Reads''.Learnt,
-  Reads'4.Asked,
-  Reads'4.Learnt,
   Reads'3.Asked,
   Reads'3.Learnt,
+  Reads''.Asked,
+  Reads''.Learnt,
   Reads'.Asked,
   Reads'.Learnt,
 ) Reads.Pre Reads.Post Inv μ
 
 abbrev pub After-turn-line-arg2 : (Inv : InvT-loop) → (μ : MeasureT-loop) → Type 0
 After-turn-line-arg2 = λ Inv μ. Lts.After-turn-line-arg2 (
-  Reads'5.Asked,
-  Reads'5.Learnt,
-  Reads''.Asked,
-  Reads''.Learnt,
-  Reads'4.Asked,
-  Reads'4.Learnt,
   Reads'3.Asked,
   Reads'3.Learnt,
+  Reads''.Asked,
+  Reads''.Learnt,
   Reads'.Asked,
   Reads'.Learnt,
 ) Reads.Pre Reads.Post Inv μ
 
 abbrev pub After-turn-line-arg3 : (Inv : InvT-loop) → (μ : MeasureT-loop) → Type 0
 After-turn-line-arg3 = λ Inv μ. Lts.After-turn-line-arg3 (
-  Reads'5.Asked,
-  Reads'5.Learnt,
-  Reads''.Asked,
-  Reads''.Learnt,
-  Reads'4.Asked,
-  Reads'4.Learnt,
   Reads'3.Asked,
   Reads'3.Learnt,
+  Reads''.Asked,
+  Reads''.Learnt,
   Reads'.Asked,
   Reads'.Learnt,
 ) Reads.Pre Reads.Post Inv μ
 
 abbrev pub After-turn-line-arg4 : (Inv : InvT-loop) → (μ : MeasureT-loop) → Type 0
 After-turn-line-arg4 = λ Inv μ. Lts.After-turn-line-arg4 (
-  Reads'5.Asked,
-  Reads'5.Learnt,
-  Reads''.Asked,
-  Reads''.Learnt,
-  Reads'4.Asked,
-  Reads'4.Learnt,
   Reads'3.Asked,
   Reads'3.Learnt,
+  Reads''.Asked,
+  Reads''.Learnt,
   Reads'.Asked,
   Reads'.Learnt,
 ) Reads.Pre Reads.Post Inv μ
 
 abbrev pub After-turn-line-arg5 : (Inv : InvT-loop) → (μ : MeasureT-loop) → Type 0
 After-turn-line-arg5 = λ Inv μ. Lts.After-turn-line-arg5 (
-  Reads'5.Asked,
-  Reads'5.Learnt,
-  Reads''.Asked,
-  Reads''.Learnt,
-  Reads'4.Asked,
-  Reads'4.Learnt,
   Reads'3.Asked,
   Reads'3.Learnt,
+  Reads''.Asked,
+  Reads''.Learnt,
   Reads'.Asked,
   Reads'.Learnt,
 ) Reads.Pre Reads.Post Inv μ
 
 abbrev pub After-turn-line : (Inv : InvT-loop) → (μ : MeasureT-loop) → Type 0
 After-turn-line = λ Inv μ. Lts.After-turn-line (
-  Reads'5.Asked,
-  Reads'5.Learnt,
-  Reads''.Asked,
-  Reads''.Learnt,
-  Reads'4.Asked,
-  Reads'4.Learnt,
   Reads'3.Asked,
   Reads'3.Learnt,
+  Reads''.Asked,
+  Reads''.Learnt,
   Reads'.Asked,
   Reads'.Learnt,
 ) Reads.Pre Reads.Post Inv μ
 
 abbrev pub After-owner : (Inv : InvT-loop) → (μ : MeasureT-loop) → Type 0
 After-owner = λ Inv μ. Lts.After-owner (
-  Reads'5.Asked,
-  Reads'5.Learnt,
-  Reads''.Asked,
-  Reads''.Learnt,
-  Reads'4.Asked,
-  Reads'4.Learnt,
   Reads'3.Asked,
   Reads'3.Learnt,
+  Reads''.Asked,
+  Reads''.Learnt,
   Reads'.Asked,
   Reads'.Learnt,
 ) Reads.Pre Reads.Post Inv μ
 
 abbrev pub After-slice-known6 : (Inv : InvT-loop) → (μ : MeasureT-loop) → Type 0
 After-slice-known6 = λ Inv μ. Lts.After-slice-known6 (
-  Reads'5.Asked,
-  Reads'5.Learnt,
-  Reads''.Asked,
-  Reads''.Learnt,
-  Reads'4.Asked,
-  Reads'4.Learnt,
   Reads'3.Asked,
   Reads'3.Learnt,
+  Reads''.Asked,
+  Reads''.Learnt,
   Reads'.Asked,
   Reads'.Learnt,
 ) Reads.Pre Reads.Post Inv μ
 
 abbrev pub After-stack : (Inv : InvT-loop) → (μ : MeasureT-loop) → Type 0
 After-stack = λ Inv μ. Lts.After-stack (
-  Reads'5.Asked,
-  Reads'5.Learnt,
-  Reads''.Asked,
-  Reads''.Learnt,
-  Reads'4.Asked,
-  Reads'4.Learnt,
   Reads'3.Asked,
   Reads'3.Learnt,
+  Reads''.Asked,
+  Reads''.Learnt,
   Reads'.Asked,
   Reads'.Learnt,
 ) Reads.Pre Reads.Post Inv μ
 
 abbrev pub After-slice-known7 : (Inv : InvT-loop) → (μ : MeasureT-loop) → Type 0
 After-slice-known7 = λ Inv μ. Lts.After-slice-known7 (
-  Reads'5.Asked,
-  Reads'5.Learnt,
-  Reads''.Asked,
-  Reads''.Learnt,
-  Reads'4.Asked,
-  Reads'4.Learnt,
   Reads'3.Asked,
   Reads'3.Learnt,
+  Reads''.Asked,
+  Reads''.Learnt,
   Reads'.Asked,
   Reads'.Learnt,
 ) Reads.Pre Reads.Post Inv μ
 
 abbrev pub After-cur : (Inv : InvT-loop) → (μ : MeasureT-loop) → Type 0
 After-cur = λ Inv μ. Lts.After-cur (
-  Reads'5.Asked,
-  Reads'5.Learnt,
-  Reads''.Asked,
-  Reads''.Learnt,
-  Reads'4.Asked,
-  Reads'4.Learnt,
   Reads'3.Asked,
   Reads'3.Learnt,
+  Reads''.Asked,
+  Reads''.Learnt,
   Reads'.Asked,
   Reads'.Learnt,
 ) Reads.Pre Reads.Post Inv μ
 
 abbrev pub After-slice-known8 : (Inv : InvT-loop) → (μ : MeasureT-loop) → Type 0
 After-slice-known8 = λ Inv μ. Lts.After-slice-known8 (
-  Reads'5.Asked,
-  Reads'5.Learnt,
-  Reads''.Asked,
-  Reads''.Learnt,
-  Reads'4.Asked,
-  Reads'4.Learnt,
   Reads'3.Asked,
   Reads'3.Learnt,
+  Reads''.Asked,
+  Reads''.Learnt,
   Reads'.Asked,
   Reads'.Learnt,
 ) Reads.Pre Reads.Post Inv μ
 
 abbrev pub After-next : (Inv : InvT-loop) → (μ : MeasureT-loop) → Type 0
 After-next = λ Inv μ. Lts.After-next (
-  Reads'5.Asked,
-  Reads'5.Learnt,
-  Reads''.Asked,
-  Reads''.Learnt,
-  Reads'4.Asked,
-  Reads'4.Learnt,
   Reads'3.Asked,
   Reads'3.Learnt,
+  Reads''.Asked,
+  Reads''.Learnt,
   Reads'.Asked,
   Reads'.Learnt,
 ) Reads.Pre Reads.Post Inv μ
 
 abbrev pub After-slice-known9 : (Inv : InvT-loop) → (μ : MeasureT-loop) → Type 0
 After-slice-known9 = λ Inv μ. Lts.After-slice-known9 (
-  Reads'5.Asked,
-  Reads'5.Learnt,
-  Reads''.Asked,
-  Reads''.Learnt,
-  Reads'4.Asked,
-  Reads'4.Learnt,
   Reads'3.Asked,
   Reads'3.Learnt,
+  Reads''.Asked,
+  Reads''.Learnt,
   Reads'.Asked,
   Reads'.Learnt,
 ) Reads.Pre Reads.Post Inv μ
 
 abbrev pub After-clean : (Inv : InvT-loop) → (μ : MeasureT-loop) → Type 0
 After-clean = λ Inv μ. Lts.After-clean (
-  Reads'5.Asked,
-  Reads'5.Learnt,
-  Reads''.Asked,
-  Reads''.Learnt,
-  Reads'4.Asked,
-  Reads'4.Learnt,
   Reads'3.Asked,
   Reads'3.Learnt,
+  Reads''.Asked,
+  Reads''.Learnt,
   Reads'.Asked,
   Reads'.Learnt,
 ) Reads.Pre Reads.Post Inv μ
 
 abbrev pub After-slice-known10 : (Inv : InvT-loop) → (μ : MeasureT-loop) → Type 0
 After-slice-known10 = λ Inv μ. Lts.After-slice-known10 (
-  Reads'5.Asked,
-  Reads'5.Learnt,
-  Reads''.Asked,
-  Reads''.Learnt,
-  Reads'4.Asked,
-  Reads'4.Learnt,
   Reads'3.Asked,
   Reads'3.Learnt,
-  Reads'.Asked,
-  Reads'.Learnt,
-) Reads.Pre Reads.Post Inv μ
-
-abbrev pub Need-window-requires : (Inv : InvT-loop) → (μ : MeasureT-loop) → Type 0
-Need-window-requires = λ Inv μ. Lts.Need-window-requires (
-  Reads'5.Asked,
-  Reads'5.Learnt,
   Reads''.Asked,
   Reads''.Learnt,
-  Reads'4.Asked,
-  Reads'4.Learnt,
-  Reads'3.Asked,
-  Reads'3.Learnt,
-  Reads'.Asked,
-  Reads'.Learnt,
-) Reads.Pre Reads.Post Inv μ
-
-abbrev pub Need-blank-requires : (Inv : InvT-loop) → (μ : MeasureT-loop) → Type 0
-Need-blank-requires = λ Inv μ. Lts.Need-blank-requires (
-  Reads'5.Asked,
-  Reads'5.Learnt,
-  Reads''.Asked,
-  Reads''.Learnt,
-  Reads'4.Asked,
-  Reads'4.Learnt,
-  Reads'3.Asked,
-  Reads'3.Learnt,
   Reads'.Asked,
   Reads'.Learnt,
 ) Reads.Pre Reads.Post Inv μ
 
 abbrev pub Need-loop-holds : (Inv : InvT-loop) → (μ : MeasureT-loop) → Type 0
 Need-loop-holds = λ Inv μ. Lts.Need-loop-holds (
-  Reads'5.Asked,
-  Reads'5.Learnt,
-  Reads''.Asked,
-  Reads''.Learnt,
-  Reads'4.Asked,
-  Reads'4.Learnt,
   Reads'3.Asked,
   Reads'3.Learnt,
-  Reads'.Asked,
-  Reads'.Learnt,
-) Reads.Pre Reads.Post Inv μ
-
-abbrev pub Need-slice-aggregate-refill : (Inv : InvT-loop) → (μ : MeasureT-loop) → Type 0
-Need-slice-aggregate-refill = λ Inv μ. Lts.Need-slice-aggregate-refill (
-  Reads'5.Asked,
-  Reads'5.Learnt,
   Reads''.Asked,
   Reads''.Learnt,
-  Reads'4.Asked,
-  Reads'4.Learnt,
-  Reads'3.Asked,
-  Reads'3.Learnt,
   Reads'.Asked,
   Reads'.Learnt,
 ) Reads.Pre Reads.Post Inv μ
 
 abbrev pub Need-refill-requires : (Inv : InvT-loop) → (μ : MeasureT-loop) → Type 0
 Need-refill-requires = λ Inv μ. Lts.Need-refill-requires (
-  Reads'5.Asked,
-  Reads'5.Learnt,
-  Reads''.Asked,
-  Reads''.Learnt,
-  Reads'4.Asked,
-  Reads'4.Learnt,
   Reads'3.Asked,
   Reads'3.Learnt,
+  Reads''.Asked,
+  Reads''.Learnt,
   Reads'.Asked,
   Reads'.Learnt,
 ) Reads.Pre Reads.Post Inv μ
 
-abbrev pub Need-slice-aggregate-get : (Inv : InvT-loop) → (μ : MeasureT-loop) → Type 0
-Need-slice-aggregate-get = λ Inv μ. Lts.Need-slice-aggregate-get (
-  Reads'5.Asked,
-  Reads'5.Learnt,
-  Reads''.Asked,
-  Reads''.Learnt,
-  Reads'4.Asked,
-  Reads'4.Learnt,
+abbrev pub Need-add-get : (Inv : InvT-loop) → (μ : MeasureT-loop) → Type 0
+Need-add-get = λ Inv μ. Lts.Need-add-get (
   Reads'3.Asked,
   Reads'3.Learnt,
+  Reads''.Asked,
+  Reads''.Learnt,
+  Reads'.Asked,
+  Reads'.Learnt,
+) Reads.Pre Reads.Post Inv μ
+
+abbrev pub Need-sub-get : (Inv : InvT-loop) → (μ : MeasureT-loop) → Type 0
+Need-sub-get = λ Inv μ. Lts.Need-sub-get (
+  Reads'3.Asked,
+  Reads'3.Learnt,
+  Reads''.Asked,
+  Reads''.Learnt,
   Reads'.Asked,
   Reads'.Learnt,
 ) Reads.Pre Reads.Post Inv μ
 
 abbrev pub Need-get-requires : (Inv : InvT-loop) → (μ : MeasureT-loop) → Type 0
 Need-get-requires = λ Inv μ. Lts.Need-get-requires (
-  Reads'5.Asked,
-  Reads'5.Learnt,
-  Reads''.Asked,
-  Reads''.Learnt,
-  Reads'4.Asked,
-  Reads'4.Learnt,
   Reads'3.Asked,
   Reads'3.Learnt,
+  Reads''.Asked,
+  Reads''.Learnt,
   Reads'.Asked,
   Reads'.Learnt,
 ) Reads.Pre Reads.Post Inv μ
 
 abbrev pub Need-turn-line-requires : (Inv : InvT-loop) → (μ : MeasureT-loop) → Type 0
 Need-turn-line-requires = λ Inv μ. Lts.Need-turn-line-requires (
-  Reads'5.Asked,
-  Reads'5.Learnt,
-  Reads''.Asked,
-  Reads''.Learnt,
-  Reads'4.Asked,
-  Reads'4.Learnt,
   Reads'3.Asked,
   Reads'3.Learnt,
-  Reads'.Asked,
-  Reads'.Learnt,
-) Reads.Pre Reads.Post Inv μ
-
-abbrev pub Need-add-j : (Inv : InvT-loop) → (μ : MeasureT-loop) → Type 0
-Need-add-j = λ Inv μ. Lts.Need-add-j (
-  Reads'5.Asked,
-  Reads'5.Learnt,
   Reads''.Asked,
   Reads''.Learnt,
-  Reads'4.Asked,
-  Reads'4.Learnt,
-  Reads'3.Asked,
-  Reads'3.Learnt,
   Reads'.Asked,
   Reads'.Learnt,
 ) Reads.Pre Reads.Post Inv μ
 
 abbrev pub Need-add-n : (Inv : InvT-loop) → (μ : MeasureT-loop) → Type 0
 Need-add-n = λ Inv μ. Lts.Need-add-n (
-  Reads'5.Asked,
-  Reads'5.Learnt,
-  Reads''.Asked,
-  Reads''.Learnt,
-  Reads'4.Asked,
-  Reads'4.Learnt,
   Reads'3.Asked,
   Reads'3.Learnt,
+  Reads''.Asked,
+  Reads''.Learnt,
   Reads'.Asked,
   Reads'.Learnt,
 ) Reads.Pre Reads.Post Inv μ
 
 abbrev pub Need-loop-less : (Inv : InvT-loop) → (μ : MeasureT-loop) → Type 0
 Need-loop-less = λ Inv μ. Lts.Need-loop-less (
-  Reads'5.Asked,
-  Reads'5.Learnt,
-  Reads''.Asked,
-  Reads''.Learnt,
-  Reads'4.Asked,
-  Reads'4.Learnt,
   Reads'3.Asked,
   Reads'3.Learnt,
+  Reads''.Asked,
+  Reads''.Learnt,
   Reads'.Asked,
   Reads'.Learnt,
 ) Reads.Pre Reads.Post Inv μ
 
 abbrev pub Need-loop-again : (Inv : InvT-loop) → (μ : MeasureT-loop) → Type 0
 Need-loop-again = λ Inv μ. Lts.Need-loop-again (
-  Reads'5.Asked,
-  Reads'5.Learnt,
-  Reads''.Asked,
-  Reads''.Learnt,
-  Reads'4.Asked,
-  Reads'4.Learnt,
   Reads'3.Asked,
   Reads'3.Learnt,
+  Reads''.Asked,
+  Reads''.Learnt,
   Reads'.Asked,
   Reads'.Learnt,
 ) Reads.Pre Reads.Post Inv μ
 
 abbrev pub Need-same-length : (Inv : InvT-loop) → (μ : MeasureT-loop) → Type 0
 Need-same-length = λ Inv μ. Lts.Need-same-length (
-  Reads'5.Asked,
-  Reads'5.Learnt,
-  Reads''.Asked,
-  Reads''.Learnt,
-  Reads'4.Asked,
-  Reads'4.Learnt,
   Reads'3.Asked,
   Reads'3.Learnt,
+  Reads''.Asked,
+  Reads''.Learnt,
   Reads'.Asked,
   Reads'.Learnt,
 ) Reads.Pre Reads.Post Inv μ
 
 abbrev pub Need-same-length-2 : (Inv : InvT-loop) → (μ : MeasureT-loop) → Type 0
 Need-same-length-2 = λ Inv μ. Lts.Need-same-length-2 (
-  Reads'5.Asked,
-  Reads'5.Learnt,
-  Reads''.Asked,
-  Reads''.Learnt,
-  Reads'4.Asked,
-  Reads'4.Learnt,
   Reads'3.Asked,
   Reads'3.Learnt,
+  Reads''.Asked,
+  Reads''.Learnt,
   Reads'.Asked,
   Reads'.Learnt,
 ) Reads.Pre Reads.Post Inv μ
 
 abbrev pub Need-same-length-3 : (Inv : InvT-loop) → (μ : MeasureT-loop) → Type 0
 Need-same-length-3 = λ Inv μ. Lts.Need-same-length-3 (
-  Reads'5.Asked,
-  Reads'5.Learnt,
-  Reads''.Asked,
-  Reads''.Learnt,
-  Reads'4.Asked,
-  Reads'4.Learnt,
   Reads'3.Asked,
   Reads'3.Learnt,
+  Reads''.Asked,
+  Reads''.Learnt,
   Reads'.Asked,
   Reads'.Learnt,
 ) Reads.Pre Reads.Post Inv μ
 
 abbrev pub Need-same-length-4 : (Inv : InvT-loop) → (μ : MeasureT-loop) → Type 0
 Need-same-length-4 = λ Inv μ. Lts.Need-same-length-4 (
-  Reads'5.Asked,
-  Reads'5.Learnt,
-  Reads''.Asked,
-  Reads''.Learnt,
-  Reads'4.Asked,
-  Reads'4.Learnt,
   Reads'3.Asked,
   Reads'3.Learnt,
+  Reads''.Asked,
+  Reads''.Learnt,
   Reads'.Asked,
   Reads'.Learnt,
 ) Reads.Pre Reads.Post Inv μ
 
 abbrev pub Need-same-length-5 : (Inv : InvT-loop) → (μ : MeasureT-loop) → Type 0
 Need-same-length-5 = λ Inv μ. Lts.Need-same-length-5 (
-  Reads'5.Asked,
-  Reads'5.Learnt,
-  Reads''.Asked,
-  Reads''.Learnt,
-  Reads'4.Asked,
-  Reads'4.Learnt,
   Reads'3.Asked,
   Reads'3.Learnt,
+  Reads''.Asked,
+  Reads''.Learnt,
+  Reads'.Asked,
+  Reads'.Learnt,
+) Reads.Pre Reads.Post Inv μ
+
+abbrev pub Need-same-length-6 : (Inv : InvT-loop) → (μ : MeasureT-loop) → Type 0
+Need-same-length-6 = λ Inv μ. Lts.Need-same-length-6 (
+  Reads'3.Asked,
+  Reads'3.Learnt,
+  Reads''.Asked,
+  Reads''.Learnt,
   Reads'.Asked,
   Reads'.Learnt,
 ) Reads.Pre Reads.Post Inv μ
 
 abbrev pub Need-returns : (Inv : InvT-loop) → (μ : MeasureT-loop) → Type 0
 Need-returns = λ Inv μ. Lts.Need-returns (
-  Reads'5.Asked,
-  Reads'5.Learnt,
-  Reads''.Asked,
-  Reads''.Learnt,
-  Reads'4.Asked,
-  Reads'4.Learnt,
   Reads'3.Asked,
   Reads'3.Learnt,
+  Reads''.Asked,
+  Reads''.Learnt,
   Reads'.Asked,
   Reads'.Learnt,
 ) Reads.Pre Reads.Post Inv μ
@@ -791,15 +529,12 @@ module _ {M : Type 1} where
   pub spec :
       (Inv : InvT-loop) →
       (μ : MeasureT-loop) →
-      (answer : Need-window-requires Inv μ) →
-      (answer : Need-blank-requires Inv μ) →
       (answer : Need-loop-holds Inv μ) →
-      (answer : Need-slice-aggregate-refill Inv μ) →
       (answer : Need-refill-requires Inv μ) →
-      (answer : Need-slice-aggregate-get Inv μ) →
+      (answer : Need-add-get Inv μ) →
+      (answer : Need-sub-get Inv μ) →
       (answer : Need-get-requires Inv μ) →
       (answer : Need-turn-line-requires Inv μ) →
-      (answer : Need-add-j Inv μ) →
       (answer : Need-add-n Inv μ) →
       (answer : Need-loop-less Inv μ) →
       (answer : Need-loop-again Inv μ) →
@@ -808,74 +543,36 @@ module _ {M : Type 1} where
       (answer : Need-same-length-3 Inv μ) →
       (answer : Need-same-length-4 Inv μ) →
       (answer : Need-same-length-5 Inv μ) →
+      (answer : Need-same-length-6 Inv μ) →
       (answer : Need-returns Inv μ) →
       Lts.Closed (
-        Reads'5.Asked,
-        Reads'5.Learnt,
-        Reads''.Asked,
-        Reads''.Learnt,
-        Reads'4.Asked,
-        Reads'4.Learnt,
         Reads'3.Asked,
         Reads'3.Learnt,
+        Reads''.Asked,
+        Reads''.Learnt,
         Reads'.Asked,
         Reads'.Learnt,
       ) Reads.Pre Reads.Post M
   spec =
       λ Inv μ answer answer' answer'' answer'3 answer'4 answer'5 answer'6 answer'7 answer'8
-      answer'9 answer'10 answer'11 answer'12 answer'13 answer'14 answer'15 answer'16
-      answer'17. Lts.spec (
-        Reads'5.Asked,
-        Reads'5.Learnt,
-        Reads''.Asked,
-        Reads''.Learnt,
-        Reads'4.Asked,
-        Reads'4.Learnt,
-        Reads'3.Asked,
-        Reads'3.Learnt,
-        Reads'.Asked,
-        Reads'.Learnt,
-      )
-      Reads.Pre
-      Reads.Post
-      Inv
-      μ
-      answer
-      answer'
-      answer''
-      answer'3
-      answer'4
-      answer'5
-      answer'6
-      answer'7
-      answer'8
-      answer'9
-      answer'10
-      answer'11
-      answer'12
-      answer'13
-      answer'14
-      answer'15
-      answer'16
-      answer'17
+      answer'9 answer'10 answer'11 answer'12 answer'13 answer'14 answer'15. Lts.spec
+      (Reads'3.Asked, Reads'3.Learnt, Reads''.Asked, Reads''.Learnt, Reads'.Asked, Reads'.Learnt)
+      Reads.Pre Reads.Post Inv μ answer answer' answer'' answer'3 answer'4 answer'5 answer'6
+      answer'7 answer'8 answer'9 answer'10 answer'11 answer'12 answer'13 answer'14 answer'15
 
   -- antt refused `close` as it was built: the module's report says why
   pub close : Lts.Closed (
-    Reads'5.Asked,
-    Reads'5.Learnt,
-    Reads''.Asked,
-    Reads''.Learnt,
-    Reads'4.Asked,
-    Reads'4.Learnt,
     Reads'3.Asked,
     Reads'3.Learnt,
+    Reads''.Asked,
+    Reads''.Learnt,
     Reads'.Asked,
     Reads'.Learnt,
   ) Reads.Pre Reads.Post M → Statement.statement M
   unfolding Code.routine Running.tablesOf
   close =
       λ closed 𝓤 H 𝓜 𝓖 𝓡. Written.close
-      9
+      10
       Kinds.ps
       Kinds.r
       Reads.Ghost
@@ -899,34 +596,20 @@ module _ {M : Type 1} where
       (𝓖 .A)
       (Running.givenOf 𝓤 H 𝓜 𝓖)
       (Run.Over 𝓤 H 𝓜 𝓖 𝓡 Code.env)
-      (Reads'5.known
-      record { M = M; 𝓤 = 𝓤; H = H; 𝓜 = 𝓜; 𝓖 = 𝓖; 𝓡 = 𝓡 }
-      Code.env
-      Symbol'4.name
-      Symbol'4.routine
-      Code.calls-records·window
-      (Met'4.met 𝓤 H 𝓜 𝓖 𝓡))
-      (Reads''.known
-      record { M = M; 𝓤 = 𝓤; H = H; 𝓜 = 𝓜; 𝓖 = 𝓖; 𝓡 = 𝓡 }
-      Code.env
-      Symbol'.name
-      Symbol'.routine
-      Code.calls-records·blank
-      (Met'.met 𝓤 H 𝓜 𝓖 𝓡))
-      (Reads'4.known
-      record { M = M; 𝓤 = 𝓤; H = H; 𝓜 = 𝓜; 𝓖 = 𝓖; 𝓡 = 𝓡 }
-      Code.env
-      Symbol'3.name
-      Symbol'3.routine
-      Code.calls-records·refill
-      (Met'3.met 𝓤 H 𝓜 𝓖 𝓡))
       (Reads'3.known
       record { M = M; 𝓤 = 𝓤; H = H; 𝓜 = 𝓜; 𝓖 = 𝓖; 𝓡 = 𝓡 }
       Code.env
       Symbol''.name
       Symbol''.routine
-      Code.calls-records·get
+      Code.calls-records·refill
       (Met''.met 𝓤 H 𝓜 𝓖 𝓡))
+      (Reads''.known
+      record { M = M; 𝓤 = 𝓤; H = H; 𝓜 = 𝓜; 𝓖 = 𝓖; 𝓡 = 𝓡 }
+      Code.env
+      Symbol'.name
+      Symbol'.routine
+      Code.calls-records·get
+      (Met'.met 𝓤 H 𝓜 𝓖 𝓡))
       (Reads'.known
       record { M = M; 𝓤 = 𝓤; H = H; 𝓜 = 𝓜; 𝓖 = 𝓖; 𝓡 = 𝓡 }
       Code.env

@@ -1,8 +1,6 @@
 -- Made by tools/twin of what the borrow checker makes of a twin of `refill`. Do not edit.
 use Rattle.records.proofs.Elem
 use Prim.Native.Nat
-use Rattle.records.proofs.LineRec
-use Rattle.records.proofs.LineRec.Laws
 use borrow.Author.Called
 use borrow.Author.Tests
 use borrow.Fn.Any
@@ -16,16 +14,12 @@ use borrow.Kind.MutSlice
 use borrow.Kind.Num
 use borrow.Kind.ShrSlice
 use borrow.Kind.Unit as Unit'
-use borrow.Kind.Value
 use borrow.Rule.Lifetime
-use borrow.Rule.Local
 use borrow.Rule.Scalar
 use borrow.Rule.Slice.Know
 use borrow.Rule.Slice.Mut
 use borrow.Rule.Slice.Relend
 use borrow.Rule.Slice.Shared
-use borrow.Rule.Yields
-use borrow.Table.Copies
 use borrow.Table.Reads
 use borrow.Table.Referent
 use borrow.Table.Row
@@ -33,9 +27,6 @@ use borrow.Table.Rows
 use borrow.Table.Typed
 use contract.Lifetimes
 use denote.Array
-use denote.Exit
-use denote.Struct.Declared
-use denote.Struct.Laws as Laws'
 use denote.Triple.Clauses
 use denote.Triple.Statement
 use ghost.Atoms
@@ -57,25 +48,13 @@ ps =
     (ShrSlice.pShrS (Referent.rtF (Referent.fInt Syntax.w64)) 1 tt)
     (List._∷_
     (Num.pNum Syntax.w64)
-    (List._∷_ (Num.pNum Syntax.w64) (List._∷_ (Num.pNum Syntax.w64) (List._∷_ (Value.pVal record {
-      ty = Declared.row LineRec.the-type;
-      one = Path'.refl;
-      val = Laws'.val LineRec.the-type Laws.the-laws;
-      tells = Laws'.tells LineRec.the-type Laws.the-laws;
-      still = Laws'.still LineRec.the-type Laws.the-copy Exit.yes;
-      row = Rows.whole (Declared.row LineRec.the-type);
-      rd = λ x. x;
-      mk = λ x. x;
-    } λ M 𝓤 H A W. record {
-      copies = Laws'.copy LineRec.the-type Laws.the-copy 𝓤 H A W;
-      lawful = Laws'.lawful LineRec.the-type Laws.the-laws 𝓤 H A W;
-      makes = Laws'.makes LineRec.the-type Laws.the-plain 𝓤 H A;
-      in-mem = Local.mem-whole 𝓤 H A W (Declared.row LineRec.the-type);
-      of-mem = Local.whole-mem 𝓤 H A W (Declared.row LineRec.the-type);
-    })
+    (List._∷_
+    (Num.pNum Syntax.w64)
+    (List._∷_
+    (Num.pNum Syntax.w64)
     (List._∷_
     (MutSlice.pMutS Elem.R 2 tt)
-    List.[]))))))
+    List.[])))))
 
 abbrev pub r : Kinds.RK 3
 r = Num.rNum Syntax.w64
@@ -83,8 +62,6 @@ r = Num.rNum Syntax.w64
 abbrev pub xs : List.List Syntax.Ty
 xs =
     List._∷_
-    (Syntax.tyInt Syntax.w64)
-    (List._∷_
     Syntax.tyBool
     (List._∷_
     Syntax.tyUnit
@@ -96,7 +73,7 @@ xs =
     (Syntax.tcons
     (Syntax.tyRef Syntax.erased Syntax.mut Elem.ty)
     (Syntax.tcons (Syntax.tyInt Syntax.w64) Syntax.tnil)))
-    List.[]))))
+    (List._∷_ (Syntax.tyInt Syntax.w64) List.[]))))
 
 abbrev pub m : Nat.ℕ
 m = 1
@@ -107,25 +84,13 @@ ps·0 =
     (ShrSlice.pShrS (Referent.rtF (Referent.fInt Syntax.w64)) 0 tt)
     (List._∷_
     (ShrSlice.pShrS (Referent.rtF (Referent.fInt Syntax.w64)) 1 tt)
-    (List._∷_ (Num.pNum Syntax.w64) (List._∷_ (Num.pNum Syntax.w64) (List._∷_ (Value.pVal record {
-      ty = Declared.row LineRec.the-type;
-      one = Path'.refl;
-      val = Laws'.val LineRec.the-type Laws.the-laws;
-      tells = Laws'.tells LineRec.the-type Laws.the-laws;
-      still = Laws'.still LineRec.the-type Laws.the-copy Exit.yes;
-      row = Rows.whole (Declared.row LineRec.the-type);
-      rd = λ x. x;
-      mk = λ x. x;
-    } λ M 𝓤 H A W. record {
-      copies = Laws'.copy LineRec.the-type Laws.the-copy 𝓤 H A W;
-      lawful = Laws'.lawful LineRec.the-type Laws.the-laws 𝓤 H A W;
-      makes = Laws'.makes LineRec.the-type Laws.the-plain 𝓤 H A;
-      in-mem = Local.mem-whole 𝓤 H A W (Declared.row LineRec.the-type);
-      of-mem = Local.whole-mem 𝓤 H A W (Declared.row LineRec.the-type);
-    })
+    (List._∷_
+    (Num.pNum Syntax.w64)
+    (List._∷_
+    (Num.pNum Syntax.w64)
     (List._∷_
     (MutSlice.pMutS Elem.R 2 tt)
-    List.[])))))
+    List.[]))))
 
 abbrev pub r·0 : Kinds.RK 3
 r·0 = Unit'.rUnit
@@ -152,62 +117,54 @@ hs =
     Syntax.valueLocal
     (List._∷_
     Syntax.valueLocal
-    (List._∷_
-    Syntax.valueLocal
-    (List._∷_ Syntax.valueLocal (List._∷_ Syntax.valueLocal List.[]))))))))))))
+    (List._∷_ Syntax.valueLocal (List._∷_ Syntax.valueLocal List.[])))))))))))
 
 abbrev b0 : Syntax.Body
 b0 =
     Syntax.assign
-    (Syntax.place 8 List.[])
-    (Syntax.rvOpd (Syntax.copy (Syntax.place 7 (List._∷_ (Syntax.field 1) List.[]))))
-
-abbrev b1 : Syntax.Body
-b1 =
-    Syntax.assign
-    (Syntax.place 9 List.[])
+    (Syntax.place 7 List.[])
     (Syntax.op2
     (Syntax.lt Syntax.unsigned)
-    (Syntax.copy (Syntax.place 5 List.[]))
-    (Syntax.copy (Syntax.place 8 List.[])))
+    (Syntax.copy (Syntax.place 4 List.[]))
+    (Syntax.copy (Syntax.place 5 List.[])))
+
+abbrev b1 : Syntax.Body
+b1 = Syntax.assign (Syntax.place 0 List.[]) (Syntax.rvOpd (Syntax.copy (Syntax.place 5 List.[])))
 
 abbrev b2 : Syntax.Body
-b2 = Syntax.assign (Syntax.place 0 List.[]) (Syntax.rvOpd (Syntax.copy (Syntax.place 5 List.[])))
+b2 = Syntax.return
 
 abbrev b3 : Syntax.Body
-b3 = Syntax.return
+b3 = Syntax.seq b1 b2
 
 abbrev b4 : Syntax.Body
-b4 = Syntax.seq b2 b3
+b4 = Syntax.skip
 
 abbrev b5 : Syntax.Body
-b5 = Syntax.skip
+b5 = Syntax.cond (Syntax.copy (Syntax.place 7 List.[])) b3 b4
 
 abbrev b6 : Syntax.Body
-b6 = Syntax.cond (Syntax.copy (Syntax.place 9 List.[])) b4 b5
-
-abbrev b7 : Syntax.Body
-b7 =
+b6 =
     Syntax.assign
-    (Syntax.place 11 List.[])
+    (Syntax.place 9 List.[])
     (Syntax.addrOf
     (Syntax.place
-    7
+    6
     (List._∷_
     (Syntax.field 0)
     (List._∷_ (Syntax.deref Elem.held) List.[]))))
 
-abbrev b8 : Syntax.Body
-b8 =
+abbrev b7 : Syntax.Body
+b7 =
     Syntax.assign
-    (Syntax.place 12 List.[])
+    (Syntax.place 10 List.[])
     (Syntax.aggregate
     (List._∷_
-    (Syntax.copy (Syntax.place 11 List.[]))
-    (List._∷_ (Syntax.copy (Syntax.place 7 (List._∷_ (Syntax.field 1) List.[]))) List.[])))
+    (Syntax.copy (Syntax.place 9 List.[]))
+    (List._∷_ (Syntax.copy (Syntax.place 6 (List._∷_ (Syntax.field 1) List.[]))) List.[])))
 
-abbrev b9 : Syntax.Body
-b9 =
+abbrev b8 : Syntax.Body
+b8 =
     Syntax.call
     "records::fill"
     (List._∷_
@@ -217,14 +174,24 @@ b9 =
     (List._∷_
     (Syntax.copy (Syntax.place 3 List.[]))
     (List._∷_
-    (Syntax.copy (Syntax.place 4 List.[]))
-    (List._∷_
-    (Syntax.copy (Syntax.place 6 List.[]))
-    (List._∷_ (Syntax.copy (Syntax.place 12 List.[])) List.[]))))))
-    (Syntax.place 10 List.[])
+    (Syntax.copy (Syntax.place 5 List.[]))
+    (List._∷_ (Syntax.copy (Syntax.place 10 List.[])) List.[])))))
+    (Syntax.place 8 List.[])
+
+abbrev b9 : Syntax.Body
+b9 =
+    Syntax.assign
+    (Syntax.place 11 List.[])
+    (Syntax.rvOpd (Syntax.copy (Syntax.place 6 (List._∷_ (Syntax.field 1) List.[]))))
 
 abbrev b10 : Syntax.Body
-b10 = Syntax.assign (Syntax.place 0 List.[]) (Syntax.rvOpd (Syntax.int Syntax.w64 0))
+b10 =
+    Syntax.assign
+    (Syntax.place 0 List.[])
+    (Syntax.op2
+    (Syntax.add Syntax.unsigned)
+    (Syntax.copy (Syntax.place 5 List.[]))
+    (Syntax.copy (Syntax.place 11 List.[])))
 
 abbrev b11 : Syntax.Body
 b11 = Syntax.return
@@ -245,7 +212,7 @@ abbrev b16 : Syntax.Body
 b16 = Syntax.seq b6 b15
 
 abbrev b17 : Syntax.Body
-b17 = Syntax.seq b1 b16
+b17 = Syntax.seq b5 b16
 
 abbrev b18 : Syntax.Body
 b18 = Syntax.seq b0 b17
@@ -274,29 +241,26 @@ t0 = List._∷_ (0, Rows.any-gone (Syntax.tyInt Syntax.w64)) (List._∷_ (
   Rows.sc-here (Row.sInt Syntax.w64),
 ) (List._∷_ (5, Rows.sc-here (Row.sInt Syntax.w64)) (List._∷_ (
   6,
-  Rows.whole (Declared.row LineRec.the-type),
-) (List._∷_ (
-  7,
   Mut.mslice
       Elem.R
       (Syntax.tyRef (Syntax.named 2) Syntax.mut Elem.ty)
       2,
-) (List._∷_ (8, Rows.any-gone (Syntax.tyInt Syntax.w64)) (List._∷_ (
-  9,
-  Rows.any-gone Syntax.tyBool,
-) (List._∷_ (10, Rows.any-gone Syntax.tyUnit) (List._∷_ (
-  11,
-  Rows.any-gone
-      (Syntax.tyRef Syntax.erased Syntax.mut Elem.ty),
-) (List._∷_ (
-  12,
-  Rows.any-gone
-      (Syntax.tyStruct
-      (List._∷_ 38 (List._∷_ 91 (List._∷_ 93 List.[])))
-      (Syntax.tcons
-      (Syntax.tyRef Syntax.erased Syntax.mut Elem.ty)
-      (Syntax.tcons (Syntax.tyInt Syntax.w64) Syntax.tnil))),
-) List.[]))))))))))))
+)
+    (List._∷_
+    (7, Rows.any-gone Syntax.tyBool)
+    (List._∷_ (8, Rows.any-gone Syntax.tyUnit) (List._∷_ (
+      9,
+      Rows.any-gone
+          (Syntax.tyRef Syntax.erased Syntax.mut Elem.ty),
+    ) (List._∷_ (
+      10,
+      Rows.any-gone
+          (Syntax.tyStruct
+          (List._∷_ 38 (List._∷_ 91 (List._∷_ 93 List.[])))
+          (Syntax.tcons
+          (Syntax.tyRef Syntax.erased Syntax.mut Elem.ty)
+          (Syntax.tcons (Syntax.tyInt Syntax.w64) Syntax.tnil))),
+    ) (List._∷_ (11, Rows.any-gone (Syntax.tyInt Syntax.w64)) List.[])))))))))))
 
 abbrev pub t1 : List.List Row.Entry
 t1 = List._∷_ (0, Rows.sc-here (Row.sInt Syntax.w64)) (List._∷_ (
@@ -316,78 +280,26 @@ t1 = List._∷_ (0, Rows.sc-here (Row.sInt Syntax.w64)) (List._∷_ (
   Rows.any-gone (Syntax.tyInt Syntax.w64),
 ) (List._∷_ (5, Rows.any-gone (Syntax.tyInt Syntax.w64)) (List._∷_ (
   6,
-  Rows.any-gone
-      (Syntax.tyStruct
-      (List._∷_
-      114
-      (List._∷_
-      101
-      (List._∷_
-      99
-      (List._∷_
-      111
-      (List._∷_
-      114
-      (List._∷_
-      100
-      (List._∷_
-      115
-      (List._∷_
-      58
-      (List._∷_
-      58
-      (List._∷_
-      76
-      (List._∷_
-      105
-      (List._∷_ 110 (List._∷_ 101 (List._∷_ 82 (List._∷_ 101 (List._∷_ 99 List.[]))))))))))))))))
-      (Syntax.tcons
-      (Syntax.tyInt Syntax.w64)
-      (Syntax.tcons
-      (Syntax.tyInt Syntax.w64)
-      (Syntax.tcons
-      (Syntax.tyStruct
-      (List._∷_
-      112
-      (List._∷_
-      108
-      (List._∷_
-      97
-      (List._∷_
-      99
-      (List._∷_
-      101
-      (List._∷_
-      58
-      (List._∷_
-      58
-      (List._∷_
-      82
-      (List._∷_ 101 (List._∷_ 103 (List._∷_ 105 (List._∷_ 111 (List._∷_ 110 List.[])))))))))))))
-      (Syntax.tcons (Syntax.tyInt Syntax.w64) Syntax.tnil))
-      (Syntax.tcons (Syntax.tyInt Syntax.w64) Syntax.tnil))))),
-) (List._∷_ (
-  7,
   Mut.mslice
       Elem.R
       (Syntax.tyRef (Syntax.named 2) Syntax.mut Elem.ty)
       2,
-) (List._∷_ (8, Rows.any-gone (Syntax.tyInt Syntax.w64)) (List._∷_ (
-  9,
-  Rows.any-gone Syntax.tyBool,
-) (List._∷_ (10, Rows.any-gone Syntax.tyUnit) (List._∷_ (
-  11,
-  Rows.any-gone
-      (Syntax.tyRef Syntax.erased Syntax.mut Elem.ty),
-) (List._∷_ (
-  12,
-  Rows.any-gone
-      (Syntax.tyStruct
-      (List._∷_ 38 (List._∷_ 91 (List._∷_ 93 List.[])))
-      (Syntax.tcons
-      (Syntax.tyRef Syntax.erased Syntax.mut Elem.ty)
-      (Syntax.tcons (Syntax.tyInt Syntax.w64) Syntax.tnil))),
-) List.[]))))))))))))
+)
+    (List._∷_
+    (7, Rows.any-gone Syntax.tyBool)
+    (List._∷_ (8, Rows.any-gone Syntax.tyUnit) (List._∷_ (
+      9,
+      Rows.any-gone
+          (Syntax.tyRef Syntax.erased Syntax.mut Elem.ty),
+    ) (List._∷_ (
+      10,
+      Rows.any-gone
+          (Syntax.tyStruct
+          (List._∷_ 38 (List._∷_ 91 (List._∷_ 93 List.[])))
+          (Syntax.tcons
+          (Syntax.tyRef Syntax.erased Syntax.mut Elem.ty)
+          (Syntax.tcons (Syntax.tyInt Syntax.w64) Syntax.tnil))),
+    ) (List._∷_ (11, Rows.any-gone (Syntax.tyInt Syntax.w64)) List.[])))))))))))
 
 abbrev pub t2 : List.List Row.Entry
 t2 = List._∷_ (0, Rows.any-gone (Syntax.tyInt Syntax.w64)) (List._∷_ (
@@ -407,206 +319,140 @@ t2 = List._∷_ (0, Rows.any-gone (Syntax.tyInt Syntax.w64)) (List._∷_ (
   Rows.sc-here (Row.sInt Syntax.w64),
 ) (List._∷_ (5, Rows.sc-here (Row.sInt Syntax.w64)) (List._∷_ (
   6,
-  Rows.whole (Declared.row LineRec.the-type),
-) (List._∷_ (
-  7,
   Mut.mslice
       Elem.R
       (Syntax.tyRef (Syntax.named 2) Syntax.mut Elem.ty)
       2,
-)
-    (List._∷_
-    (8, Rows.sc-here (Row.sInt Syntax.w64))
-    (List._∷_
-    (9, Rows.any-gone Syntax.tyBool)
-    (List._∷_ (10, Rows.any-gone Syntax.tyUnit) (List._∷_ (
-      11,
-      Rows.any-gone
-          (Syntax.tyRef Syntax.erased Syntax.mut Elem.ty),
-    ) (List._∷_ (
-      12,
-      Rows.any-gone
-          (Syntax.tyStruct
-          (List._∷_ 38 (List._∷_ 91 (List._∷_ 93 List.[])))
-          (Syntax.tcons
-          (Syntax.tyRef Syntax.erased Syntax.mut Elem.ty)
-          (Syntax.tcons (Syntax.tyInt Syntax.w64) Syntax.tnil))),
-    ) List.[]))))))))))))
-
-abbrev pub t3 : List.List Row.Entry
-t3 = List._∷_ (0, Rows.any-gone (Syntax.tyInt Syntax.w64)) (List._∷_ (
-  1,
-  Rows.sslice
-      (Referent.rtF (Referent.fInt Syntax.w64))
-      (Syntax.tyRef (Syntax.named 0) Syntax.imm (Syntax.tyInt Syntax.w64))
-      0,
+) (List._∷_ (7, Rows.sc-here Row.sBool) (List._∷_ (8, Rows.any-gone Syntax.tyUnit) (List._∷_ (
+  9,
+  Rows.any-gone
+      (Syntax.tyRef Syntax.erased Syntax.mut Elem.ty),
 ) (List._∷_ (
-  2,
-  Rows.sslice
-      (Referent.rtF (Referent.fInt Syntax.w64))
-      (Syntax.tyRef (Syntax.named 1) Syntax.imm (Syntax.tyInt Syntax.w64))
-      1,
-) (List._∷_ (3, Rows.sc-here (Row.sInt Syntax.w64)) (List._∷_ (
-  4,
-  Rows.sc-here (Row.sInt Syntax.w64),
-) (List._∷_ (5, Rows.sc-here (Row.sInt Syntax.w64)) (List._∷_ (
-  6,
-  Rows.whole (Declared.row LineRec.the-type),
-) (List._∷_ (
-  7,
-  Mut.mslice
-      Elem.R
-      (Syntax.tyRef (Syntax.named 2) Syntax.mut Elem.ty)
-      2,
-)
-    (List._∷_
-    (8, Rows.sc-here (Row.sInt Syntax.w64))
-    (List._∷_ (9, Rows.sc-here Row.sBool) (List._∷_ (10, Rows.any-gone Syntax.tyUnit) (List._∷_ (
-      11,
-      Rows.any-gone
-          (Syntax.tyRef Syntax.erased Syntax.mut Elem.ty),
-    ) (List._∷_ (
-      12,
-      Rows.any-gone
-          (Syntax.tyStruct
-          (List._∷_ 38 (List._∷_ 91 (List._∷_ 93 List.[])))
-          (Syntax.tcons
-          (Syntax.tyRef Syntax.erased Syntax.mut Elem.ty)
-          (Syntax.tcons (Syntax.tyInt Syntax.w64) Syntax.tnil))),
-    ) List.[]))))))))))))
-
-abbrev pub t4 : List.List Row.Entry
-t4 = List._∷_ (0, Rows.any-gone (Syntax.tyInt Syntax.w64)) (List._∷_ (
-  1,
-  Rows.sslice
-      (Referent.rtF (Referent.fInt Syntax.w64))
-      (Syntax.tyRef (Syntax.named 0) Syntax.imm (Syntax.tyInt Syntax.w64))
-      0,
-) (List._∷_ (
-  2,
-  Rows.sslice
-      (Referent.rtF (Referent.fInt Syntax.w64))
-      (Syntax.tyRef (Syntax.named 1) Syntax.imm (Syntax.tyInt Syntax.w64))
-      1,
-) (List._∷_ (3, Rows.sc-here (Row.sInt Syntax.w64)) (List._∷_ (
-  4,
-  Rows.sc-here (Row.sInt Syntax.w64),
-) (List._∷_ (5, Rows.sc-here (Row.sInt Syntax.w64)) (List._∷_ (
-  6,
-  Rows.whole (Declared.row LineRec.the-type),
-) (List._∷_ (
-  7,
-  Mut.mslice
-      Elem.R
-      (Syntax.tyRef (Syntax.named 2) Syntax.mut Elem.ty)
-      2,
-)
-    (List._∷_
-    (8, Rows.any-gone (Syntax.tyInt Syntax.w64))
-    (List._∷_ (9, Rows.sc-here Row.sBool) (List._∷_ (10, Rows.any-gone Syntax.tyUnit) (List._∷_ (
-      11,
-      Rows.any-gone
-          (Syntax.tyRef Syntax.erased Syntax.mut Elem.ty),
-    ) (List._∷_ (
-      12,
-      Rows.any-gone
-          (Syntax.tyStruct
-          (List._∷_ 38 (List._∷_ 91 (List._∷_ 93 List.[])))
-          (Syntax.tcons
-          (Syntax.tyRef Syntax.erased Syntax.mut Elem.ty)
-          (Syntax.tcons (Syntax.tyInt Syntax.w64) Syntax.tnil))),
-    ) List.[]))))))))))))
-
-abbrev pub t5 : List.List Row.Entry
-t5 = List._∷_ (0, Rows.any-gone (Syntax.tyInt Syntax.w64)) (List._∷_ (
-  1,
-  Rows.sslice
-      (Referent.rtF (Referent.fInt Syntax.w64))
-      (Syntax.tyRef (Syntax.named 0) Syntax.imm (Syntax.tyInt Syntax.w64))
-      0,
-) (List._∷_ (
-  2,
-  Rows.sslice
-      (Referent.rtF (Referent.fInt Syntax.w64))
-      (Syntax.tyRef (Syntax.named 1) Syntax.imm (Syntax.tyInt Syntax.w64))
-      1,
-) (List._∷_ (3, Rows.sc-here (Row.sInt Syntax.w64)) (List._∷_ (
-  4,
-  Rows.sc-here (Row.sInt Syntax.w64),
-) (List._∷_ (5, Rows.sc-here (Row.sInt Syntax.w64)) (List._∷_ (
-  6,
+  10,
   Rows.any-gone
       (Syntax.tyStruct
-      (List._∷_
-      114
-      (List._∷_
-      101
-      (List._∷_
-      99
-      (List._∷_
-      111
-      (List._∷_
-      114
-      (List._∷_
-      100
-      (List._∷_
-      115
-      (List._∷_
-      58
-      (List._∷_
-      58
-      (List._∷_
-      76
-      (List._∷_
-      105
-      (List._∷_ 110 (List._∷_ 101 (List._∷_ 82 (List._∷_ 101 (List._∷_ 99 List.[]))))))))))))))))
+      (List._∷_ 38 (List._∷_ 91 (List._∷_ 93 List.[])))
       (Syntax.tcons
-      (Syntax.tyInt Syntax.w64)
-      (Syntax.tcons
-      (Syntax.tyInt Syntax.w64)
-      (Syntax.tcons
-      (Syntax.tyStruct
-      (List._∷_
-      112
-      (List._∷_
-      108
-      (List._∷_
-      97
-      (List._∷_
-      99
-      (List._∷_
-      101
-      (List._∷_
-      58
-      (List._∷_
-      58
-      (List._∷_
-      82
-      (List._∷_ 101 (List._∷_ 103 (List._∷_ 105 (List._∷_ 111 (List._∷_ 110 List.[])))))))))))))
-      (Syntax.tcons (Syntax.tyInt Syntax.w64) Syntax.tnil))
-      (Syntax.tcons (Syntax.tyInt Syntax.w64) Syntax.tnil))))),
+      (Syntax.tyRef Syntax.erased Syntax.mut Elem.ty)
+      (Syntax.tcons (Syntax.tyInt Syntax.w64) Syntax.tnil))),
+) (List._∷_ (11, Rows.any-gone (Syntax.tyInt Syntax.w64)) List.[])))))))))))
+
+abbrev pub t3 : List.List Row.Entry
+t3 = List._∷_ (0, Rows.sc-here (Row.sInt Syntax.w64)) (List._∷_ (
+  1,
+  Rows.sslice
+      (Referent.rtF (Referent.fInt Syntax.w64))
+      (Syntax.tyRef (Syntax.named 0) Syntax.imm (Syntax.tyInt Syntax.w64))
+      0,
 ) (List._∷_ (
-  7,
+  2,
+  Rows.sslice
+      (Referent.rtF (Referent.fInt Syntax.w64))
+      (Syntax.tyRef (Syntax.named 1) Syntax.imm (Syntax.tyInt Syntax.w64))
+      1,
+) (List._∷_ (3, Rows.sc-here (Row.sInt Syntax.w64)) (List._∷_ (
+  4,
+  Rows.sc-here (Row.sInt Syntax.w64),
+) (List._∷_ (5, Rows.sc-here (Row.sInt Syntax.w64)) (List._∷_ (
+  6,
   Mut.mslice
       Elem.R
       (Syntax.tyRef (Syntax.named 2) Syntax.mut Elem.ty)
       2,
 )
     (List._∷_
-    (8, Rows.any-gone (Syntax.tyInt Syntax.w64))
-    (List._∷_ (9, Rows.sc-here Row.sBool) (List._∷_ (10, Rows.any-gone Syntax.tyUnit) (List._∷_ (
-      11,
+    (7, Rows.any-gone Syntax.tyBool)
+    (List._∷_ (8, Rows.any-gone Syntax.tyUnit) (List._∷_ (
+      9,
       Rows.any-gone
           (Syntax.tyRef Syntax.erased Syntax.mut Elem.ty),
     ) (List._∷_ (
-      12,
+      10,
       Rows.any-gone
           (Syntax.tyStruct
           (List._∷_ 38 (List._∷_ 91 (List._∷_ 93 List.[])))
           (Syntax.tcons
           (Syntax.tyRef Syntax.erased Syntax.mut Elem.ty)
           (Syntax.tcons (Syntax.tyInt Syntax.w64) Syntax.tnil))),
-    ) List.[]))))))))))))
+    ) (List._∷_ (11, Rows.any-gone (Syntax.tyInt Syntax.w64)) List.[])))))))))))
+
+abbrev pub t4 : List.List Row.Entry
+t4 = List._∷_ (0, Rows.sc-here (Row.sInt Syntax.w64)) (List._∷_ (
+  1,
+  Rows.sslice
+      (Referent.rtF (Referent.fInt Syntax.w64))
+      (Syntax.tyRef (Syntax.named 0) Syntax.imm (Syntax.tyInt Syntax.w64))
+      0,
+) (List._∷_ (
+  2,
+  Rows.sslice
+      (Referent.rtF (Referent.fInt Syntax.w64))
+      (Syntax.tyRef (Syntax.named 1) Syntax.imm (Syntax.tyInt Syntax.w64))
+      1,
+) (List._∷_ (3, Rows.any-gone (Syntax.tyInt Syntax.w64)) (List._∷_ (
+  4,
+  Rows.sc-here (Row.sInt Syntax.w64),
+) (List._∷_ (5, Rows.sc-here (Row.sInt Syntax.w64)) (List._∷_ (
+  6,
+  Mut.mslice
+      Elem.R
+      (Syntax.tyRef (Syntax.named 2) Syntax.mut Elem.ty)
+      2,
+)
+    (List._∷_
+    (7, Rows.any-gone Syntax.tyBool)
+    (List._∷_ (8, Rows.any-gone Syntax.tyUnit) (List._∷_ (
+      9,
+      Rows.any-gone
+          (Syntax.tyRef Syntax.erased Syntax.mut Elem.ty),
+    ) (List._∷_ (
+      10,
+      Rows.any-gone
+          (Syntax.tyStruct
+          (List._∷_ 38 (List._∷_ 91 (List._∷_ 93 List.[])))
+          (Syntax.tcons
+          (Syntax.tyRef Syntax.erased Syntax.mut Elem.ty)
+          (Syntax.tcons (Syntax.tyInt Syntax.w64) Syntax.tnil))),
+    ) (List._∷_ (11, Rows.any-gone (Syntax.tyInt Syntax.w64)) List.[])))))))))))
+
+abbrev pub t5 : List.List Row.Entry
+t5 = List._∷_ (0, Rows.sc-here (Row.sInt Syntax.w64)) (List._∷_ (
+  1,
+  Rows.sslice
+      (Referent.rtF (Referent.fInt Syntax.w64))
+      (Syntax.tyRef (Syntax.named 0) Syntax.imm (Syntax.tyInt Syntax.w64))
+      0,
+) (List._∷_ (
+  2,
+  Rows.sslice
+      (Referent.rtF (Referent.fInt Syntax.w64))
+      (Syntax.tyRef (Syntax.named 1) Syntax.imm (Syntax.tyInt Syntax.w64))
+      1,
+) (List._∷_ (3, Rows.any-gone (Syntax.tyInt Syntax.w64)) (List._∷_ (
+  4,
+  Rows.any-gone (Syntax.tyInt Syntax.w64),
+) (List._∷_ (5, Rows.sc-here (Row.sInt Syntax.w64)) (List._∷_ (
+  6,
+  Mut.mslice
+      Elem.R
+      (Syntax.tyRef (Syntax.named 2) Syntax.mut Elem.ty)
+      2,
+)
+    (List._∷_
+    (7, Rows.any-gone Syntax.tyBool)
+    (List._∷_ (8, Rows.any-gone Syntax.tyUnit) (List._∷_ (
+      9,
+      Rows.any-gone
+          (Syntax.tyRef Syntax.erased Syntax.mut Elem.ty),
+    ) (List._∷_ (
+      10,
+      Rows.any-gone
+          (Syntax.tyStruct
+          (List._∷_ 38 (List._∷_ 91 (List._∷_ 93 List.[])))
+          (Syntax.tcons
+          (Syntax.tyRef Syntax.erased Syntax.mut Elem.ty)
+          (Syntax.tcons (Syntax.tyInt Syntax.w64) Syntax.tnil))),
+    ) (List._∷_ (11, Rows.any-gone (Syntax.tyInt Syntax.w64)) List.[])))))))))))
 
 abbrev pub t6 : List.List Row.Entry
 t6 = List._∷_ (0, Rows.any-gone (Syntax.tyInt Syntax.w64)) (List._∷_ (
@@ -626,81 +472,33 @@ t6 = List._∷_ (0, Rows.any-gone (Syntax.tyInt Syntax.w64)) (List._∷_ (
   Rows.sc-here (Row.sInt Syntax.w64),
 ) (List._∷_ (5, Rows.sc-here (Row.sInt Syntax.w64)) (List._∷_ (
   6,
-  Rows.any-gone
-      (Syntax.tyStruct
-      (List._∷_
-      114
-      (List._∷_
-      101
-      (List._∷_
-      99
-      (List._∷_
-      111
-      (List._∷_
-      114
-      (List._∷_
-      100
-      (List._∷_
-      115
-      (List._∷_
-      58
-      (List._∷_
-      58
-      (List._∷_
-      76
-      (List._∷_
-      105
-      (List._∷_ 110 (List._∷_ 101 (List._∷_ 82 (List._∷_ 101 (List._∷_ 99 List.[]))))))))))))))))
-      (Syntax.tcons
-      (Syntax.tyInt Syntax.w64)
-      (Syntax.tcons
-      (Syntax.tyInt Syntax.w64)
-      (Syntax.tcons
-      (Syntax.tyStruct
-      (List._∷_
-      112
-      (List._∷_
-      108
-      (List._∷_
-      97
-      (List._∷_
-      99
-      (List._∷_
-      101
-      (List._∷_
-      58
-      (List._∷_
-      58
-      (List._∷_
-      82
-      (List._∷_ 101 (List._∷_ 103 (List._∷_ 105 (List._∷_ 111 (List._∷_ 110 List.[])))))))))))))
-      (Syntax.tcons (Syntax.tyInt Syntax.w64) Syntax.tnil))
-      (Syntax.tcons (Syntax.tyInt Syntax.w64) Syntax.tnil))))),
-) (List._∷_ (
-  7,
-  Mut.mslice
+  Relend.mslice-owed
       Elem.R
       (Syntax.tyRef (Syntax.named 2) Syntax.mut Elem.ty)
-      2,
-) (List._∷_ (8, Rows.any-gone (Syntax.tyInt Syntax.w64)) (List._∷_ (
-  9,
-  Rows.any-gone Syntax.tyBool,
-) (List._∷_ (10, Rows.any-gone Syntax.tyUnit) (List._∷_ (
-  11,
-  Rows.any-gone
-      (Syntax.tyRef Syntax.erased Syntax.mut Elem.ty),
-) (List._∷_ (
-  12,
-  Rows.any-gone
-      (Syntax.tyStruct
-      (List._∷_ 38 (List._∷_ 91 (List._∷_ 93 List.[])))
-      (Syntax.tcons
-      (Syntax.tyRef Syntax.erased Syntax.mut Elem.ty)
-      (Syntax.tcons (Syntax.tyInt Syntax.w64) Syntax.tnil))),
-) List.[]))))))))))))
+      2
+      3
+      Row.off,
+)
+    (List._∷_
+    (7, Rows.any-gone Syntax.tyBool)
+    (List._∷_ (8, Rows.any-gone Syntax.tyUnit) (List._∷_ (
+      9,
+      Relend.msptr
+          Elem.R
+          (Syntax.tyRef Syntax.erased Syntax.mut Elem.ty)
+          3,
+    ) (List._∷_ (
+      10,
+      Rows.any-gone
+          (Syntax.tyStruct
+          (List._∷_ 38 (List._∷_ 91 (List._∷_ 93 List.[])))
+          (Syntax.tcons
+          (Syntax.tyRef Syntax.erased Syntax.mut Elem.ty)
+          (Syntax.tcons (Syntax.tyInt Syntax.w64) Syntax.tnil))),
+    ) (List._∷_ (11, Rows.any-gone (Syntax.tyInt Syntax.w64)) List.[])))))))))))
 
 abbrev pub t7 : List.List Row.Entry
-t7 = List._∷_ (0, Rows.sc-here (Row.sInt Syntax.w64)) (List._∷_ (
+t7 = List._∷_ (0, Rows.any-gone (Syntax.tyInt Syntax.w64)) (List._∷_ (
   1,
   Rows.sslice
       (Referent.rtF (Referent.fInt Syntax.w64))
@@ -717,81 +515,29 @@ t7 = List._∷_ (0, Rows.sc-here (Row.sInt Syntax.w64)) (List._∷_ (
   Rows.sc-here (Row.sInt Syntax.w64),
 ) (List._∷_ (5, Rows.sc-here (Row.sInt Syntax.w64)) (List._∷_ (
   6,
-  Rows.any-gone
-      (Syntax.tyStruct
-      (List._∷_
-      114
-      (List._∷_
-      101
-      (List._∷_
-      99
-      (List._∷_
-      111
-      (List._∷_
-      114
-      (List._∷_
-      100
-      (List._∷_
-      115
-      (List._∷_
-      58
-      (List._∷_
-      58
-      (List._∷_
-      76
-      (List._∷_
-      105
-      (List._∷_ 110 (List._∷_ 101 (List._∷_ 82 (List._∷_ 101 (List._∷_ 99 List.[]))))))))))))))))
-      (Syntax.tcons
-      (Syntax.tyInt Syntax.w64)
-      (Syntax.tcons
-      (Syntax.tyInt Syntax.w64)
-      (Syntax.tcons
-      (Syntax.tyStruct
-      (List._∷_
-      112
-      (List._∷_
-      108
-      (List._∷_
-      97
-      (List._∷_
-      99
-      (List._∷_
-      101
-      (List._∷_
-      58
-      (List._∷_
-      58
-      (List._∷_
-      82
-      (List._∷_ 101 (List._∷_ 103 (List._∷_ 105 (List._∷_ 111 (List._∷_ 110 List.[])))))))))))))
-      (Syntax.tcons (Syntax.tyInt Syntax.w64) Syntax.tnil))
-      (Syntax.tcons (Syntax.tyInt Syntax.w64) Syntax.tnil))))),
-) (List._∷_ (
-  7,
-  Mut.mslice
+  Relend.mslice-owed
       Elem.R
       (Syntax.tyRef (Syntax.named 2) Syntax.mut Elem.ty)
-      2,
-) (List._∷_ (8, Rows.any-gone (Syntax.tyInt Syntax.w64)) (List._∷_ (
-  9,
-  Rows.any-gone Syntax.tyBool,
-) (List._∷_ (10, Rows.any-gone Syntax.tyUnit) (List._∷_ (
-  11,
-  Rows.any-gone
-      (Syntax.tyRef Syntax.erased Syntax.mut Elem.ty),
-) (List._∷_ (
-  12,
-  Rows.any-gone
-      (Syntax.tyStruct
-      (List._∷_ 38 (List._∷_ 91 (List._∷_ 93 List.[])))
-      (Syntax.tcons
-      (Syntax.tyRef Syntax.erased Syntax.mut Elem.ty)
-      (Syntax.tcons (Syntax.tyInt Syntax.w64) Syntax.tnil))),
-) List.[]))))))))))))
+      2
+      3
+      Row.off,
+)
+    (List._∷_
+    (7, Rows.any-gone Syntax.tyBool)
+    (List._∷_ (8, Rows.any-gone Syntax.tyUnit) (List._∷_ (
+      9,
+      Rows.any-gone
+          (Syntax.tyRef Syntax.erased Syntax.mut Elem.ty),
+    ) (List._∷_ (
+      10,
+      Mut.mslice
+          Elem.R
+          (Syntax.tyRef Syntax.erased Syntax.mut Elem.ty)
+          3,
+    ) (List._∷_ (11, Rows.any-gone (Syntax.tyInt Syntax.w64)) List.[])))))))))))
 
 abbrev pub t8 : List.List Row.Entry
-t8 = List._∷_ (0, Rows.sc-here (Row.sInt Syntax.w64)) (List._∷_ (
+t8 = List._∷_ (0, Rows.any-gone (Syntax.tyInt Syntax.w64)) (List._∷_ (
   1,
   Rows.sslice
       (Referent.rtF (Referent.fInt Syntax.w64))
@@ -803,86 +549,30 @@ t8 = List._∷_ (0, Rows.sc-here (Row.sInt Syntax.w64)) (List._∷_ (
       (Referent.rtF (Referent.fInt Syntax.w64))
       (Syntax.tyRef (Syntax.named 1) Syntax.imm (Syntax.tyInt Syntax.w64))
       1,
-) (List._∷_ (3, Rows.any-gone (Syntax.tyInt Syntax.w64)) (List._∷_ (
+) (List._∷_ (3, Rows.sc-here (Row.sInt Syntax.w64)) (List._∷_ (
   4,
   Rows.sc-here (Row.sInt Syntax.w64),
 ) (List._∷_ (5, Rows.sc-here (Row.sInt Syntax.w64)) (List._∷_ (
   6,
-  Rows.any-gone
-      (Syntax.tyStruct
-      (List._∷_
-      114
-      (List._∷_
-      101
-      (List._∷_
-      99
-      (List._∷_
-      111
-      (List._∷_
-      114
-      (List._∷_
-      100
-      (List._∷_
-      115
-      (List._∷_
-      58
-      (List._∷_
-      58
-      (List._∷_
-      76
-      (List._∷_
-      105
-      (List._∷_ 110 (List._∷_ 101 (List._∷_ 82 (List._∷_ 101 (List._∷_ 99 List.[]))))))))))))))))
-      (Syntax.tcons
-      (Syntax.tyInt Syntax.w64)
-      (Syntax.tcons
-      (Syntax.tyInt Syntax.w64)
-      (Syntax.tcons
-      (Syntax.tyStruct
-      (List._∷_
-      112
-      (List._∷_
-      108
-      (List._∷_
-      97
-      (List._∷_
-      99
-      (List._∷_
-      101
-      (List._∷_
-      58
-      (List._∷_
-      58
-      (List._∷_
-      82
-      (List._∷_ 101 (List._∷_ 103 (List._∷_ 105 (List._∷_ 111 (List._∷_ 110 List.[])))))))))))))
-      (Syntax.tcons (Syntax.tyInt Syntax.w64) Syntax.tnil))
-      (Syntax.tcons (Syntax.tyInt Syntax.w64) Syntax.tnil))))),
-) (List._∷_ (
-  7,
-  Mut.mslice
+  Relend.mslice-owed
       Elem.R
       (Syntax.tyRef (Syntax.named 2) Syntax.mut Elem.ty)
-      2,
-) (List._∷_ (8, Rows.any-gone (Syntax.tyInt Syntax.w64)) (List._∷_ (
+      2
+      3
+      Row.off,
+) (List._∷_ (7, Rows.any-gone Syntax.tyBool) (List._∷_ (8, Rows.sc-here Row.sUnit) (List._∷_ (
   9,
-  Rows.any-gone Syntax.tyBool,
-) (List._∷_ (10, Rows.any-gone Syntax.tyUnit) (List._∷_ (
-  11,
   Rows.any-gone
       (Syntax.tyRef Syntax.erased Syntax.mut Elem.ty),
 ) (List._∷_ (
-  12,
-  Rows.any-gone
-      (Syntax.tyStruct
-      (List._∷_ 38 (List._∷_ 91 (List._∷_ 93 List.[])))
-      (Syntax.tcons
-      (Syntax.tyRef Syntax.erased Syntax.mut Elem.ty)
-      (Syntax.tcons (Syntax.tyInt Syntax.w64) Syntax.tnil))),
-) List.[]))))))))))))
+  10,
+  Mut.msleft
+      Elem.R
+      (Syntax.tyRef Syntax.erased Syntax.mut Elem.ty),
+) (List._∷_ (11, Rows.any-gone (Syntax.tyInt Syntax.w64)) List.[])))))))))))
 
 abbrev pub t9 : List.List Row.Entry
-t9 = List._∷_ (0, Rows.sc-here (Row.sInt Syntax.w64)) (List._∷_ (
+t9 = List._∷_ (0, Rows.any-gone (Syntax.tyInt Syntax.w64)) (List._∷_ (
   1,
   Rows.sslice
       (Referent.rtF (Referent.fInt Syntax.w64))
@@ -894,83 +584,30 @@ t9 = List._∷_ (0, Rows.sc-here (Row.sInt Syntax.w64)) (List._∷_ (
       (Referent.rtF (Referent.fInt Syntax.w64))
       (Syntax.tyRef (Syntax.named 1) Syntax.imm (Syntax.tyInt Syntax.w64))
       1,
-) (List._∷_ (3, Rows.any-gone (Syntax.tyInt Syntax.w64)) (List._∷_ (
+) (List._∷_ (3, Rows.sc-here (Row.sInt Syntax.w64)) (List._∷_ (
   4,
-  Rows.any-gone (Syntax.tyInt Syntax.w64),
+  Rows.sc-here (Row.sInt Syntax.w64),
 ) (List._∷_ (5, Rows.sc-here (Row.sInt Syntax.w64)) (List._∷_ (
   6,
-  Rows.any-gone
-      (Syntax.tyStruct
-      (List._∷_
-      114
-      (List._∷_
-      101
-      (List._∷_
-      99
-      (List._∷_
-      111
-      (List._∷_
-      114
-      (List._∷_
-      100
-      (List._∷_
-      115
-      (List._∷_
-      58
-      (List._∷_
-      58
-      (List._∷_
-      76
-      (List._∷_
-      105
-      (List._∷_ 110 (List._∷_ 101 (List._∷_ 82 (List._∷_ 101 (List._∷_ 99 List.[]))))))))))))))))
-      (Syntax.tcons
-      (Syntax.tyInt Syntax.w64)
-      (Syntax.tcons
-      (Syntax.tyInt Syntax.w64)
-      (Syntax.tcons
-      (Syntax.tyStruct
-      (List._∷_
-      112
-      (List._∷_
-      108
-      (List._∷_
-      97
-      (List._∷_
-      99
-      (List._∷_
-      101
-      (List._∷_
-      58
-      (List._∷_
-      58
-      (List._∷_
-      82
-      (List._∷_ 101 (List._∷_ 103 (List._∷_ 105 (List._∷_ 111 (List._∷_ 110 List.[])))))))))))))
-      (Syntax.tcons (Syntax.tyInt Syntax.w64) Syntax.tnil))
-      (Syntax.tcons (Syntax.tyInt Syntax.w64) Syntax.tnil))))),
-) (List._∷_ (
-  7,
-  Mut.mslice
+  Relend.mslice-owed
       Elem.R
       (Syntax.tyRef (Syntax.named 2) Syntax.mut Elem.ty)
-      2,
-) (List._∷_ (8, Rows.any-gone (Syntax.tyInt Syntax.w64)) (List._∷_ (
-  9,
-  Rows.any-gone Syntax.tyBool,
-) (List._∷_ (10, Rows.any-gone Syntax.tyUnit) (List._∷_ (
-  11,
-  Rows.any-gone
-      (Syntax.tyRef Syntax.erased Syntax.mut Elem.ty),
-) (List._∷_ (
-  12,
-  Rows.any-gone
-      (Syntax.tyStruct
-      (List._∷_ 38 (List._∷_ 91 (List._∷_ 93 List.[])))
-      (Syntax.tcons
-      (Syntax.tyRef Syntax.erased Syntax.mut Elem.ty)
-      (Syntax.tcons (Syntax.tyInt Syntax.w64) Syntax.tnil))),
-) List.[]))))))))))))
+      2
+      3
+      Row.off,
+)
+    (List._∷_
+    (7, Rows.any-gone Syntax.tyBool)
+    (List._∷_ (8, Rows.any-gone Syntax.tyUnit) (List._∷_ (
+      9,
+      Rows.any-gone
+          (Syntax.tyRef Syntax.erased Syntax.mut Elem.ty),
+    ) (List._∷_ (
+      10,
+      Mut.msleft
+          Elem.R
+          (Syntax.tyRef Syntax.erased Syntax.mut Elem.ty),
+    ) (List._∷_ (11, Rows.any-gone (Syntax.tyInt Syntax.w64)) List.[])))))))))))
 
 abbrev pub t10 : List.List Row.Entry
 t10 = List._∷_ (0, Rows.any-gone (Syntax.tyInt Syntax.w64)) (List._∷_ (
@@ -990,78 +627,29 @@ t10 = List._∷_ (0, Rows.any-gone (Syntax.tyInt Syntax.w64)) (List._∷_ (
   Rows.sc-here (Row.sInt Syntax.w64),
 ) (List._∷_ (5, Rows.sc-here (Row.sInt Syntax.w64)) (List._∷_ (
   6,
-  Rows.whole (Declared.row LineRec.the-type),
-) (List._∷_ (
-  7,
-  Relend.mslice-owed
-      Elem.R
-      (Syntax.tyRef (Syntax.named 2) Syntax.mut Elem.ty)
-      2
-      3
-      Row.off,
-) (List._∷_ (8, Rows.any-gone (Syntax.tyInt Syntax.w64)) (List._∷_ (
-  9,
-  Rows.any-gone Syntax.tyBool,
-) (List._∷_ (10, Rows.any-gone Syntax.tyUnit) (List._∷_ (
-  11,
-  Relend.msptr
-      Elem.R
-      (Syntax.tyRef Syntax.erased Syntax.mut Elem.ty)
-      3,
-) (List._∷_ (
-  12,
-  Rows.any-gone
-      (Syntax.tyStruct
-      (List._∷_ 38 (List._∷_ 91 (List._∷_ 93 List.[])))
-      (Syntax.tcons
-      (Syntax.tyRef Syntax.erased Syntax.mut Elem.ty)
-      (Syntax.tcons (Syntax.tyInt Syntax.w64) Syntax.tnil))),
-) List.[]))))))))))))
-
-abbrev pub t11 : List.List Row.Entry
-t11 = List._∷_ (0, Rows.any-gone (Syntax.tyInt Syntax.w64)) (List._∷_ (
-  1,
-  Rows.sslice
-      (Referent.rtF (Referent.fInt Syntax.w64))
-      (Syntax.tyRef (Syntax.named 0) Syntax.imm (Syntax.tyInt Syntax.w64))
-      0,
-) (List._∷_ (
-  2,
-  Rows.sslice
-      (Referent.rtF (Referent.fInt Syntax.w64))
-      (Syntax.tyRef (Syntax.named 1) Syntax.imm (Syntax.tyInt Syntax.w64))
-      1,
-) (List._∷_ (3, Rows.sc-here (Row.sInt Syntax.w64)) (List._∷_ (
-  4,
-  Rows.sc-here (Row.sInt Syntax.w64),
-) (List._∷_ (5, Rows.sc-here (Row.sInt Syntax.w64)) (List._∷_ (
-  6,
-  Rows.whole (Declared.row LineRec.the-type),
-) (List._∷_ (
-  7,
-  Relend.mslice-owed
-      Elem.R
-      (Syntax.tyRef (Syntax.named 2) Syntax.mut Elem.ty)
-      2
-      3
-      Row.off,
-) (List._∷_ (8, Rows.any-gone (Syntax.tyInt Syntax.w64)) (List._∷_ (
-  9,
-  Rows.any-gone Syntax.tyBool,
-) (List._∷_ (10, Rows.any-gone Syntax.tyUnit) (List._∷_ (
-  11,
-  Rows.any-gone
-      (Syntax.tyRef Syntax.erased Syntax.mut Elem.ty),
-) (List._∷_ (
-  12,
   Mut.mslice
       Elem.R
-      (Syntax.tyRef Syntax.erased Syntax.mut Elem.ty)
-      3,
-) List.[]))))))))))))
+      (Syntax.tyRef (Syntax.named 2) Syntax.mut Elem.ty)
+      2,
+)
+    (List._∷_
+    (7, Rows.any-gone Syntax.tyBool)
+    (List._∷_ (8, Rows.any-gone Syntax.tyUnit) (List._∷_ (
+      9,
+      Rows.any-gone
+          (Syntax.tyRef Syntax.erased Syntax.mut Elem.ty),
+    ) (List._∷_ (
+      10,
+      Rows.any-gone
+          (Syntax.tyStruct
+          (List._∷_ 38 (List._∷_ 91 (List._∷_ 93 List.[])))
+          (Syntax.tcons
+          (Syntax.tyRef Syntax.erased Syntax.mut Elem.ty)
+          (Syntax.tcons (Syntax.tyInt Syntax.w64) Syntax.tnil))),
+    ) (List._∷_ (11, Rows.sc-here (Row.sInt Syntax.w64)) List.[])))))))))))
 
-abbrev pub t12 : List.List Row.Entry
-t12 = List._∷_ (0, Rows.any-gone (Syntax.tyInt Syntax.w64)) (List._∷_ (
+abbrev pub t11 : List.List Row.Entry
+t11 = List._∷_ (0, Rows.sc-here (Row.sInt Syntax.w64)) (List._∷_ (
   1,
   Rows.sslice
       (Referent.rtF (Referent.fInt Syntax.w64))
@@ -1078,208 +666,26 @@ t12 = List._∷_ (0, Rows.any-gone (Syntax.tyInt Syntax.w64)) (List._∷_ (
   Rows.sc-here (Row.sInt Syntax.w64),
 ) (List._∷_ (5, Rows.sc-here (Row.sInt Syntax.w64)) (List._∷_ (
   6,
-  Rows.whole (Declared.row LineRec.the-type),
-) (List._∷_ (
-  7,
-  Relend.mslice-owed
+  Mut.mslice
       Elem.R
       (Syntax.tyRef (Syntax.named 2) Syntax.mut Elem.ty)
-      2
-      3
-      Row.off,
-) (List._∷_ (8, Rows.any-gone (Syntax.tyInt Syntax.w64)) (List._∷_ (
-  9,
-  Rows.any-gone Syntax.tyBool,
-) (List._∷_ (10, Rows.sc-here Row.sUnit) (List._∷_ (
-  11,
-  Rows.any-gone
-      (Syntax.tyRef Syntax.erased Syntax.mut Elem.ty),
-) (List._∷_ (
-  12,
-  Mut.msleft
-      Elem.R
-      (Syntax.tyRef Syntax.erased Syntax.mut Elem.ty),
-) List.[]))))))))))))
-
-abbrev pub t13 : List.List Row.Entry
-t13 = List._∷_ (0, Rows.any-gone (Syntax.tyInt Syntax.w64)) (List._∷_ (
-  1,
-  Rows.sslice
-      (Referent.rtF (Referent.fInt Syntax.w64))
-      (Syntax.tyRef (Syntax.named 0) Syntax.imm (Syntax.tyInt Syntax.w64))
-      0,
-) (List._∷_ (
-  2,
-  Rows.sslice
-      (Referent.rtF (Referent.fInt Syntax.w64))
-      (Syntax.tyRef (Syntax.named 1) Syntax.imm (Syntax.tyInt Syntax.w64))
-      1,
-) (List._∷_ (3, Rows.sc-here (Row.sInt Syntax.w64)) (List._∷_ (
-  4,
-  Rows.sc-here (Row.sInt Syntax.w64),
-) (List._∷_ (5, Rows.sc-here (Row.sInt Syntax.w64)) (List._∷_ (
-  6,
-  Rows.any-gone
-      (Syntax.tyStruct
-      (List._∷_
-      114
-      (List._∷_
-      101
-      (List._∷_
-      99
-      (List._∷_
-      111
-      (List._∷_
-      114
-      (List._∷_
-      100
-      (List._∷_
-      115
-      (List._∷_
-      58
-      (List._∷_
-      58
-      (List._∷_
-      76
-      (List._∷_
-      105
-      (List._∷_ 110 (List._∷_ 101 (List._∷_ 82 (List._∷_ 101 (List._∷_ 99 List.[]))))))))))))))))
-      (Syntax.tcons
-      (Syntax.tyInt Syntax.w64)
-      (Syntax.tcons
-      (Syntax.tyInt Syntax.w64)
-      (Syntax.tcons
-      (Syntax.tyStruct
-      (List._∷_
-      112
-      (List._∷_
-      108
-      (List._∷_
-      97
-      (List._∷_
-      99
-      (List._∷_
-      101
-      (List._∷_
-      58
-      (List._∷_
-      58
-      (List._∷_
-      82
-      (List._∷_ 101 (List._∷_ 103 (List._∷_ 105 (List._∷_ 111 (List._∷_ 110 List.[])))))))))))))
-      (Syntax.tcons (Syntax.tyInt Syntax.w64) Syntax.tnil))
-      (Syntax.tcons (Syntax.tyInt Syntax.w64) Syntax.tnil))))),
-) (List._∷_ (
-  7,
-  Relend.mslice-owed
-      Elem.R
-      (Syntax.tyRef (Syntax.named 2) Syntax.mut Elem.ty)
-      2
-      3
-      Row.off,
-) (List._∷_ (8, Rows.any-gone (Syntax.tyInt Syntax.w64)) (List._∷_ (
-  9,
-  Rows.any-gone Syntax.tyBool,
-) (List._∷_ (10, Rows.sc-here Row.sUnit) (List._∷_ (
-  11,
-  Rows.any-gone
-      (Syntax.tyRef Syntax.erased Syntax.mut Elem.ty),
-) (List._∷_ (
-  12,
-  Mut.msleft
-      Elem.R
-      (Syntax.tyRef Syntax.erased Syntax.mut Elem.ty),
-) List.[]))))))))))))
-
-abbrev pub t14 : List.List Row.Entry
-t14 = List._∷_ (0, Rows.any-gone (Syntax.tyInt Syntax.w64)) (List._∷_ (
-  1,
-  Rows.sslice
-      (Referent.rtF (Referent.fInt Syntax.w64))
-      (Syntax.tyRef (Syntax.named 0) Syntax.imm (Syntax.tyInt Syntax.w64))
-      0,
-) (List._∷_ (
-  2,
-  Rows.sslice
-      (Referent.rtF (Referent.fInt Syntax.w64))
-      (Syntax.tyRef (Syntax.named 1) Syntax.imm (Syntax.tyInt Syntax.w64))
-      1,
-) (List._∷_ (3, Rows.sc-here (Row.sInt Syntax.w64)) (List._∷_ (
-  4,
-  Rows.sc-here (Row.sInt Syntax.w64),
-) (List._∷_ (5, Rows.sc-here (Row.sInt Syntax.w64)) (List._∷_ (
-  6,
-  Rows.any-gone
-      (Syntax.tyStruct
-      (List._∷_
-      114
-      (List._∷_
-      101
-      (List._∷_
-      99
-      (List._∷_
-      111
-      (List._∷_
-      114
-      (List._∷_
-      100
-      (List._∷_
-      115
-      (List._∷_
-      58
-      (List._∷_
-      58
-      (List._∷_
-      76
-      (List._∷_
-      105
-      (List._∷_ 110 (List._∷_ 101 (List._∷_ 82 (List._∷_ 101 (List._∷_ 99 List.[]))))))))))))))))
-      (Syntax.tcons
-      (Syntax.tyInt Syntax.w64)
-      (Syntax.tcons
-      (Syntax.tyInt Syntax.w64)
-      (Syntax.tcons
-      (Syntax.tyStruct
-      (List._∷_
-      112
-      (List._∷_
-      108
-      (List._∷_
-      97
-      (List._∷_
-      99
-      (List._∷_
-      101
-      (List._∷_
-      58
-      (List._∷_
-      58
-      (List._∷_
-      82
-      (List._∷_ 101 (List._∷_ 103 (List._∷_ 105 (List._∷_ 111 (List._∷_ 110 List.[])))))))))))))
-      (Syntax.tcons (Syntax.tyInt Syntax.w64) Syntax.tnil))
-      (Syntax.tcons (Syntax.tyInt Syntax.w64) Syntax.tnil))))),
-) (List._∷_ (
-  7,
-  Relend.mslice-owed
-      Elem.R
-      (Syntax.tyRef (Syntax.named 2) Syntax.mut Elem.ty)
-      2
-      3
-      Row.off,
-) (List._∷_ (8, Rows.any-gone (Syntax.tyInt Syntax.w64)) (List._∷_ (
-  9,
-  Rows.any-gone Syntax.tyBool,
-) (List._∷_ (10, Rows.any-gone Syntax.tyUnit) (List._∷_ (
-  11,
-  Rows.any-gone
-      (Syntax.tyRef Syntax.erased Syntax.mut Elem.ty),
-) (List._∷_ (
-  12,
-  Mut.msleft
-      Elem.R
-      (Syntax.tyRef Syntax.erased Syntax.mut Elem.ty),
-) List.[]))))))))))))
+      2,
+)
+    (List._∷_
+    (7, Rows.any-gone Syntax.tyBool)
+    (List._∷_ (8, Rows.any-gone Syntax.tyUnit) (List._∷_ (
+      9,
+      Rows.any-gone
+          (Syntax.tyRef Syntax.erased Syntax.mut Elem.ty),
+    ) (List._∷_ (
+      10,
+      Rows.any-gone
+          (Syntax.tyStruct
+          (List._∷_ 38 (List._∷_ 91 (List._∷_ 93 List.[])))
+          (Syntax.tcons
+          (Syntax.tyRef Syntax.erased Syntax.mut Elem.ty)
+          (Syntax.tcons (Syntax.tyInt Syntax.w64) Syntax.tnil))),
+    ) (List._∷_ (11, Rows.sc-here (Row.sInt Syntax.w64)) List.[])))))))))))
 
 abbrev pub T0 : Row.Cx
 T0 = record { locals = t0; slots = List.[] }
@@ -1297,70 +703,64 @@ abbrev pub T4 : Row.Cx
 T4 = record { locals = t2; slots = List.[] }
 
 abbrev pub T5 : Row.Cx
-T5 = record { locals = t3; slots = List.[] }
+T5 = record { locals = t0; slots = List.[] }
 
 abbrev pub T6 : Row.Cx
 T6 = record { locals = t0; slots = List.[] }
 
 abbrev pub T7 : Row.Cx
-T7 = record { locals = t4; slots = List.[] }
+T7 = record { locals = t3; slots = List.[] }
 
 abbrev pub T8 : Row.Cx
-T8 = record { locals = t5; slots = List.[] }
+T8 = record { locals = t4; slots = List.[] }
 
 abbrev pub T9 : Row.Cx
-T9 = record { locals = t6; slots = List.[] }
+T9 = record { locals = t5; slots = List.[] }
 
 abbrev pub T10 : Row.Cx
-T10 = record { locals = t7; slots = List.[] }
+T10 = record { locals = t1; slots = List.[] }
 
 abbrev pub T11 : Row.Cx
-T11 = record { locals = t8; slots = List.[] }
-
-abbrev pub T12 : Row.Cx
-T12 = record { locals = t9; slots = List.[] }
+T11 = record { locals = t0; slots = List.[] }
 
 abbrev pub T13 : Row.Cx
-T13 = record { locals = t1; slots = List.[] }
+T13 = record { locals = t6; slots = List.[] }
 
 abbrev pub T14 : Row.Cx
-T14 = record { locals = t0; slots = List.[] }
+T14 = record { locals = t7; slots = List.[] }
+
+abbrev pub T15 : Row.Cx
+T15 = record { locals = t8; slots = List.[] }
 
 abbrev pub T16 : Row.Cx
-T16 = record { locals = t10; slots = List.[] }
-
-abbrev pub T17 : Row.Cx
-T17 = record { locals = t11; slots = List.[] }
+T16 = record { locals = t9; slots = List.[] }
 
 abbrev pub T18 : Row.Cx
-T18 = record { locals = t12; slots = List.[] }
-
-abbrev pub T19 : Row.Cx
-T19 = record { locals = t13; slots = List.[] }
+T18 = record { locals = t0; slots = List.[] }
 
 abbrev pub T20 : Row.Cx
-T20 = record { locals = t14; slots = List.[] }
+T20 = record { locals = t10; slots = List.[] }
+
+abbrev pub T21 : Row.Cx
+T21 = record { locals = t11; slots = List.[] }
 
 abbrev pub T22 : Row.Cx
-T22 = record { locals = t6; slots = List.[] }
+T22 = record { locals = t3; slots = List.[] }
+
+abbrev pub T23 : Row.Cx
+T23 = record { locals = t4; slots = List.[] }
 
 abbrev pub T24 : Row.Cx
-T24 = record { locals = t7; slots = List.[] }
+T24 = record { locals = t5; slots = List.[] }
 
 abbrev pub T25 : Row.Cx
-T25 = record { locals = t8; slots = List.[] }
-
-abbrev pub T26 : Row.Cx
-T26 = record { locals = t9; slots = List.[] }
-
-abbrev pub T27 : Row.Cx
-T27 = record { locals = t1; slots = List.[] }
+T25 = record { locals = t1; slots = List.[] }
 
 abbrev pub O0 : Typed.Outs
 O0 = record { next = Option.none; exits = List.[]; returns = Option.some T1 }
 
 abbrev pub O1 : Typed.Outs
-O1 = Typed.withNext (Option.some T6) O0
+O1 = Typed.withNext (Option.some T5) O0
 
 module _ (claims· : Claims) where
   abbrev s0 : Typed.Gives T0 T2
@@ -1387,115 +787,48 @@ module _ (claims· : Claims) where
       0
       λ x. x
 
-  abbrev s2 : Typed.Mo T3 → Typed.Mo T4
+  abbrev s2 : Typed.Asks T3 T4
   s2 =
-      Scalar.n-use
-      T3
-      (Scalar.oFld 7 (List._∷_ (Syntax.field 1) List.[]) (Syntax.tyInt Syntax.w64) 8 Shared.lenV)
-      8
-      (Rows.sc-here (Row.sInt Syntax.w64))
-      (Row.sInt Syntax.w64 .of)
-
-  abbrev s3 : Typed.Asks T4 T5
-  s3 =
       Scalar.k-op2
-      T4
+      T3
       (Syntax.lt Syntax.unsigned)
+      (Scalar.oAt 4 (Syntax.tyInt Syntax.w64) (Row.valS (Row.sInt Syntax.w64)))
       (Scalar.oAt 5 (Syntax.tyInt Syntax.w64) (Row.valS (Row.sInt Syntax.w64)))
-      (Scalar.oAt 8 (Syntax.tyInt Syntax.w64) (Row.valS (Row.sInt Syntax.w64)))
-      9
+      7
       (Rows.sc-here Row.sBool)
       (Row.sBool .of)
 
-  abbrev s4 : Typed.Mo T5 → Typed.Mo T7
-  s4 = Scalar.n-room T5 8 (Syntax.tyInt Syntax.w64)
+  abbrev s3 : Typed.Mo T4 → Typed.Mo T6
+  s3 = Scalar.n-room T4 7 Syntax.tyBool
 
-  abbrev s5 : Typed.Mo T7 → Typed.Mo T8
-  s5 =
-      Scalar.n-room
-      T7
-      6
-      (Syntax.tyStruct
-      (List._∷_
-      114
-      (List._∷_
-      101
-      (List._∷_
-      99
-      (List._∷_
-      111
-      (List._∷_
-      114
-      (List._∷_
-      100
-      (List._∷_
-      115
-      (List._∷_
-      58
-      (List._∷_
-      58
-      (List._∷_
-      76
-      (List._∷_
-      105
-      (List._∷_ 110 (List._∷_ 101 (List._∷_ 82 (List._∷_ 101 (List._∷_ 99 List.[]))))))))))))))))
-      (Syntax.tcons
-      (Syntax.tyInt Syntax.w64)
-      (Syntax.tcons
-      (Syntax.tyInt Syntax.w64)
-      (Syntax.tcons
-      (Syntax.tyStruct
-      (List._∷_
-      112
-      (List._∷_
-      108
-      (List._∷_
-      97
-      (List._∷_
-      99
-      (List._∷_
-      101
-      (List._∷_
-      58
-      (List._∷_
-      58
-      (List._∷_
-      82
-      (List._∷_ 101 (List._∷_ 103 (List._∷_ 105 (List._∷_ 111 (List._∷_ 110 List.[])))))))))))))
-      (Syntax.tcons (Syntax.tyInt Syntax.w64) Syntax.tnil))
-      (Syntax.tcons (Syntax.tyInt Syntax.w64) Syntax.tnil)))))
-
-  abbrev s6 : Typed.Mo T8 → Typed.Mo T9
-  s6 = Scalar.n-room T8 9 Syntax.tyBool
-
-  abbrev s7 : Typed.Mo T9 → Typed.Mo T10
-  s7 =
+  abbrev s4 : Typed.Mo T6 → Typed.Mo T7
+  s4 =
       Scalar.n-use
-      T9
+      T6
       (Scalar.oAt 5 (Syntax.tyInt Syntax.w64) (Row.valS (Row.sInt Syntax.w64)))
       0
       (Rows.sc-here (Row.sInt Syntax.w64))
       (Row.sInt Syntax.w64 .of)
 
-  abbrev s8 : Typed.Mo T10 → Typed.Mo T11
-  s8 = Scalar.n-room T10 3 (Syntax.tyInt Syntax.w64)
+  abbrev s5 : Typed.Mo T7 → Typed.Mo T8
+  s5 = Scalar.n-room T7 3 (Syntax.tyInt Syntax.w64)
 
-  abbrev s9 : Typed.Mo T11 → Typed.Mo T12
-  s9 = Scalar.n-room T11 4 (Syntax.tyInt Syntax.w64)
+  abbrev s6 : Typed.Mo T8 → Typed.Mo T9
+  s6 = Scalar.n-room T8 4 (Syntax.tyInt Syntax.w64)
 
-  abbrev s10 : Typed.Mo T12 → Typed.Mo T13
-  s10 = Scalar.n-room T12 5 (Syntax.tyInt Syntax.w64)
+  abbrev s7 : Typed.Mo T9 → Typed.Mo T10
+  s7 = Scalar.n-room T9 5 (Syntax.tyInt Syntax.w64)
 
-  abbrev s11 : Typed.Mo T7 → Typed.Mo T14
-  s11 = Scalar.n-room T7 9 Syntax.tyBool
+  abbrev s8 : Typed.Mo T4 → Typed.Mo T11
+  s8 = Scalar.n-room T4 7 Syntax.tyBool
 
-  abbrev s13 : Typed.Gives T6 T16
-  s13 =
+  abbrev s10 : Typed.Gives T5 T13
+  s10 =
       Relend.k-sl-relend
       Elem.R
-      T6
-      7
-      11
+      T5
+      6
+      9
       2
       3
       (Syntax.tyRef (Syntax.named 2) Syntax.mut Elem.ty)
@@ -1503,28 +836,28 @@ module _ (claims· : Claims) where
       Row.off
       λ x. x
 
-  abbrev s14 : Typed.Asks T16 T17
-  s14 =
+  abbrev s11 : Typed.Asks T13 T14
+  s11 =
       Relend.k-sl-aggregate
       Elem.R
       (Relend.asMut Elem.R)
-      T16
-      11
-      12
+      T13
+      9
+      10
       3
       (Syntax.tyRef Syntax.erased Syntax.mut Elem.ty)
       (Syntax.tyRef Syntax.erased Syntax.mut Elem.ty)
       (λ x. x)
       (Scalar.oFld
-      7
+      6
       (List._∷_ (Syntax.field 1) List.[])
       (Syntax.tyInt Syntax.w64)
       8
       λ v. Shared.lenV
       (v .0))
 
-  abbrev s15 : Typed.Both T17 T18
-  s15 = Call.callB ps·0 r·0 (claims· .0) (claims· .1) T17 (
+  abbrev s12 : Typed.Both T14 T15
+  s12 = Call.callB ps·0 r·0 (claims· .0) (claims· .1) T14 (
     record {
       pos = 1;
       ty = Syntax.tyRef (Syntax.named 0) Syntax.imm (Syntax.tyInt Syntax.w64);
@@ -1539,91 +872,33 @@ module _ (claims· : Claims) where
       (
         Num.vAt 3 λ x. x,
         (
-          Num.vAt 4 λ x. x,
+          Num.vAt 5 λ x. x,
           (
-            record { pos = 6; st = List.[]; d = 0; at = λ x. x },
-            (
-              record {
-                pos = 12;
-                ty = Syntax.tyRef
-                    Syntax.erased
-                    Syntax.mut
-                    Elem.ty;
-                ref = λ x. x;
-              },
-              tt,
-            ),
+            record {
+              pos = 10;
+              ty = Syntax.tyRef
+                  Syntax.erased
+                  Syntax.mut
+                  Elem.ty;
+              ref = λ x. x;
+            },
+            tt,
           ),
         ),
       ),
     ),
-  ) 10 (List._∷_ 0 (List._∷_ 1 (List._∷_ 3 List.[]))) Syntax.tyUnit
+  ) 8 (List._∷_ 0 (List._∷_ 1 (List._∷_ 3 List.[]))) Syntax.tyUnit
 
-  abbrev s16 : Typed.Mo T18 → Typed.Mo T19
-  s16 =
-      Scalar.n-room
-      T18
-      6
-      (Syntax.tyStruct
-      (List._∷_
-      114
-      (List._∷_
-      101
-      (List._∷_
-      99
-      (List._∷_
-      111
-      (List._∷_
-      114
-      (List._∷_
-      100
-      (List._∷_
-      115
-      (List._∷_
-      58
-      (List._∷_
-      58
-      (List._∷_
-      76
-      (List._∷_
-      105
-      (List._∷_ 110 (List._∷_ 101 (List._∷_ 82 (List._∷_ 101 (List._∷_ 99 List.[]))))))))))))))))
-      (Syntax.tcons
-      (Syntax.tyInt Syntax.w64)
-      (Syntax.tcons
-      (Syntax.tyInt Syntax.w64)
-      (Syntax.tcons
-      (Syntax.tyStruct
-      (List._∷_
-      112
-      (List._∷_
-      108
-      (List._∷_
-      97
-      (List._∷_
-      99
-      (List._∷_
-      101
-      (List._∷_
-      58
-      (List._∷_
-      58
-      (List._∷_
-      82
-      (List._∷_ 101 (List._∷_ 103 (List._∷_ 105 (List._∷_ 111 (List._∷_ 110 List.[])))))))))))))
-      (Syntax.tcons (Syntax.tyInt Syntax.w64) Syntax.tnil))
-      (Syntax.tcons (Syntax.tyInt Syntax.w64) Syntax.tnil)))))
+  abbrev s13 : Typed.Mo T15 → Typed.Mo T16
+  s13 = Scalar.n-room T15 8 Syntax.tyUnit
 
-  abbrev s17 : Typed.Mo T19 → Typed.Mo T20
-  s17 = Scalar.n-room T19 10 Syntax.tyUnit
-
-  abbrev s19 : Typed.Both T20 T22
-  s19 =
+  abbrev s15 : Typed.Both T16 T18
+  s15 =
       Relend.k-back-sl
       Elem.R
-      T20
-      12
-      7
+      T16
+      10
+      6
       2
       3
       (Syntax.tyRef (Syntax.named 2) Syntax.mut Elem.ty)
@@ -1632,23 +907,37 @@ module _ (claims· : Claims) where
       (λ x. x)
       λ x. x
 
-  abbrev s21 : Typed.Mo T22 → Typed.Mo T24
-  s21 =
+  abbrev s17 : Typed.Mo T18 → Typed.Mo T20
+  s17 =
       Scalar.n-use
-      T22
-      (Scalar.oInt Syntax.w64 0)
+      T18
+      (Scalar.oFld 6 (List._∷_ (Syntax.field 1) List.[]) (Syntax.tyInt Syntax.w64) 8 Shared.lenV)
+      11
+      (Rows.sc-here (Row.sInt Syntax.w64))
+      (Row.sInt Syntax.w64 .of)
+
+  abbrev s18 : Typed.Asks T20 T21
+  s18 =
+      Scalar.k-op2
+      T20
+      (Syntax.add Syntax.unsigned)
+      (Scalar.oAt 5 (Syntax.tyInt Syntax.w64) (Row.valS (Row.sInt Syntax.w64)))
+      (Scalar.oAt 11 (Syntax.tyInt Syntax.w64) (Row.valS (Row.sInt Syntax.w64)))
       0
       (Rows.sc-here (Row.sInt Syntax.w64))
       (Row.sInt Syntax.w64 .of)
 
+  abbrev s19 : Typed.Mo T21 → Typed.Mo T22
+  s19 = Scalar.n-room T21 11 (Syntax.tyInt Syntax.w64)
+
+  abbrev s20 : Typed.Mo T22 → Typed.Mo T23
+  s20 = Scalar.n-room T22 3 (Syntax.tyInt Syntax.w64)
+
+  abbrev s21 : Typed.Mo T23 → Typed.Mo T24
+  s21 = Scalar.n-room T23 4 (Syntax.tyInt Syntax.w64)
+
   abbrev s22 : Typed.Mo T24 → Typed.Mo T25
-  s22 = Scalar.n-room T24 3 (Syntax.tyInt Syntax.w64)
-
-  abbrev s23 : Typed.Mo T25 → Typed.Mo T26
-  s23 = Scalar.n-room T25 4 (Syntax.tyInt Syntax.w64)
-
-  abbrev s24 : Typed.Mo T26 → Typed.Mo T27
-  s24 = Scalar.n-room T26 5 (Syntax.tyInt Syntax.w64)
+  s22 = Scalar.n-room T24 5 (Syntax.tyInt Syntax.w64)
 
   module _ (Pre· : (κs : Lifetimes.Lfts 3) → Kinds.Dens κs ps → Type 0)
       (Post· : (κs : Lifetimes.Lfts 3) → (a : Kinds.Dens κs ps) → Kinds.Plain 3 ps r κs) where
@@ -1661,98 +950,92 @@ module _ (claims· : Claims) where
           m hs body)) (Function.plainOf 𝓤 H A 3 ps r Pre· Post·)
 
     module _ where
-      abbrev at0 : Typed.TF T13 O1
+      abbrev at0 : Typed.TF T10 O1
       at0 = Typed.atRet O1
 
-      abbrev at1 : Typed.TF T12 O1
-      at1 = λ Ψ. Typed.pass T12 T13 s10 (at0 Ψ)
+      abbrev at1 : Typed.TF T9 O1
+      at1 = λ Ψ. Typed.pass T9 T10 s7 (at0 Ψ)
 
-      abbrev at2 : Typed.TF T11 O1
-      at2 = λ Ψ. Typed.pass T11 T12 s9 (at1 Ψ)
+      abbrev at2 : Typed.TF T8 O1
+      at2 = λ Ψ. Typed.pass T8 T9 s6 (at1 Ψ)
 
-      abbrev at3 : Typed.TF T10 O1
-      at3 = λ Ψ. Typed.pass T10 T11 s8 (at2 Ψ)
+      abbrev at3 : Typed.TF T7 O1
+      at3 = λ Ψ. Typed.pass T7 T8 s5 (at2 Ψ)
 
-      abbrev at4 : Typed.TF T9 O1
-      at4 = λ Ψ. Typed.pass T9 T10 s7 (at3 Ψ)
+      abbrev at4 : Typed.TF T6 O1
+      at4 = λ Ψ. Typed.pass T6 T7 s4 (at3 Ψ)
 
-      abbrev at5 : Typed.TF T8 O1
-      at5 = λ Ψ. Typed.pass T8 T9 s6 (at4 Ψ)
+      abbrev at5 : Typed.TF T4 O1
+      at5 = λ Ψ. Typed.pass T4 T6 s3 (at4 Ψ)
 
-      abbrev at6 : Typed.TF T7 O1
-      at6 = λ Ψ. Typed.pass T7 T8 s5 (at5 Ψ)
+      abbrev at6 : Typed.TF T11 O1
+      at6 = Typed.atNext O1
 
-      abbrev at7 : Typed.TF T14 O1
-      at7 = Typed.atNext O1
+      abbrev at7 : Typed.TF T4 O1
+      at7 = λ Ψ. Typed.pass T4 T11 s8 (at6 Ψ)
 
-      abbrev at8 : Typed.TF T7 O1
-      at8 = λ Ψ. Typed.pass T7 T14 s11 (at7 Ψ)
+      abbrev at8 : Typed.TF T4 O1
+      at8 = Scalar.Φcond T4 O1 7 (λ x. x) at5 at7
 
-      abbrev at9 : Typed.TF T7 O1
-      at9 = Scalar.Φcond T7 O1 9 (λ x. x) at6 at8
+      abbrev at9 : Typed.TF T25 O0
+      at9 = Typed.atRet O0
 
-      abbrev at10 : Typed.TF T5 O1
-      at10 = λ Ψ. Typed.pass T5 T7 s4 (at9 Ψ)
+      abbrev at10 : Typed.TF T24 O0
+      at10 = λ Ψ. Typed.pass T24 T25 s22 (at9 Ψ)
 
-      abbrev at11 : Typed.TF T27 O0
-      at11 = Typed.atRet O0
+      abbrev at11 : Typed.TF T23 O0
+      at11 = λ Ψ. Typed.pass T23 T24 s21 (at10 Ψ)
 
-      abbrev at12 : Typed.TF T26 O0
-      at12 = λ Ψ. Typed.pass T26 T27 s24 (at11 Ψ)
+      abbrev at12 : Typed.TF T22 O0
+      at12 = λ Ψ. Typed.pass T22 T23 s20 (at11 Ψ)
 
-      abbrev at13 : Typed.TF T25 O0
-      at13 = λ Ψ. Typed.pass T25 T26 s23 (at12 Ψ)
+      abbrev at13 : Typed.TF T21 O0
+      at13 = λ Ψ. Typed.pass T21 T22 s19 (at12 Ψ)
 
-      abbrev at14 : Typed.TF T24 O0
-      at14 = λ Ψ. Typed.pass T24 T25 s22 (at13 Ψ)
+      abbrev at14 : Typed.TF T20 O0
+      at14 = λ Ψ. Typed.ask s18 (at13 Ψ)
 
-      abbrev at15 : Typed.TF T22 O0
-      at15 = λ Ψ. Typed.pass T22 T24 s21 (at14 Ψ)
+      abbrev at15 : Typed.TF T18 O0
+      at15 = λ Ψ. Typed.pass T18 T20 s17 (at14 Ψ)
 
-      abbrev at16 : Typed.TF T22 O0
+      abbrev at16 : Typed.TF T18 O0
       at16 = λ Ψ. at15 Ψ
 
-      abbrev at17 : Typed.TF T20 O0
-      at17 = λ Ψ. Typed.both s19 (at16 Ψ)
+      abbrev at17 : Typed.TF T16 O0
+      at17 = λ Ψ. Typed.both s15 (at16 Ψ)
 
-      abbrev at18 : Typed.TF T20 O0
+      abbrev at18 : Typed.TF T16 O0
       at18 = λ Ψ. at17 Ψ
 
-      abbrev at19 : Typed.TF T19 O0
-      at19 = λ Ψ. Typed.pass T19 T20 s17 (at18 Ψ)
+      abbrev at19 : Typed.TF T15 O0
+      at19 = λ Ψ. Typed.pass T15 T16 s13 (at18 Ψ)
 
-      abbrev at20 : Typed.TF T18 O0
-      at20 = λ Ψ. Typed.pass T18 T19 s16 (at19 Ψ)
+      abbrev at20 : Typed.TF T14 O0
+      at20 = λ Ψ. Typed.both s12 (at19 Ψ)
 
-      abbrev at21 : Typed.TF T17 O0
-      at21 = λ Ψ. Typed.both s15 (at20 Ψ)
+      abbrev at21 : Typed.TF T13 O0
+      at21 = λ Ψ. Typed.ask s11 (at20 Ψ)
 
-      abbrev at22 : Typed.TF T16 O0
-      at22 = λ Ψ. Typed.ask s14 (at21 Ψ)
+      abbrev at22 : Typed.TF T5 O0
+      at22 = λ Ψ. Typed.give s10 (at21 Ψ)
 
-      abbrev at23 : Typed.TF T6 O0
-      at23 = λ Ψ. Typed.give s13 (at22 Ψ)
+      abbrev at23 : Typed.TF T5 O0
+      at23 = λ Ψ. at22 Ψ
 
-      abbrev at24 : Typed.TF T6 O0
-      at24 = λ Ψ. at23 Ψ
+      abbrev at24 : Typed.TF T4 O0
+      at24 = λ Ψ. at8 (Typed.wantNext T5 O0 (at23 Ψ) Ψ)
 
-      abbrev at25 : Typed.TF T5 O0
-      at25 = λ Ψ. at10 (Typed.wantNext T6 O0 (at24 Ψ) Ψ)
+      abbrev at25 : Typed.TF T3 O0
+      at25 = λ Ψ. Typed.ask s2 (at24 Ψ)
 
-      abbrev at26 : Typed.TF T4 O0
-      at26 = λ Ψ. Typed.ask s3 (at25 Ψ)
+      abbrev at26 : Typed.TF T2 O0
+      at26 = λ Ψ. Typed.give s1 (at25 Ψ)
 
-      abbrev at27 : Typed.TF T3 O0
-      at27 = λ Ψ. Typed.pass T3 T4 s2 (at26 Ψ)
-
-      abbrev at28 : Typed.TF T2 O0
-      at28 = λ Ψ. Typed.give s1 (at27 Ψ)
-
-      abbrev at29 : Typed.TF T0 O0
-      at29 = λ Ψ. Typed.give s0 (at28 Ψ)
+      abbrev at27 : Typed.TF T0 O0
+      at27 = λ Ψ. Typed.give s0 (at26 Ψ)
 
       abbrev pub Φ : Typed.TF T0 O0
-      Φ = at29
+      Φ = at27
 
       module _ {M : Type 1} (𝓤 : URA.URA M) (H : Wp.Heap 𝓤) (A : Atoms.Atoms 𝓤)
           (W : Kit.Given 𝓤 H A) (𝓣 : Wp.Tables 𝓤 H) where
@@ -1760,8 +1043,8 @@ module _ (claims· : Claims) where
         Knowns = Plain.Known 𝓤 H A W 𝓣 3 ps·0 r·0 (claims· .0) (claims· .1) "records::fill"
 
       module _ (κs : Lifetimes.Lfts 3) (qs : Lifetimes.Shares 3) where
-        abbrev g10 : List.List Row.Entry
-        g10 = List._∷_ (0, Rows.any-gone (Syntax.tyInt Syntax.w64)) (List._∷_ (
+        abbrev g6 : List.List Row.Entry
+        g6 = List._∷_ (0, Rows.any-gone (Syntax.tyInt Syntax.w64)) (List._∷_ (
           1,
           Rows.sslice
               (Referent.rtF (Referent.fInt Syntax.w64))
@@ -1778,9 +1061,6 @@ module _ (claims· : Claims) where
           Rows.sc-here (Row.sInt Syntax.w64),
         ) (List._∷_ (5, Rows.sc-here (Row.sInt Syntax.w64)) (List._∷_ (
           6,
-          Rows.whole (Declared.row LineRec.the-type),
-        ) (List._∷_ (
-          7,
           Relend.mslice-owed
               Elem.R
               (Syntax.tyRef
@@ -1790,33 +1070,33 @@ module _ (claims· : Claims) where
               2
               3
               (Row.lease (κs .1 .1 .0) (qs .1 .1 .0)),
-        ) (List._∷_ (8, Rows.any-gone (Syntax.tyInt Syntax.w64)) (List._∷_ (
-          9,
-          Rows.any-gone Syntax.tyBool,
-        ) (List._∷_ (10, Rows.any-gone Syntax.tyUnit) (List._∷_ (
-          11,
-          Relend.msptr
-              Elem.R
-              (Syntax.tyRef
-              Syntax.erased
-              Syntax.mut
-              Elem.ty)
-              3,
-        ) (List._∷_ (
-          12,
-          Rows.any-gone
-              (Syntax.tyStruct
-              (List._∷_ 38 (List._∷_ 91 (List._∷_ 93 List.[])))
-              (Syntax.tcons
-              (Syntax.tyRef
-              Syntax.erased
-              Syntax.mut
-              Elem.ty)
-              (Syntax.tcons (Syntax.tyInt Syntax.w64) Syntax.tnil))),
-        ) List.[]))))))))))))
+        )
+            (List._∷_
+            (7, Rows.any-gone Syntax.tyBool)
+            (List._∷_ (8, Rows.any-gone Syntax.tyUnit) (List._∷_ (
+              9,
+              Relend.msptr
+                  Elem.R
+                  (Syntax.tyRef
+                  Syntax.erased
+                  Syntax.mut
+                  Elem.ty)
+                  3,
+            ) (List._∷_ (
+              10,
+              Rows.any-gone
+                  (Syntax.tyStruct
+                  (List._∷_ 38 (List._∷_ 91 (List._∷_ 93 List.[])))
+                  (Syntax.tcons
+                  (Syntax.tyRef
+                  Syntax.erased
+                  Syntax.mut
+                  Elem.ty)
+                  (Syntax.tcons (Syntax.tyInt Syntax.w64) Syntax.tnil))),
+            ) (List._∷_ (11, Rows.any-gone (Syntax.tyInt Syntax.w64)) List.[])))))))))))
 
-        abbrev g11 : List.List Row.Entry
-        g11 = List._∷_ (0, Rows.any-gone (Syntax.tyInt Syntax.w64)) (List._∷_ (
+        abbrev g7 : List.List Row.Entry
+        g7 = List._∷_ (0, Rows.any-gone (Syntax.tyInt Syntax.w64)) (List._∷_ (
           1,
           Rows.sslice
               (Referent.rtF (Referent.fInt Syntax.w64))
@@ -1833,9 +1113,6 @@ module _ (claims· : Claims) where
           Rows.sc-here (Row.sInt Syntax.w64),
         ) (List._∷_ (5, Rows.sc-here (Row.sInt Syntax.w64)) (List._∷_ (
           6,
-          Rows.whole (Declared.row LineRec.the-type),
-        ) (List._∷_ (
-          7,
           Relend.mslice-owed
               Elem.R
               (Syntax.tyRef
@@ -1845,29 +1122,29 @@ module _ (claims· : Claims) where
               2
               3
               (Row.lease (κs .1 .1 .0) (qs .1 .1 .0)),
-        ) (List._∷_ (8, Rows.any-gone (Syntax.tyInt Syntax.w64)) (List._∷_ (
-          9,
-          Rows.any-gone Syntax.tyBool,
-        ) (List._∷_ (10, Rows.any-gone Syntax.tyUnit) (List._∷_ (
-          11,
-          Rows.any-gone
-              (Syntax.tyRef
-              Syntax.erased
-              Syntax.mut
-              Elem.ty),
-        ) (List._∷_ (
-          12,
-          Mut.mslice
-              Elem.R
-              (Syntax.tyRef
-              Syntax.erased
-              Syntax.mut
-              Elem.ty)
-              3,
-        ) List.[]))))))))))))
+        )
+            (List._∷_
+            (7, Rows.any-gone Syntax.tyBool)
+            (List._∷_ (8, Rows.any-gone Syntax.tyUnit) (List._∷_ (
+              9,
+              Rows.any-gone
+                  (Syntax.tyRef
+                  Syntax.erased
+                  Syntax.mut
+                  Elem.ty),
+            ) (List._∷_ (
+              10,
+              Mut.mslice
+                  Elem.R
+                  (Syntax.tyRef
+                  Syntax.erased
+                  Syntax.mut
+                  Elem.ty)
+                  3,
+            ) (List._∷_ (11, Rows.any-gone (Syntax.tyInt Syntax.w64)) List.[])))))))))))
 
-        abbrev g12 : List.List Row.Entry
-        g12 = List._∷_ (0, Rows.any-gone (Syntax.tyInt Syntax.w64)) (List._∷_ (
+        abbrev g8 : List.List Row.Entry
+        g8 = List._∷_ (0, Rows.any-gone (Syntax.tyInt Syntax.w64)) (List._∷_ (
           1,
           Rows.sslice
               (Referent.rtF (Referent.fInt Syntax.w64))
@@ -1884,9 +1161,6 @@ module _ (claims· : Claims) where
           Rows.sc-here (Row.sInt Syntax.w64),
         ) (List._∷_ (5, Rows.sc-here (Row.sInt Syntax.w64)) (List._∷_ (
           6,
-          Rows.whole (Declared.row LineRec.the-type),
-        ) (List._∷_ (
-          7,
           Relend.mslice-owed
               Elem.R
               (Syntax.tyRef
@@ -1896,28 +1170,28 @@ module _ (claims· : Claims) where
               2
               3
               (Row.lease (κs .1 .1 .0) (qs .1 .1 .0)),
-        ) (List._∷_ (8, Rows.any-gone (Syntax.tyInt Syntax.w64)) (List._∷_ (
-          9,
-          Rows.any-gone Syntax.tyBool,
-        ) (List._∷_ (10, Rows.sc-here Row.sUnit) (List._∷_ (
-          11,
-          Rows.any-gone
-              (Syntax.tyRef
-              Syntax.erased
-              Syntax.mut
-              Elem.ty),
-        ) (List._∷_ (
-          12,
-          Mut.msleft
-              Elem.R
-              (Syntax.tyRef
-              Syntax.erased
-              Syntax.mut
-              Elem.ty),
-        ) List.[]))))))))))))
+        )
+            (List._∷_
+            (7, Rows.any-gone Syntax.tyBool)
+            (List._∷_ (8, Rows.sc-here Row.sUnit) (List._∷_ (
+              9,
+              Rows.any-gone
+                  (Syntax.tyRef
+                  Syntax.erased
+                  Syntax.mut
+                  Elem.ty),
+            ) (List._∷_ (
+              10,
+              Mut.msleft
+                  Elem.R
+                  (Syntax.tyRef
+                  Syntax.erased
+                  Syntax.mut
+                  Elem.ty),
+            ) (List._∷_ (11, Rows.any-gone (Syntax.tyInt Syntax.w64)) List.[])))))))))))
 
-        abbrev g13 : List.List Row.Entry
-        g13 = List._∷_ (0, Rows.any-gone (Syntax.tyInt Syntax.w64)) (List._∷_ (
+        abbrev g9 : List.List Row.Entry
+        g9 = List._∷_ (0, Rows.any-gone (Syntax.tyInt Syntax.w64)) (List._∷_ (
           1,
           Rows.sslice
               (Referent.rtF (Referent.fInt Syntax.w64))
@@ -1934,62 +1208,6 @@ module _ (claims· : Claims) where
           Rows.sc-here (Row.sInt Syntax.w64),
         ) (List._∷_ (5, Rows.sc-here (Row.sInt Syntax.w64)) (List._∷_ (
           6,
-          Rows.any-gone
-              (Syntax.tyStruct
-              (List._∷_
-              114
-              (List._∷_
-              101
-              (List._∷_
-              99
-              (List._∷_
-              111
-              (List._∷_
-              114
-              (List._∷_
-              100
-              (List._∷_
-              115
-              (List._∷_
-              58
-              (List._∷_
-              58
-              (List._∷_
-              76
-              (List._∷_
-              105
-              (List._∷_
-              110
-              (List._∷_ 101 (List._∷_ 82 (List._∷_ 101 (List._∷_ 99 List.[]))))))))))))))))
-              (Syntax.tcons
-              (Syntax.tyInt Syntax.w64)
-              (Syntax.tcons
-              (Syntax.tyInt Syntax.w64)
-              (Syntax.tcons
-              (Syntax.tyStruct
-              (List._∷_
-              112
-              (List._∷_
-              108
-              (List._∷_
-              97
-              (List._∷_
-              99
-              (List._∷_
-              101
-              (List._∷_
-              58
-              (List._∷_
-              58
-              (List._∷_
-              82
-              (List._∷_
-              101
-              (List._∷_ 103 (List._∷_ 105 (List._∷_ 111 (List._∷_ 110 List.[])))))))))))))
-              (Syntax.tcons (Syntax.tyInt Syntax.w64) Syntax.tnil))
-              (Syntax.tcons (Syntax.tyInt Syntax.w64) Syntax.tnil))))),
-        ) (List._∷_ (
-          7,
           Relend.mslice-owed
               Elem.R
               (Syntax.tyRef
@@ -1999,128 +1217,25 @@ module _ (claims· : Claims) where
               2
               3
               (Row.lease (κs .1 .1 .0) (qs .1 .1 .0)),
-        ) (List._∷_ (8, Rows.any-gone (Syntax.tyInt Syntax.w64)) (List._∷_ (
-          9,
-          Rows.any-gone Syntax.tyBool,
-        ) (List._∷_ (10, Rows.sc-here Row.sUnit) (List._∷_ (
-          11,
-          Rows.any-gone
-              (Syntax.tyRef
-              Syntax.erased
-              Syntax.mut
-              Elem.ty),
-        ) (List._∷_ (
-          12,
-          Mut.msleft
-              Elem.R
-              (Syntax.tyRef
-              Syntax.erased
-              Syntax.mut
-              Elem.ty),
-        ) List.[]))))))))))))
-
-        abbrev g14 : List.List Row.Entry
-        g14 = List._∷_ (0, Rows.any-gone (Syntax.tyInt Syntax.w64)) (List._∷_ (
-          1,
-          Rows.sslice
-              (Referent.rtF (Referent.fInt Syntax.w64))
-              (Syntax.tyRef (Syntax.named 0) Syntax.imm (Syntax.tyInt Syntax.w64))
-              0,
-        ) (List._∷_ (
-          2,
-          Rows.sslice
-              (Referent.rtF (Referent.fInt Syntax.w64))
-              (Syntax.tyRef (Syntax.named 1) Syntax.imm (Syntax.tyInt Syntax.w64))
-              1,
-        ) (List._∷_ (3, Rows.sc-here (Row.sInt Syntax.w64)) (List._∷_ (
-          4,
-          Rows.sc-here (Row.sInt Syntax.w64),
-        ) (List._∷_ (5, Rows.sc-here (Row.sInt Syntax.w64)) (List._∷_ (
-          6,
-          Rows.any-gone
-              (Syntax.tyStruct
-              (List._∷_
-              114
-              (List._∷_
-              101
-              (List._∷_
-              99
-              (List._∷_
-              111
-              (List._∷_
-              114
-              (List._∷_
-              100
-              (List._∷_
-              115
-              (List._∷_
-              58
-              (List._∷_
-              58
-              (List._∷_
-              76
-              (List._∷_
-              105
-              (List._∷_
-              110
-              (List._∷_ 101 (List._∷_ 82 (List._∷_ 101 (List._∷_ 99 List.[]))))))))))))))))
-              (Syntax.tcons
-              (Syntax.tyInt Syntax.w64)
-              (Syntax.tcons
-              (Syntax.tyInt Syntax.w64)
-              (Syntax.tcons
-              (Syntax.tyStruct
-              (List._∷_
-              112
-              (List._∷_
-              108
-              (List._∷_
-              97
-              (List._∷_
-              99
-              (List._∷_
-              101
-              (List._∷_
-              58
-              (List._∷_
-              58
-              (List._∷_
-              82
-              (List._∷_
-              101
-              (List._∷_ 103 (List._∷_ 105 (List._∷_ 111 (List._∷_ 110 List.[])))))))))))))
-              (Syntax.tcons (Syntax.tyInt Syntax.w64) Syntax.tnil))
-              (Syntax.tcons (Syntax.tyInt Syntax.w64) Syntax.tnil))))),
-        ) (List._∷_ (
-          7,
-          Relend.mslice-owed
-              Elem.R
-              (Syntax.tyRef
-              (Syntax.named 2)
-              Syntax.mut
-              Elem.ty)
-              2
-              3
-              (Row.lease (κs .1 .1 .0) (qs .1 .1 .0)),
-        ) (List._∷_ (8, Rows.any-gone (Syntax.tyInt Syntax.w64)) (List._∷_ (
-          9,
-          Rows.any-gone Syntax.tyBool,
-        ) (List._∷_ (10, Rows.any-gone Syntax.tyUnit) (List._∷_ (
-          11,
-          Rows.any-gone
-              (Syntax.tyRef
-              Syntax.erased
-              Syntax.mut
-              Elem.ty),
-        ) (List._∷_ (
-          12,
-          Mut.msleft
-              Elem.R
-              (Syntax.tyRef
-              Syntax.erased
-              Syntax.mut
-              Elem.ty),
-        ) List.[]))))))))))))
+        )
+            (List._∷_
+            (7, Rows.any-gone Syntax.tyBool)
+            (List._∷_ (8, Rows.any-gone Syntax.tyUnit) (List._∷_ (
+              9,
+              Rows.any-gone
+                  (Syntax.tyRef
+                  Syntax.erased
+                  Syntax.mut
+                  Elem.ty),
+            ) (List._∷_ (
+              10,
+              Mut.msleft
+                  Elem.R
+                  (Syntax.tyRef
+                  Syntax.erased
+                  Syntax.mut
+                  Elem.ty),
+            ) (List._∷_ (11, Rows.any-gone (Syntax.tyInt Syntax.w64)) List.[])))))))))))
 
         abbrev G0 : Row.Cx
         G0 = record {
@@ -2174,7 +1289,7 @@ module _ (claims· : Claims) where
 
         abbrev G5 : Row.Cx
         G5 = record {
-          locals = t3;
+          locals = t0;
           slots = List._∷_
               (Row.lease (κs .0) (qs .0))
               (List._∷_
@@ -2194,7 +1309,7 @@ module _ (claims· : Claims) where
 
         abbrev G7 : Row.Cx
         G7 = record {
-          locals = t4;
+          locals = t3;
           slots = List._∷_
               (Row.lease (κs .0) (qs .0))
               (List._∷_
@@ -2204,7 +1319,7 @@ module _ (claims· : Claims) where
 
         abbrev G8 : Row.Cx
         G8 = record {
-          locals = t5;
+          locals = t4;
           slots = List._∷_
               (Row.lease (κs .0) (qs .0))
               (List._∷_
@@ -2214,7 +1329,7 @@ module _ (claims· : Claims) where
 
         abbrev G9 : Row.Cx
         G9 = record {
-          locals = t6;
+          locals = t5;
           slots = List._∷_
               (Row.lease (κs .0) (qs .0))
               (List._∷_
@@ -2224,7 +1339,7 @@ module _ (claims· : Claims) where
 
         abbrev G10 : Row.Cx
         G10 = record {
-          locals = t7;
+          locals = t1;
           slots = List._∷_
               (Row.lease (κs .0) (qs .0))
               (List._∷_
@@ -2234,7 +1349,7 @@ module _ (claims· : Claims) where
 
         abbrev G11 : Row.Cx
         G11 = record {
-          locals = t8;
+          locals = t0;
           slots = List._∷_
               (Row.lease (κs .0) (qs .0))
               (List._∷_
@@ -2244,36 +1359,6 @@ module _ (claims· : Claims) where
 
         abbrev G12 : Row.Cx
         G12 = record {
-          locals = t9;
-          slots = List._∷_
-              (Row.lease (κs .0) (qs .0))
-              (List._∷_
-              (Row.lease (κs .1 .0) (qs .1 .0))
-              (List._∷_ (Row.lease (κs .1 .1 .0) (qs .1 .1 .0)) (List._∷_ Row.off List.[])));
-        }
-
-        abbrev G13 : Row.Cx
-        G13 = record {
-          locals = t1;
-          slots = List._∷_
-              (Row.lease (κs .0) (qs .0))
-              (List._∷_
-              (Row.lease (κs .1 .0) (qs .1 .0))
-              (List._∷_ (Row.lease (κs .1 .1 .0) (qs .1 .1 .0)) (List._∷_ Row.off List.[])));
-        }
-
-        abbrev G14 : Row.Cx
-        G14 = record {
-          locals = t0;
-          slots = List._∷_
-              (Row.lease (κs .0) (qs .0))
-              (List._∷_
-              (Row.lease (κs .1 .0) (qs .1 .0))
-              (List._∷_ (Row.lease (κs .1 .1 .0) (qs .1 .1 .0)) (List._∷_ Row.off List.[])));
-        }
-
-        abbrev G15 : Row.Cx
-        G15 = record {
           locals = t0;
           slots = List._∷_
               (Row.lease (κs .0) (qs .0))
@@ -2282,9 +1367,39 @@ module _ (claims· : Claims) where
               (List._∷_ (Row.lease (κs .1 .1 .0) (qs .1 .1 .0)) (List._∷_ Row.alive List.[])));
         }
 
+        abbrev G13 : Row.Cx
+        G13 = record {
+          locals = g6;
+          slots = List._∷_
+              (Row.lease (κs .0) (qs .0))
+              (List._∷_
+              (Row.lease (κs .1 .0) (qs .1 .0))
+              (List._∷_ Row.off (List._∷_ Row.alive List.[])));
+        }
+
+        abbrev G14 : Row.Cx
+        G14 = record {
+          locals = g7;
+          slots = List._∷_
+              (Row.lease (κs .0) (qs .0))
+              (List._∷_
+              (Row.lease (κs .1 .0) (qs .1 .0))
+              (List._∷_ Row.off (List._∷_ Row.alive List.[])));
+        }
+
+        abbrev G15 : Row.Cx
+        G15 = record {
+          locals = g8;
+          slots = List._∷_
+              (Row.lease (κs .0) (qs .0))
+              (List._∷_
+              (Row.lease (κs .1 .0) (qs .1 .0))
+              (List._∷_ Row.off (List._∷_ Row.alive List.[])));
+        }
+
         abbrev G16 : Row.Cx
         G16 = record {
-          locals = g10;
+          locals = g9;
           slots = List._∷_
               (Row.lease (κs .0) (qs .0))
               (List._∷_
@@ -2294,47 +1409,7 @@ module _ (claims· : Claims) where
 
         abbrev G17 : Row.Cx
         G17 = record {
-          locals = g11;
-          slots = List._∷_
-              (Row.lease (κs .0) (qs .0))
-              (List._∷_
-              (Row.lease (κs .1 .0) (qs .1 .0))
-              (List._∷_ Row.off (List._∷_ Row.alive List.[])));
-        }
-
-        abbrev G18 : Row.Cx
-        G18 = record {
-          locals = g12;
-          slots = List._∷_
-              (Row.lease (κs .0) (qs .0))
-              (List._∷_
-              (Row.lease (κs .1 .0) (qs .1 .0))
-              (List._∷_ Row.off (List._∷_ Row.alive List.[])));
-        }
-
-        abbrev G19 : Row.Cx
-        G19 = record {
-          locals = g13;
-          slots = List._∷_
-              (Row.lease (κs .0) (qs .0))
-              (List._∷_
-              (Row.lease (κs .1 .0) (qs .1 .0))
-              (List._∷_ Row.off (List._∷_ Row.alive List.[])));
-        }
-
-        abbrev G20 : Row.Cx
-        G20 = record {
-          locals = g14;
-          slots = List._∷_
-              (Row.lease (κs .0) (qs .0))
-              (List._∷_
-              (Row.lease (κs .1 .0) (qs .1 .0))
-              (List._∷_ Row.off (List._∷_ Row.alive List.[])));
-        }
-
-        abbrev G21 : Row.Cx
-        G21 = record {
-          locals = g14;
+          locals = g9;
           slots = List._∷_
               (Row.lease (κs .0) (qs .0))
               (List._∷_
@@ -2342,9 +1417,9 @@ module _ (claims· : Claims) where
               (List._∷_ Row.off (List._∷_ Row.dead List.[])));
         }
 
-        abbrev G22 : Row.Cx
-        G22 = record {
-          locals = t6;
+        abbrev G18 : Row.Cx
+        G18 = record {
+          locals = t0;
           slots = List._∷_
               (Row.lease (κs .0) (qs .0))
               (List._∷_
@@ -2352,9 +1427,49 @@ module _ (claims· : Claims) where
               (List._∷_ (Row.lease (κs .1 .1 .0) (qs .1 .1 .0)) (List._∷_ Row.dead List.[])));
         }
 
+        abbrev G19 : Row.Cx
+        G19 = record {
+          locals = t0;
+          slots = List._∷_
+              (Row.lease (κs .0) (qs .0))
+              (List._∷_
+              (Row.lease (κs .1 .0) (qs .1 .0))
+              (List._∷_ (Row.lease (κs .1 .1 .0) (qs .1 .1 .0)) (List._∷_ Row.off List.[])));
+        }
+
+        abbrev G20 : Row.Cx
+        G20 = record {
+          locals = t10;
+          slots = List._∷_
+              (Row.lease (κs .0) (qs .0))
+              (List._∷_
+              (Row.lease (κs .1 .0) (qs .1 .0))
+              (List._∷_ (Row.lease (κs .1 .1 .0) (qs .1 .1 .0)) (List._∷_ Row.off List.[])));
+        }
+
+        abbrev G21 : Row.Cx
+        G21 = record {
+          locals = t11;
+          slots = List._∷_
+              (Row.lease (κs .0) (qs .0))
+              (List._∷_
+              (Row.lease (κs .1 .0) (qs .1 .0))
+              (List._∷_ (Row.lease (κs .1 .1 .0) (qs .1 .1 .0)) (List._∷_ Row.off List.[])));
+        }
+
+        abbrev G22 : Row.Cx
+        G22 = record {
+          locals = t3;
+          slots = List._∷_
+              (Row.lease (κs .0) (qs .0))
+              (List._∷_
+              (Row.lease (κs .1 .0) (qs .1 .0))
+              (List._∷_ (Row.lease (κs .1 .1 .0) (qs .1 .1 .0)) (List._∷_ Row.off List.[])));
+        }
+
         abbrev G23 : Row.Cx
         G23 = record {
-          locals = t6;
+          locals = t4;
           slots = List._∷_
               (Row.lease (κs .0) (qs .0))
               (List._∷_
@@ -2364,7 +1479,7 @@ module _ (claims· : Claims) where
 
         abbrev G24 : Row.Cx
         G24 = record {
-          locals = t7;
+          locals = t5;
           slots = List._∷_
               (Row.lease (κs .0) (qs .0))
               (List._∷_
@@ -2374,26 +1489,6 @@ module _ (claims· : Claims) where
 
         abbrev G25 : Row.Cx
         G25 = record {
-          locals = t8;
-          slots = List._∷_
-              (Row.lease (κs .0) (qs .0))
-              (List._∷_
-              (Row.lease (κs .1 .0) (qs .1 .0))
-              (List._∷_ (Row.lease (κs .1 .1 .0) (qs .1 .1 .0)) (List._∷_ Row.off List.[])));
-        }
-
-        abbrev G26 : Row.Cx
-        G26 = record {
-          locals = t9;
-          slots = List._∷_
-              (Row.lease (κs .0) (qs .0))
-              (List._∷_
-              (Row.lease (κs .1 .0) (qs .1 .0))
-              (List._∷_ (Row.lease (κs .1 .1 .0) (qs .1 .1 .0)) (List._∷_ Row.off List.[])));
-        }
-
-        abbrev G27 : Row.Cx
-        G27 = record {
           locals = t1;
           slots = List._∷_
               (Row.lease (κs .0) (qs .0))
@@ -2406,7 +1501,7 @@ module _ (claims· : Claims) where
         Δ0 = record { next = Option.none; exits = List.[]; returns = Option.some G1 }
 
         abbrev Δ1 : Typed.Outs
-        Δ1 = Typed.withNext (Option.some G6) Δ0
+        Δ1 = Typed.withNext (Option.some G5) Δ0
 
         module _ {M : Type 1} (𝓤 : URA.URA M) (H : Wp.Heap 𝓤) (A : Atoms.Atoms 𝓤)
             (W : Kit.Given 𝓤 H A) (𝓣 : Wp.Tables 𝓤 H) (known : Knowns 𝓤 H A W 𝓣)
@@ -2414,93 +1509,12 @@ module _ (claims· : Claims) where
           abbrev E : Wp.Env 𝓤 H
           E = Frame.EnvOf 𝓤 H (List._∷_ (Kinds.tyR r) (Enter.tysP ps xs)) bs
 
-          d0 : Typed.Typed 𝓤 H A 𝓣 E G13 b3 Δ1 at0
+          d0 : Typed.Typed 𝓤 H A 𝓣 E G10 b2 Δ1 at0
           d0 = Typed.t-return 𝓤 H A W 𝓣 E Δ1 tt
 
-          d1 : Typed.Typed 𝓤 H A 𝓣 E G12 b3 Δ1 at1
+          d1 : Typed.Typed 𝓤 H A 𝓣 E G9 b2 Δ1 at1
           d1 =
               Typed.g-pre
-              𝓤
-              H
-              A
-              W
-              𝓣
-              E
-              G12
-              G13
-              b3
-              Δ1
-              (Typed.pass T12 T13 s10)
-              at0
-              (Scalar.g-room
-              𝓤
-              H
-              A
-              W
-              E
-              G12
-              5
-              (Syntax.tyInt Syntax.w64)
-              (Scalar.room-sc 𝓤 H A W (Row.sInt Syntax.w64)))
-              d0
-
-          d2 : Typed.Typed 𝓤 H A 𝓣 E G11 b3 Δ1 at2
-          d2 =
-              Typed.g-pre
-              𝓤
-              H
-              A
-              W
-              𝓣
-              E
-              G11
-              G12
-              b3
-              Δ1
-              (Typed.pass T11 T12 s9)
-              at1
-              (Scalar.g-room
-              𝓤
-              H
-              A
-              W
-              E
-              G11
-              4
-              (Syntax.tyInt Syntax.w64)
-              (Scalar.room-sc 𝓤 H A W (Row.sInt Syntax.w64)))
-              d1
-
-          d3 : Typed.Typed 𝓤 H A 𝓣 E G10 b3 Δ1 at3
-          d3 =
-              Typed.g-pre
-              𝓤
-              H
-              A
-              W
-              𝓣
-              E
-              G10
-              G11
-              b3
-              Δ1
-              (Typed.pass T10 T11 s8)
-              at2
-              (Scalar.g-room
-              𝓤
-              H
-              A
-              W
-              E
-              G10
-              3
-              (Syntax.tyInt Syntax.w64)
-              (Scalar.room-sc 𝓤 H A W (Row.sInt Syntax.w64)))
-              d2
-
-          d4 : Typed.Typed 𝓤 H A 𝓣 E G9 b4 Δ1 at4
-          d4 =
-              Typed.s-seq
               𝓤
               H
               A
@@ -2510,9 +1524,90 @@ module _ (claims· : Claims) where
               G9
               G10
               b2
-              b3
               Δ1
               (Typed.pass T9 T10 s7)
+              at0
+              (Scalar.g-room
+              𝓤
+              H
+              A
+              W
+              E
+              G9
+              5
+              (Syntax.tyInt Syntax.w64)
+              (Scalar.room-sc 𝓤 H A W (Row.sInt Syntax.w64)))
+              d0
+
+          d2 : Typed.Typed 𝓤 H A 𝓣 E G8 b2 Δ1 at2
+          d2 =
+              Typed.g-pre
+              𝓤
+              H
+              A
+              W
+              𝓣
+              E
+              G8
+              G9
+              b2
+              Δ1
+              (Typed.pass T8 T9 s6)
+              at1
+              (Scalar.g-room
+              𝓤
+              H
+              A
+              W
+              E
+              G8
+              4
+              (Syntax.tyInt Syntax.w64)
+              (Scalar.room-sc 𝓤 H A W (Row.sInt Syntax.w64)))
+              d1
+
+          d3 : Typed.Typed 𝓤 H A 𝓣 E G7 b2 Δ1 at3
+          d3 =
+              Typed.g-pre
+              𝓤
+              H
+              A
+              W
+              𝓣
+              E
+              G7
+              G8
+              b2
+              Δ1
+              (Typed.pass T7 T8 s5)
+              at2
+              (Scalar.g-room
+              𝓤
+              H
+              A
+              W
+              E
+              G7
+              3
+              (Syntax.tyInt Syntax.w64)
+              (Scalar.room-sc 𝓤 H A W (Row.sInt Syntax.w64)))
+              d2
+
+          d4 : Typed.Typed 𝓤 H A 𝓣 E G6 b3 Δ1 at4
+          d4 =
+              Typed.s-seq
+              𝓤
+              H
+              A
+              W
+              𝓣
+              E
+              G6
+              G7
+              b1
+              b2
+              Δ1
+              (Typed.pass T6 T7 s4)
               at3
               (Scalar.t-use
               𝓤
@@ -2521,7 +1616,7 @@ module _ (claims· : Claims) where
               W
               E
               𝓣
-              G9
+              G6
               (Scalar.oAt 5 (Syntax.tyInt Syntax.w64) (Row.valS (Row.sInt Syntax.w64)))
               0
               (Rows.sc-here (Row.sInt Syntax.w64))
@@ -2536,7 +1631,7 @@ module _ (claims· : Claims) where
               λ u. tt)
               d3
 
-          d5 : Typed.Typed 𝓤 H A 𝓣 E G8 b4 Δ1 at5
+          d5 : Typed.Typed 𝓤 H A 𝓣 E G4 b3 Δ1 at5
           d5 =
               Typed.g-pre
               𝓤
@@ -2545,17 +1640,20 @@ module _ (claims· : Claims) where
               W
               𝓣
               E
-              G8
-              G9
-              b4
+              G4
+              G6
+              b3
               Δ1
-              (Typed.pass T8 T9 s6)
+              (Typed.pass T4 T6 s3)
               at4
-              (Scalar.g-room 𝓤 H A W E G8 9 Syntax.tyBool (Scalar.room-sc 𝓤 H A W Row.sBool))
+              (Scalar.g-room 𝓤 H A W E G4 7 Syntax.tyBool (Scalar.room-sc 𝓤 H A W Row.sBool))
               d4
 
-          d6 : Typed.Typed 𝓤 H A 𝓣 E G7 b4 Δ1 at6
-          d6 =
+          d6 : Typed.Typed 𝓤 H A 𝓣 E G11 b4 Δ1 at6
+          d6 = Typed.t-skip 𝓤 H A W 𝓣 E Δ1 tt
+
+          d7 : Typed.Typed 𝓤 H A 𝓣 E G4 b4 Δ1 at7
+          d7 =
               Typed.g-pre
               𝓤
               H
@@ -2563,158 +1661,17 @@ module _ (claims· : Claims) where
               W
               𝓣
               E
-              G7
-              G8
+              G4
+              G11
               b4
               Δ1
-              (Typed.pass T7 T8 s5)
-              at5
-              (Scalar.g-room
-              𝓤
-              H
-              A
-              W
-              E
-              G7
-              6
-              (Syntax.tyStruct
-              (List._∷_
-              114
-              (List._∷_
-              101
-              (List._∷_
-              99
-              (List._∷_
-              111
-              (List._∷_
-              114
-              (List._∷_
-              100
-              (List._∷_
-              115
-              (List._∷_
-              58
-              (List._∷_
-              58
-              (List._∷_
-              76
-              (List._∷_
-              105
-              (List._∷_
-              110
-              (List._∷_ 101 (List._∷_ 82 (List._∷_ 101 (List._∷_ 99 List.[]))))))))))))))))
-              (Syntax.tcons
-              (Syntax.tyInt Syntax.w64)
-              (Syntax.tcons
-              (Syntax.tyInt Syntax.w64)
-              (Syntax.tcons
-              (Syntax.tyStruct
-              (List._∷_
-              112
-              (List._∷_
-              108
-              (List._∷_
-              97
-              (List._∷_
-              99
-              (List._∷_
-              101
-              (List._∷_
-              58
-              (List._∷_
-              58
-              (List._∷_
-              82
-              (List._∷_
-              101
-              (List._∷_ 103 (List._∷_ 105 (List._∷_ 111 (List._∷_ 110 List.[])))))))))))))
-              (Syntax.tcons (Syntax.tyInt Syntax.w64) Syntax.tnil))
-              (Syntax.tcons (Syntax.tyInt Syntax.w64) Syntax.tnil)))))
-              (Local.room-whole
-              𝓤
-              H
-              A
-              W
-              (Declared.row LineRec.the-type)
-              (Syntax.tyStruct
-              (List._∷_
-              114
-              (List._∷_
-              101
-              (List._∷_
-              99
-              (List._∷_
-              111
-              (List._∷_
-              114
-              (List._∷_
-              100
-              (List._∷_
-              115
-              (List._∷_
-              58
-              (List._∷_
-              58
-              (List._∷_
-              76
-              (List._∷_
-              105
-              (List._∷_
-              110
-              (List._∷_ 101 (List._∷_ 82 (List._∷_ 101 (List._∷_ 99 List.[]))))))))))))))))
-              (Syntax.tcons
-              (Syntax.tyInt Syntax.w64)
-              (Syntax.tcons
-              (Syntax.tyInt Syntax.w64)
-              (Syntax.tcons
-              (Syntax.tyStruct
-              (List._∷_
-              112
-              (List._∷_
-              108
-              (List._∷_
-              97
-              (List._∷_
-              99
-              (List._∷_
-              101
-              (List._∷_
-              58
-              (List._∷_
-              58
-              (List._∷_
-              82
-              (List._∷_
-              101
-              (List._∷_ 103 (List._∷_ 105 (List._∷_ 111 (List._∷_ 110 List.[])))))))))))))
-              (Syntax.tcons (Syntax.tyInt Syntax.w64) Syntax.tnil))
-              (Syntax.tcons (Syntax.tyInt Syntax.w64) Syntax.tnil)))))
-              Path'.refl))
-              d5
+              (Typed.pass T4 T11 s8)
+              at6
+              (Scalar.g-room 𝓤 H A W E G4 7 Syntax.tyBool (Scalar.room-sc 𝓤 H A W Row.sBool))
+              d6
 
-          d7 : Typed.Typed 𝓤 H A 𝓣 E G14 b5 Δ1 at7
-          d7 = Typed.t-skip 𝓤 H A W 𝓣 E Δ1 tt
-
-          d8 : Typed.Typed 𝓤 H A 𝓣 E G7 b5 Δ1 at8
+          d8 : Typed.Typed 𝓤 H A 𝓣 E G4 b5 Δ1 at8
           d8 =
-              Typed.g-pre
-              𝓤
-              H
-              A
-              W
-              𝓣
-              E
-              G7
-              G14
-              b5
-              Δ1
-              (Typed.pass T7 T14 s11)
-              at7
-              (Scalar.g-room 𝓤 H A W E G7 9 Syntax.tyBool (Scalar.room-sc 𝓤 H A W Row.sBool))
-              d7
-
-          d9 : Typed.Typed 𝓤 H A 𝓣 E G7 b6 Δ1 at9
-          d9 =
               Scalar.t-cond
               𝓤
               H
@@ -2722,105 +1679,24 @@ module _ (claims· : Claims) where
               W
               E
               𝓣
-              G7
-              9
+              G4
+              7
               (λ x. x)
+              b3
               b4
-              b5
               Δ1
-              at6
-              at8
+              at5
+              at7
               (Scalar.reads-sc 𝓤 H A W Row.sBool)
               Path'.refl
-              d6
-              d8
+              d5
+              d7
 
-          d10 : Typed.Typed 𝓤 H A 𝓣 E G5 b6 Δ1 at10
+          d9 : Typed.Typed 𝓤 H A 𝓣 E G25 b11 Δ0 at9
+          d9 = Typed.t-return 𝓤 H A W 𝓣 E Δ0 tt
+
+          d10 : Typed.Typed 𝓤 H A 𝓣 E G24 b11 Δ0 at10
           d10 =
-              Typed.g-pre
-              𝓤
-              H
-              A
-              W
-              𝓣
-              E
-              G5
-              G7
-              b6
-              Δ1
-              (Typed.pass T5 T7 s4)
-              at9
-              (Scalar.g-room
-              𝓤
-              H
-              A
-              W
-              E
-              G5
-              8
-              (Syntax.tyInt Syntax.w64)
-              (Scalar.room-sc 𝓤 H A W (Row.sInt Syntax.w64)))
-              d9
-
-          d11 : Typed.Typed 𝓤 H A 𝓣 E G27 b11 Δ0 at11
-          d11 = Typed.t-return 𝓤 H A W 𝓣 E Δ0 tt
-
-          d12 : Typed.Typed 𝓤 H A 𝓣 E G26 b11 Δ0 at12
-          d12 =
-              Typed.g-pre
-              𝓤
-              H
-              A
-              W
-              𝓣
-              E
-              G26
-              G27
-              b11
-              Δ0
-              (Typed.pass T26 T27 s24)
-              at11
-              (Scalar.g-room
-              𝓤
-              H
-              A
-              W
-              E
-              G26
-              5
-              (Syntax.tyInt Syntax.w64)
-              (Scalar.room-sc 𝓤 H A W (Row.sInt Syntax.w64)))
-              d11
-
-          d13 : Typed.Typed 𝓤 H A 𝓣 E G25 b11 Δ0 at13
-          d13 =
-              Typed.g-pre
-              𝓤
-              H
-              A
-              W
-              𝓣
-              E
-              G25
-              G26
-              b11
-              Δ0
-              (Typed.pass T25 T26 s23)
-              at12
-              (Scalar.g-room
-              𝓤
-              H
-              A
-              W
-              E
-              G25
-              4
-              (Syntax.tyInt Syntax.w64)
-              (Scalar.room-sc 𝓤 H A W (Row.sInt Syntax.w64)))
-              d12
-
-          d14 : Typed.Typed 𝓤 H A 𝓣 E G24 b11 Δ0 at14
-          d14 =
               Typed.g-pre
               𝓤
               H
@@ -2833,7 +1709,7 @@ module _ (claims· : Claims) where
               b11
               Δ0
               (Typed.pass T24 T25 s22)
-              at13
+              at9
               (Scalar.g-room
               𝓤
               H
@@ -2841,12 +1717,134 @@ module _ (claims· : Claims) where
               W
               E
               G24
+              5
+              (Syntax.tyInt Syntax.w64)
+              (Scalar.room-sc 𝓤 H A W (Row.sInt Syntax.w64)))
+              d9
+
+          d11 : Typed.Typed 𝓤 H A 𝓣 E G23 b11 Δ0 at11
+          d11 =
+              Typed.g-pre
+              𝓤
+              H
+              A
+              W
+              𝓣
+              E
+              G23
+              G24
+              b11
+              Δ0
+              (Typed.pass T23 T24 s21)
+              at10
+              (Scalar.g-room
+              𝓤
+              H
+              A
+              W
+              E
+              G23
+              4
+              (Syntax.tyInt Syntax.w64)
+              (Scalar.room-sc 𝓤 H A W (Row.sInt Syntax.w64)))
+              d10
+
+          d12 : Typed.Typed 𝓤 H A 𝓣 E G22 b11 Δ0 at12
+          d12 =
+              Typed.g-pre
+              𝓤
+              H
+              A
+              W
+              𝓣
+              E
+              G22
+              G23
+              b11
+              Δ0
+              (Typed.pass T22 T23 s20)
+              at11
+              (Scalar.g-room
+              𝓤
+              H
+              A
+              W
+              E
+              G22
               3
               (Syntax.tyInt Syntax.w64)
               (Scalar.room-sc 𝓤 H A W (Row.sInt Syntax.w64)))
+              d11
+
+          d13 : Typed.Typed 𝓤 H A 𝓣 E G21 b11 Δ0 at13
+          d13 =
+              Typed.g-pre
+              𝓤
+              H
+              A
+              W
+              𝓣
+              E
+              G21
+              G22
+              b11
+              Δ0
+              (Typed.pass T21 T22 s19)
+              at12
+              (Scalar.g-room
+              𝓤
+              H
+              A
+              W
+              E
+              G21
+              11
+              (Syntax.tyInt Syntax.w64)
+              (Scalar.room-sc 𝓤 H A W (Row.sInt Syntax.w64)))
+              d12
+
+          d14 : Typed.Typed 𝓤 H A 𝓣 E G20 b12 Δ0 at14
+          d14 =
+              Typed.s-seq
+              𝓤
+              H
+              A
+              W
+              𝓣
+              E
+              G20
+              G21
+              b10
+              b11
+              Δ0
+              (Typed.ask s18)
+              at13
+              (Scalar.t-op2
+              𝓤
+              H
+              A
+              W
+              E
+              𝓣
+              G20
+              (Syntax.add Syntax.unsigned)
+              (Scalar.oAt 5 (Syntax.tyInt Syntax.w64) (Row.valS (Row.sInt Syntax.w64)))
+              (Scalar.oAt 11 (Syntax.tyInt Syntax.w64) (Row.valS (Row.sInt Syntax.w64)))
+              0
+              (Rows.sc-here (Row.sInt Syntax.w64))
+              (Syntax.tyInt Syntax.w64)
+              (Row.valS (Row.sInt Syntax.w64))
+              (Row.sInt Syntax.w64 .of)
+              (Scalar.reads-sc 𝓤 H A W (Row.sInt Syntax.w64), Path'.refl)
+              (Scalar.reads-sc 𝓤 H A W (Row.sInt Syntax.w64), Path'.refl)
+              (Reads.room-gone 𝓤 H A (Syntax.tyInt Syntax.w64))
+              (Scalar.holds-sc 𝓤 H A W (Row.sInt Syntax.w64))
+              Path'.refl
+              (λ u. Path'.refl)
+              λ u. tt)
               d13
 
-          d15 : Typed.Typed 𝓤 H A 𝓣 E G23 b12 Δ0 at15
+          d15 : Typed.Typed 𝓤 H A 𝓣 E G19 b13 Δ0 at15
           d15 =
               Typed.s-seq
               𝓤
@@ -2855,12 +1853,12 @@ module _ (claims· : Claims) where
               W
               𝓣
               E
-              G23
-              G24
-              b10
-              b11
+              G19
+              G20
+              b9
+              b12
               Δ0
-              (Typed.pass T22 T24 s21)
+              (Typed.pass T18 T20 s17)
               at14
               (Scalar.t-use
               𝓤
@@ -2869,14 +1867,33 @@ module _ (claims· : Claims) where
               W
               E
               𝓣
-              G23
-              (Scalar.oInt Syntax.w64 0)
-              0
+              G19
+              (Scalar.oFld
+              6
+              (List._∷_ (Syntax.field 1) List.[])
+              (Syntax.tyInt Syntax.w64)
+              8
+              Shared.lenV)
+              11
               (Rows.sc-here (Row.sInt Syntax.w64))
               (Syntax.tyInt Syntax.w64)
               (Row.valS (Row.sInt Syntax.w64))
-              (Row.sInt Syntax.w64 .of)
-              tt
+              (Row.sInt Syntax.w64 .of) (
+                Mut.reads-mslice-len
+                    𝓤
+                    H
+                    A
+                    W
+                    Elem.R
+                    (Syntax.tyRef
+                    (Syntax.named 2)
+                    Syntax.mut
+                    Elem.ty)
+                    2
+                    8
+                    Path'.refl,
+                Path'.refl,
+              )
               (Reads.room-gone 𝓤 H A (Syntax.tyInt Syntax.w64))
               (Scalar.holds-sc 𝓤 H A W (Row.sInt Syntax.w64))
               Path'.refl
@@ -2884,7 +1901,7 @@ module _ (claims· : Claims) where
               λ u. tt)
               d14
 
-          d16 : Typed.Typed 𝓤 H A 𝓣 E G22 b12 Δ0 at16
+          d16 : Typed.Typed 𝓤 H A 𝓣 E G18 b13 Δ0 at16
           d16 =
               Typed.g-pre
               𝓤
@@ -2893,16 +1910,16 @@ module _ (claims· : Claims) where
               W
               𝓣
               E
-              G22
-              G23
-              b12
+              G18
+              G19
+              b13
               Δ0
               (λ Ψ. Ψ)
               at15
-              (Lifetime.g-forget 𝓤 H A W E G22 3 Row.dead Path'.refl)
+              (Lifetime.g-forget 𝓤 H A W E G18 3 Row.dead Path'.refl)
               d15
 
-          d17 : Typed.Typed 𝓤 H A 𝓣 E G21 b12 Δ0 at17
+          d17 : Typed.Typed 𝓤 H A 𝓣 E G17 b13 Δ0 at17
           d17 =
               Typed.g-pre
               𝓤
@@ -2911,11 +1928,11 @@ module _ (claims· : Claims) where
               W
               𝓣
               E
-              G21
-              G22
-              b12
+              G17
+              G18
+              b13
               Δ0
-              (Typed.both s19)
+              (Typed.both s15)
               at16
               (Relend.g-back-sl
               𝓤
@@ -2924,9 +1941,9 @@ module _ (claims· : Claims) where
               W
               E
               Elem.R
-              G21
-              12
-              7
+              G17
+              10
+              6
               2
               3
               (Syntax.tyRef
@@ -2967,7 +1984,7 @@ module _ (claims· : Claims) where
               Path'.refl)
               d16
 
-          d18 : Typed.Typed 𝓤 H A 𝓣 E G20 b12 Δ0 at18
+          d18 : Typed.Typed 𝓤 H A 𝓣 E G16 b13 Δ0 at18
           d18 =
               Typed.g-pre
               𝓤
@@ -2976,16 +1993,16 @@ module _ (claims· : Claims) where
               W
               𝓣
               E
-              G20
-              G21
-              b12
+              G16
+              G17
+              b13
               Δ0
               (λ Ψ. Ψ)
               at17
-              (Lifetime.g-end 𝓤 H A W E G20 3 Path'.refl)
+              (Lifetime.g-end 𝓤 H A W E G16 3 Path'.refl)
               d17
 
-          d19 : Typed.Typed 𝓤 H A 𝓣 E G19 b12 Δ0 at19
+          d19 : Typed.Typed 𝓤 H A 𝓣 E G15 b13 Δ0 at19
           d19 =
               Typed.g-pre
               𝓤
@@ -2994,155 +2011,17 @@ module _ (claims· : Claims) where
               W
               𝓣
               E
-              G19
-              G20
-              b12
+              G15
+              G16
+              b13
               Δ0
-              (Typed.pass T19 T20 s17)
+              (Typed.pass T15 T16 s13)
               at18
-              (Scalar.g-room 𝓤 H A W E G19 10 Syntax.tyUnit (Scalar.room-sc 𝓤 H A W Row.sUnit))
+              (Scalar.g-room 𝓤 H A W E G15 8 Syntax.tyUnit (Scalar.room-sc 𝓤 H A W Row.sUnit))
               d18
 
-          d20 : Typed.Typed 𝓤 H A 𝓣 E G18 b12 Δ0 at20
+          d20 : Typed.Typed 𝓤 H A 𝓣 E G14 b14 Δ0 at20
           d20 =
-              Typed.g-pre
-              𝓤
-              H
-              A
-              W
-              𝓣
-              E
-              G18
-              G19
-              b12
-              Δ0
-              (Typed.pass T18 T19 s16)
-              at19
-              (Scalar.g-room
-              𝓤
-              H
-              A
-              W
-              E
-              G18
-              6
-              (Syntax.tyStruct
-              (List._∷_
-              114
-              (List._∷_
-              101
-              (List._∷_
-              99
-              (List._∷_
-              111
-              (List._∷_
-              114
-              (List._∷_
-              100
-              (List._∷_
-              115
-              (List._∷_
-              58
-              (List._∷_
-              58
-              (List._∷_
-              76
-              (List._∷_
-              105
-              (List._∷_
-              110
-              (List._∷_ 101 (List._∷_ 82 (List._∷_ 101 (List._∷_ 99 List.[]))))))))))))))))
-              (Syntax.tcons
-              (Syntax.tyInt Syntax.w64)
-              (Syntax.tcons
-              (Syntax.tyInt Syntax.w64)
-              (Syntax.tcons
-              (Syntax.tyStruct
-              (List._∷_
-              112
-              (List._∷_
-              108
-              (List._∷_
-              97
-              (List._∷_
-              99
-              (List._∷_
-              101
-              (List._∷_
-              58
-              (List._∷_
-              58
-              (List._∷_
-              82
-              (List._∷_
-              101
-              (List._∷_ 103 (List._∷_ 105 (List._∷_ 111 (List._∷_ 110 List.[])))))))))))))
-              (Syntax.tcons (Syntax.tyInt Syntax.w64) Syntax.tnil))
-              (Syntax.tcons (Syntax.tyInt Syntax.w64) Syntax.tnil)))))
-              (Local.room-whole
-              𝓤
-              H
-              A
-              W
-              (Declared.row LineRec.the-type)
-              (Syntax.tyStruct
-              (List._∷_
-              114
-              (List._∷_
-              101
-              (List._∷_
-              99
-              (List._∷_
-              111
-              (List._∷_
-              114
-              (List._∷_
-              100
-              (List._∷_
-              115
-              (List._∷_
-              58
-              (List._∷_
-              58
-              (List._∷_
-              76
-              (List._∷_
-              105
-              (List._∷_
-              110
-              (List._∷_ 101 (List._∷_ 82 (List._∷_ 101 (List._∷_ 99 List.[]))))))))))))))))
-              (Syntax.tcons
-              (Syntax.tyInt Syntax.w64)
-              (Syntax.tcons
-              (Syntax.tyInt Syntax.w64)
-              (Syntax.tcons
-              (Syntax.tyStruct
-              (List._∷_
-              112
-              (List._∷_
-              108
-              (List._∷_
-              97
-              (List._∷_
-              99
-              (List._∷_
-              101
-              (List._∷_
-              58
-              (List._∷_
-              58
-              (List._∷_
-              82
-              (List._∷_
-              101
-              (List._∷_ 103 (List._∷_ 105 (List._∷_ 111 (List._∷_ 110 List.[])))))))))))))
-              (Syntax.tcons (Syntax.tyInt Syntax.w64) Syntax.tnil))
-              (Syntax.tcons (Syntax.tyInt Syntax.w64) Syntax.tnil)))))
-              Path'.refl))
-              d19
-
-          d21 : Typed.Typed 𝓤 H A 𝓣 E G17 b13 Δ0 at21
-          d21 =
               Typed.s-seq
               𝓤
               H
@@ -3150,13 +2029,13 @@ module _ (claims· : Claims) where
               W
               𝓣
               E
-              G17
-              G18
-              b9
-              b12
+              G14
+              G15
+              b8
+              b13
               Δ0
-              (Typed.both s15)
-              at20
+              (Typed.both s12)
+              at19
               (Plain.t-call-plain
               𝓤
               H
@@ -3172,7 +2051,7 @@ module _ (claims· : Claims) where
               known
               E
               (λ pos β. β)
-              G17 (
+              G14 (
                 record {
                   pos = 1;
                   ty = Syntax.tyRef (Syntax.named 0) Syntax.imm (Syntax.tyInt Syntax.w64);
@@ -3187,28 +2066,25 @@ module _ (claims· : Claims) where
                   (
                     Num.vAt 3 λ x. x,
                     (
-                      Num.vAt 4 λ x. x,
+                      Num.vAt 5 λ x. x,
                       (
-                        record { pos = 6; st = List.[]; d = 0; at = λ x. x },
-                        (
-                          record {
-                            pos = 12;
-                            ty = Syntax.tyRef
-                                Syntax.erased
-                                Syntax.mut
-                                Elem.ty;
-                            ref = λ x. x;
-                          },
-                          tt,
-                        ),
+                        record {
+                          pos = 10;
+                          ty = Syntax.tyRef
+                              Syntax.erased
+                              Syntax.mut
+                              Elem.ty;
+                          ref = λ x. x;
+                        },
+                        tt,
                       ),
                     ),
                   ),
                 ),
               )
-              10
+              8
               (List._∷_ 0 (List._∷_ 1 (List._∷_ 3 List.[])))
-              (Call.sub-id 𝓤 H A W (G17 .slots)) (
+              (Call.sub-id 𝓤 H A W (G14 .slots)) (
                 ShrSlice.spares-sslice
                     𝓤
                     H
@@ -3249,62 +2125,30 @@ module _ (claims· : Claims) where
                     (
                       (Scalar.reads-sc 𝓤 H A W (Row.sInt Syntax.w64), Path'.refl),
                       (
-                        (
-                          Yields.yields-copy
-                              𝓤
-                              H
-                              A
-                              W
-                              (λ ρ. Unit)
-                              (Declared.row LineRec.the-type)
-                              Path'.refl
-                              (Copies.cStruct
-                              LineRec.the-type
-                              Laws.the-laws
-                              Laws.the-copy .copy
-                              𝓤
-                              H
-                              A
-                              W)
-                              (Rows.whole (Declared.row LineRec.the-type))
-                              (λ x. x)
-                              (λ x. x)
-                              (λ ρ told. Local.mem-whole 𝓤 H A W (Declared.row LineRec.the-type) ρ)
-                              λ ρ told. Local.whole-mem
-                              𝓤
-                              H
-                              A
-                              W
-                              (Declared.row LineRec.the-type)
-                              ρ,
-                          Path'.refl,
-                        ),
-                        (
-                          Reads.as-is
-                              𝓤
-                              H
-                              A
-                              (Mut.mslice
-                              Elem.R
-                              (Syntax.tyRef
-                              Syntax.erased
-                              Syntax.mut
-                              Elem.ty)
-                              3),
-                          Mut.reads-mslice
-                              𝓤
-                              H
-                              A
-                              W
-                              Elem.R
-                              (Syntax.tyRef
-                              Syntax.erased
-                              Syntax.mut
-                              Elem.ty)
-                              3,
-                          Path'.refl,
-                          tt,
-                        ),
+                        Reads.as-is
+                            𝓤
+                            H
+                            A
+                            (Mut.mslice
+                            Elem.R
+                            (Syntax.tyRef
+                            Syntax.erased
+                            Syntax.mut
+                            Elem.ty)
+                            3),
+                        Mut.reads-mslice
+                            𝓤
+                            H
+                            A
+                            W
+                            Elem.R
+                            (Syntax.tyRef
+                            Syntax.erased
+                            Syntax.mut
+                            Elem.ty)
+                            3,
+                        Path'.refl,
+                        tt,
                       ),
                     ),
                   ),
@@ -3313,10 +2157,10 @@ module _ (claims· : Claims) where
               (Reads.room-gone 𝓤 H A Syntax.tyUnit)
               (tt, (tt, (tt, tt)))
               Path'.refl)
-              d20
+              d19
 
-          d22 : Typed.Typed 𝓤 H A 𝓣 E G16 b14 Δ0 at22
-          d22 =
+          d21 : Typed.Typed 𝓤 H A 𝓣 E G13 b15 Δ0 at21
+          d21 =
               Typed.s-seq
               𝓤
               H
@@ -3324,13 +2168,13 @@ module _ (claims· : Claims) where
               W
               𝓣
               E
-              G16
-              G17
-              b8
-              b13
+              G13
+              G14
+              b7
+              b14
               Δ0
-              (Typed.ask s14)
-              at21
+              (Typed.ask s11)
+              at20
               (Relend.t-sl-aggregate
               𝓤
               H
@@ -3340,9 +2184,9 @@ module _ (claims· : Claims) where
               Elem.R
               𝓣
               (Relend.asMut Elem.R)
-              G16
-              11
-              12
+              G13
+              9
+              10
               3
               (Syntax.tyRef
               Syntax.erased
@@ -3354,7 +2198,7 @@ module _ (claims· : Claims) where
               Elem.ty)
               (λ x. x)
               (Scalar.oFld
-              7
+              6
               (List._∷_ (Syntax.field 1) List.[])
               (Syntax.tyInt Syntax.w64)
               8
@@ -3403,10 +2247,10 @@ module _ (claims· : Claims) where
               Path'.refl
               Path'.refl
               λ b o k. tt)
-              d21
+              d20
 
-          d23 : Typed.Typed 𝓤 H A 𝓣 E G15 b15 Δ0 at23
-          d23 =
+          d22 : Typed.Typed 𝓤 H A 𝓣 E G12 b16 Δ0 at22
+          d22 =
               Typed.s-seq
               𝓤
               H
@@ -3414,13 +2258,13 @@ module _ (claims· : Claims) where
               W
               𝓣
               E
-              G15
-              G16
-              b7
-              b14
+              G12
+              G13
+              b6
+              b15
               Δ0
-              (Typed.give s13)
-              at22
+              (Typed.give s10)
+              at21
               (Relend.t-sl-relend
               𝓤
               H
@@ -3429,9 +2273,9 @@ module _ (claims· : Claims) where
               E
               Elem.R
               𝓣
-              G15
-              7
-              11
+              G12
+              6
+              9
               2
               3
               (Syntax.tyRef
@@ -3470,64 +2314,20 @@ module _ (claims· : Claims) where
               Path'.refl
               Path'.refl
               λ b o. tt)
-              d22
+              d21
 
-          d24 : Typed.Typed 𝓤 H A 𝓣 E G6 b15 Δ0 at24
-          d24 =
-              Typed.g-pre 𝓤 H A W 𝓣 E G6 G15 b15 Δ0 (λ Ψ. Ψ) at23 (Lifetime.g-begin 𝓤 H A W E G6 3 (
+          d23 : Typed.Typed 𝓤 H A 𝓣 E G5 b16 Δ0 at23
+          d23 =
+              Typed.g-pre 𝓤 H A W 𝓣 E G5 G12 b16 Δ0 (λ Ψ. Ψ) at22 (Lifetime.g-begin 𝓤 H A W E G5 3 (
                 tt,
-                (
-                  tt,
-                  (tt, (tt, (tt, (tt, (tt, (tt, (tt, (tt, (tt, (tt, (tt, tt))))))))))),
-                ),
-              )) d23
+                (tt, (tt, (tt, (tt, (tt, (tt, (tt, (tt, (tt, (tt, (tt, tt))))))))))),
+              )) d22
 
-          d25 : Typed.Typed 𝓤 H A 𝓣 E G5 b16 Δ0 at25
-          d25 = Typed.t-seq 𝓤 H A W 𝓣 E G5 G6 b6 b15 Δ0 at10 at24 d10 d24
+          d24 : Typed.Typed 𝓤 H A 𝓣 E G4 b17 Δ0 at24
+          d24 = Typed.t-seq 𝓤 H A W 𝓣 E G4 G5 b5 b16 Δ0 at8 at23 d8 d23
 
-          d26 : Typed.Typed 𝓤 H A 𝓣 E G4 b17 Δ0 at26
-          d26 =
-              Typed.s-seq
-              𝓤
-              H
-              A
-              W
-              𝓣
-              E
-              G4
-              G5
-              b1
-              b16
-              Δ0
-              (Typed.ask s3)
-              at25
-              (Scalar.t-op2
-              𝓤
-              H
-              A
-              W
-              E
-              𝓣
-              G4
-              (Syntax.lt Syntax.unsigned)
-              (Scalar.oAt 5 (Syntax.tyInt Syntax.w64) (Row.valS (Row.sInt Syntax.w64)))
-              (Scalar.oAt 8 (Syntax.tyInt Syntax.w64) (Row.valS (Row.sInt Syntax.w64)))
-              9
-              (Rows.sc-here Row.sBool)
-              Syntax.tyBool
-              (Row.valS Row.sBool)
-              (Row.sBool .of)
-              (Scalar.reads-sc 𝓤 H A W (Row.sInt Syntax.w64), Path'.refl)
-              (Scalar.reads-sc 𝓤 H A W (Row.sInt Syntax.w64), Path'.refl)
-              (Reads.room-gone 𝓤 H A Syntax.tyBool)
-              (Scalar.holds-sc 𝓤 H A W Row.sBool)
-              Path'.refl
-              (λ u. Path'.refl)
-              λ u. tt)
-              d25
-
-          d27 : Typed.Typed 𝓤 H A 𝓣 E G3 b18 Δ0 at27
-          d27 =
+          d25 : Typed.Typed 𝓤 H A 𝓣 E G3 b18 Δ0 at25
+          d25 =
               Typed.s-seq
               𝓤
               H
@@ -3540,9 +2340,9 @@ module _ (claims· : Claims) where
               b0
               b17
               Δ0
-              (Typed.pass T3 T4 s2)
-              at26
-              (Scalar.t-use
+              (Typed.ask s2)
+              at24
+              (Scalar.t-op2
               𝓤
               H
               A
@@ -3550,41 +2350,25 @@ module _ (claims· : Claims) where
               E
               𝓣
               G3
-              (Scalar.oFld
+              (Syntax.lt Syntax.unsigned)
+              (Scalar.oAt 4 (Syntax.tyInt Syntax.w64) (Row.valS (Row.sInt Syntax.w64)))
+              (Scalar.oAt 5 (Syntax.tyInt Syntax.w64) (Row.valS (Row.sInt Syntax.w64)))
               7
-              (List._∷_ (Syntax.field 1) List.[])
-              (Syntax.tyInt Syntax.w64)
-              8
-              Shared.lenV)
-              8
-              (Rows.sc-here (Row.sInt Syntax.w64))
-              (Syntax.tyInt Syntax.w64)
-              (Row.valS (Row.sInt Syntax.w64))
-              (Row.sInt Syntax.w64 .of) (
-                Mut.reads-mslice-len
-                    𝓤
-                    H
-                    A
-                    W
-                    Elem.R
-                    (Syntax.tyRef
-                    (Syntax.named 2)
-                    Syntax.mut
-                    Elem.ty)
-                    2
-                    8
-                    Path'.refl,
-                Path'.refl,
-              )
-              (Reads.room-gone 𝓤 H A (Syntax.tyInt Syntax.w64))
-              (Scalar.holds-sc 𝓤 H A W (Row.sInt Syntax.w64))
+              (Rows.sc-here Row.sBool)
+              Syntax.tyBool
+              (Row.valS Row.sBool)
+              (Row.sBool .of)
+              (Scalar.reads-sc 𝓤 H A W (Row.sInt Syntax.w64), Path'.refl)
+              (Scalar.reads-sc 𝓤 H A W (Row.sInt Syntax.w64), Path'.refl)
+              (Reads.room-gone 𝓤 H A Syntax.tyBool)
+              (Scalar.holds-sc 𝓤 H A W Row.sBool)
               Path'.refl
               (λ u. Path'.refl)
               λ u. tt)
-              d26
+              d24
 
-          d28 : Typed.Typed 𝓤 H A 𝓣 E G2 b18 Δ0 at28
-          d28 =
+          d26 : Typed.Typed 𝓤 H A 𝓣 E G2 b18 Δ0 at26
+          d26 =
               Typed.g-pre
               𝓤
               H
@@ -3597,7 +2381,7 @@ module _ (claims· : Claims) where
               b18
               Δ0
               (Typed.give s1)
-              at27
+              at25
               (Know.g-shs-known
               𝓤
               H
@@ -3623,10 +2407,10 @@ module _ (claims· : Claims) where
               1))
               Path'.refl
               tt)
-              d27
+              d25
 
-          d29 : Typed.Typed 𝓤 H A 𝓣 E G0 b18 Δ0 at29
-          d29 =
+          d27 : Typed.Typed 𝓤 H A 𝓣 E G0 b18 Δ0 at27
+          d27 =
               Typed.g-pre
               𝓤
               H
@@ -3639,7 +2423,7 @@ module _ (claims· : Claims) where
               b18
               Δ0
               (Typed.give s0)
-              at28
+              at26
               (Know.g-shs-known
               𝓤
               H
@@ -3665,7 +2449,7 @@ module _ (claims· : Claims) where
               0))
               Path'.refl
               tt)
-              d28
+              d26
 
           pub typed :
               Typed.Typed
@@ -3678,7 +2462,7 @@ module _ (claims· : Claims) where
               b18
               (Function.Δret 3 ps r xs m κs qs)
               Φ
-          typed = d29
+          typed = d27
 
       module _ (κs : Lifetimes.Lfts 3) where
         pub record Args : Type 0 where
@@ -3690,38 +2474,19 @@ module _ (claims· : Claims) where
               (ShrSlice.pShrS (Referent.rtF (Referent.fInt Syntax.w64)) 1 tt)
           pub n : Kinds.Den {n = 3} κs (Num.pNum Syntax.w64)
           pub k : Kinds.Den {n = 3} κs (Num.pNum Syntax.w64)
-          pub j : Kinds.Den {n = 3} κs (Num.pNum Syntax.w64)
-          pub above : Kinds.Den {n = 3} κs (Value.pVal record {
-            ty = Declared.row LineRec.the-type;
-            one = Path'.refl;
-            val = Laws'.val LineRec.the-type Laws.the-laws;
-            tells = Laws'.tells LineRec.the-type Laws.the-laws;
-            still = Laws'.still LineRec.the-type Laws.the-copy Exit.yes;
-            row = Rows.whole (Declared.row LineRec.the-type);
-            rd = λ x. x;
-            mk = λ x. x;
-          } λ M 𝓤 H A W. record {
-            copies = Laws'.copy LineRec.the-type Laws.the-copy 𝓤 H A W;
-            lawful = Laws'.lawful LineRec.the-type Laws.the-laws 𝓤 H A W;
-            makes = Laws'.makes LineRec.the-type Laws.the-plain 𝓤 H A;
-            in-mem = Local.mem-whole 𝓤 H A W (Declared.row LineRec.the-type);
-            of-mem = Local.whole-mem 𝓤 H A W (Declared.row LineRec.the-type);
-          })
+          pub past : Kinds.Den {n = 3} κs (Num.pNum Syntax.w64)
           pub recs : Kinds.Den {n = 3}
               κs
               (MutSlice.pMutS Elem.R 2 tt)
 
         abbrev pub dens : (a : Args) → Kinds.Dens κs ps
-        dens = λ a. (
-          a .ends,
-          (a .blocks, (a .n, (a .k, (a .j, (a .above, (a .recs, tt)))))),
-        )
+        dens = λ a. (a .ends, (a .blocks, (a .n, (a .k, (a .past, (a .recs, tt))))))
 
         module _ (args· : Args) where
           pub record Ranges : Type 0 where
             pub n : Val.Fits Syntax.w64 (args· .n)
             pub k : Val.Fits Syntax.w64 (args· .k)
-            pub j : Val.Fits Syntax.w64 (args· .j)
+            pub past : Val.Fits Syntax.w64 (args· .past)
 
       abbrev pub m0 : (κs : Lifetimes.Lfts 3) → (args : Args κs) → Typed.Mo T0
       m0 = λ κs args. (tt, Enter.partsP κs 1 ps xs (dens κs args))
@@ -3771,13 +2536,7 @@ module _ (claims· : Claims) where
           (before : After-shared-slice-known) →
           (given : s1 .gives (m1 (before .before) (before .shared-slice-known .given))) →
           Typed.Mo T4
-      m3 = λ before given. s2 (m2 before given)
-
-      abbrev pub m4 :
-          (before : After-shared-slice-known) →
-          (given : s1 .gives (m1 (before .before) (before .shared-slice-known .given))) →
-          Typed.Mo T5
-      m4 = λ before given. s3 .next (m3 before given)
+      m3 = λ before given. s2 .next (m2 before given)
 
       abbrev W1 :
           (before : After-shared-slice-known) →
@@ -3785,16 +2544,10 @@ module _ (claims· : Claims) where
           Typed.Want O1
       W1 =
           λ before given. Typed.wantNext
-          T6
+          T5
           O0
-          (at24 (W0 (before .before .κs) (before .before .args)))
+          (at23 (W0 (before .before .κs) (before .before .args)))
           (W0 (before .before .κs) (before .before .args))
-
-      abbrev pub m5 :
-          (before : After-shared-slice-known) →
-          (given : s1 .gives (m1 (before .before) (before .shared-slice-known .given))) →
-          Typed.Mo T7
-      m5 = λ before given. s4 (m4 before given)
 
       module _ (before· : After-shared-slice-known) where
         pub record After-shared-slice-known2·own : Type 0 where
@@ -3807,15 +2560,21 @@ module _ (claims· : Claims) where
       module _ (before· : After-shared-slice-known2) where
         pub record Then1·own : Type 0 where
           pub taken : Nat._<_
-              (Row.get 5 (T4 .locals) (m3 (before· .before) (before· .shared-slice-known2 .given)))
-              (Row.get 8 (T4 .locals) (m3 (before· .before) (before· .shared-slice-known2 .given)))
+              (Row.get 4 (T3 .locals) (m2 (before· .before) (before· .shared-slice-known2 .given)))
+              (Row.get 5 (T3 .locals) (m2 (before· .before) (before· .shared-slice-known2 .given)))
 
       pub record Then1 : Type 0 where
         pub before : After-shared-slice-known2
         pub if1 : Then1·own before
 
+      abbrev pub m4 : (before : After-shared-slice-known2) → Typed.Mo T6
+      m4 = λ before. s3 (m3 (before .before) (before .shared-slice-known2 .given))
+
+      abbrev pub m5 : (before : After-shared-slice-known2) → Typed.Mo T7
+      m5 = λ before. s4 (m4 before)
+
       abbrev pub m6 : (before : After-shared-slice-known2) → Typed.Mo T8
-      m6 = λ before. s5 (m5 (before .before) (before .shared-slice-known2 .given))
+      m6 = λ before. s5 (m5 before)
 
       abbrev pub m7 : (before : After-shared-slice-known2) → Typed.Mo T9
       m7 = λ before. s6 (m6 before)
@@ -3823,22 +2582,13 @@ module _ (claims· : Claims) where
       abbrev pub m8 : (before : After-shared-slice-known2) → Typed.Mo T10
       m8 = λ before. s7 (m7 before)
 
-      abbrev pub m9 : (before : After-shared-slice-known2) → Typed.Mo T11
-      m9 = λ before. s8 (m8 before)
-
-      abbrev pub m10 : (before : After-shared-slice-known2) → Typed.Mo T12
-      m10 = λ before. s9 (m9 before)
-
-      abbrev pub m11 : (before : After-shared-slice-known2) → Typed.Mo T13
-      m11 = λ before. s10 (m10 before)
-
       abbrev pub Need-returns : Type 0
       Need-returns =
           (c : Then1) →
           Post·
           (c .before .before .before .κs)
           (dens (c .before .before .before .κs) (c .before .before .before .args))
-          (Function.resV r (c .before .before .before .κs) (m11 (c .before) .0))
+          (Function.resV r (c .before .before .before .κs) (m8 (c .before) .0))
           (Clauses.atExit
           (Kinds.endedOf 3 ps r)
           (c .before .before .before .κs)
@@ -3849,49 +2599,47 @@ module _ (claims· : Claims) where
           ps
           xs
           (dens (c .before .before .before .κs) (c .before .before .before .args))
-          (m11 (c .before) .1)))
+          (m8 (c .before) .1)))
 
       module _ (before· : After-shared-slice-known2) where
         pub record Else1·own : Type 0 where
           pub left : Nat._≤_
-              (Row.get 8 (T4 .locals) (m3 (before· .before) (before· .shared-slice-known2 .given)))
-              (Row.get 5 (T4 .locals) (m3 (before· .before) (before· .shared-slice-known2 .given)))
+              (Row.get 5 (T3 .locals) (m2 (before· .before) (before· .shared-slice-known2 .given)))
+              (Row.get 4 (T3 .locals) (m2 (before· .before) (before· .shared-slice-known2 .given)))
 
       pub record Else1 : Type 0 where
         pub before : After-shared-slice-known2
         pub if1 : Else1·own before
 
-      abbrev pub m12 : (before : After-shared-slice-known2) → Typed.Mo T14
-      m12 = λ before. s11 (m5 (before .before) (before .shared-slice-known2 .given))
+      abbrev pub m9 : (before : After-shared-slice-known2) → Typed.Mo T11
+      m9 = λ before. s8 (m3 (before .before) (before .shared-slice-known2 .given))
 
-      abbrev pub m13 :
-          (before : Else1) → (given : s13 .gives (m12 (before .before))) → Typed.Mo T16
-      m13 = λ before given. s13 .next (m12 (before .before)) given
+      abbrev pub m10 : (before : Else1) → (given : s10 .gives (m9 (before .before))) → Typed.Mo T13
+      m10 = λ before given. s10 .next (m9 (before .before)) given
 
-      abbrev pub m14 :
-          (before : Else1) → (given : s13 .gives (m12 (before .before))) → Typed.Mo T17
-      m14 = λ before given. s14 .next (m13 before given)
+      abbrev pub m11 : (before : Else1) → (given : s10 .gives (m9 (before .before))) → Typed.Mo T14
+      m11 = λ before given. s11 .next (m10 before given)
 
       module _ (before· : Else1) where
         pub record After-fill-arg·own : Type 0 where
-          pub given : s13 .gives (m12 (before· .before))
+          pub given : s10 .gives (m9 (before· .before))
 
       pub record After-fill-arg : Type 0 where
         pub before : Else1
         pub fill-arg : After-fill-arg·own before
 
       abbrev pub Need-fill-requires : Type 0
-      Need-fill-requires = (c : After-fill-arg) → s15 .asks (m14 (c .before) (c .fill-arg .given))
+      Need-fill-requires = (c : After-fill-arg) → s12 .asks (m11 (c .before) (c .fill-arg .given))
 
-      abbrev pub m15 :
+      abbrev pub m12 :
           (before : After-fill-arg) →
-          (given : s15 .gives (m14 (before .before) (before .fill-arg .given))) →
-          Typed.Mo T18
-      m15 = λ before given. s15 .next (m14 (before .before) (before .fill-arg .given)) given
+          (given : s12 .gives (m11 (before .before) (before .fill-arg .given))) →
+          Typed.Mo T15
+      m12 = λ before given. s12 .next (m11 (before .before) (before .fill-arg .given)) given
 
       module _ (before· : After-fill-arg) where
         abbrev pub After-fill·own : Type 0
-        After-fill·own = Called.Called ps·0 r·0 (claims· .1) T17 (
+        After-fill·own = Called.Called ps·0 r·0 (claims· .1) T14 (
           record {
             pos = 1;
             ty = Syntax.tyRef (Syntax.named 0) Syntax.imm (Syntax.tyInt Syntax.w64);
@@ -3906,33 +2654,30 @@ module _ (claims· : Claims) where
             (
               Num.vAt 3 λ x. x,
               (
-                Num.vAt 4 λ x. x,
+                Num.vAt 5 λ x. x,
                 (
-                  record { pos = 6; st = List.[]; d = 0; at = λ x. x },
-                  (
-                    record {
-                      pos = 12;
-                      ty = Syntax.tyRef
-                          Syntax.erased
-                          Syntax.mut
-                          Elem.ty;
-                      ref = λ x. x;
-                    },
-                    tt,
-                  ),
+                  record {
+                    pos = 10;
+                    ty = Syntax.tyRef
+                        Syntax.erased
+                        Syntax.mut
+                        Elem.ty;
+                    ref = λ x. x;
+                  },
+                  tt,
                 ),
               ),
             ),
           ),
-        ) (m14 (before· .before) (before· .fill-arg .given))
+        ) (m11 (before· .before) (before· .fill-arg .given))
 
       pub record After-fill : Type 0 where
         pub before : After-fill-arg
         pub fill : After-fill·own before
 
       abbrev pub After-fill·gave :
-          (c : After-fill) → s15 .gives (m14 (c .before .before) (c .before .fill-arg .given))
-      After-fill·gave = λ c. Called.given ps·0 r·0 (claims· .1) T17 (
+          (c : After-fill) → s12 .gives (m11 (c .before .before) (c .before .fill-arg .given))
+      After-fill·gave = λ c. Called.given ps·0 r·0 (claims· .1) T14 (
         record {
           pos = 1;
           ty = Syntax.tyRef (Syntax.named 0) Syntax.imm (Syntax.tyInt Syntax.w64);
@@ -3947,84 +2692,90 @@ module _ (claims· : Claims) where
           (
             Num.vAt 3 λ x. x,
             (
-              Num.vAt 4 λ x. x,
+              Num.vAt 5 λ x. x,
               (
-                record { pos = 6; st = List.[]; d = 0; at = λ x. x },
-                (
-                  record {
-                    pos = 12;
-                    ty = Syntax.tyRef
-                        Syntax.erased
-                        Syntax.mut
-                        Elem.ty;
-                    ref = λ x. x;
-                  },
-                  tt,
-                ),
+                record {
+                  pos = 10;
+                  ty = Syntax.tyRef
+                      Syntax.erased
+                      Syntax.mut
+                      Elem.ty;
+                  ref = λ x. x;
+                },
+                tt,
               ),
             ),
           ),
         ),
-      ) (m14 (c .before .before) (c .before .fill-arg .given)) (c .fill)
+      ) (m11 (c .before .before) (c .before .fill-arg .given)) (c .fill)
 
-      abbrev pub m16 :
+      abbrev pub m13 :
           (before : After-fill-arg) →
-          (given : s15 .gives (m14 (before .before) (before .fill-arg .given))) →
-          Typed.Mo T19
-      m16 = λ before given. s16 (m15 before given)
+          (given : s12 .gives (m11 (before .before) (before .fill-arg .given))) →
+          Typed.Mo T16
+      m13 = λ before given. s13 (m12 before given)
 
-      abbrev pub m17 :
-          (before : After-fill-arg) →
-          (given : s15 .gives (m14 (before .before) (before .fill-arg .given))) →
+      abbrev pub m14 :
+          (before : After-fill) →
+          (given : s15 .gives (m13 (before .before) (After-fill·gave before))) →
+          Typed.Mo T18
+      m14 = λ before given. s15 .next (m13 (before .before) (After-fill·gave before)) given
+
+      abbrev pub m15 :
+          (before : After-fill) →
+          (given : s15 .gives (m13 (before .before) (After-fill·gave before))) →
           Typed.Mo T20
-      m17 = λ before given. s17 (m16 before given)
-
-      abbrev pub m18 :
-          (before : After-fill) →
-          (given : s19 .gives (m17 (before .before) (After-fill·gave before))) →
-          Typed.Mo T22
-      m18 = λ before given. s19 .next (m17 (before .before) (After-fill·gave before)) given
-
-      abbrev pub m19 :
-          (before : After-fill) →
-          (given : s19 .gives (m17 (before .before) (After-fill·gave before))) →
-          Typed.Mo T24
-      m19 = λ before given. s21 (m18 before given)
-
-      abbrev pub m20 :
-          (before : After-fill) →
-          (given : s19 .gives (m17 (before .before) (After-fill·gave before))) →
-          Typed.Mo T25
-      m20 = λ before given. s22 (m19 before given)
-
-      abbrev pub m21 :
-          (before : After-fill) →
-          (given : s19 .gives (m17 (before .before) (After-fill·gave before))) →
-          Typed.Mo T26
-      m21 = λ before given. s23 (m20 before given)
-
-      abbrev pub m22 :
-          (before : After-fill) →
-          (given : s19 .gives (m17 (before .before) (After-fill·gave before))) →
-          Typed.Mo T27
-      m22 = λ before given. s24 (m21 before given)
+      m15 = λ before given. s17 (m14 before given)
 
       module _ (before· : After-fill) where
         pub record After-recs·own : Type 0 where
-          pub given : s19 .gives (m17 (before· .before) (After-fill·gave before·))
+          pub given : s15 .gives (m13 (before· .before) (After-fill·gave before·))
 
       pub record After-recs : Type 0 where
         pub before : After-fill
         pub recs : After-recs·own before
 
+      abbrev pub Need-add-result : Type 0
+      Need-add-result = (c : After-recs) → s18 .asks (m15 (c .before) (c .recs .given))
+
+      abbrev pub m16 :
+          (before : After-fill) →
+          (given : s15 .gives (m13 (before .before) (After-fill·gave before))) →
+          Typed.Mo T21
+      m16 = λ before given. s18 .next (m15 before given)
+
+      abbrev pub m17 :
+          (before : After-fill) →
+          (given : s15 .gives (m13 (before .before) (After-fill·gave before))) →
+          Typed.Mo T22
+      m17 = λ before given. s19 (m16 before given)
+
+      abbrev pub m18 :
+          (before : After-fill) →
+          (given : s15 .gives (m13 (before .before) (After-fill·gave before))) →
+          Typed.Mo T23
+      m18 = λ before given. s20 (m17 before given)
+
+      abbrev pub m19 :
+          (before : After-fill) →
+          (given : s15 .gives (m13 (before .before) (After-fill·gave before))) →
+          Typed.Mo T24
+      m19 = λ before given. s21 (m18 before given)
+
+      abbrev pub m20 :
+          (before : After-fill) →
+          (given : s15 .gives (m13 (before .before) (After-fill·gave before))) →
+          Typed.Mo T25
+      m20 = λ before given. s22 (m19 before given)
+
       abbrev pub Need-same-length : Type 0
       Need-same-length =
           (c : After-recs) →
           MutSlice.SameLen
-          (Row.get 7 (T27 .locals) (m22 (c .before) (c .recs .given)))
+          (Row.get 6 (T25 .locals) (m20 (c .before) (c .recs .given)))
           (dens
           (c .before .before .before .before .before .before .κs)
-          (c .before .before .before .before .before .before .args) .1 .1 .1 .1 .1 .1 .0)
+          (c .before .before .before .before .before .before .args) .1 .1 .1 .1 .1 .0)
 
       abbrev pub Need-returns-2 : Type 0
       Need-returns-2 =
@@ -4037,7 +2788,7 @@ module _ (claims· : Claims) where
           (Function.resV
           r
           (c .before .before .before .before .before .before .κs)
-          (m22 (c .before) (c .recs .given) .0))
+          (m20 (c .before) (c .recs .given) .0))
           (Clauses.atExit
           (Kinds.endedOf 3 ps r)
           (c .before .before .before .before .before .before .κs)
@@ -4052,26 +2803,30 @@ module _ (claims· : Claims) where
           (dens
           (c .before .before .before .before .before .before .κs)
           (c .before .before .before .before .before .before .args))
-          (m22 (c .before) (c .recs .given) .1)))
+          (m20 (c .before) (c .recs .given) .1)))
 
       module _ (returns : Need-returns) (fill-requires : Need-fill-requires)
-          (same-length : Need-same-length) (returns-2 : Need-returns-2) where
+          (add-result : Need-add-result) (same-length : Need-same-length)
+          (returns-2 : Need-returns-2) where
         lay4 :
             (c : After-fill) →
-            at20
+            at19
             (W0
             (c .before .before .before .before .before .κs)
             (c .before .before .before .before .before .args))
-            (m15 (c .before) (After-fill·gave c))
+            (m12 (c .before) (After-fill·gave c))
         lay4 = λ c. (
           Path'.refl,
           λ g. (
+            add-result record {
+              before = record { before = c .before; fill = c .fill };
+              recs = record { given = g };
+            },
             (
-              Path'.refl,
               (
                 Path'.refl,
                 (
-                  tt,
+                  Path'.refl,
                   (
                     tt,
                     (
@@ -4079,19 +2834,19 @@ module _ (claims· : Claims) where
                       (
                         tt,
                         (
-                          MutSlice.fix-len (Row.get 7 (T27 .locals) (m22 record {
+                          MutSlice.fix-len (Row.get 6 (T25 .locals) (m20 record {
                             before = c .before;
                             fill = c .fill;
-                          } g) .ptr) (Row.get 7 (T27 .locals) (m22 record {
+                          } g) .ptr) (Row.get 6 (T25 .locals) (m20 record {
                             before = c .before;
                             fill = c .fill;
-                          } g) .name) (Row.get 7 (T27 .locals) (m22 record {
+                          } g) .name) (Row.get 6 (T25 .locals) (m20 record {
                             before = c .before;
                             fill = c .fill;
                           } g) .now)
                               (dens (c .before .before .before .before .before .κs)
-                              (c .before .before .before .before .before .args) .1 .1 .1 .1 .1 .1
-                              .0 .now)
+                              (c .before .before .before .before .before .args) .1 .1 .1 .1 .1 .0
+                              .now)
                               (same-length record {
                                 before = record { before = c .before; fill = c .fill };
                                 recs = record { given = g };
@@ -4103,19 +2858,19 @@ module _ (claims· : Claims) where
                   ),
                 ),
               ),
+              returns-2 record {
+                before = record { before = c .before; fill = c .fill };
+                recs = record { given = g };
+              },
             ),
-            returns-2 record {
-              before = record { before = c .before; fill = c .fill };
-              recs = record { given = g };
-            },
           ),
         )
 
         lay3 :
             (c : Else1) →
-            at24
+            at23
             (W0 (c .before .before .before .κs) (c .before .before .before .args))
-            (m12 (c .before))
+            (m9 (c .before))
         lay3 = λ c. λ g. (
           Path'.refl,
           (
@@ -4128,7 +2883,7 @@ module _ (claims· : Claims) where
                 before = record { before = c .before; if1 = c .if1 };
                 fill-arg = record { given = g };
               };
-              fill = Called.called ps·0 r·0 (claims· .1) T17 (
+              fill = Called.called ps·0 r·0 (claims· .1) T14 (
                 record {
                   pos = 1;
                   ty = Syntax.tyRef (Syntax.named 0) Syntax.imm (Syntax.tyInt Syntax.w64);
@@ -4143,47 +2898,44 @@ module _ (claims· : Claims) where
                   (
                     Num.vAt 3 λ x. x,
                     (
-                      Num.vAt 4 λ x. x,
+                      Num.vAt 5 λ x. x,
                       (
-                        record { pos = 6; st = List.[]; d = 0; at = λ x. x },
-                        (
-                          record {
-                            pos = 12;
-                            ty = Syntax.tyRef
-                                Syntax.erased
-                                Syntax.mut
-                                Elem.ty;
-                            ref = λ x. x;
-                          },
-                          tt,
-                        ),
+                        record {
+                          pos = 10;
+                          ty = Syntax.tyRef
+                              Syntax.erased
+                              Syntax.mut
+                              Elem.ty;
+                          ref = λ x. x;
+                        },
+                        tt,
                       ),
                     ),
                   ),
                 ),
-              ) (m14 record { before = c .before; if1 = c .if1 } g) g';
+              ) (m11 record { before = c .before; if1 = c .if1 } g) g';
             },
           ),
         )
 
         lay2 :
             (c : Else1) →
-            at8
+            at7
             (W1 (c .before .before) (c .before .shared-slice-known2 .given))
-            (m5 (c .before .before) (c .before .shared-slice-known2 .given))
+            (m3 (c .before .before) (c .before .shared-slice-known2 .given))
         lay2 = λ c. lay3 record { before = c .before; if1 = c .if1 }
 
         lay1 :
             (c : Then1) →
-            at6
+            at5
             (W1 (c .before .before) (c .before .shared-slice-known2 .given))
-            (m5 (c .before .before) (c .before .shared-slice-known2 .given))
+            (m3 (c .before .before) (c .before .shared-slice-known2 .given))
         lay1 = λ c. (
-          (Path'.refl, (Path'.refl, (tt, (tt, (tt, (tt, (Path'.refl, tt))))))),
+          (Path'.refl, (Path'.refl, (tt, (tt, (tt, (Path'.refl, tt)))))),
           returns record { before = c .before; if1 = c .if1 },
         )
 
-        pub laid : (c : Start) → at29 (W0 (c .κs) (c .args)) (m0 (c .κs) (c .args))
+        pub laid : (c : Start) → at27 (W0 (c .κs) (c .args)) (m0 (c .κs) (c .args))
         laid = λ c. λ g. λ g'. (
           tt,
           (
@@ -4193,10 +2945,10 @@ module _ (claims· : Claims) where
                 shared-slice-known2 = record { given = g' };
               };
               if1 = record {
-                taken = Tests.ltb-true (Row.get 5 (T4 .locals) (m3 record {
+                taken = Tests.ltb-true (Row.get 4 (T3 .locals) (m2 record {
                   before = c;
                   shared-slice-known = record { given = g };
-                } g')) (Row.get 8 (T4 .locals) (m3 record {
+                } g')) (Row.get 5 (T3 .locals) (m2 record {
                   before = c;
                   shared-slice-known = record { given = g };
                 } g')) taken;
@@ -4208,10 +2960,10 @@ module _ (claims· : Claims) where
                 shared-slice-known2 = record { given = g' };
               };
               if1 = record {
-                left = Tests.ltb-false (Row.get 5 (T4 .locals) (m3 record {
+                left = Tests.ltb-false (Row.get 4 (T3 .locals) (m2 record {
                   before = c;
                   shared-slice-known = record { given = g };
-                } g')) (Row.get 8 (T4 .locals) (m3 record {
+                } g')) (Row.get 5 (T3 .locals) (m2 record {
                   before = c;
                   shared-slice-known = record { given = g };
                 } g')) left;
@@ -4234,15 +2986,14 @@ module _ (claims· : Claims) where
               blocks = a .1 .0;
               n = a .1 .1 .0;
               k = a .1 .1 .1 .0;
-              j = a .1 .1 .1 .1 .0;
-              above = a .1 .1 .1 .1 .1 .0;
-              recs = a .1 .1 .1 .1 .1 .1 .0;
+              past = a .1 .1 .1 .1 .0;
+              recs = a .1 .1 .1 .1 .1 .0;
             };
             good = good;
             fits = record {
               n = record { fits = good .1 .1 .0 .1 };
               k = record { fits = good .1 .1 .1 .0 .1 };
-              j = record { fits = good .1 .1 .1 .1 .0 .1 };
+              past = record { fits = good .1 .1 .1 .1 .0 .1 };
             };
             pre = pre;
           }

@@ -45,6 +45,9 @@ Need-returns = Lts.Need-returns (Reads.Asked, Reads.Learnt) Reads'.Pre Reads'.Po
 abbrev pub Need-fill-requires : Type 0
 Need-fill-requires = Lts.Need-fill-requires (Reads.Asked, Reads.Learnt) Reads'.Pre Reads'.Post
 
+abbrev pub Need-add-result : Type 0
+Need-add-result = Lts.Need-add-result (Reads.Asked, Reads.Learnt) Reads'.Pre Reads'.Post
+
 abbrev pub Need-same-length : Type 0
 Need-same-length = Lts.Need-same-length (Reads.Asked, Reads.Learnt) Reads'.Pre Reads'.Post
 
@@ -55,11 +58,12 @@ module _ {M : Type 1} where
   pub spec :
       (answer : Need-returns) →
       (answer : Need-fill-requires) →
+      (answer : Need-add-result) →
       (answer : Need-same-length) →
       (answer : Need-returns-2) →
       Lts.Closed (Reads.Asked, Reads.Learnt) Reads'.Pre Reads'.Post M
   spec =
-      λ answer answer' answer'' answer'3. Lts.spec
+      λ answer answer' answer'' answer'3 answer'4. Lts.spec
       (Reads.Asked, Reads.Learnt)
       Reads'.Pre
       Reads'.Post
@@ -67,6 +71,7 @@ module _ {M : Type 1} where
       answer'
       answer''
       answer'3
+      answer'4
 
   -- antt refused `close` as it was built: the module's report says why
   pub close :

@@ -1,0 +1,339 @@
+-- Made by tools/twin of what the borrow checker makes of a twin of `walk_window`. Do not edit.
+use Rattle.records.proofs.Elem
+use Rattle.bind.proofs.walk_lines.Met
+use Rattle.bind.proofs.Of_walk_lines.Reads
+use Rattle.bind.proofs.walk_lines.Symbol
+use Rattle.bind.proofs.walk_window.Code
+use Rattle.bind.proofs.walk_window.Key
+use Rattle.bind.proofs.Of_walk_window.Kinds
+use Rattle.bind.proofs.walk_window.Proof.Lts
+use Rattle.bind.proofs.Of_walk_window.Reads as Reads'
+use Rattle.bind.proofs.walk_window.Statement
+use Rattle.records.proofs.window.Met as Met'
+use Rattle.records.proofs.window.Reads as Reads''
+use Rattle.records.proofs.window.Symbol as Symbol'
+use borrow.Fn.Run
+use borrow.Fn.Written
+use contract.Running
+
+abbrev pub Start : Type 0
+Start =
+    Lts.Start (Reads''.Asked, Reads''.Learnt, Reads.Asked, Reads.Learnt) Reads'.Pre Reads'.Post
+
+abbrev pub After-shared-slice-known : Type 0
+After-shared-slice-known = Lts.After-shared-slice-known (
+  Reads''.Asked,
+  Reads''.Learnt,
+  Reads.Asked,
+  Reads.Learnt,
+) Reads'.Pre Reads'.Post
+
+abbrev pub After-shared-slice-known2 : Type 0
+After-shared-slice-known2 = Lts.After-shared-slice-known2 (
+  Reads''.Asked,
+  Reads''.Learnt,
+  Reads.Asked,
+  Reads.Learnt,
+) Reads'.Pre Reads'.Post
+
+abbrev pub After-shared-slice-known3 : Type 0
+After-shared-slice-known3 = Lts.After-shared-slice-known3 (
+  Reads''.Asked,
+  Reads''.Learnt,
+  Reads.Asked,
+  Reads.Learnt,
+) Reads'.Pre Reads'.Post
+
+abbrev pub After-shared-slice-known4 : Type 0
+After-shared-slice-known4 = Lts.After-shared-slice-known4 (
+  Reads''.Asked,
+  Reads''.Learnt,
+  Reads.Asked,
+  Reads.Learnt,
+) Reads'.Pre Reads'.Post
+
+abbrev pub After-slice-known : Type 0
+After-slice-known = Lts.After-slice-known (
+  Reads''.Asked,
+  Reads''.Learnt,
+  Reads.Asked,
+  Reads.Learnt,
+) Reads'.Pre Reads'.Post
+
+abbrev pub After-slice-known2 : Type 0
+After-slice-known2 = Lts.After-slice-known2 (
+  Reads''.Asked,
+  Reads''.Learnt,
+  Reads.Asked,
+  Reads.Learnt,
+) Reads'.Pre Reads'.Post
+
+abbrev pub After-slice-known3 : Type 0
+After-slice-known3 = Lts.After-slice-known3 (
+  Reads''.Asked,
+  Reads''.Learnt,
+  Reads.Asked,
+  Reads.Learnt,
+) Reads'.Pre Reads'.Post
+
+abbrev pub After-slice-known4 : Type 0
+After-slice-known4 = Lts.After-slice-known4 (
+  Reads''.Asked,
+  Reads''.Learnt,
+  Reads.Asked,
+  Reads.Learnt,
+) Reads'.Pre Reads'.Post
+
+abbrev pub After-window : Type 0
+After-window =
+    Lts.After-window
+    (Reads''.Asked, Reads''.Learnt, Reads.Asked, Reads.Learnt)
+    Reads'.Pre
+    Reads'.Post
+
+abbrev pub After-walk-lines-arg : Type 0
+After-walk-lines-arg = Lts.After-walk-lines-arg (
+  Reads''.Asked,
+  Reads''.Learnt,
+  Reads.Asked,
+  Reads.Learnt,
+) Reads'.Pre Reads'.Post
+
+abbrev pub After-walk-lines-arg2 : Type 0
+After-walk-lines-arg2 = Lts.After-walk-lines-arg2 (
+  Reads''.Asked,
+  Reads''.Learnt,
+  Reads.Asked,
+  Reads.Learnt,
+) Reads'.Pre Reads'.Post
+
+abbrev pub After-walk-lines-arg3 : Type 0
+After-walk-lines-arg3 = Lts.After-walk-lines-arg3 (
+  Reads''.Asked,
+  Reads''.Learnt,
+  Reads.Asked,
+  Reads.Learnt,
+) Reads'.Pre Reads'.Post
+
+abbrev pub After-walk-lines-arg4 : Type 0
+After-walk-lines-arg4 = Lts.After-walk-lines-arg4 (
+  Reads''.Asked,
+  Reads''.Learnt,
+  Reads.Asked,
+  Reads.Learnt,
+) Reads'.Pre Reads'.Post
+
+abbrev pub After-recs : Type 0
+After-recs =
+    Lts.After-recs
+    (Reads''.Asked, Reads''.Learnt, Reads.Asked, Reads.Learnt)
+    Reads'.Pre
+    Reads'.Post
+
+abbrev pub After-walk-lines : Type 0
+After-walk-lines =
+    Lts.After-walk-lines
+    (Reads''.Asked, Reads''.Learnt, Reads.Asked, Reads.Learnt)
+    Reads'.Pre
+    Reads'.Post
+
+abbrev pub After-seen : Type 0
+After-seen =
+    Lts.After-seen
+    (Reads''.Asked, Reads''.Learnt, Reads.Asked, Reads.Learnt)
+    Reads'.Pre
+    Reads'.Post
+
+abbrev pub After-slice-known5 : Type 0
+After-slice-known5 = Lts.After-slice-known5 (
+  Reads''.Asked,
+  Reads''.Learnt,
+  Reads.Asked,
+  Reads.Learnt,
+) Reads'.Pre Reads'.Post
+
+abbrev pub After-first : Type 0
+After-first =
+    Lts.After-first
+    (Reads''.Asked, Reads''.Learnt, Reads.Asked, Reads.Learnt)
+    Reads'.Pre
+    Reads'.Post
+
+abbrev pub After-slice-known6 : Type 0
+After-slice-known6 = Lts.After-slice-known6 (
+  Reads''.Asked,
+  Reads''.Learnt,
+  Reads.Asked,
+  Reads.Learnt,
+) Reads'.Pre Reads'.Post
+
+abbrev pub After-marks : Type 0
+After-marks =
+    Lts.After-marks
+    (Reads''.Asked, Reads''.Learnt, Reads.Asked, Reads.Learnt)
+    Reads'.Pre
+    Reads'.Post
+
+abbrev pub After-slice-known7 : Type 0
+After-slice-known7 = Lts.After-slice-known7 (
+  Reads''.Asked,
+  Reads''.Learnt,
+  Reads.Asked,
+  Reads.Learnt,
+) Reads'.Pre Reads'.Post
+
+abbrev pub After-out : Type 0
+After-out =
+    Lts.After-out
+    (Reads''.Asked, Reads''.Learnt, Reads.Asked, Reads.Learnt)
+    Reads'.Pre
+    Reads'.Post
+
+abbrev pub After-slice-known8 : Type 0
+After-slice-known8 = Lts.After-slice-known8 (
+  Reads''.Asked,
+  Reads''.Learnt,
+  Reads.Asked,
+  Reads.Learnt,
+) Reads'.Pre Reads'.Post
+
+abbrev pub After-recs2 : Type 0
+After-recs2 =
+    Lts.After-recs2
+    (Reads''.Asked, Reads''.Learnt, Reads.Asked, Reads.Learnt)
+    Reads'.Pre
+    Reads'.Post
+
+abbrev pub Need-window-requires : Type 0
+Need-window-requires = Lts.Need-window-requires (
+  Reads''.Asked,
+  Reads''.Learnt,
+  Reads.Asked,
+  Reads.Learnt,
+) Reads'.Pre Reads'.Post
+
+abbrev pub Need-slice-aggregate-walk-lines : Type 0
+Need-slice-aggregate-walk-lines = Lts.Need-slice-aggregate-walk-lines (
+  Reads''.Asked,
+  Reads''.Learnt,
+  Reads.Asked,
+  Reads.Learnt,
+) Reads'.Pre Reads'.Post
+
+abbrev pub Need-walk-lines-requires : Type 0
+Need-walk-lines-requires = Lts.Need-walk-lines-requires (
+  Reads''.Asked,
+  Reads''.Learnt,
+  Reads.Asked,
+  Reads.Learnt,
+) Reads'.Pre Reads'.Post
+
+abbrev pub Need-same-length : Type 0
+Need-same-length =
+    Lts.Need-same-length
+    (Reads''.Asked, Reads''.Learnt, Reads.Asked, Reads.Learnt)
+    Reads'.Pre
+    Reads'.Post
+
+abbrev pub Need-same-length-2 : Type 0
+Need-same-length-2 = Lts.Need-same-length-2 (
+  Reads''.Asked,
+  Reads''.Learnt,
+  Reads.Asked,
+  Reads.Learnt,
+) Reads'.Pre Reads'.Post
+
+abbrev pub Need-same-length-3 : Type 0
+Need-same-length-3 = Lts.Need-same-length-3 (
+  Reads''.Asked,
+  Reads''.Learnt,
+  Reads.Asked,
+  Reads.Learnt,
+) Reads'.Pre Reads'.Post
+
+abbrev pub Need-same-length-4 : Type 0
+Need-same-length-4 = Lts.Need-same-length-4 (
+  Reads''.Asked,
+  Reads''.Learnt,
+  Reads.Asked,
+  Reads.Learnt,
+) Reads'.Pre Reads'.Post
+
+abbrev pub Need-returns : Type 0
+Need-returns =
+    Lts.Need-returns
+    (Reads''.Asked, Reads''.Learnt, Reads.Asked, Reads.Learnt)
+    Reads'.Pre
+    Reads'.Post
+
+module _ {M : Type 1} where
+  pub spec :
+      (answer : Need-window-requires) →
+      (answer : Need-slice-aggregate-walk-lines) →
+      (answer : Need-walk-lines-requires) →
+      (answer : Need-same-length) →
+      (answer : Need-same-length-2) →
+      (answer : Need-same-length-3) →
+      (answer : Need-same-length-4) →
+      (answer : Need-returns) →
+      Lts.Closed
+      (Reads''.Asked, Reads''.Learnt, Reads.Asked, Reads.Learnt)
+      Reads'.Pre
+      Reads'.Post
+      M
+  spec = λ answer answer' answer'' answer'3 answer'4 answer'5 answer'6 answer'7. Lts.spec (
+    Reads''.Asked,
+    Reads''.Learnt,
+    Reads.Asked,
+    Reads.Learnt,
+  ) Reads'.Pre Reads'.Post answer answer' answer'' answer'3 answer'4 answer'5 answer'6 answer'7
+
+  -- antt refused `close` as it was built: the module's report says why
+  pub close :
+      Lts.Closed
+      (Reads''.Asked, Reads''.Learnt, Reads.Asked, Reads.Learnt)
+      Reads'.Pre
+      Reads'.Post
+      M →
+      Statement.statement M
+  unfolding Code.routine Running.tablesOf
+  close =
+      λ closed 𝓤 H 𝓜 𝓖 𝓡. Written.close
+      8
+      Kinds.ps
+      Kinds.r
+      Reads'.Ghost
+      Reads'.requires
+      Reads'.ensures
+      Reads'.pre-read
+      Reads'.Pinned
+      Reads'.Owned
+      Reads'.post-read
+      record { M = M; 𝓤 = 𝓤; H = H; 𝓜 = 𝓜; 𝓖 = 𝓖; 𝓡 = 𝓡 }
+      Code.env
+      Key.name
+      Code.function
+      (Code.unfolded 𝓤 H 𝓜 𝓡)
+      (λ κs a g. tt)
+      (λ κs. Reads'.owns κs record { M = M; 𝓤 = 𝓤; H = H; 𝓜 = 𝓜; 𝓖 = 𝓖; 𝓡 = 𝓡 })
+      (Reads'.passes record { M = M; 𝓤 = 𝓤; H = H; 𝓜 = 𝓜; 𝓖 = 𝓖; 𝓡 = 𝓡 })
+      λ g. closed
+      𝓤
+      H
+      (𝓖 .A)
+      (Running.givenOf 𝓤 H 𝓜 𝓖)
+      (Run.Over 𝓤 H 𝓜 𝓖 𝓡 Code.env)
+      (Reads''.known
+      record { M = M; 𝓤 = 𝓤; H = H; 𝓜 = 𝓜; 𝓖 = 𝓖; 𝓡 = 𝓡 }
+      Code.env
+      Symbol'.name
+      Symbol'.routine
+      Code.calls-records·window
+      (Met'.met 𝓤 H 𝓜 𝓖 𝓡))
+      (Reads.known
+      record { M = M; 𝓤 = 𝓤; H = H; 𝓜 = 𝓜; 𝓖 = 𝓖; 𝓡 = 𝓡 }
+      Code.env
+      Symbol.name
+      Symbol.routine
+      Code.calls-bind·walk-lines
+      (Met.met 𝓤 H 𝓜 𝓖 𝓡))

@@ -1,0 +1,33 @@
+-- Made by tools/twin of what the borrow checker makes of a twin of `rebuild_window`. Do not edit.
+use Rattle.records.proofs.Elem
+use borrow.Fn.Kinds
+use borrow.Kind.MutSlice
+use borrow.Kind.ShrSlice
+use borrow.Table.Referent
+use mathlib.Core.List
+use mir.Syntax
+
+abbrev pub ps : List.List (Kinds.PK 9)
+ps =
+    List._∷_
+    (ShrSlice.pShrS (Referent.rtF (Referent.fInt Syntax.w8)) 0 tt)
+    (List._∷_
+    (ShrSlice.pShrS (Referent.rtF (Referent.fInt Syntax.w64)) 1 tt)
+    (List._∷_
+    (Kinds.pNum Syntax.w64)
+    (List._∷_
+    (ShrSlice.pShrS (Referent.rtF (Referent.fInt Syntax.w64)) 2 tt)
+    (List._∷_
+    (ShrSlice.pShrS (Referent.rtF (Referent.fInt Syntax.w8)) 3 tt)
+    (List._∷_
+    (MutSlice.pMutS (Referent.rtF (Referent.fInt Syntax.w64)) 4 tt)
+    (List._∷_
+    (MutSlice.pMutS (Referent.rtF (Referent.fInt Syntax.w8)) 5 tt)
+    (List._∷_
+    (MutSlice.pMutS (Referent.rtF (Referent.fInt Syntax.w8)) 6 tt)
+    (List._∷_
+    (MutSlice.pMutS (Referent.rtF (Referent.fInt Syntax.w8)) 7 tt)
+    (List._∷_ (MutSlice.pMutS (Referent.rtF (Referent.fInt Syntax.w8)) 8 tt) List.[])))))))))
+
+abbrev pub r : Kinds.RK 9
+r = Kinds.rNum Syntax.w64
