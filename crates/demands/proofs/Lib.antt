@@ -1,1 +1,6 @@
 pub mod Cuts
+pub mod Split
+pub mod Texts
+pub mod Owners
+pub mod Answers
+pub mod Examples

@@ -1,0 +1,36 @@
+-- The entries promise an answer by its cases: the three numbers that a caller gets of the two that name a limit. Assumes nothing.
+use Prim.Native.Nat.{ℕ, _≤_, _<_}
+use mathlib.Core.Path.{_≡_, refl, sym, ap, _∙_}
+use mathlib.Core.Bool.{Bool, true, false}
+use mathlib.Core.List.{List}
+use lib.ListN.{length}
+use Rattle.lines.specs.Lf.{within}
+use Rattle.lines.specs.Steps.{splitLines}
+use Rattle.text.specs.declared.Utf8.the-variants as utf8-is
+use Rattle.text.specs.Utf8Form.{utf8Of}
+use Rattle.limits.specs.declared.Answer.{Answer}
+use Rattle.limits.specs.Answer.{numberOf, lengthOf, placeOf}
+use Rattle.limits.specs.Entry.{roomed, answerOf, passAnswer}
+use Rattle.limits.proofs.AnswerLaws.{lines-many, text-long, text-read}
+
+-- the number, the length and the place of an answer
+abbrev pub numbersOf : Answer → ℕ × (ℕ × ℕ)
+numbersOf r = (numberOf r, (lengthOf r, placeOf r))
+
+-- xs: the result; room: the length of the result buffer
+module _ (t xs : List ℕ) (room : ℕ) where
+  -- a text that is too long: 2, with the most bytes that a text may have
+  pub long-numbers : (short : Bool) → 16384 < length t → numbersOf (answerOf short t xs room) ≡ (2, (0, 16384))
+  unfolding answerOf numberOf lengthOf placeOf
+  long-numbers short h = ap numbersOf (sym (text-long t (roomed (length xs) room) short h))
+
+  -- a text of too many lines that no check before refuses: 5, with the most lines that a text may have
+  pub many-numbers : length t ≤ 16384 → utf8Of t ≡ utf8-is.Valid → 1024 < length (splitLines t) → numbersOf (answerOf false t xs room) ≡ (5, (0, 1024))
+  unfolding answerOf numberOf lengthOf placeOf
+  many-numbers h v k =
+      ap numbersOf (sym (lines-many t (roomed (length xs) room) k ∙ text-read t (roomed (length xs) room) false h refl {x = utf8-is.Valid} v))
+
+  -- the pass entry answers so too, of a pass that there is
+  pub pass-numbers : (k : ℕ) (short : Bool) → within 1 6 k ≡ true → passAnswer k short t xs room ≡ answerOf short t xs room
+  unfolding passAnswer
+  pass-numbers k short h = rw h
