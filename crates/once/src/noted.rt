@@ -22,12 +22,13 @@ fn entry(d: &[usize], i: usize) -> usize
     0
 }
 
-// The same of a table of line numbers.
-fn number_at(d: &[u32], i: usize) -> u32
-    ensures { λ r. ⌜ r ≡ getD (now (d .entry)) i 0 ⌝ }
+// The number of the line that a table of registers has for one, or 0 past its end.
+fn row_at(rows: &[u32], reg: names::Register) -> u32
+    ensures { λ r. ⌜ r ≡ getD (now (rows .entry)) (reg .0) 0 ⌝ }
 {
-    if i < d.len() {
-        return d[i];
+    let v = reg.0 as usize;
+    if v < rows.len() {
+        return rows[v];
     }
     0
 }
@@ -47,7 +48,7 @@ fn put_row(reg: names::Register, m: u32, last: &mut [u32])
 fn put_far(reg: names::Register, near: &[u32], far: &mut [u32])
     ensures { λ _. ⌜ now (far .exit) ≡ set (now (far .entry)) (reg .0) (getD (now (near .entry)) (reg .0) 0) ⌝ }
 {
-    put_row(reg, number_at(near, reg.0 as usize), far)
+    put_row(reg, row_at(near, reg), far)
 }
 
 // Puts the note x of the line with k above it, where the table reaches to it.
@@ -95,7 +96,7 @@ fn note_name(
 {
     match names::reg_name(t) {
         names::RegName::Reg(q) => {
-            take_back(number_at(near, q.0 as usize), h, n, notes);
+            take_back(row_at(near, q), h, n, notes);
             put_far(q, near, far);
             put_row(q, m, near)
         }

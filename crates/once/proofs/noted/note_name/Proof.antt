@@ -9,58 +9,47 @@ use Rattle.once.proofs.noted.note_name.Tie as tie
 use Rattle.once.proofs.noted.note_name.Reads as reads
 use Rattle.once.proofs.noted.note_name.Lts as lts
 use Rattle.names.proofs.reg_name.Reads as reg-name-reads
-use Rattle.once.proofs.noted.number_at.Reads as number-at-reads
+use Rattle.once.proofs.noted.row_at.Reads as row-at-reads
 use Rattle.once.proofs.noted.put_far.Reads as put-far-reads
 use Rattle.once.proofs.noted.put_row.Reads as put-row-reads
 use Rattle.once.proofs.noted.take_back.Reads as take-back-reads
 
--- src/noted.rt:96:11
 reg-name-requires : tie.Need-reg-name-requires
 reg-name-requires c κs = search needs
 
--- src/noted.rt:97:29
 enum-known-q : tie.Need-enum-known-q
 enum-known-q c = search needs
 
--- src/noted.rt:98:23
-number-at-requires : tie.Need-number-at-requires
-number-at-requires c κs = search needs
+row-at-requires : tie.Need-row-at-requires
+row-at-requires c κs = search needs
 
--- src/noted.rt:98:13
 take-back-requires : tie.Need-take-back-requires
 take-back-requires c κs = search needs
 
--- src/noted.rt:99:13
 put-far-requires : tie.Need-put-far-requires
 put-far-requires c κs = search needs
 
--- src/noted.rt:100:13
 put-row-requires : tie.Need-put-row-requires
 put-row-requires c κs = search needs
 
 enum-told : tie.Need-enum-told
 enum-told c = search needs
 
--- src/noted.rt:83:1
 same-length : tie.Need-same-length
 same-length c = search needs
 
--- src/noted.rt:83:1
 same-length-2 : tie.Need-same-length-2
 same-length-2 c = search needs
 
--- src/noted.rt:83:1
 same-length-3 : tie.Need-same-length-3
 same-length-3 c = search needs
 
--- src/noted.rt:83:1
 returns : tie.Need-returns
 returns c =
     let a = c .before .before .before .before .before .before .before .before .before .before .before .before .before .before .before .before .before .before .before .before .before .before .before .args in
     let e = sym (c .before .before .before .before .before .before .before .before .before .before .before .before .before .before .before .before .before .before .reg-name .ensures) ∙ c .before .before .before .before .before .before .before .before .before .before .before .before .before .before .before .before .q .given .1 in
-    (c .before .before .put-row .ensures ∙ sym (ap (λ (r : RegName). markName (a .m) r (a .near .now)) e), (c .before .before .before .before .before .before .put-far .ensures ∙ sym (ap (λ (r : RegName). farName r (a .near .now) (a .far .now)) e), c .before .before .before .before .before .before .before .before .before .before .before .take-back .ensures ∙ ap (λ (r : ℕ). takeBack (a .n) (a .h) r (a .notes .now)) (c .before .before .before .before .before .before .before .before .before .before .before .before .before .number-at .ensures) ∙ sym (ap (λ (r : RegName). backName (a .n) (a .h) r (a .near .now) (a .notes .now)) e)))
+    (c .before .before .put-row .ensures ∙ sym (ap (λ (r : RegName). markName (a .m) r (a .near .now)) e), (c .before .before .before .before .before .before .put-far .ensures ∙ sym (ap (λ (r : RegName). farName r (a .near .now) (a .far .now)) e), c .before .before .before .before .before .before .before .before .before .before .before .take-back .ensures ∙ ap (λ (r : ℕ). takeBack (a .n) (a .h) r (a .notes .now)) (c .before .before .before .before .before .before .before .before .before .before .before .before .before .row-at .ensures) ∙ sym (ap (λ (r : RegName). backName (a .n) (a .h) r (a .near .now) (a .notes .now)) e)))
 
--- src/noted.rt:83:1
 returns-2 : tie.Need-returns-2
 returns-2 c =
     let a = c .before .before .before .before .before .before .before .args in
@@ -73,7 +62,7 @@ note-name-spec =
     (tie.spec
     reg-name-requires
     enum-known-q
-    number-at-requires
+    row-at-requires
     take-back-requires
     put-far-requires
     put-row-requires

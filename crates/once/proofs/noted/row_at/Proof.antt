@@ -1,0 +1,22 @@
+use borrow.Author.Needs.{needs}
+use mathlib.Core.Path.{sym}
+use lib.ListN.{List·getD-eq-default}
+use Rattle.once.proofs.noted.row_at.Statement.{statement}
+use Rattle.once.proofs.noted.row_at.Tie as tie
+use Rattle.once.proofs.noted.row_at.Reads as reads
+use Rattle.once.proofs.noted.row_at.Lts as lts
+
+mul-result : tie.Need-mul-result
+mul-result c = search needs
+
+shared-slice-read-result : tie.Need-shared-slice-read-result
+shared-slice-read-result c = search needs
+
+returns : tie.Need-returns
+returns c = search needs
+
+returns-2 : tie.Need-returns-2
+returns-2 c = sym (List·getD-eq-default (c .before .args .rows .now) 0 (c .if1 .left))
+
+pub row-at-spec : {M : Type 1} → statement M
+row-at-spec = tie.close (tie.spec mul-result shared-slice-read-result returns returns-2)
