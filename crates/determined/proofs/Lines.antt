@@ -17,9 +17,6 @@ cut-fixed = fixed lines.cut.Reads.Learnt (λ κs a x y l m. l ∙ sym m)
 pub lacks-fixed : Determined lines.lacks.ended (λ κs z. z) lines.lacks.Reads.ensures
 lacks-fixed = fixed lines.lacks.Reads.Learnt (λ κs a x y l m. l ∙ sym m)
 
-pub lacks-eight-fixed : Determined lines.lacks_eight.ended (λ κs z. z) lines.lacks_eight.Reads.ensures
-lacks-eight-fixed = fixed lines.lacks_eight.Reads.Learnt (λ κs a x y l m. l ∙ sym m)
-
 pub find-byte-fixed : Determined lines.find_byte.ended (λ κs z. z) lines.find_byte.Reads.ensures
 find-byte-fixed = fixed lines.find_byte.Reads.Learnt (λ κs a x y l m. l ∙ sym m)
 

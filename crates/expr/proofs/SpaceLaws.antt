@@ -5,13 +5,31 @@ use mathlib.Core.Bool.{Bool, true, false, cond, _&&_, _||_}
 use mathlib.Core.List.{List, [], _∷_, _++_}
 use native.Mathlib.Omega.{arith}
 use native.Mathlib.Numerals.{add-one}
-use borrow.Author.Tests.{eqb-true, eqb-false}
-use lib.Dec.{eqb}
+use borrow.Author.Tests.{eqb-true, eqb-false, ne-eqb, ltb-true, ltb-false}
+use lib.Dec.{eqb, ltb}
 use lib.ListN.{length, take, drop, getD, length-drop, drop-of-length-le}
 use lib.Seq.{drop-cons, take-suc}
 use Rattle.lines.specs.Lf.{among, all}
-use Rattle.lines.proofs.Tests.{or-false}
+use Rattle.lines.proofs.Tests.{or-false, is-below, is-above}
+use Rattle.text.specs.White.{isWhite}
 use Rattle.expr.specs.Pure.{isSpace, spaceStart, unlessBlank, spaceEnd}
+
+-- ---- white space of ASCII is Unicode's, of the bytes below 128
+
+pub space-high : (b : ℕ) → 127 < b → isSpace b ≡ false
+space-high b h = simp (is-above 9 13 b (omega arith), ne-eqb b 32 (omega arith))
+
+pub space-low : (b : ℕ) → b ≤ 127 → isSpace b ≡ isWhite b
+unfolding isWhite
+space-low b h =
+    simp (ne-eqb b 133 (omega arith), ne-eqb b 160 (omega arith), ne-eqb b 5760 (omega arith), is-below 8192 8202 b (omega arith), is-below 8232 8233 b (omega arith), ne-eqb b 8239 (omega arith), ne-eqb b 8287 (omega arith), ne-eqb b 12288 (omega arith), or-false)
+
+pub space-white : (b : ℕ) → isSpace b ≡ ltb b 128 && isWhite b
+space-white b = go (ltb b 128) refl
+  where
+    go : (t : Bool) → ltb b 128 ≡ t → isSpace b ≡ t && isWhite b
+    go true e = let h = ltb-true b 128 e in space-low b (omega arith)
+    go false e = let h = ltb-false b 128 e in space-high b (omega arith)
 
 -- ---- a test at every byte
 

@@ -75,7 +75,10 @@ pub fn strip_comments(s: &[u8], out: &mut [u8], o: usize) -> usize
 fn is_space(b: u8) -> bool
     ensures { λ r. ⌜ r ≡ isSpace b ⌝ }
 {
-    ((9 <= b) & (b <= 13)) | (b == b' ')
+    if 127 < b {
+        return false;
+    }
+    text::is_white(b as u32)
 }
 
 // Where `s` begins, past the white space at its front.

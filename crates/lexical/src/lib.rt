@@ -4,7 +4,7 @@ ghost use mathlib.Core.List.{[]};
 ghost use mathlib.Core.Bool.{false, cond, not};
 ghost use Prim.Native.Nat.{ℕ, _+_, _≤_};
 ghost use lib.ListN.{length, take, drop};
-ghost use Rattle.lines.specs.Lf.{all, part};
+ghost use Rattle.lines.specs.Lf.{all, lacks, part};
 ghost use Rattle.lines.specs.Out.{Wrote};
 ghost use Rattle.text.specs.White.{isWhite};
 ghost use Rattle.text.specs.Trim.{point, whiteChar};
@@ -312,12 +312,25 @@ fn plain_one(s: &[u8], i: usize) -> usize
     j
 }
 
+// Whether none of the eight bytes at a place is `b`; the compiler compares them at once.
+fn lacks_eight(s: &[u8], j: usize, b: u8) -> bool
+    requires { ⌜ j + 8 ≤ length (now s) ⌝ }
+    ensures { λ r. ⌜ r ≡ lacks b (take 8 (drop j (now (s .entry)))) ⌝ }
+{
+    !((s[j] == b)
+        | ((s[j + 1] == b)
+            | ((s[j + 2] == b)
+                | ((s[j + 3] == b)
+                    | ((s[j + 4] == b)
+                        | ((s[j + 5] == b) | ((s[j + 6] == b) | (s[j + 7] == b))))))))
+}
+
 // Whether the eight bytes at a place are mild, and none is `/` or a backtick: they are plain then.
 fn tame_eight(s: &[u8], j: usize) -> bool
     requires { ⌜ j + 8 ≤ length (now s) ⌝ }
     ensures { λ r. ⌜ r ≡ tame (take 8 (drop j (now (s .entry)))) ⌝ }
 {
-    mild_eight(s, j) & (lines::lacks_eight(s, j, b'/') & lines::lacks_eight(s, j, b'`'))
+    mild_eight(s, j) & (lacks_eight(s, j, b'/') & lacks_eight(s, j, b'`'))
 }
 
 // Where the plain bytes from `i` on end: by eight bytes, as long as these are tame.
@@ -381,20 +394,26 @@ fn low_after(last: u16, b: u8) -> u16
     last
 }
 
-// The last character that is no white space, once the bytes from `i` to `j`, all below 128, stand after a text with this last one.
-pub fn low_last(s: &[u8], i: usize, j: usize, last: u16) -> u16
-    requires { ⌜ j ≤ length (now s) ⌝ }
-    ensures { λ r. ⌜ r ≡ lowLast last (part i j (now (s .entry))) ⌝ }
+// The last character that is no white space, once the bytes of `t`, all below 128, stand after a text with this last one.
+fn low_end(t: &[u8], last: u16) -> u16
+    ensures { λ r. ⌜ r ≡ lowLast last (now (t .entry)) ⌝ }
 {
-    let mut k = j;
-    while i < k {
-        let b = s[k - 1];
+    let mut k = t.len();
+    while 0 < k {
+        let b = t[k - 1];
         if is_dark(b) {
             return b as u16;
         }
         k -= 1;
     }
     last
+}
+
+// The same of the bytes from `i` to `j`.
+pub fn low_last(s: &[u8], i: usize, j: usize, last: u16) -> u16
+    ensures { λ r. ⌜ r ≡ lowLast last (part i j (now (s .entry))) ⌝ }
+{
+    low_end(lines::cut(s, i, j), last)
 }
 
 // The tail once the plain bytes from `i` to `j` stand after the text.

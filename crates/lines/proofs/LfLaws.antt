@@ -186,7 +186,7 @@ part-more s a i p q =
     let e : i + 1 - a ≡ suc (i - a) = omega arith in
     let d : a + (i - a) ≡ i = omega arith in
     let l : i - a < length (drop a s) = simp length-drop (omega arith) in
-    rw (e, take-suc (drop a s) (i - a) 0, getD-drop, d)
+    rw (e, take-suc (drop a s) (i - a) 0 l, getD-drop, d)
 
 pub part-none : (s : List ℕ) (a : ℕ) → part a a s ≡ []
 part-none s a = let q : a - a ≡ 0 = omega arith in ap (λ (n : ℕ). take n (drop a s)) q

@@ -58,19 +58,6 @@ fn find_one(s: &[u8], i: usize, b: u8) -> usize
     j
 }
 
-// Whether none of the eight bytes at a place is `b`; the compiler compares them at once.
-pub fn lacks_eight(s: &[u8], j: usize, b: u8) -> bool
-    requires { ⌜ j + 8 ≤ length (now s) ⌝ }
-    ensures { λ r. ⌜ r ≡ lacks b (take 8 (drop j (now (s .entry)))) ⌝ }
-{
-    !((s[j] == b)
-        | ((s[j + 1] == b)
-            | ((s[j + 2] == b)
-                | ((s[j + 3] == b)
-                    | ((s[j + 4] == b)
-                        | ((s[j + 5] == b) | ((s[j + 6] == b) | (s[j + 7] == b))))))))
-}
-
 // A byte as a number of 64 bits.
 fn wide(b: u8) -> u64
     ensures { λ r. ⌜ (r ≡ b) × (r < 256) ⌝ }

@@ -39,7 +39,7 @@ sub-low-last : tie.Need-sub-low-last
 sub-low-last c = search needs
 
 low-last-requires : tie.Need-low-last-requires
-low-last-requires c κs = let a = c .before .before .before .before .before in omega (arith, plain-in (a .args .s .now) (a .args .i) (a .args .j) (a .pre) (c .before .before .before .if1 .left))
+low-last-requires c κs = search needs
 
 low-after-requires : tie.Need-low-after-requires
 low-after-requires c κs = search needs

@@ -5,21 +5,17 @@ use Rattle.lexical.proofs.tame_eight.Tie as tie
 use Rattle.lexical.proofs.tame_eight.Reads as reads
 use Rattle.lexical.proofs.tame_eight.Lts as lts
 use Rattle.lexical.proofs.mild_eight.Reads as mild-eight-reads
-use Rattle.lines.proofs.lacks_eight.Reads as lacks-eight-reads
+use Rattle.lexical.proofs.lacks_eight.Reads as lacks-eight-reads
 
--- src/lib.rt:320:5
 mild-eight-requires : tie.Need-mild-eight-requires
 mild-eight-requires c κs = search needs
 
--- src/lib.rt:320:25
 lacks-eight-requires : tie.Need-lacks-eight-requires
 lacks-eight-requires c κs = search needs
 
--- src/lib.rt:320:58
 lacks-eight-requires-2 : tie.Need-lacks-eight-requires-2
 lacks-eight-requires-2 c κs = search needs
 
--- src/lib.rt:316:1
 returns : tie.Need-returns
 unfolding tame
 returns c = rw (c .before .before .mild-eight .ensures, c .before .lacks-eight .ensures, c .lacks-eight2 .ensures)

@@ -1,10 +1,10 @@
--- `lines::lacks_eight` meets its contract. Assumes nothing.
+-- `lexical::lacks_eight` meets its contract. Assumes nothing.
 use Rattle.lines.proofs.LfLaws.{eight-at}
 use borrow.Author.Needs.{needs}
-use Rattle.lines.proofs.lacks_eight.Statement.{statement}
-use Rattle.lines.proofs.lacks_eight.Tie as tie
-use Rattle.lines.proofs.lacks_eight.Reads as reads
-use Rattle.lines.proofs.lacks_eight.Lts as lts
+use Rattle.lexical.proofs.lacks_eight.Statement.{statement}
+use Rattle.lexical.proofs.lacks_eight.Tie as tie
+use Rattle.lexical.proofs.lacks_eight.Reads as reads
+use Rattle.lexical.proofs.lacks_eight.Lts as lts
 
 shared-slice-read-result : tie.Need-shared-slice-read-result
 shared-slice-read-result c = search needs
