@@ -84,9 +84,16 @@ pinned() {
     [ "$(rt version)" = "$(cat "$data/TOOLCHAIN")" ] || note "the project is for the toolchain $(cat "$data/TOOLCHAIN"), and rt is $(rt version)"
 }
 
+# Says where the program is older than its sources.
+say_stale() {
+    [ -n "$root" ] || return 0
+    [ -z "$(find "$root/crates" -name '*.rt' -newer "$program" | head -n 1)" ] ||
+        note "sources are newer than the program: rt check $name builds it anew"
+}
+
 # Proves and builds the program, where it is not there.
 build() {
-    [ ! -x "$program" ] || return 0
+    [ ! -x "$program" ] || { say_stale; return 0; }
     [ -n "$root" ] || die "not installed whole: no program $program"
     has_rt
     pinned
