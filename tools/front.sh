@@ -86,7 +86,7 @@ pinned() {
 
 # Says where the program is older than its sources.
 say_stale() {
-    [ -n "$root" ] || return 0
+    [ -d "$root/crates" ] || return 0
     [ -z "$(find "$root/crates" -name '*.rt' -newer "$program" | head -n 1)" ] ||
         note "sources are newer than the program: rt check $name builds it anew"
 }
