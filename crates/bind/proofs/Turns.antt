@@ -15,9 +15,9 @@ use Rattle.place.proofs.Regions.{past, end-stop, end-on, end-end}
 use Rattle.place.specs.Fill.{Filled, flagsOf}
 use Rattle.place.proofs.Marks.{Marked, marked-here, marked-on}
 use Rattle.records.specs.declared.LineRec.{LineRec}
-use Rattle.records.specs.Records.{noRec, recAt, recordsOf, windowAt, Told}
+use Rattle.records.specs.Records.{noRec, recAt, recordsOf, Above, lastOf, windowAt, Told}
 use Rattle.records.proofs.Down.{Down, down-start, down-some, down-none, down-lt, down-here, down-on}
-use Rattle.records.proofs.Shown.{Shows, told-long, shows-start, shows-here, shows-on, shows-asks, shows-filled}
+use Rattle.records.proofs.Shown.{Shows, Has, told-long, shows-start, shows-asks, shows-filled}
 use Rattle.decls.specs.Seen.{AtMost}
 use Rattle.reading.specs.Reading.{plain}
 use Rattle.bind.specs.declared.Site.{Site}
@@ -239,39 +239,51 @@ module _ {t es : List ℕ} {n : ℕ} {bs ss d₀ u₀ m₀ o₀ d u m o : List �
             count = h .count;
           })
 
--- ---- the same, with a window w of the records, of which the j-th is the next, and a the one above
+-- ---- the same, with a window w of the records, which ends above the line past
 
-pub record Viewed (t es : List ℕ) (n : ℕ) (bs ss d₀ u₀ m₀ o₀ d u m o : List ℕ) (w : List LineRec) (a : LineRec) (s : Site) (j k p : ℕ) : Type 0 where
-  pub turn : TurnInv t es n bs ss d₀ u₀ m₀ o₀ d u m o s (a .region .0) k p
-  pub size : length w ≡ 1024
-  pub shows : Shows (recordsOf (linesOf t) bs) w k j a
+pub record Viewed (t es : List ℕ) (n : ℕ) (bs ss d₀ u₀ m₀ o₀ d u m o : List ℕ) (w₀ w : List LineRec) (c : ℕ) (s : Site) (past k p : ℕ) : Type 0 where
+  pub turn : TurnInv t es n bs ss d₀ u₀ m₀ o₀ d u m o s c k p
+  pub some : 0 < length w
+  pub same : length w ≡ length w₀
+  pub low : k ≤ past
+  pub high : past ≤ k + length w
+  pub shows : Shows (recordsOf (linesOf t) bs) w past
 
-pub viewed-start : {t es : List ℕ} {n : ℕ} {bs ss d u m o : List ℕ} {w : List LineRec} {a : LineRec} {s : Site} {x : ℕ} → length d ≡ length u → AtMost 0 d → AtMost 0 u → Walked t es n bs ss m o →
-    x ≡ stopBy es (length t) (n - 0) 0 0 → s ≡ firstSite x → length w ≡ 1024 → a ≡ noRec → Viewed t es n bs ss d u m o d u m o w a s 1024 0 0
-viewed-start {t} {es} {n} {bs} {ss} {d} {u} {m} {o} {w} {a} {s} {x} p q r v f e z i = record {
-  turn = turn-start t es n bs ss d u m o s x p q r v f e (ap (λ (y : LineRec). y .region .0) i);
-  size = z;
-  shows = shows-start _ w 1024 (omega (arith, z)) i;
+pub viewed-start : {t es : List ℕ} {n : ℕ} {bs ss d u m o : List ℕ} {w : List LineRec} {s : Site} {x : ℕ} → 0 < length w → length d ≡ length u → AtMost 0 d → AtMost 0 u → Walked t es n bs ss m o →
+    x ≡ stopBy es (length t) (n - 0) 0 0 → s ≡ firstSite x → Viewed t es n bs ss d u m o d u m o w w 0 s 0 0 0
+viewed-start {t} {es} {n} {bs} {ss} {d} {u} {m} {o} {w} {s} {x} z p q r v f e = record {
+  turn = turn-start t es n bs ss d u m o s x p q r v f e refl;
+  some = z;
+  same = refl;
+  low = omega arith;
+  high = omega arith;
+  shows = shows-start _ w;
 }
 
-module _ {t es : List ℕ} {n : ℕ} {bs ss d₀ u₀ m₀ o₀ d u m o : List ℕ} {w : List LineRec} {a : LineRec} {s : Site} {j k p : ℕ} (h : Viewed t es n bs ss d₀ u₀ m₀ o₀ d u m o w a s j k p) (i : Told t es bs n) (l : k < n) where
+module _ {t es : List ℕ} {n : ℕ} {bs ss d₀ u₀ m₀ o₀ d u m o : List ℕ} {w₀ w : List LineRec} {c : ℕ} {s : Site} {past k p : ℕ} (h : Viewed t es n bs ss d₀ u₀ m₀ o₀ d u m o w₀ w c s past k p) (i : Told t es bs n) (l : k < n) where
   -- what `refill` asks for
-  pub viewed-asks : ((x : ℕ) → getD es x 0 < 2 ^ 64) → (k ≤ n) × ((n ≤ length es) × ((n ≤ length bs) × ((a .region .0 ≤ k) × (a .end < 2 ^ 63))))
-  viewed-asks g = (omega arith, (told-long i .0, (told-long i .1, shows-asks i (h .shows) l g)))
+  pub viewed-asks : ((x : ℕ) → getD es x 0 < 2 ^ 64) → ((k ≤ n) × ((n ≤ length es) × ((n ≤ length bs) × (0 < length w)))) × (past ≤ k → Above past (lastOf w))
+  viewed-asks g = ((omega arith, (told-long i .0, (told-long i .1, h .some))), λ q. shows-asks i (h .shows) (h .some) (omega (arith, q, l)) g)
 
-  module _ {j′ : ℕ} {w′ : List LineRec} (x : j′ ≡ cond (ltb j (length w)) j 0) (y : w′ ≡ cond (ltb j (length w)) w (windowAt es bs n k a w)) where
-    filled : (length w′ ≡ length w) × ((j′ < length w′) × Shows (recordsOf (linesOf t) bs) w′ k j′ a)
-    filled = shows-filled i (h .shows) l (let z = h .size in omega arith) x y
+  module _ {past′ : ℕ} {w′ : List LineRec} (x : past′ ≡ cond (ltb k past) past (past + length w)) (y : w′ ≡ cond (ltb k past) w (windowAt es bs n past w)) where
+    filled : Has i (h .shows) (h .some) k past′ w′
+    filled = shows-filled i (h .shows) (h .some) l (h .low) (h .high) x y
 
-    pub viewed-size : length w′ ≡ 1024
-    viewed-size = filled .0 ∙ h .size
+    -- where the record of the line stands
+    pub viewed-reach : (past′ ≤ k + length w′) × (k + length w′ - past′ < length w′)
+    viewed-reach = let f = filled in (f .above, let a = f .above in let b = f .below in omega (arith, a, b))
 
-    pub viewed-place : j′ < length w′
-    viewed-place = filled .1 .0
+    pub viewed-here : {r : LineRec} → r ≡ getD w′ (k + length w′ - past′) noRec → r ≡ getD (recordsOf (linesOf t) bs) k noRec
+    viewed-here g = g ∙ filled .shows .front k (filled .below) (filled .above) (turn-get (h .turn) l)
 
-    pub viewed-here : {r : LineRec} → r ≡ getD w′ j′ noRec → r ≡ getD (recordsOf (linesOf t) bs) k noRec
-    viewed-here g = g ∙ shows-here (filled .1 .1) (filled .1 .0) (turn-get (h .turn) l)
-
-    pub viewed-on : {r : LineRec} {d′ u′ m′ o′ : List ℕ} {s′ : Site} {p′ : ℕ} → r ≡ getD w′ j′ noRec → TurnInv t es n bs ss d₀ u₀ m₀ o₀ d′ u′ m′ o′ s′ (r .region .0) (k + 1) p′ →
-        Viewed t es n bs ss d₀ u₀ m₀ o₀ d′ u′ m′ o′ w′ r s′ (j′ + 1) (k + 1) p′
-    viewed-on g v = record { turn = v; size = viewed-size; shows = shows-on (filled .1 .1) (viewed-here g) }
+    pub viewed-on : {d′ u′ m′ o′ : List ℕ} {c′ : ℕ} {s′ : Site} {p′ : ℕ} → TurnInv t es n bs ss d₀ u₀ m₀ o₀ d′ u′ m′ o′ s′ c′ (k + 1) p′ → Viewed t es n bs ss d₀ u₀ m₀ o₀ d′ u′ m′ o′ w₀ w′ c′ s′ past′ (k + 1) p′
+    viewed-on v =
+        let z = filled in
+        record {
+          turn = v;
+          some = let a = z .same in let b = h .some in omega (arith, a, b);
+          same = z .same ∙ h .same;
+          low = let a = z .below in omega (arith, a);
+          high = let a = z .above in omega (arith, a);
+          shows = z .shows;
+        }

@@ -44,11 +44,11 @@ pub fn blank() -> LineRec
 }
 
 // A window of records of zeros.
-pub fn window() -> [LineRec; 256]
-    ensures { λ r. ⌜ r ≡ replicate 256 noRec ⌝ }
+pub fn window() -> [LineRec; 64]
+    ensures { λ r. ⌜ r ≡ replicate 64 noRec ⌝ }
 {
     let z = blank();
-    [z; 256]
+    [z; 64]
 }
 
 // Where a line begins that has `k` above it, the last of them `above`.

@@ -5,14 +5,14 @@ use Rattle.decls.proofs.SeenLaws.{zeros-most}
 use Rattle.bind.proofs.walk.Statement.{statement}
 use Rattle.bind.proofs.walk.Tie as tie
 
-slice-aggregate-walk-lines : tie.Need-slice-aggregate-walk-lines
-slice-aggregate-walk-lines c = search needs
+slice-aggregate-walk-window : tie.Need-slice-aggregate-walk-window
+slice-aggregate-walk-window c = search needs
 
-slice-aggregate-walk-lines-2 : tie.Need-slice-aggregate-walk-lines-2
-slice-aggregate-walk-lines-2 c = search needs
+slice-aggregate-walk-window-2 : tie.Need-slice-aggregate-walk-window-2
+slice-aggregate-walk-window-2 c = search needs
 
-walk-lines-requires : tie.Need-walk-lines-requires
-walk-lines-requires c κs = ((refl, (zeros-most 1024, zeros-most 1024)), c .before .before .before .before .before .before .before .before .before .before .pre)
+walk-window-requires : tie.Need-walk-window-requires
+walk-window-requires c κs = ((refl, (zeros-most 1024, zeros-most 1024)), c .before .before .before .before .before .before .before .before .before .before .pre)
 
 same-length : tie.Need-same-length
 same-length c = search needs
@@ -27,9 +27,9 @@ pub walk-spec : {M : Type 1} → statement M
 walk-spec =
     tie.close
     (tie.spec
-    slice-aggregate-walk-lines
-    slice-aggregate-walk-lines-2
-    walk-lines-requires
+    slice-aggregate-walk-window
+    slice-aggregate-walk-window-2
+    walk-window-requires
     same-length
     same-length-2
     returns)

@@ -13,7 +13,7 @@ blank-requires c κs = search needs
 
 -- src/lib.rt:47:1
 returns : tie.Need-returns
-returns c = ap (replicate 256) (c .blank .ensures)
+returns c = ap (replicate 64) (c .blank .ensures)
 
 pub window-spec : {M : Type 1} → statement M
 window-spec = tie.close (tie.spec blank-requires returns)

@@ -73,9 +73,9 @@ r = Num.rNum Syntax.w64
 abbrev pub xs : List.List Syntax.Ty
 xs =
     List._∷_
-    (Syntax.tyArray Elem.held 256)
+    (Syntax.tyArray Elem.held 64)
     (List._∷_
-    (Syntax.tyArray Elem.held 256)
+    (Syntax.tyArray Elem.held 64)
     (List._∷_
     (Syntax.tyRef Syntax.erased Syntax.mut (Syntax.tyInt Syntax.w64))
     (List._∷_
@@ -112,7 +112,7 @@ xs =
     (Syntax.tyRef
     Syntax.erased
     Syntax.mut
-    (Syntax.tyArray Elem.ty 256))
+    (Syntax.tyArray Elem.ty 64))
     (List._∷_
     (Syntax.tyStruct
     (List._∷_ 38 (List._∷_ 91 (List._∷_ 93 List.[])))
@@ -132,7 +132,7 @@ r·0 =
     Array.rArr
     Elem.e
     Elem.e-laws
-    256
+    64
 
 abbrev pub ps·1 : List.List (Kinds.PK 9)
 ps·1 =
@@ -293,7 +293,7 @@ b11 =
     (Syntax.aggregate
     (List._∷_
     (Syntax.copy (Syntax.place 20 List.[]))
-    (List._∷_ (Syntax.int Syntax.w64 256) List.[])))
+    (List._∷_ (Syntax.int Syntax.w64 64) List.[])))
 
 abbrev b12 : Syntax.Body
 b12 =
@@ -419,10 +419,10 @@ t0 = List._∷_ (0, Rows'.any-gone (Syntax.tyInt Syntax.w64)) (List._∷_ (
       7,
 ) (List._∷_ (
   10,
-  Rows'.any-gone (Syntax.tyArray Elem.held 256),
+  Rows'.any-gone (Syntax.tyArray Elem.held 64),
 ) (List._∷_ (
   11,
-  Rows'.any-gone (Syntax.tyArray Elem.held 256),
+  Rows'.any-gone (Syntax.tyArray Elem.held 64),
 )
     (List._∷_ (
       12,
@@ -478,7 +478,7 @@ t1 = List._∷_ (
           (Syntax.tyRef
           Syntax.erased
           Syntax.mut
-          (Syntax.tyArray Elem.ty 256)),
+          (Syntax.tyArray Elem.ty 64)),
     ) (List._∷_ (
       21,
       Rows'.any-gone
@@ -540,10 +540,10 @@ t2 = List._∷_ (0, Rows'.sc-here (Row.sInt Syntax.w64)) (List._∷_ (
       7,
 ) (List._∷_ (
   10,
-  Rows'.any-gone (Syntax.tyArray Elem.held 256),
+  Rows'.any-gone (Syntax.tyArray Elem.held 64),
 ) (List._∷_ (
   11,
-  Rows'.any-gone (Syntax.tyArray Elem.held 256),
+  Rows'.any-gone (Syntax.tyArray Elem.held 64),
 )
     (List._∷_ (
       12,
@@ -620,10 +620,10 @@ t3 = List._∷_ (0, Rows'.any-gone (Syntax.tyInt Syntax.w64)) (List._∷_ (
       7,
 ) (List._∷_ (
   10,
-  Rows'.any-gone (Syntax.tyArray Elem.held 256),
+  Rows'.any-gone (Syntax.tyArray Elem.held 64),
 )
     (List._∷_
-    (11, Rows.arrF Elem.R 256 0)
+    (11, Rows.arrF Elem.R 64 0)
     (List._∷_ (
       12,
       Rows'.any-gone (Syntax.tyRef Syntax.erased Syntax.mut (Syntax.tyInt Syntax.w64)),
@@ -699,9 +699,9 @@ t4 = List._∷_ (0, Rows'.any-gone (Syntax.tyInt Syntax.w64)) (List._∷_ (
       7,
 )
     (List._∷_
-    (10, Rows.arrF Elem.R 256 0)
+    (10, Rows.arrF Elem.R 64 0)
     (List._∷_
-    (11, Rows.arrF Elem.R 256 0)
+    (11, Rows.arrF Elem.R 64 0)
     (List._∷_ (
       12,
       Rows'.any-gone (Syntax.tyRef Syntax.erased Syntax.mut (Syntax.tyInt Syntax.w64)),
@@ -777,10 +777,10 @@ t5 = List._∷_ (0, Rows'.any-gone (Syntax.tyInt Syntax.w64)) (List._∷_ (
       7,
 )
     (List._∷_
-    (10, Rows.arrF Elem.R 256 0)
+    (10, Rows.arrF Elem.R 64 0)
     (List._∷_ (
       11,
-      Rows'.any-gone (Syntax.tyArray Elem.held 256),
+      Rows'.any-gone (Syntax.tyArray Elem.held 64),
     ) (List._∷_ (
       12,
       Rows'.any-gone (Syntax.tyRef Syntax.erased Syntax.mut (Syntax.tyInt Syntax.w64)),
@@ -858,10 +858,10 @@ t6 = List._∷_ (0, Rows'.any-gone (Syntax.tyInt Syntax.w64)) (List._∷_ (
       7,
 )
     (List._∷_
-    (10, Rows.arrF Elem.R 256 0)
+    (10, Rows.arrF Elem.R 64 0)
     (List._∷_ (
       11,
-      Rows'.any-gone (Syntax.tyArray Elem.held 256),
+      Rows'.any-gone (Syntax.tyArray Elem.held 64),
     ) (List._∷_ (
       12,
       Relend.msptr
@@ -942,10 +942,10 @@ t7 = List._∷_ (0, Rows'.any-gone (Syntax.tyInt Syntax.w64)) (List._∷_ (
       7,
 )
     (List._∷_
-    (10, Rows.arrF Elem.R 256 0)
+    (10, Rows.arrF Elem.R 64 0)
     (List._∷_ (
       11,
-      Rows'.any-gone (Syntax.tyArray Elem.held 256),
+      Rows'.any-gone (Syntax.tyArray Elem.held 64),
     ) (List._∷_ (
       12,
       Rows'.any-gone (Syntax.tyRef Syntax.erased Syntax.mut (Syntax.tyInt Syntax.w64)),
@@ -1023,10 +1023,10 @@ t8 = List._∷_ (0, Rows'.any-gone (Syntax.tyInt Syntax.w64)) (List._∷_ (
       7,
 )
     (List._∷_
-    (10, Rows.arrF Elem.R 256 0)
+    (10, Rows.arrF Elem.R 64 0)
     (List._∷_ (
       11,
-      Rows'.any-gone (Syntax.tyArray Elem.held 256),
+      Rows'.any-gone (Syntax.tyArray Elem.held 64),
     ) (List._∷_ (
       12,
       Rows'.any-gone (Syntax.tyRef Syntax.erased Syntax.mut (Syntax.tyInt Syntax.w64)),
@@ -1107,10 +1107,10 @@ t9 = List._∷_ (0, Rows'.any-gone (Syntax.tyInt Syntax.w64)) (List._∷_ (
       7,
 )
     (List._∷_
-    (10, Rows.arrF Elem.R 256 0)
+    (10, Rows.arrF Elem.R 64 0)
     (List._∷_ (
       11,
-      Rows'.any-gone (Syntax.tyArray Elem.held 256),
+      Rows'.any-gone (Syntax.tyArray Elem.held 64),
     ) (List._∷_ (
       12,
       Rows'.any-gone (Syntax.tyRef Syntax.erased Syntax.mut (Syntax.tyInt Syntax.w64)),
@@ -1188,10 +1188,10 @@ t10 = List._∷_ (0, Rows'.any-gone (Syntax.tyInt Syntax.w64)) (List._∷_ (
       7,
 )
     (List._∷_
-    (10, Rows.arrF Elem.R 256 0)
+    (10, Rows.arrF Elem.R 64 0)
     (List._∷_ (
       11,
-      Rows'.any-gone (Syntax.tyArray Elem.held 256),
+      Rows'.any-gone (Syntax.tyArray Elem.held 64),
     ) (List._∷_ (
       12,
       Rows'.any-gone (Syntax.tyRef Syntax.erased Syntax.mut (Syntax.tyInt Syntax.w64)),
@@ -1245,7 +1245,7 @@ t11 = List._∷_ (
           (Syntax.tyRef
           Syntax.erased
           Syntax.mut
-          (Syntax.tyArray Elem.ty 256)),
+          (Syntax.tyArray Elem.ty 64)),
     ) (List._∷_ (
       21,
       Rows'.any-gone
@@ -1284,7 +1284,7 @@ t12 = List._∷_ (
           (Syntax.tyRef
           Syntax.erased
           Syntax.mut
-          (Syntax.tyArray Elem.ty 256)),
+          (Syntax.tyArray Elem.ty 64)),
     ) (List._∷_ (
       21,
       Rows'.any-gone
@@ -1354,10 +1354,10 @@ t13 = List._∷_ (0, Rows'.any-gone (Syntax.tyInt Syntax.w64)) (List._∷_ (
       Row.off,
 )
     (List._∷_
-    (10, Rows.arrF Elem.R 256 0)
+    (10, Rows.arrF Elem.R 64 0)
     (List._∷_ (
       11,
-      Rows'.any-gone (Syntax.tyArray Elem.held 256),
+      Rows'.any-gone (Syntax.tyArray Elem.held 64),
     ) (List._∷_ (
       12,
       Rows'.any-gone (Syntax.tyRef Syntax.erased Syntax.mut (Syntax.tyInt Syntax.w64)),
@@ -1408,7 +1408,7 @@ t14 = List._∷_ (
       (Syntax.tyRef
       Syntax.erased
       Syntax.mut
-      (Syntax.tyArray Elem.ty 256)),
+      (Syntax.tyArray Elem.ty 64)),
 ) (List._∷_ (
   21,
   Rows'.any-gone
@@ -1445,7 +1445,7 @@ t15 = List._∷_ (
           (Syntax.tyRef
           Syntax.erased
           Syntax.mut
-          (Syntax.tyArray Elem.ty 256)),
+          (Syntax.tyArray Elem.ty 64)),
     ) (List._∷_ (
       21,
       Rows'.any-gone
@@ -1513,14 +1513,14 @@ t16 = List._∷_ (0, Rows'.any-gone (Syntax.tyInt Syntax.w64)) (List._∷_ (
       7
       11
       Row.off,
-) (List._∷_ (
-  10,
-  Rows.arr-owed Elem.R 256 12,
-) (List._∷_ (
-  11,
-  Rows'.any-gone (Syntax.tyArray Elem.held 256),
 )
     (List._∷_ (
+      10,
+      Rows.arr-owed Elem.R 64 12,
+    ) (List._∷_ (
+      11,
+      Rows'.any-gone (Syntax.tyArray Elem.held 64),
+    ) (List._∷_ (
       12,
       Rows'.any-gone (Syntax.tyRef Syntax.erased Syntax.mut (Syntax.tyInt Syntax.w64)),
     ) (List._∷_ (
@@ -1567,7 +1567,7 @@ t17 = List._∷_ (
           (Syntax.tyRef
           Syntax.erased
           Syntax.mut
-          (Syntax.tyArray Elem.ty 256))
+          (Syntax.tyArray Elem.ty 64))
           12,
     ) (List._∷_ (
       21,
@@ -1605,7 +1605,7 @@ t18 = List._∷_ (
           (Syntax.tyRef
           Syntax.erased
           Syntax.mut
-          (Syntax.tyArray Elem.ty 256)),
+          (Syntax.tyArray Elem.ty 64)),
     ) (List._∷_ (
       21,
       Mut.mslice
@@ -1671,14 +1671,14 @@ t19 = List._∷_ (0, Rows'.sc-here (Row.sInt Syntax.w64)) (List._∷_ (
       7
       11
       Row.off,
-) (List._∷_ (
-  10,
-  Rows.arr-owed Elem.R 256 12,
-) (List._∷_ (
-  11,
-  Rows'.any-gone (Syntax.tyArray Elem.held 256),
 )
     (List._∷_ (
+      10,
+      Rows.arr-owed Elem.R 64 12,
+    ) (List._∷_ (
+      11,
+      Rows'.any-gone (Syntax.tyArray Elem.held 64),
+    ) (List._∷_ (
       12,
       Rows'.any-gone (Syntax.tyRef Syntax.erased Syntax.mut (Syntax.tyInt Syntax.w64)),
     ) (List._∷_ (
@@ -1720,7 +1720,7 @@ t20 = List._∷_ (
           (Syntax.tyRef
           Syntax.erased
           Syntax.mut
-          (Syntax.tyArray Elem.ty 256)),
+          (Syntax.tyArray Elem.ty 64)),
     ) (List._∷_ (
       21,
       Mut.msleft
@@ -1783,14 +1783,14 @@ t21 = List._∷_ (0, Rows'.sc-here (Row.sInt Syntax.w64)) (List._∷_ (
       7
       11
       Row.off,
-) (List._∷_ (
-  10,
-  Rows.arr-owed Elem.R 256 12,
-) (List._∷_ (
-  11,
-  Rows'.any-gone (Syntax.tyArray Elem.held 256),
 )
     (List._∷_ (
+      10,
+      Rows.arr-owed Elem.R 64 12,
+    ) (List._∷_ (
+      11,
+      Rows'.any-gone (Syntax.tyArray Elem.held 64),
+    ) (List._∷_ (
       12,
       Rows'.any-gone (Syntax.tyRef Syntax.erased Syntax.mut (Syntax.tyInt Syntax.w64)),
     ) (List._∷_ (
@@ -1864,14 +1864,14 @@ t22 = List._∷_ (0, Rows'.sc-here (Row.sInt Syntax.w64)) (List._∷_ (
       7
       11
       Row.off,
-) (List._∷_ (
-  10,
-  Rows.arr-owed Elem.R 256 12,
-) (List._∷_ (
-  11,
-  Rows'.any-gone (Syntax.tyArray Elem.held 256),
 )
     (List._∷_ (
+      10,
+      Rows.arr-owed Elem.R 64 12,
+    ) (List._∷_ (
+      11,
+      Rows'.any-gone (Syntax.tyArray Elem.held 64),
+    ) (List._∷_ (
       12,
       Rows'.any-gone (Syntax.tyRef Syntax.erased Syntax.mut (Syntax.tyInt Syntax.w64)),
     ) (List._∷_ (
@@ -1946,14 +1946,14 @@ t23 = List._∷_ (0, Rows'.sc-here (Row.sInt Syntax.w64)) (List._∷_ (
       7
       11
       Row.off,
-) (List._∷_ (
-  10,
-  Rows.arr-owed Elem.R 256 12,
-) (List._∷_ (
-  11,
-  Rows'.any-gone (Syntax.tyArray Elem.held 256),
 )
     (List._∷_ (
+      10,
+      Rows.arr-owed Elem.R 64 12,
+    ) (List._∷_ (
+      11,
+      Rows'.any-gone (Syntax.tyArray Elem.held 64),
+    ) (List._∷_ (
       12,
       Rows'.any-gone (Syntax.tyRef Syntax.erased Syntax.mut (Syntax.tyInt Syntax.w64)),
     ) (List._∷_ (
@@ -2004,7 +2004,7 @@ t24 = List._∷_ (
           (Syntax.tyRef
           Syntax.erased
           Syntax.mut
-          (Syntax.tyArray Elem.ty 256)),
+          (Syntax.tyArray Elem.ty 64)),
     ) (List._∷_ (
       21,
       Mut.msleft
@@ -2061,14 +2061,14 @@ t25 = List._∷_ (0, Rows'.sc-here (Row.sInt Syntax.w64)) (List._∷_ (
       (Referent.rtF (Referent.fInt Syntax.w8))
       (Syntax.tyRef (Syntax.named 7) Syntax.mut (Syntax.tyInt Syntax.w8))
       7,
-) (List._∷_ (
-  10,
-  Rows.arr-owed Elem.R 256 12,
-) (List._∷_ (
-  11,
-  Rows'.any-gone (Syntax.tyArray Elem.held 256),
 )
     (List._∷_ (
+      10,
+      Rows.arr-owed Elem.R 64 12,
+    ) (List._∷_ (
+      11,
+      Rows'.any-gone (Syntax.tyArray Elem.held 64),
+    ) (List._∷_ (
       12,
       Rows'.any-gone (Syntax.tyRef Syntax.erased Syntax.mut (Syntax.tyInt Syntax.w64)),
     ) (List._∷_ (
@@ -2122,7 +2122,7 @@ t26 = List._∷_ (
           (Syntax.tyRef
           Syntax.erased
           Syntax.mut
-          (Syntax.tyArray Elem.ty 256)),
+          (Syntax.tyArray Elem.ty 64)),
     ) (List._∷_ (
       21,
       Mut.msleft
@@ -2181,10 +2181,10 @@ t27 = List._∷_ (0, Rows'.sc-here (Row.sInt Syntax.w64)) (List._∷_ (
       7,
 )
     (List._∷_
-    (10, Rows.arrF Elem.R 256 0)
+    (10, Rows.arrF Elem.R 64 0)
     (List._∷_ (
       11,
-      Rows'.any-gone (Syntax.tyArray Elem.held 256),
+      Rows'.any-gone (Syntax.tyArray Elem.held 64),
     ) (List._∷_ (
       12,
       Rows'.any-gone (Syntax.tyRef Syntax.erased Syntax.mut (Syntax.tyInt Syntax.w64)),
@@ -2260,10 +2260,10 @@ t28 = List._∷_ (0, Rows'.sc-here (Row.sInt Syntax.w64)) (List._∷_ (
       7,
 ) (List._∷_ (
   10,
-  Rows'.any-gone (Syntax.tyArray Elem.held 256),
+  Rows'.any-gone (Syntax.tyArray Elem.held 64),
 ) (List._∷_ (
   11,
-  Rows'.any-gone (Syntax.tyArray Elem.held 256),
+  Rows'.any-gone (Syntax.tyArray Elem.held 64),
 )
     (List._∷_ (
       12,
@@ -2505,7 +2505,7 @@ module _ (claims· : Claims) where
       tt
       11
       List.[]
-      (Syntax.tyArray Elem.held 256)
+      (Syntax.tyArray Elem.held 64)
 
   abbrev s9 : (bs : List.List Nat.ℕ) → Typed.Mo T10 → Typed.Mo T11
   s9 =
@@ -2513,19 +2513,16 @@ module _ (claims· : Claims) where
       T10
       11
       10
-      (Array'.Array Elem.R 256)
-      (Rows.arrF Elem.R 256 0)
-      (Rows.arrF Elem.R 256 0)
+      (Array'.Array Elem.R 64)
+      (Rows.arrF Elem.R 64 0)
+      (Rows.arrF Elem.R 64 0)
       (λ x. x)
       (λ x. x)
       λ x. x
 
   abbrev s10 : (bs : List.List Nat.ℕ) → Typed.Mo T11 → Typed.Mo T12
   s10 =
-      λ bs. Scalar.n-room
-      T11
-      11
-      (Syntax.tyArray Elem.held 256)
+      λ bs. Scalar.n-room T11 11 (Syntax.tyArray Elem.held 64)
 
   abbrev s12 : (bs : List.List Nat.ℕ) → Typed.Gives T12 T14
   s12 =
@@ -2673,12 +2670,12 @@ module _ (claims· : Claims) where
       (Row.tl (Row.tl (Row.tl (Row.tl (Row.tl (Row.tl (Row.tl (Row.tl (Row.tl (Row.tl bs)))))))))))
       10
       20
-      256
+      64
       12
       (Syntax.tyRef
       Syntax.erased
       Syntax.mut
-      (Syntax.tyArray Elem.ty 256))
+      (Syntax.tyArray Elem.ty 64))
       λ x. x
 
   abbrev s25 : (bs : List.List Nat.ℕ) → Typed.Asks T26 T27
@@ -2693,10 +2690,10 @@ module _ (claims· : Claims) where
       (Syntax.tyRef
       Syntax.erased
       Syntax.mut
-      (Syntax.tyArray Elem.ty 256))
+      (Syntax.tyArray Elem.ty 64))
       (Syntax.tyRef Syntax.erased Syntax.mut Elem.ty)
       (λ x. x)
-      (Scalar.oInt Syntax.w64 256)
+      (Scalar.oInt Syntax.w64 64)
 
   abbrev s26 : (bs : List.List Nat.ℕ) → Typed.Both T27 T28
   s26 = λ bs. Call.callB ps·1 r·1 (claims· .2) (claims· .3) T27 (
@@ -2895,17 +2892,14 @@ module _ (claims· : Claims) where
       21
       10
       12
-      256
+      64
       (Syntax.tyRef Syntax.erased Syntax.mut Elem.ty)
       (λ x. x)
       λ x. x
 
   abbrev s46 : (bs : List.List Nat.ℕ) → Typed.Mo T46 → Typed.Mo T48
   s46 =
-      λ bs. Scalar.n-room
-      T46
-      10
-      (Syntax.tyArray Elem.held 256)
+      λ bs. Scalar.n-room T46 10 (Syntax.tyArray Elem.held 64)
 
   abbrev s47 : (bs : List.List Nat.ℕ) → Typed.Mo T48 → Typed.Mo T49
   s47 = λ bs. Scalar.n-room T48 3 (Syntax.tyInt Syntax.w64)
@@ -3133,10 +3127,10 @@ module _ (claims· : Claims) where
               7,
         ) (List._∷_ (
           10,
-          Rows.arrF Elem.R 256 0,
+          Rows.arrF Elem.R 64 0,
         ) (List._∷_ (
           11,
-          Rows'.any-gone (Syntax.tyArray Elem.held 256),
+          Rows'.any-gone (Syntax.tyArray Elem.held 64),
         ) (List._∷_ (
           12,
           Relend.msptr
@@ -3217,10 +3211,10 @@ module _ (claims· : Claims) where
               7,
         ) (List._∷_ (
           10,
-          Rows.arrF Elem.R 256 0,
+          Rows.arrF Elem.R 64 0,
         ) (List._∷_ (
           11,
-          Rows'.any-gone (Syntax.tyArray Elem.held 256),
+          Rows'.any-gone (Syntax.tyArray Elem.held 64),
         ) (List._∷_ (
           12,
           Rows'.any-gone (Syntax.tyRef Syntax.erased Syntax.mut (Syntax.tyInt Syntax.w64)),
@@ -3298,10 +3292,10 @@ module _ (claims· : Claims) where
               7,
         ) (List._∷_ (
           10,
-          Rows.arrF Elem.R 256 0,
+          Rows.arrF Elem.R 64 0,
         ) (List._∷_ (
           11,
-          Rows'.any-gone (Syntax.tyArray Elem.held 256),
+          Rows'.any-gone (Syntax.tyArray Elem.held 64),
         ) (List._∷_ (
           12,
           Rows'.any-gone (Syntax.tyRef Syntax.erased Syntax.mut (Syntax.tyInt Syntax.w64)),
@@ -3382,10 +3376,10 @@ module _ (claims· : Claims) where
               7,
         ) (List._∷_ (
           10,
-          Rows.arrF Elem.R 256 0,
+          Rows.arrF Elem.R 64 0,
         ) (List._∷_ (
           11,
-          Rows'.any-gone (Syntax.tyArray Elem.held 256),
+          Rows'.any-gone (Syntax.tyArray Elem.held 64),
         ) (List._∷_ (
           12,
           Rows'.any-gone (Syntax.tyRef Syntax.erased Syntax.mut (Syntax.tyInt Syntax.w64)),
@@ -3463,10 +3457,10 @@ module _ (claims· : Claims) where
               7,
         ) (List._∷_ (
           10,
-          Rows.arrF Elem.R 256 0,
+          Rows.arrF Elem.R 64 0,
         ) (List._∷_ (
           11,
-          Rows'.any-gone (Syntax.tyArray Elem.held 256),
+          Rows'.any-gone (Syntax.tyArray Elem.held 64),
         ) (List._∷_ (
           12,
           Rows'.any-gone (Syntax.tyRef Syntax.erased Syntax.mut (Syntax.tyInt Syntax.w64)),
@@ -3546,10 +3540,10 @@ module _ (claims· : Claims) where
               (Row.lease (κs .1 .1 .1 .1 .1 .1 .1 .0) (qs .1 .1 .1 .1 .1 .1 .1 .0)),
         ) (List._∷_ (
           10,
-          Rows.arrF Elem.R 256 0,
+          Rows.arrF Elem.R 64 0,
         ) (List._∷_ (
           11,
-          Rows'.any-gone (Syntax.tyArray Elem.held 256),
+          Rows'.any-gone (Syntax.tyArray Elem.held 64),
         ) (List._∷_ (
           12,
           Rows'.any-gone (Syntax.tyRef Syntax.erased Syntax.mut (Syntax.tyInt Syntax.w64)),
@@ -3629,10 +3623,10 @@ module _ (claims· : Claims) where
               (Row.lease (κs .1 .1 .1 .1 .1 .1 .1 .0) (qs .1 .1 .1 .1 .1 .1 .1 .0)),
         ) (List._∷_ (
           10,
-          Rows.arr-owed Elem.R 256 12,
+          Rows.arr-owed Elem.R 64 12,
         ) (List._∷_ (
           11,
-          Rows'.any-gone (Syntax.tyArray Elem.held 256),
+          Rows'.any-gone (Syntax.tyArray Elem.held 64),
         ) (List._∷_ (
           12,
           Rows'.any-gone (Syntax.tyRef Syntax.erased Syntax.mut (Syntax.tyInt Syntax.w64)),
@@ -3712,10 +3706,10 @@ module _ (claims· : Claims) where
               (Row.lease (κs .1 .1 .1 .1 .1 .1 .1 .0) (qs .1 .1 .1 .1 .1 .1 .1 .0)),
         ) (List._∷_ (
           10,
-          Rows.arr-owed Elem.R 256 12,
+          Rows.arr-owed Elem.R 64 12,
         ) (List._∷_ (
           11,
-          Rows'.any-gone (Syntax.tyArray Elem.held 256),
+          Rows'.any-gone (Syntax.tyArray Elem.held 64),
         ) (List._∷_ (
           12,
           Rows'.any-gone (Syntax.tyRef Syntax.erased Syntax.mut (Syntax.tyInt Syntax.w64)),
@@ -3791,10 +3785,10 @@ module _ (claims· : Claims) where
               (Row.lease (κs .1 .1 .1 .1 .1 .1 .1 .0) (qs .1 .1 .1 .1 .1 .1 .1 .0)),
         ) (List._∷_ (
           10,
-          Rows.arr-owed Elem.R 256 12,
+          Rows.arr-owed Elem.R 64 12,
         ) (List._∷_ (
           11,
-          Rows'.any-gone (Syntax.tyArray Elem.held 256),
+          Rows'.any-gone (Syntax.tyArray Elem.held 64),
         ) (List._∷_ (
           12,
           Rows'.any-gone (Syntax.tyRef Syntax.erased Syntax.mut (Syntax.tyInt Syntax.w64)),
@@ -3871,10 +3865,10 @@ module _ (claims· : Claims) where
               (Row.lease (κs .1 .1 .1 .1 .1 .1 .1 .0) (qs .1 .1 .1 .1 .1 .1 .1 .0)),
         ) (List._∷_ (
           10,
-          Rows.arr-owed Elem.R 256 12,
+          Rows.arr-owed Elem.R 64 12,
         ) (List._∷_ (
           11,
-          Rows'.any-gone (Syntax.tyArray Elem.held 256),
+          Rows'.any-gone (Syntax.tyArray Elem.held 64),
         ) (List._∷_ (
           12,
           Rows'.any-gone (Syntax.tyRef Syntax.erased Syntax.mut (Syntax.tyInt Syntax.w64)),
@@ -3952,10 +3946,10 @@ module _ (claims· : Claims) where
               (Row.lease (κs .1 .1 .1 .1 .1 .1 .1 .0) (qs .1 .1 .1 .1 .1 .1 .1 .0)),
         ) (List._∷_ (
           10,
-          Rows.arr-owed Elem.R 256 12,
+          Rows.arr-owed Elem.R 64 12,
         ) (List._∷_ (
           11,
-          Rows'.any-gone (Syntax.tyArray Elem.held 256),
+          Rows'.any-gone (Syntax.tyArray Elem.held 64),
         ) (List._∷_ (
           12,
           Rows'.any-gone (Syntax.tyRef Syntax.erased Syntax.mut (Syntax.tyInt Syntax.w64)),
@@ -5342,16 +5336,16 @@ module _ (claims· : Claims) where
               E
               G47
               10
-              (Syntax.tyArray Elem.held 256)
+              (Syntax.tyArray Elem.held 64)
               (Init.room-arr
               𝓤
               H
               A
               W
               Elem.R
-              256
+              64
               0
-              256
+              64
               Path'.refl))
               d1
 
@@ -5399,7 +5393,7 @@ module _ (claims· : Claims) where
               21
               10
               12
-              256
+              64
               (Syntax.tyRef
               Syntax.erased
               Syntax.mut
@@ -5420,7 +5414,7 @@ module _ (claims· : Claims) where
               𝓤
               H
               A
-              (Rows.arr-owed Elem.R 256 12))
+              (Rows.arr-owed Elem.R 64 12))
               Path'.refl)
               d3
 
@@ -6307,13 +6301,13 @@ module _ (claims· : Claims) where
               (Syntax.tyRef
               Syntax.erased
               Syntax.mut
-              (Syntax.tyArray Elem.ty 256))
+              (Syntax.tyArray Elem.ty 64))
               (Syntax.tyRef
               Syntax.erased
               Syntax.mut
               Elem.ty)
               (λ x. x)
-              (Scalar.oInt Syntax.w64 256)
+              (Scalar.oInt Syntax.w64 64)
               (Reads.as-is
               𝓤
               H
@@ -6323,7 +6317,7 @@ module _ (claims· : Claims) where
               (Syntax.tyRef
               Syntax.erased
               Syntax.mut
-              (Syntax.tyArray Elem.ty 256))
+              (Syntax.tyArray Elem.ty 64))
               12))
               (Reads.room-gone
               𝓤
@@ -6370,18 +6364,18 @@ module _ (claims· : Claims) where
               G25
               10
               20
-              256
+              64
               12
               (Syntax.tyRef
               Syntax.erased
               Syntax.mut
-              (Syntax.tyArray Elem.ty 256))
+              (Syntax.tyArray Elem.ty 64))
               (λ x. x)
               (Reads.as-is
               𝓤
               H
               A
-              (Rows.arrF Elem.R 256 0))
+              (Rows.arrF Elem.R 64 0))
               (Reads.room-gone
               𝓤
               H
@@ -6389,7 +6383,7 @@ module _ (claims· : Claims) where
               (Syntax.tyRef
               Syntax.erased
               Syntax.mut
-              (Syntax.tyArray Elem.ty 256)))
+              (Syntax.tyArray Elem.ty 64)))
               Path'.refl
               (λ b o. tt)
               (Dec'.lit< tt, Dec'.lit< tt))
@@ -7253,16 +7247,16 @@ module _ (claims· : Claims) where
               E
               G11
               11
-              (Syntax.tyArray Elem.held 256)
+              (Syntax.tyArray Elem.held 64)
               (Init.room-arr
               𝓤
               H
               A
               W
               Elem.R
-              256
+              64
               0
-              256
+              64
               Path'.refl))
               d37
 
@@ -7293,11 +7287,11 @@ module _ (claims· : Claims) where
               G10
               11
               10
-              (Array'.Array Elem.R 256)
-              (Syntax.tyArray Elem.held 256)
-              (Syntax.tyArray Elem.held 256)
-              (Rows.arrF Elem.R 256 0)
-              (Rows.arrF Elem.R 256 0)
+              (Array'.Array Elem.R 64)
+              (Syntax.tyArray Elem.held 64)
+              (Syntax.tyArray Elem.held 64)
+              (Rows.arrF Elem.R 64 0)
+              (Rows.arrF Elem.R 64 0)
               (λ x. x)
               (λ x. x)
               (λ x. x)
@@ -7309,17 +7303,17 @@ module _ (claims· : Claims) where
               A
               W
               (λ ρ. Unit)
-              (Array'.Array Elem.R 256)
+              (Array'.Array Elem.R 64)
               Path'.refl
               (Copies.cArr
               Elem.R
               Elem.cp
-              256 .copy
+              64 .copy
               𝓤
               H
               A
               W)
-              (Rows.arrF Elem.R 256 0)
+              (Rows.arrF Elem.R 64 0)
               (λ x. x)
               (λ x. x)
               (λ ρ told. Whole.mem-arr
@@ -7328,7 +7322,7 @@ module _ (claims· : Claims) where
               A
               W
               Elem.R
-              256
+              64
               ρ)
               λ ρ told. Whole.arr-mem
               𝓤
@@ -7336,23 +7330,23 @@ module _ (claims· : Claims) where
               A
               W
               Elem.R
-              256
+              64
               tt
               ρ)
               (Reads.room-gone
               𝓤
               H
               A
-              (Syntax.tyArray Elem.held 256))
+              (Syntax.tyArray Elem.held 64))
               (Yields.makes-mem
               𝓤
               H
               A
               W
               (λ ρ. Unit)
-              (Array'.Array Elem.R 256)
+              (Array'.Array Elem.R 64)
               Path'.refl
-              (Rows.arrF Elem.R 256 0)
+              (Rows.arrF Elem.R 64 0)
               (λ x. x)
               λ ρ told. Whole.arr-mem
               𝓤
@@ -7360,7 +7354,7 @@ module _ (claims· : Claims) where
               A
               W
               Elem.R
-              256
+              64
               tt
               ρ)
               Path'.refl
@@ -7408,7 +7402,7 @@ module _ (claims· : Claims) where
               𝓤
               H
               A
-              (Syntax.tyArray Elem.held 256))
+              (Syntax.tyArray Elem.held 64))
               tt
               Path'.refl)
               d39
@@ -8225,7 +8219,7 @@ module _ (claims· : Claims) where
       abbrev pub Need-slice-aggregate-walk-lines : Type 0
       Need-slice-aggregate-walk-lines =
           (c : After-recs) →
-          Relend.CountIs T26 20 21 (λ x. x) (λ u. 256) (m20 (c .before) (c .recs .given))
+          Relend.CountIs T26 20 21 (λ x. x) (λ u. 64) (m20 (c .before) (c .recs .given))
 
       abbrev pub m21 :
           (before : After-walk-lines-arg4) → (given : s24
@@ -9302,7 +9296,7 @@ module _ (claims· : Claims) where
               λ g'3. (
                 Path'.refl,
                 λ g'4. (
-                  Relend.count-is T26 20 21 (λ x. x) (λ u. 256) (m20 record {
+                  Relend.count-is T26 20 21 (λ x. x) (λ u. 64) (m20 record {
                     before = record {
                       before = record {
                         before = record {

@@ -75,9 +75,9 @@ r = Num.rNum Syntax.w64
 abbrev pub xs : List.List Syntax.Ty
 xs =
     List._∷_
-    (Syntax.tyArray Elem.held 256)
+    (Syntax.tyArray Elem.held 64)
     (List._∷_
-    (Syntax.tyArray Elem.held 256)
+    (Syntax.tyArray Elem.held 64)
     (List._∷_
     (Syntax.tyRef Syntax.erased Syntax.mut (Syntax.tyInt Syntax.w64))
     (List._∷_
@@ -122,7 +122,7 @@ xs =
     (Syntax.tyRef
     Syntax.erased
     Syntax.mut
-    (Syntax.tyArray Elem.ty 256))
+    (Syntax.tyArray Elem.ty 64))
     (List._∷_
     (Syntax.tyStruct
     (List._∷_ 38 (List._∷_ 91 (List._∷_ 93 List.[])))
@@ -142,7 +142,7 @@ r·0 =
     Array.rArr
     Elem.e
     Elem.e-laws
-    256
+    64
 
 abbrev pub ps·1 : List.List (Kinds.PK 10)
 ps·1 =
@@ -329,7 +329,7 @@ b13 =
     (Syntax.aggregate
     (List._∷_
     (Syntax.copy (Syntax.place 23 List.[]))
-    (List._∷_ (Syntax.int Syntax.w64 256) List.[])))
+    (List._∷_ (Syntax.int Syntax.w64 64) List.[])))
 
 abbrev b14 : Syntax.Body
 b14 =
@@ -469,10 +469,10 @@ t0 = List._∷_ (0, Rows'.any-gone (Syntax.tyInt Syntax.w64)) (List._∷_ (
       8,
 ) (List._∷_ (
   11,
-  Rows'.any-gone (Syntax.tyArray Elem.held 256),
+  Rows'.any-gone (Syntax.tyArray Elem.held 64),
 ) (List._∷_ (
   12,
-  Rows'.any-gone (Syntax.tyArray Elem.held 256),
+  Rows'.any-gone (Syntax.tyArray Elem.held 64),
 )
     (List._∷_ (
       13,
@@ -539,7 +539,7 @@ t1 = List._∷_ (
           (Syntax.tyRef
           Syntax.erased
           Syntax.mut
-          (Syntax.tyArray Elem.ty 256)),
+          (Syntax.tyArray Elem.ty 64)),
     ) (List._∷_ (
       24,
       Rows'.any-gone
@@ -607,10 +607,10 @@ t2 = List._∷_ (0, Rows'.sc-here (Row.sInt Syntax.w64)) (List._∷_ (
       8,
 ) (List._∷_ (
   11,
-  Rows'.any-gone (Syntax.tyArray Elem.held 256),
+  Rows'.any-gone (Syntax.tyArray Elem.held 64),
 ) (List._∷_ (
   12,
-  Rows'.any-gone (Syntax.tyArray Elem.held 256),
+  Rows'.any-gone (Syntax.tyArray Elem.held 64),
 )
     (List._∷_ (
       13,
@@ -685,10 +685,10 @@ t3 = List._∷_ (0, Rows'.any-gone (Syntax.tyInt Syntax.w64)) (List._∷_ (
       8,
 ) (List._∷_ (
   11,
-  Rows'.any-gone (Syntax.tyArray Elem.held 256),
+  Rows'.any-gone (Syntax.tyArray Elem.held 64),
 )
     (List._∷_
-    (12, Rows.arrF Elem.R 256 0)
+    (12, Rows.arrF Elem.R 64 0)
     (List._∷_ (
       13,
       Rows'.any-gone (Syntax.tyRef Syntax.erased Syntax.mut (Syntax.tyInt Syntax.w64)),
@@ -762,9 +762,9 @@ t4 = List._∷_ (0, Rows'.any-gone (Syntax.tyInt Syntax.w64)) (List._∷_ (
       8,
 )
     (List._∷_
-    (11, Rows.arrF Elem.R 256 0)
+    (11, Rows.arrF Elem.R 64 0)
     (List._∷_
-    (12, Rows.arrF Elem.R 256 0)
+    (12, Rows.arrF Elem.R 64 0)
     (List._∷_ (
       13,
       Rows'.any-gone (Syntax.tyRef Syntax.erased Syntax.mut (Syntax.tyInt Syntax.w64)),
@@ -838,10 +838,10 @@ t5 = List._∷_ (0, Rows'.any-gone (Syntax.tyInt Syntax.w64)) (List._∷_ (
       8,
 )
     (List._∷_
-    (11, Rows.arrF Elem.R 256 0)
+    (11, Rows.arrF Elem.R 64 0)
     (List._∷_ (
       12,
-      Rows'.any-gone (Syntax.tyArray Elem.held 256),
+      Rows'.any-gone (Syntax.tyArray Elem.held 64),
     ) (List._∷_ (
       13,
       Rows'.any-gone (Syntax.tyRef Syntax.erased Syntax.mut (Syntax.tyInt Syntax.w64)),
@@ -917,10 +917,10 @@ t6 = List._∷_ (0, Rows'.any-gone (Syntax.tyInt Syntax.w64)) (List._∷_ (
       8,
 )
     (List._∷_
-    (11, Rows.arrF Elem.R 256 0)
+    (11, Rows.arrF Elem.R 64 0)
     (List._∷_ (
       12,
-      Rows'.any-gone (Syntax.tyArray Elem.held 256),
+      Rows'.any-gone (Syntax.tyArray Elem.held 64),
     ) (List._∷_ (
       13,
       Relend.msptr
@@ -999,10 +999,10 @@ t7 = List._∷_ (0, Rows'.any-gone (Syntax.tyInt Syntax.w64)) (List._∷_ (
       8,
 )
     (List._∷_
-    (11, Rows.arrF Elem.R 256 0)
+    (11, Rows.arrF Elem.R 64 0)
     (List._∷_ (
       12,
-      Rows'.any-gone (Syntax.tyArray Elem.held 256),
+      Rows'.any-gone (Syntax.tyArray Elem.held 64),
     ) (List._∷_ (
       13,
       Rows'.any-gone (Syntax.tyRef Syntax.erased Syntax.mut (Syntax.tyInt Syntax.w64)),
@@ -1078,10 +1078,10 @@ t8 = List._∷_ (0, Rows'.any-gone (Syntax.tyInt Syntax.w64)) (List._∷_ (
       8,
 )
     (List._∷_
-    (11, Rows.arrF Elem.R 256 0)
+    (11, Rows.arrF Elem.R 64 0)
     (List._∷_ (
       12,
-      Rows'.any-gone (Syntax.tyArray Elem.held 256),
+      Rows'.any-gone (Syntax.tyArray Elem.held 64),
     ) (List._∷_ (
       13,
       Rows'.any-gone (Syntax.tyRef Syntax.erased Syntax.mut (Syntax.tyInt Syntax.w64)),
@@ -1160,10 +1160,10 @@ t9 = List._∷_ (0, Rows'.any-gone (Syntax.tyInt Syntax.w64)) (List._∷_ (
       8,
 )
     (List._∷_
-    (11, Rows.arrF Elem.R 256 0)
+    (11, Rows.arrF Elem.R 64 0)
     (List._∷_ (
       12,
-      Rows'.any-gone (Syntax.tyArray Elem.held 256),
+      Rows'.any-gone (Syntax.tyArray Elem.held 64),
     ) (List._∷_ (
       13,
       Rows'.any-gone (Syntax.tyRef Syntax.erased Syntax.mut (Syntax.tyInt Syntax.w64)),
@@ -1225,7 +1225,7 @@ t10 = List._∷_ (
           (Syntax.tyRef
           Syntax.erased
           Syntax.mut
-          (Syntax.tyArray Elem.ty 256)),
+          (Syntax.tyArray Elem.ty 64)),
     ) (List._∷_ (
       24,
       Rows'.any-gone
@@ -1299,10 +1299,10 @@ t11 = List._∷_ (0, Rows'.any-gone (Syntax.tyInt Syntax.w64)) (List._∷_ (
       8,
 )
     (List._∷_
-    (11, Rows.arrF Elem.R 256 0)
+    (11, Rows.arrF Elem.R 64 0)
     (List._∷_ (
       12,
-      Rows'.any-gone (Syntax.tyArray Elem.held 256),
+      Rows'.any-gone (Syntax.tyArray Elem.held 64),
     ) (List._∷_ (
       13,
       Rows'.any-gone (Syntax.tyRef Syntax.erased Syntax.mut (Syntax.tyInt Syntax.w64)),
@@ -1367,7 +1367,7 @@ t12 = List._∷_ (
           (Syntax.tyRef
           Syntax.erased
           Syntax.mut
-          (Syntax.tyArray Elem.ty 256)),
+          (Syntax.tyArray Elem.ty 64)),
     ) (List._∷_ (
       24,
       Rows'.any-gone
@@ -1423,7 +1423,7 @@ t13 = List._∷_ (
           (Syntax.tyRef
           Syntax.erased
           Syntax.mut
-          (Syntax.tyArray Elem.ty 256)),
+          (Syntax.tyArray Elem.ty 64)),
     ) (List._∷_ (
       24,
       Rows'.any-gone
@@ -1499,10 +1499,10 @@ t14 = List._∷_ (0, Rows'.any-gone (Syntax.tyInt Syntax.w64)) (List._∷_ (
       8,
 )
     (List._∷_
-    (11, Rows.arrF Elem.R 256 0)
+    (11, Rows.arrF Elem.R 64 0)
     (List._∷_ (
       12,
-      Rows'.any-gone (Syntax.tyArray Elem.held 256),
+      Rows'.any-gone (Syntax.tyArray Elem.held 64),
     ) (List._∷_ (
       13,
       Rows'.any-gone (Syntax.tyRef Syntax.erased Syntax.mut (Syntax.tyInt Syntax.w64)),
@@ -1565,7 +1565,7 @@ t15 = List._∷_ (
           (Syntax.tyRef
           Syntax.erased
           Syntax.mut
-          (Syntax.tyArray Elem.ty 256)),
+          (Syntax.tyArray Elem.ty 64)),
     ) (List._∷_ (
       24,
       Rows'.any-gone
@@ -1619,7 +1619,7 @@ t16 = List._∷_ (
           (Syntax.tyRef
           Syntax.erased
           Syntax.mut
-          (Syntax.tyArray Elem.ty 256)),
+          (Syntax.tyArray Elem.ty 64)),
     ) (List._∷_ (
       24,
       Rows'.any-gone
@@ -1697,10 +1697,10 @@ t17 = List._∷_ (0, Rows'.any-gone (Syntax.tyInt Syntax.w64)) (List._∷_ (
       Row.off,
 )
     (List._∷_
-    (11, Rows.arrF Elem.R 256 0)
+    (11, Rows.arrF Elem.R 64 0)
     (List._∷_ (
       12,
-      Rows'.any-gone (Syntax.tyArray Elem.held 256),
+      Rows'.any-gone (Syntax.tyArray Elem.held 64),
     ) (List._∷_ (
       13,
       Rows'.any-gone (Syntax.tyRef Syntax.erased Syntax.mut (Syntax.tyInt Syntax.w64)),
@@ -1761,7 +1761,7 @@ t18 = List._∷_ (
           (Syntax.tyRef
           Syntax.erased
           Syntax.mut
-          (Syntax.tyArray Elem.ty 256)),
+          (Syntax.tyArray Elem.ty 64)),
     ) (List._∷_ (
       24,
       Rows'.any-gone
@@ -1813,7 +1813,7 @@ t19 = List._∷_ (
           (Syntax.tyRef
           Syntax.erased
           Syntax.mut
-          (Syntax.tyArray Elem.ty 256)),
+          (Syntax.tyArray Elem.ty 64)),
     ) (List._∷_ (
       24,
       Rows'.any-gone
@@ -1889,14 +1889,14 @@ t20 = List._∷_ (0, Rows'.any-gone (Syntax.tyInt Syntax.w64)) (List._∷_ (
       8
       13
       Row.off,
-) (List._∷_ (
-  11,
-  Rows.arr-owed Elem.R 256 14,
-) (List._∷_ (
-  12,
-  Rows'.any-gone (Syntax.tyArray Elem.held 256),
 )
     (List._∷_ (
+      11,
+      Rows.arr-owed Elem.R 64 14,
+    ) (List._∷_ (
+      12,
+      Rows'.any-gone (Syntax.tyArray Elem.held 64),
+    ) (List._∷_ (
       13,
       Rows'.any-gone (Syntax.tyRef Syntax.erased Syntax.mut (Syntax.tyInt Syntax.w64)),
     ) (List._∷_ (
@@ -1952,7 +1952,7 @@ t21 = List._∷_ (
           (Syntax.tyRef
           Syntax.erased
           Syntax.mut
-          (Syntax.tyArray Elem.ty 256))
+          (Syntax.tyArray Elem.ty 64))
           14,
     ) (List._∷_ (
       24,
@@ -2005,7 +2005,7 @@ t22 = List._∷_ (
           (Syntax.tyRef
           Syntax.erased
           Syntax.mut
-          (Syntax.tyArray Elem.ty 256)),
+          (Syntax.tyArray Elem.ty 64)),
     ) (List._∷_ (
       24,
       Mut.mslice
@@ -2079,14 +2079,14 @@ t23 = List._∷_ (0, Rows'.sc-here (Row.sInt Syntax.w64)) (List._∷_ (
       8
       13
       Row.off,
-) (List._∷_ (
-  11,
-  Rows.arr-owed Elem.R 256 14,
-) (List._∷_ (
-  12,
-  Rows'.any-gone (Syntax.tyArray Elem.held 256),
 )
     (List._∷_ (
+      11,
+      Rows.arr-owed Elem.R 64 14,
+    ) (List._∷_ (
+      12,
+      Rows'.any-gone (Syntax.tyArray Elem.held 64),
+    ) (List._∷_ (
       13,
       Rows'.any-gone (Syntax.tyRef Syntax.erased Syntax.mut (Syntax.tyInt Syntax.w64)),
     ) (List._∷_ (
@@ -2136,7 +2136,7 @@ t24 = List._∷_ (
           (Syntax.tyRef
           Syntax.erased
           Syntax.mut
-          (Syntax.tyArray Elem.ty 256)),
+          (Syntax.tyArray Elem.ty 64)),
     ) (List._∷_ (
       24,
       Mut.msleft
@@ -2207,14 +2207,14 @@ t25 = List._∷_ (0, Rows'.sc-here (Row.sInt Syntax.w64)) (List._∷_ (
       8
       13
       Row.off,
-) (List._∷_ (
-  11,
-  Rows.arr-owed Elem.R 256 14,
-) (List._∷_ (
-  12,
-  Rows'.any-gone (Syntax.tyArray Elem.held 256),
 )
     (List._∷_ (
+      11,
+      Rows.arr-owed Elem.R 64 14,
+    ) (List._∷_ (
+      12,
+      Rows'.any-gone (Syntax.tyArray Elem.held 64),
+    ) (List._∷_ (
       13,
       Rows'.any-gone (Syntax.tyRef Syntax.erased Syntax.mut (Syntax.tyInt Syntax.w64)),
     ) (List._∷_ (
@@ -2291,14 +2291,14 @@ t26 = List._∷_ (0, Rows'.sc-here (Row.sInt Syntax.w64)) (List._∷_ (
       8
       13
       Row.off,
-) (List._∷_ (
-  11,
-  Rows.arr-owed Elem.R 256 14,
-) (List._∷_ (
-  12,
-  Rows'.any-gone (Syntax.tyArray Elem.held 256),
 )
     (List._∷_ (
+      11,
+      Rows.arr-owed Elem.R 64 14,
+    ) (List._∷_ (
+      12,
+      Rows'.any-gone (Syntax.tyArray Elem.held 64),
+    ) (List._∷_ (
       13,
       Rows'.any-gone (Syntax.tyRef Syntax.erased Syntax.mut (Syntax.tyInt Syntax.w64)),
     ) (List._∷_ (
@@ -2354,7 +2354,7 @@ t27 = List._∷_ (
           (Syntax.tyRef
           Syntax.erased
           Syntax.mut
-          (Syntax.tyArray Elem.ty 256)),
+          (Syntax.tyArray Elem.ty 64)),
     ) (List._∷_ (
       24,
       Mut.msleft
@@ -2421,14 +2421,14 @@ t28 = List._∷_ (0, Rows'.sc-here (Row.sInt Syntax.w64)) (List._∷_ (
       8
       13
       Row.off,
-) (List._∷_ (
-  11,
-  Rows.arr-owed Elem.R 256 14,
-) (List._∷_ (
-  12,
-  Rows'.any-gone (Syntax.tyArray Elem.held 256),
 )
     (List._∷_ (
+      11,
+      Rows.arr-owed Elem.R 64 14,
+    ) (List._∷_ (
+      12,
+      Rows'.any-gone (Syntax.tyArray Elem.held 64),
+    ) (List._∷_ (
       13,
       Rows'.any-gone (Syntax.tyRef Syntax.erased Syntax.mut (Syntax.tyInt Syntax.w64)),
     ) (List._∷_ (
@@ -2487,7 +2487,7 @@ t29 = List._∷_ (
           (Syntax.tyRef
           Syntax.erased
           Syntax.mut
-          (Syntax.tyArray Elem.ty 256)),
+          (Syntax.tyArray Elem.ty 64)),
     ) (List._∷_ (
       24,
       Mut.msleft
@@ -2552,14 +2552,14 @@ t30 = List._∷_ (0, Rows'.sc-here (Row.sInt Syntax.w64)) (List._∷_ (
       8
       13
       Row.off,
-) (List._∷_ (
-  11,
-  Rows.arr-owed Elem.R 256 14,
-) (List._∷_ (
-  12,
-  Rows'.any-gone (Syntax.tyArray Elem.held 256),
 )
     (List._∷_ (
+      11,
+      Rows.arr-owed Elem.R 64 14,
+    ) (List._∷_ (
+      12,
+      Rows'.any-gone (Syntax.tyArray Elem.held 64),
+    ) (List._∷_ (
       13,
       Rows'.any-gone (Syntax.tyRef Syntax.erased Syntax.mut (Syntax.tyInt Syntax.w64)),
     ) (List._∷_ (
@@ -2621,7 +2621,7 @@ t31 = List._∷_ (
           (Syntax.tyRef
           Syntax.erased
           Syntax.mut
-          (Syntax.tyArray Elem.ty 256)),
+          (Syntax.tyArray Elem.ty 64)),
     ) (List._∷_ (
       24,
       Mut.msleft
@@ -2684,14 +2684,14 @@ t32 = List._∷_ (0, Rows'.sc-here (Row.sInt Syntax.w64)) (List._∷_ (
       (Referent.rtF (Referent.fInt Syntax.w8))
       (Syntax.tyRef (Syntax.named 8) Syntax.mut (Syntax.tyInt Syntax.w8))
       8,
-) (List._∷_ (
-  11,
-  Rows.arr-owed Elem.R 256 14,
-) (List._∷_ (
-  12,
-  Rows'.any-gone (Syntax.tyArray Elem.held 256),
 )
     (List._∷_ (
+      11,
+      Rows.arr-owed Elem.R 64 14,
+    ) (List._∷_ (
+      12,
+      Rows'.any-gone (Syntax.tyArray Elem.held 64),
+    ) (List._∷_ (
       13,
       Rows'.any-gone (Syntax.tyRef Syntax.erased Syntax.mut (Syntax.tyInt Syntax.w64)),
     ) (List._∷_ (
@@ -2756,7 +2756,7 @@ t33 = List._∷_ (
           (Syntax.tyRef
           Syntax.erased
           Syntax.mut
-          (Syntax.tyArray Elem.ty 256)),
+          (Syntax.tyArray Elem.ty 64)),
     ) (List._∷_ (
       24,
       Mut.msleft
@@ -2821,10 +2821,10 @@ t34 = List._∷_ (0, Rows'.sc-here (Row.sInt Syntax.w64)) (List._∷_ (
       8,
 )
     (List._∷_
-    (11, Rows.arrF Elem.R 256 0)
+    (11, Rows.arrF Elem.R 64 0)
     (List._∷_ (
       12,
-      Rows'.any-gone (Syntax.tyArray Elem.held 256),
+      Rows'.any-gone (Syntax.tyArray Elem.held 64),
     ) (List._∷_ (
       13,
       Rows'.any-gone (Syntax.tyRef Syntax.erased Syntax.mut (Syntax.tyInt Syntax.w64)),
@@ -2898,10 +2898,10 @@ t35 = List._∷_ (0, Rows'.sc-here (Row.sInt Syntax.w64)) (List._∷_ (
       8,
 ) (List._∷_ (
   11,
-  Rows'.any-gone (Syntax.tyArray Elem.held 256),
+  Rows'.any-gone (Syntax.tyArray Elem.held 64),
 ) (List._∷_ (
   12,
-  Rows'.any-gone (Syntax.tyArray Elem.held 256),
+  Rows'.any-gone (Syntax.tyArray Elem.held 64),
 )
     (List._∷_ (
       13,
@@ -3162,7 +3162,7 @@ module _ (claims· : Claims) where
       tt
       12
       List.[]
-      (Syntax.tyArray Elem.held 256)
+      (Syntax.tyArray Elem.held 64)
 
   abbrev s10 : (bs : List.List Nat.ℕ) → Typed.Mo T11 → Typed.Mo T12
   s10 =
@@ -3170,19 +3170,16 @@ module _ (claims· : Claims) where
       T11
       12
       11
-      (Array'.Array Elem.R 256)
-      (Rows.arrF Elem.R 256 0)
-      (Rows.arrF Elem.R 256 0)
+      (Array'.Array Elem.R 64)
+      (Rows.arrF Elem.R 64 0)
+      (Rows.arrF Elem.R 64 0)
       (λ x. x)
       (λ x. x)
       λ x. x
 
   abbrev s11 : (bs : List.List Nat.ℕ) → Typed.Mo T12 → Typed.Mo T13
   s11 =
-      λ bs. Scalar.n-room
-      T12
-      12
-      (Syntax.tyArray Elem.held 256)
+      λ bs. Scalar.n-room T12 12 (Syntax.tyArray Elem.held 64)
 
   abbrev s13 : (bs : List.List Nat.ℕ) → Typed.Gives T13 T15
   s13 =
@@ -3366,12 +3363,12 @@ module _ (claims· : Claims) where
       (Row.tl (Row.tl (Row.tl (Row.tl (Row.tl (Row.tl (Row.tl (Row.tl (Row.tl bs))))))))))))
       11
       23
-      256
+      64
       14
       (Syntax.tyRef
       Syntax.erased
       Syntax.mut
-      (Syntax.tyArray Elem.ty 256))
+      (Syntax.tyArray Elem.ty 64))
       λ x. x
 
   abbrev s29 : (bs : List.List Nat.ℕ) → Typed.Asks T30 T31
@@ -3386,10 +3383,10 @@ module _ (claims· : Claims) where
       (Syntax.tyRef
       Syntax.erased
       Syntax.mut
-      (Syntax.tyArray Elem.ty 256))
+      (Syntax.tyArray Elem.ty 64))
       (Syntax.tyRef Syntax.erased Syntax.mut Elem.ty)
       (λ x. x)
-      (Scalar.oInt Syntax.w64 256)
+      (Scalar.oInt Syntax.w64 64)
 
   abbrev s30 : (bs : List.List Nat.ℕ) → Typed.Both T31 T32
   s30 = λ bs. Call.callB ps·1 r·1 (claims· .2) (claims· .3) T31 (
@@ -3626,17 +3623,14 @@ module _ (claims· : Claims) where
       24
       11
       14
-      256
+      64
       (Syntax.tyRef Syntax.erased Syntax.mut Elem.ty)
       (λ x. x)
       λ x. x
 
   abbrev s54 : (bs : List.List Nat.ℕ) → Typed.Mo T54 → Typed.Mo T56
   s54 =
-      λ bs. Scalar.n-room
-      T54
-      11
-      (Syntax.tyArray Elem.held 256)
+      λ bs. Scalar.n-room T54 11 (Syntax.tyArray Elem.held 64)
 
   abbrev s55 : (bs : List.List Nat.ℕ) → Typed.Mo T56 → Typed.Mo T57
   s55 = λ bs. Scalar.n-room T56 3 (Syntax.tyInt Syntax.w64)
@@ -3894,10 +3888,10 @@ module _ (claims· : Claims) where
               8,
         ) (List._∷_ (
           11,
-          Rows.arrF Elem.R 256 0,
+          Rows.arrF Elem.R 64 0,
         ) (List._∷_ (
           12,
-          Rows'.any-gone (Syntax.tyArray Elem.held 256),
+          Rows'.any-gone (Syntax.tyArray Elem.held 64),
         ) (List._∷_ (
           13,
           Relend.msptr
@@ -3976,10 +3970,10 @@ module _ (claims· : Claims) where
               8,
         ) (List._∷_ (
           11,
-          Rows.arrF Elem.R 256 0,
+          Rows.arrF Elem.R 64 0,
         ) (List._∷_ (
           12,
-          Rows'.any-gone (Syntax.tyArray Elem.held 256),
+          Rows'.any-gone (Syntax.tyArray Elem.held 64),
         ) (List._∷_ (
           13,
           Rows'.any-gone (Syntax.tyRef Syntax.erased Syntax.mut (Syntax.tyInt Syntax.w64)),
@@ -4055,10 +4049,10 @@ module _ (claims· : Claims) where
               8,
         ) (List._∷_ (
           11,
-          Rows.arrF Elem.R 256 0,
+          Rows.arrF Elem.R 64 0,
         ) (List._∷_ (
           12,
-          Rows'.any-gone (Syntax.tyArray Elem.held 256),
+          Rows'.any-gone (Syntax.tyArray Elem.held 64),
         ) (List._∷_ (
           13,
           Rows'.any-gone (Syntax.tyRef Syntax.erased Syntax.mut (Syntax.tyInt Syntax.w64)),
@@ -4137,10 +4131,10 @@ module _ (claims· : Claims) where
               8,
         ) (List._∷_ (
           11,
-          Rows.arrF Elem.R 256 0,
+          Rows.arrF Elem.R 64 0,
         ) (List._∷_ (
           12,
-          Rows'.any-gone (Syntax.tyArray Elem.held 256),
+          Rows'.any-gone (Syntax.tyArray Elem.held 64),
         ) (List._∷_ (
           13,
           Rows'.any-gone (Syntax.tyRef Syntax.erased Syntax.mut (Syntax.tyInt Syntax.w64)),
@@ -4218,10 +4212,10 @@ module _ (claims· : Claims) where
               8,
         ) (List._∷_ (
           11,
-          Rows.arrF Elem.R 256 0,
+          Rows.arrF Elem.R 64 0,
         ) (List._∷_ (
           12,
-          Rows'.any-gone (Syntax.tyArray Elem.held 256),
+          Rows'.any-gone (Syntax.tyArray Elem.held 64),
         ) (List._∷_ (
           13,
           Rows'.any-gone (Syntax.tyRef Syntax.erased Syntax.mut (Syntax.tyInt Syntax.w64)),
@@ -4301,10 +4295,10 @@ module _ (claims· : Claims) where
               8,
         ) (List._∷_ (
           11,
-          Rows.arrF Elem.R 256 0,
+          Rows.arrF Elem.R 64 0,
         ) (List._∷_ (
           12,
-          Rows'.any-gone (Syntax.tyArray Elem.held 256),
+          Rows'.any-gone (Syntax.tyArray Elem.held 64),
         ) (List._∷_ (
           13,
           Rows'.any-gone (Syntax.tyRef Syntax.erased Syntax.mut (Syntax.tyInt Syntax.w64)),
@@ -4386,10 +4380,10 @@ module _ (claims· : Claims) where
               (Row.lease (κs .1 .1 .1 .1 .1 .1 .1 .1 .0) (qs .1 .1 .1 .1 .1 .1 .1 .1 .0)),
         ) (List._∷_ (
           11,
-          Rows.arrF Elem.R 256 0,
+          Rows.arrF Elem.R 64 0,
         ) (List._∷_ (
           12,
-          Rows'.any-gone (Syntax.tyArray Elem.held 256),
+          Rows'.any-gone (Syntax.tyArray Elem.held 64),
         ) (List._∷_ (
           13,
           Rows'.any-gone (Syntax.tyRef Syntax.erased Syntax.mut (Syntax.tyInt Syntax.w64)),
@@ -4471,10 +4465,10 @@ module _ (claims· : Claims) where
               (Row.lease (κs .1 .1 .1 .1 .1 .1 .1 .1 .0) (qs .1 .1 .1 .1 .1 .1 .1 .1 .0)),
         ) (List._∷_ (
           11,
-          Rows.arr-owed Elem.R 256 14,
+          Rows.arr-owed Elem.R 64 14,
         ) (List._∷_ (
           12,
-          Rows'.any-gone (Syntax.tyArray Elem.held 256),
+          Rows'.any-gone (Syntax.tyArray Elem.held 64),
         ) (List._∷_ (
           13,
           Rows'.any-gone (Syntax.tyRef Syntax.erased Syntax.mut (Syntax.tyInt Syntax.w64)),
@@ -4556,10 +4550,10 @@ module _ (claims· : Claims) where
               (Row.lease (κs .1 .1 .1 .1 .1 .1 .1 .1 .0) (qs .1 .1 .1 .1 .1 .1 .1 .1 .0)),
         ) (List._∷_ (
           11,
-          Rows.arr-owed Elem.R 256 14,
+          Rows.arr-owed Elem.R 64 14,
         ) (List._∷_ (
           12,
-          Rows'.any-gone (Syntax.tyArray Elem.held 256),
+          Rows'.any-gone (Syntax.tyArray Elem.held 64),
         ) (List._∷_ (
           13,
           Rows'.any-gone (Syntax.tyRef Syntax.erased Syntax.mut (Syntax.tyInt Syntax.w64)),
@@ -4638,10 +4632,10 @@ module _ (claims· : Claims) where
               (Row.lease (κs .1 .1 .1 .1 .1 .1 .1 .1 .0) (qs .1 .1 .1 .1 .1 .1 .1 .1 .0)),
         ) (List._∷_ (
           11,
-          Rows.arr-owed Elem.R 256 14,
+          Rows.arr-owed Elem.R 64 14,
         ) (List._∷_ (
           12,
-          Rows'.any-gone (Syntax.tyArray Elem.held 256),
+          Rows'.any-gone (Syntax.tyArray Elem.held 64),
         ) (List._∷_ (
           13,
           Rows'.any-gone (Syntax.tyRef Syntax.erased Syntax.mut (Syntax.tyInt Syntax.w64)),
@@ -4721,10 +4715,10 @@ module _ (claims· : Claims) where
               (Row.lease (κs .1 .1 .1 .1 .1 .1 .1 .1 .0) (qs .1 .1 .1 .1 .1 .1 .1 .1 .0)),
         ) (List._∷_ (
           11,
-          Rows.arr-owed Elem.R 256 14,
+          Rows.arr-owed Elem.R 64 14,
         ) (List._∷_ (
           12,
-          Rows'.any-gone (Syntax.tyArray Elem.held 256),
+          Rows'.any-gone (Syntax.tyArray Elem.held 64),
         ) (List._∷_ (
           13,
           Rows'.any-gone (Syntax.tyRef Syntax.erased Syntax.mut (Syntax.tyInt Syntax.w64)),
@@ -4802,10 +4796,10 @@ module _ (claims· : Claims) where
               (Row.lease (κs .1 .1 .1 .1 .1 .1 .1 .1 .0) (qs .1 .1 .1 .1 .1 .1 .1 .1 .0)),
         ) (List._∷_ (
           11,
-          Rows.arr-owed Elem.R 256 14,
+          Rows.arr-owed Elem.R 64 14,
         ) (List._∷_ (
           12,
-          Rows'.any-gone (Syntax.tyArray Elem.held 256),
+          Rows'.any-gone (Syntax.tyArray Elem.held 64),
         ) (List._∷_ (
           13,
           Rows'.any-gone (Syntax.tyRef Syntax.erased Syntax.mut (Syntax.tyInt Syntax.w64)),
@@ -4881,10 +4875,10 @@ module _ (claims· : Claims) where
               (Row.lease (κs .1 .1 .1 .1 .1 .1 .1 .1 .0) (qs .1 .1 .1 .1 .1 .1 .1 .1 .0)),
         ) (List._∷_ (
           11,
-          Rows.arr-owed Elem.R 256 14,
+          Rows.arr-owed Elem.R 64 14,
         ) (List._∷_ (
           12,
-          Rows'.any-gone (Syntax.tyArray Elem.held 256),
+          Rows'.any-gone (Syntax.tyArray Elem.held 64),
         ) (List._∷_ (
           13,
           Rows'.any-gone (Syntax.tyRef Syntax.erased Syntax.mut (Syntax.tyInt Syntax.w64)),
@@ -6703,16 +6697,16 @@ module _ (claims· : Claims) where
               E
               G55
               11
-              (Syntax.tyArray Elem.held 256)
+              (Syntax.tyArray Elem.held 64)
               (Init.room-arr
               𝓤
               H
               A
               W
               Elem.R
-              256
+              64
               0
-              256
+              64
               Path'.refl))
               d1
 
@@ -6760,7 +6754,7 @@ module _ (claims· : Claims) where
               24
               11
               14
-              256
+              64
               (Syntax.tyRef
               Syntax.erased
               Syntax.mut
@@ -6781,7 +6775,7 @@ module _ (claims· : Claims) where
               𝓤
               H
               A
-              (Rows.arr-owed Elem.R 256 14))
+              (Rows.arr-owed Elem.R 64 14))
               Path'.refl)
               d3
 
@@ -7836,13 +7830,13 @@ module _ (claims· : Claims) where
               (Syntax.tyRef
               Syntax.erased
               Syntax.mut
-              (Syntax.tyArray Elem.ty 256))
+              (Syntax.tyArray Elem.ty 64))
               (Syntax.tyRef
               Syntax.erased
               Syntax.mut
               Elem.ty)
               (λ x. x)
-              (Scalar.oInt Syntax.w64 256)
+              (Scalar.oInt Syntax.w64 64)
               (Reads.as-is
               𝓤
               H
@@ -7852,7 +7846,7 @@ module _ (claims· : Claims) where
               (Syntax.tyRef
               Syntax.erased
               Syntax.mut
-              (Syntax.tyArray Elem.ty 256))
+              (Syntax.tyArray Elem.ty 64))
               14))
               (Reads.room-gone
               𝓤
@@ -7899,18 +7893,18 @@ module _ (claims· : Claims) where
               G29
               11
               23
-              256
+              64
               14
               (Syntax.tyRef
               Syntax.erased
               Syntax.mut
-              (Syntax.tyArray Elem.ty 256))
+              (Syntax.tyArray Elem.ty 64))
               (λ x. x)
               (Reads.as-is
               𝓤
               H
               A
-              (Rows.arrF Elem.R 256 0))
+              (Rows.arrF Elem.R 64 0))
               (Reads.room-gone
               𝓤
               H
@@ -7918,7 +7912,7 @@ module _ (claims· : Claims) where
               (Syntax.tyRef
               Syntax.erased
               Syntax.mut
-              (Syntax.tyArray Elem.ty 256)))
+              (Syntax.tyArray Elem.ty 64)))
               Path'.refl
               (λ b o. tt)
               (Dec'.lit< tt, Dec'.lit< tt))
@@ -9047,16 +9041,16 @@ module _ (claims· : Claims) where
               E
               G12
               12
-              (Syntax.tyArray Elem.held 256)
+              (Syntax.tyArray Elem.held 64)
               (Init.room-arr
               𝓤
               H
               A
               W
               Elem.R
-              256
+              64
               0
-              256
+              64
               Path'.refl))
               d44
 
@@ -9087,11 +9081,11 @@ module _ (claims· : Claims) where
               G11
               12
               11
-              (Array'.Array Elem.R 256)
-              (Syntax.tyArray Elem.held 256)
-              (Syntax.tyArray Elem.held 256)
-              (Rows.arrF Elem.R 256 0)
-              (Rows.arrF Elem.R 256 0)
+              (Array'.Array Elem.R 64)
+              (Syntax.tyArray Elem.held 64)
+              (Syntax.tyArray Elem.held 64)
+              (Rows.arrF Elem.R 64 0)
+              (Rows.arrF Elem.R 64 0)
               (λ x. x)
               (λ x. x)
               (λ x. x)
@@ -9103,17 +9097,17 @@ module _ (claims· : Claims) where
               A
               W
               (λ ρ. Unit)
-              (Array'.Array Elem.R 256)
+              (Array'.Array Elem.R 64)
               Path'.refl
               (Copies.cArr
               Elem.R
               Elem.cp
-              256 .copy
+              64 .copy
               𝓤
               H
               A
               W)
-              (Rows.arrF Elem.R 256 0)
+              (Rows.arrF Elem.R 64 0)
               (λ x. x)
               (λ x. x)
               (λ ρ told. Whole.mem-arr
@@ -9122,7 +9116,7 @@ module _ (claims· : Claims) where
               A
               W
               Elem.R
-              256
+              64
               ρ)
               λ ρ told. Whole.arr-mem
               𝓤
@@ -9130,23 +9124,23 @@ module _ (claims· : Claims) where
               A
               W
               Elem.R
-              256
+              64
               tt
               ρ)
               (Reads.room-gone
               𝓤
               H
               A
-              (Syntax.tyArray Elem.held 256))
+              (Syntax.tyArray Elem.held 64))
               (Yields.makes-mem
               𝓤
               H
               A
               W
               (λ ρ. Unit)
-              (Array'.Array Elem.R 256)
+              (Array'.Array Elem.R 64)
               Path'.refl
-              (Rows.arrF Elem.R 256 0)
+              (Rows.arrF Elem.R 64 0)
               (λ x. x)
               λ ρ told. Whole.arr-mem
               𝓤
@@ -9154,7 +9148,7 @@ module _ (claims· : Claims) where
               A
               W
               Elem.R
-              256
+              64
               tt
               ρ)
               Path'.refl
@@ -9202,7 +9196,7 @@ module _ (claims· : Claims) where
               𝓤
               H
               A
-              (Syntax.tyArray Elem.held 256))
+              (Syntax.tyArray Elem.held 64))
               tt
               Path'.refl)
               d46
@@ -10118,7 +10112,7 @@ module _ (claims· : Claims) where
       abbrev pub Need-slice-aggregate-rebuild-lines : Type 0
       Need-slice-aggregate-rebuild-lines =
           (c : After-recs) →
-          Relend.CountIs T30 23 24 (λ x. x) (λ u. 256) (m23 (c .before) (c .recs .given))
+          Relend.CountIs T30 23 24 (λ x. x) (λ u. 64) (m23 (c .before) (c .recs .given))
 
       abbrev pub m24 :
           (before : After-rebuild-lines-arg5) → (given : s28
@@ -11546,7 +11540,7 @@ module _ (claims· : Claims) where
                 λ g'4. (
                   Path'.refl,
                   λ g'5. (
-                    Relend.count-is T30 23 24 (λ x. x) (λ u. 256) (m23 record {
+                    Relend.count-is T30 23 24 (λ x. x) (λ u. 64) (m23 record {
                       before = record {
                         before = record {
                           before = record {
