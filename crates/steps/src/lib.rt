@@ -83,7 +83,7 @@ fn bind_step(src: &[u8], u: &mut [u32], dst: &mut [u8]) -> usize
     bind::bind_declarators(src, &mut ends, &mut blocks, &mut starts, u, &mut marks, dst)
 }
 
-// Runs a pass by its number as `step` does, for a number that is not 6.
+// Runs a pass by its number as `step` does, for a number that is neither 3 nor 6.
 fn other_step(
     k: usize,
     src: &[u8],
@@ -93,7 +93,7 @@ fn other_step(
     e: &mut [u8],
     u: &mut [u32],
 ) -> usize
-    requires { ⌜ (k ≡ 6 → ⊥) × (Bounded (now src) × Sized (now dst) (now c) (now d) (now e) (now u)) ⌝ }
+    requires { ⌜ ((k ≡ 3 → ⊥) × (k ≡ 6 → ⊥)) × (Bounded (now src) × Sized (now dst) (now c) (now d) (now e) (now u)) ⌝ }
     ensures { λ r. ⌜ Wrote (now (dst .entry)) 0 (unlines (stepOf plain k (linesOf (now (src .entry))))) (now (dst .exit)) r ⌝ }
     ensures memory { λ _. ⌜ Left k (now (src .entry)) (now (c .entry)) (now (d .entry)) (now (e .entry)) (now (u .entry)) (now (c .exit)) (now (d .exit)) (now (e .exit)) (now (u .exit)) ⌝ }
 {
@@ -105,9 +105,6 @@ fn other_step(
     }
     if k == 2 {
         return once_step(src, c, d, u, dst);
-    }
-    if k == 3 {
-        return phis::prune_dead_phis(src, c, d, e, dst);
     }
     if k == 4 {
         return calls_step(src, c, d, e, u, dst);
@@ -133,6 +130,9 @@ pub fn step(
     ensures { λ r. ⌜ Wrote (now (dst .entry)) 0 (unlines (stepOf plain k (linesOf (now (src .entry))))) (now (dst .exit)) r ⌝ }
     ensures memory { λ _. ⌜ Left k (now (src .entry)) (now (c .entry)) (now (d .entry)) (now (e .entry)) (now (u .entry)) (now (c .exit)) (now (d .exit)) (now (e .exit)) (now (u .exit)) ⌝ }
 {
+    if k == 3 {
+        return phis::prune_dead_phis(src, c, d, e, dst);
+    }
     if k == 6 {
         return bind_step(src, u, dst);
     }

@@ -1,11 +1,12 @@
+-- `steps::other_step` meets its contract. Assumes nothing.
 use borrow.Author.Needs.{needs}
 use mathlib.Core.Path.{sym, ap}
 use native.Mathlib.Omega.{arith}
 use Rattle.lines.specs.Lf.{linesOf, unlines}
 use Rattle.lines.proofs.OutLaws.{wrote-as}
 use Rattle.reading.specs.Reading.{plain}
-use Rattle.steps.proofs.Tame.{tame-removal, tame-temps, tame-decls, room-fits, room-lines, room-length, phis-room}
-use Rattle.steps.proofs.StepLaws.{step-0, step-1, step-2, step-3, step-4, step-5, step-else, left-0, left-1, left-2, left-3, left-4, left-5, left-else, left-as}
+use Rattle.steps.proofs.Tame.{tame-removal, tame-temps, tame-decls, room-fits, room-lines, room-length}
+use Rattle.steps.proofs.StepLaws.{step-0, step-1, step-2, step-4, step-5, step-else, left-0, left-1, left-2, left-4, left-5, left-else, left-as}
 use Rattle.steps.proofs.other_step.Statement.{statement}
 use Rattle.steps.proofs.other_step.Tie as tie
 
@@ -48,8 +49,8 @@ same-length-7 c = search needs
 returns-3 : tie.Need-returns-3
 returns-3 c = let p = c .before .before .before .before .before .before .before .before .once-step .ensures in (wrote-as (ap unlines (sym (step-2 plain (c .before .before .before .before .before .before .before .before .before .before .before .before .before .before .before .before .before .before .before .before .before .before .args .k) (linesOf (c .before .before .before .before .before .before .before .before .before .before .before .before .before .before .before .before .before .before .before .before .before .before .args .src .now)) (c .before .before .before .before .before .before .before .before .before .before .before .before .before .if3 .taken)))) (p .0), left-as (c .before .before .before .before .before .before .before .before .before .before .before .before .before .if3 .taken) (left-2 (p .1)))
 
-prune-dead-phis-requires : tie.Need-prune-dead-phis-requires
-prune-dead-phis-requires c κs = let p = c .before .before .before .before .before .before .before .before .before .before .before .before .before .before .pre .1 in let q = phis-room (p .0) in (omega (arith, q .0, p .1 .c-size), (omega (arith, q .1 .0, p .1 .d-size), (omega (arith, q .1 .1 .0, p .1 .e-size), omega (arith, q .1 .1 .1, p .1 .b-size))))
+calls-step-requires : tie.Need-calls-step-requires
+calls-step-requires c κs = let p = c .before .before .before .before .before .before .before .before .before .before .before .before .before .before .before .pre .1 in (p .0, (p .1 .c-size, (p .1 .d-size, (p .1 .e-size, (p .1 .u-size, p .1 .b-size)))))
 
 same-length-8 : tie.Need-same-length-8
 same-length-8 c = search needs
@@ -63,47 +64,29 @@ same-length-10 c = search needs
 same-length-11 : tie.Need-same-length-11
 same-length-11 c = search needs
 
-returns-4 : tie.Need-returns-4
-returns-4 c = let p = c .before .before .before .before .before .before .before .before .prune-dead-phis .ensures in (wrote-as (ap unlines (sym (step-3 plain (c .before .before .before .before .before .before .before .before .before .before .before .before .before .before .before .before .before .before .before .before .before .before .before .args .k) (linesOf (c .before .before .before .before .before .before .before .before .before .before .before .before .before .before .before .before .before .before .before .before .before .before .before .args .src .now)) (c .before .before .before .before .before .before .before .before .before .before .before .before .before .if4 .taken)))) (p .0), left-as (c .before .before .before .before .before .before .before .before .before .before .before .before .before .if4 .taken) (left-3 (p .1 .1 .1) (p .1 .0) (p .1 .1 .0)))
-
-calls-step-requires : tie.Need-calls-step-requires
-calls-step-requires c κs = let p = c .before .before .before .before .before .before .before .before .before .before .before .before .before .before .before .before .pre .1 in (p .0, (p .1 .c-size, (p .1 .d-size, (p .1 .e-size, (p .1 .u-size, p .1 .b-size)))))
-
 same-length-12 : tie.Need-same-length-12
 same-length-12 c = search needs
+
+returns-4 : tie.Need-returns-4
+returns-4 c = let p = c .before .before .before .before .before .before .before .before .before .before .calls-step .ensures in (wrote-as (ap unlines (sym (step-4 plain (c .before .before .before .before .before .before .before .before .before .before .before .before .before .before .before .before .before .before .before .before .before .before .before .before .before .before .args .k) (linesOf (c .before .before .before .before .before .before .before .before .before .before .before .before .before .before .before .before .before .before .before .before .before .before .before .before .before .before .args .src .now)) (c .before .before .before .before .before .before .before .before .before .before .before .before .before .before .before .before .if4 .taken)))) (p .0), left-as (c .before .before .before .before .before .before .before .before .before .before .before .before .before .before .before .before .if4 .taken) (left-4 (p .1)))
+
+prune-decls-requires : tie.Need-prune-decls-requires
+prune-decls-requires c κs = let p = c .before .before .before .before .before .before .before .before .before .before .before .before .pre .1 in omega (arith, room-fits tame-decls (p .0), p .1 .b-size)
 
 same-length-13 : tie.Need-same-length-13
 same-length-13 c = search needs
 
+returns-5 : tie.Need-returns-5
+returns-5 c = let p = c .before .before .prune-decls .ensures in (wrote-as (ap unlines (sym (step-5 plain (c .before .before .before .before .before .before .before .before .before .before .before .before .before .before .before .args .k) (linesOf (c .before .before .before .before .before .before .before .before .before .before .before .before .before .before .before .args .src .now)) (c .before .before .before .before .if5 .taken)))) (p), left-as (c .before .before .before .before .if5 .taken) left-5)
+
+put-lines-requires : tie.Need-put-lines-requires
+put-lines-requires c κs = let p = c .before .before .before .before .before .before .before .before .before .before .before .before .pre .1 in omega (arith, room-lines (p .0), p .1 .b-size)
+
 same-length-14 : tie.Need-same-length-14
 same-length-14 c = search needs
 
-same-length-15 : tie.Need-same-length-15
-same-length-15 c = search needs
-
-same-length-16 : tie.Need-same-length-16
-same-length-16 c = search needs
-
-returns-5 : tie.Need-returns-5
-returns-5 c = let p = c .before .before .before .before .before .before .before .before .before .before .calls-step .ensures in (wrote-as (ap unlines (sym (step-4 plain (c .before .before .before .before .before .before .before .before .before .before .before .before .before .before .before .before .before .before .before .before .before .before .before .before .before .before .before .args .k) (linesOf (c .before .before .before .before .before .before .before .before .before .before .before .before .before .before .before .before .before .before .before .before .before .before .before .before .before .before .before .args .src .now)) (c .before .before .before .before .before .before .before .before .before .before .before .before .before .before .before .before .if5 .taken)))) (p .0), left-as (c .before .before .before .before .before .before .before .before .before .before .before .before .before .before .before .before .if5 .taken) (left-4 (p .1)))
-
-prune-decls-requires : tie.Need-prune-decls-requires
-prune-decls-requires c κs = let p = c .before .before .before .before .before .before .before .before .before .before .before .before .before .pre .1 in omega (arith, room-fits tame-decls (p .0), p .1 .b-size)
-
-same-length-17 : tie.Need-same-length-17
-same-length-17 c = search needs
-
 returns-6 : tie.Need-returns-6
-returns-6 c = let p = c .before .before .prune-decls .ensures in (wrote-as (ap unlines (sym (step-5 plain (c .before .before .before .before .before .before .before .before .before .before .before .before .before .before .before .before .args .k) (linesOf (c .before .before .before .before .before .before .before .before .before .before .before .before .before .before .before .before .args .src .now)) (c .before .before .before .before .if6 .taken)))) (p), left-as (c .before .before .before .before .if6 .taken) left-5)
-
-put-lines-requires : tie.Need-put-lines-requires
-put-lines-requires c κs = let p = c .before .before .before .before .before .before .before .before .before .before .before .before .before .pre .1 in omega (arith, room-lines (p .0), p .1 .b-size)
-
-same-length-18 : tie.Need-same-length-18
-same-length-18 c = search needs
-
-returns-7 : tie.Need-returns-7
-returns-7 c = (wrote-as (ap unlines (sym (step-else plain (c .before .before .before .before .before .before .before .before .before .before .before .before .before .before .before .before .args .k) (linesOf (c .before .before .before .before .before .before .before .before .before .before .before .before .before .before .before .before .args .src .now)) (c .before .before .before .before .before .before .before .before .before .if1 .left) (c .before .before .before .before .before .before .before .before .if2 .left) (c .before .before .before .before .before .before .before .if3 .left) (c .before .before .before .before .before .before .if4 .left) (c .before .before .before .before .before .if5 .left) (c .before .before .before .before .if6 .left) (c .before .before .before .before .before .before .before .before .before .before .before .before .before .before .before .before .pre .0)))) (c .before .before .put-lines .ensures), left-else (c .before .before .before .before .before .before .before .before .if2 .left) (c .before .before .before .before .before .before .before .if3 .left) (c .before .before .before .before .before .before .if4 .left) (c .before .before .before .before .before .if5 .left) (c .before .before .before .before .before .before .before .before .before .before .before .before .before .before .before .before .pre .0))
+returns-6 c = (wrote-as (ap unlines (sym (step-else plain (c .before .before .before .before .before .before .before .before .before .before .before .before .before .before .before .args .k) (linesOf (c .before .before .before .before .before .before .before .before .before .before .before .before .before .before .before .args .src .now)) (c .before .before .before .before .before .before .before .before .if1 .left) (c .before .before .before .before .before .before .before .if2 .left) (c .before .before .before .before .before .before .if3 .left) (c .before .before .before .before .before .before .before .before .before .before .before .before .before .before .before .pre .0 .0) (c .before .before .before .before .before .if4 .left) (c .before .before .before .before .if5 .left) (c .before .before .before .before .before .before .before .before .before .before .before .before .before .before .before .pre .0 .1)))) (c .before .before .put-lines .ensures), left-else (c .before .before .before .before .before .before .before .if2 .left) (c .before .before .before .before .before .before .if3 .left) (c .before .before .before .before .before .before .before .before .before .before .before .before .before .before .before .pre .0 .0) (c .before .before .before .before .before .if4 .left) (c .before .before .before .before .before .before .before .before .before .before .before .before .before .before .before .pre .0 .1))
 
 pub other-step-spec : {M : Type 1} → statement M
 other-step-spec =
@@ -122,22 +105,16 @@ other-step-spec =
     same-length-6
     same-length-7
     returns-3
-    prune-dead-phis-requires
+    calls-step-requires
     same-length-8
     same-length-9
     same-length-10
     same-length-11
-    returns-4
-    calls-step-requires
     same-length-12
-    same-length-13
-    same-length-14
-    same-length-15
-    same-length-16
-    returns-5
+    returns-4
     prune-decls-requires
-    same-length-17
-    returns-6
+    same-length-13
+    returns-5
     put-lines-requires
-    same-length-18
-    returns-7)
+    same-length-14
+    returns-6)
