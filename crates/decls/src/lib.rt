@@ -3,26 +3,47 @@ pub mod print;
 mod seen;
 
 ghost use mathlib.Core.Path.{_≡_};
-ghost use mathlib.Core.Bool.{true, false};
-ghost use Prim.Native.Nat.{_≤_, _+_};
-ghost use lib.ListN.{length};
-ghost use Rattle.lines.specs.Lf.{linesOf, partsOf, unlines};
+ghost use mathlib.Core.Bool.{true, false, cond};
+ghost use Prim.Native.Nat.{_≤_, _<_, _+_, _-_, _^_};
+ghost use lib.Dec.{ltb};
+ghost use lib.ListN.{length, drop};
+ghost use Rattle.lines.specs.Lf.{part, upTo, linesOf, partsOf, unlines};
 ghost use Rattle.lines.specs.Out.{Wrote};
 ghost use Rattle.text.specs.Trim.{trimOf};
 ghost use Rattle.names.specs.Names.{regOf};
 ghost use Rattle.parse.specs.Parse.{isDecl};
+ghost use Rattle.place.specs.Region.{region, regionLen};
 ghost use Rattle.decls.specs.Decls.{staysBy, stays, lineText, pruneDecls};
 ghost use Rattle.decls.specs.Print.{kept, declText};
-ghost use Rattle.decls.specs.Seen.{AtMost, Says};
+ghost use Rattle.decls.specs.Seen.{AtMost, Says, markLines};
 
 // Whether a text names a register that some line of the region reads or stores.
-fn stays_in(region: &[u8], m: usize, seen: &[usize], t: &[u8]) -> bool
+pub fn stays_in(region: &[u8], m: usize, seen: &[usize], t: &[u8]) -> bool
     requires { ⌜ Says m (linesOf (now region)) (now seen) ⌝ }
     ensures { λ r. ⌜ r ≡ staysBy (linesOf (now (region .entry))) (regOf (now (t .entry))) ⌝ }
 {
     match names::reg_name(t) {
         names::RegName::Reg(q) => seen::used_in(region, m, seen, q),
         names::RegName::None => false,
+    }
+}
+
+// The last mark of the table of registers, and where the region ends that has it.
+pub struct Region {
+    pub mark: usize,
+    pub end: usize,
+}
+
+// Marks the registers that the region uses that begins at `a`, where that is not done yet: its mark is one more than `a`. `m` is the last mark, and `b` where that region ends. A declaration stands at `i`.
+pub fn mark_uses(text: &[u8], a: usize, b: usize, m: usize, i: usize, seen: &mut [usize]) -> Region
+    requires { ⌜ (a < 2 ^ 64 - 1) × (isDecl (trimOf (part i (i + upTo 10 (drop i (now text))) (now text))) ≡ true) ⌝ }
+    ensures answer { λ r. ⌜ (r .mark ≡ cond (ltb a m) m (a + 1)) × (r .end ≡ cond (ltb a m) b (a + regionLen (drop a (now (text .entry))))) ⌝ }
+    ensures memory { λ _. ⌜ now (seen .exit) ≡ cond (ltb a m) (now (seen .entry)) (markLines (a + 1) (region (linesOf (drop a (now (text .entry))))) (now (seen .entry))) ⌝ }
+{
+    let k = seen::mark_once(text, a, b, m, i, i, seen);
+    Region {
+        mark: k.mark,
+        end: k.end,
     }
 }
 

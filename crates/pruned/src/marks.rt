@@ -1,0 +1,100 @@
+// A mark for each declared name: whether its region uses the register.
+ghost use mathlib.Core.Path.{_≡_};
+ghost use mathlib.Core.Bool.{true};
+ghost use Prim.Native.Nat.{_≤_, _+_};
+ghost use lib.ListN.{length, replicate};
+ghost use Rattle.lines.specs.Lf.{linesOf, partsOf};
+ghost use Rattle.lines.specs.Out.{Wrote};
+ghost use Rattle.text.specs.Trim.{trimOf};
+ghost use Rattle.parse.specs.Parse.{isDecl};
+ghost use Rattle.decls.specs.Seen.{AtMost, Says};
+ghost use Rattle.pruned.specs.Marks.{namesMarks, lineMarks, marksOf};
+
+// Writes zeros up to a place.
+fn put_zeros(out: &mut [u8], o: usize, n: usize) -> usize
+    requires { ⌜ o + n ≤ length (now out) ⌝ }
+    ensures { λ r. ⌜ Wrote (now (out .entry)) o (replicate n 0) (now (out .exit)) r ⌝ }
+{
+    let mut i = 0;
+    let mut p = o;
+    while i < n {
+        out[p] = 0;
+        p += 1;
+        i += 1;
+    }
+    p
+}
+
+// Writes the marks of the names of a declaration's body.
+fn put_names(
+    body: &[u8],
+    region: &[u8],
+    m: usize,
+    seen: &[usize],
+    out: &mut [u8],
+    o: usize,
+) -> usize
+    requires { ⌜ (Says m (linesOf (now region)) (now seen)) × (o + length (namesMarks (linesOf (now region)) (partsOf 44 (now body))) ≤ length (now out)) ⌝ }
+    ensures { λ r. ⌜ Wrote (now (out .entry)) o (namesMarks (linesOf (now (region .entry))) (partsOf 44 (now (body .entry)))) (now (out .exit)) r ⌝ }
+{
+    let mut i = 0;
+    let mut p = o;
+    loop {
+        let e = lines::find_byte(body, i, b',');
+        let t = text::trim(&body[i..e]);
+        let s = decls::stays_in(region, m, seen, t);
+        p = lines::put_byte(out, p, place::flag(s));
+        if e >= body.len() {
+            return p;
+        }
+        i = e + 1;
+    }
+}
+
+// Writes the marks of a declaration, as many bytes as it has with its LF.
+fn put_marks(
+    line: &[u8],
+    region: &[u8],
+    m: usize,
+    seen: &[usize],
+    out: &mut [u8],
+    o: usize,
+) -> usize
+    requires { ⌜ (isDecl (trimOf (now line)) ≡ true) × ((Says m (linesOf (now region)) (now seen)) × (o + length (lineMarks (linesOf (now region)) (now line)) ≤ length (now out))) ⌝ }
+    ensures { λ r. ⌜ Wrote (now (out .entry)) o (lineMarks (linesOf (now (region .entry))) (now (line .entry))) (now (out .exit)) r ⌝ }
+{
+    let t = text::trim(line);
+    let p = put_names(&t[4..t.len() - 1], region, m, seen, out, o);
+    put_zeros(out, p, line.len() + 1 - (p - o))
+}
+
+// Writes the marks of all lines; the table of registers holds no mark.
+pub fn mark_used(raw: &[u8], seen: &mut [usize], out: &mut [u8]) -> usize
+    requires { ⌜ (AtMost 0 (now seen)) × (length (marksOf (linesOf (now raw))) ≤ length (now out)) ⌝ }
+    ensures { λ r. ⌜ Wrote (now (out .entry)) 0 (marksOf (linesOf (now (raw .entry)))) (now (out .exit)) r ⌝ }
+{
+    let mut a = 0;
+    let mut b = 0;
+    let mut m = 0;
+    let mut i = 0;
+    let mut o = 0;
+    while i < raw.len() {
+        let e = lines::find_byte(raw, i, 10);
+        let line = &raw[i..e];
+        if place::is_header(line) {
+            a = i;
+        }
+        if parse::declares(line) {
+            let n = lines::after(raw, e);
+            let k = decls::mark_uses(raw, a, b, m, i, seen);
+            m = k.mark;
+            b = k.end;
+            o = put_marks(line, &raw[a..b], m, seen, out, o);
+            i = n;
+        } else {
+            o = put_zeros(out, o, e - i + 1);
+            i = lines::after(raw, e);
+        }
+    }
+    o
+}
