@@ -18,6 +18,7 @@ pub mod Calls
 pub mod Bind
 pub mod Globals
 pub mod Limits
+pub mod Pruned
 pub mod Steps
 pub mod Passes
 pub mod Opt
