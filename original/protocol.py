@@ -81,6 +81,36 @@ class Texts:
         return head + (":\n" + shown(answer[10:]) if length else "")
 
 
+class Prunings:
+    """Requests to check a pruning, and their answers."""
+
+    @staticmethod
+    def request_end(data, at):
+        b_at = at + 5 + struct.unpack_from("<I", data, at + 1)[0]
+        return b_at + 4 + struct.unpack_from("<I", data, b_at)[0]
+
+    @staticmethod
+    def answer_end(data, at):
+        return at + 6
+
+    @staticmethod
+    def skipped(answer):
+        return False
+
+    @staticmethod
+    def sort(request, answer):
+        return answer[0]
+
+    @staticmethod
+    def show_request(request):
+        short, length = struct.unpack_from("<BI", request)
+        return f"short {short}, raw:\n{shown(request[5 : 5 + length])}\n  pruned:\n{shown(request[9 + length :])}"
+
+    @staticmethod
+    def show_answer(answer):
+        return "number {}, memory {}, place {}".format(*struct.unpack("<BBI", answer))
+
+
 class Leaves:
     """Requests for single functions, and their answers."""
 
