@@ -1,0 +1,57 @@
+-- `against::others_in` is safe and ends: what is left of its turns falls. Assumes nothing.
+use borrow.Author.Needs.{needs}
+use Rattle.optcheck.proofs.against.others_in.Statement.{statement}
+use Rattle.optcheck.proofs.against.others_in.Tie as tie
+
+abbrev Inv-loop : tie.InvT-loop
+Inv-loop text n at₀ count₀ rest₀ at count rest = Unit {0}
+
+abbrev μ-loop : tie.MeasureT-loop
+μ-loop text n at₀ count₀ rest₀ at count rest = rest
+
+loop-holds : tie.Need-loop-holds Inv-loop μ-loop
+loop-holds c = search needs
+
+find-byte-requires : tie.Need-find-byte-requires Inv-loop μ-loop
+find-byte-requires c κs = search needs
+
+cut-requires : tie.Need-cut-requires Inv-loop μ-loop
+cut-requires c κs = search needs
+
+declares-requires : tie.Need-declares-requires Inv-loop μ-loop
+declares-requires c κs = search needs
+
+from-one-requires : tie.Need-from-one-requires Inv-loop μ-loop
+from-one-requires c κs = search needs
+
+after-requires : tie.Need-after-requires Inv-loop μ-loop
+after-requires c κs = search needs
+
+sub-rest : tie.Need-sub-rest Inv-loop μ-loop
+sub-rest c = search needs
+
+loop-less : tie.Need-loop-less Inv-loop μ-loop
+loop-less c = search needs
+
+loop-again : tie.Need-loop-again Inv-loop μ-loop
+loop-again c = search needs
+
+returns : tie.Need-returns Inv-loop μ-loop
+returns c = search needs
+
+pub others-in-spec : {M : Type 1} → statement M
+others-in-spec =
+    tie.close
+    (tie.spec
+    Inv-loop
+    μ-loop
+    loop-holds
+    find-byte-requires
+    cut-requires
+    declares-requires
+    from-one-requires
+    after-requires
+    sub-rest
+    loop-less
+    loop-again
+    returns)

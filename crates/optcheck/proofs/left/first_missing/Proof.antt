@@ -1,0 +1,69 @@
+-- `left::first_missing` is safe and ends: what is left of its turns falls. Assumes nothing.
+use borrow.Author.Needs.{needs}
+use Rattle.optcheck.proofs.left.first_missing.Statement.{statement}
+use Rattle.optcheck.proofs.left.first_missing.Tie as tie
+
+abbrev Inv-loop : tie.InvT-loop
+Inv-loop body region p i₀ turns₀ i turns = Unit {0}
+
+abbrev μ-loop : tie.MeasureT-loop
+μ-loop body region p i₀ turns₀ i turns = turns
+
+loop-holds : tie.Need-loop-holds Inv-loop μ-loop
+loop-holds c = search needs
+
+find-byte-requires : tie.Need-find-byte-requires Inv-loop μ-loop
+find-byte-requires c κs = search needs
+
+cut-requires : tie.Need-cut-requires Inv-loop μ-loop
+cut-requires c κs = search needs
+
+trim-requires : tie.Need-trim-requires Inv-loop μ-loop
+trim-requires c κs = search needs
+
+is-missing-requires : tie.Need-is-missing-requires Inv-loop μ-loop
+is-missing-requires c κs = search needs
+
+is-some-requires : tie.Need-is-some-requires Inv-loop μ-loop
+is-some-requires c κs = search needs
+
+returns : tie.Need-returns Inv-loop μ-loop
+returns c = search needs
+
+returns-2 : tie.Need-returns-2 Inv-loop μ-loop
+returns-2 c = search needs
+
+after-requires : tie.Need-after-requires Inv-loop μ-loop
+after-requires c κs = search needs
+
+sub-turns : tie.Need-sub-turns Inv-loop μ-loop
+sub-turns c = search needs
+
+loop-less : tie.Need-loop-less Inv-loop μ-loop
+loop-less c = search needs
+
+loop-again : tie.Need-loop-again Inv-loop μ-loop
+loop-again c = search needs
+
+returns-3 : tie.Need-returns-3 Inv-loop μ-loop
+returns-3 c = search needs
+
+pub first-missing-spec : {M : Type 1} → statement M
+first-missing-spec =
+    tie.close
+    (tie.spec
+    Inv-loop
+    μ-loop
+    loop-holds
+    find-byte-requires
+    cut-requires
+    trim-requires
+    is-missing-requires
+    is-some-requires
+    returns
+    returns-2
+    after-requires
+    sub-turns
+    loop-less
+    loop-again
+    returns-3)
