@@ -1,7 +1,8 @@
 # shellcheck shell=sh disable=SC2154
 # The front of the project's programs: finds a program, builds it where it is missing, runs it, and makes an exit status of what it says.
 # A script sources this file after it has set `here`, the folder that it stands in with its links followed; then it calls
-# `front NAME WORDS..`. It may set `valued`, the options that take a value and go to the program, and has to define `usage`.
+# `front NAME WORDS..`. It may set `valued`, the options that take a value and go to the program, and `operands`, how many files the
+# program takes (where it is not set: one or none, and -o for many), and has to define `usage`.
 #
 #   in the repository   here/tools/front.sh, here/tools/run-built, here/VERSION, here/TOOLCHAIN, here/target/bin/NAME
 #   installed           PREFIX/bin/NAME (the script; here is PREFIX/bin), and in PREFIX/libexec/optlines/ the files front.sh, run-built,
@@ -283,8 +284,20 @@ front() { # NAME WORDS..
     serve "$@"
 }
 
+# Runs a program that takes so many files, each as it is named.
+serve_all() { # FILES..
+    [ -z "$folder" ] || die 'no such option: -o (see --help)'
+    [ $# -eq "$operands" ] || die "$operands files are wanted, and $# are named (see --help)"
+    guard
+    if [ -n "$unproved" ]; then build_unproved; else build; fi
+    [ -z "$unproved" ] || note 'this program is NOT PROVED: it was built without a proof'
+    eval "one $passed \"\$@\""
+    exit
+}
+
 # Does what was asked, once the words are taken apart.
 serve() { # FILES..
+    [ -z "${operands-}" ] || serve_all "$@"
     case $folder in -*) folder=./$folder ;; esac
     [ -n "$folder" ] || [ $# -le 1 ] || die 'more than one file is named: -o FOLDER gives each its own result'
     [ -z "$folder" ] || [ $# -gt 0 ] || die '-o wants the files to tidy (see --help)'
