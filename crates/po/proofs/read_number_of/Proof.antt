@@ -1,0 +1,38 @@
+use mathlib.Core.Path.{sym, ap}
+use Rattle.po.specs.Answers.{readNumber}
+use borrow.Author.Needs.{needs}
+use Rattle.po.proofs.read_number_of.Statement.{statement}
+use Rattle.po.proofs.read_number_of.Tie as tie
+use Rattle.po.proofs.read_number_of.Reads as reads
+use Rattle.po.proofs.read_number_of.Lts as lts
+
+-- src/lib.rt:623:29
+enum-told : tie.Need-enum-told
+enum-told c = search needs
+
+-- src/lib.rt:624:32
+enum-told-2 : tie.Need-enum-told-2
+enum-told-2 c = search needs
+
+-- src/lib.rt:625:30
+enum-told-3 : tie.Need-enum-told-3
+enum-told-3 c = search needs
+
+-- src/lib.rt:619:1
+returns : tie.Need-returns
+unfolding readNumber
+returns c = sym (ap readNumber (c .enum-told .given .1))
+
+-- src/lib.rt:619:1
+returns-2 : tie.Need-returns-2
+unfolding readNumber
+returns-2 c = sym (ap readNumber (c .enum-told2 .given .1))
+
+-- src/lib.rt:619:1
+returns-3 : tie.Need-returns-3
+unfolding readNumber
+returns-3 c = sym (ap readNumber (c .enum-told3 .given .1))
+
+pub read-number-of-spec : {M : Type 1} → statement M
+read-number-of-spec =
+    tie.close (tie.spec enum-told enum-told-2 enum-told-3 returns returns-2 returns-3)
