@@ -23,3 +23,4 @@ pub mod Steps
 pub mod Passes
 pub mod Opt
 pub mod Capi
+pub mod Po
