@@ -16,7 +16,7 @@ use Rattle.words.specs.Runs.{runsGo, runs, countBy}
 use Rattle.place.specs.Region.{isHeader, untilHeader, region, regionAt}
 use Rattle.reading.specs.Uses.{lineReads, lineStores, lineUses, usedIn}
 use Rattle.decls.specs.Decls.{commas, declAct, keepNames, actOf, actsGo, pruneDeclsActs, pruneDecls}
-use Rattle.again.specs.Ascii.{ascii}
+use Rattle.lines.specs.Ascii.{ascii}
 use Rattle.again.specs.Shed.{uncr, shedRest, lone, shed, pruneText}
 
 -- ---- a text, what the first run writes, and what a second run writes of that

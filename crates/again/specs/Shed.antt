@@ -1,5 +1,6 @@
 -- What lines lose when they are joined to a text and the text is split again. Assumes nothing.
 use Prim.Native.Nat.{ℕ}
+use Prim.Native.Char.{code}
 use mathlib.Core.Bool.{Bool, true, false, cond, not, _&&_}
 use mathlib.Core.List.{List, [], _∷_}
 use lib.Dec.{eqb}
@@ -10,7 +11,7 @@ use Rattle.decls.specs.Decls.{pruneDecls}
 -- a line without the last of the CRs at its end, where there is one
 unfoldable pub uncr : List ℕ → List ℕ
 uncr [] = []
-uncr (x ∷ []) = cond (eqb x 13) [] (x ∷ [])
+uncr (x ∷ []) = cond (eqb x (code "\r")) [] (x ∷ [])
 uncr (x ∷ y ∷ l) = x ∷ uncr (y ∷ l)
 
 -- a line that an LF follows loses a CR, and a last line that is blank goes; `ended` says whether the text ended in LF
@@ -37,9 +38,9 @@ shed ended ls = cond (ended && lone ls) ([] ∷ []) (shedRest ended ls)
 unfoldable pub firm : List (List ℕ) → Bool
 firm [] = false
 firm ([] ∷ []) = false
-firm ((x ∷ l) ∷ []) = not (endsIn 13 (x ∷ l))
-firm (l ∷ m ∷ ls) = not (endsIn 13 l) && firm (m ∷ ls)
+firm ((x ∷ l) ∷ []) = not (endsIn (code "\r") (x ∷ l))
+firm (l ∷ m ∷ ls) = not (endsIn (code "\r") l) && firm (m ∷ ls)
 
 -- the text that prune_decls alone makes of a text: its lines pruned, joined again
 abbrev pub pruneText : List ℕ → List ℕ
-pruneText t = joined (endsIn 10 t) (pruneDecls (splitLines t))
+pruneText t = joined (endsIn (code "\n") t) (pruneDecls (splitLines t))

@@ -1,6 +1,7 @@
 -- `bind_declarators`: a register that is declared once and stored once, with that store its first use, on a later line of its region and
 -- block that starts a statement, leaves its declaration, and its store becomes one. Assumes nothing.
 use Prim.Native.Nat.{ℕ, zero, suc, _+_}
+use Prim.Native.Char.{code}
 use mathlib.Core.Bool.{Bool, true, false, cond, not, _&&_, _||_}
 use mathlib.Core.List.{List, [], _∷_, _++_}
 use lib.ListN.{take, drop}
@@ -56,7 +57,7 @@ pieceCount v (p ∷ ps) = cond (regIs v (regOf (trimOf p))) (suc (pieceCount v p
 unfoldable pub declCount : ℕ → List (List ℕ) → ℕ
 unfolding pieceCount
 declCount v [] = 0
-declCount v (l ∷ ls) = cond (isDecl (trimOf l)) (pieceCount v (partsOf 44 (bodyOf (trimOf l)))) 0 + declCount v ls
+declCount v (l ∷ ls) = cond (isDecl (trimOf l)) (pieceCount v (partsOf (code ",") (bodyOf (trimOf l)))) 0 + declCount v ls
 
 -- how often they store it
 unfoldable pub storeCount : ℕ → List (List ℕ) → ℕ
@@ -127,7 +128,7 @@ marked (m ∷ ms) = m
 
 -- the pieces of a declaration; none of any other line
 unfoldable pub piecesOf : List ℕ → List (List ℕ)
-piecesOf l = cond (isDecl (trimOf l)) (partsOf 44 (bodyOf (trimOf l))) []
+piecesOf l = cond (isDecl (trimOf l)) (partsOf (code ",") (bodyOf (trimOf l))) []
 
 -- a store as a declaration: its indent, `let ` and the rest of it
 abbrev pub promoted : List ℕ → List ℕ

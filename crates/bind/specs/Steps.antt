@@ -1,9 +1,11 @@
 -- `bind_declarators` as its code goes: a region by parts of the text, blocks and starts by tables, marks in a table. Assumes nothing.
 use Prim.Native.Nat.{ℕ, suc, _+_, _≤_}
+use Prim.Native.Char.{code}
 use mathlib.Core.Bool.{Bool, false, cond, not, _&&_, _||_}
 use mathlib.Core.List.{List, [], _∷_, _++_}
 use lib.ListN.{getD, set, length, take, drop}
 use lib.Dec.{eqb}
+use Rattle.lines.specs.Ascii.{ascii}
 use Rattle.lines.specs.Lf.{part, linesOf, partsOf}
 use Rattle.text.specs.Trim.{fromOf, trimOf}
 use Rattle.names.specs.Names.{regOf}
@@ -89,21 +91,21 @@ notedAll f g (p ∷ ps) m = notedAll f g ps (noted f g (regOf (trimOf p)) m)
 -- a line is a declaration that gives up a name
 unfoldable pub givesUp : (ℕ → Bool) → List ℕ → Bool
 unfolding anyPass
-givesUp f l = isDecl (trimOf l) && anyPass f (partsOf 44 (bodyOf (trimOf l)))
+givesUp f l = isDecl (trimOf l) && anyPass f (partsOf (code ",") (bodyOf (trimOf l)))
 
 -- what a line that gives up no name is written as, with its LF: m says whether it is marked
 unfoldable pub otherText : List ℕ → ℕ → List ℕ
-otherText l m = cond (eqb m 1) (promoted l) l ++ 10 ∷ []
+otherText l m = cond (eqb m 1) (promoted l) l ++ ascii "\n"
 
 -- what a line is written as, with its LF
 unfoldable pub siteText : (ℕ → Bool) → List ℕ → ℕ → List ℕ
 unfolding givesUp kept otherText
-siteText f l m = cond (givesUp f l) (declText (take (fromOf l) l) (kept (left f) 1 (partsOf 44 (bodyOf (trimOf l)))) false) (otherText l m)
+siteText f l m = cond (givesUp f l) (declText (take (fromOf l) l) (kept (left f) 1 (partsOf (code ",") (bodyOf (trimOf l)))) false) (otherText l m)
 
 -- the table of marks after it
 unfoldable pub siteMarks : (ℕ → Bool) → (ℕ → ℕ) → List ℕ → List ℕ → List ℕ
 unfolding givesUp notedAll
-siteMarks f g l m = cond (givesUp f l) (notedAll f g (partsOf 44 (bodyOf (trimOf l))) m) m
+siteMarks f g l m = cond (givesUp f l) (notedAll f g (partsOf (code ",") (bodyOf (trimOf l))) m) m
 
 -- ---- marks
 

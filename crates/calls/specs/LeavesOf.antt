@@ -2,6 +2,7 @@
 use Prim.Native.Nat.{ℕ}
 use mathlib.Core.Bool.{Bool, cond}
 use mathlib.Core.List.{List, [], _∷_, reverse}
+use Rattle.lines.specs.Ascii.{ascii}
 use Rattle.lines.specs.Lf.{part, holds}
 use Rattle.text.specs.Trim.{trimStart}
 use Rattle.parse.specs.Parse.{parseOf}
@@ -41,7 +42,7 @@ contextOf l v = contextBy l (regHit v l)
 
 -- `lines[li].contains('(')`
 unfoldable pub isCall : List ℕ → Bool
-isCall l = holds (40 ∷ []) l
+isCall l = holds (ascii "(") l
 
 -- `is_control_header` of a line without the white space at its front
 unfoldable pub isControlLine : List ℕ → Bool

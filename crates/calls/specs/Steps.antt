@@ -1,10 +1,12 @@
 -- What the code of rebuild_calls does step by step. Assumes nothing.
 use Prim.Native.Nat.{ℕ, zero, suc}
+use Prim.Native.Char.{code}
 use mathlib.Core.Path.{_≡_}
 use mathlib.Core.Bool.{Bool, true, false, cond, not, _&&_, _||_}
 use mathlib.Core.List.{List, [], _∷_}
 use lib.Dec.{eqb}
 use lib.ListN.{length, getD}
+use Rattle.lines.specs.Ascii.{ascii}
 use Rattle.lines.specs.Lf.{holds}
 use Rattle.lines.specs.Out.{Wrote}
 use Rattle.calls.specs.declared.Made.{Made}
@@ -17,11 +19,11 @@ use Rattle.calls.specs.Calls.{Step, end, skip, absorb, readLater, putBy}
 
 -- a byte stands second in a word that a condition or a loop begins with
 abbrev pub isSecond : ℕ → Bool
-isSecond x = ((eqb x 104 || eqb x 111) || eqb x 102) || eqb x 119
+isSecond x = ((eqb x (code "h") || eqb x (code "o")) || eqb x (code "f")) || eqb x (code "w")
 
 -- a line without the white space at its front may be one that a condition or a loop begins: by its second byte, a `:` or a `}`
 unfoldable pub mayControl : List ℕ → Bool
-mayControl t = isSecond (getD t 1 0) || (holds (58 ∷ []) t || holds (125 ∷ []) t)
+mayControl t = isSecond (getD t 1 0) || (holds (ascii ":") t || holds (ascii "}") t)
 
 -- one of the lines whose owner stands just below them all passes a test; an owner is told by how far below it stands
 unfoldable pub breaksDown : (List ℕ → Bool) → List (List ℕ) → List ℕ → Bool

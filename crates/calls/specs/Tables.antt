@@ -1,5 +1,6 @@
 -- What the code of rebuild_calls keeps in its tables. Assumes nothing.
 use Prim.Native.Nat.{ℕ, zero, suc, _+_, _-_, _≤_, _<_, min}
+use Prim.Native.Char.{code}
 use mathlib.Core.Path.{_≡_}
 use mathlib.Core.Bool.{Bool, true}
 use mathlib.Core.List.{List, [], _∷_}
@@ -96,7 +97,7 @@ pub record Spot (t : List ℕ) (n i e : ℕ) : Type 0 where
   pub inside : i < length t
   pub above : take i t ≡ unlines (take n (linesOf t))
   pub here : linesOf (drop i t) ≡ drop n (linesOf t)
-  pub ends : e ≡ i + upTo 10 (drop i t)
+  pub ends : e ≡ i + upTo (code "\n") (drop i t)
 
 -- all is ready for line n, which stands from i up to e: the tables, and room in the buffers
 pub record Ready (t : List ℕ) (n i e : ℕ) (blocks starts owner stack : List ℕ) (o : ℕ) (cur next clean : List ℕ) : Type 0 where

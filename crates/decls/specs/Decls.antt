@@ -1,8 +1,10 @@
 -- `prune_decls`: a declared register stays exactly when some line of its region reads or stores it. Assumes nothing.
 use Prim.Native.Nat.{ℕ}
+use Prim.Native.Char.{code}
 use mathlib.Core.Bool.{Bool, false, cond}
 use mathlib.Core.List.{List, [], _∷_, _++_}
 use lib.ListN.{take}
+use Rattle.lines.specs.Ascii.{ascii}
 use Rattle.lines.specs.Lf.{partsOf, unlines}
 use Rattle.lines.specs.Acts.{Act, keep, become, gone, act, apply}
 use Rattle.text.specs.Trim.{fromOf, trimOf}
@@ -18,13 +20,13 @@ use Rattle.reading.specs.Uses.{usedIn}
 -- names joined by `, `
 unfoldable pub commas : List ℕ → List (List ℕ) → List ℕ
 commas x [] = x
-commas x (y ∷ ys) = x ++ 44 ∷ 32 ∷ commas y ys
+commas x (y ∷ ys) = x ++ code "," ∷ code " " ∷ commas y ys
 
 -- a declaration with the names that are left: it goes with none, and else is its indent, `let `, the names and `;`
 unfoldable pub declAct : List ℕ → List (List ℕ) → Act
 unfolding commas
 declAct indent [] = gone
-declAct indent (x ∷ xs) = become (indent ++ letWord ++ commas x xs ++ 59 ∷ [])
+declAct indent (x ∷ xs) = become (indent ++ letWord ++ commas x xs ++ ascii ";")
 
 -- ---- the pass
 
@@ -50,7 +52,7 @@ keepNames run (p ∷ ps) = keepOne run (regOf (trimOf p)) ++ keepNames run ps
 -- what becomes of a line of the region `run`: a line that is no declaration stays
 unfoldable pub actOf : List (List ℕ) → List ℕ → Act
 unfolding declAct keepNames
-actOf run l = cond (isDecl (trimOf l)) (declAct (take (fromOf l) l) (keepNames run (partsOf 44 (bodyOf (trimOf l))))) keep
+actOf run l = cond (isDecl (trimOf l)) (declAct (take (fromOf l) l) (keepNames run (partsOf (code ",") (bodyOf (trimOf l))))) keep
 
 -- what a line of the region is written as, with its LF
 abbrev pub lineText : List (List ℕ) → List ℕ → List ℕ

@@ -3,6 +3,7 @@ use Prim.Native.Nat.{ℕ, _+_}
 use mathlib.Core.Bool.{Bool, true, false, cond}
 use mathlib.Core.List.{List, [], _∷_, _++_}
 use lib.ListN.{take, drop}
+use Rattle.lines.specs.Ascii.{ascii}
 use Rattle.text.specs.Trim.{trimOf}
 use Rattle.names.specs.Names.{zeros}
 use Rattle.parse.specs.Parse.{letWord}
@@ -23,12 +24,12 @@ kept f k (p ∷ ps) = one (f (trimOf p)) k (trimOf p) ++ kept f k ps
 
 -- what stands before a name: `, `, or the indent and `let ` where no name went before
 unfoldable pub leadOf : List ℕ → Bool → List ℕ
-leadOf indent true = 44 ∷ 32 ∷ []
+leadOf indent true = ascii ", "
 leadOf indent false = indent ++ letWord
 
 -- what ends a declaration, with its LF: nothing where there was no name
 unfoldable pub endOf : Bool → List ℕ
-endOf true = 59 ∷ 10 ∷ []
+endOf true = ascii ";\n"
 endOf false = []
 
 -- names one after the other; `some` says whether a name went before

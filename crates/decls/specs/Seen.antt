@@ -1,5 +1,6 @@
 -- The table of the registers that lines use: what marking them leaves in it, and what it then says. Assumes nothing.
 use Prim.Native.Nat.{ℕ, zero, suc, _+_, _≤_, _<_, min}
+use Prim.Native.Char.{code}
 use mathlib.Core.Path.{_≡_}
 use mathlib.Core.Bool.{Bool, false}
 use mathlib.Core.List.{List, [], _∷_}
@@ -68,4 +69,4 @@ Says m ls d = (v : ℕ) → v < length d → eqb (getD d v 0) m ≡ usedIn v ls
 -- no line from the place i up to j is a header or a declaration; e is where such a line ends, and k the place after it
 pub data Quiet (t : List ℕ) : ℕ → ℕ → Type 0 where
   quiet-none : (i : ℕ) → Quiet t i i
-  quiet-more : (i j e k : ℕ) → Quiet t i j → j < length t → e ≡ j + upTo 10 (drop j t) → isHeader (part j e t) ≡ false → isDecl (trimOf (part j e t)) ≡ false → k ≡ min (e + 1) (length t) → Quiet t i k
+  quiet-more : (i j e k : ℕ) → Quiet t i j → j < length t → e ≡ j + upTo (code "\n") (drop j t) → isHeader (part j e t) ≡ false → isDecl (trimOf (part j e t)) ≡ false → k ≡ min (e + 1) (length t) → Quiet t i k

@@ -1,7 +1,9 @@
 -- `strip_comments`: a text without its comments, with no regard to quotes. Assumes nothing.
 use Prim.Native.Nat.{ℕ}
+use Prim.Native.Char.{code}
 use mathlib.Core.Bool.{Bool, true, false, cond, not, _&&_}
 use mathlib.Core.List.{List, [], _∷_}
+use Rattle.lines.specs.Ascii.{ascii}
 use Rattle.lines.specs.Lf.{prefixed}
 
 -- what is left of a text that begins inside a comment `/* .. */`, or outside: a closed comment leaves one space, one that is not closed
@@ -13,11 +15,11 @@ strip (a ∷ []) true = []
 strip (a ∷ b ∷ s) false =
     let opened = strip s true in
     let copied = a ∷ strip (b ∷ s) false in
-    cond (prefixed (47 ∷ 42 ∷ []) (a ∷ b ∷ s)) opened (cond (prefixed (47 ∷ 47 ∷ []) (a ∷ b ∷ s)) [] copied)
+    cond (prefixed (ascii "/*") (a ∷ b ∷ s)) opened (cond (prefixed (ascii "//") (a ∷ b ∷ s)) [] copied)
 strip (a ∷ b ∷ s) true =
-    let closed : List ℕ = 32 ∷ strip s false in
+    let closed : List ℕ = code " " ∷ strip s false in
     let skipped = strip (b ∷ s) true in
-    cond (prefixed (42 ∷ 47 ∷ []) (a ∷ b ∷ s)) closed skipped
+    cond (prefixed (ascii "*/") (a ∷ b ∷ s)) closed skipped
 
 -- `strip_comments`
 unfoldable pub stripComments : List ℕ → List ℕ
@@ -28,4 +30,4 @@ stripComments s = strip s false
 unfoldable pub noComment : List ℕ → Bool
 unfolding prefixed
 noComment [] = true
-noComment (a ∷ s) = (not (prefixed (47 ∷ 42 ∷ []) (a ∷ s)) && not (prefixed (47 ∷ 47 ∷ []) (a ∷ s))) && noComment s
+noComment (a ∷ s) = (not (prefixed (ascii "/*") (a ∷ s)) && not (prefixed (ascii "//") (a ∷ s))) && noComment s

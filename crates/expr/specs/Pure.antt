@@ -1,9 +1,11 @@
 -- `purity`: how freely a value may be moved. Only ASCII white space is trimmed here. Assumes nothing.
 use Prim.Native.Nat.{ℕ, _+_, _-_}
+use Prim.Native.Char.{code}
 use mathlib.Core.Bool.{Bool, true, false, cond, _&&_, _||_}
 use mathlib.Core.List.{List, [], _∷_, _++_}
 use lib.ListN.{length, getD}
 use lib.Dec.{eqb, leb}
+use Rattle.lines.specs.Ascii.{ascii}
 use Rattle.lines.specs.Lf.{within, among, part, same, all}
 use Rattle.names.specs.Names.{isDigit, regOf, isIdent}
 use Rattle.names.specs.declared.RegName.{RegName}
@@ -19,7 +21,7 @@ use Rattle.expr.specs.declared.kinds.Purity.the-variants.{Stable, Ident,
 
 -- tab to carriage return, and the space
 abbrev pub isSpace : ℕ → Bool
-isSpace b = within 9 13 b || eqb b 32
+isSpace b = within 9 13 b || eqb b (code " ")
 
 -- without the white space at the front
 unfoldable pub spaceStart : List ℕ → List ℕ
@@ -56,19 +58,19 @@ namesReg name.None = false
 -- undefined null true false NaN Infinity
 abbrev pub isWord : List ℕ → Bool
 isWord t =
-    same t (117 ∷ 110 ∷ 100 ∷ 101 ∷ 102 ∷ 105 ∷ 110 ∷ 101 ∷ 100 ∷ [])
-    || (same t (110 ∷ 117 ∷ 108 ∷ 108 ∷ [])
-    || (same t (116 ∷ 114 ∷ 117 ∷ 101 ∷ [])
-    || (same t (102 ∷ 97 ∷ 108 ∷ 115 ∷ 101 ∷ [])
-    || (same t (78 ∷ 97 ∷ 78 ∷ []) || same t (73 ∷ 110 ∷ 102 ∷ 105 ∷ 110 ∷ 105 ∷ 116 ∷ 121 ∷ [])))))
+    same t (ascii "undefined")
+    || (same t (ascii "null")
+    || (same t (ascii "true")
+    || (same t (ascii "false")
+    || (same t (ascii "NaN") || same t (ascii "Infinity")))))
 
 -- a digit first, or `-` and a digit
 abbrev pub startsNumber : List ℕ → Bool
-startsNumber t = isDigit (getD t 0 0) || (eqb (getD t 0 0) 45 && isDigit (getD t 1 0))
+startsNumber t = isDigit (getD t 0 0) || (eqb (getD t 0 0) (code "-") && isDigit (getD t 1 0))
 
 -- digits . - + e x _
 abbrev pub isNumberByte : ℕ → Bool
-isNumberByte b = isDigit b || among (46 ∷ 45 ∷ 43 ∷ 101 ∷ 120 ∷ 95 ∷ []) b
+isNumberByte b = isDigit b || among (ascii ".-+ex_") b
 
 -- x first and y last, in two bytes or more
 unfoldable pub wrapped : ℕ → ℕ → List ℕ → Bool
@@ -76,7 +78,7 @@ wrapped x y t = leb 2 (length t) && (eqb (getD t 0 0) x && eqb (getD t (length t
 
 -- in `"` or in `'`: only the first byte and the last are looked at
 abbrev pub isQuoted : List ℕ → Bool
-isQuoted t = wrapped 34 34 t || wrapped 39 39 t
+isQuoted t = wrapped (code "\"") (code "\"") t || wrapped (code "'") (code "'") t
 
 -- what a trimmed text is: an array, or something whose purity does not hang on its parts
 unfoldable pub shapeOf : List ℕ → Shape
@@ -86,7 +88,7 @@ shapeOf t =
     (cond (isWord t) (Plain Stable)
     (cond (startsNumber t) (cond (all isNumberByte t) (Plain Stable) (Plain Effectful))
     (cond (isQuoted t) (Plain Stable)
-    (cond (wrapped 91 93 t) Array
+    (cond (wrapped (code "[") (code "]") t) Array
     (cond (isIdent t) (Plain Ident)
     (Plain Effectful)))))))
 
@@ -98,10 +100,10 @@ inner t = part 1 (length t - 1) t
 
 -- brackets that open, and that close; the depth may go below 0, so the two are counted apart
 unfoldable pub opens : ℕ → ℕ
-opens b = cond (among (40 ∷ 91 ∷ 123 ∷ []) b) 1 0
+opens b = cond (among (ascii "([{") b) 1 0
 
 unfoldable pub closes : ℕ → ℕ
-closes b = cond (among (41 ∷ 93 ∷ 125 ∷ []) b) 1 0
+closes b = cond (among (ascii ")]}") b) 1 0
 
 -- the elements of an array, cut at each comma at depth 0; `now` is what has been read of the present one, o brackets have been opened
 -- and c closed. A last one that is white space alone is left out
@@ -111,7 +113,7 @@ elements [] now o c = cond (all isSpace now) [] (now ∷ [])
 elements (a ∷ s) now o c =
     let ended = now ∷ elements s [] o c in
     let longer = elements s (now ++ (a ∷ [])) (o + opens a) (c + closes a) in
-    cond (eqb a 44 && eqb o c) ended longer
+    cond (eqb a (code ",") && eqb o c) ended longer
 
 -- `pure_expr`
 abbrev pub isPure : Purity → Bool

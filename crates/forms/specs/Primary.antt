@@ -1,8 +1,10 @@
 -- `is_plain_ref`, `is_primary_expr`, `paren_if_needed`: whether a value may stand in a call without parentheses. Assumes nothing.
 use Prim.Native.Nat.{ℕ, zero, suc}
+use Prim.Native.Char.{code}
 use mathlib.Core.Bool.{Bool, true, false, cond, not, _&&_, _||_}
 use mathlib.Core.List.{List, [], _∷_, _++_}
 use lib.Dec.{eqb}
+use Rattle.lines.specs.Ascii.{ascii}
 use Rattle.lines.specs.Lf.{among, partsOf, prefixed}
 use Rattle.text.specs.Class.{isQuote}
 use Rattle.text.specs.Trim.{trimOf}
@@ -17,31 +19,31 @@ allIdents (p ∷ ps) = isIdent p && allIdents ps
 -- `is_plain_ref`: names with a `.` between them
 unfoldable pub isPlainRef : List ℕ → Bool
 unfolding allIdents
-isPlainRef s = allIdents (partsOf 46 (trimOf s))
+isPlainRef s = allIdents (partsOf (code ".") (trimOf s))
 
 -- a word in front that makes a value no primary one: `typeof `, `void `, `delete `, `await `, `yield`, `function`, `class`, `async `
 abbrev pub keyword : List ℕ → Bool
 keyword t =
-    prefixed (116 ∷ 121 ∷ 112 ∷ 101 ∷ 111 ∷ 102 ∷ 32 ∷ []) t
-    || (prefixed (118 ∷ 111 ∷ 105 ∷ 100 ∷ 32 ∷ []) t
-    || (prefixed (100 ∷ 101 ∷ 108 ∷ 101 ∷ 116 ∷ 101 ∷ 32 ∷ []) t
-    || (prefixed (97 ∷ 119 ∷ 97 ∷ 105 ∷ 116 ∷ 32 ∷ []) t
-    || (prefixed (121 ∷ 105 ∷ 101 ∷ 108 ∷ 100 ∷ []) t
-    || (prefixed (102 ∷ 117 ∷ 110 ∷ 99 ∷ 116 ∷ 105 ∷ 111 ∷ 110 ∷ []) t
-    || (prefixed (99 ∷ 108 ∷ 97 ∷ 115 ∷ 115 ∷ []) t
-    || (prefixed (97 ∷ 115 ∷ 121 ∷ 110 ∷ 99 ∷ 32 ∷ []) t)))))))
+    prefixed (ascii "typeof ") t
+    || (prefixed (ascii "void ") t
+    || (prefixed (ascii "delete ") t
+    || (prefixed (ascii "await ") t
+    || (prefixed (ascii "yield") t
+    || (prefixed (ascii "function") t
+    || (prefixed (ascii "class") t
+    || (prefixed (ascii "async ") t)))))))
 
 -- `+-*/%<>=&|^~!?,`
 abbrev pub isOperator : ℕ → Bool
-isOperator x = among (43 ∷ 45 ∷ 42 ∷ 47 ∷ 37 ∷ 60 ∷ 62 ∷ 61 ∷ 38 ∷ 124 ∷ 94 ∷ 126 ∷ 33 ∷ 63 ∷ 44 ∷ []) x
+isOperator x = among (ascii "+-*/%<>=&|^~!?,") x
 
 -- how many brackets have been opened once x is passed; the depth may go below 0, so what opens and what closes are counted apart
 abbrev pub opened : ℕ → ℕ → ℕ
-opened x o = cond (among (40 ∷ 91 ∷ 123 ∷ []) x) (suc o) o
+opened x o = cond (among (ascii "([{") x) (suc o) o
 
 -- how many have been closed
 abbrev pub closed : ℕ → ℕ → ℕ
-closed x c = cond (among (41 ∷ 93 ∷ 125 ∷ []) x) (suc c) c
+closed x c = cond (among (ascii ")]}") x) (suc c) c
 
 -- no operator stands outside brackets and quotes; k bytes of a quote are still to pass, o brackets have been opened and c closed
 unfoldable pub bareGo : List ℕ → ℕ → ℕ → ℕ → Bool
@@ -57,7 +59,7 @@ unfoldable pub primary : List ℕ → Bool
 unfolding bareGo
 primary [] = false
 primary (x ∷ xs) =
-    not (among (45 ∷ 43 ∷ 33 ∷ 126 ∷ 63 ∷ 123 ∷ []) x) && (not (keyword (x ∷ xs)) && bareGo (x ∷ xs) 0 0 0)
+    not (among (ascii "-+!~?{") x) && (not (keyword (x ∷ xs)) && bareGo (x ∷ xs) 0 0 0)
 
 -- `is_primary_expr`
 abbrev pub isPrimary : List ℕ → Bool
@@ -71,4 +73,4 @@ bare rhs afterNew = cond afterNew (isPlainRef rhs) (isPrimary rhs)
 -- `paren_if_needed`
 unfoldable pub parenIfNeeded : List ℕ → Bool → List ℕ
 unfolding bare
-parenIfNeeded rhs afterNew = cond (bare rhs afterNew) rhs (40 ∷ rhs ++ 41 ∷ [])
+parenIfNeeded rhs afterNew = cond (bare rhs afterNew) rhs (code "(" ∷ rhs ++ ascii ")")

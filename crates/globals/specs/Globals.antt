@@ -2,16 +2,17 @@
 use Prim.Native.Nat.{ℕ}
 use mathlib.Core.Bool.{Bool, cond, _||_}
 use mathlib.Core.List.{List, [], _∷_, _++_}
+use Rattle.lines.specs.Ascii.{ascii}
 use Rattle.lines.specs.Lf.{prefixed}
 use Rattle.lines.specs.Acts.{Act, keep, gone, apply}
 use Rattle.text.specs.Trim.{trimOf}
 
 -- `__runtime.DeclareGlobals(` and `__runtime.DeclareGlobalsForInterpreter(`
 abbrev pub globalsWord : List ℕ
-globalsWord = 95 ∷ 95 ∷ 114 ∷ 117 ∷ 110 ∷ 116 ∷ 105 ∷ 109 ∷ 101 ∷ 46 ∷ 68 ∷ 101 ∷ 99 ∷ 108 ∷ 97 ∷ 114 ∷ 101 ∷ 71 ∷ 108 ∷ 111 ∷ 98 ∷ 97 ∷ 108 ∷ 115 ∷ 40 ∷ []
+globalsWord = ascii "__runtime.DeclareGlobals("
 
 abbrev pub interpreterWord : List ℕ
-interpreterWord = 95 ∷ 95 ∷ 114 ∷ 117 ∷ 110 ∷ 116 ∷ 105 ∷ 109 ∷ 101 ∷ 46 ∷ 68 ∷ 101 ∷ 99 ∷ 108 ∷ 97 ∷ 114 ∷ 101 ∷ 71 ∷ 108 ∷ 111 ∷ 98 ∷ 97 ∷ 108 ∷ 115 ∷ 70 ∷ 111 ∷ 114 ∷ 73 ∷ 110 ∷ 116 ∷ 101 ∷ 114 ∷ 112 ∷ 114 ∷ 101 ∷ 116 ∷ 101 ∷ 114 ∷ 40 ∷ []
+interpreterWord = ascii "__runtime.DeclareGlobalsForInterpreter("
 
 -- a line whose trimmed text starts with one of the two
 unfoldable pub isGlobals : List ℕ → Bool
@@ -30,4 +31,4 @@ removeGlobals ls = apply (globalsActs ls) ls
 -- the bytes that a line becomes
 unfoldable pub globalsText : List ℕ → List ℕ
 unfolding isGlobals
-globalsText l = cond (isGlobals l) [] (l ++ 10 ∷ [])
+globalsText l = cond (isGlobals l) [] (l ++ ascii "\n")

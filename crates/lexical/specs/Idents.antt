@@ -1,8 +1,10 @@
 -- `ident_words`: the words of an expression that are no registers. Assumes nothing.
 use Prim.Native.Nat.{ℕ, zero, suc, _+_, _-_, _%_, max}
+use Prim.Native.Char.{code}
 use mathlib.Core.Bool.{Bool, true, false, cond, not, _&&_, _||_}
 use mathlib.Core.List.{List, [], _∷_, _++_}
 use lib.ListN.{length, take, drop}
+use Rattle.lines.specs.Ascii.{ascii}
 use Rattle.lines.specs.Lf.{within, part, prefixed}
 use Rattle.text.specs.Class.{isName}
 use Rattle.text.specs.Utf8Form.{seqLen}
@@ -28,7 +30,7 @@ nameLow c = isName (point c % 256)
 
 -- `ch.is_ascii_digit()`
 abbrev pub digitChar : List ℕ → Bool
-digitChar c = within 48 57 (point c)
+digitChar c = within (code "0") (code "9") (point c)
 
 -- nothing
 abbrev pub empty : List ℕ → Bool
@@ -38,11 +40,11 @@ empty (x ∷ xs) = false
 -- ASCII digits, or nothing
 abbrev pub digits : List ℕ → Bool
 digits [] = true
-digits (d ∷ ds) = within 48 57 d && digits ds
+digits (d ∷ ds) = within (code "0") (code "9") d && digits ds
 
 -- no word: nothing, or an `r` with digits or none
 abbrev pub noWord : List ℕ → Bool
-noWord cur = empty cur || (prefixed (114 ∷ []) cur && digits (drop 1 cur))
+noWord cur = empty cur || (prefixed (ascii "r") cur && digits (drop 1 cur))
 
 -- a word that has ended, where it is one
 unfoldable pub flushWord : List ℕ → List (List ℕ)

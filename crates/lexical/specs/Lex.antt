@@ -1,10 +1,12 @@
 -- Cleaning a line: `strip_lexical`. Comments go, and a literal leaves `S`. Assumes nothing.
 -- The Rust goes over characters. A byte of a character of several bytes is no quote, no `\`, no `/` and no bracket, so bytes do as well.
 use Prim.Native.Nat.{ℕ, zero, suc, _+_, _-_}
+use Prim.Native.Char.{code}
 use mathlib.Core.Bool.{Bool, true, false, cond, not, _&&_, _||_}
 use mathlib.Core.List.{List, [], _∷_, _++_}
 use lib.ListN.{length, take, drop, getD}
 use lib.Dec.{eqb, leb}
+use Rattle.lines.specs.Ascii.{ascii}
 use Rattle.lines.specs.Lf.{prefixed}
 use Rattle.text.specs.Class.{isQuote, opensPattern}
 use Rattle.text.specs.Trim.{whiteChar, toOf}
@@ -23,7 +25,7 @@ quoteLen (x ∷ []) q = 1
 quoteLen (x ∷ y ∷ l) q =
     let escaped = suc (suc (quoteLen l q)) in
     let on = suc (quoteLen (y ∷ l) q) in
-    cond (eqb x 92) escaped (cond (eqb x q) 1 on)
+    cond (eqb x (code "\\")) escaped (cond (eqb x q) 1 on)
 
 -- a pattern: a `/` inside a class `[..]` does not close it
 unfoldable pub patternLen : List ℕ → Bool → ℕ
@@ -34,7 +36,7 @@ patternLen (x ∷ y ∷ l) inside =
     let opened = suc (patternLen (y ∷ l) true) in
     let closed = suc (patternLen (y ∷ l) false) in
     let on = suc (patternLen (y ∷ l) inside) in
-    cond (eqb x 92) escaped (cond (eqb x 91) opened (cond (eqb x 93) closed (cond (eqb x 47 && not inside) 1 on)))
+    cond (eqb x (code "\\")) escaped (cond (eqb x (code "[")) opened (cond (eqb x (code "]")) closed (cond (eqb x (code "/") && not inside) 1 on)))
 
 -- a block comment, after its `/*`
 unfoldable pub commentLen : List ℕ → ℕ
@@ -42,7 +44,7 @@ commentLen [] = 0
 commentLen (x ∷ []) = 1
 commentLen (x ∷ y ∷ l) =
     let on = suc (commentLen (y ∷ l)) in
-    cond (eqb x 42 && eqb y 47) 2 on
+    cond (eqb x (code "*") && eqb y (code "/")) 2 on
 
 -- ---- one token
 
@@ -62,10 +64,10 @@ token n k = record { size = n; kind = k }
 unfoldable pub tokenOf : ℕ → ℕ → List ℕ → Token
 unfolding quoteLen patternLen commentLen
 tokenOf last x xs =
-    cond (eqb x 47 && prefixed (47 ∷ []) xs) (token (suc (length xs)) Gone)
-    (cond (eqb x 47 && prefixed (42 ∷ []) xs) (token (2 + commentLen (drop 1 xs)) Gone)
+    cond (eqb x (code "/") && prefixed (ascii "/") xs) (token (suc (length xs)) Gone)
+    (cond (eqb x (code "/") && prefixed (ascii "*") xs) (token (2 + commentLen (drop 1 xs)) Gone)
     (cond (isQuote x) (token (suc (quoteLen xs x)) Literal)
-    (cond (eqb x 47 && patternAfter last) (token (suc (patternLen xs false)) Literal)
+    (cond (eqb x (code "/") && patternAfter last) (token (suc (patternLen xs false)) Literal)
     (token 1 Kept))))
 
 -- the token at the head of a text; where nothing is left, one of no bytes
@@ -77,7 +79,7 @@ tokenAt last (x ∷ xs) = tokenOf last x xs
 -- what a token that x begins leaves
 abbrev pub leaves : Kind → ℕ → List ℕ
 leaves Kept x = x ∷ []
-leaves Literal x = 83 ∷ []
+leaves Literal x = ascii "S"
 leaves Gone x = []
 
 -- ---- the whole line

@@ -1,8 +1,10 @@
 -- `phi_rhs_pure`: a value of a phi that has no effect. Assumes nothing.
 use Prim.Native.Nat.{ℕ}
+use Prim.Native.Char.{code}
 use mathlib.Core.Bool.{Bool, false, not, _&&_, _||_}
 use mathlib.Core.List.{List, [], _∷_}
 use lib.Dec.{eqb}
+use Rattle.lines.specs.Ascii.{ascii}
 use Rattle.lines.specs.Lf.{among, prefixed}
 use Rattle.lexical.specs.declared.Seen.{Seen}
 use Rattle.lexical.specs.Lex.{stripLexical}
@@ -16,12 +18,12 @@ anyOf bs (c ∷ cs) = among bs c || anyOf bs cs
 unfoldable pub assigns : List ℕ → ℕ → Bool
 assigns [] prev = false
 assigns (c ∷ cs) prev =
-    (eqb c 61 && (not (among (61 ∷ 33 ∷ 60 ∷ 62 ∷ []) prev) && not (prefixed (61 ∷ []) cs))) || assigns cs c
+    (eqb c (code "=") && (not (among (ascii "=!<>") prev) && not (prefixed (ascii "=") cs))) || assigns cs c
 
 -- no `(`, no `[`, no `.` and no assignment in the cleaned text
 unfoldable pub phiPure : List ℕ → Bool
 unfolding anyOf assigns
-phiPure t = not (anyOf (40 ∷ 91 ∷ 46 ∷ []) t) && not (assigns t 32)
+phiPure t = not (anyOf (ascii "([.") t) && not (assigns t (code " "))
 
 -- `phi_rhs_pure`
 unfoldable pub phiRhsPure : List ℕ → Bool
@@ -34,8 +36,8 @@ phiRhsPure rhs = phiPure (stripLexical rhs)
 unfoldable pub sees : Seen → ℕ → Seen
 sees w c = record {
   prev = c;
-  waits = eqb c 61 && not (among (61 ∷ 33 ∷ 60 ∷ 62 ∷ []) (w .prev));
-  effect = w .effect || (among (40 ∷ 91 ∷ 46 ∷ []) c || (w .waits && not (eqb c 61)));
+  waits = eqb c (code "=") && not (among (ascii "=!<>") (w .prev));
+  effect = w .effect || (among (ascii "([.") c || (w .waits && not (eqb c (code "="))));
 }
 
 -- further bytes after those seen
@@ -46,4 +48,4 @@ seesAll w (c ∷ cs) = seesAll (sees w c) cs
 
 -- nothing seen
 abbrev pub unseen : Seen
-unseen = record { prev = 32; waits = false; effect = false }
+unseen = record { prev = code " "; waits = false; effect = false }

@@ -1,8 +1,10 @@
 -- Plain bytes: a line leaves them as they are, and none of them is a brace. Assumes nothing.
 use Prim.Native.Nat.{ℕ, suc}
+use Prim.Native.Char.{code}
 use mathlib.Core.Bool.{Bool, cond, not, _&&_, _||_}
 use mathlib.Core.List.{List, [], _∷_}
 use lib.Dec.{eqb, leb, ltb}
+use Rattle.lines.specs.Ascii.{ascii}
 use Rattle.lines.specs.Lf.{all, among, lacks}
 use Rattle.text.specs.White.{isWhite}
 use Rattle.lexical.specs.declared.Tail.{Tail}
@@ -10,7 +12,7 @@ use Rattle.lexical.specs.Lex.{backByte, front}
 
 -- below 123, and no LF, no quote and no `/`
 abbrev pub isPlain : ℕ → Bool
-isPlain b = leb b 122 && not (among (10 ∷ 34 ∷ 39 ∷ 47 ∷ 96 ∷ []) b)
+isPlain b = leb b (code "z") && not (among (ascii "\n\"'/`") b)
 
 -- how many plain bytes stand at the head of a text
 unfoldable pub plainLen : List ℕ → ℕ
@@ -19,11 +21,11 @@ plainLen (x ∷ xs) = cond (isPlain x) (suc (plainLen xs)) 0
 
 -- a space, or from `(` to `z`: plain but for `/` and the backtick
 abbrev pub isMild : ℕ → Bool
-isMild b = eqb b 32 || (leb 40 b && ltb b 123)
+isMild b = eqb b (code " ") || (leb (code "(") b && ltb b (code "{"))
 
 -- bytes that are all mild, and none of them is `/` or a backtick
 unfoldable pub tame : List ℕ → Bool
-tame l = all (λ (x : ℕ). isMild x) l && (lacks 47 l && lacks 96 l)
+tame l = all (λ (x : ℕ). isMild x) l && (lacks (code "/") l && lacks (code "`") l)
 
 -- the last character, once bytes below 128 stand after a text with this last one
 unfoldable pub lowLast : ℕ → List ℕ → ℕ

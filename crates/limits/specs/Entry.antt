@@ -1,5 +1,6 @@
 -- What the entries answer, and what stands in the lent buffers afterwards. Assumes nothing.
 use Prim.Native.Nat.{ℕ}
+use Prim.Native.Char.{code}
 use mathlib.Core.Bool.{Bool, cond, _||_}
 use mathlib.Core.List.{List, _++_}
 use lib.Dec.{ltb}
@@ -39,7 +40,7 @@ byCrowd (crowd-is.At n) fine = Crowded n
 
 -- by its lines
 unfoldable pub checkedLines : List ℕ → Answer → Answer
-checkedLines t fine = cond (ltb 1024 (length (splitLines t))) TooManyLines (byCrowd (overFrom 64 91 0 (splitLines t)) fine)
+checkedLines t fine = cond (ltb 1024 (length (splitLines t))) TooManyLines (byCrowd (overFrom 64 (code "[") 0 (splitLines t)) fine)
 
 unfoldable pub checked : Bool → List ℕ → Answer → Answer
 unfolding checkedLines

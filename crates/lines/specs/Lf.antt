@@ -1,5 +1,6 @@
 -- Bytes, parts of them, and LF form: every line followed by one LF. Assumes nothing.
 use Prim.Native.Nat.{ℕ, zero, suc, _+_, _-_, _*_}
+use Prim.Native.Char.{code}
 use mathlib.Core.Bool.{Bool, true, false, cond, _&&_, _||_}
 use mathlib.Core.List.{List, [], _∷_, _++_}
 use lib.ListN.{length, take, drop, getD}
@@ -31,7 +32,7 @@ upTo b (x ∷ xs) = cond (eqb x b) 0 (suc (upTo b xs))
 -- where the line begins that ends at the place e: after the last LF before it, or at the front
 unfoldable pub lineStart : List ℕ → ℕ → ℕ
 lineStart s zero = 0
-lineStart s (suc j) = cond (eqb (getD s j 0) 10) (suc j) (lineStart s j)
+lineStart s (suc j) = cond (eqb (getD s j 0) (code "\n")) (suc j) (lineStart s j)
 
 -- the number that bytes are, the first of them lowest
 unfoldable pub word : List ℕ → ℕ
@@ -88,7 +89,7 @@ cutOn false x (l ∷ ls) = (x ∷ l) ∷ ls
 unfoldable pub linesOf : List ℕ → List (List ℕ)
 unfolding cutOn
 linesOf [] = []
-linesOf (x ∷ xs) = cutOn (eqb x 10) x (linesOf xs)
+linesOf (x ∷ xs) = cutOn (eqb x (code "\n")) x (linesOf xs)
 
 -- the pieces between the bytes b, `split(b)`: one more than there are of these
 unfoldable pub partsOf : ℕ → List ℕ → List (List ℕ)
@@ -99,7 +100,7 @@ partsOf b (x ∷ xs) = cutOn (eqb x b) x (partsOf b xs)
 -- LF form: every line followed by one LF
 unfoldable pub unlines : List (List ℕ) → List ℕ
 unlines [] = []
-unlines (l ∷ ls) = l ++ 10 ∷ unlines ls
+unlines (l ∷ ls) = l ++ code "\n" ∷ unlines ls
 
 -- no byte is b
 unfoldable pub lacks : ℕ → List ℕ → Bool
@@ -110,4 +111,4 @@ lacks b (x ∷ xs) = cond (eqb x b) false (lacks b xs)
 unfoldable pub noLf : List (List ℕ) → Bool
 unfolding lacks
 noLf [] = true
-noLf (l ∷ ls) = lacks 10 l && noLf ls
+noLf (l ∷ ls) = lacks (code "\n") l && noLf ls

@@ -1,3 +1,4 @@
+pub mod Ascii
 pub mod Lf
 pub mod Out
 pub mod Steps

@@ -1,8 +1,10 @@
 -- The first step, from a text to its lines, and the last, from lines to a text. Assumes nothing.
 use Prim.Native.Nat.{ℕ, zero, suc, _+_, _-_}
+use Prim.Native.Char.{code}
 use mathlib.Core.Bool.{Bool, true, false, cond, not, _&&_}
 use mathlib.Core.List.{List, [], _∷_, _++_}
 use lib.Dec.{eqb, ltb}
+use Rattle.lines.specs.Ascii.{ascii}
 use Rattle.lines.specs.declared.Crowded.{Crowded}
 use Rattle.lines.specs.declared.Crowded.the-variants.{At, Nowhere}
 use Rattle.lines.specs.Lf.{countOf, prefixed, endsIn, linesOf}
@@ -13,7 +15,7 @@ dropCr [] = []
 dropCr (x ∷ xs) =
     let rest = dropCr xs in
     let kept = x ∷ rest in
-    cond (eqb x 13 && prefixed (10 ∷ []) xs) rest kept
+    cond (eqb x (code "\r") && prefixed (ascii "\n") xs) rest kept
 
 -- `text.lines()`: cut at each LF; a CR just before it goes with it, and a CR that ends a last line without LF stays
 unfoldable pub splitLines : List ℕ → List (List ℕ)
@@ -23,11 +25,11 @@ splitLines t = linesOf (dropCr t)
 unfoldable pub joinLines : List (List ℕ) → List ℕ
 joinLines [] = []
 joinLines (l ∷ []) = l
-joinLines (l ∷ m ∷ ls) = l ++ 10 ∷ joinLines (m ∷ ls)
+joinLines (l ∷ m ∷ ls) = l ++ code "\n" ∷ joinLines (m ∷ ls)
 
 -- where the text ended in LF and the joined text does not, one LF is added
 unfoldable pub settle : Bool → List ℕ → List ℕ
-settle ended out = cond (ended && not (endsIn 10 out)) (out ++ 10 ∷ []) out
+settle ended out = cond (ended && not (endsIn (code "\n") out)) (out ++ ascii "\n") out
 
 -- the last step
 unfoldable pub joined : Bool → List (List ℕ) → List ℕ

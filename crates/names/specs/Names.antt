@@ -1,9 +1,11 @@
 -- The names of registers, phis and temps. Assumes nothing.
 use Prim.Native.Nat.{ℕ, zero, suc, _+_, _-_, _*_, _/_, _%_, _^_}
+use Prim.Native.Char.{code}
 use mathlib.Core.Bool.{Bool, true, false, cond, not, _&&_}
 use mathlib.Core.List.{List, [], _∷_, _++_}
 use lib.ListN.{length, drop}
 use lib.Dec.{eqb, ltb}
+use Rattle.lines.specs.Ascii.{ascii}
 use Rattle.lines.specs.Lf.{within, all, prefixed}
 use Rattle.text.specs.Class.{isName}
 use Rattle.names.specs.declared.Number.{Number}
@@ -17,7 +19,7 @@ use Rattle.names.specs.declared.PhiName.the-variants as phi
 
 -- `0` to `9`
 abbrev pub isDigit : ℕ → Bool
-isDigit d = within 48 57 d
+isDigit d = within (code "0") (code "9") d
 
 -- digits alone
 abbrev pub allDigits : List ℕ → Bool
@@ -26,7 +28,7 @@ allDigits ds = all (λ (d : ℕ). isDigit d) ds
 -- the decimal value of digits, after digits of the value v
 abbrev pub value : ℕ → List ℕ → ℕ
 value v [] = v
-value v (d ∷ ds) = value (v * 10 + (d - 48)) ds
+value v (d ∷ ds) = value (v * 10 + (d - code "0")) ds
 
 -- digits alone, after digits of the value v, whose value fits 64 bits
 unfoldable pub numbered : ℕ → List ℕ → Number
@@ -42,12 +44,12 @@ numberOf (d ∷ ds) = numbered 0 (d ∷ ds)
 unfoldable pub zeros : List ℕ → ℕ
 zeros [] = 0
 zeros (x ∷ []) = 0
-zeros (x ∷ d ∷ ds) = cond (eqb x 48) (suc (zeros (d ∷ ds))) 0
+zeros (x ∷ d ∷ ds) = cond (eqb x (code "0")) (suc (zeros (d ∷ ds))) 0
 
 -- the decimal digits of a number below 10 to the k + 1, without leading zeros
 unfoldable pub decimalBy : ℕ → ℕ → List ℕ
-decimalBy zero n = (48 + n) ∷ []
-decimalBy (suc k) n = cond (ltb n 10) ((48 + n) ∷ []) (decimalBy k (n / 10) ++ ((48 + n % 10) ∷ []))
+decimalBy zero n = (code "0" + n) ∷ []
+decimalBy (suc k) n = cond (ltb n 10) ((code "0" + n) ∷ []) (decimalBy k (n / 10) ++ ((code "0" + n % 10) ∷ []))
 
 -- `{n}`: a number of 64 bits as it is printed
 unfoldable pub decimal : ℕ → List ℕ
@@ -58,15 +60,15 @@ decimal n = decimalBy 19 n
 
 -- `r`
 abbrev pub regWord : List ℕ
-regWord = 114 ∷ []
+regWord = ascii "r"
 
 -- `phi`
 abbrev pub phiWord : List ℕ
-phiWord = 112 ∷ 104 ∷ 105 ∷ []
+phiWord = ascii "phi"
 
 -- `t`
 abbrev pub tempWord : List ℕ
-tempWord = 116 ∷ []
+tempWord = ascii "t"
 
 -- the number that follows a word, where the word stands in front
 unfoldable pub numberAfter : List ℕ → List ℕ → Number

@@ -1,6 +1,7 @@
 -- Tables over registers, of the next lines that read and store each one, and one over lines, of what each is and of what becomes of what it
 -- stores: what lines leave in them, and what they then say. Assumes nothing.
 use Prim.Native.Nat.{ℕ, zero, suc, _+_, _-_, _≤_, _<_}
+use Prim.Native.Char.{code}
 use mathlib.Core.Path.{_≡_}
 use mathlib.Core.Bool.{Bool, true, false, cond, not, _&&_, _||_}
 use mathlib.Core.List.{List, [], _∷_}
@@ -86,7 +87,7 @@ areaOf run (l ∷ ls) (suc k) = areaOf (regionAt l ls run) ls k
 
 -- a text of at most c bytes holds no `(`
 abbrev pub CalmIn : List ℕ → ℕ → Type 0
-CalmIn s c = length s ≤ c → lacks 40 s ≡ true
+CalmIn s c = length s ≤ c → lacks (code "(") s ≡ true
 
 -- so of every rest of a text
 abbrev pub Calm : List ℕ → ℕ → Type 0
@@ -96,12 +97,12 @@ Calm s c = (j : ℕ) → CalmIn (drop j s) c
 
 -- the line at i ends at e, and is read as p
 abbrev pub LineAt : List ℕ → ℕ → ℕ → Line → Type 0
-LineAt s i e p = (e ≡ i + upTo 10 (drop i s)) × (p ≡ parseOf (part i e s))
+LineAt s i e p = (e ≡ i + upTo (code "\n") (drop i s)) × (p ≡ parseOf (part i e s))
 
 -- the line at i, which is there, ends at e and has k lines above it
 pub record RowAt (s : List ℕ) (i e k : ℕ) : Type 0 where
   pub here : i < length s
-  pub end : e ≡ i + upTo 10 (drop i s)
+  pub end : e ≡ i + upTo (code "\n") (drop i s)
   pub above : k ≤ i
   pub rows : linesOf (drop i s) ≡ drop k (linesOf s)
 
@@ -109,15 +110,15 @@ pub record RowAt (s : List ℕ) (i e k : ℕ) : Type 0 where
 
 -- a line of a text begins at r: an LF stands before it, where anything does
 abbrev pub Begins : List ℕ → ℕ → Type 0
-Begins s r = (k : ℕ) → r ≡ suc k → getD s k 0 ≡ 10
+Begins s r = (k : ℕ) → r ≡ suc k → getD s k 0 ≡ code "\n"
 
 -- the line that ends at e begins at r
 abbrev pub StartOf : List ℕ → ℕ → ℕ → Type 0
-StartOf s e r = (e ≡ r + upTo 10 (drop r s)) × Begins s r
+StartOf s e r = (e ≡ r + upTo (code "\n") (drop r s)) × Begins s r
 
 -- the line that begins at j ends at the place m, where that is not 0
 abbrev pub EndIs : List ℕ → ℕ → ℕ → Type 0
-EndIs s j m = 0 < m → m ≡ j + upTo 10 (drop j s)
+EndIs s j m = 0 < m → m ≡ j + upTo (code "\n") (drop j s)
 
 -- a table has the places where the lines of a text end; 0 says nothing
 abbrev pub EndsOf : List ℕ → List ℕ → Type 0

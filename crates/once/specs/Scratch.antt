@@ -1,9 +1,11 @@
 -- `call_scratch_lines`: a load of a member whose value nothing reads, where a call of the same member follows. Assumes nothing.
 use Prim.Native.Nat.{ℕ, suc}
+use Prim.Native.Char.{code}
 use mathlib.Core.Bool.{Bool, true, false, cond, not, _&&_, _||_}
 use mathlib.Core.List.{List, [], _∷_, _++_}
 use lib.ListN.{length, take, drop}
 use lib.Dec.{ltb}
+use Rattle.lines.specs.Ascii.{ascii}
 use Rattle.lines.specs.Lf.{upTo, holds}
 use Rattle.names.specs.Names.{regOf, isIdent}
 use Rattle.names.specs.declared.RegName.{RegName}
@@ -16,10 +18,10 @@ use Rattle.reading.specs.Uses.{lineReads, lineStores}
 -- ---- a bare member read, `A.B` with both simple names
 
 abbrev pub objectOf : List ℕ → List ℕ
-objectOf x = take (upTo 46 x) x
+objectOf x = take (upTo (code ".") x) x
 
 unfoldable pub isMember : List ℕ → Bool
-isMember x = ltb (upTo 46 x) (length x) && (isIdent (objectOf x) && isIdent (drop (suc (upTo 46 x)) x))
+isMember x = ltb (upTo (code ".") x) (length x) && (isIdent (objectOf x) && isIdent (drop (suc (upTo (code ".") x)) x))
 
 -- ---- below the load, down to the end of its region
 
@@ -41,7 +43,7 @@ unfoldable pub calledBelow : List ℕ → List (List ℕ) → Bool
 calledBelow x [] = false
 calledBelow x (l ∷ ls) =
     let more = calledBelow x ls in
-    let on = holds (x ++ 40 ∷ []) l || (not (changesBy (regOf (objectOf x)) (objectOf x) l) && more) in
+    let on = holds (x ++ ascii "(") l || (not (changesBy (regOf (objectOf x)) (objectOf x) l) && more) in
     cond (isHeader l) false on
 
 -- a store of register v with the value x, above ls, is such a load

@@ -5,6 +5,7 @@ use mathlib.Core.Bool.{Bool, true, false, cond, not, _&&_, _||_}
 use mathlib.Core.List.{List, [], _∷_, _++_}
 use lib.Dec.{eqb, ltb}
 use lib.ListN.{length, take, drop, replicate}
+use Rattle.lines.specs.Ascii.{ascii}
 use Rattle.parse.specs.Parse.{parseOf, textOf}
 use Rattle.parse.specs.declared.Line.{Line}
 use Rattle.parse.specs.declared.Line.the-variants as line
@@ -43,7 +44,7 @@ unfoldable pub anyCall : List ℕ → List (List ℕ) → Bool
 anyCall x [] = false
 anyCall x (l ∷ ls) =
     let more = anyCall x ls in
-    cond (isHeader l) false (holds (x ++ 40 ∷ []) l || more)
+    cond (isHeader l) false (holds (x ++ ascii "(") l || more)
 
 -- ---- the same tests on one line, over the lines below it and their numbers
 

@@ -1,9 +1,11 @@
 -- Reading a line: a declaration, a store with its register and value, or other. Assumes nothing.
 use Prim.Native.Nat.{ℕ, zero, suc, _+_, _-_}
+use Prim.Native.Char.{code}
 use mathlib.Core.Bool.{Bool, true, false, cond, not, _&&_, _||_}
 use mathlib.Core.List.{List, [], _∷_, _++_}
 use lib.ListN.{length, take, drop, getD}
 use lib.Dec.{eqb, leb, ltb}
+use Rattle.lines.specs.Ascii.{ascii}
 use Rattle.lines.specs.Lf.{part, upTo, partsOf, prefixed, endsIn}
 use Rattle.text.specs.Trim.{fromOf, toEnd, trimOf}
 use Rattle.names.specs.Names.{isDigit, regOf}
@@ -17,7 +19,7 @@ use Rattle.parse.specs.declared.Line.the-variants as line
 
 -- `let `
 abbrev pub letWord : List ℕ
-letWord = 108 ∷ 101 ∷ 116 ∷ 32 ∷ []
+letWord = ascii "let "
 
 -- what stands between `let ` and `;`
 abbrev pub bodyOf : List ℕ → List ℕ
@@ -39,11 +41,11 @@ digitsLen (x ∷ xs) = cond (isDigit x) (suc (digitsLen xs)) 0
 
 -- at the place a stand `r` and a digit, and then a comma or the end
 abbrev pub shortReg : ℕ → List ℕ → Bool
-shortReg a l = leb (a + 2) (length l) && ((eqb (getD l a 0) 114 && isDigit (getD l (a + 1) 0)) && (eqb (a + 2) (length l) || eqb (getD l (a + 2) 0) 44))
+shortReg a l = leb (a + 2) (length l) && ((eqb (getD l a 0) (code "r") && isDigit (getD l (a + 1) 0)) && (eqb (a + 2) (length l) || eqb (getD l (a + 2) 0) (code ",")))
 
 -- a trimmed line is a declaration
 unfoldable pub isDecl : List ℕ → Bool
-isDecl t = ltb 4 (length t) && (prefixed letWord t && (endsIn 59 t && allRegs (partsOf 44 (bodyOf t))))
+isDecl t = ltb 4 (length t) && (prefixed letWord t && (endsIn (code ";") t && allRegs (partsOf (code ",") (bodyOf t))))
 
 -- ---- a store: ends in `;`; split at the first `=`; the left side trimmed is a register; the right side does not start with `=`
 
@@ -56,23 +58,23 @@ storeBy (name.Reg q) b rhs = line.Store (record { reg = q; from = b + fromOf rhs
 -- without the last byte, split at the first `=`, of a text that begins at the place a
 abbrev pub splitStore : ℕ → List ℕ → Line
 splitStore a u =
-    cond (ltb (upTo 61 u) (length u) && not (eqb (getD u (upTo 61 u + 1) 0) 61))
-    (storeBy (regOf (trimOf (take (upTo 61 u) u))) (a + (upTo 61 u + 1)) (drop (upTo 61 u + 1) u)) line.Other
+    cond (ltb (upTo (code "=") u) (length u) && not (eqb (getD u (upTo (code "=") u + 1) 0) (code "=")))
+    (storeBy (regOf (trimOf (take (upTo (code "=") u) u))) (a + (upTo (code "=") u + 1)) (drop (upTo (code "=") u + 1) u)) line.Other
 
 -- a trimmed line that is no declaration, and begins at the place a
 unfoldable pub storeIn : ℕ → List ℕ → Line
-storeIn a t = cond (endsIn 59 t) (splitStore a (take (length t - 1) t)) line.Other
+storeIn a t = cond (endsIn (code ";") t) (splitStore a (take (length t - 1) t)) line.Other
 
 -- a byte of ASCII above the space: it is no white space, nor part of one
 abbrev pub plainByte : ℕ → Bool
-plainByte b = ltb 32 b && ltb b 128
+plainByte b = ltb (code " ") b && ltb b 128
 
 -- at the place e stand ` = `, then a value that begins and ends with such bytes, and then `;`, which is the last byte
 abbrev pub plainValue : ℕ → List ℕ → Bool
 plainValue e l =
     leb (e + 5) (length l)
-    && (eqb (getD l e 0) 32 && (eqb (getD l (e + 1) 0) 61 && (eqb (getD l (e + 2) 0) 32
-    && (plainByte (getD l (e + 3) 0) && (plainByte (getD l (length l - 2) 0) && eqb (getD l (length l - 1) 0) 59)))))
+    && (eqb (getD l e 0) (code " ") && (eqb (getD l (e + 1) 0) (code "=") && (eqb (getD l (e + 2) 0) (code " ")
+    && (plainByte (getD l (e + 3) 0) && (plainByte (getD l (length l - 2) 0) && eqb (getD l (length l - 1) 0) (code ";"))))))
 
 -- `parse`
 unfoldable pub parseOf : List ℕ → Line

@@ -1,5 +1,6 @@
 -- Passes one after the other, and the text that comes out. Assumes nothing.
 use Prim.Native.Nat.{ℕ, zero, suc}
+use Prim.Native.Char.{code}
 use mathlib.Core.List.{List}
 use Rattle.lines.specs.Lf.{endsIn}
 use Rattle.lines.specs.Steps.{splitLines, joined}
@@ -14,4 +15,4 @@ stepsOf R k (suc n) ls = stepsOf R (suc k) n (stepOf R k ls)
 
 -- the text that a text becomes, where its lines become others
 unfoldable pub resultOf : (List (List ℕ) → List (List ℕ)) → List ℕ → List ℕ
-resultOf f t = joined (endsIn 10 t) (f (splitLines t))
+resultOf f t = joined (endsIn (code "\n") t) (f (splitLines t))

@@ -1,9 +1,11 @@
 -- `prune_dead_phis`: stores of phis that nothing reads go, and their names leave the declarations; at most 3 rounds. Assumes nothing.
 use Prim.Native.Nat.{ℕ}
+use Prim.Native.Char.{code}
 use mathlib.Core.Bool.{Bool, true, false, cond, not, _&&_, _||_}
 use mathlib.Core.List.{List, [], _∷_, _++_}
 use lib.ListN.{length, take}
 use lib.Dec.{eqb, ltb}
+use Rattle.lines.specs.Ascii.{ascii}
 use Rattle.lines.specs.Lf.{partsOf, prefixed, endsIn}
 use Rattle.lines.specs.Acts.{Act, keep, become, gone, apply}
 use Rattle.text.specs.Trim.{fromOf, trimStart, trimOf}
@@ -21,7 +23,7 @@ use Rattle.reading.specs.Assign.{isAssign, leftOf, rightOf}
 
 -- `let ` .. `;`
 unfoldable pub isLet : List ℕ → Bool
-isLet t = ltb 4 (length t) && (prefixed letWord t && endsIn 59 t)
+isLet t = ltb 4 (length t) && (prefixed letWord t && endsIn (code ";") t)
 
 abbrev pub isPhi : PhiName → Bool
 isPhi name.None = false
@@ -34,7 +36,7 @@ allPhis (p ∷ ps) = isPhi (phiOf (trimOf p)) && allPhis ps
 -- a declaration of phis alone
 unfoldable pub phiDecl : List ℕ → Bool
 unfolding isLet allPhis
-phiDecl t = isLet t && allPhis (partsOf 44 (bodyOf t))
+phiDecl t = isLet t && allPhis (partsOf (code ",") (bodyOf t))
 
 -- one of the pieces is phi p
 unfoldable pub anyPhi : ℕ → List (List ℕ) → Bool
@@ -52,7 +54,7 @@ phiStore t = cond (not (isLet t) && isAssign t) (phiOf (leftOf t)) name.None
 -- a text, its front trimmed, stores phi p or is a declaration of phis that has it
 unfoldable pub phiOwn : ℕ → List ℕ → Bool
 unfolding phiStore phiDecl anyPhi
-phiOwn p t = phiIs p (phiStore t) || (phiDecl t && anyPhi p (partsOf 44 (bodyOf t)))
+phiOwn p t = phiIs p (phiStore t) || (phiDecl t && anyPhi p (partsOf (code ",") (bodyOf t)))
 
 -- a line mentions phi p, and neither stores nor declares it
 unfoldable pub phiReads : ℕ → List ℕ → Bool
@@ -95,13 +97,13 @@ livePhis ls (p ∷ ps) = livePhi ls (phiOf (trimOf p)) ++ livePhis ls ps
 
 -- a store of a dead phi: it goes where its value is pure by either test, and else its value stays as a statement
 abbrev pub storeAct : Reading → List ℕ → List ℕ → Act
-storeAct R indent rhs = cond (pureIn R rhs || phiRhsPure rhs) gone (become (indent ++ rhs ++ 59 ∷ []))
+storeAct R indent rhs = cond (pureIn R rhs || phiRhsPure rhs) gone (become (indent ++ rhs ++ ascii ";"))
 
 unfoldable pub phiAct : Reading → List (List ℕ) → List ℕ → Act
 unfolding livePhis declAct
 phiAct R ls l =
     cond (deadBy (phiStore (trimStart l)) ls) (storeAct R (take (fromOf l) l) (rightOf (trimStart l)))
-    (cond (phiDecl (trimStart l)) (declAct (take (fromOf l) l) (livePhis ls (partsOf 44 (bodyOf (trimStart l))))) keep)
+    (cond (phiDecl (trimStart l)) (declAct (take (fromOf l) l) (livePhis ls (partsOf (code ",") (bodyOf (trimStart l))))) keep)
 
 unfoldable pub phiActs : Reading → List (List ℕ) → List (List ℕ) → List Act
 unfolding phiAct

@@ -3,6 +3,7 @@ use Prim.Native.Nat.{ℕ, max}
 use mathlib.Core.Bool.{Bool, false, cond, not, _||_}
 use mathlib.Core.List.{List, [], _∷_, _++_}
 use lib.ListN.{length}
+use Rattle.lines.specs.Ascii.{ascii}
 use Rattle.lines.specs.Lf.{linesOf, unlines}
 use Rattle.lines.specs.Acts.{act}
 use Rattle.names.specs.Names.{phiOf}
@@ -23,7 +24,7 @@ live ls t = liveBy ls (phiOf t)
 
 -- the bytes that a store of a dead phi becomes
 unfoldable pub storeText : Reading → List ℕ → List ℕ → List ℕ
-storeText R indent rhs = cond (pureIn R rhs || phiRhsPure rhs) [] (indent ++ rhs ++ 59 ∷ 10 ∷ [])
+storeText R indent rhs = cond (pureIn R rhs || phiRhsPure rhs) [] (indent ++ rhs ++ ascii ";\n")
 
 -- the bytes that a line becomes, where the text ls has a dead phi
 unfoldable pub changeText : Reading → List (List ℕ) → List ℕ → List ℕ

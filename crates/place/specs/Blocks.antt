@@ -1,5 +1,6 @@
 -- `block_ids`, over lines that are cleaned already: every brace counts. Assumes nothing.
 use Prim.Native.Nat.{ℕ, zero, suc, _+_}
+use Prim.Native.Char.{code}
 use mathlib.Core.Bool.{Bool, true, false, cond, _&&_}
 use mathlib.Core.List.{List, [], _∷_}
 use lib.ListN.{drop}
@@ -14,7 +15,7 @@ pub data Brace : Type 0 where
 
 -- `{` opens one, and `}` closes one
 unfoldable pub braceOf : ℕ → Brace
-braceOf x = cond (eqb x 123) opens (cond (eqb x 125) closes plain)
+braceOf x = cond (eqb x (code "{")) opens (cond (eqb x (code "}")) closes plain)
 
 -- the numbers of the open blocks, the innermost first; the Rust's 0 at the bottom is left out, and n is the next number
 unfoldable pub push : Brace → ℕ → List ℕ → List ℕ

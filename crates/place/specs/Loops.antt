@@ -1,8 +1,10 @@
 -- `inside_loop`: whether a line stands in the body of a loop, by the `{` at the end of a trimmed line and every `}` in it. Assumes nothing.
 use Prim.Native.Nat.{ℕ, zero, suc, _-_}
+use Prim.Native.Char.{code}
 use mathlib.Core.Bool.{Bool, true, false, cond, _&&_, _||_}
 use mathlib.Core.List.{List, [], _∷_}
 use lib.ListN.{drop}
+use Rattle.lines.specs.Ascii.{ascii}
 use Rattle.lines.specs.Lf.{countOf, prefixed, suffixed, same, holds, endsIn}
 use lib.Dec.{eqb, ltb}
 use Rattle.text.specs.Trim.{trimOf}
@@ -11,13 +13,13 @@ use Rattle.place.specs.declared.Nest.{Nest}
 -- a trimmed line begins a loop
 unfoldable pub opensLoop : List ℕ → Bool
 opensLoop t =
-    prefixed (119 ∷ 104 ∷ 105 ∷ 108 ∷ 101 ∷ 32 ∷ 40 ∷ []) t
-    || (prefixed (119 ∷ 104 ∷ 105 ∷ 108 ∷ 101 ∷ 40 ∷ []) t
-    || (prefixed (102 ∷ 111 ∷ 114 ∷ 32 ∷ 40 ∷ []) t
-    || (prefixed (102 ∷ 111 ∷ 114 ∷ 40 ∷ []) t
-    || (same t (100 ∷ 111 ∷ 32 ∷ 123 ∷ [])
-    || (suffixed (32 ∷ 100 ∷ 111 ∷ 32 ∷ 123 ∷ []) t
-    || (holds (58 ∷ 32 ∷ 119 ∷ 104 ∷ 105 ∷ 108 ∷ 101 ∷ 32 ∷ 40 ∷ []) t || holds (58 ∷ 32 ∷ 102 ∷ 111 ∷ 114 ∷ 32 ∷ 40 ∷ []) t))))))
+    prefixed (ascii "while (") t
+    || (prefixed (ascii "while(") t
+    || (prefixed (ascii "for (") t
+    || (prefixed (ascii "for(") t
+    || (same t (ascii "do {")
+    || (suffixed (ascii " do {") t
+    || (holds (ascii ": while (") t || holds (ascii ": for (") t))))))
 
 -- one of the open blocks is a loop's
 unfoldable pub anyLoop : List Bool → Bool
@@ -27,7 +29,7 @@ anyLoop (b ∷ bs) = b || anyLoop bs
 -- the open blocks after a trimmed line, each with whether it is a loop's, the innermost first
 unfoldable pub loopsAfter : List ℕ → List Bool → List Bool
 unfolding opensLoop
-loopsAfter t s = drop (countOf 125 t) (cond (endsIn 123 t) (opensLoop t ∷ s) s)
+loopsAfter t s = drop (countOf (code "}") t) (cond (endsIn (code "{") t) (opensLoop t ∷ s) s)
 
 -- for each line whether a loop's block is open where it begins
 unfoldable pub loopsGo : List (List ℕ) → List Bool → List Bool
@@ -49,7 +51,7 @@ nest d o = record { depth = d; outer = o }
 -- after the brace at the end of a trimmed line
 unfoldable pub nestOpen : List ℕ → ℕ → ℕ → Nest
 unfolding opensLoop
-nestOpen t d o = cond (endsIn 123 t) (nest (suc d) (cond (eqb o 0 && opensLoop t) (suc d) o)) (nest d o)
+nestOpen t d o = cond (endsIn (code "{") t) (nest (suc d) (cond (eqb o 0 && opensLoop t) (suc d) o)) (nest d o)
 
 -- after k blocks have been closed
 unfoldable pub nestClose : ℕ → ℕ → ℕ → Nest
@@ -58,14 +60,14 @@ nestClose k d o = nest (d - k) (cond (ltb (d - k) o) 0 o)
 -- after a trimmed line
 unfoldable pub nestLine : List ℕ → ℕ → ℕ → Nest
 unfolding nestOpen nestClose
-nestLine t d o = nestClose (countOf 125 t) (nestOpen t d o .depth) (nestOpen t d o .outer)
+nestLine t d o = nestClose (countOf (code "}") t) (nestOpen t d o .depth) (nestOpen t d o .outer)
 
 -- ---- where no line opens a loop's block, none stands in a loop
 
 -- a line opens a loop's block
 unfoldable pub startsLoop : List ℕ → Bool
 unfolding opensLoop
-startsLoop l = endsIn 123 (trimOf l) && opensLoop (trimOf l)
+startsLoop l = endsIn (code "{") (trimOf l) && opensLoop (trimOf l)
 
 -- some line does
 unfoldable pub someLoop : List (List ℕ) → Bool

@@ -1,6 +1,7 @@
 -- The open blocks by a table of parents, whatever braces of a line count: entry k is the block around block k + 1. The table is only added to.
 -- Assumes nothing.
 use Prim.Native.Nat.{ℕ, zero, suc, _≤_, _<_, _^_}
+use Prim.Native.Char.{code}
 use mathlib.Core.Path.{_≡_}
 use mathlib.Core.Bool.{Bool, true, false, cond}
 use mathlib.Core.List.{List, [], _∷_, _++_}
@@ -90,7 +91,7 @@ pathPre l = replicate (pathCloses (trimOf l)) closes
 
 -- the block that a trimmed line opens
 unfoldable pub pathOpen : List ℕ → List Brace
-pathOpen t = cond (endsIn 123 t) (opens ∷ []) []
+pathOpen t = cond (endsIn (code "{") t) (opens ∷ []) []
 
 -- and after it the block that the trimmed line opens
 unfoldable pub pathPost : List ℕ → List Brace

@@ -1,24 +1,26 @@
 -- `block_paths`: the chain of open blocks, by the brace at either end of a trimmed line. Assumes nothing.
 use Prim.Native.Nat.{ℕ, zero, suc, _+_, _-_}
+use Prim.Native.Char.{code}
 use mathlib.Core.Bool.{Bool, true, false, cond, not, _&&_}
 use mathlib.Core.List.{List, [], _∷_}
 use lib.ListN.{length, getD, drop}
 use lib.Dec.{eqb, ltb}
+use Rattle.lines.specs.Ascii.{ascii}
 use Rattle.lines.specs.Lf.{countOf, prefixed, endsIn}
 use Rattle.text.specs.Trim.{fromOf, trimOf}
 use Rattle.place.specs.Blocks.{top}
 
 -- how many blocks a trimmed line closes: as many as it has `}`, where it starts with one; one less where it ends in `{`
 unfoldable pub pathCloses : List ℕ → ℕ
-pathCloses t = cond (prefixed (125 ∷ []) t) (countOf 125 t - cond (endsIn 123 t) 1 0) 0
+pathCloses t = cond (prefixed (ascii "}") t) (countOf (code "}") t - cond (endsIn (code "{") t) 1 0) 0
 
 -- the open blocks after a trimmed line: it opens one where it ends in `{`
 unfoldable pub pathAfter : List ℕ → ℕ → List ℕ → List ℕ
-pathAfter t n s = cond (endsIn 123 t) (n ∷ s) s
+pathAfter t n s = cond (endsIn (code "{") t) (n ∷ s) s
 
 -- the next number after a trimmed line
 unfoldable pub pathNext : List ℕ → ℕ → ℕ
-pathNext t n = cond (endsIn 123 t) (suc n) n
+pathNext t n = cond (endsIn (code "{") t) (suc n) n
 
 -- the path of each line, the innermost block first, noted when the line has closed its blocks; n is the next number (the Rust's plus one)
 unfoldable pub pathsGo : List (List ℕ) → ℕ → List ℕ → List (List ℕ)
@@ -43,8 +45,8 @@ tops (s ∷ ss) = top s ∷ tops ss
 
 -- an ASCII byte above the space other than `{`
 abbrev pub flatEnd : ℕ → Bool
-flatEnd c = ltb 32 c && (ltb c 0x80 && not (eqb c 123))
+flatEnd c = ltb (code " ") c && (ltb c 0x80 && not (eqb c (code "{")))
 
 -- a line that ends in such a byte, and whose first byte after its indent is not `}`
 unfoldable pub isFlat : List ℕ → Bool
-isFlat l = flatEnd (getD l (length l - 1) 0) && not (eqb (getD l (fromOf l) 0) 125)
+isFlat l = flatEnd (getD l (length l - 1) 0) && not (eqb (getD l (fromOf l) 0) (code "}"))

@@ -1,34 +1,36 @@
 -- `regions`: a header opens a new one. Assumes nothing.
 use Prim.Native.Nat.{ℕ, zero, suc, _-_, _^_}
+use Prim.Native.Char.{code}
 use mathlib.Core.Bool.{Bool, true, false, cond, not, _&&_, _||_}
 use mathlib.Core.List.{List, [], _∷_}
 use lib.ListN.{take}
 use lib.Dec.{ltb}
+use Rattle.lines.specs.Ascii.{ascii}
 use Rattle.lines.specs.Lf.{upTo, prefixed}
 
 -- `function `
 abbrev pub functionWord : List ℕ
-functionWord = 102 ∷ 117 ∷ 110 ∷ 99 ∷ 116 ∷ 105 ∷ 111 ∷ 110 ∷ 32 ∷ []
+functionWord = ascii "function "
 
 -- `var `
 abbrev pub varWord : List ℕ
-varWord = 118 ∷ 97 ∷ 114 ∷ 32 ∷ []
+varWord = ascii "var "
 
 -- `let `
 abbrev pub letWord : List ℕ
-letWord = 108 ∷ 101 ∷ 116 ∷ 32 ∷ []
+letWord = ascii "let "
 
 -- `const `
 abbrev pub constWord : List ℕ
-constWord = 99 ∷ 111 ∷ 110 ∷ 115 ∷ 116 ∷ 32 ∷ []
+constWord = ascii "const "
 
 -- `class `
 abbrev pub classWord : List ℕ
-classWord = 99 ∷ 108 ∷ 97 ∷ 115 ∷ 115 ∷ 32 ∷ []
+classWord = ascii "class "
 
 -- `let phi`
 abbrev pub letPhi : List ℕ
-letPhi = 108 ∷ 101 ∷ 116 ∷ 32 ∷ 112 ∷ 104 ∷ 105 ∷ []
+letPhi = ascii "let phi"
 
 -- a line that starts with one of the five words and not with `let phi`; it has no leading white space then
 unfoldable pub isHeader : List ℕ → Bool
@@ -82,8 +84,8 @@ regionAt l ls run = cond (isHeader l) (l ∷ untilHeader ls) run
 unfoldable pub upHeader : ℕ → List ℕ → ℕ
 upHeader k [] = 0
 upHeader (suc k) (x ∷ xs) = suc (upHeader k xs)
-upHeader zero (x ∷ xs) = cond (isHeader (take (upTo 10 (x ∷ xs)) (x ∷ xs))) 0 (suc (upHeader (upTo 10 (x ∷ xs)) xs))
+upHeader zero (x ∷ xs) = cond (isHeader (take (upTo (code "\n") (x ∷ xs)) (x ∷ xs))) 0 (suc (upHeader (upTo (code "\n") (x ∷ xs)) xs))
 
 -- how many bytes the region takes that the first line opens
 abbrev pub regionLen : List ℕ → ℕ
-regionLen l = upHeader (suc (upTo 10 l)) l
+regionLen l = upHeader (suc (upTo (code "\n") l)) l

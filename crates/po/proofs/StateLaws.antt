@@ -19,13 +19,13 @@ use Rattle.lines.proofs.Compare.{same-eq}
 use Rattle.po.specs.declared.Line.{Line}
 use Rattle.po.specs.declared.Strings.{Strings}
 use Rattle.po.specs.declared.Strings.the-variants as strings
-use Rattle.po.specs.Ascii.{ascii}
+use Rattle.lines.specs.Ascii.{ascii}
 use Rattle.po.specs.Found.{textOf, known, empty}
 use Rattle.text.specs.Utf8Form.{utf8Of}
 use Rattle.po.specs.Form.{idWord, strWord, typeLine, escape, escaped, quoted, refLine}
 use Rattle.po.specs.Name.{isFileName}
 use Rattle.po.specs.Reader.{State, start, Read, bad, good, isValid, colon, valueOf, quotedText, isQuoted, nameIn, lineIn, isRef, isId, awaited, onward, readGo, readOf, packed, lowBytes, given}
-use Rattle.po.specs.Answers.{readNumber, readText, byRead, readAnswer}
+use Rattle.po.specs.Answers.{stringsNumber, readText, byRead, readAnswer}
 use Rattle.po.specs.ReadWalk.{isReference, follows, nextOf, after, stateAt, sameId, met, givesOne, gives, At, isGood, verdict}
 use Rattle.names.specs.Names.{numberOf}
 use Rattle.po.specs.declared.Unit.{Unit}
@@ -651,24 +651,24 @@ lengthOf (strings.Short n) = n
 
 module _ (file : List ℕ) (room : ℕ) where
   done-is : (rd : Read) (n : ℕ) → strings.Done n ≡ verdict rd → (isGood rd ≡ true) × (n ≡ length (readText rd))
-  unfolding readNumber lengthOf
-  done-is (bad m) n e = let z = ap readNumber e in absurd (omega arith)
+  unfolding stringsNumber lengthOf
+  done-is (bad m) n e = let z = ap stringsNumber e in absurd (omega arith)
   done-is (good ids strs) n e = (refl, ap lengthOf e)
 
   by-done : (rd : Read) (n : ℕ) → strings.Done n ≡ verdict rd → byRead rd room ≡ cond (ltb room n) (strings.Short n) (strings.Done n)
-  unfolding readNumber lengthOf
-  by-done (bad m) n e = let z = ap readNumber e in absurd (omega arith)
+  unfolding stringsNumber lengthOf
+  by-done (bad m) n e = let z = ap stringsNumber e in absurd (omega arith)
   by-done (good ids strs) n e = ap (λ (k : ℕ). cond (ltb room k) (strings.Short k) (strings.Done k)) (sym (ap lengthOf e))
 
   by-bad : (rd : Read) (n : ℕ) → strings.BadLine n ≡ verdict rd → strings.BadLine n ≡ byRead rd room
-  unfolding readNumber
+  unfolding stringsNumber
   by-bad (bad m) n e = e
-  by-bad (good ids strs) n e = let z = ap readNumber e in absurd (omega arith)
+  by-bad (good ids strs) n e = let z = ap stringsNumber e in absurd (omega arith)
 
   by-short : (rd : Read) (n : ℕ) → strings.Short n ≡ verdict rd → strings.Short n ≡ byRead rd room
-  unfolding readNumber
-  by-short (bad m) n e = let z = ap readNumber e in absurd (omega arith)
-  by-short (good ids strs) n e = let z = ap readNumber e in absurd (omega arith)
+  unfolding stringsNumber
+  by-short (bad m) n e = let z = ap stringsNumber e in absurd (omega arith)
+  by-short (good ids strs) n e = let z = ap stringsNumber e in absurd (omega arith)
 
   pub answer-bad : (n : ℕ) → strings.BadLine n ≡ verdict (readOf file) → strings.BadLine n ≡ readAnswer file room
   unfolding readAnswer

@@ -1,10 +1,12 @@
 -- What the reader's inner functions are held to. Assumes nothing.
 use Prim.Native.Nat.{ℕ, zero, suc, _+_, _≤_}
+use Prim.Native.Char.{code}
 use mathlib.Core.Path.{_≡_}
 use mathlib.Core.Bool.{Bool, true, false, cond, not, _&&_, _||_}
 use mathlib.Core.List.{List, [], _∷_, _++_}
 use lib.ListN.{length, take, drop}
 use lib.Dec.{eqb, leb}
+use Rattle.lines.specs.Ascii.{ascii}
 use Rattle.lines.specs.Lf.{part, same, upTo, partsOf}
 use Rattle.po.specs.declared.Line.{Line}
 use Rattle.po.specs.declared.Strings.{Strings}
@@ -17,7 +19,7 @@ use Rattle.po.specs.Reader.{State, start, Read, bad, good, quotedText, n
 -- what follows a place is a text as it is written, and its closing quote
 unfoldable pub formed : List ℕ → Bool
 unfolding escaped textOf
-formed l = same l (escaped (textOf l 34) ++ 34 ∷ [])
+formed l = same l (escaped (textOf l 34) ++ ascii "\"")
 
 -- a line is a reference
 unfoldable pub isReference : List ℕ → Bool
@@ -41,7 +43,7 @@ after (l ∷ ls) s = after ls (onward s l)
 -- after the first k lines of a file
 unfoldable pub stateAt : List ℕ → ℕ → State
 unfolding after
-stateAt file k = after (take k (partsOf 10 file)) start
+stateAt file k = after (take k (partsOf (code "\n") file)) start
 
 -- a line that is awaited as w is a msgid of the text x
 abbrev pub sameId : ℕ → List ℕ → List ℕ → Bool
@@ -65,7 +67,7 @@ gives w (l ∷ ls) = givesOne w l ++ gives (nextOf w) ls
 -- a line of a file, with what stands above it
 pub record At (file : List ℕ) (r : Line) : Type 0 where
   pub inside : r .at ≤ length file
-  pub ends : r .end ≡ r .at + upTo 10 (drop (r .at) file)
+  pub ends : r .end ≡ r .at + upTo (code "\n") (drop (r .at) file)
   pub few : r .number ≤ r .at
   pub low : r .awaits ≤ 6
   pub awaits : r .awaits ≡ stateAt file (r .number) .awaits
@@ -73,7 +75,7 @@ pub record At (file : List ℕ) (r : Line) : Type 0 where
   pub least : r .least ≡ stateAt file (r .number) .least
   pub done : List (List ℕ)
   pub size : length done ≡ r .number
-  pub split : partsOf 10 file ≡ done ++ partsOf 10 (drop (r .at) file)
+  pub split : partsOf (code "\n") file ≡ done ++ partsOf (code "\n") (drop (r .at) file)
 
 -- whether a file was read
 abbrev pub isGood : Read → Bool

@@ -1,5 +1,6 @@
 -- `x.strip_suffix(';').and_then(|x| x.split_once('='))`: a text that ends in `;`, split at its first `=`. Assumes nothing.
 use Prim.Native.Nat.{ℕ, suc, _+_, _-_}
+use Prim.Native.Char.{code}
 use mathlib.Core.Bool.{Bool, cond, _&&_}
 use mathlib.Core.List.{List}
 use lib.ListN.{length, take, drop}
@@ -15,15 +16,15 @@ unended t = take (length t - 1) t
 
 -- it ends in `;`, and an `=` stands before that
 unfoldable pub isAssign : List ℕ → Bool
-isAssign t = endsIn 59 t && ltb (upTo 61 (unended t)) (length (unended t))
+isAssign t = endsIn (code ";") t && ltb (upTo (code "=") (unended t)) (length (unended t))
 
 -- its left side, trimmed
 unfoldable pub leftOf : List ℕ → List ℕ
-leftOf t = trimOf (take (upTo 61 (unended t)) (unended t))
+leftOf t = trimOf (take (upTo (code "=") (unended t)) (unended t))
 
 -- its right side, trimmed
 unfoldable pub rightOf : List ℕ → List ℕ
-rightOf t = trimOf (drop (suc (upTo 61 (unended t))) (unended t))
+rightOf t = trimOf (drop (suc (upTo (code "=") (unended t))) (unended t))
 
 -- the places of the two sides in the text, where the `=` stands at the place k of u
 abbrev pub splitAt : ℕ → List ℕ → Assign
@@ -36,9 +37,9 @@ splitAt k u =
 
 -- the same of a text without its `;`, or none where it holds no `=`
 abbrev pub sidesOf : List ℕ → Assign
-sidesOf u = cond (ltb (upTo 61 u) (length u)) (splitAt (upTo 61 u) u) None
+sidesOf u = cond (ltb (upTo (code "=") u) (length u)) (splitAt (upTo (code "=") u) u) None
 
 -- the two sides as places of the text, or none where it is no assignment
 unfoldable pub assignOf : List ℕ → Assign
 unfolding isAssign
-assignOf t = cond (isAssign t) (splitAt (upTo 61 (unended t)) (unended t)) None
+assignOf t = cond (isAssign t) (splitAt (upTo (code "=") (unended t)) (unended t)) None

@@ -1,5 +1,6 @@
 -- The room that every pass has: how large a text between two passes is, and the work buffers. Assumes nothing.
 use Prim.Native.Nat.{ℕ, _≤_}
+use Prim.Native.Char.{code}
 use mathlib.Core.Path.{_≡_}
 use mathlib.Core.List.{List}
 use lib.ListN.{length}
@@ -11,7 +12,7 @@ use Rattle.limits.specs.Entry.{byteSize, blockSize}
 pub record Bounded (s : List ℕ) : Type 0 where
   pub heavy : weight 0 (unlines (linesOf s)) ≤ byteSize
   pub lines : length (linesOf s) ≤ 1024
-  pub braces : countOf 123 s ≤ blockSize
+  pub braces : countOf (code "{") s ≤ blockSize
 
 -- the work buffers have their stated sizes
 pub record Sized (b c d e u : List ℕ) : Type 0 where

@@ -1,9 +1,11 @@
 -- What `prune_dead_temps` asks of one line, the bytes that it makes of it, and what it leaves in its scratch. Assumes nothing.
 use Prim.Native.Nat.{ℕ}
+use Prim.Native.Char.{code}
 use mathlib.Core.Bool.{Bool, false, cond, _&&_, _||_}
 use mathlib.Core.List.{List, [], _∷_, _++_}
 use lib.Dec.{eqb}
 use lib.ListN.{getD}
+use Rattle.lines.specs.Ascii.{ascii}
 use Rattle.lines.specs.Out.{putAt}
 use Rattle.text.specs.Trim.{trimOf}
 use Rattle.names.specs.Names.{isDigit, isTemp}
@@ -15,7 +17,7 @@ use Rattle.temps.specs.Temps.{deadTemp}
 -- a digit stands after a `t` somewhere: without that no temp is named
 unfoldable pub tempIn : List ℕ → Bool
 tempIn [] = false
-tempIn (x ∷ xs) = (eqb 116 x && isDigit (getD xs 0 0)) || tempIn xs
+tempIn (x ∷ xs) = (eqb (code "t") x && isDigit (getD xs 0 0)) || tempIn xs
 
 -- a line is a store of a temp, so that its value is judged
 unfoldable pub tempStore : List ℕ → Bool
@@ -28,7 +30,7 @@ tempGoes R ls l = isAssign (trimOf l) && (deadTemp (leftOf (trimOf l)) ls && pur
 -- the bytes that a line of the text ls becomes
 unfoldable pub tempText : Reading → List (List ℕ) → List ℕ → List ℕ
 unfolding tempGoes
-tempText R ls l = cond (tempGoes R ls l) [] (l ++ 10 ∷ [])
+tempText R ls l = cond (tempGoes R ls l) [] (l ++ ascii "\n")
 
 -- the scratch d after a line: a value that is judged stands at its front, without its comments
 unfoldable pub scratchLine : List ℕ → List ℕ → List ℕ

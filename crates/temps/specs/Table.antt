@@ -1,5 +1,6 @@
 -- Tables of flags over the numbers of temps: what flagging leaves in them, and what they then say. Assumes nothing.
 use Prim.Native.Nat.{ℕ, _<_}
+use Prim.Native.Char.{code}
 use mathlib.Core.Path.{_≡_}
 use mathlib.Core.Bool.{Bool, true, false, cond, not, _&&_, _||_}
 use mathlib.Core.List.{List, [], _∷_}
@@ -37,7 +38,7 @@ flagPieces (p ∷ ps) d = flagPieces ps (flagAt (slotOf (trimOf p)) d)
 -- after a trimmed line: `let `, names split at commas, `;`
 unfoldable pub flagDecl : List ℕ → List ℕ → List ℕ
 unfolding flagPieces
-flagDecl t d = cond (ltb 4 (length t) && (prefixed letWord t && endsIn 59 t)) (flagPieces (partsOf 44 (bodyOf t)) d) d
+flagDecl t d = cond (ltb 4 (length t) && (prefixed letWord t && endsIn (code ";") t)) (flagPieces (partsOf (code ",") (bodyOf t)) d) d
 
 -- after lines
 unfoldable pub flagDecls : List (List ℕ) → List ℕ → List ℕ

@@ -1,5 +1,6 @@
 -- `prune_dead_temps`: a store of a declared temp that nothing reads goes, where its value is pure. Assumes nothing.
 use Prim.Native.Nat.{ℕ, _-_}
+use Prim.Native.Char.{code}
 use mathlib.Core.Bool.{Bool, true, false, cond, not, _&&_, _||_}
 use mathlib.Core.List.{List, [], _∷_}
 use lib.ListN.{length}
@@ -22,7 +23,7 @@ anyPiece x (p ∷ ps) = same (trimOf p) x || anyPiece x ps
 -- a trimmed line declares x: `let `, names split at commas, `;`
 unfoldable pub declares : List ℕ → List ℕ → Bool
 unfolding anyPiece
-declares x t = ltb 4 (length t) && (prefixed letWord t && (endsIn 59 t && anyPiece x (partsOf 44 (bodyOf t))))
+declares x t = ltb 4 (length t) && (prefixed letWord t && (endsIn (code ";") t && anyPiece x (partsOf (code ",") (bodyOf t))))
 
 -- how often a trimmed line reads x: a line that begins with `let `, `var ` or `const ` reads nothing, and the left side of a store is no read
 unfoldable pub tempReads : List ℕ → List ℕ → ℕ

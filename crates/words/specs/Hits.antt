@@ -1,8 +1,10 @@
 -- Searching by text, as `replace_reg`, `occurrence_context`, `count_ident` and `mentions_ident` do. Assumes nothing.
 use Prim.Native.Nat.{ℕ, zero, suc, _+_, _-_}
+use Prim.Native.Char.{code}
 use mathlib.Core.Bool.{Bool, false, cond, not, _&&_, _||_}
 use mathlib.Core.List.{List, [], _∷_, _++_}
 use lib.ListN.{length, take, drop, getD}
+use Rattle.lines.specs.Ascii.{ascii}
 use Rattle.lines.specs.Lf.{prefixed, suffixed, endsIn}
 use Rattle.text.specs.Class.{isName}
 use Rattle.text.specs.Trim.{trimStart, trimEnd}
@@ -44,7 +46,7 @@ regHit v l = oneHit (length (regText v)) (hits (regText v) l)
 
 -- `new`
 abbrev pub newWord : List ℕ
-newWord = 110 ∷ 101 ∷ 119 ∷ []
+newWord = ascii "new"
 
 -- what stands before the hit ends in `new`
 unfoldable pub afterNew : ℕ → List ℕ → Bool
@@ -53,7 +55,7 @@ afterNew from l = suffixed newWord (trimEnd (take from l))
 -- a text begins as what follows a target: `++`, `--`, or `=` that is no `==`
 abbrev pub targetBy : List ℕ → Bool
 targetBy a =
-    prefixed (43 ∷ 43 ∷ []) a || (prefixed (45 ∷ 45 ∷ []) a || (prefixed (61 ∷ []) a && not (prefixed (61 ∷ 61 ∷ []) a)))
+    prefixed (ascii "++") a || (prefixed (ascii "--") a || (prefixed (ascii "=") a && not (prefixed (ascii "==") a)))
 
 -- what follows the hit makes it a target
 unfoldable pub asTarget : ℕ → List ℕ → Bool
@@ -64,16 +66,16 @@ asTarget to l = targetBy (trimStart (drop to l))
 -- the replacement would join `-` to `-` or `+` to `+`
 unfoldable pub glueLeft : List ℕ → List ℕ → Bool
 glueLeft before rep =
-    (endsIn 45 before && prefixed (45 ∷ []) rep) || (endsIn 43 before && prefixed (43 ∷ []) rep)
+    (endsIn (code "-") before && prefixed (ascii "-") rep) || (endsIn (code "+") before && prefixed (ascii "+") rep)
 
 -- its last character is a digit, and a `.` follows
 unfoldable pub glueRight : List ℕ → List ℕ → Bool
-glueRight rep after = isDigit (getD rep (length rep - 1) 0) && prefixed (46 ∷ []) after
+glueRight rep after = isDigit (getD rep (length rep - 1) 0) && prefixed (ascii ".") after
 
 -- the replacement, in parentheses where it would be glued
 unfoldable pub glued : List ℕ → List ℕ → List ℕ → List ℕ
 unfolding glueLeft glueRight
-glued before rep after = cond (glueLeft before rep || glueRight rep after) (40 ∷ rep ++ 41 ∷ []) rep
+glued before rep after = cond (glueLeft before rep || glueRight rep after) (code "(" ∷ rep ++ ascii ")") rep
 
 -- a line with the replacement in the place of the hit
 unfoldable pub replacedAt : ℕ → ℕ → List ℕ → List ℕ → List ℕ

@@ -1,5 +1,6 @@
 -- The runs of name bytes of a text, and what it reads. Assumes nothing.
 use Prim.Native.Nat.{ℕ, suc, _+_, _-_, _<_}
+use Prim.Native.Char.{code}
 use mathlib.Core.Path.{_≡_}
 use mathlib.Core.Bool.{Bool, true, cond, not, _&&_}
 use mathlib.Core.List.{List, [], _∷_, _++_}
@@ -54,7 +55,7 @@ gapLen l = upBy (λ (x : ℕ). isName x) l
 -- how many bytes stand before the first run that begins with `r`: all, where there is none; `p` says whether a name byte stands before
 unfoldable pub regGap : Bool → List ℕ → ℕ
 regGap p [] = 0
-regGap p (x ∷ xs) = cond (eqb x 114 && not p) 0 (suc (regGap (isName x) xs))
+regGap p (x ∷ xs) = cond (eqb x (code "r") && not p) 0 (suc (regGap (isName x) xs))
 
 -- a name byte stands before the place j, not before the place i
 abbrev pub joined : ℕ → ℕ → List ℕ → Bool
@@ -62,7 +63,7 @@ joined i j s = ltb i j && isName (getD s (j - 1) 0)
 
 -- `r` stands before the place j, as a run may begin that begins at i or later, and no name byte stands after the place j
 abbrev pub shortAt : ℕ → ℕ → List ℕ → Bool
-shortAt i j s = (eqb (getD s (j - 1) 0) 114 && not (joined i (j - 1) s)) && not (isName (getD s (j + 1) 0))
+shortAt i j s = (eqb (getD s (j - 1) 0) (code "r") && not (joined i (j - 1) s)) && not (isName (getD s (j + 1) 0))
 
 -- how long the run at the front is
 abbrev pub runLen : List ℕ → ℕ

@@ -1,5 +1,5 @@
 use mathlib.Core.Path.{sym, ap}
-use Rattle.po.specs.Answers.{readNumber}
+use Rattle.po.specs.Answers.{stringsNumber}
 use borrow.Author.Needs.{needs}
 use Rattle.po.proofs.read_number_of.Statement.{statement}
 use Rattle.po.proofs.read_number_of.Tie as tie
@@ -20,18 +20,18 @@ enum-told-3 c = search needs
 
 -- src/lib.rt:619:1
 returns : tie.Need-returns
-unfolding readNumber
-returns c = sym (ap readNumber (c .enum-told .given .1))
+unfolding stringsNumber
+returns c = sym (ap stringsNumber (c .enum-told .given .1))
 
 -- src/lib.rt:619:1
 returns-2 : tie.Need-returns-2
-unfolding readNumber
-returns-2 c = sym (ap readNumber (c .enum-told2 .given .1))
+unfolding stringsNumber
+returns-2 c = sym (ap stringsNumber (c .enum-told2 .given .1))
 
 -- src/lib.rt:619:1
 returns-3 : tie.Need-returns-3
-unfolding readNumber
-returns-3 c = sym (ap readNumber (c .enum-told3 .given .1))
+unfolding stringsNumber
+returns-3 c = sym (ap stringsNumber (c .enum-told3 .given .1))
 
 pub read-number-of-spec : {M : Type 1} → statement M
 read-number-of-spec =

@@ -1,4 +1,4 @@
--- The bytes of an ASCII text as it is written. Assumes nothing.
+-- Text as the numbers of its characters: `ascii "let "` for a text, `code ";"` for one character. Assumes nothing.
 use Prim.Native.Nat.{ℕ}
 use Prim.Native.Char.{code}
 use Prim.Native.String.{String, [] as end, _∷_ as _then_}
