@@ -6,7 +6,8 @@ use mathlib.Core.List.{List, [], _∷_, _++_, append-nil}
 use native.Mathlib.Omega.{arith}
 use lib.Dec.{eqb}
 use lib.ListN.{length, getD, length-append}
-use Rattle.lines.specs.Lf.{linesOf, lacks, noLf, endsIn, prefixed}
+use Rattle.lines.specs.Lf.{linesOf, endsIn, prefixed}
+use Rattle.lines.specs.Inner.Lf.{lacks, noLf}
 use Rattle.lines.specs.Steps.{dropCr, splitLines, joinLines, settle, joined}
 use Rattle.lines.proofs.Tests.{no, and-left, and-right, and-false, eqb-sym}
 use Rattle.lines.proofs.LfLaws.{lines-line, lacks-cons}

@@ -8,7 +8,8 @@ use borrow.Author.Tests.{le-leb, eqb-true}
 use lib.Dec.{eqb, leb}
 use lib.ListN.{length, getD, take, drop, replicate, length-append, length-replicate, drop-of-length-le}
 use lib.Seq.{take-append-le, getD-append-add}
-use Rattle.lines.specs.Lf.{prefixed, lacks}
+use Rattle.lines.specs.Lf.{prefixed}
+use Rattle.lines.specs.Inner.Lf.{lacks}
 use Rattle.lines.proofs.Tests.{no, or-false}
 use Rattle.lines.proofs.LfLaws.{lacks-cons}
 use Rattle.text.specs.White.{isWhite}
@@ -22,7 +23,7 @@ use Rattle.parse.specs.Parse.{isDecl, parseOf, textOf}
 use Rattle.words.specs.Runs.{runsGo, runs, countBy}
 use Rattle.place.specs.Region.{functionWord, varWord, letWord, constWord, classWord, letPhi, isHeader}
 use Rattle.reading.specs.Uses.{lineReads, lineStores, lineUses, usedIn}
-use Rattle.decls.specs.Seen.{markRuns, markLine, markLines, Says}
+use Rattle.decls.specs.Inner.Seen.{markRuns, markLine, markLines, Says}
 use Rattle.decls.proofs.SeenLaws.{lines-length, says-new, zeros-most}
 use Rattle.decls.proofs.TrimRuns.{back-runs}
 use Rattle.decls.proofs.LineRuns.{line-runs-marked}

@@ -17,7 +17,7 @@ use Rattle.names.specs.Names.{regOf, regIs}
 use Rattle.parse.specs.Parse.{bodyOf, isDecl, storeIn, parseOf}
 use Rattle.reading.specs.Uses.{lineStores, lineUses}
 use Rattle.bind.specs.Bind.{pieceCount, declCount, storeCount}
-use Rattle.bind.specs.Steps.{useRow, storesAt}
+use Rattle.bind.specs.Inner.Steps.{useRow, storesAt}
 
 -- ---- counts up to 2
 

@@ -14,8 +14,10 @@ use Rattle.text.specs.Trim.{fromOf, trimOf}
 use Rattle.names.specs.Names.{regOf}
 use Rattle.names.specs.declared.RegName.{RegName}
 use Rattle.names.specs.declared.RegName.the-variants as name
-use Rattle.place.specs.Region.{isHeader, headed}
-use Rattle.place.specs.Blocks.{blocks, cleaned, own}
+use Rattle.place.specs.Region.{isHeader}
+use Rattle.place.specs.Inner.Region.{headed}
+use Rattle.place.specs.Blocks.{blocks, cleaned}
+use Rattle.place.specs.Inner.Blocks.{own}
 use Rattle.place.specs.Starts.{startsGo}
 use Rattle.place.proofs.Blocks.{rename, renamed, blockBelow, nextBelow, blocks-cut, below-lt, same-renamed, length-blocks}
 use Rattle.place.proofs.Starts.{length-starts, startsBelow, starts-cut}

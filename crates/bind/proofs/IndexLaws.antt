@@ -17,13 +17,14 @@ use Rattle.parse.specs.Parse.{bodyOf, isDecl, storeBy, splitStore, storeIn, par
 use Rattle.parse.specs.declared.Store.{Store}
 use Rattle.parse.specs.declared.Line.{Line}
 use Rattle.parse.specs.declared.Line.the-variants as line
-use Rattle.words.specs.Runs.{flush, runsGo, runs, runLen, regGap}
+use Rattle.words.specs.Runs.{flush, runsGo, runs}
+use Rattle.words.specs.Inner.Runs.{runLen, regGap}
 use Rattle.words.proofs.Walk.{RegWalk, regs-start, regs-less, regs-on, regs-end}
 use Rattle.names.proofs.Texts.{reg-first}
-use Rattle.decls.specs.Seen.{markName}
+use Rattle.decls.specs.Inner.Seen.{markName}
 use Rattle.decls.proofs.SeenLaws.{set-past, name-length}
 use Rattle.bind.specs.Bind.{piecesOf}
-use Rattle.bind.specs.Index.{afterStore, afterRead, readName, readRuns, storeLine, useLine, useLines, againReg, againName, seenPieces, againPieces, seenLines, againLines, seenAt, firstAt, asked}
+use Rattle.bind.specs.Inner.Index.{afterStore, afterRead, readName, readRuns, storeLine, useLine, useLines, againReg, againName, seenPieces, againPieces, seenLines, againLines, seenAt, firstAt, asked}
 
 -- ---- one register
 

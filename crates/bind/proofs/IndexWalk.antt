@@ -14,10 +14,10 @@ use Rattle.text.specs.Trim.{trimOf}
 use Rattle.parse.specs.Parse.{isDecl}
 use Rattle.place.specs.Region.{isHeader, untilHeader, region}
 use Rattle.place.proofs.Regions.{region-at}
-use Rattle.decls.specs.Seen.{AtMost}
+use Rattle.decls.specs.Inner.Seen.{AtMost}
 use Rattle.bind.specs.declared.Site.{Site}
-use Rattle.bind.specs.Steps.{lineOf, boundAt}
-use Rattle.bind.specs.Index.{seenLines, againLines, useLines, seenAt, firstAt, Told}
+use Rattle.bind.specs.Inner.Steps.{lineOf, boundAt}
+use Rattle.bind.specs.Inner.Index.{seenLines, againLines, useLines, seenAt, firstAt, Told}
 use Rattle.bind.proofs.IndexLaws.{seen-at-length, first-at-length}
 use Rattle.bind.proofs.ToldLaws.{Entry, Tells, tells-new, entry-says, seen-most, first-most}
 use Rattle.bind.proofs.WalkLaws.{above-more, below-lines, RegionAt, lines-none}

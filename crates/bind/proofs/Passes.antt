@@ -6,7 +6,8 @@ use mathlib.Core.List.{List, [], _∷_, _++_}
 use native.Mathlib.Omega.{arith}
 use lib.ListN.{length, take, drop}
 use lib.Seq.{drop-nil}
-use Rattle.lines.specs.Lf.{linesOf, partsOf, unlines, lacks, noLf, all}
+use Rattle.lines.specs.Lf.{linesOf, partsOf, unlines, all}
+use Rattle.lines.specs.Inner.Lf.{lacks, noLf}
 use Rattle.lines.specs.Acts.{Act, keep, become, gone, act, apply}
 use Rattle.lines.proofs.Tests.{no, and-left, and-right, and-both}
 use Rattle.lines.proofs.LfLaws.{lines-unlines, lines-noLf, lacks-append, lacks-take, lacks-drop, parts-noLf}
@@ -16,7 +17,7 @@ use Rattle.names.specs.Names.{regOf}
 use Rattle.names.specs.declared.RegName.{RegName}
 use Rattle.names.specs.declared.RegName.the-variants as name
 use Rattle.parse.specs.Parse.{letWord, bodyOf, isReg, allRegs, isDecl}
-use Rattle.weight.specs.Weight.{weight}
+use Rattle.weight.specs.Inner.Weight.{weight}
 use Rattle.weight.proofs.Weigh.{weight-line, nothing}
 use Rattle.weight.proofs.Moves.{from-clean, promote-le}
 use Rattle.weight.proofs.Pays.{Pays, done, step, pays}
@@ -26,13 +27,13 @@ use Rattle.place.specs.Starts.{startsGo}
 use Rattle.place.proofs.Blocks.{length-blocks}
 use Rattle.place.proofs.Starts.{length-starts}
 use Rattle.decls.specs.Decls.{declAct}
-use Rattle.decls.specs.Print.{bareName, one, kept}
+use Rattle.decls.specs.Inner.Print.{bareName, one, kept}
 use Rattle.decls.proofs.Keeps.{lacks-trim, lacks-body, kept-noLf, decl-noLf}
 use Rattle.decls.proofs.Decl.{decl-parts, leftOut, regs-pay}
 use Rattle.reading.specs.Reading.{Reading, plain}
 use Rattle.reading.specs.Uses.{lineStores}
 use Rattle.bind.specs.Bind.{Spot, spots, linesIn, untilHead, firstUse, storeAt, bound, boundBy, anyBound, unbound, mark, markOne, markAll, marked, piecesOf, promoted, bindAct, aboveIn, bindGo, bindDeclaratorsActs, bindDeclarators}
-use Rattle.bind.specs.Steps.{fails, left}
+use Rattle.bind.specs.Inner.Steps.{fails, left}
 use Rattle.bind.proofs.WalkLaws.{in-spots, kept-is, mark-none}
 use Rattle.reading.proofs.ByLine.{ByLine, plain-by-line}
 use Rattle.bind.proofs.Cut.{clean-long, bound-store}

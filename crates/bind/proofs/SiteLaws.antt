@@ -18,11 +18,11 @@ use Rattle.names.specs.declared.Register.{Register}
 use Rattle.names.specs.declared.RegName.{RegName}
 use Rattle.names.specs.declared.RegName.the-variants as name
 use Rattle.parse.specs.Parse.{letWord, bodyOf, isDecl}
-use Rattle.decls.specs.Print.{kept, declText}
+use Rattle.decls.specs.Inner.Print.{kept, declText}
 use Rattle.reading.specs.Uses.{lineStores, usedIn}
 use Rattle.bind.specs.declared.Site.{Site}
 use Rattle.bind.specs.Bind.{declCount, storeCount, promoted}
-use Rattle.bind.specs.Steps.{aboveOf, lineOf, belowOf, useRow, storesAt, boundAt, passes, left, anyPass, noted, notedAll, givesUp, otherText, siteText, siteMarks, markRow, Reach}
+use Rattle.bind.specs.Inner.Steps.{aboveOf, lineOf, belowOf, useRow, storesAt, boundAt, passes, left, anyPass, noted, notedAll, givesUp, otherText, siteText, siteMarks, markRow, Reach}
 use Rattle.bind.proofs.CountLaws.{stores-lt}
 
 -- ---- whether a register is bound, test by test: a, l, b are the parts of the text

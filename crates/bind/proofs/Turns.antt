@@ -8,23 +8,24 @@ use borrow.Author.Tests.{eq-eqb, ne-eqb}
 use lib.Dec.{eqb, ltb}
 use lib.ListN.{length, getD, drop}
 use Rattle.lines.specs.Lf.{part, upTo, linesOf, unlines}
-use Rattle.lines.specs.Out.{Wrote}
+use Rattle.lines.specs.Inner.Out.{Wrote}
 use Rattle.text.specs.Trim.{trimOf}
-use Rattle.place.specs.Region.{isHeader, upHeader, regionLen}
+use Rattle.place.specs.Region.{isHeader}
+use Rattle.place.specs.Inner.Region.{upHeader, regionLen}
 use Rattle.place.proofs.Regions.{past, end-stop, end-on, end-end}
-use Rattle.place.specs.Fill.{Filled, flagsOf}
+use Rattle.place.specs.Inner.Fill.{Filled, flagsOf}
 use Rattle.place.proofs.Marks.{Marked, marked-here, marked-on}
 use Rattle.records.specs.declared.LineRec.{LineRec}
-use Rattle.records.specs.Records.{noRec, recAt, recordsOf, Above, lastOf, windowAt, Told}
+use Rattle.records.specs.Inner.Records.{noRec, recAt, recordsOf, Above, lastOf, windowAt, Told}
 use Rattle.records.proofs.Down.{Down, down-start, down-some, down-none, down-lt, down-here, down-on}
 use Rattle.records.proofs.Shown.{Shows, Has, told-long, shows-start, shows-asks, shows-filled}
-use Rattle.decls.specs.Seen.{AtMost}
+use Rattle.decls.specs.Inner.Seen.{AtMost}
 use Rattle.reading.specs.Reading.{plain}
 use Rattle.bind.specs.declared.Site.{Site}
 use Rattle.bind.specs.Bind.{bindDeclarators}
-use Rattle.bind.specs.Steps.{lineOf, belowOf, boundAt, markRow, siteText, siteMarks, bindMarks}
-use Rattle.bind.specs.Index.{seenAt, firstAt, ReadyFor}
-use Rattle.bind.specs.Sites.{stopBy, firstSite, siteOf, Walked}
+use Rattle.bind.specs.Inner.Steps.{lineOf, belowOf, boundAt, markRow, siteText, siteMarks, bindMarks}
+use Rattle.bind.specs.Inner.Index.{seenAt, firstAt, ReadyFor}
+use Rattle.bind.specs.Inner.Sites.{stopBy, firstSite, siteOf, Walked}
 use Rattle.bind.proofs.WalkLaws.{BindInv, RegionAt, region-same, region-new, walk-start, walk-reach, walk-marks, walk-room, walk-on, walk-lt, walk-marked, walk-end, walk-filled}
 use Rattle.bind.proofs.IndexWalk.{IndexInv, IndexAt, index-start, index-same, index-new, region-fits, index-told, index-on}
 

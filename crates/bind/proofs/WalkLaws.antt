@@ -12,7 +12,7 @@ use Rattle.place.proofs.Blocks.{cleaned-length, length-ids}
 use Rattle.place.proofs.Starts.{length-starts}
 use Rattle.lines.specs.Lf.{part, upTo, cutOn, linesOf, partsOf, unlines}
 use Rattle.lines.specs.Acts.{keep, become, act, apply}
-use Rattle.lines.specs.Out.{Wrote}
+use Rattle.lines.specs.Inner.Out.{Wrote}
 use Rattle.lines.proofs.LfLaws.{upTo-le, lines-at, lines-end, part-none}
 use Rattle.lines.proofs.ActLaws.{unlines-append}
 use Rattle.lines.proofs.OutLaws.{Writing, writing-start, writing-as, writing-put, writing-end, writing-room, writing-length}
@@ -22,21 +22,23 @@ use Rattle.names.specs.Names.{regOf, regText}
 use Rattle.names.specs.declared.RegName.{RegName}
 use Rattle.names.specs.declared.RegName.the-variants as name
 use Rattle.parse.specs.Parse.{bodyOf, isDecl}
-use Rattle.place.specs.Region.{isHeader, untilHeader, region, upHeader, regionLen}
-use Rattle.place.specs.Blocks.{cleaned, blockIds}
+use Rattle.place.specs.Region.{isHeader, untilHeader, region}
+use Rattle.place.specs.Inner.Region.{upHeader, regionLen}
+use Rattle.place.specs.Blocks.{cleaned}
+use Rattle.place.specs.Inner.Blocks.{blockIds}
 use Rattle.place.specs.Starts.{startsGo}
-use Rattle.place.specs.Fill.{Filled, flagsOf}
+use Rattle.place.specs.Inner.Fill.{Filled, flagsOf}
 use Rattle.place.proofs.Regions.{past, end-on, region-lines}
 use Rattle.place.proofs.Fills.{entry-on, entry-end, filled-take, flags-length}
 use Rattle.decls.specs.Decls.{declAct}
-use Rattle.decls.specs.Print.{bareName, one, kept, declText}
+use Rattle.decls.specs.Inner.Print.{bareName, one, kept, declText}
 use Rattle.decls.proofs.PrintLaws.{writing-fits, act-text}
 use Rattle.decls.proofs.Writes.{reg-bare}
 use Rattle.reading.specs.Reading.{plain}
 use Rattle.reading.specs.Uses.{lineStores, lineUses, usedIn}
 use Rattle.bind.specs.declared.Site.{Site}
 use Rattle.bind.specs.Bind.{Spot, spotsOf, spots, linesIn, untilHead, declCount, storeCount, firstUse, storeAt, bound, boundBy, anyBound, unboundOne, unbound, mark, markOne, markAll, marked, piecesOf, promoted, bindAct, aboveIn, bindGo, bindDeclaratorsActs, bindDeclarators}
-use Rattle.bind.specs.Steps.{aboveOf, lineOf, belowOf, useRow, storesAt, boundAt, markRow, passes, fails, left, anyPass, noted, notedAll, givesUp, otherText, siteText, siteMarks, marksGo, bindMarks, Rows, none, row, Reach}
+use Rattle.bind.specs.Inner.Steps.{aboveOf, lineOf, belowOf, useRow, storesAt, boundAt, markRow, passes, fails, left, anyPass, noted, notedAll, givesUp, otherText, siteText, siteMarks, marksGo, bindMarks, Rows, none, row, Reach}
 use Rattle.bind.proofs.CountLaws.{decl-cons, store-cons, blank-stores}
 use Rattle.bind.proofs.SiteLaws.{bound-lt}
 

@@ -1,4 +1,2 @@
 pub mod Bind
-pub mod Steps
-pub mod Index
-pub mod Sites
+pub mod Inner

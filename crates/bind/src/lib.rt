@@ -8,22 +8,23 @@ ghost use Prim.Native.Nat.{suc, min, _≤_, _<_, _+_, _-_, _^_};
 ghost use lib.Dec.{eqb};
 ghost use lib.ListN.{length, getD, take, drop, replicate};
 ghost use Rattle.lines.specs.Lf.{linesOf, partsOf, unlines};
-ghost use Rattle.lines.specs.Out.{Wrote};
+ghost use Rattle.lines.specs.Inner.Out.{Wrote};
 ghost use Rattle.text.specs.Trim.{trimOf};
 ghost use Rattle.names.specs.Names.{regOf, regIs};
-ghost use Rattle.place.specs.Blocks.{blockIds, cleaned};
+ghost use Rattle.place.specs.Blocks.{cleaned};
+ghost use Rattle.place.specs.Inner.Blocks.{blockIds};
 ghost use Rattle.place.specs.Starts.{startsGo};
-ghost use Rattle.place.specs.Parents.{idsParents};
-ghost use Rattle.place.specs.Fill.{Filled, flagsOf};
-ghost use Rattle.place.specs.Ends.{endMarks};
-ghost use Rattle.decls.specs.Seen.{AtMost};
-ghost use Rattle.decls.specs.Print.{kept, declText};
+ghost use Rattle.place.specs.Inner.Parents.{idsParents};
+ghost use Rattle.place.specs.Inner.Fill.{Filled, flagsOf};
+ghost use Rattle.place.specs.Inner.Ends.{endMarks};
+ghost use Rattle.decls.specs.Inner.Seen.{AtMost};
+ghost use Rattle.decls.specs.Inner.Print.{kept, declText};
 ghost use Rattle.reading.specs.Reading.{plain};
 ghost use Rattle.reading.specs.Uses.{lineStores};
 ghost use Rattle.bind.specs.Bind.{spots, pieceCount, declCount, storeCount, promoted, bindDeclarators};
-ghost use Rattle.bind.specs.Index.{Ready, ReadyFor};
-ghost use Rattle.bind.specs.Steps.{lineOf, belowOf, useRow, storesAt, boundAt, markRow, passes, left, anyPass, noted, notedAll, otherText, siteText, siteMarks, bindMarks, Reach};
-ghost use Rattle.bind.specs.Sites.{stopBy, firstSite, siteOf, Walked};
+ghost use Rattle.bind.specs.Inner.Index.{Ready, ReadyFor};
+ghost use Rattle.bind.specs.Inner.Steps.{lineOf, belowOf, useRow, storesAt, boundAt, markRow, passes, left, anyPass, noted, notedAll, otherText, siteText, siteMarks, bindMarks, Reach};
+ghost use Rattle.bind.specs.Inner.Sites.{stopBy, firstSite, siteOf, Walked};
 
 // A line of the text and its region: the region begins at `top` and ends at `end`, the line goes from `from` to `to` and the one below
 // begins at `next`, there are `row` lines above it, and it stands in the block `block`.

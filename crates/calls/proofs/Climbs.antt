@@ -8,9 +8,10 @@ use borrow.Author.Tests.{ltb-true, ltb-false}
 use lib.Dec.{eqb, ltb}
 use lib.ListN.{length, take, drop, getD, set, length-set, length-append}
 use lib.Seq.{take-add, getD-take, getD-drop, take-set-le, drop-set-lt, length-take-le}
-use Rattle.lines.specs.Lf.{part, lineStart, linesOf, unlines, lacks, noLf}
+use Rattle.lines.specs.Lf.{part, linesOf, unlines}
+use Rattle.lines.specs.Inner.Lf.{lineStart, lacks, noLf}
 use Rattle.lines.specs.Acts.{Act, keep, become, into, gone, act, apply}
-use Rattle.lines.specs.Out.{Wrote}
+use Rattle.lines.specs.Inner.Out.{Wrote}
 use Rattle.lines.proofs.LfLaws.{part-none, rest-of, lines-unlines}
 use Rattle.lines.proofs.OutLaws.{wrote-part, wrote-length}
 use Rattle.lines.proofs.Tests.{no, and-left, and-right, and-both}
@@ -25,8 +26,8 @@ use Rattle.calls.specs.declared.Made.the-variants as made
 use Rattle.calls.specs.Leaves.{Leaves, Parsed, store, other}
 use Rattle.calls.specs.LeavesOf.{parsedBy, parsedOf, startsBy, leavesOf}
 use Rattle.calls.specs.Calls.{Item, Row, Walked, Step, end, skip, absorb, linesIn, climb, made, has, actsUp, readLater, storeStep, stepAt, walk}
-use Rattle.calls.specs.Steps.{absorbStep, PutAs, ends, puts}
-use Rattle.calls.specs.Tables.{ownerOf, ownersOf, rowsAt, walkAt, lineAt, Keeps, Stands, Placed, Foot, Peaked}
+use Rattle.calls.specs.Inner.Steps.{absorbStep, PutAs, ends, puts}
+use Rattle.calls.specs.Inner.Tables.{ownerOf, ownersOf, rowsAt, walkAt, lineAt, Keeps, Stands, Placed, Foot, Peaked}
 use Rattle.calls.proofs.Edges.{standing, given, apply-standing, walk-given, Passed, none-yet, onto, ownerBack, by-table, stands, WalkInv, edge-start, edge-skip, edge-absorb, edge-end, edge-top, edge-spent}
 use Rattle.calls.proofs.Owners.{owned}
 use Rattle.calls.proofs.Room.{valued, put-is, value-length, put-length}

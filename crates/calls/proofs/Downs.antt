@@ -9,10 +9,10 @@ use lib.ListN.{length, getD, drop}
 use Rattle.lines.specs.Lf.{part, upTo, linesOf}
 use Rattle.place.specs.Region.{isHeader}
 use Rattle.records.specs.declared.LineRec.{LineRec}
-use Rattle.records.specs.Records.{noRec, recAt, recordsOf, Above, lastOf, windowAt, Told}
+use Rattle.records.specs.Inner.Records.{noRec, recAt, recordsOf, Above, lastOf, windowAt, Told}
 use Rattle.records.proofs.Down.{Down, down-start, down-some, down-none, down-lt, down-here, down-on}
 use Rattle.records.proofs.Shown.{Shows, Has, told-long, shows-start, shows-asks, shows-filled}
-use Rattle.calls.specs.Tables.{Ready, Turned, Rebuilt}
+use Rattle.calls.specs.Inner.Tables.{Ready, Turned, Rebuilt}
 use Rattle.calls.proofs.Turns.{Passes, passes-ready, passes-on, passes-end}
 
 -- the loop: the n-th line begins at `at`, and `above` is the region of the line above

@@ -7,8 +7,10 @@ use mathlib.Core.Bool.{Bool, true, false, cond}
 use mathlib.Core.List.{List, [], _∷_, _++_, map, map-append, reverse, reverseAux, reverse-reverse}
 use lib.Dec.{eqb}
 use lib.ListN.{length}
-use Rattle.place.specs.Region.{isHeader, headed}
-use Rattle.place.specs.Blocks.{blocks, cleaned, own}
+use Rattle.place.specs.Region.{isHeader}
+use Rattle.place.specs.Inner.Region.{headed}
+use Rattle.place.specs.Blocks.{blocks, cleaned}
+use Rattle.place.specs.Inner.Blocks.{own}
 use Rattle.place.specs.Starts.{startsAbove}
 use Rattle.place.proofs.Starts.{starts-far}
 use Rattle.place.proofs.Blocks.{rename, blockBelow, nextBelow, blocks-cut, below-lt, same-renamed, length-blocks}

@@ -10,7 +10,7 @@ use Rattle.lines.specs.Acts.{Act, keep, become, into, gone, act}
 use Rattle.calls.specs.Leaves.{Leaves}
 use Rattle.calls.specs.Calls.{Item, Row, Walked, Step, end, skip, absorb, stop, pass, tries, settle, linesIn, linesOn, has, climb, made, onStep, readLater, stepAt, walk, turn, rowsOf}
 use Rattle.calls.proofs.Cut.{walk-step}
-use Rattle.calls.specs.Tables.{ownerOf}
+use Rattle.calls.specs.Inner.Tables.{ownerOf}
 
 -- ---- the definition with the whole test
 module _ (L : Leaves) where

@@ -7,7 +7,8 @@ use native.Mathlib.Omega.{arith}
 use lib.Dec.{eqb, ltb}
 use lib.ListN.{length, take, drop, getD, take-append-drop, length-append, length-take, length-drop}
 use lib.Seq.{drop-drop}
-use Rattle.lines.specs.Lf.{part, upTo, endsIn, unlines, lacks, noLf}
+use Rattle.lines.specs.Lf.{part, upTo, endsIn, unlines}
+use Rattle.lines.specs.Inner.Lf.{lacks, noLf}
 use Rattle.lines.proofs.LfLaws.{lacks-append, lacks-take, lacks-drop}
 use Rattle.lines.proofs.Tests.{no, and-left, and-right}
 use Rattle.text.specs.declared.Span.{Span}
@@ -25,7 +26,7 @@ use Rattle.words.specs.declared.Hit.{Hit}
 use Rattle.words.specs.declared.Hit.the-variants as hit
 use Rattle.words.specs.Hits.{regHit, glueLeft, glueRight, glued, replacedAt, replaceBy, replaceReg}
 use Rattle.words.proofs.Places.{Stands, around, hit-stands, replace-hit, replace-lacks}
-use Rattle.weight.specs.Weight.{spaced, extra, weight}
+use Rattle.weight.specs.Inner.Weight.{spaced, extra, weight}
 use Rattle.weight.proofs.Weigh.{weight-append, weight-part, weight-line, nothing}
 use Rattle.weight.proofs.Moves.{bracketed, absorb-le, glued-is, not-spaced}
 use Rattle.forms.specs.Primary.{bare, parenIfNeeded}

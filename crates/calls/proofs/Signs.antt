@@ -23,7 +23,7 @@ use Rattle.words.specs.Runs.{flush, runsGo, runs, countBy, readsOf}
 use Rattle.words.proofs.RunLaws.{count-append}
 use Rattle.forms.specs.Control.{isControl}
 use Rattle.reading.specs.Uses.{lineReads, storesBy, lineStores}
-use Rattle.calls.specs.Steps.{isSecond, mayControl}
+use Rattle.calls.specs.Inner.Steps.{isSecond, mayControl}
 
 -- ---- a condition or a loop
 

@@ -6,11 +6,12 @@ use mathlib.Core.List.{List, [], _∷_, _++_, append-assoc, append-nil, reverse,
 use native.Mathlib.Omega.{arith}
 use lib.ListN.{length, take, drop, getD, set, length-append, length-take, length-drop, take-append-drop}
 use lib.Seq.{take-suc, drop-cons, take-at, drop-at, take-take, drop-drop, take-add, length-take-le, getD-set-same, take-set-le, drop-set-lt}
-use Rattle.lines.specs.Lf.{part, lineStart, unlines, lacks}
+use Rattle.lines.specs.Lf.{part, unlines}
+use Rattle.lines.specs.Inner.Lf.{lineStart, lacks}
 use Rattle.lines.specs.Acts.{Act, act}
 use Rattle.lines.proofs.ActLaws.{unlines-append}
 use Rattle.calls.specs.Calls.{Row, linesIn, actsUp}
-use Rattle.calls.specs.Tables.{ownerOf, ownersOf}
+use Rattle.calls.specs.Inner.Tables.{ownerOf, ownersOf}
 use Rattle.calls.proofs.Cut.{acts-more, acts-length}
 use Rattle.calls.proofs.Edges.{given, ownerBack}
 use Rattle.calls.proofs.StepLaws.{back-line}

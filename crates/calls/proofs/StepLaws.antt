@@ -8,7 +8,8 @@ use borrow.Author.Tests.{eq-eqb, ne-eqb, lt-ltb, le-ltb, ltb-true, ltb-false}
 use lib.Dec.{eqb, ltb}
 use lib.ListN.{length, take, drop, getD, length-append, length-drop, drop-of-length-le, List·getD-append}
 use lib.Seq.{drop-cons, getD-append-add}
-use Rattle.lines.specs.Lf.{part, upTo, lineStart, prefixed, holds, linesOf, unlines, lacks}
+use Rattle.lines.specs.Lf.{part, upTo, prefixed, holds, linesOf, unlines}
+use Rattle.lines.specs.Inner.Lf.{lineStart, lacks}
 use Rattle.lines.proofs.LfLaws.{lines-at, lines-end}
 use Rattle.lines.proofs.Starts.{start-here, start-on, start-front}
 use Rattle.lines.proofs.Tests.{no, and-false, eqb-sym}
@@ -27,12 +28,12 @@ use Rattle.lexical.specs.Lex.{stripLexical}
 use Rattle.words.specs.declared.Hit.the-variants as hit
 use Rattle.words.specs.Hits.{regHit, afterNew, asTarget, replacedAt, replaceReg}
 use Rattle.text.specs.declared.Span.{Span}
-use Rattle.lines.specs.Out.{Wrote}
+use Rattle.lines.specs.Inner.Out.{Wrote}
 use Rattle.lines.proofs.OutLaws.{wrote-part}
 use Rattle.calls.specs.Leaves.{newed, operand}
 use Rattle.calls.specs.LeavesOf.{parsedBy, parsedOf, contextOf, isCall, isControlLine, leavesOf}
 use Rattle.calls.specs.Calls.{Step, end, absorb, orEnd, putBy, storesIn, readLater}
-use Rattle.calls.specs.Steps.{breaksDown, absorbStep, PutAs, ends, puts}
+use Rattle.calls.specs.Inner.Steps.{breaksDown, absorbStep, PutAs, ends, puts}
 use Rattle.calls.specs.declared.Made.{Made}
 use Rattle.calls.specs.declared.Made.the-variants as made
 

@@ -7,7 +7,8 @@ use native.Mathlib.Omega.{arith}
 use lib.Dec.{eqb}
 use lib.ListN.{length, take, drop, getD, length-take}
 use lib.Seq.{drop-cons, getD-take, take-nil, length-take-le}
-use Rattle.lines.specs.Lf.{linesOf, lacks, noLf}
+use Rattle.lines.specs.Lf.{linesOf}
+use Rattle.lines.specs.Inner.Lf.{lacks, noLf}
 use Rattle.lines.specs.Acts.{Act, keep, become, into, gone, act}
 use Rattle.lines.proofs.LfLaws.{lacks-take, lacks-drop, lines-noLf}
 use Rattle.lines.proofs.Tests.{and-left, and-right}
@@ -16,16 +17,17 @@ use Rattle.words.proofs.Places.{replace-lacks}
 use Rattle.forms.specs.Primary.{parenIfNeeded}
 use Rattle.forms.proofs.PrimaryLaws.{paren-lacks}
 use Rattle.lexical.specs.Lex.{stripLexical}
-use Rattle.place.specs.Blocks.{blocks, blockIds, cleaned}
+use Rattle.place.specs.Blocks.{blocks, cleaned}
+use Rattle.place.specs.Inner.Blocks.{blockIds}
 use Rattle.place.specs.Starts.{startsGo, startsAbove}
-use Rattle.place.specs.Fill.{flagsOf}
+use Rattle.place.specs.Inner.Fill.{flagsOf}
 use Rattle.place.proofs.Blocks.{cleaned-length, length-ids}
 use Rattle.place.proofs.Starts.{starts-at, length-starts}
 use Rattle.reading.specs.Reading.{plain}
 use Rattle.calls.specs.Leaves.{Leaves, Parsed, store, other}
 use Rattle.calls.specs.LeavesOf.{parsedOf, contextOf, startsBy, blocksBy, leavesOf}
 use Rattle.calls.specs.Calls.{Item, Row, Walked, Step, end, skip, absorb, tries, linesIn, linesOn, has, climb, made, itemsOf, actsUp, readLater, breaksOne, putBy, storeStep, stepAt, walk, turn, rowsOf}
-use Rattle.calls.specs.Tables.{ownerOf, rowsTo, walkFrom, itemsIn, rowsAt, walkAt, lineAt, Placed}
+use Rattle.calls.specs.Inner.Tables.{ownerOf, rowsTo, walkFrom, itemsIn, rowsAt, walkAt, lineAt, Placed}
 use Rattle.calls.proofs.Cut.{walk-step}
 use Rattle.calls.proofs.Edges.{given, given-length, walk-given, turn-given, items-on}
 use Rattle.calls.proofs.Owners.{owned, turn-owned}

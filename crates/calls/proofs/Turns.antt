@@ -11,16 +11,16 @@ use lib.ListN.{length, take, drop, getD, set, length-append, length-take, length
 use lib.Seq.{take-suc, drop-cons, take-at, take-all, take-add, take-set-le, drop-set-lt, getD-drop, getD-set-same, length-take-le}
 use Rattle.lines.specs.Lf.{part, upTo, linesOf, unlines}
 use Rattle.lines.specs.Acts.{Act, keep, act, apply}
-use Rattle.lines.specs.Out.{putAt, Wrote}
+use Rattle.lines.specs.Inner.Out.{putAt, Wrote}
 use Rattle.lines.proofs.ActLaws.{apply-append, unlines-append}
 use Rattle.lines.proofs.LfLaws.{lines-at, lines-end, find-le, part-more}
 use Rattle.lines.proofs.OutLaws.{wrote-length, wrote-part}
 use Rattle.place.specs.Region.{isHeader}
-use Rattle.place.specs.Fill.{Filled}
+use Rattle.place.specs.Inner.Fill.{Filled}
 use Rattle.reading.specs.Reading.{plain}
 use Rattle.calls.specs.LeavesOf.{isCall, isControlLine, leavesOf}
 use Rattle.calls.specs.Calls.{Item, Row, Walked, tries, settle, linesIn, climb, actsUp, readLater, walk, turn, rebuildCallsActs, rebuildCalls}
-use Rattle.calls.specs.Tables.{ownerOf, ownersOf, rowsTo, rowsAt, walkAt, lineAt, Keeps, Stands, Placed, Foot, Peaked, Spot, Ready, Turned, Rebuilt}
+use Rattle.calls.specs.Inner.Tables.{ownerOf, ownersOf, rowsTo, rowsAt, walkAt, lineAt, Keeps, Stands, Placed, Foot, Peaked, Spot, Ready, Turned, Rebuilt}
 use Rattle.calls.proofs.Cut.{acts-more, acts-length}
 use Rattle.calls.proofs.Edges.{given, given-length, walk-given}
 use Rattle.calls.proofs.Owners.{walk-owned, keep-owner}

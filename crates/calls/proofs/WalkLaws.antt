@@ -13,8 +13,8 @@ use Rattle.forms.specs.Breaks.{breaks}
 use Rattle.calls.specs.Leaves.{Leaves, store}
 use Rattle.calls.specs.LeavesOf.{parsedOf, contextOf, startsBy, leavesOf}
 use Rattle.calls.specs.Calls.{Item, Row, Step, end, skip, absorb, linesIn, has, readLater, breaksOne, putBy, storeStep, stepAt}
-use Rattle.calls.specs.Steps.{breaksDown, absorbStep}
-use Rattle.calls.specs.Tables.{ownerOf}
+use Rattle.calls.specs.Inner.Steps.{breaksDown, absorbStep}
+use Rattle.calls.specs.Inner.Tables.{ownerOf}
 use Rattle.calls.proofs.Edges.{takenLines, taken-lines, Passed, none-yet, over-row, took-row, ownerBack, by-table}
 
 -- ---- the table of owners

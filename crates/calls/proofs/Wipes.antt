@@ -7,16 +7,17 @@ use native.Mathlib.Numerals.{add-one}
 use lib.ListN.{length, take, drop, set, replicate, length-set, length-replicate, replicate-append-replicate}
 use lib.Seq.{take-suc-set, take-all, length-take-le}
 use Rattle.lines.specs.Lf.{part, linesOf, unlines}
-use Rattle.lines.specs.Out.{putAt, Wrote}
-use Rattle.place.specs.Blocks.{blockIds, cleaned}
+use Rattle.lines.specs.Inner.Out.{putAt, Wrote}
+use Rattle.place.specs.Blocks.{cleaned}
+use Rattle.place.specs.Inner.Blocks.{blockIds}
 use Rattle.place.specs.Starts.{startsGo}
-use Rattle.place.specs.Fill.{Filled, flagsOf}
+use Rattle.place.specs.Inner.Fill.{Filled, flagsOf}
 use Rattle.place.proofs.Fills.{filled-take, filled-length}
 use Rattle.place.proofs.Lengths.{lengths}
 use Rattle.reading.specs.Reading.{plain}
 use Rattle.calls.specs.LeavesOf.{leavesOf}
 use Rattle.calls.specs.Calls.{rebuildCalls}
-use Rattle.calls.specs.Tables.{Placed, Rebuilt}
+use Rattle.calls.specs.Inner.Tables.{Placed, Rebuilt}
 
 -- ---- the loop that wipes
 

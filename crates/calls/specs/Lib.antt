@@ -1,5 +1,4 @@
 pub mod Leaves
 pub mod LeavesOf
 pub mod Calls
-pub mod Steps
-pub mod Tables
+pub mod Inner

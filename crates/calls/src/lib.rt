@@ -6,7 +6,7 @@ ghost use Prim.Native.Nat.{_+_, _-_, _≤_, _<_, _^_};
 ghost use lib.Dec.{eqb};
 ghost use lib.ListN.{length, getD, replicate};
 ghost use Rattle.lines.specs.Lf.{holds, linesOf, unlines};
-ghost use Rattle.lines.specs.Out.{Wrote};
+ghost use Rattle.lines.specs.Inner.Out.{Wrote};
 ghost use Rattle.words.specs.Hits.{replacedAt};
 ghost use Rattle.lexical.specs.Idents.{wordsIn};
 ghost use Rattle.forms.specs.Primary.{parenIfNeeded};
@@ -14,16 +14,17 @@ ghost use Rattle.forms.specs.Control.{isControl};
 ghost use Rattle.forms.specs.Breaks.{breaksWith, breaks};
 ghost use Rattle.reading.specs.Reading.{plain};
 ghost use Rattle.reading.specs.Uses.{lineReads, lineStores};
-ghost use Rattle.place.specs.Blocks.{blockIds, cleaned};
+ghost use Rattle.place.specs.Blocks.{cleaned};
+ghost use Rattle.place.specs.Inner.Blocks.{blockIds};
 ghost use Rattle.place.specs.Starts.{startsGo};
-ghost use Rattle.place.specs.Parents.{idsParents};
-ghost use Rattle.place.specs.Fill.{Filled, flagsOf};
-ghost use Rattle.place.specs.Ends.{endMarks};
-ghost use Rattle.records.specs.Records.{Told};
+ghost use Rattle.place.specs.Inner.Parents.{idsParents};
+ghost use Rattle.place.specs.Inner.Fill.{Filled, flagsOf};
+ghost use Rattle.place.specs.Inner.Ends.{endMarks};
+ghost use Rattle.records.specs.Inner.Records.{Told};
 ghost use Rattle.calls.specs.LeavesOf.{isCall, isControlLine, contextOf, leavesOf};
 ghost use Rattle.calls.specs.Calls.{readLater, putBy, rebuildCallsActs, rebuildCalls};
-ghost use Rattle.calls.specs.Steps.{isSecond, mayControl, breaksDown, absorbStep, PutAs};
-ghost use Rattle.calls.specs.Tables.{rowsAt, Keeps, Stands, Placed, Foot, Peaked, Ready, Turned, Rebuilt, ownersOf};
+ghost use Rattle.calls.specs.Inner.Steps.{isSecond, mayControl, breaksDown, absorbStep, PutAs};
+ghost use Rattle.calls.specs.Inner.Tables.{rowsAt, Keeps, Stands, Placed, Foot, Peaked, Ready, Turned, Rebuilt, ownersOf};
 
 // What putting a value into a line makes: a line of so many bytes, or nothing.
 pub enum Made {

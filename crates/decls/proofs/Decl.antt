@@ -14,16 +14,18 @@ use Rattle.lines.proofs.Tests.{no, and-left, and-right, and-both}
 use Rattle.text.specs.White.{isWhite}
 use Rattle.text.specs.Utf8Form.{seqLen}
 use Rattle.text.specs.Trim.{whiteChar, whiteHead, lead, fromOf, toOf, trimOf}
-use Rattle.names.specs.Names.{zeros, numberOf, regOf}
+use Rattle.names.specs.Names.{numberOf, regOf}
+use Rattle.names.specs.Inner.Names.{zeros}
 use Rattle.names.specs.declared.RegName.the-variants as name
 use Rattle.parse.specs.Parse.{letWord, bodyOf, isReg, allRegs, isDecl}
-use Rattle.weight.specs.Weight.{spaced, extra, heavy, weight}
+use Rattle.weight.specs.Inner.Weight.{spaced, extra, heavy, weight}
 use Rattle.weight.proofs.Weigh.{length-weight, weight-append, weight-cut, weight-take, weight-drop, weight-rest, spaced-drop, weight-line, nothing}
 use Rattle.weight.proofs.Pays.{Pays, done, step, pays}
 use Rattle.weight.proofs.Moves.{Sub, stop, skip, sub-self, sub-append, sub-weight}
 use Rattle.place.specs.Region.{region, regionAt}
-use Rattle.decls.specs.Decls.{commas, declAct, stays, keepNames, actOf, actsGo, pruneDeclsActs, pruneDecls}
-use Rattle.decls.specs.Print.{bareName, one, kept}
+use Rattle.decls.specs.Decls.{commas, declAct, keepNames, actOf, actsGo, pruneDeclsActs, pruneDecls}
+use Rattle.decls.specs.Inner.Decls.{stays}
+use Rattle.decls.specs.Inner.Print.{bareName, one, kept}
 use Rattle.decls.proofs.Writes.{names-kept}
 
 -- ---- the pieces of a body

@@ -4,17 +4,19 @@ use mathlib.Core.Path.{_≡_, refl, ap, _∙_}
 use mathlib.Core.Bool.{Bool, true, false, cond}
 use mathlib.Core.List.{List, [], _∷_, _++_}
 use lib.ListN.{length, take, drop}
-use Rattle.lines.specs.Lf.{linesOf, partsOf, unlines, lacks, noLf, all}
+use Rattle.lines.specs.Lf.{linesOf, partsOf, unlines, all}
+use Rattle.lines.specs.Inner.Lf.{lacks, noLf}
 use Rattle.lines.specs.Acts.{keep}
 use Rattle.lines.proofs.Tests.{and-left, and-right, and-both}
 use Rattle.lines.proofs.LfLaws.{lines-noLf, lines-unlines, noLf-append, lacks-append, lacks-take, lacks-drop, parts-noLf}
 use Rattle.lines.proofs.ActLaws.{actNoLf, apply-noLf}
 use Rattle.text.specs.Trim.{fromOf, toOf, trimOf}
-use Rattle.names.specs.Names.{zeros}
+use Rattle.names.specs.Inner.Names.{zeros}
 use Rattle.parse.specs.Parse.{letWord, bodyOf, isDecl}
 use Rattle.place.specs.Region.{region, regionAt}
-use Rattle.decls.specs.Decls.{commas, declAct, stays, keepNames, actOf, actsGo, pruneDeclsActs, pruneDecls}
-use Rattle.decls.specs.Print.{bareName, one, kept}
+use Rattle.decls.specs.Decls.{commas, declAct, keepNames, actOf, actsGo, pruneDeclsActs, pruneDecls}
+use Rattle.decls.specs.Inner.Decls.{stays}
+use Rattle.decls.specs.Inner.Print.{bareName, one, kept}
 use Rattle.decls.proofs.Writes.{names-kept}
 
 -- ---- a declaration, over any test of what stays

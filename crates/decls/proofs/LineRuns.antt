@@ -24,7 +24,7 @@ use Rattle.parse.specs.declared.Line.{Line}
 use Rattle.parse.specs.declared.Line.the-variants as line
 use Rattle.words.specs.Runs.{flush, runsGo, runs}
 use Rattle.words.proofs.Walk.{go-gap}
-use Rattle.decls.specs.Seen.{markName, markRuns, markStore, markLine}
+use Rattle.decls.specs.Inner.Seen.{markName, markRuns, markStore, markLine}
 use Rattle.decls.proofs.TrimRuns.{back-runs, name-runs, trim-runs}
 use Rattle.decls.proofs.SeenLaws.{runs-flush}
 

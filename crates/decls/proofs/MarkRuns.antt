@@ -18,8 +18,9 @@ use Rattle.parse.proofs.Plain.{inside, name-at}
 use Rattle.parse.proofs.PlainLine.{first-taken, bare-none}
 use Rattle.names.specs.declared.RegName.{RegName}
 use Rattle.names.specs.declared.RegName.the-variants as name
-use Rattle.words.specs.Runs.{upBy, runLen, runsGo, runs}
-use Rattle.decls.specs.Seen.{nameBefore, runOf, runAt, markName, markRuns}
+use Rattle.words.specs.Runs.{runsGo, runs}
+use Rattle.words.specs.Inner.Runs.{upBy, runLen}
+use Rattle.decls.specs.Inner.Seen.{nameBefore, runOf, runAt, markName, markRuns}
 use Rattle.words.proofs.RunLaws.{up-here, up-on, up-end}
 use Rattle.words.proofs.Walk.{go-name, go-gap}
 use Rattle.decls.proofs.SeenLaws.{name-length, runs-flush}

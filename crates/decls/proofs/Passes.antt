@@ -10,11 +10,13 @@ use Rattle.lines.specs.Acts.{Act, keep, become, gone, apply}
 use Rattle.lines.proofs.ActLaws.{apply-append, apply-length}
 use Rattle.text.specs.Trim.{fromOf, trimOf}
 use Rattle.parse.specs.Parse.{bodyOf, isDecl}
-use Rattle.place.specs.Region.{isHeader, headed, untilHeader, region, regionAt, regions}
+use Rattle.place.specs.Region.{isHeader, untilHeader, region, regionAt}
+use Rattle.place.specs.Inner.Region.{headed, regions}
 use Rattle.place.proofs.Regions.{until-upper, at-upper, at-header}
 use Rattle.place.proofs.Numbers.{runsBy, runsGo, runs, by-numbers}
-use Rattle.decls.specs.Decls.{declAct, stays, keepNames, actOf, actsGo, pruneDeclsActs, pruneDecls}
-use Rattle.decls.specs.Print.{one, kept}
+use Rattle.decls.specs.Decls.{declAct, keepNames, actOf, actsGo, pruneDeclsActs, pruneDecls}
+use Rattle.decls.specs.Inner.Decls.{stays}
+use Rattle.decls.specs.Inner.Print.{one, kept}
 use Rattle.decls.proofs.Writes.{names-kept}
 
 -- ---- the law of a cut: above a header the two parts are decided apart

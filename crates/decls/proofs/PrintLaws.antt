@@ -10,17 +10,18 @@ use lib.ListN.{length, take, drop, length-append, length-drop, take-append-drop}
 use lib.Seq.{take-append-seam}
 use Rattle.lines.specs.Lf.{part, upTo, partsOf, unlines}
 use Rattle.lines.specs.Acts.{act}
-use Rattle.lines.specs.Out.{Wrote}
+use Rattle.lines.specs.Inner.Out.{Wrote}
 use Rattle.lines.proofs.LfLaws.{parts-at, parts-at-end, rest-of}
 use Rattle.lines.proofs.OutLaws.{Writing, writing-start, writing-as, writing-room, writing-put, writing-end}
 use Rattle.text.specs.Trim.{trimOf}
-use Rattle.names.specs.Names.{zeros, decimal, numberAfter}
+use Rattle.names.specs.Names.{decimal}
+use Rattle.names.specs.Inner.Names.{zeros, numberAfter}
 use Rattle.names.specs.declared.Number.the-variants as number
 use Rattle.names.proofs.Digits.{zeros-lt}
 use Rattle.names.proofs.Texts.{after-read, after-copied}
 use Rattle.parse.specs.Parse.{letWord}
 use Rattle.decls.specs.Decls.{commas, declAct}
-use Rattle.decls.specs.Print.{bareName, one, kept, leadOf, endOf, named, someOf, declText}
+use Rattle.decls.specs.Inner.Print.{bareName, one, kept, leadOf, endOf, named, someOf, declText}
 
 -- ---- a name as it is printed
 

@@ -21,11 +21,12 @@ use Rattle.parse.specs.Parse.{isDecl, parseOf, textOf}
 use Rattle.parse.specs.declared.Line.{Line}
 use Rattle.parse.specs.declared.Line.the-variants as line
 use Rattle.words.specs.Runs.{flush, runsGo, runs, countBy, readsOf}
-use Rattle.place.specs.Region.{isHeader, untilHeader, region, upHeader, regionLen}
+use Rattle.place.specs.Region.{isHeader, untilHeader, region}
+use Rattle.place.specs.Inner.Region.{upHeader, regionLen}
 use Rattle.place.proofs.Regions.{past, end-stop, end-on, end-end, region-at, region-le}
 use Rattle.words.proofs.Walk.{Walk, walk-start, walk-name, walk-gap, walk-end}
 use Rattle.reading.specs.Uses.{lineReads, storesBy, lineStores, lineUses, usedIn}
-use Rattle.decls.specs.Seen.{markName, markRuns, markStore, markLine, markLines, AtMost, Says, Quiet, quiet-none, quiet-more}
+use Rattle.decls.specs.Inner.Seen.{markName, markRuns, markStore, markLine, markLines, AtMost, Says, Quiet, quiet-none, quiet-more}
 
 -- ---- a store past the end
 

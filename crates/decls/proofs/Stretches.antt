@@ -14,7 +14,7 @@ use Rattle.names.specs.Names.{regOf}
 use Rattle.parse.specs.Parse.{isDecl}
 use Rattle.words.specs.Runs.{runsGo, runs}
 use Rattle.place.specs.Region.{isHeader}
-use Rattle.decls.specs.Seen.{markName, markRuns, markLine, Quiet, quiet-none, quiet-more}
+use Rattle.decls.specs.Inner.Seen.{markName, markRuns, markLine, Quiet, quiet-none, quiet-more}
 use Rattle.decls.proofs.TrimRuns.{back-runs}
 use Rattle.decls.proofs.SeenLaws.{RegionInv, runs-length, region-on, quiet-le}
 use Rattle.decls.proofs.LineRuns.{mid-runs, line-runs-marked}

@@ -9,7 +9,7 @@ use lib.Dec.{ltb}
 use lib.ListN.{length, take, drop}
 use Rattle.lines.specs.Lf.{part, upTo, linesOf, partsOf, unlines}
 use Rattle.lines.specs.Acts.{act, apply}
-use Rattle.lines.specs.Out.{Wrote}
+use Rattle.lines.specs.Inner.Out.{Wrote}
 use Rattle.lines.proofs.Tests.{and-left}
 use Rattle.lines.proofs.LfLaws.{lines-at, lines-end, part-none}
 use Rattle.lines.proofs.ActLaws.{unlines-append}
@@ -23,9 +23,10 @@ use Rattle.names.proofs.Texts.{reg-number}
 use Rattle.parse.specs.Parse.{bodyOf, isDecl}
 use Rattle.place.specs.Region.{isHeader, region, regionAt}
 use Rattle.reading.specs.Uses.{usedIn}
-use Rattle.decls.specs.Decls.{keepOne, staysBy, stays, keepNames, actOf, lineText, actsGo, pruneDeclsActs, pruneDecls}
-use Rattle.decls.specs.Print.{bareName, one, kept, declText}
-use Rattle.decls.specs.Seen.{Quiet, quiet-none, quiet-more}
+use Rattle.decls.specs.Decls.{keepOne, keepNames, actOf, actsGo, pruneDeclsActs, pruneDecls}
+use Rattle.decls.specs.Inner.Decls.{staysBy, stays, lineText}
+use Rattle.decls.specs.Inner.Print.{bareName, one, kept, declText}
+use Rattle.decls.specs.Inner.Seen.{Quiet, quiet-none, quiet-more}
 use Rattle.decls.proofs.PrintLaws.{after-bare, writing-fits, act-text}
 use Rattle.decls.proofs.Chunks.{chunk-open, chunk-shut, chunk-none}
 

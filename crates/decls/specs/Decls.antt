@@ -1,12 +1,12 @@
 -- `prune_decls`: a declared register stays exactly when some line of its region reads or stores it. Assumes nothing.
 use Prim.Native.Nat.{ℕ}
 use Prim.Native.Char.{code}
-use mathlib.Core.Bool.{Bool, false, cond}
+use mathlib.Core.Bool.{cond}
 use mathlib.Core.List.{List, [], _∷_, _++_}
 use lib.ListN.{take}
 use Rattle.lines.specs.Ascii.{ascii}
-use Rattle.lines.specs.Lf.{partsOf, unlines}
-use Rattle.lines.specs.Acts.{Act, keep, become, gone, act, apply}
+use Rattle.lines.specs.Lf.{partsOf}
+use Rattle.lines.specs.Acts.{Act, keep, become, gone, apply}
 use Rattle.text.specs.Trim.{fromOf, trimOf}
 use Rattle.names.specs.Names.{regOf, regText}
 use Rattle.names.specs.declared.RegName.{RegName}
@@ -35,15 +35,6 @@ abbrev pub keepOne : List (List ℕ) → RegName → List (List ℕ)
 keepOne run name.None = []
 keepOne run (name.Reg q) = cond (usedIn (q .0) run) (regText (q .0) ∷ []) []
 
--- some line of the region reads or stores the register that a name is
-abbrev pub staysBy : List (List ℕ) → RegName → Bool
-staysBy run name.None = false
-staysBy run (name.Reg q) = usedIn (q .0) run
-
--- the same of a text that names it
-abbrev pub stays : List (List ℕ) → List ℕ → Bool
-stays run t = staysBy run (regOf t)
-
 -- the names that stay, of the pieces of a declaration
 unfoldable pub keepNames : List (List ℕ) → List (List ℕ) → List (List ℕ)
 keepNames run [] = []
@@ -53,10 +44,6 @@ keepNames run (p ∷ ps) = keepOne run (regOf (trimOf p)) ++ keepNames run ps
 unfoldable pub actOf : List (List ℕ) → List ℕ → Act
 unfolding declAct keepNames
 actOf run l = cond (isDecl (trimOf l)) (declAct (take (fromOf l) l) (keepNames run (partsOf (code ",") (bodyOf (trimOf l))))) keep
-
--- what a line of the region is written as, with its LF
-abbrev pub lineText : List (List ℕ) → List ℕ → List ℕ
-lineText run l = unlines (act (actOf run l) l)
 
 -- the acts of lines; `run` is the region of the line above
 unfoldable pub actsGo : List (List ℕ) → List (List ℕ) → List Act

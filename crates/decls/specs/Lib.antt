@@ -1,3 +1,2 @@
 pub mod Decls
-pub mod Print
-pub mod Seen
+pub mod Inner

@@ -8,14 +8,16 @@ ghost use Prim.Native.Nat.{_≤_, _<_, _+_, _-_, _^_};
 ghost use lib.Dec.{ltb};
 ghost use lib.ListN.{length, drop};
 ghost use Rattle.lines.specs.Lf.{part, upTo, linesOf, partsOf, unlines};
-ghost use Rattle.lines.specs.Out.{Wrote};
+ghost use Rattle.lines.specs.Inner.Out.{Wrote};
 ghost use Rattle.text.specs.Trim.{trimOf};
 ghost use Rattle.names.specs.Names.{regOf};
 ghost use Rattle.parse.specs.Parse.{isDecl};
-ghost use Rattle.place.specs.Region.{region, regionLen};
-ghost use Rattle.decls.specs.Decls.{staysBy, stays, lineText, pruneDecls};
-ghost use Rattle.decls.specs.Print.{kept, declText};
-ghost use Rattle.decls.specs.Seen.{AtMost, Says, markLines};
+ghost use Rattle.place.specs.Region.{region};
+ghost use Rattle.place.specs.Inner.Region.{regionLen};
+ghost use Rattle.decls.specs.Decls.{pruneDecls};
+ghost use Rattle.decls.specs.Inner.Decls.{staysBy, stays, lineText};
+ghost use Rattle.decls.specs.Inner.Print.{kept, declText};
+ghost use Rattle.decls.specs.Inner.Seen.{AtMost, Says, markLines};
 
 // Whether a text names a register that some line of the region reads or stores.
 pub fn stays_in(region: &[u8], m: usize, seen: &[usize], t: &[u8]) -> bool

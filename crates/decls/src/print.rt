@@ -3,8 +3,8 @@ ghost use mathlib.Core.Path.{_≡_};
 ghost use mathlib.Core.List.{[], _∷_};
 ghost use Prim.Native.Nat.{_≤_, _+_};
 ghost use lib.ListN.{length};
-ghost use Rattle.lines.specs.Out.{Wrote};
-ghost use Rattle.decls.specs.Print.{bareName, one, leadOf, endOf, named};
+ghost use Rattle.lines.specs.Inner.Out.{Wrote};
+ghost use Rattle.decls.specs.Inner.Print.{bareName, one, leadOf, endOf, named};
 
 // Writes what stands before a name, and returns the place after it; `some` says whether a name went before.
 pub fn put_lead(indent: &[u8], some: bool, out: &mut [u8], o: usize) -> usize

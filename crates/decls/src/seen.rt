@@ -10,9 +10,10 @@ ghost use Rattle.text.specs.Trim.{trimOf};
 ghost use Rattle.names.specs.Names.{regOf};
 ghost use Rattle.parse.specs.Parse.{isDecl};
 ghost use Rattle.words.specs.Runs.{runs};
-ghost use Rattle.place.specs.Region.{region, regionLen};
+ghost use Rattle.place.specs.Region.{region};
+ghost use Rattle.place.specs.Inner.Region.{regionLen};
 ghost use Rattle.reading.specs.Uses.{usedIn};
-ghost use Rattle.decls.specs.Seen.{nameBefore, runAt, markName, markRuns, markLine, markLines, Says, Quiet};
+ghost use Rattle.decls.specs.Inner.Seen.{nameBefore, runAt, markName, markRuns, markLine, markLines, Says, Quiet};
 
 // Puts a mark at a register, where the table reaches to it.
 fn mark_reg(reg: names::Register, m: usize, seen: &mut [usize])

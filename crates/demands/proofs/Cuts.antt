@@ -3,8 +3,9 @@ use Prim.Native.Nat.{ℕ}
 use mathlib.Core.Path.{_≡_}
 use mathlib.Core.Bool.{true}
 use mathlib.Core.List.{List, _++_}
-use Rattle.place.specs.Region.{headed}
-use Rattle.place.specs.Blocks.{own, cleaned}
+use Rattle.place.specs.Inner.Region.{headed}
+use Rattle.place.specs.Blocks.{cleaned}
+use Rattle.place.specs.Inner.Blocks.{own}
 use Rattle.reading.specs.Reading.{plain}
 use Rattle.reading.proofs.ByLine.{plain-by-line}
 use Rattle.calls.proofs.Instance as calls

@@ -5,9 +5,12 @@ use Prim.Native.Nat.{ℕ}
 use mathlib.Core.List.{List, [], _∷_, _++_}
 use Rattle.lines.specs.Lf.{upTo, prefixed, same, cutOn, linesOf}
 use Rattle.lines.specs.Steps.{dropCr, splitLines}
-use Rattle.lexical.specs.Lex.{quoteLen, patternLen, commentLen, lastOf, tokenOf, tokenAt, lexGo, stripLexical, tailOf, pushed, grown, stepOf}
-use Rattle.place.specs.Region.{isHeader, headed}
-use Rattle.place.specs.Blocks.{braceOf, push, count, top, cleaned, mayAt, depthAt, depthAfter, ownLine, ownGo, own}
+use Rattle.lexical.specs.Lex.{quoteLen, patternLen, commentLen, lastOf, tokenOf, lexGo, stripLexical}
+use Rattle.lexical.specs.Inner.Lex.{tokenAt, tailOf, pushed, grown, stepOf}
+use Rattle.place.specs.Region.{isHeader}
+use Rattle.place.specs.Inner.Region.{headed}
+use Rattle.place.specs.Blocks.{braceOf, push, count, top, cleaned}
+use Rattle.place.specs.Inner.Blocks.{mayAt, depthAt, depthAfter, ownLine, ownGo, own}
 
 -- a, CR | LF, b: two lines; cut between, three, and the CR stays
 pub whole-lines : splitLines ((97 ∷ 13 ∷ []) ++ (10 ∷ 98 ∷ [])) ≡ (97 ∷ []) ∷ (98 ∷ []) ∷ []

@@ -4,8 +4,9 @@ use mathlib.Core.Path.{_≡_, ap, _∙_}
 use mathlib.Core.Bool.{true}
 use mathlib.Core.List.{List, _++_}
 use Rattle.lines.specs.Steps.{splitLines}
-use Rattle.place.specs.Region.{headed}
-use Rattle.place.specs.Blocks.{own, cleaned}
+use Rattle.place.specs.Inner.Region.{headed}
+use Rattle.place.specs.Blocks.{cleaned}
+use Rattle.place.specs.Inner.Blocks.{own}
 use Rattle.reading.specs.Reading.{plain}
 use Rattle.steps.specs.Step.{stepOf}
 use Rattle.demands.proofs.Cuts.{Cuts, cut-pass}

@@ -4,8 +4,9 @@ use mathlib.Core.Path.{_≡_, sym, _∙_}
 use mathlib.Core.List.{List}
 use denote.Ref.{now}
 use Rattle.reading.specs.Reading.{plain}
-use Rattle.passes.specs.Passes.{stepsOf, resultOf}
-use Rattle.passes.specs.Buffers.{Blank}
+use Rattle.passes.specs.Passes.{resultOf}
+use Rattle.passes.specs.Inner.Passes.{stepsOf}
+use Rattle.passes.specs.Inner.Buffers.{Blank}
 use Rattle.passes.proofs as passes
 use Rattle.determined.proofs.Outcomes.{Determined, fixed-by, one, more}
 use Rattle.determined.proofs.Limits.{out-once}

@@ -3,7 +3,7 @@ use Prim.Native.Nat.{ℕ}
 use mathlib.Core.Path.{_≡_, sym, _∙_}
 use mathlib.Core.List.{List}
 use Rattle.lines.proofs.OutLaws.{wrote-once}
-use Rattle.steps.specs.Left.{Left}
+use Rattle.steps.specs.Inner.Left.{Left}
 use Rattle.steps.proofs as steps
 use Rattle.determined.proofs.Outcomes.{Determined, fixed-by, one, more}
 

@@ -10,11 +10,13 @@ use borrow.Author.Tests.{ne-eqb, not-true}
 use lib.Dec.{eqb}
 use lib.ListN.{length, drop, getD, set, length-drop, drop-of-length-le}
 use lib.Seq.{drop-cons, drop-drop, getD-drop}
-use Rattle.lines.specs.Lf.{upTo, prefixed, lacks}
+use Rattle.lines.specs.Lf.{upTo, prefixed}
+use Rattle.lines.specs.Inner.Lf.{lacks}
 use Rattle.lines.proofs.Tests.{no, and-true, and-false, and-left, and-right, eqb-sym}
 use Rattle.lines.proofs.LfLaws.{lacks-cons, lacks-with}
 use Rattle.lines.proofs.OutLaws.{Writing, writing-as, writing-room, writing-put, wrote-byte}
-use Rattle.expr.specs.Comments.{strip, stripComments, noComment}
+use Rattle.expr.specs.Comments.{strip, stripComments}
+use Rattle.expr.specs.Inner.Comments.{noComment}
 
 -- ---- two bytes at a place of a text
 

@@ -12,8 +12,10 @@ use Rattle.lines.specs.Lf.{all}
 use Rattle.lines.proofs.Tests.{and-left}
 use Rattle.names.specs.Names.{regOf, isIdent}
 use Rattle.expr.specs.Fix.{deep, fix}
-use Rattle.expr.specs.Comments.{stripComments, noComment}
-use Rattle.expr.specs.Pure.{isSpace, spaceStart, spaceEnd, spaceTrim, isEmpty, namesReg, isWord, startsNumber, isNumberByte, wrapped, isQuoted, shapeOf, inner, opens, closes, elements, isPure, pureBy, judge, cutRule, purityRule, purityOf, purityCut}
+use Rattle.expr.specs.Comments.{stripComments}
+use Rattle.expr.specs.Inner.Comments.{noComment}
+use Rattle.expr.specs.Pure.{isSpace, spaceStart, spaceEnd, spaceTrim, isEmpty, namesReg, isWord, startsNumber, isNumberByte, wrapped, isQuoted, shapeOf, inner, opens, closes, elements, isPure, pureBy, judge, cutRule, purityRule, purityOf}
+use Rattle.expr.specs.Inner.Pure.{purityCut}
 use Rattle.expr.specs.declared.kinds.Shape.{Shape}
 use Rattle.expr.specs.declared.kinds.Shape.the-variants.{Plain, Array}
 use Rattle.expr.specs.declared.kinds.Purity.{Purity}

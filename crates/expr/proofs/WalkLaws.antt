@@ -11,7 +11,8 @@ use lib.Seq.{drop-cons}
 use Rattle.lines.specs.Lf.{among, part, all}
 use Rattle.lines.proofs.Tests.{and-true}
 use Rattle.lines.proofs.LfLaws.{part-none, part-more}
-use Rattle.expr.specs.Pure.{isSpace, spaceTrim, shapeOf, opens, closes, elements, pureBy, judge, purityCut}
+use Rattle.expr.specs.Pure.{isSpace, spaceTrim, shapeOf, opens, closes, elements, pureBy, judge}
+use Rattle.expr.specs.Inner.Pure.{purityCut}
 use Rattle.expr.specs.declared.kinds.Shape.{Shape}
 use Rattle.expr.specs.declared.kinds.Shape.the-variants.{Plain, Array}
 use Rattle.expr.specs.declared.kinds.Purity.{Purity}

@@ -1,7 +1,7 @@
 -- `strip_comments`: a text without its comments, with no regard to quotes. Assumes nothing.
 use Prim.Native.Nat.{ℕ}
 use Prim.Native.Char.{code}
-use mathlib.Core.Bool.{Bool, true, false, cond, not, _&&_}
+use mathlib.Core.Bool.{Bool, true, false, cond}
 use mathlib.Core.List.{List, [], _∷_}
 use Rattle.lines.specs.Ascii.{ascii}
 use Rattle.lines.specs.Lf.{prefixed}
@@ -25,9 +25,3 @@ strip (a ∷ b ∷ s) true =
 unfoldable pub stripComments : List ℕ → List ℕ
 unfolding strip
 stripComments s = strip s false
-
--- neither `/*` nor `//` stands anywhere in a text
-unfoldable pub noComment : List ℕ → Bool
-unfolding prefixed
-noComment [] = true
-noComment (a ∷ s) = (not (prefixed (ascii "/*") (a ∷ s)) && not (prefixed (ascii "//") (a ∷ s))) && noComment s

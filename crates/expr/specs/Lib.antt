@@ -1,3 +1,4 @@
 pub mod Fix
 pub mod Comments
 pub mod Pure
+pub mod Inner

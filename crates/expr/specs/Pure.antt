@@ -145,7 +145,3 @@ purityRule f s = cutRule f (stripComments s)
 -- `purity`
 unfoldable pub purityOf : List ℕ → Purity
 purityOf = fix purityRule Effectful length
-
--- the purity of a text that is cut already, where no level looks for comments
-unfoldable pub purityCut : List ℕ → Purity
-purityCut = fix cutRule Effectful length

@@ -8,10 +8,11 @@ ghost use mathlib.Core.List.{[], _∷_};
 ghost use Prim.Native.Nat.{_≤_, _+_};
 ghost use lib.ListN.{length, take, drop};
 ghost use Rattle.lines.specs.Lf.{prefixed, all};
-ghost use Rattle.lines.specs.Out.{putAt, Wrote};
+ghost use Rattle.lines.specs.Inner.Out.{putAt, Wrote};
 ghost use Rattle.names.specs.Names.{isDigit, regOf};
 ghost use Rattle.expr.specs.Comments.{stripComments};
-ghost use Rattle.expr.specs.Pure.{isSpace, spaceStart, spaceEnd, spaceTrim, namesReg, isWord, startsNumber, isNumberByte, wrapped, isQuoted, shapeOf, opens, closes, isPure, pureBy, purityOf, purityCut};
+ghost use Rattle.expr.specs.Pure.{isSpace, spaceStart, spaceEnd, spaceTrim, namesReg, isWord, startsNumber, isNumberByte, wrapped, isQuoted, shapeOf, opens, closes, isPure, pureBy, purityOf};
+ghost use Rattle.expr.specs.Inner.Pure.{purityCut};
 
 // Whether the bytes `x` and `y` stand at `i` and just after it.
 fn two_at(s: &[u8], i: usize, x: u8, y: u8) -> bool

@@ -15,7 +15,8 @@ use Rattle.text.specs.declared.Span.{Span}
 use Rattle.lexical.specs.declared.Word.{Word}
 use Rattle.lexical.specs.declared.Word.the-variants as variant
 use Rattle.lexical.specs.Lex.{stripLexical}
-use Rattle.lexical.specs.Idents.{charsGo, wordsGo, wordsIn, nextWord}
+use Rattle.lexical.specs.Idents.{charsGo, wordsGo, wordsIn}
+use Rattle.lexical.specs.Inner.Idents.{nextWord}
 use Rattle.lexical.proofs.EndLaws.{cons-at}
 use Rattle.lexical.proofs.WordLaws.{next-some, next-none}
 use Rattle.parse.specs.Parse.{parseOf}
@@ -23,7 +24,8 @@ use Rattle.parse.specs.declared.Store.{Store}
 use Rattle.parse.specs.declared.Line.{Line}
 use Rattle.parse.specs.declared.Line.the-variants as line
 use Rattle.words.specs.Runs.{readsOf}
-use Rattle.forms.specs.Breaks.{writesHere, writes, startLen, writesAny, breaksBy, breaksWith, breaks}
+use Rattle.forms.specs.Breaks.{writes, writesAny, breaksBy, breaksWith, breaks}
+use Rattle.forms.specs.Inner.Breaks.{writesHere, startLen}
 
 -- ---- a name, and what stands round it
 

@@ -8,13 +8,15 @@ use borrow.Author.Tests.{lt-ltb, ltb-true, ltb-false}
 use lib.Dec.{eqb, ltb, leb·suc-suc}
 use lib.ListN.{length, drop, getD, length-drop, length-append, drop-of-length-le}
 use lib.Seq.{drop-drop}
-use Rattle.lines.specs.Lf.{among, part, upTo, partsOf, lacks}
+use Rattle.lines.specs.Lf.{among, part, upTo, partsOf}
+use Rattle.lines.specs.Inner.Lf.{lacks}
 use Rattle.lines.proofs.Tests.{no, eqb-sym}
 use Rattle.lines.proofs.LfLaws.{parts-at, parts-at-end, lacks-append}
 use Rattle.text.specs.Class.{isQuote}
 use Rattle.names.specs.Names.{isIdent}
 use Rattle.lexical.specs.declared.Token.{Token}
-use Rattle.lexical.specs.Lex.{quoteLen, tokenAt}
+use Rattle.lexical.specs.Lex.{quoteLen}
+use Rattle.lexical.specs.Inner.Lex.{tokenAt}
 use Rattle.lexical.proofs.EndLaws.{cons-at}
 use Rattle.lexical.proofs.TokenLaws.{token-quote, size-some, size-le}
 use Rattle.forms.specs.Primary.{allIdents, keyword, isOperator, opened, closed, bareGo, primary, bare, parenIfNeeded}

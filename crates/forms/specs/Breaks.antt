@@ -1,11 +1,11 @@
 -- `breaks_dependency`: a line that was taken in writes what a value needs. Assumes nothing.
-use Prim.Native.Nat.{ℕ, suc}
+use Prim.Native.Nat.{ℕ}
 use Prim.Native.Char.{code}
-use mathlib.Core.Bool.{Bool, false, cond, _||_}
+use mathlib.Core.Bool.{Bool, false, _||_}
 use mathlib.Core.List.{List, [], _∷_, _++_}
-use lib.Dec.{eqb, ltb}
+use lib.Dec.{ltb}
 use Rattle.lines.specs.Ascii.{ascii}
-use Rattle.lines.specs.Lf.{prefixed, holds}
+use Rattle.lines.specs.Lf.{holds}
 use Rattle.parse.specs.Parse.{parseOf}
 use Rattle.parse.specs.declared.Line.{Line}
 use Rattle.parse.specs.declared.Line.the-variants as line
@@ -17,18 +17,9 @@ use Rattle.lexical.specs.Lex.{stripLexical}
 abbrev pub writesBy : (List ℕ → Bool) → List ℕ → Bool
 writesBy f n = f (n ++ ascii " =") || (f (n ++ ascii "++") || f (code "+" ∷ code "+" ∷ n))
 
--- `name =`, `name++` or `++name` stands in front
-unfoldable pub writesHere : List ℕ → List ℕ → Bool
-writesHere n l = writesBy (λ (p : List ℕ). prefixed p l) n
-
 -- `name =`, `name++` or `++name` stands in the line
 unfoldable pub writes : List ℕ → List ℕ → Bool
 writes n l = writesBy (λ (p : List ℕ). holds p l) n
-
--- how many bytes stand before the first that is b or `+`
-unfoldable pub startLen : ℕ → List ℕ → ℕ
-startLen b [] = 0
-startLen b (x ∷ xs) = cond (eqb x b || eqb x (code "+")) 0 (suc (startLen b xs))
 
 -- one of the words is written
 unfoldable pub writesAny : List (List ℕ) → List ℕ → Bool

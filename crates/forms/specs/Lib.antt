@@ -1,3 +1,4 @@
 pub mod Control
 pub mod Primary
 pub mod Breaks
+pub mod Inner

@@ -6,11 +6,12 @@ ghost use mathlib.Core.List.{[], _∷_, _++_};
 ghost use Prim.Native.Nat.{suc, _+_, _≤_, _<_, _^_};
 ghost use lib.ListN.{length, drop};
 ghost use Rattle.lines.specs.Lf.{among, partsOf, prefixed};
-ghost use Rattle.lines.specs.Out.{Wrote};
+ghost use Rattle.lines.specs.Inner.Out.{Wrote};
 ghost use Rattle.lexical.specs.Idents.{wordsIn};
 ghost use Rattle.forms.specs.Control.{isControl};
 ghost use Rattle.forms.specs.Primary.{allIdents, isPlainRef, keyword, isOperator, bareGo, isPrimary, bare, parenIfNeeded};
-ghost use Rattle.forms.specs.Breaks.{writesHere, writes, startLen, writesAny, breaksWith};
+ghost use Rattle.forms.specs.Breaks.{writes, writesAny, breaksWith};
+ghost use Rattle.forms.specs.Inner.Breaks.{writesHere, startLen};
 
 // Whether a line, its front trimmed, is one that a condition or a loop begins.
 pub fn is_control_header(t: &[u8]) -> bool

@@ -7,8 +7,9 @@ use native.Mathlib.Omega.{arith}
 use borrow.Author.Tests.{eq-eqb, eqb-true, not-true, not-false}
 use lib.Dec.{eqb}
 use lib.ListN.{length, drop, length-append, length-take, length-drop}
-use Rattle.lines.specs.Lf.{part, upTo, prefixed, lacks, linesOf, unlines, noLf, all}
-use Rattle.lines.specs.Out.{Wrote}
+use Rattle.lines.specs.Lf.{part, upTo, prefixed, linesOf, unlines, all}
+use Rattle.lines.specs.Inner.Lf.{lacks, noLf}
+use Rattle.lines.specs.Inner.Out.{Wrote}
 use Rattle.lines.specs.Acts.{keep, gone, act, apply}
 use Rattle.lines.proofs.Tests.{no, and-left, and-right}
 use Rattle.lines.proofs.LfLaws.{lines-at, lines-end, short, lacks-cons, front-lacks, rest-lacks}
@@ -17,9 +18,10 @@ use Rattle.lines.proofs.ActLaws.{actNoLf, apply-noLf, apply-length, unlines-app
 use Rattle.lines.proofs.OutLaws.{Writing, writing-start, writing-as, writing-room, writing-put, writing-end}
 use Rattle.text.specs.Trim.{fromOf, toEnd, trimOf}
 use Rattle.text.proofs.Trims.{trim-part}
-use Rattle.weight.specs.Weight.{weight}
+use Rattle.weight.specs.Inner.Weight.{weight}
 use Rattle.weight.proofs.Moves.{Fits, ended, kept, dropped, fits-weight}
-use Rattle.globals.specs.Globals.{globalsWord, interpreterWord, isGlobals, globalsActs, removeGlobals, globalsText}
+use Rattle.globals.specs.Globals.{globalsWord, interpreterWord, isGlobals, globalsActs, removeGlobals}
+use Rattle.globals.specs.Inner.Globals.{globalsText}
 
 -- ---- one line
 

@@ -1,7 +1,7 @@
 -- The removal of lines that declare globals. Assumes nothing.
 use Prim.Native.Nat.{ℕ}
 use mathlib.Core.Bool.{Bool, cond, _||_}
-use mathlib.Core.List.{List, [], _∷_, _++_}
+use mathlib.Core.List.{List, [], _∷_}
 use Rattle.lines.specs.Ascii.{ascii}
 use Rattle.lines.specs.Lf.{prefixed}
 use Rattle.lines.specs.Acts.{Act, keep, gone, apply}
@@ -27,8 +27,3 @@ globalsActs (l ∷ ls) = cond (isGlobals l) gone keep ∷ globalsActs ls
 unfoldable pub removeGlobals : List (List ℕ) → List (List ℕ)
 unfolding globalsActs apply
 removeGlobals ls = apply (globalsActs ls) ls
-
--- the bytes that a line becomes
-unfoldable pub globalsText : List ℕ → List ℕ
-unfolding isGlobals
-globalsText l = cond (isGlobals l) [] (l ++ ascii "\n")

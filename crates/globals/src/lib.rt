@@ -3,8 +3,9 @@ ghost use mathlib.Core.Path.{_≡_};
 ghost use Prim.Native.Nat.{_≤_, _+_};
 ghost use lib.ListN.{length};
 ghost use Rattle.lines.specs.Lf.{linesOf, unlines};
-ghost use Rattle.lines.specs.Out.{Wrote};
-ghost use Rattle.globals.specs.Globals.{isGlobals, globalsText, removeGlobals};
+ghost use Rattle.lines.specs.Inner.Out.{Wrote};
+ghost use Rattle.globals.specs.Globals.{isGlobals, removeGlobals};
+ghost use Rattle.globals.specs.Inner.Globals.{globalsText};
 
 // Whether a line declares globals. A line that is shorter than the shorter of the two words does not.
 fn is_globals(line: &[u8]) -> bool

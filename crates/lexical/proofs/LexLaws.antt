@@ -6,8 +6,8 @@ use mathlib.Core.List.{List, [], _∷_, _++_}
 use native.Mathlib.Omega.{arith}
 use lib.ListN.{length, drop, getD, length-append, length-drop, drop-of-length-le}
 use lib.Seq.{drop-drop, getD-drop}
-use Rattle.lines.specs.Lf.{lacks}
-use Rattle.lines.specs.Out.{Wrote}
+use Rattle.lines.specs.Inner.Lf.{lacks}
+use Rattle.lines.specs.Inner.Out.{Wrote}
 use Rattle.lines.proofs.LfLaws.{lacks-append, lacks-take, lacks-drop}
 use Rattle.lines.proofs.OutLaws.{wrote-nil, wrote-then, wrote-as, wrote-length}
 use Rattle.lexical.specs.declared.Kind.{Kind}
@@ -15,7 +15,8 @@ use Rattle.lexical.specs.declared.Kind.the-variants.{Kept, Literal, Gone
 use Rattle.lexical.specs.declared.Token.{Token}
 use Rattle.lexical.specs.declared.Tail.{Tail}
 use Rattle.lexical.specs.declared.Step.{Step}
-use Rattle.lexical.specs.Lex.{lastOf, tokenOf, tokenAt, leaves, lexGo, stripLexical, tailOf, grown, stepOf}
+use Rattle.lexical.specs.Lex.{lastOf, tokenOf, leaves, lexGo, stripLexical}
+use Rattle.lexical.specs.Inner.Lex.{tokenAt, tailOf, grown, stepOf}
 use Rattle.lexical.proofs.EndLaws.{cons-at}
 use Rattle.lexical.proofs.TokenLaws.{size-some, size-le}
 use Rattle.lexical.proofs.TailLaws.{grown-tail}

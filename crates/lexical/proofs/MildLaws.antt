@@ -8,10 +8,11 @@ use borrow.Author.Tests.{eqb-true, eqb-false, ne-eqb, leb-true, le-leb, ltb-true
 use lib.Dec.{eqb, leb, ltb}
 use lib.ListN.{length, take, drop, getD, length-drop}
 use lib.Seq.{drop-drop}
-use Rattle.lines.specs.Lf.{all, lacks}
+use Rattle.lines.specs.Lf.{all}
+use Rattle.lines.specs.Inner.Lf.{lacks}
 use Rattle.lines.proofs.Tests.{no, and-true, and-left, and-right}
 use Rattle.lines.proofs.LfLaws.{eight-is}
-use Rattle.lexical.specs.Plain.{isPlain, plainLen, isMild, tame}
+use Rattle.lexical.specs.Inner.Plain.{isPlain, plainLen, isMild, tame}
 use Rattle.lexical.proofs.EndLaws.{ends}
 use Rattle.lexical.proofs.PlainLaws.{none-of}
 

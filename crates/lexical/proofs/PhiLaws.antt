@@ -10,8 +10,10 @@ use Rattle.lines.specs.Lf.{among, prefixed}
 use Rattle.lexical.specs.declared.Seen.{Seen}
 use Rattle.lexical.specs.declared.Tail.{Tail}
 use Rattle.lexical.specs.declared.Step.{Step}
-use Rattle.lexical.specs.Lex.{leaves, tailOf, stepOf}
-use Rattle.lexical.specs.Phi.{anyOf, assigns, phiPure, phiRhsPure, sees, seesAll, unseen}
+use Rattle.lexical.specs.Lex.{leaves}
+use Rattle.lexical.specs.Inner.Lex.{tailOf, stepOf}
+use Rattle.lexical.specs.Phi.{anyOf, assigns, phiPure, phiRhsPure}
+use Rattle.lexical.specs.Inner.Phi.{sees, seesAll, unseen}
 use Rattle.lexical.proofs.ByteLaws.{first-is}
 use Rattle.lexical.proofs.LexLaws.{LexAt, lex-start, lex-next, lex-end}
 

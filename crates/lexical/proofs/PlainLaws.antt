@@ -10,15 +10,16 @@ use lib.ListN.{length, take, drop, getD, length-append, length-drop}
 use lib.Seq.{drop-drop, take-all, getD-drop, append-snoc}
 use Rattle.lines.specs.Lf.{part, all, prefixed}
 use Rattle.lines.proofs.Tests.{no, and-true, or-false, and-left, and-right}
-use Rattle.lines.specs.Out.{Wrote}
+use Rattle.lines.specs.Inner.Out.{Wrote}
 use Rattle.lines.proofs.LfLaws.{part-more}
 use Rattle.lines.proofs.OutLaws.{wrote-then, wrote-length}
 use Rattle.text.specs.White.{isWhite}
 use Rattle.text.specs.Trim.{toOf, endWhite}
 use Rattle.lexical.specs.declared.Kind.the-variants.{Kept, Literal, Gone}
 use Rattle.lexical.specs.declared.Tail.{Tail}
-use Rattle.lexical.specs.Lex.{quoteLen, patternLen, commentLen, patternAfter, lastOf, token, tokenOf, lexGo, front, tailOf, pushed, grown}
-use Rattle.lexical.specs.Plain.{isPlain, plainLen, lowLast, lowTail}
+use Rattle.lexical.specs.Lex.{quoteLen, patternLen, commentLen, patternAfter, lastOf, token, tokenOf, lexGo}
+use Rattle.lexical.specs.Inner.Lex.{front, tailOf, pushed, grown}
+use Rattle.lexical.specs.Inner.Plain.{isPlain, plainLen, lowLast, lowTail}
 use Rattle.lexical.proofs.EndLaws.{ends, ends-on, ends-none, cons-at}
 use Rattle.lexical.proofs.TailLaws.{after-low, grown-tail, back-here, back-more, front-more, front-whole}
 use Rattle.lexical.proofs.LexLaws.{LexAt, lex-room, StripInv}

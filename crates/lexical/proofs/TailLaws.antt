@@ -17,7 +17,8 @@ use Rattle.text.proofs.Whites.{tail-at, pick3, white-yes, white-no}
 use Rattle.text.proofs.Trims.{back-stop, back-on, toOf-le}
 use Rattle.text.proofs.CharsEnd.{tail-append, end-append}
 use Rattle.lexical.specs.declared.Tail.{Tail}
-use Rattle.lexical.specs.Lex.{lastOf, backByte, front, tailOf, lastAfter, pushed, grown}
+use Rattle.lexical.specs.Lex.{lastOf}
+use Rattle.lexical.specs.Inner.Lex.{backByte, front, tailOf, lastAfter, pushed, grown}
 
 -- ---- the last character
 

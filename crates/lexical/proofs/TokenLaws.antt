@@ -13,7 +13,8 @@ use Rattle.lines.proofs.Tests.{no, T-left, T-right}
 use Rattle.text.specs.Class.{isQuote}
 use Rattle.lexical.specs.declared.Kind.the-variants.{Kept, Literal, Gone}
 use Rattle.lexical.specs.declared.Token.{Token}
-use Rattle.lexical.specs.Lex.{quoteLen, patternLen, commentLen, patternAfter, token, tokenOf, tokenAt}
+use Rattle.lexical.specs.Lex.{quoteLen, patternLen, commentLen, patternAfter, token, tokenOf}
+use Rattle.lexical.specs.Inner.Lex.{tokenAt}
 use Rattle.lexical.proofs.ByteLaws.{first-is}
 use Rattle.lexical.proofs.EndLaws.{cons-at, ends, quotes, patterns, next-byte, quote-le, pattern-le, comment-le}
 

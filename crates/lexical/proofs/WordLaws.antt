@@ -16,7 +16,8 @@ use Rattle.lexical.specs.declared.Word.{Word}
 use Rattle.lexical.specs.declared.Word.the-variants as variant
 use Rattle.lexical.proofs.ByteLaws.{first-is}
 use Rattle.lexical.proofs.EndLaws.{cons-at}
-use Rattle.lexical.specs.Idents.{charLen, charsGo, nameLow, digitChar, empty, digits, noWord, flushWord, joins, wordsGo, wordsIn, wordFrom, nextWord, wordsBy}
+use Rattle.lexical.specs.Idents.{charLen, charsGo, nameLow, digitChar, empty, digits, noWord, flushWord, joins, wordsGo, wordsIn}
+use Rattle.lexical.specs.Inner.Idents.{wordFrom, nextWord, wordsBy}
 
 -- ---- characters
 

@@ -1,17 +1,14 @@
 -- `ident_words`: the words of an expression that are no registers. Assumes nothing.
-use Prim.Native.Nat.{ℕ, zero, suc, _+_, _-_, _%_, max}
+use Prim.Native.Nat.{ℕ, zero, suc, _-_, _%_, max}
 use Prim.Native.Char.{code}
 use mathlib.Core.Bool.{Bool, true, false, cond, not, _&&_, _||_}
 use mathlib.Core.List.{List, [], _∷_, _++_}
-use lib.ListN.{length, take, drop}
+use lib.ListN.{take, drop}
 use Rattle.lines.specs.Ascii.{ascii}
-use Rattle.lines.specs.Lf.{within, part, prefixed}
+use Rattle.lines.specs.Lf.{within, prefixed}
 use Rattle.text.specs.Class.{isName}
 use Rattle.text.specs.Utf8Form.{seqLen}
 use Rattle.text.specs.Trim.{point}
-use Rattle.lexical.specs.declared.Word.{Word}
-use Rattle.lexical.specs.declared.Word.the-variants as variant
-use Rattle.lexical.specs.Lex.{stripLexical}
 
 -- the bytes of the character at the head of a text; a byte that begins none stands alone
 unfoldable pub charLen : List ℕ → ℕ
@@ -67,27 +64,3 @@ wordsGo (c ∷ cs) cur =
 unfoldable pub wordsIn : List ℕ → List (List ℕ)
 unfolding charsGo wordsGo
 wordsIn t = wordsGo (charsGo t 0) []
-
--- `ident_words`
-unfoldable pub identWords : List ℕ → List (List ℕ)
-unfolding wordsIn stripLexical
-identWords s = wordsIn (stripLexical s)
-
--- the first word of characters whose place is i, where it begins and where it ends; `cur` is the word so far, which ends at i
-unfoldable pub wordFrom : List (List ℕ) → ℕ → List ℕ → Word
-wordFrom [] i cur = cond (noWord cur) variant.None (variant.At (record { from = i - length cur; to = i }))
-wordFrom (c ∷ cs) i cur =
-    let more = wordFrom cs (i + length c) (cur ++ c) in
-    let on = wordFrom cs (i + length c) [] in
-    cond (joins c (empty cur)) more (cond (noWord cur) on (variant.At (record { from = i - length cur; to = i })))
-
--- the first word at or after the place i, where a character begins
-unfoldable pub nextWord : List ℕ → ℕ → Word
-unfolding charsGo wordFrom
-nextWord t i = wordFrom (charsGo (drop i t) 0) i []
-
--- the words from a first one on: it, and those after its end
-unfoldable pub wordsBy : List ℕ → Word → List (List ℕ)
-unfolding charsGo wordsGo
-wordsBy t (variant.At w) = part (w .from) (w .to) t ∷ wordsGo (charsGo (drop (w .to) t) 0) []
-wordsBy t variant.None = []

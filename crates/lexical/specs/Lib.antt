@@ -1,4 +1,4 @@
 pub mod Lex
-pub mod Plain
 pub mod Phi
 pub mod Idents
+pub mod Inner

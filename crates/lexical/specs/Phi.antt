@@ -6,7 +6,6 @@ use mathlib.Core.List.{List, [], _∷_}
 use lib.Dec.{eqb}
 use Rattle.lines.specs.Ascii.{ascii}
 use Rattle.lines.specs.Lf.{among, prefixed}
-use Rattle.lexical.specs.declared.Seen.{Seen}
 use Rattle.lexical.specs.Lex.{stripLexical}
 
 -- one of the bytes of a list stands in the text
@@ -29,23 +28,3 @@ phiPure t = not (anyOf (ascii "([.") t) && not (assigns t (code " "))
 unfoldable pub phiRhsPure : List ℕ → Bool
 unfolding phiPure stripLexical
 phiRhsPure rhs = phiPure (stripLexical rhs)
-
--- ---- the same, byte by byte: what of a text decides, once more bytes stand after it
-
--- the byte c after the bytes seen: an `=` that waits is an assignment, where c is no `=`
-unfoldable pub sees : Seen → ℕ → Seen
-sees w c = record {
-  prev = c;
-  waits = eqb c (code "=") && not (among (ascii "=!<>") (w .prev));
-  effect = w .effect || (among (ascii "([.") c || (w .waits && not (eqb c (code "="))));
-}
-
--- further bytes after those seen
-unfoldable pub seesAll : Seen → List ℕ → Seen
-unfolding sees
-seesAll w [] = w
-seesAll w (c ∷ cs) = seesAll (sees w c) cs
-
--- nothing seen
-abbrev pub unseen : Seen
-unseen = record { prev = code " "; waits = false; effect = false }

@@ -4,14 +4,18 @@ ghost use mathlib.Core.List.{[]};
 ghost use mathlib.Core.Bool.{false, cond, not};
 ghost use Prim.Native.Nat.{ℕ, _+_, _≤_};
 ghost use lib.ListN.{length, take, drop};
-ghost use Rattle.lines.specs.Lf.{all, lacks, part};
-ghost use Rattle.lines.specs.Out.{Wrote};
+ghost use Rattle.lines.specs.Lf.{all, part};
+ghost use Rattle.lines.specs.Inner.Lf.{lacks};
+ghost use Rattle.lines.specs.Inner.Out.{Wrote};
 ghost use Rattle.text.specs.White.{isWhite};
 ghost use Rattle.text.specs.Trim.{point, whiteChar};
-ghost use Rattle.lexical.specs.Lex.{quoteLen, patternLen, commentLen, patternAfter, token, tokenAt, leaves, lastOf, stripLexical, tailOf, lastAfter, pushed, grown, stepOf};
-ghost use Rattle.lexical.specs.Plain.{isPlain, plainLen, isMild, tame, lowLast, lowTail};
-ghost use Rattle.lexical.specs.Phi.{phiRhsPure, sees, seesAll};
-ghost use Rattle.lexical.specs.Idents.{charLen, joins, noWord, nextWord};
+ghost use Rattle.lexical.specs.Lex.{quoteLen, patternLen, commentLen, patternAfter, token, leaves, lastOf, stripLexical};
+ghost use Rattle.lexical.specs.Inner.Lex.{tokenAt, tailOf, lastAfter, pushed, grown, stepOf};
+ghost use Rattle.lexical.specs.Inner.Plain.{isPlain, plainLen, isMild, tame, lowLast, lowTail};
+ghost use Rattle.lexical.specs.Phi.{phiRhsPure};
+ghost use Rattle.lexical.specs.Inner.Phi.{sees, seesAll};
+ghost use Rattle.lexical.specs.Idents.{charLen, joins, noWord};
+ghost use Rattle.lexical.specs.Inner.Idents.{nextWord};
 
 // What becomes of a token: its one byte is kept, a literal leaves `S`, a comment goes.
 pub enum Kind {

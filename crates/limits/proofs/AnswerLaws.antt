@@ -11,7 +11,7 @@ use lib.ListN.{length, take, drop}
 use Rattle.lines.specs.declared.Crowded as crowd
 use Rattle.lines.specs.declared.Crowded.the-variants as crowd-is
 use Rattle.lines.specs.Lf.{endsIn, within}
-use Rattle.lines.specs.Out.{putAt, Wrote}
+use Rattle.lines.specs.Inner.Out.{putAt, Wrote}
 use Rattle.lines.specs.Steps.{splitLines, joined, overFrom}
 use Rattle.lines.proofs.Tests.{no}
 use Rattle.text.specs.declared.Utf8 as utf8

@@ -8,7 +8,8 @@ use lib.ListN.{length, length-append}
 use Rattle.lines.proofs.Tests.{no, and-left, and-right, and-both}
 use Rattle.lines.proofs.LfLaws.{noLf-append}
 use Rattle.lines.specs.Acts.{Act, keep, become, into, gone, act, apply}
-use Rattle.lines.specs.Lf.{unlines, lacks, noLf, all}
+use Rattle.lines.specs.Lf.{unlines, all}
+use Rattle.lines.specs.Inner.Lf.{lacks, noLf}
 
 -- acts on two runs of lines, one after the other
 pub apply-append : (xs : List Act) (us : List (List ℕ)) (ys : List Act) (ts : List (List ℕ)) → length xs ≡ length us → apply (xs ++ ys) (us ++ ts) ≡ apply xs us ++ apply ys ts

@@ -13,7 +13,8 @@ use Rattle.lines.proofs.Tests.{no, and-left, and-right}
 use Rattle.lines.proofs.LfLaws.{lines-first, lines-at, lines-end, lines-noLf}
 use Rattle.lines.proofs.StepLaws.{drop-case, drop-one, missingLf, lines-text}
 use Rattle.lines.specs.declared.Crowded.the-variants.{At, Nowhere}
-use Rattle.lines.specs.Lf.{part, upTo, countOf, prefixed, endsIn, cutOn, linesOf, unlines, lacks, noLf}
+use Rattle.lines.specs.Lf.{part, upTo, countOf, prefixed, endsIn, cutOn, linesOf, unlines}
+use Rattle.lines.specs.Inner.Lf.{lacks, noLf}
 use Rattle.lines.specs.Steps.{dropCr, splitLines, overFrom}
 
 -- ---- how many bytes b

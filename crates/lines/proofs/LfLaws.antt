@@ -10,7 +10,8 @@ use lib.Dec.{eqb, leb}
 use lib.ListN.{length, take, drop, getD, length-drop, drop-of-length-le}
 use lib.Seq.{drop-cons, drop-drop, take-all, take-nil, take-suc, getD-drop}
 use Rattle.lines.proofs.Tests.{no, and-false, and-left, and-right, and-both}
-use Rattle.lines.specs.Lf.{part, upTo, countOf, cutOn, linesOf, partsOf, unlines, lacks, noLf, prefixed}
+use Rattle.lines.specs.Lf.{part, upTo, countOf, cutOn, linesOf, partsOf, unlines, prefixed}
+use Rattle.lines.specs.Inner.Lf.{lacks, noLf}
 
 -- ---- the first b
 

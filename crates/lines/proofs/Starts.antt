@@ -10,7 +10,7 @@ use lib.Pow.{pow-add, pow-pos}
 use lib.Count.{leadingZeros, leading-unique}
 use lib.ListN.{length, take, drop, getD, length-drop, List·getD-eq-default}
 use lib.Seq.{take-suc, getD-drop, length-take-le}
-use Rattle.lines.specs.Lf.{lineStart, marks}
+use Rattle.lines.specs.Inner.Lf.{lineStart, marks}
 
 -- ---- byte by byte
 

@@ -12,8 +12,9 @@ use lib.Seq.{drop-cons}
 use Rattle.lines.proofs.Tests.{no, and-false, eqb-sym}
 use Rattle.lines.proofs.LfLaws.{lines-first, lines-noLf, lacks-cons}
 use Rattle.lines.proofs.OutLaws.{Writing, writing-start, writing-as, writing-put, writing-room, writing-end}
-use Rattle.lines.specs.Lf.{prefixed, endsIn, cutOn, linesOf, unlines, lacks, noLf}
-use Rattle.lines.specs.Out.{Wrote}
+use Rattle.lines.specs.Lf.{prefixed, endsIn, cutOn, linesOf, unlines}
+use Rattle.lines.specs.Inner.Lf.{lacks, noLf}
+use Rattle.lines.specs.Inner.Out.{Wrote}
 use Rattle.lines.specs.Steps.{dropCr, splitLines}
 
 -- ---- the last byte

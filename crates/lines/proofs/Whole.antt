@@ -6,7 +6,7 @@ use mathlib.Core.List.{List, [], _∷_, _++_, append-nil}
 use native.Mathlib.Omega.{arith}
 use lib.ListN.{length, length-append}
 use Rattle.lines.specs.Lf.{linesOf, unlines, endsIn}
-use Rattle.lines.specs.Out.{Wrote}
+use Rattle.lines.specs.Inner.Out.{Wrote}
 use Rattle.lines.proofs.OutLaws.{wrote-as, wrote-then, wrote-length}
 use Rattle.lines.proofs.StepLaws.{missingLf, missing-ended, missing-empty, missing-open, lines-text}
 

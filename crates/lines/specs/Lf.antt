@@ -1,5 +1,5 @@
 -- Bytes, parts of them, and LF form: every line followed by one LF. Assumes nothing.
-use Prim.Native.Nat.{ℕ, zero, suc, _+_, _-_, _*_}
+use Prim.Native.Nat.{ℕ, suc, _-_}
 use Prim.Native.Char.{code}
 use mathlib.Core.Bool.{Bool, true, false, cond, _&&_, _||_}
 use mathlib.Core.List.{List, [], _∷_, _++_}
@@ -28,21 +28,6 @@ part a e s = take (e - a) (drop a s)
 unfoldable pub upTo : ℕ → List ℕ → ℕ
 upTo b [] = 0
 upTo b (x ∷ xs) = cond (eqb x b) 0 (suc (upTo b xs))
-
--- where the line begins that ends at the place e: after the last LF before it, or at the front
-unfoldable pub lineStart : List ℕ → ℕ → ℕ
-lineStart s zero = 0
-lineStart s (suc j) = cond (eqb (getD s j 0) (code "\n")) (suc j) (lineStart s j)
-
--- the number that bytes are, the first of them lowest
-unfoldable pub word : List ℕ → ℕ
-word [] = 0
-word (x ∷ xs) = word xs * 256 + x
-
--- which bytes are b, as a number: 128 in the place of each of these, 0 in the place of another
-unfoldable pub marks : ℕ → List ℕ → ℕ
-marks b [] = 0
-marks b (x ∷ xs) = marks b xs * 256 + cond (eqb x b) 128 0
 
 -- how many bytes b there are
 unfoldable pub countOf : ℕ → List ℕ → ℕ
@@ -101,14 +86,3 @@ partsOf b (x ∷ xs) = cutOn (eqb x b) x (partsOf b xs)
 unfoldable pub unlines : List (List ℕ) → List ℕ
 unlines [] = []
 unlines (l ∷ ls) = l ++ code "\n" ∷ unlines ls
-
--- no byte is b
-unfoldable pub lacks : ℕ → List ℕ → Bool
-lacks b [] = true
-lacks b (x ∷ xs) = cond (eqb x b) false (lacks b xs)
-
--- no line holds an LF
-unfoldable pub noLf : List (List ℕ) → Bool
-unfolding lacks
-noLf [] = true
-noLf (l ∷ ls) = lacks (code "\n") l && noLf ls

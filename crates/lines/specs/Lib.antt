@@ -1,5 +1,5 @@
 pub mod Ascii
 pub mod Lf
-pub mod Out
 pub mod Steps
 pub mod Acts
+pub mod Inner

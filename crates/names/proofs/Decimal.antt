@@ -12,7 +12,8 @@ use Rattle.lines.specs.Lf.{same}
 use Rattle.lines.proofs.Tests.{is-in, and-left, and-right, and-both}
 use Rattle.names.specs.declared.Number.{Number}
 use Rattle.names.specs.declared.Number.the-variants.{Of, None}
-use Rattle.names.specs.Names.{isDigit, allDigits, value, numberOf, zeros, decimalBy, decimal}
+use Rattle.names.specs.Names.{isDigit, allDigits, value, numberOf, decimalBy, decimal}
+use Rattle.names.specs.Inner.Names.{zeros}
 use Rattle.names.proofs.Digits.{all-append, value-append, number-is, number-read, strip-zeros, strip-number}
 use Rattle.lines.proofs.Compare.{same-refl}
 use Rattle.names.proofs.Equal.{same-not}

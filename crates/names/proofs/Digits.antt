@@ -13,7 +13,8 @@ use lib.Seq.{drop-cons}
 use Rattle.lines.specs.Lf.{all}
 use Rattle.lines.proofs.Tests.{and-false, and-left, and-right, and-both}
 use Rattle.names.specs.declared.Number.the-variants.{Of, None}
-use Rattle.names.specs.Names.{isDigit, allDigits, value, numbered, numberOf, zeros}
+use Rattle.names.specs.Names.{isDigit, allDigits, value, numbered, numberOf}
+use Rattle.names.specs.Inner.Names.{zeros}
 
 -- ---- every byte passes a test
 

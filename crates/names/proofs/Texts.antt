@@ -17,7 +17,8 @@ use Rattle.names.specs.declared.Number.{Number}
 use Rattle.names.specs.declared.Number.the-variants as number
 use Rattle.names.specs.declared.RegName.the-variants as reg
 use Rattle.names.specs.declared.PhiName.the-variants as phi
-use Rattle.names.specs.Names.{isDigit, allDigits, numbered, numberOf, zeros, decimal, numberAfter, regWord, phiWord, tempWord, regBy, regOf, phiBy, phiOf, isTemp, regText, phiText, regIs, allNames, isIdent}
+use Rattle.names.specs.Names.{isDigit, allDigits, numbered, numberOf, decimal, regWord, phiWord, tempWord, regBy, regOf, phiBy, phiOf, isTemp, regText, phiText, regIs, allNames, isIdent}
+use Rattle.names.specs.Inner.Names.{zeros, numberAfter}
 use Rattle.names.proofs.Digits.{number-read, all-append, all-more, zeros-end}
 use Rattle.lines.proofs.Compare.{same-eq}
 use Rattle.names.proofs.Equal.{front-append, front-of, same-front}

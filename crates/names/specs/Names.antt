@@ -1,7 +1,7 @@
 -- The names of registers, phis and temps. Assumes nothing.
 use Prim.Native.Nat.{ℕ, zero, suc, _+_, _-_, _*_, _/_, _%_, _^_}
 use Prim.Native.Char.{code}
-use mathlib.Core.Bool.{Bool, true, false, cond, not, _&&_}
+use mathlib.Core.Bool.{Bool, false, cond, not, _&&_}
 use mathlib.Core.List.{List, [], _∷_, _++_}
 use lib.ListN.{length, drop}
 use lib.Dec.{eqb, ltb}
@@ -40,12 +40,6 @@ unfolding numbered
 numberOf [] = number.None
 numberOf (d ∷ ds) = numbered 0 (d ∷ ds)
 
--- how many zeros lead, of digits; the last digit is not counted
-unfoldable pub zeros : List ℕ → ℕ
-zeros [] = 0
-zeros (x ∷ []) = 0
-zeros (x ∷ d ∷ ds) = cond (eqb x (code "0")) (suc (zeros (d ∷ ds))) 0
-
 -- the decimal digits of a number below 10 to the k + 1, without leading zeros
 unfoldable pub decimalBy : ℕ → ℕ → List ℕ
 decimalBy zero n = (code "0" + n) ∷ []
@@ -69,11 +63,6 @@ phiWord = ascii "phi"
 -- `t`
 abbrev pub tempWord : List ℕ
 tempWord = ascii "t"
-
--- the number that follows a word, where the word stands in front
-unfoldable pub numberAfter : List ℕ → List ℕ → Number
-unfolding numberOf prefixed
-numberAfter p s = cond (prefixed p s) (numberOf (drop (length p) s)) number.None
 
 -- the register, the phi, of a number
 abbrev pub regBy : Number → RegName

@@ -2,7 +2,8 @@
 ghost use mathlib.Core.Path.{_≡_};
 ghost use mathlib.Core.List.{[], _∷_, _++_};
 ghost use Rattle.lines.specs.Lf.{same};
-ghost use Rattle.names.specs.Names.{allDigits, numberOf, zeros, decimal, numberAfter, regBy, regOf, phiOf, isTemp, regText, phiText, regIs, isIdent};
+ghost use Rattle.names.specs.Names.{allDigits, numberOf, decimal, regBy, regOf, phiOf, isTemp, regText, phiText, regIs, isIdent};
+ghost use Rattle.names.specs.Inner.Names.{zeros, numberAfter};
 
 // A register, a phi: numbers of their own, so that a table of one cannot be asked with another.
 pub struct Register(pub u64);

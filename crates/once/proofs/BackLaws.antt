@@ -11,10 +11,10 @@ use lib.ListN.{length, take, drop, getD, set, length-append, length-drop}
 use lib.Seq.{drop-append-seam, drop-drop, length-take-le, getD-drop, getD-set-same, getD-set-other}
 use Rattle.lines.specs.Lf.{part, upTo, cutOn, linesOf, unlines}
 use Rattle.lines.proofs.LfLaws.{upTo-le, find-here, find-on, drop-min, lines-at, lines-end}
-use Rattle.place.specs.Ends.{endsFrom}
-use Rattle.decls.specs.Seen.{AtMost}
+use Rattle.place.specs.Inner.Ends.{endsFrom}
+use Rattle.decls.specs.Inner.Seen.{AtMost}
 use Rattle.decls.proofs.SeenLaws.{set-past}
-use Rattle.once.specs.Noted.{Begins, StartOf, EndIs, EndsOf, firstLine}
+use Rattle.once.specs.Inner.Noted.{Begins, StartOf, EndIs, EndsOf, firstLine}
 
 -- ---- the search for the front of a line
 

@@ -5,9 +5,9 @@ use mathlib.Core.List.{List, [], _∷_, _++_}
 use native.Mathlib.Omega.{arith}
 use lib.ListN.{length, take, drop, replicate, take-append-drop}
 use lib.Seq.{take-take, drop-drop, drop-append-add}
-use Rattle.lines.specs.Out.{putAt, Wrote}
+use Rattle.lines.specs.Inner.Out.{putAt, Wrote}
 use Rattle.lines.proofs.OutLaws.{wrote-length, wrote-part}
-use Rattle.once.specs.Tables.{Blank}
+use Rattle.once.specs.Inner.Tables.{Blank}
 
 zeros-length : (n : ℕ) → length (replicate {A = ℕ} n 0) ≡ n
 zeros-length zero = refl

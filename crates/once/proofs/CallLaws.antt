@@ -13,7 +13,7 @@ use Rattle.lines.proofs.LfLaws.{lines-at, lines-end}
 use Rattle.names.specs.Names.{regOf}
 use Rattle.place.specs.Region.{isHeader}
 use Rattle.once.specs.Scratch.{objectOf, changesBy, calledBelow}
-use Rattle.once.specs.Tables.{anyCall}
+use Rattle.once.specs.Inner.Tables.{anyCall}
 
 -- ---- a text without `(`
 

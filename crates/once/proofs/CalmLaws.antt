@@ -9,12 +9,13 @@ use borrow.Author.Tests.{ltb-true, ltb-false, ne-eqb}
 use lib.Dec.{eqb, ltb}
 use lib.ListN.{length, drop, getD, length-drop, drop-of-length-le}
 use lib.Seq.{drop-cons}
-use Rattle.lines.specs.Lf.{all, part, upTo, lacks, cutOn, linesOf, holds}
+use Rattle.lines.specs.Lf.{all, part, upTo, cutOn, linesOf, holds}
+use Rattle.lines.specs.Inner.Lf.{lacks}
 use Rattle.lines.proofs.Tests.{no, and-left, and-right, and-both}
 use Rattle.lines.proofs.LfLaws.{rest-of, lacks-cons, lacks-with}
 use Rattle.place.specs.Region.{isHeader}
-use Rattle.once.specs.Tables.{anyCall}
-use Rattle.once.specs.Noted.{CalmIn, Calm}
+use Rattle.once.specs.Inner.Tables.{anyCall}
+use Rattle.once.specs.Inner.Noted.{CalmIn, Calm}
 use Rattle.once.proofs.CallLaws.{no-call}
 
 -- ---- lines without `(`

@@ -18,8 +18,8 @@ use Rattle.reading.specs.Reading.{Reading, pureIn}
 use Rattle.reading.specs.Uses.{lineReads, storesBy, lineStores}
 use Rattle.once.specs.Scratch.{isMember, liveBelow, scratchAt}
 use Rattle.once.specs.Once.{deadBy, readCount, laterRead}
-use Rattle.once.specs.Tables.{nextIn, storeDrops, dropsBy, lineDrops, hasHit, storeForwards, forwardsBy, lineForwards}
-use Rattle.once.specs.Noted.{sentTo}
+use Rattle.once.specs.Inner.Tables.{nextIn, storeDrops, dropsBy, lineDrops, hasHit, storeForwards, forwardsBy, lineForwards}
+use Rattle.once.specs.Inner.Noted.{sentTo}
 
 -- ---- a store that goes
 

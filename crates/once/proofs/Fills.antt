@@ -12,7 +12,7 @@ use Rattle.lines.specs.Lf.{part, upTo, linesOf}
 use Rattle.lines.proofs.LfLaws.{lines-at, lines-end, find-le, rest-of}
 use Rattle.lines.proofs.OutLaws.{Writing, writing-start, writing-as, writing-room, writing-length}
 use Rattle.place.specs.Blocks.{top}
-use Rattle.place.specs.Fill.{Filled, flagsOf}
+use Rattle.place.specs.Inner.Fill.{Filled, flagsOf}
 use Rattle.place.specs.Region.{isHeader, region, regionAt}
 use Rattle.place.specs.Paths.{blockPaths, tops}
 use Rattle.place.specs.Loops.{insideLoop}
@@ -21,8 +21,8 @@ use Rattle.place.proofs.Paths.{length-tops}
 use Rattle.place.proofs.Nests.{length-loops}
 use Rattle.reading.specs.Reading.{Reading, plain}
 use Rattle.once.specs.Once.{Spot, spotsOf, spots, linesIn, dropped, forwards, nextRun, onceGo, onceActs}
-use Rattle.once.specs.Tables.{Blank, lineDrops, lineForwards, markOf, marksGo, onceMarks, actsBy, isSet, firstDrops, firstTakes, markBy, firstMark, marksIn, marksOf, areaAt}
-use Rattle.once.specs.Noted.{RowAt}
+use Rattle.once.specs.Inner.Tables.{Blank, lineDrops, lineForwards, markOf, marksGo, onceMarks, actsBy, isSet, firstDrops, firstTakes, markBy, firstMark, marksIn, marksOf, areaAt}
+use Rattle.once.specs.Inner.Noted.{RowAt}
 use Rattle.once.proofs.Searches.{lines-in}
 use Rattle.once.proofs.Marks.{drops-is, forwards-is, acts-marks}
 use Rattle.once.proofs.Writes.{top-drop}

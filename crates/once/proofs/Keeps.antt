@@ -4,7 +4,8 @@ use mathlib.Core.Path.{_≡_, refl, ap, _∙_}
 use mathlib.Core.Bool.{Bool, true, false, cond, not, _&&_}
 use mathlib.Core.List.{List, [], _∷_}
 use lib.ListN.{drop}
-use Rattle.lines.specs.Lf.{lacks, noLf, all}
+use Rattle.lines.specs.Lf.{all}
+use Rattle.lines.specs.Inner.Lf.{lacks, noLf}
 use Rattle.lines.specs.Acts.{Act, keep, become, into, gone, apply}
 use Rattle.lines.proofs.Tests.{and-left, and-right, and-both}
 use Rattle.lines.proofs.LfLaws.{lacks-take, lacks-drop}

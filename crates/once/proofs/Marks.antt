@@ -19,7 +19,7 @@ use Rattle.reading.specs.Reading.{Reading, pureIn}
 use Rattle.reading.specs.Uses.{lineReads, lineStores}
 use Rattle.once.specs.Scratch.{scratchAt}
 use Rattle.once.specs.Once.{Spot, spotsOf, linesIn, Next, nextUse, deadBy, droppedBy, dropped, readCount, laterRead, some, forwardTo, forwardBy, forwards, takenBy, onceAct, onceGo, nextRun}
-use Rattle.once.specs.Tables.{nextIn, storeDrops, dropsBy, lineDrops, hasHit, storeForwards, forwardsBy, lineForwards, markOf, marksGo, sends, actBy, actsBy}
+use Rattle.once.specs.Inner.Tables.{nextIn, storeDrops, dropsBy, lineDrops, hasHit, storeForwards, forwardsBy, lineForwards, markOf, marksGo, sends, actBy, actsBy}
 use Rattle.once.proofs.Searches.{next-in, lines-in}
 
 -- ---- a line that goes

@@ -17,8 +17,8 @@ use Rattle.place.specs.Region.{isHeader}
 use Rattle.reading.specs.Uses.{lineReads, lineStores}
 use Rattle.once.specs.Scratch.{liveBelow}
 use Rattle.once.specs.Once.{none, read, write, deadBy, laterRead}
-use Rattle.once.specs.Tables.{nextIn}
-use Rattle.once.specs.Noted.{firstBy, readFrom, storeFrom, headFrom, farFrom, samePath, noteBy, storeNote, lineNote, readNext, sentTo, maySend, DropIs, SendIs, NoteIs}
+use Rattle.once.specs.Inner.Tables.{nextIn}
+use Rattle.once.specs.Inner.Noted.{firstBy, readFrom, storeFrom, headFrom, farFrom, samePath, noteBy, storeNote, lineNote, readNext, sentTo, maySend, DropIs, SendIs, NoteIs}
 
 pub first-le : (f : List ℕ → Bool) (ls : List (List ℕ)) → firstBy f ls ≤ length ls
 unfolding firstBy

@@ -19,14 +19,15 @@ use Rattle.parse.specs.declared.Store.{Store}
 use Rattle.parse.specs.declared.Line.{Line}
 use Rattle.parse.specs.declared.Line.the-variants as line
 use Rattle.names.proofs.Texts.{reg-first}
-use Rattle.words.specs.Runs.{flush, runs, countBy, readsOf, runLen, regGap}
+use Rattle.words.specs.Runs.{flush, runs, countBy, readsOf}
+use Rattle.words.specs.Inner.Runs.{runLen, regGap}
 use Rattle.words.proofs.Walk.{RegWalk, regs-start, regs-less, regs-on, regs-end}
 use Rattle.place.specs.Region.{isHeader, region}
 use Rattle.reading.specs.Uses.{lineReads, storesBy, lineStores}
-use Rattle.decls.specs.Seen.{markName, markStore, AtMost}
+use Rattle.decls.specs.Inner.Seen.{markName, markStore, AtMost}
 use Rattle.decls.proofs.SeenLaws.{set-past, name-length}
 use Rattle.once.specs.Once.{readCount}
-use Rattle.once.specs.Noted.{firstBy, readFrom, headFrom, farFrom, farName, takeBack, backName, Reads, readName, readRuns, areaOf, Begins, StartOf, lineNote, NoteIs, firstLine, NotesOf, OneOf}
+use Rattle.once.specs.Inner.Noted.{firstBy, readFrom, headFrom, farFrom, farName, takeBack, backName, Reads, readName, readRuns, areaOf, Begins, StartOf, lineNote, NoteIs, firstLine, NotesOf, OneOf}
 use Rattle.once.proofs.NextLaws.{Nexts, note-is, line-one, note-nothing, note-less}
 use Rattle.once.proofs.AreaLaws.{OneUp, one-new, one-on, one-done}
 use Rattle.once.proofs.BackLaws.{begins-lf, rows-back, line-back, start-of}

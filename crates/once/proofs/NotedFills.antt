@@ -12,8 +12,8 @@ use Rattle.lines.specs.Lf.{part, upTo, linesOf}
 use Rattle.lines.proofs.LfLaws.{lines-at, lines-end, find-end, part-none, rest-of}
 use Rattle.place.specs.Region.{region, regionAt}
 use Rattle.reading.specs.Reading.{plain}
-use Rattle.once.specs.Tables.{isSet, firstDrops, firstMark, areaAt}
-use Rattle.once.specs.Noted.{RowAt, areaOf, told, KindIs, DropBy, SendBy, firstLine, NotesOf, OneBy, OneOf}
+use Rattle.once.specs.Inner.Tables.{isSet, firstDrops, firstMark, areaAt}
+use Rattle.once.specs.Inner.Noted.{RowAt, areaOf, told, KindIs, DropBy, SendBy, firstLine, NotesOf, OneBy, OneOf}
 use Rattle.once.proofs.Fills.{linesAt, area-run, mark-stays, first-stays}
 use Rattle.once.proofs.Told.{told-takes, settled-first, told-settled}
 use Rattle.once.proofs.AreaLaws.{AreaInv, area-first, area-next, area-here}

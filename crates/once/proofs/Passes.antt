@@ -5,13 +5,14 @@ use mathlib.Core.Bool.{true, false}
 use mathlib.Core.List.{List, []}
 use native.Mathlib.Omega.{arith}
 use lib.ListN.{length, take, drop, length-append}
-use Rattle.lines.specs.Lf.{part, linesOf, unlines, noLf}
+use Rattle.lines.specs.Lf.{part, linesOf, unlines}
+use Rattle.lines.specs.Inner.Lf.{noLf}
 use Rattle.lines.specs.Acts.{Act, apply}
-use Rattle.lines.specs.Out.{Wrote}
+use Rattle.lines.specs.Inner.Out.{Wrote}
 use Rattle.lines.proofs.LfLaws.{lines-unlines, lines-noLf}
 use Rattle.lines.proofs.ActLaws.{apply-length}
 use Rattle.lines.proofs.OutLaws.{wrote-as, wrote-part}
-use Rattle.place.specs.Fill.{Filled, flagsOf}
+use Rattle.place.specs.Inner.Fill.{Filled, flagsOf}
 use Rattle.place.specs.Paths.{blockPaths, tops}
 use Rattle.place.specs.Loops.{insideLoop}
 use Rattle.place.proofs.Fills.{filled-as, filled-take}
@@ -19,7 +20,7 @@ use Rattle.decls.specs.Decls.{pruneDecls, pruneDeclsActs}
 use Rattle.decls.proofs.Keeps as decls
 use Rattle.reading.specs.Reading.{Reading, plain}
 use Rattle.once.specs.Once.{onceActs, optimizeOnce}
-use Rattle.once.specs.Tables.{actsBy, marksOf, onceMarks}
+use Rattle.once.specs.Inner.Tables.{actsBy, marksOf, onceMarks}
 use Rattle.once.proofs.Fills.{marks-of, acts-of, marks-length}
 use Rattle.once.proofs.Keeps.{acts-noLf}
 

@@ -24,7 +24,7 @@ use Rattle.words.specs.Hits.{regHit, glueLeft, glueRight, glued, replacedAt, re
 use Rattle.words.specs.declared.Hit.{Hit}
 use Rattle.words.specs.declared.Hit.the-variants as hit
 use Rattle.words.proofs.Places.{hit-stands, around}
-use Rattle.weight.specs.Weight.{spaced, weight}
+use Rattle.weight.specs.Inner.Weight.{spaced, weight}
 use Rattle.weight.proofs.Weigh.{weight-take, weight-rest}
 use Rattle.weight.proofs.Moves.{bracketed, absorb-le, glued-is, not-spaced, credit, due, Fits, ended, kept, became, sent, dropped, fits-weight}
 use Rattle.decls.proofs.Decl.{prune-weight}

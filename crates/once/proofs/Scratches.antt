@@ -20,7 +20,7 @@ use Rattle.parse.specs.Parse.{parseOf, textOf}
 use Rattle.parse.specs.declared.Line.{Line}
 use Rattle.place.specs.Region.{isHeader}
 use Rattle.words.specs.Hits.{hits}
-use Rattle.words.specs.Runs.{wordsOf}
+use Rattle.words.specs.Inner.Runs.{wordsOf}
 use Rattle.words.proofs.HitLaws.{hits-words}
 use Rattle.once.specs.Scratch.{objectOf, isMember, changesBy, calledBelow, scratchAt, liveBelow}
 

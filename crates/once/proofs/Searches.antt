@@ -15,7 +15,7 @@ use Rattle.place.specs.Region.{isHeader}
 use Rattle.reading.specs.Uses.{lineReads, lineStores}
 use Rattle.once.specs.Scratch.{liveBelow}
 use Rattle.once.specs.Once.{Next, none, read, write, Spot, spotsOf, linesIn, nextUse, deadBy, readCount, laterRead}
-use Rattle.once.specs.Tables.{readBelow, nextIn}
+use Rattle.once.specs.Inner.Tables.{readBelow, nextIn}
 
 -- ---- a read before the next store
 

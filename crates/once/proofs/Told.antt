@@ -15,8 +15,8 @@ use Rattle.parse.specs.declared.Store.{Store}
 use Rattle.parse.specs.declared.Line.{Line}
 use Rattle.parse.specs.declared.Line.the-variants as line
 use Rattle.reading.specs.Reading.{Reading}
-use Rattle.once.specs.Tables.{storeForwards, dropsBy, lineDrops, forwardsBy, lineForwards, firstDrops, firstTakes}
-use Rattle.once.specs.Noted.{KindIs, readNext, sentTo, noSend, told, settled, DropBy, SendBy, firstLine}
+use Rattle.once.specs.Inner.Tables.{storeForwards, dropsBy, lineDrops, forwardsBy, lineForwards, firstDrops, firstTakes}
+use Rattle.once.specs.Inner.Noted.{KindIs, readNext, sentTo, noSend, told, settled, DropBy, SendBy, firstLine}
 use Rattle.once.proofs.Decides.{drops-live, forwards-loop, forwards-gone, forwards-unsent}
 use Rattle.once.proofs.NextLaws.{stored-by}
 

@@ -11,7 +11,7 @@ use lib.Seq.{drop-drop}
 use Rattle.lines.specs.Lf.{part, upTo, linesOf, unlines}
 use Rattle.lines.proofs.LfLaws.{lines-at, lines-end, part-none}
 use Rattle.lines.proofs.ActLaws.{unlines-append}
-use Rattle.lines.specs.Out.{Wrote}
+use Rattle.lines.specs.Inner.Out.{Wrote}
 use Rattle.lines.proofs.OutLaws.{Writing, writing-start, writing-as, writing-put, writing-end}
 use Rattle.decls.proofs.Chunks.{chunk-open, chunk-shut, chunk-none}
 use Rattle.decls.proofs.PrintLaws.{writing-fits}
@@ -26,7 +26,7 @@ use Rattle.words.specs.Hits.{regHit, replaceReg, replacedAt}
 use Rattle.words.specs.declared.Hit.{Hit}
 use Rattle.words.specs.declared.Hit.the-variants as hit
 use Rattle.once.specs.Once.{firstOf, takenBy}
-use Rattle.once.specs.Tables.{sends, actBy, actsBy}
+use Rattle.once.specs.Inner.Tables.{sends, actBy, actsBy}
 
 -- room for a text is room for an equal one
 pub fits-as : (o : ℕ) {n : ℕ} {xs ys : List ℕ} → xs ≡ ys → o + length ys ≤ n → o + length xs ≤ n

@@ -1,4 +1,3 @@
 pub mod Scratch
 pub mod Once
-pub mod Tables
-pub mod Noted
+pub mod Inner

@@ -7,7 +7,7 @@ ghost use mathlib.Core.List.{[], _∷_, _++_};
 ghost use Prim.Native.Nat.{_≤_, _<_, _+_, _^_};
 ghost use lib.Dec.{eqb};
 ghost use lib.ListN.{length, drop, getD, replicate};
-ghost use Rattle.lines.specs.Out.{Wrote};
+ghost use Rattle.lines.specs.Inner.Out.{Wrote};
 ghost use Rattle.lines.specs.Acts.{act, apply};
 ghost use Rattle.parse.specs.Parse.{parseOf};
 ghost use Rattle.lines.specs.Lf.{part, upTo, linesOf, unlines, prefixed, holds};
@@ -17,14 +17,15 @@ ghost use Rattle.once.specs.Once.{deadBy, readCount, firstOf, takenBy, o
 ghost use Rattle.words.specs.Hits.{regHit, replaceReg};
 ghost use Rattle.reading.specs.Reading.{plain, pureIn};
 ghost use Rattle.reading.specs.Uses.{storesBy};
-ghost use Rattle.once.specs.Tables.{readBelow, anyCall, nextIn, Blank, hasHit, storeDrops, lineDrops, storeForwards, lineForwards, onceMarks, actBy, actsBy, isSet, firstDrops, firstTakes, markBy, firstMark, marksOf, areaAt};
-ghost use Rattle.once.specs.Noted.{CalmIn, Calm, LineAt, RowAt, DropIs, DropBy, sentTo, SendIs, SendBy, OneBy, OneOf, firstLine, NotesOf, EndsOf};
-ghost use Rattle.decls.specs.Seen.{AtMost};
-ghost use Rattle.place.specs.Fill.{Filled, flagsOf};
-ghost use Rattle.place.specs.Loops.{insideLoop, someLoop};
+ghost use Rattle.once.specs.Inner.Tables.{readBelow, anyCall, nextIn, Blank, hasHit, storeDrops, lineDrops, storeForwards, lineForwards, onceMarks, actBy, actsBy, isSet, firstDrops, firstTakes, markBy, firstMark, marksOf, areaAt};
+ghost use Rattle.once.specs.Inner.Noted.{CalmIn, Calm, LineAt, RowAt, DropIs, DropBy, sentTo, SendIs, SendBy, OneBy, OneOf, firstLine, NotesOf, EndsOf};
+ghost use Rattle.decls.specs.Inner.Seen.{AtMost};
+ghost use Rattle.place.specs.Inner.Fill.{Filled, flagsOf};
+ghost use Rattle.place.specs.Loops.{insideLoop};
+ghost use Rattle.place.specs.Inner.Loops.{someLoop};
 ghost use Rattle.place.specs.Region.{region};
 ghost use Rattle.place.specs.Paths.{blockPaths, tops};
-ghost use Rattle.place.specs.Parents.{pathParents};
+ghost use Rattle.place.specs.Inner.Parents.{pathParents};
 
 // Whether a value is a bare member read, `A.B`.
 fn is_member(x: &[u8]) -> bool

@@ -16,10 +16,12 @@ use Rattle.limits.specs.declared.Answer.{Answer}
 use Rattle.limits.specs.Answer.{runs}
 use Rattle.limits.proofs.AnswerLaws.{work-kept, work-wiped, roomed-runs}
 use Rattle.steps.specs.Step.{stepOf}
-use Rattle.passes.specs.Passes.{stepsOf, resultOf}
+use Rattle.passes.specs.Passes.{resultOf}
+use Rattle.passes.specs.Inner.Passes.{stepsOf}
 use Rattle.opt.specs.Whole.{whole}
 use Rattle.limits.specs.Entry.{byteSize, blockSize, isShort, roomed, blank}
-use Rattle.opt.specs.Room.{Long, Wiped, After}
+use Rattle.opt.specs.Room.{After}
+use Rattle.opt.specs.Inner.Room.{Long, Wiped}
 
 -- ---- the sizes
 

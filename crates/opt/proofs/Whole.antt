@@ -8,12 +8,13 @@ use borrow.Author.Tests.{eqb-true, eqb-false, lt-ltb, le-ltb}
 use lib.Dec.{eqb}
 use lib.ListN.{length, take, drop, replicate, length-append}
 use Rattle.lines.specs.declared.Crowded.the-variants as crowd-is
-use Rattle.lines.specs.Lf.{endsIn, unlines, countOf, noLf}
+use Rattle.lines.specs.Lf.{endsIn, unlines, countOf}
+use Rattle.lines.specs.Inner.Lf.{noLf}
 use Rattle.lines.specs.Steps.{dropCr, splitLines, joined, overFrom}
 use Rattle.lines.proofs.LfLaws.{lines-unlines}
 use Rattle.lines.proofs.StepLaws.{ends-some, missingLf, missing-ended, missing-open, lines-text, split-text, split-noLf, drop-le}
 use Rattle.lines.proofs.JoinLaws.{joinedEnd, joined-length}
-use Rattle.weight.specs.Weight.{weight}
+use Rattle.weight.specs.Inner.Weight.{weight}
 use Rattle.weight.proofs.Weigh.{length-weight, weight-twice}
 use Rattle.weight.proofs.Moves.{split-weight}
 use Rattle.text.specs.Utf8Form.{utf8Of}
@@ -31,7 +32,8 @@ use Rattle.limits.specs.declared.Answer.{Answer}
 use Rattle.limits.specs.declared.Answer.the-variants.{Done, TooLong, ShortWork, TooManyLines, ShortResult}
 use Rattle.limits.specs.Answer.{numberOf, isDone}
 use Rattle.steps.specs.Step.{stepOf}
-use Rattle.passes.specs.Passes.{stepsOf, resultOf}
+use Rattle.passes.specs.Passes.{resultOf}
+use Rattle.passes.specs.Inner.Passes.{stepsOf}
 use Rattle.opt.specs.Whole.{whole}
 use Rattle.limits.specs.Entry.{byUtf8, byCrowd, checkedLines, checked, roomed, answerOf, outAfter}
 use Rattle.steps.proofs.Tame.{Tame, tame-step}

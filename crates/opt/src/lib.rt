@@ -7,9 +7,11 @@ ghost use Rattle.lines.specs.Steps.{splitLines};
 ghost use Rattle.reading.specs.Reading.{plain};
 ghost use Rattle.limits.specs.Entry.{isShort, roomed, answerOf, passAnswer, outAfter};
 ghost use Rattle.steps.specs.Step.{stepOf};
-ghost use Rattle.passes.specs.Passes.{stepsOf, resultOf};
+ghost use Rattle.passes.specs.Passes.{resultOf};
+ghost use Rattle.passes.specs.Inner.Passes.{stepsOf};
 ghost use Rattle.opt.specs.Whole.{whole};
-ghost use Rattle.opt.specs.Room.{Long, Wiped, After};
+ghost use Rattle.opt.specs.Room.{After};
+ghost use Rattle.opt.specs.Inner.Room.{Long, Wiped};
 
 // Runs the passes from `k` up to `to` over a text, in the front of longer work buffers.
 fn run(

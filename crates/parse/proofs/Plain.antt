@@ -20,7 +20,8 @@ use Rattle.names.specs.Names.{isDigit, allDigits, value, regBy, regOf}
 use Rattle.names.specs.declared.Number.{Number}
 use Rattle.names.proofs.Digits.{number-is}
 use Rattle.names.proofs.Decimal.{value-lt}
-use Rattle.parse.specs.Parse.{isReg, digitsLen, shortReg, plainByte}
+use Rattle.parse.specs.Parse.{isReg}
+use Rattle.parse.specs.Inner.Parse.{digitsLen, shortReg, plainByte}
 
 -- ---- digits at the front
 

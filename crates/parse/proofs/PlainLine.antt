@@ -20,7 +20,8 @@ use Rattle.names.specs.declared.RegName.the-variants as name
 use Rattle.names.proofs.Texts.{reg-first}
 use Rattle.parse.specs.declared.Store.{Store}
 use Rattle.parse.specs.declared.Line.the-variants as line
-use Rattle.parse.specs.Parse.{isDecl, storeBy, splitStore, storeIn, parseOf, digitsLen, plainByte, plainValue}
+use Rattle.parse.specs.Parse.{isDecl, storeBy, splitStore, storeIn, parseOf}
+use Rattle.parse.specs.Inner.Parse.{digitsLen, plainByte, plainValue}
 use Rattle.parse.proofs.ParseLaws.{store-reg}
 use Rattle.parse.proofs.Plain.{inside, name-at, plain-is, plain-above, plain-below, starts-plain, ends-plain, digits-all, name-last, digits-past, up-take}
 

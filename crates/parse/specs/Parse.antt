@@ -1,14 +1,14 @@
 -- Reading a line: a declaration, a store with its register and value, or other. Assumes nothing.
-use Prim.Native.Nat.{ℕ, zero, suc, _+_, _-_}
+use Prim.Native.Nat.{ℕ, _+_, _-_}
 use Prim.Native.Char.{code}
-use mathlib.Core.Bool.{Bool, true, false, cond, not, _&&_, _||_}
-use mathlib.Core.List.{List, [], _∷_, _++_}
+use mathlib.Core.Bool.{Bool, true, false, cond, not, _&&_}
+use mathlib.Core.List.{List, [], _∷_}
 use lib.ListN.{length, take, drop, getD}
-use lib.Dec.{eqb, leb, ltb}
+use lib.Dec.{eqb, ltb}
 use Rattle.lines.specs.Ascii.{ascii}
 use Rattle.lines.specs.Lf.{part, upTo, partsOf, prefixed, endsIn}
 use Rattle.text.specs.Trim.{fromOf, toEnd, trimOf}
-use Rattle.names.specs.Names.{isDigit, regOf}
+use Rattle.names.specs.Names.{regOf}
 use Rattle.names.specs.declared.RegName.{RegName}
 use Rattle.names.specs.declared.RegName.the-variants as name
 use Rattle.parse.specs.declared.Store.{Store}
@@ -34,15 +34,6 @@ unfoldable pub allRegs : List (List ℕ) → Bool
 allRegs [] = true
 allRegs (p ∷ ps) = isReg (regOf (trimOf p)) && allRegs ps
 
--- how many digits stand at the front
-unfoldable pub digitsLen : List ℕ → ℕ
-digitsLen [] = 0
-digitsLen (x ∷ xs) = cond (isDigit x) (suc (digitsLen xs)) 0
-
--- at the place a stand `r` and a digit, and then a comma or the end
-abbrev pub shortReg : ℕ → List ℕ → Bool
-shortReg a l = leb (a + 2) (length l) && ((eqb (getD l a 0) (code "r") && isDigit (getD l (a + 1) 0)) && (eqb (a + 2) (length l) || eqb (getD l (a + 2) 0) (code ",")))
-
 -- a trimmed line is a declaration
 unfoldable pub isDecl : List ℕ → Bool
 isDecl t = ltb 4 (length t) && (prefixed letWord t && (endsIn (code ";") t && allRegs (partsOf (code ",") (bodyOf t))))
@@ -64,17 +55,6 @@ splitStore a u =
 -- a trimmed line that is no declaration, and begins at the place a
 unfoldable pub storeIn : ℕ → List ℕ → Line
 storeIn a t = cond (endsIn (code ";") t) (splitStore a (take (length t - 1) t)) line.Other
-
--- a byte of ASCII above the space: it is no white space, nor part of one
-abbrev pub plainByte : ℕ → Bool
-plainByte b = ltb (code " ") b && ltb b 128
-
--- at the place e stand ` = `, then a value that begins and ends with such bytes, and then `;`, which is the last byte
-abbrev pub plainValue : ℕ → List ℕ → Bool
-plainValue e l =
-    leb (e + 5) (length l)
-    && (eqb (getD l e 0) (code " ") && (eqb (getD l (e + 1) 0) (code "=") && (eqb (getD l (e + 2) 0) (code " ")
-    && (plainByte (getD l (e + 3) 0) && (plainByte (getD l (length l - 2) 0) && eqb (getD l (length l - 1) 0) (code ";"))))))
 
 -- `parse`
 unfoldable pub parseOf : List ℕ → Line

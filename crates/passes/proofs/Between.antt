@@ -5,19 +5,20 @@ use mathlib.Core.Bool.{true}
 use mathlib.Core.List.{List}
 use native.Mathlib.Omega.{arith}
 use lib.ListN.{length}
-use Rattle.lines.specs.Lf.{unlines, noLf}
+use Rattle.lines.specs.Lf.{unlines}
+use Rattle.lines.specs.Inner.Lf.{noLf}
 use Rattle.lines.specs.Steps.{splitLines}
 use Rattle.lines.proofs.LfLaws.{lines-unlines, count-le}
 use Rattle.lines.proofs.StepLaws.{split-noLf}
-use Rattle.weight.specs.Weight.{weight}
+use Rattle.weight.specs.Inner.Weight.{weight}
 use Rattle.weight.proofs.Weigh.{weight-twice}
 use Rattle.weight.proofs.Moves.{split-weight}
 use Rattle.weight.proofs.Braces.{braces-le}
 use Rattle.reading.specs.Reading.{Reading}
 use Rattle.reading.proofs.ByLine.{ByLine}
-use Rattle.steps.specs.Bounds.{Bounded}
+use Rattle.steps.specs.Inner.Bounds.{Bounded}
 use Rattle.steps.proofs.Tame.{Tame, tame-same, tame-then, tame-step}
-use Rattle.passes.specs.Passes.{stepsOf}
+use Rattle.passes.specs.Inner.Passes.{stepsOf}
 
 -- steps one after the other
 pub tame-steps : {R : Reading} → ByLine R → (k n : ℕ) → Tame (stepsOf R k n)

@@ -6,7 +6,7 @@ use native.Mathlib.Omega.{arith}
 use native.Mathlib.Numerals.{add-one}
 use lib.ListN.{length, take}
 use Rattle.lines.specs.Lf.{linesOf, unlines}
-use Rattle.lines.specs.Out.{Wrote}
+use Rattle.lines.specs.Inner.Out.{Wrote}
 use Rattle.lines.specs.Steps.{splitLines}
 use Rattle.lines.proofs.LfLaws.{lines-unlines}
 use Rattle.lines.proofs.StepLaws.{split-room}
@@ -14,11 +14,11 @@ use Rattle.lines.proofs.OutLaws.{wrote-length, wrote-part}
 use Rattle.reading.specs.Reading.{Reading, plain}
 use Rattle.reading.proofs.ByLine.{plain-by-line}
 use Rattle.steps.specs.Step.{stepOf}
-use Rattle.steps.specs.Bounds.{Bounded, Sized}
+use Rattle.steps.specs.Inner.Bounds.{Bounded, Sized}
 use Rattle.steps.proofs.Tame.{tame-step}
-use Rattle.passes.specs.Passes.{stepsOf}
+use Rattle.passes.specs.Inner.Passes.{stepsOf}
 use Rattle.limits.specs.Entry.{byteSize}
-use Rattle.passes.specs.Buffers.{Front}
+use Rattle.passes.specs.Inner.Buffers.{Front}
 use Rattle.passes.proofs.Between.{Between, between-start, between-on, between-room}
 
 -- ---- the front of a buffer

@@ -4,7 +4,7 @@ use mathlib.Core.Path.{_≡_, sym, ap, _∙_}
 use mathlib.Core.List.{List}
 use lib.ListN.{length, take, replicate, length-replicate}
 use Rattle.lines.specs.Lf.{endsIn, linesOf, unlines}
-use Rattle.lines.specs.Out.{Wrote}
+use Rattle.lines.specs.Inner.Out.{Wrote}
 use Rattle.lines.specs.Steps.{splitLines, joined}
 use Rattle.lines.proofs.OutLaws.{wrote-whole}
 use Rattle.lines.proofs.LfLaws.{lines-unlines}
@@ -13,7 +13,7 @@ use Rattle.limits.specs.declared.Answer.{Answer}
 use Rattle.limits.specs.Entry.{roomed, outAfter, blank}
 use Rattle.steps.proofs.Tame.{Tame}
 use Rattle.passes.specs.Passes.{resultOf}
-use Rattle.passes.specs.Buffers.{Front}
+use Rattle.passes.specs.Inner.Buffers.{Front}
 
 -- ---- zeroing
 

@@ -6,9 +6,10 @@ ghost use Rattle.lines.specs.Lf.{endsIn, linesOf, unlines};
 ghost use Rattle.lines.specs.Steps.{splitLines, joined};
 ghost use Rattle.reading.specs.Reading.{plain};
 ghost use Rattle.limits.specs.Entry.{byteSize, roomed, outAfter};
-ghost use Rattle.steps.specs.Bounds.{Sized};
-ghost use Rattle.passes.specs.Passes.{stepsOf, resultOf};
-ghost use Rattle.passes.specs.Buffers.{Front, Blank};
+ghost use Rattle.steps.specs.Inner.Bounds.{Sized};
+ghost use Rattle.passes.specs.Passes.{resultOf};
+ghost use Rattle.passes.specs.Inner.Passes.{stepsOf};
+ghost use Rattle.passes.specs.Inner.Buffers.{Front, Blank};
 
 // Writes the lines of a text into a buffer, runs the passes from `k` up to `to` over them, and returns how many bytes they are then.
 fn chain(

@@ -2,26 +2,37 @@
 use Prim.Native.Nat.{ℕ}
 use mathlib.Core.Path.{_≡_, refl}
 use mathlib.Core.List.{List, [], _∷_, map}
-use Rattle.lines.specs.Lf.{upTo, countOf, prefixed, suffixed, same, holds, cutOn, linesOf, partsOf, unlines, lacks, noLf}
+use Rattle.lines.specs.Lf.{upTo, countOf, prefixed, suffixed, same, holds, cutOn, linesOf, partsOf, unlines}
+use Rattle.lines.specs.Inner.Lf.{lacks, noLf}
 use Rattle.lines.specs.Acts.{act, apply}
 use Rattle.text.specs.White.{isWhite}
 use Rattle.text.specs.Utf8Form.{seqLen, scan, utf8Of}
 use Rattle.text.specs.Trim.{whiteChar, whiteHead, whiteTail, lead, fromOf, endWhite, toOf, trimOf}
-use Rattle.names.specs.Names.{numbered, numberOf, zeros, decimalBy, decimal, numberAfter, regOf, phiOf, isTemp, isIdent}
+use Rattle.names.specs.Names.{numbered, numberOf, decimalBy, decimal, regOf, phiOf, isTemp, isIdent}
+use Rattle.names.specs.Inner.Names.{zeros, numberAfter}
 use Rattle.parse.specs.Parse.{allRegs, isDecl, storeIn, parseOf, textOf}
-use Rattle.words.specs.Runs.{runsGo, runs, countBy, upBy, walk, runHits}
+use Rattle.words.specs.Runs.{runsGo, runs, countBy}
+use Rattle.words.specs.Inner.Runs.{upBy, walk, runHits}
 use Rattle.words.specs.Hits.{hitsGo, hits, oneHit, regHit, afterNew, asTarget, glueLeft, glueRight, glued, replacedAt, replaceReg}
-use Rattle.lexical.specs.Lex.{quoteLen, patternLen, commentLen, lastOf, tokenOf, tokenAt, lexGo, stripLexical, tailOf, pushed, grown, stepOf}
-use Rattle.place.specs.Region.{isHeader, headed, regionsGo, regions, regionNext, untilHeader, region, regionAt, upHeader}
-use Rattle.place.specs.Blocks.{braceOf, push, count, top, stackAfter, nextAfter, blocksGo, blocks, cleaned, mayAt, depthAt, depthAfter, ownLine, ownGo, own}
-use Rattle.place.specs.Starts.{startsAfter, startsBy, startsAbove, startsGo}
-use Rattle.reading.specs.Assign.{isAssign, leftOf, rightOf, assignOf}
+use Rattle.lexical.specs.Lex.{quoteLen, patternLen, commentLen, lastOf, tokenOf, lexGo, stripLexical}
+use Rattle.lexical.specs.Inner.Lex.{tokenAt, tailOf, pushed, grown, stepOf}
+use Rattle.place.specs.Region.{isHeader, untilHeader, region, regionAt}
+use Rattle.place.specs.Inner.Region.{headed, regionsGo, regions, regionNext, upHeader}
+use Rattle.place.specs.Blocks.{braceOf, push, count, top, stackAfter, nextAfter, blocksGo, blocks, cleaned}
+use Rattle.place.specs.Inner.Blocks.{mayAt, depthAt, depthAfter, ownLine, ownGo, own}
+use Rattle.place.specs.Starts.{startsAfter, startsAbove, startsGo}
+use Rattle.place.specs.Inner.Starts.{startsBy}
+use Rattle.reading.specs.Assign.{isAssign, leftOf, rightOf}
+use Rattle.reading.specs.Inner.Assign.{assignOf}
 use Rattle.reading.specs.Uses.{lineReads, lineStores, lineUses, usedIn}
 use Rattle.decls.specs.Decls.{commas, declAct, keepNames, actOf, actsGo, pruneDeclsActs, pruneDecls}
-use Rattle.lexical.specs.Phi.{anyOf, assigns, phiPure, phiRhsPure, sees, seesAll}
+use Rattle.lexical.specs.Phi.{anyOf, assigns, phiPure, phiRhsPure}
+use Rattle.lexical.specs.Inner.Phi.{sees, seesAll}
 use Rattle.expr.specs.Fix.{deep, fix}
-use Rattle.expr.specs.Comments.{strip, stripComments, noComment}
-use Rattle.expr.specs.Pure.{spaceStart, spaceEnd, spaceTrim, wrapped, shapeOf, opens, closes, elements, pureBy, judge, purityOf, purityCut}
+use Rattle.expr.specs.Comments.{strip, stripComments}
+use Rattle.expr.specs.Inner.Comments.{noComment}
+use Rattle.expr.specs.Pure.{spaceStart, spaceEnd, spaceTrim, wrapped, shapeOf, opens, closes, elements, pureBy, judge, purityOf}
+use Rattle.expr.specs.Inner.Pure.{purityCut}
 use Rattle.phis.specs.Phis.{isLet, allPhis, phiDecl, anyPhi, phiStore, phiOwn, phiReads, phiRead, phiStored, anyDead, livePhis, phiAct, phiActs, keeps, roundActs, round, pruneDeadPhis}
 use Rattle.reading.specs.Reading.{plain}
 

@@ -5,23 +5,25 @@ use mathlib.Core.Bool.{Bool, true, false, cond, not, _&&_, _||_}
 use mathlib.Core.List.{List, [], _∷_, _++_}
 use native.Mathlib.Omega.{arith}
 use lib.ListN.{length, take, drop}
-use Rattle.lines.specs.Lf.{upTo, linesOf, partsOf, unlines, same, lacks, noLf, all}
+use Rattle.lines.specs.Lf.{upTo, linesOf, partsOf, unlines, same, all}
+use Rattle.lines.specs.Inner.Lf.{lacks, noLf}
 use Rattle.lines.specs.Acts.{Act, keep, become, into, gone, act, apply}
 use Rattle.lines.proofs.Tests.{no, and-left, and-right, and-both}
 use Rattle.lines.proofs.LfLaws.{lines-noLf, lines-unlines, lacks-append, lacks-take, lacks-drop, parts-noLf}
 use Rattle.lines.proofs.ActLaws.{actNoLf, apply-noLf, apply-length}
 use Rattle.text.specs.Trim.{fromOf, trimStart, trimOf}
-use Rattle.names.specs.Names.{phiWord, phiText, zeros}
+use Rattle.names.specs.Names.{phiWord, phiText}
+use Rattle.names.specs.Inner.Names.{zeros}
 use Rattle.names.proofs.Decimal.{prints-not}
 use Rattle.parse.specs.Parse.{bodyOf}
 use Rattle.lexical.specs.Phi.{phiRhsPure}
 use Rattle.decls.specs.Decls.{declAct}
-use Rattle.decls.specs.Print.{one, kept}
+use Rattle.decls.specs.Inner.Print.{one, kept}
 use Rattle.decls.proofs.Keeps.{lacks-trim, lacks-body, kept-noLf, decl-noLf}
 use Rattle.reading.specs.Reading.{Reading, pureIn}
 use Rattle.reading.specs.Assign.{unended, rightOf}
 use Rattle.phis.specs.Phis.{phiDecl, phiStore, deadBy, anyDead, livePhis, storeAct, phiAct, phiActs, keeps, roundActs, round, pruneDeadPhis}
-use Rattle.phis.specs.Rounds.{live}
+use Rattle.phis.specs.Inner.Rounds.{live}
 use Rattle.phis.proofs.Writes.{names-live}
 
 -- ---- no LF comes in

@@ -14,7 +14,7 @@ use Rattle.names.specs.declared.PhiName.{PhiName}
 use Rattle.names.specs.declared.PhiName.the-variants as name
 use Rattle.names.proofs.Texts.{phi-text-names}
 use Rattle.parse.specs.Parse.{letWord, bodyOf}
-use Rattle.words.specs.Runs.{wordsOf}
+use Rattle.words.specs.Inner.Runs.{wordsOf}
 use Rattle.words.specs.Hits.{hits}
 use Rattle.words.proofs.HitLaws.{hits-words}
 use Rattle.reading.specs.Assign.{isAssign, leftOf}

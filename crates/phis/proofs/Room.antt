@@ -17,17 +17,17 @@ use Rattle.names.specs.Names.{numberOf, phiBy, phiOf}
 use Rattle.names.specs.declared.PhiName.the-variants as name
 use Rattle.parse.specs.Parse.{letWord, bodyOf}
 use Rattle.lexical.specs.Phi.{phiRhsPure}
-use Rattle.weight.specs.Weight.{spaced, extra, weight}
+use Rattle.weight.specs.Inner.Weight.{spaced, extra, weight}
 use Rattle.weight.proofs.Weigh.{length-weight, weight-append, weight-cut, weight-take, weight-drop, weight-line, nothing}
 use Rattle.weight.proofs.Pays.{Pays, done, step, pays}
 use Rattle.weight.proofs.Moves.{from-clean}
 use Rattle.decls.specs.Decls.{declAct}
-use Rattle.decls.specs.Print.{kept}
+use Rattle.decls.specs.Inner.Print.{kept}
 use Rattle.decls.proofs.Decl.{longPiece, leftOut, trim-le, decl-pays, declares-by, picks-kept}
 use Rattle.reading.specs.Reading.{Reading, plain, pureIn}
 use Rattle.reading.specs.Assign.{unended, isAssign, rightOf}
 use Rattle.phis.specs.Phis.{isLet, isPhi, allPhis, phiDecl, phiStore, deadBy, anyDead, livePhis, storeAct, phiAct, phiActs, keeps, roundActs, round, pruneDeadPhis}
-use Rattle.phis.specs.Rounds.{live, longest}
+use Rattle.phis.specs.Inner.Rounds.{live, longest}
 use Rattle.phis.proofs.Writes.{names-live, dead-assign}
 
 -- ---- declarations of phis

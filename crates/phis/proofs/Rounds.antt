@@ -6,11 +6,11 @@ use mathlib.Core.List.{List, [], _∷_, _++_}
 use native.Mathlib.Omega.{arith}
 use lib.ListN.{length, take, drop, set, replicate}
 use Rattle.lines.specs.Lf.{part, linesOf, unlines}
-use Rattle.lines.specs.Out.{putAt, Wrote}
+use Rattle.lines.specs.Inner.Out.{putAt, Wrote}
 use Rattle.lines.proofs.OutLaws.{wrote-as, wrote-part}
 use Rattle.reading.specs.Reading.{plain}
 use Rattle.phis.specs.Phis.{anyDead, round, pruneDeadPhis}
-use Rattle.phis.specs.Rounds.{longest}
+use Rattle.phis.specs.Inner.Rounds.{longest}
 use Rattle.phis.proofs.Writes.{drop-more}
 use Rattle.phis.proofs.Keeps.{round-reads, none-dead}
 

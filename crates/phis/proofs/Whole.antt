@@ -9,7 +9,7 @@ use Rattle.names.specs.Names.{phiWord}
 use Rattle.names.specs.declared.PhiName.{PhiName}
 use Rattle.reading.specs.Reading.{plain}
 use Rattle.phis.specs.Phis.{phiStore, deadBy, anyDead, round}
-use Rattle.phis.specs.Rounds.{changeText}
+use Rattle.phis.specs.Inner.Rounds.{changeText}
 use Rattle.phis.proofs.Held.{held-store, held-decl, held-dead}
 use Rattle.phis.proofs.Writes.{change-keep}
 use Rattle.phis.proofs.Keeps.{none-dead}

@@ -8,7 +8,7 @@ use lib.ListN.{length, take, drop, length-take, length-drop, length-append}
 use lib.Seq.{drop-drop, drop-append-add}
 use Rattle.lines.specs.Lf.{part, upTo, linesOf, partsOf, unlines}
 use Rattle.lines.specs.Acts.{become, gone, act, apply}
-use Rattle.lines.specs.Out.{putAt, Wrote}
+use Rattle.lines.specs.Inner.Out.{putAt, Wrote}
 use Rattle.lines.proofs.Tests.{no, so}
 use Rattle.lines.proofs.LfLaws.{lines-at, lines-end}
 use Rattle.lines.proofs.ActLaws.{unlines-append}
@@ -22,13 +22,13 @@ use Rattle.names.specs.declared.PhiName.the-variants as name
 use Rattle.names.proofs.Texts.{phi-number}
 use Rattle.parse.specs.Parse.{bodyOf}
 use Rattle.lexical.specs.Phi.{phiRhsPure}
-use Rattle.decls.specs.Print.{bareName, one, kept, declText}
+use Rattle.decls.specs.Inner.Print.{bareName, one, kept, declText}
 use Rattle.decls.proofs.PrintLaws.{after-bare, act-text}
 use Rattle.reading.specs.Reading.{Reading, plain, pureIn}
 use Rattle.reading.specs.Assign.{isAssign, leftOf, rightOf}
 use Rattle.reading.proofs.AssignLaws.{part-le, right-le}
 use Rattle.phis.specs.Phis.{isLet, phiDecl, phiStore, deadPhi, deadBy, anyDead, livePhi, livePhis, storeAct, phiAct, phiActs, roundActs, round}
-use Rattle.phis.specs.Rounds.{liveBy, live, storeText, changeText}
+use Rattle.phis.specs.Inner.Rounds.{liveBy, live, storeText, changeText}
 
 -- ---- the names that stay
 

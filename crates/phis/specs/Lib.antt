@@ -1,3 +1,2 @@
 pub mod Phis
-pub mod Rounds
-pub mod Table
+pub mod Inner

@@ -7,16 +7,16 @@ ghost use mathlib.Core.List.{[], _∷_, _++_};
 ghost use Prim.Native.Nat.{_≤_, _+_, max};
 ghost use lib.ListN.{length, drop, replicate};
 ghost use Rattle.lines.specs.Lf.{holds, partsOf, linesOf, unlines};
-ghost use Rattle.lines.specs.Out.{Wrote};
+ghost use Rattle.lines.specs.Inner.Out.{Wrote};
 ghost use Rattle.text.specs.Trim.{trimStart};
 ghost use Rattle.names.specs.Names.{phiWord, phiOf, phiIs};
 ghost use Rattle.lexical.specs.Phi.{phiRhsPure};
-ghost use Rattle.decls.specs.Print.{kept, declText};
+ghost use Rattle.decls.specs.Inner.Print.{kept, declText};
 ghost use Rattle.reading.specs.Reading.{plain, pureIn};
 ghost use Rattle.reading.specs.Assign.{isAssign, rightOf};
 ghost use Rattle.phis.specs.Phis.{isLet, isPhi, allPhis, phiDecl, anyPhi, phiStore, phiOwn, phiReads, phiRead, phiStored, deadPhi, deadBy, anyDead, round, pruneDeadPhis};
-ghost use Rattle.phis.specs.Table.{Tells};
-ghost use Rattle.phis.specs.Rounds.{live, storeText, changeText, longest};
+ghost use Rattle.phis.specs.Inner.Table.{Tells};
+ghost use Rattle.phis.specs.Inner.Rounds.{live, storeText, changeText, longest};
 
 // Whether a name is that of a phi.
 fn is_phi(name: names::PhiName, phi: names::Phi) -> bool

@@ -9,7 +9,7 @@ ghost use lib.Dec.{eqb};
 ghost use Rattle.lines.specs.Lf.{same, holds, linesOf};
 ghost use Rattle.names.specs.Names.{phiWord, phiOf, phiText, phiIs};
 ghost use Rattle.words.specs.Runs.{runs};
-ghost use Rattle.phis.specs.Table.{noteStore, noteName, noteRuns, noteLine, noteLines};
+ghost use Rattle.phis.specs.Inner.Table.{noteStore, noteName, noteRuns, noteLine, noteLines};
 
 // Whether a text holds the letters `phi`.
 pub fn has_phi(s: &[u8]) -> bool

@@ -10,9 +10,10 @@ use lib.Seq.{getD-append-add}
 use lib.Dec.{eqb}
 use Rattle.lines.proofs.Tests.{no, and-left, and-right}
 use Rattle.lexical.specs.Lex.{stripLexical}
-use Rattle.place.specs.Blocks.{Brace, opens, closes, plain, braceOf, push, count, top, stackAfter, nextAfter, blocksGo, blocks, cleaned, blockIds, mayAt, depthAt, depthAfter, ownLine, ownGo, own}
+use Rattle.place.specs.Blocks.{Brace, opens, closes, plain, braceOf, push, count, top, stackAfter, nextAfter, blocksGo, blocks, cleaned}
+use Rattle.place.specs.Inner.Blocks.{blockIds, mayAt, depthAt, depthAfter, ownLine, ownGo, own}
 use Rattle.place.specs.Paths.{tops}
-use Rattle.place.specs.Parents.{braces, idsPre, idsPost}
+use Rattle.place.specs.Inner.Parents.{braces, idsPre, idsPost}
 use Rattle.place.proofs.Stacks.{walk, tally, Given, base, on, given-pos, given-top, given-walk, given-first, noted}
 
 -- ---- the definition is the reading of every brace, none of them before a line is noted

@@ -8,12 +8,14 @@ use Rattle.text.specs.White.{isWhite}
 use Rattle.text.specs.Utf8Form.{seqLen}
 use Rattle.text.specs.Trim.{whiteChar, whiteHead, whiteTail, lead, fromOf, endWhite, toOf, trimOf}
 use Rattle.lexical.specs.Lex.{quoteLen, patternLen, commentLen, lastOf, tokenOf, lexGo, stripLexical}
-use Rattle.place.specs.Region.{isHeader, regionsGo, regions}
-use Rattle.place.specs.Blocks.{braceOf, push, count, top, stackAfter, nextAfter, blocksGo, blocks, cleaned, blockIds}
+use Rattle.place.specs.Region.{isHeader}
+use Rattle.place.specs.Inner.Region.{regionsGo, regions}
+use Rattle.place.specs.Blocks.{braceOf, push, count, top, stackAfter, nextAfter, blocksGo, blocks, cleaned}
+use Rattle.place.specs.Inner.Blocks.{blockIds}
 use Rattle.place.specs.Paths.{pathCloses, pathAfter, pathNext, pathsGo, blockPaths, tops}
 use Rattle.place.specs.Loops.{opensLoop, anyLoop, loopsAfter, loopsGo, insideLoop}
 use Rattle.place.specs.Starts.{startsAfter, startsGo}
-use Rattle.place.specs.Fill.{flagsOf}
+use Rattle.place.specs.Inner.Fill.{flagsOf}
 
 -- lines, and for each its region, its block, the innermost block of its path, whether it stands in a loop, and whether it may begin a statement
 pub record Row : Type 0 where

@@ -14,11 +14,12 @@ use Rattle.lines.proofs.Tests.{or-false, and-left, and-right, eqb-sym}
 use Rattle.lines.proofs.LfLaws.{lines-at, lines-end, find-le}
 use Rattle.text.specs.Trim.{fromOf, toOf, trimOf}
 use Rattle.place.specs.Blocks.{Brace, closes}
-use Rattle.place.specs.Paths.{pathCloses, blockPaths, tops, flatEnd, isFlat}
-use Rattle.place.specs.Loops.{startsLoop, someLoop}
-use Rattle.place.specs.Ends.{endsFrom}
-use Rattle.place.specs.Fill.{Filled}
-use Rattle.place.specs.Parents.{curBy, upsBy, Room, Moved, pathPre, pathOpen, pathPost, pathParents}
+use Rattle.place.specs.Paths.{pathCloses, blockPaths, tops}
+use Rattle.place.specs.Inner.Paths.{flatEnd, isFlat}
+use Rattle.place.specs.Inner.Loops.{startsLoop, someLoop}
+use Rattle.place.specs.Inner.Ends.{endsFrom}
+use Rattle.place.specs.Inner.Fill.{Filled}
+use Rattle.place.specs.Inner.Parents.{curBy, upsBy, Room, Moved, pathPre, pathOpen, pathPost, pathParents}
 use Rattle.place.proofs.Parents.{moved-none, moved-as}
 use Rattle.place.proofs.Quiet.{starts-not, low-end}
 use Rattle.place.proofs.Tables.{LinesInv, lines-start, lines-on, lines-done, closes-none, open-no, paths-done}

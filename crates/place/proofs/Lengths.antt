@@ -4,12 +4,13 @@ use mathlib.Core.Path.{_≡_, _∙_}
 use mathlib.Core.Bool.{true}
 use mathlib.Core.List.{List}
 use lib.ListN.{length}
-use Rattle.place.specs.Region.{regionsGo, regions}
-use Rattle.place.specs.Blocks.{cleaned, blockIds}
+use Rattle.place.specs.Inner.Region.{regionsGo, regions}
+use Rattle.place.specs.Blocks.{cleaned}
+use Rattle.place.specs.Inner.Blocks.{blockIds}
 use Rattle.place.specs.Paths.{blockPaths, tops}
 use Rattle.place.specs.Loops.{insideLoop}
 use Rattle.place.specs.Starts.{startsGo}
-use Rattle.place.specs.Fill.{flagsOf}
+use Rattle.place.specs.Inner.Fill.{flagsOf}
 use Rattle.place.proofs.Numbers.{length-regions}
 use Rattle.place.proofs.Blocks.{length-ids, cleaned-length}
 use Rattle.place.proofs.Paths.{length-tops}

@@ -12,8 +12,8 @@ use Rattle.lines.specs.Lf.{part, upTo, linesOf}
 use Rattle.lines.proofs.LfLaws.{lines-at, lines-end, find-le}
 use Rattle.lines.proofs.OutLaws.{Writing, writing-start, writing-as, writing-room}
 use Rattle.place.specs.Region.{isHeader}
-use Rattle.place.specs.Fill.{Filled}
-use Rattle.place.specs.Ends.{endMark, endMarks}
+use Rattle.place.specs.Inner.Fill.{Filled}
+use Rattle.place.specs.Inner.Ends.{endMark, endMarks}
 use Rattle.place.proofs.Fills.{entry-on, entry-end}
 
 pub marks-length : (i : ℕ) (ls : List (List ℕ)) → length (endMarks i ls) ≡ length ls

@@ -12,8 +12,9 @@ use Rattle.lines.proofs.LfLaws.{lines-at, lines-end}
 use Rattle.lines.proofs.OutLaws.{Writing, writing-start, writing-as, writing-room, writing-length}
 use Rattle.text.specs.Trim.{trimOf}
 use Rattle.place.specs.declared.Nest.{Nest}
-use Rattle.place.specs.Loops.{opensLoop, anyLoop, loopsAfter, loopsGo, insideLoop, nest, nestOpen, nestClose, nestLine}
-use Rattle.place.specs.Fill.{Filled, flagsOf}
+use Rattle.place.specs.Loops.{opensLoop, anyLoop, loopsAfter, loopsGo, insideLoop}
+use Rattle.place.specs.Inner.Loops.{nest, nestOpen, nestClose, nestLine}
+use Rattle.place.specs.Inner.Fill.{Filled, flagsOf}
 use Rattle.place.proofs.Fills.{entry-on, entry-end, flags-length}
 
 -- how many blocks were open when the outermost loop's was opened

@@ -9,7 +9,8 @@ use lib.Dec.{eqb, ltb}
 use lib.ListN.{length, getD, take, drop, length-append, List·getD-append}
 use lib.Seq.{getD-append-add}
 use Rattle.lines.proofs.Tests.{and-true, no}
-use Rattle.place.specs.Region.{isHeader, headed, regionsGo, regions, regionNext, untilHeader, region, regionAt}
+use Rattle.place.specs.Region.{isHeader, untilHeader, region, regionAt}
+use Rattle.place.specs.Inner.Region.{headed, regionsGo, regions, regionNext}
 
 -- ---- one line
 

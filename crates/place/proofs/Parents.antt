@@ -6,9 +6,10 @@ use native.Mathlib.Omega.{arith}
 use borrow.Author.Tests.{eq-eqb, ne-eqb}
 use lib.ListN.{length, getD, set, take, replicate, length-append, List·getD-append, List·getD-eq-default, length-take}
 use lib.Seq.{getD-append-seam, getD-take, length-take-le}
-use Rattle.place.specs.Blocks.{Brace, opens, closes, plain, braceOf, push, count, top, blocks, cleaned, blockIds}
+use Rattle.place.specs.Blocks.{Brace, opens, closes, plain, braceOf, push, count, top, blocks, cleaned}
+use Rattle.place.specs.Inner.Blocks.{blockIds}
 use Rattle.place.specs.Paths.{blockPaths, tops}
-use Rattle.place.specs.Parents.{around, curAt, upsAt, curBy, upsBy, Room, Moved, braces, notesGo, idsPre, idsPost, pathPre, pathPost}
+use Rattle.place.specs.Inner.Parents.{around, curAt, upsAt, curBy, upsBy, Room, Moved, braces, notesGo, idsPre, idsPost, pathPre, pathPost}
 use Rattle.place.proofs.Stacks.{walk, tally, noted}
 use Rattle.place.proofs.Blocks.{blocks-noted}
 use Rattle.place.proofs.Paths.{paths-noted}

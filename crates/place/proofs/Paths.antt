@@ -14,7 +14,7 @@ use Rattle.lines.proofs.Compare.{same-eq, same-refl}
 use Rattle.text.specs.Trim.{trimOf}
 use Rattle.place.specs.Blocks.{Brace, opens, closes, plain, push, count, top}
 use Rattle.place.specs.Paths.{pathCloses, pathAfter, pathNext, pathsGo, blockPaths, tops}
-use Rattle.place.specs.Parents.{pathPre, pathOpen, pathPost}
+use Rattle.place.specs.Inner.Parents.{pathPre, pathOpen, pathPost}
 use Rattle.place.proofs.Stacks.{walk, tally, walk-append, tally-append, noted, noted-same, noted-length, given-first, drop-one, tops-at, tops-length}
 
 -- ---- the braces of a line do what the definition says

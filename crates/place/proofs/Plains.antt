@@ -8,10 +8,10 @@ use borrow.Author.Tests.{ne-eqb}
 use lib.ListN.{length, take}
 use Rattle.lines.specs.Lf.{all}
 use Rattle.lines.proofs.Tests.{and-left, and-right}
-use Rattle.lexical.specs.Plain.{isPlain}
+use Rattle.lexical.specs.Inner.Plain.{isPlain}
 use Rattle.lexical.proofs.PlainLaws.{plain-low}
 use Rattle.place.specs.Blocks.{Brace, plain, braceOf}
-use Rattle.place.specs.Parents.{curBy, upsBy, braces, Moved}
+use Rattle.place.specs.Inner.Parents.{curBy, upsBy, braces, Moved}
 use Rattle.place.proofs.Parents.{moved-none}
 
 plain-brace : (x : ℕ) → isPlain x ≡ true → braceOf x ≡ plain

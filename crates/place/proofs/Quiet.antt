@@ -9,14 +9,15 @@ use lib.ListN.{length, getD, take, drop, replicate, length-drop, drop-of-length-
 use lib.Seq.{getD-drop, take-all}
 use lib.Dec.{eqb, ltb, leb}
 use Rattle.lines.specs.Lf.{part, upTo, countOf, endsIn, linesOf}
-use Rattle.lines.specs.Out.{putAt, Wrote}
+use Rattle.lines.specs.Inner.Out.{putAt, Wrote}
 use Rattle.lines.proofs.Tests.{no, and-left, and-right}
 use Rattle.lines.proofs.LfLaws.{lines-at, lines-end}
 use Rattle.text.specs.Trim.{fromOf, endWhite, toOf, trimOf}
 use Rattle.text.proofs.Trims.{fromOf-le, back-told}
-use Rattle.place.specs.Paths.{flatEnd}
-use Rattle.place.specs.Loops.{opensLoop, anyLoop, loopsAfter, loopsGo, insideLoop, startsLoop, someLoop, aboveLoop}
-use Rattle.place.specs.Fill.{Filled, flagsOf}
+use Rattle.place.specs.Inner.Paths.{flatEnd}
+use Rattle.place.specs.Loops.{opensLoop, anyLoop, loopsAfter, loopsGo, insideLoop}
+use Rattle.place.specs.Inner.Loops.{startsLoop, someLoop, aboveLoop}
+use Rattle.place.specs.Inner.Fill.{Filled, flagsOf}
 use Rattle.place.proofs.Fills.{filled-as}
 
 -- ---- a line

@@ -9,7 +9,8 @@ use lib.ListN.{length, take}
 use lib.Seq.{take-append-le}
 use lib.Dec.{eqb}
 use Rattle.place.specs.Region.{isHeader, untilHeader}
-use Rattle.place.specs.Blocks.{blocks, own}
+use Rattle.place.specs.Blocks.{blocks}
+use Rattle.place.specs.Inner.Blocks.{own}
 use Rattle.place.proofs.Blocks.{blocks-cut, rename, renamed, blockBelow, nextBelow, below-lt, same-renamed, length-blocks}
 
 -- which lines share the block b

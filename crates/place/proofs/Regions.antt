@@ -8,10 +8,12 @@ use borrow.Author.Tests.{ne-eqb, eqb-true, leb-true, leb-false, ltb-true, ltb-fa
 use lib.Dec.{eqb, leb, ltb}
 use lib.ListN.{length, getD, take, drop, length-take, length-drop, drop-of-length-le}
 use lib.Seq.{drop-cons, drop-drop, take-all, take-nil, take-append-add, length-take-le}
-use Rattle.lines.specs.Lf.{part, upTo, linesOf, lacks, prefixed}
+use Rattle.lines.specs.Lf.{part, upTo, linesOf, prefixed}
+use Rattle.lines.specs.Inner.Lf.{lacks}
 use Rattle.lines.proofs.Tests.{no, or-false, eqb-sym}
 use Rattle.lines.proofs.LfLaws.{upTo-le, lines-first, lines-line, drop-min}
-use Rattle.place.specs.Region.{functionWord, varWord, letWord, constWord, classWord, letPhi, isHeader, untilHeader, region, regionAt, upHeader, regionLen}
+use Rattle.place.specs.Region.{functionWord, varWord, letWord, constWord, classWord, letPhi, isHeader, untilHeader, region, regionAt}
+use Rattle.place.specs.Inner.Region.{upHeader, regionLen}
 
 -- the bytes of the line that is passed
 skip : (k : ℕ) (l : List ℕ) → upHeader k l ≡ min k (length l) + upHeader 0 (drop k l)

@@ -16,7 +16,7 @@ use Rattle.lexical.specs.declared.Kind.the-variants.{Kept, Literal, Gone}
 use Rattle.lexical.specs.Lex.{lastOf, tokenOf, leaves, lexGo, stripLexical}
 use Rattle.place.specs.Blocks.{Brace, opens, closes, plain, braceOf}
 use Rattle.place.specs.Paths.{pathCloses}
-use Rattle.place.specs.Parents.{curAt, upsAt, curBy, upsBy, flat, braces, idsPre, idsPost, pathPre, pathOpen, pathPost, idsParents, pathParents}
+use Rattle.place.specs.Inner.Parents.{curAt, upsAt, curBy, upsBy, flat, braces, idsPre, idsPost, pathPre, pathOpen, pathPost, idsParents, pathParents}
 
 -- ---- how many braces open
 

@@ -21,7 +21,8 @@ use Rattle.lexical.specs.declared.Kind.{Kind}
 use Rattle.lexical.specs.declared.Kind.the-variants.{Kept, Literal, Gone}
 use Rattle.lexical.specs.Lex.{lastOf, token, tokenOf, leaves, lexGo, stripLexical}
 use Rattle.place.specs.Region.{letPhi, isHeader}
-use Rattle.place.specs.Starts.{blank, startsAfter, startsBy, startsAbove, startsGo}
+use Rattle.place.specs.Starts.{blank, startsAfter, startsAbove, startsGo}
+use Rattle.place.specs.Inner.Starts.{startsBy}
 
 pub length-starts : (cs : List (List ℕ)) (st : Bool) → length (startsGo cs st) ≡ length cs
 unfolding startsGo

@@ -14,8 +14,8 @@ use Rattle.lines.proofs.OutLaws.{Writing, writing-start, writing-as, writing-ro
 use Rattle.text.specs.Trim.{trimOf}
 use Rattle.place.specs.Blocks.{Brace, opens, closes, plain, braceOf}
 use Rattle.place.specs.Paths.{pathCloses, blockPaths, tops}
-use Rattle.place.specs.Fill.{Filled}
-use Rattle.place.specs.Parents.{curBy, upsBy, Room, Moved, notesGo, flat, pathPre, pathOpen, pathPost, pathParents}
+use Rattle.place.specs.Inner.Fill.{Filled}
+use Rattle.place.specs.Inner.Parents.{curBy, upsBy, Room, Moved, notesGo, flat, pathPre, pathOpen, pathPost, pathParents}
 use Rattle.place.proofs.Fills.{entry-on, entry-end, filled-as}
 use Rattle.place.proofs.Parents.{moved-none, moved-plain, moved-then, moved-take, moved-as, moved-closes, room-as, room-first, room-then, room-length, notes-length, path-notes}
 

@@ -20,16 +20,19 @@ use Rattle.lexical.specs.declared.Kind.the-variants.{Kept}
 use Rattle.lexical.specs.declared.Token.{Token}
 use Rattle.lexical.specs.declared.Step.{Step}
 use Rattle.lexical.specs.declared.Tail.{Tail}
-use Rattle.lexical.specs.Lex.{lastOf, token, tokenAt, leaves, lexGo, stripLexical, tailOf, pushed, grown, stepOf}
-use Rattle.lexical.specs.Plain.{plainLen, lowLast, lowTail}
+use Rattle.lexical.specs.Lex.{lastOf, token, leaves, lexGo, stripLexical}
+use Rattle.lexical.specs.Inner.Lex.{tokenAt, tailOf, pushed, grown, stepOf}
+use Rattle.lexical.specs.Inner.Plain.{plainLen, lowLast, lowTail}
 use Rattle.lexical.proofs.TokenLaws.{token-kept}
 use Rattle.lexical.proofs.TailLaws.{after-low}
 use Rattle.lexical.proofs.LexLaws.{head-at, LexAt, lex-start, lex-next, lex-on, lex-end}
 use Rattle.lexical.proofs.PlainLaws.{plain-take, lex-plain, last-run, low-plain}
-use Rattle.place.specs.Blocks.{Brace, braceOf, cleaned, blockIds}
-use Rattle.place.specs.Starts.{startsAfter, startsBy, startsGo}
-use Rattle.place.specs.Fill.{Filled, flagsOf}
-use Rattle.place.specs.Parents.{curBy, upsBy, Room, Moved, notesGo, flat, braces, idsPre, idsPost, idsParents}
+use Rattle.place.specs.Blocks.{Brace, braceOf, cleaned}
+use Rattle.place.specs.Inner.Blocks.{blockIds}
+use Rattle.place.specs.Starts.{startsAfter, startsGo}
+use Rattle.place.specs.Inner.Starts.{startsBy}
+use Rattle.place.specs.Inner.Fill.{Filled, flagsOf}
+use Rattle.place.specs.Inner.Parents.{curBy, upsBy, Room, Moved, notesGo, flat, braces, idsPre, idsPost, idsParents}
 use Rattle.place.proofs.Blocks.{cleaned-length}
 use Rattle.place.proofs.Fills.{entry-on, entry-end, flags-length, filled-as}
 use Rattle.place.proofs.Parents.{moved-none, moved-then, moved-as, room-as, room-first, room-then, room-length, ids-notes}

@@ -1,7 +1,7 @@
 -- `block_ids`, over lines that are cleaned already: every brace counts. Assumes nothing.
-use Prim.Native.Nat.{ℕ, zero, suc, _+_}
+use Prim.Native.Nat.{ℕ, suc}
 use Prim.Native.Char.{code}
-use mathlib.Core.Bool.{Bool, true, false, cond, _&&_}
+use mathlib.Core.Bool.{cond}
 use mathlib.Core.List.{List, [], _∷_}
 use lib.ListN.{drop}
 use lib.Dec.{eqb}
@@ -61,46 +61,3 @@ blocks ls = blocksGo ls 1 []
 unfoldable pub cleaned : List (List ℕ) → List (List ℕ)
 cleaned [] = []
 cleaned (l ∷ ls) = stripLexical l ∷ cleaned ls
-
--- `block_ids`
-abbrev pub blockIds : List (List ℕ) → List ℕ
-blockIds ls = blocks (cleaned ls)
-
--- ---- the condition of the law for a tail: no brace is closed that was not opened in it; d are open
-
--- a brace may stand there
-unfoldable pub mayAt : Brace → ℕ → Bool
-mayAt opens d = true
-mayAt closes zero = false
-mayAt closes (suc d) = true
-mayAt plain d = true
-
--- how many are open after it
-unfoldable pub depthAt : Brace → ℕ → ℕ
-depthAt opens d = suc d
-depthAt closes zero = zero
-depthAt closes (suc d) = d
-depthAt plain d = d
-
--- how many are open after a line
-unfoldable pub depthAfter : List ℕ → ℕ → ℕ
-unfolding depthAt
-depthAfter [] d = d
-depthAfter (x ∷ xs) d = depthAfter xs (depthAt (braceOf x) d)
-
--- every brace of a line may stand there
-unfoldable pub ownLine : List ℕ → ℕ → Bool
-unfolding mayAt depthAt
-ownLine [] d = true
-ownLine (x ∷ xs) d = mayAt (braceOf x) d && ownLine xs (depthAt (braceOf x) d)
-
--- and of lines
-unfoldable pub ownGo : List (List ℕ) → ℕ → Bool
-unfolding ownLine depthAfter
-ownGo [] d = true
-ownGo (l ∷ ls) d = ownLine l d && ownGo ls (depthAfter l d)
-
--- of cleaned lines, read in order, none closes what they did not open
-unfoldable pub own : List (List ℕ) → Bool
-unfolding ownGo
-own ls = ownGo ls 0

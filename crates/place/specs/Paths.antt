@@ -1,13 +1,12 @@
 -- `block_paths`: the chain of open blocks, by the brace at either end of a trimmed line. Assumes nothing.
-use Prim.Native.Nat.{ℕ, zero, suc, _+_, _-_}
+use Prim.Native.Nat.{ℕ, suc, _-_}
 use Prim.Native.Char.{code}
-use mathlib.Core.Bool.{Bool, true, false, cond, not, _&&_}
+use mathlib.Core.Bool.{cond}
 use mathlib.Core.List.{List, [], _∷_}
-use lib.ListN.{length, getD, drop}
-use lib.Dec.{eqb, ltb}
+use lib.ListN.{drop}
 use Rattle.lines.specs.Ascii.{ascii}
 use Rattle.lines.specs.Lf.{countOf, prefixed, endsIn}
-use Rattle.text.specs.Trim.{fromOf, trimOf}
+use Rattle.text.specs.Trim.{trimOf}
 use Rattle.place.specs.Blocks.{top}
 
 -- how many blocks a trimmed line closes: as many as it has `}`, where it starts with one; one less where it ends in `{`
@@ -40,13 +39,3 @@ unfoldable pub tops : List (List ℕ) → List ℕ
 unfolding top
 tops [] = []
 tops (s ∷ ss) = top s ∷ tops ss
-
--- ---- lines that plainly neither close a block nor open one
-
--- an ASCII byte above the space other than `{`
-abbrev pub flatEnd : ℕ → Bool
-flatEnd c = ltb (code " ") c && (ltb c 0x80 && not (eqb c (code "{")))
-
--- a line that ends in such a byte, and whose first byte after its indent is not `}`
-unfoldable pub isFlat : List ℕ → Bool
-isFlat l = flatEnd (getD l (length l - 1) 0) && not (eqb (getD l (fromOf l) 0) (code "}"))

@@ -1,7 +1,7 @@
 -- `starts_statement`: whether a line may begin a statement, by the last character of the nearest line above that is not blank once cleaned.
 -- Assumes nothing.
 use Prim.Native.Nat.{ℕ}
-use mathlib.Core.Bool.{Bool, true, false, cond}
+use mathlib.Core.Bool.{Bool, true, cond}
 use mathlib.Core.List.{List, [], _∷_}
 use lib.Dec.{eqb}
 use Rattle.lines.specs.Ascii.{ascii}
@@ -16,10 +16,6 @@ blank t = eqb (toOf t) 0
 -- after a cleaned line: where it is blank, as it was before it (st); else whether it ends in `;`, `{`, `}` or `:`
 unfoldable pub startsAfter : List ℕ → Bool → Bool
 startsAfter t st = cond (blank t) st (among (ascii ";{}:") (lastOf t))
-
--- the same by the last character of a cleaned line of bytes
-unfoldable pub startsBy : ℕ → Bool → Bool
-startsBy last st = cond (eqb last 256) st (among (ascii ";{}:") last)
 
 -- of the cleaned lines above, the nearest first
 unfoldable pub startsAbove : List (List ℕ) → Bool

@@ -6,15 +6,20 @@ ghost use Prim.Native.Nat.{_≤_, _<_, _+_, _-_, _^_};
 ghost use lib.ListN.{take, drop, set, length, replicate};
 ghost use Rattle.lines.specs.Lf.{linesOf, endsIn};
 ghost use Rattle.lexical.specs.Lex.{lastOf, leaves, stripLexical};
-ghost use Rattle.lexical.specs.Plain.{plainLen};
-ghost use Rattle.place.specs.Region.{isHeader, regionNext, regionLen};
-ghost use Rattle.place.specs.Blocks.{opens, closes, braceOf, blockIds, cleaned};
-ghost use Rattle.place.specs.Paths.{pathCloses, blockPaths, tops, isFlat};
-ghost use Rattle.place.specs.Ends.{endsFrom, endMark, endMarks};
-ghost use Rattle.place.specs.Loops.{opensLoop, nestOpen, nestClose, nestLine, insideLoop, startsLoop, someLoop, aboveLoop};
-ghost use Rattle.place.specs.Parents.{around, curBy, Room, Moved, braces, idsPost, idsParents, pathPre, pathOpen, pathPost, pathParents};
-ghost use Rattle.place.specs.Starts.{startsBy, startsGo};
-ghost use Rattle.place.specs.Fill.{Filled, flagsOf};
+ghost use Rattle.lexical.specs.Inner.Plain.{plainLen};
+ghost use Rattle.place.specs.Region.{isHeader};
+ghost use Rattle.place.specs.Inner.Region.{regionNext, regionLen};
+ghost use Rattle.place.specs.Blocks.{opens, closes, braceOf, cleaned};
+ghost use Rattle.place.specs.Inner.Blocks.{blockIds};
+ghost use Rattle.place.specs.Paths.{pathCloses, blockPaths, tops};
+ghost use Rattle.place.specs.Inner.Paths.{isFlat};
+ghost use Rattle.place.specs.Inner.Ends.{endsFrom, endMark, endMarks};
+ghost use Rattle.place.specs.Loops.{opensLoop, insideLoop};
+ghost use Rattle.place.specs.Inner.Loops.{nestOpen, nestClose, nestLine, startsLoop, someLoop, aboveLoop};
+ghost use Rattle.place.specs.Inner.Parents.{around, curBy, Room, Moved, braces, idsPost, idsParents, pathPre, pathOpen, pathPost, pathParents};
+ghost use Rattle.place.specs.Starts.{startsGo};
+ghost use Rattle.place.specs.Inner.Starts.{startsBy};
+ghost use Rattle.place.specs.Inner.Fill.{Filled, flagsOf};
 
 // The number of a region: of its own type, so that no other number is taken for one.
 #[repr(C)]

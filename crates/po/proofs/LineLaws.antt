@@ -21,8 +21,8 @@ use Rattle.po.specs.Found.{plainOf, textOf, empty}
 use Rattle.po.specs.Form.{escape, escaped, quoted, refWord, refLine}
 use Rattle.po.specs.Name.{nameRun, isFileName}
 use Rattle.po.specs.Reader.{isValid, isQuoted, quotedText, colon, valueOf, nameIn, lineIn}
-use Rattle.po.specs.Walk.{unit, unitOf}
-use Rattle.po.specs.ReadWalk.{formed, isReference, follows}
+use Rattle.po.specs.Inner.Walk.{unit, unitOf}
+use Rattle.po.specs.Inner.ReadWalk.{formed, isReference, follows}
 use Rattle.po.proofs.UnitLaws.{text-stop, text-on, text-past, escape-self, escaped-cons}
 
 -- ---- tests that are turned round

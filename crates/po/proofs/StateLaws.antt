@@ -10,7 +10,7 @@ use lib.Dec.{eqb, leb, ltb}
 use lib.ListN.{length, take, drop, getD, length-append, length-take, length-drop}
 use lib.Seq.{take-at, drop-drop, take-take}
 use Rattle.lines.specs.Lf.{part, same, upTo, partsOf, cutOn}
-use Rattle.lines.specs.Out.{Wrote, putAt}
+use Rattle.lines.specs.Inner.Out.{Wrote, putAt}
 use Rattle.lines.proofs.OutLaws.{Writing, writing-start, writing-as, writing-room, writing-put, writing-end}
 use Rattle.lines.proofs.Tests.{no, or-false, and-left, and-right, and-false}
 use Rattle.lines.proofs.Counts.{part-short}
@@ -25,11 +25,12 @@ use Rattle.text.specs.Utf8Form.{utf8Of}
 use Rattle.po.specs.Form.{idWord, strWord, typeLine, escape, escaped, quoted, refLine}
 use Rattle.po.specs.Name.{isFileName}
 use Rattle.po.specs.Reader.{State, start, Read, bad, good, isValid, colon, valueOf, quotedText, isQuoted, nameIn, lineIn, isRef, isId, awaited, onward, readGo, readOf, packed, lowBytes, given}
-use Rattle.po.specs.Answers.{stringsNumber, readText, byRead, readAnswer}
-use Rattle.po.specs.ReadWalk.{isReference, follows, nextOf, after, stateAt, sameId, met, givesOne, gives, At, isGood, verdict}
+use Rattle.po.specs.Answers.{readText, byRead, readAnswer}
+use Rattle.po.specs.Inner.Answers.{stringsNumber}
+use Rattle.po.specs.Inner.ReadWalk.{isReference, follows, nextOf, after, stateAt, sameId, met, givesOne, gives, At, isGood, verdict}
 use Rattle.names.specs.Names.{numberOf}
 use Rattle.po.specs.declared.Unit.{Unit}
-use Rattle.po.specs.Walk.{unitOf}
+use Rattle.po.specs.Inner.Walk.{unitOf}
 use Rattle.po.proofs.UnitLaws.{text-stop, text-on}
 use Rattle.po.proofs.LineLaws.{empty-yes, empty-no, colon-le, name-at, line-at}
 

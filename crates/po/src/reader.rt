@@ -12,14 +12,14 @@ ghost use mathlib.Core.Bool.{Bool, true, false, cond, _||_, _&&_};
 ghost use Prim.Native.Nat.{ℕ, suc, _+_, _≤_, _<_, _^_};
 ghost use lib.ListN.{length, drop, take, getD};
 ghost use Rattle.lines.specs.Lf.{part, same, prefixed, upTo, partsOf};
-ghost use Rattle.lines.specs.Out.{Wrote};
+ghost use Rattle.lines.specs.Inner.Out.{Wrote};
 ghost use Rattle.text.specs.Utf8Form.{utf8Of};
 ghost use Rattle.names.specs.Names.{decimal, numberOf};
 ghost use Rattle.po.specs.Found.{textOf, known, empty};
 ghost use Rattle.po.specs.Form.{escape};
 ghost use Rattle.po.specs.Name.{isFileName};
 ghost use Rattle.po.specs.Reader.{isValid, isQuoted, colon, valueOf, nameIn, lineIn, isId, awaited, lowBytes, packed, readOf};
-ghost use Rattle.po.specs.ReadWalk.{formed, isReference, follows, nextOf, stateAt, givesOne, gives, sameId, At, verdict};
+ghost use Rattle.po.specs.Inner.ReadWalk.{formed, isReference, follows, nextOf, stateAt, givesOne, gives, sameId, At, verdict};
 
 const QUOTE: u8 = 34;
 

@@ -4,11 +4,11 @@ ghost use mathlib.Core.Bool.{true};
 ghost use Prim.Native.Nat.{_≤_, _+_};
 ghost use lib.ListN.{length, replicate};
 ghost use Rattle.lines.specs.Lf.{linesOf, partsOf};
-ghost use Rattle.lines.specs.Out.{Wrote};
+ghost use Rattle.lines.specs.Inner.Out.{Wrote};
 ghost use Rattle.text.specs.Trim.{trimOf};
 ghost use Rattle.parse.specs.Parse.{isDecl};
-ghost use Rattle.decls.specs.Seen.{AtMost, Says};
-ghost use Rattle.pruned.specs.Marks.{namesMarks, lineMarks, marksOf};
+ghost use Rattle.decls.specs.Inner.Seen.{AtMost, Says};
+ghost use Rattle.pruned.specs.Inner.Marks.{namesMarks, lineMarks, marksOf};
 
 // Writes zeros up to a place.
 fn put_zeros(out: &mut [u8], o: usize, n: usize) -> usize

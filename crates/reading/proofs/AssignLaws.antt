@@ -18,7 +18,8 @@ use Rattle.text.proofs.Trims.{fromOf-le, toEnd-le, trim-part}
 use Rattle.reading.specs.declared.Sides.{Sides}
 use Rattle.reading.specs.declared.Assign.{Assign}
 use Rattle.reading.specs.declared.Assign.the-variants.{Split, None}
-use Rattle.reading.specs.Assign.{unended, isAssign, leftOf, rightOf, splitAt, sidesOf, assignOf}
+use Rattle.reading.specs.Assign.{unended, isAssign, leftOf, rightOf}
+use Rattle.reading.specs.Inner.Assign.{splitAt, sidesOf, assignOf}
 
 -- ---- parts of parts
 

@@ -1,3 +1,4 @@
 pub mod Reading
 pub mod Assign
 pub mod Uses
+pub mod Inner

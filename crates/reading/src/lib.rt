@@ -3,7 +3,7 @@ ghost use mathlib.Core.Path.{_≡_};
 ghost use Prim.Native.Nat.{_+_, _%_};
 ghost use Rattle.lines.specs.Lf.{part, linesOf};
 ghost use Rattle.reading.specs.Uses.{lineReads, storesBy, lineStores, lineUses, usedIn};
-ghost use Rattle.reading.specs.Assign.{sidesOf, assignOf};
+ghost use Rattle.reading.specs.Inner.Assign.{sidesOf, assignOf};
 
 // What a line does with a register: how often it reads it, and whether it stores it.
 pub struct Use {

@@ -5,9 +5,10 @@ use mathlib.Core.Bool.{cond}
 use mathlib.Core.List.{List, [], _∷_}
 use native.Mathlib.Omega.{arith}
 use lib.ListN.{length, take}
-use Rattle.place.specs.Region.{isHeader, regionsGo, regions}
+use Rattle.place.specs.Region.{isHeader}
+use Rattle.place.specs.Inner.Region.{regionsGo, regions}
 use Rattle.records.specs.declared.LineRec.{LineRec}
-use Rattle.records.specs.Records.{recordsGo, recordsOf}
+use Rattle.records.specs.Inner.Records.{recordsGo, recordsOf}
 
 -- the region of each record
 pub regionsIn : List LineRec → List ℕ

@@ -13,7 +13,7 @@ use Rattle.lines.specs.Lf.{part, upTo, linesOf}
 use Rattle.lines.proofs.LfLaws.{lines-at, lines-end}
 use Rattle.place.specs.Region.{isHeader}
 use Rattle.records.specs.declared.LineRec.{LineRec}
-use Rattle.records.specs.Records.{noRec, recAt, recordsGo, recordsOf}
+use Rattle.records.specs.Inner.Records.{noRec, recAt, recordsGo, recordsOf}
 use Rattle.records.proofs.Laws.{records-count, records-here}
 
 -- the records from the k-th on are those of the lines from i on, and c is the region above

@@ -13,7 +13,7 @@ use Rattle.lines.specs.Lf.{part, upTo, linesOf}
 use Rattle.lines.proofs.LfLaws.{lines-at, lines-end, find-le}
 use Rattle.place.specs.Region.{isHeader}
 use Rattle.records.specs.declared.LineRec.{LineRec}
-use Rattle.records.specs.Records.{recAt, recordsGo, recordsOf}
+use Rattle.records.specs.Inner.Records.{recAt, recordsGo, recordsOf}
 
 -- ---- a slice that is filled from its front
 

@@ -10,14 +10,14 @@ use lib.Dec.{eqb, ltb}
 use lib.ListN.{length, getD, set, drop, length-append, length-drop}
 use Rattle.lines.specs.Lf.{linesOf}
 use Rattle.place.specs.Region.{isHeader}
-use Rattle.place.specs.Ends.{endMarks}
-use Rattle.place.specs.Blocks.{blockIds}
-use Rattle.place.specs.Fill.{Filled}
+use Rattle.place.specs.Inner.Ends.{endMarks}
+use Rattle.place.specs.Inner.Blocks.{blockIds}
+use Rattle.place.specs.Inner.Fill.{Filled}
 use Rattle.place.proofs.Blocks.{length-ids}
 use Rattle.place.proofs.Fills.{filled-length}
 use Rattle.place.proofs.Marks.{marks-length}
 use Rattle.records.specs.declared.LineRec.{LineRec}
-use Rattle.records.specs.Records.{noRec, recAt, recordsGo, recordsOf, startBelow, regionBelow, Above, recBy, recordsBy, lastOf, windowAt, Told}
+use Rattle.records.specs.Inner.Records.{noRec, recAt, recordsGo, recordsOf, startBelow, regionBelow, Above, recBy, recordsBy, lastOf, windowAt, Told}
 use Rattle.records.proofs.Laws.{Filling, filling-start, filling-as, filling-place, filling-put, filling-end, records-count}
 
 -- ---- the loop of `fill`

@@ -4,7 +4,7 @@ ghost use mathlib.Core.Bool.{cond};
 ghost use Prim.Native.Nat.{_+_, _≤_, _<_, _^_, min};
 ghost use lib.Dec.{ltb};
 ghost use lib.ListN.{length, getD, set, replicate};
-ghost use Rattle.records.specs.Records.{noRec, lastOf, startBelow, regionBelow, recBy, Above, windowAt};
+ghost use Rattle.records.specs.Inner.Records.{noRec, lastOf, startBelow, regionBelow, recBy, Above, windowAt};
 
 // A line of a text: where it begins and ends, its region and its block. Its parts stand in this order in memory.
 #[repr(C)]

@@ -6,23 +6,23 @@ use native.Mathlib.Omega.{arith}
 use borrow.Author.Tests.{eq-eqb, ne-eqb}
 use lib.ListN.{length, drop, replicate}
 use Rattle.lines.specs.Lf.{linesOf, unlines}
-use Rattle.lines.specs.Out.{putAt, Wrote}
+use Rattle.lines.specs.Inner.Out.{putAt, Wrote}
 use Rattle.lines.specs.Acts.{apply}
-use Rattle.place.specs.Fill.{Filled}
-use Rattle.place.specs.Parents.{idsParents, pathParents}
+use Rattle.place.specs.Inner.Fill.{Filled}
+use Rattle.place.specs.Inner.Parents.{idsParents, pathParents}
 use Rattle.reading.specs.Reading.{Reading, plain}
 use Rattle.globals.specs.Globals.{removeGlobals}
 use Rattle.temps.specs.Temps.{pruneDeadTemps}
-use Rattle.temps.specs.Scratch.{tempScratch}
+use Rattle.temps.specs.Inner.Scratch.{tempScratch}
 use Rattle.once.specs.Once.{onceActs, optimizeOnce}
 use Rattle.phis.specs.Phis.{round, pruneDeadPhis}
-use Rattle.phis.specs.Rounds.{longest}
+use Rattle.phis.specs.Inner.Rounds.{longest}
 use Rattle.calls.specs.LeavesOf.{leavesOf}
 use Rattle.calls.specs.Calls.{rebuildCalls}
 use Rattle.decls.specs.Decls.{pruneDecls}
 use Rattle.bind.specs.Bind.{bindDeclarators}
 use Rattle.steps.specs.Step.{stepOf}
-use Rattle.steps.specs.Left.{leftC, leftD, leftE, leftU, Left}
+use Rattle.steps.specs.Inner.Left.{leftC, leftD, leftE, leftU, Left}
 
 -- ---- which pass a number is
 

@@ -6,13 +6,14 @@ use mathlib.Core.List.{List}
 use native.Mathlib.Omega.{arith}
 use lib.Dec.{eqb}
 use lib.ListN.{length, replicate, length-append, length-replicate}
-use Rattle.lines.specs.Lf.{linesOf, unlines, noLf}
+use Rattle.lines.specs.Lf.{linesOf, unlines}
+use Rattle.lines.specs.Inner.Lf.{noLf}
 use Rattle.lines.specs.Acts.{apply}
 use Rattle.lines.proofs.ActLaws.{apply-length}
 use Rattle.lines.proofs.StepLaws.{missingLf, lines-text}
-use Rattle.weight.specs.Weight.{weight}
+use Rattle.weight.specs.Inner.Weight.{weight}
 use Rattle.weight.proofs.Weigh.{length-weight}
-use Rattle.place.specs.Parents.{idsParents, pathParents}
+use Rattle.place.specs.Inner.Parents.{idsParents, pathParents}
 use Rattle.place.proofs.Rooms.{ids-parents-text, path-parents-text}
 use Rattle.reading.specs.Reading.{Reading, plain}
 use Rattle.globals.specs.Globals.{removeGlobals}
@@ -24,7 +25,7 @@ use Rattle.once.proofs.Keeps.{acts-noLf}
 use Rattle.once.proofs.Passes.{once-noLf, once-lines}
 use Rattle.once.proofs.Room.{acts-weight, once-weight}
 use Rattle.phis.specs.Phis.{round, pruneDeadPhis}
-use Rattle.phis.specs.Rounds.{longest}
+use Rattle.phis.specs.Inner.Rounds.{longest}
 use Rattle.phis.proofs.Keeps.{phis-noLf, phis-lines}
 use Rattle.phis.proofs.Room.{round-weight, phis-weight, longest-weight}
 use Rattle.calls.specs.LeavesOf.{leavesOf}
@@ -39,7 +40,7 @@ use Rattle.decls.proofs.Decl.{prune-weight}
 use Rattle.decls.proofs.Passes.{prune-lines}
 use Rattle.steps.specs.Step.{stepOf}
 use Rattle.limits.specs.Entry.{byteSize, blockSize}
-use Rattle.steps.specs.Bounds.{Bounded}
+use Rattle.steps.specs.Inner.Bounds.{Bounded}
 
 pub record Tame (f : List (List ℕ) → List (List ℕ)) : Type 0 where
   pub keeps : (ls : List (List ℕ)) → noLf ls ≡ true → noLf (f ls) ≡ true

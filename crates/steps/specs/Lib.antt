@@ -1,3 +1,2 @@
 pub mod Step
-pub mod Bounds
-pub mod Left
+pub mod Inner

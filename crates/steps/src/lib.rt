@@ -3,7 +3,7 @@ ghost use mathlib.Core.Path.{_≡_};
 ghost use Prim.Native.Nat.{_≤_};
 ghost use lib.ListN.{length};
 ghost use Rattle.lines.specs.Lf.{linesOf, unlines};
-ghost use Rattle.lines.specs.Out.{Wrote};
+ghost use Rattle.lines.specs.Inner.Out.{Wrote};
 ghost use Rattle.reading.specs.Reading.{plain};
 ghost use Rattle.once.specs.Once.{optimizeOnce};
 ghost use Rattle.calls.specs.LeavesOf.{leavesOf};
@@ -11,8 +11,8 @@ ghost use Rattle.calls.specs.Calls.{rebuildCalls};
 ghost use Rattle.bind.specs.Bind.{bindDeclarators};
 ghost use Rattle.limits.specs.Entry.{byteSize, blockSize};
 ghost use Rattle.steps.specs.Step.{stepOf};
-ghost use Rattle.steps.specs.Bounds.{Bounded, Sized};
-ghost use Rattle.steps.specs.Left.{leftC, leftD, leftE, leftU, Left};
+ghost use Rattle.steps.specs.Inner.Bounds.{Bounded, Sized};
+ghost use Rattle.steps.specs.Inner.Left.{leftC, leftD, leftE, leftU, Left};
 
 // Runs optimize_once, with its tables for 1,024 lines.
 fn once_step(src: &[u8], scratch: &mut [u8], mid: &mut [u8], u: &mut [u32], dst: &mut [u8]) -> usize

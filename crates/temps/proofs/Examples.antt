@@ -15,7 +15,7 @@ use Rattle.expr.specs.Pure.{spaceStart, spaceEnd, spaceTrim, wrapped, shapeOf, 
 use Rattle.reading.specs.Reading.{plain}
 use Rattle.reading.specs.Assign.{isAssign, leftOf, rightOf}
 use Rattle.temps.specs.Temps.{anyPiece, declares, tempReads, declaredIn, tempRead}
-use Rattle.temps.specs.Scratch.{tempGoes}
+use Rattle.temps.specs.Inner.Scratch.{tempGoes}
 
 -- a line, and whether it goes
 pub record Row : Type 0 where

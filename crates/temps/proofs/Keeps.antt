@@ -3,19 +3,20 @@ use Prim.Native.Nat.{ℕ, _≤_}
 use mathlib.Core.Path.{_≡_, refl, sym, ap}
 use mathlib.Core.Bool.{Bool, true, false, cond, not, _&&_}
 use mathlib.Core.List.{List, [], _∷_, _++_}
-use Rattle.lines.specs.Lf.{unlines, noLf, linesOf, all}
+use Rattle.lines.specs.Lf.{unlines, linesOf, all}
+use Rattle.lines.specs.Inner.Lf.{noLf}
 use Rattle.lines.specs.Acts.{keep, gone, act, apply}
 use Rattle.lines.proofs.Tests.{and-left, and-right}
 use Rattle.lines.proofs.LfLaws.{lines-noLf, lines-unlines}
 use Rattle.lines.proofs.ActLaws.{actNoLf, apply-noLf}
 use Rattle.text.specs.Trim.{trimOf}
 use Rattle.names.specs.Names.{isTemp}
-use Rattle.weight.specs.Weight.{weight}
+use Rattle.weight.specs.Inner.Weight.{weight}
 use Rattle.weight.proofs.Moves.{Fits, ended, kept, dropped, fits-weight}
 use Rattle.reading.specs.Reading.{Reading, pureIn}
 use Rattle.reading.specs.Assign.{isAssign, leftOf, rightOf}
 use Rattle.temps.specs.Temps.{declaredIn, tempRead, deadTemp, tempAct, tempActs, pruneDeadTempsActs, pruneDeadTemps}
-use Rattle.temps.specs.Scratch.{tempGoes}
+use Rattle.temps.specs.Inner.Scratch.{tempGoes}
 
 -- a line goes or stays, and nothing else
 pub temp-act : (R : Reading) (ls : List (List ℕ)) (l : List ℕ) → tempAct R ls l ≡ cond (tempGoes R ls l) gone keep

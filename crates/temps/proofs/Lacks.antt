@@ -17,7 +17,7 @@ use Rattle.reading.specs.Reading.{Reading, plain}
 use Rattle.reading.specs.Assign.{unended, isAssign, leftOf}
 use Rattle.lines.proofs.Lacking.{lines-lack}
 use Rattle.temps.specs.Temps.{tempAct, tempActs, pruneDeadTempsActs, pruneDeadTemps}
-use Rattle.temps.specs.Scratch.{tempIn, scratchLine, tempScratch}
+use Rattle.temps.specs.Inner.Scratch.{tempIn, scratchLine, tempScratch}
 
 -- ---- parts of a text
 

@@ -6,7 +6,7 @@ use mathlib.Core.List.{List, [], _∷_, _++_}
 use native.Mathlib.Omega.{arith}
 use lib.ListN.{length, drop, length-take, length-drop, length-append}
 use Rattle.lines.specs.Lf.{part, upTo, linesOf, unlines}
-use Rattle.lines.specs.Out.{putAt, Wrote}
+use Rattle.lines.specs.Inner.Out.{putAt, Wrote}
 use Rattle.lines.specs.Acts.{keep, gone, act, apply}
 use Rattle.lines.proofs.Tests.{and-false, and-true}
 use Rattle.lines.proofs.LfLaws.{lines-at, lines-end}
@@ -21,7 +21,7 @@ use Rattle.reading.specs.Reading.{Reading, plain, pureIn}
 use Rattle.reading.specs.Assign.{isAssign, leftOf, rightOf}
 use Rattle.reading.proofs.AssignLaws.{part-le, trim-le, right-le}
 use Rattle.temps.specs.Temps.{declaredIn, tempRead, deadTemp, tempAct, tempActs, pruneDeadTempsActs, pruneDeadTemps}
-use Rattle.temps.specs.Scratch.{tempGoes, tempText, scratchLine, tempScratch}
+use Rattle.temps.specs.Inner.Scratch.{tempGoes, tempText, scratchLine, tempScratch}
 
 -- ---- one line
 

@@ -15,17 +15,19 @@ use Rattle.lines.proofs.Tests.{no, or-true, or-false, and-true, and-false}
 use Rattle.lines.proofs.LfLaws.{lines-at, lines-end, parts-at, parts-at-end, part-more, part-none}
 use Rattle.text.specs.Class.{isName}
 use Rattle.text.specs.Trim.{trimOf}
-use Rattle.names.specs.Names.{zeros, decimal, tempWord, numberOf, numberAfter, isTemp}
+use Rattle.names.specs.Names.{decimal, tempWord, numberOf, isTemp}
+use Rattle.names.specs.Inner.Names.{zeros, numberAfter}
 use Rattle.names.specs.declared.Number.{Number}
 use Rattle.names.specs.declared.Number.the-variants as number
 use Rattle.names.proofs.Texts.{after-number, after-read, after-copied}
 use Rattle.parse.specs.Parse.{letWord, bodyOf}
 use Rattle.place.specs.Region.{varWord, constWord}
-use Rattle.words.specs.Runs.{flush, runsGo, runs, countBy, wordsOf}
+use Rattle.words.specs.Runs.{flush, runsGo, runs, countBy}
+use Rattle.words.specs.Inner.Runs.{wordsOf}
 use Rattle.words.proofs.Walk.{go-name, go-gap, go-none}
 use Rattle.reading.specs.Assign.{isAssign, leftOf}
 use Rattle.temps.specs.Temps.{anyPiece, declares, tempReads, declaredIn, tempRead}
-use Rattle.temps.specs.Table.{slotOf, flagAt, flagPieces, flagDecl, flagDecls, skipAfter, flagRun, flagRuns, flagReads, flagLines, anyFlag, readsIf, flagBy, Tells, TellsOf}
+use Rattle.temps.specs.Inner.Table.{slotOf, flagAt, flagPieces, flagDecl, flagDecls, skipAfter, flagRun, flagRuns, flagReads, flagLines, anyFlag, readsIf, flagBy, Tells, TellsOf}
 use Rattle.temps.specs.declared.table.Flag.{Flag}
 use Rattle.temps.specs.declared.table.Flag.the-variants as flag
 use Rattle.temps.proofs.TempLaws.{reads-bind, reads-words}

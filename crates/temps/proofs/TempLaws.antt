@@ -15,7 +15,7 @@ use Rattle.names.specs.Names.{tempWord, allDigits, isTemp}
 use Rattle.names.proofs.Texts.{temp-names}
 use Rattle.parse.specs.Parse.{letWord}
 use Rattle.place.specs.Region.{varWord, constWord}
-use Rattle.words.specs.Runs.{wordsOf}
+use Rattle.words.specs.Inner.Runs.{wordsOf}
 use Rattle.words.proofs.HitLaws.{hits-words}
 use Rattle.reading.specs.Assign.{isAssign, leftOf}
 use Rattle.temps.specs.Temps.{anyPiece, declares, tempReads, declaredIn, tempRead}

@@ -1,3 +1,2 @@
 pub mod Temps
-pub mod Scratch
-pub mod Table
+pub mod Inner

@@ -8,15 +8,15 @@ ghost use Prim.Native.Nat.{ℕ, _≤_, _+_};
 ghost use lib.Dec.{eqb};
 ghost use lib.ListN.{length, getD};
 ghost use Rattle.lines.specs.Lf.{partsOf, linesOf, unlines, prefixed, same};
-ghost use Rattle.lines.specs.Out.{Wrote};
+ghost use Rattle.lines.specs.Inner.Out.{Wrote};
 ghost use Rattle.names.specs.Names.{isDigit, isTemp};
 ghost use Rattle.parse.specs.Parse.{letWord};
 ghost use Rattle.place.specs.Region.{varWord, constWord};
 ghost use Rattle.reading.specs.Reading.{plain};
 ghost use Rattle.reading.specs.Assign.{isAssign, leftOf};
 ghost use Rattle.temps.specs.Temps.{anyPiece, declares, tempReads, declaredIn, tempRead, pruneDeadTemps};
-ghost use Rattle.temps.specs.Scratch.{tempIn, tempGoes, tempText, scratchLine, tempScratch};
-ghost use Rattle.temps.specs.Table.{Tells, TellsOf};
+ghost use Rattle.temps.specs.Inner.Scratch.{tempIn, tempGoes, tempText, scratchLine, tempScratch};
+ghost use Rattle.temps.specs.Inner.Table.{Tells, TellsOf};
 
 // Whether one of the pieces between the commas, trimmed, is a name.
 fn any_piece(s: &[u8], name: &[u8]) -> bool

@@ -4,7 +4,7 @@ ghost use mathlib.Core.Path.{_≡_};
 ghost use lib.ListN.{set};
 ghost use Rattle.lines.specs.Lf.{partsOf, linesOf};
 ghost use Rattle.words.specs.Runs.{runs};
-ghost use Rattle.temps.specs.Table.{slotOf, flagAt, flagPieces, flagDecl, flagDecls, skipAfter, flagRun, flagRuns, flagReads, flagLines, anyFlag, readsIf, flagBy};
+ghost use Rattle.temps.specs.Inner.Table.{slotOf, flagAt, flagPieces, flagDecl, flagDecls, skipAfter, flagRun, flagRuns, flagReads, flagLines, anyFlag, readsIf, flagBy};
 
 // What a table says of a name: whether its flag is set, or that the table does not reach to it.
 pub enum Flag {

@@ -8,7 +8,8 @@ use borrow.Author.Tests.{ne-eqb, leb-true, leb-false}
 use lib.Dec.{T, eqb, leb, eqb→eq}
 use lib.ListN.{getD, length}
 use Rattle.lines.proofs.Tests.{is-in, is-above, is-out}
-use Rattle.text.specs.Class.{isName, isQuote, opensPattern, classOf}
+use Rattle.text.specs.Class.{isName, isQuote, opensPattern}
+use Rattle.text.specs.Inner.Class.{classOf}
 use Rattle.text.proofs.Table.{every, at}
 
 -- the table of `class`

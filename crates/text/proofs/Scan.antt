@@ -12,7 +12,8 @@ use lib.ListN.{length, getD, drop}
 use lib.Seq.{drop-cons, drop-drop}
 use Rattle.lines.specs.Lf.{all}
 use Rattle.lines.proofs.Tests.{and-left, and-right, is-in}
-use Rattle.text.specs.Utf8Form.{seqLen, scan, badOr, isAscii}
+use Rattle.text.specs.Utf8Form.{seqLen, scan, badOr}
+use Rattle.text.specs.Inner.Utf8Form.{isAscii}
 use Rattle.text.specs.declared.Utf8.{Utf8}
 use Rattle.text.specs.declared.Utf8.the-variants.{Valid, Bad}
 

@@ -1,8 +1,7 @@
 -- The classes of bytes.
 use Prim.Native.Nat.{ℕ}
 use Prim.Native.Char.{code}
-use mathlib.Core.Bool.{Bool, cond, _||_}
-use mathlib.Core.List.{List, [], _∷_}
+use mathlib.Core.Bool.{Bool, _||_}
 use lib.Dec.{eqb}
 use Rattle.lines.specs.Ascii.{ascii}
 use Rattle.lines.specs.Lf.{within, among}
@@ -19,7 +18,3 @@ isQuote b = among (ascii "\"'`") b
 abbrev pub opensPattern : ℕ → Bool
 opensPattern b =
     among (ascii "=(,:[!&|?{};+-*%^~<>") b
-
--- 1 a byte of a name, 2 a quote, 3 one after which `/` starts a pattern, 0 any other
-unfoldable pub classOf : ℕ → ℕ
-classOf b = cond (isName b) 1 (cond (isQuote b) 2 (cond (opensPattern b) 3 0))

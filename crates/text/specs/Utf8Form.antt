@@ -2,7 +2,6 @@
 use Prim.Native.Nat.{ℕ, zero, suc}
 use mathlib.Core.Bool.{Bool, true, false, cond, _&&_}
 use mathlib.Core.List.{List, [], _∷_}
-use lib.Dec.{ltb}
 use lib.ListN.{length}
 use Rattle.lines.specs.Lf.{within}
 use Rattle.text.specs.declared.Utf8.{Utf8}
@@ -50,7 +49,3 @@ scan zero i (x ∷ xs) = badOr (seqLen (x ∷ xs)) i (λ k. scan k (suc i) xs)
 
 unfoldable pub utf8Of : List ℕ → Utf8
 utf8Of l = scan 0 0 l
-
--- a byte that is a sequence by itself: UTF8-1
-abbrev pub isAscii : ℕ → Bool
-isAscii x = ltb x 0x80

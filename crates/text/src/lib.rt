@@ -7,9 +7,11 @@ ghost use lib.ListN.{getD, take, drop, length};
 ghost use lib.Dec.{leb};
 ghost use Rattle.text.specs.Trim.{whiteChar, whiteHead, whiteTail, fromOf, endWhite, toOf, toEnd, trimOf};
 ghost use Rattle.lines.specs.Lf.{within, all, part};
-ghost use Rattle.text.specs.Class.{isName, isQuote, opensPattern, classOf};
+ghost use Rattle.text.specs.Class.{isName, isQuote, opensPattern};
+ghost use Rattle.text.specs.Inner.Class.{classOf};
 ghost use Rattle.text.specs.White.{isWhite};
-ghost use Rattle.text.specs.Utf8Form.{seqLen, utf8Of, isAscii};
+ghost use Rattle.text.specs.Utf8Form.{seqLen, utf8Of};
+ghost use Rattle.text.specs.Inner.Utf8Form.{isAscii};
 
 // The class of each byte: 1 a byte of a name, 2 a quote, 3 one after which `/` starts a pattern, 0 any other.
 const CLASSES: [u8; 256] = [

@@ -8,7 +8,7 @@ use lib.ListN.{length, length-take, length-drop, length-map}
 use Rattle.lines.specs.Lf.{part, countOf, linesOf, unlines}
 use Rattle.lines.specs.Steps.{dropCr, splitLines}
 use Rattle.lines.proofs.Counts.{drop-counts}
-use Rattle.weight.specs.Weight.{weight}
+use Rattle.weight.specs.Inner.Weight.{weight}
 use Rattle.weight.proofs.Weigh.{length-weight, weight-twice}
 use Rattle.weight.proofs.Moves.{lines-weight}
 use Rattle.words.specs.Hits.{glueLeft, glueRight, glued, replacedAt}

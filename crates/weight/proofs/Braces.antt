@@ -8,7 +8,7 @@ use native.Mathlib.Nat.{mul-le-mul-left}
 use borrow.Author.Tests.{leb-true, leb-false}
 use lib.Dec.{eqb, leb}
 use Rattle.lines.specs.Lf.{countOf}
-use Rattle.weight.specs.Weight.{spaced, extra, weight}
+use Rattle.weight.specs.Inner.Weight.{spaced, extra, weight}
 
 -- each `{` weighs h more
 pub weight-braces : (h : ℕ) (s : List ℕ) → weight h s ≡ weight 0 s + h * countOf 123 s

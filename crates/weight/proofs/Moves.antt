@@ -16,7 +16,7 @@ use Rattle.parse.specs.Parse.{letWord}
 use Rattle.names.specs.Names.{regText}
 use Rattle.words.specs.Hits.{glueLeft, glueRight, glued}
 use Rattle.lines.specs.Acts.{Act, keep, become, into, gone, act, apply}
-use Rattle.weight.specs.Weight.{spaced, extra, weight}
+use Rattle.weight.specs.Inner.Weight.{spaced, extra, weight}
 use Rattle.weight.proofs.Weigh.{extra-le, length-weight, weight-twice, weight-append, weight-cut, weight-swap, weight-line, nothing}
 use Rattle.weight.proofs.Pays.{Pays, done, step, pays}
 

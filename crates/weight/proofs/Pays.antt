@@ -7,7 +7,7 @@ use native.Mathlib.Omega.{arith}
 use lib.ListN.{length, take, drop, getD}
 use Rattle.lines.specs.Lf.{unlines}
 use Rattle.lines.specs.Acts.{Act, keep, become, into, gone, act, apply}
-use Rattle.weight.specs.Weight.{weight}
+use Rattle.weight.specs.Inner.Weight.{weight}
 use Rattle.weight.proofs.Weigh.{weight-line, weight-lines}
 
 -- c is the credit that the lines above left, d what a line leaves

@@ -7,7 +7,7 @@ use native.Mathlib.Omega.{arith}
 use lib.ListN.{length, take, drop, getD, length-append, take-append-drop}
 use lib.Dec.{eqb}
 use Rattle.lines.specs.Lf.{part, unlines}
-use Rattle.weight.specs.Weight.{spaced, extra, weight}
+use Rattle.weight.specs.Inner.Weight.{spaced, extra, weight}
 
 pub extra-le : (c s : Bool) → extra c s ≤ 1
 unfolding extra

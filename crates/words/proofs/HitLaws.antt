@@ -14,7 +14,7 @@ use Rattle.text.specs.Class.{isName}
 use Rattle.names.specs.Names.{allNames}
 use Rattle.lines.proofs.Compare.{same-refl}
 use Rattle.names.proofs.Equal.{same-not, front-append, front-of}
-use Rattle.words.specs.Runs.{wordsOf, upBy, runLen, walk, placeBy, runHits}
+use Rattle.words.specs.Inner.Runs.{wordsOf, upBy, runLen, walk, placeBy, runHits}
 use Rattle.words.specs.Hits.{hitHere, hitsGo, hits}
 use Rattle.words.proofs.RunLaws.{up-le, up-done, walk-off, walk-run, place-run, hits-count}
 

@@ -9,7 +9,8 @@ use borrow.Author.Tests.{le-ltb, lt-ltb}
 use lib.Dec.{eqb}
 use lib.ListN.{length, take, drop, getD, length-append, length-take, length-drop, take-append-drop}
 use lib.Seq.{drop-drop, take-append-seam}
-use Rattle.lines.specs.Lf.{part, prefixed, same, lacks, all}
+use Rattle.lines.specs.Lf.{part, prefixed, same, all}
+use Rattle.lines.specs.Inner.Lf.{lacks}
 use Rattle.lines.proofs.LfLaws.{lacks-append, lacks-take, lacks-drop}
 use Rattle.lines.proofs.Tests.{and-left, and-right, and-both, eqb-sym}
 use Rattle.text.specs.Class.{isName}
@@ -19,7 +20,7 @@ use Rattle.names.proofs.Decimal.{decimal-long}
 use Rattle.lines.proofs.Compare.{same-eq}
 use Rattle.names.proofs.Equal.{front-of, same-front}
 use Rattle.names.proofs.Texts.{reg-text-names}
-use Rattle.words.specs.Runs.{runLen, runHitsFrom, runHits, hitsAt, Next}
+use Rattle.words.specs.Inner.Runs.{runLen, runHitsFrom, runHits, hitsAt, Next}
 use Rattle.words.specs.declared.Hit.the-variants.{One, Not}
 use Rattle.words.specs.Hits.{hitHere, hitsGo, hits, oneHit, regHit, glueLeft, glueRight, glued, replacedAt}
 use Rattle.words.proofs.RunLaws.{run-length}

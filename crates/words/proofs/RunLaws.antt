@@ -14,7 +14,8 @@ use Rattle.lines.proofs.Tests.{no}
 use Rattle.text.specs.Class.{isName}
 use Rattle.names.specs.Names.{regOf, regIs, regText}
 use Rattle.names.proofs.Texts.{reg-text-is}
-use Rattle.words.specs.Runs.{flush, runsGo, runs, countBy, readsOf, wordsOf, upBy, gapLen, runLen, regGap, joined, walk, placeBy, runHitsFrom, runHits, Next}
+use Rattle.words.specs.Runs.{flush, runsGo, runs, countBy, readsOf}
+use Rattle.words.specs.Inner.Runs.{wordsOf, upBy, gapLen, runLen, regGap, joined, walk, placeBy, runHitsFrom, runHits, Next}
 
 -- ---- the first byte that passes a test
 

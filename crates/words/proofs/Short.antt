@@ -15,7 +15,7 @@ use Rattle.lines.proofs.LfLaws.{upTo-le, find-here, find-on}
 use Rattle.lines.proofs.Tests.{no, and-false, and-true, and-left, and-right, and-both, eqb-sym}
 use Rattle.text.specs.Class.{isName}
 use Rattle.names.specs.Names.{decimal, decimalBy, regText}
-use Rattle.words.specs.Runs.{upBy, runLen, joined, shortAt, walk, runHitsFrom, Next}
+use Rattle.words.specs.Inner.Runs.{upBy, runLen, joined, shortAt, walk, runHitsFrom, Next}
 use Rattle.words.specs.Hits.{hitHere, hitsGo}
 use Rattle.words.proofs.HitLaws.{agree, hits-any}
 

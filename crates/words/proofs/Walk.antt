@@ -12,7 +12,8 @@ use lib.Seq.{drop-cons}
 use Rattle.lines.specs.Lf.{part}
 use Rattle.lines.proofs.LfLaws.{part-more, part-none}
 use Rattle.text.specs.Class.{isName}
-use Rattle.words.specs.Runs.{flush, runsGo, runs, gapLen, runLen, regGap, walk}
+use Rattle.words.specs.Runs.{flush, runsGo, runs}
+use Rattle.words.specs.Inner.Runs.{gapLen, runLen, regGap, walk}
 use Rattle.words.proofs.RunLaws.{walk-next, walk-regs, run-some, reg-stands}
 
 -- a name byte goes on with the open run, another one ends it

@@ -6,9 +6,10 @@ ghost use Prim.Native.Nat.{ℕ, _+_, _-_, _≤_, _<_};
 ghost use lib.Dec.{eqb};
 ghost use lib.ListN.{length, drop, getD};
 ghost use Rattle.lines.specs.Lf.{same, suffixed};
-ghost use Rattle.lines.specs.Out.{Wrote};
+ghost use Rattle.lines.specs.Inner.Out.{Wrote};
 ghost use Rattle.names.specs.Names.{regText, phiText};
-ghost use Rattle.words.specs.Runs.{gapLen, runLen, regGap, joined, shortAt, readsOf, wordsOf, Next};
+ghost use Rattle.words.specs.Runs.{readsOf};
+ghost use Rattle.words.specs.Inner.Runs.{gapLen, runLen, regGap, joined, shortAt, wordsOf, Next};
 ghost use Rattle.words.specs.Hits.{regHit, afterNew, asTarget, glueLeft, glueRight, glued, replacedAt};
 
 // The one place of a search, or not exactly one.

@@ -12,7 +12,7 @@ use Rattle.lines.proofs.OutLaws.{wrote-as}
 use Rattle.lines.specs.Lf.{part, partsOf}
 use Rattle.text.specs.Trim.{fromOf, trimOf}
 use Rattle.decls.proofs.Writes.{decl-long}
-use Rattle.bind.specs.Steps.{lineOf, boundAt, markRow, otherText}
+use Rattle.bind.specs.Inner.Steps.{lineOf, boundAt, markRow, otherText}
 use Rattle.bind.proofs.SiteLaws.{noted-none, gives-no, gives-yes, text-other, marks-other, text-decl, marks-decl}
 use Rattle.bind.proofs.bind_decl.Statement.{statement}
 use Rattle.bind.proofs.bind_decl.Tie as tie

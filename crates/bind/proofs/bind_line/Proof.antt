@@ -8,7 +8,7 @@ use mathlib.Core.List.{List}
 use lib.ListN.{length, getD}
 use Rattle.lines.proofs.OutLaws.{wrote-as}
 use Rattle.text.specs.Trim.{trimOf}
-use Rattle.bind.specs.Steps.{lineOf, boundAt, markRow, otherText}
+use Rattle.bind.specs.Inner.Steps.{lineOf, boundAt, markRow, otherText}
 use Rattle.bind.proofs.SiteLaws.{front-other, text-other, marks-other}
 use Rattle.bind.proofs.bind_line.Statement.{statement}
 use Rattle.bind.proofs.bind_line.Tie as tie

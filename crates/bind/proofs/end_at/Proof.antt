@@ -5,7 +5,7 @@ use native.Mathlib.Omega.{arith}
 use borrow.Author.Needs.{needs}
 use borrow.Author.Tests.{eq-eqb, ne-eqb}
 use lib.ListN.{length}
-use Rattle.bind.specs.Sites.{stopBy}
+use Rattle.bind.specs.Inner.Sites.{stopBy}
 use Rattle.bind.proofs.end_at.Statement.{statement}
 use Rattle.bind.proofs.end_at.Tie as tie
 

@@ -1,6 +1,6 @@
 -- `bind::first_site` meets its contract. Assumes nothing.
 use mathlib.Core.Path.{refl}
-use Rattle.bind.specs.Sites.{firstSite}
+use Rattle.bind.specs.Inner.Sites.{firstSite}
 use Rattle.bind.proofs.first_site.Statement.{statement}
 use Rattle.bind.proofs.first_site.Tie as tie
 

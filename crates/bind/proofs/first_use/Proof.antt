@@ -5,7 +5,7 @@ use borrow.Author.Needs.{needs}
 use mathlib.Core.Path.{_≡_, refl, sym, _∙_}
 use lib.ListN.{length, drop}
 use Rattle.lines.specs.Lf.{linesOf}
-use Rattle.bind.specs.Steps.{useRow}
+use Rattle.bind.specs.Inner.Steps.{useRow}
 use Rattle.bind.proofs.CountLaws.{use-hit, use-on, use-end, rows-on}
 use Rattle.bind.proofs.first_use.Statement.{statement}
 use Rattle.bind.proofs.first_use.Tie as tie

@@ -2,7 +2,7 @@
 use borrow.Author.Needs.{needs}
 use mathlib.Core.Bool.{not}
 use mathlib.Core.Path.{sym, ap, _∙_}
-use Rattle.bind.specs.Steps.{boundAt, fails}
+use Rattle.bind.specs.Inner.Steps.{boundAt, fails}
 use Rattle.bind.proofs.is_left.Statement.{statement}
 use Rattle.bind.proofs.is_left.Tie as tie
 

@@ -1,7 +1,7 @@
 -- `bind::mark_name` meets its contract. Assumes nothing.
 use borrow.Author.Needs.{needs}
 use Rattle.bind.proofs.SiteLaws.{noted-other, noted-kept, noted-new, mark-lt}
-use Rattle.bind.specs.Steps.{boundAt, markRow, passes}
+use Rattle.bind.specs.Inner.Steps.{boundAt, markRow, passes}
 use borrow.Author.Tests.{not-true, not-false}
 use mathlib.Core.Path.{sym, ap, _∙_}
 use native.Mathlib.Omega.{arith}

@@ -9,7 +9,7 @@ use lib.ListN.{length, drop}
 use Rattle.lines.specs.Lf.{partsOf}
 use Rattle.lines.proofs.LfLaws.{find-le}
 use Rattle.names.specs.Names.{regOf}
-use Rattle.bind.specs.Steps.{boundAt, markRow, passes, anyPass, notedAll}
+use Rattle.bind.specs.Inner.Steps.{boundAt, markRow, passes, anyPass, notedAll}
 use Rattle.bind.proofs.SiteLaws.{pass-on, pass-last, noted-length, noted-on, noted-last}
 use Rattle.bind.proofs.mark_names.Statement.{statement}
 use Rattle.bind.proofs.mark_names.Tie as tie

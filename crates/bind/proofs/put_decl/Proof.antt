@@ -6,7 +6,7 @@ use lib.ListN.{length}
 use Rattle.lines.proofs.OutLaws.{wrote-length, writing-length}
 use Rattle.lines.proofs.LfLaws.{find-le}
 use Rattle.decls.proofs.PrintLaws.{DeclInv, decl-start, decl-room, decl-on, decl-end-room, decl-end}
-use Rattle.bind.specs.Steps.{boundAt, left}
+use Rattle.bind.specs.Inner.Steps.{boundAt, left}
 use Rattle.bind.proofs.put_decl.Statement.{statement}
 use Rattle.bind.proofs.put_decl.Tie as tie
 

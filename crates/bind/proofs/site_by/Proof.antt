@@ -5,7 +5,7 @@ use borrow.Author.Needs.{needs}
 use mathlib.Core.Bool.{cond}
 use lib.Dec.{eqb}
 use lib.ListN.{length}
-use Rattle.bind.specs.Sites.{siteOf}
+use Rattle.bind.specs.Inner.Sites.{siteOf}
 use Rattle.bind.proofs.site_by.Statement.{statement}
 use Rattle.bind.proofs.site_by.Tie as tie
 

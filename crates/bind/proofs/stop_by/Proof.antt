@@ -3,7 +3,7 @@ use Prim.Native.Nat.{_-_, _%_}
 use mathlib.Core.Path.{_≡_, refl, sym, _∙_}
 use native.Mathlib.Omega.{arith}
 use borrow.Author.Needs.{needs}
-use Rattle.bind.specs.Sites.{stopBy}
+use Rattle.bind.specs.Inner.Sites.{stopBy}
 use Rattle.bind.proofs.Turns.{stop-on, stop-here, stop-end}
 use Rattle.bind.proofs.stop_by.Statement.{statement}
 use Rattle.bind.proofs.stop_by.Tie as tie

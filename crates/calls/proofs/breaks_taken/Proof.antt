@@ -8,7 +8,7 @@ use Rattle.lines.proofs.LfLaws.{find-le}
 use Rattle.lines.proofs.Tests.{so}
 use Rattle.lexical.specs.Idents.{wordsIn}
 use Rattle.forms.specs.Breaks.{breaksWith}
-use Rattle.calls.specs.Steps.{breaksDown}
+use Rattle.calls.specs.Inner.Steps.{breaksDown}
 use Rattle.calls.proofs.StepLaws.{down-end, down-short, down-hit, down-on}
 use Rattle.calls.proofs.breaks_taken.Statement.{statement}
 use Rattle.calls.proofs.breaks_taken.Tie as tie

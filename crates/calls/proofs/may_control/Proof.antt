@@ -1,6 +1,6 @@
 use Prim.Native.Nat.{ℕ}
 use mathlib.Core.Path.{ap, _∙_}
-use Rattle.calls.specs.Steps.{isSecond}
+use Rattle.calls.specs.Inner.Steps.{isSecond}
 use Rattle.calls.proofs.Signs.{may-second, may-colon, may-brace}
 use borrow.Author.Needs.{needs}
 use Rattle.calls.proofs.may_control.Statement.{statement}

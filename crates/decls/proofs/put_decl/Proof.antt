@@ -4,7 +4,7 @@ use borrow.Author.Needs.{needs}
 use lib.ListN.{length}
 use Rattle.lines.specs.Lf.{linesOf}
 use Rattle.lines.proofs.OutLaws.{wrote-length, writing-length}
-use Rattle.decls.specs.Decls.{stays}
+use Rattle.decls.specs.Inner.Decls.{stays}
 use Rattle.decls.proofs.PrintLaws.{DeclInv, decl-start, decl-room, decl-on, decl-end-room, decl-end}
 use Rattle.lines.proofs.LfLaws.{find-le}
 use Rattle.decls.proofs.put_decl.Statement.{statement}

@@ -2,7 +2,7 @@
 use borrow.Author.Needs.{needs}
 use mathlib.Core.Path.{sym, ap, _∙_}
 use Rattle.lines.specs.Lf.{linesOf}
-use Rattle.decls.specs.Decls.{staysBy}
+use Rattle.decls.specs.Inner.Decls.{staysBy}
 use Rattle.decls.proofs.stays_in.Statement.{statement}
 use Rattle.decls.proofs.stays_in.Tie as tie
 

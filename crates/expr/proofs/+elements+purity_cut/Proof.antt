@@ -10,7 +10,8 @@ use mathlib.Core.Bool.{cond}
 use lib.ListN.{length, getD, length-take, length-drop}
 use Rattle.lines.specs.Lf.{part}
 use Rattle.expr.specs.declared.kinds.Purity.the-variants.{Stable, Effectful}
-use Rattle.expr.specs.Pure.{isPure, pureBy, purityCut}
+use Rattle.expr.specs.Pure.{isPure, pureBy}
+use Rattle.expr.specs.Inner.Pure.{purityCut}
 use Rattle.expr.proofs.PureLaws.{array-long, trim-le}
 use Rattle.expr.proofs.WalkLaws.{walk, walk-comma, walk-stop, walk-byte, walk-end, part-falls, opens-le, closes-le, cut-plain, cut-array}
 use Rattle.expr.proofs.elements.Reads as elements

@@ -4,7 +4,7 @@ use mathlib.Core.Path.{sym, ap, _∙_}
 use native.Mathlib.Omega.{arith}
 use lib.Seq.{length-take-le}
 use Rattle.lines.proofs.OutLaws.{wrote-part}
-use Rattle.expr.specs.Pure.{purityCut}
+use Rattle.expr.specs.Inner.Pure.{purityCut}
 use Rattle.expr.proofs.PureLaws.{purity-once}
 use Rattle.expr.proofs.purity.Statement.{statement}
 use Rattle.expr.proofs.purity.Tie as tie

@@ -3,7 +3,7 @@ use Prim.Native.Nat.{_+_, _-_}
 use native.Mathlib.Omega.{arith}
 use mathlib.Core.Path.{_≡_, refl}
 use lib.ListN.{length, drop}
-use Rattle.forms.specs.Breaks.{startLen}
+use Rattle.forms.specs.Inner.Breaks.{startLen}
 use Rattle.forms.proofs.BreaksLaws.{start-here, start-on, start-end}
 use Rattle.forms.proofs.find_start.Statement.{statement}
 use Rattle.forms.proofs.find_start.Tie as tie

@@ -4,7 +4,7 @@ use Prim.Native.Nat.{ℕ, _-_}
 use mathlib.Core.Path.{_≡_, ap, _∙_}
 use native.Mathlib.Omega.{arith}
 use lib.ListN.{take}
-use Rattle.lexical.specs.Plain.{lowTail}
+use Rattle.lexical.specs.Inner.Plain.{lowTail}
 use Rattle.lexical.proofs.front_tail.Statement.{statement}
 use Rattle.lexical.proofs.front_tail.Tie as tie
 use Rattle.lexical.proofs.front_tail.Reads as reads

@@ -1,6 +1,6 @@
 -- `lexical::grow` meets its contract. Assumes nothing.
 use borrow.Author.Needs.{needs}
-use Rattle.lexical.specs.Lex.{grown}
+use Rattle.lexical.specs.Inner.Lex.{grown}
 use Rattle.lexical.proofs.grow.Statement.{statement}
 use Rattle.lexical.proofs.grow.Tie as tie
 use Rattle.lexical.proofs.grow.Reads as reads

@@ -7,7 +7,7 @@ use lib.ListN.{length}
 use Rattle.lines.specs.Lf.{part}
 use Rattle.lines.proofs.LfLaws.{rest-of}
 use Rattle.lines.proofs.Tests.{so}
-use Rattle.lexical.specs.Plain.{lowLast}
+use Rattle.lexical.specs.Inner.Plain.{lowLast}
 use Rattle.lexical.proofs.PlainLaws.{low-here, low-on, low-none}
 use Rattle.lexical.proofs.low_end.Statement.{statement}
 use Rattle.lexical.proofs.low_end.Tie as tie

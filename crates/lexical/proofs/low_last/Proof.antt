@@ -1,7 +1,7 @@
 -- `lexical::low_last` meets its contract. Assumes nothing.
 use borrow.Author.Needs.{needs}
 use mathlib.Core.Path.{ap, _∙_}
-use Rattle.lexical.specs.Plain.{lowLast}
+use Rattle.lexical.specs.Inner.Plain.{lowLast}
 use Rattle.lexical.proofs.low_last.Statement.{statement}
 use Rattle.lexical.proofs.low_last.Tie as tie
 use Rattle.lexical.proofs.low_last.Reads as reads

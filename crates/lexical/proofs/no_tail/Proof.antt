@@ -1,7 +1,8 @@
 -- `lexical::no_tail` meets its contract. Assumes nothing.
 use mathlib.Core.Path.{refl}
 use Rattle.text.specs.Trim.{endWhite, toOf}
-use Rattle.lexical.specs.Lex.{lastOf, tailOf}
+use Rattle.lexical.specs.Lex.{lastOf}
+use Rattle.lexical.specs.Inner.Lex.{tailOf}
 use Rattle.lexical.proofs.no_tail.Statement.{statement}
 use Rattle.lexical.proofs.no_tail.Tie as tie
 use Rattle.lexical.proofs.no_tail.Reads as reads

@@ -4,7 +4,7 @@ use mathlib.Core.Path.{_≡_, refl, sym, _∙_}
 use native.Mathlib.Omega.{arith}
 use borrow.Author.Needs.{needs}
 use lib.ListN.{length}
-use Rattle.lexical.specs.Plain.{plainLen}
+use Rattle.lexical.specs.Inner.Plain.{plainLen}
 use Rattle.lexical.proofs.EndLaws.{ends}
 use Rattle.lexical.proofs.MildLaws.{tame-on}
 use Rattle.lexical.proofs.plain_end.Statement.{statement}

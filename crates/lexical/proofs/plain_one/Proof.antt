@@ -5,7 +5,7 @@ use native.Mathlib.Omega.{arith}
 use borrow.Author.Tests.{not-true, not-false}
 use lib.ListN.{length}
 use Rattle.lines.proofs.Tests.{so}
-use Rattle.lexical.specs.Plain.{plainLen}
+use Rattle.lexical.specs.Inner.Plain.{plainLen}
 use Rattle.lexical.proofs.EndLaws.{ends}
 use Rattle.lexical.proofs.PlainLaws.{plain-more, plain-stop, plain-none}
 use Rattle.lexical.proofs.plain_one.Statement.{statement}

@@ -1,7 +1,7 @@
 use Prim.Native.Nat.{ℕ}
 use mathlib.Core.Path.{ap, _∙_}
 use Rattle.lines.specs.Lf.{part}
-use Rattle.lexical.specs.Lex.{grown}
+use Rattle.lexical.specs.Inner.Lex.{grown}
 use borrow.Author.Needs.{needs}
 use Rattle.lexical.proofs.plain_run.Statement.{statement}
 use Rattle.lexical.proofs.plain_run.Tie as tie

@@ -4,7 +4,7 @@ use native.Mathlib.Omega.{arith}
 use borrow.Author.Needs.{needs}
 use borrow.Author.Tests.{not-false}
 use lib.ListN.{length}
-use Rattle.lexical.specs.Plain.{plainLen}
+use Rattle.lexical.specs.Inner.Plain.{plainLen}
 use Rattle.lexical.proofs.EndLaws.{ends}
 use Rattle.lexical.proofs.MildLaws.{tame-on, tame-over}
 use Rattle.lexical.proofs.plain_to.Statement.{statement}

@@ -1,6 +1,6 @@
 -- `lexical::push` meets its contract. Assumes nothing.
 use borrow.Author.Needs.{needs}
-use Rattle.lexical.specs.Lex.{pushed}
+use Rattle.lexical.specs.Inner.Lex.{pushed}
 use Rattle.lexical.proofs.push.Statement.{statement}
 use Rattle.lexical.proofs.push.Tie as tie
 use Rattle.lexical.proofs.push.Reads as reads

@@ -1,6 +1,6 @@
 -- `lexical::see` meets its contract. Assumes nothing.
 use Rattle.lines.proofs.Tests.{or-false}
-use Rattle.lexical.specs.Phi.{sees}
+use Rattle.lexical.specs.Inner.Phi.{sees}
 use Rattle.lexical.proofs.see.Statement.{statement}
 use Rattle.lexical.proofs.see.Tie as tie
 use Rattle.lexical.proofs.see.Reads as reads

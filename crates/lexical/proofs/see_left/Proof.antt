@@ -1,6 +1,6 @@
 -- `lexical::see_left` meets its contract. Assumes nothing.
 use borrow.Author.Needs.{needs}
-use Rattle.lexical.specs.Phi.{seesAll}
+use Rattle.lexical.specs.Inner.Phi.{seesAll}
 use Rattle.lexical.proofs.see_left.Statement.{statement}
 use Rattle.lexical.proofs.see_left.Tie as tie
 use Rattle.lexical.proofs.see_left.Reads as reads

@@ -4,7 +4,7 @@ use mathlib.Core.Path.{ap}
 use native.Mathlib.Omega.{arith}
 use lib.ListN.{drop, length-drop}
 use Rattle.lexical.specs.declared.Token.{Token}
-use Rattle.lexical.specs.Lex.{stepOf}
+use Rattle.lexical.specs.Inner.Lex.{stepOf}
 use Rattle.lexical.proofs.TokenLaws.{size-le}
 use Rattle.lexical.proofs.LexLaws.{head-at}
 use Rattle.lexical.proofs.step_at.Statement.{statement}

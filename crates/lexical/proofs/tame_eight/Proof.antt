@@ -1,5 +1,5 @@
 use borrow.Author.Needs.{needs}
-use Rattle.lexical.specs.Plain.{tame}
+use Rattle.lexical.specs.Inner.Plain.{tame}
 use Rattle.lexical.proofs.tame_eight.Statement.{statement}
 use Rattle.lexical.proofs.tame_eight.Tie as tie
 use Rattle.lexical.proofs.tame_eight.Reads as reads

@@ -5,7 +5,7 @@ use native.Mathlib.Omega.{arith}
 use mathlib.Core.Bool.{Bool, _&&_}
 use mathlib.Core.Path.{_≡_, refl, sym, ap, _∙_}
 use lib.ListN.{length, drop, drop-of-length-le}
-use Rattle.lines.specs.Lf.{lacks}
+use Rattle.lines.specs.Inner.Lf.{lacks}
 use Rattle.lines.proofs.Tests.{and-false, and-true}
 use Rattle.lines.proofs.LfLaws.{lacks-here, lacks-on}
 use Rattle.lines.proofs.lacks.Statement.{statement}

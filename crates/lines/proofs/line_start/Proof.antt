@@ -5,7 +5,7 @@ use borrow.Author.Needs.{needs}
 use mathlib.Core.Path.{_≡_, sym, ap, _∙_}
 use lib.Count.{leading-le}
 use lib.ListN.{length}
-use Rattle.lines.specs.Lf.{lineStart}
+use Rattle.lines.specs.Inner.Lf.{lineStart}
 use Rattle.lines.proofs.Starts.{start-least, start-marked, start-unmarked}
 use Rattle.lines.proofs.line_start.Statement.{statement}
 use Rattle.lines.proofs.line_start.Tie as tie

@@ -3,7 +3,7 @@ use Prim.Native.Nat.{_≤_}
 use native.Mathlib.Omega.{arith}
 use mathlib.Core.Path.{_≡_, refl, sym, _∙_}
 use lib.ListN.{length}
-use Rattle.lines.specs.Lf.{lineStart}
+use Rattle.lines.specs.Inner.Lf.{lineStart}
 use Rattle.lines.proofs.Starts.{start-here, start-on, start-front}
 use Rattle.lines.proofs.start_one.Statement.{statement}
 use Rattle.lines.proofs.start_one.Tie as tie

@@ -2,7 +2,7 @@
 use Prim.Native.Nat.{_-_, _≤_}
 use native.Mathlib.Omega.{arith}
 use lib.ListN.{length, replicate}
-use Rattle.lines.specs.Out.{Wrote}
+use Rattle.lines.specs.Inner.Out.{Wrote}
 use Rattle.lines.proofs.OutLaws.{wrote-length}
 use Rattle.lines.proofs.OutLaws.{wipe-start, wipe-on, wipe-end}
 use Rattle.lines.proofs.wipe.Statement.{statement}

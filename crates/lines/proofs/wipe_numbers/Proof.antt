@@ -4,7 +4,7 @@ use mathlib.Core.Path.{_≡_}
 use native.Mathlib.Omega.{arith}
 use borrow.Author.Needs.{needs}
 use lib.ListN.{length, replicate, length-replicate}
-use Rattle.lines.specs.Out.{Wrote}
+use Rattle.lines.specs.Inner.Out.{Wrote}
 use Rattle.lines.proofs.OutLaws.{wrote-length, wrote-whole, wipe-start, wipe-on, wipe-end}
 use Rattle.lines.proofs.wipe_numbers.Statement.{statement}
 use Rattle.lines.proofs.wipe_numbers.Tie as tie

@@ -2,7 +2,7 @@ use Prim.Native.Nat.{_+_, _-_, _≤_}
 use native.Mathlib.Omega.{arith}
 use mathlib.Core.Path.{_≡_}
 use lib.ListN.{length, drop}
-use Rattle.names.specs.Names.{zeros}
+use Rattle.names.specs.Inner.Names.{zeros}
 use Rattle.names.proofs.Digits.{zeros-stop, zeros-on, zeros-end}
 use Rattle.names.proofs.skip_zeros.Statement.{statement}
 use Rattle.names.proofs.skip_zeros.Tie as tie

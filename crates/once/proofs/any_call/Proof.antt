@@ -4,7 +4,7 @@ use native.Mathlib.Omega.{arith}
 use mathlib.Core.Path.{_≡_, refl, sym, _∙_}
 use lib.ListN.{length, drop}
 use Rattle.lines.specs.Lf.{linesOf}
-use Rattle.once.specs.Tables.{anyCall}
+use Rattle.once.specs.Inner.Tables.{anyCall}
 use Rattle.once.proofs.CallLaws.{any-header, any-found, any-on, any-end}
 use Rattle.once.proofs.any_call.Statement.{statement}
 use Rattle.once.proofs.any_call.Tie as tie

@@ -6,7 +6,7 @@ use lib.ListN.{length, drop}
 use Rattle.lines.specs.Lf.{linesOf}
 use Rattle.lines.proofs.LfLaws.{find-le}
 use Rattle.once.specs.Once.{deadBy}
-use Rattle.once.specs.Tables.{nextIn}
+use Rattle.once.specs.Inner.Tables.{nextIn}
 use Rattle.once.proofs.Searches.{next-past, next-header, next-read, next-write, next-on, next-end}
 use Rattle.once.proofs.dead_below.Statement.{statement}
 use Rattle.once.proofs.dead_below.Tie as tie

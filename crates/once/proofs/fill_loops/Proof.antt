@@ -2,7 +2,7 @@ use borrow.Author.Needs.{needs}
 use mathlib.Core.Path.{_≡_, sym, _∙_}
 use mathlib.Core.Bool.{false}
 use Rattle.lines.specs.Lf.{linesOf}
-use Rattle.place.specs.Loops.{someLoop}
+use Rattle.place.specs.Inner.Loops.{someLoop}
 use Rattle.place.proofs.Quiet.{above-all, quiet-filled}
 use Rattle.once.proofs.fill_loops.Statement.{statement}
 use Rattle.once.proofs.fill_loops.Tie as tie

@@ -7,7 +7,7 @@ use native.Mathlib.Omega.{arith}
 use lib.ListN.{length}
 use Rattle.reading.specs.Reading.{plain}
 use Rattle.lines.specs.Lf.{linesOf}
-use Rattle.once.specs.Tables.{dropsBy, storeDrops}
+use Rattle.once.specs.Inner.Tables.{dropsBy, storeDrops}
 use Rattle.once.proofs.Blanks.{blank-less}
 use Rattle.once.proofs.Decides.{drops-at, value-room}
 use Rattle.once.proofs.line_drops.Statement.{statement}

@@ -8,7 +8,7 @@ use lib.ListN.{length}
 use Rattle.reading.specs.Reading.{plain}
 use Rattle.lines.specs.Lf.{linesOf}
 use Rattle.place.specs.Region.{region}
-use Rattle.once.specs.Tables.{forwardsBy, storeForwards}
+use Rattle.once.specs.Inner.Tables.{forwardsBy, storeForwards}
 use Rattle.once.proofs.Blanks.{blank-less}
 use Rattle.once.proofs.Decides.{forwards-at, value-room}
 use Rattle.once.proofs.line_forwards.Statement.{statement}

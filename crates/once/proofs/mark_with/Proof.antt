@@ -6,7 +6,7 @@ use lib.ListN.{length, drop}
 use Rattle.lines.specs.Lf.{linesOf}
 use Rattle.lines.proofs.LfLaws.{find-le}
 use Rattle.lines.proofs.OutLaws.{writing-length}
-use Rattle.once.specs.Tables.{Blank}
+use Rattle.once.specs.Inner.Tables.{Blank}
 use Rattle.once.proofs.Blanks.{blank-as}
 use Rattle.once.proofs.AreaLaws.{AreaInv}
 use Rattle.once.proofs.NotedFills.{rows-start, rows-on, area-begin, area-after, one-at}

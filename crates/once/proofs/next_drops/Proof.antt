@@ -5,7 +5,7 @@ use lib.ListN.{drop, getD}
 use Rattle.lines.specs.Lf.{linesOf}
 use Rattle.parse.specs.Parse.{parseOf}
 use Rattle.reading.specs.Reading.{plain}
-use Rattle.once.specs.Tables.{isSet, firstDrops}
+use Rattle.once.specs.Inner.Tables.{isSet, firstDrops}
 use Rattle.once.proofs.Told.{settled-first}
 use Rattle.once.proofs.NotedFills.{kind-first, drop-at}
 use Rattle.once.proofs.next_drops.Statement.{statement}

@@ -6,7 +6,7 @@ use mathlib.Core.Bool.{Bool, not, _&&_}
 use lib.ListN.{length, drop}
 use Rattle.lines.specs.Lf.{linesOf}
 use Rattle.lines.proofs.LfLaws.{find-le}
-use Rattle.once.specs.Tables.{readBelow}
+use Rattle.once.specs.Inner.Tables.{readBelow}
 use Rattle.once.proofs.Searches.{below-header, below-stored, below-read, below-on, below-end}
 use Rattle.once.proofs.read_below.Statement.{statement}
 use Rattle.once.proofs.read_below.Tie as tie

@@ -1,6 +1,6 @@
 use borrow.Author.Needs.{needs}
 use mathlib.Core.Path.{_≡_, sym, ap, _∙_}
-use Rattle.once.specs.Tables.{hasHit}
+use Rattle.once.specs.Inner.Tables.{hasHit}
 use Rattle.once.proofs.takes.Statement.{statement}
 use Rattle.once.proofs.takes.Tie as tie
 use Rattle.once.proofs.takes.Reads as reads

@@ -6,7 +6,8 @@ use lib.ListN.{length}
 use Rattle.reading.specs.Reading.{plain}
 use Rattle.limits.specs.declared.Answer.the-variants.{Done}
 use Rattle.limits.specs.Answer.{isDone}
-use Rattle.passes.specs.Passes.{stepsOf, resultOf}
+use Rattle.passes.specs.Passes.{resultOf}
+use Rattle.passes.specs.Inner.Passes.{stepsOf}
 use Rattle.limits.specs.Entry.{isShort, checked}
 use Rattle.limits.proofs.AnswerLaws.{done-by, done-not, accepted-by, out-kept, answer-refused, answer-accepted}
 use Rattle.opt.proofs.EntryLaws.{long-by, all-kept, all-wiped}

@@ -3,7 +3,7 @@ use native.Mathlib.Omega.{arith}
 use mathlib.Core.Path.{_≡_, refl}
 use lib.ListN.{length, drop, getD}
 use borrow.Author.Needs.{needs}
-use Rattle.parse.specs.Parse.{digitsLen}
+use Rattle.parse.specs.Inner.Parse.{digitsLen}
 use Rattle.parse.proofs.Plain.{digits-here, digits-on, digits-end, digit-test}
 use Rattle.parse.proofs.digits_end.Statement.{statement}
 use Rattle.parse.proofs.digits_end.Tie as tie

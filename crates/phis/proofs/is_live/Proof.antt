@@ -3,7 +3,7 @@ use borrow.Author.Needs.{needs}
 use mathlib.Core.Path.{sym, ap, _∙_}
 use mathlib.Core.Bool.{not}
 use Rattle.lines.specs.Lf.{linesOf}
-use Rattle.phis.specs.Rounds.{liveBy}
+use Rattle.phis.specs.Inner.Rounds.{liveBy}
 use Rattle.phis.proofs.is_live.Statement.{statement}
 use Rattle.phis.proofs.is_live.Tie as tie
 

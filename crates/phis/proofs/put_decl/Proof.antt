@@ -8,7 +8,7 @@ use Rattle.lines.specs.Lf.{linesOf}
 use Rattle.lines.proofs.OutLaws.{wrote-length, writing-length}
 use Rattle.text.specs.Trim.{trimOf}
 use Rattle.decls.proofs.PrintLaws.{DeclInv, decl-start, decl-room, decl-on, decl-end-room, decl-end}
-use Rattle.phis.specs.Rounds.{live}
+use Rattle.phis.specs.Inner.Rounds.{live}
 use Rattle.phis.proofs.put_decl.Statement.{statement}
 use Rattle.phis.proofs.put_decl.Tie as tie
 

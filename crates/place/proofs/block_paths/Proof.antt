@@ -3,7 +3,7 @@ use Prim.Native.Nat.{_-_}
 use native.Mathlib.Omega.{arith}
 use lib.ListN.{length}
 use Rattle.lines.proofs.LfLaws.{find-le}
-use Rattle.place.specs.Parents.{pathPre, pathPost}
+use Rattle.place.specs.Inner.Parents.{pathPre, pathPost}
 use Rattle.place.proofs.Tables.{lines-place, lines-room, lines-length, lines-up}
 use Rattle.place.proofs.Flats.{PathsInv, paths-start, paths-on, paths-all}
 use Rattle.place.proofs.block_paths.Statement.{statement}

@@ -5,7 +5,7 @@ use mathlib.Core.Bool.{Bool, false, cond}
 use mathlib.Core.List.{List}
 use borrow.Author.Needs.{needs}
 use Rattle.place.specs.Region.{isHeader}
-use Rattle.place.specs.Ends.{endMark}
+use Rattle.place.specs.Inner.Ends.{endMark}
 use Rattle.place.proofs.Regions.{space-head}
 use Rattle.place.proofs.end_mark.Statement.{statement}
 use Rattle.place.proofs.end_mark.Tie as tie

@@ -2,7 +2,7 @@ use borrow.Author.Needs.{needs}
 use mathlib.Core.Path.{ap, sym}
 use Rattle.lexical.specs.declared.Kind.{Kind}
 use Rattle.lexical.specs.Lex.{leaves}
-use Rattle.place.specs.Parents.{braces}
+use Rattle.place.specs.Inner.Parents.{braces}
 use Rattle.place.proofs.Parents.{room-as, moved-as, moved-none, left-literal}
 use Rattle.place.proofs.left.Statement.{statement}
 use Rattle.place.proofs.left.Tie as tie

@@ -1,7 +1,7 @@
 use borrow.Author.Needs.{needs}
 use mathlib.Core.Path.{sym, ap, _∙_}
 use mathlib.Core.Bool.{Bool, _||_}
-use Rattle.place.specs.Loops.{startsLoop}
+use Rattle.place.specs.Inner.Loops.{startsLoop}
 use Rattle.place.proofs.loop_by.Statement.{statement}
 use Rattle.place.proofs.loop_by.Tie as tie
 use Rattle.place.proofs.loop_by.Reads as reads

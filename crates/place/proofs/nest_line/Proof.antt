@@ -1,5 +1,5 @@
 use borrow.Author.Needs.{needs}
-use Rattle.place.specs.Loops.{nestLine}
+use Rattle.place.specs.Inner.Loops.{nestLine}
 use Rattle.place.proofs.nest_line.Statement.{statement}
 use Rattle.place.proofs.nest_line.Tie as tie
 use Rattle.place.proofs.nest_line.Reads as reads

@@ -4,7 +4,7 @@ use native.Mathlib.Omega.{arith}
 use borrow.Author.Needs.{needs}
 use lib.ListN.{length, take, replicate}
 use Rattle.place.specs.Blocks.{closes}
-use Rattle.place.specs.Parents.{curBy}
+use Rattle.place.specs.Inner.Parents.{curBy}
 use Rattle.place.proofs.Parents.{out-on, out-end}
 use Rattle.place.proofs.outward.Statement.{statement}
 use Rattle.place.proofs.outward.Tie as tie

@@ -3,7 +3,7 @@ use native.Mathlib.Omega.{arith}
 use borrow.Author.Needs.{needs}
 use lib.ListN.{length}
 use Rattle.lines.proofs.LfLaws.{find-le}
-use Rattle.place.specs.Parents.{idsPre, idsPost}
+use Rattle.place.specs.Inner.Parents.{idsPre, idsPost}
 use Rattle.lines.proofs.OutLaws.{writing-length}
 use Rattle.place.proofs.Tables.{lines-place, lines-length, lines-up}
 use Rattle.place.proofs.Walks.{PlaceInv, place-start, place-flag, place-room, place-on, place-done}

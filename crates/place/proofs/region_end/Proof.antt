@@ -4,7 +4,7 @@ use borrow.Author.Needs.{needs}
 use mathlib.Core.Path.{_≡_, sym, _∙_}
 use lib.ListN.{length, drop}
 use Rattle.lines.proofs.LfLaws.{find-le}
-use Rattle.place.specs.Region.{upHeader, regionLen}
+use Rattle.place.specs.Inner.Region.{upHeader, regionLen}
 use Rattle.place.proofs.Regions.{past, end-stop, end-on, end-end, end-past}
 use Rattle.place.proofs.region_end.Statement.{statement}
 use Rattle.place.proofs.region_end.Tie as tie

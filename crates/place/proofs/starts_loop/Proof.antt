@@ -5,7 +5,8 @@ use mathlib.Core.Bool.{Bool, _&&_}
 use borrow.Author.Tests.{not-true, not-false}
 use Rattle.lines.specs.Lf.{endsIn}
 use Rattle.text.specs.Trim.{trimOf}
-use Rattle.place.specs.Loops.{opensLoop, startsLoop}
+use Rattle.place.specs.Loops.{opensLoop}
+use Rattle.place.specs.Inner.Loops.{startsLoop}
 use Rattle.place.proofs.Quiet.{starts-not, empty-not, low-not}
 use Rattle.place.proofs.starts_loop.Statement.{statement}
 use Rattle.place.proofs.starts_loop.Tie as tie

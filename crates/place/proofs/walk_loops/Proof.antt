@@ -5,7 +5,7 @@ use native.Mathlib.Omega.{arith}
 use borrow.Author.Needs.{needs}
 use lib.ListN.{length}
 use Rattle.lines.proofs.LfLaws.{find-le}
-use Rattle.place.specs.Loops.{nestLine}
+use Rattle.place.specs.Inner.Loops.{nestLine}
 use Rattle.place.proofs.Nests.{LoopsInv, loops-start, loops-place, loops-on, loops-length, loops-done}
 use Rattle.place.proofs.walk_loops.Statement.{statement}
 use Rattle.place.proofs.walk_loops.Tie as tie

@@ -5,7 +5,7 @@ use Prim.Native.Nat.{_-_, _+_, _≤_, _^_}
 use mathlib.Core.Path.{sym, subst}
 use native.Mathlib.Omega.{arith}
 use Rattle.records.specs.declared.LineRec.{LineRec}
-use Rattle.records.specs.Records.{startBelow}
+use Rattle.records.specs.Inner.Records.{startBelow}
 use Rattle.records.proofs.Shown.{WindowInv, window-start, window-done, window-lt, window-on, window-end}
 use Rattle.records.proofs.fill.Statement.{statement}
 use Rattle.records.proofs.fill.Proof.Tie as tie

@@ -38,7 +38,7 @@ use denote.Triple.Spec.{Meets, tripleOf}
 use denote.Triple.Table.{entered}
 use denote.Triple.Walked.{says, needs, Stays, stay-slice, stay-none, walkOf, goes-slice, goes-none, Walks, ends-at, walked, walk-meets}
 use denote.Exit.{yes}
-use Rattle.records.specs.Records.{noRec}
+use Rattle.records.specs.Inner.Records.{noRec}
 use Rattle.records.specs.declared.LineRec.{LineRec}
 use Rattle.records.proofs.LineRec as T
 use Rattle.records.proofs.LineRec.Laws as T′

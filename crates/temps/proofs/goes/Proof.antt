@@ -6,7 +6,7 @@ use Prim.Native.Nat.{ℕ}
 use native.Mathlib.Omega.{arith}
 use borrow.Author.Tests.{not-true, not-false}
 use Rattle.lines.specs.Lf.{linesOf}
-use Rattle.lines.specs.Out.{putAt}
+use Rattle.lines.specs.Inner.Out.{putAt}
 use Rattle.lines.proofs.Tests.{so}
 use Rattle.expr.specs.Comments.{stripComments}
 use Rattle.expr.specs.Pure.{isPure}

@@ -4,7 +4,7 @@ use native.Mathlib.Omega.{arith}
 use lib.ListN.{length, drop}
 use borrow.Author.Needs.{needs}
 use Rattle.lines.proofs.Tests.{so}
-use Rattle.temps.specs.Scratch.{tempIn}
+use Rattle.temps.specs.Inner.Scratch.{tempIn}
 use Rattle.temps.proofs.Lacks.{find-hit, find-on, find-none}
 use Rattle.temps.proofs.has_temp.Statement.{statement}
 use Rattle.temps.proofs.has_temp.Tie as tie

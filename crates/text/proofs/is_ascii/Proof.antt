@@ -7,7 +7,7 @@ use mathlib.Core.Path.{_≡_, refl, sym, ap, _∙_}
 use lib.ListN.{length, drop, drop-of-length-le}
 use Rattle.lines.specs.Lf.{all}
 use Rattle.lines.proofs.Tests.{and-false, and-true}
-use Rattle.text.specs.Utf8Form.{isAscii}
+use Rattle.text.specs.Inner.Utf8Form.{isAscii}
 use Rattle.text.proofs.Scan.{ascii-on, ascii-not}
 use Rattle.text.proofs.is_ascii.Statement.{statement}
 use Rattle.text.proofs.is_ascii.Tie as tie

@@ -8,7 +8,7 @@ use borrow.Author.Tests.{eq-eqb, ne-eqb, le-ltb, lt-ltb}
 use lib.Dec.{eqb, ltb}
 use lib.ListN.{getD}
 use Rattle.text.specs.Class.{isName}
-use Rattle.words.specs.Runs.{joined}
+use Rattle.words.specs.Inner.Runs.{joined}
 use Rattle.words.proofs.begins_reg.Statement.{statement}
 use Rattle.words.proofs.begins_reg.Tie as tie
 

@@ -7,7 +7,7 @@ use borrow.Author.Needs.{needs}
 use borrow.Author.Tests.{le-ltb}
 use lib.ListN.{length, drop, getD}
 use Rattle.text.specs.Class.{isName}
-use Rattle.words.specs.Runs.{regGap, joined}
+use Rattle.words.specs.Inner.Runs.{regGap, joined}
 use Rattle.words.proofs.RunLaws.{reg-here, reg-on, reg-none}
 use Rattle.words.proofs.reg_start.Statement.{statement}
 use Rattle.words.proofs.reg_start.Tie as tie

@@ -5,7 +5,7 @@ use mathlib.Core.Path.{_≡_, refl, sym, ap, _∙_}
 use mathlib.Core.Bool.{not}
 use lib.ListN.{length, drop}
 use Rattle.text.specs.Class.{isName}
-use Rattle.words.specs.Runs.{runLen}
+use Rattle.words.specs.Inner.Runs.{runLen}
 use Rattle.words.proofs.RunLaws.{up-here, up-on, up-end}
 use Rattle.words.proofs.run_end.Statement.{statement}
 use Rattle.words.proofs.run_end.Tie as tie

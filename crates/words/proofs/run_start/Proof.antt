@@ -4,7 +4,7 @@ use borrow.Author.Needs.{needs}
 use mathlib.Core.Path.{_≡_, refl, sym, _∙_}
 use lib.ListN.{length, drop}
 use Rattle.text.specs.Class.{isName}
-use Rattle.words.specs.Runs.{gapLen}
+use Rattle.words.specs.Inner.Runs.{gapLen}
 use Rattle.words.proofs.RunLaws.{up-here, up-on, up-end}
 use Rattle.words.proofs.run_start.Statement.{statement}
 use Rattle.words.proofs.run_start.Tie as tie

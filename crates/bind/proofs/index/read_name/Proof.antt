@@ -2,7 +2,7 @@
 use borrow.Author.Needs.{needs}
 use mathlib.Core.Path.{sym, ap, _∙_}
 use Rattle.names.specs.declared.RegName.{RegName}
-use Rattle.bind.specs.Index.{readName}
+use Rattle.bind.specs.Inner.Index.{readName}
 use Rattle.bind.proofs.IndexLaws.{no-front}
 use Rattle.bind.proofs.index.read_name.Statement.{statement}
 use Rattle.bind.proofs.index.read_name.Tie as tie

@@ -4,8 +4,8 @@ use native.Mathlib.Omega.{arith}
 use mathlib.Core.Path.{refl, ap, _∙_}
 use mathlib.Core.List.{[]}
 use Rattle.lines.proofs.OutLaws.{writing-put, writing-end}
-use Rattle.names.specs.Names.{zeros}
-use Rattle.decls.specs.Print.{leadOf}
+use Rattle.names.specs.Inner.Names.{zeros}
+use Rattle.decls.specs.Inner.Print.{leadOf}
 use Rattle.decls.proofs.PrintLaws.{name-most, name-writing, plain-writing, writing-fits}
 use Rattle.decls.proofs.print.put_name.Statement.{statement}
 use Rattle.decls.proofs.print.put_name.Tie as tie

@@ -2,7 +2,7 @@
 use borrow.Author.Needs.{needs}
 use mathlib.Core.Path.{sym, ap, _∙_}
 use Rattle.names.specs.declared.RegName.{RegName}
-use Rattle.decls.specs.Seen.{markName}
+use Rattle.decls.specs.Inner.Seen.{markName}
 use Rattle.decls.proofs.seen.mark_name.Statement.{statement}
 use Rattle.decls.proofs.seen.mark_name.Tie as tie
 

@@ -1,6 +1,6 @@
 use mathlib.Core.Path.{refl}
 use borrow.Author.Tests.{lt-ltb, le-ltb}
-use Rattle.decls.specs.Seen.{Quiet, quiet-none}
+use Rattle.decls.specs.Inner.Seen.{Quiet, quiet-none}
 use borrow.Author.Needs.{needs}
 use Rattle.decls.proofs.seen.mark_once.Statement.{statement}
 use Rattle.decls.proofs.seen.mark_once.Tie as tie

@@ -5,7 +5,7 @@ use native.Mathlib.Omega.{arith}
 use lib.ListN.{length}
 use Rattle.lines.proofs.Tests.{so}
 use Rattle.place.proofs.Regions.{end-past}
-use Rattle.decls.specs.Seen.{quiet-none}
+use Rattle.decls.specs.Inner.Seen.{quiet-none}
 use Rattle.decls.proofs.LineRuns.{line-decl-marked}
 use Rattle.decls.proofs.SeenLaws.{quiet-le, region-none, region-start, region-first, region-stop, region-on, region-end}
 use Rattle.decls.proofs.Stretches.{StretchInv, decl-here, stretch-new, stretch-long, stretch-shut, stretch-on}

@@ -7,9 +7,9 @@ use lib.ListN.{length, drop}
 use borrow.Author.Needs.{needs}
 use Rattle.text.specs.Class.{isName}
 use Rattle.names.specs.Names.{regOf}
-use Rattle.words.specs.Runs.{runLen}
+use Rattle.words.specs.Inner.Runs.{runLen}
 use Rattle.words.proofs.RunLaws.{up-here, up-on, up-end, run-inside}
-use Rattle.decls.specs.Seen.{runAt, markName}
+use Rattle.decls.specs.Inner.Seen.{runAt, markName}
 use Rattle.decls.proofs.MarkRuns.{name-inside, run-two, run-cut}
 use Rattle.decls.proofs.seen.mark_run.Statement.{statement}
 use Rattle.decls.proofs.seen.mark_run.Tie as tie

@@ -1,7 +1,7 @@
 use borrow.Author.Needs.{needs}
 use mathlib.Core.Path.{sym, ap, _∙_}
 use Rattle.parse.specs.declared.Line.{Line}
-use Rattle.once.specs.Noted.{lineNote}
+use Rattle.once.specs.Inner.Noted.{lineNote}
 use Rattle.once.proofs.noted.line_note.Statement.{statement}
 use Rattle.once.proofs.noted.line_note.Tie as tie
 use Rattle.once.proofs.noted.line_note.Reads as reads

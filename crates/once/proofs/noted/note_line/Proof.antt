@@ -3,7 +3,7 @@ use Prim.Native.Nat.{ℕ}
 use mathlib.Core.Path.{ap, _∙_}
 use mathlib.Core.List.{List}
 use Rattle.words.specs.Runs.{runs}
-use Rattle.once.specs.Noted.{readRuns}
+use Rattle.once.specs.Inner.Noted.{readRuns}
 use Rattle.once.proofs.noted.note_line.Statement.{statement}
 use Rattle.once.proofs.noted.note_line.Tie as tie
 use Rattle.once.proofs.noted.note_line.Reads as reads

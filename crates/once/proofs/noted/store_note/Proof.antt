@@ -2,7 +2,7 @@ use borrow.Author.Needs.{needs}
 use mathlib.Core.Path.{sym, _∙_}
 use mathlib.Core.Bool.{true, false}
 use lib.ListN.{getD}
-use Rattle.once.specs.Noted.{samePath}
+use Rattle.once.specs.Inner.Noted.{samePath}
 use Rattle.once.proofs.NextLaws.{note-past, note-past-far, note-past-stores, note-in, note-sent, note-alone, note-read, note-both, note-stored, note-first, note-dead}
 use Rattle.once.proofs.noted.store_note.Statement.{statement}
 use Rattle.once.proofs.noted.store_note.Tie as tie

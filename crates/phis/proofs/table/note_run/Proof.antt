@@ -1,7 +1,7 @@
 -- `phis::table::note_run` meets its contract. Assumes nothing.
 use mathlib.Core.Path.{sym, ap, _∙_}
 use Rattle.names.specs.declared.PhiName.{PhiName}
-use Rattle.phis.specs.Table.{noteName}
+use Rattle.phis.specs.Inner.Table.{noteName}
 use borrow.Author.Needs.{needs}
 use Rattle.phis.proofs.table.note_run.Statement.{statement}
 use Rattle.phis.proofs.table.note_run.Tie as tie

@@ -1,7 +1,7 @@
 -- `phis::table::note_store` meets its contract. Assumes nothing.
 use mathlib.Core.Path.{sym, ap, _∙_}
 use Rattle.names.specs.declared.PhiName.{PhiName}
-use Rattle.phis.specs.Table.{noteStore}
+use Rattle.phis.specs.Inner.Table.{noteStore}
 use borrow.Author.Needs.{needs}
 use Rattle.phis.proofs.table.note_store.Statement.{statement}
 use Rattle.phis.proofs.table.note_store.Tie as tie

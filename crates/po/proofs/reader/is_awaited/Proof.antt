@@ -1,7 +1,7 @@
 use native.Mathlib.Omega.{arith}
 use mathlib.Core.Path.{_≡_, sym, ap, _∙_}
 use Rattle.po.specs.Reader.{awaited}
-use Rattle.po.specs.ReadWalk.{stateAt}
+use Rattle.po.specs.Inner.ReadWalk.{stateAt}
 use Rattle.po.proofs.LineLaws.{empty-is}
 use Rattle.po.proofs.StateLaws.{ref-awaited, await-0, await-1, await-2, await-3, await-4, await-5, await-6}
 use borrow.Author.Needs.{needs}

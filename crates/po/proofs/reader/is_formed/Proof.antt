@@ -3,7 +3,7 @@ use Prim.Native.Nat.{_-_}
 use native.Mathlib.Omega.{arith}
 use mathlib.Core.Path.{_≡_, refl, sym, _∙_}
 use lib.ListN.{length, drop}
-use Rattle.po.specs.ReadWalk.{formed}
+use Rattle.po.specs.Inner.ReadWalk.{formed}
 use Rattle.po.proofs.UnitLaws.{size-in}
 use Rattle.po.proofs.LineLaws.{form-stop, form-no, form-on, form-past}
 use Rattle.po.proofs.reader.is_formed.Statement.{statement}

@@ -1,6 +1,6 @@
 use Rattle.po.proofs.LineLaws.{denied, granted}
 use mathlib.Core.Path.{sym, _∙_}
-use Rattle.po.specs.ReadWalk.{stateAt}
+use Rattle.po.specs.Inner.ReadWalk.{stateAt}
 use Rattle.po.proofs.StateLaws.{id-no-form, id-empty, id-by}
 use borrow.Author.Needs.{needs}
 use Rattle.po.proofs.reader.is_id.Statement.{statement}

@@ -1,5 +1,5 @@
 use mathlib.Core.List.{List}
-use Rattle.po.specs.ReadWalk.{met, nextOf, sameId}
+use Rattle.po.specs.Inner.ReadWalk.{met, nextOf, sameId}
 use Prim.Native.Nat.{ℕ, _-_, _+_, _≤_}
 use native.Mathlib.Omega.{arith}
 use mathlib.Core.Path.{_≡_, refl, sym, ap, _∙_}
@@ -7,7 +7,7 @@ use mathlib.Core.Bool.{Bool, _||_}
 use lib.ListN.{length, take, drop}
 use Rattle.lines.specs.Lf.{partsOf}
 use Rattle.po.specs.Found.{textOf}
-use Rattle.po.specs.ReadWalk.{met, nextOf}
+use Rattle.po.specs.Inner.ReadWalk.{met, nextOf}
 use Rattle.po.proofs.StateLaws.{met-known, met-none, met-first, met-last, met-yes, next-low}
 use Rattle.po.proofs.reader.is_met.Statement.{statement}
 use Rattle.po.proofs.reader.is_met.Tie as tie

@@ -1,6 +1,6 @@
 use mathlib.Core.Path.{sym, ap, _∙_}
 use mathlib.Core.Bool.{Bool, _&&_}
-use Rattle.po.specs.ReadWalk.{follows}
+use Rattle.po.specs.Inner.ReadWalk.{follows}
 use borrow.Author.Needs.{needs}
 use Rattle.po.proofs.reader.is_ref.Statement.{statement}
 use Rattle.po.proofs.reader.is_ref.Tie as tie

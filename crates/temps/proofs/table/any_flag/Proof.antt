@@ -3,7 +3,7 @@ use Prim.Native.Nat.{_-_}
 use mathlib.Core.Path.{_≡_, refl, sym, _∙_}
 use native.Mathlib.Omega.{arith}
 use lib.ListN.{length, drop}
-use Rattle.temps.specs.Table.{anyFlag}
+use Rattle.temps.specs.Inner.Table.{anyFlag}
 use Rattle.temps.proofs.TableLaws.{any-here, any-on, any-end}
 use Rattle.temps.proofs.table.any_flag.Statement.{statement}
 use Rattle.temps.proofs.table.any_flag.Tie as tie

@@ -8,7 +8,7 @@ use native.Mathlib.Omega.{arith}
 use lib.ListN.{length, getD}
 use borrow.Author.Tests.{not-true, not-false, le-ltb, lt-ltb, eq-eqb, ne-eqb}
 use Rattle.lines.specs.Lf.{partsOf}
-use Rattle.temps.specs.Table.{flagPieces}
+use Rattle.temps.specs.Inner.Table.{flagPieces}
 use Rattle.temps.proofs.TableLaws.{decl-not}
 use Rattle.temps.proofs.table.flag_decl.Statement.{statement}
 use Rattle.temps.proofs.table.flag_decl.Tie as tie

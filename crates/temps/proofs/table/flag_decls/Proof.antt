@@ -3,7 +3,7 @@ use Prim.Native.Nat.{_-_}
 use native.Mathlib.Omega.{arith}
 use borrow.Author.Needs.{needs}
 use lib.ListN.{length}
-use Rattle.temps.specs.Table.{flagDecls}
+use Rattle.temps.specs.Inner.Table.{flagDecls}
 use Rattle.temps.proofs.TableLaws.{FlagInv, flag-start, decls-on, decls-done}
 use Rattle.temps.proofs.table.flag_decls.Statement.{statement}
 use Rattle.temps.proofs.table.flag_decls.Tie as tie

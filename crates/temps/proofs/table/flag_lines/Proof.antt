@@ -3,7 +3,7 @@ use Prim.Native.Nat.{_-_}
 use native.Mathlib.Omega.{arith}
 use borrow.Author.Needs.{needs}
 use lib.ListN.{length}
-use Rattle.temps.specs.Table.{flagLines}
+use Rattle.temps.specs.Inner.Table.{flagLines}
 use Rattle.temps.proofs.TableLaws.{FlagInv, flag-start, lines-on, lines-done}
 use Rattle.temps.proofs.table.flag_lines.Statement.{statement}
 use Rattle.temps.proofs.table.flag_lines.Tie as tie

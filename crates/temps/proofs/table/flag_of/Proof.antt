@@ -2,7 +2,7 @@
 use borrow.Author.Needs.{needs}
 use mathlib.Core.Path.{sym, ap, _∙_}
 use Rattle.names.specs.declared.Number.{Number}
-use Rattle.temps.specs.Table.{flagBy}
+use Rattle.temps.specs.Inner.Table.{flagBy}
 use Rattle.temps.proofs.TableLaws.{by-here, by-past}
 use Rattle.temps.proofs.table.flag_of.Statement.{statement}
 use Rattle.temps.proofs.table.flag_of.Tie as tie

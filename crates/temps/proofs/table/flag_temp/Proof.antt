@@ -2,7 +2,7 @@
 use borrow.Author.Needs.{needs}
 use mathlib.Core.Path.{sym, ap, _∙_}
 use Rattle.names.specs.declared.Number.{Number}
-use Rattle.temps.specs.Table.{flagAt}
+use Rattle.temps.specs.Inner.Table.{flagAt}
 use Rattle.temps.proofs.table.flag_temp.Statement.{statement}
 use Rattle.temps.proofs.table.flag_temp.Tie as tie
 

@@ -1,0 +1,4 @@
+pub mod Lex
+pub mod Plain
+pub mod Phi
+pub mod Idents

@@ -1,0 +1,2 @@
+pub mod Lf
+pub mod Out

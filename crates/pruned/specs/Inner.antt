@@ -1,0 +1,4 @@
+pub mod Marks
+pub mod Fit
+pub mod Walk
+pub mod Judged

@@ -1,0 +1,43 @@
+-- A mark for each declared name: whether its region uses the register. The marks of a line stand at the front of the line's own room. Assumes nothing.
+use Prim.Native.Nat.{ℕ, suc, _-_}
+use Prim.Native.Char.{code}
+use mathlib.Core.Bool.{cond}
+use mathlib.Core.List.{List, [], _∷_, _++_}
+use lib.ListN.{length, replicate}
+use Rattle.lines.specs.Lf.{partsOf}
+use Rattle.text.specs.Trim.{trimOf}
+use Rattle.parse.specs.Parse.{bodyOf, isDecl}
+use Rattle.place.specs.Region.{region, regionAt}
+use Rattle.decls.specs.Inner.Decls.{stays}
+
+-- the mark of a piece of a declaration: 1 where the region uses its register
+abbrev pub markOf : List (List ℕ) → List ℕ → ℕ
+markOf run p = cond (stays run (trimOf p)) 1 0
+
+unfoldable pub namesMarks : List (List ℕ) → List (List ℕ) → List ℕ
+namesMarks run [] = []
+namesMarks run (p ∷ ps) = markOf run p ∷ namesMarks run ps
+
+-- those of a line: none where it is no declaration
+unfoldable pub ownMarks : List (List ℕ) → List ℕ → List ℕ
+unfolding namesMarks
+ownMarks run l = cond (isDecl (trimOf l)) (namesMarks run (partsOf (code ",") (bodyOf (trimOf l)))) []
+
+-- n bytes: xs, and then zeros
+unfoldable pub padded : ℕ → List ℕ → List ℕ
+padded n xs = xs ++ replicate (n - length xs) 0
+
+-- the room of a line is its bytes and its LF
+unfoldable pub lineMarks : List (List ℕ) → List ℕ → List ℕ
+unfolding ownMarks padded
+lineMarks run l = padded (suc (length l)) (ownMarks run l)
+
+-- the marks of lines; `run` is the region of the line above
+unfoldable pub marksGo : List (List ℕ) → List (List ℕ) → List ℕ
+unfolding lineMarks
+marksGo [] run = []
+marksGo (l ∷ ls) run = lineMarks (regionAt l ls run) l ++ marksGo ls (regionAt l ls run)
+
+unfoldable pub marksOf : List (List ℕ) → List ℕ
+unfolding marksGo
+marksOf ls = marksGo ls (region ls)
