@@ -10,7 +10,7 @@ use Rattle.lines.specs.Steps.{dropCr, splitLines, joinLines, settle, joined}
 use Rattle.text.specs.White.{isWhite}
 use Rattle.text.specs.Utf8Form.{seqLen}
 use Rattle.text.specs.Trim.{whiteChar, whiteHead, whiteTail, lead, fromOf, endWhite, toOf, trimOf}
-use Rattle.names.specs.Names.{numbered, numberOf, decimalBy, decimal, regOf}
+use Rattle.names.specs.Names.{numbered, readNumber, decimalBy, decimal, regOf}
 use Rattle.parse.specs.Parse.{allRegs, isDecl, storeIn, parseOf, textOf}
 use Rattle.words.specs.Runs.{runsGo, runs, countBy}
 use Rattle.place.specs.Region.{isHeader, untilHeader, region, regionAt}
@@ -51,7 +51,7 @@ abbrev pub written : Row → List ℕ × List ℕ
 written r = (r .once, r .twice)
 
 pub twice-run : map ran rows ≡ map written rows
-unfolding rows seqLen isWhite whiteChar whiteHead whiteTail lead fromOf endWhite toOf trimOf numbered numberOf decimalBy decimal regOf upTo cutOn linesOf partsOf prefixed allRegs isDecl storeIn parseOf textOf runsGo runs countBy lineReads lineStores lineUses usedIn act apply isHeader untilHeader region regionAt commas declAct keepNames actOf actsGo pruneDeclsActs pruneDecls dropCr splitLines joinLines settle joined
+unfolding rows seqLen isWhite whiteChar whiteHead whiteTail lead fromOf endWhite toOf trimOf numbered readNumber decimalBy decimal regOf upTo cutOn linesOf partsOf prefixed allRegs isDecl storeIn parseOf textOf runsGo runs countBy lineReads lineStores lineUses usedIn act apply isHeader untilHeader region regionAt commas declAct keepNames actOf actsGo pruneDeclsActs pruneDecls dropCr splitLines joinLines settle joined
 twice-run = refl
 
 -- ---- lines, and what comes back of them where they are joined and split again

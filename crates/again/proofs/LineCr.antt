@@ -21,7 +21,7 @@ use Rattle.text.proofs.Trims.{toOf-le, back-on}
 use Rattle.text.proofs.CharsEnd.{end-append}
 use Rattle.parse.specs.Parse.{isDecl, parseOf, textOf}
 use Rattle.words.specs.Runs.{runsGo, runs, countBy}
-use Rattle.place.specs.Region.{functionWord, varWord, letWord, constWord, classWord, letPhi, isHeader}
+use Rattle.place.specs.Region.{functionWord, varWord, letHead, constWord, classWord, letPhi, isHeader}
 use Rattle.reading.specs.Uses.{lineReads, lineStores, lineUses, usedIn}
 use Rattle.decls.specs.Inner.Seen.{markRuns, markLine, markLines, Says}
 use Rattle.decls.proofs.SeenLaws.{lines-length, says-new, zeros-most}
@@ -136,7 +136,7 @@ pre-cr (x ∷ w) (y ∷ l) h = ap (λ (b : Bool). eqb x y && b) (pre-cr w l (lac
 abbrev heads : Bool → Bool → Bool → Bool → Bool → Bool → Bool
 heads a b c d e f = not a && (b || (c || (d || (e || f))))
 
-header-is : (l : List ℕ) → isHeader l ≡ heads (prefixed letPhi l) (prefixed functionWord l) (prefixed varWord l) (prefixed letWord l) (prefixed constWord l) (prefixed classWord l)
+header-is : (l : List ℕ) → isHeader l ≡ heads (prefixed letPhi l) (prefixed functionWord l) (prefixed varWord l) (prefixed letHead l) (prefixed constWord l) (prefixed classWord l)
 unfolding isHeader
 header-is l = refl
 
@@ -144,7 +144,7 @@ pub header-cr : (l : List ℕ) → isHeader (l ++ 13 ∷ []) ≡ isHeader l
 unfolding lacks
 header-cr l =
     header-is (l ++ 13 ∷ [])
-    ∙ rw (pre-cr letPhi l refl, pre-cr functionWord l refl, pre-cr varWord l refl, pre-cr letWord l refl, pre-cr constWord l refl, pre-cr classWord l refl) (sym (header-is l))
+    ∙ rw (pre-cr letPhi l refl, pre-cr functionWord l refl, pre-cr varWord l refl, pre-cr letHead l refl, pre-cr constWord l refl, pre-cr classWord l refl) (sym (header-is l))
 
 -- ---- uses
 

@@ -10,20 +10,20 @@ use Rattle.lines.specs.Acts.{act, apply}
 use Rattle.text.specs.White.{isWhite}
 use Rattle.text.specs.Utf8Form.{seqLen, scan, utf8Of}
 use Rattle.text.specs.Trim.{whiteChar, whiteHead, whiteTail, lead, fromOf, endWhite, toOf, trimOf}
-use Rattle.names.specs.Names.{numbered, numberOf, decimalBy, decimal, regOf, phiOf, isTemp, isIdent}
+use Rattle.names.specs.Names.{numbered, readNumber, decimalBy, decimal, regOf, phiOf, isTemp, isIdent}
 use Rattle.names.specs.Inner.Names.{zeros, numberAfter}
 use Rattle.parse.specs.Parse.{allRegs, isDecl, storeIn, parseOf, textOf}
 use Rattle.words.specs.Runs.{runsGo, runs, countBy}
-use Rattle.words.specs.Inner.Runs.{upBy, walk, runHits}
+use Rattle.words.specs.Inner.Runs.{upBy, walkRuns, runHits}
 use Rattle.words.specs.Hits.{hitsGo, hits, oneHit, regHit, afterNew, asTarget, glueLeft, glueRight, glued, replacedAt, replaceReg}
 use Rattle.lexical.specs.Lex.{quoteLen, patternLen, commentLen, lastOf, tokenOf, lexGo, stripLexical}
-use Rattle.lexical.specs.Inner.Lex.{tokenAt, tailOf, pushed, grown, stepOf}
+use Rattle.lexical.specs.Inner.Lex.{tokenAt, tailOf, pushed, grown, cleanStep}
 use Rattle.place.specs.Region.{isHeader, untilHeader, region, regionAt}
 use Rattle.place.specs.Inner.Region.{headed, regionsGo, regions, regionNext, upHeader}
 use Rattle.place.specs.Blocks.{braceOf, push, count, top, stackAfter, nextAfter, blocksGo, blocks, cleaned}
 use Rattle.place.specs.Inner.Blocks.{mayAt, depthAt, depthAfter, ownLine, ownGo, own}
 use Rattle.place.specs.Starts.{startsAfter, startsAbove, startsGo}
-use Rattle.place.specs.Inner.Starts.{startsBy}
+use Rattle.place.specs.Inner.Starts.{startsByLast}
 use Rattle.reading.specs.Assign.{isAssign, leftOf, rightOf}
 use Rattle.reading.specs.Inner.Assign.{assignOf}
 use Rattle.reading.specs.Uses.{lineReads, lineStores, lineUses, usedIn}
@@ -59,7 +59,7 @@ rows =
     ∷ []
 
 pub examples : map (λ (r : Row). bindDeclarators plain (r .lines)) rows ≡ map (λ (r : Row). r .result) rows
-unfolding rows upTo countOf prefixed suffixed same holds cutOn linesOf partsOf unlines lacks noLf act apply isWhite seqLen scan utf8Of whiteChar whiteHead whiteTail lead fromOf endWhite toOf trimOf numbered numberOf zeros decimalBy decimal numberAfter regOf phiOf isTemp isIdent allRegs isDecl storeIn parseOf textOf runsGo runs countBy upBy walk runHits hitsGo hits oneHit regHit afterNew asTarget glueLeft glueRight glued replacedAt replaceReg quoteLen patternLen commentLen lastOf tokenOf tokenAt lexGo stripLexical tailOf pushed grown stepOf isHeader headed regionsGo regions regionNext untilHeader region regionAt upHeader braceOf push count top stackAfter nextAfter blocksGo blocks cleaned mayAt depthAt depthAfter ownLine ownGo own startsAfter startsBy startsAbove startsGo isAssign leftOf rightOf assignOf lineReads lineStores lineUses usedIn commas declAct keepNames actOf actsGo pruneDeclsActs pruneDecls spotsOf spots linesIn untilHead pieceCount declCount storeCount firstUse bound anyBound unbound mark markAll piecesOf bindAct bindGo bindDeclaratorsActs bindDeclarators
+unfolding rows upTo countOf prefixed suffixed same holds cutOn linesOf partsOf unlines lacks noLf act apply isWhite seqLen scan utf8Of whiteChar whiteHead whiteTail lead fromOf endWhite toOf trimOf numbered readNumber zeros decimalBy decimal numberAfter regOf phiOf isTemp isIdent allRegs isDecl storeIn parseOf textOf runsGo runs countBy upBy walkRuns runHits hitsGo hits oneHit regHit afterNew asTarget glueLeft glueRight glued replacedAt replaceReg quoteLen patternLen commentLen lastOf tokenOf tokenAt lexGo stripLexical tailOf pushed grown cleanStep isHeader headed regionsGo regions regionNext untilHeader region regionAt upHeader braceOf push count top stackAfter nextAfter blocksGo blocks cleaned mayAt depthAt depthAfter ownLine ownGo own startsAfter startsByLast startsAbove startsGo isAssign leftOf rightOf assignOf lineReads lineStores lineUses usedIn commas declAct keepNames actOf actsGo pruneDeclsActs pruneDecls spotsOf spots linesIn untilHead pieceCount declCount storeCount firstUse bound anyBound unbound mark markAll piecesOf bindAct bindGo bindDeclaratorsActs bindDeclarators
 examples = refl
 
 -- ---- a tail that closes a brace which it did not open is outside the law of a cut
@@ -72,10 +72,10 @@ unfoldable pub tail : List (List ℕ)
 tail = (118 ∷ 97 ∷ 114 ∷ 32 ∷ 120 ∷ 59 ∷ []) ∷ (32 ∷ 32 ∷ 108 ∷ 101 ∷ 116 ∷ 32 ∷ 114 ∷ 48 ∷ 59 ∷ []) ∷ (125 ∷ []) ∷ (32 ∷ 32 ∷ 114 ∷ 48 ∷ 32 ∷ 61 ∷ 32 ∷ 49 ∷ 59 ∷ []) ∷ []
 
 pub outside : own (cleaned tail) ≡ false
-unfolding tail upTo countOf prefixed suffixed same holds cutOn linesOf partsOf unlines lacks noLf act apply isWhite seqLen scan utf8Of whiteChar whiteHead whiteTail lead fromOf endWhite toOf trimOf numbered numberOf zeros decimalBy decimal numberAfter regOf phiOf isTemp isIdent allRegs isDecl storeIn parseOf textOf runsGo runs countBy upBy walk runHits hitsGo hits oneHit regHit afterNew asTarget glueLeft glueRight glued replacedAt replaceReg quoteLen patternLen commentLen lastOf tokenOf tokenAt lexGo stripLexical tailOf pushed grown stepOf isHeader headed regionsGo regions regionNext untilHeader region regionAt upHeader braceOf push count top stackAfter nextAfter blocksGo blocks cleaned mayAt depthAt depthAfter ownLine ownGo own startsAfter startsBy startsAbove startsGo isAssign leftOf rightOf assignOf lineReads lineStores lineUses usedIn commas declAct keepNames actOf actsGo pruneDeclsActs pruneDecls spotsOf spots linesIn untilHead pieceCount declCount storeCount firstUse bound anyBound unbound mark markAll piecesOf bindAct bindGo bindDeclaratorsActs bindDeclarators
+unfolding tail upTo countOf prefixed suffixed same holds cutOn linesOf partsOf unlines lacks noLf act apply isWhite seqLen scan utf8Of whiteChar whiteHead whiteTail lead fromOf endWhite toOf trimOf numbered readNumber zeros decimalBy decimal numberAfter regOf phiOf isTemp isIdent allRegs isDecl storeIn parseOf textOf runsGo runs countBy upBy walkRuns runHits hitsGo hits oneHit regHit afterNew asTarget glueLeft glueRight glued replacedAt replaceReg quoteLen patternLen commentLen lastOf tokenOf tokenAt lexGo stripLexical tailOf pushed grown cleanStep isHeader headed regionsGo regions regionNext untilHeader region regionAt upHeader braceOf push count top stackAfter nextAfter blocksGo blocks cleaned mayAt depthAt depthAfter ownLine ownGo own startsAfter startsByLast startsAbove startsGo isAssign leftOf rightOf assignOf lineReads lineStores lineUses usedIn commas declAct keepNames actOf actsGo pruneDeclsActs pruneDecls spotsOf spots linesIn untilHead pieceCount declCount storeCount firstUse bound anyBound unbound mark markAll piecesOf bindAct bindGo bindDeclaratorsActs bindDeclarators
 outside = refl
 
 -- and there the two do not give the same: 5 lines and 4
 pub uncut : (length (bindDeclarators plain (upper ++ tail)) ≡ 5) × (length (bindDeclarators plain upper ++ bindDeclarators plain tail) ≡ 4)
-unfolding upper tail upTo countOf prefixed suffixed same holds cutOn linesOf partsOf unlines lacks noLf act apply isWhite seqLen scan utf8Of whiteChar whiteHead whiteTail lead fromOf endWhite toOf trimOf numbered numberOf zeros decimalBy decimal numberAfter regOf phiOf isTemp isIdent allRegs isDecl storeIn parseOf textOf runsGo runs countBy upBy walk runHits hitsGo hits oneHit regHit afterNew asTarget glueLeft glueRight glued replacedAt replaceReg quoteLen patternLen commentLen lastOf tokenOf tokenAt lexGo stripLexical tailOf pushed grown stepOf isHeader headed regionsGo regions regionNext untilHeader region regionAt upHeader braceOf push count top stackAfter nextAfter blocksGo blocks cleaned mayAt depthAt depthAfter ownLine ownGo own startsAfter startsBy startsAbove startsGo isAssign leftOf rightOf assignOf lineReads lineStores lineUses usedIn commas declAct keepNames actOf actsGo pruneDeclsActs pruneDecls spotsOf spots linesIn untilHead pieceCount declCount storeCount firstUse bound anyBound unbound mark markAll piecesOf bindAct bindGo bindDeclaratorsActs bindDeclarators
+unfolding upper tail upTo countOf prefixed suffixed same holds cutOn linesOf partsOf unlines lacks noLf act apply isWhite seqLen scan utf8Of whiteChar whiteHead whiteTail lead fromOf endWhite toOf trimOf numbered readNumber zeros decimalBy decimal numberAfter regOf phiOf isTemp isIdent allRegs isDecl storeIn parseOf textOf runsGo runs countBy upBy walkRuns runHits hitsGo hits oneHit regHit afterNew asTarget glueLeft glueRight glued replacedAt replaceReg quoteLen patternLen commentLen lastOf tokenOf tokenAt lexGo stripLexical tailOf pushed grown cleanStep isHeader headed regionsGo regions regionNext untilHeader region regionAt upHeader braceOf push count top stackAfter nextAfter blocksGo blocks cleaned mayAt depthAt depthAfter ownLine ownGo own startsAfter startsByLast startsAbove startsGo isAssign leftOf rightOf assignOf lineReads lineStores lineUses usedIn commas declAct keepNames actOf actsGo pruneDeclsActs pruneDecls spotsOf spots linesIn untilHead pieceCount declCount storeCount firstUse bound anyBound unbound mark markAll piecesOf bindAct bindGo bindDeclaratorsActs bindDeclarators
 uncut = (refl, refl)

@@ -13,10 +13,10 @@ use Rattle.lines.proofs.Tests.{no, and-left, and-right, and-both}
 use Rattle.lines.proofs.LfLaws.{lines-unlines, lines-noLf, lacks-append, lacks-take, lacks-drop, parts-noLf}
 use Rattle.lines.proofs.ActLaws.{actNoLf, apply-noLf, apply-length}
 use Rattle.text.specs.Trim.{fromOf, trimOf}
-use Rattle.names.specs.Names.{regOf}
+use Rattle.names.specs.Names.{regOf, isReg}
 use Rattle.names.specs.declared.RegName.{RegName}
 use Rattle.names.specs.declared.RegName.the-variants as name
-use Rattle.parse.specs.Parse.{letWord, bodyOf, isReg, allRegs, isDecl}
+use Rattle.parse.specs.Parse.{letWord, bodyOf, allRegs, isDecl}
 use Rattle.weight.specs.Inner.Weight.{weight}
 use Rattle.weight.proofs.Weigh.{weight-line, nothing}
 use Rattle.weight.proofs.Moves.{from-clean, promote-le}

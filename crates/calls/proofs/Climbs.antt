@@ -24,7 +24,7 @@ use Rattle.reading.specs.Reading.{plain}
 use Rattle.calls.specs.declared.Made.{Made}
 use Rattle.calls.specs.declared.Made.the-variants as made
 use Rattle.calls.specs.Leaves.{Leaves, Parsed, store, other}
-use Rattle.calls.specs.LeavesOf.{parsedBy, parsedOf, startsBy, leavesOf}
+use Rattle.calls.specs.LeavesOf.{parsedBy, parsedOf, startsBelow, leavesOf}
 use Rattle.calls.specs.Calls.{Item, Row, Walked, Step, end, skip, absorb, linesIn, climb, made, has, actsUp, readLater, storeStep, stepAt, walk}
 use Rattle.calls.specs.Inner.Steps.{absorbStep, PutAs, ends, puts}
 use Rattle.calls.specs.Inner.Tables.{ownerOf, ownersOf, rowsAt, walkAt, lineAt, Keeps, Stands, Placed, Foot, Peaked}
@@ -504,11 +504,11 @@ module _ {t : List ℕ} {n i f : ℕ} {bs fs owner₀ stack : List ℕ} {m : ℕ
         parsed-here = ap parsedOf (sym text-here) ∙ ap (parsedBy w) y ∙ ap (store (s .reg .0)) (sym u)
 
         absorb-here : step-here
-            ≡ cond (not over && (eqb (v .row .item .block) (getD bs n 0) && startsBy plain (linesIn (v .rest)))) (absorbStep plain (v .text) (s .reg .0) val (linesOf (drop f t)) (linesIn (v .back)) (ownersIn (v .back))) end
+            ≡ cond (not over && (eqb (v .row .item .block) (getD bs n 0) && startsBelow plain (linesIn (v .rest)))) (absorbStep plain (v .text) (s .reg .0) val (linesOf (drop f t)) (linesIn (v .back)) (ownersIn (v .back))) end
         absorb-here = store-here ∙ store-absorb plain (getD bs n 0) (linesOf (drop f t)) (v .at .walks .past) (up-row .text) (s .reg .0) val parsed-here over (v .text) (v .row .item .block) (linesIn (v .rest))
 
         module _ (may : Bool) (j : may ≡ not over && (eqb (getD bs (k - 1) 0) (getD bs n 0) && eqb (getD fs (k - 1) 0) 1)) where
-          may-is : may ≡ not over && (eqb (v .row .item .block) (getD bs n 0) && startsBy plain (linesIn (v .rest)))
+          may-is : may ≡ not over && (eqb (v .row .item .block) (getD bs n 0) && startsBelow plain (linesIn (v .rest)))
           may-is =
               j
               ∙ ap (λ (x : ℕ). not over && (eqb x (getD bs n 0) && eqb (getD fs (k - 1) 0) 1)) (ap (λ (x : ℕ). getD bs x 0) (sym index) ∙ told-here .block)

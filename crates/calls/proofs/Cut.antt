@@ -9,7 +9,7 @@ use lib.Dec.{eqb}
 use Rattle.lines.specs.Acts.{Act, keep, become, into, gone, act, apply}
 use Rattle.lines.proofs.ActLaws.{apply-append}
 use Rattle.calls.specs.Leaves.{Leaves, Parsed, store, other, Context, unclear, target, newed, operand}
-use Rattle.calls.specs.Calls.{Item, Row, Walked, Step, end, skip, absorb, stop, pass, tries, settle, linesIn, linesOn, has, climb, made, onStep, itemsOf, actsUp, readLater, putBy, breaksOne, storeStep, stepAt, walk, turn, rowsOf, rebuildCallsActs, rebuildCalls}
+use Rattle.calls.specs.Calls.{Item, Row, Walked, Step, end, skip, absorb, stop, pass, tries, settleRow, linesIn, linesOn, has, climb, made, onStep, itemsOf, actsUp, readLater, putBy, breaksOne, storeStep, stepAt, walk, turn, rowsOf, rebuildCallsActs, rebuildCalls}
 
 abbrev kept : Item → Row
 kept x = record { item = x; act = keep }
@@ -114,7 +114,7 @@ module _
             → ((ss : List Row) → tries L (x .line) (rs ++ kept h ∷ ss) ≡ t)
             → WalkCut (x .block) (λ v. readLater L v below) climb rs 1 (L .header (x .line)) (x .line) [] []
             → RowsCut (λ ss. turn L x below (rs ++ kept h ∷ ss))
-        go true q c = record { rows = record { item = x; act = c .act } ∷ c .rows; is = λ ss. rw (q ss) (ap (settle L x) (c .is ss)) }
+        go true q c = record { rows = record { item = x; act = c .act } ∷ c .rows; is = λ ss. rw (q ss) (ap (settleRow L x) (c .is ss)) }
         go false q c = record { rows = kept x ∷ rs; is = λ ss. rw (q ss) }
 
     rows-cut : (xs : List Item) (rs : List Row) → RowsCut (λ ss. rowsOf L xs (rs ++ kept h ∷ ss))
@@ -149,7 +149,7 @@ module _
     turn-head below rs = go (tries L (h .line) rs) refl
       where
         go : (t : Bool) → tries L (h .line) rs ≡ t → turn L h below rs ≡ kept h ∷ rs
-        go true q = rw (q, e) (ap (settle L h) (over-walk (h .block) (λ v. readLater L v below) climb rs 1 (h .line)))
+        go true q = rw (q, e) (ap (settleRow L h) (over-walk (h .block) (λ v. readLater L v below) climb rs 1 (h .line)))
         go false q = rw q
 
     -- the look down from the upper part ends at the header
@@ -162,7 +162,7 @@ module _
     unfolding turn
     turn-upper x us ts rs =
         ap
-        (λ (f : ℕ → Bool). cond (tries L (x .line) rs) (settle L x (walk L (x .block) f climb rs 1 (L .header (x .line)) (x .line) [] [])) (kept x ∷ rs))
+        (λ (f : ℕ → Bool). cond (tries L (x .line) rs) (settleRow L x (walk L (x .block) f climb rs 1 (L .header (x .line)) (x .line) [] [])) (kept x ∷ rs))
         (fun-ext (λ v. later-upper v us ts))
 
     rows-upper : (us ts : List Item) (rs : List Row) → rowsOf L (us ++ h ∷ ts) rs ≡ rowsOf L ts (kept h ∷ rowsOf L us rs)
@@ -346,7 +346,7 @@ module _ (L : Leaves) (f : ℕ → ℕ) (one : (x y : ℕ) → eqb (f x) (f y) �
   re-turn x below rs = go (tries L (x .line) rs) refl
     where
       go : (t : Bool) → tries L (x .line) rs ≡ t → turn L (reItem f x) below (reRows f rs) ≡ reRows f (turn L x below rs)
-      go true q = rw (re-lines rs, q) (ap (settle L (reItem f x)) (re-walk (x .block) (λ v. readLater L v below) climb rs 1 (L .header (x .line)) (x .line) [] []))
+      go true q = rw (re-lines rs, q) (ap (settleRow L (reItem f x)) (re-walk (x .block) (λ v. readLater L v below) climb rs 1 (L .header (x .line)) (x .line) [] []))
       go false q = rw (re-lines rs, q)
 
   re-rows : (xs : List Item) (rs : List Row) → rowsOf L (reItems f xs) (reRows f rs) ≡ reRows f (rowsOf L xs rs)

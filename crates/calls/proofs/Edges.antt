@@ -11,7 +11,7 @@ use Rattle.lines.specs.Acts.{Act, keep, become, into, gone, act, apply}
 use Rattle.lines.proofs.ActLaws.{apply-append}
 use Rattle.lines.proofs.Tests.{no}
 use Rattle.calls.specs.Leaves.{Leaves}
-use Rattle.calls.specs.Calls.{Item, Row, Walked, Step, end, skip, absorb, stop, pass, tries, settle, linesIn, linesOn, has, climb, made, onStep, itemsOf, actsUp, readLater, stepAt, walk, turn, rowsOf, rebuildCallsActs, rebuildCalls}
+use Rattle.calls.specs.Calls.{Item, Row, Walked, Step, end, skip, absorb, stop, pass, tries, settleRow, linesIn, linesOn, has, climb, made, onStep, itemsOf, actsUp, readLater, stepAt, walk, turn, rowsOf, rebuildCallsActs, rebuildCalls}
 use Rattle.calls.specs.Inner.Tables.{ownerOf}
 use Rattle.calls.proofs.Cut.{walk-step, acts-more, acts-length}
 

@@ -17,7 +17,7 @@ use Rattle.place.proofs.Blocks.{rename, blockBelow, nextBelow, blocks-cut, belo
 use Rattle.place.proofs.Blocks as numbers
 use Rattle.reading.specs.Reading.{Reading, plain}
 use Rattle.reading.proofs.ByLine.{ByLine, plain-by-line}
-use Rattle.calls.specs.LeavesOf.{startsBy, blocksBy, leavesOf}
+use Rattle.calls.specs.LeavesOf.{startsBelow, blocksBy, leavesOf}
 use Rattle.calls.specs.Calls.{rebuildCallsActs, rebuildCalls}
 use Rattle.calls.proofs.Headers.{header-other}
 use Rattle.calls.proofs.Cut as cut
@@ -32,13 +32,13 @@ map-long f (x ∷ xs) = ap suc (map-long f xs)
 
 module _ {R : Reading} (c : ByLine R) where
   -- the look back is over the lines above, each cleaned by itself
-  pub starts-by : (above : List (List ℕ)) → startsBy R above ≡ startsAbove (map (c .one) above)
-  unfolding startsBy
+  pub starts-by : (above : List (List ℕ)) → startsBelow R above ≡ startsAbove (map (c .one) above)
+  unfolding startsBelow
   starts-by above =
       ap (λ (ls : List (List ℕ)). startsAbove (reverse ls)) (c .is (reverse above) ∙ map-onto (c .one) above [])
       ∙ ap startsAbove (reverse-reverse (map (c .one) above))
 
-  starts-cut : (xs : List (List ℕ)) (l : List ℕ) (ys : List (List ℕ)) → isHeader l ≡ true → startsBy R (xs ++ l ∷ ys) ≡ startsBy R (xs ++ l ∷ [])
+  starts-cut : (xs : List (List ℕ)) (l : List ℕ) (ys : List (List ℕ)) → isHeader l ≡ true → startsBelow R (xs ++ l ∷ ys) ≡ startsBelow R (xs ++ l ∷ [])
   starts-cut xs l ys h =
       starts-by (xs ++ l ∷ ys)
       ∙ ap startsAbove (map-append (c .one) xs (l ∷ ys))

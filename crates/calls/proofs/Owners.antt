@@ -8,7 +8,7 @@ use borrow.Author.Tests.{ne-eqb}
 use lib.Dec.{eqb}
 use Rattle.lines.specs.Acts.{Act, keep, become, into, gone, act}
 use Rattle.calls.specs.Leaves.{Leaves}
-use Rattle.calls.specs.Calls.{Item, Row, Walked, Step, end, skip, absorb, stop, pass, tries, settle, linesIn, linesOn, has, climb, made, onStep, readLater, stepAt, walk, turn, rowsOf}
+use Rattle.calls.specs.Calls.{Item, Row, Walked, Step, end, skip, absorb, stop, pass, tries, settleRow, linesIn, linesOn, has, climb, made, onStep, readLater, stepAt, walk, turn, rowsOf}
 use Rattle.calls.proofs.Cut.{walk-step}
 use Rattle.calls.specs.Inner.Tables.{ownerOf}
 
@@ -36,7 +36,7 @@ module _ (L : Leaves) where
   unfoldable pub turnLi : Item → List (List ℕ) → List Row → List Row
   turnLi x below rows =
       cond (tries L (x .line) rows)
-      (settle L x (walkLi (x .block) (λ v. readLater L v below) climb rows 1 (L .header (x .line)) (x .line) [] []))
+      (settleRow L x (walkLi (x .block) (λ v. readLater L v below) climb rows 1 (L .header (x .line)) (x .line) [] []))
       (record { item = x; act = keep } ∷ rows)
 
   unfoldable pub rowsLi : List Item → List Row → List Row
@@ -118,7 +118,7 @@ module _ (L : Leaves) where
   turn-li : (x : Item) (below : List (List ℕ)) (rs : List Row) → owned 1 rs → turnLi L x below rs ≡ turn L x below rs
   unfolding turnLi turn
   turn-li x below rs q =
-      ap (λ (w : Walked). cond (tries L (x .line) rs) (settle L x w) (record { item = x; act = keep } ∷ rs)) (walk-li (x .block) (λ v. readLater L v below) climb rs 1 (L .header (x .line)) (x .line) [] [] q)
+      ap (λ (w : Walked). cond (tries L (x .line) rs) (settleRow L x w) (record { item = x; act = keep } ∷ rs)) (walk-li (x .block) (λ v. readLater L v below) climb rs 1 (L .header (x .line)) (x .line) [] [] q)
 
   rows-li : (xs : List Item) (rs : List Row) → owned 1 rs → rowsLi L xs rs ≡ rowsOf L xs rs
   unfolding rowsLi rowsOf

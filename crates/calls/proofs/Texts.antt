@@ -6,7 +6,7 @@ use Rattle.lines.specs.Lf.{upTo, prefixed, suffixed, same, holds, cutOn, partsO
 use Rattle.text.specs.White.{isWhite}
 use Rattle.text.specs.Utf8Form.{seqLen}
 use Rattle.text.specs.Trim.{whiteChar, whiteHead, whiteTail, lead, fromOf, endWhite, toOf, trimOf}
-use Rattle.names.specs.Names.{numbered, numberOf, decimalBy, decimal, regOf, isIdent}
+use Rattle.names.specs.Names.{numbered, readNumber, decimalBy, decimal, regOf, isIdent}
 use Rattle.parse.specs.Parse.{allRegs, isDecl, storeIn, parseOf, textOf}
 use Rattle.words.specs.Runs.{runsGo, runs, countBy}
 use Rattle.words.specs.Hits.{hitsGo, hits, oneHit, regHit, afterNew, asTarget, glueLeft, glueRight, glued, replacedAt, replaceReg}
@@ -20,7 +20,7 @@ use Rattle.forms.specs.Primary.{allIdents, isPlainRef, bareGo, primary, bare, p
 use Rattle.forms.specs.Breaks.{writesAny, writes, breaksWith, breaks}
 use Rattle.reading.specs.Reading.{plain}
 use Rattle.reading.specs.Uses.{lineReads}
-use Rattle.calls.specs.LeavesOf.{parsedOf, contextOf, isCall, isControlLine, startsBy, blocksBy, leavesOf}
+use Rattle.calls.specs.LeavesOf.{parsedOf, contextOf, isCall, isControlLine, startsBelow, blocksBy, leavesOf}
 use Rattle.calls.specs.Calls.{rebuildCalls}
 
 -- `r2 = console; LF r3 = g("w"); LF r2.log(r3);` gives `console.log(g("w"));`
@@ -42,5 +42,5 @@ table =
     ∷ []
 
 pub tidies : map (λ (p : List (List ℕ) × List (List ℕ)). rebuildCalls (leavesOf plain) (p .0)) table ≡ map (λ (p : List (List ℕ) × List (List ℕ)). p .1) table
-unfolding table rebuildCalls parsedOf contextOf isCall isControlLine startsBy blocksBy upTo prefixed suffixed same holds cutOn partsOf isWhite seqLen whiteChar whiteHead whiteTail lead fromOf endWhite toOf trimOf numbered numberOf decimalBy decimal regOf isIdent allRegs isDecl storeIn parseOf textOf runsGo runs countBy hitsGo hits oneHit regHit afterNew asTarget glueLeft glueRight glued replacedAt replaceReg quoteLen patternLen commentLen lastOf tokenOf lexGo stripLexical wordsIn isHeader braceOf push count top stackAfter nextAfter blocksGo blocks cleaned startsAfter startsAbove isControl allIdents isPlainRef bareGo primary bare parenIfNeeded writesAny writes breaksWith breaks lineReads
+unfolding table rebuildCalls parsedOf contextOf isCall isControlLine startsBelow blocksBy upTo prefixed suffixed same holds cutOn partsOf isWhite seqLen whiteChar whiteHead whiteTail lead fromOf endWhite toOf trimOf numbered readNumber decimalBy decimal regOf isIdent allRegs isDecl storeIn parseOf textOf runsGo runs countBy hitsGo hits oneHit regHit afterNew asTarget glueLeft glueRight glued replacedAt replaceReg quoteLen patternLen commentLen lastOf tokenOf lexGo stripLexical wordsIn isHeader braceOf push count top stackAfter nextAfter blocksGo blocks cleaned startsAfter startsAbove isControl allIdents isPlainRef bareGo primary bare parenIfNeeded writesAny writes breaksWith breaks lineReads
 tidies = refl

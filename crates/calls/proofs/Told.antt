@@ -25,7 +25,7 @@ use Rattle.place.proofs.Blocks.{cleaned-length, length-ids}
 use Rattle.place.proofs.Starts.{starts-at, length-starts}
 use Rattle.reading.specs.Reading.{plain}
 use Rattle.calls.specs.Leaves.{Leaves, Parsed, store, other}
-use Rattle.calls.specs.LeavesOf.{parsedOf, contextOf, startsBy, blocksBy, leavesOf}
+use Rattle.calls.specs.LeavesOf.{parsedOf, contextOf, startsBelow, blocksBy, leavesOf}
 use Rattle.calls.specs.Calls.{Item, Row, Walked, Step, end, skip, absorb, tries, linesIn, linesOn, has, climb, made, itemsOf, actsUp, readLater, breaksOne, putBy, storeStep, stepAt, walk, turn, rowsOf}
 use Rattle.calls.specs.Inner.Tables.{ownerOf, rowsTo, walkFrom, itemsIn, rowsAt, walkAt, lineAt, Placed}
 use Rattle.calls.proofs.Cut.{walk-step}
@@ -129,7 +129,7 @@ absorbs-lacks {a} {l} {cur} {next} p g h k =
 pub record RowTold (bs fs : List ℕ) (x : Item) (above : List (List ℕ)) : Type 0 where
   pub clear : lacks 10 (x .line) ≡ true
   pub block : getD bs (length above) 0 ≡ x .block
-  pub start : eqb (getD fs (length above) 0) 1 ≡ startsBy plain above
+  pub start : eqb (getD fs (length above) 0) 1 ≡ startsBelow plain above
   pub b< : length above < length bs
   pub f< : length above < length fs
 
@@ -308,8 +308,8 @@ module _ {t bs fs : List ℕ} (p : Placed t bs fs) where
   pub block-at : (n : ℕ) → n < length (linesOf t) → getD bs n 0 ≡ getD (blockIds (linesOf t)) n 0
   block-at n h = sym (getD-take (length (linesOf t)) bs n 0 h) ∙ ap (λ (l : List ℕ). getD l n 0) (p .blocks-are)
 
-  pub start-at : (n : ℕ) → n < length (linesOf t) → eqb (getD fs n 0) 1 ≡ startsBy plain (linesIn (rowsAt t n))
-  unfolding startsBy
+  pub start-at : (n : ℕ) → n < length (linesOf t) → eqb (getD fs n 0) 1 ≡ startsBelow plain (linesIn (rowsAt t n))
+  unfolding startsBelow
   start-at n h =
       let m : n < length (cleaned (linesOf t)) = omega (arith, cleaned-length (linesOf t)) in
       let k : n < length (startsGo (cleaned (linesOf t)) true) = omega (arith, length-starts (cleaned (linesOf t)) true) in

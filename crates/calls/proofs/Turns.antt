@@ -19,7 +19,7 @@ use Rattle.place.specs.Region.{isHeader}
 use Rattle.place.specs.Inner.Fill.{Filled}
 use Rattle.reading.specs.Reading.{plain}
 use Rattle.calls.specs.LeavesOf.{isCall, isControlLine, leavesOf}
-use Rattle.calls.specs.Calls.{Item, Row, Walked, tries, settle, linesIn, climb, actsUp, readLater, walk, turn, rebuildCallsActs, rebuildCalls}
+use Rattle.calls.specs.Calls.{Item, Row, Walked, tries, settleRow, linesIn, climb, actsUp, readLater, walk, turn, rebuildCallsActs, rebuildCalls}
 use Rattle.calls.specs.Inner.Tables.{ownerOf, ownersOf, rowsTo, rowsAt, walkAt, lineAt, Keeps, Stands, Placed, Foot, Peaked, Spot, Ready, Turned, Rebuilt}
 use Rattle.calls.proofs.Cut.{acts-more, acts-length}
 use Rattle.calls.proofs.Edges.{given, given-length, walk-given}
@@ -86,7 +86,7 @@ module _ (t : List ℕ) (n : ℕ) (h : n < length (linesOf t)) where
 
   rows-walked : tries (leavesOf plain) (lineAt t n) (rowsAt t n) ≡ true → rowsAt t (suc n) ≡ record { item = itemAt t n; act = walkAt t n .act } ∷ walkAt t n .rows
   unfolding turn
-  rows-walked e = rows-suc t n h ∙ rw e (ap (settle (leavesOf plain) (itemAt t n)) (sym (walk-is t n h)))
+  rows-walked e = rows-suc t n h ∙ rw e (ap (settleRow (leavesOf plain) (itemAt t n)) (sym (walk-is t n h)))
 
 module _ {t : List ℕ} {n i e : ℕ} {bs fs owner stack : List ℕ} {o : ℕ} {cur next clean : List ℕ} (v : Ready t n i e bs fs owner stack o cur next clean) where
   pub end-in : e ≤ length t

@@ -11,7 +11,7 @@ use Rattle.reading.specs.Reading.{Reading}
 use Rattle.reading.specs.Uses.{lineReads}
 use Rattle.forms.specs.Breaks.{breaks}
 use Rattle.calls.specs.Leaves.{Leaves, store}
-use Rattle.calls.specs.LeavesOf.{parsedOf, contextOf, startsBy, leavesOf}
+use Rattle.calls.specs.LeavesOf.{parsedOf, contextOf, startsBelow, leavesOf}
 use Rattle.calls.specs.Calls.{Item, Row, Step, end, skip, absorb, linesIn, has, readLater, breaksOne, putBy, storeStep, stepAt}
 use Rattle.calls.specs.Inner.Steps.{breaksDown, absorbStep}
 use Rattle.calls.specs.Inner.Tables.{ownerOf}
@@ -71,11 +71,11 @@ row-stands L b later gone x t d over cur took lines above q = let z : _≡_ {A =
 pub store-absorb : (R : Reading) (b : ℕ) (below : List (List ℕ)) {back : List Row} {d : ℕ} {took : List ℕ} {lines : List (List ℕ)} → Passed back d took lines →
     (t : List ℕ) (v : ℕ) (value : List ℕ) → parsedOf t ≡ store v value → (over : Bool) (cur : List ℕ) (blk : ℕ) (above : List (List ℕ)) →
     storeStep (leavesOf R) b (λ (v : ℕ). readLater (leavesOf R) v below) (parsedOf t) over cur lines blk above
-    ≡ cond (not over && (eqb blk b && startsBy R above)) (absorbStep R cur v value below (linesIn back) (ownersIn back)) end
+    ≡ cond (not over && (eqb blk b && startsBelow R above)) (absorbStep R cur v value below (linesIn back) (ownersIn back)) end
 unfolding storeStep absorbStep
 store-absorb R b below {back = back} {lines = lines} p t v value e over cur blk above =
     rw (e, lines-down (leavesOf R) value p)
-    (go (not over) (eqb blk b) (startsBy R above) (eqb (lineReads v cur) 1 && (not (readLater (leavesOf R) v below) && not (breaksDown (breaks value) (linesIn back) (ownersIn back)))) (putBy (leavesOf R) (contextOf cur v) cur v value))
+    (go (not over) (eqb blk b) (startsBelow R above) (eqb (lineReads v cur) 1 && (not (readLater (leavesOf R) v below) && not (breaksDown (breaks value) (linesIn back) (ownersIn back)))) (putBy (leavesOf R) (contextOf cur v) cur v value))
   where
     go : (f g h k : Bool) (s : Step) → cond (f && (g && (h && k))) s end ≡ cond (f && (g && h)) (cond k s end) end
     go false g h k s = refl

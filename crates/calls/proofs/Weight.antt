@@ -7,7 +7,7 @@ use native.Mathlib.Omega.{arith}
 use lib.Dec.{eqb}
 use Rattle.lines.specs.Acts.{Act, keep, become, into, gone, act, apply}
 use Rattle.calls.specs.Leaves.{Leaves, Parsed, store, other, Context}
-use Rattle.calls.specs.Calls.{Item, Row, Walked, Step, end, skip, absorb, stop, pass, tries, settle, linesIn, linesOn, has, climb, made, onStep, itemsOf, readLater, breaksOne, putBy, storeStep, stepAt, walk, turn, rowsOf, rebuildCalls}
+use Rattle.calls.specs.Calls.{Item, Row, Walked, Step, end, skip, absorb, stop, pass, tries, settleRow, linesIn, linesOn, has, climb, made, onStep, itemsOf, readLater, breaksOne, putBy, storeStep, stepAt, walk, turn, rowsOf, rebuildCalls}
 use Rattle.calls.proofs.Cut.{walk-step}
 use Rattle.calls.proofs.Edges.{standing, rebuilt, items-on}
 

@@ -147,13 +147,13 @@ module _ (L : Leaves) where
   tries l rows = L .call l && (L .starts (linesIn rows) && not (L .control l))
 
   -- li among the rows, with what became of it
-  abbrev pub settle : Item → Walked → List Row
-  settle x w = record { item = x; act = w .act } ∷ w .rows
+  abbrev pub settleRow : Item → Walked → List Row
+  settleRow x w = record { item = x; act = w .act } ∷ w .rows
 
   -- one call line, given the rows above, the nearest first
   unfoldable pub turn : Item → List (List ℕ) → List Row → List Row
   turn x below rows =
-      let walked = settle x (walk (x .block) (λ v. readLater v below) climb rows 1 (L .header (x .line)) (x .line) [] []) in
+      let walked = settleRow x (walk (x .block) (λ v. readLater v below) climb rows 1 (L .header (x .line)) (x .line) [] []) in
       cond (tries (x .line) rows) walked (record { item = x; act = keep } ∷ rows)
 
   -- the rows of all lines, the last first

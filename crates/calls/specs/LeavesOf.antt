@@ -49,8 +49,8 @@ unfoldable pub isControlLine : List ℕ → Bool
 isControlLine l = isControl (trimStart l)
 
 -- `starts_statement` of a line, given the lines above it, the nearest first: they are cleaned as they stand in the text
-unfoldable pub startsBy : Reading → List (List ℕ) → Bool
-startsBy R above = startsAbove (reverse (R .clean (reverse above)))
+unfoldable pub startsBelow : Reading → List (List ℕ) → Bool
+startsBelow R above = startsAbove (reverse (R .clean (reverse above)))
 
 -- `block_ids`
 unfoldable pub blocksBy : Reading → List (List ℕ) → List ℕ
@@ -63,7 +63,7 @@ leavesOf R =
       call = isCall;
       control = isControlLine;
       header = isHeader;
-      starts = startsBy R;
+      starts = startsBelow R;
       parse = parsedOf;
       reads = lineReads;
       breaks = breaks;

@@ -14,10 +14,10 @@ use Rattle.lines.proofs.Tests.{no, and-left, and-right, and-both}
 use Rattle.text.specs.White.{isWhite}
 use Rattle.text.specs.Utf8Form.{seqLen}
 use Rattle.text.specs.Trim.{whiteChar, whiteHead, lead, fromOf, toOf, trimOf}
-use Rattle.names.specs.Names.{numberOf, regOf}
+use Rattle.names.specs.Names.{readNumber, regOf, isReg}
 use Rattle.names.specs.Inner.Names.{zeros}
 use Rattle.names.specs.declared.RegName.the-variants as name
-use Rattle.parse.specs.Parse.{letWord, bodyOf, isReg, allRegs, isDecl}
+use Rattle.parse.specs.Parse.{letWord, bodyOf, allRegs, isDecl}
 use Rattle.weight.specs.Inner.Weight.{spaced, extra, heavy, weight}
 use Rattle.weight.proofs.Weigh.{length-weight, weight-append, weight-cut, weight-take, weight-drop, weight-rest, spaced-drop, weight-line, nothing}
 use Rattle.weight.proofs.Pays.{Pays, done, step, pays}
@@ -108,7 +108,7 @@ leftOut f [] = 0
 leftOut f (p ∷ ps) = cond (f (trimOf p)) (leftOut f ps) (suc (leftOut f ps))
 
 reg-long : (t : List ℕ) → isReg (regOf t) ≡ true → 2 ≤ length t
-unfolding regOf prefixed numberOf
+unfolding regOf prefixed readNumber
 reg-long [] h = no h
 reg-long (x ∷ []) h = go (eqb 114 x) h
   where

@@ -7,7 +7,7 @@ use Rattle.lines.specs.Acts.{act, apply}
 use Rattle.text.specs.White.{isWhite}
 use Rattle.text.specs.Utf8Form.{seqLen}
 use Rattle.text.specs.Trim.{whiteChar, whiteHead, whiteTail, lead, fromOf, endWhite, toOf, trimOf}
-use Rattle.names.specs.Names.{numbered, numberOf, decimalBy, decimal, regOf}
+use Rattle.names.specs.Names.{numbered, readNumber, decimalBy, decimal, regOf}
 use Rattle.parse.specs.Parse.{allRegs, isDecl, storeIn, parseOf, textOf}
 use Rattle.words.specs.Runs.{runsGo, runs, countBy}
 use Rattle.place.specs.Region.{isHeader, untilHeader, region, regionAt}
@@ -23,5 +23,5 @@ unfoldable pub wanted : List ℕ
 wanted = 102 ∷ 117 ∷ 110 ∷ 99 ∷ 116 ∷ 105 ∷ 111 ∷ 110 ∷ 32 ∷ 102 ∷ 40 ∷ 41 ∷ 32 ∷ 123 ∷ 10 ∷ 32 ∷ 32 ∷ 108 ∷ 101 ∷ 116 ∷ 32 ∷ 114 ∷ 55 ∷ 44 ∷ 32 ∷ 114 ∷ 49 ∷ 59 ∷ 10 ∷ 32 ∷ 32 ∷ 114 ∷ 49 ∷ 32 ∷ 61 ∷ 32 ∷ 114 ∷ 55 ∷ 59 ∷ 10 ∷ 125 ∷ 10 ∷ 32 ∷ 32 ∷ 108 ∷ 101 ∷ 116 ∷ 32 ∷ 114 ∷ 50 ∷ 59 ∷ 10 ∷ 117 ∷ 115 ∷ 101 ∷ 40 ∷ 114 ∷ 50 ∷ 41 ∷ 59 ∷ 10 ∷ 108 ∷ 101 ∷ 116 ∷ 32 ∷ 114 ∷ 53 ∷ 44 ∷ 59 ∷ 10 ∷ []
 
 pub pruned : unlines (pruneDecls (linesOf given)) ≡ wanted
-unfolding given wanted seqLen isWhite whiteChar whiteHead whiteTail lead fromOf endWhite toOf trimOf numbered numberOf decimalBy decimal regOf upTo cutOn linesOf partsOf unlines prefixed allRegs isDecl storeIn parseOf textOf runsGo runs countBy lineReads lineStores lineUses usedIn act apply isHeader untilHeader region regionAt commas declAct keepNames actOf actsGo pruneDeclsActs pruneDecls
+unfolding given wanted seqLen isWhite whiteChar whiteHead whiteTail lead fromOf endWhite toOf trimOf numbered readNumber decimalBy decimal regOf upTo cutOn linesOf partsOf unlines prefixed allRegs isDecl storeIn parseOf textOf runsGo runs countBy lineReads lineStores lineUses usedIn act apply isHeader untilHeader region regionAt commas declAct keepNames actOf actsGo pruneDeclsActs pruneDecls
 pruned = refl

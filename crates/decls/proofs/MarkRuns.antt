@@ -12,7 +12,7 @@ use lib.Seq.{drop-cons, drop-drop, getD-take, getD-drop, length-take-le}
 use Rattle.lines.specs.Lf.{part, upTo, prefixed}
 use Rattle.lines.proofs.Tests.{no, and-false, eqb-sym}
 use Rattle.text.specs.Class.{isName}
-use Rattle.names.specs.Names.{isDigit, numberOf, regBy, regOf}
+use Rattle.names.specs.Names.{isDigit, readNumber, regBy, regOf}
 use Rattle.names.proofs.Texts.{reg-first, reg-two, digit-is}
 use Rattle.parse.proofs.Plain.{inside, name-at}
 use Rattle.parse.proofs.PlainLine.{first-taken, bare-none}
@@ -247,7 +247,7 @@ run-short s i d e p f n =
     let l : length (take 2 (drop i s)) ≡ 2 = length-take-le 2 (drop i s) (omega (arith, length-drop i s)) in
     let x : getD (take 2 (drop i s)) 0 0 ≡ 114 = getD-take 2 (drop i s) 0 0 (omega arith) ∙ getD-drop i s 0 0 ∙ ap (λ (j : ℕ). getD s j 0) z ∙ e in
     let y : getD (take 2 (drop i s)) 1 0 ≡ d = getD-take 2 (drop i s) 1 0 (omega arith) ∙ getD-drop i s 1 0 ∙ sym p in
-    ap (λ (j : ℕ). regOf (take j (drop i s))) k ∙ reg-two (take 2 (drop i s)) l x ∙ ap (λ (c : ℕ). regBy (numberOf (c ∷ []))) y ∙ digit-is d f
+    ap (λ (j : ℕ). regOf (take j (drop i s))) k ∙ reg-two (take 2 (drop i s)) l x ∙ ap (λ (c : ℕ). regBy (readNumber (c ∷ []))) y ∙ digit-is d f
 
 -- ---- a run that names no register
 

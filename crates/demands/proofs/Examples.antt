@@ -6,7 +6,7 @@ use mathlib.Core.List.{List, [], _∷_, _++_}
 use Rattle.lines.specs.Lf.{upTo, prefixed, same, cutOn, linesOf}
 use Rattle.lines.specs.Steps.{dropCr, splitLines}
 use Rattle.lexical.specs.Lex.{quoteLen, patternLen, commentLen, lastOf, tokenOf, lexGo, stripLexical}
-use Rattle.lexical.specs.Inner.Lex.{tokenAt, tailOf, pushed, grown, stepOf}
+use Rattle.lexical.specs.Inner.Lex.{tokenAt, tailOf, pushed, grown, cleanStep}
 use Rattle.place.specs.Region.{isHeader}
 use Rattle.place.specs.Inner.Region.{headed}
 use Rattle.place.specs.Blocks.{braceOf, push, count, top, cleaned}
@@ -30,5 +30,5 @@ unfolding splitLines dropCr linesOf prefixed cutOn isHeader headed
 tail-headed = refl
 
 pub tail-own : own (cleaned (splitLines tail)) ≡ true
-unfolding splitLines dropCr linesOf prefixed cutOn quoteLen patternLen commentLen lastOf tokenOf tokenAt lexGo stripLexical tailOf pushed grown stepOf braceOf push count top cleaned mayAt depthAt depthAfter ownLine ownGo own upTo same
+unfolding splitLines dropCr linesOf prefixed cutOn quoteLen patternLen commentLen lastOf tokenOf tokenAt lexGo stripLexical tailOf pushed grown cleanStep braceOf push count top cleaned mayAt depthAt depthAfter ownLine ownGo own upTo same
 tail-own = refl

@@ -3,10 +3,10 @@ use Prim.Native.Nat.{ℕ}
 use mathlib.Core.Path.{_≡_, refl}
 use mathlib.Core.List.{List, [], _∷_, map}
 use Rattle.lines.specs.Lf.{prefixed, same}
-use Rattle.names.specs.Names.{numbered, numberOf, regOf, isIdent}
+use Rattle.names.specs.Names.{numbered, readNumber, regOf, isIdent}
 use Rattle.expr.specs.Fix.{deep, fix}
 use Rattle.expr.specs.Comments.{strip, stripComments}
-use Rattle.expr.specs.Pure.{spaceStart, spaceEnd, spaceTrim, wrapped, shapeOf, opens, closes, elements, pureBy, judge, purityOf}
+use Rattle.expr.specs.Pure.{spaceStart, spaceEnd, spaceTrim, wrapped, shapeOf, openings, closings, elements, pureBy, judge, purityOf}
 use Rattle.expr.specs.declared.kinds.Purity.{Purity}
 use Rattle.expr.specs.declared.kinds.Purity.the-variants.{Stable, Ident, Effectful}
 
@@ -47,5 +47,5 @@ rows =
 
 -- the purity of each text by the definitions is the one that the table says
 pub examples : map (λ (r : Row). purityOf (r .text)) rows ≡ map (λ (r : Row). r .kind) rows
-unfolding rows prefixed same numbered numberOf regOf isIdent deep fix strip stripComments spaceStart spaceEnd spaceTrim wrapped shapeOf opens closes elements pureBy judge purityOf
+unfolding rows prefixed same numbered readNumber regOf isIdent deep fix strip stripComments spaceStart spaceEnd spaceTrim wrapped shapeOf openings closings elements pureBy judge purityOf
 examples = refl

@@ -8,13 +8,13 @@ use borrow.Author.Tests.{leb-true}
 use lib.Dec.{eqb, leb}
 use lib.ListN.{length, take, drop, length-take, length-append, take-append-drop}
 use lib.Seq.{append-snoc}
-use Rattle.lines.specs.Lf.{all}
+use Rattle.lines.specs.Lf.{all, isEmpty}
 use Rattle.lines.proofs.Tests.{and-left}
-use Rattle.names.specs.Names.{regOf, isIdent}
+use Rattle.names.specs.Names.{regOf, isIdent, isReg}
 use Rattle.expr.specs.Fix.{deep, fix}
 use Rattle.expr.specs.Comments.{stripComments}
 use Rattle.expr.specs.Inner.Comments.{noComment}
-use Rattle.expr.specs.Pure.{isSpace, spaceStart, spaceEnd, spaceTrim, isEmpty, namesReg, isWord, startsNumber, isNumberByte, wrapped, isQuoted, shapeOf, inner, opens, closes, elements, isPure, pureBy, judge, cutRule, purityRule, purityOf}
+use Rattle.expr.specs.Pure.{isSpace, spaceStart, spaceEnd, spaceTrim, isWord, startsNumber, isNumberByte, wrapped, isQuoted, shapeOf, inner, openings, closings, elements, isPure, pureBy, judge, cutRule, purityRule, purityOf}
 use Rattle.expr.specs.Inner.Pure.{purityCut}
 use Rattle.expr.specs.declared.kinds.Shape.{Shape}
 use Rattle.expr.specs.declared.kinds.Shape.the-variants.{Plain, Array}
@@ -76,8 +76,8 @@ module _ {P : List ℕ → Type 0} (p : Parts P) where
     elements-same [] now o c h = cond-same (all isSpace now) [] (now ∷ []) refl (rw (same now (p .left now [] h)))
     elements-same (a ∷ s) now o c h =
         let k = elements-same s [] o c (p .right (a ∷ []) s (p .right now (a ∷ s) h)) in
-        let q = elements-same s (now ++ (a ∷ [])) (o + opens a) (c + closes a) (rw (append-snoc now a s) h) in
-        cond-same (eqb a 44 && eqb o c) (now ∷ elements s [] o c) (elements s (now ++ (a ∷ [])) (o + opens a) (c + closes a))
+        let q = elements-same s (now ++ (a ∷ [])) (o + openings a) (c + closings a) (rw (append-snoc now a s) h) in
+        cond-same (eqb a 44 && eqb o c) (now ∷ elements s [] o c) (elements s (now ++ (a ∷ [])) (o + openings a) (c + closings a))
         (rw (same now (p .left now (a ∷ s) h), k)) q
 
   pub pure-same : (f g : List ℕ → Purity) → ((e : List ℕ) → P e → f e ≡ g e) → (s : List ℕ) → P s → pureBy f s ≡ pureBy g s
@@ -114,7 +114,7 @@ pub array-long : (t : List ℕ) → shapeOf t ≡ Array → 2 ≤ length t
 unfolding shapeOf
 array-long t h =
     wrapped-long 91 93 t
-    (array-by (isEmpty t) (namesReg (regOf t)) (isWord t) (startsNumber t) (all isNumberByte t) (isQuoted t) (wrapped 91 93 t) (isIdent t) h)
+    (array-by (isEmpty t) (isReg (regOf t)) (isWord t) (startsNumber t) (all isNumberByte t) (isQuoted t) (wrapped 91 93 t) (isIdent t) h)
 
 pub empty : (t : List ℕ) → length t ≡ 0 → isEmpty t ≡ true
 empty [] h = refl

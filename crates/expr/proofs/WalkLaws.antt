@@ -11,7 +11,7 @@ use lib.Seq.{drop-cons}
 use Rattle.lines.specs.Lf.{among, part, all}
 use Rattle.lines.proofs.Tests.{and-true}
 use Rattle.lines.proofs.LfLaws.{part-none, part-more}
-use Rattle.expr.specs.Pure.{isSpace, spaceTrim, shapeOf, opens, closes, elements, pureBy, judge}
+use Rattle.expr.specs.Pure.{isSpace, spaceTrim, shapeOf, openings, closings, elements, pureBy, judge}
 use Rattle.expr.specs.Inner.Pure.{purityCut}
 use Rattle.expr.specs.declared.kinds.Shape.{Shape}
 use Rattle.expr.specs.declared.kinds.Shape.the-variants.{Plain, Array}
@@ -25,12 +25,12 @@ one-le : (t : Bool) → cond t 1 0 ≤ 1
 one-le true = omega arith
 one-le false = omega arith
 
-pub opens-le : (b : ℕ) → opens b ≤ 1
-unfolding opens
+pub opens-le : (b : ℕ) → openings b ≤ 1
+unfolding openings
 opens-le b = one-le (among (40 ∷ 91 ∷ 123 ∷ []) b)
 
-pub closes-le : (b : ℕ) → closes b ≤ 1
-unfolding closes
+pub closes-le : (b : ℕ) → closings b ≤ 1
+unfolding closings
 closes-le b = one-le (among (41 ∷ 93 ∷ 125 ∷ []) b)
 
 -- ---- the walk
@@ -49,7 +49,7 @@ module _ (f : List ℕ → Bool) (s : List ℕ) (a i o c : ℕ) where
   walk-stop p h t = rw (drop-cons s i 0, h, t)
 
   pub walk-byte : a ≤ i → i < length s → (eqb (getD s i 0) 44 && eqb o c) ≡ false →
-      walk f s a i o c ≡ walk f s a (i + 1) (o + opens (getD s i 0)) (c + closes (getD s i 0))
+      walk f s a i o c ≡ walk f s a (i + 1) (o + openings (getD s i 0)) (c + closings (getD s i 0))
   unfolding elements
   walk-byte q p h = rw (drop-cons s i 0, h, part-more s a i, add-one)
 

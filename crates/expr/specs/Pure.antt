@@ -6,8 +6,8 @@ use mathlib.Core.List.{List, [], _∷_, _++_}
 use lib.ListN.{length, getD}
 use lib.Dec.{eqb, leb}
 use Rattle.lines.specs.Ascii.{ascii}
-use Rattle.lines.specs.Lf.{within, among, part, same, all}
-use Rattle.names.specs.Names.{isDigit, regOf, isIdent}
+use Rattle.lines.specs.Lf.{within, among, part, same, all, isEmpty}
+use Rattle.names.specs.Names.{isDigit, regOf, isIdent, isReg}
 use Rattle.names.specs.declared.RegName.{RegName}
 use Rattle.names.specs.declared.RegName.the-variants as name
 use Rattle.expr.specs.Fix.{fix}
@@ -45,16 +45,6 @@ spaceTrim s = spaceEnd (spaceStart s)
 
 -- ---- the tests, in the order of the Rust
 
--- no byte
-abbrev pub isEmpty : List ℕ → Bool
-isEmpty [] = true
-isEmpty (a ∷ s) = false
-
--- the name of a register
-abbrev pub namesReg : RegName → Bool
-namesReg (name.Reg q) = true
-namesReg name.None = false
-
 -- undefined null true false NaN Infinity
 abbrev pub isWord : List ℕ → Bool
 isWord t =
@@ -84,7 +74,7 @@ isQuoted t = wrapped (code "\"") (code "\"") t || wrapped (code "'") (code "'") 
 unfoldable pub shapeOf : List ℕ → Shape
 shapeOf t =
     cond (isEmpty t) (Plain Effectful)
-    (cond (namesReg (regOf t)) (Plain Stable)
+    (cond (isReg (regOf t)) (Plain Stable)
     (cond (isWord t) (Plain Stable)
     (cond (startsNumber t) (cond (all isNumberByte t) (Plain Stable) (Plain Effectful))
     (cond (isQuoted t) (Plain Stable)
@@ -99,20 +89,20 @@ abbrev pub inner : List ℕ → List ℕ
 inner t = part 1 (length t - 1) t
 
 -- brackets that open, and that close; the depth may go below 0, so the two are counted apart
-unfoldable pub opens : ℕ → ℕ
-opens b = cond (among (ascii "([{") b) 1 0
+unfoldable pub openings : ℕ → ℕ
+openings b = cond (among (ascii "([{") b) 1 0
 
-unfoldable pub closes : ℕ → ℕ
-closes b = cond (among (ascii ")]}") b) 1 0
+unfoldable pub closings : ℕ → ℕ
+closings b = cond (among (ascii ")]}") b) 1 0
 
 -- the elements of an array, cut at each comma at depth 0; `now` is what has been read of the present one, o brackets have been opened
 -- and c closed. A last one that is white space alone is left out
 unfoldable pub elements : List ℕ → List ℕ → ℕ → ℕ → List (List ℕ)
-unfolding opens closes
+unfolding openings closings
 elements [] now o c = cond (all isSpace now) [] (now ∷ [])
 elements (a ∷ s) now o c =
     let ended = now ∷ elements s [] o c in
-    let longer = elements s (now ++ (a ∷ [])) (o + opens a) (c + closes a) in
+    let longer = elements s (now ++ (a ∷ [])) (o + openings a) (c + closings a) in
     cond (eqb a (code ",") && eqb o c) ended longer
 
 -- `pure_expr`

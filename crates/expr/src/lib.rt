@@ -9,9 +9,9 @@ ghost use Prim.Native.Nat.{_≤_, _+_};
 ghost use lib.ListN.{length, take, drop};
 ghost use Rattle.lines.specs.Lf.{prefixed, all};
 ghost use Rattle.lines.specs.Inner.Out.{putAt, Wrote};
-ghost use Rattle.names.specs.Names.{isDigit, regOf};
+ghost use Rattle.names.specs.Names.{isDigit, regOf, isReg};
 ghost use Rattle.expr.specs.Comments.{stripComments};
-ghost use Rattle.expr.specs.Pure.{isSpace, spaceStart, spaceEnd, spaceTrim, namesReg, isWord, startsNumber, isNumberByte, wrapped, isQuoted, shapeOf, opens, closes, isPure, pureBy, purityOf};
+ghost use Rattle.expr.specs.Pure.{isSpace, spaceStart, spaceEnd, spaceTrim, isWord, startsNumber, isNumberByte, wrapped, isQuoted, shapeOf, openings, closings, isPure, pureBy, purityOf};
 ghost use Rattle.expr.specs.Inner.Pure.{purityCut};
 
 // Whether the bytes `x` and `y` stand at `i` and just after it.
@@ -129,7 +129,7 @@ fn is_blank(s: &[u8]) -> bool
 
 // Whether a text names a register.
 fn is_register(t: &[u8]) -> bool
-    ensures { λ r. ⌜ r ≡ namesReg (regOf (now (t .entry))) ⌝ }
+    ensures { λ r. ⌜ r ≡ isReg (regOf (now (t .entry))) ⌝ }
 {
     match names::reg_name(t) {
         names::RegName::Reg(_) => true,
@@ -237,7 +237,7 @@ fn shape(t: &[u8]) -> Shape
 
 // 1 for a bracket that opens, else 0.
 fn opens(b: u8) -> usize
-    ensures { λ r. ⌜ r ≡ opens b ⌝ }
+    ensures { λ r. ⌜ r ≡ openings b ⌝ }
 {
     if (b == b'(') | ((b == b'[') | (b == b'{')) {
         return 1;
@@ -247,7 +247,7 @@ fn opens(b: u8) -> usize
 
 // 1 for a bracket that closes, else 0.
 fn closes(b: u8) -> usize
-    ensures { λ r. ⌜ r ≡ closes b ⌝ }
+    ensures { λ r. ⌜ r ≡ closings b ⌝ }
 {
     if (b == b')') | ((b == b']') | (b == b'}')) {
         return 1;

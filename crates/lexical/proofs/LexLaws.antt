@@ -16,7 +16,7 @@ use Rattle.lexical.specs.declared.Token.{Token}
 use Rattle.lexical.specs.declared.Tail.{Tail}
 use Rattle.lexical.specs.declared.Step.{Step}
 use Rattle.lexical.specs.Lex.{lastOf, tokenOf, leaves, lexGo, stripLexical}
-use Rattle.lexical.specs.Inner.Lex.{tokenAt, tailOf, grown, stepOf}
+use Rattle.lexical.specs.Inner.Lex.{tokenAt, tailOf, grown, cleanStep}
 use Rattle.lexical.proofs.EndLaws.{cons-at}
 use Rattle.lexical.proofs.TokenLaws.{size-some, size-le}
 use Rattle.lexical.proofs.TailLaws.{grown-tail}
@@ -43,17 +43,17 @@ module _ (s : List ℕ) (i : ℕ) (t : Tail) (h : i < length s) where
   token-here out e = rw (cons-at s i h, e)
 
   -- a step goes on, and not past the end
-  pub step-on : i < stepOf i t (drop i s) .next
-  unfolding stepOf
+  pub step-on : i < cleanStep i t (drop i s) .next
+  unfolding cleanStep
   step-on = let d = length-drop i s in let k = size-some (t .last) (drop i s) (omega arith) in omega arith
 
-  pub step-le : stepOf i t (drop i s) .next ≤ length s
-  unfolding stepOf
+  pub step-le : cleanStep i t (drop i s) .next ≤ length s
+  unfolding cleanStep
   step-le = let d = length-drop i s in let k = size-le (t .last) (drop i s) in omega arith
 
   -- what is left to do, with what the step leaves
-  pub step-lex : (out : List ℕ) → t ≡ tailOf out → lexGo (drop i s) 0 out ≡ lexGo (drop (stepOf i t (drop i s) .next) s) 0 (out ++ leaves (stepOf i t (drop i s) .kind) (getD s i 0))
-  unfolding stepOf
+  pub step-lex : (out : List ℕ) → t ≡ tailOf out → lexGo (drop i s) 0 out ≡ lexGo (drop (cleanStep i t (drop i s) .next) s) 0 (out ++ leaves (cleanStep i t (drop i s) .kind) (getD s i 0))
+  unfolding cleanStep
   step-lex out e =
       let k : Token = tokenAt (t .last) (drop i s) in
       let x : ℕ = getD s i 0 in
@@ -66,8 +66,8 @@ module _ (s : List ℕ) (i : ℕ) (t : Tail) (h : i < length s) where
       ∙ ap (λ (l : List ℕ). lexGo l 0 (out ++ leaves (k .kind) x)) (drop-drop (k .size - 1) (i + 1) s ∙ ap (λ (n : ℕ). drop n s) p)
 
   -- the digest of the text with what the step leaves
-  pub step-tail : (out : List ℕ) → t ≡ tailOf out → stepOf i t (drop i s) .tail ≡ tailOf (out ++ leaves (stepOf i t (drop i s) .kind) (getD s i 0))
-  unfolding stepOf
+  pub step-tail : (out : List ℕ) → t ≡ tailOf out → cleanStep i t (drop i s) .tail ≡ tailOf (out ++ leaves (cleanStep i t (drop i s) .kind) (getD s i 0))
+  unfolding cleanStep
   step-tail out e =
       let k : Token = tokenAt (t .last) (drop i s) in
       ap (λ (b : ℕ). grown t (leaves (k .kind) b)) (head-at s i) ∙ ap (λ (u : Tail). grown u (leaves (k .kind) (getD s i 0))) e ∙ grown-tail (leaves (k .kind) (getD s i 0)) out
@@ -107,14 +107,14 @@ unfolding stripLexical
 lex-start s t e = record { i≤ = omega arith; tail = e; so-far = refl }
 
 module _ {s out : List ℕ} {i : ℕ} {t : Tail} (h : LexAt s i t out) where
-  pub lex-next : (r : Step) → r ≡ stepOf i t (drop i s) → i < length s → LexAt s (r .next) (r .tail) (out ++ leaves (r .kind) (getD s i 0))
+  pub lex-next : (r : Step) → r ≡ cleanStep i t (drop i s) → i < length s → LexAt s (r .next) (r .tail) (out ++ leaves (r .kind) (getD s i 0))
   lex-next r q l = rw q (record {
     i≤ = step-le s i t l;
     tail = step-tail s i t l out (h .tail);
     so-far = sym (step-lex s i t l out (h .tail)) ∙ h .so-far;
   })
 
-  pub lex-on : (r : Step) → r ≡ stepOf i t (drop i s) → i < length s → i < r .next
+  pub lex-on : (r : Step) → r ≡ cleanStep i t (drop i s) → i < length s → i < r .next
   lex-on r q l = rw q (step-on s i t l)
 
   pub lex-end : length s ≤ i → out ≡ stripLexical s
@@ -134,7 +134,7 @@ pub last-start : (s : List ℕ) (t : Tail) → t ≡ tailOf [] → LastInv s 0 t
 last-start s t e = record { done = []; lex = lex-start s t e }
 
 module _ {s : List ℕ} {i : ℕ} {t : Tail} (h : LastInv s i t) where
-  pub last-next : (r : Step) → r ≡ stepOf i t (drop i s) → i < length s → LastInv s (r .next) (r .tail)
+  pub last-next : (r : Step) → r ≡ cleanStep i t (drop i s) → i < length s → LastInv s (r .next) (r .tail)
   last-next r q l = record { done = h .done ++ leaves (r .kind) (getD s i 0); lex = lex-next (h .lex) r q l }
 
   pub last-end : length s ≤ i → t .last ≡ lastOf (stripLexical s)
@@ -151,7 +151,7 @@ pub record StripInv (s d₀ : List ℕ) (o : ℕ) (d : List ℕ) (p i : ℕ) (t 
 pub strip-start : (s d : List ℕ) (o : ℕ) (t : Tail) → o + length (stripLexical s) ≤ length d → t ≡ tailOf [] → StripInv s d o d o 0 t
 strip-start s d o t r e = record { room = r; done = []; lex = lex-start s t e; wrote = wrote-nil d o (omega arith) }
 
-module _ {s d₀ d : List ℕ} {o p i : ℕ} {t : Tail} (h : StripInv s d₀ o d p i t) (r : Step) (q : r ≡ stepOf i t (drop i s)) (l : i < length s) where
+module _ {s d₀ d : List ℕ} {o p i : ℕ} {t : Tail} (h : StripInv s d₀ o d p i t) (r : Step) (q : r ≡ cleanStep i t (drop i s)) (l : i < length s) where
   pub strip-fits : p + length (leaves (r .kind) (getD s i 0)) ≤ length d
   strip-fits =
       omega (

@@ -12,7 +12,7 @@ use Rattle.lines.specs.Lf.{all}
 use Rattle.lines.specs.Inner.Lf.{lacks}
 use Rattle.lines.proofs.Tests.{no, and-true, and-left, and-right}
 use Rattle.lines.proofs.LfLaws.{eight-is}
-use Rattle.lexical.specs.Inner.Plain.{isPlain, plainLen, isMild, tame}
+use Rattle.lexical.specs.Inner.Plain.{isPlain, plainLen, isMild, allMild}
 use Rattle.lexical.proofs.EndLaws.{ends}
 use Rattle.lexical.proofs.PlainLaws.{none-of}
 
@@ -69,9 +69,9 @@ plain-inner (suc k) (x ∷ l) h = go (isPlain x) h (plain-inner k l)
     go true g f = let r = f (omega arith) in omega arith
     go false g f = absurd (omega arith)
 
-module _ (s : List ℕ) (m : ℕ) (h : m + 8 ≤ length s) (t : tame (take 8 (drop m s)) ≡ true) where
+module _ (s : List ℕ) (m : ℕ) (h : m + 8 ≤ length s) (t : allMild (take 8 (drop m s)) ≡ true) where
   tame-eight : plainLen (drop m s) ≡ 8 + plainLen (drop 8 (drop m s))
-  unfolding tame
+  unfolding allMild
   tame-eight =
       let l : List ℕ = take 8 (drop m s) in
       let u = and-right (all (λ (x : ℕ). isMild x) l) (lacks 47 l && lacks 96 l) t in

@@ -11,7 +11,7 @@ use Rattle.lexical.specs.declared.Seen.{Seen}
 use Rattle.lexical.specs.declared.Tail.{Tail}
 use Rattle.lexical.specs.declared.Step.{Step}
 use Rattle.lexical.specs.Lex.{leaves}
-use Rattle.lexical.specs.Inner.Lex.{tailOf, stepOf}
+use Rattle.lexical.specs.Inner.Lex.{tailOf, cleanStep}
 use Rattle.lexical.specs.Phi.{anyOf, assigns, phiPure, phiRhsPure}
 use Rattle.lexical.specs.Inner.Phi.{sees, seesAll, unseen}
 use Rattle.lexical.proofs.ByteLaws.{first-is}
@@ -81,7 +81,7 @@ unfolding seesAll
 phi-start s t e = record { done = []; lex = lex-start s t e; seen = refl }
 
 module _ {s : List ℕ} {i : ℕ} {t : Tail} {w : Seen} (h : PhiInv s i t w) where
-  pub phi-next : (r : Step) → r ≡ stepOf i t (drop i s) → i < length s → (v : Seen) → v ≡ seesAll w (leaves (r .kind) (getD s i 0)) → PhiInv s (r .next) (r .tail) v
+  pub phi-next : (r : Step) → r ≡ cleanStep i t (drop i s) → i < length s → (v : Seen) → v ≡ seesAll w (leaves (r .kind) (getD s i 0)) → PhiInv s (r .next) (r .tail) v
   phi-next r q l v e = record {
     done = h .done ++ leaves (r .kind) (getD s i 0);
     lex = lex-next (h .lex) r q l;

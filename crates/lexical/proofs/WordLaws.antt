@@ -8,7 +8,7 @@ use borrow.Author.Tests.{eq-eqb, ne-eqb, eqb-true, eqb-false, leb-true, leb-fals
 use lib.Dec.{eqb, leb}
 use lib.ListN.{length, take, drop, getD, length-take, length-drop, drop-of-length-le}
 use lib.Seq.{drop-drop, take-add}
-use Rattle.lines.specs.Lf.{within, part, prefixed}
+use Rattle.lines.specs.Lf.{within, part, prefixed, isEmpty}
 use Rattle.lines.proofs.LfLaws.{part-none}
 use Rattle.text.specs.declared.Span.{Span}
 use Rattle.text.proofs.Rows.{seqLen-fits}
@@ -16,7 +16,7 @@ use Rattle.lexical.specs.declared.Word.{Word}
 use Rattle.lexical.specs.declared.Word.the-variants as variant
 use Rattle.lexical.proofs.ByteLaws.{first-is}
 use Rattle.lexical.proofs.EndLaws.{cons-at}
-use Rattle.lexical.specs.Idents.{charLen, charsGo, nameLow, digitChar, empty, digits, noWord, flushWord, joins, wordsGo, wordsIn}
+use Rattle.lexical.specs.Idents.{charLen, charsGo, nameLow, digitChar, digits, noWord, flushWord, joins, wordsGo, wordsIn}
 use Rattle.lexical.specs.Inner.Idents.{wordFrom, nextWord, wordsBy}
 
 -- ---- characters
@@ -86,12 +86,12 @@ part-join t a j e h k =
     let r : drop (j - a) (drop a t) ≡ drop j t = drop-drop (j - a) a t ∙ ap (λ (n : ℕ). drop n t) p in
     sym (ap (λ (n : ℕ). take n (drop a t)) (sym q) ∙ take-add (j - a) (e - j) (drop a t) ∙ ap (λ (l : List ℕ). take (j - a) (drop a t) ++ take (e - j) l) r)
 
-empty-size : (l : List ℕ) → empty l ≡ eqb (length l) 0
+empty-size : (l : List ℕ) → isEmpty l ≡ eqb (length l) 0
 empty-size [] = refl
 empty-size (x ∷ xs) = sym (ne-eqb (suc (length xs)) 0 (omega arith))
 
 module _ {t : List ℕ} {a j : ℕ} (p : Spot t a j) where
-  spot-empty : empty (part a j t) ≡ eqb a j
+  spot-empty : isEmpty (part a j t) ≡ eqb a j
   spot-empty = empty-size (part a j t) ∙ ap (λ (n : ℕ). eqb n 0) (p .size) ∙ go (eqb a j) refl
     where
       go : (b : Bool) → eqb a j ≡ b → eqb (j - a) 0 ≡ b
@@ -199,7 +199,7 @@ joins-less c h = go (nameLow c) (not (digitChar c)) h
     go true false h = refl
     go false g h = refl
 
-word-some : (l : List ℕ) → noWord l ≡ false → empty l ≡ false
+word-some : (l : List ℕ) → noWord l ≡ false → isEmpty l ≡ false
 word-some [] h = h
 word-some (x ∷ l) h = refl
 
@@ -238,7 +238,7 @@ module _ (t : List ℕ) where
   unfolding wordsIn
   words-first = words-next 0
 
-  -- the next word is not empty, and stands in the text, from i on
+  -- the next word is not isEmpty, and stands in the text, from i on
   abbrev pub Placed : ℕ → Word → Type 0
   Placed i (variant.At w) = (i ≤ w .from) × ((w .from < w .to) × (w .to ≤ length t))
   Placed i variant.None = Unit {0}

@@ -5,7 +5,7 @@ use mathlib.Core.Bool.{Bool, true, false, cond, not, _&&_, _||_}
 use mathlib.Core.List.{List, [], _∷_, _++_}
 use lib.ListN.{take, drop}
 use Rattle.lines.specs.Ascii.{ascii}
-use Rattle.lines.specs.Lf.{within, prefixed}
+use Rattle.lines.specs.Lf.{within, prefixed, isEmpty}
 use Rattle.text.specs.Class.{isName}
 use Rattle.text.specs.Utf8Form.{seqLen}
 use Rattle.text.specs.Trim.{point}
@@ -29,11 +29,6 @@ nameLow c = isName (point c % 256)
 abbrev pub digitChar : List ℕ → Bool
 digitChar c = within (code "0") (code "9") (point c)
 
--- nothing
-abbrev pub empty : List ℕ → Bool
-empty [] = true
-empty (x ∷ xs) = false
-
 -- ASCII digits, or nothing
 abbrev pub digits : List ℕ → Bool
 digits [] = true
@@ -41,7 +36,7 @@ digits (d ∷ ds) = within (code "0") (code "9") d && digits ds
 
 -- no word: nothing, or an `r` with digits or none
 abbrev pub noWord : List ℕ → Bool
-noWord cur = empty cur || (prefixed (ascii "r") cur && digits (drop 1 cur))
+noWord cur = isEmpty cur || (prefixed (ascii "r") cur && digits (drop 1 cur))
 
 -- a word that has ended, where it is one
 unfoldable pub flushWord : List ℕ → List (List ℕ)
@@ -58,7 +53,7 @@ wordsGo [] cur = flushWord cur
 wordsGo (c ∷ cs) cur =
     let more = wordsGo cs (cur ++ c) in
     let ends = flushWord cur ++ wordsGo cs [] in
-    cond (joins c (empty cur)) more ends
+    cond (joins c (isEmpty cur)) more ends
 
 -- the words of a cleaned text
 unfoldable pub wordsIn : List ℕ → List (List ℕ)

@@ -10,8 +10,8 @@ ghost use Rattle.lines.specs.Inner.Out.{Wrote};
 ghost use Rattle.text.specs.White.{isWhite};
 ghost use Rattle.text.specs.Trim.{point, whiteChar};
 ghost use Rattle.lexical.specs.Lex.{quoteLen, patternLen, commentLen, patternAfter, token, leaves, lastOf, stripLexical};
-ghost use Rattle.lexical.specs.Inner.Lex.{tokenAt, tailOf, lastAfter, pushed, grown, stepOf};
-ghost use Rattle.lexical.specs.Inner.Plain.{isPlain, plainLen, isMild, tame, lowLast, lowTail};
+ghost use Rattle.lexical.specs.Inner.Lex.{tokenAt, tailOf, lastAfter, pushed, grown, cleanStep};
+ghost use Rattle.lexical.specs.Inner.Plain.{isPlain, plainLen, isMild, allMild, lowLast, lowTail};
 ghost use Rattle.lexical.specs.Phi.{phiRhsPure};
 ghost use Rattle.lexical.specs.Inner.Phi.{sees, seesAll};
 ghost use Rattle.lexical.specs.Idents.{charLen, joins, noWord};
@@ -251,7 +251,7 @@ pub struct Step {
 
 // The step from `i` on, where `tail` is that of the text left so far.
 pub fn step_at(s: &[u8], i: usize, tail: Tail) -> Step
-    ensures { λ r. ⌜ r ≡ stepOf i tail (drop i (now (s .entry))) ⌝ }
+    ensures { λ r. ⌜ r ≡ cleanStep i tail (drop i (now (s .entry))) ⌝ }
 {
     let token = token_at(s, i, tail.last);
     let kind = token.kind;
@@ -332,7 +332,7 @@ fn lacks_eight(s: &[u8], j: usize, b: u8) -> bool
 // Whether the eight bytes at a place are mild, and none is `/` or a backtick: they are plain then.
 fn tame_eight(s: &[u8], j: usize) -> bool
     requires { ⌜ j + 8 ≤ length (now s) ⌝ }
-    ensures { λ r. ⌜ r ≡ tame (take 8 (drop j (now (s .entry)))) ⌝ }
+    ensures { λ r. ⌜ r ≡ allMild (take 8 (drop j (now (s .entry)))) ⌝ }
 {
     mild_eight(s, j) & (lacks_eight(s, j, b'/') & lacks_eight(s, j, b'`'))
 }

@@ -19,7 +19,7 @@ use Rattle.text.specs.declared.Utf8.the-variants as utf8-is
 use Rattle.text.specs.Utf8Form.{utf8Of}
 use Rattle.limits.specs.declared.Answer.{Answer}
 use Rattle.limits.specs.declared.Answer.the-variants.{Done, BadPass, TooLong, ShortWork, TooManyLines, Crowded, ShortResult}
-use Rattle.limits.specs.Answer.{numberOf, lengthOf, placeOf, runs, isDone}
+use Rattle.limits.specs.Answer.{numberOf, lengthOf, placeOf, passesRan, isDone}
 use Rattle.limits.specs.Entry.{byteSize, blockSize, isShort, byUtf8, byCrowd, checkedLines, checked, roomed, answerOf, passAnswer, blank, workAfter, outAfter}
 
 -- ---- one check after the other
@@ -67,8 +67,8 @@ passed-by false false utf8-is.Valid false (crowd-is.At n) h = no h
 passed-by false false utf8-is.Valid false crowd-is.Nowhere h = record { not-long = refl; not-short = refl; not-many = refl; same = λ x. refl }
 
 stopped-by : (p s : Bool) (v : utf8.Utf8) (q : Bool) (o : crowd.Crowded) → isDone (tests p s v q o (Done 0)) ≡ false → (x : Answer) →
-    (tests p s v q o x ≡ tests p s v q o (Done 0)) × (runs (tests p s v q o (Done 0)) ≡ false)
-unfolding isDone runs
+    (tests p s v q o x ≡ tests p s v q o (Done 0)) × (passesRan (tests p s v q o (Done 0)) ≡ false)
+unfolding isDone passesRan
 stopped-by true s v q o h x = (refl, refl)
 stopped-by false true v q o h x = (refl, refl)
 stopped-by false false (utf8-is.Bad i) q o h x = (refl, refl)
@@ -93,13 +93,13 @@ accepted-by short t h =
       same = p .same;
     }
 
-pub refused-by : (short : Bool) (t : List ℕ) → isDone (checked short t (Done 0)) ≡ false → (x : Answer) → (checked short t x ≡ checked short t (Done 0)) × (runs (checked short t (Done 0)) ≡ false)
+pub refused-by : (short : Bool) (t : List ℕ) → isDone (checked short t (Done 0)) ≡ false → (x : Answer) → (checked short t x ≡ checked short t (Done 0)) × (passesRan (checked short t (Done 0)) ≡ false)
 unfolding checked checkedLines
 refused-by short t h x = stopped-by (ltb 16384 (length t)) short (utf8Of t) (ltb 1024 (length (splitLines t))) (overFrom 64 91 0 (splitLines t)) h x
 
 -- ---- what an answer leaves
 
-pub work-kept : (r : Answer) (n : ℕ) (d : List ℕ) → runs r ≡ false → d ≡ workAfter r n d
+pub work-kept : (r : Answer) (n : ℕ) (d : List ℕ) → passesRan r ≡ false → d ≡ workAfter r n d
 unfolding workAfter
 work-kept r n d h = rw h
 
@@ -107,15 +107,15 @@ pub out-kept : (r : Answer) (xs d : List ℕ) → isDone r ≡ false → d ≡ o
 unfolding outAfter
 out-kept r xs d h = rw h
 
-pub roomed-runs : (n room : ℕ) → runs (roomed n room) ≡ true
-unfolding runs
+pub roomed-runs : (n room : ℕ) → passesRan (roomed n room) ≡ true
+unfolding passesRan
 roomed-runs n room = go (ltb room n)
   where
-    go : (b : Bool) → runs (cond b (ShortResult n) (Done n)) ≡ true
+    go : (b : Bool) → passesRan (cond b (ShortResult n) (Done n)) ≡ true
     go true = refl
     go false = refl
 
-pub work-wiped : (r : Answer) (n : ℕ) (d : List ℕ) {d′ : List ℕ} → runs r ≡ true → d′ ≡ blank n ++ drop n d → d′ ≡ workAfter r n d
+pub work-wiped : (r : Answer) (n : ℕ) (d : List ℕ) {d′ : List ℕ} → passesRan r ≡ true → d′ ≡ blank n ++ drop n d → d′ ≡ workAfter r n d
 unfolding workAfter
 work-wiped r n d h e = rw h e
 
@@ -140,9 +140,9 @@ pub done-not : (r : Answer) {n : ℕ} → n ≡ numberOf r → (n ≡ 0 → ⊥)
 unfolding isDone
 done-not r {n} e h = ne-eqb (numberOf r) 0 (λ z. h (e ∙ z))
 
-pub answer-refused : (r : Answer) (short : Bool) (t xs : List ℕ) (room : ℕ) → r ≡ checked short t (Done 0) → isDone r ≡ false → (r ≡ answerOf short t xs room) × (runs r ≡ false)
+pub answer-refused : (r : Answer) (short : Bool) (t xs : List ℕ) (room : ℕ) → r ≡ checked short t (Done 0) → isDone r ≡ false → (r ≡ answerOf short t xs room) × (passesRan r ≡ false)
 unfolding answerOf
-answer-refused r short t xs room e h = let p = refused-by short t (ap isDone (sym e) ∙ h) (roomed (length xs) room) in (e ∙ sym (p .0), ap runs e ∙ p .1)
+answer-refused r short t xs room e h = let p = refused-by short t (ap isDone (sym e) ∙ h) (roomed (length xs) room) in (e ∙ sym (p .0), ap passesRan e ∙ p .1)
 
 pub answer-accepted : {r : Answer} (short : Bool) (t xs : List ℕ) (room : ℕ) → Accepted short t → r ≡ roomed (length xs) room → r ≡ answerOf short t xs room
 unfolding answerOf
@@ -157,8 +157,8 @@ module _ (k : ℕ) (short : Bool) (t xs : List ℕ) (room : ℕ) where
   unfolding passAnswer
   pass-good h = rw h
 
-pub bad-runs : runs BadPass ≡ false
-unfolding runs
+pub bad-runs : passesRan BadPass ≡ false
+unfolding passesRan
 bad-runs = refl
 
 pub bad-done : isDone BadPass ≡ false

@@ -42,6 +42,6 @@ unfolding numberOf
 isDone r = eqb (numberOf r) 0
 
 -- the passes ran: numbers 0 and 7
-unfoldable pub runs : Answer → Bool
+unfoldable pub passesRan : Answer → Bool
 unfolding numberOf
-runs r = eqb (numberOf r) 0 || eqb (numberOf r) 7
+passesRan r = eqb (numberOf r) 0 || eqb (numberOf r) 7

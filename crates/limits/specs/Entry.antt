@@ -14,7 +14,7 @@ use Rattle.text.specs.declared.Utf8.the-variants as utf8-is
 use Rattle.text.specs.Utf8Form.{utf8Of}
 use Rattle.limits.specs.declared.Answer.{Answer}
 use Rattle.limits.specs.declared.Answer.the-variants.{Done, BadPass, TooLong, ShortWork, NotUtf8, TooManyLines, Crowded, ShortResult}
-use Rattle.limits.specs.Answer.{runs, isDone}
+use Rattle.limits.specs.Answer.{passesRan, isDone}
 
 -- the stated size of each of the five work buffers of bytes, and of the one of numbers
 abbrev pub byteSize : ℕ
@@ -70,8 +70,8 @@ blank n = replicate n 0
 
 -- a work buffer d whose first n places are used: these are 0 where the passes ran, and the rest is as it was
 unfoldable pub workAfter : Answer → ℕ → List ℕ → List ℕ
-unfolding runs blank
-workAfter r n d = cond (runs r) (blank n ++ drop n d) d
+unfolding passesRan blank
+workAfter r n d = cond (passesRan r) (blank n ++ drop n d) d
 
 -- the result buffer d: the result at its front where it was written, and the rest is as it was
 unfoldable pub outAfter : Answer → List ℕ → List ℕ → List ℕ

@@ -20,6 +20,11 @@ abbrev pub all : {A : Type 0} → (A → Bool) → List A → Bool
 all f [] = true
 all f (x ∷ xs) = f x && all f xs
 
+-- there is no byte
+abbrev pub isEmpty : List ℕ → Bool
+isEmpty [] = true
+isEmpty (x ∷ xs) = false
+
 -- what `&s[a..e]` is
 abbrev pub part : ℕ → ℕ → List ℕ → List ℕ
 part a e s = take (e - a) (drop a s)

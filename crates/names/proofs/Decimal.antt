@@ -12,7 +12,7 @@ use Rattle.lines.specs.Lf.{same}
 use Rattle.lines.proofs.Tests.{is-in, and-left, and-right, and-both}
 use Rattle.names.specs.declared.Number.{Number}
 use Rattle.names.specs.declared.Number.the-variants.{Of, None}
-use Rattle.names.specs.Names.{isDigit, allDigits, value, numberOf, decimalBy, decimal}
+use Rattle.names.specs.Names.{isDigit, allDigits, value, readNumber, decimalBy, decimal}
 use Rattle.names.specs.Inner.Names.{zeros}
 use Rattle.names.proofs.Digits.{all-append, value-append, number-is, number-read, strip-zeros, strip-number}
 use Rattle.lines.proofs.Compare.{same-refl}
@@ -128,10 +128,10 @@ pub decimal-zeros : (v : ℕ) → zeros (decimal v) ≡ 0
 decimal-zeros v = ap zeros (decimal-by v) ∙ decimal-bare 19 v
 
 -- what is printed is read as the number
-pub decimal-value : (v : ℕ) → v < 2 ^ 64 → numberOf (decimal v) ≡ Of v
+pub decimal-value : (v : ℕ) → v < 2 ^ 64 → readNumber (decimal v) ≡ Of v
 decimal-value v h =
     let w : value 0 (decimalBy 19 v) ≡ v = decimal-worth 19 v in
-    ap numberOf (decimal-by v) ∙ number-is (decimalBy 19 v) (decimal-some 19 v) (decimal-digits 19 v (omega arith)) (omega arith) ∙ ap Of w
+    ap readNumber (decimal-by v) ∙ number-is (decimalBy 19 v) (decimal-some 19 v) (decimal-digits 19 v (omega arith)) (omega arith) ∙ ap Of w
 
 decimal-one : (n : ℕ) → decimalBy 0 n ≡ (48 + n) ∷ []
 unfolding decimalBy
@@ -143,7 +143,7 @@ zeros-first d [] z h e = omega arith
 zeros-first d (x ∷ ds) z h e = let q = rw (eq-eqb d 48 e) at z in omega arith
 
 -- digits with no zero in front of another are what is printed of their number
-pub decimal-plain : (ds : List ℕ) (v : ℕ) → numberOf ds ≡ Of v → zeros ds ≡ 0 → decimal v ≡ ds
+pub decimal-plain : (ds : List ℕ) (v : ℕ) → readNumber ds ≡ Of v → zeros ds ≡ 0 → decimal v ≡ ds
 decimal-plain [] v e z = let y = number-read [] v e .some in absurd (omega arith)
 decimal-plain (d ∷ ds) v e z =
     let r = number-read (d ∷ ds) v e in
@@ -158,7 +158,7 @@ decimal-plain (d ∷ ds) v e z =
     ∙ ap (λ (l : List ℕ). l ++ ds) (decimal-one w) ∙ ap (λ (m : ℕ). m ∷ ds) q
 
 -- and others once the zeros that lead are gone
-pub decimal-strip : (ds : List ℕ) (v : ℕ) → numberOf ds ≡ Of v → decimal v ≡ drop (zeros ds) ds
+pub decimal-strip : (ds : List ℕ) (v : ℕ) → readNumber ds ≡ Of v → decimal v ≡ drop (zeros ds) ds
 decimal-strip ds v e = decimal-plain (drop (zeros ds) ds) v (strip-number ds (number-read ds v e .some) ∙ e) (strip-zeros ds)
 
 -- ---- whether digits are a number as it is printed
@@ -170,13 +170,13 @@ numberIs v None = false
 pub prints-not : (s : List ℕ) (v : ℕ) → 0 < zeros s → same s (decimal v) ≡ false
 prints-not s v h = same-not s (decimal v) (λ e. let q : zeros s ≡ 0 = ap zeros e ∙ decimal-zeros v in omega arith)
 
-pub prints-is : (s : List ℕ) (v : ℕ) → v < 2 ^ 64 → zeros s ≡ 0 → same s (decimal v) ≡ numberIs v (numberOf s)
-prints-is s v h z = go (numberOf s) refl
+pub prints-is : (s : List ℕ) (v : ℕ) → v < 2 ^ 64 → zeros s ≡ 0 → same s (decimal v) ≡ numberIs v (readNumber s)
+prints-is s v h z = go (readNumber s) refl
   where
-    go : (n : Number) → numberOf s ≡ n → same s (decimal v) ≡ numberIs v n
-    go None e = same-not s (decimal v) (λ q. let y : _≡_ {A = ℕ} 0 1 = cc (ap numberOf q, decimal-value v h) in omega arith)
+    go : (n : Number) → readNumber s ≡ n → same s (decimal v) ≡ numberIs v n
+    go None e = same-not s (decimal v) (λ q. let y : _≡_ {A = ℕ} 0 1 = cc (ap readNumber q, decimal-value v h) in omega arith)
     go (Of n) e = at (eqb n v) refl
       where
         at : (t : Bool) → eqb n v ≡ t → same s (decimal v) ≡ t
         at true q = ap (same s) (ap decimal (sym (eqb-true n v q)) ∙ decimal-plain s n e z) ∙ same-refl s
-        at false q = same-not s (decimal v) (λ y. let w : n ≡ v = cc (ap numberOf y, decimal-value v h) in eqb-false n v q w)
+        at false q = same-not s (decimal v) (λ y. let w : n ≡ v = cc (ap readNumber y, decimal-value v h) in eqb-false n v q w)

@@ -13,7 +13,7 @@ use lib.Seq.{drop-cons}
 use Rattle.lines.specs.Lf.{all}
 use Rattle.lines.proofs.Tests.{and-false, and-left, and-right, and-both}
 use Rattle.names.specs.declared.Number.the-variants.{Of, None}
-use Rattle.names.specs.Names.{isDigit, allDigits, value, numbered, numberOf}
+use Rattle.names.specs.Names.{isDigit, allDigits, value, numbered, readNumber}
 use Rattle.names.specs.Inner.Names.{zeros}
 
 -- ---- every byte passes a test
@@ -70,18 +70,18 @@ module _ (s : List ℕ) (i v : ℕ) (h : i < length s) where
   pub number-digit : isDigit (getD s i 0) ≡ true → numbered v (drop i s) ≡ numbered (v * 10 + (getD s i 0 - 48)) (drop (i + 1) s)
   number-digit e = rw (add-one i, drop-cons s i 0 h) (on v (getD s i 0) (drop (suc i) s) e)
 
-pub number-none : (s : List ℕ) → length s ≡ 0 → numberOf s ≡ None
-unfolding numberOf
+pub number-none : (s : List ℕ) → length s ≡ 0 → readNumber s ≡ None
+unfolding readNumber
 number-none [] h = refl
 number-none (d ∷ ds) h = absurd (omega arith)
 
-pub number-some : (s : List ℕ) → 0 < length s → numberOf s ≡ numbered 0 s
-unfolding numberOf
+pub number-some : (s : List ℕ) → 0 < length s → readNumber s ≡ numbered 0 s
+unfolding readNumber
 number-some [] h = absurd (omega arith)
 number-some (d ∷ ds) h = refl
 
 -- digits whose value fits 64 bits are that number
-pub number-is : (s : List ℕ) → 0 < length s → allDigits s ≡ true → value 0 s < 2 ^ 64 → numberOf s ≡ Of (value 0 s)
+pub number-is : (s : List ℕ) → 0 < length s → allDigits s ≡ true → value 0 s < 2 ^ 64 → readNumber s ≡ Of (value 0 s)
 unfolding numbered
 number-is s h d l = number-some s h ∙ simp (d, lt-ltb (value 0 s) (2 ^ 64) l)
 
@@ -92,8 +92,8 @@ pub record Read (s : List ℕ) (v : ℕ) : Type 0 where
   pub worth : value 0 s ≡ v
   pub fits : v < 2 ^ 64
 
-pub number-read : (s : List ℕ) (v : ℕ) → numberOf s ≡ Of v → Read s v
-unfolding numberOf numbered
+pub number-read : (s : List ℕ) (v : ℕ) → readNumber s ≡ Of v → Read s v
+unfolding readNumber numbered
 number-read [] v e = let z : _≡_ {A = ℕ} 0 1 = cc in absurd (omega arith)
 number-read (d ∷ ds) v e = go (allDigits (d ∷ ds)) refl (ltb (value 0 (d ∷ ds)) (2 ^ 64)) refl e
   where
@@ -175,6 +175,6 @@ strip-zeros (x ∷ d ∷ ds) = go (eqb x 48) refl (strip-zeros (d ∷ ds))
     go true e ih = ih
     go false e ih = rw e
 
-pub strip-number : (ds : List ℕ) → 0 < length ds → numberOf (drop (zeros ds) ds) ≡ numberOf ds
+pub strip-number : (ds : List ℕ) → 0 < length ds → readNumber (drop (zeros ds) ds) ≡ readNumber ds
 strip-number ds h =
     number-some (drop (zeros ds) ds) (omega (arith, zeros-lt ds h, length-drop (zeros ds) ds)) ∙ strip-value ds ∙ sym (number-some ds h)

@@ -17,7 +17,7 @@ use Rattle.names.specs.declared.Number.{Number}
 use Rattle.names.specs.declared.Number.the-variants as number
 use Rattle.names.specs.declared.RegName.the-variants as reg
 use Rattle.names.specs.declared.PhiName.the-variants as phi
-use Rattle.names.specs.Names.{isDigit, allDigits, numbered, numberOf, decimal, regWord, phiWord, tempWord, regBy, regOf, phiBy, phiOf, isTemp, regText, phiText, regIs, allNames, isIdent}
+use Rattle.names.specs.Names.{isDigit, allDigits, numbered, readNumber, decimal, regWord, phiWord, tempWord, regBy, regOf, phiBy, phiOf, isTemp, regText, phiText, regIs, allNames, isIdent}
 use Rattle.names.specs.Inner.Names.{zeros, numberAfter}
 use Rattle.names.proofs.Digits.{number-read, all-append, all-more, zeros-end}
 use Rattle.lines.proofs.Compare.{same-eq}
@@ -30,17 +30,17 @@ pub after-none : (p s : List ℕ) → prefixed p s ≡ false → numberAfter p s
 unfolding numberAfter
 after-none p s e = rw e
 
-pub after-number : (p s : List ℕ) → prefixed p s ≡ true → numberAfter p s ≡ numberOf (drop (length p) s)
+pub after-number : (p s : List ℕ) → prefixed p s ≡ true → numberAfter p s ≡ readNumber (drop (length p) s)
 unfolding numberAfter
 after-number p s e = rw e
 
 pub after-text : (p : List ℕ) (v : ℕ) → v < 2 ^ 64 → numberAfter p (p ++ decimal v) ≡ number.Of v
-after-text p v h = after-number p (p ++ decimal v) (front-append p (decimal v)) ∙ ap numberOf (drop-append-seam p (decimal v)) ∙ decimal-value v h
+after-text p v h = after-number p (p ++ decimal v) (front-append p (decimal v)) ∙ ap readNumber (drop-append-seam p (decimal v)) ∙ decimal-value v h
 
-pub after-read : (p s : List ℕ) (v : ℕ) → numberAfter p s ≡ number.Of v → (s ≡ p ++ drop (length p) s) × (numberOf (drop (length p) s) ≡ number.Of v)
+pub after-read : (p s : List ℕ) (v : ℕ) → numberAfter p s ≡ number.Of v → (s ≡ p ++ drop (length p) s) × (readNumber (drop (length p) s) ≡ number.Of v)
 after-read p s v e = go (prefixed p s) refl
   where
-    go : (t : Bool) → prefixed p s ≡ t → (s ≡ p ++ drop (length p) s) × (numberOf (drop (length p) s) ≡ number.Of v)
+    go : (t : Bool) → prefixed p s ≡ t → (s ≡ p ++ drop (length p) s) × (readNumber (drop (length p) s) ≡ number.Of v)
     go true h = (front-of p s h, sym (after-number p s h) ∙ e)
     go false h = let z : _≡_ {A = ℕ} 0 1 = cc (after-none p s h, e) in absurd (omega arith)
 
@@ -66,7 +66,7 @@ either f false n = refl
 
 pub reg-by : (s : List ℕ) → regOf s ≡ regBy (numberAfter regWord s)
 unfolding regOf numberAfter
-reg-by s = either regBy (prefixed regWord s) (numberOf (drop 1 s))
+reg-by s = either regBy (prefixed regWord s) (readNumber (drop 1 s))
 
 reg-of : (n : Number) (q : Register) → regBy n ≡ reg.Reg q → n ≡ number.Of (q .0)
 reg-of (number.Of m) q e = let z : m ≡ q .0 = cc in ap number.Of z
@@ -79,7 +79,7 @@ reg-first [] n = refl
 reg-first (x ∷ s) n = rw (ne-eqb 114 x (λ e. n (sym e)))
 
 -- one digit behind it
-pub reg-two : (s : List ℕ) → length s ≡ 2 → getD s 0 0 ≡ 114 → regOf s ≡ regBy (numberOf (getD s 1 0 ∷ []))
+pub reg-two : (s : List ℕ) → length s ≡ 2 → getD s 0 0 ≡ 114 → regOf s ≡ regBy (readNumber (getD s 1 0 ∷ []))
 unfolding regOf prefixed
 reg-two [] h e = absurd (omega arith)
 reg-two (x ∷ []) h e = absurd (omega arith)
@@ -87,12 +87,12 @@ reg-two (x ∷ y ∷ []) h e = rw (eq-eqb 114 x (sym e))
 reg-two (x ∷ y ∷ z ∷ s) h e = absurd (omega arith)
 
 -- what one byte is as a number
-pub digit-other : (d : ℕ) → isDigit d ≡ false → regBy (numberOf (d ∷ [])) ≡ reg.None
-unfolding numberOf numbered
+pub digit-other : (d : ℕ) → isDigit d ≡ false → regBy (readNumber (d ∷ [])) ≡ reg.None
+unfolding readNumber numbered
 digit-other d e = rw e
 
-pub digit-is : (d : ℕ) → isDigit d ≡ true → regBy (numberOf (d ∷ [])) ≡ reg.Reg (record { 0 = d - 48 })
-unfolding numberOf numbered
+pub digit-is : (d : ℕ) → isDigit d ≡ true → regBy (readNumber (d ∷ [])) ≡ reg.Reg (record { 0 = d - 48 })
+unfolding readNumber numbered
 digit-is d e =
     let hi = leb-true d 57 (and-right (leb 48 d) (leb d 57) e) in
     let v : 0 * 10 + (d - 48) ≡ d - 48 = omega arith in
@@ -132,13 +132,13 @@ two-text s v h n = told (prefixed regWord s) ∙ sym (same-front regWord s (deci
     named (number.Of k) = refl
     named number.None = refl
 
-    told : (b : Bool) → regIs v (cond b (regBy (numberOf (drop 1 s))) reg.None) ≡ b && same (drop 1 s) (decimal v)
-    told true = named (numberOf (drop 1 s)) ∙ sym (prints-is (drop 1 s) v h (zeros-end s 1 (omega arith)))
+    told : (b : Bool) → regIs v (cond b (regBy (readNumber (drop 1 s))) reg.None) ≡ b && same (drop 1 s) (decimal v)
+    told true = named (readNumber (drop 1 s)) ∙ sym (prints-is (drop 1 s) v h (zeros-end s 1 (omega arith)))
     told false = refl
 
 pub phi-by : (s : List ℕ) → phiOf s ≡ phiBy (numberAfter phiWord s)
 unfolding phiOf numberAfter
-phi-by s = either phiBy (prefixed phiWord s) (numberOf (drop 3 s))
+phi-by s = either phiBy (prefixed phiWord s) (readNumber (drop 3 s))
 
 phi-of : (n : Number) (q : Phi) → phiBy n ≡ phi.Phi q → n ≡ number.Of (q .0)
 phi-of (number.Of m) q e = let z : m ≡ q .0 = cc in ap number.Of z

@@ -1,7 +1,7 @@
 -- The names of registers, phis and temps. Assumes nothing.
 use Prim.Native.Nat.{ℕ, zero, suc, _+_, _-_, _*_, _/_, _%_, _^_}
 use Prim.Native.Char.{code}
-use mathlib.Core.Bool.{Bool, false, cond, not, _&&_}
+use mathlib.Core.Bool.{Bool, false, cond, not, _&&_, true}
 use mathlib.Core.List.{List, [], _∷_, _++_}
 use lib.ListN.{length, drop}
 use lib.Dec.{eqb, ltb}
@@ -35,10 +35,10 @@ unfoldable pub numbered : ℕ → List ℕ → Number
 numbered v ds = cond (allDigits ds && ltb (value v ds) (2 ^ 64)) (number.Of (value v ds)) number.None
 
 -- `n.parse()`: one or more digits whose value fits 64 bits; leading zeros do not count
-unfoldable pub numberOf : List ℕ → Number
+unfoldable pub readNumber : List ℕ → Number
 unfolding numbered
-numberOf [] = number.None
-numberOf (d ∷ ds) = numbered 0 (d ∷ ds)
+readNumber [] = number.None
+readNumber (d ∷ ds) = numbered 0 (d ∷ ds)
 
 -- the decimal digits of a number below 10 to the k + 1, without leading zeros
 unfoldable pub decimalBy : ℕ → ℕ → List ℕ
@@ -75,13 +75,13 @@ phiBy number.None = phi.None
 
 -- `reg_name`: the register that a text names, `r` and its number
 unfoldable pub regOf : List ℕ → RegName
-unfolding numberOf prefixed
-regOf s = cond (prefixed regWord s) (regBy (numberOf (drop 1 s))) reg.None
+unfolding readNumber prefixed
+regOf s = cond (prefixed regWord s) (regBy (readNumber (drop 1 s))) reg.None
 
 -- `phi_name`: the phi that a text names, `phi` and its number
 unfoldable pub phiOf : List ℕ → PhiName
-unfolding numberOf prefixed
-phiOf s = cond (prefixed phiWord s) (phiBy (numberOf (drop 3 s))) phi.None
+unfolding readNumber prefixed
+phiOf s = cond (prefixed phiWord s) (phiBy (readNumber (drop 3 s))) phi.None
 
 -- `is_temp_name`: `t` and one or more digits
 unfoldable pub isTemp : List ℕ → Bool
@@ -94,6 +94,11 @@ regText v = regWord ++ decimal v
 
 abbrev pub phiText : ℕ → List ℕ
 phiText v = phiWord ++ decimal v
+
+-- a name is that of a register
+abbrev pub isReg : RegName → Bool
+isReg (reg.Reg q) = true
+isReg reg.None = false
 
 -- a name is that of register v, or of phi v
 abbrev pub regIs : ℕ → RegName → Bool

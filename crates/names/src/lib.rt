@@ -2,7 +2,7 @@
 ghost use mathlib.Core.Path.{_≡_};
 ghost use mathlib.Core.List.{[], _∷_, _++_};
 ghost use Rattle.lines.specs.Lf.{same};
-ghost use Rattle.names.specs.Names.{allDigits, numberOf, decimal, regBy, regOf, phiOf, isTemp, regText, phiText, regIs, isIdent};
+ghost use Rattle.names.specs.Names.{allDigits, readNumber, decimal, regBy, regOf, phiOf, isTemp, regText, phiText, regIs, isIdent};
 ghost use Rattle.names.specs.Inner.Names.{zeros, numberAfter};
 
 // A register, a phi: numbers of their own, so that a table of one cannot be asked with another.
@@ -29,7 +29,7 @@ const MOST: u64 = 18446744073709551615;
 
 // The number that digits are, where it fits 64 bits.
 pub fn read_number(s: &[u8]) -> Number
-    ensures { λ r. ⌜ r ≡ numberOf (now (s .entry)) ⌝ }
+    ensures { λ r. ⌜ r ≡ readNumber (now (s .entry)) ⌝ }
 {
     if s.len() == 0 {
         return Number::None;
@@ -84,7 +84,7 @@ fn number_after(s: &[u8], p: &[u8]) -> Number
 
 // The register whose number is one digit.
 fn digit_name(d: u8) -> RegName
-    ensures { λ r. ⌜ r ≡ regBy (numberOf (d ∷ [])) ⌝ }
+    ensures { λ r. ⌜ r ≡ regBy (readNumber (d ∷ [])) ⌝ }
 {
     if d < b'0' {
         return RegName::None;

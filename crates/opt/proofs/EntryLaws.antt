@@ -13,7 +13,7 @@ use Rattle.lines.specs.Steps.{splitLines, joined}
 use Rattle.lines.proofs.Tests.{no}
 use Rattle.reading.specs.Reading.{Reading}
 use Rattle.limits.specs.declared.Answer.{Answer}
-use Rattle.limits.specs.Answer.{runs}
+use Rattle.limits.specs.Answer.{passesRan}
 use Rattle.limits.proofs.AnswerLaws.{work-kept, work-wiped, roomed-runs}
 use Rattle.steps.specs.Step.{stepOf}
 use Rattle.passes.specs.Passes.{resultOf}
@@ -58,7 +58,7 @@ wiped-part n m d e = ap (λ (x : List ℕ). x ++ drop n d) e
 
 -- ---- what an answer leaves
 
-pub all-kept : (r : Answer) (a b c d e u : List ℕ) → runs r ≡ false → After r a b c d e u a b c d e u
+pub all-kept : (r : Answer) (a b c d e u : List ℕ) → passesRan r ≡ false → After r a b c d e u a b c d e u
 all-kept r a b c d e u h = record {
   a-after = work-kept r byteSize a h;
   b-after = work-kept r byteSize b h;
@@ -70,7 +70,7 @@ all-kept r a b c d e u h = record {
 
 pub all-wiped : {r : Answer} (n room : ℕ) {a b c d e u a′ b′ c′ d′ e′ u′ : List ℕ} → r ≡ roomed n room → Wiped a b c d e u a′ b′ c′ d′ e′ u′ → After r a b c d e u a′ b′ c′ d′ e′ u′
 all-wiped {r} n room {a} {b} {c} {d} {e} {u} q w =
-    let h = ap runs q ∙ roomed-runs n room in
+    let h = ap passesRan q ∙ roomed-runs n room in
     record {
       a-after = work-wiped r byteSize a h (w .a-wiped);
       b-after = work-wiped r byteSize b h (w .b-wiped);

@@ -10,7 +10,7 @@ use lib.Dec.{eqb, leb, ltb}
 use lib.ListN.{length, take, drop, getD, length-take, length-drop, length-append, drop-of-length-le}
 use lib.Seq.{drop-cons, drop-drop, take-all, take-suc, getD-drop, length-take-le}
 use Rattle.text.specs.Trim.{fromOf, toOf, toEnd, trimOf}
-use Rattle.names.specs.Names.{regOf}
+use Rattle.names.specs.Names.{regOf, isReg}
 use Rattle.names.specs.declared.RegName.{RegName}
 use Rattle.names.specs.declared.RegName.the-variants as name
 use Rattle.lines.proofs.Tests.{and-false}
@@ -19,7 +19,7 @@ use Rattle.parse.specs.declared.Store.{Store}
 use Rattle.parse.specs.declared.Line.{Line}
 use Rattle.parse.specs.declared.Line.the-variants as line
 use Rattle.lines.specs.Lf.{part, upTo, endsIn, partsOf, prefixed}
-use Rattle.parse.specs.Parse.{isReg, allRegs, letWord, bodyOf, isDecl, storeBy, splitStore, storeIn, parseOf}
+use Rattle.parse.specs.Parse.{allRegs, letWord, bodyOf, isDecl, storeBy, splitStore, storeIn, parseOf}
 use Rattle.lines.proofs.LfLaws.{upTo-le, parts-at, parts-at-end, rest-of}
 
 -- ---- the pieces of a declaration

@@ -16,11 +16,10 @@ use Rattle.text.specs.Trim.{whiteChar, whiteHead, lead, fromOf, toOf, trimStart
 use Rattle.text.specs.White.{isWhite}
 use Rattle.text.specs.Utf8Form.{seqLen}
 use Rattle.text.proofs.Trims.{front-told, back-told}
-use Rattle.names.specs.Names.{isDigit, allDigits, value, regBy, regOf}
+use Rattle.names.specs.Names.{isDigit, allDigits, value, regBy, regOf, isReg}
 use Rattle.names.specs.declared.Number.{Number}
 use Rattle.names.proofs.Digits.{number-is}
 use Rattle.names.proofs.Decimal.{value-lt}
-use Rattle.parse.specs.Parse.{isReg}
 use Rattle.parse.specs.Inner.Parse.{digitsLen, shortReg, plainByte}
 
 -- ---- digits at the front

@@ -13,7 +13,7 @@ use Rattle.lines.proofs.LfLaws.{rest-of}
 use Rattle.lines.proofs.Tests.{no, and-false, and-left, and-right}
 use Rattle.text.specs.Trim.{lead, fromOf, endWhite, toOf, toEnd, trimStart, trimOf}
 use Rattle.text.proofs.Trims.{fromOf-le, toOf-le, front-space, front-told, back-space, back-told}
-use Rattle.names.specs.Names.{isDigit, numbered, numberOf, regOf}
+use Rattle.names.specs.Names.{isDigit, numbered, readNumber, regOf}
 use Rattle.names.specs.declared.Register.{Register}
 use Rattle.names.specs.declared.RegName.{RegName}
 use Rattle.names.specs.declared.RegName.the-variants as name
@@ -102,7 +102,7 @@ module _ (c : ℕ) (t : plainByte c ≡ true) (n : c ≡ 114 → ⊥) where
 
 -- what is taken from such a text names no register
 pub bare-none : (n : ℕ) (l : List ℕ) → isDigit (getD l 0 0) ≡ false → regOf (take n (114 ∷ l)) ≡ name.None
-unfolding regOf prefixed numberOf numbered
+unfolding regOf prefixed readNumber numbered
 bare-none zero l e = refl
 bare-none (suc zero) l e = refl
 bare-none (suc (suc n)) [] e = refl

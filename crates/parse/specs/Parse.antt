@@ -8,7 +8,7 @@ use lib.Dec.{eqb, ltb}
 use Rattle.lines.specs.Ascii.{ascii}
 use Rattle.lines.specs.Lf.{part, upTo, partsOf, prefixed, endsIn}
 use Rattle.text.specs.Trim.{fromOf, toEnd, trimOf}
-use Rattle.names.specs.Names.{regOf}
+use Rattle.names.specs.Names.{regOf, isReg}
 use Rattle.names.specs.declared.RegName.{RegName}
 use Rattle.names.specs.declared.RegName.the-variants as name
 use Rattle.parse.specs.declared.Store.{Store}
@@ -24,10 +24,6 @@ letWord = ascii "let "
 -- what stands between `let ` and `;`
 abbrev pub bodyOf : List ℕ → List ℕ
 bodyOf t = part 4 (length t - 1) t
-
-abbrev pub isReg : RegName → Bool
-isReg (name.Reg q) = true
-isReg name.None = false
 
 -- each piece, trimmed, names a register
 unfoldable pub allRegs : List (List ℕ) → Bool

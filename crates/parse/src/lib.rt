@@ -6,8 +6,8 @@ ghost use lib.Dec.{eqb};
 ghost use lib.ListN.{length, drop, getD};
 ghost use Rattle.lines.specs.Lf.{part, upTo, partsOf};
 ghost use Rattle.text.specs.Trim.{fromOf, trimOf};
-ghost use Rattle.names.specs.Names.{regOf};
-ghost use Rattle.parse.specs.Parse.{isReg, allRegs, isDecl, storeIn, splitStore, parseOf, textOf};
+ghost use Rattle.names.specs.Names.{regOf, isReg};
+ghost use Rattle.parse.specs.Parse.{allRegs, isDecl, storeIn, splitStore, parseOf, textOf};
 ghost use Rattle.parse.specs.Inner.Parse.{digitsLen, shortReg, plainValue};
 
 // A store: its register, and the place of its value in the line.

@@ -22,7 +22,7 @@ use Rattle.decls.specs.Inner.Print.{one, kept}
 use Rattle.decls.proofs.Keeps.{lacks-trim, lacks-body, kept-noLf, decl-noLf}
 use Rattle.reading.specs.Reading.{Reading, pureIn}
 use Rattle.reading.specs.Assign.{unended, rightOf}
-use Rattle.phis.specs.Phis.{phiDecl, phiStore, deadBy, anyDead, livePhis, storeAct, phiAct, phiActs, keeps, roundActs, round, pruneDeadPhis}
+use Rattle.phis.specs.Phis.{phiDecl, phiStore, phiDead, anyDead, livePhis, storeAct, phiAct, phiActs, keeps, roundActs, round, pruneDeadPhis}
 use Rattle.phis.specs.Inner.Rounds.{live}
 use Rattle.phis.proofs.Writes.{names-live}
 
@@ -43,7 +43,7 @@ store-noLf R indent rhs p q = go (pureIn R rhs || phiRhsPure rhs)
 
 act-noLf : (R : Reading) (ls : List (List ℕ)) (l : List ℕ) → lacks 10 l ≡ true → actNoLf (phiAct R ls l) ≡ true
 unfolding phiAct
-act-noLf R ls l h = go (deadBy (phiStore (trimStart l)) ls) (phiDecl (trimStart l))
+act-noLf R ls l h = go (phiDead (phiStore (trimStart l)) ls) (phiDecl (trimStart l))
   where
     go : (a b : Bool) → actNoLf (cond a (storeAct R (take (fromOf l) l) (rightOf (trimStart l))) (cond b (declAct (take (fromOf l) l) (livePhis ls (partsOf 44 (bodyOf (trimStart l))))) keep)) ≡ true
     go true b = store-noLf R (take (fromOf l) l) (rightOf (trimStart l)) (lacks-take (fromOf l) l h) (lacks-right (trimStart l) (lacks-drop (fromOf l) l h))
@@ -96,7 +96,7 @@ phis-lines R ls = omega (arith, round-lines R ls, round-lines R (round R ls), ro
 
 -- a line stores a phi that is dead in ls, and its value has no effect
 unfoldable pub storeGoes : Reading → List (List ℕ) → List ℕ → Bool
-storeGoes R ls l = deadBy (phiStore (trimStart l)) ls && (pureIn R (rightOf (trimStart l)) || phiRhsPure (rightOf (trimStart l)))
+storeGoes R ls l = phiDead (phiStore (trimStart l)) ls && (pureIn R (rightOf (trimStart l)) || phiRhsPure (rightOf (trimStart l)))
 
 -- a line declares phis, and each of them is dead in ls
 unfoldable pub declGoes : List (List ℕ) → List ℕ → Bool
@@ -132,7 +132,7 @@ kept-none f k (p ∷ ps) h = go (f (trimOf p)) h (kept-none f k ps)
 -- a line goes only as a store of a dead phi whose value has no effect, or as a declaration of dead phis alone
 pub gone-only : (R : Reading) (ls : List (List ℕ)) (l : List ℕ) → phiAct R ls l ≡ gone → storeGoes R ls l || declGoes ls l ≡ true
 unfolding phiAct storeGoes declGoes
-gone-only R ls l h = go (deadBy (phiStore (trimStart l)) ls) (phiDecl (trimStart l)) h
+gone-only R ls l h = go (phiDead (phiStore (trimStart l)) ls) (phiDecl (trimStart l)) h
   where
     go : (a b : Bool) → cond a (storeAct R (take (fromOf l) l) (rightOf (trimStart l))) (cond b (declAct (take (fromOf l) l) (livePhis ls (partsOf 44 (bodyOf (trimStart l))))) keep) ≡ gone →
         (a && (pureIn R (rightOf (trimStart l)) || phiRhsPure (rightOf (trimStart l)))) || (b && all (λ (p : List ℕ). not (live ls (trimOf p))) (partsOf 44 (bodyOf (trimStart l)))) ≡ true
@@ -143,7 +143,7 @@ gone-only R ls l h = go (deadBy (phiStore (trimStart l)) ls) (phiDecl (trimStart
     go false false g = stays g
 
 -- a line that neither stores a dead phi nor declares phis alone stays as it is
-pub keep-other : (R : Reading) (ls : List (List ℕ)) (l : List ℕ) → deadBy (phiStore (trimStart l)) ls ≡ false → phiDecl (trimStart l) ≡ false → phiAct R ls l ≡ keep
+pub keep-other : (R : Reading) (ls : List (List ℕ)) (l : List ℕ) → phiDead (phiStore (trimStart l)) ls ≡ false → phiDecl (trimStart l) ≡ false → phiAct R ls l ≡ keep
 unfolding phiAct
 keep-other R ls l a b = rw (a, b)
 
@@ -161,7 +161,7 @@ decl-stays indent (x ∷ xs) = refl
 
 pub none-into : (R : Reading) (ls : List (List ℕ)) (l : List ℕ) → moves (phiAct R ls l) ≡ false
 unfolding phiAct
-none-into R ls l = go (deadBy (phiStore (trimStart l)) ls) (phiDecl (trimStart l)) (pureIn R (rightOf (trimStart l)) || phiRhsPure (rightOf (trimStart l)))
+none-into R ls l = go (phiDead (phiStore (trimStart l)) ls) (phiDecl (trimStart l)) (pureIn R (rightOf (trimStart l)) || phiRhsPure (rightOf (trimStart l)))
   where
     go : (a b v : Bool) → moves (cond a (cond v gone (become (take (fromOf l) l ++ rightOf (trimStart l) ++ 59 ∷ []))) (cond b (declAct (take (fromOf l) l) (livePhis ls (partsOf 44 (bodyOf (trimStart l))))) keep)) ≡ false
     go true b true = refl

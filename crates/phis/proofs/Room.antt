@@ -13,7 +13,7 @@ use Rattle.lines.specs.Acts.{keep, become, gone, act, apply}
 use Rattle.lines.proofs.Tests.{no, and-left, and-right, and-both}
 use Rattle.lines.proofs.StepLaws.{missingLf, lines-text}
 use Rattle.text.specs.Trim.{fromOf, trimStart, trimOf}
-use Rattle.names.specs.Names.{numberOf, phiBy, phiOf}
+use Rattle.names.specs.Names.{readNumber, phiBy, phiOf}
 use Rattle.names.specs.declared.PhiName.the-variants as name
 use Rattle.parse.specs.Parse.{letWord, bodyOf}
 use Rattle.lexical.specs.Phi.{phiRhsPure}
@@ -26,7 +26,7 @@ use Rattle.decls.specs.Inner.Print.{kept}
 use Rattle.decls.proofs.Decl.{longPiece, leftOut, trim-le, decl-pays, declares-by, picks-kept}
 use Rattle.reading.specs.Reading.{Reading, plain, pureIn}
 use Rattle.reading.specs.Assign.{unended, isAssign, rightOf}
-use Rattle.phis.specs.Phis.{isLet, isPhi, allPhis, phiDecl, phiStore, deadBy, anyDead, livePhis, storeAct, phiAct, phiActs, keeps, roundActs, round, pruneDeadPhis}
+use Rattle.phis.specs.Phis.{isLet, isPhi, allPhis, phiDecl, phiStore, phiDead, anyDead, livePhis, storeAct, phiAct, phiActs, keeps, roundActs, round, pruneDeadPhis}
 use Rattle.phis.specs.Inner.Rounds.{live, longest}
 use Rattle.phis.proofs.Writes.{names-live, dead-assign}
 
@@ -37,7 +37,7 @@ unfolding phiOf prefixed
 phi-long [] h = no h
 phi-long (x ∷ []) h = go (eqb 112 x) h
   where
-    go : (b : Bool) → isPhi (cond (b && false) (phiBy (numberOf [])) name.None) ≡ true → 2 ≤ 1
+    go : (b : Bool) → isPhi (cond (b && false) (phiBy (readNumber [])) name.None) ≡ true → 2 ≤ 1
     go true g = no g
     go false g = no g
 phi-long (x ∷ y ∷ t) h = omega arith
@@ -110,9 +110,9 @@ module _ (H : ℕ) where
 
   act-weight : (R : Reading) (ls : List (List ℕ)) (l : List ℕ) → weight H (unlines (act (phiAct R ls l) l)) ≤ weight H l + 1
   unfolding phiAct act
-  act-weight R ls l = go (deadBy (phiStore (trimStart l)) ls) refl (phiDecl (trimStart l)) refl
+  act-weight R ls l = go (phiDead (phiStore (trimStart l)) ls) refl (phiDecl (trimStart l)) refl
     where
-      go : (a : Bool) → deadBy (phiStore (trimStart l)) ls ≡ a → (b : Bool) → phiDecl (trimStart l) ≡ b →
+      go : (a : Bool) → phiDead (phiStore (trimStart l)) ls ≡ a → (b : Bool) → phiDecl (trimStart l) ≡ b →
           weight H (unlines (act (cond a (storeAct R (take (fromOf l) l) (rightOf (trimStart l))) (cond b (declAct (take (fromOf l) l) (livePhis ls (partsOf 44 (bodyOf (trimStart l))))) keep)) l)) ≤ weight H l + 1
       go true e b f = store-weight R l (dead-assign ls (trimStart l) e)
       go false e true f = rw (names-live ls (partsOf 44 (bodyOf (trimStart l)))) (decl-weight (live ls) l f)

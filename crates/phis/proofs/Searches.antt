@@ -10,7 +10,7 @@ use Rattle.lines.specs.Lf.{part, upTo, linesOf, partsOf}
 use Rattle.lines.proofs.LfLaws.{lines-at, lines-end, parts-at, parts-at-end}
 use Rattle.text.specs.Trim.{trimStart, trimOf}
 use Rattle.names.specs.Names.{phiOf, phiIs}
-use Rattle.phis.specs.Phis.{isPhi, allPhis, anyPhi, phiStore, phiReads, phiRead, phiStored, deadBy, anyDead}
+use Rattle.phis.specs.Phis.{isPhi, allPhis, anyPhi, phiStore, phiReads, phiRead, phiStored, phiDead, anyDead}
 
 -- some element passes a test
 unfoldable pub anyOne : (List ℕ → Bool) → List (List ℕ) → Bool
@@ -35,12 +35,12 @@ stored-any p (l ∷ ls) = ap (λ (b : Bool). phiIs p (phiStore (trimStart l)) ||
 
 -- a line stores a phi that is dead in ls
 abbrev pub storesDead : List (List ℕ) → List ℕ → Bool
-storesDead ls m = deadBy (phiStore (trimStart m)) ls
+storesDead ls m = phiDead (phiStore (trimStart m)) ls
 
 pub dead-any : (ls ms : List (List ℕ)) → anyDead ls ms ≡ anyOne (λ (m : List ℕ). storesDead ls m) ms
 unfolding anyDead anyOne
 dead-any ls [] = refl
-dead-any ls (m ∷ ms) = ap (λ (b : Bool). deadBy (phiStore (trimStart m)) ls || b) (dead-any ls ms)
+dead-any ls (m ∷ ms) = ap (λ (b : Bool). phiDead (phiStore (trimStart m)) ls || b) (dead-any ls ms)
 
 -- a piece is phi p
 abbrev pub pieceIs : ℕ → List ℕ → Bool

@@ -8,7 +8,7 @@ use Rattle.text.specs.Trim.{fromOf, trimStart}
 use Rattle.names.specs.Names.{phiWord}
 use Rattle.names.specs.declared.PhiName.{PhiName}
 use Rattle.reading.specs.Reading.{plain}
-use Rattle.phis.specs.Phis.{phiStore, deadBy, anyDead, round}
+use Rattle.phis.specs.Phis.{phiStore, phiDead, anyDead, round}
 use Rattle.phis.specs.Inner.Rounds.{changeText}
 use Rattle.phis.proofs.Held.{held-store, held-decl, held-dead}
 use Rattle.phis.proofs.Writes.{change-keep}
@@ -17,7 +17,7 @@ use Rattle.phis.proofs.Keeps.{none-dead}
 -- a line without the letters `phi` stays
 pub held-change : (ls : List (List ℕ)) (l : List ℕ) → holds phiWord l ≡ false → changeText plain ls l ≡ l ++ 10 ∷ []
 held-change ls l h =
-    change-keep plain ls l (trimStart l) (part 0 (fromOf l) l) (fromOf l) refl refl refl (phiStore (trimStart l)) refl (ap (λ (n : PhiName). deadBy n ls) (held-store l h)) (held-decl l h)
+    change-keep plain ls l (trimStart l) (part 0 (fromOf l) l) (fromOf l) refl refl refl (phiStore (trimStart l)) refl (ap (λ (n : PhiName). phiDead n ls) (held-store l h)) (held-decl l h)
 
 -- a round writes a text without a dead phi as it is
 pub none-round : (t : List ℕ) → anyDead (linesOf t) (linesOf t) ≡ false → unlines (linesOf t) ≡ unlines (round plain (linesOf t))

@@ -27,7 +27,7 @@ use Rattle.decls.proofs.PrintLaws.{after-bare, act-text}
 use Rattle.reading.specs.Reading.{Reading, plain, pureIn}
 use Rattle.reading.specs.Assign.{isAssign, leftOf, rightOf}
 use Rattle.reading.proofs.AssignLaws.{part-le, right-le}
-use Rattle.phis.specs.Phis.{isLet, phiDecl, phiStore, deadPhi, deadBy, anyDead, livePhi, livePhis, storeAct, phiAct, phiActs, roundActs, round}
+use Rattle.phis.specs.Phis.{isLet, phiDecl, phiStore, deadPhi, phiDead, anyDead, livePhi, livePhis, storeAct, phiAct, phiActs, roundActs, round}
 use Rattle.phis.specs.Inner.Rounds.{liveBy, live, storeText, changeText}
 
 -- ---- the names that stay
@@ -69,11 +69,11 @@ unfolding storeText
 store-by R indent rhs b e = rw e
 
 -- a store of a dead phi is an assignment
-pub dead-assign : (ls : List (List ℕ)) (t : List ℕ) → deadBy (phiStore t) ls ≡ true → isAssign t ≡ true
+pub dead-assign : (ls : List (List ℕ)) (t : List ℕ) → phiDead (phiStore t) ls ≡ true → isAssign t ≡ true
 unfolding phiStore
 dead-assign ls t h = go (isLet t) (isAssign t) h
   where
-    go : (a b : Bool) → deadBy (cond (not a && b) (phiOf (leftOf t)) name.None) ls ≡ true → b ≡ true
+    go : (a b : Bool) → phiDead (cond (not a && b) (phiOf (leftOf t)) name.None) ls ≡ true → b ≡ true
     go true b g = no g
     go false true g = refl
     go false false g = no g
@@ -84,14 +84,14 @@ module _ (R : Reading) (ls : List (List ℕ)) (l t indent : List ℕ) (a : ℕ) 
   indent-is = let w : a - 0 ≡ fromOf l = omega arith in y ∙ ap (λ (n : ℕ). take n l) w
 
   module _ (n : PhiName) (s : n ≡ phiStore t) where
-    dead-is : (b : Bool) → deadBy n ls ≡ b → deadBy (phiStore (trimStart l)) ls ≡ b
-    dead-is b e = ap (λ (x : List ℕ). deadBy (phiStore x) ls) (sym z) ∙ ap (λ (m : PhiName). deadBy m ls) (sym s) ∙ e
+    dead-is : (b : Bool) → phiDead n ls ≡ b → phiDead (phiStore (trimStart l)) ls ≡ b
+    dead-is b e = ap (λ (x : List ℕ). phiDead (phiStore x) ls) (sym z) ∙ ap (λ (m : PhiName). phiDead m ls) (sym s) ∙ e
 
-    pub change-store : deadBy n ls ≡ true → changeText R ls l ≡ storeText R indent (rightOf t)
+    pub change-store : phiDead n ls ≡ true → changeText R ls l ≡ storeText R indent (rightOf t)
     unfolding changeText phiAct
     change-store e = rw (dead-is true e) (store-text R (take (fromOf l) l) (rightOf (trimStart l)) l ∙ rw (indent-is, z))
 
-    pub change-decl : deadBy n ls ≡ false → phiDecl t ≡ true → (body : List ℕ) → body ≡ part 4 (length t - 1) t → changeText R ls l ≡ declText indent (kept (live ls) 3 (partsOf 44 body)) false
+    pub change-decl : phiDead n ls ≡ false → phiDecl t ≡ true → (body : List ℕ) → body ≡ part 4 (length t - 1) t → changeText R ls l ≡ declText indent (kept (live ls) 3 (partsOf 44 body)) false
     unfolding changeText phiAct
     change-decl e d body x =
         rw (dead-is false e, sym (ap phiDecl z) ∙ d)
@@ -99,7 +99,7 @@ module _ (R : Reading) (ls : List (List ℕ)) (l t indent : List ℕ) (a : ℕ) 
         ∙ ap (λ (r : List (List ℕ)). declText (take (fromOf l) l) r false) (names-live ls (partsOf 44 (bodyOf (trimStart l))))
         ∙ rw (indent-is, x, z))
 
-    pub change-keep : deadBy n ls ≡ false → phiDecl t ≡ false → changeText R ls l ≡ l ++ 10 ∷ []
+    pub change-keep : phiDead n ls ≡ false → phiDecl t ≡ false → changeText R ls l ≡ l ++ 10 ∷ []
     unfolding changeText phiAct act unlines
     change-keep e d = rw (dead-is false e, sym (ap phiDecl z) ∙ d)
 

@@ -75,14 +75,14 @@ phiStored p (l ∷ ls) = phiIs p (phiStore (trimStart l)) || phiStored p ls
 abbrev pub deadPhi : ℕ → List (List ℕ) → Bool
 deadPhi p ls = phiStored p ls && not (phiRead p ls)
 
-abbrev pub deadBy : PhiName → List (List ℕ) → Bool
-deadBy name.None ls = false
-deadBy (name.Phi q) ls = deadPhi (q .0) ls
+abbrev pub phiDead : PhiName → List (List ℕ) → Bool
+phiDead name.None ls = false
+phiDead (name.Phi q) ls = deadPhi (q .0) ls
 
 -- some line of ms stores a phi that is dead in ls
 unfoldable pub anyDead : List (List ℕ) → List (List ℕ) → Bool
 anyDead ls [] = false
-anyDead ls (m ∷ ms) = deadBy (phiStore (trimStart m)) ls || anyDead ls ms
+anyDead ls (m ∷ ms) = phiDead (phiStore (trimStart m)) ls || anyDead ls ms
 
 -- ---- one round
 
@@ -102,7 +102,7 @@ storeAct R indent rhs = cond (pureIn R rhs || phiRhsPure rhs) gone (become (inde
 unfoldable pub phiAct : Reading → List (List ℕ) → List ℕ → Act
 unfolding livePhis declAct
 phiAct R ls l =
-    cond (deadBy (phiStore (trimStart l)) ls) (storeAct R (take (fromOf l) l) (rightOf (trimStart l)))
+    cond (phiDead (phiStore (trimStart l)) ls) (storeAct R (take (fromOf l) l) (rightOf (trimStart l)))
     (cond (phiDecl (trimStart l)) (declAct (take (fromOf l) l) (livePhis ls (partsOf (code ",") (bodyOf (trimStart l))))) keep)
 
 unfoldable pub phiActs : Reading → List (List ℕ) → List (List ℕ) → List Act

@@ -14,7 +14,7 @@ ghost use Rattle.lexical.specs.Phi.{phiRhsPure};
 ghost use Rattle.decls.specs.Inner.Print.{kept, declText};
 ghost use Rattle.reading.specs.Reading.{plain, pureIn};
 ghost use Rattle.reading.specs.Assign.{isAssign, rightOf};
-ghost use Rattle.phis.specs.Phis.{isLet, isPhi, allPhis, phiDecl, anyPhi, phiStore, phiOwn, phiReads, phiRead, phiStored, deadPhi, deadBy, anyDead, round, pruneDeadPhis};
+ghost use Rattle.phis.specs.Phis.{isLet, isPhi, allPhis, phiDecl, anyPhi, phiStore, phiOwn, phiReads, phiRead, phiStored, deadPhi, phiDead, anyDead, round, pruneDeadPhis};
 ghost use Rattle.phis.specs.Inner.Table.{Tells};
 ghost use Rattle.phis.specs.Inner.Rounds.{live, storeText, changeText, longest};
 
@@ -197,7 +197,7 @@ fn dead_phi(text: &[u8], phi: names::Phi, table: &[u8]) -> bool
 // Whether a name is that of a phi that is dead in a text.
 fn dead_by(name: names::PhiName, text: &[u8], table: &[u8]) -> bool
     requires { ⌜ Tells (linesOf (now text)) (now table) ⌝ }
-    ensures { λ r. ⌜ r ≡ deadBy name (linesOf (now (text .entry))) ⌝ }
+    ensures { λ r. ⌜ r ≡ phiDead name (linesOf (now (text .entry))) ⌝ }
 {
     match name {
         names::PhiName::Phi(q) => dead_phi(text, q, table),

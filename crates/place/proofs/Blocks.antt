@@ -10,7 +10,7 @@ use lib.Seq.{getD-append-add}
 use lib.Dec.{eqb}
 use Rattle.lines.proofs.Tests.{no, and-left, and-right}
 use Rattle.lexical.specs.Lex.{stripLexical}
-use Rattle.place.specs.Blocks.{Brace, opens, closes, plain, braceOf, push, count, top, stackAfter, nextAfter, blocksGo, blocks, cleaned}
+use Rattle.place.specs.Blocks.{Brace, opens, closes, neither, braceOf, push, count, top, stackAfter, nextAfter, blocksGo, blocks, cleaned}
 use Rattle.place.specs.Inner.Blocks.{blockIds, mayAt, depthAt, depthAfter, ownLine, ownGo, own}
 use Rattle.place.specs.Paths.{tops}
 use Rattle.place.specs.Inner.Parents.{braces, idsPre, idsPost}
@@ -81,13 +81,13 @@ count-up : (b : Brace) (k m : ℕ) → count b (k + m) ≡ count b k + m
 unfolding count
 count-up opens k m = omega arith
 count-up closes k m = refl
-count-up plain k m = refl
+count-up neither k m = refl
 
 count-pos : (b : Brace) (n : ℕ) → 1 ≤ n → 1 ≤ count b n
 unfolding count
 count-pos opens n p = omega arith
 count-pos closes n p = p
-count-pos plain n p = p
+count-pos neither n p = p
 
 next-pos : (l : List ℕ) (n : ℕ) → 1 ≤ n → 1 ≤ nextAfter l n
 unfolding nextAfter
@@ -106,7 +106,7 @@ module _ (m : ℕ) (u : List ℕ) where
   over-by opens (suc k) p h o = some k o
   over-by closes n p h none = no h
   over-by closes n p h (some k o) = o
-  over-by plain n p h o = o
+  over-by neither n p h o = o
 
   over-top : {w s : List ℕ} {d : ℕ} → Over m u w s d → top w ≡ rename (top u) (suc m) (top s)
   unfolding top rename

@@ -6,7 +6,7 @@ use native.Mathlib.Omega.{arith}
 use borrow.Author.Tests.{eq-eqb, ne-eqb}
 use lib.ListN.{length, getD, set, take, replicate, length-append, List·getD-append, List·getD-eq-default, length-take}
 use lib.Seq.{getD-append-seam, getD-take, length-take-le}
-use Rattle.place.specs.Blocks.{Brace, opens, closes, plain, braceOf, push, count, top, blocks, cleaned}
+use Rattle.place.specs.Blocks.{Brace, opens, closes, neither, braceOf, push, count, top, blocks, cleaned}
 use Rattle.place.specs.Inner.Blocks.{blockIds}
 use Rattle.place.specs.Paths.{blockPaths, tops}
 use Rattle.place.specs.Inner.Parents.{around, curAt, upsAt, curBy, upsBy, Room, Moved, braces, notesGo, idsPre, idsPost, pathPre, pathPost}
@@ -33,7 +33,7 @@ at-grow : (b : Brace) (c : ℕ) (ups : List ℕ) → length ups ≤ length (upsA
 unfolding upsAt
 at-grow opens c ups = omega (arith, length-append ups (c ∷ []))
 at-grow closes c ups = omega arith
-at-grow plain c ups = omega arith
+at-grow neither c ups = omega arith
 
 pub by-grow : (bs : List Brace) (c : ℕ) (ups : List ℕ) → length ups ≤ length (upsBy bs c ups)
 unfolding upsBy
@@ -68,13 +68,13 @@ unfolding upsAt curAt push around
 chain-by opens {ups} {c} h = link (length ups) (omega (arith, snoc-length ups c)) (getD-append-seam ups c [] 0) (chain-grow (c ∷ []) h)
 chain-by closes {ups} ground = ground
 chain-by closes {ups} (link {s = s} k p e h) = subst (λ (y : ℕ). Chain ups y s) (sym e) h
-chain-by plain h = h
+chain-by neither h = h
 
 ups-count : (b : Brace) (c : ℕ) (ups : List ℕ) → suc (length (upsAt b c ups)) ≡ count b (suc (length ups))
 unfolding upsAt count
 ups-count opens c ups = ap suc (snoc-length ups c)
 ups-count closes c ups = refl
-ups-count plain c ups = refl
+ups-count neither c ups = refl
 
 ups-tally : (bs : List Brace) (c : ℕ) (ups : List ℕ) → suc (length (upsBy bs c ups)) ≡ tally bs (suc (length ups))
 unfolding upsBy tally
@@ -161,7 +161,7 @@ pub brace-close : (b : ℕ) → b ≡ 125 → braceOf b ∷ [] ≡ closes ∷ []
 unfolding braceOf
 brace-close b e = rw (ne-eqb b 123 (λ z. omega arith), eq-eqb b 125 e)
 
-pub brace-plain : (b : ℕ) → (b ≡ 123 → ⊥) → (b ≡ 125 → ⊥) → braceOf b ∷ [] ≡ plain ∷ []
+pub brace-plain : (b : ℕ) → (b ≡ 123 → ⊥) → (b ≡ 125 → ⊥) → braceOf b ∷ [] ≡ neither ∷ []
 unfolding braceOf
 brace-plain b p q = rw (ne-eqb b 123 p, ne-eqb b 125 q)
 
@@ -172,7 +172,7 @@ module _ (c : ℕ) (u : List ℕ) (n : ℕ) (h : n ≤ length u) where
   unfolding curBy upsBy
   moved-none = record { cur = refl; filled = filled-none u n h }
 
-  pub moved-plain : Moved (plain ∷ []) c u n c u n
+  pub moved-plain : Moved (neither ∷ []) c u n c u n
   unfolding curBy upsBy curAt upsAt
   moved-plain = record { cur = refl; filled = filled-none u n h }
 

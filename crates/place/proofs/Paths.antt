@@ -12,7 +12,7 @@ use Rattle.lines.specs.Lf.{same, endsIn}
 use Rattle.lines.proofs.Tests.{eqb-sym, no}
 use Rattle.lines.proofs.Compare.{same-eq, same-refl}
 use Rattle.text.specs.Trim.{trimOf}
-use Rattle.place.specs.Blocks.{Brace, opens, closes, plain, push, count, top}
+use Rattle.place.specs.Blocks.{Brace, opens, closes, neither, push, count, top}
 use Rattle.place.specs.Paths.{pathCloses, pathAfter, pathNext, pathsGo, blockPaths, tops}
 use Rattle.place.specs.Inner.Parents.{pathPre, pathOpen, pathPost}
 use Rattle.place.proofs.Stacks.{walk, tally, walk-append, tally-append, noted, noted-same, noted-length, given-first, drop-one, tops-at, tops-length}

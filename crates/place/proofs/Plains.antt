@@ -10,11 +10,11 @@ use Rattle.lines.specs.Lf.{all}
 use Rattle.lines.proofs.Tests.{and-left, and-right}
 use Rattle.lexical.specs.Inner.Plain.{isPlain}
 use Rattle.lexical.proofs.PlainLaws.{plain-low}
-use Rattle.place.specs.Blocks.{Brace, plain, braceOf}
+use Rattle.place.specs.Blocks.{Brace, neither, braceOf}
 use Rattle.place.specs.Inner.Parents.{curBy, upsBy, braces, Moved}
 use Rattle.place.proofs.Parents.{moved-none}
 
-plain-brace : (x : ℕ) → isPlain x ≡ true → braceOf x ≡ plain
+plain-brace : (x : ℕ) → isPlain x ≡ true → braceOf x ≡ neither
 unfolding braceOf
 plain-brace x h = let k = plain-low x h in rw (ne-eqb x 123 (omega arith), ne-eqb x 125 (omega arith))
 

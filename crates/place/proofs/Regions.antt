@@ -12,7 +12,7 @@ use Rattle.lines.specs.Lf.{part, upTo, linesOf, prefixed}
 use Rattle.lines.specs.Inner.Lf.{lacks}
 use Rattle.lines.proofs.Tests.{no, or-false, eqb-sym}
 use Rattle.lines.proofs.LfLaws.{upTo-le, lines-first, lines-line, drop-min}
-use Rattle.place.specs.Region.{functionWord, varWord, letWord, constWord, classWord, letPhi, isHeader, untilHeader, region, regionAt}
+use Rattle.place.specs.Region.{functionWord, varWord, letHead, constWord, classWord, letPhi, isHeader, untilHeader, region, regionAt}
 use Rattle.place.specs.Inner.Region.{upHeader, regionLen}
 
 -- the bytes of the line that is passed
@@ -236,7 +236,7 @@ f-head (y ∷ l) x q e = rw (← q, e) (sym (or-false _))
 
 -- and another where it begins with one of the other words
 pub other-head : (l : List ℕ) (x : ℕ) → x ≡ getD l 0 0 → (x ≡ 102 → ⊥) →
-    not (prefixed letPhi l) && (prefixed varWord l || (prefixed letWord l || (prefixed constWord l || prefixed classWord l))) ≡ isHeader l
+    not (prefixed letPhi l) && (prefixed varWord l || (prefixed letHead l || (prefixed constWord l || prefixed classWord l))) ≡ isHeader l
 unfolding isHeader prefixed
 other-head [] x q e = refl
 other-head (y ∷ l) x q e = rw (eqb-sym 102 y ∙ ap (λ (z : ℕ). eqb z 102) (sym q) ∙ ne-eqb x 102 e)

@@ -14,7 +14,7 @@ use Rattle.lexical.specs.declared.Token.{Token}
 use Rattle.lexical.specs.declared.Kind.{Kind}
 use Rattle.lexical.specs.declared.Kind.the-variants.{Kept, Literal, Gone}
 use Rattle.lexical.specs.Lex.{lastOf, tokenOf, leaves, lexGo, stripLexical}
-use Rattle.place.specs.Blocks.{Brace, opens, closes, plain, braceOf}
+use Rattle.place.specs.Blocks.{Brace, opens, closes, neither, braceOf}
 use Rattle.place.specs.Paths.{pathCloses}
 use Rattle.place.specs.Inner.Parents.{curAt, upsAt, curBy, upsBy, flat, braces, idsPre, idsPost, pathPre, pathOpen, pathPost, idsParents, pathParents}
 
@@ -24,14 +24,14 @@ unfoldable pub opensIn : List Brace → ℕ
 opensIn [] = 0
 opensIn (opens ∷ bs) = suc (opensIn bs)
 opensIn (closes ∷ bs) = opensIn bs
-opensIn (plain ∷ bs) = opensIn bs
+opensIn (neither ∷ bs) = opensIn bs
 
 opens-append : (xs ys : List Brace) → opensIn (xs ++ ys) ≡ opensIn xs + opensIn ys
 unfolding opensIn
 opens-append [] ys = omega arith
 opens-append (opens ∷ xs) ys = let r = opens-append xs ys in omega arith
 opens-append (closes ∷ xs) ys = opens-append xs ys
-opens-append (plain ∷ xs) ys = opens-append xs ys
+opens-append (neither ∷ xs) ys = opens-append xs ys
 
 -- the table grows by one entry for each
 pub ups-length : (bs : List Brace) (c : ℕ) (ups : List ℕ) → length (upsBy bs c ups) ≡ length ups + opensIn bs
@@ -39,7 +39,7 @@ unfolding upsBy upsAt opensIn
 ups-length [] c ups = omega arith
 ups-length (opens ∷ bs) c ups = let r = ups-length bs (curAt opens c ups) (ups ++ c ∷ []) in omega (arith, length-append ups (c ∷ []))
 ups-length (closes ∷ bs) c ups = ups-length bs (curAt closes c ups) ups
-ups-length (plain ∷ bs) c ups = ups-length bs c ups
+ups-length (neither ∷ bs) c ups = ups-length bs c ups
 
 -- ---- of bytes
 
@@ -48,7 +48,7 @@ unfolding braces braceOf countOf opensIn
 opens-count [] = refl
 opens-count (x ∷ xs) = go (eqb x 123) (eqb x 125) (opens-count xs)
   where
-    go : (a b : Bool) → opensIn (braces xs) ≡ countOf 123 xs → opensIn (cond a opens (cond b closes plain) ∷ braces xs) ≡ cond a (suc (countOf 123 xs)) (countOf 123 xs)
+    go : (a b : Bool) → opensIn (braces xs) ≡ countOf 123 xs → opensIn (cond a opens (cond b closes neither) ∷ braces xs) ≡ cond a (suc (countOf 123 xs)) (countOf 123 xs)
     go true b h = ap suc h
     go false true h = h
     go false false h = h

@@ -4,7 +4,7 @@ use mathlib.Core.Path.{_≡_, refl, sym, ap, _∙_, subst}
 use mathlib.Core.List.{List, [], _∷_, _++_}
 use native.Mathlib.Omega.{arith}
 use lib.ListN.{length, getD, drop}
-use Rattle.place.specs.Blocks.{Brace, opens, closes, plain, push, count, top}
+use Rattle.place.specs.Blocks.{Brace, opens, closes, neither, push, count, top}
 use Rattle.place.specs.Paths.{tops}
 
 -- ---- a walk over braces: the open blocks, and the next number
@@ -51,7 +51,7 @@ unfolding count push
 given-by opens {n} {s} g = on {n = suc n} {x = n} {s = s} (given-top g) (omega arith) (given-more g)
 given-by closes (base h) = base h
 given-by closes (on p q r) = r
-given-by plain g = g
+given-by neither g = g
 
 pub given-walk : (bs : List Brace) {n : ℕ} {s : List ℕ} → Given n s → Given (tally bs n) (walk bs n s)
 unfolding tally walk
@@ -78,13 +78,13 @@ module _ (n : ℕ) (s : List ℕ) where
   since-by opens m h g = fresh h g
   since-by closes m h (under k) = let g : Since n s (drop (suc k) s) = under (suc k) in subst (λ (r : List ℕ). Since n s r) (drop-one k s) g
   since-by closes m h (fresh p g) = g
-  since-by plain m h g = g
+  since-by neither m h g = g
 
   count-up : (b : Brace) (m : ℕ) → n ≤ m → n ≤ count b m
   unfolding count
   count-up opens m h = omega arith
   count-up closes m h = h
-  count-up plain m h = h
+  count-up neither m h = h
 
   since-walk : (bs : List Brace) (m : ℕ) {w : List ℕ} → n ≤ m → Since n s w → Since n s (walk bs m w)
   unfolding walk

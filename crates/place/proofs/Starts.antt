@@ -21,8 +21,8 @@ use Rattle.lexical.specs.declared.Kind.{Kind}
 use Rattle.lexical.specs.declared.Kind.the-variants.{Kept, Literal, Gone}
 use Rattle.lexical.specs.Lex.{lastOf, token, tokenOf, leaves, lexGo, stripLexical}
 use Rattle.place.specs.Region.{letPhi, isHeader}
-use Rattle.place.specs.Starts.{blank, startsAfter, startsAbove, startsGo}
-use Rattle.place.specs.Inner.Starts.{startsBy}
+use Rattle.place.specs.Starts.{isBlank, startsAfter, startsAbove, startsGo}
+use Rattle.place.specs.Inner.Starts.{startsByLast}
 
 pub length-starts : (cs : List (List ℕ)) (st : Bool) → length (startsGo cs st) ≡ length cs
 unfolding startsGo
@@ -42,12 +42,12 @@ pub starts-at : (cs : List (List ℕ)) (k : ℕ) → k < length cs → getD (sta
 unfolding startsAbove
 starts-at cs k h = starts-go cs [] k h
 
-after-shown : (t : List ℕ) (a b : Bool) → blank t ≡ false → startsAfter t a ≡ startsAfter t b
+after-shown : (t : List ℕ) (a b : Bool) → isBlank t ≡ false → startsAfter t a ≡ startsAfter t b
 unfolding startsAfter
 after-shown t a b e = rw e
 
 -- what stands above a line that is not blank is not looked at
-pub starts-far : (xs ys : List (List ℕ)) (t : List ℕ) → blank t ≡ false → startsAbove (xs ++ t ∷ ys) ≡ startsAbove (xs ++ t ∷ [])
+pub starts-far : (xs ys : List (List ℕ)) (t : List ℕ) → isBlank t ≡ false → startsAbove (xs ++ t ∷ ys) ≡ startsAbove (xs ++ t ∷ [])
 unfolding startsAbove
 starts-far [] ys t e = after-shown t (startsAbove ys) true e
 starts-far (x ∷ xs) ys t e = ap (startsAfter x) (starts-far xs ys t e)
@@ -63,7 +63,7 @@ starts-append [] ts st = refl
 starts-append (u ∷ us) ts st = ap (λ (r : List Bool). st ∷ r) (starts-append us ts (startsAfter u st))
 
 -- of a tail whose first line is not blank, the entries below that line are those of the tail alone
-pub starts-cut : (us ts : List (List ℕ)) (t : List ℕ) → blank t ≡ false → startsGo (us ++ t ∷ ts) true ≡ startsGo us true ++ startsBelow us true ∷ drop 1 (startsGo (t ∷ ts) true)
+pub starts-cut : (us ts : List (List ℕ)) (t : List ℕ) → isBlank t ≡ false → startsGo (us ++ t ∷ ts) true ≡ startsGo us true ++ startsBelow us true ∷ drop 1 (startsGo (t ∷ ts) true)
 unfolding startsGo
 starts-cut us ts t e =
     starts-append us (t ∷ ts) true ∙ ap (λ (b : Bool). startsGo us true ++ startsBelow us true ∷ startsGo ts b) (after-shown t (startsBelow us true) true e)
@@ -162,12 +162,12 @@ module _ (x : ℕ) (h : shown x ≡ true) (r : List ℕ) where
   stays (suc n) zero p q b = absurd (omega arith)
   stays (suc n) (suc e) p q b = stay-by n e (whiteTail (x ∷ r) (suc e)) refl p b (λ d. stays n d)
 
-  toOf-shown : blank (x ∷ r) ≡ false
+  toOf-shown : isBlank (x ∷ r) ≡ false
   unfolding toOf
   toOf-shown = ne-eqb (toOf (x ∷ r)) 0 (λ e. let k = stays (length (x ∷ r)) (length (x ∷ r)) (omega arith) (omega arith) (omega arith) in omega arith)
 
-pub line-shown : (x : ℕ) (xs : List ℕ) → shown x ≡ true → blank (stripLexical (x ∷ xs)) ≡ false
-line-shown x xs h = let p = strip-shown x h xs in ap blank (p .1) ∙ toOf-shown x h (p .0)
+pub line-shown : (x : ℕ) (xs : List ℕ) → shown x ≡ true → isBlank (stripLexical (x ∷ xs)) ≡ false
+line-shown x xs h = let p = strip-shown x h xs in ap isBlank (p .1) ∙ toOf-shown x h (p .0)
 
 -- ---- a header begins with a letter
 
@@ -187,7 +187,7 @@ first-letter x p q r s t h = go (eqb 102 x) refl (eqb 118 x) refl (eqb 108 x) re
     go false e false f false g false k z = no z
 
 -- a header is not blank once cleaned
-pub header-shown : (l : List ℕ) → isHeader l ≡ true → blank (stripLexical l) ≡ false
+pub header-shown : (l : List ℕ) → isHeader l ≡ true → isBlank (stripLexical l) ≡ false
 unfolding isHeader prefixed
 header-shown [] h = no h
 header-shown (x ∷ xs) h = line-shown x xs (first-letter x _ _ _ _ _ (and-right (not (prefixed letPhi (x ∷ xs))) _ h))
@@ -222,17 +222,17 @@ pub bytes-strip : (l : List ℕ) → Bytes l → Bytes (stripLexical l)
 unfolding stripLexical
 bytes-strip l p = bytes-go l 0 [] p (λ i. omega arith)
 
-pub last-blank : (t : List ℕ) → Bytes t → eqb (lastOf t) 256 ≡ blank t
+pub last-blank : (t : List ℕ) → Bytes t → eqb (lastOf t) 256 ≡ isBlank t
 unfolding lastOf
-last-blank t p = go (blank t)
+last-blank t p = go (isBlank t)
   where
     go : (b : Bool) → eqb (cond b 256 (getD t (toOf t - 1) 0)) 256 ≡ b
     go true = refl
     go false = let k = p (toOf t - 1) in ne-eqb (getD t (toOf t - 1) 0) 256 (λ e. omega arith)
 
 -- so it says what the line below may begin
-pub after-by : (t : List ℕ) (st : Bool) → Bytes t → startsBy (lastOf t) st ≡ startsAfter t st
-unfolding startsBy startsAfter
+pub after-by : (t : List ℕ) (st : Bool) → Bytes t → startsByLast (lastOf t) st ≡ startsAfter t st
+unfolding startsByLast startsAfter
 after-by t st p = ap (λ (b : Bool). cond b st (among (59 ∷ 123 ∷ 125 ∷ 58 ∷ []) (lastOf t))) (last-blank t p)
 
 -- and the last character of a cleaned header is one

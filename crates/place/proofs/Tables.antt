@@ -12,7 +12,7 @@ use Rattle.lines.proofs.Tests.{no, and-left, eqb-sym}
 use Rattle.lines.proofs.LfLaws.{lines-at, lines-end}
 use Rattle.lines.proofs.OutLaws.{Writing, writing-start, writing-as, writing-room, writing-length}
 use Rattle.text.specs.Trim.{trimOf}
-use Rattle.place.specs.Blocks.{Brace, opens, closes, plain, braceOf}
+use Rattle.place.specs.Blocks.{Brace, opens, closes, neither, braceOf}
 use Rattle.place.specs.Paths.{pathCloses, blockPaths, tops}
 use Rattle.place.specs.Inner.Fill.{Filled}
 use Rattle.place.specs.Inner.Parents.{curBy, upsBy, Room, Moved, notesGo, flat, pathPre, pathOpen, pathPost, pathParents}

@@ -21,7 +21,7 @@ use Rattle.lexical.specs.declared.Token.{Token}
 use Rattle.lexical.specs.declared.Step.{Step}
 use Rattle.lexical.specs.declared.Tail.{Tail}
 use Rattle.lexical.specs.Lex.{lastOf, token, leaves, lexGo, stripLexical}
-use Rattle.lexical.specs.Inner.Lex.{tokenAt, tailOf, pushed, grown, stepOf}
+use Rattle.lexical.specs.Inner.Lex.{tokenAt, tailOf, pushed, grown, cleanStep}
 use Rattle.lexical.specs.Inner.Plain.{plainLen, lowLast, lowTail}
 use Rattle.lexical.proofs.TokenLaws.{token-kept}
 use Rattle.lexical.proofs.TailLaws.{after-low}
@@ -30,7 +30,7 @@ use Rattle.lexical.proofs.PlainLaws.{plain-take, lex-plain, last-run, low-plain
 use Rattle.place.specs.Blocks.{Brace, braceOf, cleaned}
 use Rattle.place.specs.Inner.Blocks.{blockIds}
 use Rattle.place.specs.Starts.{startsAfter, startsGo}
-use Rattle.place.specs.Inner.Starts.{startsBy}
+use Rattle.place.specs.Inner.Starts.{startsByLast}
 use Rattle.place.specs.Inner.Fill.{Filled, flagsOf}
 use Rattle.place.specs.Inner.Parents.{curBy, upsBy, Room, Moved, notesGo, flat, braces, idsPre, idsPost, idsParents}
 use Rattle.place.proofs.Blocks.{cleaned-length}
@@ -68,7 +68,7 @@ module _ {line : List ℕ} {c : ℕ} {u₀ : List ℕ} {n : ℕ} {u : List ℕ} 
   pub walk-length : length u ≡ length u₀
   walk-length = let p = rest-room (h .lex) in room-length (braces (h .out)) (braces (p .0)) (p .1) (h .moved)
 
-  module _ (s : Step) (q : s ≡ stepOf i t (drop i line)) (l : i < length line) where
+  module _ (s : Step) (q : s ≡ cleanStep i t (drop i line)) (l : i < length line) where
     pub walk-room : Room (braces (leaves (s .kind) (getD line i 0))) k u m
     unfolding idsPost
     walk-room =
@@ -161,21 +161,21 @@ module _ (line : List ℕ) (c : ℕ) (u : List ℕ) (n j : ℕ) (h : Room (idsPo
   at-brace = walk-head line c u n j (tailOf []) v h refl q refl
 
   abbrev s : Step
-  s = stepOf j v (drop j line)
+  s = cleanStep j v (drop j line)
 
   one : tokenAt (v .last) (drop j line) ≡ token 1 Kept
   one = let f = brace-is (getD line j 0) y in token-kept (v .last) line j (omega (arith, z)) (f .0 .0) (f .0 .1)
 
   kind-is : s .kind ≡ Kept
-  unfolding stepOf
+  unfolding cleanStep
   kind-is = ap (λ (k : Token). k .kind) one
 
   next-is : s .next ≡ j + 1
-  unfolding stepOf
+  unfolding cleanStep
   next-is = ap (λ (k : Token). j + k .size) one
 
   last-is : s .tail .last ≡ getD line j 0
-  unfolding stepOf grown pushed
+  unfolding cleanStep grown pushed
   last-is = let f = brace-is (getD line j 0) y in rw (one, head-at line j, after-low (getD line j 0) (f .1 .1) v, f .1 .0)
 
   braces-are : braces (leaves (s .kind) (getD line j 0)) ≡ braceOf (getD line j 0) ∷ []
@@ -194,12 +194,12 @@ module _ (line : List ℕ) (c : ℕ) (u : List ℕ) (n j : ℕ) (h : Room (idsPo
 -- ---- a test of the last character
 
 module _ (last : ℕ) (st : Bool) where
-  pub by-blank : last ≡ 256 → st ≡ startsBy last st
-  unfolding startsBy
+  pub by-blank : last ≡ 256 → st ≡ startsByLast last st
+  unfolding startsByLast
   by-blank e = rw (eq-eqb last 256 e)
 
-  pub by-last : (last ≡ 256 → ⊥) → eqb last 59 || (eqb last 123 || (eqb last 125 || eqb last 58)) ≡ startsBy last st
-  unfolding startsBy
+  pub by-last : (last ≡ 256 → ⊥) → eqb last 59 || (eqb last 123 || (eqb last 125 || eqb last 58)) ≡ startsByLast last st
+  unfolding startsByLast
   by-last n = rw (ne-eqb last 256 n, or-false (eqb last 58))
 
 -- ---- the lines
@@ -238,12 +238,12 @@ module _ {t d₀ d s₀ s u₀ u : List ℕ} {i k c n : ℕ} {st : Bool} (h : Pl
     place-room = lines-room idsPre idsPost (h .blocks) q e z
 
     pub place-on : {b f last c′ : ℕ} {u′ : List ℕ} {n′ j : ℕ} {st′ : Bool} → Bytes t → b ≡ c → f ≡ cond st 1 0 →
-        Moved (idsPost (part i e t)) c u n c′ u′ n′ × (last ≡ lastOf (stripLexical (part i e t))) → st′ ≡ startsBy last st → j ≡ min (e + 1) (length t) →
+        Moved (idsPost (part i e t)) c u n c′ u′ n′ × (last ≡ lastOf (stripLexical (part i e t))) → st′ ≡ startsByLast last st → j ≡ min (e + 1) (length t) →
         PlaceInv t d₀ (set d k b) s₀ (set s k f) u₀ u′ j (k + 1) c′ n′ st′
     unfolding curBy
     place-on {b} {f} {last} {c′} {u′} {n′} {j} {st′} a x y m w v =
         let g : startsAfter (stripLexical (part i e t)) st ≡ st′ =
-        sym (after-by (stripLexical (part i e t)) st (bytes-strip (part i e t) (bytes-part t i e a))) ∙ ap (λ (l : ℕ). startsBy l st) (sym (m .1)) ∙ sym w in
+        sym (after-by (stripLexical (part i e t)) st (bytes-strip (part i e t) (bytes-part t i e a))) ∙ ap (λ (l : ℕ). startsByLast l st) (sym (m .1)) ∙ sym w in
         record {
           blocks = lines-on idsPre idsPost (h .blocks) q e z x (m .0) v;
           starts = entry-on f (writing-as (on-starts

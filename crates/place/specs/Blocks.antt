@@ -11,23 +11,23 @@ use Rattle.lexical.specs.Lex.{stripLexical}
 pub data Brace : Type 0 where
   opens : Brace
   closes : Brace
-  plain : Brace
+  neither : Brace
 
 -- `{` opens one, and `}` closes one
 unfoldable pub braceOf : ℕ → Brace
-braceOf x = cond (eqb x (code "{")) opens (cond (eqb x (code "}")) closes plain)
+braceOf x = cond (eqb x (code "{")) opens (cond (eqb x (code "}")) closes neither)
 
 -- the numbers of the open blocks, the innermost first; the Rust's 0 at the bottom is left out, and n is the next number
 unfoldable pub push : Brace → ℕ → List ℕ → List ℕ
 push opens n s = n ∷ s
 push closes n s = drop 1 s
-push plain n s = s
+push neither n s = s
 
 -- the next number after a brace
 unfoldable pub count : Brace → ℕ → ℕ
 count opens n = suc n
 count closes n = n
-count plain n = n
+count neither n = n
 
 -- the block that is open: 0 outside all
 unfoldable pub top : List ℕ → ℕ

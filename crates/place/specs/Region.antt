@@ -14,8 +14,8 @@ abbrev pub varWord : List ℕ
 varWord = ascii "var "
 
 -- `let `
-abbrev pub letWord : List ℕ
-letWord = ascii "let "
+abbrev pub letHead : List ℕ
+letHead = ascii "let "
 
 -- `const `
 abbrev pub constWord : List ℕ
@@ -34,7 +34,7 @@ unfoldable pub isHeader : List ℕ → Bool
 unfolding prefixed
 isHeader l =
     not (prefixed letPhi l)
-    && (prefixed functionWord l || (prefixed varWord l || (prefixed letWord l || (prefixed constWord l || prefixed classWord l))))
+    && (prefixed functionWord l || (prefixed varWord l || (prefixed letHead l || (prefixed constWord l || prefixed classWord l))))
 
 -- ---- by runs: a region is the run of lines that a line stands in
 

@@ -10,12 +10,12 @@ use Rattle.text.specs.Trim.{toOf}
 use Rattle.lexical.specs.Lex.{lastOf}
 
 -- nothing is left of a text without the white space at its ends
-abbrev pub blank : List ℕ → Bool
-blank t = eqb (toOf t) 0
+abbrev pub isBlank : List ℕ → Bool
+isBlank t = eqb (toOf t) 0
 
 -- after a cleaned line: where it is blank, as it was before it (st); else whether it ends in `;`, `{`, `}` or `:`
 unfoldable pub startsAfter : List ℕ → Bool → Bool
-startsAfter t st = cond (blank t) st (among (ascii ";{}:") (lastOf t))
+startsAfter t st = cond (isBlank t) st (among (ascii ";{}:") (lastOf t))
 
 -- of the cleaned lines above, the nearest first
 unfoldable pub startsAbove : List (List ℕ) → Bool

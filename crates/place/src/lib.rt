@@ -18,7 +18,7 @@ ghost use Rattle.place.specs.Loops.{opensLoop, insideLoop};
 ghost use Rattle.place.specs.Inner.Loops.{nestOpen, nestClose, nestLine, startsLoop, someLoop, aboveLoop};
 ghost use Rattle.place.specs.Inner.Parents.{around, curBy, Room, Moved, braces, idsPost, idsParents, pathPre, pathOpen, pathPost, pathParents};
 ghost use Rattle.place.specs.Starts.{startsGo};
-ghost use Rattle.place.specs.Inner.Starts.{startsBy};
+ghost use Rattle.place.specs.Inner.Starts.{startsByLast};
 ghost use Rattle.place.specs.Inner.Fill.{Filled, flagsOf};
 
 // The number of a region: of its own type, so that no other number is taken for one.
@@ -247,7 +247,7 @@ pub fn walk_line(line: &[u8], block: u32, up: &mut [u32], n: usize) -> At
 // Whether the line below may begin a statement: where a cleaned line is blank, whether that one might, and else whether it ends in
 // `;`, `{`, `}` or `:`.
 pub fn starts_after(last: u16, st: bool) -> bool
-    ensures { λ r. ⌜ r ≡ startsBy last st ⌝ }
+    ensures { λ r. ⌜ r ≡ startsByLast last st ⌝ }
 {
     if last == 256 {
         return st;

@@ -15,7 +15,7 @@ use Rattle.lines.proofs.LfLaws.{rest-of}
 use Rattle.lines.proofs.Compare.{two-at}
 use Rattle.lexical.proofs.EndLaws.{cons-at}
 use Rattle.text.specs.Utf8Form.{utf8Of}
-use Rattle.names.specs.Names.{decimal, numberOf}
+use Rattle.names.specs.Names.{decimal, readNumber}
 use Rattle.po.specs.declared.Unit.{Unit}
 use Rattle.po.specs.Found.{plainOf, textOf, empty}
 use Rattle.po.specs.Form.{escape, escaped, quoted, refWord, refLine}
@@ -228,9 +228,9 @@ module _ (l : List ℕ) (c : ℕ) (e : c ≡ colon l (length l)) where
   pub digits-at : part (c + 1) (length l) l ≡ drop (suc (colon l (length l))) l
   digits-at = rest-of l (c + 1) ∙ ap (λ (n : ℕ). drop n l) (add-one c ∙ ap suc e)
 
-  pub line-at : (v : ℕ) → v ≡ valueOf (numberOf (part (c + 1) (length l) l)) → v ≡ lineIn l
+  pub line-at : (v : ℕ) → v ≡ valueOf (readNumber (part (c + 1) (length l) l)) → v ≡ lineIn l
   unfolding lineIn
-  line-at v f = f ∙ ap (λ (m : List ℕ). valueOf (numberOf m)) digits-at
+  line-at v f = f ∙ ap (λ (m : List ℕ). valueOf (readNumber m)) digits-at
 
   pub ref-no-name : isFileName (nameIn l) ≡ false → isReference l ≡ false
   unfolding isReference
@@ -265,7 +265,7 @@ module _ (l : List ℕ) (c : ℕ) (e : c ≡ colon l (length l)) where
       ∙ ap (λ (n : ℕ). eqb n 58 && same (drop (k + 1) l) ds) (found .0)
       ∙ ap (λ (n : ℕ). same (drop n l) ds) (add-one k)
 
-  pub ref-by : prefixed refWord l ≡ true → isFileName (nameIn l) ≡ true → (b : Bool) (v : ℕ) → v ≡ valueOf (numberOf (part (c + 1) (length l) l)) → b ≡ same (part (c + 1) (length l) l) (decimal v) → b ≡ isReference l
+  pub ref-by : prefixed refWord l ≡ true → isFileName (nameIn l) ≡ true → (b : Bool) (v : ℕ) → v ≡ valueOf (readNumber (part (c + 1) (length l) l)) → b ≡ same (part (c + 1) (length l) l) (decimal v) → b ≡ isReference l
   unfolding isReference
   ref-by g f b v p q =
       q
@@ -302,8 +302,8 @@ module _ (name : List ℕ) (least : ℕ) (l : List ℕ) (c : ℕ) (e : c ≡ col
   pub next-no : b ≡ false → false ≡ follows name least l
   next-no f = sym (ap (λ (x : Bool). x && leb least (lineIn l)) (sym kept-is ∙ f))
 
-  pub next-by : b ≡ true → (d : List ℕ) → d ≡ part (c + 1) (length l) l → (v : ℕ) → v ≡ valueOf (numberOf d) → leb least v ≡ follows name least l
-  next-by f d q v p = ap (leb least) (line-at l c e v (p ∙ ap (λ (x : List ℕ). valueOf (numberOf x)) q)) ∙ sym (ap (λ (x : Bool). x && leb least (lineIn l)) (sym kept-is ∙ f))
+  pub next-by : b ≡ true → (d : List ℕ) → d ≡ part (c + 1) (length l) l → (v : ℕ) → v ≡ valueOf (readNumber d) → leb least v ≡ follows name least l
+  next-by f d q v p = ap (leb least) (line-at l c e v (p ∙ ap (λ (x : List ℕ). valueOf (readNumber x)) q)) ∙ sym (ap (λ (x : Bool). x && leb least (lineIn l)) (sym kept-is ∙ f))
 
 module _ (l : List ℕ) (c : ℕ) (e : c ≡ colon l (length l)) (m : List ℕ) (z : m ≡ part 3 c l) (b : Bool) (k : b ≡ isFileName m) where
   named-is : b ≡ isFileName (nameIn l)
@@ -312,8 +312,8 @@ module _ (l : List ℕ) (c : ℕ) (e : c ≡ colon l (length l)) (m : List ℕ) 
   pub reference-no : b ≡ false → false ≡ isReference l
   reference-no f = sym (ref-no-name l c e (sym named-is ∙ f))
 
-  pub reference-by : b ≡ true → prefixed refWord l ≡ true → (d : List ℕ) → d ≡ part (c + 1) (length l) l → (v : ℕ) → v ≡ valueOf (numberOf d) → (r : Bool) → r ≡ same d (decimal v) → r ≡ isReference l
-  reference-by f g d q v p r t = ref-by l c e g (sym named-is ∙ f) r v (p ∙ ap (λ (x : List ℕ). valueOf (numberOf x)) q) (t ∙ ap (λ (x : List ℕ). same x (decimal v)) q)
+  pub reference-by : b ≡ true → prefixed refWord l ≡ true → (d : List ℕ) → d ≡ part (c + 1) (length l) l → (v : ℕ) → v ≡ valueOf (readNumber d) → (r : Bool) → r ≡ same d (decimal v) → r ≡ isReference l
+  reference-by f g d q v p r t = ref-by l c e g (sym named-is ∙ f) r v (p ∙ ap (λ (x : List ℕ). valueOf (readNumber x)) q) (t ∙ ap (λ (x : List ℕ). same x (decimal v)) q)
 
 pub reference-word : (l : List ℕ) (c : ℕ) → c ≡ colon l (length l) → prefixed refWord l ≡ false → false ≡ isReference l
 reference-word l c e f = sym (ref-no-word l c e f)

@@ -28,7 +28,7 @@ use Rattle.po.specs.Reader.{State, start, Read, bad, good, isValid, colo
 use Rattle.po.specs.Answers.{readText, byRead, readAnswer}
 use Rattle.po.specs.Inner.Answers.{stringsNumber}
 use Rattle.po.specs.Inner.ReadWalk.{isReference, follows, nextOf, after, stateAt, sameId, met, givesOne, gives, At, isGood, verdict}
-use Rattle.names.specs.Names.{numberOf}
+use Rattle.names.specs.Names.{readNumber}
 use Rattle.po.specs.declared.Unit.{Unit}
 use Rattle.po.specs.Inner.Walk.{unitOf}
 use Rattle.po.proofs.UnitLaws.{text-stop, text-on}
@@ -259,14 +259,14 @@ module _ {file : List ℕ} {r : Line} (v : At file r) (more : r .end < length fi
   few-on : r .number + 1 ≤ r .end + 1
   few-on = let k = v .few in let z = v .ends in omega arith
 
-  pub at-ref : r .awaits ≡ 4 → (l : List ℕ) → l ≡ part (r .at) (r .end) file → (c : ℕ) → c ≡ colon l (length l) → (d : List ℕ) → d ≡ part (c + 1) (length l) l → (n : ℕ) → n ≡ valueOf (numberOf d) →
+  pub at-ref : r .awaits ≡ 4 → (l : List ℕ) → l ≡ part (r .at) (r .end) file → (c : ℕ) → c ≡ colon l (length l) → (d : List ℕ) → d ≡ part (c + 1) (length l) l → (n : ℕ) → n ≡ valueOf (readNumber d) →
       At file (record { number = r .number + 1; at = r .end + 1; end = e; awaits = w; from = r .at + 3; to = r .at + c; least = n })
   at-ref z l is-l c is-c d is-d n is-n =
       let s : State = stateAt file (r .number) in
       let x : List ℕ = part (r .at) (r .end) file in
       let h : c ≤ r .end - r .at = let t = ap length is-l in omega (arith, colon-le l (length l), part-short file (r .at) (r .end)) in
       let f : part 3 c x ≡ nameIn x = ap (λ (y : List ℕ). part 3 c y) (sym is-l) ∙ name-at l c is-c ∙ ap nameIn is-l in
-      let g : n ≡ lineIn x = line-at l c is-c n (is-n ∙ ap (λ (y : List ℕ). valueOf (numberOf y)) is-d) ∙ ap lineIn is-l in
+      let g : n ≡ lineIn x = line-at l c is-c n (is-n ∙ ap (λ (y : List ℕ). valueOf (readNumber y)) is-d) ∙ ap lineIn is-l in
       record {
         inside = omega arith;
         ends = q;

@@ -14,7 +14,7 @@ ghost use lib.ListN.{length, drop, take, getD};
 ghost use Rattle.lines.specs.Lf.{part, same, prefixed, upTo, partsOf};
 ghost use Rattle.lines.specs.Inner.Out.{Wrote};
 ghost use Rattle.text.specs.Utf8Form.{utf8Of};
-ghost use Rattle.names.specs.Names.{decimal, numberOf};
+ghost use Rattle.names.specs.Names.{decimal, readNumber};
 ghost use Rattle.po.specs.Found.{textOf, known, empty};
 ghost use Rattle.po.specs.Form.{escape};
 ghost use Rattle.po.specs.Name.{isFileName};
@@ -104,7 +104,7 @@ fn last_colon(l: &[u8]) -> usize
 
 // The number that digits are; 0 where they are none.
 fn number_in(s: &[u8]) -> u64
-    ensures { λ r. ⌜ r ≡ valueOf (numberOf (now (s .entry))) ⌝ }
+    ensures { λ r. ⌜ r ≡ valueOf (readNumber (now (s .entry))) ⌝ }
 {
     match names::read_number(s) {
         Number::Of(n) => n,

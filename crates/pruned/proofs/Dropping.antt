@@ -9,10 +9,10 @@ use Rattle.lines.specs.Lf.{partsOf}
 use Rattle.lines.specs.Acts.{Act, keep, act}
 use Rattle.lines.proofs.Tests.{no}
 use Rattle.text.specs.Trim.{fromOf, trimOf}
-use Rattle.names.specs.Names.{regOf, regText}
+use Rattle.names.specs.Names.{regOf, regText, isReg}
 use Rattle.names.specs.declared.RegName.{RegName}
 use Rattle.names.specs.declared.RegName.the-variants as name
-use Rattle.parse.specs.Parse.{isReg, bodyOf, isDecl}
+use Rattle.parse.specs.Parse.{bodyOf, isDecl}
 use Rattle.reading.specs.Uses.{usedIn}
 use Rattle.decls.specs.Decls.{declAct}
 use Rattle.pruned.specs.Pruned.{each, withName, choices, reprints, mays}

@@ -6,7 +6,7 @@ use Prim.Native.Nat.{ℕ}
 use Rattle.lexical.specs.Lex.{stripLexical}
 use Rattle.place.specs.Region.{isHeader}
 use Rattle.place.specs.Blocks.{cleaned}
-use Rattle.place.specs.Starts.{blank}
+use Rattle.place.specs.Starts.{isBlank}
 use Rattle.place.proofs.Starts.{header-shown}
 use Rattle.reading.specs.Reading.{Reading, plain}
 
@@ -14,7 +14,7 @@ use Rattle.reading.specs.Reading.{Reading, plain}
 pub record ByLine (R : Reading) : Type 0 where
   pub one : List ℕ → List ℕ
   pub is : (ls : List (List ℕ)) → R .clean ls ≡ map one ls
-  pub shown : (l : List ℕ) → isHeader l ≡ true → blank (one l) ≡ false
+  pub shown : (l : List ℕ) → isHeader l ≡ true → isBlank (one l) ≡ false
 
 cleaned-map : (ls : List (List ℕ)) → cleaned ls ≡ map stripLexical ls
 unfolding cleaned

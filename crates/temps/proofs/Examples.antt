@@ -7,11 +7,11 @@ use Rattle.lines.specs.Lf.{upTo, prefixed, same, cutOn, partsOf}
 use Rattle.text.specs.White.{isWhite}
 use Rattle.text.specs.Utf8Form.{seqLen}
 use Rattle.text.specs.Trim.{whiteChar, whiteHead, whiteTail, lead, fromOf, endWhite, toOf, trimOf}
-use Rattle.names.specs.Names.{numbered, numberOf, regOf, isTemp, isIdent}
+use Rattle.names.specs.Names.{numbered, readNumber, regOf, isTemp, isIdent}
 use Rattle.words.specs.Hits.{hitsGo, hits}
 use Rattle.expr.specs.Fix.{deep, fix}
 use Rattle.expr.specs.Comments.{strip, stripComments}
-use Rattle.expr.specs.Pure.{spaceStart, spaceEnd, spaceTrim, wrapped, shapeOf, opens, closes, elements, pureBy, judge, purityOf}
+use Rattle.expr.specs.Pure.{spaceStart, spaceEnd, spaceTrim, wrapped, shapeOf, openings, closings, elements, pureBy, judge, purityOf}
 use Rattle.reading.specs.Reading.{plain}
 use Rattle.reading.specs.Assign.{isAssign, leftOf, rightOf}
 use Rattle.temps.specs.Temps.{anyPiece, declares, tempReads, declaredIn, tempRead}
@@ -42,5 +42,5 @@ rows =
 
 -- by the definitions the lines go that the table says
 pub examples : map (tempGoes plain (map (λ (r : Row). r .line) rows)) (map (λ (r : Row). r .line) rows) ≡ map (λ (r : Row). r .goes) rows
-unfolding rows upTo prefixed same cutOn partsOf isWhite seqLen whiteChar whiteHead whiteTail lead fromOf endWhite toOf trimOf numbered numberOf regOf isTemp isIdent hitsGo hits deep fix strip stripComments spaceStart spaceEnd spaceTrim wrapped shapeOf opens closes elements pureBy judge purityOf isAssign leftOf rightOf anyPiece declares tempReads declaredIn tempRead tempGoes
+unfolding rows upTo prefixed same cutOn partsOf isWhite seqLen whiteChar whiteHead whiteTail lead fromOf endWhite toOf trimOf numbered readNumber regOf isTemp isIdent hitsGo hits deep fix strip stripComments spaceStart spaceEnd spaceTrim wrapped shapeOf openings closings elements pureBy judge purityOf isAssign leftOf rightOf anyPiece declares tempReads declaredIn tempRead tempGoes
 examples = refl

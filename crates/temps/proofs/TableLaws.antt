@@ -15,7 +15,7 @@ use Rattle.lines.proofs.Tests.{no, or-true, or-false, and-true, and-false}
 use Rattle.lines.proofs.LfLaws.{lines-at, lines-end, parts-at, parts-at-end, part-more, part-none}
 use Rattle.text.specs.Class.{isName}
 use Rattle.text.specs.Trim.{trimOf}
-use Rattle.names.specs.Names.{decimal, tempWord, numberOf, isTemp}
+use Rattle.names.specs.Names.{decimal, tempWord, readNumber, isTemp}
 use Rattle.names.specs.Inner.Names.{zeros, numberAfter}
 use Rattle.names.specs.declared.Number.{Number}
 use Rattle.names.specs.declared.Number.the-variants as number
@@ -44,7 +44,7 @@ module _ (s : List ℕ) where
     unfolding slotOf
     slot-led h = rw (e, ← p, lt-ltb 0 (zeros t) h)
 
-    pub slot-bare : zeros t ≡ 0 → slotOf s ≡ numberOf t
+    pub slot-bare : zeros t ≡ 0 → slotOf s ≡ readNumber t
     unfolding slotOf
     slot-bare h = rw (e, ← p, h)
 
@@ -72,7 +72,7 @@ slot-text : (s : List ℕ) (n : ℕ) → slotOf s ≡ number.Of n → s ≡ temp
 unfolding slotOf
 slot-text s n h = go (prefixed tempWord s) refl (ltb 0 (zeros (drop 1 s))) refl h
   where
-    go : (b : Bool) → prefixed tempWord s ≡ b → (z : Bool) → ltb 0 (zeros (drop 1 s)) ≡ z → cond b (cond z number.None (numberOf (drop 1 s))) number.None ≡ number.Of n → s ≡ tempWord ++ decimal n
+    go : (b : Bool) → prefixed tempWord s ≡ b → (z : Bool) → ltb 0 (zeros (drop 1 s)) ≡ z → cond b (cond z number.None (readNumber (drop 1 s))) number.None ≡ number.Of n → s ≡ tempWord ++ decimal n
     go false e z f h = none-of n h
     go true e true f h = none-of n h
     go true e false f h =

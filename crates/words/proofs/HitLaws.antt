@@ -14,7 +14,7 @@ use Rattle.text.specs.Class.{isName}
 use Rattle.names.specs.Names.{allNames}
 use Rattle.lines.proofs.Compare.{same-refl}
 use Rattle.names.proofs.Equal.{same-not, front-append, front-of}
-use Rattle.words.specs.Inner.Runs.{wordsOf, upBy, runLen, walk, placeBy, runHits}
+use Rattle.words.specs.Inner.Runs.{wordsOf, upBy, runLen, walkRuns, placeBy, runHits}
 use Rattle.words.specs.Hits.{hitHere, hitsGo, hits}
 use Rattle.words.proofs.RunLaws.{up-le, up-done, walk-off, walk-run, place-run, hits-count}
 
@@ -161,7 +161,7 @@ module _ (p : List ℕ) (some : 0 < length p) (names : allNames p ≡ true) wher
 
   -- what a walk over the runs gives at a run
   walk-name : (x : ℕ) (xs : List ℕ) (i : ℕ) → isName x ≡ true →
-      walk (placeBy (λ (r : List ℕ). same r p)) (x ∷ xs) i [] ≡ cond (same (take (runLen (x ∷ xs)) (x ∷ xs)) p) (i ∷ []) [] ++ walk (placeBy (λ (r : List ℕ). same r p)) (drop (runLen (x ∷ xs)) (x ∷ xs)) (i + runLen (x ∷ xs)) []
+      walkRuns (placeBy (λ (r : List ℕ). same r p)) (x ∷ xs) i [] ≡ cond (same (take (runLen (x ∷ xs)) (x ∷ xs)) p) (i ∷ []) [] ++ walkRuns (placeBy (λ (r : List ℕ). same r p)) (drop (runLen (x ∷ xs)) (x ∷ xs)) (i + runLen (x ∷ xs)) []
   walk-name x xs i e =
       let f : List ℕ → Bool = λ (r : List ℕ). same r p in
       let k : ℕ = runLen (x ∷ xs) in
@@ -169,17 +169,17 @@ module _ (p : List ℕ) (some : 0 < length p) (names : allNames p ≡ true) wher
       let n : length w ≡ k = length-take-le k (x ∷ xs) (up-le (λ (x : ℕ). not (isName x)) (x ∷ xs)) in
       let d : i + k - length w ≡ i = omega arith in
       walk-run (placeBy f) (λ (e : ℕ). refl) (x ∷ xs) i []
-      ∙ ap (λ (l : List ℕ). l ++ walk (placeBy f) (drop k (x ∷ xs)) (i + k) []) (place-run f (i + k) w (omega (arith, run-cons x xs e)) ∙ ap (λ (n : ℕ). cond (f w) (n ∷ []) []) d)
+      ∙ ap (λ (l : List ℕ). l ++ walkRuns (placeBy f) (drop k (x ∷ xs)) (i + k) []) (place-run f (i + k) w (omega (arith, run-cons x xs e)) ∙ ap (λ (n : ℕ). cond (f w) (n ∷ []) []) d)
 
-  pub agree : (n : ℕ) (l : List ℕ) (i : ℕ) → length l ≤ n → hitsGo l p 0 i false ≡ walk (placeBy (λ (r : List ℕ). same r p)) l i []
-  unfolding hitsGo walk
+  pub agree : (n : ℕ) (l : List ℕ) (i : ℕ) → length l ≤ n → hitsGo l p 0 i false ≡ walkRuns (placeBy (λ (r : List ℕ). same r p)) l i []
+  unfolding hitsGo walkRuns
   agree zero [] i h = refl
   agree zero (x ∷ xs) i h = absurd (omega arith)
   agree (suc n) [] i h = refl
   agree (suc n) (x ∷ xs) i h = go (isName x) refl (λ l i h. agree n l i h)
     where
-      go : (t : Bool) → isName x ≡ t → ((l : List ℕ) (i : ℕ) → length l ≤ n → hitsGo l p 0 i false ≡ walk (placeBy (λ (r : List ℕ). same r p)) l i []) →
-          hitsGo (x ∷ xs) p 0 i false ≡ walk (placeBy (λ (r : List ℕ). same r p)) (x ∷ xs) i []
+      go : (t : Bool) → isName x ≡ t → ((l : List ℕ) (i : ℕ) → length l ≤ n → hitsGo l p 0 i false ≡ walkRuns (placeBy (λ (r : List ℕ). same r p)) l i []) →
+          hitsGo (x ∷ xs) p 0 i false ≡ walkRuns (placeBy (λ (r : List ℕ). same r p)) (x ∷ xs) i []
       go true e f =
           let k : ℕ = runLen (x ∷ xs) in
           hits-run x xs i e

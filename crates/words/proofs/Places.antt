@@ -20,7 +20,7 @@ use Rattle.names.proofs.Decimal.{decimal-long}
 use Rattle.lines.proofs.Compare.{same-eq}
 use Rattle.names.proofs.Equal.{front-of, same-front}
 use Rattle.names.proofs.Texts.{reg-text-names}
-use Rattle.words.specs.Inner.Runs.{runLen, runHitsFrom, runHits, hitsAt, Next}
+use Rattle.words.specs.Inner.Runs.{runLen, runHitsFrom, runHits, hitsAt, NextRun}
 use Rattle.words.specs.declared.Hit.the-variants.{One, Not}
 use Rattle.words.specs.Hits.{hitHere, hitsGo, hits, oneHit, regHit, glueLeft, glueRight, glued, replacedAt}
 use Rattle.words.proofs.RunLaws.{run-length}
@@ -100,12 +100,12 @@ module _ (v : ℕ) (s : List ℕ) (fits : v < 2 ^ 64) where
   unfolding regHit
   hit-run = ap (oneHit (length (regText v))) (hits-runs (regText v) (omega arith) (reg-text-names v fits) s)
 
-  module _ {a : ℕ} (h : Next (regRun v) s 0 a) where
+  module _ {a : ℕ} (h : NextRun (regRun v) s 0 a) where
     pub find-none : length s ≤ a → regHit v s ≡ Not
     unfolding oneHit runHits
     find-none l = hit-run ∙ ap (oneHit (length (regText v))) (h .hits) ∙ rw (le-ltb a (length s) l)
 
-    module _ (l : a < length s) {e b : ℕ} (q : e ≡ a + runLen (drop a s)) (k : Next (regRun v) s e b) where
+    module _ (l : a < length s) {e b : ℕ} (q : e ≡ a + runLen (drop a s)) (k : NextRun (regRun v) s e b) where
       found : runHits (regRun v) s ≡ a ∷ hitsAt (regRun v) s b
       unfolding runHits
       found = h .hits ∙ rw (lt-ltb a (length s) l) (ap (λ (n : ℕ). a ∷ runHitsFrom (regRun v) s n) (sym q) ∙ ap (λ (r : List ℕ). a ∷ r) (k .hits))

@@ -15,7 +15,7 @@ use Rattle.text.specs.Class.{isName}
 use Rattle.names.specs.Names.{regOf, regIs, regText}
 use Rattle.names.proofs.Texts.{reg-text-is}
 use Rattle.words.specs.Runs.{flush, runsGo, runs, countBy, readsOf}
-use Rattle.words.specs.Inner.Runs.{wordsOf, upBy, gapLen, runLen, regGap, joined, walk, placeBy, runHitsFrom, runHits, Next}
+use Rattle.words.specs.Inner.Runs.{wordsOf, upBy, gapLen, runLen, regGap, afterName, walkRuns, placeBy, runHitsFrom, runHits, NextRun}
 
 -- ---- the first byte that passes a test
 
@@ -56,49 +56,49 @@ module _ (f : ℕ → Bool) (s : List ℕ) (j : ℕ) where
 -- ---- a walk over the runs: past a gap, and past a run
 
 module _ {A : Type 0} (give : ℕ → List ℕ → List A) (none : (i : ℕ) → give i [] ≡ []) where
-  pub walk-off : (x : ℕ) (xs : List ℕ) (i : ℕ) → isName x ≡ false → walk give (x ∷ xs) i [] ≡ walk give xs (suc i) []
-  unfolding walk
+  pub walk-off : (x : ℕ) (xs : List ℕ) (i : ℕ) → isName x ≡ false → walkRuns give (x ∷ xs) i [] ≡ walkRuns give xs (suc i) []
+  unfolding walkRuns
   walk-off x xs i e = rw (e, none i)
 
-  walk-gap : (l : List ℕ) (i : ℕ) → walk give (drop (gapLen l) l) (i + gapLen l) [] ≡ walk give l i []
+  walk-gap : (l : List ℕ) (i : ℕ) → walkRuns give (drop (gapLen l) l) (i + gapLen l) [] ≡ walkRuns give l i []
   unfolding upBy
-  walk-gap [] i = let q : i + 0 ≡ i = omega arith in ap (λ (n : ℕ). walk give [] n []) q
+  walk-gap [] i = let q : i + 0 ≡ i = omega arith in ap (λ (n : ℕ). walkRuns give [] n []) q
   walk-gap (x ∷ xs) i = go (isName x) refl (walk-gap xs (suc i))
     where
-      go : (t : Bool) → isName x ≡ t → walk give (drop (gapLen xs) xs) (suc i + gapLen xs) [] ≡ walk give xs (suc i) [] →
-          walk give (drop (cond t 0 (suc (gapLen xs))) (x ∷ xs)) (i + cond t 0 (suc (gapLen xs))) [] ≡ walk give (x ∷ xs) i []
-      go true e h = let q : i + 0 ≡ i = omega arith in ap (λ (n : ℕ). walk give (x ∷ xs) n []) q
-      go false e h = let q : i + suc (gapLen xs) ≡ suc i + gapLen xs = omega arith in ap (λ (n : ℕ). walk give (drop (gapLen xs) xs) n []) q ∙ h ∙ sym (walk-off x xs i e)
+      go : (t : Bool) → isName x ≡ t → walkRuns give (drop (gapLen xs) xs) (suc i + gapLen xs) [] ≡ walkRuns give xs (suc i) [] →
+          walkRuns give (drop (cond t 0 (suc (gapLen xs))) (x ∷ xs)) (i + cond t 0 (suc (gapLen xs))) [] ≡ walkRuns give (x ∷ xs) i []
+      go true e h = let q : i + 0 ≡ i = omega arith in ap (λ (n : ℕ). walkRuns give (x ∷ xs) n []) q
+      go false e h = let q : i + suc (gapLen xs) ≡ suc i + gapLen xs = omega arith in ap (λ (n : ℕ). walkRuns give (drop (gapLen xs) xs) n []) q ∙ h ∙ sym (walk-off x xs i e)
 
-  pub walk-run : (l : List ℕ) (i : ℕ) (cur : List ℕ) → walk give l i cur ≡ give (i + runLen l) (cur ++ take (runLen l) l) ++ walk give (drop (runLen l) l) (i + runLen l) []
-  unfolding walk upBy
+  pub walk-run : (l : List ℕ) (i : ℕ) (cur : List ℕ) → walkRuns give l i cur ≡ give (i + runLen l) (cur ++ take (runLen l) l) ++ walkRuns give (drop (runLen l) l) (i + runLen l) []
+  unfolding walkRuns upBy
   walk-run [] i cur = let q : i + 0 ≡ i = omega arith in rw (q, append-nil cur, none i) (sym (append-nil (give i cur)))
   walk-run (x ∷ xs) i cur = go (isName x) refl (walk-run xs (suc i) (cur ++ (x ∷ [])))
     where
       go : (t : Bool) → isName x ≡ t →
-          walk give xs (suc i) (cur ++ (x ∷ [])) ≡ give (suc i + runLen xs) ((cur ++ (x ∷ [])) ++ take (runLen xs) xs) ++ walk give (drop (runLen xs) xs) (suc i + runLen xs) [] →
-          cond t (walk give xs (suc i) (cur ++ (x ∷ []))) (give i cur ++ walk give xs (suc i) [])
-          ≡ give (i + cond (not t) 0 (suc (runLen xs))) (cur ++ take (cond (not t) 0 (suc (runLen xs))) (x ∷ xs)) ++ walk give (drop (cond (not t) 0 (suc (runLen xs))) (x ∷ xs)) (i + cond (not t) 0 (suc (runLen xs))) []
+          walkRuns give xs (suc i) (cur ++ (x ∷ [])) ≡ give (suc i + runLen xs) ((cur ++ (x ∷ [])) ++ take (runLen xs) xs) ++ walkRuns give (drop (runLen xs) xs) (suc i + runLen xs) [] →
+          cond t (walkRuns give xs (suc i) (cur ++ (x ∷ []))) (give i cur ++ walkRuns give xs (suc i) [])
+          ≡ give (i + cond (not t) 0 (suc (runLen xs))) (cur ++ take (cond (not t) 0 (suc (runLen xs))) (x ∷ xs)) ++ walkRuns give (drop (cond (not t) 0 (suc (runLen xs))) (x ∷ xs)) (i + cond (not t) 0 (suc (runLen xs))) []
       go true e h =
           let q : suc i + runLen xs ≡ i + suc (runLen xs) = omega arith in
-          h ∙ ap (λ (l : List ℕ). give (suc i + runLen xs) l ++ walk give (drop (runLen xs) xs) (suc i + runLen xs) []) (append-assoc cur (x ∷ []) (take (runLen xs) xs))
-          ∙ ap (λ (n : ℕ). give n (cur ++ (x ∷ take (runLen xs) xs)) ++ walk give (drop (runLen xs) xs) n []) q
+          h ∙ ap (λ (l : List ℕ). give (suc i + runLen xs) l ++ walkRuns give (drop (runLen xs) xs) (suc i + runLen xs) []) (append-assoc cur (x ∷ []) (take (runLen xs) xs))
+          ∙ ap (λ (n : ℕ). give n (cur ++ (x ∷ take (runLen xs) xs)) ++ walkRuns give (drop (runLen xs) xs) n []) q
       go false e h = let q : i + 0 ≡ i = omega arith in rw (q, append-nil cur, e, none i)
 
   module _ (s : List ℕ) (i : ℕ) where
-    pub walk-skip : (j : ℕ) → j ≡ i + gapLen (drop i s) → walk give (drop j s) j [] ≡ walk give (drop i s) i []
+    pub walk-skip : (j : ℕ) → j ≡ i + gapLen (drop i s) → walkRuns give (drop j s) j [] ≡ walkRuns give (drop i s) i []
     walk-skip j q =
-        ap (λ (n : ℕ). walk give (drop n s) n []) q
-        ∙ ap (λ (l : List ℕ). walk give l (i + gapLen (drop i s)) []) (sym (drop-drop (gapLen (drop i s)) i s)) ∙ walk-gap (drop i s) i
+        ap (λ (n : ℕ). walkRuns give (drop n s) n []) q
+        ∙ ap (λ (l : List ℕ). walkRuns give l (i + gapLen (drop i s)) []) (sym (drop-drop (gapLen (drop i s)) i s)) ∙ walk-gap (drop i s) i
 
-    pub walk-next : (e : ℕ) → e ≡ i + runLen (drop i s) → walk give (drop i s) i [] ≡ give e (part i e s) ++ walk give (drop e s) e []
+    pub walk-next : (e : ℕ) → e ≡ i + runLen (drop i s) → walkRuns give (drop i s) i [] ≡ give e (part i e s) ++ walkRuns give (drop e s) e []
     walk-next e q =
         let k : ℕ = runLen (drop i s) in
         let d : k ≡ e - i = omega arith in
         walk-run (drop i s) i []
-        ∙ ap (λ (l : List ℕ). give (i + k) (take k (drop i s)) ++ walk give l (i + k) []) (drop-drop k i s)
-        ∙ ap (λ (n : ℕ). give n (take k (drop i s)) ++ walk give (drop n s) n []) (sym q)
-        ∙ ap (λ (n : ℕ). give e (take n (drop i s)) ++ walk give (drop e s) e []) d
+        ∙ ap (λ (l : List ℕ). give (i + k) (take k (drop i s)) ++ walkRuns give l (i + k) []) (drop-drop k i s)
+        ∙ ap (λ (n : ℕ). give n (take k (drop i s)) ++ walkRuns give (drop n s) n []) (sym q)
+        ∙ ap (λ (n : ℕ). give e (take n (drop i s)) ++ walkRuns give (drop e s) e []) d
 
 -- ---- where a run stands
 
@@ -130,14 +130,14 @@ module _ (s : List ℕ) (i : ℕ) where
 
 -- ---- how many runs pass a test
 
-runs-walk : (l : List ℕ) (i : ℕ) (cur : List ℕ) → walk (λ (e : ℕ) (c : List ℕ). flush c) l i cur ≡ runsGo l cur
-unfolding walk runsGo
+runs-walk : (l : List ℕ) (i : ℕ) (cur : List ℕ) → walkRuns (λ (e : ℕ) (c : List ℕ). flush c) l i cur ≡ runsGo l cur
+unfolding walkRuns runsGo
 runs-walk [] i cur = refl
 runs-walk (x ∷ xs) i cur =
-    ap (λ (l : List (List ℕ)). cond (isName x) l (flush cur ++ walk (λ (e : ℕ) (c : List ℕ). flush c) xs (suc i) [])) (runs-walk xs (suc i) (cur ++ (x ∷ [])))
+    ap (λ (l : List (List ℕ)). cond (isName x) l (flush cur ++ walkRuns (λ (e : ℕ) (c : List ℕ). flush c) xs (suc i) [])) (runs-walk xs (suc i) (cur ++ (x ∷ [])))
     ∙ ap (λ (l : List (List ℕ)). cond (isName x) (runsGo xs (cur ++ (x ∷ []))) (flush cur ++ l)) (runs-walk xs (suc i) [])
 
-runs-from : (l : List ℕ) (i : ℕ) → runs l ≡ walk (λ (e : ℕ) (c : List ℕ). flush c) l i []
+runs-from : (l : List ℕ) (i : ℕ) → runs l ≡ walkRuns (λ (e : ℕ) (c : List ℕ). flush c) l i []
 unfolding runs
 runs-from l i = sym (runs-walk l i [])
 
@@ -240,20 +240,20 @@ module _ (f : List ℕ → Bool) (s : List ℕ) where
 module _ {A : Type 0} (give : ℕ → List ℕ → List A) (none : (i : ℕ) → give i [] ≡ []) (other : (e x : ℕ) (c : List ℕ) → eqb x 114 ≡ false → give e (x ∷ c) ≡ []) where
   -- with no run open, and with one open that begins with another byte
   abbrev Regs : List ℕ → Type 0
-  Regs l = ((i : ℕ) → walk give l i [] ≡ walk give (drop (regGap false l) l) (i + regGap false l) [])
-      × ((i x : ℕ) (c : List ℕ) → eqb x 114 ≡ false → walk give l i (x ∷ c) ≡ walk give (drop (regGap true l) l) (i + regGap true l) [])
+  Regs l = ((i : ℕ) → walkRuns give l i [] ≡ walkRuns give (drop (regGap false l) l) (i + regGap false l) [])
+      × ((i x : ℕ) (c : List ℕ) → eqb x 114 ≡ false → walkRuns give l i (x ∷ c) ≡ walkRuns give (drop (regGap true l) l) (i + regGap true l) [])
 
   gap-at : (p : Bool) (y : ℕ) (l : List ℕ) (n t : Bool) → isName y ≡ n → eqb y 114 ≡ t → regGap p (y ∷ l) ≡ cond (t && not p) 0 (suc (regGap n l))
   unfolding regGap
   gap-at p y l n t e q = rw (e, q)
 
-  past : (p : Bool) (y : ℕ) (l : List ℕ) (i g : ℕ) → regGap p (y ∷ l) ≡ suc g → walk give (drop (regGap p (y ∷ l)) (y ∷ l)) (i + regGap p (y ∷ l)) [] ≡ walk give (drop g l) (suc i + g) []
-  past p y l i g e = let z : i + suc g ≡ suc i + g = omega arith in rw e (ap (λ (n : ℕ). walk give (drop g l) n []) z)
+  past : (p : Bool) (y : ℕ) (l : List ℕ) (i g : ℕ) → regGap p (y ∷ l) ≡ suc g → walkRuns give (drop (regGap p (y ∷ l)) (y ∷ l)) (i + regGap p (y ∷ l)) [] ≡ walkRuns give (drop g l) (suc i + g) []
+  past p y l i g e = let z : i + suc g ≡ suc i + g = omega arith in rw e (ap (λ (n : ℕ). walkRuns give (drop g l) n []) z)
 
   regs-on : (y : ℕ) (l : List ℕ) → Regs l → (n : Bool) → isName y ≡ n → (t : Bool) → eqb y 114 ≡ t → Regs (y ∷ l)
-  unfolding walk
+  unfolding walkRuns
   regs-on y l (f, g) true e true q = (
-    λ i. let z : i ≡ i + 0 = omega arith in rw (gap-at false y l true true e q) (ap (λ (n : ℕ). walk give (y ∷ l) n []) z),
+    λ i. let z : i ≡ i + 0 = omega arith in rw (gap-at false y l true true e q) (ap (λ (n : ℕ). walkRuns give (y ∷ l) n []) z),
     λ i x c h. rw e (g (suc i) x (c ++ (y ∷ [])) h) ∙ sym (past true y l i (regGap true l) (gap-at true y l true true e q)),
   )
   regs-on y l (f, g) true e false q = (
@@ -267,15 +267,15 @@ module _ {A : Type 0} (give : ℕ → List ℕ → List A) (none : (i : ℕ) →
   )
 
   regs : (l : List ℕ) → Regs l
-  unfolding walk regGap
+  unfolding walkRuns regGap
   regs [] = (λ i. none i ∙ sym (none (i + 0)), λ i x c e. other i x c e ∙ sym (none (i + 0)))
   regs (y ∷ l) = regs-on y l (regs l) (isName y) refl (eqb y 114) refl
 
-  pub walk-regs : (s : List ℕ) (i j : ℕ) → j ≡ i + regGap false (drop i s) → walk give (drop i s) i [] ≡ walk give (drop j s) j []
+  pub walk-regs : (s : List ℕ) (i j : ℕ) → j ≡ i + regGap false (drop i s) → walkRuns give (drop i s) i [] ≡ walkRuns give (drop j s) j []
   walk-regs s i j q =
       regs (drop i s) .0 i
-      ∙ ap (λ (r : List ℕ). walk give r (i + regGap false (drop i s)) []) (drop-drop (regGap false (drop i s)) i s)
-      ∙ ap (λ (n : ℕ). walk give (drop n s) n []) (sym q)
+      ∙ ap (λ (r : List ℕ). walkRuns give r (i + regGap false (drop i s)) []) (drop-drop (regGap false (drop i s)) i s)
+      ∙ ap (λ (n : ℕ). walkRuns give (drop n s) n []) (sym q)
 
 -- such a run stands there, or nothing
 reg-done : (p : Bool) (l : List ℕ) → gapLen (drop (regGap p l) l) ≡ 0
@@ -293,19 +293,19 @@ reg-stands s i j q = ap (λ (n : ℕ). gapLen (drop n s)) q ∙ ap (λ (r : List
 
 -- the search for it: no name byte stands before the place i
 module _ (s : List ℕ) (i j : ℕ) (h : i ≤ j) (l : j < length s) where
-  at-reg : (t : Bool) → (eqb (getD s j 0) 114 && not (joined i j s)) ≡ t → regGap (joined i j s) (drop j s) ≡ cond t 0 (suc (regGap (isName (getD s j 0)) (drop (suc j) s)))
+  at-reg : (t : Bool) → (eqb (getD s j 0) 114 && not (afterName i j s)) ≡ t → regGap (afterName i j s) (drop j s) ≡ cond t 0 (suc (regGap (isName (getD s j 0)) (drop (suc j) s)))
   unfolding regGap
-  at-reg t e = ap (regGap (joined i j s)) (drop-cons s j 0 l) ∙ rw e
+  at-reg t e = ap (regGap (afterName i j s)) (drop-cons s j 0 l) ∙ rw e
 
-  pub reg-here : (eqb (getD s j 0) 114 && not (joined i j s)) ≡ true → regGap (joined i j s) (drop j s) ≡ 0
+  pub reg-here : (eqb (getD s j 0) 114 && not (afterName i j s)) ≡ true → regGap (afterName i j s) (drop j s) ≡ 0
   reg-here e = at-reg true e
 
-  pub reg-on : (eqb (getD s j 0) 114 && not (joined i j s)) ≡ false → regGap (joined i j s) (drop j s) ≡ suc (regGap (joined i (j + 1) s) (drop (j + 1) s))
+  pub reg-on : (eqb (getD s j 0) 114 && not (afterName i j s)) ≡ false → regGap (afterName i j s) (drop j s) ≡ suc (regGap (afterName i (j + 1) s) (drop (j + 1) s))
   reg-on e =
       let a : j + 1 ≡ suc j = omega arith in
       let b : j + 1 - 1 ≡ j = omega arith in
       at-reg false e
-      ∙ sym (ap (λ (n : ℕ). suc (regGap (joined i (j + 1) s) (drop n s))) a ∙ ap (λ (t : Bool). suc (regGap (t && isName (getD s (j + 1 - 1) 0)) (drop (suc j) s))) (lt-ltb i (j + 1) (omega arith)) ∙ ap (λ (n : ℕ). suc (regGap (isName (getD s n 0)) (drop (suc j) s))) b)
+      ∙ sym (ap (λ (n : ℕ). suc (regGap (afterName i (j + 1) s) (drop n s))) a ∙ ap (λ (t : Bool). suc (regGap (t && isName (getD s (j + 1 - 1) 0)) (drop (suc j) s))) (lt-ltb i (j + 1) (omega arith)) ∙ ap (λ (n : ℕ). suc (regGap (isName (getD s n 0)) (drop (suc j) s))) b)
 
 pub reg-none : (p : Bool) (s : List ℕ) (j : ℕ) → length s ≤ j → regGap p (drop j s) ≡ 0
 unfolding regGap
@@ -346,14 +346,14 @@ module _ (f : List ℕ → Bool) (skips : (x : ℕ) (c : List ℕ) → eqb x 114
     pub next-on : (k : ℕ) → f (part j e s) ≡ false → k ≡ e + regGap false (drop e s) → NextInv f s i k
     next-on k t q = record { stands = reg-stands s e k q; so-far = hits-run ∙ rw t (next-skip e k q) }
 
-    pub next-found : f (part j e s) ≡ true → Next f s i j
+    pub next-found : f (part j e s) ≡ true → NextRun f s i j
     next-found t = record {
       passes = λ _. ap (λ (n : ℕ). f (part j n s)) (sym p) ∙ t;
       hits = hits-run ∙ rw (t, lt-ltb j (length s) l) (ap (λ (n : ℕ). j ∷ runHitsFrom f s n) p);
     }
 
-  pub next-end : {j : ℕ} → NextInv f s i j → length s ≤ j → Next f s i j
-  unfolding walk
+  pub next-end : {j : ℕ} → NextInv f s i j → length s ≤ j → NextRun f s i j
+  unfolding walkRuns
   next-end {j} h l = record {
     passes = λ k. absurd (omega arith);
     hits = h .so-far ∙ rw (drop-of-length-le s l, le-ltb j (length s) l);
@@ -370,17 +370,17 @@ place-count f e (x ∷ cur) = go (f (x ∷ cur))
     go true = refl
     go false = refl
 
-walk-count : (f : List ℕ → Bool) (l : List ℕ) (i : ℕ) (cur : List ℕ) → length (walk (placeBy f) l i cur) ≡ countBy f (runsGo l cur)
-unfolding walk runsGo
+walk-count : (f : List ℕ → Bool) (l : List ℕ) (i : ℕ) (cur : List ℕ) → length (walkRuns (placeBy f) l i cur) ≡ countBy f (runsGo l cur)
+unfolding walkRuns runsGo
 walk-count f [] i cur = place-count f i cur
 walk-count f (x ∷ xs) i cur = go (isName x) (walk-count f xs (suc i) (cur ++ (x ∷ []))) (walk-count f xs (suc i) [])
   where
-    go : (t : Bool) → length (walk (placeBy f) xs (suc i) (cur ++ (x ∷ []))) ≡ countBy f (runsGo xs (cur ++ (x ∷ []))) →
-        length (walk (placeBy f) xs (suc i) []) ≡ countBy f (runsGo xs []) →
-        length (cond t (walk (placeBy f) xs (suc i) (cur ++ (x ∷ []))) (placeBy f i cur ++ walk (placeBy f) xs (suc i) []))
+    go : (t : Bool) → length (walkRuns (placeBy f) xs (suc i) (cur ++ (x ∷ []))) ≡ countBy f (runsGo xs (cur ++ (x ∷ []))) →
+        length (walkRuns (placeBy f) xs (suc i) []) ≡ countBy f (runsGo xs []) →
+        length (cond t (walkRuns (placeBy f) xs (suc i) (cur ++ (x ∷ []))) (placeBy f i cur ++ walkRuns (placeBy f) xs (suc i) []))
         ≡ countBy f (cond t (runsGo xs (cur ++ (x ∷ []))) (flush cur ++ runsGo xs []))
     go true p q = p
-    go false p q = omega (arith, length-append (placeBy f i cur) (walk (placeBy f) xs (suc i) []), count-append f (flush cur) (runsGo xs []), place-count f i cur)
+    go false p q = omega (arith, length-append (placeBy f i cur) (walkRuns (placeBy f) xs (suc i) []), count-append f (flush cur) (runsGo xs []), place-count f i cur)
 
 pub hits-count : (f : List ℕ → Bool) (l : List ℕ) → length (runHits f l) ≡ countBy f (runs l)
 unfolding runHits runs

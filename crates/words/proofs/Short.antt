@@ -15,7 +15,7 @@ use Rattle.lines.proofs.LfLaws.{upTo-le, find-here, find-on}
 use Rattle.lines.proofs.Tests.{no, and-false, and-true, and-left, and-right, and-both, eqb-sym}
 use Rattle.text.specs.Class.{isName}
 use Rattle.names.specs.Names.{decimal, decimalBy, regText}
-use Rattle.words.specs.Inner.Runs.{upBy, runLen, joined, shortAt, walk, runHitsFrom, Next}
+use Rattle.words.specs.Inner.Runs.{upBy, runLen, afterName, shortAt, walkRuns, runHitsFrom, NextRun}
 use Rattle.words.specs.Hits.{hitHere, hitsGo}
 use Rattle.words.proofs.HitLaws.{agree, hits-any}
 
@@ -93,19 +93,19 @@ module _ (d : ℕ) (low : 48 ≤ d) (high : d ≤ 57) where
 
   module _ (s : List ℕ) (i : ℕ) where
     abbrev from-on : ℕ → List ℕ
-    from-on m = hitsGo (drop m s) (114 ∷ d ∷ []) 0 m (joined i m s)
+    from-on m = hitsGo (drop m s) (114 ∷ d ∷ []) 0 m (afterName i m s)
 
-    open-next : (m : ℕ) → i ≤ m → joined i (suc m) s ≡ isName (getD s m 0)
+    open-next : (m : ℕ) → i ≤ m → afterName i (suc m) s ≡ isName (getD s m 0)
     open-next m h = let b : suc m - 1 ≡ m = omega arith in rw (lt-ltb i (suc m) (omega arith)) (ap (λ (n : ℕ). isName (getD s n 0)) b)
 
     there : (m : ℕ) → suc m < length s → drop m s ≡ getD s m 0 ∷ getD s (suc m) 0 ∷ drop (suc (suc m)) s
     there m k = drop-cons s m 0 (omega arith) ∙ ap (λ (l : List ℕ). getD s m 0 ∷ l) (drop-cons s (suc m) 0 k)
 
     step : (m : ℕ) → i ≤ m → suc m < length s →
-        hitsGo (getD s m 0 ∷ getD s (suc m) 0 ∷ drop (suc (suc m)) s) (114 ∷ d ∷ []) 0 m (joined i m s) ≡ hitsGo (getD s (suc m) 0 ∷ drop (suc (suc m)) s) (114 ∷ d ∷ []) 0 (suc m) (isName (getD s m 0)) →
+        hitsGo (getD s m 0 ∷ getD s (suc m) 0 ∷ drop (suc (suc m)) s) (114 ∷ d ∷ []) 0 m (afterName i m s) ≡ hitsGo (getD s (suc m) 0 ∷ drop (suc (suc m)) s) (114 ∷ d ∷ []) 0 (suc m) (isName (getD s m 0)) →
         from-on m ≡ from-on (suc m)
     step m h k e =
-        ap (λ (l : List ℕ). hitsGo l (114 ∷ d ∷ []) 0 m (joined i m s)) (there m k) ∙ e
+        ap (λ (l : List ℕ). hitsGo l (114 ∷ d ∷ []) 0 m (afterName i m s)) (there m k) ∙ e
         ∙ ap (λ (l : List ℕ). hitsGo l (114 ∷ d ∷ []) 0 (suc m) (isName (getD s m 0))) (sym (drop-cons s (suc m) 0 k))
         ∙ ap (λ (t : Bool). hitsGo (drop (suc m) s) (114 ∷ d ∷ []) 0 (suc m) t) (sym (open-next m h))
 
@@ -130,7 +130,7 @@ module _ (d : ℕ) (low : 48 ≤ d) (high : d ≤ 57) where
             let o = find-on d s (suc m) l (eqb-false (getD s (suc m) 0) d e) in
             let w : upTo d (drop (suc m + 1) s) ≡ n = omega arith in
             let r = f l (ap (λ (j : ℕ). upTo d (drop j s)) (sym (add-one (suc m))) ∙ w) in (
-              step m h l (two-other (getD s m 0) (getD s (suc m) 0) (drop (suc (suc m)) s) m (joined i m s) e) ∙ r .0 ∙ ap (λ (j : ℕ). from-on j) z,
+              step m h l (two-other (getD s m 0) (getD s (suc m) 0) (drop (suc (suc m)) s) m (afterName i m s) e) ∙ r .0 ∙ ap (λ (j : ℕ). from-on j) z,
               λ q. ap (λ (j : ℕ). eqb (getD s (suc j) 0) d) (sym z) ∙ r .1 (omega arith),
             )
 
@@ -146,12 +146,12 @@ pub record ShortInv (d : ℕ) (s : List ℕ) (i j : ℕ) : Type 0 where
   pub i< : i < j
   pub j≤ : j ≤ length s
   pub digit : j < length s → eqb (getD s j 0) d ≡ true
-  pub so-far : runHitsFrom (λ (w : List ℕ). same w (114 ∷ d ∷ [])) s i ≡ hitsGo (drop (j - 1) s) (114 ∷ d ∷ []) 0 (j - 1) (joined i (j - 1) s)
+  pub so-far : runHitsFrom (λ (w : List ℕ). same w (114 ∷ d ∷ [])) s i ≡ hitsGo (drop (j - 1) s) (114 ∷ d ∷ []) 0 (j - 1) (afterName i (j - 1) s)
 
 module _ (d : ℕ) (low : 48 ≤ d) (high : d ≤ 57) (s : List ℕ) (i : ℕ) where
   -- from the place m, past a byte, to the next digit
   short-to : (m j : ℕ) → i ≤ m → m < length s → j ≡ m + 1 + upTo d (drop (m + 1) s) →
-      runHitsFrom (λ (w : List ℕ). same w (114 ∷ d ∷ [])) s i ≡ hitsGo (drop m s) (114 ∷ d ∷ []) 0 m (joined i m s) → ShortInv d s i j
+      runHitsFrom (λ (w : List ℕ). same w (114 ∷ d ∷ [])) s i ≡ hitsGo (drop m s) (114 ∷ d ∷ []) 0 m (afterName i m s) → ShortInv d s i j
   short-to m j h l q e =
       let n : ℕ = upTo d (drop (suc m) s) in
       let u : upTo d (drop (m + 1) s) ≡ n = ap (λ (k : ℕ). upTo d (drop k s)) (add-one m) in
@@ -162,14 +162,14 @@ module _ (d : ℕ) (low : 48 ≤ d) (high : d ≤ 57) (s : List ℕ) (i : ℕ) w
         i< = omega arith;
         j≤ = omega (arith, upTo-le d (drop (suc m) s), length-drop (suc m) s);
         digit = λ k. ap (λ (k : ℕ). eqb (getD s k 0) d) (sym z) ∙ r .1 (omega arith);
-        so-far = e ∙ r .0 ∙ ap (λ (k : ℕ). hitsGo (drop k s) (114 ∷ d ∷ []) 0 k (joined i k s)) y;
+        so-far = e ∙ r .0 ∙ ap (λ (k : ℕ). hitsGo (drop k s) (114 ∷ d ∷ []) 0 k (afterName i k s)) y;
       }
 
   pub short-start : (j : ℕ) → i < length s → j ≡ i + 1 + upTo d (drop (i + 1) s) → ShortInv d s i j
   short-start j l q = short-to i j (omega arith) l q (hits-begin d low high s i)
 
-  pub short-none : length s ≤ i → Next (λ (w : List ℕ). same w (114 ∷ d ∷ [])) s i i
-  unfolding walk
+  pub short-none : length s ≤ i → NextRun (λ (w : List ℕ). same w (114 ∷ d ∷ [])) s i i
+  unfolding walkRuns
   short-none l = record {
     passes = λ k. absurd (omega arith);
     hits = rw (drop-of-length-le s l, le-ltb i (length s) l);
@@ -181,14 +181,14 @@ module _ (d : ℕ) (low : 48 ≤ d) (high : d ≤ 57) (s : List ℕ) (i : ℕ) w
       let y : suc m - 1 ≡ m = omega arith in
       let b : i ≤ m = omega (arith, h .i<) in
       let g : getD (drop (suc (suc m)) s) 0 0 ≡ getD s (suc m + 1) 0 = getD-drop (suc (suc m)) s 0 0 ∙ ap (λ (n : ℕ). getD s n 0) (omega arith) in
-      let w : ((eqb (getD s m 0) 114 && not (joined i m s)) && not (isName (getD (drop (suc (suc m)) s) 0 0))) ≡ false =
-      ap (λ (x : ℕ). (eqb (getD s m 0) 114 && not (joined i m s)) && not (isName x)) g
-      ∙ ap (λ (n : ℕ). (eqb (getD s n 0) 114 && not (joined i n s)) && not (isName (getD s (suc m + 1) 0))) (sym y) ∙ t in
+      let w : ((eqb (getD s m 0) 114 && not (afterName i m s)) && not (isName (getD (drop (suc (suc m)) s) 0 0))) ≡ false =
+      ap (λ (x : ℕ). (eqb (getD s m 0) 114 && not (afterName i m s)) && not (isName x)) g
+      ∙ ap (λ (n : ℕ). (eqb (getD s n 0) 114 && not (afterName i n s)) && not (isName (getD s (suc m + 1) 0))) (sym y) ∙ t in
       short-to (suc m) k (omega arith) l q
-      (h .so-far ∙ ap (λ (n : ℕ). hitsGo (drop n s) (114 ∷ d ∷ []) 0 n (joined i n s)) y
-      ∙ step d low high s i m b l (two-miss d low high (getD s m 0) (getD s (suc m) 0) (drop (suc (suc m)) s) m (joined i m s) (h .digit l) w))
+      (h .so-far ∙ ap (λ (n : ℕ). hitsGo (drop n s) (114 ∷ d ∷ []) 0 n (afterName i n s)) y
+      ∙ step d low high s i m b l (two-miss d low high (getD s m 0) (getD s (suc m) 0) (drop (suc (suc m)) s) m (afterName i m s) (h .digit l) w))
 
-  pub short-end : {j : ℕ} → ShortInv d s i j → length s ≤ j → Next (λ (w : List ℕ). same w (114 ∷ d ∷ [])) s i j
+  pub short-end : {j : ℕ} → ShortInv d s i j → length s ≤ j → NextRun (λ (w : List ℕ). same w (114 ∷ d ∷ [])) s i j
   short-end {j = zero} h l = absurd (omega (arith, h .i<))
   short-end {j = suc m} h l =
       let y : suc m - 1 ≡ m = omega arith in
@@ -196,9 +196,9 @@ module _ (d : ℕ) (low : 48 ≤ d) (high : d ≤ 57) (s : List ℕ) (i : ℕ) w
       record {
         passes = λ k. absurd (omega arith);
         hits =
-            h .so-far ∙ ap (λ (n : ℕ). hitsGo (drop n s) (114 ∷ d ∷ []) 0 n (joined i n s)) y
-            ∙ ap (λ (r : List ℕ). hitsGo r (114 ∷ d ∷ []) 0 m (joined i m s)) (drop-cons s m 0 b ∙ ap (λ (r : List ℕ). getD s m 0 ∷ r) (drop-of-length-le s l))
-            ∙ one-left d low high (getD s m 0) m (joined i m s) ∙ rw (le-ltb (suc m) (length s) l);
+            h .so-far ∙ ap (λ (n : ℕ). hitsGo (drop n s) (114 ∷ d ∷ []) 0 n (afterName i n s)) y
+            ∙ ap (λ (r : List ℕ). hitsGo r (114 ∷ d ∷ []) 0 m (afterName i m s)) (drop-cons s m 0 b ∙ ap (λ (r : List ℕ). getD s m 0 ∷ r) (drop-of-length-le s l))
+            ∙ one-left d low high (getD s m 0) m (afterName i m s) ∙ rw (le-ltb (suc m) (length s) l);
       }
 
   -- the two stand at m
@@ -216,34 +216,34 @@ module _ (d : ℕ) (low : 48 ≤ d) (high : d ≤ 57) (s : List ℕ) (i : ℕ) w
         let n : m + runLen (drop m s) - m ≡ 2 = omega (arith, two-long) in
         ap (λ (k : ℕ). take k (drop m s)) n ∙ ap (λ (r : List ℕ). take 2 r) two-there
 
-    two-next : joined i m s ≡ false → runHitsFrom (λ (w : List ℕ). same w (114 ∷ d ∷ [])) s i ≡ hitsGo (drop m s) (114 ∷ d ∷ []) 0 m (joined i m s) →
-        Next (λ (w : List ℕ). same w (114 ∷ d ∷ [])) s i m
+    two-next : afterName i m s ≡ false → runHitsFrom (λ (w : List ℕ). same w (114 ∷ d ∷ [])) s i ≡ hitsGo (drop m s) (114 ∷ d ∷ []) 0 m (afterName i m s) →
+        NextRun (λ (w : List ℕ). same w (114 ∷ d ∷ [])) s i m
     two-next b e = record {
       passes = λ k. ap (λ (w : List ℕ). same w (114 ∷ d ∷ [])) two-part ∙ same-refl (114 ∷ d ∷ []);
       hits =
-          e ∙ ap (λ (r : List ℕ). hitsGo r (114 ∷ d ∷ []) 0 m (joined i m s)) (there d low high s i m l)
-          ∙ two-hit d low high (getD s m 0) (getD s (suc m) 0) (drop (suc (suc m)) s) m (joined i m s) y x b z
+          e ∙ ap (λ (r : List ℕ). hitsGo r (114 ∷ d ∷ []) 0 m (afterName i m s)) (there d low high s i m l)
+          ∙ two-hit d low high (getD s m 0) (getD s (suc m) 0) (drop (suc (suc m)) s) m (afterName i m s) y x b z
           ∙ ap (λ (r : List ℕ). m ∷ r) (sym (hits-from d low high s i (suc (suc m))))
           ∙ ap (λ (n : ℕ). m ∷ runHitsFrom (λ (w : List ℕ). same w (114 ∷ d ∷ [])) s n) (sym two-long)
           ∙ sym (ap (λ (t : Bool). cond t (m ∷ runHitsFrom (λ (w : List ℕ). same w (114 ∷ d ∷ [])) s (m + runLen (drop m s))) []) (lt-ltb m (length s) (omega arith)));
     }
 
-  pub short-found : {j : ℕ} → ShortInv d s i j → j < length s → shortAt i j s ≡ true → Next (λ (w : List ℕ). same w (114 ∷ d ∷ [])) s i (j - 1)
+  pub short-found : {j : ℕ} → ShortInv d s i j → j < length s → shortAt i j s ≡ true → NextRun (λ (w : List ℕ). same w (114 ∷ d ∷ [])) s i (j - 1)
   short-found {j = zero} h l t = absurd (omega (arith, h .i<))
   short-found {j = suc m} h l t =
       let y : suc m - 1 ≡ m = omega arith in
       let g : getD (drop (suc (suc m)) s) 0 0 ≡ getD s (suc m + 1) 0 = getD-drop (suc (suc m)) s 0 0 ∙ ap (λ (n : ℕ). getD s n 0) (omega arith) in
-      let a : eqb (getD s (suc m - 1) 0) 114 && not (joined i (suc m - 1) s) ≡ true = and-left (eqb (getD s (suc m - 1) 0) 114 && not (joined i (suc m - 1) s)) (not (isName (getD s (suc m + 1) 0))) t in
-      let b = and-right (eqb (getD s (suc m - 1) 0) 114 && not (joined i (suc m - 1) s)) (not (isName (getD s (suc m + 1) 0))) t in
-      let c = and-left (eqb (getD s (suc m - 1) 0) 114) (not (joined i (suc m - 1) s)) a in
-      let o = not-true (joined i (suc m - 1) s) (and-right (eqb (getD s (suc m - 1) 0) 114) (not (joined i (suc m - 1) s)) a) in
-      subst (λ (n : ℕ). Next (λ (w : List ℕ). same w (114 ∷ d ∷ [])) s i n) (sym y)
+      let a : eqb (getD s (suc m - 1) 0) 114 && not (afterName i (suc m - 1) s) ≡ true = and-left (eqb (getD s (suc m - 1) 0) 114 && not (afterName i (suc m - 1) s)) (not (isName (getD s (suc m + 1) 0))) t in
+      let b = and-right (eqb (getD s (suc m - 1) 0) 114 && not (afterName i (suc m - 1) s)) (not (isName (getD s (suc m + 1) 0))) t in
+      let c = and-left (eqb (getD s (suc m - 1) 0) 114) (not (afterName i (suc m - 1) s)) a in
+      let o = not-true (afterName i (suc m - 1) s) (and-right (eqb (getD s (suc m - 1) 0) 114) (not (afterName i (suc m - 1) s)) a) in
+      subst (λ (n : ℕ). NextRun (λ (w : List ℕ). same w (114 ∷ d ∷ [])) s i n) (sym y)
       (two-next m l (ap (λ (n : ℕ). eqb (getD s n 0) 114) (sym y) ∙ c) (h .digit l)
       (ap (λ (x : ℕ). isName x) g ∙ not-true (isName (getD s (suc m + 1) 0)) b)
-      (ap (λ (n : ℕ). joined i n s) (sym y) ∙ o)
-      (h .so-far ∙ ap (λ (n : ℕ). hitsGo (drop n s) (114 ∷ d ∷ []) 0 n (joined i n s)) y))
+      (ap (λ (n : ℕ). afterName i n s) (sym y) ∙ o)
+      (h .so-far ∙ ap (λ (n : ℕ). hitsGo (drop n s) (114 ∷ d ∷ []) 0 n (afterName i n s)) y))
 
 -- what is found is the register's text
-pub short-reg : (v : ℕ) → v < 10 → {d : ℕ} → d ≡ 48 + v → {s : List ℕ} {i r : ℕ} → Next (λ (w : List ℕ). same w (114 ∷ d ∷ [])) s i r → Next (λ (w : List ℕ). same w (regText v)) s i r
+pub short-reg : (v : ℕ) → v < 10 → {d : ℕ} → d ≡ 48 + v → {s : List ℕ} {i r : ℕ} → NextRun (λ (w : List ℕ). same w (114 ∷ d ∷ [])) s i r → NextRun (λ (w : List ℕ). same w (regText v)) s i r
 short-reg v h {d} q {s} {i} {r} n =
-    subst (λ (p : List ℕ). Next (λ (w : List ℕ). same w p) s i r) (ap (λ (x : ℕ). 114 ∷ x ∷ []) q ∙ sym (short-text v h)) n
+    subst (λ (p : List ℕ). NextRun (λ (w : List ℕ). same w p) s i r) (ap (λ (x : ℕ). 114 ∷ x ∷ []) q ∙ sym (short-text v h)) n

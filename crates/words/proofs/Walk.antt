@@ -13,7 +13,7 @@ use Rattle.lines.specs.Lf.{part}
 use Rattle.lines.proofs.LfLaws.{part-more, part-none}
 use Rattle.text.specs.Class.{isName}
 use Rattle.words.specs.Runs.{flush, runsGo, runs}
-use Rattle.words.specs.Inner.Runs.{gapLen, runLen, regGap, walk}
+use Rattle.words.specs.Inner.Runs.{gapLen, runLen, regGap, walkRuns}
 use Rattle.words.proofs.RunLaws.{walk-next, walk-regs, run-some, reg-stands}
 
 -- a name byte goes on with the open run, another one ends it
@@ -86,7 +86,7 @@ flushReg e (x ∷ c) = cond (eqb x 114) ((x ∷ c) ∷ []) []
 -- the walk has come to the run at i
 pub record RegWalk {S : Type 0} (over : List (List ℕ) → S → S) (s : List ℕ) (d₀ d : S) (i : ℕ) : Type 0 where
   pub stands : gapLen (drop i s) ≡ 0
-  pub so-far : over (walk flushReg (drop i s) i []) d ≡ over (runs s) d₀
+  pub so-far : over (walkRuns flushReg (drop i s) i []) d ≡ over (runs s) d₀
 
 module _ {S : Type 0} (over : List (List ℕ) → S → S) (step : List ℕ → S → S)
     (flushed : (cur : List ℕ) (rs : List (List ℕ)) (d : S) → over (flush cur ++ rs) d ≡ over rs (step cur d))
@@ -104,19 +104,19 @@ module _ {S : Type 0} (over : List (List ℕ) → S → S) (step : List ℕ → 
       ap (λ (r : List (List ℕ)). over r d) (sym (append-nil (flushReg e cur))) ∙ reg-flushed e cur [] d
       ∙ sym (flushed cur [] d) ∙ ap (λ (r : List (List ℕ)). over r d) (append-nil (flush cur))
 
-  over-regs : (l : List ℕ) (i : ℕ) (cur : List ℕ) (d : S) → over (walk flushReg l i cur) d ≡ over (runsGo l cur) d
-  unfolding walk runsGo
+  over-regs : (l : List ℕ) (i : ℕ) (cur : List ℕ) (d : S) → over (walkRuns flushReg l i cur) d ≡ over (runsGo l cur) d
+  unfolding walkRuns runsGo
   over-regs [] i cur d = reg-ended i cur d
   over-regs (x ∷ xs) i cur d = go (isName x) (over-regs xs (suc i) (cur ++ (x ∷ [])) d) (over-regs xs (suc i) [] (step cur d))
     where
-      go : (t : Bool) → over (walk flushReg xs (suc i) (cur ++ (x ∷ []))) d ≡ over (runsGo xs (cur ++ (x ∷ []))) d →
-          over (walk flushReg xs (suc i) []) (step cur d) ≡ over (runsGo xs []) (step cur d) →
-          over (cond t (walk flushReg xs (suc i) (cur ++ (x ∷ []))) (flushReg i cur ++ walk flushReg xs (suc i) [])) d
+      go : (t : Bool) → over (walkRuns flushReg xs (suc i) (cur ++ (x ∷ []))) d ≡ over (runsGo xs (cur ++ (x ∷ []))) d →
+          over (walkRuns flushReg xs (suc i) []) (step cur d) ≡ over (runsGo xs []) (step cur d) →
+          over (cond t (walkRuns flushReg xs (suc i) (cur ++ (x ∷ []))) (flushReg i cur ++ walkRuns flushReg xs (suc i) [])) d
           ≡ over (cond t (runsGo xs (cur ++ (x ∷ []))) (flush cur ++ runsGo xs [])) d
       go true p q = p
-      go false p q = reg-flushed i cur (walk flushReg xs (suc i) []) d ∙ q ∙ sym (flushed cur (runsGo xs []) d)
+      go false p q = reg-flushed i cur (walkRuns flushReg xs (suc i) []) d ∙ q ∙ sym (flushed cur (runsGo xs []) d)
 
-  regs-skip : (s : List ℕ) (d : S) (i j : ℕ) → j ≡ i + regGap false (drop i s) → over (walk flushReg (drop j s) j []) d ≡ over (walk flushReg (drop i s) i []) d
+  regs-skip : (s : List ℕ) (d : S) (i j : ℕ) → j ≡ i + regGap false (drop i s) → over (walkRuns flushReg (drop j s) j []) d ≡ over (walkRuns flushReg (drop i s) i []) d
   regs-skip s d i j q = ap (λ (r : List (List ℕ)). over r d) (sym (walk-regs flushReg (λ (e : ℕ). refl) (λ e x c t. rw t) s i j q))
 
   pub regs-start : (s : List ℕ) (d : S) (i : ℕ) → i ≡ 0 + regGap false (drop 0 s) → RegWalk over s d d i
@@ -133,12 +133,12 @@ module _ {S : Type 0} (over : List (List ℕ) → S → S) (step : List ℕ → 
         stands = reg-stands s e k q;
         so-far =
             regs-skip s d′ e k q
-            ∙ ap (over (walk flushReg (drop e s) e [])) (z ∙ ap (λ (c : List ℕ). step c d) y)
-            ∙ sym (reg-flushed e (part i e s) (walk flushReg (drop e s) e []) d)
+            ∙ ap (over (walkRuns flushReg (drop e s) e [])) (z ∙ ap (λ (c : List ℕ). step c d) y)
+            ∙ sym (reg-flushed e (part i e s) (walkRuns flushReg (drop e s) e []) d)
             ∙ ap (λ (r : List (List ℕ)). over r d) (sym (walk-next flushReg (λ (e : ℕ). refl) s i e p))
             ∙ h .so-far;
       }
 
     pub regs-end : ((d : S) → over [] d ≡ d) → length s ≤ i → d ≡ over (runs s) d₀
-    unfolding walk
-    regs-end ended l = sym (ended d) ∙ ap (λ (r : List ℕ). over (walk flushReg r i []) d) (sym (drop-of-length-le s l)) ∙ h .so-far
+    unfolding walkRuns
+    regs-end ended l = sym (ended d) ∙ ap (λ (r : List ℕ). over (walkRuns flushReg r i []) d) (sym (drop-of-length-le s l)) ∙ h .so-far

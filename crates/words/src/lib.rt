@@ -9,7 +9,7 @@ ghost use Rattle.lines.specs.Lf.{same, suffixed};
 ghost use Rattle.lines.specs.Inner.Out.{Wrote};
 ghost use Rattle.names.specs.Names.{regText, phiText};
 ghost use Rattle.words.specs.Runs.{readsOf};
-ghost use Rattle.words.specs.Inner.Runs.{gapLen, runLen, regGap, joined, shortAt, wordsOf, Next};
+ghost use Rattle.words.specs.Inner.Runs.{gapLen, runLen, regGap, afterName, shortAt, wordsOf, NextRun};
 ghost use Rattle.words.specs.Hits.{regHit, afterNew, asTarget, glueLeft, glueRight, glued, replacedAt};
 
 // The one place of a search, or not exactly one.
@@ -48,7 +48,7 @@ pub fn run_end(s: &[u8], i: usize) -> usize
 
 // Whether a run that begins with `r` stands at the place j, where a run may begin at i.
 fn begins_reg(s: &[u8], i: usize, j: usize) -> bool
-    ensures { λ r. ⌜ r ≡ eqb (getD (now (s .entry)) j 0) 114 && not (joined i j (now (s .entry))) ⌝ }
+    ensures { λ r. ⌜ r ≡ eqb (getD (now (s .entry)) j 0) 114 && not (afterName i j (now (s .entry))) ⌝ }
 {
     if lines::byte_at(s, j) != b'r' {
         return false;
@@ -136,7 +136,7 @@ fn short_at(s: &[u8], i: usize, j: usize) -> bool
 // The place of the first run from a place on that is `r` and the digit d, or the end: by the digit, which is rarer than `r`.
 fn next_short(s: &[u8], i: usize, d: u8) -> usize
     requires { ⌜ (48 ≤ d) × (d ≤ 57) ⌝ }
-    ensures { λ r. ⌜ Next (λ (w : List ℕ). same w (114 ∷ d ∷ [])) (now (s .entry)) i r ⌝ }
+    ensures { λ r. ⌜ NextRun (λ (w : List ℕ). same w (114 ∷ d ∷ [])) (now (s .entry)) i r ⌝ }
 {
     if s.len() <= i {
         return i;
@@ -153,7 +153,7 @@ fn next_short(s: &[u8], i: usize, d: u8) -> usize
 
 // The place of the first run from a place on that is a register as it is printed, or the end: by its `r`.
 fn next_long(s: &[u8], i: usize, reg: names::Register) -> usize
-    ensures { λ r. ⌜ Next (λ (w : List ℕ). same w (regText (reg .0))) (now (s .entry)) i r ⌝ }
+    ensures { λ r. ⌜ NextRun (λ (w : List ℕ). same w (regText (reg .0))) (now (s .entry)) i r ⌝ }
 {
     let mut j = reg_start(s, i);
     while j < s.len() {
@@ -168,7 +168,7 @@ fn next_long(s: &[u8], i: usize, reg: names::Register) -> usize
 
 // The place of the first run from a place on that is a register as it is printed, or the end.
 fn next_reg(s: &[u8], i: usize, reg: names::Register) -> usize
-    ensures { λ r. ⌜ Next (λ (w : List ℕ). same w (regText (reg .0))) (now (s .entry)) i r ⌝ }
+    ensures { λ r. ⌜ NextRun (λ (w : List ℕ). same w (regText (reg .0))) (now (s .entry)) i r ⌝ }
 {
     if reg.0 < 10 {
         return next_short(s, i, reg.0 as u8 + b'0');

@@ -1,15 +1,15 @@
 -- `expr::closes` meets its contract. Assumes nothing.
-use Rattle.expr.specs.Pure.{closes}
+use Rattle.expr.specs.Pure.{closings}
 use Rattle.expr.proofs.SpaceLaws.{three}
 use Rattle.expr.proofs.closes.Statement.{statement}
 use Rattle.expr.proofs.closes.Tie as tie
 
 returns : tie.Need-returns
-unfolding closes
+unfolding closings
 returns c = rw (three 41 93 125 (c .before .args .b), c .if1 .taken)
 
 returns-2 : tie.Need-returns-2
-unfolding closes
+unfolding closings
 returns-2 c = rw (three 41 93 125 (c .before .args .b), c .if1 .left)
 
 pub closes-spec : {M : Type 1} → statement M

@@ -1,9 +1,9 @@
 -- `expr::is_register` meets its contract. Assumes nothing.
 use borrow.Author.Needs.{needs}
 use mathlib.Core.Path.{sym, ap, _∙_}
-use Rattle.expr.specs.Pure.{namesReg}
 use Rattle.expr.proofs.is_register.Statement.{statement}
 use Rattle.expr.proofs.is_register.Tie as tie
+use Rattle.names.specs.Names.{isReg}
 
 reg-name-requires : tie.Need-reg-name-requires
 reg-name-requires c κs = search needs
@@ -15,10 +15,10 @@ enum-told-2 : tie.Need-enum-told-2
 enum-told-2 c = search needs
 
 returns : tie.Need-returns
-returns c = sym (ap namesReg (sym (c .before .before .reg-name .ensures) ∙ c .enum-told .given .1))
+returns c = sym (ap isReg (sym (c .before .before .reg-name .ensures) ∙ c .enum-told .given .1))
 
 returns-2 : tie.Need-returns-2
-returns-2 c = sym (ap namesReg (sym (c .before .before .reg-name .ensures) ∙ c .enum-told2 .given .1))
+returns-2 c = sym (ap isReg (sym (c .before .before .reg-name .ensures) ∙ c .enum-told2 .given .1))
 
 pub is-register-spec : {M : Type 1} → statement M
 is-register-spec = tie.close (tie.spec reg-name-requires enum-told enum-told-2 returns returns-2)

@@ -5,8 +5,8 @@ use mathlib.Core.List.{List}
 use Prim.Native.Nat.{ℕ}
 use mathlib.Core.Bool.{cond}
 use Rattle.lines.specs.Lf.{all}
-use Rattle.names.specs.Names.{regOf, isIdent}
-use Rattle.expr.specs.Pure.{namesReg, isWord, startsNumber, isNumberByte, wrapped, isQuoted, shapeOf}
+use Rattle.names.specs.Names.{regOf, isIdent, isReg}
+use Rattle.expr.specs.Pure.{isWord, startsNumber, isNumberByte, wrapped, isQuoted, shapeOf}
 use Rattle.expr.specs.declared.kinds.Shape.{Shape}
 use Rattle.expr.specs.declared.kinds.Shape.the-variants.{Plain, Array}
 use Rattle.expr.specs.declared.kinds.Purity.the-variants.{Stable, Ident, Effectful}
@@ -34,7 +34,7 @@ abbrev from-word : List ℕ → Shape
 from-word t = cond (isWord t) (Plain Stable) (from-number t)
 
 abbrev from-reg : List ℕ → Shape
-from-reg t = cond (namesReg (regOf t)) (Plain Stable) (from-word t)
+from-reg t = cond (isReg (regOf t)) (Plain Stable) (from-word t)
 
 -- what is known past each test
 no-empty : (c : tie.Else1) → shapeOf (c .before .before .args .t .now) ≡ from-reg (c .before .before .args .t .now)

@@ -4,7 +4,7 @@ use mathlib.Core.Path.{ap}
 use native.Mathlib.Omega.{arith}
 use lib.ListN.{drop, length-drop}
 use Rattle.lexical.specs.declared.Token.{Token}
-use Rattle.lexical.specs.Inner.Lex.{stepOf}
+use Rattle.lexical.specs.Inner.Lex.{cleanStep}
 use Rattle.lexical.proofs.TokenLaws.{size-le}
 use Rattle.lexical.proofs.LexLaws.{head-at}
 use Rattle.lexical.proofs.step_at.Statement.{statement}
@@ -28,7 +28,7 @@ grow-requires : tie.Need-grow-requires
 grow-requires c κs = search needs
 
 returns : tie.Need-returns
-unfolding stepOf
+unfolding cleanStep
 returns c = let a = c .before .before .before .before .before .args in rw (c .grow .ensures, c .before .before .byte-at .ensures, c .before .before .before .token-at .ensures, head-at (a .s .now) (a .i))
 
 pub step-at-spec : {M : Type 1} → statement M

@@ -1,5 +1,5 @@
 use borrow.Author.Needs.{needs}
-use Rattle.lexical.specs.Inner.Plain.{tame}
+use Rattle.lexical.specs.Inner.Plain.{allMild}
 use Rattle.lexical.proofs.tame_eight.Statement.{statement}
 use Rattle.lexical.proofs.tame_eight.Tie as tie
 use Rattle.lexical.proofs.tame_eight.Reads as reads
@@ -17,7 +17,7 @@ lacks-eight-requires-2 : tie.Need-lacks-eight-requires-2
 lacks-eight-requires-2 c κs = search needs
 
 returns : tie.Need-returns
-unfolding tame
+unfolding allMild
 returns c = rw (c .before .before .mild-eight .ensures, c .before .lacks-eight .ensures, c .lacks-eight2 .ensures)
 
 pub tame-eight-spec : {M : Type 1} → statement M

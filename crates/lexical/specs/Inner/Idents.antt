@@ -3,11 +3,11 @@ use Prim.Native.Nat.{ℕ, _+_, _-_}
 use mathlib.Core.Bool.{cond}
 use mathlib.Core.List.{List, [], _∷_, _++_}
 use lib.ListN.{length, drop}
-use Rattle.lines.specs.Lf.{part}
+use Rattle.lines.specs.Lf.{part, isEmpty}
 use Rattle.lexical.specs.declared.Word.{Word}
 use Rattle.lexical.specs.declared.Word.the-variants as variant
 use Rattle.lexical.specs.Lex.{stripLexical}
-use Rattle.lexical.specs.Idents.{charsGo, empty, joins, noWord, wordsGo, wordsIn}
+use Rattle.lexical.specs.Idents.{charsGo, joins, noWord, wordsGo, wordsIn}
 
 -- `ident_words`
 unfoldable pub identWords : List ℕ → List (List ℕ)
@@ -20,7 +20,7 @@ wordFrom [] i cur = cond (noWord cur) variant.None (variant.At (record { from = 
 wordFrom (c ∷ cs) i cur =
     let more = wordFrom cs (i + length c) (cur ++ c) in
     let on = wordFrom cs (i + length c) [] in
-    cond (joins c (empty cur)) more (cond (noWord cur) on (variant.At (record { from = i - length cur; to = i })))
+    cond (joins c (isEmpty cur)) more (cond (noWord cur) on (variant.At (record { from = i - length cur; to = i })))
 
 -- the first word at or after the place i, where a character begins
 unfoldable pub nextWord : List ℕ → ℕ → Word

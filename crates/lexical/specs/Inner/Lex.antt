@@ -57,8 +57,8 @@ grown t [] = t
 grown t (b ∷ bs) = grown (pushed t b) bs
 
 -- one token of a text whose place is i: the place after it, what becomes of it, and the digest with what it leaves
-unfoldable pub stepOf : ℕ → Tail → List ℕ → Step
+unfoldable pub cleanStep : ℕ → Tail → List ℕ → Step
 unfolding tokenAt grown
-stepOf i t l =
+cleanStep i t l =
     let k : Token = tokenAt (t .last) l in
     record { next = i + k .size; kind = k .kind; tail = grown t (leaves (k .kind) (getD l 0 0)) }

@@ -25,8 +25,8 @@ abbrev pub isMild : ℕ → Bool
 isMild b = eqb b (code " ") || (leb (code "(") b && ltb b (code "{"))
 
 -- bytes that are all mild, and none of them is `/` or a backtick
-unfoldable pub tame : List ℕ → Bool
-tame l = all (λ (x : ℕ). isMild x) l && (lacks (code "/") l && lacks (code "`") l)
+unfoldable pub allMild : List ℕ → Bool
+allMild l = all (λ (x : ℕ). isMild x) l && (lacks (code "/") l && lacks (code "`") l)
 
 -- the last character, once bytes below 128 stand after a text with this last one
 unfoldable pub lowLast : ℕ → List ℕ → ℕ

@@ -3,7 +3,7 @@ use mathlib.Core.Path.{sym, ap, _∙_}
 use borrow.Author.Tests.{not-true, not-false}
 use lib.ListN.{length}
 use Rattle.lines.proofs.LfLaws.{rest-of}
-use Rattle.names.specs.Names.{numberOf}
+use Rattle.names.specs.Names.{readNumber}
 use Rattle.names.proofs.Texts.{after-none, after-number}
 use Rattle.names.proofs.number_after.Statement.{statement}
 use Rattle.names.proofs.number_after.Tie as tie
@@ -23,7 +23,7 @@ read-number-requires c κs = search needs
 returns-2 : tie.Need-returns-2
 returns-2 c =
     let a = c .before .before .before .before .before .before .args in
-    c .read-number .ensures ∙ ap numberOf (c .before .cut .ensures ∙ rest-of (a .s .now) (length (a .p .now)))
+    c .read-number .ensures ∙ ap readNumber (c .before .cut .ensures ∙ rest-of (a .s .now) (length (a .p .now)))
     ∙ sym (after-number (a .p .now) (a .s .now) (sym (c .before .before .before .starts-with .ensures) ∙ not-false _ (c .before .before .if1 .left)))
 
 pub number-after-spec : {M : Type 1} → statement M

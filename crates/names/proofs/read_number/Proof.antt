@@ -4,13 +4,13 @@ use native.Mathlib.Omega.{arith}
 use lib.Dec.{lit<}
 use lib.ListN.{length, drop, drop-of-length-le}
 use Rattle.lines.proofs.Tests.{is-in, is-below, is-above}
-use Rattle.names.specs.Names.{numbered, numberOf}
+use Rattle.names.specs.Names.{numbered, readNumber}
 use Rattle.names.proofs.Digits.{number-none, number-some, number-other, number-digit, number-end, too-large}
 use Rattle.names.proofs.read_number.Statement.{statement}
 use Rattle.names.proofs.read_number.Tie as tie
 
 abbrev Inv-loop : tie.InvT-loop
-Inv-loop s v₀ i₀ v i = (v < 2 ^ 64) × (numbered v (drop i s) ≡ numberOf s)
+Inv-loop s v₀ i₀ v i = (v < 2 ^ 64) × (numbered v (drop i s) ≡ readNumber s)
 
 abbrev μ-loop : tie.MeasureT-loop
 μ-loop s v₀ i₀ v i = length s - i

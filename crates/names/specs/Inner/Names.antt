@@ -8,7 +8,7 @@ use lib.Dec.{eqb}
 use Rattle.lines.specs.Lf.{prefixed}
 use Rattle.names.specs.declared.Number.{Number}
 use Rattle.names.specs.declared.Number.the-variants as number
-use Rattle.names.specs.Names.{numberOf}
+use Rattle.names.specs.Names.{readNumber}
 
 -- how many zeros lead, of digits; the last digit is not counted
 unfoldable pub zeros : List ℕ → ℕ
@@ -18,5 +18,5 @@ zeros (x ∷ d ∷ ds) = cond (eqb x (code "0")) (suc (zeros (d ∷ ds))) 0
 
 -- the number that follows a word, where the word stands in front
 unfoldable pub numberAfter : List ℕ → List ℕ → Number
-unfolding numberOf prefixed
-numberAfter p s = cond (prefixed p s) (numberOf (drop (length p) s)) number.None
+unfolding readNumber prefixed
+numberAfter p s = cond (prefixed p s) (readNumber (drop (length p) s)) number.None

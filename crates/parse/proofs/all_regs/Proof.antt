@@ -5,9 +5,9 @@ use lib.ListN.{length, drop}
 use borrow.Author.Needs.{needs}
 use borrow.Author.Tests.{not-true, not-false}
 use mathlib.Core.List.{List}
-use Rattle.names.specs.Names.{regOf}
+use Rattle.names.specs.Names.{regOf, isReg}
 use Rattle.lines.specs.Lf.{partsOf}
-use Rattle.parse.specs.Parse.{allRegs, isReg}
+use Rattle.parse.specs.Parse.{allRegs}
 use Rattle.lines.proofs.LfLaws.{find-le}
 use Rattle.parse.proofs.ParseLaws.{regs-stop, regs-last, regs-on}
 use Rattle.parse.proofs.all_regs.Statement.{statement}

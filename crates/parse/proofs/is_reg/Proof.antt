@@ -1,11 +1,11 @@
 use borrow.Author.Needs.{needs}
 use mathlib.Core.Path.{_≡_, refl, sym, ap, _∙_}
-use Rattle.parse.specs.Parse.{isReg}
 use Rattle.parse.proofs.is_reg.Statement.{statement}
 use Rattle.parse.proofs.is_reg.Tie as tie
 use Rattle.parse.proofs.is_reg.Reads as reads
 use Rattle.parse.proofs.is_reg.Lts as lts
 use Rattle.names.proofs.reg_name.Reads as reg-name-reads
+use Rattle.names.specs.Names.{isReg}
 
 -- src/lib.rt:70:11
 reg-name-requires : tie.Need-reg-name-requires

@@ -8,7 +8,7 @@ use lib.ListN.{length, drop}
 use Rattle.lines.specs.Lf.{linesOf}
 use Rattle.lines.proofs.Tests.{so}
 use Rattle.names.specs.declared.PhiName.{PhiName}
-use Rattle.phis.specs.Phis.{deadBy, anyDead}
+use Rattle.phis.specs.Phis.{phiDead, anyDead}
 use Rattle.phis.proofs.Searches.{anyOne, storesDead, dead-any, line-hit, line-on, line-end}
 use Rattle.phis.proofs.any_dead.Statement.{statement}
 use Rattle.phis.proofs.any_dead.Tie as tie
@@ -40,7 +40,7 @@ returns c =
     let loop = c .before .before .before .before .before .before .loop in
     let find-byte = c .before .before .before .before .find-byte in
     let cut = c .before .before .before .cut in
-    sym (line-hit (λ (l : List ℕ). storesDead (linesOf (a .text .now)) l) (a .text .now) (loop .i) (find-byte .result) (c .before .before .before .before .before .loop-test .taken) (find-byte .ensures) (cut .result .now) (cut .ensures) (so (c .before .dead-by .ensures ∙ ap (λ (n : PhiName). deadBy n (linesOf (a .text .now))) (c .before .before .line-store .ensures)) (c .if1 .taken))) ∙ loop .inv .1
+    sym (line-hit (λ (l : List ℕ). storesDead (linesOf (a .text .now)) l) (a .text .now) (loop .i) (find-byte .result) (c .before .before .before .before .before .loop-test .taken) (find-byte .ensures) (cut .result .now) (cut .ensures) (so (c .before .dead-by .ensures ∙ ap (λ (n : PhiName). phiDead n (linesOf (a .text .now))) (c .before .before .line-store .ensures)) (c .if1 .taken))) ∙ loop .inv .1
 
 after-requires : tie.Need-after-requires Inv-loop μ-loop
 after-requires c κs = search needs
@@ -54,7 +54,7 @@ loop-again c =
     let loop = c .before .before .before .before .before .before .before .loop in
     let find-byte = c .before .before .before .before .before .find-byte in
     let cut = c .before .before .before .before .cut in
-    (omega (arith, c .after .ensures), sym (line-on (λ (l : List ℕ). storesDead (linesOf (a .text .now)) l) (a .text .now) (loop .i) (find-byte .result) (c .before .before .before .before .before .before .loop-test .taken) (find-byte .ensures) (cut .result .now) (cut .ensures) (c .after .result) (c .after .ensures) (so (c .before .before .dead-by .ensures ∙ ap (λ (n : PhiName). deadBy n (linesOf (a .text .now))) (c .before .before .before .line-store .ensures)) (c .before .if1 .left))) ∙ loop .inv .1)
+    (omega (arith, c .after .ensures), sym (line-on (λ (l : List ℕ). storesDead (linesOf (a .text .now)) l) (a .text .now) (loop .i) (find-byte .result) (c .before .before .before .before .before .before .loop-test .taken) (find-byte .ensures) (cut .result .now) (cut .ensures) (c .after .result) (c .after .ensures) (so (c .before .before .dead-by .ensures ∙ ap (λ (n : PhiName). phiDead n (linesOf (a .text .now))) (c .before .before .before .line-store .ensures)) (c .before .if1 .left))) ∙ loop .inv .1)
 
 returns-2 : tie.Need-returns-2 Inv-loop μ-loop
 returns-2 c =

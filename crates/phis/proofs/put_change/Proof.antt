@@ -8,7 +8,7 @@ use Rattle.lines.proofs.Tests.{so}
 use Rattle.lines.proofs.OutLaws.{wrote-as}
 use Rattle.reading.specs.Reading.{plain}
 use Rattle.names.specs.declared.PhiName.{PhiName}
-use Rattle.phis.specs.Phis.{deadBy}
+use Rattle.phis.specs.Phis.{phiDead}
 use Rattle.phis.proofs.Lines.{decl-long}
 use Rattle.phis.proofs.Writes.{dead-assign, change-store, change-decl, change-keep, start-le, drop-more}
 use Rattle.phis.proofs.put_change.Statement.{statement}
@@ -39,7 +39,7 @@ put-store-requires c κs =
     let phi-store = c .before .before .before .before .phi-store in
     let dead-by = c .before .before .before .dead-by in
     let if1 = c .before .before .if1 in (
-      dead-assign (linesOf (a .text .now)) (trim-start .result .now) (ap (λ (n : PhiName). deadBy n (linesOf (a .text .now))) (sym (phi-store .ensures)) ∙ so (dead-by .ensures) (if1 .taken)),
+      dead-assign (linesOf (a .text .now)) (trim-start .result .now) (ap (λ (n : PhiName). phiDead n (linesOf (a .text .now))) (sym (phi-store .ensures)) ∙ so (dead-by .ensures) (if1 .taken)),
       (omega (arith, start-le (a .line .now) (trim-start .result .now) (trim-start .ensures), pre .0), omega (arith, pre .1, ap length (change-store plain (linesOf (a .text .now)) (a .line .now) (trim-start .result .now) (cut .result .now) (trim-from .result) (trim-start .ensures) (trim-from .ensures) (cut .ensures) (phi-store .result) (phi-store .ensures) (so (dead-by .ensures) (if1 .taken))))),
     )
 

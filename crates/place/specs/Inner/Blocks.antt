@@ -2,7 +2,7 @@
 use Prim.Native.Nat.{ℕ, zero, suc}
 use mathlib.Core.Bool.{Bool, true, false, _&&_}
 use mathlib.Core.List.{List, [], _∷_}
-use Rattle.place.specs.Blocks.{Brace, blocks, braceOf, cleaned, closes, opens, plain}
+use Rattle.place.specs.Blocks.{Brace, blocks, braceOf, cleaned, closes, opens, neither}
 
 -- `block_ids`
 abbrev pub blockIds : List (List ℕ) → List ℕ
@@ -15,14 +15,14 @@ unfoldable pub mayAt : Brace → ℕ → Bool
 mayAt opens d = true
 mayAt closes zero = false
 mayAt closes (suc d) = true
-mayAt plain d = true
+mayAt neither d = true
 
 -- how many are open after it
 unfoldable pub depthAt : Brace → ℕ → ℕ
 depthAt opens d = suc d
 depthAt closes zero = zero
 depthAt closes (suc d) = d
-depthAt plain d = d
+depthAt neither d = d
 
 -- how many are open after a line
 unfoldable pub depthAfter : List ℕ → ℕ → ℕ

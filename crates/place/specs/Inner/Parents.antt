@@ -9,7 +9,7 @@ use lib.ListN.{length, take, getD, replicate}
 use Rattle.lines.specs.Lf.{endsIn}
 use Rattle.text.specs.Trim.{trimOf}
 use Rattle.lexical.specs.Lex.{stripLexical}
-use Rattle.place.specs.Blocks.{Brace, opens, closes, plain, braceOf}
+use Rattle.place.specs.Blocks.{Brace, opens, closes, neither, braceOf}
 use Rattle.place.specs.Paths.{pathCloses}
 use Rattle.place.specs.Inner.Fill.{Filled}
 
@@ -23,13 +23,13 @@ unfoldable pub curAt : Brace → ℕ → List ℕ → ℕ
 unfolding around
 curAt opens c ups = suc (length ups)
 curAt closes c ups = around c ups
-curAt plain c ups = c
+curAt neither c ups = c
 
 -- the table after a brace
 unfoldable pub upsAt : Brace → ℕ → List ℕ → List ℕ
 upsAt opens c ups = ups ++ c ∷ []
 upsAt closes c ups = ups
-upsAt plain c ups = ups
+upsAt neither c ups = ups
 
 -- the open block after several braces
 unfoldable pub curBy : List Brace → ℕ → List ℕ → ℕ

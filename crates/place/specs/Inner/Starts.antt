@@ -6,5 +6,5 @@ use Rattle.lines.specs.Ascii.{ascii}
 use Rattle.lines.specs.Lf.{among}
 
 -- the same by the last character of a cleaned line of bytes
-unfoldable pub startsBy : ℕ → Bool → Bool
-startsBy last st = cond (eqb last 256) st (among (ascii ";{}:") last)
+unfoldable pub startsByLast : ℕ → Bool → Bool
+startsByLast last st = cond (eqb last 256) st (among (ascii ";{}:") last)

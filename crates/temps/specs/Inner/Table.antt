@@ -8,7 +8,7 @@ use lib.Dec.{eqb, ltb}
 use lib.ListN.{length, drop, getD, set}
 use Rattle.lines.specs.Lf.{partsOf, prefixed, same, endsIn}
 use Rattle.text.specs.Trim.{trimOf}
-use Rattle.names.specs.Names.{tempWord, numberOf, isTemp}
+use Rattle.names.specs.Names.{tempWord, readNumber, isTemp}
 use Rattle.names.specs.Inner.Names.{zeros}
 use Rattle.names.specs.declared.Number.{Number}
 use Rattle.names.specs.declared.Number.the-variants as number
@@ -21,7 +21,7 @@ use Rattle.temps.specs.declared.table.Flag.the-variants as flag
 
 -- the number of a temp as it is printed: of `t7`, and none of `t07`
 unfoldable pub slotOf : List ℕ → Number
-slotOf s = cond (prefixed tempWord s) (cond (ltb 0 (zeros (drop 1 s))) number.None (numberOf (drop 1 s))) number.None
+slotOf s = cond (prefixed tempWord s) (cond (ltb 0 (zeros (drop 1 s))) number.None (readNumber (drop 1 s))) number.None
 
 -- the table d with a flag at a number; a number past its end leaves it as it is
 abbrev pub flagAt : Number → List ℕ → List ℕ

@@ -7,13 +7,13 @@ use borrow.Author.Needs.{needs}
 use borrow.Author.Tests.{le-ltb}
 use lib.ListN.{length, drop, getD}
 use Rattle.text.specs.Class.{isName}
-use Rattle.words.specs.Inner.Runs.{regGap, joined}
+use Rattle.words.specs.Inner.Runs.{regGap, afterName}
 use Rattle.words.proofs.RunLaws.{reg-here, reg-on, reg-none}
 use Rattle.words.proofs.reg_start.Statement.{statement}
 use Rattle.words.proofs.reg_start.Tie as tie
 
 abbrev Inv-loop : tie.InvT-loop
-Inv-loop s i j₀ j = (i ≤ j) × (j + regGap (joined i j s) (drop j s) ≡ i + regGap false (drop i s))
+Inv-loop s i j₀ j = (i ≤ j) × (j + regGap (afterName i j s) (drop j s) ≡ i + regGap false (drop i s))
 
 abbrev μ-loop : tie.MeasureT-loop
 μ-loop s i j₀ j = length s - j
@@ -48,7 +48,7 @@ returns-2 : tie.Need-returns-2 Inv-loop μ-loop
 returns-2 c =
     let a = c .before .before .before .args in
     let l = c .before .loop in
-    omega (arith, reg-none (joined (a .i) (l .j) (a .s .now)) (a .s .now) (l .j) (c .loop-test .left), l .inv .1)
+    omega (arith, reg-none (afterName (a .i) (l .j) (a .s .now)) (a .s .now) (l .j) (c .loop-test .left), l .inv .1)
 
 pub reg-start-spec : {M : Type 1} → statement M
 reg-start-spec =

@@ -31,12 +31,12 @@ regGap p [] = 0
 regGap p (x ∷ xs) = cond (eqb x (code "r") && not p) 0 (suc (regGap (isName x) xs))
 
 -- a name byte stands before the place j, not before the place i
-abbrev pub joined : ℕ → ℕ → List ℕ → Bool
-joined i j s = ltb i j && isName (getD s (j - 1) 0)
+abbrev pub afterName : ℕ → ℕ → List ℕ → Bool
+afterName i j s = ltb i j && isName (getD s (j - 1) 0)
 
 -- `r` stands before the place j, as a run may begin that begins at i or later, and no name byte stands after the place j
 abbrev pub shortAt : ℕ → ℕ → List ℕ → Bool
-shortAt i j s = (eqb (getD s (j - 1) 0) (code "r") && not (joined i (j - 1) s)) && not (isName (getD s (j + 1) 0))
+shortAt i j s = (eqb (getD s (j - 1) 0) (code "r") && not (afterName i (j - 1) s)) && not (isName (getD s (j + 1) 0))
 
 -- how long the run at the front is
 abbrev pub runLen : List ℕ → ℕ
@@ -44,11 +44,11 @@ runLen l = upBy (λ (x : ℕ). not (isName x)) l
 
 -- what a text gives run by run, left to right: `give` says what a run gives that ends at a place; i is the place that the walk has come
 -- to, and `cur` the run so far
-unfoldable pub walk : {A : Type 0} → (ℕ → List ℕ → List A) → List ℕ → ℕ → List ℕ → List A
-walk give [] i cur = give i cur
-walk give (x ∷ xs) i cur =
-    let more = walk give xs (suc i) (cur ++ (x ∷ [])) in
-    let ends = give i cur ++ walk give xs (suc i) [] in
+unfoldable pub walkRuns : {A : Type 0} → (ℕ → List ℕ → List A) → List ℕ → ℕ → List ℕ → List A
+walkRuns give [] i cur = give i cur
+walkRuns give (x ∷ xs) i cur =
+    let more = walkRuns give xs (suc i) (cur ++ (x ∷ [])) in
+    let ends = give i cur ++ walkRuns give xs (suc i) [] in
     cond (isName x) more ends
 
 -- the place of a run that ends at e, where there is one and it passes a test
@@ -58,18 +58,18 @@ placeBy f e (x ∷ xs) = cond (f (x ∷ xs)) ((e - length (x ∷ xs)) ∷ []) []
 
 -- the places of the runs that pass a test, from the place i on
 abbrev pub runHitsFrom : (List ℕ → Bool) → List ℕ → ℕ → List ℕ
-runHitsFrom f s i = walk (placeBy f) (drop i s) i []
+runHitsFrom f s i = walkRuns (placeBy f) (drop i s) i []
 
 -- the places of the runs that pass a test
 unfoldable pub runHits : (List ℕ → Bool) → List ℕ → List ℕ
-unfolding walk
-runHits f l = walk (placeBy f) l 0 []
+unfolding walkRuns
+runHits f l = walkRuns (placeBy f) l 0 []
 
 -- the places of the runs that pass a test, where the first of them is at r, or none is there and r is the end
 abbrev pub hitsAt : (List ℕ → Bool) → List ℕ → ℕ → List ℕ
 hitsAt f s r = cond (ltb r (length s)) (r ∷ runHitsFrom f s (r + runLen (drop r s))) []
 
 -- r is the place of the first run from i on that passes a test, or the end where there is none
-pub record Next (f : List ℕ → Bool) (s : List ℕ) (i r : ℕ) : Type 0 where
+pub record NextRun (f : List ℕ → Bool) (s : List ℕ) (i r : ℕ) : Type 0 where
   pub passes : r < length s → f (part r (r + runLen (drop r s)) s) ≡ true
   pub hits : runHitsFrom f s i ≡ hitsAt f s r
