@@ -1,4 +1,4 @@
--- rebuild_calls. Assumes nothing.
+-- `rebuild_calls`: from each call line a walk up takes in the stores that feed it. Assumes nothing.
 use Prim.Native.Nat.{ℕ, zero, suc, _+_, _-_}
 use mathlib.Core.Bool.{Bool, true, false, cond, not, _&&_, _||_}
 use mathlib.Core.List.{List, [], _∷_, _++_}

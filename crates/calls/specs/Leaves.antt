@@ -1,4 +1,4 @@
--- What rebuild_calls asks of single lines. Assumes nothing.
+-- What `rebuild_calls` asks of single lines, as a record: `parse`, `reads_in`, `replace_reg`, `occurrence_context` and the others. Assumes nothing.
 use Prim.Native.Nat.{ℕ}
 use mathlib.Core.Bool.{Bool}
 use mathlib.Core.List.{List}

@@ -1,4 +1,5 @@
--- What rebuild_calls asks of lines, by any reading. Assumes nothing.
+-- What `rebuild_calls` asks of lines, by any reading: `parse`, `reads_in`, `replace_reg`, `occurrence_context`, `paren_if_needed`,
+-- `breaks_dependency`, `is_control_header`, `starts_statement`, `block_ids`. Assumes nothing.
 use Prim.Native.Nat.{ℕ}
 use mathlib.Core.Bool.{Bool, cond}
 use mathlib.Core.List.{List, [], _∷_, reverse}

@@ -1,4 +1,4 @@
--- The removal of lines that declare globals. Assumes nothing.
+-- `lines.retain` in `optimize`: lines that declare globals go. Assumes nothing.
 use Prim.Native.Nat.{ℕ}
 use mathlib.Core.Bool.{Bool, cond, _||_}
 use mathlib.Core.List.{List, [], _∷_}

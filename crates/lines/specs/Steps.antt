@@ -1,4 +1,4 @@
--- The first step, from a text to its lines, and the last, from lines to a text. Assumes nothing.
+-- `text.lines()`, `keep_ending` and `lines.join` in `optimize`: from a text to its lines, and from lines to a text. Assumes nothing.
 use Prim.Native.Nat.{ℕ, zero, suc, _+_, _-_}
 use Prim.Native.Char.{code}
 use mathlib.Core.Bool.{Bool, true, false, cond, not, _&&_}

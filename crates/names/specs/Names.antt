@@ -1,4 +1,4 @@
--- The names of registers, phis and temps. Assumes nothing.
+-- `reg_name`, `phi_name`, `is_temp_name`, `is_simple_ident`: the names of registers, phis, temps and others. Assumes nothing.
 use Prim.Native.Nat.{ℕ, zero, suc, _+_, _-_, _*_, _/_, _%_, _^_}
 use Prim.Native.Char.{code}
 use mathlib.Core.Bool.{Bool, false, cond, not, _&&_, true}

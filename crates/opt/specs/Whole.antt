@@ -1,4 +1,4 @@
--- All passes in order. Assumes nothing.
+-- `optimize`: the removal and the six passes in their order. Assumes nothing.
 use Prim.Native.Nat.{ℕ}
 use mathlib.Core.List.{List}
 use Rattle.globals.specs.Globals.{removeGlobals}

@@ -1,4 +1,4 @@
--- Reading a line: a declaration, a store with its register and value, or other. Assumes nothing.
+-- `parse` and `Line::text`: a line is a declaration, a store with its register and value, or other. Assumes nothing.
 use Prim.Native.Nat.{ℕ, _+_, _-_}
 use Prim.Native.Char.{code}
 use mathlib.Core.Bool.{Bool, true, false, cond, not, _&&_}

@@ -1,4 +1,4 @@
--- Passes one after the other, and the text that comes out. Assumes nothing.
+-- `optimize` around its passes: the text is split, its lines go through, and they are joined. Assumes nothing.
 use Prim.Native.Nat.{ℕ}
 use Prim.Native.Char.{code}
 use mathlib.Core.List.{List}

@@ -1,4 +1,4 @@
--- What a line reads and stores. Assumes nothing.
+-- `reads_in(&parse(line))`, and what a line stores. Assumes nothing.
 use Prim.Native.Nat.{ℕ}
 use mathlib.Core.Bool.{Bool, true, false, _||_}
 use mathlib.Core.List.{List, [], _∷_}

@@ -1,4 +1,4 @@
--- The passes by number. Assumes nothing.
+-- The passes by the numbers of the pass entry, 1 to 6, and the removal as 0. Assumes nothing.
 use Prim.Native.Nat.{ℕ}
 use mathlib.Core.Bool.{cond}
 use mathlib.Core.List.{List}

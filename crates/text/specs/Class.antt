@@ -1,4 +1,4 @@
--- The classes of bytes.
+-- `is_ident_byte`, the quotes of `strip_lexical` and its `regex_prev`: the classes of bytes.
 use Prim.Native.Nat.{ℕ}
 use Prim.Native.Char.{code}
 use mathlib.Core.Bool.{Bool, _||_}

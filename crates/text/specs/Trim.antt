@@ -1,4 +1,4 @@
--- A text without the white space at its ends. A white space is the well-formed sequence of a code point of White_Space; it has at most 3 bytes.
+-- `str::trim`, `trim_start`, `trim_end`: a text without the white space at its ends. A white space is the well-formed sequence of a code point of White_Space; it has at most 3 bytes.
 use Prim.Native.Nat.{ℕ, zero, suc, _+_, _-_, _*_, _%_}
 use mathlib.Core.Bool.{Bool, true, false, cond, _&&_}
 use mathlib.Core.List.{List, [], _∷_}

@@ -1,4 +1,4 @@
--- Unicode's White_Space, by ranges of code points.
+-- `char::is_whitespace`: Unicode's White_Space, by ranges of code points.
 use Prim.Native.Nat.{ℕ}
 use mathlib.Core.Bool.{Bool, true, false, _&&_, _||_}
 use lib.Dec.{eqb}

@@ -1,4 +1,4 @@
--- The runs of name bytes of a text, and what it reads. Assumes nothing.
+-- `reads_in` of a text: its runs of name bytes that are registers. Assumes nothing.
 use Prim.Native.Nat.{ℕ, suc}
 use mathlib.Core.Bool.{Bool, cond}
 use mathlib.Core.List.{List, [], _∷_, _++_}
