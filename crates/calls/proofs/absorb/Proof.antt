@@ -12,47 +12,36 @@ use Rattle.calls.proofs.put_in.Reads as put-in-reads
 use Rattle.calls.proofs.read_later.Reads as read-later-reads
 use Rattle.reading.proofs.use_of.Reads as use-of-reads
 
--- src/lib.rt:213:9
 use-of-requires : tie.Need-use-of-requires
 use-of-requires c κs = search needs
 
--- src/lib.rt:215:9
 returns : tie.Need-returns
 returns c = let a = c .before .before .before .before .before .before .before .before .before .before .args in as-end refl (absorb-reads plain (a .line .now) (a .reg .0) (a .value .now) (linesOf (a .below .now)) (linesOf (a .taken .now)) (a .owner .now) _ (c .before .before .use-of .ensures .0) (c .if1 .taken))
 
--- src/lib.rt:217:8
 read-later-requires : tie.Need-read-later-requires
 read-later-requires c κs = search needs
 
--- src/lib.rt:218:9
 returns-2 : tie.Need-returns-2
 returns-2 c = let a = c .before .before .before .before .before .before .before .before .before .before .before .before .args in as-end refl (absorb-later plain (a .line .now) (a .reg .0) (a .value .now) (linesOf (a .below .now)) (linesOf (a .taken .now)) (a .owner .now) _ (c .before .before .before .before .use-of .ensures .0) (c .before .before .if1 .left) _ (c .before .read-later .ensures) (c .if2 .taken))
 
--- src/lib.rt:220:8
 breaks-above-requires : tie.Need-breaks-above-requires
 breaks-above-requires c κs = search needs
 
--- src/lib.rt:221:9
 same-length : tie.Need-same-length
 same-length c = search needs
 
--- src/lib.rt:221:9
 returns-3 : tie.Need-returns-3
 returns-3 c = let a = c .before .before .before .before .before .before .before .before .before .before .before .before .before .before .before .before .before .args in as-end (c .before .before .before .breaks-above .kept .1 .1 .1 .0) (absorb-breaks plain (a .line .now) (a .reg .0) (a .value .now) (linesOf (a .below .now)) (linesOf (a .taken .now)) (a .owner .now) _ (c .before .before .before .before .before .before .before .before .before .use-of .ensures .0) (c .before .before .before .before .before .before .before .if1 .left) _ (c .before .before .before .before .before .before .read-later .ensures) (c .before .before .before .before .before .if2 .left) _ (c .before .before .before .breaks-above .ensures) (c .if3 .taken))
 
--- src/lib.rt:223:5
 put-in-requires : tie.Need-put-in-requires
 put-in-requires c κs = search needs
 
--- src/lib.rt:200:1
 same-length-2 : tie.Need-same-length-2
 same-length-2 c = search needs
 
--- src/lib.rt:200:1
 same-length-3 : tie.Need-same-length-3
 same-length-3 c = search needs
 
--- src/lib.rt:200:1
 returns-4 : tie.Need-returns-4
 returns-4 c = let a = c .before .before .before .before .before .before .before .before .before .before .before .before .before .before .before .before .before .before .before .before .before .before .before .before .args in put-step (absorb-puts plain (a .line .now) (a .reg .0) (a .value .now) (linesOf (a .below .now)) (linesOf (a .taken .now)) (a .owner .now) _ (c .before .before .before .before .before .before .before .before .before .before .before .before .before .before .before .before .use-of .ensures .0) (c .before .before .before .before .before .before .before .before .before .before .before .before .before .before .if1 .left) _ (c .before .before .before .before .before .before .before .before .before .before .before .before .before .read-later .ensures) (c .before .before .before .before .before .before .before .before .before .before .before .before .if2 .left) _ (c .before .before .before .before .before .before .before .before .before .before .breaks-above .ensures) (c .before .before .before .before .before .before .before .if3 .left)) (put-after (c .before .before .before .before .before .before .before .before .before .before .breaks-above .kept .1 .1 .1 .0) (c .before .before .before .before .put-in .ensures))
 

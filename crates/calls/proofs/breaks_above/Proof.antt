@@ -13,27 +13,21 @@ use Rattle.calls.proofs.breaks_taken.Reads as breaks-taken-reads
 use Rattle.lexical.proofs.strip_lexical.Reads as strip-lexical-reads
 use Rattle.lines.proofs.cut.Reads as cut-reads
 
--- src/lib.rt:155:9
 returns : tie.Need-returns
 returns c = let a = c .before .before .before .before .before .args in sym (down-end (breaks (a .value .now)) (a .text .now) 0 (a .owner .now) (omega (arith, c .if1 .taken)))
 
--- src/lib.rt:157:9
 strip-lexical-requires : tie.Need-strip-lexical-requires
 strip-lexical-requires c κs = omega (arith, c .before .before .before .before .before .before .pre, strip-length (c .before .before .before .before .before .before .args .value .now))
 
--- src/lib.rt:158:25
 cut-requires : tie.Need-cut-requires
 cut-requires c κs = search needs
 
--- src/lib.rt:158:5
 breaks-taken-requires : tie.Need-breaks-taken-requires
 breaks-taken-requires c κs = search needs
 
--- src/lib.rt:150:1
 same-length : tie.Need-same-length
 same-length c = search needs
 
--- src/lib.rt:150:1
 returns-2 : tie.Need-returns-2
 returns-2 c = let a = c .before .before .before .before .before .before .before .before .before .before .before .before .args in down-clean (a .value .now) _ (front-is (c .before .before .before .before .before .strip-lexical .ensures) (c .before .cut .ensures)) (linesOf (a .text .now)) (a .owner .now) _ (c .breaks-taken .ensures)
 

@@ -7,15 +7,12 @@ use Rattle.calls.proofs.breaks_if.Reads as reads
 use Rattle.calls.proofs.breaks_if.Lts as lts
 use Rattle.forms.proofs.breaks.Reads as breaks-reads
 
--- src/lib.rt:63:9
 returns : tie.Need-returns
 returns c = and-no {a = c .before .before .before .before .args .taken} _ (not-true _ (c .if1 .taken))
 
--- src/lib.rt:65:5
 breaks-requires : tie.Need-breaks-requires
 breaks-requires c κs = search needs
 
--- src/lib.rt:59:1
 returns-2 : tie.Need-returns-2
 returns-2 c = and-yes {a = c .before .before .before .before .before .args .taken} (not-false _ (c .before .if1 .left)) (c .breaks .ensures)
 

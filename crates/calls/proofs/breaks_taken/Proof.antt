@@ -24,73 +24,57 @@ Inv-loop value clean text owner i₀ j₀ i j = (i ≤ length text) × ((j ≤ l
 abbrev μ-loop : tie.MeasureT-loop
 μ-loop value clean text owner i₀ j₀ i j = length text - i
 
--- src/lib.rt:75:5
 loop-holds : tie.Need-loop-holds Inv-loop μ-loop
 loop-holds c = (omega arith, (omega arith, refl))
 
--- src/lib.rt:77:13
 returns : tie.Need-returns Inv-loop μ-loop
 returns c = sym (down-short _ _ _ _ (c .if1 .taken)) ∙ c .before .before .loop .inv .1 .1
 
--- src/lib.rt:79:13
 find-byte-requires : tie.Need-find-byte-requires Inv-loop μ-loop
 find-byte-requires c κs = search needs
 
--- src/lib.rt:80:21
 mul-taken : tie.Need-mul-taken Inv-loop μ-loop
 mul-taken c = search needs
 
--- src/lib.rt:80:21
 shared-slice-read-taken : tie.Need-shared-slice-read-taken Inv-loop μ-loop
 shared-slice-read-taken c = omega arith
 
--- src/lib.rt:80:33
 sub-taken : tie.Need-sub-taken Inv-loop μ-loop
 sub-taken c = omega arith
 
--- src/lib.rt:81:43
 sub-breaks-if : tie.Need-sub-breaks-if Inv-loop μ-loop
 sub-breaks-if c = omega (arith, c .before .find-byte .ensures)
 
--- src/lib.rt:81:43
 part-breaks-if-start : tie.Need-part-breaks-if-start Inv-loop μ-loop
 part-breaks-if-start c = omega (arith, c .before .find-byte .ensures)
 
--- src/lib.rt:81:43
 part-breaks-if-end : tie.Need-part-breaks-if-end Inv-loop μ-loop
 part-breaks-if-end c = omega (arith, find-le 10 (c .before .before .before .before .before .before .before .before .before .args .text .now) (c .before .before .before .before .loop .i) (c .before .find-byte .result) (c .before .before .before .before .loop .inv .0) (c .before .find-byte .ensures))
 
--- src/lib.rt:81:12
 breaks-if-requires : tie.Need-breaks-if-requires Inv-loop μ-loop
 breaks-if-requires c κs = search needs
 
--- src/lib.rt:82:13
 returns-2 : tie.Need-returns-2 Inv-loop μ-loop
 returns-2 c =
     let l = c .before .before .before .before .before .before .before .loop in
     let f = c .before .before .before .before .find-byte in
     sym (down-hit _ _ _ (l .i) (f .result) (l .j) (c .before .before .before .before .before .before .loop-test .taken) (f .ensures) (c .before .before .before .before .before .if1 .left) (so (c .before .breaks-if .ensures) (c .if2 .taken))) ∙ l .inv .1 .1
 
--- src/lib.rt:84:9
 add-j : tie.Need-add-j Inv-loop μ-loop
 add-j c = omega arith
 
--- src/lib.rt:85:9
 after-requires : tie.Need-after-requires Inv-loop μ-loop
 after-requires c κs = search needs
 
--- src/lib.rt:75:5
 loop-less : tie.Need-loop-less Inv-loop μ-loop
 loop-less c = omega (arith, c .after .ensures, c .before .before .before .before .before .find-byte .ensures)
 
--- src/lib.rt:75:5
 loop-again : tie.Need-loop-again Inv-loop μ-loop
 loop-again c =
     let l = c .before .before .before .before .before .before .before .before .loop in
     let f = c .before .before .before .before .before .find-byte in
     (omega (arith, c .after .ensures), (omega (arith, c .before .before .before .before .before .before .if1 .left), sym (down-on _ _ _ (l .i) (f .result) (l .j) (c .before .before .before .before .before .before .before .loop-test .taken) (f .ensures) (c .before .before .before .before .before .before .if1 .left) (so (c .before .before .breaks-if .ensures) (c .before .if2 .left)) _ _ (c .after .ensures) refl) ∙ l .inv .1 .1))
 
--- src/lib.rt:70:1
 returns-3 : tie.Need-returns-3 Inv-loop μ-loop
 returns-3 c = sym (down-end _ _ _ _ (c .loop-test .left)) ∙ c .before .loop .inv .1 .1
 

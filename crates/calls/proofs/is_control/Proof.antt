@@ -9,19 +9,15 @@ use Rattle.calls.proofs.is_control.Lts as lts
 use Rattle.calls.proofs.may_control.Reads as may-control-reads
 use Rattle.forms.proofs.is_control_header.Reads as is-control-header-reads
 
--- src/lib.rt:56:9
 may-control-requires : tie.Need-may-control-requires
 may-control-requires c κs = search needs
 
--- src/lib.rt:57:9
 returns : tie.Need-returns
 returns c = control-not _ (so (c .before .may-control .ensures) (not-true _ (c .if1 .taken)))
 
--- src/lib.rt:59:5
 is-control-header-requires : tie.Need-is-control-header-requires
 is-control-header-requires c κs = search needs
 
--- src/lib.rt:53:1
 returns-2 : tie.Need-returns-2
 returns-2 c = search needs
 

@@ -11,31 +11,24 @@ use Rattle.calls.proofs.is_second.Reads as is-second-reads
 use Rattle.lines.proofs.byte_at.Reads as byte-at-reads
 use Rattle.calls.proofs.has_byte.Reads as has-byte-reads
 
--- src/lib.rt:43:18
 byte-at-requires : tie.Need-byte-at-requires
 byte-at-requires c κs = search needs
 
--- src/lib.rt:43:8
 is-second-requires : tie.Need-is-second-requires
 is-second-requires c κs = search needs
 
--- src/lib.rt:44:9
 returns : tie.Need-returns
 returns c = may-second _ _ (c .before .is-second .ensures ∙ ap (λ (x : ℕ). isSecond x) (c .before .before .byte-at .ensures)) (c .if1 .taken)
 
--- src/lib.rt:46:8
 has-byte-requires : tie.Need-has-byte-requires
 has-byte-requires c κs = search needs
 
--- src/lib.rt:47:9
 returns-2 : tie.Need-returns-2
 returns-2 c = may-colon _ _ (c .before .before .before .is-second .ensures ∙ ap (λ (x : ℕ). isSecond x) (c .before .before .before .before .byte-at .ensures)) (c .before .before .if1 .left) _ (c .before .has-byte .ensures) (c .if2 .taken)
 
--- src/lib.rt:49:5
 has-byte-requires-2 : tie.Need-has-byte-requires-2
 has-byte-requires-2 c κs = search needs
 
--- src/lib.rt:40:1
 returns-3 : tie.Need-returns-3
 returns-3 c = may-brace _ _ (c .before .before .before .before .is-second .ensures ∙ ap (λ (x : ℕ). isSecond x) (c .before .before .before .before .before .byte-at .ensures)) (c .before .before .before .if1 .left) _ (c .before .before .has-byte .ensures) (c .before .if2 .left) _ (c .has-byte2 .ensures)
 

@@ -8,35 +8,27 @@ use Rattle.calls.proofs.may_go.Tie as tie
 use Rattle.calls.proofs.may_go.Reads as reads
 use Rattle.calls.proofs.may_go.Lts as lts
 
--- src/lib.rt:187:9
 returns : tie.Need-returns
 returns c = search needs
 
--- src/lib.rt:189:8
 mul-if2 : tie.Need-mul-if2
 mul-if2 c = search needs
 
--- src/lib.rt:189:8
 shared-slice-read-if2 : tie.Need-shared-slice-read-if2
 shared-slice-read-if2 c = search needs
 
--- src/lib.rt:189:21
 mul-if2-2 : tie.Need-mul-if2-2
 mul-if2-2 c = search needs
 
--- src/lib.rt:189:21
 shared-slice-read-if2-2 : tie.Need-shared-slice-read-if2-2
 shared-slice-read-if2-2 c = search needs
 
--- src/lib.rt:190:9
 returns-2 : tie.Need-returns-2
 returns-2 c = and-yes (ap not (c .before .before .before .if1 .left)) (and-no _ (ne-eqb _ _ (c .if2 .taken)))
 
--- src/lib.rt:192:5
 shared-slice-read-result : tie.Need-shared-slice-read-result
 shared-slice-read-result c = search needs
 
--- src/lib.rt:182:1
 returns-3 : tie.Need-returns-3
 returns-3 c = and-yes (ap not (c .before .before .before .before .if1 .left)) (and-yes (eq-eqb _ _ (c .before .if2 .left)) refl)
 

@@ -9,19 +9,15 @@ use Rattle.calls.proofs.push_line.Lts as lts
 use Rattle.lines.proofs.put.Reads as put-reads
 use Rattle.lines.proofs.put_byte.Reads as put-byte-reads
 
--- src/lib.rt:283:9
 put-requires : tie.Need-put-requires
 put-requires c κs = omega (arith, c .before .before .before .pre, line-long (c .before .before .before .args .line .now))
 
--- src/lib.rt:284:5
 put-byte-requires : tie.Need-put-byte-requires
 put-byte-requires c κs = omega (arith, c .before .before .before .before .before .before .before .pre, line-long (c .before .before .before .before .before .before .before .args .line .now), c .before .before .before .put .ensures .place, wrote-length (c .before .before .before .put .ensures))
 
--- src/lib.rt:279:1
 same-length : tie.Need-same-length
 same-length c = search needs
 
--- src/lib.rt:279:1
 returns : tie.Need-returns
 returns c = wrote-as (line-is _) (wrote-then (c .before .before .before .before .before .before .put .ensures) (c .before .before .put-byte .ensures))
 

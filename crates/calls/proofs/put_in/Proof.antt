@@ -17,30 +17,24 @@ use Rattle.words.proofs.after_new.Reads as after-new-reads
 use Rattle.words.proofs.as_target.Reads as as-target-reads
 use Rattle.words.proofs.find_reg.Reads as find-reg-reads
 
--- src/lib.rt:107:11
 find-reg-requires : tie.Need-find-reg-requires
 find-reg-requires c κs = search needs
 
--- src/lib.rt:108:25
 enum-known-w : tie.Need-enum-known-w
 enum-known-w c = search needs
 
--- src/lib.rt:109:16
 as-target-requires : tie.Need-as-target-requires
 as-target-requires c κs = search needs
 
--- src/lib.rt:110:17
 returns : tie.Need-returns
 returns c =
     let a = c .before .before .before .before .before .before .before .before .before .before .args in
     let w = c .before .before .before .w .given in
     as-end refl (put-target plain (a .line .now) (a .reg .0) (a .value .now) (w .0 .0) (sym (c .before .before .before .before .before .find-reg .ensures) ∙ w .1) (so (c .before .as-target .ensures) (c .if1 .taken)))
 
--- src/lib.rt:112:17
 after-new-requires : tie.Need-after-new-requires
 after-new-requires c κs = search needs
 
--- src/lib.rt:113:17
 put-value-requires : tie.Need-put-value-requires
 put-value-requires c κs =
     let a = c .before .before .before .before .before .before .before .before .before .before .before .before .before .args in
@@ -49,19 +43,15 @@ put-value-requires c κs =
     let n = paren-length (a .value .now) (c .before .before .after-new .result) in
     (omega (arith, p .0, n), omega (arith, p .1, n, replace-hit (a .reg .0) (a .line .now) (parenIfNeeded (a .value .now) (c .before .before .after-new .result)) (w .0 .0) (sym (c .before .before .before .before .before .before .before .before .find-reg .ensures) ∙ w .1)))
 
--- src/lib.rt:116:28
 enum-told : tie.Need-enum-told
 enum-told c = search needs
 
--- src/lib.rt:103:1
 same-length : tie.Need-same-length
 same-length c = search needs
 
--- src/lib.rt:103:1
 same-length-2 : tie.Need-same-length-2
 same-length-2 c = search needs
 
--- src/lib.rt:103:1
 returns-2 : tie.Need-returns-2
 returns-2 c =
     let a = c .before .before .before .before .before .before .before .before .before .before .before .before .before .before .before .before .before .before .args in
@@ -69,7 +59,6 @@ returns-2 c =
     let p = c .before .before .before .before .put-value .ensures in
     as-puts (put-one plain (a .line .now) (a .reg .0) (a .value .now) (w .0 .0) (sym (c .before .before .before .before .before .before .before .before .before .before .before .before .before .find-reg .ensures) ∙ w .1) (so (c .before .before .before .before .before .before .before .before .before .as-target .ensures) (c .before .before .before .before .before .before .before .before .if1 .left)) _ (c .before .before .before .before .before .before .before .after-new .ensures)) (wrote-length (p .0)) (p .1)
 
--- src/lib.rt:103:1
 returns-3 : tie.Need-returns-3
 returns-3 c =
     let a = c .before .before .before .before .before .before .before .args in

@@ -15,30 +15,24 @@ use Rattle.forms.proofs.put_paren.Reads as put-paren-reads
 use Rattle.lines.proofs.cut.Reads as cut-reads
 use Rattle.words.proofs.put_replaced.Reads as put-replaced-reads
 
--- src/lib.rt:98:9
 put-paren-requires : tie.Need-put-paren-requires
 put-paren-requires c κs = search needs
 
--- src/lib.rt:99:34
 cut-requires : tie.Need-cut-requires
 cut-requires c κs = search needs
 
--- src/lib.rt:99:5
 put-replaced-requires : tie.Need-put-replaced-requires
 put-replaced-requires c κs =
     let a = c .before .before .before .before .before .before .before .before .before .before .before .args in
     let e = front-is (c .before .before .before .before .before .put-paren .ensures) (c .before .cut .ensures) in
     omega (arith, c .before .before .before .before .before .before .before .before .before .before .before .pre .1, ap (λ (t : List ℕ). length (replacedAt (a .w .from) (a .w .to) (a .line .now) t)) e)
 
--- src/lib.rt:92:1
 same-length : tie.Need-same-length
 same-length c = search needs
 
--- src/lib.rt:92:1
 same-length-2 : tie.Need-same-length-2
 same-length-2 c = search needs
 
--- src/lib.rt:92:1
 returns : tie.Need-returns
 returns c =
     let a = c .before .before .before .before .before .before .before .before .before .before .before .before .before .before .args in

@@ -25,54 +25,42 @@ Inv-loop below reg i₀ i = (i ≤ length below) × (readLater (leavesOf plain) 
 abbrev μ-loop : tie.MeasureT-loop
 μ-loop below reg i₀ i = length below - i
 
--- src/lib.rt:41:5
 loop-holds : tie.Need-loop-holds Inv-loop μ-loop
 loop-holds c = (omega arith, refl)
 
--- src/lib.rt:42:13
 find-byte-requires : tie.Need-find-byte-requires Inv-loop μ-loop
 find-byte-requires c κs = search needs
 
--- src/lib.rt:43:29
 sub-is-header : tie.Need-sub-is-header Inv-loop μ-loop
 sub-is-header c = omega arith
 
--- src/lib.rt:43:29
 part-is-header-start : tie.Need-part-is-header-start Inv-loop μ-loop
 part-is-header-start c = omega arith
 
--- src/lib.rt:43:29
 part-is-header-end : tie.Need-part-is-header-end Inv-loop μ-loop
 part-is-header-end c = omega (arith, find-le 10 (c .before .before .before .before .args .below .now) (c .before .before .loop .i) (c .find-byte .result) (c .before .before .loop .inv .0) (c .find-byte .ensures))
 
--- src/lib.rt:43:12
 is-header-requires : tie.Need-is-header-requires Inv-loop μ-loop
 is-header-requires c κs = search needs
 
--- src/lib.rt:44:13
 returns : tie.Need-returns Inv-loop μ-loop
 returns c =
     let l = c .before .before .before .before .before .loop in
     let f = c .before .before .before .find-byte in
     sym (later-header plain _ _ (l .i) (f .result) (c .before .before .before .before .loop-test .taken) (f .ensures) (so (c .before .is-header .ensures) (c .if1 .taken))) ∙ l .inv .1
 
--- src/lib.rt:46:33
 sub-use-of : tie.Need-sub-use-of Inv-loop μ-loop
 sub-use-of c = omega (arith, c .before .before .before .find-byte .ensures)
 
--- src/lib.rt:46:33
 part-use-of-start : tie.Need-part-use-of-start Inv-loop μ-loop
 part-use-of-start c = omega (arith, c .before .before .before .find-byte .ensures)
 
--- src/lib.rt:46:33
 part-use-of-end : tie.Need-part-use-of-end Inv-loop μ-loop
 part-use-of-end c = omega (arith, find-le 10 (c .before .before .before .before .before .before .before .args .below .now) (c .before .before .before .before .before .loop .i) (c .before .before .before .find-byte .result) (c .before .before .before .before .before .loop .inv .0) (c .before .before .before .find-byte .ensures))
 
--- src/lib.rt:46:13
 use-of-requires : tie.Need-use-of-requires Inv-loop μ-loop
 use-of-requires c κs = search needs
 
--- src/lib.rt:48:13
 returns-2 : tie.Need-returns-2 Inv-loop μ-loop
 returns-2 c =
     let l = c .before .before .before .before .before .before .before .before .before .loop in
@@ -80,7 +68,6 @@ returns-2 c =
     let u = c .before .before .use-of .ensures in
     sym (later-read plain _ _ (l .i) (f .result) (c .before .before .before .before .before .before .before .before .loop-test .taken) (f .ensures) (so (c .before .before .before .before .before .is-header .ensures) (c .before .before .before .before .if1 .left)) _ (u .0) (c .if2 .taken)) ∙ l .inv .1
 
--- src/lib.rt:51:13
 returns-3 : tie.Need-returns-3 Inv-loop μ-loop
 returns-3 c =
     let l = c .before .before .before .before .before .before .before .before .before .before .loop in
@@ -88,15 +75,12 @@ returns-3 c =
     let u = c .before .before .before .use-of .ensures in
     sym (later-store plain _ _ (l .i) (f .result) (c .before .before .before .before .before .before .before .before .before .loop-test .taken) (f .ensures) (so (c .before .before .before .before .before .before .is-header .ensures) (c .before .before .before .before .before .if1 .left)) _ (u .0) (c .before .if2 .left) _ (u .1) (c .if3 .taken)) ∙ l .inv .1
 
--- src/lib.rt:53:9
 after-requires : tie.Need-after-requires Inv-loop μ-loop
 after-requires c κs = search needs
 
--- src/lib.rt:41:5
 loop-less : tie.Need-loop-less Inv-loop μ-loop
 loop-less c = omega (arith, c .after .ensures, c .before .before .before .before .before .before .before .before .before .find-byte .ensures)
 
--- src/lib.rt:41:5
 loop-again : tie.Need-loop-again Inv-loop μ-loop
 loop-again c =
     let l = c .before .before .before .before .before .before .before .before .before .before .before .loop in
@@ -104,7 +88,6 @@ loop-again c =
     let u = c .before .before .before .before .use-of .ensures in
     (omega (arith, c .after .ensures), sym (later-on plain _ _ (l .i) (f .result) (c .before .before .before .before .before .before .before .before .before .before .loop-test .taken) (f .ensures) (so (c .before .before .before .before .before .before .before .is-header .ensures) (c .before .before .before .before .before .before .if1 .left)) _ (u .0) (c .before .before .if2 .left) _ (u .1) (c .before .if3 .left) _ (c .after .ensures)) ∙ l .inv .1)
 
--- src/lib.rt:37:1
 returns-4 : tie.Need-returns-4 Inv-loop μ-loop
 returns-4 c = sym (later-end plain _ _ _ (c .loop-test .left)) ∙ c .before .loop .inv .1
 

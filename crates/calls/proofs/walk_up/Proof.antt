@@ -40,291 +40,219 @@ abbrev μ-loop : tie.MeasureT-loop
 μ-loop text i below n blocks starts owner₀ stack o top size cur₀ next₀ clean₀ k₀ p₀ h₀ c₀ over₀ steps₀ owner cur next clean k p h c over steps =
     64 - steps
 
--- src/lib.rt:237:5
 loop-holds : tie.Need-loop-holds Inv-loop μ-loop
 loop-holds c = climb-start (c .before .before .before .before .before .before .before .before .pre .0) (c .before .before .before .before .before .before .before .before .pre .1 .0) (c .before .before .before .before .before .before .before .before .pre .1 .1 .0) (c .before .before .before .before .before .before .before .before .pre .1 .1 .1 .0) (c .before .before .before .before .before .before .before .before .pre .1 .1 .1 .1 .0) (c .before .before .before .before .before .before .before .before .pre .1 .1 .1 .1 .1 .0) (c .before .before .before .before .before .before .before .before .pre .1 .1 .1 .1 .1 .1)
 
--- src/lib.rt:238:9
 add-steps : tie.Need-add-steps Inv-loop μ-loop
 add-steps c = omega (arith, step-some (climb-in (c .before .loop .inv) (c .loop-test .taken)))
 
--- src/lib.rt:239:33
 sub-line-start : tie.Need-sub-line-start Inv-loop μ-loop
 sub-line-start c = text-some (climb-in (c .before .loop .inv) (c .loop-test .taken))
 
--- src/lib.rt:239:13
 line-start-requires : tie.Need-line-start-requires Inv-loop μ-loop
 line-start-requires c κs = tt
 
--- src/lib.rt:240:18
 sub-if1 : tie.Need-sub-if1 Inv-loop μ-loop
 sub-if1 c = row-some (climb-in (c .before .before .loop .inv) (c .before .loop-test .taken))
 
--- src/lib.rt:240:12
 mul-if1 : tie.Need-mul-if1 Inv-loop μ-loop
 mul-if1 c = omega (arith, owner-in (climb-in (c .before .before .loop .inv) (c .before .loop-test .taken)), c .before .before .loop .inv .same-owner, c .before .before .loop .inv .ground .n-owner, c .before .before .before .before .before .before .before .before .before .before .before .good)
 
--- src/lib.rt:240:12
 slice-read-if1 : tie.Need-slice-read-if1 Inv-loop μ-loop
 slice-read-if1 c = owner-in (climb-in (c .before .before .before .loop .inv) (c .before .before .loop-test .taken))
 
--- src/lib.rt:241:32
 sub-is-ours : tie.Need-sub-is-ours Inv-loop μ-loop
 sub-is-ours c = row-some (climb-in (c .before .before .before .before .before .loop .inv) (c .before .before .before .before .loop-test .taken))
 
--- src/lib.rt:241:17
 is-ours-requires : tie.Need-is-ours-requires Inv-loop μ-loop
 is-ours-requires c κs = ours-room (climb-in (c .before .before .before .before .before .loop .inv) (c .before .before .before .before .loop-test .taken)) (c .before .if1 .taken)
 
--- src/lib.rt:244:64
 sub-cut : tie.Need-sub-cut Inv-loop μ-loop
 sub-cut c = text-some (climb-in (c .before .before .before .before .before .before .before .loop .inv) (c .before .before .before .before .before .before .loop-test .taken))
 
--- src/lib.rt:244:44
 cut-requires : tie.Need-cut-requires Inv-loop μ-loop
 cut-requires c κs = tt
 
--- src/lib.rt:244:27
 is-header-requires : tie.Need-is-header-requires Inv-loop μ-loop
 is-header-requires c κs = tt
 
--- src/lib.rt:246:13
 sub-k : tie.Need-sub-k Inv-loop μ-loop
 sub-k c = row-some (climb-in (c .before .before .before .before .before .before .before .before .before .loop .inv) (c .before .before .before .before .before .before .before .before .loop-test .taken))
 
--- src/lib.rt:237:5
 loop-less : tie.Need-loop-less Inv-loop μ-loop
 loop-less c = omega (arith, step-some (climb-in (c .before .before .before .before .before .before .before .before .before .loop .inv) (c .before .before .before .before .before .before .before .before .loop-test .taken)))
 
--- src/lib.rt:237:5
 loop-again : tie.Need-loop-again Inv-loop μ-loop
 loop-again c = drop-on (climb-in (c .before .before .before .before .before .before .before .before .before .loop .inv) (c .before .before .before .before .before .before .before .before .loop-test .taken)) (c .before .before .before .before .before .if1 .taken) _ (c .before .before .before .before .before .before .before .line-start .ensures) _ (c .before .before .before .is-ours .ensures) (not-false _ (c .before .before .if2 .left)) _ (c .before .cut .ensures) _ (c .is-header .ensures)
 
--- src/lib.rt:248:38
 sub-line-start-2 : tie.Need-sub-line-start-2 Inv-loop μ-loop
 sub-line-start-2 c = stack-some (climb-in (c .before .before .before .before .loop .inv) (c .before .before .before .loop-test .taken)) (c .if1 .left)
 
--- src/lib.rt:248:17
 line-start-requires-2 : tie.Need-line-start-requires-2 Inv-loop μ-loop
 line-start-requires-2 c κs = tt
 
--- src/lib.rt:249:42
 sub-cut-2 : tie.Need-sub-cut-2 Inv-loop μ-loop
 sub-cut-2 c = stack-some (climb-in (c .before .before .before .before .before .loop .inv) (c .before .before .before .before .loop-test .taken)) (c .before .if1 .left)
 
--- src/lib.rt:249:17
 cut-requires-2 : tie.Need-cut-requires-2 Inv-loop μ-loop
 cut-requires-2 c κs = tt
 
--- src/lib.rt:250:17
 parse-requires : tie.Need-parse-requires Inv-loop μ-loop
 parse-requires c κs = tt
 
--- src/lib.rt:251:36
 enum-known-read : tie.Need-enum-known-read Inv-loop μ-loop
 enum-known-read c = search needs
 
--- src/lib.rt:252:46
 sub-may-go : tie.Need-sub-may-go Inv-loop μ-loop
 sub-may-go c = row-some (climb-in (c .before .before .before .before .before .before .before .before .before .before .loop .inv) (c .before .before .before .before .before .before .before .before .before .loop-test .taken))
 
--- src/lib.rt:252:17
 may-go-requires : tie.Need-may-go-requires Inv-loop μ-loop
 may-go-requires c κs = blocks-in (climb-in (c .before .before .before .before .before .before .before .before .before .before .loop .inv) (c .before .before .before .before .before .before .before .before .before .loop-test .taken))
 
--- src/lib.rt:255:17
 value-of-requires : tie.Need-value-of-requires Inv-loop μ-loop
 value-of-requires c κs = tt
 
--- src/lib.rt:256:17
 cut-requires-3 : tie.Need-cut-requires-3 Inv-loop μ-loop
 cut-requires-3 c κs = tt
 
--- src/lib.rt:257:17
 cut-requires-4 : tie.Need-cut-requires-4 Inv-loop μ-loop
 cut-requires-4 c κs = tt
 
--- src/lib.rt:258:17
 cut-requires-5 : tie.Need-cut-requires-5 Inv-loop μ-loop
 cut-requires-5 c κs = tt
 
--- src/lib.rt:259:61
 mul-absorb : tie.Need-mul-absorb Inv-loop μ-loop
 mul-absorb c = omega (arith, turn-in (climb-in (c .before .before .before .before .before .before .before .before .before .before .before .before .before .before .before .before .before .loop .inv) (c .before .before .before .before .before .before .before .before .before .before .before .before .before .before .before .before .loop-test .taken)), c .before .before .before .before .before .before .before .before .before .before .before .before .before .before .before .before .before .loop .inv .same-owner, c .before .before .before .before .before .before .before .before .before .before .before .before .before .before .before .before .before .loop .inv .ground .n-owner, c .before .before .before .before .before .before .before .before .before .before .before .before .before .before .before .before .before .before .before .before .before .before .before .before .before .before .good)
 
--- src/lib.rt:259:61
 sub-absorb : tie.Need-sub-absorb Inv-loop μ-loop
 sub-absorb c = turn-in (climb-in (c .before .before .before .before .before .before .before .before .before .before .before .before .before .before .before .before .before .loop .inv) (c .before .before .before .before .before .before .before .before .before .before .before .before .before .before .before .before .loop-test .taken))
 
--- src/lib.rt:259:61
 part-absorb-start : tie.Need-part-absorb-start Inv-loop μ-loop
 part-absorb-start c = turn-in (climb-in (c .before .before .before .before .before .before .before .before .before .before .before .before .before .before .before .before .before .before .loop .inv) (c .before .before .before .before .before .before .before .before .before .before .before .before .before .before .before .before .before .loop-test .taken))
 
--- src/lib.rt:259:61
 part-absorb-end : tie.Need-part-absorb-end Inv-loop μ-loop
 part-absorb-end c = omega (arith, c .before .before .before .before .before .before .before .before .before .before .before .before .before .before .before .before .before .before .loop .inv .same-owner, c .before .before .before .before .before .before .before .before .before .before .before .before .before .before .before .before .before .before .loop .inv .ground .n-owner)
 
--- src/lib.rt:259:17
 absorb-requires : tie.Need-absorb-requires Inv-loop μ-loop
 absorb-requires c κs = absorb-room (climb-in (c .before .before .before .before .before .before .before .before .before .before .before .before .before .before .before .before .before .before .before .before .before .loop .inv) (c .before .before .before .before .before .before .before .before .before .before .before .before .before .before .before .before .before .before .before .before .loop-test .taken)) (c .before .before .before .before .before .before .before .before .before .before .before .before .before .before .before .before .before .if1 .left) _ (c .before .before .before .before .before .before .before .before .before .before .before .before .before .before .before .before .line-start2 .ensures) _ (c .before .before .before .before .before .before .before .before .before .before .before .before .before .before .before .cut2 .ensures) (c .before .before .before .before .before .before .before .before .before .before .before .before .read .given .0 .0) (sym (c .before .before .before .before .before .before .before .before .before .before .before .before .before .before .parse .ensures) ∙ c .before .before .before .before .before .before .before .before .before .before .before .before .read .given .1) _ (c .before .before .before .before .before .before .before .before .value-of .ensures) _ (c .before .before .before .before .before .before .before .before .before .before .may-go .ensures) (not-false _ (c .before .before .before .before .before .before .before .before .before .if3 .left)) _ _ _ (c .before .before .before .before .before .before .cut3 .ensures) (c .before .before .before .before .before .cut4 .ensures) (c .before .before .before .before .cut5 .ensures)
 
--- src/lib.rt:260:28
 enum-known-made : tie.Need-enum-known-made Inv-loop μ-loop
 enum-known-made c = search needs
 
--- src/lib.rt:260:45
 enum-told : tie.Need-enum-told Inv-loop μ-loop
 enum-told c = search needs
 
--- src/lib.rt:261:36
 cut-requires-6 : tie.Need-cut-requires-6 Inv-loop μ-loop
 cut-requires-6 c κs = tt
 
--- src/lib.rt:261:13
 put-requires : tie.Need-put-requires Inv-loop μ-loop
 put-requires c κs = new-room (climb-in (c .before .before .before .before .before .before .before .before .before .before .before .before .before .before .before .before .before .before .before .before .before .before .before .before .before .before .before .before .before .before .before .before .loop .inv) (c .before .before .before .before .before .before .before .before .before .before .before .before .before .before .before .before .before .before .before .before .before .before .before .before .before .before .before .before .before .before .before .loop-test .taken)) (c .before .before .before .before .before .before .before .before .before .before .before .before .before .before .before .before .before .before .before .before .before .before .before .before .before .before .before .before .if1 .left) _ (c .before .before .before .before .before .before .before .before .before .before .before .before .before .before .before .before .before .before .before .before .before .before .before .before .before .before .before .line-start2 .ensures) _ (c .before .before .before .before .before .before .before .before .before .before .before .before .before .before .before .before .before .before .before .before .before .before .before .before .before .before .cut2 .ensures) (c .before .before .before .before .before .before .before .before .before .before .before .before .before .before .before .before .before .before .before .before .before .before .before .read .given .0 .0) (sym (c .before .before .before .before .before .before .before .before .before .before .before .before .before .before .before .before .before .before .before .before .before .before .before .before .before .parse .ensures) ∙ c .before .before .before .before .before .before .before .before .before .before .before .before .before .before .before .before .before .before .before .before .before .before .before .read .given .1) _ (c .before .before .before .before .before .before .before .before .before .before .before .before .before .before .before .before .before .before .before .value-of .ensures) _ (c .before .before .before .before .before .before .before .before .before .before .before .before .before .before .before .before .before .before .before .before .before .may-go .ensures) (not-false _ (c .before .before .before .before .before .before .before .before .before .before .before .before .before .before .before .before .before .before .before .before .if3 .left)) _ _ _ (c .before .before .before .before .before .before .before .before .before .before .before .before .before .before .before .before .before .cut3 .ensures) (c .before .before .before .before .before .before .before .before .before .before .before .before .before .before .before .before .cut4 .ensures) (c .before .before .before .before .before .before .before .before .before .before .before .before .before .before .before .cut5 .ensures) (c .before .before .before .before .before .before .before .before .before .before .absorb .ensures) (c .before .before .before .before .made .given .1) _ (c .cut6 .ensures)
 
--- src/lib.rt:262:28
 sub-owner : tie.Need-sub-owner Inv-loop μ-loop
 sub-owner c = turn-in (climb-in (c .before .before .before .before .before .before .before .before .before .before .before .before .before .before .before .before .before .before .before .before .before .before .before .before .before .before .before .before .before .before .before .before .before .before .before .loop .inv) (c .before .before .before .before .before .before .before .before .before .before .before .before .before .before .before .before .before .before .before .before .before .before .before .before .before .before .before .before .before .before .before .before .before .before .loop-test .taken))
 
--- src/lib.rt:262:28
 add-owner : tie.Need-add-owner Inv-loop μ-loop
 add-owner c = omega (arith, turn-in (climb-in (c .before .before .before .before .before .before .before .before .before .before .before .before .before .before .before .before .before .before .before .before .before .before .before .before .before .before .before .before .before .before .before .before .before .before .before .loop .inv) (c .before .before .before .before .before .before .before .before .before .before .before .before .before .before .before .before .before .before .before .before .before .before .before .before .before .before .before .before .before .before .before .before .before .before .loop-test .taken)), c .before .before .before .before .before .before .before .before .before .before .before .before .before .before .before .before .before .before .before .before .before .before .before .before .before .before .before .before .before .before .before .before .before .before .before .loop .inv .same-owner, c .before .before .before .before .before .before .before .before .before .before .before .before .before .before .before .before .before .before .before .before .before .before .before .before .before .before .before .before .before .before .before .before .before .before .before .loop .inv .ground .n-owner, c .before .before .before .before .before .before .before .before .before .before .before .before .before .before .before .before .before .before .before .before .before .before .before .before .before .before .before .before .before .before .before .before .before .before .before .before .before .before .before .before .before .before .before .before .good)
 
--- src/lib.rt:262:19
 sub-owner-2 : tie.Need-sub-owner-2 Inv-loop μ-loop
 sub-owner-2 c = row-some (climb-in (c .before .before .before .before .before .before .before .before .before .before .before .before .before .before .before .before .before .before .before .before .before .before .before .before .before .before .before .before .before .before .before .before .before .before .before .loop .inv) (c .before .before .before .before .before .before .before .before .before .before .before .before .before .before .before .before .before .before .before .before .before .before .before .before .before .before .before .before .before .before .before .before .before .before .loop-test .taken))
 
--- src/lib.rt:262:13
 mul-owner : tie.Need-mul-owner Inv-loop μ-loop
 mul-owner c = omega (arith, owner-in (climb-in (c .before .before .before .before .before .before .before .before .before .before .before .before .before .before .before .before .before .before .before .before .before .before .before .before .before .before .before .before .before .before .before .before .before .before .before .loop .inv) (c .before .before .before .before .before .before .before .before .before .before .before .before .before .before .before .before .before .before .before .before .before .before .before .before .before .before .before .before .before .before .before .before .before .before .loop-test .taken)), c .before .before .before .before .before .before .before .before .before .before .before .before .before .before .before .before .before .before .before .before .before .before .before .before .before .before .before .before .before .before .before .before .before .before .before .loop .inv .same-owner, c .before .before .before .before .before .before .before .before .before .before .before .before .before .before .before .before .before .before .before .before .before .before .before .before .before .before .before .before .before .before .before .before .before .before .before .loop .inv .ground .n-owner, c .before .before .before .before .before .before .before .before .before .before .before .before .before .before .before .before .before .before .before .before .before .before .before .before .before .before .before .before .before .before .before .before .before .before .before .before .before .before .before .before .before .before .before .before .good)
 
--- src/lib.rt:262:13
 slice-write-owner : tie.Need-slice-write-owner Inv-loop μ-loop
 slice-write-owner c = owner-in (climb-in (c .before .before .before .before .before .before .before .before .before .before .before .before .before .before .before .before .before .before .before .before .before .before .before .before .before .before .before .before .before .before .before .before .before .before .before .loop .inv) (c .before .before .before .before .before .before .before .before .before .before .before .before .before .before .before .before .before .before .before .before .before .before .before .before .before .before .before .before .before .before .before .before .before .before .loop-test .taken))
 
--- src/lib.rt:263:64
 sub-cut-3 : tie.Need-sub-cut-3 Inv-loop μ-loop
 sub-cut-3 c = text-some (climb-in (c .before .before .before .before .before .before .before .before .before .before .before .before .before .before .before .before .before .before .before .before .before .before .before .before .before .before .before .before .before .before .before .before .before .before .before .loop .inv) (c .before .before .before .before .before .before .before .before .before .before .before .before .before .before .before .before .before .before .before .before .before .before .before .before .before .before .before .before .before .before .before .before .before .before .loop-test .taken))
 
--- src/lib.rt:263:44
 cut-requires-7 : tie.Need-cut-requires-7 Inv-loop μ-loop
 cut-requires-7 c κs = tt
 
--- src/lib.rt:263:27
 is-header-requires-2 : tie.Need-is-header-requires-2 Inv-loop μ-loop
 is-header-requires-2 c κs = tt
 
--- src/lib.rt:266:13
 sub-k-2 : tie.Need-sub-k-2 Inv-loop μ-loop
 sub-k-2 c = row-some (climb-in (c .before .before .before .before .before .before .before .before .before .before .before .before .before .before .before .before .before .before .before .before .before .before .before .before .before .before .before .before .before .before .before .before .before .before .before .before .before .loop .inv) (c .before .before .before .before .before .before .before .before .before .before .before .before .before .before .before .before .before .before .before .before .before .before .before .before .before .before .before .before .before .before .before .before .before .before .before .before .loop-test .taken))
 
--- src/lib.rt:237:5
 loop-less-2 : tie.Need-loop-less-2 Inv-loop μ-loop
 loop-less-2 c = omega (arith, step-some (climb-in (c .before .before .before .before .before .before .before .before .before .before .before .before .before .before .before .before .before .before .before .before .before .before .before .before .before .before .before .before .before .before .before .before .before .before .before .before .before .loop .inv) (c .before .before .before .before .before .before .before .before .before .before .before .before .before .before .before .before .before .before .before .before .before .before .before .before .before .before .before .before .before .before .before .before .before .before .before .before .loop-test .taken)))
 
--- src/lib.rt:237:5
 loop-again-2 : tie.Need-loop-again-2 Inv-loop μ-loop
 loop-again-2 c = absorb-on (climb-in (c .before .before .before .before .before .before .before .before .before .before .before .before .before .before .before .before .before .before .before .before .before .before .before .before .before .before .before .before .before .before .before .before .before .before .before .before .before .loop .inv) (c .before .before .before .before .before .before .before .before .before .before .before .before .before .before .before .before .before .before .before .before .before .before .before .before .before .before .before .before .before .before .before .before .before .before .before .before .loop-test .taken)) (c .before .before .before .before .before .before .before .before .before .before .before .before .before .before .before .before .before .before .before .before .before .before .before .before .before .before .before .before .before .before .before .before .before .if1 .left) _ (c .before .before .before .before .before .before .before .before .before .before .before .before .before .before .before .before .before .before .before .before .before .before .before .before .before .before .before .before .before .before .before .before .line-start2 .ensures) _ (c .before .before .before .before .before .before .before .before .before .before .before .before .before .before .before .before .before .before .before .before .before .before .before .before .before .before .before .before .before .before .before .cut2 .ensures) (c .before .before .before .before .before .before .before .before .before .before .before .before .before .before .before .before .before .before .before .before .before .before .before .before .before .before .before .before .read .given .0 .0) (sym (c .before .before .before .before .before .before .before .before .before .before .before .before .before .before .before .before .before .before .before .before .before .before .before .before .before .before .before .before .before .before .parse .ensures) ∙ c .before .before .before .before .before .before .before .before .before .before .before .before .before .before .before .before .before .before .before .before .before .before .before .before .before .before .before .before .read .given .1) _ (c .before .before .before .before .before .before .before .before .before .before .before .before .before .before .before .before .before .before .before .before .before .before .before .before .value-of .ensures) _ (c .before .before .before .before .before .before .before .before .before .before .before .before .before .before .before .before .before .before .before .before .before .before .before .before .before .before .may-go .ensures) (not-false _ (c .before .before .before .before .before .before .before .before .before .before .before .before .before .before .before .before .before .before .before .before .before .before .before .before .before .if3 .left)) _ _ _ (c .before .before .before .before .before .before .before .before .before .before .before .before .before .before .before .before .before .before .before .before .before .before .cut3 .ensures) (c .before .before .before .before .before .before .before .before .before .before .before .before .before .before .before .before .before .before .before .before .before .cut4 .ensures) (c .before .before .before .before .before .before .before .before .before .before .before .before .before .before .before .before .before .before .before .before .cut5 .ensures) (c .before .before .before .before .before .before .before .before .before .before .before .before .before .before .before .absorb .ensures) (c .before .before .before .before .before .before .before .before .before .made .given .1) _ (c .before .before .before .before .before .cut6 .ensures) (c .before .before .before .before .put .ensures) _ (c .before .before .before .before .before .before .before .before .before .before .before .before .before .before .before .before .before .before .before .before .before .before .before .before .before .before .before .before .before .before .before .before .before .before .before .line-start .ensures) _ (c .before .cut7 .ensures) _ (c .is-header2 .ensures)
 
--- src/lib.rt:208:1
 same-length : tie.Need-same-length Inv-loop μ-loop
 same-length c = c .before .loop .inv .same-owner
 
--- src/lib.rt:208:1
 same-length-2 : tie.Need-same-length-2 Inv-loop μ-loop
 same-length-2 c = c .before .loop .inv .same-cur
 
--- src/lib.rt:208:1
 same-length-3 : tie.Need-same-length-3 Inv-loop μ-loop
 same-length-3 c = c .before .loop .inv .same-next
 
--- src/lib.rt:208:1
 same-length-4 : tie.Need-same-length-4 Inv-loop μ-loop
 same-length-4 c = c .before .loop .inv .same-clean
 
--- src/lib.rt:208:1
 returns : tie.Need-returns Inv-loop μ-loop
 returns c = climb-out (c .before .loop .inv) (c .loop-test .left)
 
--- src/lib.rt:208:1
 same-length-5 : tie.Need-same-length-5 Inv-loop μ-loop
 same-length-5 c = c .before .before .before .before .before .before .before .loop .inv .same-owner
 
--- src/lib.rt:208:1
 same-length-6 : tie.Need-same-length-6 Inv-loop μ-loop
 same-length-6 c = c .before .before .before .before .before .before .before .loop .inv .same-cur
 
--- src/lib.rt:208:1
 same-length-7 : tie.Need-same-length-7 Inv-loop μ-loop
 same-length-7 c = c .before .before .before .before .before .before .before .loop .inv .same-next
 
--- src/lib.rt:208:1
 same-length-8 : tie.Need-same-length-8 Inv-loop μ-loop
 same-length-8 c = c .before .before .before .before .before .before .before .loop .inv .same-clean
 
--- src/lib.rt:208:1
 returns-2 : tie.Need-returns-2 Inv-loop μ-loop
 returns-2 c = drop-end (climb-in (c .before .before .before .before .before .before .before .loop .inv) (c .before .before .before .before .before .before .loop-test .taken)) (c .before .before .before .if1 .taken) _ (c .before .is-ours .ensures) (not-true _ (c .if2 .taken))
 
--- src/lib.rt:208:1
 same-length-9 : tie.Need-same-length-9 Inv-loop μ-loop
 same-length-9 c = c .before .before .before .before .before .before .before .before .loop .inv .same-owner
 
--- src/lib.rt:208:1
 same-length-10 : tie.Need-same-length-10 Inv-loop μ-loop
 same-length-10 c = c .before .before .before .before .before .before .before .before .loop .inv .same-cur
 
--- src/lib.rt:208:1
 same-length-11 : tie.Need-same-length-11 Inv-loop μ-loop
 same-length-11 c = c .before .before .before .before .before .before .before .before .loop .inv .same-next
 
--- src/lib.rt:208:1
 same-length-12 : tie.Need-same-length-12 Inv-loop μ-loop
 same-length-12 c = c .before .before .before .before .before .before .before .before .loop .inv .same-clean
 
--- src/lib.rt:208:1
 returns-3 : tie.Need-returns-3 Inv-loop μ-loop
 returns-3 c = other-end (climb-in (c .before .before .before .before .before .before .before .before .loop .inv) (c .before .before .before .before .before .before .before .loop-test .taken)) (c .before .before .before .before .if1 .left) _ (c .before .before .before .line-start2 .ensures) _ (c .before .before .cut2 .ensures) (ap (parsedBy (c .before .before .cut2 .result .now)) (sym (c .before .parse .ensures)) ∙ no-store (c .before .before .cut2 .result .now) (c .before .parse .result) (c .match .keys2))
 
--- src/lib.rt:208:1
 same-length-13 : tie.Need-same-length-13 Inv-loop μ-loop
 same-length-13 c = c .before .before .before .before .before .before .before .before .before .before .before .before .loop .inv .same-owner
 
--- src/lib.rt:208:1
 same-length-14 : tie.Need-same-length-14 Inv-loop μ-loop
 same-length-14 c = c .before .before .before .before .before .before .before .before .before .before .before .before .loop .inv .same-cur
 
--- src/lib.rt:208:1
 same-length-15 : tie.Need-same-length-15 Inv-loop μ-loop
 same-length-15 c = c .before .before .before .before .before .before .before .before .before .before .before .before .loop .inv .same-next
 
--- src/lib.rt:208:1
 same-length-16 : tie.Need-same-length-16 Inv-loop μ-loop
 same-length-16 c = c .before .before .before .before .before .before .before .before .before .before .before .before .loop .inv .same-clean
 
--- src/lib.rt:208:1
 returns-4 : tie.Need-returns-4 Inv-loop μ-loop
 returns-4 c = may-end (climb-in (c .before .before .before .before .before .before .before .before .before .before .before .before .loop .inv) (c .before .before .before .before .before .before .before .before .before .before .before .loop-test .taken)) (c .before .before .before .before .before .before .before .before .if1 .left) _ (c .before .before .before .before .before .before .before .line-start2 .ensures) _ (c .before .before .before .before .before .before .cut2 .ensures) (c .before .before .before .read .given .0 .0) (sym (c .before .before .before .before .before .parse .ensures) ∙ c .before .before .before .read .given .1) (part (c .before .before .before .read .given .0 .0 .from) (c .before .before .before .read .given .0 .0 .to) (c .before .before .before .before .before .before .cut2 .result .now)) refl _ (c .before .may-go .ensures) (not-true _ (c .if3 .taken))
 
--- src/lib.rt:208:1
 same-length-17 : tie.Need-same-length-17 Inv-loop μ-loop
 same-length-17 c = c .before .before .before .before .before .before .before .before .before .before .before .before .before .before .before .before .before .before .before .before .before .before .before .before .before .before .before .before .loop .inv .same-owner
 
--- src/lib.rt:208:1
 same-length-18 : tie.Need-same-length-18 Inv-loop μ-loop
 same-length-18 c = c .before .before .before .before .before .before .before .before .before .before .before .before .before .before .before .before .before .before .before .before .before .before .before .before .before .before .before .before .loop .inv .same-cur
 
--- src/lib.rt:208:1
 same-length-19 : tie.Need-same-length-19 Inv-loop μ-loop
 same-length-19 c = put-out (c .before .before .before .before .before .before .absorb .ensures) ∙ c .before .before .before .before .before .before .before .before .before .before .before .before .before .before .before .before .before .before .before .before .before .before .before .before .before .before .before .before .loop .inv .same-next
 
--- src/lib.rt:208:1
 same-length-20 : tie.Need-same-length-20 Inv-loop μ-loop
 same-length-20 c = put-kept (c .before .before .before .before .before .before .absorb .ensures) ∙ c .before .before .before .before .before .before .before .before .before .before .before .before .before .before .before .before .before .before .before .before .before .before .before .before .before .before .before .before .loop .inv .same-clean
 
--- src/lib.rt:208:1
 returns-5 : tie.Need-returns-5 Inv-loop μ-loop
 returns-5 c = none-end (climb-in (c .before .before .before .before .before .before .before .before .before .before .before .before .before .before .before .before .before .before .before .before .before .before .before .before .before .before .before .before .loop .inv) (c .before .before .before .before .before .before .before .before .before .before .before .before .before .before .before .before .before .before .before .before .before .before .before .before .before .before .before .loop-test .taken)) (c .before .before .before .before .before .before .before .before .before .before .before .before .before .before .before .before .before .before .before .before .before .before .before .before .if1 .left) _ (c .before .before .before .before .before .before .before .before .before .before .before .before .before .before .before .before .before .before .before .before .before .before .before .line-start2 .ensures) _ (c .before .before .before .before .before .before .before .before .before .before .before .before .before .before .before .before .before .before .before .before .before .before .cut2 .ensures) (c .before .before .before .before .before .before .before .before .before .before .before .before .before .before .before .before .before .before .before .read .given .0 .0) (sym (c .before .before .before .before .before .before .before .before .before .before .before .before .before .before .before .before .before .before .before .before .before .parse .ensures) ∙ c .before .before .before .before .before .before .before .before .before .before .before .before .before .before .before .before .before .before .before .read .given .1) _ (c .before .before .before .before .before .before .before .before .before .before .before .before .before .before .before .value-of .ensures) _ (c .before .before .before .before .before .before .before .before .before .before .before .before .before .before .before .before .before .may-go .ensures) (not-false _ (c .before .before .before .before .before .before .before .before .before .before .before .before .before .before .before .before .if3 .left)) _ _ _ (c .before .before .before .before .before .before .before .before .before .before .before .before .before .cut3 .ensures) (c .before .before .before .before .before .before .before .before .before .before .before .before .cut4 .ensures) (c .before .before .before .before .before .before .before .before .before .before .before .cut5 .ensures) (c .before .before .before .before .before .before .absorb .ensures) (c .enum-told .given .1)
 

@@ -13,31 +13,24 @@ Inv-loop s₀ i₀ s i = Wiping s₀ s i
 abbrev μ-loop : tie.MeasureT-loop
 μ-loop s₀ i₀ s i = length s - i
 
--- src/lib.rt:383:5
 loop-holds : tie.Need-loop-holds Inv-loop μ-loop
 loop-holds c = wiping-start _
 
--- src/lib.rt:384:9
 slice-write-s : tie.Need-slice-write-s Inv-loop μ-loop
 slice-write-s c = c .loop-test .taken
 
--- src/lib.rt:385:9
 add-i : tie.Need-add-i Inv-loop μ-loop
 add-i c = omega (arith, c .before .loop .inv .same)
 
--- src/lib.rt:383:5
 loop-less : tie.Need-loop-less Inv-loop μ-loop
 loop-less c = omega (arith, length-set (c .before .loop .s) (c .before .loop .i) 0)
 
--- src/lib.rt:383:5
 loop-again : tie.Need-loop-again Inv-loop μ-loop
 loop-again c = wiping-on (c .before .loop .inv) (c .loop-test .taken)
 
--- src/lib.rt:379:1
 same-length : tie.Need-same-length Inv-loop μ-loop
 same-length c = c .before .loop .inv .same
 
--- src/lib.rt:379:1
 returns : tie.Need-returns Inv-loop μ-loop
 returns c = wiping-end (c .before .loop .inv) (c .loop-test .left)
 

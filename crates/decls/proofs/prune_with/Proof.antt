@@ -45,119 +45,90 @@ mid c =
     (λ w. rw (w .1) (run-same (h .0) (f .result) k (f .ensures) _ refl (y ∙ w .0 .left), h .1))
     (c .if1 .came)
 
--- src/lib.rt:87:5
 loop-holds : tie.Need-loop-holds Inv-loop μ-loop
 loop-holds c = (prune-start _ _ (c .before .before .before .pre .1), table-start _ _ (c .before .before .before .pre .0))
 
--- src/lib.rt:88:13
 find-byte-requires : tie.Need-find-byte-requires Inv-loop μ-loop
 find-byte-requires c κs = search needs
 
--- src/lib.rt:89:20
 sub-line : tie.Need-sub-line Inv-loop μ-loop
 sub-line c = omega arith
 
--- src/lib.rt:89:20
 part-line-start : tie.Need-part-line-start Inv-loop μ-loop
 part-line-start c = omega arith
 
--- src/lib.rt:89:20
 part-line-end : tie.Need-part-line-end Inv-loop μ-loop
 part-line-end c = omega (arith, find-le 10 (c .before .before .before .before .before .before .args .text .now) (c .before .before .loop .i) (c .find-byte .result) (omega arith) (c .find-byte .ensures))
 
--- src/lib.rt:90:12
 is-header-requires : tie.Need-is-header-requires Inv-loop μ-loop
 is-header-requires c κs = search needs
 
--- src/lib.rt:93:12
 declares-requires : tie.Need-declares-requires Inv-loop μ-loop
 declares-requires c κs = search needs
 
--- src/lib.rt:94:17
 after-requires : tie.Need-after-requires Inv-loop μ-loop
 after-requires c κs = search needs
 
--- src/lib.rt:95:17
 mark-once-requires : tie.Need-mark-once-requires Inv-loop μ-loop
 mark-once-requires c κs = (omega (arith, mid (c .before .before .before .before) .1 .a≤, c .before .before .before .before .before .before .before .before .loop-test .taken), ap (λ (n : ℕ). isDecl (trimOf (part (c .before .before .before .before .before .before .before .before .before .loop .i) n (c .before .before .before .before .before .before .before .before .before .before .before .before .before .args .text .now)))) (sym (c .before .before .before .before .before .before .before .find-byte .ensures)) ∙ so (c .before .before .before .declares .ensures) (c .before .before .if2 .taken))
 
--- src/lib.rt:98:40
 sub-put : tie.Need-sub-put Inv-loop μ-loop
 sub-put c = omega (arith, c .before .before .before .before .before .before .before .before .before .before .before .before .before .loop .inv .0 .c≤, c .before .before .before .before .before .before .before .before .before .before .before .before .before .loop .inv .0 .i≤)
 
--- src/lib.rt:98:40
 part-put-start : tie.Need-part-put-start Inv-loop μ-loop
 part-put-start c = omega (arith, c .before .before .before .before .before .before .before .before .before .before .before .before .before .loop .inv .0 .c≤, c .before .before .before .before .before .before .before .before .before .before .before .before .before .loop .inv .0 .i≤)
 
--- src/lib.rt:98:40
 part-put-end : tie.Need-part-put-end Inv-loop μ-loop
 part-put-end c = omega (arith, c .before .before .before .before .before .before .before .before .before .before .before .before .before .loop .inv .0 .c≤, c .before .before .before .before .before .before .before .before .before .before .before .before .before .loop .inv .0 .i≤)
 
--- src/lib.rt:98:17
 put-requires : tie.Need-put-requires Inv-loop μ-loop
 put-requires c κs = let f = c .before .before .before .before .before .before .before .before .before .before .before .before .find-byte in held-room (c .before .before .before .before .before .before .before .before .before .before .before .before .before .before .loop .inv .0) (f .result) (c .before .before .before .before .before .before .before .before .before .before .before .before .before .loop-test .taken) (f .ensures) _ refl (mid (c .before .before .before .before .before .before .before .before .before) .0) _ refl
 
--- src/lib.rt:99:32
 sub-put-line : tie.Need-sub-put-line Inv-loop μ-loop
 sub-put-line c = let h = mid (c .before .before .before .before .before .before .before .before .before .before .before .before .before) in let k = c .before .before .before .before .before .before .before .before .mark-once in omega (arith, table-inside (h .1) (k .result .mark) (k .result .end) _ (k .ensures .0 .0) (k .ensures .0 .1 .0) (k .ensures .1) (omega (arith, h .1 .a≤, c .before .before .before .before .before .before .before .before .before .before .before .before .before .before .before .before .before .loop-test .taken)))
 
--- src/lib.rt:99:32
 part-put-line-start : tie.Need-part-put-line-start Inv-loop μ-loop
 part-put-line-start c = let h = mid (c .before .before .before .before .before .before .before .before .before .before .before .before .before) in let k = c .before .before .before .before .before .before .before .before .mark-once in omega (arith, table-inside (h .1) (k .result .mark) (k .result .end) _ (k .ensures .0 .0) (k .ensures .0 .1 .0) (k .ensures .1) (omega (arith, h .1 .a≤, c .before .before .before .before .before .before .before .before .before .before .before .before .before .before .before .before .before .loop-test .taken)))
 
--- src/lib.rt:99:32
 part-put-line-end : tie.Need-part-put-line-end Inv-loop μ-loop
 part-put-line-end c = let h = mid (c .before .before .before .before .before .before .before .before .before .before .before .before .before) in let k = c .before .before .before .before .before .before .before .before .mark-once in omega (arith, table-inside (h .1) (k .result .mark) (k .result .end) _ (k .ensures .0 .0) (k .ensures .0 .1 .0) (k .ensures .1) (omega (arith, h .1 .a≤, c .before .before .before .before .before .before .before .before .before .before .before .before .before .before .before .before .before .loop-test .taken)))
 
--- src/lib.rt:99:13
 put-line-requires : tie.Need-put-line-requires Inv-loop μ-loop
 put-line-requires c κs = let h = mid (c .before .before .before .before .before .before .before .before .before .before .before .before .before .before .before .before) in let f = c .before .before .before .before .before .before .before .before .before .before .before .before .before .before .before .before .before .before .before .find-byte in let k = c .before .before .before .before .before .before .before .before .before .before .before .mark-once in (so (c .before .before .before .before .before .before .before .before .before .before .before .before .before .before .before .declares .ensures) (c .before .before .before .before .before .before .before .before .before .before .before .before .before .before .if2 .taken), (table-says (h .1) (k .result .mark) (k .result .end) _ (k .ensures .0 .0) (k .ensures .0 .1 .0) (k .ensures .1) _ refl, prune-room (c .before .before .before .before .before .before .before .before .before .before .before .before .before .before .before .before .before .before .before .before .before .loop .inv .0) (f .result) (c .before .before .before .before .before .before .before .before .before .before .before .before .before .before .before .before .before .before .before .before .loop-test .taken) (f .ensures) _ refl (h .0) _ refl (c .before .before .before .before .before .before .put .ensures) _ (table-region (h .1) (k .result .mark) (k .result .end) _ (k .ensures .0 .0) (k .ensures .0 .1 .0) (k .ensures .1) _ refl)))
 
--- src/lib.rt:87:5
 loop-less : tie.Need-loop-less Inv-loop μ-loop
 loop-less c = omega (arith, c .before .before .before .before .before .before .before .before .before .before .before .before .before .before .before .before .after .ensures, c .before .before .before .before .before .before .before .before .before .before .before .before .before .before .before .before .before .before .before .before .before .before .find-byte .ensures, c .before .before .before .before .before .before .before .before .before .before .before .before .before .before .before .before .before .before .before .before .before .before .before .loop-test .taken, quiet-le (c .before .before .before .before .before .before .before .before .before .before .before .before .before .before .mark-once .ensures .0 .1 .1))
 
--- src/lib.rt:87:5
 loop-again : tie.Need-loop-again Inv-loop μ-loop
 loop-again c = let h = mid (c .before .before .before .before .before .before .before .before .before .before .before .before .before .before .before .before .before .before .before) in let f = c .before .before .before .before .before .before .before .before .before .before .before .before .before .before .before .before .before .before .before .before .before .before .find-byte in let k = c .before .before .before .before .before .before .before .before .before .before .before .before .before .before .mark-once in let w = k .ensures .0 .1 .1 in (prune-quiet (prune-on (c .before .before .before .before .before .before .before .before .before .before .before .before .before .before .before .before .before .before .before .before .before .before .before .before .loop .inv .0) (f .result) (c .before .before .before .before .before .before .before .before .before .before .before .before .before .before .before .before .before .before .before .before .before .before .before .loop-test .taken) (f .ensures) _ refl (h .0) _ refl (c .before .before .before .before .before .before .before .before .before .put .ensures) _ (table-region (h .1) (k .result .mark) (k .result .end) _ (k .ensures .0 .0) (k .ensures .0 .1 .0) (k .ensures .1) _ refl) (c .before .before .put-line .ensures) (c .before .before .before .before .before .before .before .before .before .before .before .before .before .before .before .before .after .ensures)) w, table-quiet (table-on (h .1) (k .result .mark) (k .result .end) _ (k .ensures .0 .0) (k .ensures .0 .1 .0) (k .ensures .1) (f .result) (c .before .before .before .before .before .before .before .before .before .before .before .before .before .before .before .before .after .result) (c .before .before .before .before .before .before .before .before .before .before .before .before .before .before .before .before .before .before .before .before .before .before .before .loop-test .taken) (f .ensures) (c .before .before .before .before .before .before .before .before .before .before .before .before .before .before .before .before .after .ensures)) (k .result .next) w)
 
--- src/lib.rt:103:13
 after-requires-2 : tie.Need-after-requires-2 Inv-loop μ-loop
 after-requires-2 c κs = search needs
 
--- src/lib.rt:87:5
 loop-less-2 : tie.Need-loop-less-2 Inv-loop μ-loop
 loop-less-2 c = omega (arith, c .after2 .ensures, c .before .before .before .before .before .before .find-byte .ensures, c .before .before .before .before .before .before .before .loop-test .taken)
 
--- src/lib.rt:87:5
 loop-again-2 : tie.Need-loop-again-2 Inv-loop μ-loop
 loop-again-2 c = let h = mid (c .before .before .before) in let f = c .before .before .before .before .before .before .find-byte in (prune-pass (c .before .before .before .before .before .before .before .before .loop .inv .0) (f .result) (c .before .before .before .before .before .before .before .loop-test .taken) (f .ensures) _ refl (h .0) (so (c .before .before .declares .ensures) (c .before .if2 .left)) (c .after2 .result) (c .after2 .ensures), table-pass (h .1) (f .result) (c .after2 .result) (c .before .before .before .before .before .before .before .loop-test .taken) (f .ensures) (c .after2 .ensures))
 
--- src/lib.rt:106:22
 sub-put-lines : tie.Need-sub-put-lines Inv-loop μ-loop
 sub-put-lines c = omega (arith, c .before .loop .inv .0 .c≤, c .before .loop .inv .0 .i≤)
 
--- src/lib.rt:106:22
 part-put-lines-start : tie.Need-part-put-lines-start Inv-loop μ-loop
 part-put-lines-start c = omega (arith, c .before .loop .inv .0 .c≤, c .before .loop .inv .0 .i≤)
 
--- src/lib.rt:106:22
 part-put-lines-end : tie.Need-part-put-lines-end Inv-loop μ-loop
 part-put-lines-end c = omega (arith, c .before .loop .inv .0 .c≤, c .before .loop .inv .0 .i≤)
 
--- src/lib.rt:106:5
 put-lines-requires : tie.Need-put-lines-requires Inv-loop μ-loop
 put-lines-requires c κs = end-room (c .before .before .before .loop .inv .0) (c .before .before .loop-test .left) _ refl
 
--- src/lib.rt:77:1
 same-length : tie.Need-same-length Inv-loop μ-loop
 same-length c = c .before .before .before .before .before .before .loop .inv .1 .long
 
--- src/lib.rt:77:1
 same-length-2 : tie.Need-same-length-2 Inv-loop μ-loop
 same-length-2 c = c .before .before .put-lines .kept .1 .0 ∙ writing-length (c .before .before .before .before .before .before .loop .inv .0 .writing)
 
--- src/lib.rt:77:1
 returns : tie.Need-returns Inv-loop μ-loop
 returns c = prune-end (c .before .before .before .before .before .before .loop .inv .0) (c .before .before .before .before .before .loop-test .left) _ refl (c .before .before .put-lines .ensures)
 

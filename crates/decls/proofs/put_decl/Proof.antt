@@ -23,35 +23,27 @@ Inv-loop body indent region m seen out₀ o i₀ p₀ out i p = DeclInv (stays (
 abbrev μ-loop : tie.MeasureT-loop
 μ-loop body indent region m seen out₀ o i₀ p₀ out i p = length body - i
 
--- src/lib.rt:45:5
 loop-holds : tie.Need-loop-holds Inv-loop μ-loop
 loop-holds c = let s = c .before .before .before .before .before in let a = s .args in decl-start (stays (linesOf (a .region .now))) 1 (a .indent .now) (a .body .now) (a .out .now) (a .o) (s .pre .1)
 
--- src/lib.rt:46:13
 find-byte-requires : tie.Need-find-byte-requires Inv-loop μ-loop
 find-byte-requires c κs = search needs
 
--- src/lib.rt:47:28
 sub-trim : tie.Need-sub-trim Inv-loop μ-loop
 sub-trim c = omega arith
 
--- src/lib.rt:47:28
 part-trim-start : tie.Need-part-trim-start Inv-loop μ-loop
 part-trim-start c = omega arith
 
--- src/lib.rt:47:28
 part-trim-end : tie.Need-part-trim-end Inv-loop μ-loop
 part-trim-end c = omega (arith, find-le 44 (c .before .before .before .before .before .before .before .args .body .now) (c .before .loop .i) (c .find-byte .result) (c .before .loop .inv .i≤) (c .find-byte .ensures))
 
--- src/lib.rt:47:13
 trim-requires : tie.Need-trim-requires Inv-loop μ-loop
 trim-requires c κs = search needs
 
--- src/lib.rt:48:13
 stays-in-requires : tie.Need-stays-in-requires Inv-loop μ-loop
 stays-in-requires c κs = c .before .before .before .before .before .before .before .before .before .pre .0
 
--- src/lib.rt:49:9
 put-part-requires : tie.Need-put-part-requires Inv-loop μ-loop
 put-part-requires c κs =
     let f = c .before .before .before .before .find-byte in
@@ -59,7 +51,6 @@ put-part-requires c κs =
     let s = c .before .stays-in in
     decl-room (c .before .before .before .before .before .loop .inv) (f .result) (f .ensures) (t .result .now) (t .ensures .0) (s .result) (s .ensures)
 
--- src/lib.rt:51:13
 put-end-requires : tie.Need-put-end-requires Inv-loop μ-loop
 put-end-requires c κs =
     let f = c .before .before .before .before .before .before .before .before .before .find-byte in
@@ -67,11 +58,9 @@ put-end-requires c κs =
     let s = c .before .before .before .before .before .before .stays-in in
     decl-end-room (c .before .before .before .before .before .before .before .before .before .before .loop .inv) (f .result) (f .ensures) (t .result .now) (t .ensures .0) (s .result) (s .ensures) (c .before .before .before .before .put-part .ensures) (c .before .if1 .taken)
 
--- src/lib.rt:51:13
 same-length : tie.Need-same-length Inv-loop μ-loop
 same-length c = omega (arith, writing-length (c .before .before .before .before .before .before .before .before .before .before .before .before .before .loop .inv .writing), wrote-length (c .before .before .before .before .before .before .before .put-part .ensures), wrote-length (c .before .before .put-end .ensures))
 
--- src/lib.rt:51:13
 returns : tie.Need-returns Inv-loop μ-loop
 returns c =
     let f = c .before .before .before .before .before .before .before .before .before .before .before .before .find-byte in
@@ -79,15 +68,12 @@ returns c =
     let s = c .before .before .before .before .before .before .before .before .before .stays-in in
     decl-end (c .before .before .before .before .before .before .before .before .before .before .before .before .before .loop .inv) (f .result) (f .ensures) (t .result .now) (t .ensures .0) (s .result) (s .ensures) (c .before .before .before .before .before .before .before .put-part .ensures) (c .before .before .before .before .if1 .taken) (c .before .before .put-end .ensures)
 
--- src/lib.rt:53:13
 add-i : tie.Need-add-i Inv-loop μ-loop
 add-i c = omega arith
 
--- src/lib.rt:45:5
 loop-less : tie.Need-loop-less Inv-loop μ-loop
 loop-less c = omega (arith, c .before .before .before .before .before .before .before .before .find-byte .ensures)
 
--- src/lib.rt:45:5
 loop-again : tie.Need-loop-again Inv-loop μ-loop
 loop-again c =
     let f = c .before .before .before .before .before .before .before .before .find-byte in

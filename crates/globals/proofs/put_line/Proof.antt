@@ -10,34 +10,28 @@ use Rattle.globals.proofs.Laws.{text-by}
 use Rattle.globals.proofs.put_line.Statement.{statement}
 use Rattle.globals.proofs.put_line.Tie as tie
 
--- src/lib.rt:25:8
 is-globals-requires : tie.Need-is-globals-requires
 is-globals-requires c κs = search needs
 
--- src/lib.rt:26:9
 returns : tie.Need-returns
 returns c =
     let a = c .before .before .before .before .args in
     wrote-as (sym (text-by (a .line .now) true (so (c .before .is-globals .ensures) (c .if1 .taken)))) (wrote-nil (a .out .now) (a .o) (omega (arith, c .before .before .before .before .pre)))
 
--- src/lib.rt:28:9
 put-requires : tie.Need-put-requires
 put-requires c κs =
     let a = c .before .before .before .before .before .args in
     omega (arith, c .before .before .before .before .before .pre, ap length (text-by (a .line .now) false (so (c .before .before .is-globals .ensures) (c .before .if1 .left))), length-append (a .line .now) (10 ∷ []))
 
--- src/lib.rt:29:5
 put-byte-requires : tie.Need-put-byte-requires
 put-byte-requires c κs =
     let a = c .before .before .before .before .before .before .before .before .before .args in
     let w = c .before .before .before .put .ensures in
     omega (arith, c .before .before .before .before .before .before .before .before .before .pre, wrote-length w, w .place, ap length (text-by (a .line .now) false (so (c .before .before .before .before .before .before .is-globals .ensures) (c .before .before .before .before .before .if1 .left))), length-append (a .line .now) (10 ∷ []))
 
--- src/lib.rt:21:1
 same-length : tie.Need-same-length
 same-length c = search needs
 
--- src/lib.rt:21:1
 returns-2 : tie.Need-returns-2
 returns-2 c =
     let a = c .before .before .before .before .before .before .before .before .before .before .before .before .args in

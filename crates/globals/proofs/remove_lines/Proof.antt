@@ -14,47 +14,36 @@ Inv-loop text out₀ i₀ o₀ out i o = RemoveInv text out₀ out i o
 abbrev μ-loop : tie.MeasureT-loop
 μ-loop text out₀ i₀ o₀ out i o = length text - i
 
--- src/lib.rt:39:5
 loop-holds : tie.Need-loop-holds Inv-loop μ-loop
 loop-holds c = remove-start _ _ (c .before .before .pre)
 
--- src/lib.rt:40:13
 find-byte-requires : tie.Need-find-byte-requires Inv-loop μ-loop
 find-byte-requires c κs = search needs
 
--- src/lib.rt:41:22
 sub-put-line : tie.Need-sub-put-line Inv-loop μ-loop
 sub-put-line c = omega arith
 
--- src/lib.rt:41:22
 part-put-line-start : tie.Need-part-put-line-start Inv-loop μ-loop
 part-put-line-start c = omega arith
 
--- src/lib.rt:41:22
 part-put-line-end : tie.Need-part-put-line-end Inv-loop μ-loop
 part-put-line-end c = omega (arith, find-le 10 (c .before .before .before .before .before .args .text .now) (c .before .before .loop .i) (c .find-byte .result) (c .before .before .loop .inv .i≤) (c .find-byte .ensures))
 
--- src/lib.rt:41:9
 put-line-requires : tie.Need-put-line-requires Inv-loop μ-loop
 put-line-requires c κs = remove-room (c .before .before .before .before .loop .inv) (c .before .before .find-byte .result) (c .before .before .before .loop-test .taken) (c .before .before .find-byte .ensures)
 
--- src/lib.rt:42:9
 after-requires : tie.Need-after-requires Inv-loop μ-loop
 after-requires c κs = search needs
 
--- src/lib.rt:39:5
 loop-less : tie.Need-loop-less Inv-loop μ-loop
 loop-less c = omega (arith, c .after .ensures, c .before .before .before .before .before .before .find-byte .ensures, c .before .before .before .before .before .before .before .loop-test .taken)
 
--- src/lib.rt:39:5
 loop-again : tie.Need-loop-again Inv-loop μ-loop
 loop-again c = remove-on (c .before .before .before .before .before .before .before .before .loop .inv) (c .before .before .before .before .before .before .find-byte .result) (c .before .before .before .before .before .before .before .loop-test .taken) (c .before .before .before .before .before .before .find-byte .ensures) _ _ _ (c .before .before .before .put-line .ensures) (c .after .ensures)
 
--- src/lib.rt:33:1
 same-length : tie.Need-same-length Inv-loop μ-loop
 same-length c = writing-length (c .before .loop .inv .writing)
 
--- src/lib.rt:33:1
 returns : tie.Need-returns Inv-loop μ-loop
 returns c = remove-end (c .before .loop .inv) (c .loop-test .left)
 

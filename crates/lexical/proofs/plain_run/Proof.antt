@@ -10,15 +10,12 @@ use Rattle.lexical.proofs.plain_run.Lts as lts
 use Rattle.lexical.proofs.plain_end.Reads as plain-end-reads
 use Rattle.lexical.proofs.run_tail.Reads as run-tail-reads
 
--- src/lib.rt:349:20
 plain-end-requires : tie.Need-plain-end-requires
 plain-end-requires c κs = search needs
 
--- src/lib.rt:349:5
 run-tail-requires : tie.Need-run-tail-requires
 run-tail-requires c κs = search needs
 
--- src/lib.rt:346:1
 returns : tie.Need-returns
 returns c = let g = c .before .before .before .args in (c .before .plain-end .ensures, c .run-tail .ensures ∙ ap (λ (j : ℕ). grown (g .t) (part (g .i) j (g .s .now))) (c .before .plain-end .ensures))
 

@@ -20,57 +20,44 @@ Inv-loop s n m j₀ j = (ends plainLen s j ≡ plainLen s) × (j ≤ m + 7)
 abbrev μ-loop : tie.MeasureT-loop
 μ-loop s n m j₀ j = m - j
 
--- src/lib.rt:348:9
 plain-one-requires : tie.Need-plain-one-requires Inv-loop μ-loop
 plain-one-requires c κs = search needs
 
--- src/lib.rt:348:9
 returns : tie.Need-returns Inv-loop μ-loop
 returns c = omega (arith, c .plain-one .ensures)
 
--- src/lib.rt:352:5
 loop-holds : tie.Need-loop-holds Inv-loop μ-loop
 loop-holds c = (omega arith, omega arith)
 
--- src/lib.rt:353:13
 tame-eight-requires : tie.Need-tame-eight-requires Inv-loop μ-loop
 tame-eight-requires c κs = omega arith
 
--- src/lib.rt:354:13
 plain-one-requires-2 : tie.Need-plain-one-requires-2 Inv-loop μ-loop
 plain-one-requires-2 c κs = search needs
 
--- src/lib.rt:354:13
 returns-2 : tie.Need-returns-2 Inv-loop μ-loop
 returns-2 c = c .plain-one2 .ensures ∙ c .before .before .before .before .loop .inv .0
 
--- src/lib.rt:356:9
 add-j : tie.Need-add-j Inv-loop μ-loop
 add-j c = omega arith
 
--- src/lib.rt:352:5
 loop-less : tie.Need-loop-less Inv-loop μ-loop
 loop-less c = omega arith
 
--- src/lib.rt:352:5
 loop-again : tie.Need-loop-again Inv-loop μ-loop
 loop-again c =
     let l = c .before .before .before .loop in
     (tame-on (c .before .before .before .before .before .before .args .s .now) (l .j) (omega arith) (sym (c .before .tame-eight .ensures) ∙ not-false _ (c .if2 .left)) ∙ l .inv .0, omega arith)
 
--- src/lib.rt:358:8
 tame-eight-requires-2 : tie.Need-tame-eight-requires-2 Inv-loop μ-loop
 tame-eight-requires-2 c κs = omega arith
 
--- src/lib.rt:359:29
 sub-plain-one : tie.Need-sub-plain-one Inv-loop μ-loop
 sub-plain-one c = omega arith
 
--- src/lib.rt:359:9
 plain-one-requires-3 : tie.Need-plain-one-requires-3 Inv-loop μ-loop
 plain-one-requires-3 c κs = search needs
 
--- src/lib.rt:359:9
 returns-3 : tie.Need-returns-3 Inv-loop μ-loop
 returns-3 c =
     let l = c .before .before .before .before .loop in
@@ -79,11 +66,9 @@ returns-3 c =
     let e : length s - 9 + 8 ≡ length s - 1 = omega arith in
     c .plain-one3 .ensures ∙ ap (ends plainLen s) (sym e) ∙ z ∙ l .inv .0
 
--- src/lib.rt:361:5
 plain-one-requires-4 : tie.Need-plain-one-requires-4 Inv-loop μ-loop
 plain-one-requires-4 c κs = search needs
 
--- src/lib.rt:343:1
 returns-4 : tie.Need-returns-4 Inv-loop μ-loop
 returns-4 c = c .plain-one4 .ensures ∙ c .before .before .before .before .loop .inv .0
 

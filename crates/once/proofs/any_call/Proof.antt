@@ -22,23 +22,18 @@ Inv-loop text x i₀ i = anyCall x (linesOf (drop i text)) ≡ anyCall x (linesO
 abbrev μ-loop : tie.MeasureT-loop
 μ-loop text x i₀ i = length text - i
 
--- src/lib.rt:101:5
 loop-holds : tie.Need-loop-holds Inv-loop μ-loop
 loop-holds c = refl
 
--- src/lib.rt:102:13
 find-byte-requires : tie.Need-find-byte-requires Inv-loop μ-loop
 find-byte-requires c κs = search needs
 
--- src/lib.rt:103:13
 cut-requires : tie.Need-cut-requires Inv-loop μ-loop
 cut-requires c κs = search needs
 
--- src/lib.rt:104:12
 is-header-requires : tie.Need-is-header-requires Inv-loop μ-loop
 is-header-requires c κs = search needs
 
--- src/lib.rt:105:13
 returns : tie.Need-returns Inv-loop μ-loop
 returns c = let l = c .before .before .before .before .before .loop in
     let a = c .before .before .before .before .before .before .before .before .args in
@@ -46,11 +41,9 @@ returns c = let l = c .before .before .before .before .before .loop in
     let w = c .before .before .cut in
     sym (any-header (a .x .now) (a .text .now) (l .i) (f .result) (c .before .before .before .before .loop-test .taken) (f .ensures) (w .result .now) (w .ensures) (sym (c .before .is-header .ensures) ∙ c .if1 .taken)) ∙ l .inv
 
--- src/lib.rt:107:12
 line-calls-requires : tie.Need-line-calls-requires Inv-loop μ-loop
 line-calls-requires c κs = search needs
 
--- src/lib.rt:108:13
 returns-2 : tie.Need-returns-2 Inv-loop μ-loop
 returns-2 c = let l = c .before .before .before .before .before .before .before .loop in
     let a = c .before .before .before .before .before .before .before .before .before .before .args in
@@ -58,15 +51,12 @@ returns-2 c = let l = c .before .before .before .before .before .before .before 
     let w = c .before .before .before .before .cut in
     sym (any-found (a .x .now) (a .text .now) (l .i) (f .result) (c .before .before .before .before .before .before .loop-test .taken) (f .ensures) (w .result .now) (w .ensures) (sym (c .before .before .before .is-header .ensures) ∙ c .before .before .if1 .left) (sym (c .before .line-calls .ensures) ∙ c .if2 .taken)) ∙ l .inv
 
--- src/lib.rt:110:9
 after-requires : tie.Need-after-requires Inv-loop μ-loop
 after-requires c κs = search needs
 
--- src/lib.rt:101:5
 loop-less : tie.Need-loop-less Inv-loop μ-loop
 loop-less c = omega (arith, c .after .ensures, c .before .before .before .before .before .before .find-byte .ensures, c .before .before .before .before .before .before .before .loop-test .taken)
 
--- src/lib.rt:101:5
 loop-again : tie.Need-loop-again Inv-loop μ-loop
 loop-again c = let l = c .before .before .before .before .before .before .before .before .loop in
     let a = c .before .before .before .before .before .before .before .before .before .before .before .args in
@@ -74,7 +64,6 @@ loop-again c = let l = c .before .before .before .before .before .before .before
     let w = c .before .before .before .before .before .cut in
     sym (any-on (a .x .now) (a .text .now) (l .i) (f .result) (c .before .before .before .before .before .before .before .loop-test .taken) (f .ensures) (w .result .now) (w .ensures) (sym (c .before .before .before .before .is-header .ensures) ∙ c .before .before .before .if1 .left) (sym (c .before .before .line-calls .ensures) ∙ c .before .if2 .left) (c .after .result) (c .after .ensures)) ∙ l .inv
 
--- src/lib.rt:97:1
 returns-3 : tie.Need-returns-3 Inv-loop μ-loop
 returns-3 c = sym (any-end _ _ _ (c .loop-test .left)) ∙ c .before .loop .inv
 

@@ -8,27 +8,21 @@ use Rattle.once.proofs.area_at.Reads as reads
 use Rattle.once.proofs.area_at.Lts as lts
 use Rattle.place.proofs.is_header.Reads as is-header-reads
 
--- src/lib.rt:386:25
 sub-is-header : tie.Need-sub-is-header
 sub-is-header c = omega (arith, c .before .pre .0)
 
--- src/lib.rt:386:25
 part-is-header-start : tie.Need-part-is-header-start
 part-is-header-start c = omega (arith, c .before .pre .0)
 
--- src/lib.rt:386:25
 part-is-header-end : tie.Need-part-is-header-end
 part-is-header-end c = omega (arith, c .before .pre .1)
 
--- src/lib.rt:386:8
 is-header-requires : tie.Need-is-header-requires
 is-header-requires c κs = search needs
 
--- src/lib.rt:388:9
 returns : tie.Need-returns
 returns c = let a = c .before .before .before .before .args in area-new (a .text .now) (a .i) (a .e) (a .above) _ refl (sym (c .before .is-header .ensures) ∙ c .if1 .taken)
 
--- src/lib.rt:383:1
 returns-2 : tie.Need-returns-2
 returns-2 c = let a = c .before .before .before .before .args in area-same (a .text .now) (a .i) (a .e) (a .above) _ refl (sym (c .before .is-header .ensures) ∙ c .if1 .left)
 

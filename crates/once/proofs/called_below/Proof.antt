@@ -23,31 +23,24 @@ Inv-loop text x obj i₀ i = (i ≤ length text) × (calledBelow x (linesOf (dro
 abbrev μ-loop : tie.MeasureT-loop
 μ-loop text x obj i₀ i = length text - i
 
--- src/lib.rt:93:5
 loop-holds : tie.Need-loop-holds Inv-loop μ-loop
 loop-holds c = (omega arith, refl)
 
--- src/lib.rt:94:13
 find-byte-requires : tie.Need-find-byte-requires Inv-loop μ-loop
 find-byte-requires c κs = search needs
 
--- src/lib.rt:95:29
 sub-is-header : tie.Need-sub-is-header Inv-loop μ-loop
 sub-is-header c = omega arith
 
--- src/lib.rt:95:29
 part-is-header-start : tie.Need-part-is-header-start Inv-loop μ-loop
 part-is-header-start c = omega arith
 
--- src/lib.rt:95:29
 part-is-header-end : tie.Need-part-is-header-end Inv-loop μ-loop
 part-is-header-end c = omega (arith, find-le 10 (c .before .before .before .before .before .before .args .text .now) (c .before .before .loop .i) (c .find-byte .result) (c .before .before .loop .inv .0) (c .find-byte .ensures))
 
--- src/lib.rt:95:12
 is-header-requires : tie.Need-is-header-requires Inv-loop μ-loop
 is-header-requires c κs = search needs
 
--- src/lib.rt:96:13
 returns : tie.Need-returns Inv-loop μ-loop
 returns c =
     let l = c .before .before .before .before .before .loop in
@@ -55,23 +48,18 @@ returns c =
     let f = c .before .before .before .find-byte in
     sym (called-header (a .x .now) (a .text .now) (l .i) (f .result) (c .before .before .before .before .loop-test .taken) (f .ensures) (sym (c .before .is-header .ensures) ∙ c .if1 .taken)) ∙ l .inv .1
 
--- src/lib.rt:98:23
 sub-holds-call : tie.Need-sub-holds-call Inv-loop μ-loop
 sub-holds-call c = omega arith
 
--- src/lib.rt:98:23
 part-holds-call-start : tie.Need-part-holds-call-start Inv-loop μ-loop
 part-holds-call-start c = omega arith
 
--- src/lib.rt:98:23
 part-holds-call-end : tie.Need-part-holds-call-end Inv-loop μ-loop
 part-holds-call-end c = omega (arith, find-le 10 (c .before .before .before .before .before .before .before .before .before .args .text .now) (c .before .before .before .before .before .loop .i) (c .before .before .before .find-byte .result) (c .before .before .before .before .before .loop .inv .0) (c .before .before .before .find-byte .ensures))
 
--- src/lib.rt:98:12
 holds-call-requires : tie.Need-holds-call-requires Inv-loop μ-loop
 holds-call-requires c κs = search needs
 
--- src/lib.rt:99:13
 returns-2 : tie.Need-returns-2 Inv-loop μ-loop
 returns-2 c =
     let l = c .before .before .before .before .before .before .before .before .loop in
@@ -79,23 +67,18 @@ returns-2 c =
     let f = c .before .before .before .before .before .before .find-byte in
     sym (called-found (a .x .now) (a .text .now) (l .i) (f .result) (c .before .before .before .before .before .before .before .loop-test .taken) (f .ensures) (sym (c .before .before .before .before .is-header .ensures) ∙ c .before .before .before .if1 .left) (sym (c .before .holds-call .ensures) ∙ c .if2 .taken)) ∙ l .inv .1
 
--- src/lib.rt:101:20
 sub-changes : tie.Need-sub-changes Inv-loop μ-loop
 sub-changes c = omega arith
 
--- src/lib.rt:101:20
 part-changes-start : tie.Need-part-changes-start Inv-loop μ-loop
 part-changes-start c = omega arith
 
--- src/lib.rt:101:20
 part-changes-end : tie.Need-part-changes-end Inv-loop μ-loop
 part-changes-end c = omega (arith, find-le 10 (c .before .before .before .before .before .before .before .before .before .before .before .before .args .text .now) (c .before .before .before .before .before .before .before .before .loop .i) (c .before .before .before .before .before .before .find-byte .result) (c .before .before .before .before .before .before .before .before .loop .inv .0) (c .before .before .before .before .before .before .find-byte .ensures))
 
--- src/lib.rt:101:12
 changes-requires : tie.Need-changes-requires Inv-loop μ-loop
 changes-requires c κs = search needs
 
--- src/lib.rt:102:13
 returns-3 : tie.Need-returns-3 Inv-loop μ-loop
 returns-3 c =
     let l = c .before .before .before .before .before .before .before .before .before .before .before .loop in
@@ -103,15 +86,12 @@ returns-3 c =
     let f = c .before .before .before .before .before .before .before .before .before .find-byte in
     sym (called-changed (a .x .now) (a .text .now) (l .i) (f .result) (c .before .before .before .before .before .before .before .before .before .before .loop-test .taken) (f .ensures) (sym (c .before .before .before .before .before .before .before .is-header .ensures) ∙ c .before .before .before .before .before .before .if1 .left) (a .obj .now) (c .before .before .before .before .before .before .before .before .before .before .before .before .before .before .before .pre .0) (sym (c .before .before .before .before .holds-call .ensures) ∙ c .before .before .before .if2 .left) (sym (c .before .changes .ensures) ∙ c .if3 .taken)) ∙ l .inv .1
 
--- src/lib.rt:104:9
 after-requires : tie.Need-after-requires Inv-loop μ-loop
 after-requires c κs = search needs
 
--- src/lib.rt:93:5
 loop-less : tie.Need-loop-less Inv-loop μ-loop
 loop-less c = omega (arith, c .after .ensures, c .before .before .before .before .before .before .before .before .before .before .find-byte .ensures)
 
--- src/lib.rt:93:5
 loop-again : tie.Need-loop-again Inv-loop μ-loop
 loop-again c =
     let l = c .before .before .before .before .before .before .before .before .before .before .before .before .loop in
@@ -119,7 +99,6 @@ loop-again c =
     let f = c .before .before .before .before .before .before .before .before .before .before .find-byte in
     (omega (arith, c .after .ensures), sym (called-on (a .x .now) (a .text .now) (l .i) (f .result) (c .before .before .before .before .before .before .before .before .before .before .before .loop-test .taken) (f .ensures) (sym (c .before .before .before .before .before .before .before .before .is-header .ensures) ∙ c .before .before .before .before .before .before .before .if1 .left) (a .obj .now) (c .before .before .before .before .before .before .before .before .before .before .before .before .before .before .before .before .pre .0) (sym (c .before .before .before .before .before .holds-call .ensures) ∙ c .before .before .before .before .if2 .left) (c .after .result) (c .after .ensures) (sym (c .before .before .changes .ensures) ∙ c .before .if3 .left)) ∙ l .inv .1)
 
--- src/lib.rt:88:1
 returns-4 : tie.Need-returns-4 Inv-loop μ-loop
 returns-4 c = sym (called-end _ _ _ (c .loop-test .left)) ∙ c .before .loop .inv .1
 

@@ -14,39 +14,30 @@ Inv-loop text i₀ i = (i ≤ length text) × CalmFrom text i
 abbrev μ-loop : tie.MeasureT-loop
 μ-loop text i₀ i = i
 
--- src/lib.rt:120:5
 loop-holds : tie.Need-loop-holds Inv-loop μ-loop
 loop-holds c = (omega arith, calm-start (c .args .text .now))
 
--- src/lib.rt:121:17
 sub-if1 : tie.Need-sub-if1 Inv-loop μ-loop
 sub-if1 c = omega arith
 
--- src/lib.rt:121:12
 shared-slice-read-if1 : tie.Need-shared-slice-read-if1 Inv-loop μ-loop
 shared-slice-read-if1 c = omega arith
 
--- src/lib.rt:122:20
 sub-result : tie.Need-sub-result Inv-loop μ-loop
 sub-result c = omega arith
 
--- src/lib.rt:122:13
 returns : tie.Need-returns Inv-loop μ-loop
 returns c = calm-found (c .before .before .before .before .args .text .now) (c .before .before .before .loop .i) (c .before .before .before .loop .inv .0) (c .before .before .before .loop .inv .1)
 
--- src/lib.rt:124:9
 sub-i : tie.Need-sub-i Inv-loop μ-loop
 sub-i c = omega arith
 
--- src/lib.rt:120:5
 loop-less : tie.Need-loop-less Inv-loop μ-loop
 loop-less c = omega arith
 
--- src/lib.rt:120:5
 loop-again : tie.Need-loop-again Inv-loop μ-loop
 loop-again c = (omega arith, calm-less (c .before .before .before .before .args .text .now) (c .before .before .before .loop .i) (omega arith) (c .before .before .before .loop .inv .0) (c .if1 .left) (c .before .before .before .loop .inv .1))
 
--- src/lib.rt:116:1
 returns-2 : tie.Need-returns-2 Inv-loop μ-loop
 returns-2 c = calm-all (c .before .before .args .text .now) (c .before .loop .i) (omega arith) (c .before .loop .inv .1)
 

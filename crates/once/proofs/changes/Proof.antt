@@ -11,39 +11,30 @@ use Rattle.parse.proofs.text_of.Reads as text-of-reads
 use Rattle.reading.proofs.use_of.Reads as use-of-reads
 use Rattle.words.proofs.count_word.Reads as count-word-reads
 
--- src/lib.rt:75:11
 reg-name-requires : tie.Need-reg-name-requires
 reg-name-requires c κs = search needs
 
--- src/lib.rt:76:29
 enum-known-q : tie.Need-enum-known-q
 enum-known-q c = search needs
 
--- src/lib.rt:77:17
 use-of-requires : tie.Need-use-of-requires
 use-of-requires c κs = search needs
 
--- src/lib.rt:81:17
 enum-told : tie.Need-enum-told
 enum-told c = search needs
 
--- src/lib.rt:81:17
 parse-requires : tie.Need-parse-requires
 parse-requires c κs = search needs
 
--- src/lib.rt:82:35
 text-of-requires : tie.Need-text-of-requires
 text-of-requires c κs = search needs
 
--- src/lib.rt:82:17
 count-word-requires : tie.Need-count-word-requires
 count-word-requires c κs = search needs
 
--- src/lib.rt:71:1
 returns : tie.Need-returns
 returns c = rw (sym (c .before .before .before .before .reg-name .ensures), c .before .before .q .given .1) (c .use-of .ensures .1)
 
--- src/lib.rt:71:1
 returns-2 : tie.Need-returns-2
 returns-2 c =
     let a = c .before .before .before .before .before .before .before .before .args in

@@ -23,38 +23,30 @@ Inv-loop text paths p reg i₀ k₀ i k = (i ≤ length text) × (nextIn (reg .0
 abbrev μ-loop : tie.MeasureT-loop
 μ-loop text paths p reg i₀ k₀ i k = length text - i
 
--- src/lib.rt:129:5
 loop-holds : tie.Need-loop-holds Inv-loop μ-loop
 loop-holds c = (omega arith, refl)
 
--- src/lib.rt:130:13
 find-byte-requires : tie.Need-find-byte-requires Inv-loop μ-loop
 find-byte-requires c κs = search needs
 
--- src/lib.rt:132:13
 returns : tie.Need-returns Inv-loop μ-loop
 returns c =
     let l = c .before .before .before .loop in
     let a = c .before .before .before .before .before .before .args in
     ap (deadBy (a .p)) (sym (next-past (a .reg .0) (a .text .now) (a .paths .now) (l .i) (l .k) (c .if1 .taken)) ∙ l .inv .1)
 
--- src/lib.rt:134:29
 sub-is-header : tie.Need-sub-is-header Inv-loop μ-loop
 sub-is-header c = omega arith
 
--- src/lib.rt:134:29
 part-is-header-start : tie.Need-part-is-header-start Inv-loop μ-loop
 part-is-header-start c = omega arith
 
--- src/lib.rt:134:29
 part-is-header-end : tie.Need-part-is-header-end Inv-loop μ-loop
 part-is-header-end c = omega (arith, find-le 10 (c .before .before .before .before .before .before .args .text .now) (c .before .before .before .loop .i) (c .before .find-byte .result) (c .before .before .before .loop .inv .0) (c .before .find-byte .ensures))
 
--- src/lib.rt:134:12
 is-header-requires : tie.Need-is-header-requires Inv-loop μ-loop
 is-header-requires c κs = search needs
 
--- src/lib.rt:135:13
 returns-2 : tie.Need-returns-2 Inv-loop μ-loop
 returns-2 c =
     let l = c .before .before .before .before .before .before .loop in
@@ -62,23 +54,18 @@ returns-2 c =
     let f = c .before .before .before .before .find-byte in
     ap (deadBy (a .p)) (sym (next-header (a .reg .0) (a .text .now) (a .paths .now) (l .i) (f .result) (l .k) (c .before .before .before .before .before .loop-test .taken) (f .ensures) (c .before .before .before .if1 .left) (sym (c .before .is-header .ensures) ∙ c .if2 .taken)) ∙ l .inv .1)
 
--- src/lib.rt:137:33
 sub-use-of : tie.Need-sub-use-of Inv-loop μ-loop
 sub-use-of c = omega arith
 
--- src/lib.rt:137:33
 part-use-of-start : tie.Need-part-use-of-start Inv-loop μ-loop
 part-use-of-start c = omega arith
 
--- src/lib.rt:137:33
 part-use-of-end : tie.Need-part-use-of-end Inv-loop μ-loop
 part-use-of-end c = omega (arith, find-le 10 (c .before .before .before .before .before .before .before .before .before .args .text .now) (c .before .before .before .before .before .before .loop .i) (c .before .before .before .before .find-byte .result) (c .before .before .before .before .before .before .loop .inv .0) (c .before .before .before .before .find-byte .ensures))
 
--- src/lib.rt:137:13
 use-of-requires : tie.Need-use-of-requires Inv-loop μ-loop
 use-of-requires c κs = search needs
 
--- src/lib.rt:139:13
 returns-3 : tie.Need-returns-3 Inv-loop μ-loop
 returns-3 c =
     let l = c .before .before .before .before .before .before .before .before .before .before .loop in
@@ -86,15 +73,12 @@ returns-3 c =
     let f = c .before .before .before .before .before .before .before .before .find-byte in
     ap (deadBy (a .p)) (sym (next-read (a .reg .0) (a .text .now) (a .paths .now) (l .i) (f .result) (l .k) (c .before .before .before .before .before .before .before .before .before .loop-test .taken) (f .ensures) (c .before .before .before .before .before .before .before .if1 .left) (sym (c .before .before .before .before .before .is-header .ensures) ∙ c .before .before .before .before .if2 .left) _ (c .before .before .use-of .ensures .0) (c .if3 .taken)) ∙ l .inv .1)
 
--- src/lib.rt:142:25
 mul-result : tie.Need-mul-result Inv-loop μ-loop
 mul-result c = omega (arith, c .before .before .before .before .before .before .before .before .before .before .before .before .before .before .fits)
 
--- src/lib.rt:142:25
 shared-slice-read-result : tie.Need-shared-slice-read-result Inv-loop μ-loop
 shared-slice-read-result c = search needs
 
--- src/lib.rt:142:13
 returns-4 : tie.Need-returns-4 Inv-loop μ-loop
 returns-4 c =
     let l = c .before .before .before .before .before .before .before .before .before .before .before .before .loop in
@@ -102,19 +86,15 @@ returns-4 c =
     let f = c .before .before .before .before .before .before .before .before .before .before .find-byte in
     ap (deadBy (a .p)) (sym (next-write (a .reg .0) (a .text .now) (a .paths .now) (l .i) (f .result) (l .k) (c .before .before .before .before .before .before .before .before .before .before .before .loop-test .taken) (f .ensures) (c .before .before .before .before .before .before .before .before .before .if1 .left) (sym (c .before .before .before .before .before .before .before .is-header .ensures) ∙ c .before .before .before .before .before .before .if2 .left) _ (c .before .before .before .before .use-of .ensures .0) (c .before .before .if3 .left) (sym (c .before .before .before .before .use-of .ensures .1) ∙ c .before .if4 .taken)) ∙ l .inv .1)
 
--- src/lib.rt:144:9
 add-k : tie.Need-add-k Inv-loop μ-loop
 add-k c = omega arith
 
--- src/lib.rt:145:9
 after-requires : tie.Need-after-requires Inv-loop μ-loop
 after-requires c κs = search needs
 
--- src/lib.rt:129:5
 loop-less : tie.Need-loop-less Inv-loop μ-loop
 loop-less c = omega (arith, c .after .ensures, c .before .before .before .before .before .before .before .before .before .before .find-byte .ensures)
 
--- src/lib.rt:129:5
 loop-again : tie.Need-loop-again Inv-loop μ-loop
 loop-again c =
     let l = c .before .before .before .before .before .before .before .before .before .before .before .before .loop in
@@ -122,7 +102,6 @@ loop-again c =
     let f = c .before .before .before .before .before .before .before .before .before .before .find-byte in
     (omega (arith, c .after .ensures), sym (next-on (a .reg .0) (a .text .now) (a .paths .now) (l .i) (f .result) (l .k) (c .before .before .before .before .before .before .before .before .before .before .before .loop-test .taken) (f .ensures) (c .before .before .before .before .before .before .before .before .before .if1 .left) (sym (c .before .before .before .before .before .before .before .is-header .ensures) ∙ c .before .before .before .before .before .before .if2 .left) _ (c .before .before .before .before .use-of .ensures .0) (c .before .before .if3 .left) (c .after .result) (c .after .ensures) (sym (c .before .before .before .before .use-of .ensures .1) ∙ c .before .if4 .left)) ∙ l .inv .1)
 
--- src/lib.rt:124:1
 returns-5 : tie.Need-returns-5 Inv-loop μ-loop
 returns-5 c =
     let l = c .before .loop in

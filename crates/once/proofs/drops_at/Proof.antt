@@ -15,82 +15,63 @@ use Rattle.once.proofs.drops_at.Lts as lts
 use Rattle.lines.proofs.after.Reads as after-reads
 use Rattle.once.proofs.line_drops.Reads as line-drops-reads
 
--- src/lib.rt:482:9
 returns : tie.Need-returns
 returns c = let a = c .before .before .before .before .args in (first-end plain (a .text .now) (a .paths .now) (a .i) (a .k) (a .in-loop) (c .if1 .taken), refl)
 
--- src/lib.rt:485:9
 returns-2 : tie.Need-returns-2
 returns-2 c = let a = c .before .before .before .before .before .args in (first-short plain (a .text .now) (a .paths .now) (a .i) (a .k) (a .in-loop) (c .if2 .taken), refl)
 
--- src/lib.rt:487:9
 after-requires : tie.Need-after-requires
 after-requires c κs = search needs
 
--- src/lib.rt:488:13
 add-n : tie.Need-add-n
 add-n c = search needs
 
--- src/lib.rt:490:9
 sub-line-drops : tie.Need-sub-line-drops
 sub-line-drops c = search needs
 
--- src/lib.rt:490:9
 part-line-drops-start : tie.Need-part-line-drops-start
 part-line-drops-start c = search needs
 
--- src/lib.rt:490:9
 part-line-drops-end : tie.Need-part-line-drops-end
 part-line-drops-end c = let a = c .before .before .before .before .before .before .args in omega (arith, find-le 10 (a .text .now) (a .i) (a .e) (omega (arith, c .before .before .if1 .left)) (c .before .before .before .before .before .before .pre .0 .0))
 
--- src/lib.rt:492:9
 sub-line-drops-2 : tie.Need-sub-line-drops-2
 sub-line-drops-2 c = search needs
 
--- src/lib.rt:492:9
 part-line-drops-start-2 : tie.Need-part-line-drops-start-2
 part-line-drops-start-2 c = search needs
 
--- src/lib.rt:492:9
 part-line-drops-end-2 : tie.Need-part-line-drops-end-2
 part-line-drops-end-2 c = search needs
 
--- src/lib.rt:493:9
 mul-line-drops : tie.Need-mul-line-drops
 mul-line-drops c = search needs
 
--- src/lib.rt:493:9
 sub-line-drops-3 : tie.Need-sub-line-drops-3
 sub-line-drops-3 c = search needs
 
--- src/lib.rt:493:9
 part-line-drops-start-3 : tie.Need-part-line-drops-start-3
 part-line-drops-start-3 c = search needs
 
--- src/lib.rt:493:9
 part-line-drops-end-3 : tie.Need-part-line-drops-end-3
 part-line-drops-end-3 c = search needs
 
--- src/lib.rt:494:9
 mul-line-drops-2 : tie.Need-mul-line-drops-2
 mul-line-drops-2 c = search needs
 
--- src/lib.rt:494:9
 shared-slice-read-line-drops : tie.Need-shared-slice-read-line-drops
 shared-slice-read-line-drops c = search needs
 
--- src/lib.rt:489:5
 line-drops-requires : tie.Need-line-drops-requires
 line-drops-requires c κs =
     let a = c .before .before .before .before .before .before .before .before .before .before .before .args in
     let j = c .before .before .before .before .before .after in
     (c .before .before .before .before .before .before .before .before .before .before .before .pre .0 .1, (blank-less (value-room (a .i) (a .e) (a .text .now)) (c .before .before .before .before .before .before .before .before .before .before .before .pre .1 .0), (drop-rest (a .text .now) (a .paths .now) (a .i) (a .e) (j .result) (a .k) _ (a .note) (omega (arith, c .before .before .before .before .before .before .before .if1 .left)) (c .before .before .before .before .before .before .before .before .before .before .before .pre .0 .0) (j .ensures) refl (c .before .before .before .before .before .before .before .before .before .before .before .pre .1 .1 .0), calm-rest (a .text .now) (a .calm) (j .result) (c .before .before .before .before .before .before .before .before .before .before .before .pre .1 .1 .1))))
 
--- src/lib.rt:463:1
 same-length : tie.Need-same-length
 same-length c = search needs
 
--- src/lib.rt:463:1
 returns-3 : tie.Need-returns-3
 returns-3 c =
     let a = c .before .before .before .before .before .before .before .before .before .before .before .before .before .before .args in

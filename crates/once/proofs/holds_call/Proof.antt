@@ -19,43 +19,33 @@ Inv-loop s x i₀ i = holds (x ++ 40 ∷ []) (drop i s) ≡ holds (x ++ 40 ∷ [
 abbrev μ-loop : tie.MeasureT-loop
 μ-loop s x i₀ i = length s - i
 
--- src/lib.rt:61:5
 loop-holds : tie.Need-loop-holds Inv-loop μ-loop
 loop-holds c = refl
 
--- src/lib.rt:62:24
 sub-starts-call : tie.Need-sub-starts-call Inv-loop μ-loop
 sub-starts-call c = omega arith
 
--- src/lib.rt:62:24
 part-starts-call-start : tie.Need-part-starts-call-start Inv-loop μ-loop
 part-starts-call-start c = omega arith
 
--- src/lib.rt:62:24
 part-starts-call-end : tie.Need-part-starts-call-end Inv-loop μ-loop
 part-starts-call-end c = omega arith
 
--- src/lib.rt:62:12
 starts-call-requires : tie.Need-starts-call-requires Inv-loop μ-loop
 starts-call-requires c κs = search needs
 
--- src/lib.rt:63:13
 returns : tie.Need-returns Inv-loop μ-loop
 returns c = let a = c .before .before .before .before .before .before .before .args in let l = c .before .before .before .before .loop in sym (hold-here (a .x .now ++ 40 ∷ []) (a .s .now) (l .i) (sym (c .before .starts-call .ensures) ∙ c .if1 .taken)) ∙ l .inv
 
--- src/lib.rt:65:9
 add-i : tie.Need-add-i Inv-loop μ-loop
 add-i c = omega arith
 
--- src/lib.rt:61:5
 loop-less : tie.Need-loop-less Inv-loop μ-loop
 loop-less c = omega arith
 
--- src/lib.rt:61:5
 loop-again : tie.Need-loop-again Inv-loop μ-loop
 loop-again c = let a = c .before .before .before .before .before .before .before .args in let l = c .before .before .before .before .loop in sym (hold-on (a .x .now ++ 40 ∷ []) (a .s .now) (l .i) (c .before .before .before .loop-test .taken) (sym (c .before .starts-call .ensures) ∙ c .if1 .left)) ∙ l .inv
 
--- src/lib.rt:57:1
 returns-2 : tie.Need-returns-2 Inv-loop μ-loop
 returns-2 c = let a = c .before .before .before .before .args in let l = c .before .loop in sym (call-end (a .x .now) (a .s .now) (l .i) (c .loop-test .left)) ∙ l .inv
 

@@ -10,35 +10,27 @@ use Rattle.lines.proofs.cut.Reads as cut-reads
 use Rattle.lines.proofs.find_byte.Reads as find-byte-reads
 use Rattle.names.proofs.is_simple_ident.Reads as is-simple-ident-reads
 
--- src/lib.rt:17:9
 find-byte-requires : tie.Need-find-byte-requires
 find-byte-requires c κs = search needs
 
--- src/lib.rt:19:9
 returns : tie.Need-returns
 returns c = sym (member-none (c .before .before .before .args .x .now) (c .before .find-byte .result) (c .before .find-byte .ensures) (c .if1 .taken))
 
--- src/lib.rt:21:28
 cut-requires : tie.Need-cut-requires
 cut-requires c κs = search needs
 
--- src/lib.rt:21:5
 is-simple-ident-requires : tie.Need-is-simple-ident-requires
 is-simple-ident-requires c κs = search needs
 
--- src/lib.rt:21:88
 add-cut : tie.Need-add-cut
 add-cut c = omega arith
 
--- src/lib.rt:21:74
 cut-requires-2 : tie.Need-cut-requires-2
 cut-requires-2 c κs = search needs
 
--- src/lib.rt:21:51
 is-simple-ident-requires-2 : tie.Need-is-simple-ident-requires-2
 is-simple-ident-requires-2 c κs = search needs
 
--- src/lib.rt:13:1
 returns-2 : tie.Need-returns-2
 returns-2 c = rw (c .before .before .is-simple-ident .ensures, c .is-simple-ident2 .ensures, c .before .before .before .cut .ensures, c .before .cut2 .ensures) (member-some (c .before .before .before .before .before .before .before .args .x .now) (c .before .before .before .before .before .find-byte .result) (c .before .before .before .before .before .find-byte .ensures) (c .before .before .before .before .if1 .left))
 

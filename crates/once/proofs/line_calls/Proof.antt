@@ -9,19 +9,15 @@ use Rattle.once.proofs.line_calls.Lts as lts
 use Rattle.lines.proofs.find_byte.Reads as find-byte-reads
 use Rattle.once.proofs.holds_call.Reads as holds-call-reads
 
--- src/lib.rt:89:9
 find-byte-requires : tie.Need-find-byte-requires
 find-byte-requires c κs = search needs
 
--- src/lib.rt:91:9
 returns : tie.Need-returns
 returns c = let a = c .before .before .before .before .args in sym (no-call (a .x .now) (a .s .now) (omega (arith, c .before .find-byte .ensures, c .if1 .taken)))
 
--- src/lib.rt:93:5
 holds-call-requires : tie.Need-holds-call-requires
 holds-call-requires c κs = search needs
 
--- src/lib.rt:86:1
 returns-2 : tie.Need-returns-2
 returns-2 c = search needs
 

@@ -17,38 +17,30 @@ use Rattle.once.proofs.line_drops.Lts as lts
 use Rattle.once.proofs.store_drops.Reads as store-drops-reads
 use Rattle.parse.proofs.value_of.Reads as value-of-reads
 
--- src/lib.rt:331:30
 enum-told : tie.Need-enum-told
 enum-told c = search needs
 
--- src/lib.rt:332:28
 enum-known-q : tie.Need-enum-known-q
 enum-known-q c = search needs
 
--- src/lib.rt:333:17
 value-of-requires : tie.Need-value-of-requires
 value-of-requires c κs = search needs
 
--- src/lib.rt:334:13
 store-drops-requires : tie.Need-store-drops-requires
 store-drops-requires c κs =
     let a = c .before .before .before .before .before .before .before .before .before .args in
     let s = c .before .before .before .q .given .0 .0 in
     (blank-less (let h = value-room (s .from) (s .to) (a .line .now) in let q = ap length (c .before .value-of .ensures) in omega arith) (c .before .before .before .before .before .before .before .before .before .pre .1 .0), (c .before .before .before .before .before .before .before .before .before .pre .1 .1 .0 s (sym (c .before .before .before .before .before .before .before .before .before .pre .0) ∙ c .before .before .before .q .given .1), c .before .before .before .before .before .before .before .before .before .pre .1 .1 .1))
 
--- src/lib.rt:336:31
 enum-told-2 : tie.Need-enum-told-2
 enum-told-2 c = search needs
 
--- src/lib.rt:315:1
 returns : tie.Need-returns
 returns c = let a = c .before .before .before .before .before .before .args in (ap (dropsBy plain (a .line .now) (a .p) (a .in-loop) (linesOf (a .below .now)) (a .paths .now)) (sym (c .enum-told .given .1)) ∙ drops-at plain (a .line .now) (a .p) (a .in-loop) (linesOf (a .below .now)) (a .paths .now) _ (c .before .before .before .before .before .before .pre .0), refl)
 
--- src/lib.rt:315:1
 same-length : tie.Need-same-length
 same-length c = search needs
 
--- src/lib.rt:315:1
 returns-2 : tie.Need-returns-2
 unfolding textOf
 returns-2 c =
@@ -57,7 +49,6 @@ returns-2 c =
     let s = c .before .before .before .before .before .before .q .given in
     (e .0 ∙ ap (λ (x : List ℕ). storeDrops plain (s .0 .0 .reg .0) x (a .p) (a .in-loop) (linesOf (a .below .now)) (a .paths .now)) (c .before .before .before .before .value-of .ensures) ∙ ap (dropsBy plain (a .line .now) (a .p) (a .in-loop) (linesOf (a .below .now)) (a .paths .now)) (sym (s .1)) ∙ drops-at plain (a .line .now) (a .p) (a .in-loop) (linesOf (a .below .now)) (a .paths .now) _ (c .before .before .before .before .before .before .before .before .before .before .before .before .pre .0), e .1)
 
--- src/lib.rt:315:1
 returns-3 : tie.Need-returns-3
 returns-3 c = let a = c .before .before .before .before .before .before .args in (ap (dropsBy plain (a .line .now) (a .p) (a .in-loop) (linesOf (a .below .now)) (a .paths .now)) (sym (c .enum-told2 .given .1)) ∙ drops-at plain (a .line .now) (a .p) (a .in-loop) (linesOf (a .below .now)) (a .paths .now) _ (c .before .before .before .before .before .before .pre .0), refl)
 

@@ -18,38 +18,30 @@ use Rattle.once.proofs.line_forwards.Lts as lts
 use Rattle.once.proofs.store_forwards.Reads as store-forwards-reads
 use Rattle.parse.proofs.value_of.Reads as value-of-reads
 
--- src/lib.rt:441:30
 enum-told : tie.Need-enum-told
 enum-told c = search needs
 
--- src/lib.rt:442:28
 enum-known-p : tie.Need-enum-known-p
 enum-known-p c = search needs
 
--- src/lib.rt:443:17
 value-of-requires : tie.Need-value-of-requires
 value-of-requires c κs = search needs
 
--- src/lib.rt:444:13
 store-forwards-requires : tie.Need-store-forwards-requires
 store-forwards-requires c κs =
     let a = c .before .before .before .before .before .before .before .before .before .before .args in
     let s = c .before .before .before .p .given .0 .0 in
     (blank-less (let h = value-room (s .from) (s .to) (a .line .now) in let q = ap length (c .before .value-of .ensures) in omega arith) (c .before .before .before .before .before .before .before .before .before .before .pre .1 .0), (c .before .before .before .before .before .before .before .before .before .before .pre .1 .1 .0 s (sym (c .before .before .before .before .before .before .before .before .before .before .pre .0) ∙ c .before .before .before .p .given .1), c .before .before .before .before .before .before .before .before .before .before .pre .1 .1 .1 s (sym (c .before .before .before .before .before .before .before .before .before .before .pre .0) ∙ c .before .before .before .p .given .1)))
 
--- src/lib.rt:458:31
 enum-told-2 : tie.Need-enum-told-2
 enum-told-2 c = search needs
 
--- src/lib.rt:421:1
 returns : tie.Need-returns
 returns c = let a = c .before .before .before .before .before .before .before .args in (ap (forwardsBy plain (a .line .now) (region (linesOf (a .run .now))) (a .in-loop) (a .gone) (a .next .now) (linesOf (a .below .now))) (sym (c .enum-told .given .1)) ∙ forwards-at plain (a .line .now) (region (linesOf (a .run .now))) (a .in-loop) (a .gone) (a .next .now) (linesOf (a .below .now)) _ (c .before .before .before .before .before .before .before .pre .0), refl)
 
--- src/lib.rt:421:1
 same-length : tie.Need-same-length
 same-length c = search needs
 
--- src/lib.rt:421:1
 returns-2 : tie.Need-returns-2
 unfolding textOf
 returns-2 c =
@@ -58,7 +50,6 @@ returns-2 c =
     let s = c .before .before .before .before .before .before .p .given in
     (e .0 ∙ ap (λ (x : List ℕ). storeForwards plain (s .0 .0 .reg .0) x (region (linesOf (a .run .now))) (a .in-loop) (a .gone) (a .next .now) (linesOf (a .below .now))) (c .before .before .before .before .value-of .ensures) ∙ ap (forwardsBy plain (a .line .now) (region (linesOf (a .run .now))) (a .in-loop) (a .gone) (a .next .now) (linesOf (a .below .now))) (sym (s .1)) ∙ forwards-at plain (a .line .now) (region (linesOf (a .run .now))) (a .in-loop) (a .gone) (a .next .now) (linesOf (a .below .now)) _ (c .before .before .before .before .before .before .before .before .before .before .before .before .before .pre .0), e .1)
 
--- src/lib.rt:421:1
 returns-3 : tie.Need-returns-3
 returns-3 c = let a = c .before .before .before .before .before .before .before .args in (ap (forwardsBy plain (a .line .now) (region (linesOf (a .run .now))) (a .in-loop) (a .gone) (a .next .now) (linesOf (a .below .now))) (sym (c .enum-told2 .given .1)) ∙ forwards-at plain (a .line .now) (region (linesOf (a .run .now))) (a .in-loop) (a .gone) (a .next .now) (linesOf (a .below .now)) _ (c .before .before .before .before .before .before .before .pre .0), refl)
 

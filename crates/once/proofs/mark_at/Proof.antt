@@ -16,39 +16,30 @@ use Rattle.once.proofs.mark_at.Lts as lts
 use Rattle.lines.proofs.after.Reads as after-reads
 use Rattle.once.proofs.line_forwards.Reads as line-forwards-reads
 
--- src/lib.rt:530:9
 returns : tie.Need-returns
 returns c = let a = c .before .before .before .before .before .args in (mark-stays (takes-end plain (a .line .now) (region (linesOf (a .run .now))) (a .in-loop) (a .next) (a .text .now) (a .j) (c .if1 .taken)), refl)
 
--- src/lib.rt:532:9
 after-requires : tie.Need-after-requires
 after-requires c κs = search needs
 
--- src/lib.rt:536:9
 sub-line-forwards : tie.Need-sub-line-forwards
 sub-line-forwards c = search needs
 
--- src/lib.rt:536:9
 part-line-forwards-start : tie.Need-part-line-forwards-start
 part-line-forwards-start c = search needs
 
--- src/lib.rt:536:9
 part-line-forwards-end : tie.Need-part-line-forwards-end
 part-line-forwards-end c = let a = c .before .before .before .before .before .before .args in omega (arith, find-le 10 (a .text .now) (a .j) (a .e) (omega (arith, c .before .if1 .left)) (c .before .before .before .before .before .before .pre .1 .0))
 
--- src/lib.rt:538:9
 sub-line-forwards-2 : tie.Need-sub-line-forwards-2
 sub-line-forwards-2 c = search needs
 
--- src/lib.rt:538:9
 part-line-forwards-start-2 : tie.Need-part-line-forwards-start-2
 part-line-forwards-start-2 c = search needs
 
--- src/lib.rt:538:9
 part-line-forwards-end-2 : tie.Need-part-line-forwards-end-2
 part-line-forwards-end-2 c = search needs
 
--- src/lib.rt:533:8
 line-forwards-requires : tie.Need-line-forwards-requires
 line-forwards-requires c κs =
     let a = c .before .before .before .before .before .before .before .before .before .args in
@@ -56,11 +47,9 @@ line-forwards-requires c κs =
     let h : a .j < length (a .text .now) = omega (arith, c .before .before .before .before .if1 .left) in
     (c .before .before .before .before .before .before .before .before .before .pre .0, (c .before .before .before .before .before .before .before .before .before .pre .1 .1 .0, (send-rest (a .text .now) (a .line .now) (a .j) (a .e) (n .result) (a .note) h (c .before .before .before .before .before .before .before .before .before .pre .1 .0) (n .ensures) (c .before .before .before .before .before .before .before .before .before .pre .1 .1 .1 .0), c .before .before .before .before .before .before .before .before .before .pre .1 .1 .1 .1)))
 
--- src/lib.rt:546:9
 same-length : tie.Need-same-length
 same-length c = search needs
 
--- src/lib.rt:546:9
 returns-2 : tie.Need-returns-2
 returns-2 c =
     let a = c .before .before .before .before .before .before .before .before .before .before .before .before .before .args in
@@ -68,11 +57,9 @@ returns-2 c =
     let n = c .before .before .before .before .before .before .before .after in
     (mark-stays (sym (takes-line plain (a .line .now) (region (linesOf (a .run .now))) (a .in-loop) (a .next) (a .text .now) (a .j) (a .e) (n .result) (omega (arith, c .before .before .before .before .before .before .before .before .if1 .left)) (c .before .before .before .before .before .before .before .before .before .before .before .before .before .pre .1 .0) (n .ensures)) ∙ sym (e .0) ∙ c .if2 .taken), e .1)
 
--- src/lib.rt:504:1
 same-length-2 : tie.Need-same-length-2
 same-length-2 c = search needs
 
--- src/lib.rt:504:1
 returns-3 : tie.Need-returns-3
 returns-3 c =
     let a = c .before .before .before .before .before .before .before .before .before .before .before .before .before .args in

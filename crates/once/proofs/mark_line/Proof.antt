@@ -21,11 +21,9 @@ use Rattle.once.proofs.next_drops.Reads as next-drops-reads
 use Rattle.once.proofs.noted.end_at.Reads as end-at-reads
 use Rattle.parse.proofs.parse.Reads as parse-reads
 
--- src/lib.rt:578:9
 byte-at-requires : tie.Need-byte-at-requires
 byte-at-requires c κs = search needs
 
--- src/lib.rt:580:9
 returns : tie.Need-returns
 returns c =
     let a = c .before .before .before .before .before .before .before .before .args in
@@ -33,19 +31,15 @@ returns c =
     let b = c .before .byte-at in
     (first-told (a .text .now) (a .paths .now) (a .loops .now) (a .notes .now) (a .i) (a .e) (a .k) (a .run) (b .result) (p .0) (p .1 .1 .1 .1 .0) (b .ensures) (c .if1 .taken), refl)
 
--- src/lib.rt:582:9
 cut-requires : tie.Need-cut-requires
 cut-requires c κs = search needs
 
--- src/lib.rt:583:9
 parse-requires : tie.Need-parse-requires
 parse-requires c κs = search needs
 
--- src/lib.rt:584:9
 byte-at-requires-2 : tie.Need-byte-at-requires-2
 byte-at-requires-2 c κs = search needs
 
--- src/lib.rt:585:8
 drops-at-requires : tie.Need-drops-at-requires
 drops-at-requires c κs =
     let a = c .before .before .before .before .before .before .before .before .before .before .before .before .args in
@@ -53,11 +47,9 @@ drops-at-requires c κs =
     let b = c .before .before .before .before .before .byte-at in
     ((p .0 .end, c .before .before .parse .ensures ∙ ap parseOf (c .before .before .before .cut .ensures)), (p .1 .0, (drop-at (a .text .now) (a .paths .now) (a .notes .now) (p .1 .1 .1 .1 .0) (a .i) (a .k) (b .result) (p .0 .rows) (b .ensures), p .1 .1 .1 .0)))
 
--- src/lib.rt:586:9
 same-length : tie.Need-same-length
 same-length c = search needs
 
--- src/lib.rt:586:9
 returns-2 : tie.Need-returns-2
 returns-2 c =
     let a = c .before .before .before .before .before .before .before .before .before .before .before .before .before .before .before .before .args in
@@ -66,15 +58,12 @@ returns-2 c =
     let f = c .before .before .before .before .before .byte-at2 in
     (first-goes (a .text .now) (a .paths .now) (a .loops .now) (a .i) (a .e) (a .k) (a .run) (p .0) (f .result) (f .ensures) (sym (d .ensures .0) ∙ c .if2 .taken), d .ensures .1)
 
--- src/lib.rt:588:9
 after-requires : tie.Need-after-requires
 after-requires c κs = search needs
 
--- src/lib.rt:589:36
 add-next-drops : tie.Need-add-next-drops
 add-next-drops c = search needs
 
--- src/lib.rt:589:9
 next-drops-requires : tie.Need-next-drops-requires
 next-drops-requires c κs =
     let a = c .before .before .before .before .before .before .before .before .before .before .before .before .before .before .before .before .before .before .args in
@@ -82,11 +71,9 @@ next-drops-requires c κs =
     let n = c .before .after in
     ((rows-on (a .text .now) (a .i) (a .k) (a .e) (n .result) (p .0 .rows) (p .0 .here) (p .0 .end) (n .ensures)), (blank-as (c .before .before .before .before .before .drops-at .ensures .1) (p .1 .0), (p .1 .1 .1 .0, (p .1 .1 .1 .1 .0, p .1 .1 .1 .1 .1))))
 
--- src/lib.rt:590:36
 add-end-at : tie.Need-add-end-at
 add-end-at c = let p = c .before .before .before .before .before .before .before .before .before .before .before .before .before .before .before .before .before .before .before .before .before .pre in omega (arith, c .before .before .before .before .before .before .before .before .before .before .before .before .before .before .before .before .before .before .before .before .before .fits, c .before .before .before .before .before .before .before .before .before .before .before .before .before .before .before .before .before .before .before .before .before .good, p .0 .above, p .0 .here)
 
--- src/lib.rt:590:9
 end-at-requires : tie.Need-end-at-requires
 end-at-requires c κs =
     let a = c .before .before .before .before .before .before .before .before .before .before .before .before .before .before .before .before .before .before .before .before .before .args in
@@ -94,11 +81,9 @@ end-at-requires c κs =
     let n = c .before .before .before .before .after in
     p .1 .1 .1 .1 .1 (a .k + 1) (n .result) (rows-on (a .text .now) (a .i) (a .k) (a .e) (n .result) (p .0 .rows) (p .0 .here) (p .0 .end) (n .ensures))
 
--- src/lib.rt:591:9
 cut-requires-2 : tie.Need-cut-requires-2
 cut-requires-2 c κs = search needs
 
--- src/lib.rt:592:5
 mark-at-requires : tie.Need-mark-at-requires
 mark-at-requires c κs =
     let a = c .before .before .before .before .before .before .before .before .before .before .before .before .before .before .before .before .before .before .before .before .before .before .before .before .args in
@@ -109,11 +94,9 @@ mark-at-requires c κs =
     let r = c .before .cut2 in
     (c .before .before .before .before .before .before .before .before .before .before .before .before .before .before .parse .ensures, (c .before .before .end-at .ensures, (blank-less (let h = value-room (a .i) (a .e) (a .text .now) in let q = ap length (l .ensures) in omega arith) (blank-as (c .before .before .before .before .before .next-drops .ensures .1 ∙ c .before .before .before .before .before .before .before .before .before .before .before .drops-at .ensures .1) (p .1 .0)), (send-at (a .text .now) (a .paths .now) (a .notes .now) (p .1 .1 .1 .1 .0) (a .i) (a .k) (b .result) (p .0 .rows) (b .ensures) (a .e) (n .result) (l .result .now) (p .0 .here) (p .0 .end) (n .ensures) (l .ensures), one-line (a .text .now) (a .notes .now) (a .i) (a .e) (a .k) (a .run) (l .result .now) (r .result .now) (b .result) (l .ensures) (r .ensures) (b .ensures) (p .1 .1 .0)))))
 
--- src/lib.rt:558:1
 same-length-2 : tie.Need-same-length-2
 same-length-2 c = search needs
 
--- src/lib.rt:558:1
 returns-3 : tie.Need-returns-3
 returns-3 c =
     let a = c .before .before .before .before .before .before .before .before .before .before .before .before .before .before .before .before .before .before .before .before .before .before .before .before .before .before .before .args in

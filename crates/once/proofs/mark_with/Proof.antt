@@ -28,22 +28,18 @@ Inv-loop text paths loops calm notes ends scratch₀ marks₀ run₀ i₀ k₀ s
 abbrev μ-loop : tie.MeasureT-loop
 μ-loop text paths loops calm notes ends scratch₀ marks₀ run₀ i₀ k₀ scratch marks run i k = length text - i
 
--- src/lib.rt:624:5
 loop-holds : tie.Need-loop-holds Inv-loop μ-loop
 loop-holds c =
     let a = c .before .before .before .before .before .before .before .args in
     let p = c .before .before .before .before .before .before .before .pre in
     (refl, (p .0, (fill-start (a .text .now) (a .paths .now) (a .loops .now) (a .marks .now) (p .1 .0), (rows-start (a .text .now), area-begin (a .text .now)))))
 
--- src/lib.rt:625:13
 end-at-requires : tie.Need-end-at-requires Inv-loop μ-loop
 end-at-requires c κs = let l = c .before .loop in c .before .before .before .before .before .before .before .before .before .pre .1 .1 .1 .1 .1 (l .k) (l .i) (l .inv .1 .1 .1 .0)
 
--- src/lib.rt:626:9
 area-at-requires : tie.Need-area-at-requires Inv-loop μ-loop
 area-at-requires c κs = (omega (arith, c .end-at .ensures), find-le 10 (c .before .before .before .before .before .before .before .before .before .before .args .text .now) (c .before .before .loop .i) (c .end-at .result) (omega (arith, c .before .loop-test .taken)) (c .end-at .ensures))
 
--- src/lib.rt:627:20
 mark-line-requires : tie.Need-mark-line-requires Inv-loop μ-loop
 mark-line-requires c κs =
     let a = c .before .before .before .before .before .before .before .before .before .before .before .before .args in
@@ -54,26 +50,21 @@ mark-line-requires c κs =
     let l = c .before .before .before .before .loop in
     (record { here = t; end = e .ensures; above = l .inv .1 .1 .0 .k≤; rows = l .inv .1 .1 .1 .0 }, (l .inv .1 .0, (one-at (a .text .now) (l .i) (l .k) (e .result) (min (e .result + 1) (length (a .text .now))) t (e .ensures) refl (l .inv .1 .1 .1 .0) (l .run) (w .result) (w .ensures) (l .inv .1 .1 .1 .1) (a .notes .now) (p .1 .1 .0), (p .1 .1 .1 .0, (p .1 .1 .1 .1 .0, p .1 .1 .1 .1 .1)))))
 
--- src/lib.rt:627:9
 slice-write-marks : tie.Need-slice-write-marks Inv-loop μ-loop
 slice-write-marks c =
     let w = c .before .before .before .before .area-at in
     let e = c .before .before .before .before .before .end-at in
     fill-place (c .before .before .before .before .before .before .before .loop .inv .1 .1 .0) (c .before .before .before .before .before .before .loop-test .taken) (e .result) (w .result) (e .ensures) (w .ensures)
 
--- src/lib.rt:628:9
 add-k : tie.Need-add-k Inv-loop μ-loop
 add-k c = omega (arith, c .before .before .before .before .before .before .before .before .before .before .before .before .before .before .before .fits, c .before .before .before .before .before .before .before .before .before .before .before .before .before .before .before .good, c .before .before .before .before .before .before .before .loop .inv .1 .1 .0 .k≤, c .before .before .before .before .before .before .loop-test .taken)
 
--- src/lib.rt:629:9
 after-requires : tie.Need-after-requires Inv-loop μ-loop
 after-requires c κs = search needs
 
--- src/lib.rt:624:5
 loop-less : tie.Need-loop-less Inv-loop μ-loop
 loop-less c = omega (arith, c .after .ensures, c .before .before .before .before .before .before .end-at .ensures, c .before .before .before .before .before .before .before .loop-test .taken)
 
--- src/lib.rt:624:5
 loop-again : tie.Need-loop-again Inv-loop μ-loop
 loop-again c =
     let a = c .before .before .before .before .before .before .before .before .before .before .before .before .before .before .before .before .args in
@@ -85,15 +76,12 @@ loop-again c =
     let l = c .before .before .before .before .before .before .before .before .loop in
     (m .ensures .1 ∙ l .inv .0, (blank-as (m .ensures .1) (l .inv .1 .0), (fill-on (l .inv .1 .1 .0) t (e .result) (w .result) (e .ensures) (w .ensures) (n .result) (m .result) (n .ensures) (m .ensures .0), (rows-on (a .text .now) (l .i) (l .k) (e .result) (n .result) (l .inv .1 .1 .1 .0) t (e .ensures) (n .ensures), area-after (a .text .now) (l .i) (l .k) (e .result) (n .result) t (e .ensures) (n .ensures) (l .inv .1 .1 .1 .0) (l .run) (w .result) (w .ensures) (l .inv .1 .1 .1 .1)))))
 
--- src/lib.rt:606:1
 same-length : tie.Need-same-length Inv-loop μ-loop
 same-length c = ap length (c .before .loop .inv .0)
 
--- src/lib.rt:606:1
 same-length-2 : tie.Need-same-length-2 Inv-loop μ-loop
 same-length-2 c = writing-length (c .before .loop .inv .1 .1 .0 .writing)
 
--- src/lib.rt:606:1
 returns : tie.Need-returns Inv-loop μ-loop
 returns c = (fill-end (c .before .loop .inv .1 .1 .0) (c .loop-test .left), c .before .loop .inv .0)
 

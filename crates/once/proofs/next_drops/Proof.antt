@@ -18,11 +18,9 @@ use Rattle.once.proofs.drops_at.Reads as drops-at-reads
 use Rattle.once.proofs.noted.end_at.Reads as end-at-reads
 use Rattle.parse.proofs.parse.Reads as parse-reads
 
--- src/lib.rt:505:9
 byte-at-requires : tie.Need-byte-at-requires
 byte-at-requires c κs = search needs
 
--- src/lib.rt:507:9
 returns : tie.Need-returns
 returns c =
     let a = c .before .before .before .before .before .before .before .before .args in
@@ -30,26 +28,21 @@ returns c =
     let b = c .before .byte-at in
     (settled-first plain (linesOf (drop (a .j) (a .text .now))) (a .paths .now) (a .k) (isSet (getD (a .loops .now) (a .k) 0)) (b .result) (kind-first (a .text .now) (a .paths .now) (a .notes .now) (p .1 .1 .1 .0) (a .j) (a .k) (b .result) (p .0) (b .ensures)) (c .if1 .taken) (drop-at (a .text .now) (a .paths .now) (a .notes .now) (p .1 .1 .1 .0) (a .j) (a .k) (b .result) (p .0) (b .ensures)), refl)
 
--- src/lib.rt:509:9
 end-at-requires : tie.Need-end-at-requires
 end-at-requires c κs =
     let a = c .before .before .before .before .before .before .before .before .args in
     let p = c .before .before .before .before .before .before .before .before .pre in
     p .1 .1 .1 .1 (a .k) (a .j) (p .0)
 
--- src/lib.rt:510:26
 cut-requires : tie.Need-cut-requires
 cut-requires c κs = search needs
 
--- src/lib.rt:510:9
 parse-requires : tie.Need-parse-requires
 parse-requires c κs = search needs
 
--- src/lib.rt:511:9
 byte-at-requires-2 : tie.Need-byte-at-requires-2
 byte-at-requires-2 c κs = search needs
 
--- src/lib.rt:512:5
 drops-at-requires : tie.Need-drops-at-requires
 drops-at-requires c κs =
     let a = c .before .before .before .before .before .before .before .before .before .before .before .before .before .args in
@@ -57,11 +50,9 @@ drops-at-requires c κs =
     let b = c .before .before .before .before .before .before .byte-at in
     ((c .before .before .before .before .end-at .ensures, c .before .before .parse .ensures ∙ ap parseOf (c .before .before .before .cut .ensures)), (p .1 .0, (drop-at (a .text .now) (a .paths .now) (a .notes .now) (p .1 .1 .1 .0) (a .j) (a .k) (b .result) (p .0) (b .ensures), p .1 .1 .0)))
 
--- src/lib.rt:489:1
 same-length : tie.Need-same-length
 same-length c = search needs
 
--- src/lib.rt:489:1
 returns-2 : tie.Need-returns-2
 returns-2 c =
     let a = c .before .before .before .before .before .before .before .before .before .before .before .before .before .before .before .before .args in

@@ -15,23 +15,18 @@ use Rattle.lines.proofs.cut.Reads as cut-reads
 use Rattle.once.proofs.read_once.Reads as read-once-reads
 use Rattle.place.proofs.region_end.Reads as region-end-reads
 
--- src/lib.rt:358:9
 returns : tie.Need-returns
 returns c = sym (eq-eqb _ _ (c .before .before .pre (c .if1 .taken)))
 
--- src/lib.rt:360:9
 region-end-requires : tie.Need-region-end-requires
 region-end-requires c κs = search needs
 
--- src/lib.rt:361:15
 cut-requires : tie.Need-cut-requires
 cut-requires c κs = search needs
 
--- src/lib.rt:361:5
 read-once-requires : tie.Need-read-once-requires
 read-once-requires c κs = search needs
 
--- src/lib.rt:353:1
 returns-2 : tie.Need-returns-2
 returns-2 c = let a = c .before .before .before .before .before .args in c .read-once .ensures ∙ ap (λ (ls : List (List ℕ)). eqb (readCount (a .reg .0) ls) 1) (ap linesOf (c .before .cut .ensures) ∙ region-at (a .run .now) 0 (c .before .before .region-end .result) (c .before .before .region-end .ensures))
 

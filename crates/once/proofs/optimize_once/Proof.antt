@@ -14,81 +14,62 @@ use Rattle.decls.proofs.prune_decls.Reads as prune-decls-reads
 use Rattle.once.proofs.decide.Reads as decide-reads
 use Rattle.once.proofs.put_acts.Reads as put-acts-reads
 
--- src/lib.rt:805:60
 slice-aggregate-decide : tie.Need-slice-aggregate-decide
 slice-aggregate-decide c = search needs
 
--- src/lib.rt:805:9
 decide-requires : tie.Need-decide-requires
 decide-requires c κs = let p = c .before .before .before .before .before .before .before .before .before .before .before .before .before .before .pre in (p .0, (p .1 .0, (p .1 .1 .0, (p .1 .1 .1 .0, (p .1 .1 .1 .1 .0, (p .1 .1 .1 .1 .1 .0, zeros-most 1024))))))
 
--- src/lib.rt:806:28
 sub-put-acts : tie.Need-sub-put-acts
 sub-put-acts c = search needs
 
--- src/lib.rt:806:28
 part-put-acts-start : tie.Need-part-put-acts-start
 part-put-acts-start c = search needs
 
--- src/lib.rt:806:28
 part-put-acts-end : tie.Need-part-put-acts-end
 part-put-acts-end c = omega (arith, filled-le (c .before .before .before .before .before .before .before .before .before .before .before .before .decide .ensures .0))
 
--- src/lib.rt:806:42
 slice-aggregate-put-acts : tie.Need-slice-aggregate-put-acts
 slice-aggregate-put-acts c = search needs
 
--- src/lib.rt:806:9
 put-acts-requires : tie.Need-put-acts-requires
 put-acts-requires c κs = (c .before .before .before .before .before .before .before .before .before .before .before .before .before .before .before .decide .ensures .1 .1, omega (arith, ap length (acts-text (linesOf (c .before .before .before .before .before .before .before .before .before .before .before .before .before .before .before .before .before .before .before .before .before .before .before .before .before .before .before .before .before .before .args .text .now)) (filled-part (c .before .before .before .before .before .before .before .before .before .before .before .before .before .before .before .decide .ensures .0))), c .before .before .before .before .before .before .before .before .before .before .before .before .before .before .before .before .before .before .before .before .before .before .before .before .before .before .before .before .before .before .pre .1 .1 .1 .1 .1 .1 .0))
 
--- src/lib.rt:807:24
 sub-prune-decls : tie.Need-sub-prune-decls
 sub-prune-decls c = search needs
 
--- src/lib.rt:807:24
 part-prune-decls-start : tie.Need-part-prune-decls-start
 part-prune-decls-start c = search needs
 
--- src/lib.rt:807:24
 part-prune-decls-end : tie.Need-part-prune-decls-end
 part-prune-decls-end c = search needs
 
--- src/lib.rt:807:5
 prune-decls-requires : tie.Need-prune-decls-requires
 prune-decls-requires c κs =
     let t = c .before .before .before .before .before .before .before .before .before .before .before .before .before .before .before .before .before .before .before .before .before .before .before .before .before .before .before .before .before .before .before .before .before .before .before .before .args .text .now in
     omega (arith, ap length (once-text t _ (wrote-first (c .before .before .before .before .before .put-acts .ensures) ∙ acts-text (linesOf t) (filled-part (c .before .before .before .before .before .before .before .before .before .before .before .before .before .before .before .before .before .before .before .before .before .decide .ensures .0)))), c .before .before .before .before .before .before .before .before .before .before .before .before .before .before .before .before .before .before .before .before .before .before .before .before .before .before .before .before .before .before .before .before .before .before .before .before .pre .1 .1 .1 .1 .1 .1 .1)
 
--- src/lib.rt:778:1
 same-length : tie.Need-same-length
 same-length c = search needs
 
--- src/lib.rt:778:1
 same-length-2 : tie.Need-same-length-2
 same-length-2 c = search needs
 
--- src/lib.rt:778:1
 same-length-3 : tie.Need-same-length-3
 same-length-3 c = search needs
 
--- src/lib.rt:778:1
 same-length-4 : tie.Need-same-length-4
 same-length-4 c = search needs
 
--- src/lib.rt:778:1
 same-length-5 : tie.Need-same-length-5
 same-length-5 c = search needs
 
--- src/lib.rt:778:1
 same-length-6 : tie.Need-same-length-6
 same-length-6 c = search needs
 
--- src/lib.rt:778:1
 same-length-7 : tie.Need-same-length-7
 same-length-7 c = search needs
 
--- src/lib.rt:778:1
 returns : tie.Need-returns
 returns c =
     let t = c .before .before .before .before .before .before .before .before .before .before .before .before .before .before .before .before .before .before .before .before .before .before .before .before .before .before .before .before .before .before .before .before .before .before .before .before .before .before .before .args .text .now in

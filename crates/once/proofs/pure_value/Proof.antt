@@ -13,23 +13,18 @@ use Rattle.expr.proofs.is_pure.Reads as is-pure-reads
 use Rattle.expr.proofs.purity.Reads as purity-reads
 use Rattle.lines.proofs.wipe.Reads as wipe-reads
 
--- src/lib.rt:194:9
 purity-requires : tie.Need-purity-requires
 purity-requires c κs = omega (arith, strip-length (c .before .before .before .args .x .now), c .before .before .before .pre .room)
 
--- src/lib.rt:195:5
 wipe-requires : tie.Need-wipe-requires
 wipe-requires c κs = search needs
 
--- src/lib.rt:196:5
 is-pure-requires : tie.Need-is-pure-requires
 is-pure-requires c κs = search needs
 
--- src/lib.rt:189:1
 same-length : tie.Need-same-length
 same-length c = search needs
 
--- src/lib.rt:189:1
 returns : tie.Need-returns
 returns c =
     let a = c .before .before .before .before .before .before .before .before .before .before .before .args in

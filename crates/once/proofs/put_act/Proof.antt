@@ -10,47 +10,36 @@ use Rattle.once.proofs.put_act.Lts as lts
 use Rattle.once.proofs.put_taken.Reads as put-taken-reads
 use Rattle.once.proofs.put_whole.Reads as put-whole-reads
 
--- src/lib.rt:339:9
 returns : tie.Need-returns
 returns c = let a = c .before .before .before .before .args in wrote-as (act-goes (a .m) (a .n) (a .given) (a .above .now) (a .line .now) (c .if1 .taken)) (wrote-nil _ _ (omega (arith, c .before .before .before .before .pre)))
 
--- src/lib.rt:343:13
 put-whole-requires : tie.Need-put-whole-requires
 put-whole-requires c κs = let a = c .before .before .before .before .before .before .before .args in fits-as (a .o) (act-waits (a .m) (a .n) (a .given) (a .above .now) (a .line .now) (c .before .before .before .if1 .left) (c .before .before .if2 .taken) (c .before .if3 .taken)) (c .before .before .before .before .before .before .before .pre)
 
--- src/lib.rt:343:13
 same-length : tie.Need-same-length
 same-length c = search needs
 
--- src/lib.rt:343:13
 returns-2 : tie.Need-returns-2
 returns-2 c = let a = c .before .before .before .before .before .before .before .before .before .before .args in wrote-as (act-waits (a .m) (a .n) (a .given) (a .above .now) (a .line .now) (c .before .before .before .before .before .before .if1 .left) (c .before .before .before .before .before .if2 .taken) (c .before .before .before .before .if3 .taken)) (c .before .before .put-whole .ensures)
 
--- src/lib.rt:345:9
 returns-3 : tie.Need-returns-3
 returns-3 c = let a = c .before .before .before .before .before .before .args in wrote-as (act-sent (a .m) (a .n) (a .given) (a .above .now) (a .line .now) (c .before .before .if1 .left) (c .before .if2 .taken) (c .if3 .left)) (wrote-nil _ _ (omega (arith, c .before .before .before .before .before .before .pre)))
 
--- src/lib.rt:348:9
 put-taken-requires : tie.Need-put-taken-requires
 put-taken-requires c κs = let a = c .before .before .before .before .before .before .before .args in fits-as (a .o) (act-taken (a .m) (a .n) (a .given) (a .above .now) (a .line .now) (c .before .before .before .if1 .left) (c .before .before .if2 .left) (c .before .if4 .taken)) (c .before .before .before .before .before .before .before .pre)
 
--- src/lib.rt:348:9
 same-length-2 : tie.Need-same-length-2
 same-length-2 c = search needs
 
--- src/lib.rt:348:9
 returns-4 : tie.Need-returns-4
 returns-4 c = let a = c .before .before .before .before .before .before .before .before .before .before .args in wrote-as (act-taken (a .m) (a .n) (a .given) (a .above .now) (a .line .now) (c .before .before .before .before .before .before .if1 .left) (c .before .before .before .before .before .if2 .left) (c .before .before .before .before .if4 .taken)) (c .before .before .put-taken .ensures)
 
--- src/lib.rt:350:5
 put-whole-requires-2 : tie.Need-put-whole-requires-2
 put-whole-requires-2 c κs = let a = c .before .before .before .before .before .before .before .args in fits-as (a .o) (act-kept (a .m) (a .n) (a .given) (a .above .now) (a .line .now) (c .before .before .before .if1 .left) (c .before .before .if2 .left) (c .before .if4 .left)) (c .before .before .before .before .before .before .before .pre)
 
--- src/lib.rt:334:1
 same-length-3 : tie.Need-same-length-3
 same-length-3 c = search needs
 
--- src/lib.rt:334:1
 returns-5 : tie.Need-returns-5
 returns-5 c = let a = c .before .before .before .before .before .before .before .before .before .before .args in wrote-as (act-kept (a .m) (a .n) (a .given) (a .above .now) (a .line .now) (c .before .before .before .before .before .before .if1 .left) (c .before .before .before .before .before .if2 .left) (c .before .before .before .before .if4 .left)) (c .before .before .put-whole2 .ensures)
 

@@ -30,99 +30,75 @@ Inv-loop text marks ends out₀ i₀ k₀ o₀ given₀ a₀ b₀ c₀ out i k o
 abbrev μ-loop : tie.MeasureT-loop
 μ-loop text marks ends out₀ i₀ k₀ o₀ given₀ a₀ b₀ c₀ out i k o given a b c = length text - i
 
--- src/lib.rt:704:5
 loop-holds : tie.Need-loop-holds Inv-loop μ-loop
 loop-holds c = acts-start (c .before .before .before .before .args .text .now) (c .before .before .before .before .args .marks .now) (c .before .before .before .before .args .out .now) _ (omega (arith, c .before .before .before .before .pre .1))
 
--- src/lib.rt:705:13
 end-at-requires : tie.Need-end-at-requires Inv-loop μ-loop
 end-at-requires c κs = c .before .before .before .before .before .before .pre .0 (c .before .loop .k) (c .before .loop .i) (c .before .loop .inv .rows)
 
--- src/lib.rt:706:13
 byte-at-requires : tie.Need-byte-at-requires Inv-loop μ-loop
 byte-at-requires c κs = search needs
 
--- src/lib.rt:708:13
 add-k : tie.Need-add-k Inv-loop μ-loop
 add-k c = omega (arith, c .before .before .before .before .loop .inv .k≤, c .before .before .before .loop-test .taken)
 
--- src/lib.rt:709:13
 after-requires : tie.Need-after-requires Inv-loop μ-loop
 after-requires c κs = search needs
 
--- src/lib.rt:704:5
 loop-less : tie.Need-loop-less Inv-loop μ-loop
 loop-less c = omega (arith, c .after .ensures, c .before .before .before .end-at .ensures, c .before .before .before .before .loop-test .taken)
 
--- src/lib.rt:704:5
 loop-again : tie.Need-loop-again Inv-loop μ-loop
 loop-again c = acts-pass (c .before .before .before .before .before .loop .inv) (c .before .before .before .before .loop-test .taken) (c .before .before .before .end-at .result) (c .before .before .before .end-at .ensures) (c .after .result) (c .after .ensures) (rows-on (c .before .before .before .before .before .before .before .before .before .before .args .text .now) (c .before .before .before .before .before .loop .i) (c .before .before .before .before .before .loop .k) (c .before .before .before .end-at .result) (c .after .result) (c .before .before .before .before .before .loop .inv .rows) (c .before .before .before .before .loop-test .taken) (c .before .before .before .end-at .ensures) (c .after .ensures)) (c .before .before .byte-at .result) (c .before .before .byte-at .ensures) (eqb-true (c .before .before .byte-at .result) 0 (and-left (eqb (c .before .before .byte-at .result) 0) (not (c .before .before .before .before .before .loop .given)) (c .before .if1 .taken))) (not-true (c .before .before .before .before .before .loop .given) (and-right (eqb (c .before .before .byte-at .result) 0) (not (c .before .before .before .before .before .loop .given)) (c .before .if1 .taken)))
 
--- src/lib.rt:711:43
 add-byte-at : tie.Need-add-byte-at Inv-loop μ-loop
 add-byte-at c = omega (arith, c .before .before .before .before .loop .inv .k≤, c .before .before .before .loop-test .taken)
 
--- src/lib.rt:711:17
 byte-at-requires-2 : tie.Need-byte-at-requires-2 Inv-loop μ-loop
 byte-at-requires-2 c κs = search needs
 
--- src/lib.rt:712:40
 cut-requires : tie.Need-cut-requires Inv-loop μ-loop
 cut-requires c κs = search needs
 
--- src/lib.rt:712:17
 put-requires : tie.Need-put-requires Inv-loop μ-loop
 put-requires c κs = held-fits (c .before .before .before .before .before .before .before .loop .inv) (c .before .before .before .before .before .before .loop-test .taken) (c .before .before .before .before .before .end-at .result) (c .before .before .before .before .before .end-at .ensures) (min (c .before .before .before .before .before .end-at .result + 1) (length (c .before .before .before .before .before .before .before .before .before .before .before .before .args .text .now))) refl (rows-on (c .before .before .before .before .before .before .before .before .before .before .before .before .args .text .now) (c .before .before .before .before .before .before .before .loop .i) (c .before .before .before .before .before .before .before .loop .k) (c .before .before .before .before .before .end-at .result) (min (c .before .before .before .before .before .end-at .result + 1) (length (c .before .before .before .before .before .before .before .before .before .before .before .before .args .text .now))) (c .before .before .before .before .before .before .before .loop .inv .rows) (c .before .before .before .before .before .before .loop-test .taken) (c .before .before .before .before .before .end-at .ensures) refl) (c .before .before .before .before .byte-at .result) (c .before .before .before .before .byte-at .ensures) (c .before .before .byte-at2 .result) (c .before .before .byte-at2 .ensures) (part (c .before .before .before .before .before .before .before .loop .a) (c .before .before .before .before .before .before .before .loop .b) (c .before .before .before .before .before .before .before .before .before .before .before .before .args .text .now)) refl (c .cut .result .now) (c .cut .ensures)
 
--- src/lib.rt:713:25
 sub-put-act : tie.Need-sub-put-act Inv-loop μ-loop
 sub-put-act c = omega arith
 
--- src/lib.rt:713:25
 part-put-act-start : tie.Need-part-put-act-start Inv-loop μ-loop
 part-put-act-start c = omega arith
 
--- src/lib.rt:713:25
 part-put-act-end : tie.Need-part-put-act-end Inv-loop μ-loop
 part-put-act-end c = omega (arith, find-le 10 (c .before .before .before .before .before .before .before .before .before .before .before .before .before .before .before .args .text .now) (c .before .before .before .before .before .before .before .before .before .before .loop .i) (c .before .before .before .before .before .before .before .before .end-at .result) (c .before .before .before .before .before .before .before .before .before .before .loop .inv .i≤) (c .before .before .before .before .before .before .before .before .end-at .ensures))
 
--- src/lib.rt:713:38
 cut-requires-2 : tie.Need-cut-requires-2 Inv-loop μ-loop
 cut-requires-2 c κs = search needs
 
--- src/lib.rt:713:13
 put-act-requires : tie.Need-put-act-requires Inv-loop μ-loop
 put-act-requires c κs = acts-fit (c .before .before .before .before .before .before .before .before .before .before .before .before .before .loop .inv) (c .before .before .before .before .before .before .before .before .before .before .before .before .loop-test .taken) (c .before .before .before .before .before .before .before .before .before .before .before .end-at .result) (c .before .before .before .before .before .before .before .before .before .before .before .end-at .ensures) (min (c .before .before .before .before .before .before .before .before .before .before .before .end-at .result + 1) (length (c .before .before .before .before .before .before .before .before .before .before .before .before .before .before .before .before .before .before .args .text .now))) refl (rows-on (c .before .before .before .before .before .before .before .before .before .before .before .before .before .before .before .before .before .before .args .text .now) (c .before .before .before .before .before .before .before .before .before .before .before .before .before .loop .i) (c .before .before .before .before .before .before .before .before .before .before .before .before .before .loop .k) (c .before .before .before .before .before .before .before .before .before .before .before .end-at .result) (min (c .before .before .before .before .before .before .before .before .before .before .before .end-at .result + 1) (length (c .before .before .before .before .before .before .before .before .before .before .before .before .before .before .before .before .before .before .args .text .now))) (c .before .before .before .before .before .before .before .before .before .before .before .before .before .loop .inv .rows) (c .before .before .before .before .before .before .before .before .before .before .before .before .loop-test .taken) (c .before .before .before .before .before .before .before .before .before .before .before .end-at .ensures) refl) (c .before .before .before .before .before .before .before .before .before .before .byte-at .result) (c .before .before .before .before .before .before .before .before .before .before .byte-at .ensures) (c .before .before .before .before .before .before .before .before .byte-at2 .result) (c .before .before .before .before .before .before .before .before .byte-at2 .ensures) (c .before .cut2 .result .now) (c .before .cut2 .ensures) (c .before .before .before .before .before .before .cut .result .now) (c .before .before .before .before .before .before .cut .ensures) (c .before .before .before .before .before .put .ensures)
 
--- src/lib.rt:717:13
 add-k-2 : tie.Need-add-k-2 Inv-loop μ-loop
 add-k-2 c = omega (arith, c .before .before .before .before .before .before .before .before .before .before .before .before .before .before .before .before .loop .inv .k≤, c .before .before .before .before .before .before .before .before .before .before .before .before .before .before .before .loop-test .taken)
 
--- src/lib.rt:718:13
 after-requires-2 : tie.Need-after-requires-2 Inv-loop μ-loop
 after-requires-2 c κs = search needs
 
--- src/lib.rt:704:5
 loop-less-2 : tie.Need-loop-less-2 Inv-loop μ-loop
 loop-less-2 c = omega (arith, c .after2 .ensures, c .before .before .before .before .before .before .before .before .before .before .before .before .before .before .before .end-at .ensures, c .before .before .before .before .before .before .before .before .before .before .before .before .before .before .before .before .loop-test .taken)
 
--- src/lib.rt:704:5
 loop-again-2 : tie.Need-loop-again-2 Inv-loop μ-loop
 loop-again-2 c = acts-go (c .before .before .before .before .before .before .before .before .before .before .before .before .before .before .before .before .before .loop .inv) (c .before .before .before .before .before .before .before .before .before .before .before .before .before .before .before .before .loop-test .taken) (c .before .before .before .before .before .before .before .before .before .before .before .before .before .before .before .end-at .result) (c .before .before .before .before .before .before .before .before .before .before .before .before .before .before .before .end-at .ensures) (c .after2 .result) (c .after2 .ensures) (rows-on (c .before .before .before .before .before .before .before .before .before .before .before .before .before .before .before .before .before .before .before .before .before .before .args .text .now) (c .before .before .before .before .before .before .before .before .before .before .before .before .before .before .before .before .before .loop .i) (c .before .before .before .before .before .before .before .before .before .before .before .before .before .before .before .before .before .loop .k) (c .before .before .before .before .before .before .before .before .before .before .before .before .before .before .before .end-at .result) (c .after2 .result) (c .before .before .before .before .before .before .before .before .before .before .before .before .before .before .before .before .before .loop .inv .rows) (c .before .before .before .before .before .before .before .before .before .before .before .before .before .before .before .before .loop-test .taken) (c .before .before .before .before .before .before .before .before .before .before .before .before .before .before .before .end-at .ensures) (c .after2 .ensures)) (c .before .before .before .before .before .before .before .before .before .before .before .before .before .before .byte-at .result) (c .before .before .before .before .before .before .before .before .before .before .before .before .before .before .byte-at .ensures) (c .before .before .before .before .before .before .before .before .before .before .before .before .byte-at2 .result) (c .before .before .before .before .before .before .before .before .before .before .before .before .byte-at2 .ensures) (c .before .before .before .before .before .cut2 .result .now) (c .before .before .before .before .before .cut2 .ensures) (c .before .before .before .before .before .before .before .before .before .before .cut .result .now) (c .before .before .before .before .before .before .before .before .before .before .cut .ensures) (c .before .before .before .before .before .before .before .before .before .put .ensures) (c .before .before .before .put-act .ensures)
 
--- src/lib.rt:722:22
 cut-requires-3 : tie.Need-cut-requires-3 Inv-loop μ-loop
 cut-requires-3 c κs = search needs
 
--- src/lib.rt:722:5
 put-lines-requires : tie.Need-put-lines-requires Inv-loop μ-loop
 put-lines-requires c κs = last-fits (c .before .before .before .loop .inv) (c .before .before .loop-test .left) (c .before .cut3 .result .now) (c .before .cut3 .ensures)
 
--- src/lib.rt:693:1
 same-length : tie.Need-same-length Inv-loop μ-loop
 same-length c = c .before .before .put-lines .kept .1 .0 ∙ writing-length (c .before .before .before .before .before .before .loop .inv .writing)
 
--- src/lib.rt:693:1
 returns : tie.Need-returns Inv-loop μ-loop
 returns c = acts-end (c .before .before .before .before .before .before .loop .inv) (c .before .before .before .before .before .loop-test .left) (c .before .before .before .before .cut3 .result .now) (c .before .before .before .before .cut3 .ensures) (c .before .before .put-lines .ensures)
 

@@ -14,15 +14,12 @@ use Rattle.once.proofs.put_whole.Reads as put-whole-reads
 use Rattle.words.proofs.find_reg.Reads as find-reg-reads
 use Rattle.words.proofs.put_replaced.Reads as put-replaced-reads
 
--- src/lib.rt:309:11
 find-reg-requires : tie.Need-find-reg-requires
 find-reg-requires c κs = search needs
 
--- src/lib.rt:310:25
 enum-known-w : tie.Need-enum-known-w
 enum-known-w c = search needs
 
--- src/lib.rt:311:17
 put-replaced-requires : tie.Need-put-replaced-requires
 put-replaced-requires c κs =
     let a = c .before .before .before .before .before .before .before .before .args in
@@ -30,7 +27,6 @@ put-replaced-requires c κs =
     let h = fits-as (a .o) (into-one (a .reg .0) (a .line .now) (a .x .now) (w .0 .0) (sym (c .before .before .before .before .find-reg .ensures) ∙ w .1)) (c .before .before .before .before .before .before .before .before .pre) in
     omega (arith, h, line-long (replacedAt (w .0 .0 .from) (w .0 .0 .to) (a .line .now) (a .x .now)))
 
--- src/lib.rt:312:13
 put-byte-requires : tie.Need-put-byte-requires
 put-byte-requires c κs =
     let a = c .before .before .before .before .before .before .before .before .before .before .before .before .args in
@@ -38,32 +34,26 @@ put-byte-requires c κs =
     let h = fits-as (a .o) (into-one (a .reg .0) (a .line .now) (a .x .now) (w .0 .0) (sym (c .before .before .before .before .before .before .before .before .find-reg .ensures) ∙ w .1)) (c .before .before .before .before .before .before .before .before .before .before .before .before .pre) in
     omega (arith, h, line-long (replacedAt (w .0 .0 .from) (w .0 .0 .to) (a .line .now) (a .x .now)), c .before .before .before .put-replaced .ensures .place, wrote-length (c .before .before .before .put-replaced .ensures))
 
--- src/lib.rt:314:44
 enum-told : tie.Need-enum-told
 enum-told c = search needs
 
--- src/lib.rt:314:28
 put-whole-requires : tie.Need-put-whole-requires
 put-whole-requires c κs =
     let a = c .before .before .before .before .before .before .before .args in
     fits-as (a .o) (into-not (a .reg .0) (a .line .now) (a .x .now) (sym (c .before .before .before .find-reg .ensures) ∙ c .before .enum-told .given .1)) (c .before .before .before .before .before .before .before .pre)
 
--- src/lib.rt:305:1
 same-length : tie.Need-same-length
 same-length c = search needs
 
--- src/lib.rt:305:1
 returns : tie.Need-returns
 returns c =
     let a = c .before .before .before .before .before .before .before .before .before .before .before .before .before .before .before .args in
     let w = c .before .before .before .before .before .before .before .before .before .w .given in
     wrote-as (line-is _ ∙ into-one (a .reg .0) (a .line .now) (a .x .now) (w .0 .0) (sym (c .before .before .before .before .before .before .before .before .before .before .before .find-reg .ensures) ∙ w .1)) (wrote-then (c .before .before .before .before .before .before .put-replaced .ensures) (c .before .before .put-byte .ensures))
 
--- src/lib.rt:305:1
 same-length-2 : tie.Need-same-length-2
 same-length-2 c = search needs
 
--- src/lib.rt:305:1
 returns-2 : tie.Need-returns-2
 returns-2 c =
     let a = c .before .before .before .before .before .before .before .before .before .before .args in

@@ -11,59 +11,45 @@ use Rattle.once.proofs.put_whole.Reads as put-whole-reads
 use Rattle.parse.proofs.parse.Reads as parse-reads
 use Rattle.parse.proofs.value_of.Reads as value-of-reads
 
--- src/lib.rt:323:11
 parse-requires : tie.Need-parse-requires
 parse-requires c κs = search needs
 
--- src/lib.rt:324:46
 enum-told : tie.Need-enum-told
 enum-told c = search needs
 
--- src/lib.rt:324:30
 put-whole-requires : tie.Need-put-whole-requires
 put-whole-requires c κs = let a = c .before .before .before .before .before .before .before .args in fits-as (a .o) (taken-as (a .above .now) (a .line .now) _ (sym (c .before .enum-told .given .1) ∙ c .before .before .before .parse .ensures)) (c .before .before .before .before .before .before .before .pre)
 
--- src/lib.rt:325:28
 enum-known-s : tie.Need-enum-known-s
 enum-known-s c = search needs
 
--- src/lib.rt:326:17
 value-of-requires : tie.Need-value-of-requires
 value-of-requires c κs = search needs
 
--- src/lib.rt:327:13
 put-into-requires : tie.Need-put-into-requires
 put-into-requires c κs = let a = c .before .before .before .before .before .before .before .before .before .args in fits-as (a .o) (taken-store (a .above .now) (a .line .now) (c .before .before .before .s .given .0 .0) _ (c .before .value-of .ensures) (sym (c .before .before .before .s .given .1) ∙ c .before .before .before .before .before .parse .ensures)) (c .before .before .before .before .before .before .before .before .before .pre)
 
--- src/lib.rt:329:47
 enum-told-2 : tie.Need-enum-told-2
 enum-told-2 c = search needs
 
--- src/lib.rt:329:31
 put-whole-requires-2 : tie.Need-put-whole-requires-2
 put-whole-requires-2 c κs = let a = c .before .before .before .before .before .before .before .args in fits-as (a .o) (taken-as (a .above .now) (a .line .now) _ (sym (c .before .enum-told2 .given .1) ∙ c .before .before .before .parse .ensures)) (c .before .before .before .before .before .before .before .pre)
 
--- src/lib.rt:319:1
 same-length : tie.Need-same-length
 same-length c = search needs
 
--- src/lib.rt:319:1
 returns : tie.Need-returns
 returns c = let a = c .before .before .before .before .before .before .before .before .before .before .args in wrote-as (taken-as (a .above .now) (a .line .now) _ (sym (c .before .before .before .before .enum-told .given .1) ∙ c .before .before .before .before .before .before .parse .ensures)) (c .before .before .put-whole .ensures)
 
--- src/lib.rt:319:1
 same-length-2 : tie.Need-same-length-2
 same-length-2 c = search needs
 
--- src/lib.rt:319:1
 returns-2 : tie.Need-returns-2
 returns-2 c = let a = c .before .before .before .before .before .before .before .before .before .before .before .before .args in wrote-as (taken-store (a .above .now) (a .line .now) (c .before .before .before .before .before .before .s .given .0 .0) _ (c .before .before .before .before .value-of .ensures) (sym (c .before .before .before .before .before .before .s .given .1) ∙ c .before .before .before .before .before .before .before .before .parse .ensures)) (c .before .before .put-into .ensures)
 
--- src/lib.rt:319:1
 same-length-3 : tie.Need-same-length-3
 same-length-3 c = search needs
 
--- src/lib.rt:319:1
 returns-3 : tie.Need-returns-3
 returns-3 c = let a = c .before .before .before .before .before .before .before .before .before .before .args in wrote-as (taken-as (a .above .now) (a .line .now) _ (sym (c .before .before .before .before .enum-told2 .given .1) ∙ c .before .before .before .before .before .before .parse .ensures)) (c .before .before .put-whole2 .ensures)
 

@@ -23,31 +23,24 @@ Inv-loop text reg far i₀ i = (i ≤ length text) × (readBelow far (reg .0) (l
 abbrev μ-loop : tie.MeasureT-loop
 μ-loop text reg far i₀ i = length text - i
 
--- src/lib.rt:29:5
 loop-holds : tie.Need-loop-holds Inv-loop μ-loop
 loop-holds c = (omega arith, refl)
 
--- src/lib.rt:30:13
 find-byte-requires : tie.Need-find-byte-requires Inv-loop μ-loop
 find-byte-requires c κs = search needs
 
--- src/lib.rt:31:36
 sub-is-header : tie.Need-sub-is-header Inv-loop μ-loop
 sub-is-header c = omega arith
 
--- src/lib.rt:31:36
 part-is-header-start : tie.Need-part-is-header-start Inv-loop μ-loop
 part-is-header-start c = omega arith
 
--- src/lib.rt:31:36
 part-is-header-end : tie.Need-part-is-header-end Inv-loop μ-loop
 part-is-header-end c = omega (arith, find-le 10 (c .before .before .before .before .args .text .now) (c .before .before .loop .i) (c .find-byte .result) (c .before .before .loop .inv .0) (c .find-byte .ensures))
 
--- src/lib.rt:31:19
 is-header-requires : tie.Need-is-header-requires Inv-loop μ-loop
 is-header-requires c κs = search needs
 
--- src/lib.rt:32:13
 returns : tie.Need-returns Inv-loop μ-loop
 returns c =
     let l = c .before .before .before .before .before .loop in
@@ -55,23 +48,18 @@ returns c =
     let f = c .before .before .before .find-byte in
     sym (below-header (a .far) (a .reg .0) (a .text .now) (l .i) (f .result) (c .before .before .before .before .loop-test .taken) (f .ensures) (ap (λ (t : Bool). not (a .far) && t) (sym (c .before .is-header .ensures)) ∙ c .if1 .taken)) ∙ l .inv .1
 
--- src/lib.rt:34:33
 sub-use-of : tie.Need-sub-use-of Inv-loop μ-loop
 sub-use-of c = omega arith
 
--- src/lib.rt:34:33
 part-use-of-start : tie.Need-part-use-of-start Inv-loop μ-loop
 part-use-of-start c = omega arith
 
--- src/lib.rt:34:33
 part-use-of-end : tie.Need-part-use-of-end Inv-loop μ-loop
 part-use-of-end c = omega (arith, find-le 10 (c .before .before .before .before .before .before .before .args .text .now) (c .before .before .before .before .before .loop .i) (c .before .before .before .find-byte .result) (c .before .before .before .before .before .loop .inv .0) (c .before .before .before .find-byte .ensures))
 
--- src/lib.rt:34:13
 use-of-requires : tie.Need-use-of-requires Inv-loop μ-loop
 use-of-requires c κs = search needs
 
--- src/lib.rt:36:13
 returns-2 : tie.Need-returns-2 Inv-loop μ-loop
 returns-2 c =
     let l = c .before .before .before .before .before .before .before .before .loop in
@@ -79,7 +67,6 @@ returns-2 c =
     let f = c .before .before .before .before .before .before .find-byte in
     sym (below-stored (a .far) (a .reg .0) (a .text .now) (l .i) (f .result) (c .before .before .before .before .before .before .before .loop-test .taken) (f .ensures) (ap (λ (t : Bool). not (a .far) && t) (sym (c .before .before .before .before .is-header .ensures)) ∙ c .before .before .before .if1 .left) (sym (c .before .use-of .ensures .1) ∙ c .if2 .taken)) ∙ l .inv .1
 
--- src/lib.rt:39:13
 returns-3 : tie.Need-returns-3 Inv-loop μ-loop
 returns-3 c =
     let l = c .before .before .before .before .before .before .before .before .before .before .loop in
@@ -87,15 +74,12 @@ returns-3 c =
     let f = c .before .before .before .before .before .before .before .before .find-byte in
     sym (below-read (a .far) (a .reg .0) (a .text .now) (l .i) (f .result) (c .before .before .before .before .before .before .before .before .before .loop-test .taken) (f .ensures) (ap (λ (t : Bool). not (a .far) && t) (sym (c .before .before .before .before .before .before .is-header .ensures)) ∙ c .before .before .before .before .before .if1 .left) (sym (c .before .before .before .use-of .ensures .1) ∙ c .before .before .if2 .left) _ (c .before .before .before .use-of .ensures .0) (c .if3 .taken)) ∙ l .inv .1
 
--- src/lib.rt:41:9
 after-requires : tie.Need-after-requires Inv-loop μ-loop
 after-requires c κs = search needs
 
--- src/lib.rt:29:5
 loop-less : tie.Need-loop-less Inv-loop μ-loop
 loop-less c = omega (arith, c .after .ensures, c .before .before .before .before .before .before .before .before .before .find-byte .ensures)
 
--- src/lib.rt:29:5
 loop-again : tie.Need-loop-again Inv-loop μ-loop
 loop-again c =
     let l = c .before .before .before .before .before .before .before .before .before .before .before .loop in
@@ -103,7 +87,6 @@ loop-again c =
     let f = c .before .before .before .before .before .before .before .before .before .find-byte in
     (omega (arith, c .after .ensures), sym (below-on (a .far) (a .reg .0) (a .text .now) (l .i) (f .result) (c .before .before .before .before .before .before .before .before .before .before .loop-test .taken) (f .ensures) (ap (λ (t : Bool). not (a .far) && t) (sym (c .before .before .before .before .before .before .before .is-header .ensures)) ∙ c .before .before .before .before .before .before .if1 .left) (sym (c .before .before .before .before .use-of .ensures .1) ∙ c .before .before .before .if2 .left) _ (c .before .before .before .before .use-of .ensures .0) (c .after .result) (c .after .ensures) (c .before .if3 .left)) ∙ l .inv .1)
 
--- src/lib.rt:25:1
 returns-4 : tie.Need-returns-4 Inv-loop μ-loop
 returns-4 c = sym (below-end _ _ _ _ (c .loop-test .left)) ∙ c .before .loop .inv .1
 

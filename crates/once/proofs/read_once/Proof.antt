@@ -22,31 +22,24 @@ Inv-loop text reg i₀ n₀ i n = (i ≤ length text) × ((n ≤ 1) × (n + read
 abbrev μ-loop : tie.MeasureT-loop
 μ-loop text reg i₀ n₀ i n = length text - i
 
--- src/lib.rt:156:5
 loop-holds : tie.Need-loop-holds Inv-loop μ-loop
 loop-holds c = (omega arith, (omega arith, omega arith))
 
--- src/lib.rt:157:13
 find-byte-requires : tie.Need-find-byte-requires Inv-loop μ-loop
 find-byte-requires c κs = search needs
 
--- src/lib.rt:158:33
 sub-use-of : tie.Need-sub-use-of Inv-loop μ-loop
 sub-use-of c = omega arith
 
--- src/lib.rt:158:33
 part-use-of-start : tie.Need-part-use-of-start Inv-loop μ-loop
 part-use-of-start c = omega arith
 
--- src/lib.rt:158:33
 part-use-of-end : tie.Need-part-use-of-end Inv-loop μ-loop
 part-use-of-end c = omega (arith, find-le 10 (c .before .before .before .before .args .text .now) (c .before .before .loop .i) (c .find-byte .result) (c .before .before .loop .inv .0) (c .find-byte .ensures))
 
--- src/lib.rt:158:13
 use-of-requires : tie.Need-use-of-requires Inv-loop μ-loop
 use-of-requires c κs = search needs
 
--- src/lib.rt:160:13
 returns : tie.Need-returns Inv-loop μ-loop
 returns c =
     let l = c .before .before .before .before .before .before .loop in
@@ -54,11 +47,9 @@ returns c =
     let f = c .before .before .before .before .find-byte in
     sym (count-many (a .reg .0) (a .text .now) (l .i) (f .result) (c .before .before .before .before .before .loop-test .taken) (f .ensures) _ (c .before .before .use-of .ensures .0) (l .n) (omega arith) (l .inv .1 .1))
 
--- src/lib.rt:162:9
 add-n : tie.Need-add-n Inv-loop μ-loop
 add-n c = omega arith
 
--- src/lib.rt:164:13
 returns-2 : tie.Need-returns-2 Inv-loop μ-loop
 returns-2 c =
     let l = c .before .before .before .before .before .before .before .before .loop in
@@ -66,15 +57,12 @@ returns-2 c =
     let f = c .before .before .before .before .before .before .find-byte in
     sym (count-many (a .reg .0) (a .text .now) (l .i) (f .result) (c .before .before .before .before .before .before .before .loop-test .taken) (f .ensures) _ (c .before .before .before .before .use-of .ensures .0) (l .n) (c .if2 .taken) (l .inv .1 .1))
 
--- src/lib.rt:166:9
 after-requires : tie.Need-after-requires Inv-loop μ-loop
 after-requires c κs = search needs
 
--- src/lib.rt:156:5
 loop-less : tie.Need-loop-less Inv-loop μ-loop
 loop-less c = omega (arith, c .after .ensures, c .before .before .before .before .before .before .before .find-byte .ensures)
 
--- src/lib.rt:156:5
 loop-again : tie.Need-loop-again Inv-loop μ-loop
 loop-again c =
     let l = c .before .before .before .before .before .before .before .before .before .loop in
@@ -82,7 +70,6 @@ loop-again c =
     let f = c .before .before .before .before .before .before .before .find-byte in
     (omega (arith, c .after .ensures), (omega arith, omega (arith, l .inv .1 .1, count-on (a .reg .0) (a .text .now) (l .i) (f .result) (c .before .before .before .before .before .before .before .before .loop-test .taken) (f .ensures) _ (c .before .before .before .before .before .use-of .ensures .0) (c .after .result) (c .after .ensures))))
 
--- src/lib.rt:151:1
 returns-3 : tie.Need-returns-3 Inv-loop μ-loop
 returns-3 c =
     let l = c .before .loop in

@@ -16,50 +16,39 @@ use Rattle.once.proofs.called_below.Reads as called-below-reads
 use Rattle.once.proofs.is_member.Reads as is-member-reads
 use Rattle.once.proofs.live_below.Reads as live-below-reads
 
--- src/lib.rt:199:9
 returns : tie.Need-returns
 returns c = let a = c .before .before .before .args in sym (scratch-calm _ _ _ (any-none (a .x .now) _ (calm-none (a .x .now) (a .below .now) (a .calm) (c .before .before .before .pre .1) (c .if1 .taken))))
 
--- src/lib.rt:201:9
 is-member-requires : tie.Need-is-member-requires
 is-member-requires c κs = search needs
 
--- src/lib.rt:202:9
 returns-2 : tie.Need-returns-2
 returns-2 c = sym (scratch-no _ _ _ (sym (c .before .is-member .ensures) ∙ not-true _ (c .if2 .taken)))
 
--- src/lib.rt:204:8
 live-below-requires : tie.Need-live-below-requires
 live-below-requires c κs = c .before .before .before .before .before .pre .0
 
--- src/lib.rt:205:9
 returns-3 : tie.Need-returns-3
 returns-3 c = sym (scratch-live _ _ _ (sym (c .before .before .before .is-member .ensures) ∙ not-false _ (c .before .before .if2 .left)) (sym (c .before .live-below .ensures) ∙ c .if3 .taken))
 
--- src/lib.rt:207:9
 any-call-requires : tie.Need-any-call-requires
 any-call-requires c κs = search needs
 
--- src/lib.rt:208:9
 returns-4 : tie.Need-returns-4
 returns-4 c = sym (sym (scratch-called _ _ _ (sym (c .before .before .before .before .before .is-member .ensures) ∙ not-false _ (c .before .before .before .before .if2 .left)) (sym (c .before .before .before .live-below .ensures) ∙ c .before .before .if3 .left)) ∙ any-none _ _ (sym (c .before .any-call .ensures) ∙ not-true _ (c .if4 .taken)))
 
--- src/lib.rt:210:9
 find-byte-requires : tie.Need-find-byte-requires
 find-byte-requires c κs = search needs
 
--- src/lib.rt:211:28
 cut-requires : tie.Need-cut-requires
 cut-requires c κs = search needs
 
--- src/lib.rt:211:5
 called-below-requires : tie.Need-called-below-requires
 called-below-requires c κs =
     let a = c .before .before .before .before .before .before .before .before .before .before .before .args in
     let o = c .cut .ensures ∙ object-at (a .x .now) (c .before .find-byte .result) (c .before .find-byte .ensures) in
     (o, ap isIdent o ∙ member-object (a .x .now) (sym (c .before .before .before .before .before .before .before .is-member .ensures) ∙ not-false _ (c .before .before .before .before .before .before .if2 .left)))
 
--- src/lib.rt:194:1
 returns-5 : tie.Need-returns-5
 returns-5 c = c .called-below .ensures ∙ scratch-called _ _ _ (sym (c .before .before .before .before .before .before .before .before .is-member .ensures) ∙ not-false _ (c .before .before .before .before .before .before .before .if2 .left)) (sym (c .before .before .before .before .before .before .live-below .ensures) ∙ c .before .before .before .before .before .if3 .left)
 

@@ -16,43 +16,33 @@ use Rattle.parse.proofs.parse.Reads as parse-reads
 use Rattle.parse.proofs.text_of.Reads as text-of-reads
 use Rattle.words.proofs.count_reg.Reads as count-reg-reads
 
--- src/lib.rt:371:9
 returns : tie.Need-returns
 returns c = sym (c .before .before .before .pre .sent (c .if1 .taken))
 
--- src/lib.rt:374:9
 returns-2 : tie.Need-returns-2
 returns-2 c = sym (c .before .before .before .before .pre .stays (and-both (ap not (c .before .if1 .left)) (lt-ltb _ _ (c .if2 .taken))))
 
--- src/lib.rt:376:13
 parse-requires : tie.Need-parse-requires
 parse-requires c κs = search needs
 
--- src/lib.rt:377:8
 stores-in-requires : tie.Need-stores-in-requires
 stores-in-requires c κs = search needs
 
--- src/lib.rt:377:9
 returns-3 : tie.Need-returns-3
 returns-3 c = let a = c .before .before .before .before .before .before .before .args in let p = c .before .before .parse in sym (sent-stored (a .reg .0) (a .next .now) (linesOf (a .below .now)) (sym (stores-read (a .reg .0) (a .next .now) (p .result) (p .ensures)) ∙ sym (c .before .stores-in .ensures) ∙ c .if3 .taken))
 
--- src/lib.rt:379:25
 text-of-requires : tie.Need-text-of-requires
 text-of-requires c κs = search needs
 
--- src/lib.rt:379:8
 count-reg-requires : tie.Need-count-reg-requires
 count-reg-requires c κs = search needs
 
--- src/lib.rt:380:9
 returns-4 : tie.Need-returns-4
 returns-4 c = let a = c .before .before .before .before .before .before .before .before .before .before .args in let p = c .before .before .before .before .before .parse in sym (sent-reads (a .reg .0) (a .next .now) (linesOf (a .below .now)) (sym (stores-read (a .reg .0) (a .next .now) (p .result) (p .ensures)) ∙ sym (c .before .before .before .before .stores-in .ensures) ∙ c .before .before .before .if3 .left) _ (c .before .count-reg .ensures ∙ reads-read (a .reg .0) (a .next .now) (p .result) _ (p .ensures) (c .before .before .text-of .ensures)) (c .if4 .taken))
 
--- src/lib.rt:382:6
 read-below-requires : tie.Need-read-below-requires
 read-below-requires c κs = search needs
 
--- src/lib.rt:366:1
 returns-5 : tie.Need-returns-5
 returns-5 c = let a = c .before .before .before .before .before .before .before .before .before .before .before .args in let p = c .before .before .before .before .before .before .parse in ap not (c .read-below .ensures ∙ below-later (a .reg .0) (linesOf (a .below .now))) ∙ sent-later (a .reg .0) (a .next .now) (linesOf (a .below .now)) (sym (stores-read (a .reg .0) (a .next .now) (p .result) (p .ensures)) ∙ sym (c .before .before .before .before .before .stores-in .ensures) ∙ c .before .before .before .before .if3 .left) _ (c .before .before .count-reg .ensures ∙ reads-read (a .reg .0) (a .next .now) (p .result) _ (p .ensures) (c .before .before .before .text-of .ensures)) (c .before .if4 .left)
 

@@ -9,19 +9,15 @@ use Rattle.once.proofs.starts_call.Lts as lts
 use Rattle.lines.proofs.byte_at.Reads as byte-at-reads
 use Rattle.lines.proofs.starts_with.Reads as starts-with-reads
 
--- src/lib.rt:50:9
 starts-with-requires : tie.Need-starts-with-requires
 starts-with-requires c κs = search needs
 
--- src/lib.rt:51:9
 returns : tie.Need-returns
 returns c = sym (call-not _ _ (sym (c .before .starts-with .ensures) ∙ not-true _ (c .if1 .taken)))
 
--- src/lib.rt:53:5
 byte-at-requires : tie.Need-byte-at-requires
 byte-at-requires c κs = search needs
 
--- src/lib.rt:47:1
 returns-2 : tie.Need-returns-2
 returns-2 c = rw (c .byte-at .ensures) (sym (call-byte _ _ (sym (c .before .before .starts-with .ensures) ∙ not-false _ (c .before .if1 .left))))
 

@@ -13,66 +13,51 @@ use Rattle.once.proofs.pure_value.Reads as pure-value-reads
 use Rattle.once.proofs.scratch_at.Reads as scratch-at-reads
 use Rattle.words.proofs.count_reg.Reads as count-reg-reads
 
--- src/lib.rt:291:9
 returns : tie.Need-returns
 returns c =
     let a = c .before .before .before .before .before .args in
     let n = c .before .before .before .before .before .pre .1 .0 .live (c .if1 .taken) in
     (sym (drops-live plain (a .reg .0) (a .x .now) (a .p) (a .in-loop) (linesOf (a .below .now)) (a .paths .now) (n .0) (n .1)), refl)
 
--- src/lib.rt:293:8
 scratch-at-requires : tie.Need-scratch-at-requires
 scratch-at-requires c κs = ((λ q. c .before .before .before .before .before .pre .1 .0 .kept q .0, λ q. c .before .before .before .before .before .pre .1 .0 .dead q .0), c .before .before .before .before .before .pre .1 .1)
 
--- src/lib.rt:294:9
 returns-2 : tie.Need-returns-2
 returns-2 c = let a = c .before .before .before .before .before .before .before .args in (sym (drops-scratch plain (a .reg .0) (a .x .now) (a .p) (a .in-loop) (linesOf (a .below .now)) (a .paths .now) (sym (c .before .scratch-at .ensures) ∙ c .if2 .taken)), refl)
 
--- src/lib.rt:297:9
 returns-3 : tie.Need-returns-3
 returns-3 c = let a = c .before .before .before .before .before .before .before .before .args in (sym (drops-loop plain (a .reg .0) (a .x .now) (a .p) (a .in-loop) (linesOf (a .below .now)) (a .paths .now) (sym (c .before .before .scratch-at .ensures) ∙ c .before .if2 .left) (c .if3 .taken)), refl)
 
--- src/lib.rt:300:9
 returns-4 : tie.Need-returns-4
 returns-4 c = let a = c .before .before .before .before .before .before .before .before .before .args in (sym (drops-kept plain (a .reg .0) (a .x .now) (a .p) (a .in-loop) (linesOf (a .below .now)) (a .paths .now) (sym (c .before .before .before .scratch-at .ensures) ∙ c .before .before .if2 .left) (c .before .before .before .before .before .before .before .before .before .pre .1 .0 .kept (c .if4 .taken) .1)), refl)
 
--- src/lib.rt:302:8
 count-reg-requires : tie.Need-count-reg-requires
 count-reg-requires c κs = search needs
 
--- src/lib.rt:303:9
 returns-5 : tie.Need-returns-5
 returns-5 c = let a = c .before .before .before .before .before .before .before .before .before .before .before .args in (sym (drops-read plain (a .reg .0) (a .x .now) (a .p) (a .in-loop) (linesOf (a .below .now)) (a .paths .now) (sym (c .before .before .before .before .before .scratch-at .ensures) ∙ c .before .before .before .before .if2 .left) (c .before .before .before .if3 .left) _ (c .before .count-reg .ensures) (c .if5 .taken)), refl)
 
--- src/lib.rt:305:9
 pure-value-requires : tie.Need-pure-value-requires
 pure-value-requires c κs = search needs
 
--- src/lib.rt:306:9
 same-length : tie.Need-same-length
 same-length c = search needs
 
--- src/lib.rt:306:9
 returns-6 : tie.Need-returns-6
 returns-6 c = let a = c .before .before .before .before .before .before .before .before .before .before .before .before .before .before .before .before .args in (sym (drops-impure plain (a .reg .0) (a .x .now) (a .p) (a .in-loop) (linesOf (a .below .now)) (a .paths .now) (sym (c .before .before .before .before .before .before .before .before .before .before .scratch-at .ensures) ∙ c .before .before .before .before .before .before .before .before .before .if2 .left) (c .before .before .before .before .before .before .before .before .if3 .left) _ (c .before .before .before .before .before .before .count-reg .ensures) (c .before .before .before .before .before .if5 .left) (sym (c .before .before .before .pure-value .ensures .0) ∙ not-true _ (c .if6 .taken))), c .before .before .before .pure-value .ensures .1)
 
--- src/lib.rt:309:9
 same-length-2 : tie.Need-same-length-2
 same-length-2 c = search needs
 
--- src/lib.rt:309:9
 returns-7 : tie.Need-returns-7
 returns-7 c = let a = c .before .before .before .before .before .before .before .before .before .before .before .before .before .before .before .before .before .args in (sym (c .before .before .before .before .before .before .before .before .before .before .before .before .before .before .before .before .before .pre .1 .0 .dead (c .if7 .taken) .1) ∙ drops-dead plain (a .reg .0) (a .x .now) (a .p) (a .in-loop) (linesOf (a .below .now)) (a .paths .now) (sym (c .before .before .before .before .before .before .before .before .before .before .before .scratch-at .ensures) ∙ c .before .before .before .before .before .before .before .before .before .before .if2 .left) (c .before .before .before .before .before .before .before .before .before .if3 .left) _ (c .before .before .before .before .before .before .before .count-reg .ensures) (c .before .before .before .before .before .before .if5 .left) (sym (c .before .before .before .before .pure-value .ensures .0) ∙ not-false _ (c .before .if6 .left)), c .before .before .before .before .pure-value .ensures .1)
 
--- src/lib.rt:311:5
 dead-below-requires : tie.Need-dead-below-requires
 dead-below-requires c κs = search needs
 
--- src/lib.rt:275:1
 same-length-3 : tie.Need-same-length-3
 same-length-3 c = search needs
 
--- src/lib.rt:275:1
 returns-8 : tie.Need-returns-8
 returns-8 c = let a = c .before .before .before .before .before .before .before .before .before .before .before .before .before .before .before .before .before .before .args in (c .dead-below .ensures ∙ drops-dead plain (a .reg .0) (a .x .now) (a .p) (a .in-loop) (linesOf (a .below .now)) (a .paths .now) (sym (c .before .before .before .before .before .before .before .before .before .before .before .before .scratch-at .ensures) ∙ c .before .before .before .before .before .before .before .before .before .before .before .if2 .left) (c .before .before .before .before .before .before .before .before .before .before .if3 .left) _ (c .before .before .before .before .before .before .before .before .count-reg .ensures) (c .before .before .before .before .before .before .before .if5 .left) (sym (c .before .before .before .before .before .pure-value .ensures .0) ∙ not-false _ (c .before .before .if6 .left)), c .before .before .before .before .before .pure-value .ensures .1)
 

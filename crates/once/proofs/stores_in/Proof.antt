@@ -6,27 +6,21 @@ use Rattle.once.proofs.stores_in.Tie as tie
 use Rattle.once.proofs.stores_in.Reads as reads
 use Rattle.once.proofs.stores_in.Lts as lts
 
--- src/lib.rt:29:30
 enum-told : tie.Need-enum-told
 enum-told c = search needs
 
--- src/lib.rt:30:28
 enum-known-p : tie.Need-enum-known-p
 enum-known-p c = search needs
 
--- src/lib.rt:31:31
 enum-told-2 : tie.Need-enum-told-2
 enum-told-2 c = search needs
 
--- src/lib.rt:25:1
 returns : tie.Need-returns
 returns c = search needs
 
--- src/lib.rt:25:1
 returns-2 : tie.Need-returns-2
 returns-2 c = sym (ap (storesBy (c .before .before .before .before .before .args .reg .0)) (c .before .before .before .p .given .1))
 
--- src/lib.rt:25:1
 returns-3 : tie.Need-returns-3
 returns-3 c = search needs
 

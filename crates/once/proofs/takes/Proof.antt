@@ -7,23 +7,18 @@ use Rattle.once.proofs.takes.Reads as reads
 use Rattle.once.proofs.takes.Lts as lts
 use Rattle.words.proofs.find_reg.Reads as find-reg-reads
 
--- src/lib.rt:240:11
 find-reg-requires : tie.Need-find-reg-requires
 find-reg-requires c κs = search needs
 
--- src/lib.rt:241:25
 enum-known-w : tie.Need-enum-known-w
 enum-known-w c = search needs
 
--- src/lib.rt:242:28
 enum-told : tie.Need-enum-told
 enum-told c = search needs
 
--- src/lib.rt:237:1
 returns : tie.Need-returns
 returns c = ap hasHit (sym (c .before .w .given .1) ∙ c .before .before .before .find-reg .ensures)
 
--- src/lib.rt:237:1
 returns-2 : tie.Need-returns-2
 returns-2 c = ap hasHit (sym (c .enum-told .given .1) ∙ c .before .before .find-reg .ensures)
 

@@ -11,19 +11,15 @@ use Rattle.parse.proofs.after_space.Reads as reads
 use Rattle.parse.proofs.after_space.Lts as lts
 use Rattle.lines.proofs.byte_at.Reads as byte-at-reads
 
--- src/lib.rt:53:8
 byte-at-requires : tie.Need-byte-at-requires
 byte-at-requires c κs = search needs
 
--- src/lib.rt:54:16
 add-result : tie.Need-add-result
 add-result c = let a = c .before .before .before .args in omega (arith, inside (a .s .now) (a .i) (λ z. absurd (omega (arith, c .before .byte-at .ensures, c .if1 .taken))))
 
--- src/lib.rt:54:9
 returns : tie.Need-returns
 returns c = let a = c .before .before .before .args in rw (eq-eqb (getD (a .s .now) (a .i) 0) 32 (sym (c .before .byte-at .ensures) ∙ c .if1 .taken))
 
--- src/lib.rt:50:1
 returns-2 : tie.Need-returns-2
 returns-2 c = let a = c .before .before .before .args in rw (ne-eqb (getD (a .s .now) (a .i) 0) 32 (λ z. c .if1 .left (c .before .byte-at .ensures ∙ z)))
 

@@ -25,71 +25,54 @@ Inv-loop s i₀ i = (i ≤ length s) × (allRegs (partsOf 44 (drop i s)) ≡ all
 abbrev μ-loop : tie.MeasureT-loop
 μ-loop s i₀ i = length s - i
 
--- src/lib.rt:88:5
 loop-holds : tie.Need-loop-holds Inv-loop μ-loop
 loop-holds c = (omega arith, refl)
 
--- src/lib.rt:89:13
 plain-reg-requires : tie.Need-plain-reg-requires Inv-loop μ-loop
 plain-reg-requires c κs = search needs
 
--- src/lib.rt:92:17
 returns : tie.Need-returns Inv-loop μ-loop
 returns c = let l = c .before .before .before .loop in let p = c .before .before .plain-reg in let k = p .ensures (c .before .if1 .taken) in sym (regs-last (c .before .before .before .before .before .args .s .now) (l .i) (p .result) (l .inv .0) (k .0) (c .if2 .taken) (k .1)) ∙ l .inv .1
 
--- src/lib.rt:94:17
 add-i : tie.Need-add-i Inv-loop μ-loop
 add-i c = omega arith
 
--- src/lib.rt:88:5
 loop-less : tie.Need-loop-less Inv-loop μ-loop
 loop-less c = omega (arith, c .before .if1 .taken)
 
--- src/lib.rt:88:5
 loop-again : tie.Need-loop-again Inv-loop μ-loop
 loop-again c = let l = c .before .before .before .loop in let p = c .before .before .plain-reg in let k = p .ensures (c .before .if1 .taken) in (omega arith, sym (regs-on (c .before .before .before .before .before .args .s .now) (l .i) (p .result) (l .inv .0) (k .0) (c .if2 .left) (k .1)) ∙ l .inv .1)
 
--- src/lib.rt:96:17
 find-byte-requires : tie.Need-find-byte-requires Inv-loop μ-loop
 find-byte-requires c κs = search needs
 
--- src/lib.rt:97:35
 sub-trim : tie.Need-sub-trim Inv-loop μ-loop
 sub-trim c = omega arith
 
--- src/lib.rt:97:35
 part-trim-start : tie.Need-part-trim-start Inv-loop μ-loop
 part-trim-start c = omega arith
 
--- src/lib.rt:97:35
 part-trim-end : tie.Need-part-trim-end Inv-loop μ-loop
 part-trim-end c = omega (arith, find-le 44 (c .before .before .before .before .before .args .s .now) (c .before .before .before .loop .i) (c .find-byte .result) (c .before .before .before .loop .inv .0) (c .find-byte .ensures))
 
--- src/lib.rt:97:24
 trim-requires : tie.Need-trim-requires Inv-loop μ-loop
 trim-requires c κs = search needs
 
--- src/lib.rt:97:17
 is-reg-requires : tie.Need-is-reg-requires Inv-loop μ-loop
 is-reg-requires c κs = search needs
 
--- src/lib.rt:98:17
 returns-2 : tie.Need-returns-2 Inv-loop μ-loop
 returns-2 c = let l = c .before .before .before .before .before .before .before .loop in let s = c .before .before .before .before .before .before .before .before .before .args .s .now in let f = c .before .before .before .before .find-byte in sym (regs-stop s (l .i) (f .result) (l .inv .0) (f .ensures) (sym (c .before .is-reg .ensures ∙ ap (λ (l : List ℕ). isReg (regOf l)) (c .before .before .trim .ensures .0)) ∙ not-true _ (c .if3 .taken))) ∙ l .inv .1
 
--- src/lib.rt:101:17
 returns-3 : tie.Need-returns-3 Inv-loop μ-loop
 returns-3 c = let l = c .before .before .before .before .before .before .before .before .loop in let s = c .before .before .before .before .before .before .before .before .before .before .args .s .now in let f = c .before .before .before .before .before .find-byte in sym (regs-last s (l .i) (f .result) (l .inv .0) (f .ensures) (c .if4 .taken) (sym (c .before .before .is-reg .ensures ∙ ap (λ (l : List ℕ). isReg (regOf l)) (c .before .before .before .trim .ensures .0)) ∙ not-false _ (c .before .if3 .left))) ∙ l .inv .1
 
--- src/lib.rt:103:17
 add-i-2 : tie.Need-add-i-2 Inv-loop μ-loop
 add-i-2 c = omega arith
 
--- src/lib.rt:88:5
 loop-less-2 : tie.Need-loop-less-2 Inv-loop μ-loop
 loop-less-2 c = omega (arith, c .before .before .before .before .before .find-byte .ensures)
 
--- src/lib.rt:88:5
 loop-again-2 : tie.Need-loop-again-2 Inv-loop μ-loop
 loop-again-2 c = let l = c .before .before .before .before .before .before .before .before .loop in let s = c .before .before .before .before .before .before .before .before .before .before .args .s .now in let f = c .before .before .before .before .before .find-byte in (omega arith, sym (regs-on s (l .i) (f .result) (l .inv .0) (f .ensures) (c .if4 .left) (sym (c .before .before .is-reg .ensures ∙ ap (λ (l : List ℕ). isReg (regOf l)) (c .before .before .before .trim .ensures .0)) ∙ not-false _ (c .before .if3 .left))) ∙ l .inv .1)
 

@@ -9,23 +9,18 @@ use Rattle.lines.proofs.byte_at.Reads as byte-at-reads
 use Rattle.parse.proofs.declares_at.Reads as declares-at-reads
 use Rattle.text.proofs.trim_from.Reads as trim-from-reads
 
--- src/lib.rt:230:9
 trim-from-requires : tie.Need-trim-from-requires
 trim-from-requires c κs = search needs
 
--- src/lib.rt:231:8
 byte-at-requires : tie.Need-byte-at-requires
 byte-at-requires c κs = search needs
 
--- src/lib.rt:232:9
 returns : tie.Need-returns
 returns c = sym (decl-other (c .before .before .before .before .args .line .now) (c .before .before .trim-from .result) (c .before .before .trim-from .ensures) (λ z. c .if1 .taken (c .before .byte-at .ensures ∙ z)))
 
--- src/lib.rt:234:5
 declares-at-requires : tie.Need-declares-at-requires
 declares-at-requires c κs = search needs
 
--- src/lib.rt:227:1
 returns-2 : tie.Need-returns-2
 returns-2 c = search needs
 

@@ -11,43 +11,33 @@ use Rattle.parse.proofs.declares_at.Lts as lts
 use Rattle.parse.proofs.is_decl.Reads as is-decl-reads
 use Rattle.text.proofs.trim_to.Reads as trim-to-reads
 
--- src/lib.rt:222:27
 sub-trim-to : tie.Need-sub-trim-to
 sub-trim-to c = omega (arith, c .before .pre, fromOf-le (c .before .args .line .now))
 
--- src/lib.rt:222:27
 part-trim-to-start : tie.Need-part-trim-to-start
 part-trim-to-start c = omega (arith, c .before .pre, fromOf-le (c .before .args .line .now))
 
--- src/lib.rt:222:27
 part-trim-to-end : tie.Need-part-trim-to-end
 part-trim-to-end c = search needs
 
--- src/lib.rt:222:9
 trim-to-requires : tie.Need-trim-to-requires
 trim-to-requires c κs = search needs
 
--- src/lib.rt:223:22
 add-is-decl : tie.Need-add-is-decl
 add-is-decl c = let a = c .before .before .before .args in let f = rest-fits (a .line .now) (a .a) (c .trim-to .result) (c .before .before .before .pre) (c .trim-to .ensures) in omega (arith, f .0, f .1)
 
--- src/lib.rt:223:13
 sub-is-decl : tie.Need-sub-is-decl
 sub-is-decl c = search needs
 
--- src/lib.rt:223:13
 part-is-decl-start : tie.Need-part-is-decl-start
 part-is-decl-start c = search needs
 
--- src/lib.rt:223:13
 part-is-decl-end : tie.Need-part-is-decl-end
 part-is-decl-end c = let a = c .before .before .before .args in let f = rest-fits (a .line .now) (a .a) (c .trim-to .result) (c .before .before .before .pre) (c .trim-to .ensures) in omega (arith, f .0, f .1)
 
--- src/lib.rt:223:5
 is-decl-requires : tie.Need-is-decl-requires
 is-decl-requires c κs = search needs
 
--- src/lib.rt:218:1
 returns : tie.Need-returns
 returns c = let a = c .before .before .before .before .before .args in c .is-decl .ensures ∙ ap isDecl (rest-trimmed (a .line .now) (a .a) (c .before .before .trim-to .result) (c .before .before .before .before .before .pre) (c .before .before .trim-to .ensures))
 

@@ -16,35 +16,27 @@ Inv-loop s i j₀ j = j + digitsLen (drop j s) ≡ i + digitsLen (drop i s)
 abbrev μ-loop : tie.MeasureT-loop
 μ-loop s i j₀ j = length s - j
 
--- src/lib.rt:40:5
 loop-holds : tie.Need-loop-holds Inv-loop μ-loop
 loop-holds c = refl
 
--- src/lib.rt:41:13
 shared-slice-read-if1 : tie.Need-shared-slice-read-if1 Inv-loop μ-loop
 shared-slice-read-if1 c = search needs
 
--- src/lib.rt:41:36
 shared-slice-read-if1-2 : tie.Need-shared-slice-read-if1-2 Inv-loop μ-loop
 shared-slice-read-if1-2 c = search needs
 
--- src/lib.rt:42:13
 returns : tie.Need-returns Inv-loop μ-loop
 returns c = let l = c .before .before .before .before .loop in let s = c .before .before .before .before .before .args .s .now in omega (arith, l .inv, digits-here s (l .j) (c .before .before .before .loop-test .taken) (digit-test (getD s (l .j) 0) _ (c .if1 .taken)))
 
--- src/lib.rt:44:9
 add-j : tie.Need-add-j Inv-loop μ-loop
 add-j c = omega arith
 
--- src/lib.rt:40:5
 loop-less : tie.Need-loop-less Inv-loop μ-loop
 loop-less c = omega arith
 
--- src/lib.rt:40:5
 loop-again : tie.Need-loop-again Inv-loop μ-loop
 loop-again c = let l = c .before .before .before .before .loop in let s = c .before .before .before .before .before .args .s .now in omega (arith, l .inv, digits-on s (l .j) (c .before .before .before .loop-test .taken) (digit-test (getD s (l .j) 0) _ (c .if1 .left)))
 
--- src/lib.rt:36:1
 returns-2 : tie.Need-returns-2 Inv-loop μ-loop
 returns-2 c = omega (arith, c .before .loop .inv, digits-end (c .before .before .args .s .now) (c .before .loop .j) (c .loop-test .left))
 

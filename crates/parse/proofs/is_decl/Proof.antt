@@ -12,58 +12,45 @@ use Rattle.parse.proofs.is_decl.Lts as lts
 use Rattle.parse.proofs.all_regs.Reads as all-regs-reads
 use Rattle.lines.proofs.starts_with.Reads as starts-with-reads
 
--- src/lib.rt:99:9
 returns : tie.Need-returns
 unfolding isDecl
 returns c = rw (le-ltb 4 (length (c .before .before .args .t .now)) (c .if1 .taken))
 
--- src/lib.rt:101:24
 slice-aggregate-starts-with : tie.Need-slice-aggregate-starts-with
 slice-aggregate-starts-with c = search needs
 
--- src/lib.rt:101:9
 starts-with-requires : tie.Need-starts-with-requires
 starts-with-requires c κs = search needs
 
--- src/lib.rt:102:9
 returns-2 : tie.Need-returns-2
 unfolding isDecl
 returns-2 c = rw (lt-ltb 4 (length (c .before .before .before .before .before .args .t .now)) (c .before .before .before .if1 .left), sym (c .before .starts-with .ensures) ∙ not-true _ (c .if2 .taken))
 
--- src/lib.rt:104:10
 sub-if3 : tie.Need-sub-if3
 sub-if3 c = omega arith
 
--- src/lib.rt:104:8
 shared-slice-read-if3 : tie.Need-shared-slice-read-if3
 shared-slice-read-if3 c = omega arith
 
--- src/lib.rt:105:9
 returns-3 : tie.Need-returns-3
 unfolding isDecl
 returns-3 c = let t = c .before .before .before .before .before .before .before .args .t .now in rw (lt-ltb 4 (length t) (c .before .before .before .before .before .if1 .left), sym (c .before .before .before .starts-with .ensures) ∙ not-false _ (c .before .before .if2 .left), ne-eqb (getD t (length t - 1) 0) 59 (c .if3 .taken))
 
--- src/lib.rt:107:20
 sub-all-regs : tie.Need-sub-all-regs
 sub-all-regs c = omega arith
 
--- src/lib.rt:107:14
 sub-all-regs-2 : tie.Need-sub-all-regs-2
 sub-all-regs-2 c = omega arith
 
--- src/lib.rt:107:14
 part-all-regs-start : tie.Need-part-all-regs-start
 part-all-regs-start c = omega arith
 
--- src/lib.rt:107:14
 part-all-regs-end : tie.Need-part-all-regs-end
 part-all-regs-end c = omega arith
 
--- src/lib.rt:107:5
 all-regs-requires : tie.Need-all-regs-requires
 all-regs-requires c κs = search needs
 
--- src/lib.rt:94:1
 returns-4 : tie.Need-returns-4
 unfolding isDecl
 returns-4 c = let t = c .before .before .before .before .before .before .before .before .before .args .t .now in rw (lt-ltb 4 (length t) (c .before .before .before .before .before .before .before .if1 .left), sym (c .before .before .before .before .before .starts-with .ensures) ∙ not-false _ (c .before .before .before .before .if2 .left), eq-eqb (getD t (length t - 1) 0) 59 (c .before .before .if3 .left)) (c .all-regs .ensures)

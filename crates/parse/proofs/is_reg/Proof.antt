@@ -7,23 +7,18 @@ use Rattle.parse.proofs.is_reg.Lts as lts
 use Rattle.names.proofs.reg_name.Reads as reg-name-reads
 use Rattle.names.specs.Names.{isReg}
 
--- src/lib.rt:70:11
 reg-name-requires : tie.Need-reg-name-requires
 reg-name-requires c κs = search needs
 
--- src/lib.rt:71:34
 enum-told : tie.Need-enum-told
 enum-told c = search needs
 
--- src/lib.rt:72:32
 enum-told-2 : tie.Need-enum-told-2
 enum-told-2 c = search needs
 
--- src/lib.rt:67:1
 returns : tie.Need-returns
 returns c = sym (ap isReg (sym (c .before .before .reg-name .ensures) ∙ c .enum-told .given .1))
 
--- src/lib.rt:67:1
 returns-2 : tie.Need-returns-2
 returns-2 c = sym (ap isReg (sym (c .before .before .reg-name .ensures) ∙ c .enum-told2 .given .1))
 

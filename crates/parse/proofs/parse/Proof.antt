@@ -12,43 +12,33 @@ use Rattle.parse.proofs.parse_any.Reads as parse-any-reads
 use Rattle.parse.proofs.parse_store.Reads as parse-store-reads
 use Rattle.text.proofs.trim_from.Reads as trim-from-reads
 
--- src/lib.rt:241:9
 trim-from-requires : tie.Need-trim-from-requires
 trim-from-requires c κs = search needs
 
--- src/lib.rt:242:9
 byte-at-requires : tie.Need-byte-at-requires
 byte-at-requires c κs = search needs
 
--- src/lib.rt:244:9
 parse-store-requires : tie.Need-parse-store-requires
 parse-store-requires c κs = search needs
 
--- src/lib.rt:244:9
 returns : tie.Need-returns
 returns c = search needs
 
--- src/lib.rt:247:9
 parse-any-requires : tie.Need-parse-any-requires
 parse-any-requires c κs = search needs
 
--- src/lib.rt:247:9
 returns-2 : tie.Need-returns-2
 returns-2 c = search needs
 
--- src/lib.rt:250:9
 returns-3 : tie.Need-returns-3
 returns-3 c = parse-other (c .before .before .before .byte-at .result) (plain-test (c .before .before .before .byte-at .result) (c .before .if2 .left)) (c .before .before .if1 .left) (c .before .before .before .before .before .before .args .line .now) (c .before .before .before .before .trim-from .result) (c .before .before .before .before .trim-from .ensures) (c .before .before .before .byte-at .ensures) (decl-other (c .before .before .before .before .before .before .args .line .now) (c .before .before .before .before .trim-from .result) (c .before .before .before .before .trim-from .ensures) (λ z. c .if3 .taken (c .before .before .before .byte-at .ensures ∙ z)))
 
--- src/lib.rt:252:8
 declares-at-requires : tie.Need-declares-at-requires
 declares-at-requires c κs = search needs
 
--- src/lib.rt:253:9
 returns-4 : tie.Need-returns-4
 returns-4 c = parse-let (c .before .before .before .before .before .before .before .before .args .line .now) (so (c .before .declares-at .ensures) (c .if4 .taken))
 
--- src/lib.rt:238:1
 returns-5 : tie.Need-returns-5
 returns-5 c = parse-other (c .before .before .before .before .before .byte-at .result) (plain-test (c .before .before .before .before .before .byte-at .result) (c .before .before .before .if2 .left)) (c .before .before .before .before .if1 .left) (c .before .before .before .before .before .before .before .before .args .line .now) (c .before .before .before .before .before .before .trim-from .result) (c .before .before .before .before .before .before .trim-from .ensures) (c .before .before .before .before .before .byte-at .ensures) (so (c .before .declares-at .ensures) (c .if4 .left))
 

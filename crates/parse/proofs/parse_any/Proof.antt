@@ -14,43 +14,33 @@ use Rattle.text.proofs.trim_span.Reads as trim-span-reads
 use Rattle.parse.proofs.is_decl.Reads as is-decl-reads
 use Rattle.parse.proofs.store_in.Reads as store-in-reads
 
--- src/lib.rt:151:9
 trim-span-requires : tie.Need-trim-span-requires
 trim-span-requires c κs = search needs
 
--- src/lib.rt:154:16
 sub-is-decl : tie.Need-sub-is-decl
 sub-is-decl c = omega (arith, c .trim-span .ensures .0, c .trim-span .ensures .1)
 
--- src/lib.rt:154:16
 part-is-decl-start : tie.Need-part-is-decl-start
 part-is-decl-start c = omega (arith, c .trim-span .ensures .0, c .trim-span .ensures .1)
 
--- src/lib.rt:154:16
 part-is-decl-end : tie.Need-part-is-decl-end
 part-is-decl-end c = let h : toEnd (c .before .before .args .line .now) ≤ length (c .before .before .args .line .now) = toEnd-le (c .before .before .args .line .now) in omega (arith, c .trim-span .ensures .1)
 
--- src/lib.rt:154:8
 is-decl-requires : tie.Need-is-decl-requires
 is-decl-requires c κs = search needs
 
--- src/lib.rt:155:9
 returns : tie.Need-returns
 returns c = let w = c .before .before .before .trim-span in parse-decl (c .before .before .before .before .before .args .line .now) _ _ (w .ensures .0) (w .ensures .1) (sym (c .before .is-decl .ensures) ∙ c .if1 .taken)
 
--- src/lib.rt:157:14
 sub-store-in : tie.Need-sub-store-in
 sub-store-in c = let w = c .before .before .before .trim-span in omega (arith, w .ensures .0, w .ensures .1)
 
--- src/lib.rt:157:14
 part-store-in-start : tie.Need-part-store-in-start
 part-store-in-start c = let w = c .before .before .before .trim-span in omega (arith, w .ensures .0, w .ensures .1)
 
--- src/lib.rt:157:14
 part-store-in-end : tie.Need-part-store-in-end
 part-store-in-end c = let w = c .before .before .before .trim-span in let h : toEnd (c .before .before .before .before .before .args .line .now) ≤ length (c .before .before .before .before .before .args .line .now) = toEnd-le (c .before .before .before .before .before .args .line .now) in omega (arith, w .ensures .1)
 
--- src/lib.rt:157:5
 store-in-requires : tie.Need-store-in-requires
 store-in-requires c κs =
     let w = c .before .before .before .before .trim-span in
@@ -58,7 +48,6 @@ store-in-requires c κs =
     let h : toEnd l ≤ length l = toEnd-le l in
     omega (arith, w .ensures .0, w .ensures .1, length-take (w .result .to - w .result .from) (drop (w .result .from) l))
 
--- src/lib.rt:148:1
 returns-2 : tie.Need-returns-2
 returns-2 c = let w = c .before .before .before .before .before .trim-span in parse-rest (c .before .before .before .before .before .before .before .args .line .now) _ _ (w .ensures .0) (w .ensures .1) (sym (c .before .before .before .is-decl .ensures) ∙ c .before .before .if1 .left) (c .store-in .result) (c .store-in .ensures)
 

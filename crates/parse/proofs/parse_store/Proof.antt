@@ -14,75 +14,57 @@ use Rattle.parse.proofs.digits_end.Reads as digits-end-reads
 use Rattle.parse.proofs.parse_any.Reads as parse-any-reads
 use Rattle.parse.proofs.plain_value.Reads as plain-value-reads
 
--- src/lib.rt:203:30
 add-digits-end : tie.Need-add-digits-end
 add-digits-end c = let a = c .before .args in omega (arith, inside (a .line .now) (a .a) (λ z. absurd (omega (arith, c .before .pre .1))))
 
--- src/lib.rt:203:9
 digits-end-requires : tie.Need-digits-end-requires
 digits-end-requires c κs = search needs
 
--- src/lib.rt:204:8
 sub-if1 : tie.Need-sub-if1
 sub-if1 c = search needs
 
--- src/lib.rt:205:9
 returns : tie.Need-returns
 returns c = parse-bare (c .before .before .before .args .line .now) (c .before .before .before .args .a) (c .before .digits-end .result) (c .before .before .before .pre .0) (c .before .before .before .pre .1) (c .before .digits-end .ensures) (c .if1 .taken)
 
--- src/lib.rt:207:9
 plain-value-requires : tie.Need-plain-value-requires
 plain-value-requires c κs = search needs
 
--- src/lib.rt:208:9
 parse-any-requires : tie.Need-parse-any-requires
 parse-any-requires c κs = search needs
 
--- src/lib.rt:208:9
 returns-2 : tie.Need-returns-2
 returns-2 c = search needs
 
--- src/lib.rt:210:27
 sub-reg-name : tie.Need-sub-reg-name
 sub-reg-name c = search needs
 
--- src/lib.rt:210:27
 part-reg-name-start : tie.Need-part-reg-name-start
 part-reg-name-start c = search needs
 
--- src/lib.rt:210:27
 part-reg-name-end : tie.Need-part-reg-name-end
 part-reg-name-end c = let l = c .before .before .before .before .before .args .line .now in let r = value-room (c .before .before .before .digits-end .result) l (sym (c .before .plain-value .ensures) ∙ not-false _ (c .if2 .left)) in omega arith
 
--- src/lib.rt:210:11
 reg-name-requires : tie.Need-reg-name-requires
 reg-name-requires c κs = search needs
 
--- src/lib.rt:211:29
 enum-known-q : tie.Need-enum-known-q
 enum-known-q c = search needs
 
--- src/lib.rt:213:19
 add-t13 : tie.Need-add-t13
 add-t13 c = let l = c .before .before .before .before .before .before .before .before .before .before .args .line .now in let r = value-room (c .before .before .before .before .before .before .before .before .digits-end .result) l (sym (c .before .before .before .before .before .before .plain-value .ensures) ∙ not-false _ (c .before .before .before .before .before .if2 .left)) in omega arith
 
--- src/lib.rt:214:17
 sub-t15 : tie.Need-sub-t15
 sub-t15 c = let l = c .before .before .before .before .before .before .before .before .before .before .args .line .now in let r = value-room (c .before .before .before .before .before .before .before .before .digits-end .result) l (sym (c .before .before .before .before .before .before .plain-value .ensures) ∙ not-false _ (c .before .before .before .before .before .if2 .left)) in omega arith
 
--- src/lib.rt:216:33
 enum-told : tie.Need-enum-told
 enum-told c = search needs
 
--- src/lib.rt:216:33
 parse-any-requires-2 : tie.Need-parse-any-requires-2
 parse-any-requires-2 c κs = search needs
 
--- src/lib.rt:199:1
 returns-3 : tie.Need-returns-3
 returns-3 c = let a = c .before .before .before .before .before .before .before .before .before .before .args in let d = c .before .before .before .before .before .before .before .before .digits-end in plain-store (a .line .now) (a .a) (d .result) (c .before .before .before .before .before .before .before .before .before .before .pre .0) (c .before .before .before .before .before .before .before .before .before .before .pre .1) (d .ensures) (sym (c .before .before .before .before .before .before .plain-value .ensures) ∙ not-false _ (c .before .before .before .before .before .if2 .left)) _ (sym (c .before .q .given .1) ∙ c .before .before .before .reg-name .ensures)
 
--- src/lib.rt:199:1
 returns-4 : tie.Need-returns-4
 returns-4 c = search needs
 

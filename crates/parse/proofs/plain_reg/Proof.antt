@@ -12,67 +12,51 @@ use Rattle.parse.proofs.after_space.Reads as after-space-reads
 use Rattle.parse.proofs.digits_end.Reads as digits-end-reads
 use Rattle.parse.proofs.short_reg.Reads as short-reg-reads
 
--- src/lib.rt:78:9
 after-space-requires : tie.Need-after-space-requires
 after-space-requires c κs = search needs
 
--- src/lib.rt:79:8
 short-reg-requires : tie.Need-short-reg-requires
 short-reg-requires c κs = search needs
 
--- src/lib.rt:80:16
 add-result : tie.Need-add-result
 add-result c = let r = short-room (c .before .before .before .before .args .s .now) (c .before .before .after-space .result) (sym (c .before .short-reg .ensures) ∙ c .if1 .taken) in omega arith
 
--- src/lib.rt:80:9
 returns : tie.Need-returns
 returns c = let a = c .before .before .before .before .args in λ h. short-at (a .s .now) (a .i) (c .before .before .after-space .result) (c .before .before .after-space .ensures) (sym (c .before .short-reg .ensures) ∙ c .if1 .taken)
 
--- src/lib.rt:82:8
 byte-at-requires : tie.Need-byte-at-requires
 byte-at-requires c κs = search needs
 
--- src/lib.rt:83:9
 returns-2 : tie.Need-returns-2
 returns-2 c = λ h. absurd (omega arith)
 
--- src/lib.rt:85:27
 add-digits-end : tie.Need-add-digits-end
 add-digits-end c = let s = c .before .before .before .before .before .before .args .s .now in omega (arith, inside s (c .before .before .before .before .after-space .result) (λ z. absurd (omega (arith, c .before .byte-at .ensures, c .if2 .left))))
 
--- src/lib.rt:85:9
 digits-end-requires : tie.Need-digits-end-requires
 digits-end-requires c κs = search needs
 
--- src/lib.rt:86:8
 sub-if3 : tie.Need-sub-if3
 sub-if3 c = search needs
 
--- src/lib.rt:87:9
 returns-3 : tie.Need-returns-3
 returns-3 c = λ h. absurd (omega arith)
 
--- src/lib.rt:89:13
 sub-if4 : tie.Need-sub-if4
 sub-if4 c = search needs
 
--- src/lib.rt:90:9
 returns-4 : tie.Need-returns-4
 returns-4 c = λ h. absurd (omega arith)
 
--- src/lib.rt:93:9
 returns-5 : tie.Need-returns-5
 returns-5 c = let a = c .before .before .before .before .before .before .before .before .before .before .args in λ h. plain-at (a .s .now) (a .i) (c .before .before .before .before .before .before .before .before .after-space .result) (c .before .before .before .digits-end .result) (c .before .before .before .before .before .before .before .before .after-space .ensures) (sym (c .before .before .before .before .before .byte-at .ensures) ∙ c .before .before .before .before .if2 .left) (c .before .before .before .digits-end .ensures) (c .before .before .if3 .left) (c .before .if4 .left) (λ k. absurd (omega arith))
 
--- src/lib.rt:95:8
 shared-slice-read-if6 : tie.Need-shared-slice-read-if6
 shared-slice-read-if6 c = search needs
 
--- src/lib.rt:96:9
 returns-6 : tie.Need-returns-6
 returns-6 c = λ h. absurd (omega arith)
 
--- src/lib.rt:75:1
 returns-7 : tie.Need-returns-7
 returns-7 c = let a = c .before .before .before .before .before .before .before .before .before .before .before .before .args in λ h. plain-at (a .s .now) (a .i) (c .before .before .before .before .before .before .before .before .before .before .after-space .result) (c .before .before .before .before .before .digits-end .result) (c .before .before .before .before .before .before .before .before .before .before .after-space .ensures) (sym (c .before .before .before .before .before .before .before .byte-at .ensures) ∙ c .before .before .before .before .before .before .if2 .left) (c .before .before .before .before .before .digits-end .ensures) (c .before .before .before .before .if3 .left) (c .before .before .before .if4 .left) (λ k. c .if6 .left)
 

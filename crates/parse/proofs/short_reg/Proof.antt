@@ -12,47 +12,36 @@ use Rattle.parse.proofs.short_reg.Tie as tie
 use Rattle.parse.proofs.short_reg.Reads as reads
 use Rattle.parse.proofs.short_reg.Lts as lts
 
--- src/lib.rt:65:9
 returns : tie.Need-returns
 returns c = let a = c .before .args in rw (lt-leb (a .a + 2) (length (a .s .now)) (omega arith))
 
--- src/lib.rt:68:9
 returns-2 : tie.Need-returns-2
 returns-2 c = let a = c .before .before .args in rw (lt-leb (a .a + 2) (length (a .s .now)) (omega arith))
 
--- src/lib.rt:70:15
 add-d : tie.Need-add-d
 add-d c = search needs
 
--- src/lib.rt:70:13
 shared-slice-read-d : tie.Need-shared-slice-read-d
 shared-slice-read-d c = search needs
 
--- src/lib.rt:71:11
 shared-slice-read-if3 : tie.Need-shared-slice-read-if3
 shared-slice-read-if3 c = search needs
 
--- src/lib.rt:72:9
 returns-3 : tie.Need-returns-3
 returns-3 c = let a = c .before .before .before .before .before .args in sym (short-is (a .s .now) (a .a) false (omega arith) (not-true _ (c .if3 .taken)))
 
--- src/lib.rt:74:8
 add-if4 : tie.Need-add-if4
 add-if4 c = search needs
 
--- src/lib.rt:75:9
 returns-4 : tie.Need-returns-4
 returns-4 c = let a = c .before .before .before .before .before .before .args in sym (short-is (a .s .now) (a .a) true (omega arith) (not-false _ (c .before .if3 .left)) ∙ ap (λ (b : Bool). b || eqb (getD (a .s .now) (a .a + 2) 0) 44) (eq-eqb (a .a + 2) (length (a .s .now)) (c .if4 .taken)))
 
--- src/lib.rt:77:7
 add-result : tie.Need-add-result
 add-result c = search needs
 
--- src/lib.rt:77:5
 shared-slice-read-result : tie.Need-shared-slice-read-result
 shared-slice-read-result c = search needs
 
--- src/lib.rt:60:1
 returns-5 : tie.Need-returns-5
 returns-5 c = let a = c .before .before .before .before .before .before .before .args in sym (short-is (a .s .now) (a .a) true (omega arith) (not-false _ (c .before .before .if3 .left)) ∙ ap (λ (b : Bool). b || eqb (getD (a .s .now) (a .a + 2) 0) 44) (ne-eqb (a .a + 2) (length (a .s .now)) (c .before .if4 .left)))
 

@@ -22,79 +22,60 @@ use Rattle.text.proofs.trim_span.Reads as trim-span-reads
 use Rattle.lines.proofs.byte_at.Reads as byte-at-reads
 use Rattle.lines.proofs.find_byte.Reads as find-byte-reads
 
--- src/lib.rt:139:9
 find-byte-requires : tie.Need-find-byte-requires
 find-byte-requires c κs = search needs
 
--- src/lib.rt:141:9
 returns : tie.Need-returns
 returns c = let a = c .before .before .before .args in sym (store-none (a .a) (a .u .now) (c .before .find-byte .result) (c .before .find-byte .ensures) (c .if1 .taken))
 
--- src/lib.rt:143:13
 add-b : tie.Need-add-b
 add-b c = search needs
 
--- src/lib.rt:144:8
 byte-at-requires : tie.Need-byte-at-requires
 byte-at-requires c κs = search needs
 
--- src/lib.rt:145:9
 returns-2 : tie.Need-returns-2
 returns-2 c = let a = c .before .before .before .before .before .args in sym (store-eq (a .a) (a .u .now) (c .before .before .before .find-byte .result) (c .before .before .before .find-byte .ensures) (c .before .before .if1 .left) (sym (c .before .byte-at .ensures) ∙ c .if2 .taken))
 
--- src/lib.rt:147:37
 slice-aggregate-trim : tie.Need-slice-aggregate-trim
 slice-aggregate-trim c = sym (length-take-le (c .before .before .before .before .find-byte .result) (c .before .before .before .before .before .before .args .u .now) (omega arith))
 
--- src/lib.rt:147:26
 trim-requires : tie.Need-trim-requires
 trim-requires c κs = search needs
 
--- src/lib.rt:147:11
 reg-name-requires : tie.Need-reg-name-requires
 reg-name-requires c κs = search needs
 
--- src/lib.rt:148:28
 enum-known-q : tie.Need-enum-known-q
 enum-known-q c = search needs
 
--- src/lib.rt:149:37
 sub-trim-span : tie.Need-sub-trim-span
 sub-trim-span c = search needs
 
--- src/lib.rt:149:37
 part-trim-span-start : tie.Need-part-trim-span-start
 part-trim-span-start c = search needs
 
--- src/lib.rt:149:37
 part-trim-span-end : tie.Need-part-trim-span-end
 part-trim-span-end c = search needs
 
--- src/lib.rt:149:17
 trim-span-requires : tie.Need-trim-span-requires
 trim-span-requires c κs = search needs
 
--- src/lib.rt:150:47
 add-t16 : tie.Need-add-t16
 add-t16 c = search needs
 
--- src/lib.rt:150:47
 add-t19 : tie.Need-add-t19
 add-t19 c = let u = c .before .before .before .before .before .before .before .before .before .before .before .before .before .before .args .u .now in let k = c .before .before .before .before .before .before .before .before .before .before .before .before .find-byte .result in omega (arith, c .before .before .before .before .before .before .before .before .before .before .before .if1 .left, c .before .before .before .before .before .before .before .before .before .before .before .before .before .before .pre, c .before .trim-span .ensures .0, rest-from u (k + 1))
 
--- src/lib.rt:150:67
 add-t20 : tie.Need-add-t20
 add-t20 c = search needs
 
--- src/lib.rt:150:67
 add-t21 : tie.Need-add-t21
 add-t21 c = let u = c .before .before .before .before .before .before .before .before .before .before .before .before .before .before .before .args .u .now in let k = c .before .before .before .before .before .before .before .before .before .before .before .before .before .find-byte .result in let h : c .before .before .trim-span .result .to ≤ length u - (k + 1) = omega (arith, c .before .before .trim-span .ensures .1, rest-to u (k + 1)) in omega (arith, c .before .before .before .before .before .before .before .before .before .before .before .before .if1 .left, c .before .before .before .before .before .before .before .before .before .before .before .before .before .before .before .pre)
 
--- src/lib.rt:152:32
 enum-told : tie.Need-enum-told
 enum-told c = search needs
 
--- src/lib.rt:135:1
 returns-3 : tie.Need-returns-3
 returns-3 c =
     let a = c .before .before .before .before .before .before .before .before .before .before .before .before .before .before .before .args in
@@ -107,7 +88,6 @@ returns-3 c =
     rw (f, t) (sym (store-reg (a .a) u k (c .before .before .before .before .before .before .before .before .before .before .before .before .before .find-byte .ensures) (c .before .before .before .before .before .before .before .before .before .before .before .before .if1 .left) (λ z. c .before .before .before .before .before .before .before .before .before .before .if2 .left (c .before .before .before .before .before .before .before .before .before .before .before .byte-at .ensures ∙ z)) (r .result) (r .ensures ∙ ap regOf (c .before .before .before .before .before .before .before .before .trim .ensures .0))
     ∙ ap (λ (x : RegName). storeBy x (a .a + (k + 1)) (drop (k + 1) u)) (c .before .before .before .before .before .q .given .1)))
 
--- src/lib.rt:135:1
 returns-4 : tie.Need-returns-4
 returns-4 c =
     let a = c .before .before .before .before .before .before .before .before .before .before .args in

@@ -13,36 +13,28 @@ use Rattle.parse.proofs.store_in.Reads as reads
 use Rattle.parse.proofs.store_in.Lts as lts
 use Rattle.parse.proofs.split_store.Reads as split-store-reads
 
--- src/lib.rt:117:9
 returns : tie.Need-returns
 returns c = sym (store-empty _ _ (c .if1 .taken))
 
--- src/lib.rt:119:10
 sub-if2 : tie.Need-sub-if2
 sub-if2 c = search needs
 
--- src/lib.rt:119:8
 shared-slice-read-if2 : tie.Need-shared-slice-read-if2
 shared-slice-read-if2 c = search needs
 
--- src/lib.rt:120:9
 returns-2 : tie.Need-returns-2
 unfolding storeIn
 returns-2 c = let t = c .before .before .before .before .args .t .now in rw (ne-eqb (getD t (length t - 1) 0) 59 (c .if2 .taken))
 
--- src/lib.rt:122:22
 sub-split-store : tie.Need-sub-split-store
 sub-split-store c = search needs
 
--- src/lib.rt:122:17
 slice-aggregate-split-store : tie.Need-slice-aggregate-split-store
 slice-aggregate-split-store c = let t = c .before .before .before .before .before .args .t .now in sym (length-take-le (length t - 1) t (omega arith))
 
--- src/lib.rt:122:5
 split-store-requires : tie.Need-split-store-requires
 split-store-requires c κs = let t = c .before .before .before .before .before .args .t .now in omega (arith, c .before .before .before .before .before .pre, length-take (length t - 1) t)
 
--- src/lib.rt:111:1
 returns-3 : tie.Need-returns-3
 unfolding storeIn
 returns-3 c = let t = c .before .before .before .before .before .before .args .t .now in rw (eq-eqb (getD t (length t - 1) 0) 59 (c .before .before .if2 .left)) (c .split-store .ensures)

@@ -8,37 +8,29 @@ use Rattle.parse.proofs.text_of.Lts as lts
 use Rattle.lines.proofs.cut.Reads as cut-reads
 use Rattle.parse.proofs.value_of.Reads as value-of-reads
 
--- src/lib.rt:132:23
 enum-told : tie.Need-enum-told
 enum-told c = search needs
 
--- src/lib.rt:132:23
 cut-requires : tie.Need-cut-requires
 cut-requires c κs = search needs
 
--- src/lib.rt:133:21
 enum-known-p : tie.Need-enum-known-p
 enum-known-p c = search needs
 
--- src/lib.rt:133:27
 value-of-requires : tie.Need-value-of-requires
 value-of-requires c κs = search needs
 
--- src/lib.rt:134:24
 enum-told-2 : tie.Need-enum-told-2
 enum-told-2 c = search needs
 
--- src/lib.rt:128:1
 returns : tie.Need-returns
 unfolding textOf
 returns c = c .cut .ensures ∙ sym (ap (textOf (c .before .before .before .before .args .line .now)) (c .before .enum-told .given .1))
 
--- src/lib.rt:128:1
 returns-2 : tie.Need-returns-2
 unfolding textOf
 returns-2 c = c .value-of .ensures ∙ sym (ap (textOf (c .before .before .before .before .before .args .line .now)) (c .before .before .p .given .1))
 
--- src/lib.rt:128:1
 returns-3 : tie.Need-returns-3
 unfolding textOf
 returns-3 c = sym (ap (textOf (c .before .before .before .args .line .now)) (c .enum-told2 .given .1))

@@ -6,31 +6,24 @@ use Rattle.place.proofs.around.Reads as reads
 use Rattle.place.proofs.around.Lts as lts
 use Rattle.place.proofs.wide.Reads as wide-reads
 
--- src/lib.rt:80:9
 returns : tie.Need-returns
 returns c = around-none (c .before .before .args .c) _ (c .if1 .taken)
 
--- src/lib.rt:82:18
 sub-wide : tie.Need-sub-wide
 sub-wide c = search needs
 
--- src/lib.rt:82:9
 wide-requires : tie.Need-wide-requires
 wide-requires c κs = search needs
 
--- src/lib.rt:84:16
 mul-result : tie.Need-mul-result
 mul-result c = search needs
 
--- src/lib.rt:84:16
 shared-slice-read-result : tie.Need-shared-slice-read-result
 shared-slice-read-result c = search needs
 
--- src/lib.rt:84:9
 returns-2 : tie.Need-returns-2
 returns-2 c = let a = c .before .before .before .before .before in around-known (a .args .c) (c .before .before .wide .result) (a .args .n) (a .args .up .now) (c .before .before .before .if1 .left) (c .before .before .wide .ensures) (c .before .if2 .taken)
 
--- src/lib.rt:75:1
 returns-3 : tie.Need-returns-3
 returns-3 c = let a = c .before .before .before .before in around-unknown (a .args .c) (c .before .wide .result) (a .args .n) (a .args .up .now) (c .before .before .if1 .left) (c .before .wide .ensures) (c .if2 .left)
 

@@ -22,75 +22,57 @@ Inv-loop text table₀ up₀ ends₀ i₀ k₀ c₀ n₀ loops₀ table up ends 
 abbrev μ-loop : tie.MeasureT-loop
 μ-loop text table₀ up₀ ends₀ i₀ k₀ c₀ n₀ loops₀ table up ends i k c n loops = length text - i
 
--- src/lib.rt:521:5
 loop-holds : tie.Need-loop-holds Inv-loop μ-loop
 loop-holds c = let a = c .before .before .before .before in paths-start (a .args .text .now) (a .args .table .now) (a .args .up .now) (a .args .ends .now) (a .pre .0) (a .pre .1 .0) (a .pre .1 .1)
 
--- src/lib.rt:522:13
 find-byte-requires : tie.Need-find-byte-requires Inv-loop μ-loop
 find-byte-requires c κs = search needs
 
--- src/lib.rt:523:9
 put-end-requires : tie.Need-put-end-requires Inv-loop μ-loop
 put-end-requires c κs = search needs
 
--- src/lib.rt:524:27
 sub-path-line : tie.Need-sub-path-line Inv-loop μ-loop
 sub-path-line c = omega (arith, c .before .before .before .before .find-byte .ensures)
 
--- src/lib.rt:524:27
 part-path-line-start : tie.Need-part-path-line-start Inv-loop μ-loop
 part-path-line-start c = omega (arith, c .before .before .before .before .find-byte .ensures)
 
--- src/lib.rt:524:27
 part-path-line-end : tie.Need-part-path-line-end Inv-loop μ-loop
 part-path-line-end c = omega (arith, find-le 10 (c .before .before .before .before .before .before .before .before .before .before .before .args .text .now) (c .before .before .before .before .before .before .loop .i) (c .before .before .before .before .find-byte .result) (c .before .before .before .before .before .before .loop .inv .lines .i≤) (c .before .before .before .before .find-byte .ensures))
 
--- src/lib.rt:524:13
 path-line-requires : tie.Need-path-line-requires Inv-loop μ-loop
 path-line-requires c κs = lines-room pathPre pathPost (c .before .before .before .before .before .before .before .before .loop .inv .lines) (c .before .before .before .before .before .before .before .loop-test .taken) (c .before .before .before .before .before .before .find-byte .result) (c .before .before .before .before .before .before .find-byte .ensures)
 
--- src/lib.rt:525:20
 wide-requires : tie.Need-wide-requires Inv-loop μ-loop
 wide-requires c κs = search needs
 
--- src/lib.rt:525:9
 mul-table : tie.Need-mul-table Inv-loop μ-loop
 mul-table c = let v = c .before .before .before .before .before .before .before .before .before .before .before .before .loop .inv .lines in omega (arith, lines-place pathPre pathPost v (c .before .before .before .before .before .before .before .before .before .before .before .loop-test .taken) (c .before .before .before .before .before .before .before .before .before .before .find-byte .result) (c .before .before .before .before .before .before .before .before .before .before .find-byte .ensures), lines-length pathPre pathPost v)
 
--- src/lib.rt:525:9
 slice-write-table : tie.Need-slice-write-table Inv-loop μ-loop
 slice-write-table c = lines-place pathPre pathPost (c .before .before .before .before .before .before .before .before .before .before .before .before .loop .inv .lines) (c .before .before .before .before .before .before .before .before .before .before .before .loop-test .taken) (c .before .before .before .before .before .before .before .before .before .before .find-byte .result) (c .before .before .before .before .before .before .before .before .before .before .find-byte .ensures)
 
--- src/lib.rt:526:9
 add-k : tie.Need-add-k Inv-loop μ-loop
 add-k c = let v = c .before .before .before .before .before .before .before .before .before .before .before .before .loop .inv .lines in omega (arith, lines-place pathPre pathPost v (c .before .before .before .before .before .before .before .before .before .before .before .loop-test .taken) (c .before .before .before .before .before .before .before .before .before .before .find-byte .result) (c .before .before .before .before .before .before .before .before .before .before .find-byte .ensures), lines-length pathPre pathPost v)
 
--- src/lib.rt:530:9
 after-requires : tie.Need-after-requires Inv-loop μ-loop
 after-requires c κs = search needs
 
--- src/lib.rt:521:5
 loop-less : tie.Need-loop-less Inv-loop μ-loop
 loop-less c = omega (arith, c .after .ensures, c .before .before .before .before .before .before .before .before .before .before .before .find-byte .ensures, c .before .before .before .before .before .before .before .before .before .before .before .before .loop-test .taken)
 
--- src/lib.rt:521:5
 loop-again : tie.Need-loop-again Inv-loop μ-loop
 loop-again c = paths-on (c .before .before .before .before .before .before .before .before .before .before .before .before .before .loop .inv) (c .before .before .before .before .before .before .before .before .before .before .before .before .loop-test .taken) (c .before .before .before .before .before .before .before .before .before .before .before .find-byte .result) (c .before .before .before .before .before .before .before .before .before .before .before .find-byte .ensures) (c .after .ensures) (c .before .before .before .before .before .before .before .before .before .put-end .ensures) (c .before .wide .ensures) (c .before .before .before .before .path-line .ensures)
 
--- src/lib.rt:508:1
 same-length : tie.Need-same-length Inv-loop μ-loop
 same-length c = lines-length pathPre pathPost (c .before .loop .inv .lines)
 
--- src/lib.rt:508:1
 same-length-2 : tie.Need-same-length-2 Inv-loop μ-loop
 same-length-2 c = lines-up pathPre pathPost (c .before .loop .inv .lines)
 
--- src/lib.rt:508:1
 same-length-3 : tie.Need-same-length-3 Inv-loop μ-loop
 same-length-3 c = c .before .loop .inv .long
 
--- src/lib.rt:508:1
 returns : tie.Need-returns Inv-loop μ-loop
 returns c = paths-all (c .before .loop .inv) (c .loop-test .left)
 

@@ -5,19 +5,15 @@ use Rattle.place.proofs.ends_open.Tie as tie
 use Rattle.place.proofs.ends_open.Reads as reads
 use Rattle.place.proofs.ends_open.Lts as lts
 
--- src/lib.rt:138:9
 returns : tie.Need-returns
 returns c = open-none (c .before .args .t .now) (c .if1 .taken)
 
--- src/lib.rt:140:7
 sub-result : tie.Need-sub-result
 sub-result c = search needs
 
--- src/lib.rt:140:5
 shared-slice-read-result : tie.Need-shared-slice-read-result
 shared-slice-read-result c = search needs
 
--- src/lib.rt:133:1
 returns-2 : tie.Need-returns-2
 returns-2 c = search needs
 

@@ -6,31 +6,24 @@ use Rattle.place.proofs.enter.Tie as tie
 use Rattle.place.proofs.enter.Reads as reads
 use Rattle.place.proofs.enter.Lts as lts
 
--- src/lib.rt:108:5
 mul-up : tie.Need-mul-up
 mul-up c = search needs
 
--- src/lib.rt:108:5
 slice-write-up : tie.Need-slice-write-up
 slice-write-up c = room-open (c .pre)
 
--- src/lib.rt:110:17
 add-t4 : tie.Need-add-t4
 add-t4 c = search needs
 
--- src/lib.rt:110:16
 cast-t6 : tie.Need-cast-t6
 cast-t6 c = omega (arith, room-open (c .pre), c .pre .small)
 
--- src/lib.rt:111:15
 add-t7 : tie.Need-add-t7
 add-t7 c = search needs
 
--- src/lib.rt:104:1
 same-length : tie.Need-same-length
 same-length c = search needs
 
--- src/lib.rt:104:1
 returns : tie.Need-returns
 returns c = moved-open (c .args .c) (c .args .up .now) (c .args .n) (room-open (c .pre))
 

@@ -11,31 +11,24 @@ use Rattle.place.proofs.is_flat.Lts as lts
 use Rattle.lines.proofs.byte_at.Reads as byte-at-reads
 use Rattle.text.proofs.trim_from.Reads as trim-from-reads
 
--- src/lib.rt:448:9
 returns : tie.Need-returns
 returns c = flat-none (c .before .before .args .line .now) (c .if1 .taken)
 
--- src/lib.rt:450:18
 sub-c : tie.Need-sub-c
 sub-c c = search needs
 
--- src/lib.rt:450:13
 shared-slice-read-c : tie.Need-shared-slice-read-c
 shared-slice-read-c c = search needs
 
--- src/lib.rt:452:9
 returns-2 : tie.Need-returns-2
 returns-2 c = flat-not (c .before .before .before .before .args .line .now) (not-true _ (c .if2 .taken))
 
--- src/lib.rt:454:26
 trim-from-requires : tie.Need-trim-from-requires
 trim-from-requires c κs = search needs
 
--- src/lib.rt:454:5
 byte-at-requires : tie.Need-byte-at-requires
 byte-at-requires c κs = search needs
 
--- src/lib.rt:443:1
 returns-3 : tie.Need-returns-3
 returns-3 c = flat-by (c .before .before .before .before .before .before .args .line .now) (c .byte-at .result) (not-false _ (c .before .before .if2 .left)) (c .byte-at .ensures ∙ ap (λ (i : ℕ). getD (c .before .before .before .before .before .before .args .line .now) i 0) (c .before .trim-from .ensures))
 

@@ -7,19 +7,15 @@ use Rattle.place.proofs.is_header.Lts as lts
 use Rattle.lines.proofs.byte_at.Reads as byte-at-reads
 use Rattle.place.proofs.opens_region.Reads as opens-region-reads
 
--- src/lib.rt:26:8
 byte-at-requires : tie.Need-byte-at-requires
 byte-at-requires c κs = search needs
 
--- src/lib.rt:27:9
 returns : tie.Need-returns
 returns c = space-head (c .before .before .before .args .line .now) (c .before .byte-at .result) (c .before .byte-at .ensures) (c .if1 .taken)
 
--- src/lib.rt:29:5
 opens-region-requires : tie.Need-opens-region-requires
 opens-region-requires c κs = search needs
 
--- src/lib.rt:23:1
 returns-2 : tie.Need-returns-2
 returns-2 c = search needs
 

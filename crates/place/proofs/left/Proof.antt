@@ -10,37 +10,29 @@ use Rattle.place.proofs.left.Reads as reads
 use Rattle.place.proofs.left.Lts as lts
 use Rattle.place.proofs.brace.Reads as brace-reads
 
--- src/lib.rt:145:44
 enum-told : tie.Need-enum-told
 enum-told c = search needs
 
--- src/lib.rt:145:32
 brace-requires : tie.Need-brace-requires
 unfolding braces
 brace-requires c κs = let a = c .before .before .before .before in room-as (ap (λ (k : Kind). braces (leaves k (a .args .b))) (c .before .enum-told .given .1)) (a .pre)
 
--- src/lib.rt:146:35
 enum-told-2 : tie.Need-enum-told-2
 enum-told-2 c = search needs
 
--- src/lib.rt:147:32
 enum-told-3 : tie.Need-enum-told-3
 enum-told-3 c = search needs
 
--- src/lib.rt:140:1
 same-length : tie.Need-same-length
 same-length c = search needs
 
--- src/lib.rt:140:1
 returns : tie.Need-returns
 unfolding braces
 returns c = let a = c .before .before .before .before .before .before .before in moved-as (ap (λ (k : Kind). braces (leaves k (a .args .b))) (sym (c .before .before .before .before .enum-told .given .1))) (c .before .before .brace .ensures)
 
--- src/lib.rt:140:1
 returns-2 : tie.Need-returns-2
 returns-2 c = let a = c .before .before .before in moved-as (ap (λ (k : Kind). braces (leaves k (a .args .b))) (sym (c .enum-told2 .given .1))) (left-literal (a .args .c) (a .args .up .now) (a .args .n) (a .pre .known))
 
--- src/lib.rt:140:1
 returns-3 : tie.Need-returns-3
 unfolding braces
 returns-3 c = let a = c .before .before .before in moved-as (ap (λ (k : Kind). braces (leaves k (a .args .b))) (sym (c .enum-told3 .given .1))) (moved-none (a .args .c) (a .args .up .now) (a .args .n) (a .pre .known))

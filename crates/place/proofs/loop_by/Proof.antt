@@ -8,15 +8,12 @@ use Rattle.place.proofs.loop_by.Reads as reads
 use Rattle.place.proofs.loop_by.Lts as lts
 use Rattle.place.proofs.starts_loop.Reads as starts-loop-reads
 
--- src/lib.rt:462:9
 returns : tie.Need-returns
 returns c = search needs
 
--- src/lib.rt:464:5
 starts-loop-requires : tie.Need-starts-loop-requires
 starts-loop-requires c κs = search needs
 
--- src/lib.rt:458:1
 returns-2 : tie.Need-returns-2
 returns-2 c = c .starts-loop .ensures ∙ sym (ap (λ (b : Bool). b || startsLoop (c .before .before .before .args .line .now)) (c .before .if1 .left))
 

@@ -4,15 +4,12 @@ use Rattle.place.proofs.nest_close.Tie as tie
 use Rattle.place.proofs.nest_close.Reads as reads
 use Rattle.place.proofs.nest_close.Lts as lts
 
--- src/lib.rt:241:9
 returns : tie.Need-returns
 returns c = close-all (c .before .args .k) (c .before .args .d) (c .before .args .o) (c .if1 .taken)
 
--- src/lib.rt:244:9
 returns-2 : tie.Need-returns-2
 returns-2 c = close-loop (c .before .before .args .k) (c .before .before .args .d) (c .before .before .args .o) (c .if2 .taken)
 
--- src/lib.rt:237:1
 returns-3 : tie.Need-returns-3
 returns-3 c = close-some (c .before .before .args .k) (c .before .before .args .d) (c .before .before .args .o) (c .if2 .left)
 

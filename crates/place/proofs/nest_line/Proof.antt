@@ -8,19 +8,15 @@ use Rattle.lines.proofs.count_byte.Reads as count-byte-reads
 use Rattle.place.proofs.nest_close.Reads as nest-close-reads
 use Rattle.place.proofs.nest_open.Reads as nest-open-reads
 
--- src/lib.rt:254:9
 nest-open-requires : tie.Need-nest-open-requires
 nest-open-requires c κs = search needs
 
--- src/lib.rt:255:16
 count-byte-requires : tie.Need-count-byte-requires
 count-byte-requires c κs = search needs
 
--- src/lib.rt:255:5
 nest-close-requires : tie.Need-nest-close-requires
 nest-close-requires c κs = search needs
 
--- src/lib.rt:250:1
 returns : tie.Need-returns
 unfolding nestLine
 returns c = cc (c .nest-close .ensures, c .before .count-byte .ensures, c .before .before .nest-open .ensures)

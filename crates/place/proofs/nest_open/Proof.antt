@@ -9,43 +9,33 @@ use Rattle.place.proofs.nest_open.Lts as lts
 use Rattle.place.proofs.ends_open.Reads as ends-open-reads
 use Rattle.place.proofs.opens_loop.Reads as opens-loop-reads
 
--- src/lib.rt:221:9
 ends-open-requires : tie.Need-ends-open-requires
 ends-open-requires c κs = search needs
 
--- src/lib.rt:222:9
 returns : tie.Need-returns
 returns c = let a = c .before .before .before in nest-same (a .args .t .now) (a .args .d) (a .args .o) (sym (c .before .ends-open .ensures) ∙ not-true _ (c .if1 .taken))
 
--- src/lib.rt:225:30
 add-t6 : tie.Need-add-t6
 add-t6 c = search needs
 
--- src/lib.rt:225:9
 returns-2 : tie.Need-returns-2
 returns-2 c = let a = c .before .before .before .before in nest-inner (a .args .t .now) (a .args .d) (a .args .o) (sym (c .before .before .ends-open .ensures) ∙ not-false _ (c .before .if1 .left)) (c .if2 .taken)
 
--- src/lib.rt:227:8
 opens-loop-requires : tie.Need-opens-loop-requires
 opens-loop-requires c κs = search needs
 
--- src/lib.rt:229:20
 add-t8 : tie.Need-add-t8
 add-t8 c = search needs
 
--- src/lib.rt:230:20
 add-t9 : tie.Need-add-t9
 add-t9 c = search needs
 
--- src/lib.rt:228:9
 returns-3 : tie.Need-returns-3
 returns-3 c = let a = c .before .before .before .before .before .before in nest-outer (a .args .t .now) (a .args .d) (a .args .o) (sym (c .before .before .before .before .ends-open .ensures) ∙ not-false _ (c .before .before .before .if1 .left)) (c .before .before .if2 .left) (sym (c .before .opens-loop .ensures) ∙ c .if3 .taken)
 
--- src/lib.rt:233:19
 add-t10 : tie.Need-add-t10
 add-t10 c = search needs
 
--- src/lib.rt:217:1
 returns-4 : tie.Need-returns-4
 returns-4 c = let a = c .before .before .before .before .before .before in nest-plain (a .args .t .now) (a .args .d) (a .args .o) (sym (c .before .before .before .before .ends-open .ensures) ∙ not-false _ (c .before .before .before .if1 .left)) (c .before .before .if2 .left) (sym (c .before .opens-loop .ensures) ∙ c .if3 .left)
 

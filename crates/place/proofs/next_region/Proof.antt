@@ -10,31 +10,24 @@ use Rattle.place.proofs.next_region.Lts as lts
 use Rattle.lines.proofs.byte_at.Reads as byte-at-reads
 use Rattle.place.proofs.opens_region.Reads as opens-region-reads
 
--- src/lib.rt:72:8
 byte-at-requires : tie.Need-byte-at-requires
 byte-at-requires c κs = search needs
 
--- src/lib.rt:73:9
 returns : tie.Need-returns
 returns c = let a = c .before .before .before in next-same (a .args .r .0) (a .args .line .now) (sym (space-head (a .args .line .now) (c .before .byte-at .result) (c .before .byte-at .ensures) (c .if1 .taken)))
 
--- src/lib.rt:75:9
 opens-region-requires : tie.Need-opens-region-requires
 opens-region-requires c κs = search needs
 
--- src/lib.rt:76:9
 returns-2 : tie.Need-returns-2
 returns-2 c = let a = c .before .before .before .before .before in next-same (a .args .r .0) (a .args .line .now) (sym (c .before .opens-region .ensures) ∙ not-true _ (c .if2 .taken))
 
--- src/lib.rt:79:23
 add-t6 : tie.Need-add-t6
 add-t6 c = search needs
 
--- src/lib.rt:79:9
 returns-3 : tie.Need-returns-3
 returns-3 c = let a = c .before .before .before .before .before .before .before .before in next-new (a .args .r .0) (a .args .line .now) (sym (c .before .before .before .before .opens-region .ensures) ∙ not-false _ (c .before .before .before .if2 .left)) (c .before .if3 .taken)
 
--- src/lib.rt:69:1
 returns-4 : tie.Need-returns-4
 returns-4 c = let a = c .before .before .before .before .before .before .before in next-most (a .args .r .0) (a .args .line .now) (sym (c .before .before .before .opens-region .ensures) ∙ not-false _ (c .before .before .if2 .left)) (c .if3 .left)
 

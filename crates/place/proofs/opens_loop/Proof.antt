@@ -9,71 +9,54 @@ use Rattle.lines.proofs.ends_with.Reads as ends-with-reads
 use Rattle.lines.proofs.same.Reads as same-reads
 use Rattle.lines.proofs.starts_with.Reads as starts-with-reads
 
--- src/lib.rt:201:27
 slice-aggregate-starts-with : tie.Need-slice-aggregate-starts-with
 slice-aggregate-starts-with c = search needs
 
--- src/lib.rt:201:5
 starts-with-requires : tie.Need-starts-with-requires
 starts-with-requires c κs = search needs
 
--- src/lib.rt:202:34
 slice-aggregate-starts-with-2 : tie.Need-slice-aggregate-starts-with-2
 slice-aggregate-starts-with-2 c = search needs
 
--- src/lib.rt:202:12
 starts-with-requires-2 : tie.Need-starts-with-requires-2
 starts-with-requires-2 c κs = search needs
 
--- src/lib.rt:203:38
 slice-aggregate-starts-with-3 : tie.Need-slice-aggregate-starts-with-3
 slice-aggregate-starts-with-3 c = search needs
 
--- src/lib.rt:203:16
 starts-with-requires-3 : tie.Need-starts-with-requires-3
 starts-with-requires-3 c κs = search needs
 
--- src/lib.rt:204:42
 slice-aggregate-starts-with-4 : tie.Need-slice-aggregate-starts-with-4
 slice-aggregate-starts-with-4 c = search needs
 
--- src/lib.rt:204:20
 starts-with-requires-4 : tie.Need-starts-with-requires-4
 starts-with-requires-4 c κs = search needs
 
--- src/lib.rt:205:39
 slice-aggregate-same : tie.Need-slice-aggregate-same
 slice-aggregate-same c = search needs
 
--- src/lib.rt:205:24
 same-requires : tie.Need-same-requires
 same-requires c κs = search needs
 
--- src/lib.rt:206:48
 slice-aggregate-ends-with : tie.Need-slice-aggregate-ends-with
 slice-aggregate-ends-with c = search needs
 
--- src/lib.rt:206:28
 ends-with-requires : tie.Need-ends-with-requires
 ends-with-requires c κs = search needs
 
--- src/lib.rt:207:51
 slice-aggregate-contains : tie.Need-slice-aggregate-contains
 slice-aggregate-contains c = search needs
 
--- src/lib.rt:207:32
 contains-requires : tie.Need-contains-requires
 contains-requires c κs = search needs
 
--- src/lib.rt:207:86
 slice-aggregate-contains-2 : tie.Need-slice-aggregate-contains-2
 slice-aggregate-contains-2 c = search needs
 
--- src/lib.rt:207:67
 contains-requires-2 : tie.Need-contains-requires-2
 contains-requires-2 c κs = search needs
 
--- src/lib.rt:198:1
 returns : tie.Need-returns
 unfolding opensLoop
 returns c = rw (c .before .before .before .before .before .before .before .before .before .before .before .before .before .before .starts-with .ensures, c .before .before .before .before .before .before .before .before .before .before .before .before .starts-with2 .ensures, c .before .before .before .before .before .before .before .before .before .before .starts-with3 .ensures, c .before .before .before .before .before .before .before .before .starts-with4 .ensures, c .before .before .before .before .before .before .same .ensures, c .before .before .before .before .ends-with .ensures, c .before .before .contains .ensures, c .contains2 .ensures)

@@ -9,67 +9,51 @@ use Rattle.place.proofs.opens_region.Lts as lts
 use Rattle.lines.proofs.byte_at.Reads as byte-at-reads
 use Rattle.lines.proofs.starts_with.Reads as starts-with-reads
 
--- src/lib.rt:36:9
 byte-at-requires : tie.Need-byte-at-requires
 byte-at-requires c κs = search needs
 
--- src/lib.rt:38:41
 slice-aggregate-starts-with : tie.Need-slice-aggregate-starts-with
 slice-aggregate-starts-with c = search needs
 
--- src/lib.rt:38:9
 starts-with-requires : tie.Need-starts-with-requires
 starts-with-requires c κs = search needs
 
--- src/lib.rt:38:9
 returns : tie.Need-returns
 returns c = c .starts-with .ensures ∙ f-head (c .before .before .before .before .before .args .line .now) (c .before .before .before .byte-at .result) (c .before .before .before .byte-at .ensures) (c .before .before .if1 .taken)
 
--- src/lib.rt:41:9
 returns-2 : tie.Need-returns-2
 returns-2 c = neither-head (c .before .before .before .before .args .line .now) (c .before .before .byte-at .result) (c .before .before .byte-at .ensures) (c .before .if1 .left) (not-true _ (c .if2 .taken))
 
--- src/lib.rt:43:31
 slice-aggregate-starts-with-2 : tie.Need-slice-aggregate-starts-with-2
 slice-aggregate-starts-with-2 c = search needs
 
--- src/lib.rt:43:6
 starts-with-requires-2 : tie.Need-starts-with-requires-2
 starts-with-requires-2 c κs = search needs
 
--- src/lib.rt:44:37
 slice-aggregate-starts-with-3 : tie.Need-slice-aggregate-starts-with-3
 slice-aggregate-starts-with-3 c = search needs
 
--- src/lib.rt:44:12
 starts-with-requires-3 : tie.Need-starts-with-requires-3
 starts-with-requires-3 c κs = search needs
 
--- src/lib.rt:45:41
 slice-aggregate-starts-with-4 : tie.Need-slice-aggregate-starts-with-4
 slice-aggregate-starts-with-4 c = search needs
 
--- src/lib.rt:45:16
 starts-with-requires-4 : tie.Need-starts-with-requires-4
 starts-with-requires-4 c κs = search needs
 
--- src/lib.rt:46:45
 slice-aggregate-starts-with-5 : tie.Need-slice-aggregate-starts-with-5
 slice-aggregate-starts-with-5 c = search needs
 
--- src/lib.rt:46:20
 starts-with-requires-5 : tie.Need-starts-with-requires-5
 starts-with-requires-5 c κs = search needs
 
--- src/lib.rt:46:83
 slice-aggregate-starts-with-6 : tie.Need-slice-aggregate-starts-with-6
 slice-aggregate-starts-with-6 c = search needs
 
--- src/lib.rt:46:58
 starts-with-requires-6 : tie.Need-starts-with-requires-6
 starts-with-requires-6 c κs = search needs
 
--- src/lib.rt:33:1
 returns-3 : tie.Need-returns-3
 returns-3 c = rw (c .before .before .before .before .before .before .before .before .starts-with2 .ensures, c .before .before .before .before .before .before .starts-with3 .ensures, c .before .before .before .before .starts-with4 .ensures, c .before .before .starts-with5 .ensures, c .starts-with6 .ensures) (other-head (c .before .before .before .before .before .before .before .before .before .before .before .before .before .before .args .line .now) (c .before .before .before .before .before .before .before .before .before .before .before .before .byte-at .result) (c .before .before .before .before .before .before .before .before .before .before .before .before .byte-at .ensures) (c .before .before .before .before .before .before .before .before .before .before .before .if1 .left))
 

@@ -18,23 +18,18 @@ Inv-loop up c n k b₀ j₀ b j = curBy (replicate j closes) b (take n up) ≡ c
 abbrev μ-loop : tie.MeasureT-loop
 μ-loop up c n k b₀ j₀ b j = j
 
--- src/lib.rt:96:5
 loop-holds : tie.Need-loop-holds Inv-loop μ-loop
 loop-holds c = refl
 
--- src/lib.rt:97:9
 around-requires : tie.Need-around-requires Inv-loop μ-loop
 around-requires c κs = c .before .before .before .pre
 
--- src/lib.rt:98:9
 sub-j : tie.Need-sub-j Inv-loop μ-loop
 sub-j c = omega arith
 
--- src/lib.rt:96:5
 loop-less : tie.Need-loop-less Inv-loop μ-loop
 loop-less c = omega arith
 
--- src/lib.rt:96:5
 loop-again : tie.Need-loop-again Inv-loop μ-loop
 loop-again c =
     let l = c .before .before .loop in
@@ -42,7 +37,6 @@ loop-again c =
     ap (λ x. curBy (replicate (l .j - 1) closes) x (take (a .args .n) (a .args .up .now))) (c .around .ensures)
     ∙ sym (out-on (l .j) (l .b) (take (a .args .n) (a .args .up .now)) (c .before .loop-test .taken)) ∙ l .inv
 
--- src/lib.rt:90:1
 returns : tie.Need-returns Inv-loop μ-loop
 returns c = let a = c .before .before .before in sym (out-end (c .before .loop .j) (c .before .loop .b) (take (a .args .n) (a .args .up .now)) (c .loop-test .left)) ∙ c .before .loop .inv
 

@@ -12,35 +12,27 @@ use Rattle.lines.proofs.count_byte.Reads as count-byte-reads
 use Rattle.lines.proofs.starts_with.Reads as starts-with-reads
 use Rattle.place.proofs.ends_open.Reads as ends-open-reads
 
--- src/lib.rt:145:31
 slice-aggregate-starts-with : tie.Need-slice-aggregate-starts-with
 slice-aggregate-starts-with c = search needs
 
--- src/lib.rt:145:9
 starts-with-requires : tie.Need-starts-with-requires
 starts-with-requires c κs = search needs
 
--- src/lib.rt:146:9
 returns : tie.Need-returns
 returns c = closes-none (c .before .before .before .before .args .t .now) (sym (c .before .starts-with .ensures) ∙ not-true _ (c .if1 .taken))
 
--- src/lib.rt:148:9
 count-byte-requires : tie.Need-count-byte-requires
 count-byte-requires c κs = search needs
 
--- src/lib.rt:149:9
 ends-open-requires : tie.Need-ends-open-requires
 ends-open-requires c κs = search needs
 
--- src/lib.rt:150:9
 returns-2 : tie.Need-returns-2
 returns-2 c = c .before .before .count-byte .ensures ∙ closes-all (c .before .before .before .before .before .before .before .args .t .now) (sym (c .before .before .before .before .starts-with .ensures) ∙ not-false _ (c .before .before .before .if1 .left)) (sym (c .before .ends-open .ensures) ∙ not-true _ (c .if2 .taken))
 
--- src/lib.rt:152:5
 sub-result : tie.Need-sub-result
 sub-result c = omega (arith, c .before .before .count-byte .ensures, closes-some (c .before .before .before .before .before .before .before .args .t .now) (sym (c .before .before .before .before .starts-with .ensures) ∙ not-false _ (c .before .before .before .if1 .left)))
 
--- src/lib.rt:142:1
 returns-3 : tie.Need-returns-3
 returns-3 c = ap (λ n. n - 1) (c .before .before .count-byte .ensures) ∙ closes-less (c .before .before .before .before .before .before .before .args .t .now) (sym (c .before .before .before .before .starts-with .ensures) ∙ not-false _ (c .before .before .before .if1 .left)) (sym (c .before .ends-open .ensures) ∙ not-false _ (c .if2 .left))
 

@@ -13,39 +13,30 @@ use Rattle.place.proofs.path_closes.Reads as path-closes-reads
 use Rattle.place.proofs.path_open.Reads as path-open-reads
 use Rattle.text.proofs.trim.Reads as trim-reads
 
--- src/lib.rt:482:8
 is-flat-requires : tie.Need-is-flat-requires
 is-flat-requires c κs = search needs
 
--- src/lib.rt:483:9
 returns : tie.Need-returns
 returns c = let a = c .before .before .before .before in flat-line (a .args .line .now) (sym (c .before .is-flat .ensures) ∙ c .if1 .taken) (a .args .seen) (a .pre)
 
--- src/lib.rt:490:9
 trim-requires : tie.Need-trim-requires
 trim-requires c κs = search needs
 
--- src/lib.rt:491:31
 path-closes-requires : tie.Need-path-closes-requires
 path-closes-requires c κs = search needs
 
--- src/lib.rt:491:9
 outward-requires : tie.Need-outward-requires
 outward-requires c κs = search needs
 
--- src/lib.rt:492:9
 path-open-requires : tie.Need-path-open-requires
 path-open-requires c κs = let a = c .before .before .before .before .before .before .before .before .before in path-room (a .args .line .now) _ (c .before .before .before .before .trim .ensures .0) (a .pre) (c .before .before .path-closes .ensures) (c .before .outward .ensures)
 
--- src/lib.rt:497:16
 loop-by-requires : tie.Need-loop-by-requires
 loop-by-requires c κs = search needs
 
--- src/lib.rt:476:1
 same-length : tie.Need-same-length
 same-length c = search needs
 
--- src/lib.rt:476:1
 returns-2 : tie.Need-returns-2
 returns-2 c =
     let a = c .before .before .before .before .before .before .before .before .before .before .before .before .before in

@@ -9,23 +9,18 @@ use Rattle.place.proofs.path_open.Lts as lts
 use Rattle.place.proofs.ends_open.Reads as ends-open-reads
 use Rattle.place.proofs.enter.Reads as enter-reads
 
--- src/lib.rt:160:8
 ends-open-requires : tie.Need-ends-open-requires
 ends-open-requires c κs = search needs
 
--- src/lib.rt:161:9
 enter-requires : tie.Need-enter-requires
 enter-requires c κs = room-as (open-yes (c .before .before .before .before .before .args .t .now) (sym (c .before .before .ends-open .ensures) ∙ c .before .if1 .taken)) (c .before .before .before .before .before .pre)
 
--- src/lib.rt:161:9
 same-length : tie.Need-same-length
 same-length c = search needs
 
--- src/lib.rt:161:9
 returns : tie.Need-returns
 returns c = moved-as (sym (open-yes (c .before .before .before .before .before .before .before .before .args .t .now) (sym (c .before .before .before .before .before .ends-open .ensures) ∙ c .before .before .before .before .if1 .taken))) (c .before .before .enter .ensures)
 
--- src/lib.rt:156:1
 returns-2 : tie.Need-returns-2
 returns-2 c = let a = c .before .before .before .before in moved-as (sym (open-no (a .args .t .now) (sym (c .before .ends-open .ensures) ∙ c .if1 .left))) (moved-none (a .args .c) (a .args .up .now) (a .args .n) (a .pre .known))
 

@@ -26,99 +26,75 @@ Inv-loop text blocks₀ starts₀ up₀ ends₀ i₀ k₀ c₀ n₀ st₀ blocks
 abbrev μ-loop : tie.MeasureT-loop
 μ-loop text blocks₀ starts₀ up₀ ends₀ i₀ k₀ c₀ n₀ st₀ blocks starts up ends i k c n st = length text - i
 
--- src/lib.rt:286:5
 loop-holds : tie.Need-loop-holds Inv-loop μ-loop
 loop-holds c = let a = c .before .before .before .before .before .args in let p = c .before .before .before .before .before .pre in (place-start (a .text .now) (a .blocks .now) (a .starts .now) (a .up .now) (p .0) (p .1 .0) (p .1 .1 .0 .0) (p .1 .1 .0 .1), ends-start (a .text .now) (a .ends .now) (p .1 .1 .1))
 
--- src/lib.rt:287:13
 find-byte-requires : tie.Need-find-byte-requires Inv-loop μ-loop
 find-byte-requires c κs = search needs
 
--- src/lib.rt:288:20
 sub-line : tie.Need-sub-line Inv-loop μ-loop
 sub-line c = omega (arith, c .find-byte .ensures)
 
--- src/lib.rt:288:20
 part-line-start : tie.Need-part-line-start Inv-loop μ-loop
 part-line-start c = omega (arith, c .find-byte .ensures)
 
--- src/lib.rt:288:20
 part-line-end : tie.Need-part-line-end Inv-loop μ-loop
 part-line-end c = omega (arith, find-le 10 (c .before .before .before .before .before .before .before .before .args .text .now) (c .before .before .loop .i) (c .find-byte .result) (c .before .before .loop .inv .0 .blocks .i≤) (c .find-byte .ensures))
 
--- src/lib.rt:289:19
 end-mark-requires : tie.Need-end-mark-requires Inv-loop μ-loop
 end-mark-requires c κs = omega (arith, c .before .before .before .before .before .before .before .before .before .good, find-le 10 (c .before .before .before .before .before .before .before .before .before .args .text .now) (c .before .before .before .loop .i) (c .before .find-byte .result) (c .before .before .before .loop .inv .0 .blocks .i≤) (c .before .find-byte .ensures))
 
--- src/lib.rt:289:9
 mul-ends : tie.Need-mul-ends Inv-loop μ-loop
 mul-ends c = omega (arith, c .before .before .before .before .before .before .before .before .before .before .good, ends-place (c .before .before .before .before .loop .inv .1) (c .before .before .before .loop-test .taken) (c .before .before .find-byte .result) (c .before .before .find-byte .ensures), writing-length (c .before .before .before .before .loop .inv .1 .marks))
 
--- src/lib.rt:289:9
 slice-write-ends : tie.Need-slice-write-ends Inv-loop μ-loop
 slice-write-ends c = ends-place (c .before .before .before .before .loop .inv .1) (c .before .before .before .loop-test .taken) (c .before .before .find-byte .result) (c .before .before .find-byte .ensures)
 
--- src/lib.rt:290:21
 wide-requires : tie.Need-wide-requires Inv-loop μ-loop
 wide-requires c κs = search needs
 
--- src/lib.rt:290:9
 mul-blocks : tie.Need-mul-blocks Inv-loop μ-loop
 mul-blocks c = let v = c .before .before .before .before .before .loop .inv .0 .blocks in omega (arith, lines-place idsPre idsPost v (c .before .before .before .before .loop-test .taken) (c .before .before .before .find-byte .result) (c .before .before .before .find-byte .ensures), lines-length idsPre idsPost v)
 
--- src/lib.rt:290:9
 slice-write-blocks : tie.Need-slice-write-blocks Inv-loop μ-loop
 slice-write-blocks c = lines-place idsPre idsPost (c .before .before .before .before .before .loop .inv .0 .blocks) (c .before .before .before .before .loop-test .taken) (c .before .before .before .find-byte .result) (c .before .before .before .find-byte .ensures)
 
--- src/lib.rt:291:21
 flag-requires : tie.Need-flag-requires Inv-loop μ-loop
 flag-requires c κs = search needs
 
--- src/lib.rt:291:9
 slice-write-starts : tie.Need-slice-write-starts Inv-loop μ-loop
 slice-write-starts c = place-flag (c .before .before .before .before .before .before .loop .inv .0) (c .before .before .before .before .before .loop-test .taken) (c .before .before .before .before .find-byte .result) (c .before .before .before .before .find-byte .ensures)
 
--- src/lib.rt:292:9
 add-k : tie.Need-add-k Inv-loop μ-loop
 add-k c = let v = c .before .before .before .before .before .before .loop .inv .0 .blocks in omega (arith, lines-place idsPre idsPost v (c .before .before .before .before .before .loop-test .taken) (c .before .before .before .before .find-byte .result) (c .before .before .before .before .find-byte .ensures), lines-length idsPre idsPost v)
 
--- src/lib.rt:293:13
 walk-line-requires : tie.Need-walk-line-requires Inv-loop μ-loop
 walk-line-requires c κs = place-room (c .before .before .before .before .before .before .before .loop .inv .0) (c .before .before .before .before .before .before .loop-test .taken) (c .before .before .before .before .before .find-byte .result) (c .before .before .before .before .before .find-byte .ensures)
 
--- src/lib.rt:296:9
 starts-after-requires : tie.Need-starts-after-requires Inv-loop μ-loop
 starts-after-requires c κs = search needs
 
--- src/lib.rt:297:9
 after-requires : tie.Need-after-requires Inv-loop μ-loop
 after-requires c κs = search needs
 
--- src/lib.rt:286:5
 loop-less : tie.Need-loop-less Inv-loop μ-loop
 loop-less c = omega (arith, c .after .ensures, c .before .before .before .before .before .before .before .before .before .before .find-byte .ensures, c .before .before .before .before .before .before .before .before .before .before .before .loop-test .taken)
 
--- src/lib.rt:286:5
 loop-again : tie.Need-loop-again Inv-loop μ-loop
 loop-again c = (place-on (c .before .before .before .before .before .before .before .before .before .before .before .before .loop .inv .0) (c .before .before .before .before .before .before .before .before .before .before .before .loop-test .taken) (c .before .before .before .before .before .before .before .before .before .before .find-byte .result) (c .before .before .before .before .before .before .before .before .before .before .find-byte .ensures) (λ j. omega (arith, c .before .before .before .before .before .before .before .before .before .before .before .before .before .before .before .before .before .shared-slice-known .given j)) (c .before .before .before .before .before .before .before .wide .ensures) (c .before .before .before .before .before .before .flag .ensures) (c .before .before .before .before .walk-line .ensures) (c .before .starts-after .ensures) (c .after .ensures), ends-on (c .before .before .before .before .before .before .before .before .before .before .before .before .loop .inv .1) (c .before .before .before .before .before .before .before .before .before .before .before .loop-test .taken) (c .before .before .before .before .before .before .before .before .before .before .find-byte .result) (c .before .before .before .before .before .before .before .before .before .before .find-byte .ensures) (c .before .before .before .before .before .before .before .before .end-mark .ensures) (c .after .ensures))
 
--- src/lib.rt:266:1
 same-length : tie.Need-same-length Inv-loop μ-loop
 same-length c = lines-length idsPre idsPost (c .before .loop .inv .0 .blocks)
 
--- src/lib.rt:266:1
 same-length-2 : tie.Need-same-length-2 Inv-loop μ-loop
 same-length-2 c = writing-length (c .before .loop .inv .0 .starts)
 
--- src/lib.rt:266:1
 same-length-3 : tie.Need-same-length-3 Inv-loop μ-loop
 same-length-3 c = lines-up idsPre idsPost (c .before .loop .inv .0 .blocks)
 
--- src/lib.rt:266:1
 same-length-4 : tie.Need-same-length-4 Inv-loop μ-loop
 same-length-4 c = writing-length (c .before .loop .inv .1 .marks)
 
--- src/lib.rt:266:1
 returns : tie.Need-returns Inv-loop μ-loop
 returns c = (place-done (c .before .loop .inv .0) (c .loop-test .left), ends-done (c .before .loop .inv .1) (c .loop-test .left))
 

@@ -6,23 +6,18 @@ use Rattle.place.proofs.put_end.Tie as tie
 use Rattle.place.proofs.put_end.Reads as reads
 use Rattle.place.proofs.put_end.Lts as lts
 
--- src/lib.rt:436:9
 returns : tie.Need-returns
 returns c = sym (set-out _ _ _ (c .if1 .taken))
 
--- src/lib.rt:438:5
 mul-ends : tie.Need-mul-ends
 mul-ends c = search needs
 
--- src/lib.rt:438:5
 slice-write-ends : tie.Need-slice-write-ends
 slice-write-ends c = search needs
 
--- src/lib.rt:432:1
 same-length : tie.Need-same-length
 same-length c = search needs
 
--- src/lib.rt:432:1
 returns-2 : tie.Need-returns-2
 returns-2 c = search needs
 

@@ -20,19 +20,15 @@ Inv-loop text i e j₀ j = (i ≤ j) × ((j ≤ length text) × (j + upHeader 0 
 abbrev μ-loop : tie.MeasureT-loop
 μ-loop text i e j₀ j = length text - j
 
--- src/lib.rt:34:9
 returns : tie.Need-returns Inv-loop μ-loop
 returns c = end-past (c .before .before .args .text .now) (c .before .before .args .i) (c .if1 .taken)
 
--- src/lib.rt:36:9
 find-byte-requires : tie.Need-find-byte-requires Inv-loop μ-loop
 find-byte-requires c κs = search needs
 
--- src/lib.rt:37:9
 after-requires : tie.Need-after-requires Inv-loop μ-loop
 after-requires c κs = search needs
 
--- src/lib.rt:38:5
 loop-holds : tie.Need-loop-holds Inv-loop μ-loop
 loop-holds c =
     let s = c .before .before .before .before in
@@ -40,41 +36,32 @@ loop-holds c =
     let h = c .before .before .if1 .left in
     (omega (arith, c .after .ensures, q), (omega (arith, c .after .ensures), past (s .args .text .now) (s .args .i) (c .before .find-byte .result) (c .after .result) q (omega arith) (c .after .ensures)))
 
--- src/lib.rt:39:13
 find-byte-requires-2 : tie.Need-find-byte-requires-2 Inv-loop μ-loop
 find-byte-requires-2 c κs = search needs
 
--- src/lib.rt:40:22
 sub-is-header : tie.Need-sub-is-header Inv-loop μ-loop
 sub-is-header c = omega arith
 
--- src/lib.rt:40:22
 part-is-header-start : tie.Need-part-is-header-start Inv-loop μ-loop
 part-is-header-start c = omega arith
 
--- src/lib.rt:40:22
 part-is-header-end : tie.Need-part-is-header-end Inv-loop μ-loop
 part-is-header-end c = omega (arith, find-le 10 (c .before .before .before .before .before .before .before .args .text .now) (c .before .before .loop .j) (c .find-byte2 .result) (c .before .before .loop .inv .1 .0) (c .find-byte2 .ensures))
 
--- src/lib.rt:40:12
 is-header-requires : tie.Need-is-header-requires Inv-loop μ-loop
 is-header-requires c κs = search needs
 
--- src/lib.rt:41:13
 returns-2 : tie.Need-returns-2 Inv-loop μ-loop
 returns-2 c =
     let l = c .before .before .before .before .before .loop in
     omega (arith, end-stop (c .before .before .before .before .before .before .before .before .before .before .args .text .now) (l .j) (c .before .before .before .find-byte2 .result) (c .before .before .before .before .loop-test .taken) (c .before .before .before .find-byte2 .ensures) (sym (c .before .is-header .ensures) ∙ c .if2 .taken), l .inv .1 .1)
 
--- src/lib.rt:43:9
 after-requires-2 : tie.Need-after-requires-2 Inv-loop μ-loop
 after-requires-2 c κs = search needs
 
--- src/lib.rt:38:5
 loop-less : tie.Need-loop-less Inv-loop μ-loop
 loop-less c = omega (arith, c .after2 .ensures, c .before .before .before .before .find-byte2 .ensures)
 
--- src/lib.rt:38:5
 loop-again : tie.Need-loop-again Inv-loop μ-loop
 loop-again c =
     let l = c .before .before .before .before .before .before .loop in
@@ -92,7 +79,6 @@ loop-again c =
       ),
     )
 
--- src/lib.rt:30:1
 returns-3 : tie.Need-returns-3 Inv-loop μ-loop
 returns-3 c = omega (arith, end-end (c .before .before .before .before .before .before .args .text .now) (c .before .loop .j) (c .loop-test .left), c .before .loop .inv .1 .1)
 

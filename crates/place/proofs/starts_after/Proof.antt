@@ -4,11 +4,9 @@ use Rattle.place.proofs.starts_after.Tie as tie
 use Rattle.place.proofs.starts_after.Reads as reads
 use Rattle.place.proofs.starts_after.Lts as lts
 
--- src/lib.rt:186:9
 returns : tie.Need-returns
 returns c = by-blank (c .before .args .last) (c .before .args .st) (c .if1 .taken)
 
--- src/lib.rt:182:1
 returns-2 : tie.Need-returns-2
 returns-2 c = by-last (c .before .args .last) (c .before .args .st) (c .if1 .left)
 

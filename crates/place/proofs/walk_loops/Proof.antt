@@ -23,55 +23,42 @@ Inv-loop text flags₀ i₀ k₀ d₀ o₀ flags i k d o = LoopsInv text flags�
 abbrev μ-loop : tie.MeasureT-loop
 μ-loop text flags₀ i₀ k₀ d₀ o₀ flags i k d o = length text - i
 
--- src/lib.rt:274:5
 loop-holds : tie.Need-loop-holds Inv-loop μ-loop
 loop-holds c = loops-start (c .before .before .args .text .now) (c .before .before .args .flags .now) (c .before .before .pre)
 
--- src/lib.rt:275:13
 find-byte-requires : tie.Need-find-byte-requires Inv-loop μ-loop
 find-byte-requires c κs = search needs
 
--- src/lib.rt:276:20
 flag-requires : tie.Need-flag-requires Inv-loop μ-loop
 flag-requires c κs = search needs
 
--- src/lib.rt:276:9
 slice-write-flags : tie.Need-slice-write-flags Inv-loop μ-loop
 slice-write-flags c = loops-place (c .before .before .before .loop .inv) (c .before .before .loop-test .taken) (c .before .find-byte .result) (c .before .find-byte .ensures)
 
--- src/lib.rt:277:9
 add-k : tie.Need-add-k Inv-loop μ-loop
 add-k c = omega (arith, loops-place (c .before .before .before .loop .inv) (c .before .before .loop-test .taken) (c .before .find-byte .result) (c .before .find-byte .ensures), loops-length (c .before .before .before .loop .inv))
 
--- src/lib.rt:278:38
 sub-trim : tie.Need-sub-trim Inv-loop μ-loop
 sub-trim c = omega (arith, c .before .find-byte .ensures)
 
--- src/lib.rt:278:38
 part-trim-start : tie.Need-part-trim-start Inv-loop μ-loop
 part-trim-start c = omega (arith, c .before .find-byte .ensures)
 
--- src/lib.rt:278:38
 part-trim-end : tie.Need-part-trim-end Inv-loop μ-loop
 part-trim-end c = omega (arith, find-le 10 (c .before .before .before .before .before .before .args .text .now) (c .before .before .before .loop .i) (c .before .find-byte .result) (c .before .before .before .loop .inv .i≤) (c .before .find-byte .ensures))
 
--- src/lib.rt:278:27
 trim-requires : tie.Need-trim-requires Inv-loop μ-loop
 trim-requires c κs = search needs
 
--- src/lib.rt:278:13
 nest-line-requires : tie.Need-nest-line-requires Inv-loop μ-loop
 nest-line-requires c κs = omega (arith, c .before .before .before .before .before .loop .inv .d≤, c .before .before .before .before .loop-test .taken)
 
--- src/lib.rt:281:9
 after-requires : tie.Need-after-requires Inv-loop μ-loop
 after-requires c κs = search needs
 
--- src/lib.rt:274:5
 loop-less : tie.Need-loop-less Inv-loop μ-loop
 loop-less c = omega (arith, c .after .ensures, c .before .before .before .before .before .find-byte .ensures, c .before .before .before .before .before .before .loop-test .taken)
 
--- src/lib.rt:274:5
 loop-again : tie.Need-loop-again Inv-loop μ-loop
 loop-again c =
     let l = c .before .before .before .before .before .before .before .loop in
@@ -79,11 +66,9 @@ loop-again c =
     loops-on (l .inv) (c .before .before .before .before .before .before .loop-test .taken) (f .result) (f .ensures) (c .before .nest-line .result) (c .before .before .before .before .flag .result) (c .after .result)
     (c .before .before .before .before .flag .ensures) (c .before .nest-line .ensures ∙ ap (λ (s : List ℕ). nestLine s (l .d) (l .o)) (c .before .before .trim .ensures .0)) (c .after .ensures)
 
--- src/lib.rt:266:1
 same-length : tie.Need-same-length Inv-loop μ-loop
 same-length c = loops-length (c .before .loop .inv)
 
--- src/lib.rt:266:1
 returns : tie.Need-returns Inv-loop μ-loop
 returns c = loops-done (c .before .loop .inv) (c .loop-test .left)
 

@@ -6,29 +6,23 @@ use Rattle.po.proofs.read_number_of.Tie as tie
 use Rattle.po.proofs.read_number_of.Reads as reads
 use Rattle.po.proofs.read_number_of.Lts as lts
 
--- src/lib.rt:623:29
 enum-told : tie.Need-enum-told
 enum-told c = search needs
 
--- src/lib.rt:624:32
 enum-told-2 : tie.Need-enum-told-2
 enum-told-2 c = search needs
 
--- src/lib.rt:625:30
 enum-told-3 : tie.Need-enum-told-3
 enum-told-3 c = search needs
 
--- src/lib.rt:619:1
 returns : tie.Need-returns
 unfolding stringsNumber
 returns c = sym (ap stringsNumber (c .enum-told .given .1))
 
--- src/lib.rt:619:1
 returns-2 : tie.Need-returns-2
 unfolding stringsNumber
 returns-2 c = sym (ap stringsNumber (c .enum-told2 .given .1))
 
--- src/lib.rt:619:1
 returns-3 : tie.Need-returns-3
 unfolding stringsNumber
 returns-3 c = sym (ap stringsNumber (c .enum-told3 .given .1))

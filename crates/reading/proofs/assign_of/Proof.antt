@@ -11,35 +11,27 @@ use Rattle.reading.proofs.assign_of.Reads as reads
 use Rattle.reading.proofs.assign_of.Lts as lts
 use Rattle.reading.proofs.sides_of.Reads as sides-of-reads
 
--- src/lib.rt:95:9
 returns : tie.Need-returns
 returns c = sym (assign-none _ (c .if1 .taken))
 
--- src/lib.rt:97:10
 sub-if2 : tie.Need-sub-if2
 sub-if2 c = search needs
 
--- src/lib.rt:97:8
 shared-slice-read-if2 : tie.Need-shared-slice-read-if2
 shared-slice-read-if2 c = search needs
 
--- src/lib.rt:98:9
 returns-2 : tie.Need-returns-2
 returns-2 c = sym (assign-open (c .before .before .before .before .args .t .now) (c .if2 .taken))
 
--- src/lib.rt:100:19
 sub-sides-of : tie.Need-sub-sides-of
 sub-sides-of c = search needs
 
--- src/lib.rt:100:14
 slice-aggregate-sides-of : tie.Need-slice-aggregate-sides-of
 slice-aggregate-sides-of c = let t = c .before .before .before .before .before .args .t .now in sym (length-take-le (length t - 1) t (omega arith))
 
--- src/lib.rt:100:5
 sides-of-requires : tie.Need-sides-of-requires
 sides-of-requires c κs = search needs
 
--- src/lib.rt:90:1
 returns-3 : tie.Need-returns-3
 returns-3 c = let t = c .before .before .before .before .before .before .args .t .now in c .sides-of .ensures ∙ sym (assign-sides t (c .before .before .if2 .left))
 

@@ -6,11 +6,9 @@ use Rattle.reading.proofs.line_uses.Reads as reads
 use Rattle.reading.proofs.line_uses.Lts as lts
 use Rattle.reading.proofs.use_of.Reads as use-of-reads
 
--- src/lib.rt:52:9
 use-of-requires : tie.Need-use-of-requires
 use-of-requires c κs = search needs
 
--- src/lib.rt:49:1
 returns : tie.Need-returns
 unfolding lineUses
 returns c = rw (c .before .before .use-of .ensures .0, c .before .before .use-of .ensures .1)

@@ -13,51 +13,39 @@ use Rattle.reading.proofs.sides_of.Lts as lts
 use Rattle.lines.proofs.find_byte.Reads as find-byte-reads
 use Rattle.text.proofs.trim_span.Reads as trim-span-reads
 
--- src/lib.rt:75:9
 find-byte-requires : tie.Need-find-byte-requires
 find-byte-requires c κs = search needs
 
--- src/lib.rt:77:9
 returns : tie.Need-returns
 returns c = sym (sides-none (c .before .before .before .args .u .now) (c .before .find-byte .result) (c .before .find-byte .ensures) (c .if1 .taken))
 
--- src/lib.rt:79:13
 add-b : tie.Need-add-b
 add-b c = search needs
 
--- src/lib.rt:80:32
 slice-aggregate-trim-span : tie.Need-slice-aggregate-trim-span
 slice-aggregate-trim-span c = sym (length-take-le (c .before .before .find-byte .result) (c .before .before .before .before .args .u .now) (omega arith))
 
--- src/lib.rt:80:9
 trim-span-requires : tie.Need-trim-span-requires
 trim-span-requires c κs = search needs
 
--- src/lib.rt:81:29
 sub-trim-span : tie.Need-sub-trim-span
 sub-trim-span c = search needs
 
--- src/lib.rt:81:29
 part-trim-span-start : tie.Need-part-trim-span-start
 part-trim-span-start c = search needs
 
--- src/lib.rt:81:29
 part-trim-span-end : tie.Need-part-trim-span-end
 part-trim-span-end c = search needs
 
--- src/lib.rt:81:9
 trim-span-requires-2 : tie.Need-trim-span-requires-2
 trim-span-requires-2 c κs = search needs
 
--- src/lib.rt:83:15
 add-t7 : tie.Need-add-t7
 add-t7 c = let u = c .before .before .before .before .before .before .before .before .args .u .now in let k = c .before .before .before .before .before .before .find-byte .result in omega (arith, c .before .before .before .before .before .if1 .left, c .before .trim-span2 .ensures .0, rest-from u (k + 1))
 
--- src/lib.rt:84:13
 add-t14 : tie.Need-add-t14
 add-t14 c = let u = c .before .before .before .before .before .before .before .before .before .args .u .now in let k = c .before .before .before .before .before .before .before .find-byte .result in let h : c .before .before .trim-span2 .result .to ≤ length u - (k + 1) = omega (arith, c .before .before .trim-span2 .ensures .1, rest-to u (k + 1)) in omega (arith, c .before .before .before .before .before .before .if1 .left)
 
--- src/lib.rt:72:1
 returns-2 : tie.Need-returns-2
 returns-2 c =
     let u = c .before .before .before .before .before .before .before .before .before .args .u .now in

@@ -10,23 +10,18 @@ use Rattle.parse.proofs.text_of.Reads as text-of-reads
 use Rattle.reading.proofs.stores_in.Reads as stores-in-reads
 use Rattle.words.proofs.count_reg.Reads as count-reg-reads
 
--- src/lib.rt:39:9
 parse-requires : tie.Need-parse-requires
 parse-requires c κs = search needs
 
--- src/lib.rt:40:30
 text-of-requires : tie.Need-text-of-requires
 text-of-requires c κs = search needs
 
--- src/lib.rt:40:9
 count-reg-requires : tie.Need-count-reg-requires
 count-reg-requires c κs = search needs
 
--- src/lib.rt:41:9
 stores-in-requires : tie.Need-stores-in-requires
 stores-in-requires c κs = search needs
 
--- src/lib.rt:36:1
 returns : tie.Need-returns
 returns c =
     let a = c .before .before .before .before .before .args in

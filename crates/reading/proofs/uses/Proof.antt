@@ -21,31 +21,24 @@ Inv-loop text reg i₀ i = (i ≤ length text) × (usedIn (reg .0) (linesOf (dro
 abbrev μ-loop : tie.MeasureT-loop
 μ-loop text reg i₀ i = length text - i
 
--- src/lib.rt:61:5
 loop-holds : tie.Need-loop-holds Inv-loop μ-loop
 loop-holds c = (omega arith, refl)
 
--- src/lib.rt:62:13
 find-byte-requires : tie.Need-find-byte-requires Inv-loop μ-loop
 find-byte-requires c κs = search needs
 
--- src/lib.rt:63:22
 sub-line-uses : tie.Need-sub-line-uses Inv-loop μ-loop
 sub-line-uses c = omega arith
 
--- src/lib.rt:63:22
 part-line-uses-start : tie.Need-part-line-uses-start Inv-loop μ-loop
 part-line-uses-start c = omega arith
 
--- src/lib.rt:63:22
 part-line-uses-end : tie.Need-part-line-uses-end Inv-loop μ-loop
 part-line-uses-end c = omega (arith, find-le 10 (c .before .before .before .before .args .text .now) (c .before .before .loop .i) (c .find-byte .result) (c .before .before .loop .inv .0) (c .find-byte .ensures))
 
--- src/lib.rt:63:12
 line-uses-requires : tie.Need-line-uses-requires Inv-loop μ-loop
 line-uses-requires c κs = search needs
 
--- src/lib.rt:64:13
 returns : tie.Need-returns Inv-loop μ-loop
 returns c =
     let l = c .before .before .before .before .before .loop in
@@ -53,15 +46,12 @@ returns c =
     let f = c .before .before .before .find-byte in
     sym (used-hit (a .reg .0) (a .text .now) (l .i) (f .result) (c .before .before .before .before .loop-test .taken) (f .ensures) (sym (c .before .line-uses .ensures) ∙ c .if1 .taken)) ∙ l .inv .1
 
--- src/lib.rt:66:9
 after-requires : tie.Need-after-requires Inv-loop μ-loop
 after-requires c κs = search needs
 
--- src/lib.rt:61:5
 loop-less : tie.Need-loop-less Inv-loop μ-loop
 loop-less c = omega (arith, c .after .ensures, c .before .before .before .before .find-byte .ensures)
 
--- src/lib.rt:61:5
 loop-again : tie.Need-loop-again Inv-loop μ-loop
 loop-again c =
     let l = c .before .before .before .before .before .before .loop in
@@ -69,7 +59,6 @@ loop-again c =
     let f = c .before .before .before .before .find-byte in
     (omega (arith, c .after .ensures), sym (used-on (a .reg .0) (a .text .now) (l .i) (f .result) (c .before .before .before .before .before .loop-test .taken) (f .ensures) (c .after .result) (c .after .ensures) (sym (c .before .before .line-uses .ensures) ∙ c .before .if1 .left)) ∙ l .inv .1)
 
--- src/lib.rt:57:1
 returns-2 : tie.Need-returns-2 Inv-loop μ-loop
 returns-2 c = sym (used-end _ _ _ (c .loop-test .left)) ∙ c .before .loop .inv .1
 

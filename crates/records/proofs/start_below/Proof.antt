@@ -9,15 +9,12 @@ use Rattle.records.proofs.start_below.Tie as tie
 use Rattle.records.proofs.start_below.Reads as reads
 use Rattle.records.proofs.start_below.Lts as lts
 
--- src/lib.rt:60:9
 returns : tie.Need-returns
 returns c = rw (eq-eqb (c .before .args .k) 0 (c .if1 .taken))
 
--- src/lib.rt:62:5
 add-result : tie.Need-add-result
 add-result c = let a = c .before .before .args in omega (arith, subst (λ (b : Bool). cond b 0 (a .above .end + 1) ≤ 2 ^ 63) (ne-eqb (a .k) 0 (c .before .if1 .left)) (c .before .before .pre))
 
--- src/lib.rt:55:1
 returns-2 : tie.Need-returns-2
 returns-2 c = rw (ne-eqb (c .before .before .args .k) 0 (c .before .if1 .left))
 

@@ -7,11 +7,9 @@ use Rattle.records.proofs.window.Reads as reads
 use Rattle.records.proofs.window.Lts as lts
 use Rattle.records.proofs.blank.Reads as blank-reads
 
--- src/lib.rt:50:9
 blank-requires : tie.Need-blank-requires
 blank-requires c κs = search needs
 
--- src/lib.rt:47:1
 returns : tie.Need-returns
 returns c = ap (replicate 64) (c .blank .ensures)
 

@@ -17,35 +17,27 @@ Inv-loop s name i₀ i = (i ≤ length s) × (anyTrim (λ (t : List ℕ). same t
 abbrev μ-loop : tie.MeasureT-loop
 μ-loop s name i₀ i = length s - i
 
--- src/lib.rt:21:5
 loop-holds : tie.Need-loop-holds Inv-loop μ-loop
 loop-holds c = (omega arith, sym (piece-any (c .before .before .args .name .now) (partsOf 44 (c .before .before .args .s .now))))
 
--- src/lib.rt:22:13
 find-byte-requires : tie.Need-find-byte-requires Inv-loop μ-loop
 find-byte-requires c κs = search needs
 
--- src/lib.rt:23:35
 sub-trim : tie.Need-sub-trim Inv-loop μ-loop
 sub-trim c = omega arith
 
--- src/lib.rt:23:35
 part-trim-start : tie.Need-part-trim-start Inv-loop μ-loop
 part-trim-start c = omega arith
 
--- src/lib.rt:23:35
 part-trim-end : tie.Need-part-trim-end Inv-loop μ-loop
 part-trim-end c = omega (arith, find-le 44 (c .before .before .before .before .args .s .now) (c .before .loop .i) (c .find-byte .result) (c .before .loop .inv .0) (c .find-byte .ensures))
 
--- src/lib.rt:23:24
 trim-requires : tie.Need-trim-requires Inv-loop μ-loop
 trim-requires c κs = search needs
 
--- src/lib.rt:23:12
 same-requires : tie.Need-same-requires Inv-loop μ-loop
 same-requires c κs = search needs
 
--- src/lib.rt:24:13
 returns : tie.Need-returns Inv-loop μ-loop
 returns c =
     let l = c .before .before .before .before .before .loop in
@@ -53,7 +45,6 @@ returns c =
     let f = c .before .before .before .before .find-byte in
     sym (piece-hit (λ (t : List ℕ). same t (a .name .now)) (a .s .now) (l .i) (f .result) (l .inv .0) (f .ensures) (ap (λ (t : List ℕ). same t (a .name .now)) (sym (c .before .before .trim .ensures .0)) ∙ sym (c .before .same .ensures) ∙ c .if1 .taken)) ∙ l .inv .1
 
--- src/lib.rt:27:13
 returns-2 : tie.Need-returns-2 Inv-loop μ-loop
 returns-2 c =
     let l = c .before .before .before .before .before .before .loop in
@@ -61,15 +52,12 @@ returns-2 c =
     let f = c .before .before .before .before .before .find-byte in
     sym (piece-last (λ (t : List ℕ). same t (a .name .now)) (a .s .now) (l .i) (f .result) (l .inv .0) (f .ensures) (c .if2 .taken) (ap (λ (t : List ℕ). same t (a .name .now)) (sym (c .before .before .before .trim .ensures .0)) ∙ sym (c .before .before .same .ensures) ∙ c .before .if1 .left)) ∙ l .inv .1
 
--- src/lib.rt:29:13
 add-i : tie.Need-add-i Inv-loop μ-loop
 add-i c = omega arith
 
--- src/lib.rt:21:5
 loop-less : tie.Need-loop-less Inv-loop μ-loop
 loop-less c = omega (arith, c .before .before .before .before .before .find-byte .ensures)
 
--- src/lib.rt:21:5
 loop-again : tie.Need-loop-again Inv-loop μ-loop
 loop-again c =
     let l = c .before .before .before .before .before .before .loop in

@@ -18,35 +18,27 @@ Inv-loop text name i₀ i = (i ≤ length text) × (anyTrim (λ (t : List ℕ). 
 abbrev μ-loop : tie.MeasureT-loop
 μ-loop text name i₀ i = length text - i
 
--- src/lib.rt:55:5
 loop-holds : tie.Need-loop-holds Inv-loop μ-loop
 loop-holds c = (omega arith, sym (declared-any (c .before .before .args .name .now) (linesOf (c .before .before .args .text .now))))
 
--- src/lib.rt:56:13
 find-byte-requires : tie.Need-find-byte-requires Inv-loop μ-loop
 find-byte-requires c κs = search needs
 
--- src/lib.rt:57:32
 sub-trim : tie.Need-sub-trim Inv-loop μ-loop
 sub-trim c = omega arith
 
--- src/lib.rt:57:32
 part-trim-start : tie.Need-part-trim-start Inv-loop μ-loop
 part-trim-start c = omega arith
 
--- src/lib.rt:57:32
 part-trim-end : tie.Need-part-trim-end Inv-loop μ-loop
 part-trim-end c = omega (arith, find-le 10 (c .before .before .before .before .before .args .text .now) (c .before .before .loop .i) (c .find-byte .result) (c .before .before .loop .inv .0) (c .find-byte .ensures))
 
--- src/lib.rt:57:21
 trim-requires : tie.Need-trim-requires Inv-loop μ-loop
 trim-requires c κs = search needs
 
--- src/lib.rt:57:12
 declares-requires : tie.Need-declares-requires Inv-loop μ-loop
 declares-requires c κs = search needs
 
--- src/lib.rt:58:13
 returns : tie.Need-returns Inv-loop μ-loop
 returns c =
     let l = c .before .before .before .before .before .before .loop in
@@ -54,15 +46,12 @@ returns c =
     let f = c .before .before .before .before .find-byte in
     sym (line-hit (λ (t : List ℕ). declares (a .name .now) t) (a .text .now) (l .i) (f .result) (c .before .before .before .before .before .loop-test .taken) (f .ensures) (ap (λ (t : List ℕ). declares (a .name .now) t) (sym (c .before .before .trim .ensures .0)) ∙ so (c .before .declares .ensures) (c .if1 .taken))) ∙ l .inv .1
 
--- src/lib.rt:60:9
 after-requires : tie.Need-after-requires Inv-loop μ-loop
 after-requires c κs = search needs
 
--- src/lib.rt:55:5
 loop-less : tie.Need-loop-less Inv-loop μ-loop
 loop-less c = omega (arith, c .after .ensures, c .before .before .before .before .before .find-byte .ensures)
 
--- src/lib.rt:55:5
 loop-again : tie.Need-loop-again Inv-loop μ-loop
 loop-again c =
     let l = c .before .before .before .before .before .before .before .loop in
@@ -72,7 +61,6 @@ loop-again c =
       sym (line-on (λ (t : List ℕ). declares (a .name .now) t) (a .text .now) (l .i) (f .result) (c .before .before .before .before .before .before .loop-test .taken) (f .ensures) (c .after .result) (c .after .ensures) (ap (λ (t : List ℕ). declares (a .name .now) t) (sym (c .before .before .before .trim .ensures .0)) ∙ so (c .before .before .declares .ensures) (c .before .if1 .left))) ∙ l .inv .1,
     )
 
--- src/lib.rt:51:1
 returns-2 : tie.Need-returns-2 Inv-loop μ-loop
 returns-2 c = let a = c .before .before .before .before .args in sym (line-end (λ (t : List ℕ). declares (a .name .now) t) (a .text .now) (c .before .loop .i) (c .loop-test .left)) ∙ c .before .loop .inv .1
 

@@ -16,27 +16,21 @@ use Rattle.temps.proofs.PassLaws.{goes-other, goes-name, goes-impure, g
 use Rattle.temps.proofs.goes.Statement.{statement}
 use Rattle.temps.proofs.goes.Tie as tie
 
--- src/lib.rt:139:9
 trim-requires : tie.Need-trim-requires
 trim-requires c κs = search needs
 
--- src/lib.rt:140:11
 assign-of-requires : tie.Need-assign-of-requires
 assign-of-requires c κs = search needs
 
--- src/lib.rt:141:32
 enum-known-s : tie.Need-enum-known-s
 enum-known-s c = search needs
 
--- src/lib.rt:142:17
 left-of-requires : tie.Need-left-of-requires
 left-of-requires c κs = search needs
 
--- src/lib.rt:143:17
 is-temp-name-requires : tie.Need-is-temp-name-requires
 is-temp-name-requires c κs = search needs
 
--- src/lib.rt:144:17
 returns : tie.Need-returns
 returns c =
     let a = c .before .before .before .before .before .before .before .before .before .before .before .before .before .args in
@@ -46,26 +40,21 @@ returns c =
     let d = so (c .before .is-temp-name .ensures) (not-true _ (c .if1 .taken)) in
     (sym (goes-name plain (linesOf (a .text .now)) (a .line .now) _ p _ (w .assigns) q d), sym (scratch-store (a .scratch .now) (a .line .now) _ p false _ (w .assigns) q d))
 
--- src/lib.rt:146:44
 right-of-requires : tie.Need-right-of-requires
 right-of-requires c κs = search needs
 
--- src/lib.rt:146:31
 purity-requires : tie.Need-purity-requires
 purity-requires c κs =
     let a = c .before .before .before .before .before .before .before .before .before .before .before .before .before .before .before .args in
     let w = assign-split _ _ (sym (c .before .before .before .before .before .before .before .before .assign-of .ensures) ∙ c .before .before .before .before .before .before .s .given .1) in
     omega (arith, c .before .before .before .before .before .before .before .before .before .before .before .before .before .before .before .pre .0, value-room (a .line .now) _ _ (c .before .before .before .before .before .before .before .before .before .trim .ensures .0) (c .before .right-of .ensures ∙ w .is-right))
 
--- src/lib.rt:146:17
 is-pure-requires : tie.Need-is-pure-requires
 is-pure-requires c κs = search needs
 
--- src/lib.rt:147:17
 same-length : tie.Need-same-length
 same-length c = search needs
 
--- src/lib.rt:147:17
 returns-2 : tie.Need-returns-2
 returns-2 c =
     let a = c .before .before .before .before .before .before .before .before .before .before .before .before .before .before .before .before .before .before .before .before .args in
@@ -80,19 +69,15 @@ returns-2 c =
       e .1 ∙ ap (λ (x : List ℕ). putAt (a .scratch .now) 0 (stripComments x)) v ∙ sym (scratch-store (a .scratch .now) (a .line .now) _ p true _ (w .assigns) q d),
     )
 
--- src/lib.rt:149:13
 is-dead-requires : tie.Need-is-dead-requires
 is-dead-requires c κs = (so (c .before .before .before .before .before .before .before .before .is-temp-name .ensures) (not-false _ (c .before .before .before .before .before .before .before .if1 .left)), c .before .before .before .before .before .before .before .before .before .before .before .before .before .before .before .before .before .before .before .before .pre .1)
 
--- src/lib.rt:151:34
 enum-told : tie.Need-enum-told
 enum-told c = search needs
 
--- src/lib.rt:134:1
 same-length-2 : tie.Need-same-length-2
 same-length-2 c = search needs
 
--- src/lib.rt:134:1
 returns-3 : tie.Need-returns-3
 returns-3 c =
     let a = c .before .before .before .before .before .before .before .before .before .before .before .before .before .before .before .before .before .before .before .before .before .args in
@@ -107,7 +92,6 @@ returns-3 c =
       e .1 ∙ ap (λ (x : List ℕ). putAt (a .scratch .now) 0 (stripComments x)) v ∙ sym (scratch-store (a .scratch .now) (a .line .now) _ p true _ (w .assigns) q d),
     )
 
--- src/lib.rt:134:1
 returns-4 : tie.Need-returns-4
 returns-4 c =
     let a = c .before .before .before .before .before .before .before .before .before .args in

@@ -21,39 +21,30 @@ Inv-loop s i₀ i = tempIn (drop i s) ≡ tempIn s
 abbrev μ-loop : tie.MeasureT-loop
 μ-loop s i₀ i = length s - i
 
--- src/lib.rt:258:5
 loop-holds : tie.Need-loop-holds Inv-loop μ-loop
 loop-holds c = refl
 
--- src/lib.rt:259:13
 find-byte-requires : tie.Need-find-byte-requires Inv-loop μ-loop
 find-byte-requires c κs = search needs
 
--- src/lib.rt:260:23
 cut-requires : tie.Need-cut-requires Inv-loop μ-loop
 cut-requires c κs = search needs
 
--- src/lib.rt:260:12
 temp-front-requires : tie.Need-temp-front-requires Inv-loop μ-loop
 temp-front-requires c κs = search needs
 
--- src/lib.rt:261:13
 returns : tie.Need-returns Inv-loop μ-loop
 returns c = sym (find-hit (c .before .before .before .before .before .before .before .args .s .now) (c .before .before .before .before .before .loop .i) (c .before .before .before .find-byte .result) (c .before .before .before .find-byte .ensures) (c .before .before .cut .result .now) (c .before .before .cut .ensures) (so (c .before .temp-front .ensures) (c .if1 .taken))) ∙ c .before .before .before .before .before .loop .inv
 
--- src/lib.rt:263:9
 after-requires : tie.Need-after-requires Inv-loop μ-loop
 after-requires c κs = search needs
 
--- src/lib.rt:258:5
 loop-less : tie.Need-loop-less Inv-loop μ-loop
 loop-less c = omega (arith, c .after .ensures, c .before .before .before .before .find-byte .ensures, c .before .before .before .before .before .loop-test .taken)
 
--- src/lib.rt:258:5
 loop-again : tie.Need-loop-again Inv-loop μ-loop
 loop-again c = sym (find-on (c .before .before .before .before .before .before .before .before .args .s .now) (c .before .before .before .before .before .before .loop .i) (c .before .before .before .before .find-byte .result) (c .before .before .before .before .find-byte .ensures) (c .before .before .before .cut .result .now) (c .before .before .before .cut .ensures) (c .after .result) (c .after .ensures) (so (c .before .before .temp-front .ensures) (c .before .if1 .left))) ∙ c .before .before .before .before .before .before .loop .inv
 
--- src/lib.rt:254:1
 returns-2 : tie.Need-returns-2 Inv-loop μ-loop
 returns-2 c = sym (find-none (c .before .before .before .args .s .now) (c .before .loop .i) (c .loop-test .left)) ∙ c .before .loop .inv
 

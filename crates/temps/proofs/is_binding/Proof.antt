@@ -3,39 +3,30 @@ use Rattle.lines.proofs.Tests.{so}
 use Rattle.temps.proofs.is_binding.Statement.{statement}
 use Rattle.temps.proofs.is_binding.Tie as tie
 
--- src/lib.rt:69:30
 slice-aggregate-starts-with : tie.Need-slice-aggregate-starts-with
 slice-aggregate-starts-with c = search needs
 
--- src/lib.rt:69:8
 starts-with-requires : tie.Need-starts-with-requires
 starts-with-requires c κs = search needs
 
--- src/lib.rt:70:9
 returns : tie.Need-returns
 returns c = rw (so (c .before .starts-with .ensures) (c .if1 .taken))
 
--- src/lib.rt:72:30
 slice-aggregate-starts-with-2 : tie.Need-slice-aggregate-starts-with-2
 slice-aggregate-starts-with-2 c = search needs
 
--- src/lib.rt:72:8
 starts-with-requires-2 : tie.Need-starts-with-requires-2
 starts-with-requires-2 c κs = search needs
 
--- src/lib.rt:73:9
 returns-2 : tie.Need-returns-2
 returns-2 c = rw (so (c .before .before .before .before .starts-with .ensures) (c .before .before .before .if1 .left), so (c .before .starts-with2 .ensures) (c .if2 .taken))
 
--- src/lib.rt:75:27
 slice-aggregate-starts-with-3 : tie.Need-slice-aggregate-starts-with-3
 slice-aggregate-starts-with-3 c = search needs
 
--- src/lib.rt:75:5
 starts-with-requires-3 : tie.Need-starts-with-requires-3
 starts-with-requires-3 c κs = search needs
 
--- src/lib.rt:66:1
 returns-3 : tie.Need-returns-3
 returns-3 c = rw (so (c .before .before .before .before .before .before .starts-with .ensures) (c .before .before .before .before .before .if1 .left), so (c .before .before .before .starts-with2 .ensures) (c .before .before .if2 .left)) (c .starts-with3 .ensures)
 

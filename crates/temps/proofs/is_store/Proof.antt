@@ -7,34 +7,27 @@ use Rattle.reading.proofs.AssignLaws.{assign-split, assign-not}
 use Rattle.temps.proofs.is_store.Statement.{statement}
 use Rattle.temps.proofs.is_store.Tie as tie
 
--- src/lib.rt:82:11
 assign-of-requires : tie.Need-assign-of-requires
 assign-of-requires c κs = search needs
 
--- src/lib.rt:83:32
 enum-known-s : tie.Need-enum-known-s
 enum-known-s c = search needs
 
--- src/lib.rt:83:50
 left-of-requires : tie.Need-left-of-requires
 left-of-requires c κs = search needs
 
--- src/lib.rt:83:38
 same-requires : tie.Need-same-requires
 same-requires c κs = search needs
 
--- src/lib.rt:84:34
 enum-told : tie.Need-enum-told
 enum-told c = search needs
 
--- src/lib.rt:79:1
 returns : tie.Need-returns
 returns c =
     let a = c .before .before .before .before .before .before .before .before .args in
     let w = assign-split (a .t .now) _ (sym (c .before .before .before .before .before .assign-of .ensures) ∙ c .before .before .before .s .given .1) in
     rw (w .assigns) (c .same .ensures ∙ ap (λ (l : List ℕ). same l (a .name .now)) (c .before .left-of .ensures ∙ w .is-left))
 
--- src/lib.rt:79:1
 returns-2 : tie.Need-returns-2
 returns-2 c = rw (assign-not (c .before .before .before .before .before .args .t .now) (sym (c .before .before .assign-of .ensures) ∙ c .enum-told .given .1))
 

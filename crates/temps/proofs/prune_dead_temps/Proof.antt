@@ -14,35 +14,27 @@ use Rattle.lines.proofs.put_lines.Reads as put-lines-reads
 use Rattle.temps.proofs.has_temp.Reads as has-temp-reads
 use Rattle.temps.proofs.prune_tables.Reads as prune-tables-reads
 
--- src/lib.rt:275:9
 has-temp-requires : tie.Need-has-temp-requires
 has-temp-requires c κs = search needs
 
--- src/lib.rt:276:9
 put-lines-requires : tie.Need-put-lines-requires
 put-lines-requires c κs = omega (arith, c .before .before .before .before .before .before .pre .1, ap length (lack-text (c .before .before .before .before .before .before .args .text .now) (so (c .before .before .has-temp .ensures) (not-true _ (c .before .if1 .taken)))))
 
--- src/lib.rt:276:9
 same-length : tie.Need-same-length
 same-length c = search needs
 
--- src/lib.rt:276:9
 returns : tie.Need-returns
 returns c = let k = so (c .before .before .before .before .before .has-temp .ensures) (not-true _ (c .before .before .before .before .if1 .taken)) in (wrote-as (lack-text (c .before .before .before .before .before .before .before .before .before .args .text .now) k) (c .before .before .put-lines .ensures), lack-scratch (c .before .before .before .before .before .before .before .before .before .args .text .now) k (c .before .before .before .before .before .before .before .before .before .args .scratch .now))
 
--- src/lib.rt:278:5
 prune-tables-requires : tie.Need-prune-tables-requires
 prune-tables-requires c κs = search needs
 
--- src/lib.rt:270:1
 same-length-2 : tie.Need-same-length-2
 same-length-2 c = search needs
 
--- src/lib.rt:270:1
 same-length-3 : tie.Need-same-length-3
 same-length-3 c = search needs
 
--- src/lib.rt:270:1
 returns-2 : tie.Need-returns-2
 returns-2 c = search needs
 

@@ -12,43 +12,35 @@ use Rattle.temps.proofs.PassLaws.{text-by}
 use Rattle.temps.proofs.put_line.Statement.{statement}
 use Rattle.temps.proofs.put_line.Tie as tie
 
--- src/lib.rt:159:8
 goes-requires : tie.Need-goes-requires
 goes-requires c κs = search needs
 
--- src/lib.rt:160:9
 same-length : tie.Need-same-length
 same-length c = search needs
 
--- src/lib.rt:160:9
 returns : tie.Need-returns
 returns c =
     let a = c .before .before .before .before .before .before .before .before .before .before .before .args in
     let g = c .before .before .before .goes .ensures in
     (wrote-as (sym (text-by plain (linesOf (a .text .now)) (a .line .now) true (so (g .0) (c .if1 .taken)))) (wrote-nil (a .out .now) (a .o) (omega (arith, c .before .before .before .before .before .before .before .before .before .before .before .pre .1))), g .1)
 
--- src/lib.rt:162:9
 put-requires : tie.Need-put-requires
 put-requires c κs =
     let a = c .before .before .before .before .before .before .before .before .before .before .before .before .args in
     omega (arith, c .before .before .before .before .before .before .before .before .before .before .before .before .pre .1, ap length (text-by plain (linesOf (a .text .now)) (a .line .now) false (so (c .before .before .before .before .goes .ensures .0) (c .before .if1 .left))), length-append (a .line .now) (10 ∷ []))
 
--- src/lib.rt:163:5
 put-byte-requires : tie.Need-put-byte-requires
 put-byte-requires c κs =
     let a = c .before .before .before .before .before .before .before .before .before .before .before .before .before .before .before .before .args in
     let w = c .before .before .before .put .ensures in
     omega (arith, c .before .before .before .before .before .before .before .before .before .before .before .before .before .before .before .before .pre .1, wrote-length w, w .place, ap length (text-by plain (linesOf (a .text .now)) (a .line .now) false (so (c .before .before .before .before .before .before .before .before .goes .ensures .0) (c .before .before .before .before .before .if1 .left))), length-append (a .line .now) (10 ∷ []))
 
--- src/lib.rt:154:1
 same-length-2 : tie.Need-same-length-2
 same-length-2 c = search needs
 
--- src/lib.rt:154:1
 same-length-3 : tie.Need-same-length-3
 same-length-3 c = search needs
 
--- src/lib.rt:154:1
 returns-2 : tie.Need-returns-2
 returns-2 c =
     let a = c .before .before .before .before .before .before .before .before .before .before .before .before .before .before .before .before .before .before .before .args in

@@ -6,15 +6,12 @@ use Rattle.text.proofs.back.Reads as reads
 use Rattle.text.proofs.back.Lts as lts
 use Rattle.text.proofs.byte.Reads as byte-reads
 
--- src/lib.rt:164:17
 byte-requires : tie.Need-byte-requires
 byte-requires c κs = search needs
 
--- src/lib.rt:161:1
 returns : tie.Need-returns
 returns c = simp (le-leb _ _ (c .before .if1 .taken)) (c .byte .ensures)
 
--- src/lib.rt:161:1
 returns-2 : tie.Need-returns-2
 returns-2 c = simp (lt-leb _ _ (c .if1 .left))
 

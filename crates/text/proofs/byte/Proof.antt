@@ -7,19 +7,15 @@ use Rattle.text.proofs.byte.Tie as tie
 use Rattle.text.proofs.byte.Reads as reads
 use Rattle.text.proofs.byte.Lts as lts
 
--- src/lib.rt:87:22
 shared-slice-read-result : tie.Need-shared-slice-read-result
 shared-slice-read-result c = search needs
 
--- src/lib.rt:87:22
 cast-result : tie.Need-cast-result
 cast-result c = omega (arith, c .shared-slice-known .given (c .before .before .args .i))
 
--- src/lib.rt:84:1
 returns : tie.Need-returns
 returns c = search needs
 
--- src/lib.rt:84:1
 returns-2 : tie.Need-returns-2
 returns-2 c = sym (List·getD-eq-default (c .before .args .s .now) 0 (c .if1 .left))
 

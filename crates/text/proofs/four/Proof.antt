@@ -6,31 +6,24 @@ use Rattle.text.proofs.four.Reads as reads
 use Rattle.text.proofs.four.Lts as lts
 use Rattle.text.proofs.between.Reads as between-reads
 
--- src/lib.rt:55:8
 between-requires : tie.Need-between-requires
 between-requires c κs = search needs
 
--- src/lib.rt:56:12
 between-requires-2 : tie.Need-between-requires-2
 between-requires-2 c κs = search needs
 
--- src/lib.rt:57:16
 between-requires-3 : tie.Need-between-requires-3
 between-requires-3 c κs = search needs
 
--- src/lib.rt:52:1
 returns : tie.Need-returns
 returns c = simp (so (c .before .before .before .before .before .between .ensures) (c .before .before .before .before .if1 .taken), so (c .before .before .before .between2 .ensures) (c .before .before .if2 .taken), so (c .before .between3 .ensures) (c .if3 .taken))
 
--- src/lib.rt:52:1
 returns-2 : tie.Need-returns-2
 returns-2 c = simp (so (c .before .between3 .ensures) (c .if3 .left), and-false)
 
--- src/lib.rt:52:1
 returns-3 : tie.Need-returns-3
 returns-3 c = simp (so (c .before .between2 .ensures) (c .if2 .left), and-false)
 
--- src/lib.rt:52:1
 returns-4 : tie.Need-returns-4
 returns-4 c = simp (so (c .before .between .ensures) (c .if1 .left))
 

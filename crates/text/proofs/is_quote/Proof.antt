@@ -10,23 +10,18 @@ use Rattle.text.proofs.is_quote.Reads as reads
 use Rattle.text.proofs.is_quote.Lts as lts
 use Rattle.text.proofs.class.Reads as class-reads
 
--- src/lib.rt:298:14
 class-requires : tie.Need-class-requires
 class-requires c κs = search needs
 
--- src/lib.rt:293:1
 returns : tie.Need-returns
 returns c = ap (λ (x : ℕ). eqb x 2) (c .class .ensures) ∙ class-quote (c .before .before .before .args .b) (search needs)
 
--- src/lib.rt:293:1
 returns-2 : tie.Need-returns-2
 returns-2 c = sym (no-quote (c .before .args .b) (omega arith) (omega arith) (omega arith))
 
--- src/lib.rt:293:1
 returns-3 : tie.Need-returns-3
 returns-3 c = sym (no-quote (c .before .before .before .args .b) (omega arith) (omega arith) (omega arith))
 
--- src/lib.rt:293:1
 returns-4 : tie.Need-returns-4
 returns-4 c = sym (no-quote (c .before .before .before .before .args .b) (omega arith) (omega arith) (omega arith))
 

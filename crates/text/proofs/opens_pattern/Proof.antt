@@ -9,11 +9,9 @@ use Rattle.text.proofs.opens_pattern.Reads as reads
 use Rattle.text.proofs.opens_pattern.Lts as lts
 use Rattle.text.proofs.class.Reads as class-reads
 
--- src/lib.rt:299:5
 class-requires : tie.Need-class-requires
 class-requires c κs = search needs
 
--- src/lib.rt:296:1
 returns : tie.Need-returns
 returns c = ap (λ (x : ℕ). eqb x 3) (c .class .ensures) ∙ class-opens (c .before .args .b) (search needs)
 

@@ -11,48 +11,37 @@ use Rattle.text.proofs.seq_at.Lts as lts
 use Rattle.text.proofs.byte.Reads as byte-reads
 use Rattle.text.proofs.seq_len.Reads as seq-len-reads
 
--- src/lib.rt:391:9
 returns : tie.Need-returns
 unfolding seqLen
 returns c = sym (ap seqLen (drop-of-length-le (c .before .before .args .s .now) (c .if1 .taken)))
 
--- src/lib.rt:393:9
 byte-requires : tie.Need-byte-requires
 byte-requires c κs = search needs
 
--- src/lib.rt:395:9
 returns-2 : tie.Need-returns-2
 returns-2 c = sym (padded-at (c .before .before .before .before .args .s .now) (c .before .before .before .before .args .i) (c .before .before .if1 .left) ∙ lead1 _ _ _ _ (rw (sym (c .before .byte .ensures)) (c .if2 .taken)))
 
--- src/lib.rt:397:24
 add-byte : tie.Need-add-byte
 add-byte c = search needs
 
--- src/lib.rt:397:16
 byte-requires-2 : tie.Need-byte-requires-2
 byte-requires-2 c κs = search needs
 
--- src/lib.rt:397:40
 add-byte-2 : tie.Need-add-byte-2
 add-byte-2 c = search needs
 
--- src/lib.rt:397:32
 byte-requires-3 : tie.Need-byte-requires-3
 byte-requires-3 c κs = search needs
 
--- src/lib.rt:397:56
 add-byte-3 : tie.Need-add-byte-3
 add-byte-3 c = search needs
 
--- src/lib.rt:397:48
 byte-requires-4 : tie.Need-byte-requires-4
 byte-requires-4 c κs = search needs
 
--- src/lib.rt:397:5
 seq-len-requires : tie.Need-seq-len-requires
 seq-len-requires c κs = search needs
 
--- src/lib.rt:387:1
 returns-3 : tie.Need-returns-3
 returns-3 c = cc (padded-at _ _ (c .before .before .before .before .before .before .if1 .left))
 

@@ -17,32 +17,25 @@ Inv-loop s e₀ e = (e ≤ length s) × (endWhite s 0 e ≡ toOf s)
 abbrev μ-loop : tie.MeasureT-loop
 μ-loop s e₀ e = e
 
--- src/lib.rt:212:5
 loop-holds : tie.Need-loop-holds Inv-loop μ-loop
 unfolding toOf
 loop-holds c = (omega arith, refl)
 
--- src/lib.rt:213:13
 white-before-requires : tie.Need-white-before-requires Inv-loop μ-loop
 white-before-requires c κs = omega arith
 
--- src/lib.rt:215:13
 returns : tie.Need-returns Inv-loop μ-loop
 returns c = sym (back-stop _ _ (c .before .before .loop-test .taken) (sym (c .before .white-before .ensures) ∙ c .if1 .taken)) ∙ c .before .before .before .loop .inv .1
 
--- src/lib.rt:217:9
 sub-e : tie.Need-sub-e Inv-loop μ-loop
 sub-e c = let s = c .before .before .before .before .before .args .s .now in let e = c .before .before .before .loop .e in let k = tail-le s e (c .before .before .before .loop .inv .0) (c .before .before .loop-test .taken) in omega arith
 
--- src/lib.rt:212:5
 loop-less : tie.Need-loop-less Inv-loop μ-loop
 loop-less c = omega arith
 
--- src/lib.rt:212:5
 loop-again : tie.Need-loop-again Inv-loop μ-loop
 loop-again c = (omega arith, sym (back-on _ _ _ (c .before .before .loop-test .taken) (sym (c .before .white-before .ensures)) (c .if1 .left)) ∙ c .before .before .before .loop .inv .1)
 
--- src/lib.rt:208:1
 returns-2 : tie.Need-returns-2 Inv-loop μ-loop
 returns-2 c = sym (back-start _ _ (c .loop-test .left)) ∙ c .before .loop .inv .1
 

@@ -17,32 +17,25 @@ Inv-loop s i₀ i = (i ≤ length s) × (i + lead 0 (drop i s) ≡ fromOf s)
 abbrev μ-loop : tie.MeasureT-loop
 μ-loop s i₀ i = length s - i
 
--- src/lib.rt:197:5
 loop-holds : tie.Need-loop-holds Inv-loop μ-loop
 unfolding fromOf
 loop-holds c = (omega arith, omega arith)
 
--- src/lib.rt:198:13
 white-at-requires : tie.Need-white-at-requires Inv-loop μ-loop
 white-at-requires c κs = c .loop-test .taken
 
--- src/lib.rt:200:13
 returns : tie.Need-returns Inv-loop μ-loop
 returns c = let s = c .before .before .before .before .before .args .s .now in let i = c .before .before .before .loop .i in let k = front-stop s i (c .before .before .loop-test .taken) (sym (c .before .white-at .ensures) ∙ c .if1 .taken) in omega arith
 
--- src/lib.rt:202:9
 add-i : tie.Need-add-i Inv-loop μ-loop
 add-i c = let s = c .before .before .before .before .before .args .s .now in let i = c .before .before .before .loop .i in let k = head-le s i (c .before .before .loop-test .taken) in omega arith
 
--- src/lib.rt:197:5
 loop-less : tie.Need-loop-less Inv-loop μ-loop
 loop-less c = omega arith
 
--- src/lib.rt:197:5
 loop-again : tie.Need-loop-again Inv-loop μ-loop
 loop-again c = let s = c .before .before .before .before .before .args .s .now in let i = c .before .before .before .loop .i in let k = head-le s i (c .before .before .loop-test .taken) in let n = c .before .white-at .result in let f = front-on s i (c .before .before .loop-test .taken) n (sym (c .before .white-at .ensures)) (c .if1 .left) in (omega arith, omega arith)
 
--- src/lib.rt:193:1
 returns-2 : tie.Need-returns-2 Inv-loop μ-loop
 unfolding lead
 returns-2 c = let s = c .before .before .before .args .s .now in let i = c .before .loop .i in let k : lead 0 (drop i s) ≡ 0 = ap (lead 0) (drop-of-length-le s (c .loop-test .left)) in omega arith

@@ -15,36 +15,28 @@ Inv-loop s e₀ e = (e ≤ length s) × (toOf s ≡ endWhite s 0 e)
 abbrev μ-loop : tie.MeasureT-loop
 μ-loop s e₀ e = e
 
--- src/lib.rt:591:5
 loop-holds : tie.Need-loop-holds Inv-loop μ-loop
 unfolding toOf
 loop-holds c = (omega arith, refl)
 
--- src/lib.rt:592:14
 sub-if1 : tie.Need-sub-if1 Inv-loop μ-loop
 sub-if1 c = omega (arith, c .loop-test .taken)
 
--- src/lib.rt:592:12
 shared-slice-read-if1 : tie.Need-shared-slice-read-if1 Inv-loop μ-loop
 shared-slice-read-if1 c = omega (arith, c .before .loop-test .taken, c .before .before .loop .inv .0)
 
--- src/lib.rt:593:13
 returns : tie.Need-returns Inv-loop μ-loop
 returns c = c .before .before .before .loop .inv
 
--- src/lib.rt:595:9
 sub-e : tie.Need-sub-e Inv-loop μ-loop
 sub-e c = omega (arith, c .before .before .loop-test .taken)
 
--- src/lib.rt:591:5
 loop-less : tie.Need-loop-less Inv-loop μ-loop
 loop-less c = omega (arith, c .before .before .loop-test .taken)
 
--- src/lib.rt:591:5
 loop-again : tie.Need-loop-again Inv-loop μ-loop
 loop-again c = let l = c .before .before .before .loop in (omega (arith, l .inv .0), l .inv .1 ∙ back-space (c .before .before .before .before .args .s .now) (l .e) (c .before .before .loop-test .taken) (l .inv .0) (c .if1 .left))
 
--- src/lib.rt:587:1
 returns-2 : tie.Need-returns-2 Inv-loop μ-loop
 returns-2 c = c .before .loop .inv
 

@@ -12,31 +12,24 @@ use Rattle.text.proofs.span_by.Lts as lts
 use Rattle.text.proofs.trim_from.Reads as trim-from-reads
 use Rattle.text.proofs.trim_to.Reads as trim-to-reads
 
--- src/lib.rt:251:9
 trim-from-requires : tie.Need-trim-from-requires
 trim-from-requires c κs = search needs
 
--- src/lib.rt:252:21
 sub-trim-to : tie.Need-sub-trim-to
 sub-trim-to c = omega (arith, fromOf-le (c .before .before .args .s .now))
 
--- src/lib.rt:252:21
 part-trim-to-start : tie.Need-part-trim-to-start
 part-trim-to-start c = omega (arith, fromOf-le (c .before .before .args .s .now))
 
--- src/lib.rt:252:21
 part-trim-to-end : tie.Need-part-trim-to-end
 part-trim-to-end c = search needs
 
--- src/lib.rt:252:9
 trim-to-requires : tie.Need-trim-to-requires
 trim-to-requires c κs = search needs
 
--- src/lib.rt:255:13
 add-t5 : tie.Need-add-t5
 add-t5 c = let s = c .before .before .before .before .args .s .now in let a = c .before .before .trim-from .result in let q : toOf (take (length s - a) (drop a s)) ≡ toOf (drop (fromOf s) s) = ap toOf (rest-of s a ∙ ap (λ n. drop n s) (c .before .before .trim-from .ensures)) in omega (arith, toEnd-le s)
 
--- src/lib.rt:248:1
 returns : tie.Need-returns
 returns c = let s = c .before .before .before .before .args .s .now in let a = c .before .before .trim-from .result in let q : toOf (take (length s - a) (drop a s)) ≡ toOf (drop (fromOf s) s) = ap toOf (rest-of s a ∙ ap (λ n. drop n s) (c .before .before .trim-from .ensures)) in (c .before .before .trim-from .ensures, omega arith)
 

@@ -6,23 +6,18 @@ use Rattle.text.proofs.three.Reads as reads
 use Rattle.text.proofs.three.Lts as lts
 use Rattle.text.proofs.between.Reads as between-reads
 
--- src/lib.rt:45:8
 between-requires : tie.Need-between-requires
 between-requires c κs = search needs
 
--- src/lib.rt:46:12
 between-requires-2 : tie.Need-between-requires-2
 between-requires-2 c κs = search needs
 
--- src/lib.rt:42:1
 returns : tie.Need-returns
 returns c = simp (so (c .before .before .before .between .ensures) (c .before .before .if1 .taken), so (c .before .between2 .ensures) (c .if2 .taken))
 
--- src/lib.rt:42:1
 returns-2 : tie.Need-returns-2
 returns-2 c = simp (so (c .before .between2 .ensures) (c .if2 .left), and-false)
 
--- src/lib.rt:42:1
 returns-3 : tie.Need-returns-3
 returns-3 c = simp (so (c .before .between .ensures) (c .if1 .left))
 

@@ -10,23 +10,18 @@ use Rattle.text.proofs.trim.Reads as reads
 use Rattle.text.proofs.trim.Lts as lts
 use Rattle.text.proofs.trim_span.Reads as trim-span-reads
 
--- src/lib.rt:635:9
 trim-span-requires : tie.Need-trim-span-requires
 trim-span-requires c κs = search needs
 
--- src/lib.rt:638:5
 sub-result : tie.Need-sub-result
 sub-result c = omega (arith, c .trim-span .ensures .0, c .trim-span .ensures .1)
 
--- src/lib.rt:638:5
 part-result-start : tie.Need-part-result-start
 part-result-start c = omega (arith, c .trim-span .ensures .0, c .trim-span .ensures .1)
 
--- src/lib.rt:638:5
 part-result-end : tie.Need-part-result-end
 part-result-end c = omega (arith, c .trim-span .ensures .1, toEnd-le (c .before .before .args .s .now))
 
--- src/lib.rt:631:1
 returns : tie.Need-returns
 returns c =
     let s = c .before .before .before .args .s .now in

@@ -10,15 +10,12 @@ use Rattle.text.proofs.trim_end.Reads as reads
 use Rattle.text.proofs.trim_end.Lts as lts
 use Rattle.text.proofs.skip_back.Reads as skip-back-reads
 
--- src/lib.rt:232:9
 skip-back-requires : tie.Need-skip-back-requires
 skip-back-requires c κs = search needs
 
--- src/lib.rt:233:5
 slice-aggregate-result : tie.Need-slice-aggregate-result
 slice-aggregate-result c = sym (length-take-le _ (c .before .before .before .args .s .now) (omega (arith, toOf-le (c .before .before .before .args .s .now))))
 
--- src/lib.rt:229:1
 returns : tie.Need-returns
 returns c = ap (λ n. take n (c .before .before .before .args .s .now)) (c .before .skip-back .ensures)
 

@@ -8,23 +8,18 @@ use Rattle.text.proofs.byte.Reads as byte-reads
 use Rattle.text.proofs.skip_front.Reads as skip-front-reads
 use Rattle.text.proofs.spaces.Reads as spaces-reads
 
--- src/lib.rt:576:9
 spaces-requires : tie.Need-spaces-requires
 spaces-requires c κs = search needs
 
--- src/lib.rt:577:9
 byte-requires : tie.Need-byte-requires
 byte-requires c κs = search needs
 
--- src/lib.rt:580:13
 returns : tie.Need-returns
 returns c = let k = c .before .before .before .spaces .ensures in front-told _ _ _ (k .0) (k .1) (c .before .before .byte .ensures) (c .before .if1 .taken) (c .if2 .taken)
 
--- src/lib.rt:583:5
 skip-front-requires : tie.Need-skip-front-requires
 skip-front-requires c κs = search needs
 
--- src/lib.rt:573:1
 returns-2 : tie.Need-returns-2
 returns-2 c = search needs
 

@@ -9,23 +9,18 @@ use Rattle.text.proofs.trim_start.Reads as reads
 use Rattle.text.proofs.trim_start.Lts as lts
 use Rattle.text.proofs.skip_front.Reads as skip-front-reads
 
--- src/lib.rt:225:9
 skip-front-requires : tie.Need-skip-front-requires
 skip-front-requires c κs = search needs
 
--- src/lib.rt:226:5
 sub-result : tie.Need-sub-result
 sub-result c = omega (arith, fromOf-le (c .before .before .args .s .now))
 
--- src/lib.rt:226:5
 part-result-start : tie.Need-part-result-start
 part-result-start c = omega (arith, fromOf-le (c .before .before .args .s .now))
 
--- src/lib.rt:226:5
 part-result-end : tie.Need-part-result-end
 part-result-end c = search needs
 
--- src/lib.rt:222:1
 returns : tie.Need-returns
 returns c = rest-of (c .before .before .before .args .s .now) _ ∙ ap (λ n. drop n (c .before .before .before .args .s .now)) (c .before .skip-front .ensures)
 

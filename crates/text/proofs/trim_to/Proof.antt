@@ -8,23 +8,18 @@ use Rattle.text.proofs.back.Reads as back-reads
 use Rattle.text.proofs.skip_back.Reads as skip-back-reads
 use Rattle.text.proofs.spaces_back.Reads as spaces-back-reads
 
--- src/lib.rt:604:9
 spaces-back-requires : tie.Need-spaces-back-requires
 spaces-back-requires c κs = search needs
 
--- src/lib.rt:605:9
 back-requires : tie.Need-back-requires
 back-requires c κs = search needs
 
--- src/lib.rt:608:13
 returns : tie.Need-returns
 returns c = let k = c .before .before .before .spaces-back .ensures in back-told _ _ _ (k .0) (k .1) (c .before .before .back .ensures) (c .before .if1 .taken) (c .if2 .taken)
 
--- src/lib.rt:611:5
 skip-back-requires : tie.Need-skip-back-requires
 skip-back-requires c κs = search needs
 
--- src/lib.rt:601:1
 returns-2 : tie.Need-returns-2
 returns-2 c = search needs
 

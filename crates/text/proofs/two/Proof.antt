@@ -6,15 +6,12 @@ use Rattle.text.proofs.two.Reads as reads
 use Rattle.text.proofs.two.Lts as lts
 use Rattle.text.proofs.between.Reads as between-reads
 
--- src/lib.rt:39:8
 between-requires : tie.Need-between-requires
 between-requires c κs = search needs
 
--- src/lib.rt:36:1
 returns : tie.Need-returns
 returns c = simp (so (c .before .between .ensures) (c .if1 .taken))
 
--- src/lib.rt:36:1
 returns-2 : tie.Need-returns-2
 returns-2 c = simp (so (c .before .between .ensures) (c .if1 .left))
 

@@ -10,35 +10,27 @@ use Rattle.text.proofs.white3.Lts as lts
 use Rattle.text.proofs.is_white.Reads as is-white-reads
 use Rattle.text.proofs.seq_len.Reads as seq-len-reads
 
--- src/lib.rt:133:8
 seq-len-requires : tie.Need-seq-len-requires
 seq-len-requires c κs = search needs
 
--- src/lib.rt:134:18
 mul-is-white : tie.Need-mul-is-white
 mul-is-white c = search needs
 
--- src/lib.rt:134:34
 mul-is-white-2 : tie.Need-mul-is-white-2
 mul-is-white-2 c = search needs
 
--- src/lib.rt:134:18
 add-is-white : tie.Need-add-is-white
 add-is-white c = search needs
 
--- src/lib.rt:134:18
 add-is-white-2 : tie.Need-add-is-white-2
 add-is-white-2 c = search needs
 
--- src/lib.rt:134:9
 is-white-requires : tie.Need-is-white-requires
 is-white-requires c κs = search needs
 
--- src/lib.rt:130:1
 returns : tie.Need-returns
 returns c = c .is-white .ensures ∙ sym (white-yes (c .before .before .before .args .a ∷ c .before .before .before .args .b ∷ c .before .before .before .args .c ∷ []) (padded (c .before .before .before .args .a) (c .before .before .before .args .b ∷ c .before .before .before .args .c ∷ []) ∙ sym (c .before .before .seq-len .ensures) ∙ c .before .if1 .taken))
 
--- src/lib.rt:130:1
 returns-2 : tie.Need-returns-2
 returns-2 c = sym (white-no (c .before .before .args .a ∷ c .before .before .args .b ∷ c .before .before .args .c ∷ []) (λ q. c .if1 .left (c .before .seq-len .ensures ∙ sym (padded (c .before .before .args .a) (c .before .before .args .b ∷ c .before .before .args .c ∷ [])) ∙ q)))
 

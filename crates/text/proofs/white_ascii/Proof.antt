@@ -9,19 +9,15 @@ use Rattle.text.proofs.white_ascii.Reads as reads
 use Rattle.text.proofs.white_ascii.Lts as lts
 use Rattle.text.proofs.is_white.Reads as is-white-reads
 
--- src/lib.rt:499:9
 returns : tie.Need-returns
 returns c = sym (ap (λ (t : Bool). cond t 1 0) (ascii-dark _ (c .if1 .taken) (c .before .pre)))
 
--- src/lib.rt:501:8
 is-white-requires : tie.Need-is-white-requires
 is-white-requires c κs = search needs
 
--- src/lib.rt:494:1
 returns-2 : tie.Need-returns-2
 returns-2 c = sym (ap (λ (t : Bool). cond t 1 0) (so (c .before .is-white .ensures) (c .if2 .taken)))
 
--- src/lib.rt:494:1
 returns-3 : tie.Need-returns-3
 returns-3 c = sym (ap (λ (t : Bool). cond t 1 0) (so (c .before .is-white .ensures) (c .if2 .left)))
 

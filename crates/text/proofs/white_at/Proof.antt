@@ -9,23 +9,18 @@ use Rattle.text.proofs.byte.Reads as byte-reads
 use Rattle.text.proofs.white_ascii.Reads as white-ascii-reads
 use Rattle.text.proofs.wide_at.Reads as wide-at-reads
 
--- src/lib.rt:505:9
 byte-requires : tie.Need-byte-requires
 byte-requires c κs = search needs
 
--- src/lib.rt:507:9
 white-ascii-requires : tie.Need-white-ascii-requires
 white-ascii-requires c κs = search needs
 
--- src/lib.rt:507:9
 returns : tie.Need-returns
 returns c = c .white-ascii .ensures ∙ sym (head-ascii _ _ _ (c .before .before .before .before .pre) (c .before .before .byte .ensures) (c .before .if1 .taken))
 
--- src/lib.rt:509:5
 wide-at-requires : tie.Need-wide-at-requires
 wide-at-requires c κs = search needs
 
--- src/lib.rt:501:1
 returns-2 : tie.Need-returns-2
 returns-2 c = search needs
 

@@ -9,23 +9,18 @@ use Rattle.text.proofs.back.Reads as back-reads
 use Rattle.text.proofs.white_ascii.Reads as white-ascii-reads
 use Rattle.text.proofs.wide_before.Reads as wide-before-reads
 
--- src/lib.rt:517:9
 back-requires : tie.Need-back-requires
 back-requires c κs = search needs
 
--- src/lib.rt:519:9
 white-ascii-requires : tie.Need-white-ascii-requires
 white-ascii-requires c κs = search needs
 
--- src/lib.rt:519:9
 returns : tie.Need-returns
 returns c = c .white-ascii .ensures ∙ sym (tail-ascii _ _ _ (c .before .before .before .before .pre .0) (c .before .before .before .before .pre .1) (c .before .before .back .ensures) (c .before .if1 .taken))
 
--- src/lib.rt:521:5
 wide-before-requires : tie.Need-wide-before-requires
 wide-before-requires c κs = search needs
 
--- src/lib.rt:513:1
 returns-2 : tie.Need-returns-2
 returns-2 c = search needs
 

@@ -11,43 +11,33 @@ use Rattle.text.proofs.white1.Reads as white1-reads
 use Rattle.text.proofs.white2.Reads as white2-reads
 use Rattle.text.proofs.white3.Reads as white3-reads
 
--- src/lib.rt:172:9
 back-requires : tie.Need-back-requires
 back-requires c κs = search needs
 
--- src/lib.rt:173:9
 back-requires-2 : tie.Need-back-requires-2
 back-requires-2 c κs = search needs
 
--- src/lib.rt:174:9
 back-requires-3 : tie.Need-back-requires-3
 back-requires-3 c κs = search needs
 
--- src/lib.rt:175:8
 white1-requires : tie.Need-white1-requires
 white1-requires c κs = search needs
 
--- src/lib.rt:176:9
 returns : tie.Need-returns
 returns c = sym (tail-at _ _ _ _ _ (c .before .before .before .before .before .before .pre .0) (c .before .before .before .before .before .before .pre .1) (c .before .before .before .before .back .ensures) (c .before .before .before .back2 .ensures) (c .before .before .back3 .ensures) ∙ simp (so (c .before .white1 .ensures) (c .if1 .taken)))
 
--- src/lib.rt:178:8
 white2-requires : tie.Need-white2-requires
 white2-requires c κs = search needs
 
--- src/lib.rt:179:9
 returns-2 : tie.Need-returns-2
 returns-2 c = sym (tail-at _ _ _ _ _ (c .before .before .before .before .before .before .before .before .pre .0) (c .before .before .before .before .before .before .before .before .pre .1) (c .before .before .before .before .before .before .back .ensures) (c .before .before .before .before .before .back2 .ensures) (c .before .before .before .before .back3 .ensures) ∙ simp (so (c .before .before .before .white1 .ensures) (c .before .before .if1 .left), so (c .before .white2 .ensures) (c .if2 .taken)))
 
--- src/lib.rt:181:8
 white3-requires : tie.Need-white3-requires
 white3-requires c κs = search needs
 
--- src/lib.rt:182:9
 returns-3 : tie.Need-returns-3
 returns-3 c = sym (tail-at _ _ _ _ _ (c .before .before .before .before .before .before .before .before .before .before .pre .0) (c .before .before .before .before .before .before .before .before .before .before .pre .1) (c .before .before .before .before .before .before .before .before .back .ensures) (c .before .before .before .before .before .before .before .back2 .ensures) (c .before .before .before .before .before .before .back3 .ensures) ∙ simp (so (c .before .before .before .before .before .white1 .ensures) (c .before .before .before .before .if1 .left), so (c .before .before .before .white2 .ensures) (c .before .before .if2 .left), so (c .before .white3 .ensures) (c .if3 .taken)))
 
--- src/lib.rt:168:1
 returns-4 : tie.Need-returns-4
 returns-4 c = sym (tail-at _ _ _ _ _ (c .before .before .before .before .before .before .before .before .before .before .pre .0) (c .before .before .before .before .before .before .before .before .before .before .pre .1) (c .before .before .before .before .before .before .before .before .back .ensures) (c .before .before .before .before .before .before .before .back2 .ensures) (c .before .before .before .before .before .before .back3 .ensures) ∙ simp (so (c .before .before .before .before .before .white1 .ensures) (c .before .before .before .before .if1 .left), so (c .before .before .before .white2 .ensures) (c .before .before .if2 .left), so (c .before .white3 .ensures) (c .if3 .left)))
 

@@ -20,19 +20,15 @@ Inv-loop s b first₀ i₀ first i = ReadInv b s first₀ first i
 abbrev μ-loop : tie.MeasureT-loop
 μ-loop s b first₀ i₀ first i = length s - i
 
--- src/index.rt:48:9
 reg-start-requires : tie.Need-reg-start-requires Inv-loop μ-loop
 reg-start-requires c κs = search needs
 
--- src/index.rt:49:5
 loop-holds : tie.Need-loop-holds Inv-loop μ-loop
 loop-holds c = let a = c .before .before .before .args in read-start (a .b) (a .s .now) (a .first .now) _ (c .reg-start .ensures)
 
--- src/index.rt:50:13
 run-end-requires : tie.Need-run-end-requires Inv-loop μ-loop
 run-end-requires c κs = search needs
 
--- src/index.rt:51:19
 sub-read-name : tie.Need-sub-read-name Inv-loop μ-loop
 sub-read-name c = omega (arith, c .run-end .ensures)
 
@@ -42,27 +38,21 @@ part-read-name-start c = omega (arith, c .run-end .ensures)
 part-read-name-end : tie.Need-part-read-name-end Inv-loop μ-loop
 part-read-name-end c = omega (arith, c .run-end .ensures, run-inside (c .before .before .before .before .before .before .args .s .now) (c .before .before .loop .i) (omega (arith, c .before .loop-test .taken)))
 
--- src/index.rt:51:9
 read-name-requires : tie.Need-read-name-requires Inv-loop μ-loop
 read-name-requires c κs = search needs
 
--- src/index.rt:52:9
 reg-start-requires-2 : tie.Need-reg-start-requires-2 Inv-loop μ-loop
 reg-start-requires-2 c κs = search needs
 
--- src/index.rt:49:5
 loop-less : tie.Need-loop-less Inv-loop μ-loop
 loop-less c = omega (arith, c .before .before .before .before .before .before .before .loop-test .taken, read-less (c .before .before .before .before .before .before .before .before .before .before .before .before .args .b) (c .before .before .before .before .before .before .before .before .loop .inv) (c .before .before .before .before .before .before .before .loop-test .taken) _ (c .before .before .before .before .before .before .run-end .ensures) _ (c .reg-start2 .ensures))
 
--- src/index.rt:49:5
 loop-again : tie.Need-loop-again Inv-loop μ-loop
 loop-again c = read-on (c .before .before .before .before .before .before .before .before .before .before .before .before .args .b) (c .before .before .before .before .before .before .before .before .loop .inv) (c .before .before .before .before .before .before .before .loop-test .taken) _ (c .before .before .before .before .before .before .run-end .ensures) _ (c .reg-start2 .ensures) _ _ refl (c .before .before .before .read-name .ensures)
 
--- src/index.rt:45:1
 same-length : tie.Need-same-length Inv-loop μ-loop
 same-length c = c .before .loop .inv .long
 
--- src/index.rt:45:1
 returns : tie.Need-returns Inv-loop μ-loop
 returns c = read-end (c .before .before .before .before .before .args .b) (c .before .loop .inv) (c .loop-test .left)
 

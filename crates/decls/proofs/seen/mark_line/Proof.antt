@@ -9,23 +9,18 @@ use Rattle.decls.proofs.seen.mark_line.Lts as lts
 use Rattle.parse.proofs.declares.Reads as declares-reads
 use Rattle.decls.proofs.seen.mark_runs.Reads as mark-runs-reads
 
--- src/seen.rt:109:8
 declares-requires : tie.Need-declares-requires
 declares-requires c κs = search needs
 
--- src/seen.rt:110:9
 returns : tie.Need-returns
 returns c = let a = c .before .before .before .before .args in let d = so (c .before .declares .ensures) (c .if1 .taken) in (sym d, line-decl-marked (a .m) (a .line .now) (a .seen .now) d)
 
--- src/seen.rt:112:5
 mark-runs-requires : tie.Need-mark-runs-requires
 mark-runs-requires c κs = search needs
 
--- src/seen.rt:105:1
 same-length : tie.Need-same-length
 same-length c = search needs
 
--- src/seen.rt:105:1
 returns-2 : tie.Need-returns-2
 returns-2 c = let a = c .before .before .before .before .before .before .before .before .args in let d = so (c .before .before .before .before .before .declares .ensures) (c .before .before .before .before .if1 .left) in (sym d, c .before .before .mark-runs .ensures ∙ line-runs-marked (a .m) (a .line .now) (a .seen .now) d)
 

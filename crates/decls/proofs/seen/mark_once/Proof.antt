@@ -8,39 +8,30 @@ use Rattle.decls.proofs.seen.mark_once.Reads as reads
 use Rattle.decls.proofs.seen.mark_once.Lts as lts
 use Rattle.decls.proofs.seen.mark_region.Reads as mark-region-reads
 
--- src/seen.rt:166:9
 returns : tie.Need-returns
 returns c = let a = c .before .before .before .args in rw (lt-ltb (a .a) (a .m) (c .if1 .taken)) ((refl, (refl, quiet-none (a .n))), refl)
 
--- src/seen.rt:172:34
 add-mark-region : tie.Need-add-mark-region
 add-mark-region c = search needs
 
--- src/seen.rt:172:9
 mark-region-requires : tie.Need-mark-region-requires
 mark-region-requires c κs = search needs
 
--- src/seen.rt:175:19
 add-t13 : tie.Need-add-t13
 add-t13 c = search needs
 
--- src/seen.rt:174:9
 same-length : tie.Need-same-length
 same-length c = search needs
 
--- src/seen.rt:174:9
 returns-2 : tie.Need-returns-2
 returns-2 c = let a = c .before .before .before .before .before .before .before .before .before .args in let r = c .before .before .before .before .mark-region in let w : Quiet (a .text .now) (a .n) (r .result .end) = rw (c .if2 .taken) (r .ensures .0 .1) in rw (le-ltb (a .a) (a .m) (c .before .before .before .before .before .before .if1 .left)) ((refl, (r .ensures .0 .0, w)), r .ensures .1)
 
--- src/seen.rt:181:15
 add-t10 : tie.Need-add-t10
 add-t10 c = search needs
 
--- src/seen.rt:151:1
 same-length-2 : tie.Need-same-length-2
 same-length-2 c = search needs
 
--- src/seen.rt:151:1
 returns-3 : tie.Need-returns-3
 returns-3 c = let a = c .before .before .before .before .before .before .before .before .before .args in let r = c .before .before .before .before .mark-region in rw (le-ltb (a .a) (a .m) (c .before .before .before .before .before .before .if1 .left)) ((refl, (r .ensures .0 .0, quiet-none (a .n))), r .ensures .1)
 

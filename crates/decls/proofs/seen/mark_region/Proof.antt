@@ -28,175 +28,132 @@ Inv-loop text a m i seen₀ e j₀ q₀ seen j q = StretchInv m text seen₀ see
 abbrev μ-loop : tie.MeasureT-loop
 μ-loop text a m i seen₀ e j₀ q₀ seen j q = length text - j
 
--- src/seen.rt:123:9
 returns : tie.Need-returns Inv-loop μ-loop
 returns c = let a = c .before .before .before .args in ((end-past (a .text .now) (a .a) (c .if1 .taken), quiet-none (a .a)), region-none (a .m) (a .text .now) (a .seen .now) (a .a) (c .if1 .taken))
 
--- src/seen.rt:125:9
 find-byte-requires : tie.Need-find-byte-requires Inv-loop μ-loop
 find-byte-requires c κs = search needs
 
--- src/seen.rt:126:15
 sub-mark-line : tie.Need-sub-mark-line Inv-loop μ-loop
 sub-mark-line c = omega arith
 
--- src/seen.rt:126:15
 part-mark-line-start : tie.Need-part-mark-line-start Inv-loop μ-loop
 part-mark-line-start c = omega arith
 
--- src/seen.rt:126:15
 part-mark-line-end : tie.Need-part-mark-line-end Inv-loop μ-loop
 part-mark-line-end c = omega (arith, find-le 10 (c .before .before .before .before .args .text .now) (c .before .before .before .before .args .a) (c .find-byte .result) (omega arith) (c .find-byte .ensures))
 
--- src/seen.rt:126:5
 mark-line-requires : tie.Need-mark-line-requires Inv-loop μ-loop
 mark-line-requires c κs = search needs
 
--- src/seen.rt:127:9
 after-requires : tie.Need-after-requires Inv-loop μ-loop
 after-requires c κs = search needs
 
--- src/seen.rt:129:5
 loop-holds : tie.Need-loop-holds Inv-loop μ-loop
 loop-holds c = let a = c .before .before .before .before .before .before .before .before .before .before .args in stretch-new (region-start (a .m) (a .text .now) (a .seen .now) _ (a .a) (c .before .before .before .before .before .before .find-byte .result) (c .after .result) (part (a .a) (c .before .before .before .before .before .before .find-byte .result) (a .text .now)) (c .before .before .before .before .before .before .before .if1 .left) (c .before .before .before .before .before .before .find-byte .ensures) (c .after .ensures))
 
--- src/seen.rt:130:13
 find-byte-requires-2 : tie.Need-find-byte-requires-2 Inv-loop μ-loop
 find-byte-requires-2 c κs = search needs
 
--- src/seen.rt:131:20
 sub-line : tie.Need-sub-line Inv-loop μ-loop
 sub-line c = omega arith
 
--- src/seen.rt:131:20
 part-line-start : tie.Need-part-line-start Inv-loop μ-loop
 part-line-start c = omega arith
 
--- src/seen.rt:131:20
 part-line-end : tie.Need-part-line-end Inv-loop μ-loop
 part-line-end c = omega (arith, find-le 10 (c .before .before .before .before .before .before .before .before .before .before .before .before .before .args .text .now) (c .before .before .loop .j) (c .find-byte2 .result) (omega arith) (c .find-byte2 .ensures))
 
--- src/seen.rt:132:12
 is-header-requires : tie.Need-is-header-requires Inv-loop μ-loop
 is-header-requires c κs = search needs
 
--- src/seen.rt:133:23
 sub-mark-runs : tie.Need-sub-mark-runs Inv-loop μ-loop
 sub-mark-runs c = omega (arith, quiet-le (c .before .before .before .before .before .loop .inv .quiet), c .before .before .before .before .before .loop .inv .marked .j≤)
 
--- src/seen.rt:133:23
 part-mark-runs-start : tie.Need-part-mark-runs-start Inv-loop μ-loop
 part-mark-runs-start c = omega (arith, quiet-le (c .before .before .before .before .before .loop .inv .quiet), c .before .before .before .before .before .loop .inv .marked .j≤)
 
--- src/seen.rt:133:23
 part-mark-runs-end : tie.Need-part-mark-runs-end Inv-loop μ-loop
 part-mark-runs-end c = omega (arith, quiet-le (c .before .before .before .before .before .loop .inv .quiet), c .before .before .before .before .before .loop .inv .marked .j≤)
 
--- src/seen.rt:133:13
 mark-runs-requires : tie.Need-mark-runs-requires Inv-loop μ-loop
 mark-runs-requires c κs = search needs
 
--- src/seen.rt:134:13
 same-length : tie.Need-same-length Inv-loop μ-loop
 same-length c = c .before .before .mark-runs .kept .1 .1 .0 ∙ stretch-long (c .before .before .before .before .before .before .before .before .before .before .loop .inv) ∙ c .before .before .before .before .before .before .before .before .before .before .before .before .before .before .mark-line .kept .1 .1 .0
 
--- src/seen.rt:134:13
 returns-2 : tie.Need-returns-2 Inv-loop μ-loop
 returns-2 c = let a = c .before .before .before .before .before .before .before .before .before .before .before .before .before .before .before .before .before .before .before .before .before .args in let r = region-stop (stretch-shut (c .before .before .before .before .before .before .before .before .before .before .loop .inv) _ _ refl (c .before .before .mark-runs .ensures)) (c .before .before .before .before .before .before .before .before .find-byte2 .result) _ (c .before .before .before .before .before .before .before .before .before .loop-test .taken) (c .before .before .before .before .before .before .before .before .find-byte2 .ensures) refl (so (c .before .before .before .before .before .before .is-header .ensures) (c .before .before .before .before .before .if2 .taken)) in ((r .0, c .before .before .before .before .before .before .before .before .before .before .loop .inv .quiet), r .1 ∙ region-first (a .m) (a .text .now) (a .seen .now) _ (a .a) (c .before .before .before .before .before .before .before .before .before .before .before .before .before .before .before .before .before .find-byte .result) (c .before .before .before .before .before .before .before .before .before .before .before .after .result) _ (c .before .before .before .before .before .before .before .before .before .before .before .before .before .before .before .before .before .before .if1 .left) (c .before .before .before .before .before .before .before .before .before .before .before .before .before .before .before .before .before .find-byte .ensures) (c .before .before .before .before .before .before .before .before .before .before .before .after .ensures) refl (c .before .before .before .before .before .before .before .before .before .before .before .before .before .before .mark-line .ensures .1))
 
--- src/seen.rt:137:23
 sub-mark-runs-2 : tie.Need-sub-mark-runs-2 Inv-loop μ-loop
 sub-mark-runs-2 c = omega (arith, quiet-le (c .before .before .before .before .before .before .loop .inv .quiet), c .before .before .before .before .before .before .loop .inv .marked .j≤)
 
--- src/seen.rt:137:23
 part-mark-runs-start-2 : tie.Need-part-mark-runs-start-2 Inv-loop μ-loop
 part-mark-runs-start-2 c = omega (arith, quiet-le (c .before .before .before .before .before .before .loop .inv .quiet), c .before .before .before .before .before .before .loop .inv .marked .j≤)
 
--- src/seen.rt:137:23
 part-mark-runs-end-2 : tie.Need-part-mark-runs-end-2 Inv-loop μ-loop
 part-mark-runs-end-2 c = omega (arith, quiet-le (c .before .before .before .before .before .before .loop .inv .quiet), c .before .before .before .before .before .before .loop .inv .marked .j≤)
 
--- src/seen.rt:137:13
 mark-runs-requires-2 : tie.Need-mark-runs-requires-2 Inv-loop μ-loop
 mark-runs-requires-2 c κs = search needs
 
--- src/seen.rt:138:13
 after-requires-2 : tie.Need-after-requires-2 Inv-loop μ-loop
 after-requires-2 c κs = search needs
 
--- src/seen.rt:129:5
 loop-less : tie.Need-loop-less Inv-loop μ-loop
 loop-less c = omega (arith, c .after2 .ensures, c .before .before .before .before .before .before .before .before .before .before .find-byte2 .ensures, c .before .before .before .before .before .before .before .before .before .before .before .loop-test .taken)
 
--- src/seen.rt:129:5
 loop-again : tie.Need-loop-again Inv-loop μ-loop
 loop-again c = let a = c .before .before .before .before .before .before .before .before .before .before .before .before .before .before .before .before .before .before .before .before .before .before .before .args in stretch-new (region-on (stretch-shut (c .before .before .before .before .before .before .before .before .before .before .before .before .loop .inv) _ _ refl (c .before .before .before .mark-runs2 .ensures)) (c .before .before .before .before .before .before .before .before .before .before .find-byte2 .result) _ (c .before .before .before .before .before .before .before .before .before .before .before .loop-test .taken) (c .before .before .before .before .before .before .before .before .before .before .find-byte2 .ensures) refl (so (c .before .before .before .before .before .before .before .before .is-header .ensures) (c .before .before .before .before .before .before .before .if2 .left)) _ (c .after2 .result) (line-decl-marked (a .m) _ _ (decl-here (a .text .now) _ (a .i) (c .before .before .before .before .before .before .before .before .before .before .before .before .loop .j) (c .before .before .before .before .before .before .before .before .before .before .find-byte2 .result) refl (c .before .before .before .before .before .before .before .before .before .before .find-byte2 .ensures) (c .before .before .before .before .before .before .if3 .taken) (c .before .before .before .before .before .before .before .before .before .before .before .before .before .before .before .before .before .before .before .before .before .before .before .pre))) (c .after2 .ensures))
 
--- src/seen.rt:140:19
 declares-requires : tie.Need-declares-requires Inv-loop μ-loop
 declares-requires c κs = search needs
 
--- src/seen.rt:141:23
 sub-mark-runs-3 : tie.Need-sub-mark-runs-3 Inv-loop μ-loop
 sub-mark-runs-3 c = omega (arith, quiet-le (c .before .before .before .before .before .before .before .before .loop .inv .quiet), c .before .before .before .before .before .before .before .before .loop .inv .marked .j≤)
 
--- src/seen.rt:141:23
 part-mark-runs-start-3 : tie.Need-part-mark-runs-start-3 Inv-loop μ-loop
 part-mark-runs-start-3 c = omega (arith, quiet-le (c .before .before .before .before .before .before .before .before .loop .inv .quiet), c .before .before .before .before .before .before .before .before .loop .inv .marked .j≤)
 
--- src/seen.rt:141:23
 part-mark-runs-end-3 : tie.Need-part-mark-runs-end-3 Inv-loop μ-loop
 part-mark-runs-end-3 c = omega (arith, quiet-le (c .before .before .before .before .before .before .before .before .loop .inv .quiet), c .before .before .before .before .before .before .before .before .loop .inv .marked .j≤)
 
--- src/seen.rt:141:13
 mark-runs-requires-3 : tie.Need-mark-runs-requires-3 Inv-loop μ-loop
 mark-runs-requires-3 c κs = search needs
 
--- src/seen.rt:142:13
 after-requires-3 : tie.Need-after-requires-3 Inv-loop μ-loop
 after-requires-3 c κs = search needs
 
--- src/seen.rt:129:5
 loop-less-2 : tie.Need-loop-less-2 Inv-loop μ-loop
 loop-less-2 c = omega (arith, c .after3 .ensures, c .before .before .before .before .before .before .before .before .before .before .before .before .find-byte2 .ensures, c .before .before .before .before .before .before .before .before .before .before .before .before .before .loop-test .taken)
 
--- src/seen.rt:129:5
 loop-again-2 : tie.Need-loop-again-2 Inv-loop μ-loop
 loop-again-2 c = stretch-new (region-on (stretch-shut (c .before .before .before .before .before .before .before .before .before .before .before .before .before .before .loop .inv) _ _ refl (c .before .before .before .mark-runs3 .ensures)) (c .before .before .before .before .before .before .before .before .before .before .before .before .find-byte2 .result) _ (c .before .before .before .before .before .before .before .before .before .before .before .before .before .loop-test .taken) (c .before .before .before .before .before .before .before .before .before .before .before .before .find-byte2 .ensures) refl (so (c .before .before .before .before .before .before .before .before .before .before .is-header .ensures) (c .before .before .before .before .before .before .before .before .before .if2 .left)) _ (c .after3 .result) (line-decl-marked (c .before .before .before .before .before .before .before .before .before .before .before .before .before .before .before .before .before .before .before .before .before .before .before .before .before .args .m) _ _ (so (c .before .before .before .before .before .before .before .declares .ensures) (c .before .before .before .before .before .before .if4 .taken))) (c .after3 .ensures))
 
--- src/seen.rt:145:13
 after-requires-4 : tie.Need-after-requires-4 Inv-loop μ-loop
 after-requires-4 c κs = search needs
 
--- src/seen.rt:129:5
 loop-less-3 : tie.Need-loop-less-3 Inv-loop μ-loop
 loop-less-3 c = omega (arith, c .after4 .ensures, c .before .before .before .before .before .before .before .find-byte2 .ensures, c .before .before .before .before .before .before .before .before .loop-test .taken)
 
--- src/seen.rt:129:5
 loop-again-3 : tie.Need-loop-again-3 Inv-loop μ-loop
 loop-again-3 c = stretch-on (c .before .before .before .before .before .before .before .before .before .loop .inv) (c .before .before .before .before .before .before .before .find-byte2 .result) (c .after4 .result) _ (c .before .before .before .before .before .before .before .before .loop-test .taken) (c .before .before .before .before .before .before .before .find-byte2 .ensures) refl (c .after4 .ensures) (so (c .before .before .before .before .before .is-header .ensures) (c .before .before .before .before .if2 .left)) (so (c .before .before .declares .ensures) (c .before .if4 .left))
 
--- src/seen.rt:148:15
 sub-mark-runs-4 : tie.Need-sub-mark-runs-4 Inv-loop μ-loop
 sub-mark-runs-4 c = omega (arith, quiet-le (c .before .loop .inv .quiet), c .before .loop .inv .marked .j≤)
 
--- src/seen.rt:148:15
 part-mark-runs-start-4 : tie.Need-part-mark-runs-start-4 Inv-loop μ-loop
 part-mark-runs-start-4 c = omega (arith, quiet-le (c .before .loop .inv .quiet), c .before .loop .inv .marked .j≤)
 
--- src/seen.rt:148:15
 part-mark-runs-end-4 : tie.Need-part-mark-runs-end-4 Inv-loop μ-loop
 part-mark-runs-end-4 c = omega (arith, quiet-le (c .before .loop .inv .quiet), c .before .loop .inv .marked .j≤)
 
--- src/seen.rt:148:5
 mark-runs-requires-4 : tie.Need-mark-runs-requires-4 Inv-loop μ-loop
 mark-runs-requires-4 c κs = search needs
 
--- src/seen.rt:117:1
 same-length-2 : tie.Need-same-length-2 Inv-loop μ-loop
 same-length-2 c = c .before .before .mark-runs4 .kept .1 .1 .0 ∙ stretch-long (c .before .before .before .before .before .before .loop .inv) ∙ c .before .before .before .before .before .before .before .before .before .before .mark-line .kept .1 .1 .0
 
--- src/seen.rt:117:1
 returns-3 : tie.Need-returns-3 Inv-loop μ-loop
 returns-3 c = let a = c .before .before .before .before .before .before .before .before .before .before .before .before .before .before .before .before .before .args in let r = region-end (stretch-shut (c .before .before .before .before .before .before .loop .inv) _ _ refl (c .before .before .mark-runs4 .ensures)) (c .before .before .before .before .before .loop-test .left) in ((r .0, c .before .before .before .before .before .before .loop .inv .quiet), r .1 ∙ region-first (a .m) (a .text .now) (a .seen .now) _ (a .a) (c .before .before .before .before .before .before .before .before .before .before .before .before .before .find-byte .result) (c .before .before .before .before .before .before .before .after .result) _ (c .before .before .before .before .before .before .before .before .before .before .before .before .before .before .if1 .left) (c .before .before .before .before .before .before .before .before .before .before .before .before .before .find-byte .ensures) (c .before .before .before .before .before .before .before .after .ensures) refl (c .before .before .before .before .before .before .before .before .before .before .mark-line .ensures .1))
 

@@ -24,43 +24,33 @@ Inv-loop s i m seen₀ j₀ seen j = (seen ≡ seen₀) × ((j + runLen (drop j 
 abbrev μ-loop : tie.MeasureT-loop
 μ-loop s i m seen₀ j₀ seen j = length s - j
 
--- src/seen.rt:43:17
 add-j : tie.Need-add-j Inv-loop μ-loop
 add-j c = let a = c .before .before .args in omega (arith, name-inside (a .s .now) (a .i + 1) (c .before .before .pre .1))
 
--- src/seen.rt:44:5
 loop-holds : tie.Need-loop-holds Inv-loop μ-loop
 loop-holds c = let a = c .before .before .args in (refl, (run-two (a .s .now) (a .i) (c .before .before .pre .0) (c .before .before .pre .1), omega arith))
 
--- src/seen.rt:45:32
 shared-slice-read-is-name-byte : tie.Need-shared-slice-read-is-name-byte Inv-loop μ-loop
 shared-slice-read-is-name-byte c = search needs
 
--- src/seen.rt:45:13
 is-name-byte-requires : tie.Need-is-name-byte-requires Inv-loop μ-loop
 is-name-byte-requires c κs = search needs
 
--- src/seen.rt:46:23
 sub-mark-name : tie.Need-sub-mark-name Inv-loop μ-loop
 sub-mark-name c = omega (arith, c .before .before .before .before .loop .inv .1 .1)
 
--- src/seen.rt:46:23
 part-mark-name-start : tie.Need-part-mark-name-start Inv-loop μ-loop
 part-mark-name-start c = omega (arith, c .before .before .before .before .loop .inv .1 .1)
 
--- src/seen.rt:46:23
 part-mark-name-end : tie.Need-part-mark-name-end Inv-loop μ-loop
 part-mark-name-end c = omega (arith, c .before .before .before .before .loop .inv .1 .1, c .before .before .before .loop-test .taken)
 
--- src/seen.rt:46:13
 mark-name-requires : tie.Need-mark-name-requires Inv-loop μ-loop
 mark-name-requires c κs = search needs
 
--- src/seen.rt:47:13
 same-length : tie.Need-same-length Inv-loop μ-loop
 same-length c = c .before .before .mark-name .kept .1 .1 .0 ∙ ap length (c .before .before .before .before .before .before .before .before .before .loop .inv .0)
 
--- src/seen.rt:47:13
 returns : tie.Need-returns Inv-loop μ-loop
 returns c =
     let a = c .before .before .before .before .before .before .before .before .before .before .before .before .args in
@@ -70,39 +60,30 @@ returns c =
     ∙ ap (λ (w : List ℕ). markName (a .m) (regOf w) (l .seen)) (run-cut (a .s .now) _ (a .i) (l .j) z refl)
     ∙ ap (markName (a .m) (regOf (runAt (a .i) (a .s .now)))) (l .inv .0)
 
--- src/seen.rt:49:9
 add-j-2 : tie.Need-add-j-2 Inv-loop μ-loop
 add-j-2 c = omega arith
 
--- src/seen.rt:44:5
 loop-less : tie.Need-loop-less Inv-loop μ-loop
 loop-less c = omega arith
 
--- src/seen.rt:44:5
 loop-again : tie.Need-loop-again Inv-loop μ-loop
 loop-again c = let l = c .before .before .before .before .loop in (l .inv .0, (omega (arith, up-on (λ (x : ℕ). not (isName x)) (c .before .before .before .before .before .before .before .args .s .now) (l .j) (c .before .before .before .loop-test .taken) (ap not (sym (c .before .is-name-byte .ensures)) ∙ c .if1 .left), l .inv .1 .0), omega (arith, l .inv .1 .1)))
 
--- src/seen.rt:51:15
 sub-mark-name-2 : tie.Need-sub-mark-name-2 Inv-loop μ-loop
 sub-mark-name-2 c = omega (arith, c .before .loop .inv .1 .1)
 
--- src/seen.rt:51:15
 part-mark-name-start-2 : tie.Need-part-mark-name-start-2 Inv-loop μ-loop
 part-mark-name-start-2 c = omega (arith, c .before .loop .inv .1 .1)
 
--- src/seen.rt:51:15
 part-mark-name-end-2 : tie.Need-part-mark-name-end-2 Inv-loop μ-loop
 part-mark-name-end-2 c = let s = c .before .before .before .before in let l = c .before .loop in omega (arith, l .inv .1 .0, l .inv .1 .1, run-inside (s .args .s .now) (s .args .i) (omega (arith, name-inside (s .args .s .now) (s .args .i) (s .pre .0))))
 
--- src/seen.rt:51:5
 mark-name-requires-2 : tie.Need-mark-name-requires-2 Inv-loop μ-loop
 mark-name-requires-2 c κs = search needs
 
--- src/seen.rt:39:1
 same-length-2 : tie.Need-same-length-2 Inv-loop μ-loop
 same-length-2 c = c .before .before .mark-name2 .kept .1 .1 .0 ∙ ap length (c .before .before .before .before .before .before .loop .inv .0)
 
--- src/seen.rt:39:1
 returns-2 : tie.Need-returns-2 Inv-loop μ-loop
 returns-2 c =
     let a = c .before .before .before .before .before .before .before .before .before .args in

@@ -8,23 +8,18 @@ use Rattle.decls.proofs.seen.name_before.Lts as lts
 use Rattle.lines.proofs.byte_at.Reads as byte-at-reads
 use Rattle.text.proofs.is_name_byte.Reads as is-name-byte-reads
 
--- src/seen.rt:59:9
 returns : tie.Need-returns
 returns c = search needs
 
--- src/seen.rt:61:42
 sub-byte-at : tie.Need-sub-byte-at
 sub-byte-at c = search needs
 
--- src/seen.rt:61:24
 byte-at-requires : tie.Need-byte-at-requires
 byte-at-requires c κs = search needs
 
--- src/seen.rt:61:5
 is-name-byte-requires : tie.Need-is-name-byte-requires
 is-name-byte-requires c κs = search needs
 
--- src/seen.rt:55:1
 returns-2 : tie.Need-returns-2
 returns-2 c = let a = c .before .before .before .before .args in c .is-name-byte .ensures ∙ sym (before-is (a .s .now) (a .i) (c .before .byte-at .result) (c .before .before .if1 .left) (c .before .byte-at .ensures))
 

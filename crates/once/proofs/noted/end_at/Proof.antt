@@ -7,19 +7,15 @@ use Rattle.once.proofs.noted.end_at.Lts as lts
 use Rattle.lines.proofs.find_byte.Reads as find-byte-reads
 use Rattle.once.proofs.noted.entry.Reads as entry-reads
 
--- src/noted.rt:309:9
 entry-requires : tie.Need-entry-requires
 entry-requires c κs = search needs
 
--- src/noted.rt:311:9
 find-byte-requires : tie.Need-find-byte-requires
 find-byte-requires c κs = search needs
 
--- src/noted.rt:311:9
 returns : tie.Need-returns
 returns c = search needs
 
--- src/noted.rt:305:1
 returns-2 : tie.Need-returns-2
 returns-2 c = let a = c .before .before .before .before .args in end-by (a .text .now) (a .j) _ _ (c .before .before .before .before .pre) (c .before .entry .ensures) (c .if1 .left)
 

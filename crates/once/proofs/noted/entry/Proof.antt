@@ -6,19 +6,15 @@ use Rattle.once.proofs.noted.entry.Tie as tie
 use Rattle.once.proofs.noted.entry.Reads as reads
 use Rattle.once.proofs.noted.entry.Lts as lts
 
--- src/noted.rt:21:16
 mul-result : tie.Need-mul-result
 mul-result c = search needs
 
--- src/noted.rt:21:16
 shared-slice-read-result : tie.Need-shared-slice-read-result
 shared-slice-read-result c = search needs
 
--- src/noted.rt:21:9
 returns : tie.Need-returns
 returns c = search needs
 
--- src/noted.rt:17:1
 returns-2 : tie.Need-returns-2
 returns-2 c = sym (List·getD-eq-default (c .before .args .d .now) 0 (c .if1 .left))
 

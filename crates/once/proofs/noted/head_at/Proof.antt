@@ -7,15 +7,12 @@ use Rattle.once.proofs.noted.head_at.Reads as reads
 use Rattle.once.proofs.noted.head_at.Lts as lts
 use Rattle.place.proofs.is_header.Reads as is-header-reads
 
--- src/noted.rt:231:8
 is-header-requires : tie.Need-is-header-requires
 is-header-requires c κs = search needs
 
--- src/noted.rt:232:9
 returns : tie.Need-returns
 returns c = let a = c .before .before .before .args in sym (ap (λ (b : Bool). cond b (a .m) (a .h)) (sym (c .before .is-header .ensures) ∙ c .if1 .taken))
 
--- src/noted.rt:228:1
 returns-2 : tie.Need-returns-2
 returns-2 c = let a = c .before .before .before .args in sym (ap (λ (b : Bool). cond b (a .m) (a .h)) (sym (c .before .is-header .ensures) ∙ c .if1 .left))
 

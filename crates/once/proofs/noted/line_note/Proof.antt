@@ -8,31 +8,24 @@ use Rattle.once.proofs.noted.line_note.Reads as reads
 use Rattle.once.proofs.noted.line_note.Lts as lts
 use Rattle.once.proofs.noted.store_note.Reads as store-note-reads
 
--- src/noted.rt:196:30
 enum-told : tie.Need-enum-told
 enum-told c = search needs
 
--- src/noted.rt:197:28
 enum-known-p : tie.Need-enum-known-p
 enum-known-p c = search needs
 
--- src/noted.rt:197:34
 store-note-requires : tie.Need-store-note-requires
 store-note-requires c κs = search needs
 
--- src/noted.rt:198:31
 enum-told-2 : tie.Need-enum-told-2
 enum-told-2 c = search needs
 
--- src/noted.rt:183:1
 returns : tie.Need-returns
 returns c = search needs
 
--- src/noted.rt:183:1
 returns-2 : tie.Need-returns-2
 returns-2 c = let a = c .before .before .before .before .before .before .before .before .args in c .store-note .ensures ∙ sym (ap (λ (p : Line). lineNote p (a .paths .now) (a .k) (a .m) (a .h) (a .near .now) (a .far .now) (a .stores .now)) (c .before .before .p .given .1))
 
--- src/noted.rt:183:1
 returns-3 : tie.Need-returns-3
 returns-3 c = search needs
 

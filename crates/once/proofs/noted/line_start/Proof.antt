@@ -15,35 +15,27 @@ Inv-loop text e i₀ i = (i ≤ length text) × (e ≡ i + upTo 10 (drop i text)
 abbrev μ-loop : tie.MeasureT-loop
 μ-loop text e i₀ i = i
 
--- src/noted.rt:218:5
 loop-holds : tie.Need-loop-holds Inv-loop μ-loop
 loop-holds c = let a = c .args in (omega (arith, c .pre .0), back-start (a .text .now) (a .e) (c .pre .0) (c .pre .1))
 
--- src/noted.rt:219:17
 sub-if1 : tie.Need-sub-if1 Inv-loop μ-loop
 sub-if1 c = omega arith
 
--- src/noted.rt:219:12
 shared-slice-read-if1 : tie.Need-shared-slice-read-if1 Inv-loop μ-loop
 shared-slice-read-if1 c = omega arith
 
--- src/noted.rt:220:13
 returns : tie.Need-returns Inv-loop μ-loop
 returns c = let l = c .before .before .before .loop in let a = c .before .before .before .before .args in (l .inv .1, begins-lf (a .text .now) (l .i) (c .if1 .taken))
 
--- src/noted.rt:222:9
 sub-i : tie.Need-sub-i Inv-loop μ-loop
 sub-i c = omega arith
 
--- src/noted.rt:218:5
 loop-less : tie.Need-loop-less Inv-loop μ-loop
 loop-less c = omega arith
 
--- src/noted.rt:218:5
 loop-again : tie.Need-loop-again Inv-loop μ-loop
 loop-again c = let l = c .before .before .before .loop in let a = c .before .before .before .before .args in (omega arith, back-on (a .text .now) (a .e) (l .i) (c .before .before .loop-test .taken) (l .inv .0) (c .if1 .left) (l .inv .1))
 
--- src/noted.rt:213:1
 returns-2 : tie.Need-returns-2 Inv-loop μ-loop
 returns-2 c = let l = c .before .loop in let a = c .before .before .args in (l .inv .1, begins-none (a .text .now) (l .i) (c .loop-test .left))
 

@@ -12,35 +12,27 @@ use Rattle.once.proofs.noted.note_runs.Reads as note-runs-reads
 use Rattle.once.proofs.noted.note_store.Reads as note-store-reads
 use Rattle.parse.proofs.text_of.Reads as text-of-reads
 
--- src/noted.rt:127:5
 note-store-requires : tie.Need-note-store-requires
 note-store-requires c κs = search needs
 
--- src/noted.rt:128:15
 text-of-requires : tie.Need-text-of-requires
 text-of-requires c κs = search needs
 
--- src/noted.rt:128:5
 note-runs-requires : tie.Need-note-runs-requires
 note-runs-requires c κs = search needs
 
--- src/noted.rt:114:1
 same-length : tie.Need-same-length
 same-length c = search needs
 
--- src/noted.rt:114:1
 same-length-2 : tie.Need-same-length-2
 same-length-2 c = search needs
 
--- src/noted.rt:114:1
 same-length-3 : tie.Need-same-length-3
 same-length-3 c = search needs
 
--- src/noted.rt:114:1
 same-length-4 : tie.Need-same-length-4
 same-length-4 c = search needs
 
--- src/noted.rt:114:1
 returns : tie.Need-returns
 returns c =
     let a = c .before .before .before .before .before .before .before .before .before .before .before .before .before .before .before .before .before .before .before .before .args in

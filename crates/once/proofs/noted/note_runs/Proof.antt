@@ -19,64 +19,50 @@ Inv-loop s m h n near₀ far₀ notes₀ i₀ near far notes i = ReadsInv n h m 
 abbrev μ-loop : tie.MeasureT-loop
 μ-loop s m h n near₀ far₀ notes₀ i₀ near far notes i = length s - i
 
--- src/noted.rt:118:9
 reg-start-requires : tie.Need-reg-start-requires Inv-loop μ-loop
 reg-start-requires c κs = search needs
 
--- src/noted.rt:119:5
 loop-holds : tie.Need-loop-holds Inv-loop μ-loop
 loop-holds c = let a = c .before .before .before .before .before .args in reads-start (a .n) (a .h) (a .m) (a .s .now) (a .near .now, (a .far .now, a .notes .now)) _ (c .reg-start .ensures)
 
--- src/noted.rt:120:13
 run-end-requires : tie.Need-run-end-requires Inv-loop μ-loop
 run-end-requires c κs = search needs
 
--- src/noted.rt:121:19
 sub-note-name : tie.Need-sub-note-name Inv-loop μ-loop
 sub-note-name c = omega (arith, c .run-end .ensures)
 
--- src/noted.rt:121:19
 part-note-name-start : tie.Need-part-note-name-start Inv-loop μ-loop
 part-note-name-start c = omega (arith, c .run-end .ensures)
 
--- src/noted.rt:121:19
 part-note-name-end : tie.Need-part-note-name-end Inv-loop μ-loop
 part-note-name-end c = omega (arith, c .run-end .ensures, run-inside (c .before .before .before .before .before .before .before .before .args .s .now) (c .before .before .loop .i) (omega (arith, c .before .loop-test .taken)))
 
--- src/noted.rt:121:9
 note-name-requires : tie.Need-note-name-requires Inv-loop μ-loop
 note-name-requires c κs = search needs
 
--- src/noted.rt:122:9
 reg-start-requires-2 : tie.Need-reg-start-requires-2 Inv-loop μ-loop
 reg-start-requires-2 c κs = search needs
 
--- src/noted.rt:119:5
 loop-less : tie.Need-loop-less Inv-loop μ-loop
 loop-less c =
     let a = c .before .before .before .before .before .before .before .before .before .before .before .before .before .before .before .before .before .before .before .before .args in
     omega (arith, c .before .before .before .before .before .before .before .before .before .before .before .before .before .loop-test .taken, reads-less (a .n) (a .h) (a .m) (c .before .before .before .before .before .before .before .before .before .before .before .before .before .before .loop .inv) (c .before .before .before .before .before .before .before .before .before .before .before .before .before .loop-test .taken) _ (c .before .before .before .before .before .before .before .before .before .before .before .before .run-end .ensures) _ (c .reg-start2 .ensures))
 
--- src/noted.rt:119:5
 loop-again : tie.Need-loop-again Inv-loop μ-loop
 loop-again c =
     let a = c .before .before .before .before .before .before .before .before .before .before .before .before .before .before .before .before .before .before .before .before .args in
     let e = c .before .before .before .before .before .before .before .note-name .ensures in
     reads-on (a .n) (a .h) (a .m) (c .before .before .before .before .before .before .before .before .before .before .before .before .before .before .loop .inv) (c .before .before .before .before .before .before .before .before .before .before .before .before .before .loop-test .taken) _ (c .before .before .before .before .before .before .before .before .before .before .before .before .run-end .ensures) _ (c .reg-start2 .ensures) _ refl _ (rw (e .0, e .1 .0, e .1 .1))
 
--- src/noted.rt:107:1
 same-length : tie.Need-same-length Inv-loop μ-loop
 same-length c = c .before .loop .inv .long
 
--- src/noted.rt:107:1
 same-length-2 : tie.Need-same-length-2 Inv-loop μ-loop
 same-length-2 c = c .before .loop .inv .wide
 
--- src/noted.rt:107:1
 same-length-3 : tie.Need-same-length-3 Inv-loop μ-loop
 same-length-3 c = c .before .loop .inv .tall
 
--- src/noted.rt:107:1
 returns : tie.Need-returns Inv-loop μ-loop
 returns c = let a = c .before .before .before .before .before .before .before .args in reads-end (a .n) (a .h) (a .m) (c .before .loop .inv) (c .loop-test .left)
 

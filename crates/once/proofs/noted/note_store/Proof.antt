@@ -11,30 +11,24 @@ use Rattle.once.proofs.noted.put_row.Reads as put-row-reads
 enum-told : tie.Need-enum-told
 enum-told c = search needs
 
--- src/noted.rt:75:28
 enum-known-p : tie.Need-enum-known-p
 enum-known-p c = search needs
 
--- src/noted.rt:75:34
 put-row-requires : tie.Need-put-row-requires
 put-row-requires c κs = search needs
 
 enum-told-2 : tie.Need-enum-told-2
 enum-told-2 c = search needs
 
--- src/noted.rt:70:1
 returns : tie.Need-returns
 returns c = search needs
 
--- src/noted.rt:70:1
 same-length : tie.Need-same-length
 same-length c = search needs
 
--- src/noted.rt:70:1
 returns-2 : tie.Need-returns-2
 returns-2 c = let a = c .before .before .before .before .before .before .before .before .args in c .before .before .put-row .ensures ∙ sym (ap (λ (p : Line). markStore (a .m) p (a .last .now)) (c .before .before .before .before .before .p .given .1))
 
--- src/noted.rt:70:1
 returns-3 : tie.Need-returns-3
 returns-3 c = search needs
 

@@ -5,19 +5,15 @@ use Rattle.once.proofs.noted.put_note.Tie as tie
 use Rattle.once.proofs.noted.put_note.Reads as reads
 use Rattle.once.proofs.noted.put_note.Lts as lts
 
--- src/noted.rt:207:9
 returns : tie.Need-returns
 returns c = set-past _ _ _ (c .if1 .taken)
 
--- src/noted.rt:209:5
 slice-write-notes : tie.Need-slice-write-notes
 slice-write-notes c = search needs
 
--- src/noted.rt:203:1
 same-length : tie.Need-same-length
 same-length c = search needs
 
--- src/noted.rt:203:1
 returns-2 : tie.Need-returns-2
 returns-2 c = search needs
 

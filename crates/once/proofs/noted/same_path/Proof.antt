@@ -6,19 +6,15 @@ use Rattle.once.proofs.noted.same_path.Reads as reads
 use Rattle.once.proofs.noted.same_path.Lts as lts
 use Rattle.once.proofs.noted.entry.Reads as entry-reads
 
--- src/noted.rt:137:9
 returns : tie.Need-returns
 returns c = let a = c .before .before .args in same-past (a .paths .now) (a .k) (a .s) (c .if1 .taken)
 
--- src/noted.rt:139:5
 entry-requires : tie.Need-entry-requires
 entry-requires c κs = search needs
 
--- src/noted.rt:139:24
 entry-requires-2 : tie.Need-entry-requires-2
 entry-requires-2 c κs = search needs
 
--- src/noted.rt:132:1
 returns-2 : tie.Need-returns-2
 returns-2 c = let a = c .before .before .before .before .args in same-in (a .paths .now) (a .k) (a .s) _ _ (c .before .before .if1 .left) (c .before .entry .ensures) (c .entry2 .ensures)
 

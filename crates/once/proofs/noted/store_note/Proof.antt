@@ -10,83 +10,63 @@ use Rattle.once.proofs.noted.store_note.Reads as reads
 use Rattle.once.proofs.noted.store_note.Lts as lts
 use Rattle.once.proofs.noted.same_path.Reads as same-path-reads
 
--- src/noted.rt:157:9
 returns : tie.Need-returns
 returns c = let a = c .before .before .before .before .before .args in note-past (a .reg .0) (a .paths .now) (a .k) (a .m) (a .h) (a .near .now) (a .far .now) (a .stores .now) (c .if1 .taken)
 
--- src/noted.rt:160:9
 returns-2 : tie.Need-returns-2
 returns-2 c = let a = c .before .before .before .before .before .before .args in note-past-far (a .reg .0) (a .paths .now) (a .k) (a .m) (a .h) (a .near .now) (a .far .now) (a .stores .now) (c .before .if1 .left) (c .if2 .taken)
 
--- src/noted.rt:163:9
 returns-3 : tie.Need-returns-3
 returns-3 c = let a = c .before .before .before .before .before .before .before .args in note-past-stores (a .reg .0) (a .paths .now) (a .k) (a .m) (a .h) (a .near .now) (a .far .now) (a .stores .now) (c .before .before .if1 .left) (c .before .if2 .left) (c .if3 .taken)
 
--- src/noted.rt:165:13
 mul-r : tie.Need-mul-r
 mul-r c = search needs
 
--- src/noted.rt:165:13
 shared-slice-read-r : tie.Need-shared-slice-read-r
 shared-slice-read-r c = search needs
 
--- src/noted.rt:166:13
 mul-s : tie.Need-mul-s
 mul-s c = search needs
 
--- src/noted.rt:166:13
 shared-slice-read-s : tie.Need-shared-slice-read-s
 shared-slice-read-s c = search needs
 
--- src/noted.rt:168:29
 mul-if5 : tie.Need-mul-if5
 mul-if5 c = search needs
 
--- src/noted.rt:168:29
 shared-slice-read-if5 : tie.Need-shared-slice-read-if5
 shared-slice-read-if5 c = search needs
 
--- src/noted.rt:169:16
 mul-if6 : tie.Need-mul-if6
 mul-if6 c = search needs
 
--- src/noted.rt:169:16
 shared-slice-read-if6 : tie.Need-shared-slice-read-if6
 shared-slice-read-if6 c = search needs
 
--- src/noted.rt:169:13
 returns-4 : tie.Need-returns-4
 returns-4 c = let a = c .before .before .before .before .before .before .before .before .before .before .before .before .before .before .args in note-sent (getD (a .near .now) (a .reg .0) 0) (getD (a .far .now) (a .reg .0) 0) (getD (a .stores .now) (a .reg .0) 0) (a .h) (a .m) (samePath (a .paths .now) (a .k) (getD (a .stores .now) (a .reg .0) 0)) (c .before .before .before .before .if4 .taken) (c .before .before .if5 .taken) (c .if6 .taken) ∙ note-in (a .reg .0) (a .paths .now) (a .k) (a .m) (a .h) (a .near .now) (a .far .now) (a .stores .now) (c .before .before .before .before .before .before .before .before .before .if1 .left) (c .before .before .before .before .before .before .before .before .if2 .left) (c .before .before .before .before .before .before .before .if3 .left)
 
--- src/noted.rt:172:13
 returns-5 : tie.Need-returns-5
 returns-5 c = let a = c .before .before .before .before .before .before .before .before .before .before .before .before .before .before .args in note-alone (getD (a .near .now) (a .reg .0) 0) (getD (a .far .now) (a .reg .0) 0) (getD (a .stores .now) (a .reg .0) 0) (a .h) (a .m) (samePath (a .paths .now) (a .k) (getD (a .stores .now) (a .reg .0) 0)) (c .before .before .before .before .if4 .taken) (c .before .before .if5 .taken) (c .if6 .left) ∙ note-in (a .reg .0) (a .paths .now) (a .k) (a .m) (a .h) (a .near .now) (a .far .now) (a .stores .now) (c .before .before .before .before .before .before .before .before .before .if1 .left) (c .before .before .before .before .before .before .before .before .if2 .left) (c .before .before .before .before .before .before .before .if3 .left)
 
--- src/noted.rt:171:9
 returns-6 : tie.Need-returns-6
 returns-6 c = let a = c .before .before .before .before .before .before .before .before .before .before .before .before .args in note-read (getD (a .near .now) (a .reg .0) 0) (getD (a .far .now) (a .reg .0) 0) (getD (a .stores .now) (a .reg .0) 0) (a .h) (a .m) (samePath (a .paths .now) (a .k) (getD (a .stores .now) (a .reg .0) 0)) (c .before .before .if4 .taken) (c .if5 .left) ∙ note-in (a .reg .0) (a .paths .now) (a .k) (a .m) (a .h) (a .near .now) (a .far .now) (a .stores .now) (c .before .before .before .before .before .before .before .if1 .left) (c .before .before .before .before .before .before .if2 .left) (c .before .before .before .before .before .if3 .left)
 
--- src/noted.rt:174:9
 returns-7 : tie.Need-returns-7
 returns-7 c = let a = c .before .before .before .before .before .before .before .before .before .before .before .args in note-both (getD (a .near .now) (a .reg .0) 0) (getD (a .far .now) (a .reg .0) 0) (getD (a .stores .now) (a .reg .0) 0) (a .h) (a .m) (samePath (a .paths .now) (a .k) (getD (a .stores .now) (a .reg .0) 0)) (c .before .if4 .left) (c .if7 .taken) ∙ note-in (a .reg .0) (a .paths .now) (a .k) (a .m) (a .h) (a .near .now) (a .far .now) (a .stores .now) (c .before .before .before .before .before .before .if1 .left) (c .before .before .before .before .before .if2 .left) (c .before .before .before .before .if3 .left)
 
--- src/noted.rt:177:12
 same-path-requires : tie.Need-same-path-requires
 same-path-requires c κs = search needs
 
--- src/noted.rt:178:13
 returns-8 : tie.Need-returns-8
 returns-8 c = let a = c .before .before .before .before .before .before .before .before .before .before .before .before .before .before .args in note-stored (getD (a .near .now) (a .reg .0) 0) (getD (a .far .now) (a .reg .0) 0) (getD (a .stores .now) (a .reg .0) 0) (a .h) (a .m) (samePath (a .paths .now) (a .k) (getD (a .stores .now) (a .reg .0) 0)) (c .before .before .before .before .if4 .left) (c .before .before .before .if7 .left) (c .before .before .if8 .taken) true (sym (c .before .same-path .ensures) ∙ c .if9 .taken) ∙ note-in (a .reg .0) (a .paths .now) (a .k) (a .m) (a .h) (a .near .now) (a .far .now) (a .stores .now) (c .before .before .before .before .before .before .before .before .before .if1 .left) (c .before .before .before .before .before .before .before .before .if2 .left) (c .before .before .before .before .before .before .before .if3 .left)
 
--- src/noted.rt:180:9
 returns-9 : tie.Need-returns-9
 returns-9 c = let a = c .before .before .before .before .before .before .before .before .before .before .before .before .before .before .args in note-stored (getD (a .near .now) (a .reg .0) 0) (getD (a .far .now) (a .reg .0) 0) (getD (a .stores .now) (a .reg .0) 0) (a .h) (a .m) (samePath (a .paths .now) (a .k) (getD (a .stores .now) (a .reg .0) 0)) (c .before .before .before .before .if4 .left) (c .before .before .before .if7 .left) (c .before .before .if8 .taken) false (sym (c .before .same-path .ensures) ∙ c .if9 .left) ∙ note-in (a .reg .0) (a .paths .now) (a .k) (a .m) (a .h) (a .near .now) (a .far .now) (a .stores .now) (c .before .before .before .before .before .before .before .before .before .if1 .left) (c .before .before .before .before .before .before .before .before .if2 .left) (c .before .before .before .before .before .before .before .if3 .left)
 
--- src/noted.rt:183:9
 returns-10 : tie.Need-returns-10
 returns-10 c = let a = c .before .before .before .before .before .before .before .before .before .before .before .before .before .args in note-first (getD (a .near .now) (a .reg .0) 0) (getD (a .far .now) (a .reg .0) 0) (getD (a .stores .now) (a .reg .0) 0) (a .h) (a .m) (samePath (a .paths .now) (a .k) (getD (a .stores .now) (a .reg .0) 0)) (c .before .before .before .if4 .left) (c .before .before .if7 .left) (c .before .if8 .left) (c .if10 .taken) ∙ note-in (a .reg .0) (a .paths .now) (a .k) (a .m) (a .h) (a .near .now) (a .far .now) (a .stores .now) (c .before .before .before .before .before .before .before .before .if1 .left) (c .before .before .before .before .before .before .before .if2 .left) (c .before .before .before .before .before .before .if3 .left)
 
--- src/noted.rt:143:1
 returns-11 : tie.Need-returns-11
 returns-11 c = let a = c .before .before .before .before .before .before .before .before .before .before .before .before .before .args in note-dead (getD (a .near .now) (a .reg .0) 0) (getD (a .far .now) (a .reg .0) 0) (getD (a .stores .now) (a .reg .0) 0) (a .h) (a .m) (samePath (a .paths .now) (a .k) (getD (a .stores .now) (a .reg .0) 0)) (c .before .before .before .if4 .left) (c .before .before .if7 .left) (c .before .if8 .left) (c .if10 .left) ∙ note-in (a .reg .0) (a .paths .now) (a .k) (a .m) (a .h) (a .near .now) (a .far .now) (a .stores .now) (c .before .before .before .before .before .before .before .before .if1 .left) (c .before .before .before .before .before .before .before .if2 .left) (c .before .before .before .before .before .before .if3 .left)
 

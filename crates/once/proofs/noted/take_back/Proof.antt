@@ -9,43 +9,33 @@ use Rattle.once.proofs.noted.take_back.Lts as lts
 use Rattle.lines.proofs.byte_at.Reads as byte-at-reads
 use Rattle.once.proofs.noted.put_note.Reads as put-note-reads
 
--- src/noted.rt:69:9
 returns : tie.Need-returns
 returns c = back-none (c .before .before .args .n) (c .before .before .args .h) (c .before .before .args .r) (c .before .before .args .notes .now) (c .if1 .taken)
 
--- src/noted.rt:73:9
 returns-2 : tie.Need-returns-2
 returns-2 c = back-past (c .before .before .before .args .n) (c .before .before .before .args .h) (c .before .before .before .args .r) (c .before .before .before .args .notes .now) (c .if2 .taken)
 
--- src/noted.rt:75:13
 sub-k : tie.Need-sub-k
 sub-k c = search needs
 
--- src/noted.rt:75:13
 sub-k-2 : tie.Need-sub-k-2
 sub-k-2 c = search needs
 
--- src/noted.rt:76:8
 byte-at-requires : tie.Need-byte-at-requires
 byte-at-requires c κs = search needs
 
--- src/noted.rt:77:9
 same-length : tie.Need-same-length
 same-length c = search needs
 
--- src/noted.rt:77:9
 returns-3 : tie.Need-returns-3
 returns-3 c = back-other (c .before .before .before .before .before .before .args .n) (c .before .before .before .before .before .before .args .h) (c .before .before .before .before .before .before .args .r) (c .before .before .before .before .before .before .args .notes .now) _ (c .before .byte-at .ensures) (c .if3 .taken)
 
--- src/noted.rt:79:5
 put-note-requires : tie.Need-put-note-requires
 put-note-requires c κs = search needs
 
--- src/noted.rt:65:1
 same-length-2 : tie.Need-same-length-2
 same-length-2 c = search needs
 
--- src/noted.rt:65:1
 returns-4 : tie.Need-returns-4
 returns-4 c = c .before .before .put-note .ensures ∙ back-seven (c .before .before .before .before .before .before .before .before .before .before .args .n) (c .before .before .before .before .before .before .before .before .before .before .args .h) (c .before .before .before .before .before .before .before .before .before .before .args .r) (c .before .before .before .before .before .before .before .before .before .before .args .notes .now) (omega (arith, c .before .before .before .before .before .before .before .before .if1 .left)) (omega (arith, c .before .before .before .before .before .before .before .if2 .left)) _ (c .before .before .before .before .before .byte-at .ensures) (c .before .before .before .before .if3 .left)
 

@@ -23,43 +23,33 @@ Inv-loop s i₀ t4 i = holds phiWord (drop i s) ≡ holds phiWord s
 abbrev μ-loop : tie.MeasureT-loop
 μ-loop s i₀ t4 i = length s - i
 
--- src/table.rt:19:5
 loop-holds : tie.Need-loop-holds Inv-loop μ-loop
 loop-holds c = refl
 
--- src/table.rt:20:13
 find-byte-requires : tie.Need-find-byte-requires Inv-loop μ-loop
 find-byte-requires c κs = search needs
 
--- src/table.rt:21:31
 cut-requires : tie.Need-cut-requires Inv-loop μ-loop
 cut-requires c κs = search needs
 
--- src/table.rt:21:58
 slice-aggregate-starts-with : tie.Need-slice-aggregate-starts-with Inv-loop μ-loop
 slice-aggregate-starts-with c = search needs
 
--- src/table.rt:21:12
 starts-with-requires : tie.Need-starts-with-requires Inv-loop μ-loop
 starts-with-requires c κs = search needs
 
--- src/table.rt:22:13
 returns : tie.Need-returns Inv-loop μ-loop
 returns c = sym (find-hit (c .before .before .before .before .before .before .before .before .args .s .now) (c .before .before .before .before .before .before .loop .i) (c .before .before .before .before .find-byte .result) (c .before .before .before .before .find-byte .ensures) (c .before .before .before .cut .result .now) (c .before .before .before .cut .ensures) (so (c .before .starts-with .ensures) (c .if1 .taken))) ∙ c .before .before .before .before .before .before .loop .inv
 
--- src/table.rt:24:9
 after-requires : tie.Need-after-requires Inv-loop μ-loop
 after-requires c κs = search needs
 
--- src/table.rt:19:5
 loop-less : tie.Need-loop-less Inv-loop μ-loop
 loop-less c = omega (arith, c .after .ensures, c .before .before .before .before .before .find-byte .ensures, c .before .before .before .before .before .before .loop-test .taken)
 
--- src/table.rt:19:5
 loop-again : tie.Need-loop-again Inv-loop μ-loop
 loop-again c = sym (find-on (c .before .before .before .before .before .before .before .before .before .args .s .now) (c .before .before .before .before .before .before .before .loop .i) (c .before .before .before .before .before .find-byte .result) (c .before .before .before .before .before .find-byte .ensures) (c .before .before .before .before .cut .result .now) (c .before .before .before .before .cut .ensures) (c .after .result) (c .after .ensures) (so (c .before .before .starts-with .ensures) (c .before .if1 .left))) ∙ c .before .before .before .before .before .before .before .loop .inv
 
--- src/table.rt:15:1
 returns-2 : tie.Need-returns-2 Inv-loop μ-loop
 returns-2 c = sym (hold-end phiWord (c .before .before .before .args .s .now) (c .before .loop .i) (c .loop-test .left)) ∙ c .before .loop .inv
 

@@ -10,35 +10,27 @@ use Rattle.po.proofs.reader.escape_at.Reads as reads
 use Rattle.po.proofs.reader.escape_at.Lts as lts
 use Rattle.lines.proofs.byte_at.Reads as byte-at-reads
 
--- src/reader.rt:46:9
 byte-at-requires : tie.Need-byte-at-requires
 byte-at-requires c κs = search needs
 
--- src/reader.rt:47:31
 add-byte-at : tie.Need-add-byte-at
 add-byte-at c = search needs
 
--- src/reader.rt:47:9
 byte-at-requires-2 : tie.Need-byte-at-requires-2
 byte-at-requires-2 c κs = search needs
 
--- src/reader.rt:42:1
 returns : tie.Need-returns
 returns c = let a = c .before .before .before .before .args in two-here (a .l .now) (a .i) (a .b) _ _ 110 (c .before .before .byte-at .ensures) (c .before .byte-at2 .ensures) refl (ap (λ (n : ℕ). escape n) (c .match .keys1))
 
--- src/reader.rt:42:1
 returns-2 : tie.Need-returns-2
 returns-2 c = let a = c .before .before .before .before .args in two-here (a .l .now) (a .i) (a .b) _ _ 116 (c .before .before .byte-at .ensures) (c .before .byte-at2 .ensures) refl (ap (λ (n : ℕ). escape n) (c .match .keys2))
 
--- src/reader.rt:42:1
 returns-3 : tie.Need-returns-3
 returns-3 c = let a = c .before .before .before .before .args in two-here (a .l .now) (a .i) (a .b) _ _ 34 (c .before .before .byte-at .ensures) (c .before .byte-at2 .ensures) refl (ap (λ (n : ℕ). escape n) (c .match .keys3))
 
--- src/reader.rt:42:1
 returns-4 : tie.Need-returns-4
 returns-4 c = let a = c .before .before .before .before .args in two-here (a .l .now) (a .i) (a .b) _ _ 92 (c .before .before .byte-at .ensures) (c .before .byte-at2 .ensures) refl (ap (λ (n : ℕ). escape n) (c .match .keys4))
 
--- src/reader.rt:42:1
 returns-5 : tie.Need-returns-5
 returns-5 c = let a = c .before .before .before .before .args in one-here (a .l .now) (a .i) (a .b) _ (c .before .before .byte-at .ensures) (c .before .before .before .before .pre) (omega arith) (omega arith) (omega arith) (omega arith)
 

@@ -7,11 +7,9 @@ use Rattle.po.proofs.reader.first_line.Reads as reads
 use Rattle.po.proofs.reader.first_line.Lts as lts
 use Rattle.lines.proofs.find_byte.Reads as find-byte-reads
 
--- src/reader.rt:255:9
 find-byte-requires : tie.Need-find-byte-requires
 find-byte-requires c κs = search needs
 
--- src/reader.rt:251:1
 returns : tie.Need-returns
 returns c = (at-first (c .before .before .args .file .now) (c .find-byte .result) (c .find-byte .ensures), (refl, refl))
 

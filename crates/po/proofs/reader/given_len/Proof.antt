@@ -15,39 +15,30 @@ use Rattle.po.proofs.reader.given_len.Lts as lts
 use Rattle.lines.proofs.cut.Reads as cut-reads
 use Rattle.po.proofs.reader.plain_len.Reads as plain-len-reads
 
--- src/reader.rt:328:30
 cut-requires : tie.Need-cut-requires
 cut-requires c κs = search needs
 
--- src/reader.rt:328:20
 plain-len-requires : tie.Need-plain-len-requires
 plain-len-requires c κs = search needs
 
--- src/reader.rt:328:16
 add-result : tie.Need-add-result
 add-result c = let z = ap length (c .before .cut .ensures) in omega (arith, c .before .before .before .before .good .1 .0 .1, c .plain-len .ensures, text-le (c .before .cut .result .now) 34, part-short (c .before .before .before .before .args .l .now) 7 (length (c .before .before .before .before .args .l .now)))
 
--- src/reader.rt:328:9
 returns : tie.Need-returns
 returns c = let a = c .before .before .before .before .args in let g = ap length (gives-5 (a .w) (a .l .now) (c .before .cut .result .now) (c .before .before .if1 .taken) (c .before .cut .ensures)) in omega (arith, packed-length (textOf (c .before .cut .result .now) 34), c .plain-len .ensures)
 
--- src/reader.rt:331:30
 cut-requires-2 : tie.Need-cut-requires-2
 cut-requires-2 c κs = search needs
 
--- src/reader.rt:331:20
 plain-len-requires-2 : tie.Need-plain-len-requires-2
 plain-len-requires-2 c κs = search needs
 
--- src/reader.rt:331:16
 add-result-2 : tie.Need-add-result-2
 add-result-2 c = let z = ap length (c .before .cut2 .ensures) in omega (arith, c .before .before .before .before .before .good .1 .0 .1, c .plain-len2 .ensures, text-le (c .before .cut2 .result .now) 34, part-short (c .before .before .before .before .before .args .l .now) 8 (length (c .before .before .before .before .before .args .l .now)))
 
--- src/reader.rt:331:9
 returns-2 : tie.Need-returns-2
 returns-2 c = let a = c .before .before .before .before .before .args in let g = ap length (gives-6 (a .w) (a .l .now) (c .before .cut2 .result .now) (c .before .before .if2 .taken) (c .before .cut2 .ensures)) in omega (arith, packed-length (textOf (c .before .cut2 .result .now) 34), c .plain-len2 .ensures)
 
--- src/reader.rt:324:1
 returns-3 : tie.Need-returns-3
 returns-3 c = let a = c .before .before .before .args in sym (ap length (gives-none (a .w) (a .l .now) (c .before .if1 .left) (c .if2 .left)))
 

@@ -15,79 +15,60 @@ use Rattle.po.proofs.reader.is_id.Reads as is-id-reads
 use Rattle.po.proofs.reader.is_quoted.Reads as is-quoted-reads
 use Rattle.po.proofs.reader.is_ref.Reads as is-ref-reads
 
--- src/reader.rt:238:9
 cut-requires : tie.Need-cut-requires
 cut-requires c κs = search needs
 
--- src/reader.rt:241:29
 slice-aggregate-same : tie.Need-slice-aggregate-same
 slice-aggregate-same c = search needs
 
--- src/reader.rt:241:14
 same-requires : tie.Need-same-requires
 same-requires c κs = search needs
 
--- src/reader.rt:242:29
 slice-aggregate-same-2 : tie.Need-slice-aggregate-same-2
 slice-aggregate-same-2 c = search needs
 
--- src/reader.rt:242:14
 same-requires-2 : tie.Need-same-requires-2
 same-requires-2 c κs = search needs
 
--- src/reader.rt:243:29
 slice-aggregate-same-3 : tie.Need-slice-aggregate-same-3
 slice-aggregate-same-3 c = search needs
 
--- src/reader.rt:243:14
 same-requires-3 : tie.Need-same-requires-3
 same-requires-3 c κs = search needs
 
--- src/reader.rt:245:21
 cut-requires-2 : tie.Need-cut-requires-2
 cut-requires-2 c κs = search needs
 
--- src/reader.rt:245:14
 is-ref-requires : tie.Need-is-ref-requires
 is-ref-requires c κs = search needs
 
--- src/reader.rt:246:14
 is-id-requires : tie.Need-is-id-requires
 is-id-requires c κs = search needs
 
--- src/reader.rt:247:24
 slice-aggregate-is-quoted : tie.Need-slice-aggregate-is-quoted
 slice-aggregate-is-quoted c = search needs
 
--- src/reader.rt:247:14
 is-quoted-requires : tie.Need-is-quoted-requires
 is-quoted-requires c κs = search needs
 
--- src/reader.rt:234:1
 returns : tie.Need-returns
 returns c = let a = c .before .before .before .before .before .args in let s = stateAt (a .file .now) (a .r .number) in c .same .ensures ∙ await-0 s _ (sym (c .before .before .before .before .before .pre .awaits) ∙ c .before .before .match .keys1) ∙ ap (awaited s) (c .before .before .before .cut .ensures)
 
--- src/reader.rt:234:1
 returns-2 : tie.Need-returns-2
 returns-2 c = let a = c .before .before .before .before .before .args in let s = stateAt (a .file .now) (a .r .number) in c .same2 .ensures ∙ await-1 s _ (sym (c .before .before .before .before .before .pre .awaits) ∙ c .before .before .match .keys2) ∙ ap (awaited s) (c .before .before .before .cut .ensures)
 
--- src/reader.rt:234:1
 returns-3 : tie.Need-returns-3
 returns-3 c = let a = c .before .before .before .before .before .args in let s = stateAt (a .file .now) (a .r .number) in c .same3 .ensures ∙ await-2 s _ (sym (c .before .before .before .before .before .pre .awaits) ∙ c .before .before .match .keys3) ∙ ap (awaited s) (c .before .before .before .cut .ensures)
 
--- src/reader.rt:234:1
 returns-4 : tie.Need-returns-4
 returns-4 c = let a = c .before .before .before .args in let s = stateAt (a .file .now) (a .r .number) in empty-is (c .before .cut .result .now) ∙ await-3 s _ (sym (c .before .before .before .pre .awaits) ∙ c .match .keys4) ∙ ap (awaited s) (c .before .cut .ensures)
 
--- src/reader.rt:234:1
 returns-5 : tie.Need-returns-5
 returns-5 c = let a = c .before .before .before .before .before .args in let s = stateAt (a .file .now) (a .r .number) in c .is-ref .ensures ∙ ref-awaited s _ _ _ (c .before .cut2 .ensures ∙ c .before .before .before .before .before .pre .name) (c .before .before .before .before .before .pre .least) ∙ await-4 s _ (sym (c .before .before .before .before .before .pre .awaits) ∙ c .before .before .match .keys5) ∙ ap (awaited s) (c .before .before .before .cut .ensures)
 
--- src/reader.rt:234:1
 returns-6 : tie.Need-returns-6
 returns-6 c = let a = c .before .before .before .before .args in let s = stateAt (a .file .now) (a .r .number) in c .is-id .ensures ∙ await-5 s _ (sym (c .before .before .before .before .pre .awaits) ∙ c .before .match .keys6) ∙ ap (awaited s) (c .before .before .cut .ensures)
 
--- src/reader.rt:234:1
 returns-7 : tie.Need-returns-7
 returns-7 c = let a = c .before .before .before .before .before .args in let s = stateAt (a .file .now) (a .r .number) in let k = c .before .before .before .before .before .pre .low in let w : a .r .awaits ≡ 6 = omega arith in c .is-quoted .ensures ∙ await-6 s _ (sym (c .before .before .before .before .before .pre .awaits) ∙ w) ∙ ap (awaited s) (c .before .before .before .cut .ensures)
 

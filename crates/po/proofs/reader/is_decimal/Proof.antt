@@ -9,31 +9,24 @@ use Rattle.po.proofs.reader.is_decimal.Lts as lts
 use Rattle.names.proofs.read_number.Reads as read-number-reads
 use Rattle.names.proofs.skip_zeros.Reads as skip-zeros-reads
 
--- src/reader.rt:116:12
 skip-zeros-requires : tie.Need-skip-zeros-requires
 skip-zeros-requires c κs = search needs
 
--- src/reader.rt:117:9
 returns : tie.Need-returns
 returns c = let a = c .before .before .before .args in sym (prints-not (a .s .now) (a .v) (omega arith))
 
--- src/reader.rt:119:11
 read-number-requires : tie.Need-read-number-requires
 read-number-requires c κs = search needs
 
--- src/reader.rt:120:20
 enum-known-n : tie.Need-enum-known-n
 enum-known-n c = search needs
 
--- src/reader.rt:121:25
 enum-told : tie.Need-enum-told
 enum-told c = search needs
 
--- src/reader.rt:113:1
 returns-2 : tie.Need-returns-2
 returns-2 c = let a = c .before .before .before .before .before .before .before .args in sym (prints-is (a .s .now) (a .v) (omega arith) (omega arith) ∙ ap (numberIs (a .v)) (sym (c .before .before .before .read-number .ensures) ∙ c .before .n .given .1))
 
--- src/reader.rt:113:1
 returns-3 : tie.Need-returns-3
 returns-3 c = let a = c .before .before .before .before .before .before .args in sym (prints-is (a .s .now) (a .v) (omega arith) (omega arith) ∙ ap (numberIs (a .v)) (sym (c .before .before .read-number .ensures) ∙ c .enum-told .given .1))
 

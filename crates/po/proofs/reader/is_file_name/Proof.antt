@@ -7,15 +7,12 @@ use Rattle.po.proofs.reader.is_file_name.Reads as reads
 use Rattle.po.proofs.reader.is_file_name.Lts as lts
 use Rattle.po.proofs.file_name.Reads as file-name-reads
 
--- src/reader.rt:130:9
 returns : tie.Need-returns
 returns c = sym (name-none (c .before .before .args .name .now) (c .if1 .taken))
 
--- src/reader.rt:132:5
 file-name-requires : tie.Need-file-name-requires
 file-name-requires c κs = search needs
 
--- src/reader.rt:126:1
 returns-2 : tie.Need-returns-2
 returns-2 c = name-by (c .before .before .before .args .name .now) (c .before .if1 .left) _ (c .file-name .ensures)
 

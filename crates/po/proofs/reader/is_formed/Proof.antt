@@ -19,43 +19,33 @@ Inv-loop l a i₀ i = formed (drop i l) ≡ formed (drop a l)
 abbrev μ-loop : tie.MeasureT-loop
 μ-loop l a i₀ i = length l - i
 
--- src/reader.rt:62:5
 loop-holds : tie.Need-loop-holds Inv-loop μ-loop
 loop-holds c = refl
 
--- src/reader.rt:63:13
 unit-at-requires : tie.Need-unit-at-requires Inv-loop μ-loop
 unit-at-requires c κs = tt
 
--- src/reader.rt:65:20
 add-result : tie.Need-add-result Inv-loop μ-loop
 add-result c = omega (arith, c .before .before .before .loop-test .taken)
 
--- src/reader.rt:65:13
 returns : tie.Need-returns Inv-loop μ-loop
 returns c = let a = c .before .before .before .before .before .before .args in let l = c .before .before .before .before .loop in form-stop (a .l .now) (l .i) _ (c .before .before .unit-at .ensures) (c .before .before .before .loop-test .taken) (c .if1 .taken) ∙ l .inv
 
--- src/reader.rt:67:13
 escape-at-requires : tie.Need-escape-at-requires Inv-loop μ-loop
 escape-at-requires c κs = c .before .before .before .loop-test .taken
 
--- src/reader.rt:68:13
 returns-2 : tie.Need-returns-2 Inv-loop μ-loop
 returns-2 c = let a = c .before .before .before .before .before .before .before .before .args in let l = c .before .before .before .before .before .before .loop in sym (form-no (a .l .now) (l .i) _ (c .before .before .before .before .unit-at .ensures) (c .before .before .if1 .left) (sym (c .before .escape-at .ensures) ∙ denied (c .if2 .taken))) ∙ l .inv
 
--- src/reader.rt:70:9
 add-i : tie.Need-add-i Inv-loop μ-loop
 add-i c = let a = c .before .before .before .before .before .before .before .before .before .args in let l = c .before .before .before .before .before .before .before .loop in omega (arith, size-in (a .l .now) 34 (l .i) (c .before .before .before .before .before .unit-at .result) (c .before .before .before .before .before .unit-at .ensures) (c .before .before .before .if1 .left))
 
--- src/reader.rt:62:5
 loop-less : tie.Need-loop-less Inv-loop μ-loop
 loop-less c = omega (arith, c .before .before .before .if1 .left)
 
--- src/reader.rt:62:5
 loop-again : tie.Need-loop-again Inv-loop μ-loop
 loop-again c = let a = c .before .before .before .before .before .before .before .before .before .args in let l = c .before .before .before .before .before .before .before .loop in sym (form-on (a .l .now) (l .i) _ (c .before .before .before .before .before .unit-at .ensures) (c .before .before .before .if1 .left) (sym (c .before .before .escape-at .ensures) ∙ granted (c .before .if2 .left))) ∙ l .inv
 
--- src/reader.rt:58:1
 returns-3 : tie.Need-returns-3 Inv-loop μ-loop
 returns-3 c = let a = c .before .before .before .args in let l = c .before .loop in sym (form-past (a .l .now) (l .i) (c .loop-test .left)) ∙ l .inv
 

@@ -12,35 +12,27 @@ use Rattle.po.proofs.reader.is_met.Reads as is-met-reads
 use Rattle.po.proofs.reader.is_quoted.Reads as is-quoted-reads
 use Rattle.po.proofs.unit_at.Reads as unit-at-reads
 
--- src/reader.rt:222:19
 slice-aggregate-is-quoted : tie.Need-slice-aggregate-is-quoted
 slice-aggregate-is-quoted c = search needs
 
--- src/reader.rt:222:9
 is-quoted-requires : tie.Need-is-quoted-requires
 is-quoted-requires c κs = search needs
 
--- src/reader.rt:223:9
 returns : tie.Need-returns
 returns c = let a = c .before .before .before .before .before .args in id-no-form (stateAt (a .file .now) (a .k)) (a .l .now) (sym (c .before .is-quoted .ensures) ∙ denied (c .if1 .taken))
 
--- src/reader.rt:225:9
 cut-requires : tie.Need-cut-requires
 cut-requires c κs = search needs
 
--- src/reader.rt:226:9
 unit-at-requires : tie.Need-unit-at-requires
 unit-at-requires c κs = search needs
 
--- src/reader.rt:228:9
 returns-2 : tie.Need-returns-2
 returns-2 c = let a = c .before .before .before .before .before .before .before .before .before .args in id-empty (stateAt (a .file .now) (a .k)) (a .l .now) (sym (c .before .before .before .before .before .is-quoted .ensures) ∙ granted (c .before .before .before .before .if1 .left)) _ (c .before .before .before .cut .ensures) _ (c .before .before .unit-at .ensures) (c .if2 .taken)
 
--- src/reader.rt:230:6
 is-met-requires : tie.Need-is-met-requires
 is-met-requires c κs = search needs
 
--- src/reader.rt:219:1
 returns-3 : tie.Need-returns-3
 returns-3 c = let a = c .before .before .before .before .before .before .before .before .before .before .args in id-by (stateAt (a .file .now) (a .k)) (a .l .now) (sym (c .before .before .before .before .before .before .is-quoted .ensures) ∙ granted (c .before .before .before .before .before .if1 .left)) _ (c .before .before .before .before .cut .ensures) _ (c .before .before .before .unit-at .ensures) (c .before .if2 .left) _ (c .is-met .ensures)
 

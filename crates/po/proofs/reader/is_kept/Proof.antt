@@ -9,15 +9,12 @@ use Rattle.po.proofs.reader.is_kept.Reads as reads
 use Rattle.po.proofs.reader.is_kept.Lts as lts
 use Rattle.lines.proofs.same.Reads as same-reads
 
--- src/reader.rt:155:9
 returns : tie.Need-returns
 returns c = let a = c .before .before .before .args in sym (ap (λ (b : Bool). b || same (a .above .now) (a .name .now)) (empty-yes (a .above .now) (c .if1 .taken)))
 
--- src/reader.rt:157:5
 same-requires : tie.Need-same-requires
 same-requires c κs = search needs
 
--- src/reader.rt:151:1
 returns-2 : tie.Need-returns-2
 returns-2 c = let a = c .before .before .before .before .args in c .same .ensures ∙ sym (ap (λ (b : Bool). b || same (a .above .now) (a .name .now)) (empty-no (a .above .now) (c .before .if1 .left)))
 

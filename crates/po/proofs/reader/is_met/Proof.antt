@@ -24,51 +24,39 @@ Inv-loop file k s i₀ w₀ j₀ i w j = (i ≤ length file) × ((j ≤ k) × ((
 abbrev μ-loop : tie.MeasureT-loop
 μ-loop file k s i₀ w₀ j₀ i w j = k - j
 
--- src/reader.rt:193:5
 loop-holds : tie.Need-loop-holds Inv-loop μ-loop
 loop-holds c = let a = c .before .before .args in let z : a .k - 0 ≡ a .k = omega arith in (omega arith, (omega arith, (omega arith, ap (λ (n : ℕ). met 0 (take n (partsOf 10 (a .file .now))) (textOf (a .s .now) 34)) z)))
 
--- src/reader.rt:194:13
 find-byte-requires : tie.Need-find-byte-requires Inv-loop μ-loop
 find-byte-requires c κs = tt
 
--- src/reader.rt:195:26
 cut-requires : tie.Need-cut-requires Inv-loop μ-loop
 cut-requires c κs = tt
 
--- src/reader.rt:195:12
 is-same-id-requires : tie.Need-is-same-id-requires Inv-loop μ-loop
 is-same-id-requires c κs = tt
 
--- src/reader.rt:196:13
 returns : tie.Need-returns Inv-loop μ-loop
 returns c = let a = c .before .before .before .before .before .before .before .before .args in let l = c .before .before .before .before .before .loop in met-yes (a .file .now) (l .i) _ (l .inv .0) (c .before .before .before .find-byte .ensures) (a .k) (l .j) (c .before .before .before .before .loop-test .taken) (l .w) (textOf (a .s .now) 34) _ (c .before .is-same-id .ensures ∙ ap (λ (y : List ℕ). sameId (l .w) y (textOf (a .s .now) 34)) (c .before .before .cut .ensures)) (c .if1 .taken) ∙ l .inv .1 .1 .1 ∙ met-known (a .file .now) (a .k) (textOf (a .s .now) 34)
 
--- src/reader.rt:199:13
 returns-2 : tie.Need-returns-2 Inv-loop μ-loop
 returns-2 c = let a = c .before .before .before .before .before .before .before .before .before .args in let l = c .before .before .before .before .before .before .loop in sym (c .before .if1 .left) ∙ sym (met-last (a .file .now) (l .i) _ (l .inv .0) (c .before .before .before .before .find-byte .ensures) (a .k) (l .j) (c .before .before .before .before .before .loop-test .taken) (l .w) (textOf (a .s .now) 34) _ (c .before .before .is-same-id .ensures ∙ ap (λ (y : List ℕ). sameId (l .w) y (textOf (a .s .now) 34)) (c .before .before .before .cut .ensures)) (c .if2 .taken)) ∙ l .inv .1 .1 .1 ∙ met-known (a .file .now) (a .k) (textOf (a .s .now) 34)
 
--- src/reader.rt:201:9
 next-awaited-requires : tie.Need-next-awaited-requires Inv-loop μ-loop
 next-awaited-requires c κs = c .before .before .before .before .before .before .loop .inv .1 .1 .0
 
--- src/reader.rt:202:13
 add-i : tie.Need-add-i Inv-loop μ-loop
 add-i c = omega (arith, c .before .if2 .left)
 
--- src/reader.rt:203:9
 add-j : tie.Need-add-j Inv-loop μ-loop
 add-j c = omega (arith, c .before .before .before .before .before .before .loop-test .taken)
 
--- src/reader.rt:193:5
 loop-less : tie.Need-loop-less Inv-loop μ-loop
 loop-less c = omega (arith, c .before .before .before .before .before .before .loop-test .taken)
 
--- src/reader.rt:193:5
 loop-again : tie.Need-loop-again Inv-loop μ-loop
 loop-again c = let a = c .before .before .before .before .before .before .before .before .before .before .args in let l = c .before .before .before .before .before .before .before .loop in let low = next-low (l .w) (l .inv .1 .1 .0) in (omega (arith, c .before .if2 .left), (omega (arith, c .before .before .before .before .before .before .loop-test .taken), (omega (arith, c .next-awaited .ensures), ap (λ (x : ℕ). met x (take (a .k - (l .j + 1)) (partsOf 10 (drop (c .before .before .before .before .before .find-byte .result + 1) (a .file .now)))) (textOf (a .s .now) 34)) (c .next-awaited .ensures) ∙ sym (met-first (a .file .now) (l .i) _ (l .inv .0) (c .before .before .before .before .before .find-byte .ensures) (a .k) (l .j) (c .before .before .before .before .before .before .loop-test .taken) (l .w) (textOf (a .s .now) 34) _ (c .before .before .before .is-same-id .ensures ∙ ap (λ (y : List ℕ). sameId (l .w) y (textOf (a .s .now) 34)) (c .before .before .before .before .cut .ensures)) (c .before .if2 .left) ∙ ap (λ (b : Bool). b || met (nextOf (l .w)) (take (a .k - (l .j + 1)) (partsOf 10 (drop (c .before .before .before .before .before .find-byte .result + 1) (a .file .now)))) (textOf (a .s .now) 34)) (c .before .before .if1 .left)) ∙ l .inv .1 .1 .1)))
 
--- src/reader.rt:187:1
 returns-3 : tie.Need-returns-3 Inv-loop μ-loop
 returns-3 c = let a = c .before .before .before .before .args in let l = c .before .loop in sym (met-none (l .w) (a .k - l .j) (partsOf 10 (drop (l .i) (a .file .now))) (textOf (a .s .now) 34) (omega (arith, c .loop-test .left))) ∙ l .inv .1 .1 .1 ∙ met-known (a .file .now) (a .k) (textOf (a .s .now) 34)
 

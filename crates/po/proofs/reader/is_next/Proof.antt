@@ -12,35 +12,27 @@ use Rattle.po.proofs.reader.is_kept.Reads as is-kept-reads
 use Rattle.po.proofs.reader.last_colon.Reads as last-colon-reads
 use Rattle.po.proofs.reader.number_in.Reads as number-in-reads
 
--- src/reader.rt:164:9
 last-colon-requires : tie.Need-last-colon-requires
 last-colon-requires c κs = search needs
 
--- src/reader.rt:165:23
 cut-requires : tie.Need-cut-requires
 cut-requires c κs = search needs
 
--- src/reader.rt:165:9
 is-kept-requires : tie.Need-is-kept-requires
 is-kept-requires c κs = search needs
 
--- src/reader.rt:166:9
 returns : tie.Need-returns
 returns c = let a = c .before .before .before .before .before .before .args in next-no (a .name .now) (a .least) (a .l .now) _ (c .before .before .before .last-colon .ensures) _ (c .before .before .cut .ensures) _ (c .before .is-kept .ensures) (denied (c .if1 .taken))
 
--- src/reader.rt:168:38
 add-cut : tie.Need-add-cut
 add-cut c = let a = c .before .before .before .before .before .before .args in omega (arith, c .before .before .before .before .before .before .good .1 .1 .0 .1, c .before .before .before .last-colon .ensures, colon-le (a .l .now) (length (a .l .now)))
 
--- src/reader.rt:168:24
 cut-requires-2 : tie.Need-cut-requires-2
 cut-requires-2 c κs = search needs
 
--- src/reader.rt:168:14
 number-in-requires : tie.Need-number-in-requires
 number-in-requires c κs = search needs
 
--- src/reader.rt:161:1
 returns-2 : tie.Need-returns-2
 returns-2 c = let a = c .before .before .before .before .before .before .before .before .args in next-by (a .name .now) (a .least) (a .l .now) _ (c .before .before .before .before .before .last-colon .ensures) _ (c .before .before .before .before .cut .ensures) _ (c .before .before .before .is-kept .ensures) (granted (c .before .before .if1 .left)) _ (c .before .cut2 .ensures) _ (c .number-in .ensures)
 

@@ -10,27 +10,21 @@ use Rattle.lines.proofs.starts_with.Reads as starts-with-reads
 use Rattle.po.proofs.reader.is_formed.Reads as is-formed-reads
 use Rattle.po.proofs.reader.is_utf8.Reads as is-utf8-reads
 
--- src/reader.rt:79:9
 starts-with-requires : tie.Need-starts-with-requires
 starts-with-requires c κs = search needs
 
--- src/reader.rt:80:9
 returns : tie.Need-returns
 returns c = let a = c .before .before .before .before .args in quoted-no-word (a .w .now) (a .l .now) (sym (c .before .starts-with .ensures) ∙ denied (c .if1 .taken))
 
--- src/reader.rt:82:9
 is-formed-requires : tie.Need-is-formed-requires
 is-formed-requires c κs = search needs
 
--- src/reader.rt:83:9
 returns-2 : tie.Need-returns-2
 returns-2 c = let a = c .before .before .before .before .before .before .args in quoted-no-form (a .w .now) (a .l .now) (sym (c .before .before .before .starts-with .ensures) ∙ granted (c .before .before .if1 .left)) (sym (c .before .is-formed .ensures) ∙ denied (c .if2 .taken))
 
--- src/reader.rt:85:5
 is-utf8-requires : tie.Need-is-utf8-requires
 is-utf8-requires c κs = search needs
 
--- src/reader.rt:76:1
 returns-3 : tie.Need-returns-3
 returns-3 c = let a = c .before .before .before .before .before .before .before .args in c .is-utf8 .ensures ∙ quoted-by (a .w .now) (a .l .now) (sym (c .before .before .before .before .starts-with .ensures) ∙ granted (c .before .before .before .if1 .left)) (sym (c .before .before .is-formed .ensures) ∙ granted (c .before .if2 .left))
 

@@ -9,19 +9,15 @@ use Rattle.po.proofs.reader.is_ref.Lts as lts
 use Rattle.po.proofs.reader.is_next.Reads as is-next-reads
 use Rattle.po.proofs.reader.is_reference.Reads as is-reference-reads
 
--- src/reader.rt:167:8
 is-reference-requires : tie.Need-is-reference-requires
 is-reference-requires c κs = search needs
 
--- src/reader.rt:168:9
 is-next-requires : tie.Need-is-next-requires
 is-next-requires c κs = search needs
 
--- src/reader.rt:168:9
 returns : tie.Need-returns
 returns c = let a = c .before .before .before .before .before .args in c .is-next .ensures ∙ sym (ap (λ (b : Bool). b && follows (a .name .now) (a .least) (a .l .now)) (sym (c .before .before .is-reference .ensures) ∙ c .before .if1 .taken))
 
--- src/reader.rt:164:1
 returns-2 : tie.Need-returns-2
 returns-2 c = let a = c .before .before .before .before .args in sym (ap (λ (b : Bool). b && follows (a .name .now) (a .least) (a .l .now)) (sym (c .before .is-reference .ensures) ∙ c .if1 .left))
 

@@ -15,51 +15,39 @@ use Rattle.po.proofs.reader.is_file_name.Reads as is-file-name-reads
 use Rattle.po.proofs.reader.last_colon.Reads as last-colon-reads
 use Rattle.po.proofs.reader.number_in.Reads as number-in-reads
 
--- src/reader.rt:139:9
 last-colon-requires : tie.Need-last-colon-requires
 last-colon-requires c κs = search needs
 
--- src/reader.rt:140:22
 cut-requires : tie.Need-cut-requires
 cut-requires c κs = search needs
 
--- src/reader.rt:140:9
 is-file-name-requires : tie.Need-is-file-name-requires
 is-file-name-requires c κs = search needs
 
--- src/reader.rt:141:9
 returns : tie.Need-returns
 returns c = let a = c .before .before .before .before .before .args in reference-no (a .l .now) _ (c .before .before .before .last-colon .ensures) _ (c .before .before .cut .ensures) _ (c .before .is-file-name .ensures) (denied (c .if1 .taken))
 
--- src/reader.rt:143:31
 slice-aggregate-starts-with : tie.Need-slice-aggregate-starts-with
 slice-aggregate-starts-with c = search needs
 
--- src/reader.rt:143:9
 starts-with-requires : tie.Need-starts-with-requires
 starts-with-requires c κs = search needs
 
--- src/reader.rt:144:9
 returns-2 : tie.Need-returns-2
 returns-2 c = let a = c .before .before .before .before .before .before .before .before .args in reference-word (a .l .now) _ (c .before .before .before .before .before .before .last-colon .ensures) (sym (c .before .starts-with .ensures) ∙ denied (c .if2 .taken))
 
--- src/reader.rt:146:32
 add-cut : tie.Need-add-cut
 add-cut c = let a = c .before .before .before .before .before .before .before .before .args in omega (arith, c .before .before .before .before .before .before .before .before .good .0 .1, c .before .before .before .before .before .before .last-colon .ensures, colon-le (a .l .now) (length (a .l .now)))
 
--- src/reader.rt:146:9
 cut-requires-2 : tie.Need-cut-requires-2
 cut-requires-2 c κs = search needs
 
--- src/reader.rt:147:24
 number-in-requires : tie.Need-number-in-requires
 number-in-requires c κs = search needs
 
--- src/reader.rt:147:5
 is-decimal-requires : tie.Need-is-decimal-requires
 is-decimal-requires c κs = search needs
 
--- src/reader.rt:136:1
 returns-3 : tie.Need-returns-3
 returns-3 c = let a = c .before .before .before .before .before .before .before .before .before .before .before .args in reference-by (a .l .now) _ (c .before .before .before .before .before .before .before .before .before .last-colon .ensures) _ (c .before .before .before .before .before .before .before .before .cut .ensures) _ (c .before .before .before .before .before .before .before .is-file-name .ensures) (granted (c .before .before .before .before .before .before .if1 .left)) (sym (c .before .before .before .before .starts-with .ensures) ∙ granted (c .before .before .before .if2 .left)) _ (c .before .before .cut2 .ensures) _ (c .before .number-in .ensures) _ (c .is-decimal .ensures)
 

@@ -14,19 +14,15 @@ use Rattle.po.proofs.reader.is_same_id.Lts as lts
 use Rattle.lines.proofs.cut.Reads as cut-reads
 use Rattle.po.proofs.same_text.Reads as same-text-reads
 
--- src/reader.rt:213:26
 cut-requires : tie.Need-cut-requires
 cut-requires c κs = search needs
 
--- src/reader.rt:213:9
 same-text-requires : tie.Need-same-text-requires
 same-text-requires c κs = search needs
 
--- src/reader.rt:213:9
 returns : tie.Need-returns
 returns c = let a = c .before .before .before .before .before .args in same-id-yes (a .w) (a .l .now) (textOf (a .s .now) 34) _ (c .before .before .if1 .taken) (c .same-text .ensures ∙ ap (λ (x : List ℕ). same (textOf x 34) (textOf (a .s .now) 34)) (c .before .cut .ensures ∙ rest-of (a .l .now) 7))
 
--- src/reader.rt:209:1
 returns-2 : tie.Need-returns-2
 returns-2 c = let a = c .before .before .before .args in same-id-no (a .w) (a .l .now) (textOf (a .s .now) 34) (c .if1 .left)
 

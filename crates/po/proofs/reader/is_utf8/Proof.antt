@@ -8,23 +8,18 @@ use Rattle.po.proofs.reader.is_utf8.Reads as reads
 use Rattle.po.proofs.reader.is_utf8.Lts as lts
 use Rattle.text.proofs.check_utf8.Reads as check-utf8-reads
 
--- src/reader.rt:35:11
 check-utf8-requires : tie.Need-check-utf8-requires
 check-utf8-requires c κs = search needs
 
--- src/reader.rt:36:24
 enum-told : tie.Need-enum-told
 enum-told c = search needs
 
--- src/reader.rt:37:25
 enum-told-2 : tie.Need-enum-told-2
 enum-told-2 c = search needs
 
--- src/reader.rt:32:1
 returns : tie.Need-returns
 returns c = sym (ap (λ (u : Utf8). isValid u) (sym (c .before .before .check-utf8 .ensures) ∙ c .enum-told .given .1))
 
--- src/reader.rt:32:1
 returns-2 : tie.Need-returns-2
 returns-2 c = sym (ap (λ (u : Utf8). isValid u) (sym (c .before .before .check-utf8 .ensures) ∙ c .enum-told2 .given .1))
 

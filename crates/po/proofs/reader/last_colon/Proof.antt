@@ -15,31 +15,24 @@ Inv-loop l e₀ e = (e ≤ length l) × (colon l e ≡ colon l (length l))
 abbrev μ-loop : tie.MeasureT-loop
 μ-loop l e₀ e = e
 
--- src/reader.rt:93:5
 loop-holds : tie.Need-loop-holds Inv-loop μ-loop
 loop-holds c = (omega arith, refl)
 
--- src/reader.rt:94:9
 sub-e : tie.Need-sub-e Inv-loop μ-loop
 sub-e c = omega (arith, c .loop-test .taken)
 
--- src/reader.rt:95:12
 shared-slice-read-if1 : tie.Need-shared-slice-read-if1 Inv-loop μ-loop
 shared-slice-read-if1 c = omega (arith, c .before .before .loop .inv .0, c .before .loop-test .taken)
 
--- src/reader.rt:96:13
 returns : tie.Need-returns Inv-loop μ-loop
 returns c = let a = c .before .before .before .before .args in let l = c .before .before .before .loop in sym (colon-here (a .l .now) (l .e) (c .before .before .loop-test .taken) (c .if1 .taken)) ∙ l .inv .1
 
--- src/reader.rt:93:5
 loop-less : tie.Need-loop-less Inv-loop μ-loop
 loop-less c = omega (arith, c .before .before .loop-test .taken)
 
--- src/reader.rt:93:5
 loop-again : tie.Need-loop-again Inv-loop μ-loop
 loop-again c = let a = c .before .before .before .before .args in let l = c .before .before .before .loop in (omega (arith, l .inv .0), sym (colon-on (a .l .now) (l .e) (c .before .before .loop-test .taken) (c .if1 .left)) ∙ l .inv .1)
 
--- src/reader.rt:89:1
 returns-2 : tie.Need-returns-2 Inv-loop μ-loop
 returns-2 c = let a = c .before .before .args in let l = c .before .loop in sym (colon-zero (a .l .now) (l .e) (omega (arith, c .loop-test .left))) ∙ l .inv .1
 

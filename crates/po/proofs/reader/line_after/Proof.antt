@@ -15,55 +15,42 @@ use Rattle.po.proofs.reader.last_colon.Reads as last-colon-reads
 use Rattle.po.proofs.reader.next_awaited.Reads as next-awaited-reads
 use Rattle.po.proofs.reader.number_in.Reads as number-in-reads
 
--- src/reader.rt:275:14
 add-at : tie.Need-add-at
 add-at c = search needs
 
--- src/reader.rt:276:9
 find-byte-requires : tie.Need-find-byte-requires
 find-byte-requires c κs = search needs
 
--- src/reader.rt:277:18
 add-number : tie.Need-add-number
 add-number c = search needs
 
--- src/reader.rt:278:9
 next-awaited-requires : tie.Need-next-awaited-requires
 next-awaited-requires c κs = search needs
 
--- src/reader.rt:280:13
 cut-requires : tie.Need-cut-requires
 cut-requires c κs = search needs
 
--- src/reader.rt:281:13
 last-colon-requires : tie.Need-last-colon-requires
 last-colon-requires c κs = search needs
 
--- src/reader.rt:282:45
 add-cut : tie.Need-add-cut
 add-cut c = let a = c .before .before .before .before .before .before .before .before .before .args in let z = ap length (c .before .cut .ensures) in omega (arith, c .before .before .before .before .before .before .before .before .before .good .0 .1, c .before .before .before .before .before .before .before .before .before .pre .1, c .last-colon .ensures, colon-le (c .before .cut .result .now) (length (c .before .cut .result .now)), part-short (a .file .now) (a .r .at) (a .r .end))
 
--- src/reader.rt:282:31
 cut-requires-2 : tie.Need-cut-requires-2
 cut-requires-2 c κs = search needs
 
--- src/reader.rt:282:13
 number-in-requires : tie.Need-number-in-requires
 number-in-requires c κs = search needs
 
--- src/reader.rt:288:19
 add-t12 : tie.Need-add-t12
 add-t12 c = search needs
 
--- src/reader.rt:289:17
 add-t13 : tie.Need-add-t13
 add-t13 c = let a = c .before .before .before .before .before .before .before .before .before .before .before .before .before .args in let z = ap length (c .before .before .before .before .before .cut .ensures) in omega (arith, c .before .before .before .before .before .before .before .before .before .before .before .before .before .good .0 .1, c .before .before .before .before .before .before .before .before .before .before .before .before .before .pre .0 .inside, c .before .before .before .before .before .before .before .before .before .before .before .before .before .pre .1, c .before .before .before .before .last-colon .ensures, colon-le (c .before .before .before .before .before .cut .result .now) (length (c .before .before .before .before .before .cut .result .now)), part-short (a .file .now) (a .r .at) (a .r .end))
 
--- src/reader.rt:283:9
 returns : tie.Need-returns
 returns c = (at-ref (c .before .before .before .before .before .before .before .before .before .before .before .before .before .pre .0) (c .before .before .before .before .before .before .before .before .before .before .before .before .before .pre .1) _ _ (c .before .before .before .before .before .before .before .before .before .before .find-byte .ensures) (c .before .before .before .before .before .before .before .before .next-awaited .ensures) (c .before .before .before .before .before .before .if1 .taken) _ (c .before .before .before .before .before .cut .ensures) _ (c .before .before .before .before .last-colon .ensures) _ (c .before .before .before .cut2 .ensures) _ (c .before .before .number-in .ensures), (refl, refl))
 
--- src/reader.rt:269:1
 returns-2 : tie.Need-returns-2
 returns-2 c = (at-other (c .before .before .before .before .before .before .before .pre .0) (c .before .before .before .before .before .before .before .pre .1) _ _ (c .before .before .before .before .find-byte .ensures) (c .before .before .next-awaited .ensures) (c .if1 .left), (refl, refl))
 

@@ -9,15 +9,12 @@ use Rattle.po.proofs.reader.next_awaited.Tie as tie
 use Rattle.po.proofs.reader.next_awaited.Reads as reads
 use Rattle.po.proofs.reader.next_awaited.Lts as lts
 
--- src/reader.rt:181:9
 returns : tie.Need-returns
 returns c = let w = c .before .args .w in sym (ap (λ (b : Bool). cond b 3 (suc w)) (eq-eqb w 6 (c .if1 .taken)))
 
--- src/reader.rt:183:5
 add-result : tie.Need-add-result
 add-result c = search needs
 
--- src/reader.rt:176:1
 returns-2 : tie.Need-returns-2
 returns-2 c = let w = c .before .args .w in add-one w ∙ sym (ap (λ (b : Bool). cond b 3 (suc w)) (ne-eqb w 6 (c .if1 .left)))
 

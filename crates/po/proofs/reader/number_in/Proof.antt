@@ -8,23 +8,18 @@ use Rattle.po.proofs.reader.number_in.Reads as reads
 use Rattle.po.proofs.reader.number_in.Lts as lts
 use Rattle.names.proofs.read_number.Reads as read-number-reads
 
--- src/reader.rt:106:11
 read-number-requires : tie.Need-read-number-requires
 read-number-requires c κs = search needs
 
--- src/reader.rt:107:20
 enum-known-n : tie.Need-enum-known-n
 enum-known-n c = search needs
 
--- src/reader.rt:108:25
 enum-told : tie.Need-enum-told
 enum-told c = search needs
 
--- src/reader.rt:103:1
 returns : tie.Need-returns
 returns c = sym (ap (λ (x : Number). valueOf x) (sym (c .before .before .before .read-number .ensures) ∙ c .before .n .given .1))
 
--- src/reader.rt:103:1
 returns-2 : tie.Need-returns-2
 returns-2 c = sym (ap (λ (x : Number). valueOf x) (sym (c .before .before .read-number .ensures) ∙ c .enum-told .given .1))
 

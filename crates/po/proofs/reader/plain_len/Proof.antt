@@ -16,35 +16,27 @@ Inv-loop s q n₀ i₀ n i = n + length (textOf (drop i s) q) ≡ length (textOf
 abbrev μ-loop : tie.MeasureT-loop
 μ-loop s q n₀ i₀ n i = length s - i
 
--- src/reader.rt:311:5
 loop-holds : tie.Need-loop-holds Inv-loop μ-loop
 loop-holds c = omega arith
 
--- src/reader.rt:312:13
 unit-at-requires : tie.Need-unit-at-requires Inv-loop μ-loop
 unit-at-requires c κs = tt
 
--- src/reader.rt:314:13
 returns : tie.Need-returns Inv-loop μ-loop
 returns c = let a = c .before .before .before .before .before .before .args in let l = c .before .before .before .before .loop in omega (arith, l .inv, ap length (text-stop (a .s .now) (a .q) (l .i) _ (c .before .before .unit-at .ensures) (c .if1 .taken)))
 
--- src/reader.rt:316:9
 add-n : tie.Need-add-n Inv-loop μ-loop
 add-n c = let a = c .before .before .before .before .before .before .args in let l = c .before .before .before .before .loop in omega (arith, l .inv, text-le (a .s .now) (a .q), c .before .before .before .before .before .before .good .0 .1)
 
--- src/reader.rt:317:9
 add-i : tie.Need-add-i Inv-loop μ-loop
 add-i c = let a = c .before .before .before .before .before .before .before .args in let l = c .before .before .before .before .before .loop in omega (arith, size-in (a .s .now) (a .q) (l .i) (c .before .before .before .unit-at .result) (c .before .before .before .unit-at .ensures) (c .before .if1 .left))
 
--- src/reader.rt:311:5
 loop-less : tie.Need-loop-less Inv-loop μ-loop
 loop-less c = omega (arith, c .before .if1 .left)
 
--- src/reader.rt:311:5
 loop-again : tie.Need-loop-again Inv-loop μ-loop
 loop-again c = let a = c .before .before .before .before .before .before .before .args in let l = c .before .before .before .before .before .loop in omega (arith, l .inv, ap length (text-on (a .s .now) (a .q) (l .i) (c .before .before .before .unit-at .result) (c .before .before .before .unit-at .ensures) (c .before .if1 .left)))
 
--- src/reader.rt:306:1
 returns-2 : tie.Need-returns-2 Inv-loop μ-loop
 returns-2 c = let a = c .before .before .before .args in let l = c .before .loop in omega (arith, l .inv, ap length (text-past (a .s .now) (a .q) (l .i) (c .loop-test .left)))
 

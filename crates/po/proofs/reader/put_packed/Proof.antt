@@ -15,23 +15,18 @@ use Rattle.po.proofs.reader.plain_len.Reads as plain-len-reads
 use Rattle.po.proofs.reader.put_plain.Reads as put-plain-reads
 use Rattle.po.proofs.reader.put_size.Reads as put-size-reads
 
--- src/reader.rt:397:30
 plain-len-requires : tie.Need-plain-len-requires
 plain-len-requires c κs = search needs
 
--- src/reader.rt:397:9
 put-size-requires : tie.Need-put-size-requires
 put-size-requires c κs = let a = c .before .before .before .before .args in omega (arith, c .before .before .before .before .pre, packed-length (textOf (a .s .now) (a .q)))
 
--- src/reader.rt:398:5
 put-plain-requires : tie.Need-put-plain-requires
 put-plain-requires c κs = let a = c .before .before .before .before .before .before .before .before .args in let w = c .before .before .before .put-size in omega (arith, c .before .before .before .before .before .before .before .before .pre, packed-length (textOf (a .s .now) (a .q)), w .ensures .place, wrote-length (w .ensures), low-length 8 (c .before .before .before .before .plain-len .result))
 
--- src/reader.rt:393:1
 same-length : tie.Need-same-length
 same-length c = search needs
 
--- src/reader.rt:393:1
 returns : tie.Need-returns
 returns c = wrote-then (wrote-as (ap (lowBytes 8) (c .before .before .before .before .before .before .before .plain-len .ensures)) (c .before .before .before .before .before .before .put-size .ensures)) (c .before .before .put-plain .ensures)
 

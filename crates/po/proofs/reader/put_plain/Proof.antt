@@ -18,43 +18,33 @@ Inv-loop out₀ o s q p₀ i₀ out p i = Writing o (textOf s q) (textOf (drop i
 abbrev μ-loop : tie.MeasureT-loop
 μ-loop out₀ o s q p₀ i₀ out p i = length s - i
 
--- src/reader.rt:380:5
 loop-holds : tie.Need-loop-holds Inv-loop μ-loop
 loop-holds c = writing-start (c .before .before .args .o) _ (c .before .before .args .out .now) (c .before .before .pre)
 
--- src/reader.rt:381:13
 unit-at-requires : tie.Need-unit-at-requires Inv-loop μ-loop
 unit-at-requires c κs = tt
 
--- src/reader.rt:383:13
 same-length : tie.Need-same-length Inv-loop μ-loop
 same-length c = writing-length (c .before .before .before .before .loop .inv)
 
--- src/reader.rt:383:13
 returns : tie.Need-returns Inv-loop μ-loop
 returns c = let a = c .before .before .before .before .before .before .before .args in let l = c .before .before .before .before .loop in writing-end (writing-as (text-stop (a .s .now) (a .q) (l .i) _ (c .before .before .unit-at .ensures) (c .if1 .taken)) (l .inv))
 
--- src/reader.rt:385:9
 put-byte-requires : tie.Need-put-byte-requires Inv-loop μ-loop
 put-byte-requires c κs = let a = c .before .before .before .before .before .before .before .before .args in let l = c .before .before .before .before .before .loop in omega (arith, writing-room (l .inv), ap length (text-on (a .s .now) (a .q) (l .i) (c .before .before .before .unit-at .result) (c .before .before .before .unit-at .ensures) (c .before .if1 .left)))
 
--- src/reader.rt:386:9
 add-i : tie.Need-add-i Inv-loop μ-loop
 add-i c = let a = c .before .before .before .before .before .before .before .before .before .before .before .before .args in let l = c .before .before .before .before .before .before .before .before .before .loop in omega (arith, size-in (a .s .now) (a .q) (l .i) (c .before .before .before .before .before .before .before .unit-at .result) (c .before .before .before .before .before .before .before .unit-at .ensures) (c .before .before .before .before .before .if1 .left))
 
--- src/reader.rt:380:5
 loop-less : tie.Need-loop-less Inv-loop μ-loop
 loop-less c = omega (arith, c .before .before .before .before .before .if1 .left)
 
--- src/reader.rt:380:5
 loop-again : tie.Need-loop-again Inv-loop μ-loop
 loop-again c = let a = c .before .before .before .before .before .before .before .before .before .before .before .before .args in let l = c .before .before .before .before .before .before .before .before .before .loop in writing-put (writing-as (text-on (a .s .now) (a .q) (l .i) _ (c .before .before .before .before .before .before .before .unit-at .ensures) (c .before .before .before .before .before .if1 .left)) (l .inv)) (c .before .before .before .put-byte .ensures)
 
--- src/reader.rt:374:1
 same-length-2 : tie.Need-same-length-2 Inv-loop μ-loop
 same-length-2 c = writing-length (c .before .loop .inv)
 
--- src/reader.rt:374:1
 returns-2 : tie.Need-returns-2 Inv-loop μ-loop
 returns-2 c = let a = c .before .before .before .before .args in let l = c .before .loop in writing-end (writing-as (text-past (a .s .now) (a .q) (l .i) (c .loop-test .left)) (l .inv))
 

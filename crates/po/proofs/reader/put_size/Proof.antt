@@ -17,35 +17,27 @@ Inv-loop out₀ o n p₀ m₀ k₀ out p m k = (k ≤ 8) × (Writing o (lowBytes
 abbrev μ-loop : tie.MeasureT-loop
 μ-loop out₀ o n p₀ m₀ k₀ out p m k = 8 - k
 
--- src/reader.rt:365:5
 loop-holds : tie.Need-loop-holds Inv-loop μ-loop
 loop-holds c = let a = c .before .args in (omega arith, writing-start (a .o) (lowBytes 8 (a .n)) (a .out .now) (omega (arith, c .before .pre, low-length 8 (a .n))))
 
--- src/reader.rt:366:37
 cast-put-byte : tie.Need-cast-put-byte Inv-loop μ-loop
 cast-put-byte c = omega arith
 
--- src/reader.rt:366:9
 put-byte-requires : tie.Need-put-byte-requires Inv-loop μ-loop
 put-byte-requires c κs = let l = c .before .before .loop in omega (arith, writing-room (l .inv .1), low-length (8 - l .k) (l .m), c .before .loop-test .taken)
 
--- src/reader.rt:368:9
 add-k : tie.Need-add-k Inv-loop μ-loop
 add-k c = omega (arith, c .before .before .before .before .loop-test .taken)
 
--- src/reader.rt:365:5
 loop-less : tie.Need-loop-less Inv-loop μ-loop
 loop-less c = omega (arith, c .before .before .before .before .loop-test .taken)
 
--- src/reader.rt:365:5
 loop-again : tie.Need-loop-again Inv-loop μ-loop
 loop-again c = let l = c .before .before .before .before .before .loop in (omega (arith, c .before .before .before .before .loop-test .taken), writing-put (writing-as (low-on (l .k) (l .m) (c .before .before .before .before .loop-test .taken)) (l .inv .1)) (c .before .before .put-byte .ensures))
 
--- src/reader.rt:358:1
 same-length : tie.Need-same-length Inv-loop μ-loop
 same-length c = writing-length (c .before .loop .inv .1)
 
--- src/reader.rt:358:1
 returns : tie.Need-returns Inv-loop μ-loop
 returns c = let l = c .before .loop in writing-end (writing-as (low-none (l .k) (l .m) (c .loop-test .left)) (l .inv .1))
 

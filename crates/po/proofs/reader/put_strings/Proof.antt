@@ -18,55 +18,42 @@ Inv-loop out₀ file o₀ i₀ w₀ e₀ out o i w e = GivenInv file out₀ out 
 abbrev μ-loop : tie.MeasureT-loop
 μ-loop out₀ file o₀ i₀ w₀ e₀ out o i w e = length file - i
 
--- src/reader.rt:423:9
 find-byte-requires : tie.Need-find-byte-requires Inv-loop μ-loop
 find-byte-requires c κs = tt
 
--- src/reader.rt:424:5
 loop-holds : tie.Need-loop-holds Inv-loop μ-loop
 loop-holds c = given-start (c .before .before .before .args .file .now) (c .before .before .before .args .out .now) _ (c .before .before .before .pre) (c .find-byte .ensures)
 
--- src/reader.rt:425:34
 cut-requires : tie.Need-cut-requires Inv-loop μ-loop
 cut-requires c κs = tt
 
--- src/reader.rt:425:9
 put-given-requires : tie.Need-put-given-requires Inv-loop μ-loop
 put-given-requires c κs = given-room (c .before .before .before .loop .inv) _ (c .cut .ensures) (c .before .before .loop-test .taken)
 
--- src/reader.rt:426:9
 next-awaited-requires : tie.Need-next-awaited-requires Inv-loop μ-loop
 next-awaited-requires c κs = c .before .before .before .before .before .before .loop .inv .low
 
--- src/reader.rt:427:13
 add-i : tie.Need-add-i Inv-loop μ-loop
 add-i c = omega (arith, c .before .before .before .before .before .before .loop-test .taken)
 
--- src/reader.rt:428:9
 find-byte-requires-2 : tie.Need-find-byte-requires-2 Inv-loop μ-loop
 find-byte-requires-2 c κs = tt
 
--- src/reader.rt:424:5
 loop-less : tie.Need-loop-less Inv-loop μ-loop
 loop-less c = omega (arith, c .before .before .before .before .before .before .before .loop-test .taken, c .before .before .before .before .before .before .before .before .loop .inv .ends)
 
--- src/reader.rt:424:5
 loop-again : tie.Need-loop-again Inv-loop μ-loop
 loop-again c = given-step (c .before .before .before .before .before .before .before .before .loop .inv) _ (c .before .before .before .before .before .cut .ensures) (c .before .before .before .before .before .before .before .loop-test .taken) _ _ _ _ (c .before .before .before .before .put-given .ensures) (c .before .next-awaited .ensures) (c .find-byte2 .ensures)
 
--- src/reader.rt:430:26
 cut-requires-2 : tie.Need-cut-requires-2 Inv-loop μ-loop
 cut-requires-2 c κs = tt
 
--- src/reader.rt:430:5
 put-given-requires-2 : tie.Need-put-given-requires-2 Inv-loop μ-loop
 put-given-requires-2 c κs = last-room (c .before .before .before .loop .inv) _ (c .cut2 .ensures) (c .before .before .loop-test .left)
 
--- src/reader.rt:416:1
 same-length : tie.Need-same-length Inv-loop μ-loop
 same-length c = wrote-length (given-end (c .before .before .before .before .before .before .loop .inv) _ (c .before .before .before .cut2 .ensures) (c .before .before .before .before .before .loop-test .left) _ _ (c .before .before .put-given2 .ensures))
 
--- src/reader.rt:416:1
 returns : tie.Need-returns Inv-loop μ-loop
 returns c = given-end (c .before .before .before .before .before .before .loop .inv) _ (c .before .before .before .cut2 .ensures) (c .before .before .before .before .before .loop-test .left) _ _ (c .before .before .put-given2 .ensures)
 

@@ -46,99 +46,75 @@ mid c =
     (λ w. rw (w .1) (run-same t (c .before .before .before .before .before .loop .a) (c .before .before .before .before .before .loop .i) (f .result) k (f .ensures) (y ∙ w .0 .left), h .1))
     (c .if1 .came)
 
--- src/marks.rt:67:5
 loop-holds : tie.Need-loop-holds Inv-loop μ-loop
 loop-holds c = let s = c .before .before .before in (mark-start (s .args .raw .now) (s .args .out .now) (s .pre .1), table-start _ _ (s .pre .0))
 
--- src/marks.rt:68:13
 find-byte-requires : tie.Need-find-byte-requires Inv-loop μ-loop
 find-byte-requires c κs = search needs
 
--- src/marks.rt:69:20
 sub-line : tie.Need-sub-line Inv-loop μ-loop
 sub-line c = omega arith
 
--- src/marks.rt:69:20
 part-line-start : tie.Need-part-line-start Inv-loop μ-loop
 part-line-start c = omega arith
 
--- src/marks.rt:69:20
 part-line-end : tie.Need-part-line-end Inv-loop μ-loop
 part-line-end c = omega (arith, find-le 10 (c .before .before .before .before .before .before .args .raw .now) (c .before .before .loop .i) (c .find-byte .result) (omega arith) (c .find-byte .ensures))
 
--- src/marks.rt:70:12
 is-header-requires : tie.Need-is-header-requires Inv-loop μ-loop
 is-header-requires c κs = search needs
 
--- src/marks.rt:73:12
 declares-requires : tie.Need-declares-requires Inv-loop μ-loop
 declares-requires c κs = search needs
 
--- src/marks.rt:74:17
 after-requires : tie.Need-after-requires Inv-loop μ-loop
 after-requires c κs = search needs
 
--- src/marks.rt:75:17
 mark-uses-requires : tie.Need-mark-uses-requires Inv-loop μ-loop
 mark-uses-requires c κs = (omega (arith, mid (c .before .before .before .before) .1 .a≤, c .before .before .before .before .before .before .before .before .loop-test .taken), ap (λ (n : ℕ). isDecl (trimOf (part (c .before .before .before .before .before .before .before .before .before .loop .i) n (c .before .before .before .before .before .before .before .before .before .before .before .before .before .args .raw .now)))) (sym (c .before .before .before .before .before .before .before .find-byte .ensures)) ∙ so (c .before .before .before .declares .ensures) (c .before .before .if2 .taken))
 
--- src/marks.rt:78:33
 sub-put-marks : tie.Need-sub-put-marks Inv-loop μ-loop
 sub-put-marks c = let h = mid (c .before .before .before .before .before .before .before .before) in let k = c .before .before .before .mark-uses in omega (arith, table-inside (h .1) (k .result .mark) (k .result .end) _ (k .ensures .0 .0) (k .ensures .0 .1) (k .ensures .1) (omega (arith, h .1 .a≤, c .before .before .before .before .before .before .before .before .before .before .before .before .loop-test .taken)))
 
--- src/marks.rt:78:33
 part-put-marks-start : tie.Need-part-put-marks-start Inv-loop μ-loop
 part-put-marks-start c = let h = mid (c .before .before .before .before .before .before .before .before) in let k = c .before .before .before .mark-uses in omega (arith, table-inside (h .1) (k .result .mark) (k .result .end) _ (k .ensures .0 .0) (k .ensures .0 .1) (k .ensures .1) (omega (arith, h .1 .a≤, c .before .before .before .before .before .before .before .before .before .before .before .before .loop-test .taken)))
 
--- src/marks.rt:78:33
 part-put-marks-end : tie.Need-part-put-marks-end Inv-loop μ-loop
 part-put-marks-end c = let h = mid (c .before .before .before .before .before .before .before .before) in let k = c .before .before .before .mark-uses in omega (arith, table-inside (h .1) (k .result .mark) (k .result .end) _ (k .ensures .0 .0) (k .ensures .0 .1) (k .ensures .1) (omega (arith, h .1 .a≤, c .before .before .before .before .before .before .before .before .before .before .before .before .loop-test .taken)))
 
--- src/marks.rt:78:13
 put-marks-requires : tie.Need-put-marks-requires Inv-loop μ-loop
 put-marks-requires c κs = let h = mid (c .before .before .before .before .before .before .before .before .before .before .before) in let f = c .before .before .before .before .before .before .before .before .before .before .before .before .before .before .find-byte in let k = c .before .before .before .before .before .before .mark-uses in (so (c .before .before .before .before .before .before .before .before .before .before .declares .ensures) (c .before .before .before .before .before .before .before .before .before .if2 .taken), (table-says (h .1) (k .result .mark) (k .result .end) _ (k .ensures .0 .0) (k .ensures .0 .1) (k .ensures .1) _ refl, mark-room (c .before .before .before .before .before .before .before .before .before .before .before .before .before .before .before .before .loop .inv .0) (f .result) (c .before .before .before .before .before .before .before .before .before .before .before .before .before .before .before .loop-test .taken) (f .ensures) (h .0) _ (table-region (h .1) (k .result .mark) (k .result .end) _ (k .ensures .0 .0) (k .ensures .0 .1) (k .ensures .1) _ refl)))
 
--- src/marks.rt:67:5
 loop-less : tie.Need-loop-less Inv-loop μ-loop
 loop-less c = omega (arith, c .before .before .before .before .before .before .before .before .before .before .before .after .ensures, c .before .before .before .before .before .before .before .before .before .before .before .before .before .before .before .before .before .find-byte .ensures, c .before .before .before .before .before .before .before .before .before .before .before .before .before .before .before .before .before .before .loop-test .taken)
 
--- src/marks.rt:67:5
 loop-again : tie.Need-loop-again Inv-loop μ-loop
 loop-again c = let h = mid (c .before .before .before .before .before .before .before .before .before .before .before .before .before .before) in let f = c .before .before .before .before .before .before .before .before .before .before .before .before .before .before .before .before .before .find-byte in let k = c .before .before .before .before .before .before .before .before .before .mark-uses in let n = c .before .before .before .before .before .before .before .before .before .before .before .after in (mark-on (c .before .before .before .before .before .before .before .before .before .before .before .before .before .before .before .before .before .before .before .loop .inv .0) (f .result) (c .before .before .before .before .before .before .before .before .before .before .before .before .before .before .before .before .before .before .loop-test .taken) (f .ensures) (h .0) _ (table-region (h .1) (k .result .mark) (k .result .end) _ (k .ensures .0 .0) (k .ensures .0 .1) (k .ensures .1) _ refl) (c .before .before .put-marks .ensures) (n .ensures), table-on (h .1) (k .result .mark) (k .result .end) _ (k .ensures .0 .0) (k .ensures .0 .1) (k .ensures .1) (f .result) (n .result) (c .before .before .before .before .before .before .before .before .before .before .before .before .before .before .before .before .before .before .loop-test .taken) (f .ensures) (n .ensures))
 
--- src/marks.rt:81:35
 sub-put-zeros : tie.Need-sub-put-zeros Inv-loop μ-loop
 sub-put-zeros c = omega (arith, c .before .before .before .before .before .before .find-byte .ensures)
 
--- src/marks.rt:81:35
 add-put-zeros : tie.Need-add-put-zeros Inv-loop μ-loop
 add-put-zeros c = let h = mid (c .before .before .before) in let f = c .before .before .before .before .before .before .find-byte in let l = c .before .before .before .before .before .before .before .before .loop in let t = c .before .before .before .before .before .before .before .before .before .before .before .before .args .raw .now in let run = region (linesOf (drop (c .before .before .before .if1 .a) t)) in omega (arith, writing-length (l .inv .0 .writing), plain-room run t (l .i) (f .result) (f .result - l .i + 1) (omega (arith, f .ensures)) (find-le 10 t (l .i) (f .result) (l .inv .0 .i≤) (f .ensures)) (so (c .before .before .declares .ensures) (c .before .if2 .left)) refl (l .o) (length (l .out)) (mark-room (l .inv .0) (f .result) (c .before .before .before .before .before .before .before .loop-test .taken) (f .ensures) (h .0) run refl))
 
--- src/marks.rt:81:13
 put-zeros-requires : tie.Need-put-zeros-requires Inv-loop μ-loop
 put-zeros-requires c κs = let h = mid (c .before .before .before) in let f = c .before .before .before .before .before .before .find-byte in let l = c .before .before .before .before .before .before .before .before .loop in let t = c .before .before .before .before .before .before .before .before .before .before .before .before .args .raw .now in let run = region (linesOf (drop (c .before .before .before .if1 .a) t)) in plain-room run t (l .i) (f .result) (f .result - l .i + 1) (omega (arith, f .ensures)) (find-le 10 t (l .i) (f .result) (l .inv .0 .i≤) (f .ensures)) (so (c .before .before .declares .ensures) (c .before .if2 .left)) refl (l .o) (length (l .out)) (mark-room (l .inv .0) (f .result) (c .before .before .before .before .before .before .before .loop-test .taken) (f .ensures) (h .0) run refl)
 
--- src/marks.rt:82:13
 after-requires-2 : tie.Need-after-requires-2 Inv-loop μ-loop
 after-requires-2 c κs = search needs
 
--- src/marks.rt:67:5
 loop-less-2 : tie.Need-loop-less-2 Inv-loop μ-loop
 loop-less-2 c = omega (arith, c .after2 .ensures, c .before .before .before .before .before .before .before .before .before .before .find-byte .ensures, c .before .before .before .before .before .before .before .before .before .before .before .loop-test .taken)
 
--- src/marks.rt:67:5
 loop-again-2 : tie.Need-loop-again-2 Inv-loop μ-loop
 loop-again-2 c = let h = mid (c .before .before .before .before .before .before .before) in let f = c .before .before .before .before .before .before .before .before .before .before .find-byte in let l = c .before .before .before .before .before .before .before .before .before .before .before .before .loop in let t = c .before .before .before .before .before .before .before .before .before .before .before .before .before .before .before .before .args .raw .now in let run = region (linesOf (drop (c .before .before .before .before .before .before .before .if1 .a) t)) in (mark-on (l .inv .0) (f .result) (c .before .before .before .before .before .before .before .before .before .before .before .loop-test .taken) (f .ensures) (h .0) run refl (wrote-as (plain-line run t (l .i) (f .result) (f .result - l .i + 1) (omega (arith, f .ensures)) (find-le 10 t (l .i) (f .result) (l .inv .0 .i≤) (f .ensures)) (so (c .before .before .before .before .before .before .declares .ensures) (c .before .before .before .before .before .if2 .left)) refl) (c .before .before .before .put-zeros .ensures)) (c .after2 .ensures), table-pass (h .1) (f .result) (c .after2 .result) (c .before .before .before .before .before .before .before .before .before .before .before .loop-test .taken) (f .ensures) (c .after2 .ensures))
 
--- src/marks.rt:58:1
 same-length : tie.Need-same-length Inv-loop μ-loop
 same-length c = c .before .loop .inv .1 .long
 
--- src/marks.rt:58:1
 same-length-2 : tie.Need-same-length-2 Inv-loop μ-loop
 same-length-2 c = writing-length (c .before .loop .inv .0 .writing)
 
--- src/marks.rt:58:1
 returns : tie.Need-returns Inv-loop μ-loop
 returns c = mark-end (c .before .loop .inv .0) (c .loop-test .left)
 

@@ -12,39 +12,30 @@ use Rattle.io.proofs.large_buffer.Reads as large-buffer-reads
 use Rattle.temps.proofs.prune_dead_temps.Reads as prune-dead-temps-reads
 use Rattle.vectors.proofs.say.nothing.Reads as nothing-reads
 
--- src/passed.rt:6:21
 large-buffer-requires : tie.Need-large-buffer-requires
 large-buffer-requires c κs = search needs
 
--- src/passed.rt:7:9
 slice-aggregate-scratch : tie.Need-slice-aggregate-scratch
 slice-aggregate-scratch c = search needs
 
--- src/passed.rt:9:9
 nothing-requires : tie.Need-nothing-requires
 nothing-requires c κs = search needs
 
--- src/passed.rt:9:9
 returns : tie.Need-returns
 returns c = search needs
 
--- src/passed.rt:12:9
 nothing-requires-2 : tie.Need-nothing-requires-2
 nothing-requires-2 c κs = search needs
 
--- src/passed.rt:12:9
 returns-2 : tie.Need-returns-2
 returns-2 c = search needs
 
--- src/passed.rt:14:5
 prune-dead-temps-requires : tie.Need-prune-dead-temps-requires
 prune-dead-temps-requires c κs = (omega (arith, c .before .before .if1 .left), omega (arith, pass-room (pruneDeadTemps plain) (temps-weight 0 plain) (c .before .before .before .before .before .before .before .args .a .now), c .before .if2 .left))
 
--- src/passed.rt:5:1
 same-length : tie.Need-same-length
 same-length c = search needs
 
--- src/passed.rt:5:1
 returns-3 : tie.Need-returns-3
 returns-3 c = search needs
 

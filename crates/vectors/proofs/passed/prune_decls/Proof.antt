@@ -10,23 +10,18 @@ use Rattle.vectors.proofs.passed.prune_decls.Lts as lts
 use Rattle.decls.proofs.prune_decls.Reads as prune-decls-reads
 use Rattle.vectors.proofs.say.nothing.Reads as nothing-reads
 
--- src/passed.rt:20:9
 nothing-requires : tie.Need-nothing-requires
 nothing-requires c κs = search needs
 
--- src/passed.rt:20:9
 returns : tie.Need-returns
 returns c = search needs
 
--- src/passed.rt:22:5
 prune-decls-requires : tie.Need-prune-decls-requires
 prune-decls-requires c κs = omega (arith, pass-room pruneDecls (prune-weight 0) (c .before .before .before .before .args .a .now), c .before .if1 .left)
 
--- src/passed.rt:18:1
 same-length : tie.Need-same-length
 same-length c = search needs
 
--- src/passed.rt:18:1
 returns-2 : tie.Need-returns-2
 returns-2 c = search needs
 
