@@ -169,7 +169,7 @@ extern "C" {
 #define OPTLINES_BRACKETS 64
 
 /* Bytes of stack that are enough for a call. */
-#define OPTLINES_STACK 262144
+#define OPTLINES_STACK 163840
 
 /* The numbers that are returned. */
 enum {

@@ -20,7 +20,7 @@ BLOCKS = 16384  # the stated size of the work buffer u, in numbers of 32 bits
 TEXT = 16384  # the most bytes of a text
 LINES = 1024  # the most lines of a text
 BRACKETS = 64  # the most bytes '[' of a line
-STACK = 262144  # bytes of stack that are enough for a call, as far as it was measured
+STACK = 163840  # bytes of stack that are enough for a call, as far as it was measured
 
 # The numbers of include/optlines.h.
 (DONE, BAD_PASS, TOO_LONG, SHORT_WORK, NOT_UTF8, TOO_MANY_LINES, CROWDED, SHORT_RESULT) = range(8)

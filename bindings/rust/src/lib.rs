@@ -26,7 +26,7 @@ pub const LINES: usize = 1_024;
 /// The most bytes `[` of a line.
 pub const BRACKETS: usize = 64;
 /// Bytes of stack that are enough for a call, as far as it was measured.
-pub const STACK: usize = 262_144;
+pub const STACK: usize = 163_840;
 
 /// Why there is no result.
 #[derive(Clone, Copy, Debug, PartialEq, Eq)]
