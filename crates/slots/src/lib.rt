@@ -1,0 +1,54 @@
+// Where a table over the numbers of registers or phis holds the entry of each: a low number at its own place, another where the table of owners says so.
+ghost use mathlib.Core.Path.{_≡_};
+ghost use Prim.Native.Nat.{_-_};
+ghost use Rattle.slots.specs.Inner.Slots.{seek, slotOf};
+
+const PROBES: usize = 32;
+
+// The place of a number among the owners, or their length where it is not found.
+pub fn seek(v: u64, own: &[u64]) -> usize
+    ensures { λ r. ⌜ r ≡ seek (now (own .entry)) v ⌝ }
+{
+    let n = own.len();
+    if n == 0 {
+        return 0;
+    }
+    let mut i = (v % n as u64) as usize;
+    let mut k = PROBES;
+    while 0 < k {
+        if n <= i {
+            return n;
+        }
+        let x = own[i];
+        if x == v {
+            return i;
+        }
+        if x == 0 {
+            return n;
+        }
+        i += 1;
+        k -= 1;
+    }
+    n
+}
+
+// How many of the n entries of a table stand at their own place, where the last h are those of owners.
+pub fn low_of(n: usize, h: usize) -> usize
+    ensures { λ r. ⌜ r ≡ n - h ⌝ }
+{
+    if n <= h {
+        return 0;
+    }
+    n - h
+}
+
+// The place of a number in a table of n entries; past its end where it has none.
+pub fn slot(v: u64, n: usize, own: &[u64]) -> usize
+    ensures { λ r. ⌜ r ≡ slotOf n (now (own .entry)) v ⌝ }
+{
+    let low = low_of(n, own.len());
+    if (v as usize) < low {
+        return v as usize;
+    }
+    low + seek(v, own)
+}
