@@ -6,14 +6,14 @@ ghost use Rattle.slots.specs.Inner.Slots.{seek, slotOf};
 const PROBES: usize = 32;
 
 // The place of a number among the owners, or their length where it is not found.
-pub fn seek(v: u64, own: &[u64]) -> usize
+pub fn seek(v: usize, own: &[usize]) -> usize
     ensures { λ r. ⌜ r ≡ seek (now (own .entry)) v ⌝ }
 {
     let n = own.len();
     if n == 0 {
         return 0;
     }
-    let mut i = (v % n as u64) as usize;
+    let mut i = v % n;
     let mut k = PROBES;
     while 0 < k {
         if n <= i {
@@ -43,12 +43,12 @@ pub fn low_of(n: usize, h: usize) -> usize
 }
 
 // The place of a number in a table of n entries; past its end where it has none.
-pub fn slot(v: u64, n: usize, own: &[u64]) -> usize
+pub fn slot(v: usize, n: usize, own: &[usize]) -> usize
     ensures { λ r. ⌜ r ≡ slotOf n (now (own .entry)) v ⌝ }
 {
     let low = low_of(n, own.len());
-    if (v as usize) < low {
-        return v as usize;
+    if v < low {
+        return v;
     }
     low + seek(v, own)
 }
