@@ -1,6 +1,7 @@
 // Where a table over the numbers of registers or phis holds the entry of each: a low number at its own place, another where the table of owners says so.
 ghost use mathlib.Core.Path.{_≡_};
 ghost use Prim.Native.Nat.{_-_};
+ghost use lib.ListN.{length, replicate};
 ghost use Rattle.slots.specs.Inner.Slots.{seek, slotOf};
 
 const PROBES: usize = 32;
@@ -51,4 +52,15 @@ pub fn slot(v: usize, n: usize, own: &[usize]) -> usize
         return v;
     }
     low + seek(v, own)
+}
+
+// Makes every entry of a table 0.
+pub fn wipe(table: &mut [usize])
+    ensures { λ _. ⌜ now (table .exit) ≡ replicate (length (now (table .entry))) 0 ⌝ }
+{
+    let mut i = 0;
+    while i < table.len() {
+        table[i] = 0;
+        i += 1;
+    }
 }
