@@ -1,76 +1,82 @@
 -- Laws of the places of numbers in a table: two numbers never share one. Assumes nothing.
 use Prim.Native.Nat.{ℕ, zero, suc, _+_, _-_, _%_, _≤_, _<_}
 use mathlib.Core.Path.{_≡_, refl, sym, ap, _∙_}
-use mathlib.Core.Bool.{Bool, true, false, cond}
+use mathlib.Core.Bool.{Bool, true, false, cond, _||_}
 use mathlib.Core.List.{List}
 use native.Mathlib.Omega.{arith}
-use borrow.Author.Tests.{lt-ltb, le-ltb, ltb-true, ltb-false, eq-eqb, ne-eqb, eqb-true, eqb-false}
+use borrow.Author.Tests.{lt-ltb, le-ltb, ltb-true, ltb-false, eq-eqb, ne-eqb, eqb-true}
 use lib.Dec.{eqb, ltb}
 use lib.ListN.{length, getD, set, length-set}
 use lib.Seq.{getD-set-same, getD-set-other}
-use Rattle.slots.specs.Inner.Slots.{seekGo, seek, slotOf, entryOf, withEntry}
+use Rattle.slots.specs.Inner.Slots.{spotGo, spot, seek, slotOf, entryOf, withEntry}
 
--- ---- looking for a number, with k places left to look at
+-- ---- looking for the place of a number, with k places left to look at
 
 module _ (own : List ℕ) (i v : ℕ) where
-  pub seek-past : (k : ℕ) → length own ≤ i → seekGo k own i v ≡ length own
-  unfolding seekGo
-  seek-past zero h = refl
-  seek-past (suc k) h = rw (le-ltb i (length own) h)
+  pub spot-past : (k : ℕ) → length own ≤ i → spotGo k own i v ≡ length own
+  unfolding spotGo
+  spot-past zero h = refl
+  spot-past (suc k) h = rw (le-ltb i (length own) h)
 
-  pub seek-here : (k : ℕ) → 0 < k → i < length own → getD own i 0 ≡ v → seekGo k own i v ≡ i
-  unfolding seekGo
-  seek-here zero l h e = omega arith
-  seek-here (suc k) l h e = rw (lt-ltb i (length own) h, eq-eqb (getD own i 0) v e)
+  pub spot-here : (k : ℕ) → 0 < k → i < length own → (eqb (getD own i 0) v || eqb (getD own i 0) 0) ≡ true → spotGo k own i v ≡ i
+  unfolding spotGo
+  spot-here zero l h e = omega arith
+  spot-here (suc k) l h e = rw (lt-ltb i (length own) h, e)
 
-  pub seek-free : (k : ℕ) → 0 < k → i < length own → (getD own i 0 ≡ v → ⊥) → getD own i 0 ≡ 0 → seekGo k own i v ≡ length own
-  unfolding seekGo
-  seek-free zero l h e z = omega arith
-  seek-free (suc k) l h e z = rw (lt-ltb i (length own) h, ne-eqb (getD own i 0) v e, eq-eqb (getD own i 0) 0 z)
+  pub spot-on : (k : ℕ) → 0 < k → i < length own → (eqb (getD own i 0) v || eqb (getD own i 0) 0) ≡ false → spotGo k own i v ≡ spotGo (k - 1) own (i + 1) v
+  unfolding spotGo
+  spot-on zero l h e = omega arith
+  spot-on (suc k) l h e = let y : k ≡ suc k - 1 = omega arith in rw (lt-ltb i (length own) h, e) (ap (λ (m : ℕ). spotGo m own (i + 1) v) y)
 
-  pub seek-on : (k : ℕ) → 0 < k → i < length own → (getD own i 0 ≡ v → ⊥) → (getD own i 0 ≡ 0 → ⊥) → seekGo k own i v ≡ seekGo (k - 1) own (i + 1) v
-  unfolding seekGo
-  seek-on zero l h e z = omega arith
-  seek-on (suc k) l h e z = let y : k ≡ suc k - 1 = omega arith in rw (lt-ltb i (length own) h, ne-eqb (getD own i 0) v e, ne-eqb (getD own i 0) 0 z) (ap (λ (m : ℕ). seekGo m own (i + 1) v) y)
+  pub spot-none : (k : ℕ) → k ≤ 0 → spotGo k own i v ≡ length own
+  unfolding spotGo
+  spot-none zero h = refl
+  spot-none (suc k) h = omega arith
 
-pub seek-none : (own : List ℕ) (i v k : ℕ) → k ≤ 0 → seekGo k own i v ≡ length own
-unfolding seekGo
-seek-none own i v zero h = refl
-seek-none own i v (suc k) h = omega arith
-
--- ---- a place that was found is the number's own
-
-pub seek-own : (k : ℕ) (own : List ℕ) (i v : ℕ) → seekGo k own i v < length own → getD own (seekGo k own i v) 0 ≡ v
-unfolding seekGo
-seek-own zero own i v h = omega arith
-seek-own (suc k) own i v h = by-end (ltb i (length own)) (seek-own k own (i + 1) v) h
+pub spot-most : (k : ℕ) (own : List ℕ) (i v : ℕ) → spotGo k own i v ≤ length own
+unfolding spotGo
+spot-most zero own i v = omega arith
+spot-most (suc k) own i v = by (ltb i (length own)) refl (eqb (getD own i 0) v || eqb (getD own i 0) 0) (spot-most k own (i + 1) v)
   where
-    by-free : (b : Bool) → (seekGo k own (i + 1) v < length own → getD own (seekGo k own (i + 1) v) 0 ≡ v) → cond b (length own) (seekGo k own (i + 1) v) < length own → getD own (cond b (length own) (seekGo k own (i + 1) v)) 0 ≡ v
-    by-free true on h = omega arith
-    by-free false on h = on h
+    by : (a : Bool) → ltb i (length own) ≡ a → (b : Bool) → spotGo k own (i + 1) v ≤ length own → cond a (cond b i (spotGo k own (i + 1) v)) (length own) ≤ length own
+    by true e true on = let l = ltb-true i (length own) e in omega arith
+    by true e false on = on
+    by false e b on = omega arith
 
-    by-own : (b : Bool) → eqb (getD own i 0) v ≡ b → (seekGo k own (i + 1) v < length own → getD own (seekGo k own (i + 1) v) 0 ≡ v)
-        → cond b i (cond (eqb (getD own i 0) 0) (length own) (seekGo k own (i + 1) v)) < length own → getD own (cond b i (cond (eqb (getD own i 0) 0) (length own) (seekGo k own (i + 1) v))) 0 ≡ v
-    by-own true e on h = eqb-true (getD own i 0) v e
-    by-own false e on h = by-free (eqb (getD own i 0) 0) on h
+-- ---- the place that is a number's own
 
-    by-end : (b : Bool) → (seekGo k own (i + 1) v < length own → getD own (seekGo k own (i + 1) v) 0 ≡ v)
-        → cond b (cond (eqb (getD own i 0) v) i (cond (eqb (getD own i 0) 0) (length own) (seekGo k own (i + 1) v))) (length own) < length own
-        → getD own (cond b (cond (eqb (getD own i 0) v) i (cond (eqb (getD own i 0) 0) (length own) (seekGo k own (i + 1) v))) (length own)) 0 ≡ v
-    by-end true on h = by-own (eqb (getD own i 0) v) refl on h
-    by-end false on h = omega arith
+module _ (own : List ℕ) (v : ℕ) where
+  pub seek-here : getD own (spot own v) 0 ≡ v → seek own v ≡ spot own v
+  unfolding seek
+  seek-here e = rw (eq-eqb (getD own (spot own v) 0) v e)
 
--- it is never past their end by more than none
-pub seek-most : (k : ℕ) (own : List ℕ) (i v : ℕ) → seekGo k own i v ≤ length own
-unfolding seekGo
-seek-most zero own i v = omega arith
-seek-most (suc k) own i v = by (ltb i (length own)) refl (eqb (getD own i 0) v) (eqb (getD own i 0) 0) (seek-most k own (i + 1) v)
-  where
-    by : (a : Bool) → ltb i (length own) ≡ a → (b c : Bool) → seekGo k own (i + 1) v ≤ length own → cond a (cond b i (cond c (length own) (seekGo k own (i + 1) v))) (length own) ≤ length own
-    by true e true c on = let l = ltb-true i (length own) e in omega arith
-    by true e false true on = omega arith
-    by true e false false on = on
-    by false e b c on = omega arith
+  pub seek-not : (getD own (spot own v) 0 ≡ v → ⊥) → seek own v ≡ length own
+  unfolding seek
+  seek-not e = rw (ne-eqb (getD own (spot own v) 0) v e)
+
+  pub seek-end : length own ≤ spot own v → seek own v ≡ spot own v
+  unfolding seek
+  seek-end h = by (eqb (getD own (spot own v) 0) v) (spot-most 32 own (v % length own) v)
+    where
+      by : (b : Bool) → spot own v ≤ length own → cond b (spot own v) (length own) ≡ spot own v
+      by true m = refl
+      by false m = omega (arith, h, m)
+
+  pub seek-own : seek own v < length own → getD own (seek own v) 0 ≡ v
+  unfolding seek
+  seek-own = by (eqb (getD own (spot own v) 0) v) refl
+    where
+      by : (b : Bool) → eqb (getD own (spot own v) 0) v ≡ b → cond b (spot own v) (length own) < length own → getD own (cond b (spot own v) (length own)) 0 ≡ v
+      by true e h = eqb-true (getD own (spot own v) 0) v e
+      by false e h = omega arith
+
+  pub seek-most : seek own v ≤ length own
+  unfolding seek
+  seek-most = by (eqb (getD own (spot own v) 0) v) (spot-most 32 own (v % length own) v)
+    where
+      by : (b : Bool) → spot own v ≤ length own → cond b (spot own v) (length own) ≤ length own
+      by true m = m
+      by false m = omega arith
 
 -- ---- places in a table of n entries
 
@@ -97,7 +103,7 @@ module _ (n : ℕ) (own : List ℕ) where
           let z : seek own v ≡ seek own w = omega (arith, x, y, e) in
           let l : seek own v < length own = omega (arith, x, h) in
           let m : seek own w < length own = omega (arith, z, l) in
-          sym (seek-own 32 own (v % length own) v l) ∙ ap (λ (i : ℕ). getD own i 0) z ∙ seek-own 32 own (w % length own) w m
+          sym (seek-own own v l) ∙ ap (λ (i : ℕ). getD own i 0) z ∙ seek-own own w m
 
 -- ---- the entries of a table
 

@@ -2,13 +2,13 @@
 ghost use mathlib.Core.Path.{_≡_};
 ghost use Prim.Native.Nat.{_-_};
 ghost use lib.ListN.{length, replicate};
-ghost use Rattle.slots.specs.Inner.Slots.{seek, slotOf};
+ghost use Rattle.slots.specs.Inner.Slots.{spot, seek, slotOf, claimed};
 
 const PROBES: usize = 32;
 
-// The place of a number among the owners, or their length where it is not found.
-pub fn seek(v: usize, own: &[usize]) -> usize
-    ensures { λ r. ⌜ r ≡ seek (now (own .entry)) v ⌝ }
+// The first place among the owners that is a number's own or free, of those that are looked at, or their length.
+fn spot(v: usize, own: &[usize]) -> usize
+    ensures { λ r. ⌜ r ≡ spot (now (own .entry)) v ⌝ }
 {
     let n = own.len();
     if n == 0 {
@@ -21,16 +21,27 @@ pub fn seek(v: usize, own: &[usize]) -> usize
             return n;
         }
         let x = own[i];
-        if x == v {
+        if (x == v) | (x == 0) {
             return i;
-        }
-        if x == 0 {
-            return n;
         }
         i += 1;
         k -= 1;
     }
     n
+}
+
+// The place of a number among the owners, or their length where it has none.
+pub fn seek(v: usize, own: &[usize]) -> usize
+    ensures { λ r. ⌜ r ≡ seek (now (own .entry)) v ⌝ }
+{
+    let i = spot(v, own);
+    if own.len() <= i {
+        return i;
+    }
+    if own[i] == v {
+        return i;
+    }
+    own.len()
 }
 
 // How many of the n entries of a table stand at their own place, where the last h are those of owners.
@@ -63,4 +74,15 @@ pub fn wipe(table: &mut [usize])
         table[i] = 0;
         i += 1;
     }
+}
+
+// Gives a number a place among the owners, where one of those that are looked at is free.
+pub fn claim(v: usize, own: &mut [usize])
+    ensures { λ _. ⌜ now (own .exit) ≡ claimed v (now (own .entry)) ⌝ }
+{
+    let i = spot(v, own);
+    if own.len() <= i {
+        return;
+    }
+    own[i] = v;
 }

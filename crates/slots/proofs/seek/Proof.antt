@@ -1,74 +1,39 @@
 -- `slots::seek` meets its contract. Assumes nothing.
 use borrow.Author.Needs.{needs}
-use Prim.Native.Nat.{_-_, _%_}
-use mathlib.Core.Path.{_≡_, refl, sym, _∙_}
+use mathlib.Core.Path.{_≡_, sym, ap, _∙_}
+use Prim.Native.Nat.{ℕ}
 use native.Mathlib.Omega.{arith}
-use Rattle.slots.specs.Inner.Slots.{seek, seekGo}
-use Rattle.slots.proofs.SlotLaws.{seek-past, seek-here, seek-free, seek-on, seek-none}
+use lib.ListN.{getD}
+use Rattle.slots.specs.Inner.Slots.{seek}
+use Rattle.slots.proofs.SlotLaws.{seek-here, seek-not, seek-end}
 use Rattle.slots.proofs.seek.Statement.{statement}
 use Rattle.slots.proofs.seek.Tie as tie
 
-abbrev Inv-loop : tie.InvT-loop
-Inv-loop v own n i₀ k₀ i k = seek own v ≡ seekGo k own i v
+spot-requires : tie.Need-spot-requires
+spot-requires c κs = search needs
 
-abbrev μ-loop : tie.MeasureT-loop
-μ-loop v own n i₀ k₀ i k = k
+returns : tie.Need-returns
+returns c = let a = c .before .before .before .args in c .before .spot .ensures ∙ sym (seek-end (a .own .now) (a .v) (omega (arith, c .if1 .taken, c .before .spot .ensures)))
 
-returns : tie.Need-returns Inv-loop μ-loop
-returns c = sym (seek-past _ _ _ _ (omega (arith, c .if1 .taken)) ∙ c .if1 .taken)
+mul-if2 : tie.Need-mul-if2
+mul-if2 c = search needs
 
-rem-i : tie.Need-rem-i Inv-loop μ-loop
-rem-i c = omega arith
+shared-slice-read-if2 : tie.Need-shared-slice-read-if2
+shared-slice-read-if2 c = omega (arith, c .before .if1 .left)
 
-loop-holds : tie.Need-loop-holds Inv-loop μ-loop
-loop-holds c = refl
+returns-2 : tie.Need-returns-2
+returns-2 c = let a = c .before .before .before .before .before .args in c .before .before .before .spot .ensures ∙ sym (seek-here (a .own .now) (a .v) (ap (λ (i : ℕ). getD (a .own .now) i 0) (sym (c .before .before .before .spot .ensures)) ∙ c .if2 .taken))
 
-returns-2 : tie.Need-returns-2 Inv-loop μ-loop
-returns-2 c = sym (c .before .before .loop .inv ∙ seek-past _ _ _ _ (c .if2 .taken))
-
-mul-x : tie.Need-mul-x Inv-loop μ-loop
-mul-x c = omega arith
-
-shared-slice-read-x : tie.Need-shared-slice-read-x Inv-loop μ-loop
-shared-slice-read-x c = omega arith
-
-returns-3 : tie.Need-returns-3 Inv-loop μ-loop
-returns-3 c = sym (c .before .before .before .before .loop .inv ∙ seek-here _ _ _ _ (c .before .before .before .loop-test .taken) (omega arith) (c .if3 .taken))
-
-returns-4 : tie.Need-returns-4 Inv-loop μ-loop
-returns-4 c = sym (c .before .before .before .before .before .loop .inv ∙ seek-free _ _ _ _ (c .before .before .before .before .loop-test .taken) (omega arith) (c .before .if3 .left) (c .if4 .taken))
-
-add-i : tie.Need-add-i Inv-loop μ-loop
-add-i c = omega arith
-
-sub-k : tie.Need-sub-k Inv-loop μ-loop
-sub-k c = omega arith
-
-loop-less : tie.Need-loop-less Inv-loop μ-loop
-loop-less c = omega arith
-
-loop-again : tie.Need-loop-again Inv-loop μ-loop
-loop-again c = c .before .before .before .before .before .loop .inv ∙ seek-on _ _ _ _ (c .before .before .before .before .loop-test .taken) (omega arith) (c .before .if3 .left) (c .if4 .left)
-
-returns-5 : tie.Need-returns-5 Inv-loop μ-loop
-returns-5 c = sym (c .before .loop .inv ∙ seek-none _ _ _ _ (c .loop-test .left))
+returns-3 : tie.Need-returns-3
+returns-3 c = let a = c .before .before .before .before .before .args in sym (seek-not (a .own .now) (a .v) (λ e. c .if2 .left (ap (λ (i : ℕ). getD (a .own .now) i 0) (c .before .before .before .spot .ensures) ∙ e)))
 
 pub seek-spec : {M : Type 1} → statement M
 seek-spec =
     tie.close
     (tie.spec
-    Inv-loop
-    μ-loop
+    spot-requires
     returns
-    rem-i
-    loop-holds
+    mul-if2
+    shared-slice-read-if2
     returns-2
-    mul-x
-    shared-slice-read-x
-    returns-3
-    returns-4
-    add-i
-    sub-k
-    loop-less
-    loop-again
-    returns-5)
+    returns-3)

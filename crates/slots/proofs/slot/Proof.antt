@@ -1,9 +1,7 @@
 -- `slots::slot` meets its contract. Assumes nothing.
 use borrow.Author.Needs.{needs}
-use Prim.Native.Nat.{_%_}
 use mathlib.Core.Path.{_≡_, sym}
 use native.Mathlib.Omega.{arith}
-use lib.ListN.{length}
 use Rattle.slots.proofs.SlotLaws.{seek-most, slot-low, slot-high}
 use Rattle.slots.proofs.slot.Statement.{statement}
 use Rattle.slots.proofs.slot.Tie as tie
@@ -18,7 +16,7 @@ seek-requires : tie.Need-seek-requires
 seek-requires c κs = search needs
 
 add-result : tie.Need-add-result
-add-result c = let a = c .before .before .before .before .args in let z = seek-most 32 (a .own .now) (a .v % length (a .own .now)) (a .v) in omega (arith, z, c .seek .ensures, c .before .before .low-of .ensures)
+add-result c = let a = c .before .before .before .before .args in let z = seek-most (a .own .now) (a .v) in omega (arith, z, c .seek .ensures, c .before .before .low-of .ensures)
 
 returns-2 : tie.Need-returns-2
 returns-2 c = let a = c .before .before .before .before .args in let y = slot-high (a .n) (a .own .now) (a .v) (omega (arith, c .before .if1 .left, c .before .before .low-of .ensures)) in omega (arith, y, c .seek .ensures, c .before .before .low-of .ensures)

@@ -1,7 +1,7 @@
 -- Where a table over numbers holds the entry of each. The numbers that are low stand at their own place; those above stand where a second table
 -- says that the place is theirs, and some have no place. Nothing is asked of the second table. Assumes nothing.
 use Prim.Native.Nat.{ℕ, zero, suc, _+_, _-_, _%_}
-use mathlib.Core.Bool.{cond}
+use mathlib.Core.Bool.{cond, _||_}
 use mathlib.Core.List.{List}
 use lib.Dec.{eqb, ltb}
 use lib.ListN.{length, getD, set}
@@ -10,18 +10,27 @@ use lib.ListN.{length, getD, set}
 abbrev pub probes : ℕ
 probes = 32
 
--- where the number v stands among the owners from the place i on, of which k are looked at; their length where it is not found
-unfoldable pub seekGo : ℕ → List ℕ → ℕ → ℕ → ℕ
-seekGo zero own i v = length own
-seekGo (suc k) own i v = cond (ltb i (length own)) (cond (eqb (getD own i 0) v) i (cond (eqb (getD own i 0) 0) (length own) (seekGo k own (i + 1) v))) (length own)
+-- the first place among the owners from i on that is that of the number v, or free, where k are looked at; their length where there is none
+unfoldable pub spotGo : ℕ → List ℕ → ℕ → ℕ → ℕ
+spotGo zero own i v = length own
+spotGo (suc k) own i v = cond (ltb i (length own)) (cond (eqb (getD own i 0) v || eqb (getD own i 0) 0) i (spotGo k own (i + 1) v)) (length own)
 
 -- the same from the place on that the number falls on
-abbrev pub seek : List ℕ → ℕ → ℕ
-seek own v = seekGo probes own (v % length own) v
+abbrev pub spot : List ℕ → ℕ → ℕ
+spot own v = spotGo probes own (v % length own) v
+
+-- the owners after the number v took that place; they stay as they are where there is none
+abbrev pub claimed : ℕ → List ℕ → List ℕ
+claimed v own = set own (spot own v) v
+
+-- the place that is that of the number v; their length where it has none
+unfoldable pub seek : List ℕ → ℕ → ℕ
+unfolding spotGo
+seek own v = cond (eqb (getD own (spot own v) 0) v) (spot own v) (length own)
 
 -- the place of the number v in a table of n entries, of which the last are those of the owners; past its end where it has none
 unfoldable pub slotOf : ℕ → List ℕ → ℕ → ℕ
-unfolding seekGo
+unfolding seek
 slotOf n own v = cond (ltb v (n - length own)) v (n - length own + seek own v)
 
 -- the entry of the number v in the table d, 0 where it has no place
