@@ -1,1 +1,2 @@
 pub mod Slots
+pub mod Gather

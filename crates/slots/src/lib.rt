@@ -1,4 +1,6 @@
 // Where a table over the numbers of registers or phis holds the entry of each: a low number at its own place, another where the table of owners says so.
+pub mod gather;
+
 ghost use mathlib.Core.Path.{_≡_};
 ghost use Prim.Native.Nat.{_-_};
 ghost use lib.ListN.{length, replicate};

@@ -1,0 +1,49 @@
+-- The owners of a text: its numbers of four digits and more take places, in their order. Assumes nothing.
+use Prim.Native.Nat.{ℕ, zero, suc, _+_, _-_, _*_}
+use Prim.Native.Char.{code}
+use mathlib.Core.Bool.{Bool, false, cond, _&&_, _||_}
+use mathlib.Core.List.{List, [], _∷_}
+use lib.Dec.{ltb}
+use lib.ListN.{length, drop, getD}
+use Rattle.names.specs.Names.{isDigit}
+use Rattle.slots.specs.Inner.Slots.{claimed}
+
+-- ---- whether there is such a number
+
+-- four digits stand at the place k
+abbrev pub fourAt : ℕ → List ℕ → Bool
+fourAt k t = isDigit (getD t k 0) && (isDigit (getD t (k + 1) 0) && (isDigit (getD t (k + 2) 0) && isDigit (getD t (k + 3) 0)))
+
+-- the fourth byte is a digit, and one of four
+abbrev pub fourNear : List ℕ → Bool
+fourNear t = isDigit (getD t 3 0) && (fourAt 0 t || (fourAt 1 t || (fourAt 2 t || fourAt 3 t)))
+
+-- so it is here, or four bytes further, of k places that are looked at
+unfoldable pub longGo : ℕ → List ℕ → Bool
+longGo zero t = false
+longGo (suc k) t = fourNear t || longGo k (drop 4 t)
+
+abbrev pub hasLong : List ℕ → Bool
+hasLong t = longGo (length t) t
+
+-- ---- the numbers
+
+-- the number that digits of the value v and one more digit are; one of more than eighteen digits grows no more
+abbrev pub grown : ℕ → ℕ → ℕ
+grown v b = cond (ltb v 1000000000000000000) (v * 10 + (b - code "0")) v
+
+-- the owners after the number v, where it is not low
+abbrev pub entered : ℕ → ℕ → List ℕ → List ℕ
+entered low v own = cond (ltb v low) own (claimed v own)
+
+-- the owners after the numbers of a text that goes on after digits of the value v
+unfoldable pub enteredAll : ℕ → ℕ → List ℕ → List ℕ → List ℕ
+enteredAll low v [] own = entered low v own
+enteredAll low v (b ∷ t) own = cond (isDigit b) (enteredAll low (grown v b) t own) (enteredAll low 0 t (entered low v own))
+
+-- the owners after a text, and how many they are: a text without a number of four digits has none
+abbrev pub gathered : ℕ → List ℕ → List ℕ → List ℕ
+gathered low t own = cond (hasLong t) (enteredAll low 0 t own) own
+
+abbrev pub gatheredLen : List ℕ → List ℕ → ℕ
+gatheredLen t own = cond (hasLong t) (length own) 0
