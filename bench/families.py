@@ -46,10 +46,10 @@ def long_declarations():
         n += 1
 
 
-def dead_stores():
+def dead_stores(first=0):
     """Stores that nothing reads."""
     yield "function main() {"
-    n = 0
+    n = first
     while True:
         yield "  let r%d;" % n
         yield "  r%d = %d;" % (n, n)
@@ -88,23 +88,9 @@ def deep_brackets():
         n += 1
 
 
-def temps():
-    """Declared temps, half of them read."""
-    n = 0
-    while True:
-        yield "function t%d(a) {" % n
-        yield "  let " + ", ".join("t%d" % (n * 8 + k) for k in range(8)) + ";"
-        for k in range(8):
-            yield "  t%d = %d;" % (n * 8 + k, k)
-        for k in range(0, 8, 2):
-            yield "  use(t%d);" % (n * 8 + k)
-        yield "}"
-        n += 1
-
-
-def phis():
+def phis(first=0):
     """Declared phis, stored on two branches, half of them read."""
-    n = 0
+    n = first
     while True:
         yield "function p%d(a) {" % n
         yield "  let phi%d, phi%d;" % (2 * n, 2 * n + 1)
@@ -141,6 +127,105 @@ def comments_and_strings():
         n += 1
 
 
+def spread(n):
+    """A number below 2 to the 63, another for each n."""
+    return n * 0x9E3779B97F4A7C15 % 2**64 >> 1
+
+
+def one_function(number):
+    """One function: registers with such numbers, each declared and stored once, half of them read on the next line."""
+    yield "function main(a) {"
+    n = 0
+    while True:
+        names = ["r%d" % number(n + k) for k in range(8)]
+        yield "  let " + ", ".join(names) + ";"
+        for k, name in enumerate(names):
+            yield "  %s = a.p%d(%d);" % (name, k, n)
+            if k % 2:
+                yield "  use(%s);" % name
+        n += 8
+
+
+def high_registers():
+    """One function over registers from 2000 on, declared and stored once."""
+    return one_function(lambda n: 2000 + n)
+
+
+def random_registers():
+    """One function over registers with random numbers up to 2 to the 63."""
+    return one_function(spread)
+
+
+def high_dead_stores():
+    """Stores that nothing reads, of registers from 2000 on."""
+    return dead_stores(2000)
+
+
+def high_read_below():
+    """One function over registers from 2000 on: blocks of stores, and each is read far below."""
+    yield "function main(a) {"
+    n = 2000
+    while True:
+        names = ["r%d" % k for k in range(n, n + 40)]
+        yield "  let " + ", ".join(names) + ";"
+        for k, name in enumerate(names):
+            yield "  %s = a.p%d;" % (name, k % 5)
+        for name in names:
+            yield "  use(%s, %s);" % (name, name)
+        n += 40
+
+
+def numbered_through():
+    """Small functions whose registers are numbered through from 2000 on."""
+    n = 0
+    while True:
+        r = ["r%d" % (2000 + 4 * n + k) for k in range(4)]
+        yield from function("f%d" % n, [
+            "let %s;" % ", ".join(r),
+            "%s = a;" % r[0],
+            "%s = \"sep%d\";" % (r[1], n % 7),
+            "%s = g(%s, %s);" % (r[2], r[0], r[1]),
+            "%s = %s.length;" % (r[3], r[2]),
+            "return %s;" % r[3],
+        ])
+        n += 1
+
+
+def high_phis():
+    """The same from 2000 on."""
+    return phis(1000)
+
+
+def some_temps(name):
+    """Declared temps with such names, half of them read."""
+    n = 0
+    while True:
+        names = [name(n * 8 + k) for k in range(8)]
+        yield "function t%d(a) {" % n
+        yield "  let " + ", ".join(names) + ";"
+        for k, temp in enumerate(names):
+            yield "  %s = %d;" % (temp, k)
+        for temp in names[::2]:
+            yield "  use(%s);" % temp
+        yield "}"
+        n += 1
+
+
+def temps():
+    """Declared temps, half of them read."""
+    return some_temps(lambda n: "t%d" % n)
+
+
+def high_temps():
+    """Declared temps from 2000 on, half of them read."""
+    return some_temps(lambda n: "t%d" % (2000 + n))
+
+
+def zero_temps():
+    """Declared temps with leading zeros, half of them read."""
+    return some_temps(lambda n: "t0%d" % n)
+
+
 FAMILIES = {
     "small functions": small_functions,
     "large function": large_function,
@@ -152,6 +237,14 @@ FAMILIES = {
     "phis": phis,
     "member loads": member_loads,
     "comments and strings": comments_and_strings,
+    "high registers": high_registers,
+    "random registers": random_registers,
+    "high dead stores": high_dead_stores,
+    "high, read below": high_read_below,
+    "numbered through": numbered_through,
+    "high phis": high_phis,
+    "high temps": high_temps,
+    "temps with zeros": zero_temps,
 }
 
 

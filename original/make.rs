@@ -4,6 +4,7 @@ mod asking;
 mod ends;
 mod grammar;
 mod judge;
+mod numbers;
 mod random;
 mod rules;
 mod texts;

@@ -5,6 +5,7 @@ mod ends;
 mod grammar;
 mod judge;
 mod lists;
+mod numbers;
 mod random;
 mod readings;
 mod rules;

@@ -2,6 +2,7 @@
 
 use crate::grammar::Grammar;
 use crate::judge::{MOST_BRACKETS, MOST_BYTES, MOST_LINES};
+use crate::numbers;
 use crate::random::Random;
 use crate::rules::{CHARACTERS, LINES, TOKENS, WORDS};
 
@@ -212,8 +213,11 @@ impl Texts {
         self.weathered(random, text)
     }
 
-    /// Other line ends, other white space.
+    /// Other numbers, other line ends, other white space.
     fn weathered(&self, random: &mut Random, mut text: String) -> Vec<u8> {
+        if random.chance(12) {
+            text = numbers::lifted(random, &text);
+        }
         if random.chance(12) {
             text = self.odd_spaces(random, &text);
         }
