@@ -2,7 +2,6 @@
 // On standard error it says nothing where it accepts, `optcheck: refused ..` first where it refuses, and anything else where it could not
 // read or write: a program in Rattle sets no exit status, so a script makes one of that.
 mod against;
-mod input;
 mod left;
 mod tell;
 

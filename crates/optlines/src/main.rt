@@ -2,7 +2,6 @@
 // and the place, to standard output. On standard error it says nothing where it tidied, `optlines: refused ..` first where it refused, and
 // anything else where it could not read or write: a program in Rattle sets no exit status, so tools/front.sh makes one of that.
 mod asked;
-mod input;
 mod tell;
 
 ghost use mathlib.Core.Path.{_≡_};

@@ -1,4 +1,6 @@
-// Requests and answers as bytes: numbers are low byte first.
+// Requests for single functions.
+use input::wire::four;
+use input::wire::read_bytes;
 
 // A request: the function, its number, and how long its two texts are.
 pub struct Request {
@@ -19,54 +21,6 @@ pub enum Asked {
 pub enum Text {
     Whole(usize),
     Cut,
-}
-
-// A byte as a number.
-fn wide(b: u8) -> usize {
-    b as usize
-}
-
-// The number of four bytes.
-fn four(x: u8, y: u8, z: u8, w: u8) -> usize {
-    wide(x) | (wide(y) << 8) | (wide(z) << 16) | (wide(w) << 24)
-}
-
-// Reads up to `n` bytes, as far as there is room, and returns how many came.
-fn read_some(fd: i32, n: usize, buf: &mut [u8]) -> usize {
-    if buf.len() <= n {
-        return io::read_full(fd, buf);
-    }
-    io::read_full(fd, &mut buf[..n])
-}
-
-// Reads up to `n` bytes and passes them over, and returns how many came.
-fn pass_some(fd: i32, n: usize) -> usize {
-    let mut buf = io::buffer();
-    read_some(fd, n, &mut buf)
-}
-
-// Passes `n` bytes over, and returns whether they came.
-fn pass_over(fd: i32, n: usize) -> bool {
-    let mut left = n;
-    while 0 < left {
-        let got = pass_some(fd, left);
-        if got == 0 {
-            return false;
-        }
-        if left < got {
-            return false;
-        }
-        left -= got;
-    }
-    true
-}
-
-// Whether `n` bytes come. They stand in the buffer if they fit.
-fn read_bytes(fd: i32, n: usize, buf: &mut [u8]) -> bool {
-    if buf.len() < n {
-        return pass_over(fd, n);
-    }
-    read_some(fd, n, buf) == n
 }
 
 // Reads a text of `n` bytes.

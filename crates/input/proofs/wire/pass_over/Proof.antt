@@ -1,7 +1,7 @@
--- `vectors::wire::pass_over` is safe and ends. The measure is how many bytes are left. Assumes nothing.
+-- `input::wire::pass_over` is safe and ends. The measure is how many bytes are left. Assumes nothing.
 use native.Mathlib.Omega.{arith}
-use Rattle.vectors.proofs.wire.pass_over.Statement.{statement}
-use Rattle.vectors.proofs.wire.pass_over.Tie as tie
+use Rattle.input.proofs.wire.pass_over.Statement.{statement}
+use Rattle.input.proofs.wire.pass_over.Tie as tie
 
 abbrev Inv-loop : tie.InvT-loop
 Inv-loop fd n left₀ left = Unit {0}

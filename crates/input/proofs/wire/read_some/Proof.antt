@@ -1,10 +1,10 @@
--- `checkbatch::wire::read_some` is safe and ends. What is lent has the length that is asked. Assumes nothing.
+-- `input::wire::read_some` is safe and ends. What is lent has the length that is asked. Assumes nothing.
 use borrow.Author.Needs.{needs}
 use native.Mathlib.Omega.{arith}
 use mathlib.Core.Path.{sym}
 use lib.Seq.{length-take-le}
-use Rattle.checkbatch.proofs.wire.read_some.Statement.{statement}
-use Rattle.checkbatch.proofs.wire.read_some.Tie as tie
+use Rattle.input.proofs.wire.read_some.Statement.{statement}
+use Rattle.input.proofs.wire.read_some.Tie as tie
 
 read-full-requires : tie.Need-read-full-requires
 read-full-requires c κs = search needs

@@ -1,4 +1,6 @@
 // Reading a text whole, or saying that it did not come whole.
+pub mod wire;
+
 ghost use Prim.Native.Nat.{_≤_};
 ghost use lib.ListN.{length};
 
