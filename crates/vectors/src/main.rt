@@ -1,17 +1,8 @@
 // Answers requests for single functions as the original does; or, where it is given a file of requests that are each followed by the
 // original's answer, replays it and says how many agree.
-mod formed;
-mod lexed;
-mod named;
-mod passed;
-mod placed;
 mod replay;
 mod reply;
-mod say;
-mod texts;
-mod values;
 mod wire;
-mod worded;
 
 ghost use mathlib.Core.Path.{_≡_};
 ghost use lib.ListN.{length};
@@ -32,7 +23,7 @@ fn write_answer(out: &[u8], n: usize) -> bool {
     if out.len() < n {
         return io::write_all(STDOUT_FILENO, &h);
     }
-    say::say_four(&mut h, 0, n);
+    answers::say::say_four(&mut h, 0, n);
     if io::write_all(STDOUT_FILENO, &h) {
         return io::write_all(STDOUT_FILENO, lines::cut(out, 0, n));
     }

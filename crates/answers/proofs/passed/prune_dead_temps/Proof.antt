@@ -1,0 +1,54 @@
+use native.Mathlib.Omega.{arith}
+use Rattle.reading.specs.Reading.{plain}
+use Rattle.temps.specs.Temps.{pruneDeadTemps}
+use Rattle.temps.proofs.Keeps.{temps-weight}
+use Rattle.answers.proofs.Bounds.{pass-room}
+use borrow.Author.Needs.{needs}
+use Rattle.answers.proofs.passed.prune_dead_temps.Statement.{statement}
+use Rattle.answers.proofs.passed.prune_dead_temps.Tie as tie
+use Rattle.answers.proofs.passed.prune_dead_temps.Reads as reads
+use Rattle.answers.proofs.passed.prune_dead_temps.Lts as lts
+use Rattle.io.proofs.large_buffer.Reads as large-buffer-reads
+use Rattle.temps.proofs.prune_dead_temps.Reads as prune-dead-temps-reads
+use Rattle.answers.proofs.say.nothing.Reads as nothing-reads
+
+large-buffer-requires : tie.Need-large-buffer-requires
+large-buffer-requires c κs = search needs
+
+slice-aggregate-scratch : tie.Need-slice-aggregate-scratch
+slice-aggregate-scratch c = search needs
+
+nothing-requires : tie.Need-nothing-requires
+nothing-requires c κs = search needs
+
+returns : tie.Need-returns
+returns c = search needs
+
+nothing-requires-2 : tie.Need-nothing-requires-2
+nothing-requires-2 c κs = search needs
+
+returns-2 : tie.Need-returns-2
+returns-2 c = search needs
+
+prune-dead-temps-requires : tie.Need-prune-dead-temps-requires
+prune-dead-temps-requires c κs = (omega (arith, c .before .before .if1 .left), omega (arith, pass-room (pruneDeadTemps plain) (temps-weight 0 plain) (c .before .before .before .before .before .before .before .args .a .now), c .before .if2 .left))
+
+same-length : tie.Need-same-length
+same-length c = search needs
+
+returns-3 : tie.Need-returns-3
+returns-3 c = search needs
+
+pub prune-dead-temps-spec : {M : Type 1} → statement M
+prune-dead-temps-spec =
+    tie.close
+    (tie.spec
+    large-buffer-requires
+    slice-aggregate-scratch
+    nothing-requires
+    returns
+    nothing-requires-2
+    returns-2
+    prune-dead-temps-requires
+    same-length
+    returns-3)
