@@ -1,5 +1,5 @@
 -- Demand 3 for rebuild_calls, for every reading that cleans lines one by one. Assumes nothing.
--- Document 000 stops a walk, and the look for later reads, where the region changes, and a header opens a region. So the law leaves nothing out: the
+-- Document 01 stops a walk, and the look for later reads, where the region changes, and a header opens a region. So the law leaves nothing out: the
 -- tail's first line may be a call line and the upper part's last line a store.
 use Prim.Native.Nat.{ℕ, zero, suc, _+_}
 use mathlib.Core.Path.{_≡_, refl, sym, ap, _∙_}

@@ -3,4 +3,5 @@ pub mod Split
 pub mod Texts
 pub mod Owners
 pub mod Answers
+pub mod Ties
 pub mod Examples
