@@ -5,7 +5,7 @@ use mathlib.Core.Path.{_≡_}
 use mathlib.Core.Bool.{Bool, false}
 use mathlib.Core.List.{List, [], _∷_}
 use lib.Dec.{eqb}
-use lib.ListN.{length, take, drop, getD, set}
+use lib.ListN.{length, take, drop, getD}
 use Rattle.lines.specs.Lf.{part, upTo}
 use Rattle.text.specs.Class.{isName}
 use Rattle.text.specs.Trim.{trimOf}
@@ -19,16 +19,17 @@ use Rattle.words.specs.Runs.{runs}
 use Rattle.words.specs.Inner.Runs.{runLen}
 use Rattle.place.specs.Region.{isHeader}
 use Rattle.reading.specs.Uses.{usedIn}
+use Rattle.slots.specs.Inner.Slots.{slotOf, entryOf, withEntry}
 
--- the table d after the mark m of the register that a name is; a register past its end leaves it as it is
-abbrev pub markName : ℕ → RegName → List ℕ → List ℕ
-markName m name.None d = d
-markName m (name.Reg q) d = set d (q .0) m
+-- the table d after the mark m of the register that a name is; a register that has no place in it leaves it as it is
+abbrev pub markName : List ℕ → ℕ → RegName → List ℕ → List ℕ
+markName own m name.None d = d
+markName own m (name.Reg q) d = withEntry own (q .0) m d
 
 -- after the marks of the registers that runs name
-unfoldable pub markRuns : ℕ → List (List ℕ) → List ℕ → List ℕ
-markRuns m [] d = d
-markRuns m (r ∷ rs) d = markRuns m rs (markName m (regOf r) d)
+unfoldable pub markRuns : List ℕ → ℕ → List (List ℕ) → List ℕ → List ℕ
+markRuns own m [] d = d
+markRuns own m (r ∷ rs) d = markRuns own m rs (markName own m (regOf r) d)
 
 -- a name byte stands just before the place i
 abbrev pub nameBefore : ℕ → List ℕ → Bool
@@ -43,29 +44,29 @@ abbrev pub runAt : ℕ → List ℕ → List ℕ
 runAt i s = runOf (drop i s)
 
 -- after the mark of the register that a line stores
-abbrev pub markStore : ℕ → Line → List ℕ → List ℕ
-markStore m line.Decl d = d
-markStore m (line.Store s) d = set d (s .reg .0) m
-markStore m line.Other d = d
+abbrev pub markStore : List ℕ → ℕ → Line → List ℕ → List ℕ
+markStore own m line.Decl d = d
+markStore own m (line.Store s) d = withEntry own (s .reg .0) m d
+markStore own m line.Other d = d
 
 -- after the marks of the registers that a line uses
-unfoldable pub markLine : ℕ → List ℕ → List ℕ → List ℕ
+unfoldable pub markLine : List ℕ → ℕ → List ℕ → List ℕ → List ℕ
 unfolding markRuns
-markLine m l d = markRuns m (runs (textOf l (parseOf l))) (markStore m (parseOf l) d)
+markLine own m l d = markRuns own m (runs (textOf l (parseOf l))) (markStore own m (parseOf l) d)
 
 -- after those of lines
-unfoldable pub markLines : ℕ → List (List ℕ) → List ℕ → List ℕ
+unfoldable pub markLines : List ℕ → ℕ → List (List ℕ) → List ℕ → List ℕ
 unfolding markLine
-markLines m [] d = d
-markLines m (l ∷ ls) d = markLines m ls (markLine m l d)
+markLines own m [] d = d
+markLines own m (l ∷ ls) d = markLines own m ls (markLine own m l d)
 
 -- no mark of the table is above m
 abbrev pub AtMost : ℕ → List ℕ → Type 0
 AtMost m d = (v : ℕ) → getD d v 0 ≤ m
 
--- of the registers below its end, the table has the mark m exactly at those that lines use
-abbrev pub Says : ℕ → List (List ℕ) → List ℕ → Type 0
-Says m ls d = (v : ℕ) → v < length d → eqb (getD d v 0) m ≡ usedIn v ls
+-- of the registers that have a place in it, the table has the mark m exactly at those that lines use
+abbrev pub Says : List ℕ → ℕ → List (List ℕ) → List ℕ → Type 0
+Says own m ls d = (v : ℕ) → slotOf (length d) own v < length d → eqb (entryOf own v d) m ≡ usedIn v ls
 
 -- no line from the place i up to j is a header or a declaration; e is where such a line ends, and k the place after it
 pub data Quiet (t : List ℕ) : ℕ → ℕ → Type 0 where
