@@ -7,7 +7,7 @@ use native.Mathlib.Omega.{arith}
 use native.Mathlib.Numerals.{add-one}
 use borrow.Author.Tests.{eqb-true, ltb-true}
 use lib.Dec.{eqb, ltb}
-use lib.ListN.{length, take, drop, getD, set, length-take, length-drop, take-append-drop, drop-of-length-le}
+use lib.ListN.{length, take, drop, getD, length-take, length-drop, take-append-drop, drop-of-length-le}
 use lib.Seq.{drop-cons, drop-drop, take-take, take-nil, drop-nil}
 use Rattle.lines.specs.Lf.{part, upTo, endsIn}
 use Rattle.lines.proofs.Tests.{no, and-left}
@@ -24,6 +24,7 @@ use Rattle.parse.specs.declared.Line.{Line}
 use Rattle.parse.specs.declared.Line.the-variants as line
 use Rattle.words.specs.Runs.{flush, runsGo, runs}
 use Rattle.words.proofs.Walk.{go-gap}
+use Rattle.slots.specs.Inner.Slots.{withEntry}
 use Rattle.decls.specs.Inner.Seen.{markName, markRuns, markStore, markLine}
 use Rattle.decls.proofs.TrimRuns.{back-runs, name-runs, trim-runs}
 use Rattle.decls.proofs.SeenLaws.{runs-flush}
@@ -78,7 +79,7 @@ part-in a n p q l h =
 
 -- ---- a store: t is the trimmed line without its `;`, with its first `=` at the place k
 
-module _ (m : ℕ) (l d : List ℕ) (e : endsIn 59 (trimOf l) ≡ true) where
+module _ (own : List ℕ) (m : ℕ) (l d : List ℕ) (e : endsIn 59 (trimOf l) ≡ true) where
   abbrev u : List ℕ
   u = take (length (trimOf l) - 1) (trimOf l)
 
@@ -110,33 +111,33 @@ module _ (m : ℕ) (l d : List ℕ) (e : endsIn 59 (trimOf l) ≡ true) where
         (sym (part-in a n (b + fromOf rhs) (b + toEnd rhs) l g) ∙ ap (part (b + fromOf rhs) (b + toEnd rhs)) (sym s)
         ∙ ap (λ (i : ℕ). take i (drop (b + fromOf rhs) u)) z ∙ ap (take (toEnd rhs - fromOf rhs)) (sym (drop-drop (fromOf rhs) b u)) ∙ sym (trim-part rhs))
 
-    store-runs : (q : Register) → regOf (trimOf (take (upTo 61 u) u)) ≡ name.Reg q → markRuns m (runs l) d ≡ markRuns m (runs (trimOf rhs)) (set d (q .0) m)
+    store-runs : (q : Register) → regOf (trimOf (take (upTo 61 u) u)) ≡ name.Reg q → markRuns own m (runs l) d ≡ markRuns own m (runs (trimOf rhs)) (withEntry own (q .0) m d)
     unfolding runs
     store-runs q r =
         let x : List ℕ = trimOf (take (upTo 61 u) u) in
-        ap (λ (rs : List (List ℕ)). markRuns m rs d) (line-runs ∙ side-runs ∙ ap (λ (rs : List (List ℕ)). rs ++ runs rhs) (trim-runs (take (upTo 61 u) u) ∙ name-runs x [] (reg-names x q r)))
-        ∙ runs-flush m x (runs rhs) d
-        ∙ ap (λ (n : RegName). markRuns m (runs rhs) (markName m n d)) r
-        ∙ ap (λ (rs : List (List ℕ)). markRuns m rs (set d (q .0) m)) (trim-runs rhs)
+        ap (λ (rs : List (List ℕ)). markRuns own m rs d) (line-runs ∙ side-runs ∙ ap (λ (rs : List (List ℕ)). rs ++ runs rhs) (trim-runs (take (upTo 61 u) u) ∙ name-runs x [] (reg-names x q r)))
+        ∙ runs-flush own m x (runs rhs) d
+        ∙ ap (λ (n : RegName). markRuns own m (runs rhs) (markName own m n d)) r
+        ∙ ap (λ (rs : List (List ℕ)). markRuns own m rs (withEntry own (q .0) m d)) (trim-runs rhs)
 
 -- ---- a line
 
-module _ (m : ℕ) (l d : List ℕ) where
+module _ (own : List ℕ) (m : ℕ) (l d : List ℕ) where
   -- what is read so
   abbrev marked : Line → List ℕ
-  marked p = markRuns m (runs (textOf l p)) (markStore m p d)
+  marked p = markRuns own m (runs (textOf l p)) (markStore own m p d)
 
-  pub line-decl-marked : isDecl (trimOf l) ≡ true → d ≡ markLine m l d
+  pub line-decl-marked : isDecl (trimOf l) ≡ true → d ≡ markLine own m l d
   unfolding markLine parseOf textOf runs runsGo markRuns
   line-decl-marked e = rw e
 
-  by-name : (e : endsIn 59 (trimOf l) ≡ true) (h : upTo 61 (u m l d e) < length (u m l d e)) (r : RegName) → regOf (trimOf (take (upTo 61 (u m l d e)) (u m l d e))) ≡ r →
-      markRuns m (runs l) d ≡ marked (storeBy r (fromOf l + (upTo 61 (u m l d e) + 1)) (rhs m l d e h))
+  by-name : (e : endsIn 59 (trimOf l) ≡ true) (h : upTo 61 (u own m l d e) < length (u own m l d e)) (r : RegName) → regOf (trimOf (take (upTo 61 (u own m l d e)) (u own m l d e))) ≡ r →
+      markRuns own m (runs l) d ≡ marked (storeBy r (fromOf l + (upTo 61 (u own m l d e) + 1)) (rhs own m l d e h))
   unfolding textOf
   by-name e h name.None q = refl
-  by-name e h (name.Reg g) q = store-runs m l d e h g q ∙ ap (λ (s : List ℕ). markRuns m (runs s) (set d (g .0) m)) (sym (value-is m l d e h))
+  by-name e h (name.Reg g) q = store-runs own m l d e h g q ∙ ap (λ (s : List ℕ). markRuns own m (runs s) (withEntry own (g .0) m d)) (sym (value-is own m l d e h))
 
-  pub line-runs-marked : isDecl (trimOf l) ≡ false → markRuns m (runs l) d ≡ markLine m l d
+  pub line-runs-marked : isDecl (trimOf l) ≡ false → markRuns own m (runs l) d ≡ markLine own m l d
   unfolding markLine parseOf storeIn textOf
   line-runs-marked n = rw n (go (endsIn 59 (trimOf l)) refl)
     where
@@ -144,10 +145,10 @@ module _ (m : ℕ) (l d : List ℕ) where
       w = take (length (trimOf l) - 1) (trimOf l)
 
       sides : (e : endsIn 59 (trimOf l) ≡ true) (b : Bool) → ltb (upTo 61 w) (length w) && not (eqb (getD w (upTo 61 w + 1) 0) 61) ≡ b →
-          markRuns m (runs l) d ≡ marked (cond b (storeBy (regOf (trimOf (take (upTo 61 w) w))) (fromOf l + (upTo 61 w + 1)) (drop (upTo 61 w + 1) w)) line.Other)
+          markRuns own m (runs l) d ≡ marked (cond b (storeBy (regOf (trimOf (take (upTo 61 w) w))) (fromOf l + (upTo 61 w + 1)) (drop (upTo 61 w + 1) w)) line.Other)
       sides e true f = by-name e (ltb-true _ _ (and-left (ltb (upTo 61 w) (length w)) _ f)) (regOf (trimOf (take (upTo 61 w) w))) refl
       sides e false f = refl
 
-      go : (b : Bool) → endsIn 59 (trimOf l) ≡ b → markRuns m (runs l) d ≡ marked (cond b (splitStore (fromOf l) w) line.Other)
+      go : (b : Bool) → endsIn 59 (trimOf l) ≡ b → markRuns own m (runs l) d ≡ marked (cond b (splitStore (fromOf l) w) line.Other)
       go true e = sides e (ltb (upTo 61 w) (length w) && not (eqb (getD w (upTo 61 w + 1) 0) 61)) refl
       go false e = refl

@@ -6,7 +6,7 @@ ghost use mathlib.Core.Path.{_≡_};
 ghost use mathlib.Core.Bool.{true, false, cond};
 ghost use Prim.Native.Nat.{_≤_, _<_, _+_, _-_, _^_};
 ghost use lib.Dec.{ltb};
-ghost use lib.ListN.{length, drop};
+ghost use lib.ListN.{length, drop, replicate};
 ghost use Rattle.lines.specs.Lf.{part, upTo, linesOf, partsOf, unlines};
 ghost use Rattle.lines.specs.Inner.Out.{Wrote};
 ghost use Rattle.text.specs.Trim.{trimOf};
@@ -15,17 +15,16 @@ ghost use Rattle.parse.specs.Parse.{isDecl};
 ghost use Rattle.place.specs.Region.{region};
 ghost use Rattle.place.specs.Inner.Region.{regionLen};
 ghost use Rattle.decls.specs.Decls.{pruneDecls};
-ghost use Rattle.decls.specs.Inner.Decls.{staysBy, stays, lineText};
+ghost use Rattle.decls.specs.Inner.Decls.{stays, lineText};
 ghost use Rattle.decls.specs.Inner.Print.{kept, declText};
-ghost use Rattle.decls.specs.Inner.Seen.{AtMost, Says, markLines};
+ghost use Rattle.decls.specs.Inner.Seen.{AtMost, Says, seenStays, markLines};
 
-// Whether a text names a register that some line of the region reads or stores.
-pub fn stays_in(region: &[u8], m: usize, seen: &[usize], t: &[u8]) -> bool
-    requires { ⌜ Says m (linesOf (now region)) (now seen) ⌝ }
-    ensures { λ r. ⌜ r ≡ staysBy (linesOf (now (region .entry))) (regOf (now (t .entry))) ⌝ }
+// Whether a text names a register that some line of the region reads or stores, as the table of registers says.
+pub fn stays_in(region: &[u8], own: &[usize], m: usize, seen: &[usize], t: &[u8]) -> bool
+    ensures { λ r. ⌜ r ≡ seenStays (now (own .entry)) m (now (seen .entry)) (linesOf (now (region .entry))) (regOf (now (t .entry))) ⌝ }
 {
     match names::reg_name(t) {
-        names::RegName::Reg(q) => seen::used_in(region, m, seen, q),
+        names::RegName::Reg(q) => seen::used_in(region, own, m, seen, q),
         names::RegName::None => false,
     }
 }
@@ -36,13 +35,21 @@ pub struct Region {
     pub end: usize,
 }
 
-// Marks the registers that the region uses that begins at `a`, where that is not done yet: its mark is one more than `a`. `m` is the last mark, and `b` where that region ends. A declaration stands at `i`.
-pub fn mark_uses(text: &[u8], a: usize, b: usize, m: usize, i: usize, seen: &mut [usize]) -> Region
-    requires { ⌜ (a < 2 ^ 64 - 1) × (isDecl (trimOf (part i (i + upTo 10 (drop i (now text))) (now text))) ≡ true) ⌝ }
+// Marks the registers that the region uses that begins at `a`, where that is not done yet: its mark is one more than `a`. `m` is the last mark, and `b` where that region ends.
+pub fn mark_uses(
+    text: &[u8],
+    own: &[usize],
+    a: usize,
+    b: usize,
+    m: usize,
+    seen: &mut [usize],
+) -> Region
+    requires { ⌜ a < 2 ^ 64 - 1 ⌝ }
     ensures answer { λ r. ⌜ (r .mark ≡ cond (ltb a m) m (a + 1)) × (r .end ≡ cond (ltb a m) b (a + regionLen (drop a (now (text .entry))))) ⌝ }
-    ensures memory { λ _. ⌜ now (seen .exit) ≡ cond (ltb a m) (now (seen .entry)) (markLines (a + 1) (region (linesOf (drop a (now (text .entry))))) (now (seen .entry))) ⌝ }
+    ensures memory { λ _. ⌜ now (seen .exit) ≡ cond (ltb a m) (now (seen .entry)) (markLines (now (own .entry)) (a + 1) (region (linesOf (drop a (now (text .entry))))) (now (seen .entry))) ⌝ }
 {
-    let k = seen::mark_once(text, a, b, m, i, i, seen);
+    let n = text.len();
+    let k = seen::mark_once(text, own, a, b, m, n, n, seen);
     Region {
         mark: k.mark,
         end: k.end,
@@ -54,12 +61,13 @@ fn put_decl(
     body: &[u8],
     indent: &[u8],
     region: &[u8],
+    own: &[usize],
     m: usize,
     seen: &[usize],
     out: &mut [u8],
     o: usize,
 ) -> usize
-    requires { ⌜ (Says m (linesOf (now region)) (now seen))
+    requires { ⌜ (Says (now own) m (linesOf (now region)) (now seen))
         × (o + length (declText (now indent) (kept (stays (linesOf (now region))) 1 (partsOf 44 (now body))) false) ≤ length (now out)) ⌝ }
     ensures { λ r. ⌜ Wrote (now (out .entry)) o (declText (now (indent .entry)) (kept (stays (linesOf (now (region .entry)))) 1 (partsOf 44 (now (body .entry)))) false) (now (out .exit)) r ⌝ }
 {
@@ -68,7 +76,7 @@ fn put_decl(
     loop {
         let e = lines::find_byte(body, i, b',');
         let t = text::trim(&body[i..e]);
-        let s = stays_in(region, m, seen, t);
+        let s = stays_in(region, own, m, seen, t);
         p = print::put_part(indent, o < p, s, t, 1, out, p);
         if e >= body.len() {
             return print::put_end(o < p, out, p);
@@ -78,8 +86,16 @@ fn put_decl(
 }
 
 // Writes what a declaration of a region becomes.
-fn put_line(line: &[u8], region: &[u8], m: usize, seen: &[usize], out: &mut [u8], o: usize) -> usize
-    requires { ⌜ (isDecl (trimOf (now line)) ≡ true) × ((Says m (linesOf (now region)) (now seen))
+fn put_line(
+    line: &[u8],
+    region: &[u8],
+    own: &[usize],
+    m: usize,
+    seen: &[usize],
+    out: &mut [u8],
+    o: usize,
+) -> usize
+    requires { ⌜ (isDecl (trimOf (now line)) ≡ true) × ((Says (now own) m (linesOf (now region)) (now seen))
         × (o + length (lineText (linesOf (now region)) (now line)) ≤ length (now out))) ⌝ }
     ensures { λ r. ⌜ Wrote (now (out .entry)) o (lineText (linesOf (now (region .entry))) (now (line .entry))) (now (out .exit)) r ⌝ }
 {
@@ -89,6 +105,7 @@ fn put_line(line: &[u8], region: &[u8], m: usize, seen: &[usize], out: &mut [u8]
         &t[4..t.len() - 1],
         lines::cut(line, 0, a),
         region,
+        own,
         m,
         seen,
         out,
@@ -97,7 +114,7 @@ fn put_line(line: &[u8], region: &[u8], m: usize, seen: &[usize], out: &mut [u8]
 }
 
 // The same as prune_decls, with a table of registers that holds no mark. The lines from `c` on stay as they are, and are yet to be written.
-fn prune_with(text: &[u8], seen: &mut [usize], out: &mut [u8]) -> usize
+fn prune_with(text: &[u8], own: &[usize], seen: &mut [usize], out: &mut [u8]) -> usize
     requires { ⌜ (AtMost 0 (now seen)) × (length (unlines (pruneDecls (linesOf (now text)))) ≤ length (now out)) ⌝ }
     ensures { λ r. ⌜ Wrote (now (out .entry)) 0 (unlines (pruneDecls (linesOf (now (text .entry))))) (now (out .exit)) r ⌝ }
 {
@@ -115,11 +132,11 @@ fn prune_with(text: &[u8], seen: &mut [usize], out: &mut [u8]) -> usize
         }
         if parse::declares(line) {
             let n = lines::after(text, e);
-            let k = seen::mark_once(text, a, b, m, i, n, seen);
+            let k = seen::mark_once(text, own, a, b, m, i, n, seen);
             m = k.mark;
             b = k.end;
             let p = lines::put(out, o, &text[c..i]);
-            o = put_line(line, &text[a..b], m, seen, out, p);
+            o = put_line(line, &text[a..b], own, m, seen, out, p);
             c = n;
             i = k.next;
         } else {
@@ -129,11 +146,15 @@ fn prune_with(text: &[u8], seen: &mut [usize], out: &mut [u8]) -> usize
     lines::put_lines(&text[c..], out, o)
 }
 
-// Writes the lines of a text without the declared registers that their region neither reads nor stores.
-pub fn prune_decls(text: &[u8], out: &mut [u8]) -> usize
+// Writes the lines of a text without the declared registers that their region neither reads nor stores. `own` has the owners of places in the table of
+// registers, which is 0 afterwards.
+pub fn prune_decls(text: &[u8], own: &[usize], seen: &mut [usize], out: &mut [u8]) -> usize
     requires { ⌜ length (unlines (pruneDecls (linesOf (now text)))) ≤ length (now out) ⌝ }
-    ensures { λ r. ⌜ Wrote (now (out .entry)) 0 (unlines (pruneDecls (linesOf (now (text .entry))))) (now (out .exit)) r ⌝ }
+    ensures answer { λ r. ⌜ Wrote (now (out .entry)) 0 (unlines (pruneDecls (linesOf (now (text .entry))))) (now (out .exit)) r ⌝ }
+    ensures memory { λ _. ⌜ now (seen .exit) ≡ replicate (length (now (seen .entry))) 0 ⌝ }
 {
-    let mut seen = [0usize; 1024];
-    prune_with(text, &mut seen, out)
+    slots::wipe(seen);
+    let n = prune_with(text, own, seen, out);
+    slots::wipe(seen);
+    n
 }

@@ -121,3 +121,7 @@ module _ (own : List ℕ) (d : List ℕ) (v x : ℕ) where
   pub entry-other : (w : ℕ) → slotOf (length d) own w < length d → (v ≡ w → ⊥) → entryOf own w (withEntry own v x d) ≡ entryOf own w d
   entry-other w h o = ap (λ (i : ℕ). getD (withEntry own v x d) i 0) (entry-slot w)
       ∙ getD-set-other d (slotOf (length d) own v) (slotOf (length d) own w) x 0 (λ e. o (sym (slot-apart (length d) own w v h e)))
+
+-- a number that has a place in a table has one in every table of the same length
+pub slot-kept : (own d d′ : List ℕ) (v : ℕ) → length d′ ≡ length d → slotOf (length d) own v < length d → slotOf (length d′) own v < length d′
+slot-kept own d d′ v e h = rw e h

@@ -1,21 +1,31 @@
 -- `decls::prune_decls` meets its contract. Assumes nothing.
 use borrow.Author.Needs.{needs}
-use Rattle.decls.proofs.SeenLaws.{zeros-most}
+use Prim.Native.Nat.{ℕ}
+use mathlib.Core.Path.{ap, _∙_}
+use lib.ListN.{length, replicate}
+use Rattle.decls.proofs.SeenLaws.{wiped-most}
 use Rattle.decls.proofs.prune_decls.Statement.{statement}
 use Rattle.decls.proofs.prune_decls.Tie as tie
 
-slice-aggregate-prune-with : tie.Need-slice-aggregate-prune-with
-slice-aggregate-prune-with c = search needs
+wipe-requires : tie.Need-wipe-requires
+wipe-requires c κs = search needs
 
 prune-with-requires : tie.Need-prune-with-requires
-prune-with-requires c κs = (zeros-most 1024, c .before .before .before .before .pre)
+prune-with-requires c κs = (wiped-most (length (c .before .before .before .before .before .before .before .before .before .before .args .seen .now)) _ (c .before .before .before .before .wipe .ensures), c .before .before .before .before .before .before .before .before .before .before .pre)
+
+wipe-requires-2 : tie.Need-wipe-requires-2
+wipe-requires-2 c κs = search needs
 
 same-length : tie.Need-same-length
 same-length c = search needs
 
+same-length-2 : tie.Need-same-length-2
+same-length-2 c = search needs
+
 returns : tie.Need-returns
-returns c = search needs
+returns c = (c .before .before .before .before .before .before .before .before .prune-with .ensures, c .before .before .wipe2 .ensures ∙ ap (λ (n : ℕ). replicate n 0) (c .before .before .before .before .before .before .before .before .prune-with .kept .1 .1 .0 ∙ c .before .before .before .before .before .before .before .before .before .before .before .before .before .wipe .kept .0))
 
 pub prune-decls-spec : {M : Type 1} → statement M
 prune-decls-spec =
-    tie.close (tie.spec slice-aggregate-prune-with prune-with-requires same-length returns)
+    tie.close
+    (tie.spec wipe-requires prune-with-requires wipe-requires-2 same-length same-length-2 returns)

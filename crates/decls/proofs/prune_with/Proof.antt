@@ -26,15 +26,15 @@ use Rattle.parse.proofs.declares.Reads as declares-reads
 use Rattle.place.proofs.is_header.Reads as is-header-reads
 
 abbrev Inv-loop : tie.InvT-loop
-Inv-loop text seen₀ out₀ a₀ b₀ m₀ c₀ i₀ o₀ seen out a b m c i o = (PruneInv text out₀ out a c i o) × (TableInv text seen₀ seen a b m i)
+Inv-loop text own seen₀ out₀ a₀ b₀ m₀ c₀ i₀ o₀ seen out a b m c i o = (PruneInv text out₀ out a c i o) × (TableInv own text seen₀ seen a b m i)
 
 abbrev μ-loop : tie.MeasureT-loop
-μ-loop text seen₀ out₀ a₀ b₀ m₀ c₀ i₀ o₀ seen out a b m c i o = length text - i
+μ-loop text own seen₀ out₀ a₀ b₀ m₀ c₀ i₀ o₀ seen out a b m c i o = length text - i
 
 -- the region of the line, where the arms of the `if` meet
 mid : (c : tie.Joined1 Inv-loop μ-loop) →
-    (RunAt (c .before .before .before .before .before .before .before .before .before .args .text .now) (c .before .before .before .before .before .loop .a) (c .before .before .before .before .before .loop .i) (c .before .before .before .find-byte .result) (c .if1 .a))
-    × (TableInv (c .before .before .before .before .before .before .before .before .before .args .text .now) (c .before .before .before .before .before .before .before .before .before .args .seen .now) (c .before .before .before .before .before .loop .seen) (c .if1 .a) (c .before .before .before .before .before .loop .b) (c .before .before .before .before .before .loop .m) (c .before .before .before .before .before .loop .i))
+    (RunAt (c .before .before .before .before .before .before .before .before .before .before .args .text .now) (c .before .before .before .before .before .loop .a) (c .before .before .before .before .before .loop .i) (c .before .before .before .find-byte .result) (c .if1 .a))
+    × (TableInv (c .before .before .before .before .before .before .before .before .before .before .args .own .now) (c .before .before .before .before .before .before .before .before .before .before .args .text .now) (c .before .before .before .before .before .before .before .before .before .before .args .seen .now) (c .before .before .before .before .before .loop .seen) (c .if1 .a) (c .before .before .before .before .before .loop .b) (c .before .before .before .before .before .loop .m) (c .before .before .before .before .before .loop .i))
 mid c =
     let h = c .before .before .before .before .before .loop .inv in
     let k = c .before .before .before .before .loop-test .taken in
@@ -46,7 +46,7 @@ mid c =
     (c .if1 .came)
 
 loop-holds : tie.Need-loop-holds Inv-loop μ-loop
-loop-holds c = (prune-start _ _ (c .before .before .before .pre .1), table-start _ _ (c .before .before .before .pre .0))
+loop-holds c = (prune-start _ _ (c .before .before .before .before .pre .1), table-start _ _ _ (c .before .before .before .before .pre .0))
 
 find-byte-requires : tie.Need-find-byte-requires Inv-loop μ-loop
 find-byte-requires c κs = search needs
@@ -58,7 +58,7 @@ part-line-start : tie.Need-part-line-start Inv-loop μ-loop
 part-line-start c = omega arith
 
 part-line-end : tie.Need-part-line-end Inv-loop μ-loop
-part-line-end c = omega (arith, find-le 10 (c .before .before .before .before .before .before .args .text .now) (c .before .before .loop .i) (c .find-byte .result) (omega arith) (c .find-byte .ensures))
+part-line-end c = omega (arith, find-le 10 (c .before .before .before .before .before .before .before .args .text .now) (c .before .before .loop .i) (c .find-byte .result) (omega arith) (c .find-byte .ensures))
 
 is-header-requires : tie.Need-is-header-requires Inv-loop μ-loop
 is-header-requires c κs = search needs
@@ -70,7 +70,7 @@ after-requires : tie.Need-after-requires Inv-loop μ-loop
 after-requires c κs = search needs
 
 mark-once-requires : tie.Need-mark-once-requires Inv-loop μ-loop
-mark-once-requires c κs = (omega (arith, mid (c .before .before .before .before) .1 .a≤, c .before .before .before .before .before .before .before .before .loop-test .taken), ap (λ (n : ℕ). isDecl (trimOf (part (c .before .before .before .before .before .before .before .before .before .loop .i) n (c .before .before .before .before .before .before .before .before .before .before .before .before .before .args .text .now)))) (sym (c .before .before .before .before .before .before .before .find-byte .ensures)) ∙ so (c .before .before .before .declares .ensures) (c .before .before .if2 .taken))
+mark-once-requires c κs = (omega (arith, mid (c .before .before .before .before) .1 .a≤, c .before .before .before .before .before .before .before .before .loop-test .taken), λ _. ap (λ (n : ℕ). isDecl (trimOf (part (c .before .before .before .before .before .before .before .before .before .loop .i) n (c .before .before .before .before .before .before .before .before .before .before .before .before .before .before .args .text .now)))) (sym (c .before .before .before .before .before .before .before .find-byte .ensures)) ∙ so (c .before .before .before .declares .ensures) (c .before .before .if2 .taken))
 
 sub-put : tie.Need-sub-put Inv-loop μ-loop
 sub-put c = omega (arith, c .before .before .before .before .before .before .before .before .before .before .before .before .before .loop .inv .0 .c≤, c .before .before .before .before .before .before .before .before .before .before .before .before .before .loop .inv .0 .i≤)

@@ -2,9 +2,12 @@ use Prim.Native.Nat.{_-_}
 use native.Mathlib.Omega.{arith}
 use borrow.Author.Needs.{needs}
 use lib.ListN.{length}
+use mathlib.Core.Path.{_∙_}
 use Rattle.lines.specs.Lf.{linesOf}
+use Rattle.names.specs.Names.{regOf}
 use Rattle.lines.proofs.OutLaws.{wrote-length, writing-length}
 use Rattle.decls.specs.Inner.Decls.{stays}
+use Rattle.decls.proofs.SeenLaws.{seen-stays}
 use Rattle.decls.proofs.PrintLaws.{DeclInv, decl-start, decl-room, decl-on, decl-end-room, decl-end}
 use Rattle.lines.proofs.LfLaws.{find-le}
 use Rattle.decls.proofs.put_decl.Statement.{statement}
@@ -18,13 +21,13 @@ use Rattle.lines.proofs.find_byte.Reads as find-byte-reads
 use Rattle.text.proofs.trim.Reads as trim-reads
 
 abbrev Inv-loop : tie.InvT-loop
-Inv-loop body indent region m seen out₀ o i₀ p₀ out i p = DeclInv (stays (linesOf region)) 1 indent body out₀ out o i p
+Inv-loop body indent region own m seen out₀ o i₀ p₀ out i p = DeclInv (stays (linesOf region)) 1 indent body out₀ out o i p
 
 abbrev μ-loop : tie.MeasureT-loop
-μ-loop body indent region m seen out₀ o i₀ p₀ out i p = length body - i
+μ-loop body indent region own m seen out₀ o i₀ p₀ out i p = length body - i
 
 loop-holds : tie.Need-loop-holds Inv-loop μ-loop
-loop-holds c = let s = c .before .before .before .before .before in let a = s .args in decl-start (stays (linesOf (a .region .now))) 1 (a .indent .now) (a .body .now) (a .out .now) (a .o) (s .pre .1)
+loop-holds c = let s = c .before .before .before .before .before .before in let a = s .args in decl-start (stays (linesOf (a .region .now))) 1 (a .indent .now) (a .body .now) (a .out .now) (a .o) (s .pre .1)
 
 find-byte-requires : tie.Need-find-byte-requires Inv-loop μ-loop
 find-byte-requires c κs = search needs
@@ -36,27 +39,27 @@ part-trim-start : tie.Need-part-trim-start Inv-loop μ-loop
 part-trim-start c = omega arith
 
 part-trim-end : tie.Need-part-trim-end Inv-loop μ-loop
-part-trim-end c = omega (arith, find-le 44 (c .before .before .before .before .before .before .before .args .body .now) (c .before .loop .i) (c .find-byte .result) (c .before .loop .inv .i≤) (c .find-byte .ensures))
+part-trim-end c = omega (arith, find-le 44 (c .before .before .before .before .before .before .before .before .args .body .now) (c .before .loop .i) (c .find-byte .result) (c .before .loop .inv .i≤) (c .find-byte .ensures))
 
 trim-requires : tie.Need-trim-requires Inv-loop μ-loop
 trim-requires c κs = search needs
 
 stays-in-requires : tie.Need-stays-in-requires Inv-loop μ-loop
-stays-in-requires c κs = c .before .before .before .before .before .before .before .before .before .pre .0
+stays-in-requires c κs = search needs
 
 put-part-requires : tie.Need-put-part-requires Inv-loop μ-loop
 put-part-requires c κs =
     let f = c .before .before .before .before .find-byte in
     let t = c .before .before .trim in
     let s = c .before .stays-in in
-    decl-room (c .before .before .before .before .before .loop .inv) (f .result) (f .ensures) (t .result .now) (t .ensures .0) (s .result) (s .ensures)
+    decl-room (c .before .before .before .before .before .loop .inv) (f .result) (f .ensures) (t .result .now) (t .ensures .0) (s .result) (s .ensures ∙ seen-stays _ _ _ _ (c .before .before .before .before .before .before .before .before .before .before .before .before .pre .0) (regOf (t .result .now)))
 
 put-end-requires : tie.Need-put-end-requires Inv-loop μ-loop
 put-end-requires c κs =
     let f = c .before .before .before .before .before .before .before .before .before .find-byte in
     let t = c .before .before .before .before .before .before .before .trim in
     let s = c .before .before .before .before .before .before .stays-in in
-    decl-end-room (c .before .before .before .before .before .before .before .before .before .before .loop .inv) (f .result) (f .ensures) (t .result .now) (t .ensures .0) (s .result) (s .ensures) (c .before .before .before .before .put-part .ensures) (c .before .if1 .taken)
+    decl-end-room (c .before .before .before .before .before .before .before .before .before .before .loop .inv) (f .result) (f .ensures) (t .result .now) (t .ensures .0) (s .result) (s .ensures ∙ seen-stays _ _ _ _ (c .before .before .before .before .before .before .before .before .before .before .before .before .before .before .before .before .before .pre .0) (regOf (t .result .now))) (c .before .before .before .before .put-part .ensures) (c .before .if1 .taken)
 
 same-length : tie.Need-same-length Inv-loop μ-loop
 same-length c = omega (arith, writing-length (c .before .before .before .before .before .before .before .before .before .before .before .before .before .loop .inv .writing), wrote-length (c .before .before .before .before .before .before .before .put-part .ensures), wrote-length (c .before .before .put-end .ensures))
@@ -66,7 +69,7 @@ returns c =
     let f = c .before .before .before .before .before .before .before .before .before .before .before .before .find-byte in
     let t = c .before .before .before .before .before .before .before .before .before .before .trim in
     let s = c .before .before .before .before .before .before .before .before .before .stays-in in
-    decl-end (c .before .before .before .before .before .before .before .before .before .before .before .before .before .loop .inv) (f .result) (f .ensures) (t .result .now) (t .ensures .0) (s .result) (s .ensures) (c .before .before .before .before .before .before .before .put-part .ensures) (c .before .before .before .before .if1 .taken) (c .before .before .put-end .ensures)
+    decl-end (c .before .before .before .before .before .before .before .before .before .before .before .before .before .loop .inv) (f .result) (f .ensures) (t .result .now) (t .ensures .0) (s .result) (s .ensures ∙ seen-stays _ _ _ _ (c .before .before .before .before .before .before .before .before .before .before .before .before .before .before .before .before .before .before .before .before .pre .0) (regOf (t .result .now))) (c .before .before .before .before .before .before .before .put-part .ensures) (c .before .before .before .before .if1 .taken) (c .before .before .put-end .ensures)
 
 add-i : tie.Need-add-i Inv-loop μ-loop
 add-i c = omega arith
@@ -79,7 +82,7 @@ loop-again c =
     let f = c .before .before .before .before .before .before .before .before .find-byte in
     let t = c .before .before .before .before .before .before .trim in
     let s = c .before .before .before .before .before .stays-in in
-    decl-on (c .before .before .before .before .before .before .before .before .before .loop .inv) (f .result) (f .ensures) (t .result .now) (t .ensures .0) (s .result) (s .ensures) (c .before .before .before .put-part .ensures) (c .if1 .left)
+    decl-on (c .before .before .before .before .before .before .before .before .before .loop .inv) (f .result) (f .ensures) (t .result .now) (t .ensures .0) (s .result) (s .ensures ∙ seen-stays _ _ _ _ (c .before .before .before .before .before .before .before .before .before .before .before .before .before .before .before .before .pre .0) (regOf (t .result .now))) (c .before .before .before .put-part .ensures) (c .if1 .left)
 
 pub put-decl-spec : {M : Type 1} → statement M
 put-decl-spec =

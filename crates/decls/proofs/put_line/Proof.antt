@@ -17,13 +17,13 @@ trim-from-requires : tie.Need-trim-from-requires
 trim-from-requires c κs = search needs
 
 sub-put-decl : tie.Need-sub-put-decl
-sub-put-decl c = omega (arith, decl-long _ (ap isDecl (c .before .trim .ensures .0) ∙ c .before .before .before .before .before .before .pre .0))
+sub-put-decl c = omega (arith, decl-long _ (ap isDecl (c .before .trim .ensures .0) ∙ c .before .before .before .before .before .before .before .pre .0))
 
 sub-put-decl-2 : tie.Need-sub-put-decl-2
-sub-put-decl-2 c = omega (arith, decl-long _ (ap isDecl (c .before .trim .ensures .0) ∙ c .before .before .before .before .before .before .pre .0))
+sub-put-decl-2 c = omega (arith, decl-long _ (ap isDecl (c .before .trim .ensures .0) ∙ c .before .before .before .before .before .before .before .pre .0))
 
 part-put-decl-start : tie.Need-part-put-decl-start
-part-put-decl-start c = omega (arith, decl-long _ (ap isDecl (c .before .trim .ensures .0) ∙ c .before .before .before .before .before .before .pre .0))
+part-put-decl-start c = omega (arith, decl-long _ (ap isDecl (c .before .trim .ensures .0) ∙ c .before .before .before .before .before .before .before .pre .0))
 
 part-put-decl-end : tie.Need-part-put-decl-end
 part-put-decl-end c = search needs
@@ -33,7 +33,7 @@ cut-requires c κs = search needs
 
 put-decl-requires : tie.Need-put-decl-requires
 put-decl-requires c κs =
-    let s = c .before .before .before .before .before .before .before .before .before in
+    let s = c .before .before .before .before .before .before .before .before .before .before in
     let t = c .before .before .before .before .trim in
     let f = c .before .before .before .trim-from in
     let i = c .before .cut in
@@ -44,7 +44,7 @@ same-length c = search needs
 
 returns : tie.Need-returns
 returns c =
-    let s = c .before .before .before .before .before .before .before .before .before .before .before .before in
+    let s = c .before .before .before .before .before .before .before .before .before .before .before .before .before in
     let t = c .before .before .before .before .before .before .before .trim in
     let f = c .before .before .before .before .before .before .trim-from in
     let i = c .before .before .before .before .cut in

@@ -2,7 +2,7 @@
 use borrow.Author.Needs.{needs}
 use mathlib.Core.Path.{sym, ap, _∙_}
 use Rattle.lines.specs.Lf.{linesOf}
-use Rattle.decls.specs.Inner.Decls.{staysBy}
+use Rattle.decls.specs.Inner.Seen.{seenStays}
 use Rattle.decls.proofs.stays_in.Statement.{statement}
 use Rattle.decls.proofs.stays_in.Tie as tie
 
@@ -19,10 +19,10 @@ enum-told : tie.Need-enum-told
 enum-told c = search needs
 
 returns : tie.Need-returns
-returns c = c .used-in .ensures ∙ sym (ap (staysBy (linesOf (c .before .before .before .before .before .before .before .before .args .region .now))) (sym (c .before .before .before .before .reg-name .ensures) ∙ c .before .before .q .given .1))
+returns c = let a = c .before .before .before .before .before .before .before .before .before .args in c .used-in .ensures ∙ sym (ap (seenStays (a .own .now) (a .m) (a .seen .now) (linesOf (a .region .now))) (sym (c .before .before .before .before .reg-name .ensures) ∙ c .before .before .q .given .1))
 
 returns-2 : tie.Need-returns-2
-returns-2 c = sym (ap (staysBy (linesOf (c .before .before .before .before .before .before .args .region .now))) (sym (c .before .before .reg-name .ensures) ∙ c .enum-told .given .1))
+returns-2 c = let a = c .before .before .before .before .before .before .before .args in sym (ap (seenStays (a .own .now) (a .m) (a .seen .now) (linesOf (a .region .now))) (sym (c .before .before .reg-name .ensures) ∙ c .enum-told .given .1))
 
 pub stays-in-spec : {M : Type 1} → statement M
 stays-in-spec =

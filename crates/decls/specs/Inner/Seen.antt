@@ -2,9 +2,9 @@
 use Prim.Native.Nat.{ℕ, zero, suc, _+_, _≤_, _<_, min}
 use Prim.Native.Char.{code}
 use mathlib.Core.Path.{_≡_}
-use mathlib.Core.Bool.{Bool, false}
+use mathlib.Core.Bool.{Bool, false, cond}
 use mathlib.Core.List.{List, [], _∷_}
-use lib.Dec.{eqb}
+use lib.Dec.{eqb, ltb}
 use lib.ListN.{length, take, drop, getD}
 use Rattle.lines.specs.Lf.{part, upTo}
 use Rattle.text.specs.Class.{isName}
@@ -67,6 +67,15 @@ AtMost m d = (v : ℕ) → getD d v 0 ≤ m
 -- of the registers that have a place in it, the table has the mark m exactly at those that lines use
 abbrev pub Says : List ℕ → ℕ → List (List ℕ) → List ℕ → Type 0
 Says own m ls d = (v : ℕ) → slotOf (length d) own v < length d → eqb (entryOf own v d) m ≡ usedIn v ls
+
+-- what the table answers for register v of the region `run`: whether it has the mark m, and where it has no place, whether a line uses it
+abbrev pub askedIn : List ℕ → ℕ → List ℕ → List (List ℕ) → ℕ → Bool
+askedIn own m d run v = cond (ltb (slotOf (length d) own v) (length d)) (eqb (entryOf own v d) m) (usedIn v run)
+
+-- and for the register that a name is
+abbrev pub seenStays : List ℕ → ℕ → List ℕ → List (List ℕ) → RegName → Bool
+seenStays own m d run name.None = false
+seenStays own m d run (name.Reg q) = askedIn own m d run (q .0)
 
 -- no line from the place i up to j is a header or a declaration; e is where such a line ends, and k the place after it
 pub data Quiet (t : List ℕ) : ℕ → ℕ → Type 0 where

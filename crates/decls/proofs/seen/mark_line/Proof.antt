@@ -13,7 +13,7 @@ declares-requires : tie.Need-declares-requires
 declares-requires c κs = search needs
 
 returns : tie.Need-returns
-returns c = let a = c .before .before .before .before .args in let d = so (c .before .declares .ensures) (c .if1 .taken) in (sym d, line-decl-marked (a .m) (a .line .now) (a .seen .now) d)
+returns c = let a = c .before .before .before .before .before .args in let d = so (c .before .declares .ensures) (c .if1 .taken) in (sym d, line-decl-marked (a .own .now) (a .m) (a .line .now) (a .seen .now) d)
 
 mark-runs-requires : tie.Need-mark-runs-requires
 mark-runs-requires c κs = search needs
@@ -22,7 +22,7 @@ same-length : tie.Need-same-length
 same-length c = search needs
 
 returns-2 : tie.Need-returns-2
-returns-2 c = let a = c .before .before .before .before .before .before .before .before .args in let d = so (c .before .before .before .before .before .declares .ensures) (c .before .before .before .before .if1 .left) in (sym d, c .before .before .mark-runs .ensures ∙ line-runs-marked (a .m) (a .line .now) (a .seen .now) d)
+returns-2 c = let a = c .before .before .before .before .before .before .before .before .before .args in let d = so (c .before .before .before .before .before .declares .ensures) (c .before .before .before .before .if1 .left) in (sym d, c .before .before .mark-runs .ensures ∙ line-runs-marked (a .own .now) (a .m) (a .line .now) (a .seen .now) d)
 
 pub mark-line-spec : {M : Type 1} → statement M
 mark-line-spec =

@@ -22,10 +22,10 @@ same-length : tie.Need-same-length
 same-length c = search needs
 
 returns : tie.Need-returns
-returns c = let a = c .before .before .before .before .before .before .before .before .before .before .args in c .before .before .mark-reg .ensures ∙ sym (ap (λ (r : RegName). markName (a .m) r (a .seen .now)) (sym (c .before .before .before .before .before .before .before .reg-name .ensures) ∙ c .before .before .before .before .before .q .given .1))
+returns c = let a = c .before .before .before .before .before .before .before .before .before .before .before .args in c .before .before .mark-reg .ensures ∙ sym (ap (λ (r : RegName). markName (a .own .now) (a .m) r (a .seen .now)) (sym (c .before .before .before .before .before .before .before .reg-name .ensures) ∙ c .before .before .before .before .before .q .given .1))
 
 returns-2 : tie.Need-returns-2
-returns-2 c = let a = c .before .before .before .before .before .args in sym (ap (λ (r : RegName). markName (a .m) r (a .seen .now)) (sym (c .before .before .reg-name .ensures) ∙ c .enum-told .given .1))
+returns-2 c = let a = c .before .before .before .before .before .before .args in sym (ap (λ (r : RegName). markName (a .own .now) (a .m) r (a .seen .now)) (sym (c .before .before .reg-name .ensures) ∙ c .enum-told .given .1))
 
 pub mark-name-spec : {M : Type 1} → statement M
 mark-name-spec =

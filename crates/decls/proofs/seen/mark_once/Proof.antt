@@ -9,7 +9,7 @@ use Rattle.decls.proofs.seen.mark_once.Lts as lts
 use Rattle.decls.proofs.seen.mark_region.Reads as mark-region-reads
 
 returns : tie.Need-returns
-returns c = let a = c .before .before .before .args in rw (lt-ltb (a .a) (a .m) (c .if1 .taken)) ((refl, (refl, quiet-none (a .n))), refl)
+returns c = let a = c .before .before .before .before .args in rw (lt-ltb (a .a) (a .m) (c .if1 .taken)) ((refl, (refl, quiet-none (a .n))), refl)
 
 add-mark-region : tie.Need-add-mark-region
 add-mark-region c = search needs
@@ -17,23 +17,23 @@ add-mark-region c = search needs
 mark-region-requires : tie.Need-mark-region-requires
 mark-region-requires c κs = search needs
 
-add-t13 : tie.Need-add-t13
-add-t13 c = search needs
+add-t14 : tie.Need-add-t14
+add-t14 c = search needs
 
 same-length : tie.Need-same-length
 same-length c = search needs
 
 returns-2 : tie.Need-returns-2
-returns-2 c = let a = c .before .before .before .before .before .before .before .before .before .args in let r = c .before .before .before .before .mark-region in let w : Quiet (a .text .now) (a .n) (r .result .end) = rw (c .if2 .taken) (r .ensures .0 .1) in rw (le-ltb (a .a) (a .m) (c .before .before .before .before .before .before .if1 .left)) ((refl, (r .ensures .0 .0, w)), r .ensures .1)
+returns-2 c = let a = c .before .before .before .before .before .before .before .before .before .before .args in let r = c .before .before .before .before .mark-region in let w : Quiet (a .text .now) (a .n) (r .result .end) = rw (c .if2 .taken) (r .ensures .0 .1) in rw (le-ltb (a .a) (a .m) (c .before .before .before .before .before .before .if1 .left)) ((refl, (r .ensures .0 .0, w)), r .ensures .1)
 
-add-t10 : tie.Need-add-t10
-add-t10 c = search needs
+add-t11 : tie.Need-add-t11
+add-t11 c = search needs
 
 same-length-2 : tie.Need-same-length-2
 same-length-2 c = search needs
 
 returns-3 : tie.Need-returns-3
-returns-3 c = let a = c .before .before .before .before .before .before .before .before .before .args in let r = c .before .before .before .before .mark-region in rw (le-ltb (a .a) (a .m) (c .before .before .before .before .before .before .if1 .left)) ((refl, (r .ensures .0 .0, quiet-none (a .n))), r .ensures .1)
+returns-3 c = let a = c .before .before .before .before .before .before .before .before .before .before .args in let r = c .before .before .before .before .mark-region in rw (le-ltb (a .a) (a .m) (c .before .before .before .before .before .before .if1 .left)) ((refl, (r .ensures .0 .0, quiet-none (a .n))), r .ensures .1)
 
 pub mark-once-spec : {M : Type 1} → statement M
 mark-once-spec =
@@ -42,9 +42,9 @@ mark-once-spec =
     returns
     add-mark-region
     mark-region-requires
-    add-t13
+    add-t14
     same-length
     returns-2
-    add-t10
+    add-t11
     same-length-2
     returns-3)

@@ -8,13 +8,13 @@ use Rattle.decls.proofs.seen.mark_runs.Statement.{statement}
 use Rattle.decls.proofs.seen.mark_runs.Tie as tie
 
 abbrev Inv-loop : tie.InvT-loop
-Inv-loop s m seen₀ i₀ seen i = FromInv m s seen₀ seen i
+Inv-loop s own m seen₀ i₀ seen i = FromInv own m s seen₀ seen i
 
 abbrev μ-loop : tie.MeasureT-loop
-μ-loop s m seen₀ i₀ seen i = length s - i
+μ-loop s own m seen₀ i₀ seen i = length s - i
 
 loop-holds : tie.Need-loop-holds Inv-loop μ-loop
-loop-holds c = let a = c .before .before .args in from-start (a .m) (a .s .now) (a .seen .now)
+loop-holds c = let a = c .before .before .before .args in from-start (a .own .now) (a .m) (a .s .now) (a .seen .now)
 
 find-byte-requires : tie.Need-find-byte-requires Inv-loop μ-loop
 find-byte-requires c κs = search needs
