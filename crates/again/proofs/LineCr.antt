@@ -23,6 +23,8 @@ use Rattle.parse.specs.Parse.{isDecl, parseOf, textOf}
 use Rattle.words.specs.Runs.{runsGo, runs, countBy}
 use Rattle.place.specs.Region.{functionWord, varWord, letHead, constWord, classWord, letPhi, isHeader}
 use Rattle.reading.specs.Uses.{lineReads, lineStores, lineUses, usedIn}
+use Rattle.slots.specs.Inner.Slots.{slotOf, entryOf}
+use Rattle.slots.proofs.SlotLaws.{slot-low, slot-kept}
 use Rattle.decls.specs.Inner.Seen.{markRuns, markLine, markLines, Says}
 use Rattle.decls.proofs.SeenLaws.{lines-length, says-new, zeros-most}
 use Rattle.decls.proofs.TrimRuns.{back-runs}
@@ -154,9 +156,9 @@ uses-none v l e = rw e
 
 -- the uses of a line that is no declaration are those of its runs
 abbrev usesBy : ℕ → List (List ℕ) → Bool
-usesBy v rs = eqb (getD (markRuns 1 rs (replicate (suc v) 0)) v 0) 1
+usesBy v rs = eqb (entryOf [] v (markRuns [] 1 rs (replicate (suc v) 0))) 1
 
-lines-one : (m : ℕ) (l d : List ℕ) → markLines m (l ∷ []) d ≡ markLine m l d
+lines-one : (m : ℕ) (l d : List ℕ) → markLines [] m (l ∷ []) d ≡ markLine [] m l d
 unfolding markLines
 lines-one m l d = refl
 
@@ -167,9 +169,11 @@ used-one v l = or-false (lineUses v l)
 uses-runs : (v : ℕ) (l : List ℕ) → isDecl (trimOf l) ≡ false → lineUses v l ≡ usesBy v (runs l)
 uses-runs v l e =
     let d : List ℕ = replicate (suc v) 0 in
-    let s : Says 1 (l ∷ []) (markLines 1 (l ∷ []) d) = says-new 0 1 (l ∷ []) d (omega arith) (zeros-most (suc v)) in
-    sym (used-one v l) ∙ sym (s v (omega (arith, lines-length 1 (l ∷ []) d, length-replicate {A = ℕ} (suc v) 0)))
-    ∙ ap (λ (r : List ℕ). eqb (getD r v 0) 1) (lines-one 1 l d ∙ sym (line-runs-marked 1 l d e))
+    let s : Says [] 1 (l ∷ []) (markLines [] 1 (l ∷ []) d) = says-new [] 0 1 (l ∷ []) d (omega arith) (zeros-most (suc v)) in
+    let n = length-replicate {A = ℕ} (suc v) 0 in
+    let k : slotOf (length d) [] v < length d = omega (arith, n, slot-low (length d) [] v (omega (arith, n))) in
+    sym (used-one v l) ∙ sym (s v (slot-kept [] d (markLines [] 1 (l ∷ []) d) v (lines-length [] 1 (l ∷ []) d) k))
+    ∙ ap (λ (r : List ℕ). eqb (entryOf [] v r) 1) (lines-one 1 l d ∙ sym (line-runs-marked [] 1 l d e))
 
 runs-cr : (l : List ℕ) → runs (l ++ 13 ∷ []) ≡ runs l
 unfolding runs

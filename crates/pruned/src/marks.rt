@@ -29,12 +29,13 @@ fn put_zeros(out: &mut [u8], o: usize, n: usize) -> usize
 fn put_names(
     body: &[u8],
     region: &[u8],
+    own: &[usize],
     m: usize,
     seen: &[usize],
     out: &mut [u8],
     o: usize,
 ) -> usize
-    requires { ⌜ (Says m (linesOf (now region)) (now seen)) × (o + length (namesMarks (linesOf (now region)) (partsOf 44 (now body))) ≤ length (now out)) ⌝ }
+    requires { ⌜ (Says (now own) m (linesOf (now region)) (now seen)) × (o + length (namesMarks (linesOf (now region)) (partsOf 44 (now body))) ≤ length (now out)) ⌝ }
     ensures { λ r. ⌜ Wrote (now (out .entry)) o (namesMarks (linesOf (now (region .entry))) (partsOf 44 (now (body .entry)))) (now (out .exit)) r ⌝ }
 {
     let mut i = 0;
@@ -42,7 +43,7 @@ fn put_names(
     loop {
         let e = lines::find_byte(body, i, b',');
         let t = text::trim(&body[i..e]);
-        let s = decls::stays_in(region, m, seen, t);
+        let s = decls::stays_in(region, own, m, seen, t);
         p = lines::put_byte(out, p, place::flag(s));
         if e >= body.len() {
             return p;
@@ -55,21 +56,22 @@ fn put_names(
 fn put_marks(
     line: &[u8],
     region: &[u8],
+    own: &[usize],
     m: usize,
     seen: &[usize],
     out: &mut [u8],
     o: usize,
 ) -> usize
-    requires { ⌜ (isDecl (trimOf (now line)) ≡ true) × ((Says m (linesOf (now region)) (now seen)) × (o + length (lineMarks (linesOf (now region)) (now line)) ≤ length (now out))) ⌝ }
+    requires { ⌜ (isDecl (trimOf (now line)) ≡ true) × ((Says (now own) m (linesOf (now region)) (now seen)) × (o + length (lineMarks (linesOf (now region)) (now line)) ≤ length (now out))) ⌝ }
     ensures { λ r. ⌜ Wrote (now (out .entry)) o (lineMarks (linesOf (now (region .entry))) (now (line .entry))) (now (out .exit)) r ⌝ }
 {
     let t = text::trim(line);
-    let p = put_names(&t[4..t.len() - 1], region, m, seen, out, o);
+    let p = put_names(&t[4..t.len() - 1], region, own, m, seen, out, o);
     put_zeros(out, p, line.len() + 1 - (p - o))
 }
 
 // Writes the marks of all lines; the table of registers holds no mark.
-pub fn mark_used(raw: &[u8], seen: &mut [usize], out: &mut [u8]) -> usize
+pub fn mark_used(raw: &[u8], own: &[usize], seen: &mut [usize], out: &mut [u8]) -> usize
     requires { ⌜ (AtMost 0 (now seen)) × (length (marksOf (linesOf (now raw))) ≤ length (now out)) ⌝ }
     ensures { λ r. ⌜ Wrote (now (out .entry)) 0 (marksOf (linesOf (now (raw .entry)))) (now (out .exit)) r ⌝ }
 {
@@ -86,10 +88,10 @@ pub fn mark_used(raw: &[u8], seen: &mut [usize], out: &mut [u8]) -> usize
         }
         if parse::declares(line) {
             let n = lines::after(raw, e);
-            let k = decls::mark_uses(raw, a, b, m, i, seen);
+            let k = decls::mark_uses(raw, own, a, b, m, seen);
             m = k.mark;
             b = k.end;
-            o = put_marks(line, &raw[a..b], m, seen, out, o);
+            o = put_marks(line, &raw[a..b], own, m, seen, out, o);
             i = n;
         } else {
             o = put_zeros(out, o, e - i + 1);

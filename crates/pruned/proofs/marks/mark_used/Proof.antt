@@ -26,20 +26,20 @@ use Rattle.pruned.proofs.marks.put_marks.Reads as put-marks-reads
 use Rattle.pruned.proofs.marks.put_zeros.Reads as put-zeros-reads
 
 abbrev Inv-loop : tie.InvT-loop
-Inv-loop raw seen₀ out₀ a₀ b₀ m₀ i₀ o₀ seen out a b m i o = (MarkInv raw out₀ out a i o) × (TableInv raw seen₀ seen a b m i)
+Inv-loop raw own seen₀ out₀ a₀ b₀ m₀ i₀ o₀ seen out a b m i o = (MarkInv raw out₀ out a i o) × (TableInv own raw seen₀ seen a b m i)
 
 abbrev μ-loop : tie.MeasureT-loop
-μ-loop raw seen₀ out₀ a₀ b₀ m₀ i₀ o₀ seen out a b m i o = length raw - i
+μ-loop raw own seen₀ out₀ a₀ b₀ m₀ i₀ o₀ seen out a b m i o = length raw - i
 
 -- the region of the line, where the arms of the `if` meet
 mid : (c : tie.Joined1 Inv-loop μ-loop) →
-    (At (c .before .before .before .before .before .before .before .before .before .args .raw .now) (c .before .before .before .before .before .loop .a) (c .before .before .before .before .before .loop .i) (c .before .before .before .find-byte .result) (c .if1 .a))
-    × (TableInv (c .before .before .before .before .before .before .before .before .before .args .raw .now) (c .before .before .before .before .before .before .before .before .before .args .seen .now) (c .before .before .before .before .before .loop .seen) (c .if1 .a) (c .before .before .before .before .before .loop .b) (c .before .before .before .before .before .loop .m) (c .before .before .before .before .before .loop .i))
+    (At (c .before .before .before .before .before .before .before .before .before .before .args .raw .now) (c .before .before .before .before .before .loop .a) (c .before .before .before .before .before .loop .i) (c .before .before .before .find-byte .result) (c .if1 .a))
+    × (TableInv (c .before .before .before .before .before .before .before .before .before .before .args .own .now) (c .before .before .before .before .before .before .before .before .before .before .args .raw .now) (c .before .before .before .before .before .before .before .before .before .before .args .seen .now) (c .before .before .before .before .before .loop .seen) (c .if1 .a) (c .before .before .before .before .before .loop .b) (c .before .before .before .before .before .loop .m) (c .before .before .before .before .before .loop .i))
 mid c =
     let h = c .before .before .before .before .before .loop .inv in
     let k = c .before .before .before .before .loop-test .taken in
     let f = c .before .before .before .find-byte in
-    let t = c .before .before .before .before .before .before .before .before .before .args .raw .now in
+    let t = c .before .before .before .before .before .before .before .before .before .before .args .raw .now in
     let y = sym (c .before .is-header .ensures) in
     ⊎-elim
     (λ w. rw (w .1) (run-new t (c .before .before .before .before .before .loop .a) (c .before .before .before .before .before .loop .i) (f .result) k (f .ensures) (y ∙ w .0 .taken), table-new (h .1)))
@@ -47,7 +47,7 @@ mid c =
     (c .if1 .came)
 
 loop-holds : tie.Need-loop-holds Inv-loop μ-loop
-loop-holds c = let s = c .before .before .before in (mark-start (s .args .raw .now) (s .args .out .now) (s .pre .1), table-start _ _ (s .pre .0))
+loop-holds c = let s = c .before .before .before .before in (mark-start (s .args .raw .now) (s .args .out .now) (s .pre .1), table-start _ _ _ (s .pre .0))
 
 find-byte-requires : tie.Need-find-byte-requires Inv-loop μ-loop
 find-byte-requires c κs = search needs
@@ -59,7 +59,7 @@ part-line-start : tie.Need-part-line-start Inv-loop μ-loop
 part-line-start c = omega arith
 
 part-line-end : tie.Need-part-line-end Inv-loop μ-loop
-part-line-end c = omega (arith, find-le 10 (c .before .before .before .before .before .before .args .raw .now) (c .before .before .loop .i) (c .find-byte .result) (omega arith) (c .find-byte .ensures))
+part-line-end c = omega (arith, find-le 10 (c .before .before .before .before .before .before .before .args .raw .now) (c .before .before .loop .i) (c .find-byte .result) (omega arith) (c .find-byte .ensures))
 
 is-header-requires : tie.Need-is-header-requires Inv-loop μ-loop
 is-header-requires c κs = search needs
@@ -71,7 +71,7 @@ after-requires : tie.Need-after-requires Inv-loop μ-loop
 after-requires c κs = search needs
 
 mark-uses-requires : tie.Need-mark-uses-requires Inv-loop μ-loop
-mark-uses-requires c κs = (omega (arith, mid (c .before .before .before .before) .1 .a≤, c .before .before .before .before .before .before .before .before .loop-test .taken), ap (λ (n : ℕ). isDecl (trimOf (part (c .before .before .before .before .before .before .before .before .before .loop .i) n (c .before .before .before .before .before .before .before .before .before .before .before .before .before .args .raw .now)))) (sym (c .before .before .before .before .before .before .before .find-byte .ensures)) ∙ so (c .before .before .before .declares .ensures) (c .before .before .if2 .taken))
+mark-uses-requires c κs = omega (arith, mid (c .before .before .before .before) .1 .a≤, c .before .before .before .before .before .before .before .before .loop-test .taken)
 
 sub-put-marks : tie.Need-sub-put-marks Inv-loop μ-loop
 sub-put-marks c = let h = mid (c .before .before .before .before .before .before .before .before) in let k = c .before .before .before .mark-uses in omega (arith, table-inside (h .1) (k .result .mark) (k .result .end) _ (k .ensures .0 .0) (k .ensures .0 .1) (k .ensures .1) (omega (arith, h .1 .a≤, c .before .before .before .before .before .before .before .before .before .before .before .before .loop-test .taken)))
@@ -95,10 +95,10 @@ sub-put-zeros : tie.Need-sub-put-zeros Inv-loop μ-loop
 sub-put-zeros c = omega (arith, c .before .before .before .before .before .before .find-byte .ensures)
 
 add-put-zeros : tie.Need-add-put-zeros Inv-loop μ-loop
-add-put-zeros c = let h = mid (c .before .before .before) in let f = c .before .before .before .before .before .before .find-byte in let l = c .before .before .before .before .before .before .before .before .loop in let t = c .before .before .before .before .before .before .before .before .before .before .before .before .args .raw .now in let run = region (linesOf (drop (c .before .before .before .if1 .a) t)) in omega (arith, writing-length (l .inv .0 .writing), plain-room run t (l .i) (f .result) (f .result - l .i + 1) (omega (arith, f .ensures)) (find-le 10 t (l .i) (f .result) (l .inv .0 .i≤) (f .ensures)) (so (c .before .before .declares .ensures) (c .before .if2 .left)) refl (l .o) (length (l .out)) (mark-room (l .inv .0) (f .result) (c .before .before .before .before .before .before .before .loop-test .taken) (f .ensures) (h .0) run refl))
+add-put-zeros c = let h = mid (c .before .before .before) in let f = c .before .before .before .before .before .before .find-byte in let l = c .before .before .before .before .before .before .before .before .loop in let t = c .before .before .before .before .before .before .before .before .before .before .before .before .before .args .raw .now in let run = region (linesOf (drop (c .before .before .before .if1 .a) t)) in omega (arith, writing-length (l .inv .0 .writing), plain-room run t (l .i) (f .result) (f .result - l .i + 1) (omega (arith, f .ensures)) (find-le 10 t (l .i) (f .result) (l .inv .0 .i≤) (f .ensures)) (so (c .before .before .declares .ensures) (c .before .if2 .left)) refl (l .o) (length (l .out)) (mark-room (l .inv .0) (f .result) (c .before .before .before .before .before .before .before .loop-test .taken) (f .ensures) (h .0) run refl))
 
 put-zeros-requires : tie.Need-put-zeros-requires Inv-loop μ-loop
-put-zeros-requires c κs = let h = mid (c .before .before .before) in let f = c .before .before .before .before .before .before .find-byte in let l = c .before .before .before .before .before .before .before .before .loop in let t = c .before .before .before .before .before .before .before .before .before .before .before .before .args .raw .now in let run = region (linesOf (drop (c .before .before .before .if1 .a) t)) in plain-room run t (l .i) (f .result) (f .result - l .i + 1) (omega (arith, f .ensures)) (find-le 10 t (l .i) (f .result) (l .inv .0 .i≤) (f .ensures)) (so (c .before .before .declares .ensures) (c .before .if2 .left)) refl (l .o) (length (l .out)) (mark-room (l .inv .0) (f .result) (c .before .before .before .before .before .before .before .loop-test .taken) (f .ensures) (h .0) run refl)
+put-zeros-requires c κs = let h = mid (c .before .before .before) in let f = c .before .before .before .before .before .before .find-byte in let l = c .before .before .before .before .before .before .before .before .loop in let t = c .before .before .before .before .before .before .before .before .before .before .before .before .before .args .raw .now in let run = region (linesOf (drop (c .before .before .before .if1 .a) t)) in plain-room run t (l .i) (f .result) (f .result - l .i + 1) (omega (arith, f .ensures)) (find-le 10 t (l .i) (f .result) (l .inv .0 .i≤) (f .ensures)) (so (c .before .before .declares .ensures) (c .before .if2 .left)) refl (l .o) (length (l .out)) (mark-room (l .inv .0) (f .result) (c .before .before .before .before .before .before .before .loop-test .taken) (f .ensures) (h .0) run refl)
 
 after-requires-2 : tie.Need-after-requires-2 Inv-loop μ-loop
 after-requires-2 c κs = search needs
@@ -107,7 +107,7 @@ loop-less-2 : tie.Need-loop-less-2 Inv-loop μ-loop
 loop-less-2 c = omega (arith, c .after2 .ensures, c .before .before .before .before .before .before .before .before .before .before .find-byte .ensures, c .before .before .before .before .before .before .before .before .before .before .before .loop-test .taken)
 
 loop-again-2 : tie.Need-loop-again-2 Inv-loop μ-loop
-loop-again-2 c = let h = mid (c .before .before .before .before .before .before .before) in let f = c .before .before .before .before .before .before .before .before .before .before .find-byte in let l = c .before .before .before .before .before .before .before .before .before .before .before .before .loop in let t = c .before .before .before .before .before .before .before .before .before .before .before .before .before .before .before .before .args .raw .now in let run = region (linesOf (drop (c .before .before .before .before .before .before .before .if1 .a) t)) in (mark-on (l .inv .0) (f .result) (c .before .before .before .before .before .before .before .before .before .before .before .loop-test .taken) (f .ensures) (h .0) run refl (wrote-as (plain-line run t (l .i) (f .result) (f .result - l .i + 1) (omega (arith, f .ensures)) (find-le 10 t (l .i) (f .result) (l .inv .0 .i≤) (f .ensures)) (so (c .before .before .before .before .before .before .declares .ensures) (c .before .before .before .before .before .if2 .left)) refl) (c .before .before .before .put-zeros .ensures)) (c .after2 .ensures), table-pass (h .1) (f .result) (c .after2 .result) (c .before .before .before .before .before .before .before .before .before .before .before .loop-test .taken) (f .ensures) (c .after2 .ensures))
+loop-again-2 c = let h = mid (c .before .before .before .before .before .before .before) in let f = c .before .before .before .before .before .before .before .before .before .before .find-byte in let l = c .before .before .before .before .before .before .before .before .before .before .before .before .loop in let t = c .before .before .before .before .before .before .before .before .before .before .before .before .before .before .before .before .before .args .raw .now in let run = region (linesOf (drop (c .before .before .before .before .before .before .before .if1 .a) t)) in (mark-on (l .inv .0) (f .result) (c .before .before .before .before .before .before .before .before .before .before .before .loop-test .taken) (f .ensures) (h .0) run refl (wrote-as (plain-line run t (l .i) (f .result) (f .result - l .i + 1) (omega (arith, f .ensures)) (find-le 10 t (l .i) (f .result) (l .inv .0 .i≤) (f .ensures)) (so (c .before .before .before .before .before .before .declares .ensures) (c .before .before .before .before .before .if2 .left)) refl) (c .before .before .before .put-zeros .ensures)) (c .after2 .ensures), table-pass (h .1) (f .result) (c .after2 .result) (c .before .before .before .before .before .before .before .before .before .before .before .loop-test .taken) (f .ensures) (c .after2 .ensures))
 
 same-length : tie.Need-same-length Inv-loop μ-loop
 same-length c = c .before .loop .inv .1 .long
