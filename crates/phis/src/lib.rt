@@ -182,12 +182,12 @@ fn search_dead(text: &[u8], phi: names::Phi) -> bool
     phi_stored(text, phi)
 }
 
-// The same: the table says so, where it reaches to the phi.
-fn dead_phi(text: &[u8], phi: names::Phi, table: &[u8]) -> bool
-    requires { ⌜ Tells (linesOf (now text)) (now table) ⌝ }
+// The same: the table says so, where it has a place for the phi.
+fn dead_phi(text: &[u8], own: &[usize], phi: names::Phi, table: &[u8]) -> bool
+    requires { ⌜ Tells (now own) (linesOf (now text)) (now table) ⌝ }
     ensures { λ r. ⌜ r ≡ deadPhi (phi .0) (linesOf (now (text .entry))) ⌝ }
 {
-    let v = phi.0 as usize;
+    let v = slots::slot(phi.0 as usize, table.len(), own);
     if v < table.len() {
         return table[v] == 1;
     }
@@ -195,25 +195,25 @@ fn dead_phi(text: &[u8], phi: names::Phi, table: &[u8]) -> bool
 }
 
 // Whether a name is that of a phi that is dead in a text.
-fn dead_by(name: names::PhiName, text: &[u8], table: &[u8]) -> bool
-    requires { ⌜ Tells (linesOf (now text)) (now table) ⌝ }
+fn dead_by(name: names::PhiName, text: &[u8], own: &[usize], table: &[u8]) -> bool
+    requires { ⌜ Tells (now own) (linesOf (now text)) (now table) ⌝ }
     ensures { λ r. ⌜ r ≡ phiDead name (linesOf (now (text .entry))) ⌝ }
 {
     match name {
-        names::PhiName::Phi(q) => dead_phi(text, q, table),
+        names::PhiName::Phi(q) => dead_phi(text, own, q, table),
         names::PhiName::None => false,
     }
 }
 
 // Whether some line of a text stores a phi that is dead.
-fn any_dead(text: &[u8], table: &[u8]) -> bool
-    requires { ⌜ Tells (linesOf (now text)) (now table) ⌝ }
+fn any_dead(text: &[u8], own: &[usize], table: &[u8]) -> bool
+    requires { ⌜ Tells (now own) (linesOf (now text)) (now table) ⌝ }
     ensures { λ r. ⌜ r ≡ anyDead (linesOf (now (text .entry))) (linesOf (now (text .entry))) ⌝ }
 {
     let mut i = 0;
     while i < text.len() {
         let e = lines::find_byte(text, i, 10);
-        if dead_by(line_store(lines::cut(text, i, e)), text, table) {
+        if dead_by(line_store(lines::cut(text, i, e)), text, own, table) {
             return true;
         }
         i = lines::after(text, e);
@@ -222,12 +222,12 @@ fn any_dead(text: &[u8], table: &[u8]) -> bool
 }
 
 // Whether a text names a phi that is not dead.
-fn is_live(t: &[u8], text: &[u8], table: &[u8]) -> bool
-    requires { ⌜ Tells (linesOf (now text)) (now table) ⌝ }
+fn is_live(t: &[u8], text: &[u8], own: &[usize], table: &[u8]) -> bool
+    requires { ⌜ Tells (now own) (linesOf (now text)) (now table) ⌝ }
     ensures { λ r. ⌜ r ≡ live (linesOf (now (text .entry))) (now (t .entry)) ⌝ }
 {
     match names::phi_name(t) {
-        names::PhiName::Phi(q) => !dead_phi(text, q, table),
+        names::PhiName::Phi(q) => !dead_phi(text, own, q, table),
         names::PhiName::None => false,
     }
 }
@@ -237,11 +237,12 @@ fn put_decl(
     body: &[u8],
     indent: &[u8],
     text: &[u8],
+    own: &[usize],
     table: &[u8],
     out: &mut [u8],
     o: usize,
 ) -> usize
-    requires { ⌜ (Tells (linesOf (now text)) (now table)) × (o + length (declText (now indent) (kept (live (linesOf (now text))) 3 (partsOf 44 (now body))) false) ≤ length (now out)) ⌝ }
+    requires { ⌜ (Tells (now own) (linesOf (now text)) (now table)) × (o + length (declText (now indent) (kept (live (linesOf (now text))) 3 (partsOf 44 (now body))) false) ≤ length (now out)) ⌝ }
     ensures { λ r. ⌜ Wrote (now (out .entry)) o (declText (now (indent .entry)) (kept (live (linesOf (now (text .entry)))) 3 (partsOf 44 (now (body .entry)))) false) (now (out .exit)) r ⌝ }
 {
     let mut i = 0;
@@ -249,7 +250,7 @@ fn put_decl(
     loop {
         let e = lines::find_byte(body, i, b',');
         let t = text::trim(lines::cut(body, i, e));
-        let s = is_live(t, text, table);
+        let s = is_live(t, text, own, table);
         p = decls::print::put_part(indent, o < p, s, t, 3, out, p);
         if e >= body.len() {
             return decls::print::put_end(o < p, out, p);
@@ -302,22 +303,31 @@ fn put_store(t: &[u8], indent: &[u8], scratch: &mut [u8], out: &mut [u8], o: usi
 fn put_change(
     line: &[u8],
     text: &[u8],
+    own: &[usize],
     table: &[u8],
     scratch: &mut [u8],
     out: &mut [u8],
     o: usize,
 ) -> usize
-    requires { ⌜ (Tells (linesOf (now text)) (now table)) × ((length (now line) ≤ length (now scratch)) × (o + length (changeText plain (linesOf (now text)) (now line)) ≤ length (now out))) ⌝ }
+    requires { ⌜ (Tells (now own) (linesOf (now text)) (now table)) × ((length (now line) ≤ length (now scratch)) × (o + length (changeText plain (linesOf (now text)) (now line)) ≤ length (now out))) ⌝ }
     ensures answer { λ r. ⌜ Wrote (now (out .entry)) o (changeText plain (linesOf (now (text .entry))) (now (line .entry))) (now (out .exit)) r ⌝ }
     ensures memory { λ _. ⌜ drop (length (now (line .entry))) (now (scratch .exit)) ≡ drop (length (now (line .entry))) (now (scratch .entry)) ⌝ }
 {
     let t = text::trim_start(line);
     let indent = lines::cut(line, 0, text::trim_from(line));
-    if dead_by(phi_store(t), text, table) {
+    if dead_by(phi_store(t), text, own, table) {
         return put_store(t, indent, scratch, out, o);
     }
     if phi_decl(t) {
-        return put_decl(lines::cut(t, 4, t.len() - 1), indent, text, table, out, o);
+        return put_decl(
+            lines::cut(t, 4, t.len() - 1),
+            indent,
+            text,
+            own,
+            table,
+            out,
+            o,
+        );
     }
     lines::put_line(out, o, line)
 }
@@ -326,17 +336,18 @@ fn put_change(
 fn put_line(
     line: &[u8],
     text: &[u8],
+    own: &[usize],
     table: &[u8],
     scratch: &mut [u8],
     out: &mut [u8],
     o: usize,
 ) -> usize
-    requires { ⌜ (Tells (linesOf (now text)) (now table)) × ((length (now line) ≤ length (now scratch)) × (o + length (changeText plain (linesOf (now text)) (now line)) ≤ length (now out))) ⌝ }
+    requires { ⌜ (Tells (now own) (linesOf (now text)) (now table)) × ((length (now line) ≤ length (now scratch)) × (o + length (changeText plain (linesOf (now text)) (now line)) ≤ length (now out))) ⌝ }
     ensures answer { λ r. ⌜ Wrote (now (out .entry)) o (changeText plain (linesOf (now (text .entry))) (now (line .entry))) (now (out .exit)) r ⌝ }
     ensures memory { λ _. ⌜ drop (length (now (line .entry))) (now (scratch .exit)) ≡ drop (length (now (line .entry))) (now (scratch .entry)) ⌝ }
 {
     if table::has_phi(line) {
-        return put_change(line, text, table, scratch, out, o);
+        return put_change(line, text, own, table, scratch, out, o);
     }
     lines::put_line(out, o, line)
 }
@@ -348,13 +359,13 @@ struct Round {
 }
 
 // Writes one round, with its table. Of the scratch only as much is used as the text is long.
-fn put_with(text: &[u8], table: &[u8], scratch: &mut [u8], out: &mut [u8]) -> Round
-    requires { ⌜ (Tells (linesOf (now text)) (now table)) × ((length (now text) ≤ length (now scratch)) × (length (unlines (round plain (linesOf (now text)))) ≤ length (now out))) ⌝ }
+fn put_with(text: &[u8], own: &[usize], table: &[u8], scratch: &mut [u8], out: &mut [u8]) -> Round
+    requires { ⌜ (Tells (now own) (linesOf (now text)) (now table)) × ((length (now text) ≤ length (now scratch)) × (length (unlines (round plain (linesOf (now text)))) ≤ length (now out))) ⌝ }
     ensures answer { λ r. ⌜ Wrote (now (out .entry)) 0 (unlines (round plain (linesOf (now (text .entry))))) (now (out .exit)) (r .end) ⌝ }
     ensures found { λ r. ⌜ r .dead ≡ anyDead (linesOf (now (text .entry))) (linesOf (now (text .entry))) ⌝ }
     ensures memory { λ _. ⌜ drop (length (now (text .entry))) (now (scratch .exit)) ≡ drop (length (now (text .entry))) (now (scratch .entry)) ⌝ }
 {
-    if !any_dead(text, table) {
+    if !any_dead(text, own, table) {
         let p = lines::put_lines(text, out, 0);
         return Round {
             end: p,
@@ -365,7 +376,7 @@ fn put_with(text: &[u8], table: &[u8], scratch: &mut [u8], out: &mut [u8]) -> Ro
     let mut o = 0;
     while i < text.len() {
         let e = lines::find_byte(text, i, 10);
-        o = put_line(lines::cut(text, i, e), text, table, scratch, out, o);
+        o = put_line(lines::cut(text, i, e), text, own, table, scratch, out, o);
         i = lines::after(text, e);
     }
     Round { end: o, dead: true }
@@ -382,7 +393,14 @@ fn may_change(text: &[u8], dead: bool) -> bool
 }
 
 // Writes one round; `dead` is false where it is known that no phi is dead. Of the scratch only as much is used as the text is long.
-fn put_round(text: &[u8], dead: bool, scratch: &mut [u8], out: &mut [u8]) -> Round
+fn put_round(
+    text: &[u8],
+    own: &[usize],
+    dead: bool,
+    table: &mut [u8],
+    scratch: &mut [u8],
+    out: &mut [u8],
+) -> Round
     requires { ⌜ (dead ≡ false → anyDead (linesOf (now text)) (linesOf (now text)) ≡ false)
         × ((length (now text) ≤ length (now scratch)) × (length (unlines (round plain (linesOf (now text)))) ≤ length (now out))) ⌝ }
     ensures answer { λ r. ⌜ Wrote (now (out .entry)) 0 (unlines (round plain (linesOf (now (text .entry))))) (now (out .exit)) (r .end) ⌝ }
@@ -396,9 +414,9 @@ fn put_round(text: &[u8], dead: bool, scratch: &mut [u8], out: &mut [u8]) -> Rou
             dead: false,
         };
     }
-    let mut table = [0u8; 1024];
-    table::note_lines(text, &mut table);
-    put_with(text, &table, scratch, out)
+    lines::wipe(table, table.len());
+    table::note_lines(text, own, table);
+    put_with(text, own, table, scratch, out)
 }
 
 // The larger of two numbers.
@@ -412,9 +430,12 @@ fn larger(a: usize, b: usize) -> usize
 }
 
 // Stores of phis that nothing reads go, and their names leave the declarations, in three rounds: from the text to `first`, from there to
-// `second`, from there to `out`. The scratch is left with zeros, as far as it was of use.
+// `second`, from there to `out`. `own` has the owners of places in the table of phis, which is 0 afterwards. The scratch is left with zeros, as far
+// as it was of use.
 pub fn prune_dead_phis(
     text: &[u8],
+    own: &[usize],
+    table: &mut [u8],
     scratch: &mut [u8],
     first: &mut [u8],
     second: &mut [u8],
@@ -425,10 +446,26 @@ pub fn prune_dead_phis(
     ensures one { λ _. ⌜ Wrote (now (first .entry)) 0 (unlines (round plain (linesOf (now (text .entry))))) (now (first .exit)) (length (unlines (round plain (linesOf (now (text .entry)))))) ⌝ }
     ensures two { λ _. ⌜ Wrote (now (second .entry)) 0 (unlines (round plain (round plain (linesOf (now (text .entry)))))) (now (second .exit)) (length (unlines (round plain (round plain (linesOf (now (text .entry))))))) ⌝ }
     ensures memory { λ _. ⌜ Wrote (now (scratch .entry)) 0 (replicate (longest plain (now (text .entry))) 0) (now (scratch .exit)) (longest plain (now (text .entry))) ⌝ }
+    ensures noted { λ _. ⌜ now (table .exit) ≡ replicate (length (now (table .entry))) 0 ⌝ }
 {
-    let a = put_round(text, true, scratch, first);
-    let b = put_round(lines::cut(first, 0, a.end), a.dead, scratch, second);
-    let c = put_round(lines::cut(second, 0, b.end), b.dead, scratch, out);
+    let a = put_round(text, own, true, table, scratch, first);
+    let b = put_round(
+        lines::cut(first, 0, a.end),
+        own,
+        a.dead,
+        table,
+        scratch,
+        second,
+    );
+    let c = put_round(
+        lines::cut(second, 0, b.end),
+        own,
+        b.dead,
+        table,
+        scratch,
+        out,
+    );
+    lines::wipe(table, table.len());
     lines::wipe(scratch, larger(text.len(), larger(a.end, b.end)));
     c.end
 }

@@ -14,13 +14,13 @@ use Rattle.phis.proofs.any_dead.Statement.{statement}
 use Rattle.phis.proofs.any_dead.Tie as tie
 
 abbrev Inv-loop : tie.InvT-loop
-Inv-loop text table i₀ i = (i ≤ length text) × (anyOne (λ (l : List ℕ). storesDead (linesOf text) l) (linesOf (drop i text)) ≡ anyDead (linesOf text) (linesOf text))
+Inv-loop text own table i₀ i = (i ≤ length text) × (anyOne (λ (l : List ℕ). storesDead (linesOf text) l) (linesOf (drop i text)) ≡ anyDead (linesOf text) (linesOf text))
 
 abbrev μ-loop : tie.MeasureT-loop
-μ-loop text table i₀ i = length text - i
+μ-loop text own table i₀ i = length text - i
 
 loop-holds : tie.Need-loop-holds Inv-loop μ-loop
-loop-holds c = (omega arith, sym (dead-any (linesOf (c .before .before .args .text .now)) (linesOf (c .before .before .args .text .now))))
+loop-holds c = (omega arith, sym (dead-any (linesOf (c .before .before .before .args .text .now)) (linesOf (c .before .before .before .args .text .now))))
 
 find-byte-requires : tie.Need-find-byte-requires Inv-loop μ-loop
 find-byte-requires c κs = search needs
@@ -32,11 +32,11 @@ line-store-requires : tie.Need-line-store-requires Inv-loop μ-loop
 line-store-requires c κs = search needs
 
 dead-by-requires : tie.Need-dead-by-requires Inv-loop μ-loop
-dead-by-requires c κs = c .before .before .before .before .before .before .before .pre
+dead-by-requires c κs = c .before .before .before .before .before .before .before .before .pre
 
 returns : tie.Need-returns Inv-loop μ-loop
 returns c =
-    let a = c .before .before .before .before .before .before .before .before .before .args in
+    let a = c .before .before .before .before .before .before .before .before .before .before .args in
     let loop = c .before .before .before .before .before .before .loop in
     let find-byte = c .before .before .before .before .find-byte in
     let cut = c .before .before .before .cut in
@@ -50,7 +50,7 @@ loop-less c = omega (arith, c .after .ensures, c .before .before .before .before
 
 loop-again : tie.Need-loop-again Inv-loop μ-loop
 loop-again c =
-    let a = c .before .before .before .before .before .before .before .before .before .before .args in
+    let a = c .before .before .before .before .before .before .before .before .before .before .before .args in
     let loop = c .before .before .before .before .before .before .before .loop in
     let find-byte = c .before .before .before .before .before .find-byte in
     let cut = c .before .before .before .before .cut in
@@ -58,7 +58,7 @@ loop-again c =
 
 returns-2 : tie.Need-returns-2 Inv-loop μ-loop
 returns-2 c =
-    let a = c .before .before .before .before .args in
+    let a = c .before .before .before .before .before .args in
     sym (line-end (λ (l : List ℕ). storesDead (linesOf (a .text .now)) l) (a .text .now) (c .before .loop .i) (c .loop-test .left)) ∙ c .before .loop .inv .1
 
 pub any-dead-spec : {M : Type 1} → statement M

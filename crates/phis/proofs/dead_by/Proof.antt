@@ -17,10 +17,10 @@ enum-told : tie.Need-enum-told
 enum-told c = search needs
 
 returns : tie.Need-returns
-returns c = c .dead-phi .ensures ∙ sym (ap (λ (n : PhiName). phiDead n (linesOf (c .before .before .before .before .before .before .args .text .now))) (c .before .before .name .given .1))
+returns c = c .dead-phi .ensures ∙ sym (ap (λ (n : PhiName). phiDead n (linesOf (c .before .before .before .before .before .before .before .args .text .now))) (c .before .before .name .given .1))
 
 returns-2 : tie.Need-returns-2
-returns-2 c = sym (ap (λ (n : PhiName). phiDead n (linesOf (c .before .before .before .before .args .text .now))) (c .enum-told .given .1))
+returns-2 c = sym (ap (λ (n : PhiName). phiDead n (linesOf (c .before .before .before .before .before .args .text .now))) (c .enum-told .given .1))
 
 pub dead-by-spec : {M : Type 1} → statement M
 dead-by-spec = tie.close (tie.spec enum-known-name dead-phi-requires enum-told returns returns-2)

@@ -20,10 +20,10 @@ enum-told : tie.Need-enum-told
 enum-told c = search needs
 
 returns : tie.Need-returns
-returns c = ap not (c .dead-phi .ensures) ∙ sym (ap (liveBy (linesOf (c .before .before .before .before .before .before .before .before .args .text .now))) (sym (c .before .before .before .before .phi-name .ensures) ∙ c .before .before .q .given .1))
+returns c = ap not (c .dead-phi .ensures) ∙ sym (ap (liveBy (linesOf (c .before .before .before .before .before .before .before .before .before .args .text .now))) (sym (c .before .before .before .before .phi-name .ensures) ∙ c .before .before .q .given .1))
 
 returns-2 : tie.Need-returns-2
-returns-2 c = sym (ap (liveBy (linesOf (c .before .before .before .before .before .before .args .text .now))) (sym (c .before .before .phi-name .ensures) ∙ c .enum-told .given .1))
+returns-2 c = sym (ap (liveBy (linesOf (c .before .before .before .before .before .before .before .args .text .now))) (sym (c .before .before .phi-name .ensures) ∙ c .enum-told .given .1))
 
 pub is-live-spec : {M : Type 1} → statement M
 is-live-spec =

@@ -31,8 +31,8 @@ dead-by-requires c κs = search needs
 
 put-store-requires : tie.Need-put-store-requires
 put-store-requires c κs =
-    let a = c .before .before .before .before .before .before .before .before .before .before .before .before .before .args in
-    let pre = c .before .before .before .before .before .before .before .before .before .before .before .before .before .pre .1 in
+    let a = c .before .before .before .before .before .before .before .before .before .before .before .before .before .before .args in
+    let pre = c .before .before .before .before .before .before .before .before .before .before .before .before .before .before .pre .1 in
     let trim-start = c .before .before .before .before .before .before .before .trim-start in
     let trim-from = c .before .before .before .before .before .before .trim-from in
     let cut = c .before .before .before .before .before .cut in
@@ -51,7 +51,7 @@ same-length-2 c = search needs
 
 returns : tie.Need-returns
 returns c =
-    let a = c .before .before .before .before .before .before .before .before .before .before .before .before .before .before .before .before .before .before .args in
+    let a = c .before .before .before .before .before .before .before .before .before .before .before .before .before .before .before .before .before .before .before .args in
     let trim-start = c .before .before .before .before .before .before .before .before .before .before .before .before .trim-start in
     let trim-from = c .before .before .before .before .before .before .before .before .before .before .before .trim-from in
     let cut = c .before .before .before .before .before .before .before .before .before .before .cut in
@@ -70,19 +70,19 @@ cut-requires-2 c κs = search needs
 
 put-decl-requires : tie.Need-put-decl-requires
 put-decl-requires c κs =
-    let a = c .before .before .before .before .before .before .before .before .before .before .before .before .before .before .before .args in
+    let a = c .before .before .before .before .before .before .before .before .before .before .before .before .before .before .before .before .args in
     let trim-start = c .before .before .before .before .before .before .before .before .before .trim-start in
     let trim-from = c .before .before .before .before .before .before .before .before .trim-from in
     let cut = c .before .before .before .before .before .before .before .cut in
     let phi-store = c .before .before .before .before .before .before .phi-store in
-    (c .before .before .before .before .before .before .before .before .before .before .before .before .before .before .before .pre .0, omega (arith, c .before .before .before .before .before .before .before .before .before .before .before .before .before .before .before .pre .1 .1, ap length (change-decl plain (linesOf (a .text .now)) (a .line .now) (trim-start .result .now) (cut .result .now) (trim-from .result) (trim-start .ensures) (trim-from .ensures) (cut .ensures) (phi-store .result) (phi-store .ensures) (so (c .before .before .before .before .before .dead-by .ensures) (c .before .before .before .before .if1 .left)) (so (c .before .before .before .phi-decl .ensures) (c .before .before .if2 .taken)) (c .before .cut2 .result .now) (c .before .cut2 .ensures))))
+    (c .before .before .before .before .before .before .before .before .before .before .before .before .before .before .before .before .pre .0, omega (arith, c .before .before .before .before .before .before .before .before .before .before .before .before .before .before .before .before .pre .1 .1, ap length (change-decl plain (linesOf (a .text .now)) (a .line .now) (trim-start .result .now) (cut .result .now) (trim-from .result) (trim-start .ensures) (trim-from .ensures) (cut .ensures) (phi-store .result) (phi-store .ensures) (so (c .before .before .before .before .before .dead-by .ensures) (c .before .before .before .before .if1 .left)) (so (c .before .before .before .phi-decl .ensures) (c .before .before .if2 .taken)) (c .before .cut2 .result .now) (c .before .cut2 .ensures))))
 
 same-length-3 : tie.Need-same-length-3
 same-length-3 c = search needs
 
 returns-2 : tie.Need-returns-2
 returns-2 c =
-    let a = c .before .before .before .before .before .before .before .before .before .before .before .before .before .before .before .before .before .before .args in
+    let a = c .before .before .before .before .before .before .before .before .before .before .before .before .before .before .before .before .before .before .before .args in
     let trim-start = c .before .before .before .before .before .before .before .before .before .before .before .before .trim-start in
     let trim-from = c .before .before .before .before .before .before .before .before .before .before .before .trim-from in
     let cut = c .before .before .before .before .before .before .before .before .before .before .cut in
@@ -92,19 +92,19 @@ returns-2 c =
 
 put-line-requires : tie.Need-put-line-requires
 put-line-requires c κs =
-    let a = c .before .before .before .before .before .before .before .before .before .before .before .before .before .before .args in
+    let a = c .before .before .before .before .before .before .before .before .before .before .before .before .before .before .before .args in
     let trim-start = c .before .before .before .before .before .before .before .before .trim-start in
     let trim-from = c .before .before .before .before .before .before .before .trim-from in
     let cut = c .before .before .before .before .before .before .cut in
     let phi-store = c .before .before .before .before .before .phi-store in
-    omega (arith, c .before .before .before .before .before .before .before .before .before .before .before .before .before .before .pre .1 .1, ap length (change-keep plain (linesOf (a .text .now)) (a .line .now) (trim-start .result .now) (cut .result .now) (trim-from .result) (trim-start .ensures) (trim-from .ensures) (cut .ensures) (phi-store .result) (phi-store .ensures) (so (c .before .before .before .before .dead-by .ensures) (c .before .before .before .if1 .left)) (so (c .before .before .phi-decl .ensures) (c .before .if2 .left))))
+    omega (arith, c .before .before .before .before .before .before .before .before .before .before .before .before .before .before .before .pre .1 .1, ap length (change-keep plain (linesOf (a .text .now)) (a .line .now) (trim-start .result .now) (cut .result .now) (trim-from .result) (trim-start .ensures) (trim-from .ensures) (cut .ensures) (phi-store .result) (phi-store .ensures) (so (c .before .before .before .before .dead-by .ensures) (c .before .before .before .if1 .left)) (so (c .before .before .phi-decl .ensures) (c .before .if2 .left))))
 
 same-length-4 : tie.Need-same-length-4
 same-length-4 c = search needs
 
 returns-3 : tie.Need-returns-3
 returns-3 c =
-    let a = c .before .before .before .before .before .before .before .before .before .before .before .before .before .before .before .before .before .args in
+    let a = c .before .before .before .before .before .before .before .before .before .before .before .before .before .before .before .before .before .before .args in
     let trim-start = c .before .before .before .before .before .before .before .before .before .before .before .trim-start in
     let trim-from = c .before .before .before .before .before .before .before .before .before .before .trim-from in
     let cut = c .before .before .before .before .before .before .before .before .before .cut in

@@ -13,15 +13,15 @@ use Rattle.phis.proofs.put_decl.Statement.{statement}
 use Rattle.phis.proofs.put_decl.Tie as tie
 
 abbrev Inv-loop : tie.InvT-loop
-Inv-loop body indent text table out₀ o i₀ p₀ out i p = DeclInv (live (linesOf text)) 3 indent body out₀ out o i p
+Inv-loop body indent text own table out₀ o i₀ p₀ out i p = DeclInv (live (linesOf text)) 3 indent body out₀ out o i p
 
 abbrev μ-loop : tie.MeasureT-loop
-μ-loop body indent text table out₀ o i₀ p₀ out i p = length body - i
+μ-loop body indent text own table out₀ o i₀ p₀ out i p = length body - i
 
 loop-holds : tie.Need-loop-holds Inv-loop μ-loop
 loop-holds c =
-    let a = c .before .before .before .before .before .args in
-    decl-start (live (linesOf (a .text .now))) 3 (a .indent .now) (a .body .now) (a .out .now) (a .o) (c .before .before .before .before .before .pre .1)
+    let a = c .before .before .before .before .before .before .args in
+    decl-start (live (linesOf (a .text .now))) 3 (a .indent .now) (a .body .now) (a .out .now) (a .o) (c .before .before .before .before .before .before .pre .1)
 
 find-byte-requires : tie.Need-find-byte-requires Inv-loop μ-loop
 find-byte-requires c κs = search needs
@@ -33,7 +33,7 @@ trim-requires : tie.Need-trim-requires Inv-loop μ-loop
 trim-requires c κs = search needs
 
 is-live-requires : tie.Need-is-live-requires Inv-loop μ-loop
-is-live-requires c κs = c .before .before .before .before .before .before .before .before .before .pre .0
+is-live-requires c κs = c .before .before .before .before .before .before .before .before .before .before .pre .0
 
 put-part-requires : tie.Need-put-part-requires Inv-loop μ-loop
 put-part-requires c κs =

@@ -1,14 +1,16 @@
 -- `phis::put_round` meets its contract. Assumes nothing.
+use borrow.Author.Needs.{needs}
+use Prim.Native.Nat.{ℕ}
 use native.Mathlib.Omega.{arith}
-use mathlib.Core.Path.{refl, sym, ap}
-use lib.ListN.{length}
+use mathlib.Core.Path.{refl, sym, ap, _∙_}
+use lib.ListN.{length, length-replicate}
 use borrow.Author.Tests.{not-true}
 use Rattle.lines.specs.Lf.{linesOf}
 use Rattle.lines.proofs.Tests.{so}
-use Rattle.lines.proofs.OutLaws.{wrote-as}
+use Rattle.lines.proofs.OutLaws.{wrote-as, wrote-whole}
+use Rattle.phis.specs.Inner.Table.{noteLines}
 use Rattle.phis.proofs.TableLaws.{table-tells}
 use Rattle.phis.proofs.Whole.{none-round, calm-dead}
-use borrow.Author.Needs.{needs}
 use Rattle.phis.proofs.put_round.Statement.{statement}
 use Rattle.phis.proofs.put_round.Tie as tie
 
@@ -17,7 +19,7 @@ may-change-requires c κs = search needs
 
 put-lines-requires : tie.Need-put-lines-requires
 put-lines-requires c κs =
-    let a = c .before .before .before .before .before .before in
+    let a = c .before .before .before .before .before .before .before .before in
     omega (arith, a .pre .1 .1, ap length (none-round (a .args .text .now) (calm-dead (a .args .text .now) (a .args .dead) (a .pre .0) (so (c .before .before .may-change .ensures) (not-true _ (c .before .if1 .taken))))))
 
 same-length : tie.Need-same-length
@@ -25,27 +27,30 @@ same-length c = search needs
 
 returns : tie.Need-returns
 returns c =
-    let a = c .before .before .before .before .before .before .before .before .before in
+    let a = c .before .before .before .before .before .before .before .before .before .before .before in
     let k = calm-dead (a .args .text .now) (a .args .dead) (a .pre .0) (so (c .before .before .before .before .before .may-change .ensures) (not-true _ (c .before .before .before .before .if1 .taken))) in
     (wrote-as (none-round (a .args .text .now) k) (c .before .before .put-lines .ensures), (sym k, refl))
 
-slice-aggregate-note-lines : tie.Need-slice-aggregate-note-lines
-slice-aggregate-note-lines c = search needs
+wipe-requires : tie.Need-wipe-requires
+wipe-requires c κs = search needs
 
 note-lines-requires : tie.Need-note-lines-requires
 note-lines-requires c κs = search needs
 
-slice-aggregate-put-with : tie.Need-slice-aggregate-put-with
-slice-aggregate-put-with c = search needs
-
 put-with-requires : tie.Need-put-with-requires
-put-with-requires c κs = (table-tells (linesOf (c .before .before .before .before .before .before .before .before .before .before .before .args .text .now)) 1024 _ (omega arith) (c .before .before .before .before .note-lines .ensures), c .before .before .before .before .before .before .before .before .before .before .before .pre .1)
+put-with-requires c κs =
+    let a = c .before .before .before .before .before .before .before .before .before .before .before .before .before .before .before .before .before .before .args in
+    let n = length (a .table .now) in
+    (table-tells (a .own .now) (linesOf (a .text .now)) n _ (c .before .before .before .before .before .note-lines .ensures ∙ ap (noteLines (a .own .now) (linesOf (a .text .now))) (wrote-whole (c .before .before .before .before .before .before .before .before .before .wipe .ensures) (length-replicate {A = ℕ} n 0))), c .before .before .before .before .before .before .before .before .before .before .before .before .before .before .before .before .before .before .pre .1)
 
 same-length-2 : tie.Need-same-length-2
 same-length-2 c = search needs
 
 same-length-3 : tie.Need-same-length-3
 same-length-3 c = search needs
+
+same-length-4 : tie.Need-same-length-4
+same-length-4 c = search needs
 
 returns-2 : tie.Need-returns-2
 returns-2 c = search needs
@@ -58,10 +63,10 @@ put-round-spec =
     put-lines-requires
     same-length
     returns
-    slice-aggregate-note-lines
+    wipe-requires
     note-lines-requires
-    slice-aggregate-put-with
     put-with-requires
     same-length-2
     same-length-3
+    same-length-4
     returns-2)

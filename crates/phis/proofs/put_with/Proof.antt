@@ -13,25 +13,25 @@ use Rattle.phis.proofs.put_with.Statement.{statement}
 use Rattle.phis.proofs.put_with.Tie as tie
 
 abbrev Inv-loop : tie.InvT-loop
-Inv-loop text table scratch₀ out₀ i₀ o₀ scratch out i o = RoundInv text scratch₀ out₀ scratch out i o
+Inv-loop text own table scratch₀ out₀ i₀ o₀ scratch out i o = RoundInv text scratch₀ out₀ scratch out i o
 
 abbrev μ-loop : tie.MeasureT-loop
-μ-loop text table scratch₀ out₀ i₀ o₀ scratch out i o = length text - i
+μ-loop text own table scratch₀ out₀ i₀ o₀ scratch out i o = length text - i
 
 any-dead-requires : tie.Need-any-dead-requires Inv-loop μ-loop
-any-dead-requires c κs = c .before .before .before .before .pre .0
+any-dead-requires c κs = c .before .before .before .before .before .pre .0
 
 put-lines-requires : tie.Need-put-lines-requires Inv-loop μ-loop
-put-lines-requires c κs = omega (arith, c .before .before .before .before .before .before .before .pre .1 .1, ap length (none-round (c .before .before .before .before .before .before .before .args .text .now) (so (c .before .before .any-dead .ensures) (not-true _ (c .before .if1 .taken)))))
+put-lines-requires c κs = omega (arith, c .before .before .before .before .before .before .before .before .pre .1 .1, ap length (none-round (c .before .before .before .before .before .before .before .before .args .text .now) (so (c .before .before .any-dead .ensures) (not-true _ (c .before .if1 .taken)))))
 
 same-length : tie.Need-same-length Inv-loop μ-loop
 same-length c = search needs
 
 returns : tie.Need-returns Inv-loop μ-loop
-returns c = (wrote-as (none-round (c .before .before .before .before .before .before .before .before .before .before .args .text .now) (so (c .before .before .before .before .before .any-dead .ensures) (not-true _ (c .before .before .before .before .if1 .taken)))) (c .before .before .put-lines .ensures), (sym (so (c .before .before .before .before .before .any-dead .ensures) (not-true _ (c .before .before .before .before .if1 .taken))), refl))
+returns c = (wrote-as (none-round (c .before .before .before .before .before .before .before .before .before .before .before .args .text .now) (so (c .before .before .before .before .before .any-dead .ensures) (not-true _ (c .before .before .before .before .if1 .taken)))) (c .before .before .put-lines .ensures), (sym (so (c .before .before .before .before .before .any-dead .ensures) (not-true _ (c .before .before .before .before .if1 .taken))), refl))
 
 loop-holds : tie.Need-loop-holds Inv-loop μ-loop
-loop-holds c = let pre = c .before .before .before .before .before .before .pre in round-start _ _ _ (pre .1 .0) (pre .1 .1) (so (c .before .any-dead .ensures) (not-false _ (c .if1 .left)))
+loop-holds c = let pre = c .before .before .before .before .before .before .before .pre in round-start _ _ _ (pre .1 .0) (pre .1 .1) (so (c .before .any-dead .ensures) (not-false _ (c .if1 .left)))
 
 find-byte-requires : tie.Need-find-byte-requires Inv-loop μ-loop
 find-byte-requires c κs = search needs
@@ -40,7 +40,7 @@ cut-requires : tie.Need-cut-requires Inv-loop μ-loop
 cut-requires c κs = search needs
 
 put-line-requires : tie.Need-put-line-requires Inv-loop μ-loop
-put-line-requires c κs = let find-byte = c .before .before .before .find-byte in let cut = c .before .before .cut in (c .before .before .before .before .before .before .before .before .before .before .before .before .pre .0, round-room (c .before .before .before .before .before .loop .inv) (find-byte .result) (c .before .before .before .before .loop-test .taken) (find-byte .ensures) (cut .result .now) (cut .ensures))
+put-line-requires c κs = let find-byte = c .before .before .before .find-byte in let cut = c .before .before .cut in (c .before .before .before .before .before .before .before .before .before .before .before .before .before .pre .0, round-room (c .before .before .before .before .before .loop .inv) (find-byte .result) (c .before .before .before .before .loop-test .taken) (find-byte .ensures) (cut .result .now) (cut .ensures))
 
 after-requires : tie.Need-after-requires Inv-loop μ-loop
 after-requires c κs = search needs
@@ -49,7 +49,7 @@ loop-less : tie.Need-loop-less Inv-loop μ-loop
 loop-less c = omega (arith, c .after .ensures, c .before .before .before .before .before .before .before .before .before .find-byte .ensures, c .before .before .before .before .before .before .before .before .before .before .loop-test .taken)
 
 loop-again : tie.Need-loop-again Inv-loop μ-loop
-loop-again c = let find-byte = c .before .before .before .before .before .before .before .before .before .find-byte in let cut = c .before .before .before .before .before .before .before .before .cut in let put-line = c .before .before .before .before .before .put-line in round-on (c .before .before .before .before .before .before .before .before .before .before .before .loop .inv) (find-byte .result) (c .before .before .before .before .before .before .before .before .before .before .loop-test .taken) (find-byte .ensures) (cut .result .now) (cut .ensures) _ _ _ _ (put-line .ensures .0) (put-line .ensures .1) (put-line .kept .1 .1 .1 .0) (c .after .ensures)
+loop-again c = let find-byte = c .before .before .before .before .before .before .before .before .before .find-byte in let cut = c .before .before .before .before .before .before .before .before .cut in let put-line = c .before .before .before .before .before .put-line in round-on (c .before .before .before .before .before .before .before .before .before .before .before .loop .inv) (find-byte .result) (c .before .before .before .before .before .before .before .before .before .before .loop-test .taken) (find-byte .ensures) (cut .result .now) (cut .ensures) _ _ _ _ (put-line .ensures .0) (put-line .ensures .1) (put-line .kept .1 .1 .1 .1 .0) (c .after .ensures)
 
 same-length-2 : tie.Need-same-length-2 Inv-loop μ-loop
 same-length-2 c = c .before .loop .inv .same-scratch

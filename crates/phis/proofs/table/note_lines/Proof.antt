@@ -8,13 +8,13 @@ use Rattle.phis.proofs.table.note_lines.Statement.{statement}
 use Rattle.phis.proofs.table.note_lines.Tie as tie
 
 abbrev Inv-loop : tie.InvT-loop
-Inv-loop text table₀ i₀ table i = LinesInv text table₀ table i
+Inv-loop text own table₀ i₀ table i = LinesInv own text table₀ table i
 
 abbrev μ-loop : tie.MeasureT-loop
-μ-loop text table₀ i₀ table i = length text - i
+μ-loop text own table₀ i₀ table i = length text - i
 
 loop-holds : tie.Need-loop-holds Inv-loop μ-loop
-loop-holds c = lines-start _ _
+loop-holds c = lines-start _ _ _
 
 find-byte-requires : tie.Need-find-byte-requires Inv-loop μ-loop
 find-byte-requires c κs = search needs

@@ -22,10 +22,10 @@ same-length : tie.Need-same-length
 same-length c = search needs
 
 returns : tie.Need-returns
-returns c = let a = c .before .before .before .before .before .before .before .before .before .before .args in c .before .before .note-read .ensures ∙ sym (ap (λ (n : PhiName). noteName (a .own) (a .r .now) n (a .table .now)) (sym (c .before .before .before .before .before .before .before .phi-name .ensures) ∙ c .before .before .before .before .before .q .given .1))
+returns c = let a = c .before .before .before .before .before .before .before .before .before .before .before .args in c .before .before .note-read .ensures ∙ sym (ap (λ (n : PhiName). noteName (a .own .now) (a .stored) (a .r .now) n (a .table .now)) (sym (c .before .before .before .before .before .before .before .phi-name .ensures) ∙ c .before .before .before .before .before .q .given .1))
 
 returns-2 : tie.Need-returns-2
-returns-2 c = let a = c .before .before .before .before .before .args in sym (ap (λ (n : PhiName). noteName (a .own) (a .r .now) n (a .table .now)) (sym (c .before .before .phi-name .ensures) ∙ c .enum-told .given .1))
+returns-2 c = let a = c .before .before .before .before .before .before .args in sym (ap (λ (n : PhiName). noteName (a .own .now) (a .stored) (a .r .now) n (a .table .now)) (sym (c .before .before .phi-name .ensures) ∙ c .enum-told .given .1))
 
 pub note-run-spec : {M : Type 1} → statement M
 note-run-spec =

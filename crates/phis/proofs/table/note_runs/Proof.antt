@@ -9,13 +9,13 @@ use Rattle.phis.proofs.table.note_runs.Statement.{statement}
 use Rattle.phis.proofs.table.note_runs.Tie as tie
 
 abbrev Inv-loop : tie.InvT-loop
-Inv-loop s own table₀ a₀ i₀ table a i = RunsInv own s table₀ table a i
+Inv-loop s own stored table₀ a₀ i₀ table a i = RunsInv own stored s table₀ table a i
 
 abbrev μ-loop : tie.MeasureT-loop
-μ-loop s own table₀ a₀ i₀ table a i = length s - i
+μ-loop s own stored table₀ a₀ i₀ table a i = length s - i
 
 loop-holds : tie.Need-loop-holds Inv-loop μ-loop
-loop-holds c = let a = c .before .before .args in runs-start (a .own) (a .s .now) (a .table .now)
+loop-holds c = let a = c .before .before .before .args in runs-start (a .own .now) (a .stored) (a .s .now) (a .table .now)
 
 shared-slice-read-is-name-byte : tie.Need-shared-slice-read-is-name-byte Inv-loop μ-loop
 shared-slice-read-is-name-byte c = search needs

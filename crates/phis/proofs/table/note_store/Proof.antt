@@ -19,7 +19,7 @@ same-length : tie.Need-same-length
 same-length c = search needs
 
 returns : tie.Need-returns
-returns c = c .before .before .note-stored .ensures ∙ sym (ap (λ (n : PhiName). noteStore n (c .before .before .before .before .before .before .before .before .args .table .now)) (c .before .before .before .before .before .name .given .1))
+returns c = c .before .before .note-stored .ensures ∙ sym (ap (λ (n : PhiName). noteStore (c .before .before .before .before .before .before .before .before .before .args .own .now) n (c .before .before .before .before .before .before .before .before .before .args .table .now)) (c .before .before .before .before .before .name .given .1))
 
 returns-2 : tie.Need-returns-2
 returns-2 c = search needs
