@@ -21,10 +21,9 @@ use Rattle.words.specs.Runs.{flush, runsGo, runs}
 use Rattle.words.specs.Inner.Runs.{runLen, regGap}
 use Rattle.words.proofs.Walk.{RegWalk, regs-start, regs-less, regs-on, regs-end}
 use Rattle.names.proofs.Texts.{reg-first}
-use Rattle.decls.specs.Inner.Seen.{markName}
-use Rattle.decls.proofs.SeenLaws.{set-past, name-length}
+use Rattle.decls.proofs.SeenLaws.{set-past}
 use Rattle.bind.specs.Bind.{piecesOf}
-use Rattle.bind.specs.Inner.Index.{afterStore, afterRead, readName, readRuns, storeLine, useLine, useLines, againReg, againName, seenPieces, againPieces, seenLines, againLines, seenAt, firstAt, asked}
+use Rattle.bind.specs.Inner.Index.{markName, afterStore, afterRead, readName, readRuns, storeLine, useLine, useLines, againReg, againName, seenPieces, againPieces, seenLines, againLines, seenAt, firstAt, asked}
 
 -- ---- one register
 
@@ -92,6 +91,10 @@ again-length m b (name.Reg q) d u = go (ltb (getD d (q .0) 0) m)
     go : (t : Bool) → length (cond t u (set u (q .0) b)) ≡ length u
     go true = refl
     go false = length-set u (q .0) b
+
+pub name-length : (m : ℕ) (r : RegName) (d : List ℕ) → length (markName m r d) ≡ length d
+name-length m name.None d = refl
+name-length m (name.Reg q) d = length-set d (q .0) m
 
 pub seen-pieces-length : (m : ℕ) (ps : List (List ℕ)) (d : List ℕ) → length (seenPieces m ps d) ≡ length d
 unfolding seenPieces

@@ -19,13 +19,12 @@ use Rattle.parse.specs.declared.Line.{Line}
 use Rattle.parse.specs.declared.Line.the-variants as line
 use Rattle.words.specs.Runs.{runsGo, runs, countBy, readsOf}
 use Rattle.reading.specs.Uses.{lineReads, storesBy, lineStores, lineUses, usedIn}
-use Rattle.decls.specs.Inner.Seen.{markName, AtMost}
-use Rattle.decls.proofs.SeenLaws.{name-length}
+use Rattle.decls.specs.Inner.Seen.{AtMost}
 use Rattle.bind.specs.Bind.{pieceCount, declCount, storeCount, piecesOf}
 use Rattle.bind.specs.Inner.Steps.{useRow, storesAt}
-use Rattle.bind.specs.Inner.Index.{afterStore, afterRead, readName, readRuns, storeLine, useLine, useLines, againReg, againName, seenPieces, againPieces, seenLines, againLines, asked}
+use Rattle.bind.specs.Inner.Index.{markName, afterStore, afterRead, readName, readRuns, storeLine, useLine, useLines, againReg, againName, seenPieces, againPieces, seenLines, againLines, asked}
 use Rattle.bind.proofs.CountLaws.{piece-cons, piece-nil, decl-cons, decl-nil, store-cons, store-nil, use-here, use-next, use-nil}
-use Rattle.bind.proofs.IndexLaws.{read-length, store-length, use-length, uses-length, again-length, seen-pieces-length, again-pieces-length, agains-length}
+use Rattle.bind.proofs.IndexLaws.{name-length, read-length, store-length, use-length, uses-length, again-length, seen-pieces-length, again-pieces-length, agains-length}
 
 -- ---- the entry of register v, step by step
 

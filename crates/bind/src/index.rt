@@ -10,9 +10,8 @@ ghost use Rattle.names.specs.Names.{regOf};
 ghost use Rattle.parse.specs.Parse.{isDecl};
 ghost use Rattle.parse.specs.declared.Line.the-variants.{Store};
 ghost use Rattle.words.specs.Runs.{runs};
-ghost use Rattle.decls.specs.Inner.Seen.{markName};
 ghost use Rattle.bind.specs.Bind.{piecesOf};
-ghost use Rattle.bind.specs.Inner.Index.{afterStore, afterRead, readName, readRuns, storeLine, useLine, useLines, againReg, againName, seenPieces, againPieces, seenLines, againLines, seenAt, firstAt, asked};
+ghost use Rattle.bind.specs.Inner.Index.{markName, afterStore, afterRead, readName, readRuns, storeLine, useLine, useLines, againReg, againName, seenPieces, againPieces, seenLines, againLines, seenAt, firstAt, asked};
 
 // Notes that a line reads a register.
 fn read_reg(reg: names::Register, b: usize, first: &mut [usize])

@@ -24,15 +24,19 @@ use Rattle.words.specs.Inner.Runs.{runLen, regGap}
 use Rattle.words.proofs.Walk.{RegWalk, regs-start, regs-less, regs-on, regs-end}
 use Rattle.place.specs.Region.{isHeader, region}
 use Rattle.reading.specs.Uses.{lineReads, storesBy, lineStores}
-use Rattle.decls.specs.Inner.Seen.{markName, markStore, AtMost}
-use Rattle.decls.proofs.SeenLaws.{set-past, name-length}
+use Rattle.decls.specs.Inner.Seen.{AtMost}
+use Rattle.decls.proofs.SeenLaws.{set-past}
 use Rattle.once.specs.Once.{readCount}
-use Rattle.once.specs.Inner.Noted.{firstBy, readFrom, headFrom, farFrom, farName, takeBack, backName, Reads, readName, readRuns, areaOf, Begins, StartOf, lineNote, NoteIs, firstLine, NotesOf, OneOf}
+use Rattle.once.specs.Inner.Noted.{markName, markStore, firstBy, readFrom, headFrom, farFrom, farName, takeBack, backName, Reads, readName, readRuns, areaOf, Begins, StartOf, lineNote, NoteIs, firstLine, NotesOf, OneOf}
 use Rattle.once.proofs.NextLaws.{Nexts, note-is, line-one, note-nothing, note-less}
 use Rattle.once.proofs.AreaLaws.{OneUp, one-new, one-on, one-done}
 use Rattle.once.proofs.BackLaws.{begins-lf, rows-back, line-back, start-of}
 
 -- ---- what stands at a register below the end
+
+name-length : (m : ℕ) (r : RegName) (d : List ℕ) → length (markName m r d) ≡ length d
+name-length m name.None d = refl
+name-length m (name.Reg q) d = length-set d (q .0) m
 
 name-near : (m v : ℕ) (r : RegName) (d : List ℕ) → v < length d → getD (markName m r d) v 0 ≡ cond (regIs v r) m (getD d v 0)
 name-near m v name.None d h = refl

@@ -826,5 +826,7 @@ pub fn optimize_once(
     let mut ends = [0usize; 1024];
     let n = decide(text, scratch, loops, marks, paths, up, &mut ends);
     let m = put_acts(text, &marks[0..n], &ends, mid);
-    decls::prune_decls(&mid[0..m], out)
+    let own = [0usize; 1];
+    let mut seen = [0usize; 1024];
+    decls::prune_decls(&mid[0..m], &own[0..0], &mut seen, out)
 }

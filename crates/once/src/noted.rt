@@ -9,8 +9,8 @@ ghost use Rattle.names.specs.Names.{regOf};
 ghost use Rattle.parse.specs.Parse.{textOf};
 ghost use Rattle.words.specs.Runs.{runs};
 ghost use Rattle.place.specs.Region.{isHeader};
-ghost use Rattle.decls.specs.Inner.Seen.{markName, markStore, AtMost};
-ghost use Rattle.once.specs.Inner.Noted.{OneOf, farName, takeBack, backName, readRuns, StartOf, samePath, storeNote, lineNote, NotesOf, EndIs, EndsOf};
+ghost use Rattle.decls.specs.Inner.Seen.{AtMost};
+ghost use Rattle.once.specs.Inner.Noted.{markName, markStore, OneOf, farName, takeBack, backName, readRuns, StartOf, samePath, storeNote, lineNote, NotesOf, EndIs, EndsOf};
 
 // The entry of a table, or 0 past its end.
 fn entry(d: &[usize], i: usize) -> usize

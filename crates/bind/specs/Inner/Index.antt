@@ -14,7 +14,6 @@ use Rattle.parse.specs.Parse.{isDecl, parseOf, textOf}
 use Rattle.parse.specs.declared.Line.{Line}
 use Rattle.parse.specs.declared.Line.the-variants as line
 use Rattle.words.specs.Runs.{runs}
-use Rattle.decls.specs.Inner.Seen.{markName}
 use Rattle.bind.specs.declared.Site.{Site}
 use Rattle.bind.specs.Bind.{piecesOf}
 use Rattle.bind.specs.Inner.Steps.{belowOf, boundAt, markRow, Reach}
@@ -57,6 +56,11 @@ useLines b k [] u = u
 useLines b k (l ∷ ls) u = useLines b (k + 1) ls (useLine b (k + 1) l u)
 
 -- ---- declarations: a register that is named has the entry m in d, and where it is named again, b in u
+
+-- the table d with the mark m at the register that a name is
+abbrev pub markName : ℕ → RegName → List ℕ → List ℕ
+markName m name.None d = d
+markName m (name.Reg q) d = set d (q .0) m
 
 -- the table u after register v
 abbrev pub againReg : ℕ → ℕ → ℕ → List ℕ → List ℕ → List ℕ

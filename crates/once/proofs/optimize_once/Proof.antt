@@ -1,3 +1,4 @@
+-- `once::optimize_once` meets its contract. Assumes nothing.
 use borrow.Author.Needs.{needs}
 use mathlib.Core.Path.{ap, _∙_}
 use native.Mathlib.Omega.{arith}
@@ -8,11 +9,6 @@ use Rattle.decls.proofs.SeenLaws.{zeros-most}
 use Rattle.once.proofs.Passes.{filled-part, filled-to, filled-le, wrote-first, wrote-to, acts-text, once-text}
 use Rattle.once.proofs.optimize_once.Statement.{statement}
 use Rattle.once.proofs.optimize_once.Tie as tie
-use Rattle.once.proofs.optimize_once.Reads as reads
-use Rattle.once.proofs.optimize_once.Lts as lts
-use Rattle.decls.proofs.prune_decls.Reads as prune-decls-reads
-use Rattle.once.proofs.decide.Reads as decide-reads
-use Rattle.once.proofs.put_acts.Reads as put-acts-reads
 
 slice-aggregate-decide : tie.Need-slice-aggregate-decide
 slice-aggregate-decide c = search needs
@@ -44,10 +40,22 @@ part-prune-decls-start c = search needs
 part-prune-decls-end : tie.Need-part-prune-decls-end
 part-prune-decls-end c = search needs
 
+sub-prune-decls-2 : tie.Need-sub-prune-decls-2
+sub-prune-decls-2 c = search needs
+
+part-prune-decls-start-2 : tie.Need-part-prune-decls-start-2
+part-prune-decls-start-2 c = search needs
+
+part-prune-decls-end-2 : tie.Need-part-prune-decls-end-2
+part-prune-decls-end-2 c = search needs
+
+slice-aggregate-prune-decls : tie.Need-slice-aggregate-prune-decls
+slice-aggregate-prune-decls c = search needs
+
 prune-decls-requires : tie.Need-prune-decls-requires
 prune-decls-requires c κs =
-    let t = c .before .before .before .before .before .before .before .before .before .before .before .before .before .before .before .before .before .before .before .before .before .before .before .before .before .before .before .before .before .before .before .before .before .before .before .before .args .text .now in
-    omega (arith, ap length (once-text t _ (wrote-first (c .before .before .before .before .before .put-acts .ensures) ∙ acts-text (linesOf t) (filled-part (c .before .before .before .before .before .before .before .before .before .before .before .before .before .before .before .before .before .before .before .before .before .decide .ensures .0)))), c .before .before .before .before .before .before .before .before .before .before .before .before .before .before .before .before .before .before .before .before .before .before .before .before .before .before .before .before .before .before .before .before .before .before .before .before .pre .1 .1 .1 .1 .1 .1 .1)
+    let t = c .before .before .before .before .before .before .before .before .before .before .before .before .before .before .before .before .before .before .before .before .before .before .before .before .before .before .before .before .before .before .before .before .before .before .before .before .before .before .before .args .text .now in
+    omega (arith, ap length (once-text t _ (wrote-first (c .before .before .before .before .before .before .before .before .put-acts .ensures) ∙ acts-text (linesOf t) (filled-part (c .before .before .before .before .before .before .before .before .before .before .before .before .before .before .before .before .before .before .before .before .before .before .before .before .decide .ensures .0)))), c .before .before .before .before .before .before .before .before .before .before .before .before .before .before .before .before .before .before .before .before .before .before .before .before .before .before .before .before .before .before .before .before .before .before .before .before .before .before .before .pre .1 .1 .1 .1 .1 .1 .1)
 
 same-length : tie.Need-same-length
 same-length c = search needs
@@ -72,12 +80,12 @@ same-length-7 c = search needs
 
 returns : tie.Need-returns
 returns c =
-    let t = c .before .before .before .before .before .before .before .before .before .before .before .before .before .before .before .before .before .before .before .before .before .before .before .before .before .before .before .before .before .before .before .before .before .before .before .before .before .before .before .args .text .now in
-    let d = c .before .before .before .before .before .before .before .before .before .before .before .before .before .before .before .before .before .before .before .before .before .before .before .before .decide .ensures in
-    let w = c .before .before .before .before .before .before .before .before .put-acts .ensures in
+    let t = c .before .before .before .before .before .before .before .before .before .before .before .before .before .before .before .before .before .before .before .before .before .before .before .before .before .before .before .before .before .before .before .before .before .before .before .before .before .before .before .before .before .before .before .args .text .now in
+    let d = c .before .before .before .before .before .before .before .before .before .before .before .before .before .before .before .before .before .before .before .before .before .before .before .before .before .before .before .before .decide .ensures in
+    let w = c .before .before .before .before .before .before .before .before .before .before .before .before .put-acts .ensures in
     let q = acts-text (linesOf t) (filled-part (d .0)) in
     let r = d .1 .0 in
-    (wrote-as (once-text t _ (wrote-first w ∙ q)) (c .before .before .prune-decls .ensures), (r .0, (wrote-to (wrote-as q w), (r .1 .0, (filled-to (d .0), (r .1 .1 .0, r .1 .1 .1))))))
+    (wrote-as (once-text t _ (wrote-first w ∙ q)) (c .before .before .before .prune-decls .ensures .0), (r .0, (wrote-to (wrote-as q w), (r .1 .0, (filled-to (d .0), (r .1 .1 .0, r .1 .1 .1))))))
 
 pub optimize-once-spec : {M : Type 1} → statement M
 optimize-once-spec =
@@ -93,6 +101,10 @@ optimize-once-spec =
     sub-prune-decls
     part-prune-decls-start
     part-prune-decls-end
+    sub-prune-decls-2
+    part-prune-decls-start-2
+    part-prune-decls-end-2
+    slice-aggregate-prune-decls
     prune-decls-requires
     same-length
     same-length-2

@@ -18,7 +18,6 @@ use Rattle.parse.specs.declared.Line.{Line}
 use Rattle.parse.specs.declared.Line.the-variants as line
 use Rattle.place.specs.Region.{isHeader, region, regionAt}
 use Rattle.reading.specs.Uses.{lineReads, lineStores}
-use Rattle.decls.specs.Inner.Seen.{markName}
 use Rattle.once.specs.Scratch.{liveBelow}
 use Rattle.once.specs.Once.{deadBy, readCount, laterRead}
 use Rattle.once.specs.Inner.Tables.{nextIn}
@@ -47,6 +46,17 @@ unfoldable pub farFrom : ℕ → List (List ℕ) → ℕ
 unfolding firstBy
 farFrom v [] = 0
 farFrom v (l ∷ ls) = cond (ltb 0 (lineReads v l)) (cond (ltb 1 (lineReads v l)) (suc (length ls)) (readFrom v ls)) (farFrom v ls)
+
+-- the table d with the number m at the register that a name is
+abbrev pub markName : ℕ → RegName → List ℕ → List ℕ
+markName m name.None d = d
+markName m (name.Reg q) d = set d (q .0) m
+
+-- at the register that a line stores
+abbrev pub markStore : ℕ → Line → List ℕ → List ℕ
+markStore m line.Decl d = d
+markStore m (line.Store s) d = set d (s .reg .0) m
+markStore m line.Other d = d
 
 -- the table f of the second reads, where n has the first ones, after a read of the register that a name is
 abbrev pub farName : RegName → List ℕ → List ℕ → List ℕ

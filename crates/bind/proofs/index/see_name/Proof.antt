@@ -2,8 +2,7 @@
 use borrow.Author.Needs.{needs}
 use mathlib.Core.Path.{sym, ap, _∙_}
 use Rattle.names.specs.declared.RegName.{RegName}
-use Rattle.decls.specs.Inner.Seen.{markName}
-use Rattle.bind.specs.Inner.Index.{againName}
+use Rattle.bind.specs.Inner.Index.{markName, againName}
 use Rattle.bind.proofs.index.see_name.Statement.{statement}
 use Rattle.bind.proofs.index.see_name.Tie as tie
 

@@ -1,8 +1,7 @@
 use Prim.Native.Nat.{ℕ}
 use mathlib.Core.Path.{sym, ap, _∙_}
 use Rattle.names.specs.declared.RegName.{RegName}
-use Rattle.decls.specs.Inner.Seen.{markName}
-use Rattle.once.specs.Inner.Noted.{farName, takeBack, backName}
+use Rattle.once.specs.Inner.Noted.{markName, farName, takeBack, backName}
 use borrow.Author.Needs.{needs}
 use Rattle.once.proofs.noted.note_name.Statement.{statement}
 use Rattle.once.proofs.noted.note_name.Tie as tie

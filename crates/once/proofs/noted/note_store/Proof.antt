@@ -1,6 +1,6 @@
 use mathlib.Core.Path.{sym, ap, _∙_}
 use Rattle.parse.specs.declared.Line.{Line}
-use Rattle.decls.specs.Inner.Seen.{markStore}
+use Rattle.once.specs.Inner.Noted.{markStore}
 use borrow.Author.Needs.{needs}
 use Rattle.once.proofs.noted.note_store.Statement.{statement}
 use Rattle.once.proofs.noted.note_store.Tie as tie
