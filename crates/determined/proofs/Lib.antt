@@ -2,6 +2,7 @@ pub mod Outcomes
 pub mod Lines
 pub mod Text
 pub mod Names
+pub mod Slots
 pub mod Parse
 pub mod Expr
 pub mod Words

@@ -79,10 +79,9 @@ module _ {s c d e u : List ℕ} where
   unfolding leftE
   left-2 p = record { c-left = p .0; d-left = p .1 .0; e-left = refl; u-left = p .1 .1 }
 
-  pub left-3 : {c′ d′ e′ : List ℕ} {n m l : ℕ} → Wrote c 0 (replicate (longest plain s) 0) c′ n → Wrote d 0 (unlines (round plain (linesOf s))) d′ m →
-      Wrote e 0 (unlines (round plain (round plain (linesOf s)))) e′ l → Left 3 s c d e u c′ d′ e′ u
-  unfolding leftC leftD leftE leftU
-  left-3 p q r = record { c-left = p .holds; d-left = q .holds; e-left = r .holds; u-left = refl }
+  pub left-3 : {c′ d′ e′ : List ℕ} → (c′ ≡ leftC 3 s c) × ((d′ ≡ leftD 3 s d) × (e′ ≡ leftE 3 s e)) → Left 3 s c d e u c′ d′ e′ u
+  unfolding leftU
+  left-3 p = record { c-left = p .0; d-left = p .1 .0; e-left = p .1 .1; u-left = refl }
 
   pub left-4 : {c′ d′ e′ u′ : List ℕ} → (c′ ≡ leftC 4 s c) × ((d′ ≡ leftD 4 s d) × ((e′ ≡ leftE 4 s e) × (u′ ≡ leftU 4 s u))) → Left 4 s c d e u c′ d′ e′ u′
   left-4 p = record { c-left = p .0; d-left = p .1 .0; e-left = p .1 .1 .0; u-left = p .1 .1 .1 }
@@ -113,6 +112,11 @@ pub once-left : (s : List ℕ) {c d u c′ d′ u′ : List ℕ} {n m l : ℕ} �
     Filled u (pathParents (linesOf s)) u′ l → (c′ ≡ leftC 2 s c) × ((d′ ≡ leftD 2 s d) × (u′ ≡ leftU 2 s u))
 unfolding leftC leftD leftU
 once-left s p q f = (p .holds, (q .holds, filled-at f))
+
+pub phis-left : (s : List ℕ) {c d e c′ d′ e′ : List ℕ} {n m l : ℕ} → Wrote c 0 (replicate (longest plain s) 0) c′ n → Wrote d 0 (unlines (round plain (linesOf s))) d′ m →
+    Wrote e 0 (unlines (round plain (round plain (linesOf s)))) e′ l → (c′ ≡ leftC 3 s c) × ((d′ ≡ leftD 3 s d) × (e′ ≡ leftE 3 s e))
+unfolding leftC leftD leftE
+phis-left s p q r = (p .holds, (q .holds, r .holds))
 
 pub calls-left : (s : List ℕ) {c d e u c′ d′ e′ u′ : List ℕ} {n m l o : ℕ} → Wrote c 0 (replicate (length s) 0) c′ n → Wrote d 0 (replicate (length s) 0) d′ m → Wrote e 0 (replicate (length s) 0) e′ l →
     Filled u (idsParents (linesOf s)) u′ o → (c′ ≡ leftC 4 s c) × ((d′ ≡ leftD 4 s d) × ((e′ ≡ leftE 4 s e) × (u′ ≡ leftU 4 s u)))

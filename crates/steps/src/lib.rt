@@ -6,6 +6,8 @@ ghost use Rattle.lines.specs.Lf.{linesOf, unlines};
 ghost use Rattle.lines.specs.Inner.Out.{Wrote};
 ghost use Rattle.reading.specs.Reading.{plain};
 ghost use Rattle.once.specs.Once.{optimizeOnce};
+ghost use Rattle.phis.specs.Phis.{pruneDeadPhis};
+ghost use Rattle.decls.specs.Decls.{pruneDecls};
 ghost use Rattle.calls.specs.LeavesOf.{leavesOf};
 ghost use Rattle.calls.specs.Calls.{rebuildCalls};
 ghost use Rattle.bind.specs.Bind.{bindDeclarators};
@@ -13,6 +15,9 @@ ghost use Rattle.limits.specs.Entry.{byteSize, blockSize};
 ghost use Rattle.steps.specs.Step.{stepOf};
 ghost use Rattle.steps.specs.Inner.Bounds.{Bounded, Sized};
 ghost use Rattle.steps.specs.Inner.Left.{leftC, leftD, leftE, leftU, Left};
+
+// So many numbers have a place in a table of registers or phis.
+const PLACES: usize = 1024;
 
 // Runs optimize_once, with its tables for 1,024 lines.
 fn once_step(src: &[u8], scratch: &mut [u8], mid: &mut [u8], u: &mut [u32], dst: &mut [u8]) -> usize
@@ -83,6 +88,34 @@ fn bind_step(src: &[u8], u: &mut [u32], dst: &mut [u8]) -> usize
     bind::bind_declarators(src, &mut ends, &mut blocks, &mut starts, u, &mut marks, dst)
 }
 
+// Runs prune_dead_phis, with its table of phis.
+fn phis_step(
+    src: &[u8],
+    scratch: &mut [u8],
+    first: &mut [u8],
+    second: &mut [u8],
+    dst: &mut [u8],
+) -> usize
+    requires { ⌜ Bounded (now src) × ((length (now scratch) ≡ byteSize) × ((length (now first) ≡ byteSize) × ((length (now second) ≡ byteSize) × (length (now dst) ≡ byteSize)))) ⌝ }
+    ensures { λ r. ⌜ Wrote (now (dst .entry)) 0 (unlines (pruneDeadPhis plain (linesOf (now (src .entry))))) (now (dst .exit)) r ⌝ }
+    ensures memory { λ _. ⌜ (now (scratch .exit) ≡ leftC 3 (now (src .entry)) (now (scratch .entry))) × ((now (first .exit) ≡ leftD 3 (now (src .entry)) (now (first .entry)))
+        × (now (second .exit) ≡ leftE 3 (now (src .entry)) (now (second .entry)))) ⌝ }
+{
+    let own = [0usize; 1];
+    let mut table = [0u8; PLACES];
+    phis::prune_dead_phis(src, &own[0..0], &mut table, scratch, first, second, dst)
+}
+
+// Runs prune_decls, with its table of registers.
+fn decls_step(src: &[u8], dst: &mut [u8]) -> usize
+    requires { ⌜ Bounded (now src) × (length (now dst) ≡ byteSize) ⌝ }
+    ensures { λ r. ⌜ Wrote (now (dst .entry)) 0 (unlines (pruneDecls (linesOf (now (src .entry))))) (now (dst .exit)) r ⌝ }
+{
+    let own = [0usize; 1];
+    let mut seen = [0usize; PLACES];
+    decls::prune_decls(src, &own[0..0], &mut seen, dst)
+}
+
 // Runs a pass by its number as `step` does, for a number that is neither 3 nor 6.
 fn other_step(
     k: usize,
@@ -110,7 +143,7 @@ fn other_step(
         return calls_step(src, c, d, e, u, dst);
     }
     if k == 5 {
-        return decls::prune_decls(src, dst);
+        return decls_step(src, dst);
     }
     lines::put_lines(src, dst, 0)
 }
@@ -131,7 +164,7 @@ pub fn step(
     ensures memory { λ _. ⌜ Left k (now (src .entry)) (now (c .entry)) (now (d .entry)) (now (e .entry)) (now (u .entry)) (now (c .exit)) (now (d .exit)) (now (e .exit)) (now (u .exit)) ⌝ }
 {
     if k == 3 {
-        return phis::prune_dead_phis(src, c, d, e, dst);
+        return phis_step(src, c, d, e, dst);
     }
     if k == 6 {
         return bind_step(src, u, dst);

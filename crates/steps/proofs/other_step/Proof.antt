@@ -5,7 +5,7 @@ use native.Mathlib.Omega.{arith}
 use Rattle.lines.specs.Lf.{linesOf, unlines}
 use Rattle.lines.proofs.OutLaws.{wrote-as}
 use Rattle.reading.specs.Reading.{plain}
-use Rattle.steps.proofs.Tame.{tame-removal, tame-temps, tame-decls, room-fits, room-lines, room-length}
+use Rattle.steps.proofs.Tame.{tame-removal, tame-temps, room-fits, room-lines, room-length}
 use Rattle.steps.proofs.StepLaws.{step-0, step-1, step-2, step-4, step-5, step-else, left-0, left-1, left-2, left-4, left-5, left-else, left-as}
 use Rattle.steps.proofs.other_step.Statement.{statement}
 use Rattle.steps.proofs.other_step.Tie as tie
@@ -70,14 +70,14 @@ same-length-12 c = search needs
 returns-4 : tie.Need-returns-4
 returns-4 c = let p = c .before .before .before .before .before .before .before .before .before .before .calls-step .ensures in (wrote-as (ap unlines (sym (step-4 plain (c .before .before .before .before .before .before .before .before .before .before .before .before .before .before .before .before .before .before .before .before .before .before .before .before .before .before .args .k) (linesOf (c .before .before .before .before .before .before .before .before .before .before .before .before .before .before .before .before .before .before .before .before .before .before .before .before .before .before .args .src .now)) (c .before .before .before .before .before .before .before .before .before .before .before .before .before .before .before .before .if4 .taken)))) (p .0), left-as (c .before .before .before .before .before .before .before .before .before .before .before .before .before .before .before .before .if4 .taken) (left-4 (p .1)))
 
-prune-decls-requires : tie.Need-prune-decls-requires
-prune-decls-requires c κs = let p = c .before .before .before .before .before .before .before .before .before .before .before .before .pre .1 in omega (arith, room-fits tame-decls (p .0), p .1 .b-size)
+decls-step-requires : tie.Need-decls-step-requires
+decls-step-requires c κs = let p = c .before .before .before .before .before .before .before .before .before .before .before .before .pre .1 in (p .0, p .1 .b-size)
 
 same-length-13 : tie.Need-same-length-13
 same-length-13 c = search needs
 
 returns-5 : tie.Need-returns-5
-returns-5 c = let p = c .before .before .prune-decls .ensures in (wrote-as (ap unlines (sym (step-5 plain (c .before .before .before .before .before .before .before .before .before .before .before .before .before .before .before .args .k) (linesOf (c .before .before .before .before .before .before .before .before .before .before .before .before .before .before .before .args .src .now)) (c .before .before .before .before .if5 .taken)))) (p), left-as (c .before .before .before .before .if5 .taken) left-5)
+returns-5 c = let p = c .before .before .decls-step .ensures in (wrote-as (ap unlines (sym (step-5 plain (c .before .before .before .before .before .before .before .before .before .before .before .before .before .before .before .args .k) (linesOf (c .before .before .before .before .before .before .before .before .before .before .before .before .before .before .before .args .src .now)) (c .before .before .before .before .if5 .taken)))) (p), left-as (c .before .before .before .before .if5 .taken) left-5)
 
 put-lines-requires : tie.Need-put-lines-requires
 put-lines-requires c κs = let p = c .before .before .before .before .before .before .before .before .before .before .before .before .pre .1 in omega (arith, room-lines (p .0), p .1 .b-size)
@@ -112,7 +112,7 @@ other-step-spec =
     same-length-11
     same-length-12
     returns-4
-    prune-decls-requires
+    decls-step-requires
     same-length-13
     returns-5
     put-lines-requires

@@ -1,17 +1,15 @@
 -- `steps::step` meets its contract. Assumes nothing.
 use borrow.Author.Needs.{needs}
 use mathlib.Core.Path.{sym, ap}
-use native.Mathlib.Omega.{arith}
 use Rattle.lines.specs.Lf.{linesOf, unlines}
 use Rattle.lines.proofs.OutLaws.{wrote-as}
 use Rattle.reading.specs.Reading.{plain}
-use Rattle.steps.proofs.Tame.{phis-room}
 use Rattle.steps.proofs.StepLaws.{step-3, step-6, left-3, left-6, left-as}
 use Rattle.steps.proofs.step.Statement.{statement}
 use Rattle.steps.proofs.step.Tie as tie
 
-prune-dead-phis-requires : tie.Need-prune-dead-phis-requires
-prune-dead-phis-requires c κs = let p = c .before .before .before .before .before .before .before .before .before .before .before .pre in let q = phis-room (p .0) in (omega (arith, q .0, p .1 .c-size), (omega (arith, q .1 .0, p .1 .d-size), (omega (arith, q .1 .1 .0, p .1 .e-size), omega (arith, q .1 .1 .1, p .1 .b-size))))
+phis-step-requires : tie.Need-phis-step-requires
+phis-step-requires c κs = let p = c .before .before .before .before .before .before .before .before .before .before .before .pre in (p .0, (p .1 .c-size, (p .1 .d-size, (p .1 .e-size, p .1 .b-size))))
 
 same-length : tie.Need-same-length
 same-length c = search needs
@@ -26,7 +24,7 @@ same-length-4 : tie.Need-same-length-4
 same-length-4 c = search needs
 
 returns : tie.Need-returns
-returns c = let p = c .before .before .before .before .before .before .before .before .prune-dead-phis .ensures in (wrote-as (ap unlines (sym (step-3 plain (c .before .before .before .before .before .before .before .before .before .before .before .before .before .before .before .before .before .before .before .before .args .k) (linesOf (c .before .before .before .before .before .before .before .before .before .before .before .before .before .before .before .before .before .before .before .before .args .src .now)) (c .before .before .before .before .before .before .before .before .before .before .before .before .before .if1 .taken)))) (p .0), left-as (c .before .before .before .before .before .before .before .before .before .before .before .before .before .if1 .taken) (left-3 (p .1 .1 .1) (p .1 .0) (p .1 .1 .0)))
+returns c = let p = c .before .before .before .before .before .before .before .before .phis-step .ensures in (wrote-as (ap unlines (sym (step-3 plain (c .before .before .before .before .before .before .before .before .before .before .before .before .before .before .before .before .before .before .before .before .args .k) (linesOf (c .before .before .before .before .before .before .before .before .before .before .before .before .before .before .before .before .before .before .before .before .args .src .now)) (c .before .before .before .before .before .before .before .before .before .before .before .before .before .if1 .taken)))) (p .0), left-as (c .before .before .before .before .before .before .before .before .before .before .before .before .before .if1 .taken) (left-3 (p .1)))
 
 bind-step-requires : tie.Need-bind-step-requires
 bind-step-requires c κs = let p = c .before .before .before .before .before .before .before .before .before .before .pre in (p .0, (p .1 .u-size, p .1 .b-size))
@@ -68,7 +66,7 @@ pub step-spec : {M : Type 1} → statement M
 step-spec =
     tie.close
     (tie.spec
-    prune-dead-phis-requires
+    phis-step-requires
     same-length
     same-length-2
     same-length-3

@@ -1,0 +1,16 @@
+-- Each public function of crate slots: its contract fixes its outcome. Assumes nothing.
+use mathlib.Core.Path.{refl, sym, _∙_}
+use Rattle.slots.proofs as slots
+use Rattle.determined.proofs.Outcomes.{Determined, fixed}
+
+pub seek-fixed : Determined slots.seek.ended (λ κs z. z) slots.seek.Reads.ensures
+seek-fixed = fixed slots.seek.Reads.Learnt (λ κs a x y l m. l ∙ sym m)
+
+pub low-of-fixed : Determined slots.low_of.ended (λ κs z. z) slots.low_of.Reads.ensures
+low-of-fixed = fixed slots.low_of.Reads.Learnt (λ κs a x y l m. l ∙ sym m)
+
+pub slot-fixed : Determined slots.slot.ended (λ κs z. z) slots.slot.Reads.ensures
+slot-fixed = fixed slots.slot.Reads.Learnt (λ κs a x y l m. l ∙ sym m)
+
+pub wipe-fixed : Determined slots.wipe.ended (λ κs z. z) slots.wipe.Reads.ensures
+wipe-fixed = fixed slots.wipe.Reads.Learnt (λ κs a x y l m. (l ∙ sym m, refl))
