@@ -1,6 +1,6 @@
 -- Laws of the regions of lines: from the first line on, and from the last. Assumes nothing.
 use Prim.Native.Nat.{ℕ, zero, suc, _+_, _-_, _≤_, _<_}
-use mathlib.Core.Path.{_≡_, refl, sym, ap, _∙_}
+use mathlib.Core.Path.{_≡_, refl, sym, ap, subst, _∙_}
 use mathlib.Core.Bool.{Bool, true, false, cond}
 use mathlib.Core.List.{List, [], _∷_}
 use native.Mathlib.Omega.{arith}
@@ -84,11 +84,7 @@ area-head run l us r e h k = go (ltb r (length us)) refl
         let q : suc (length us) - suc r ≡ 0 = omega arith in
         ap (areaOf run (l ∷ us)) q ∙ ap (λ (b : Bool). cond b (l ∷ untilHeader us) run) e
 
--- ---- a register that a region reads once, in its line with the number r; us are the lines from some line on that is not below that line
-
-pub data OneUp (v r : ℕ) (us : List (List ℕ)) : Type 0 where
-  upward : headFrom us < r → readFrom v us ≡ r → readCount v (untilHeader us) ≡ 1 → OneUp v r us
-  whole : suc r ≤ headFrom us → readCount v (areaOf (untilHeader us) us (length us - suc r)) ≡ 1 → OneUp v r us
+-- ---- how often a region reads a register
 
 unread : (v : ℕ) (us : List (List ℕ)) → readFrom v us ≤ headFrom us → readCount v (untilHeader us) ≡ 0
 unfolding firstBy readCount untilHeader
@@ -101,62 +97,85 @@ unread v (l ∷ us) h = go (λ z. unread v us z) (isHeader l) (ltb 0 (lineReads 
     go f false true x y z = absurd (omega arith)
     go f false false x y z = let n = ltb-false 0 (lineReads v l) x in let q = f z in omega arith
 
--- where the first line reads it, and no line of the region does again
-pub one-new : (v : ℕ) (us : List (List ℕ)) → headFrom us < length us → readFrom v us ≡ length us → farFrom v us ≤ headFrom us → OneUp v (length us) us
+pub read-some : (v : ℕ) (us : List (List ℕ)) → headFrom us < readFrom v us → 1 ≤ readCount v (untilHeader us)
+unfolding firstBy readCount untilHeader
+read-some v [] h = absurd (omega arith)
+read-some v (l ∷ us) h = go (λ z. read-some v us z) (isHeader l) (ltb 0 (lineReads v l)) refl (first-le (λ (l : List ℕ). ltb 0 (lineReads v l)) us) h
+  where
+    go : (headFrom us < readFrom v us → 1 ≤ readCount v (untilHeader us)) → (a b : Bool) → ltb 0 (lineReads v l) ≡ b → readFrom v us ≤ length us → cond a (suc (length us)) (headFrom us) < cond b (suc (length us)) (readFrom v us) →
+        1 ≤ readCount v (cond a [] (l ∷ untilHeader us))
+    go f true true x y z = absurd (omega arith)
+    go f true false x y z = absurd (omega arith)
+    go f false true x y z = let n = ltb-true 0 (lineReads v l) x in omega arith
+    go f false false x y z = let q = f z in omega arith
+
+-- where the first line reads it: once where no line of the region does again, else more than once
+pub next-count : (v : ℕ) (us : List (List ℕ)) → headFrom us < length us → readFrom v us ≡ length us →
+    (farFrom v us ≤ headFrom us → readCount v (untilHeader us) ≡ 1) × (headFrom us < farFrom v us → 2 ≤ readCount v (untilHeader us))
 unfolding firstBy readCount untilHeader farFrom
-one-new v [] h k q = absurd (omega arith)
-one-new v (e ∷ us) h k q =
-    upward h k (go (isHeader e) (ltb 0 (lineReads v e)) refl (ltb 1 (lineReads v e)) refl (first-le (λ (l : List ℕ). isHeader l) us) (first-le (λ (l : List ℕ). ltb 0 (lineReads v l)) us) h k q)
+next-count v [] h k = absurd (omega arith)
+next-count v (e ∷ us) h k =
+    go (isHeader e) (ltb 0 (lineReads v e)) refl (ltb 1 (lineReads v e)) refl (first-le (λ (l : List ℕ). isHeader l) us) (first-le (λ (l : List ℕ). ltb 0 (lineReads v l)) us) h k
   where
     go : (a b : Bool) → ltb 0 (lineReads v e) ≡ b → (c : Bool) → ltb 1 (lineReads v e) ≡ c → headFrom us ≤ length us → readFrom v us ≤ length us → cond a (suc (length us)) (headFrom us) < suc (length us) →
-        cond b (suc (length us)) (readFrom v us) ≡ suc (length us) → cond b (cond c (suc (length us)) (readFrom v us)) (farFrom v us) ≤ cond a (suc (length us)) (headFrom us) →
-        readCount v (cond a [] (e ∷ untilHeader us)) ≡ 1
-    go true b x c y i j h k q = absurd (omega arith)
-    go false false x c y i j h k q = absurd (omega arith)
-    go false true x true y i j h k q = absurd (omega arith)
-    go false true x false y i j h k q =
+        cond b (suc (length us)) (readFrom v us) ≡ suc (length us) →
+        (cond b (cond c (suc (length us)) (readFrom v us)) (farFrom v us) ≤ cond a (suc (length us)) (headFrom us) → readCount v (cond a [] (e ∷ untilHeader us)) ≡ 1)
+        × (cond a (suc (length us)) (headFrom us) < cond b (cond c (suc (length us)) (readFrom v us)) (farFrom v us) → 2 ≤ readCount v (cond a [] (e ∷ untilHeader us)))
+    go true b x c y i j h k = absurd (omega arith)
+    go false false x c y i j h k = absurd (omega arith)
+    go false true x true y i j h k = let m = ltb-true 1 (lineReads v e) y in (λ q. absurd (omega arith), λ q. omega arith)
+    go false true x false y i j h k =
         let n = ltb-true 0 (lineReads v e) x in
         let m = ltb-false 1 (lineReads v e) y in
-        let z = unread v us q in
-        omega arith
+        (λ q. let z = unread v us q in omega arith, λ q. let z = read-some v us q in omega arith)
 
--- one line more, which does not read it where the region goes on
-pub one-on : (v r : ℕ) (l : List ℕ) (us : List (List ℕ)) → r ≤ length us → (headFrom us < r → readFrom v us ≡ r → ltb 0 (lineReads v l) ≡ false) → OneUp v r us → OneUp v r (l ∷ us)
-unfolding firstBy readCount untilHeader areaOf regionAt
-one-on v r l us n f (upward a b c) = go (isHeader l) refl
-  where
-    d : lineReads v l ≡ 0
-    d = let z = ltb-false 0 (lineReads v l) (f a b) in omega arith
+-- ---- so of the region of the line just above the one with the number r, where us are the lines from some line on: all of it, or what us has of
+-- it, has a count of which P holds
 
-    count : lineReads v l + readCount v (untilHeader us) ≡ 1
-    count = let z = d in omega arith
+pub data CountUp (P : ℕ → Type 0) (v r : ℕ) (us : List (List ℕ)) : Type 0 where
+  upward : headFrom us < r → P (readCount v (untilHeader us)) → CountUp P v r us
+  whole : suc r ≤ headFrom us → P (readCount v (areaOf (untilHeader us) us (length us - suc r))) → CountUp P v r us
 
-    go : (t : Bool) → isHeader l ≡ t → OneUp v r (l ∷ us)
-    go true e =
-        whole (let z : suc r ≤ suc (length us) = omega arith in rw e z)
-        (ap (readCount v) (area-head (untilHeader (l ∷ us)) l us r e n (omega arith)) ∙ count)
-    go false e =
-        upward (rw e a) (rw (f a b) b)
-        (rw e count)
-one-on v r l us n f (whole a c) =
-    let h = first-le (λ (l : List ℕ). isHeader l) us in
-    let q : suc (length us) - suc r ≡ suc (length us - suc r) = omega arith in
-    whole (go (isHeader l))
-    (ap (λ (j : ℕ). readCount v (areaOf (untilHeader (l ∷ us)) (l ∷ us) j)) q
-    ∙ ap (readCount v) (area-closed (regionAt l us (untilHeader (l ∷ us))) (untilHeader us) us (length us - suc r) (omega arith) (omega arith))
-    ∙ c)
-  where
-    go : (t : Bool) → suc r ≤ cond t (suc (length us)) (headFrom us)
-    go true = omega arith
-    go false = a
+module _ (P : ℕ → Type 0) (v r : ℕ) where
+  -- one line more, where the region goes on
+  pub up-new : (l : List ℕ) (us : List (List ℕ)) → r ≤ length us → headFrom us < r → P (lineReads v l + readCount v (untilHeader us)) → CountUp P v r (l ∷ us)
+  unfolding firstBy readCount untilHeader areaOf regionAt
+  up-new l us n a c = go (isHeader l) refl
+    where
+      go : (t : Bool) → isHeader l ≡ t → CountUp P v r (l ∷ us)
+      go true e =
+          whole (let z : suc r ≤ suc (length us) = omega arith in rw e z)
+          (subst (λ (run : List (List ℕ)). P (readCount v run)) (sym (area-head (untilHeader (l ∷ us)) l us r e n (omega arith))) c)
+      go false e = upward (rw e a) (rw e c)
 
--- at the first line
-pub one-done : (v r : ℕ) (ls : List (List ℕ)) → r < length ls → OneUp v r ls → readCount v (areaOf (region ls) ls (length ls - suc r)) ≡ 1
-unfolding firstBy untilHeader region
-one-done v r [] h u = absurd (omega arith)
-one-done v r (l ∷ us) h (upward a b c) = ap (readCount v) (area-open (region (l ∷ us)) (l ∷ us) (suc (length us) - suc r) (omega arith) (omega arith)) ∙ go (isHeader l) a c
-  where
-    go : (t : Bool) → cond t (suc (length us)) (headFrom us) < r → readCount v (cond t [] (l ∷ untilHeader us)) ≡ 1 → readCount v (l ∷ untilHeader us) ≡ 1
-    go true x y = absurd (omega arith)
-    go false x y = y
-one-done v r (l ∷ us) h (whole a c) = ap (readCount v) (area-closed (region (l ∷ us)) (untilHeader (l ∷ us)) (l ∷ us) (suc (length us) - suc r) (omega arith) (omega arith)) ∙ c
+  -- one line more
+  pub up-on : (l : List ℕ) (us : List (List ℕ)) → r ≤ length us → (headFrom us < r → P (readCount v (untilHeader us)) → P (lineReads v l + readCount v (untilHeader us))) →
+      CountUp P v r us → CountUp P v r (l ∷ us)
+  unfolding firstBy untilHeader areaOf regionAt
+  up-on l us n f (upward a c) = up-new l us n a (f a c)
+  up-on l us n f (whole a c) =
+      let h = first-le (λ (l : List ℕ). isHeader l) us in
+      let q : suc (length us) - suc r ≡ suc (length us - suc r) = omega arith in
+      whole (go (isHeader l))
+      (subst (λ (run : List (List ℕ)). P (readCount v run))
+      (sym
+      (ap (λ (j : ℕ). areaOf (untilHeader (l ∷ us)) (l ∷ us) j) q
+      ∙ area-closed (regionAt l us (untilHeader (l ∷ us))) (untilHeader us) us (length us - suc r) (omega arith) (omega arith)))
+      c)
+    where
+      go : (t : Bool) → suc r ≤ cond t (suc (length us)) (headFrom us)
+      go true = omega arith
+      go false = a
+
+  -- at the first line
+  pub up-done : (ls : List (List ℕ)) → r < length ls → CountUp P v r ls → P (readCount v (areaOf (region ls) ls (length ls - suc r)))
+  unfolding firstBy untilHeader region
+  up-done [] h u = absurd (omega arith)
+  up-done (l ∷ us) h (upward a c) =
+      subst (λ (run : List (List ℕ)). P (readCount v run)) (sym (area-open (region (l ∷ us)) (l ∷ us) (suc (length us) - suc r) (omega arith) (omega arith))) (go (isHeader l) a c)
+    where
+      go : (t : Bool) → cond t (suc (length us)) (headFrom us) < r → P (readCount v (cond t [] (l ∷ untilHeader us))) → P (readCount v (l ∷ untilHeader us))
+      go true x y = absurd (omega arith)
+      go false x y = y
+  up-done (l ∷ us) h (whole a c) =
+      subst (λ (run : List (List ℕ)). P (readCount v run)) (sym (area-closed (region (l ∷ us)) (untilHeader (l ∷ us)) (l ∷ us) (suc (length us) - suc r) (omega arith) (omega arith))) c

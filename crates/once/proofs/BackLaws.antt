@@ -1,7 +1,7 @@
 -- Laws of walking over the lines of a text from the last to the first. Assumes nothing.
 use Prim.Native.Nat.{ℕ, zero, suc, _+_, _-_, _≤_, _<_, min}
 use mathlib.Core.Path.{_≡_, refl, sym, ap, subst, _∙_}
-use mathlib.Core.Bool.{Bool, true, false}
+use mathlib.Core.Bool.{Bool, true, false, cond}
 use mathlib.Core.List.{List, [], _∷_, _++_}
 use native.Mathlib.Omega.{arith}
 use native.Mathlib.Numerals.{add-one}
@@ -10,6 +10,7 @@ use lib.Dec.{eqb, ltb}
 use lib.ListN.{length, take, drop, getD, set, length-append, length-drop}
 use lib.Seq.{drop-append-seam, drop-drop, length-take-le, getD-drop, getD-set-same, getD-set-other}
 use Rattle.lines.specs.Lf.{part, upTo, cutOn, linesOf, unlines}
+use Rattle.lines.specs.Inner.Lf.{lineStart}
 use Rattle.lines.proofs.LfLaws.{upTo-le, find-here, find-on, drop-min, lines-at, lines-end}
 use Rattle.place.specs.Inner.Ends.{endsFrom}
 use Rattle.decls.specs.Inner.Seen.{AtMost}
@@ -18,10 +19,10 @@ use Rattle.once.specs.Inner.Noted.{Begins, StartOf, EndIs, EndsOf, first
 
 -- ---- the search for the front of a line
 
-pub back-start : (s : List ℕ) (e : ℕ) → e < length s → getD s e 0 ≡ 10 → e ≡ e + upTo 10 (drop e s)
+back-start : (s : List ℕ) (e : ℕ) → e < length s → getD s e 0 ≡ 10 → e ≡ e + upTo 10 (drop e s)
 back-start s e h q = let z = find-here 10 s e h q in omega arith
 
-pub back-on : (s : List ℕ) (e i : ℕ) → 0 < i → i ≤ length s → (getD s (i - 1) 0 ≡ 10 → ⊥) → e ≡ i + upTo 10 (drop i s) → e ≡ i - 1 + upTo 10 (drop (i - 1) s)
+back-on : (s : List ℕ) (e i : ℕ) → 0 < i → i ≤ length s → (getD s (i - 1) 0 ≡ 10 → ⊥) → e ≡ i + upTo 10 (drop i s) → e ≡ i - 1 + upTo 10 (drop (i - 1) s)
 back-on s e i h k n q =
     let z = find-on 10 s (i - 1) (omega arith) n in
     let y : i - 1 + 1 ≡ i = omega arith in
@@ -31,7 +32,7 @@ back-on s e i h k n q =
 pub begins-lf : (s : List ℕ) (i : ℕ) → getD s (i - 1) 0 ≡ 10 → Begins s i
 begins-lf s i q = λ k e. let z : i - 1 ≡ k = omega arith in ap (λ (j : ℕ). getD s j 0) (sym z) ∙ q
 
-pub begins-none : (s : List ℕ) (i : ℕ) → i ≤ 0 → Begins s i
+begins-none : (s : List ℕ) (i : ℕ) → i ≤ 0 → Begins s i
 begins-none s i h = λ k e. absurd (omega arith)
 
 -- ---- the lines before a place where one begins, and those from it on
@@ -191,25 +192,21 @@ end-by s j m e h q n = let z = end-some e n in q ∙ h (omega arith)
 
 -- ---- where the line begins that ends at e, before an LF
 
--- it begins somewhere
-pub record Start (s : List ℕ) (e : ℕ) : Type 0 where
-  pub at : ℕ
-  pub is : StartOf s e at
-
-start-from : (s : List ℕ) (e i : ℕ) → i ≤ length s → e ≡ i + upTo 10 (drop i s) → Start s e
-start-from s e zero h q = record { at = 0; is = (q, begins-none s 0 (omega arith)) }
+start-from : (s : List ℕ) (e i : ℕ) → i ≤ length s → e ≡ i + upTo 10 (drop i s) → StartOf s e (lineStart s i)
+unfolding lineStart
+start-from s e zero h q = (q, begins-none s 0 (omega arith))
 start-from s e (suc i) h q = go (eqb (getD s i 0) 10) refl (λ a b. start-from s e i a b)
   where
     z : suc i - 1 ≡ i
     z = omega arith
 
-    go : (b : Bool) → eqb (getD s i 0) 10 ≡ b → (i ≤ length s → e ≡ i + upTo 10 (drop i s) → Start s e) → Start s e
-    go true y f = record { at = suc i; is = (q, begins-lf s (suc i) (ap (λ (j : ℕ). getD s j 0) z ∙ eqb-true (getD s i 0) 10 y)) }
+    go : (b : Bool) → eqb (getD s i 0) 10 ≡ b → (i ≤ length s → e ≡ i + upTo 10 (drop i s) → StartOf s e (lineStart s i)) → StartOf s e (cond b (suc i) (lineStart s i))
+    go true y f = (q, begins-lf s (suc i) (ap (λ (j : ℕ). getD s j 0) z ∙ eqb-true (getD s i 0) 10 y))
     go false y f =
         f (omega arith)
         (subst (λ (j : ℕ). e ≡ j + upTo 10 (drop j s)) z (back-on s e (suc i) (omega arith) h (λ w. eqb-false (getD s i 0) 10 y (ap (λ (j : ℕ). getD s j 0) (sym z) ∙ w)) q))
 
-pub start-of : (s : List ℕ) (e : ℕ) → e < length s → getD s e 0 ≡ 10 → Start s e
+pub start-of : (s : List ℕ) (e : ℕ) → e < length s → getD s e 0 ≡ 10 → StartOf s e (lineStart s e)
 start-of s e h q = start-from s e e (omega arith) (back-start s e h q)
 
 -- how many lines there are from there on
@@ -226,7 +223,7 @@ module _ (s : List ℕ) (e k : ℕ) (h : e < length s) (q : getD s e 0 ≡ 10) (
       omega (arith, rows-from s e a h b)
 
   pub start-first : k ≡ 0 → StartOf s e 0
-  start-first z = let b = start-of s e h q in go (b .at) (b .is)
+  start-first z = go (lineStart s e) (start-of s e h q)
     where
       go : (a : ℕ) → StartOf s e a → StartOf s e 0
       go zero b = b
@@ -235,19 +232,20 @@ module _ (s : List ℕ) (e k : ℕ) (h : e < length s) (q : getD s e 0 ≡ 10) (
   -- after the line above it, which ends at m
   pub start-after : (d : List ℕ) (m : ℕ) → EndsOf s d → (k ≡ 0 → ⊥) → m ≡ getD d (k - 1) 0 → (m ≡ 0 → ⊥) → StartOf s e (m + 1)
   unfolding linesOf
-  start-after d m n g y o = let b = start-of s e h q in go (b .at) (b .is)
+  start-after d m n g y o = go (lineStart s e) (start-of s e h q)
     where
       go : (a : ℕ) → StartOf s e a → StartOf s e (m + 1)
       go zero b = absurd (g (sym (rows-before zero b)))
       go (suc a) b =
           let w = b .0 in
+          let f : ℕ = lineStart s a in
           let p = start-of s a (omega arith) (b .1 a refl) in
           let x : length (linesOf (drop (a + 1) s)) ≡ length (linesOf (drop (suc a) s)) = ap (λ (j : ℕ). length (linesOf (drop j s))) (add-one a) in
-          let i = p .is .0 in
-          let r = rows-back s (p .at) (length (linesOf (drop (p .at) s))) (omega arith) (p .is .1) refl in
-          let f : length (linesOf s) - length (linesOf (drop (p .at) s)) ≡ k - 1 = omega (arith, rows-from s a (p .at) (omega arith) (p .is), rows-from s e (suc a) h b) in
-          let l : linesOf (drop (p .at) s) ≡ drop (k - 1) (linesOf s) = sym (r .1) ∙ ap (λ (j : ℕ). drop j (linesOf s)) f in
+          let i = p .0 in
+          let r = rows-back s f (length (linesOf (drop f s))) (omega arith) (p .1) refl in
+          let g′ : length (linesOf s) - length (linesOf (drop f s)) ≡ k - 1 = omega (arith, rows-from s a f (omega arith) p, rows-from s e (suc a) h b) in
+          let l : linesOf (drop f s) ≡ drop (k - 1) (linesOf s) = sym (r .1) ∙ ap (λ (j : ℕ). drop j (linesOf s)) g′ in
           let u = end-some m o in
-          let v : m ≡ a = y ∙ n (k - 1) (p .at) l (omega arith) ∙ sym i in
+          let v : m ≡ a = y ∙ n (k - 1) f l (omega arith) ∙ sym i in
           let t : suc a ≡ m + 1 = omega arith in
           subst (StartOf s e) t b

@@ -18,7 +18,8 @@ use Rattle.reading.specs.Uses.{lineReads, lineStores}
 use Rattle.once.specs.Scratch.{liveBelow}
 use Rattle.once.specs.Once.{none, read, write, deadBy, laterRead}
 use Rattle.once.specs.Inner.Tables.{nextIn}
-use Rattle.once.specs.Inner.Noted.{firstBy, readFrom, storeFrom, headFrom, farFrom, samePath, noteBy, storeNote, lineNote, readNext, sentTo, maySend, DropIs, SendIs, NoteIs}
+use Rattle.slots.specs.Inner.Slots.{slotOf, entryOf}
+use Rattle.once.specs.Inner.Noted.{firstBy, readFrom, storeFrom, headFrom, farFrom, Known, samePath, noteBy, storeNote, lineNote, readNext, sentTo, maySend, DropIs, SendIs, NoteIs}
 
 pub first-le : (f : List ℕ → Bool) (ls : List (List ℕ)) → firstBy f ls ≤ length ls
 unfolding firstBy
@@ -276,19 +277,27 @@ store-kind r f s h m same = go (ltb h r && ltb s r) (eqb r m && not (ltb s f)) (
     go false b k false false e true = (λ q. omega arith, λ q. omega arith)
     go false b k false false e false = (λ q. omega arith, λ q. omega arith)
 
--- where the next line reads it, and no line of the region does again
-note-one : (r f s h m : ℕ) (same : Bool) → noteBy r f s h m same ≡ 7 → (h < r) × ((r ≡ m) × (f ≤ h))
-note-one r f s h m same q = go (ltb h r && ltb s r) refl (eqb r m && not (ltb s f)) refl (ltb h f) refl (ltb h r && eqb s r) (ltb h s) same (eqb r m) q
+-- where its value may go into the next line
+note-may : (r f s h m : ℕ) (same : Bool) → maySend (noteBy r f s h m same) ≡ true → (h < r) × ((r ≡ m) × (noteBy r f s h m same ≡ cond (ltb h f) 4 7))
+note-may r f s h m same q = go (ltb h r && ltb s r) refl (eqb r m && not (ltb s f)) refl (ltb h f) (ltb h r && eqb s r) (ltb h s) same (eqb r m) q
   where
-    go : (a : Bool) → ltb h r && ltb s r ≡ a → (b : Bool) → eqb r m && not (ltb s f) ≡ b → (k : Bool) → ltb h f ≡ k → (c d e g : Bool) → noteOf a b k c d e g ≡ 7 → (h < r) × ((r ≡ m) × (f ≤ h))
-    go true x true y false z c d e g q = (ltb-true h r (and-left (ltb h r) (ltb s r) x), (eqb-true r m (and-left (eqb r m) (not (ltb s f)) y), ltb-false h f z))
-    go true x true y true z c d e g q = absurd (omega arith)
-    go true x false y k z c d e g q = absurd (omega arith)
-    go false x b y k z true d e g q = absurd (omega arith)
-    go false x b y k z false true true g q = absurd (omega arith)
-    go false x b y k z false true false g q = absurd (omega arith)
-    go false x b y k z false false e true q = absurd (omega arith)
-    go false x b y k z false false e false q = absurd (omega arith)
+    go : (a : Bool) → ltb h r && ltb s r ≡ a → (b : Bool) → eqb r m && not (ltb s f) ≡ b → (k c d e g : Bool) → maySend (noteOf a b k c d e g) ≡ true →
+        (h < r) × ((r ≡ m) × (noteOf a b k c d e g ≡ cond k 4 7))
+    go true x true y k c d e g q = (ltb-true h r (and-left (ltb h r) (ltb s r) x), (eqb-true r m (and-left (eqb r m) (not (ltb s f)) y), refl))
+    go true x false y k c d e g q = no q
+    go false x b y k true d e g q = no q
+    go false x b y k false true true g q = no q
+    go false x b y k false true false g q = no q
+    go false x b y k false false e true q = no q
+    go false x b y k false false e false q = no q
+
+-- the second read counts where the register is read before it is stored
+note-far : (r f f′ s h m : ℕ) (same : Bool) → (s < r → f ≡ f′) → noteBy r f s h m same ≡ noteBy r f′ s h m same
+note-far r f f′ s h m same e = go (ltb s r) refl
+  where
+    go : (b : Bool) → ltb s r ≡ b → noteBy r f s h m same ≡ noteBy r f′ s h m same
+    go true x = ap (λ (i : ℕ). noteBy r i s h m same) (e (ltb-true s r x))
+    go false x = rw (x, and-false (ltb h r))
 
 unfoldable pub stored-by : Line → Bool
 stored-by line.Decl = false
@@ -303,38 +312,44 @@ reg-by line.Other = 0
 -- ---- tables of these numbers
 
 -- the tables near, far and stores have those of the lines ls, and h is that of the first header
-pub record Nexts (ls : List (List ℕ)) (h : ℕ) (near far stores : List ℕ) : Type 0 where
+pub record Nexts (own : List ℕ) (ls : List (List ℕ)) (h : ℕ) (near far stores : List ℕ) : Type 0 where
+  pub wide : length far ≡ length near
+  pub tall : length far ≡ length stores
   pub head : h ≡ headFrom ls
-  pub reads : (v : ℕ) → v < length near → getD near v 0 ≡ readFrom v ls
-  pub again : (v : ℕ) → v < length near → v < length far → getD far v 0 ≡ farFrom v ls
-  pub stored : (v : ℕ) → v < length stores → getD stores v 0 ≡ storeFrom v ls
+  pub reads : (v : ℕ) → Known own near v → entryOf own v near ≡ readFrom v ls
+  pub again : (v : ℕ) → Known own near v → storeFrom v ls < readFrom v ls → entryOf own v far ≡ farFrom v ls
+  pub stored : (v : ℕ) → Known own near v → entryOf own v stores ≡ storeFrom v ls
 
-module _ (l : List ℕ) (ls : List (List ℕ)) (ps : List ℕ) (k h : ℕ) (near far stores : List ℕ) (t : Nexts ls h near far stores) (n : k + 1 + length ls ≡ length ps) where
+module _ (own l : List ℕ) (ls : List (List ℕ)) (ps : List ℕ) (k h : ℕ) (near far stores : List ℕ) (t : Nexts own ls h near far stores) (n : k + 1 + length ls ≡ length ps) where
   same-as : (v : ℕ) → headFrom ls < storeFrom v ls → samePath ps k (storeFrom v ls) ≡ eqb (getD ps k 0) (getD (drop (k + 1) ps) (length ls - storeFrom v ls) 0)
   same-as v z =
       let b = first-le (λ (l : List ℕ). lineStores v l) ls in
       let i : k + 1 + (length ls - storeFrom v ls) ≡ length ps - storeFrom v ls = omega arith in
       rw (le-ltb (length ps) (storeFrom v ls) (omega arith), getD-drop (k + 1) ps (length ls - storeFrom v ls) 0, i)
 
-  store-note : (v : ℕ) → (m : ℕ) → m ≡ storeNote v ps k (length ls) h near far stores →
+  note-as : (v : ℕ) → Known own near v → noteBy (entryOf own v near) (entryOf own v far) (entryOf own v stores) h (length ls) (samePath ps k (entryOf own v stores))
+      ≡ noteBy (readFrom v ls) (farFrom v ls) (storeFrom v ls) (headFrom ls) (length ls) (samePath ps k (storeFrom v ls))
+  note-as v x =
+      rw (t .reads v x, t .stored v x, t .head)
+      (note-far (readFrom v ls) (entryOf own v far) (farFrom v ls) (storeFrom v ls) (headFrom ls) (length ls) (samePath ps k (storeFrom v ls)) (t .again v x))
+
+  store-note : (v : ℕ) → (m : ℕ) → m ≡ storeNote own v ps k (length ls) h near far stores →
       DropIs v (getD ps k 0) ls (drop (k + 1) ps) m × (SendIs v ls m × ((m ≡ 1 → ⊥) × (m ≡ 2 → ⊥)))
-  store-note v m q = go (ltb v (length near)) refl (ltb v (length far)) refl (ltb v (length stores)) refl q
+  store-note v m q = go (ltb (slotOf (length near) own v) (length near)) refl q
     where
       nothing : m ≡ 0 → DropIs v (getD ps k 0) ls (drop (k + 1) ps) m × (SendIs v ls m × ((m ≡ 1 → ⊥) × (m ≡ 2 → ⊥)))
       nothing z = rw z (drop-nothing v (getD ps k 0) ls (drop (k + 1) ps), (send-nothing v ls, (λ q. omega arith, λ q. omega arith)))
 
-      go : (a : Bool) → ltb v (length near) ≡ a → (b : Bool) → ltb v (length far) ≡ b → (c : Bool) → ltb v (length stores) ≡ c →
-          m ≡ cond (a && (b && c)) (noteBy (getD near v 0) (getD far v 0) (getD stores v 0) h (length ls) (samePath ps k (getD stores v 0))) 0 →
+      go : (a : Bool) → ltb (slotOf (length near) own v) (length near) ≡ a →
+          m ≡ cond a (noteBy (entryOf own v near) (entryOf own v far) (entryOf own v stores) h (length ls) (samePath ps k (entryOf own v stores))) 0 →
           DropIs v (getD ps k 0) ls (drop (k + 1) ps) m × (SendIs v ls m × ((m ≡ 1 → ⊥) × (m ≡ 2 → ⊥)))
-      go false x b y c z e = nothing e
-      go true x false y c z e = nothing e
-      go true x true y false z e = nothing e
-      go true x true y true z e =
+      go false x e = nothing e
+      go true x e =
           let d = length-drop (k + 1) ps in
-          rw (e, t .reads v (ltb-true v (length near) x), t .again v (ltb-true v (length near) x) (ltb-true v (length far) y), t .stored v (ltb-true v (length stores) z), t .head)
+          rw (e ∙ note-as v (ltb-true (slotOf (length near) own v) (length near) x))
           (drop-by v (getD ps k 0) ls (drop (k + 1) ps) (omega arith) (samePath ps k (storeFrom v ls)) (same-as v), (send-by v ls (samePath ps k (storeFrom v ls)), store-kind (readFrom v ls) (farFrom v ls) (storeFrom v ls) (headFrom ls) (length ls) (samePath ps k (storeFrom v ls))))
 
-  pub note-is : (p : Line) (m : ℕ) → p ≡ parseOf l → m ≡ lineNote p ps k (length ls) h near far stores → NoteIs l (getD ps k 0) ls (drop (k + 1) ps) m
+  pub note-is : (p : Line) (m : ℕ) → p ≡ parseOf l → m ≡ lineNote own p ps k (length ls) h near far stores → NoteIs l (getD ps k 0) ls (drop (k + 1) ps) m
   unfolding stored-by reg-by
   note-is line.Decl m e q = record {
     kind = (λ z. e, λ z. absurd (omega arith));
@@ -352,26 +367,23 @@ module _ (l : List ℕ) (ls : List (List ℕ)) (ps : List ℕ) (k h : ℕ) (near
     sends = λ s z. no (ap stored-by (e ∙ z));
   }
 
-  -- a store that the note says is read once
-  pub line-one : (s : Store) (m : ℕ) → line.Store s ≡ parseOf l → m ≡ lineNote (line.Store s) ps k (length ls) h near far stores → m ≡ 7 →
-      (s .reg .0 < length near) × ((headFrom ls < length ls) × ((readFrom (s .reg .0) ls ≡ length ls) × (farFrom (s .reg .0) ls ≤ headFrom ls)))
-  line-one s m e q z = go (ltb v (length near)) refl (ltb v (length far)) refl (ltb v (length stores)) (sym z ∙ q)
+  -- a store whose value may go into the next line: that one reads it
+  pub line-may : (s : Store) (m : ℕ) → m ≡ lineNote own (line.Store s) ps k (length ls) h near far stores → maySend m ≡ true →
+      Known own near (s .reg .0) × ((headFrom ls < length ls) × ((readFrom (s .reg .0) ls ≡ length ls) × (m ≡ cond (ltb (headFrom ls) (farFrom (s .reg .0) ls)) 4 7)))
+  line-may s m q z = go (ltb (slotOf (length near) own v) (length near)) refl q
     where
       v : ℕ
       v = s .reg .0
 
-      go : (a : Bool) → ltb v (length near) ≡ a → (b : Bool) → ltb v (length far) ≡ b → (c : Bool) →
-          7 ≡ cond (a && (b && c)) (noteBy (getD near v 0) (getD far v 0) (getD stores v 0) h (length ls) (samePath ps k (getD stores v 0))) 0 →
-          (v < length near) × ((headFrom ls < length ls) × ((readFrom v ls ≡ length ls) × (farFrom v ls ≤ headFrom ls)))
-      go false x b y c e = absurd (omega arith)
-      go true x false y c e = absurd (omega arith)
-      go true x true y false e = absurd (omega arith)
-      go true x true y true e =
-          let n = note-one (getD near v 0) (getD far v 0) (getD stores v 0) h (length ls) (samePath ps k (getD stores v 0)) (sym e) in
-          let r = t .reads v (ltb-true v (length near) x) in
-          let f = t .again v (ltb-true v (length near) x) (ltb-true v (length far) y) in
-          let d = t .head in
-          (ltb-true v (length near) x, (omega (arith, n .0, n .1 .0), (sym r ∙ n .1 .0, omega (arith, n .1 .1))))
+      go : (a : Bool) → ltb (slotOf (length near) own v) (length near) ≡ a →
+          m ≡ cond a (noteBy (entryOf own v near) (entryOf own v far) (entryOf own v stores) h (length ls) (samePath ps k (entryOf own v stores))) 0 →
+          Known own near v × ((headFrom ls < length ls) × ((readFrom v ls ≡ length ls) × (m ≡ cond (ltb (headFrom ls) (farFrom v ls)) 4 7)))
+      go false x e = no (sym (ap maySend e) ∙ z)
+      go true x e =
+          let i = ltb-true (slotOf (length near) own v) (length near) x in
+          let w = e ∙ note-as v i in
+          let n = note-may (readFrom v ls) (farFrom v ls) (storeFrom v ls) (headFrom ls) (length ls) (samePath ps k (storeFrom v ls)) (sym (ap maySend w) ∙ z) in
+          (i, (omega (arith, n .0, n .1 .0), (n .1 .0, w ∙ n .1 .1)))
 
 -- a note that says nothing
 pub note-nothing : (l : List ℕ) (p : ℕ) (ls : List (List ℕ)) (ps : List ℕ) (m : ℕ) → m ≡ 0 → NoteIs l p ls ps m
@@ -394,20 +406,16 @@ same-past ps k s h = rw (lt-ltb (length ps) s h)
 pub same-in : (ps : List ℕ) (k s x y : ℕ) → s ≤ length ps → x ≡ getD ps k 0 → y ≡ getD ps (length ps - s) 0 → eqb x y ≡ samePath ps k s
 same-in ps k s x y h p q = rw (le-ltb (length ps) s h, p, q)
 
-module _ (v : ℕ) (ps : List ℕ) (k m h : ℕ) (near far stores : List ℕ) where
-  pub note-past : length near ≤ v → 0 ≡ storeNote v ps k m h near far stores
-  note-past x = rw (le-ltb v (length near) x)
+module _ (own : List ℕ) (v : ℕ) (ps : List ℕ) (k m h : ℕ) (near far stores : List ℕ) (i : ℕ) (e : i ≡ slotOf (length near) own v) where
+  pub note-past : length near ≤ i → 0 ≡ storeNote own v ps k m h near far stores
+  note-past x = rw (sym e, le-ltb i (length near) x)
 
-  module _ (a : v < length near) where
-    pub note-past-far : length far ≤ v → 0 ≡ storeNote v ps k m h near far stores
-    note-past-far x = rw (lt-ltb v (length near) a, le-ltb v (length far) x)
-
-    module _ (b : v < length far) where
-      pub note-past-stores : length stores ≤ v → 0 ≡ storeNote v ps k m h near far stores
-      note-past-stores x = rw (lt-ltb v (length near) a, lt-ltb v (length far) b, le-ltb v (length stores) x)
-
-      pub note-in : v < length stores → noteBy (getD near v 0) (getD far v 0) (getD stores v 0) h m (samePath ps k (getD stores v 0)) ≡ storeNote v ps k m h near far stores
-      note-in x = rw (lt-ltb v (length near) a, lt-ltb v (length far) b, lt-ltb v (length stores) x)
+  pub note-in : i < length near → (length far ≡ length near) × (length far ≡ length stores) →
+      noteBy (getD near i 0) (getD far i 0) (getD stores i 0) h m (samePath ps k (getD stores i 0)) ≡ storeNote own v ps k m h near far stores
+  note-in x w =
+      let f : slotOf (length far) own v ≡ i = ap (λ (n : ℕ). slotOf n own v) (w .0) ∙ sym e in
+      let s : slotOf (length stores) own v ≡ i = ap (λ (n : ℕ). slotOf n own v) (sym (w .1)) ∙ f in
+      rw (sym e, f, s, lt-ltb i (length near) x)
 
 module _ (r f s h m : ℕ) (same : Bool) where
   pub note-sent : ltb h r && ltb s r ≡ true → eqb r m && not (ltb s f) ≡ true → h < f → 4 ≡ noteBy r f s h m same

@@ -6,10 +6,13 @@ use mathlib.Core.List.{List, [], _∷_, _++_}
 use native.Mathlib.Omega.{arith}
 use borrow.Author.Tests.{lt-ltb, le-ltb, ltb-true, ltb-false, eq-eqb, ne-eqb, eqb-true, eqb-false}
 use lib.Dec.{eqb, ltb}
-use lib.ListN.{length, drop, getD, set, length-set, List·getD-eq-default}
+use lib.ListN.{length, drop, getD, set, replicate, length-set, length-replicate, List·getD-eq-default}
 use lib.Seq.{drop-drop, getD-set-same, getD-set-other}
 use Rattle.lines.specs.Lf.{part, endsIn, linesOf}
-use Rattle.lines.proofs.Tests.{no, and-false}
+use Rattle.lines.specs.Inner.Lf.{lineStart}
+use Rattle.lines.proofs.Tests.{no, and-false, and-left, and-right, and-both}
+use Rattle.lines.specs.Inner.Out.{Wrote}
+use Rattle.lines.proofs.OutLaws.{wrote-whole}
 use Rattle.lines.proofs.LfLaws.{lines-end}
 use Rattle.names.specs.Names.{regOf, regIs}
 use Rattle.names.specs.declared.RegName.{RegName}
@@ -24,51 +27,63 @@ use Rattle.words.specs.Inner.Runs.{runLen, regGap}
 use Rattle.words.proofs.Walk.{RegWalk, regs-start, regs-less, regs-on, regs-end}
 use Rattle.place.specs.Region.{isHeader, region}
 use Rattle.reading.specs.Uses.{lineReads, storesBy, lineStores}
-use Rattle.decls.specs.Inner.Seen.{AtMost}
-use Rattle.decls.proofs.SeenLaws.{set-past}
+use Rattle.decls.specs.Inner.Seen.{markName, markStore, AtMost}
+use Rattle.slots.specs.Inner.Slots.{slotOf, entryOf, withEntry}
+use Rattle.slots.proofs.SlotLaws.{entry-length, entry-same, entry-other}
+use Rattle.decls.proofs.SeenLaws.{set-past, name-length}
 use Rattle.once.specs.Once.{readCount}
-use Rattle.once.specs.Inner.Noted.{markName, markStore, firstBy, readFrom, headFrom, farFrom, farName, takeBack, backName, Reads, readName, readRuns, areaOf, Begins, StartOf, lineNote, NoteIs, firstLine, NotesOf, OneOf}
-use Rattle.once.proofs.NextLaws.{Nexts, note-is, line-one, note-nothing, note-less}
-use Rattle.once.proofs.AreaLaws.{OneUp, one-new, one-on, one-done}
+use Rattle.once.specs.Inner.Noted.{firstBy, readFrom, storeFrom, headFrom, farFrom, Known, farName, aloneIn, aloneStore, takeBack, backBy, backName, Reads, readName, readRuns, areaOf, Begins, StartOf, lineNote, maySend, NoteIs, firstLine, NotesOf, OneIs, OneOf}
+use Rattle.once.proofs.NextLaws.{first-le, Nexts, note-is, line-may, note-nothing, note-less}
+use Rattle.once.proofs.AreaLaws.{read-some, next-count, CountUp, upward, up-new, up-on, up-done}
 use Rattle.once.proofs.BackLaws.{begins-lf, rows-back, line-back, start-of}
 
--- ---- what stands at a register below the end
+-- ---- what stands at a register that has a place
 
-name-length : (m : ℕ) (r : RegName) (d : List ℕ) → length (markName m r d) ≡ length d
-name-length m name.None d = refl
-name-length m (name.Reg q) d = length-set d (q .0) m
+known-as : (own d f : List ℕ) (v : ℕ) → length f ≡ length d → Known own d v → Known own f v
+known-as own d f v e k = subst (λ (n : ℕ). slotOf n own v < n) (sym e) k
 
-name-near : (m v : ℕ) (r : RegName) (d : List ℕ) → v < length d → getD (markName m r d) v 0 ≡ cond (regIs v r) m (getD d v 0)
-name-near m v name.None d h = refl
-name-near m v (name.Reg q) d h = go (eqb (q .0) v) refl
+known-some : (own d : List ℕ) (v : ℕ) → 0 < entryOf own v d → Known own d v
+known-some own d v h = go (ltb (slotOf (length d) own v) (length d)) refl
   where
-    go : (b : Bool) → eqb (q .0) v ≡ b → getD (set d (q .0) m) v 0 ≡ cond b m (getD d v 0)
-    go true e = ap (λ (n : ℕ). getD (set d n m) v 0) (eqb-true (q .0) v e) ∙ getD-set-same d v m 0 h
-    go false e = getD-set-other d (q .0) v m 0 (λ z. eqb-false (q .0) v e (sym z))
+    go : (b : Bool) → ltb (slotOf (length d) own v) (length d) ≡ b → Known own d v
+    go true e = ltb-true (slotOf (length d) own v) (length d) e
+    go false e = let z = List·getD-eq-default d 0 (ltb-false (slotOf (length d) own v) (length d) e) in absurd (omega arith)
 
-name-far : (v : ℕ) (r : RegName) (n f : List ℕ) → v < length f → getD (farName r n f) v 0 ≡ cond (regIs v r) (getD n v 0) (getD f v 0)
-name-far v name.None n f h = refl
-name-far v (name.Reg q) n f h = go (eqb (q .0) v) refl
+entry-put : (own d : List ℕ) (u x v : ℕ) → Known own d v → entryOf own v (withEntry own u x d) ≡ cond (eqb u v) x (entryOf own v d)
+entry-put own d u x v h = go (eqb u v) refl
   where
-    go : (b : Bool) → eqb (q .0) v ≡ b → getD (set f (q .0) (getD n (q .0) 0)) v 0 ≡ cond b (getD n v 0) (getD f v 0)
-    go true e = ap (λ (i : ℕ). getD (set f i (getD n i 0)) v 0) (eqb-true (q .0) v e) ∙ getD-set-same f v (getD n v 0) 0 h
-    go false e = getD-set-other f (q .0) v (getD n (q .0) 0) 0 (λ z. eqb-false (q .0) v e (sym z))
+    go : (b : Bool) → eqb u v ≡ b → entryOf own v (withEntry own u x d) ≡ cond b x (entryOf own v d)
+    go true e = ap (λ (n : ℕ). entryOf own v (withEntry own n x d)) (eqb-true u v e) ∙ entry-same own d v x h
+    go false e = entry-other own d u x v h (eqb-false u v e)
 
-far-length : (r : RegName) (n f : List ℕ) → length (farName r n f) ≡ length f
-far-length name.None n f = refl
-far-length (name.Reg q) n f = length-set f (q .0) (getD n (q .0) 0)
+name-near : (own : List ℕ) (m v : ℕ) (r : RegName) (d : List ℕ) → Known own d v → entryOf own v (markName own m r d) ≡ cond (regIs v r) m (entryOf own v d)
+name-near own m v name.None d h = refl
+name-near own m v (name.Reg q) d h = entry-put own d (q .0) m v h
 
-back-length : (c h r : ℕ) (d : List ℕ) → length (takeBack c h r d) ≡ length d
-back-length c h r d = go (ltb h r && ltb r c) (eqb (getD d (c - r - 1) 0) 7)
+name-far : (own : List ℕ) (v : ℕ) (r : RegName) (n f : List ℕ) → Known own f v → entryOf own v (farName own r n f) ≡ cond (regIs v r) (entryOf own v n) (entryOf own v f)
+name-far own v name.None n f h = refl
+name-far own v (name.Reg q) n f h = entry-put own f (q .0) (entryOf own (q .0) n) v h ∙ go (eqb (q .0) v) refl
   where
-    go : (a b : Bool) → length (cond a (cond b (set d (c - r - 1) 4) d) d) ≡ length d
-    go true true = length-set d (c - r - 1) 4
-    go true false = refl
-    go false b = refl
+    go : (b : Bool) → eqb (q .0) v ≡ b → cond b (entryOf own (q .0) n) (entryOf own v f) ≡ cond b (entryOf own v n) (entryOf own v f)
+    go true e = ap (λ (i : ℕ). entryOf own i n) (eqb-true (q .0) v e)
+    go false e = refl
 
-notes-length : (c h : ℕ) (r : RegName) (n d : List ℕ) → length (backName c h r n d) ≡ length d
-notes-length c h name.None n d = refl
-notes-length c h (name.Reg q) n d = back-length c h (getD n (q .0) 0) d
+far-length : (own : List ℕ) (r : RegName) (n f : List ℕ) → length (farName own r n f) ≡ length f
+far-length own name.None n f = refl
+far-length own (name.Reg q) n f = entry-length own f (q .0) (entryOf own (q .0) n)
+
+back-length : (c h r f : ℕ) (d : List ℕ) → length (backBy c h r f d) ≡ length d
+back-length c h r f d = go (ltb h r && ltb r f) (ltb c f) (eqb (getD d (c - f) 0) 7)
+  where
+    go : (a b e : Bool) → length (cond a (cond b d (cond e (set d (c - f) 4) d)) d) ≡ length d
+    go true true e = refl
+    go true false true = length-set d (c - f) 4
+    go true false false = refl
+    go false b e = refl
+
+notes-length : (own : List ℕ) (c h : ℕ) (r : RegName) (n f d : List ℕ) → length (backName own c h r n f d) ≡ length d
+notes-length own c h name.None n f d = refl
+notes-length own c h (name.Reg q) n f d = back-length c h (entryOf own (q .0) n) (entryOf own (q .0) f) d
 
 -- the runs of a text that name register v
 named : ℕ → List (List ℕ) → ℕ
@@ -78,91 +93,137 @@ both : (t : Bool) (x : ℕ) → cond t x x ≡ x
 both true x = refl
 both false x = refl
 
-module _ (c h m v : ℕ) where
-  near-runs : (rs : List (List ℕ)) (d : Reads) → v < length (d .0) → getD (readRuns c h m rs d .0) v 0 ≡ cond (ltb 0 (named v rs)) m (getD (d .0) v 0)
+module _ (own : List ℕ) (c h m v : ℕ) where
+  near-runs : (rs : List (List ℕ)) (d : Reads) → Known own (d .0) v → entryOf own v (readRuns own c h m rs d .0) ≡ cond (ltb 0 (named v rs)) m (entryOf own v (d .0))
   unfolding readRuns countBy named
   near-runs [] d k = refl
   near-runs (r ∷ rs) d k =
-      near-runs rs (readName c h m (regOf r) d) (omega (arith, name-length m (regOf r) (d .0)))
-      ∙ ap (cond (ltb 0 (named v rs)) m) (name-near m v (regOf r) (d .0) k)
+      near-runs rs (readName own c h m (regOf r) d) (known-as own (d .0) (markName own m (regOf r) (d .0)) v (name-length own m (regOf r) (d .0)) k)
+      ∙ ap (cond (ltb 0 (named v rs)) m) (name-near own m v (regOf r) (d .0) k)
       ∙ go (regIs v (regOf r)) (named v rs)
     where
-      go : (b : Bool) (n : ℕ) → cond (ltb 0 n) m (cond b m (getD (d .0) v 0)) ≡ cond (ltb 0 (cond b (suc n) n)) m (getD (d .0) v 0)
-      go true n = let z : 0 < suc n = omega arith in both (ltb 0 n) m ∙ sym (ap (λ (b : Bool). cond b m (getD (d .0) v 0)) (lt-ltb 0 (suc n) z))
+      go : (b : Bool) (n : ℕ) → cond (ltb 0 n) m (cond b m (entryOf own v (d .0))) ≡ cond (ltb 0 (cond b (suc n) n)) m (entryOf own v (d .0))
+      go true n = let z : 0 < suc n = omega arith in both (ltb 0 n) m ∙ sym (ap (λ (b : Bool). cond b m (entryOf own v (d .0))) (lt-ltb 0 (suc n) z))
       go false n = refl
 
-  far-runs : (rs : List (List ℕ)) (d : Reads) → v < length (d .0) → v < length (d .1 .0) →
-      getD (readRuns c h m rs d .1 .0) v 0 ≡ cond (ltb 0 (named v rs)) (cond (ltb 1 (named v rs)) m (getD (d .0) v 0)) (getD (d .1 .0) v 0)
+  far-runs : (rs : List (List ℕ)) (d : Reads) → Known own (d .0) v → Known own (d .1 .0) v →
+      entryOf own v (readRuns own c h m rs d .1 .0) ≡ cond (ltb 0 (named v rs)) (cond (ltb 1 (named v rs)) m (entryOf own v (d .0))) (entryOf own v (d .1 .0))
   unfolding readRuns countBy named
   far-runs [] d k j = refl
   far-runs (r ∷ rs) d k j =
-      far-runs rs (readName c h m (regOf r) d) (omega (arith, name-length m (regOf r) (d .0))) (omega (arith, far-length (regOf r) (d .0) (d .1 .0)))
-      ∙ rw (name-near m v (regOf r) (d .0) k, name-far v (regOf r) (d .0) (d .1 .0) j) (go (regIs v (regOf r)) (named v rs))
+      far-runs rs (readName own c h m (regOf r) d) (known-as own (d .0) (markName own m (regOf r) (d .0)) v (name-length own m (regOf r) (d .0)) k) (known-as own (d .1 .0) (farName own (regOf r) (d .0) (d .1 .0)) v (far-length own (regOf r) (d .0) (d .1 .0)) j)
+      ∙ rw (name-near own m v (regOf r) (d .0) k, name-far own v (regOf r) (d .0) (d .1 .0) j) (go (regIs v (regOf r)) (named v rs))
     where
       go : (b : Bool) (n : ℕ) →
-          cond (ltb 0 n) (cond (ltb 1 n) m (cond b m (getD (d .0) v 0))) (cond b (getD (d .0) v 0) (getD (d .1 .0) v 0))
-          ≡ cond (ltb 0 (cond b (suc n) n)) (cond (ltb 1 (cond b (suc n) n)) m (getD (d .0) v 0)) (getD (d .1 .0) v 0)
+          cond (ltb 0 n) (cond (ltb 1 n) m (cond b m (entryOf own v (d .0)))) (cond b (entryOf own v (d .0)) (entryOf own v (d .1 .0)))
+          ≡ cond (ltb 0 (cond b (suc n) n)) (cond (ltb 1 (cond b (suc n) n)) m (entryOf own v (d .0))) (entryOf own v (d .1 .0))
       go true zero = refl
       go true (suc n) = rw (lt-ltb 0 (suc n) (omega arith), lt-ltb 0 (suc (suc n)) (omega arith), lt-ltb 1 (suc (suc n)) (omega arith)) (both (ltb 1 (suc n)) m)
       go false n = refl
 
-pub runs-lengths : (c h m : ℕ) (rs : List (List ℕ)) (d : Reads) →
-    (length (readRuns c h m rs d .0) ≡ length (d .0)) × ((length (readRuns c h m rs d .1 .0) ≡ length (d .1 .0)) × (length (readRuns c h m rs d .1 .1) ≡ length (d .1 .1)))
+pub runs-lengths : (own : List ℕ) (c h m : ℕ) (rs : List (List ℕ)) (d : Reads) →
+    (length (readRuns own c h m rs d .0) ≡ length (d .0)) × ((length (readRuns own c h m rs d .1 .0) ≡ length (d .1 .0)) × (length (readRuns own c h m rs d .1 .1) ≡ length (d .1 .1)))
 unfolding readRuns
-runs-lengths c h m [] d = (refl, (refl, refl))
-runs-lengths c h m (r ∷ rs) d =
-    let e = runs-lengths c h m rs (readName c h m (regOf r) d) in
-    (e .0 ∙ name-length m (regOf r) (d .0), (e .1 .0 ∙ far-length (regOf r) (d .0) (d .1 .0), e .1 .1 ∙ notes-length c h (regOf r) (d .0) (d .1 .1)))
+runs-lengths own c h m [] d = (refl, (refl, refl))
+runs-lengths own c h m (r ∷ rs) d =
+    let e = runs-lengths own c h m rs (readName own c h m (regOf r) d) in
+    (e .0 ∙ name-length own m (regOf r) (d .0), (e .1 .0 ∙ far-length own (regOf r) (d .0) (d .1 .0), e .1 .1 ∙ notes-length own c h (regOf r) (d .0) (d .1 .0) (d .1 .1)))
 
-store-near : (m v : ℕ) (p : Line) (d : List ℕ) → v < length d → getD (markStore m p d) v 0 ≡ cond (storesBy v p) m (getD d v 0)
-store-near m v line.Decl d h = refl
-store-near m v (line.Store s) d h = go (eqb (s .reg .0) v) refl
+store-near : (own : List ℕ) (m v : ℕ) (p : Line) (d : List ℕ) → Known own d v → entryOf own v (markStore own m p d) ≡ cond (storesBy v p) m (entryOf own v d)
+store-near own m v line.Decl d h = refl
+store-near own m v (line.Store s) d h = entry-put own d (s .reg .0) m v h
+store-near own m v line.Other d h = refl
+
+pub store-length : (own : List ℕ) (m : ℕ) (p : Line) (d : List ℕ) → length (markStore own m p d) ≡ length d
+store-length own m line.Decl d = refl
+store-length own m (line.Store s) d = entry-length own d (s .reg .0) m
+store-length own m line.Other d = refl
+
+alone-near : (own : List ℕ) (m x v : ℕ) (p : Line) (d : List ℕ) → Known own d v → entryOf own v (aloneStore own m x p d) ≡ cond (eqb x 7 && storesBy v p) m (entryOf own v d)
+alone-near own m x v line.Decl d h = sym (ap (λ (b : Bool). cond b m (entryOf own v d)) (and-false (eqb x 7)))
+alone-near own m x v (line.Store s) d h = go (eqb x 7)
   where
-    go : (b : Bool) → eqb (s .reg .0) v ≡ b → getD (set d (s .reg .0) m) v 0 ≡ cond b m (getD d v 0)
-    go true e = ap (λ (n : ℕ). getD (set d n m) v 0) (eqb-true (s .reg .0) v e) ∙ getD-set-same d v m 0 h
-    go false e = getD-set-other d (s .reg .0) v m 0 (λ z. eqb-false (s .reg .0) v e (sym z))
-store-near m v line.Other d h = refl
+    go : (b : Bool) → entryOf own v (cond b (withEntry own (s .reg .0) m d) d) ≡ cond (b && eqb (s .reg .0) v) m (entryOf own v d)
+    go true = entry-put own d (s .reg .0) m v h
+    go false = refl
+alone-near own m x v line.Other d h = sym (ap (λ (b : Bool). cond b m (entryOf own v d)) (and-false (eqb x 7)))
 
-pub store-length : (m : ℕ) (p : Line) (d : List ℕ) → length (markStore m p d) ≡ length d
-store-length m line.Decl d = refl
-store-length m (line.Store s) d = length-set d (s .reg .0) m
-store-length m line.Other d = refl
+pub alone-in : (own : List ℕ) (m x v : ℕ) (d : List ℕ) → length (aloneIn own m x v d) ≡ length d
+alone-in own m x v d = go (eqb x 7)
+  where
+    go : (b : Bool) → length (cond b (withEntry own v m d) d) ≡ length d
+    go true = entry-length own d v m
+    go false = refl
+
+pub alone-length : (own : List ℕ) (m x : ℕ) (p : Line) (d : List ℕ) → length (aloneStore own m x p d) ≡ length d
+alone-length own m x line.Decl d = refl
+alone-length own m x (line.Store s) d = alone-in own m x (s .reg .0) d
+alone-length own m x line.Other d = refl
 
 -- ---- one line more
 
-nexts-none : (h : ℕ) (near far stores : List ℕ) → h ≡ 0 → AtMost 0 near → AtMost 0 far → AtMost 0 stores → Nexts [] h near far stores
+nexts-none : (own : List ℕ) (h : ℕ) (near far stores : List ℕ) → (length far ≡ length near) × (length far ≡ length stores) → h ≡ 0 → AtMost 0 near → AtMost 0 far → AtMost 0 stores → Nexts own [] h near far stores
 unfolding firstBy farFrom
-nexts-none h near far stores z a b c = record {
+nexts-none own h near far stores w z a b c = record {
+  wide = w .0;
+  tall = w .1;
   head = z;
-  reads = λ v k. let y = a v in omega arith;
-  again = λ v k j. let y = b v in omega arith;
-  stored = λ v k. let y = c v in omega arith;
+  reads = λ v k. let y = a (slotOf (length near) own v) in omega arith;
+  again = λ v k j. absurd (omega arith);
+  stored = λ v k. let y = c (slotOf (length stores) own v) in omega arith;
 }
 
-nexts-on : (c : ℕ) (l : List ℕ) (ls : List (List ℕ)) (p : Line) (h m h′ : ℕ) (near far stores notes near′ far′ stores′ notes′ : List ℕ) → p ≡ parseOf l → m ≡ suc (length ls) →
-    (near′, (far′, notes′)) ≡ readRuns c h m (runs (textOf l p)) (near, (far, notes)) → stores′ ≡ markStore m p stores → h′ ≡ cond (isHeader l) m h → Nexts ls h near far stores →
-    Nexts (l ∷ ls) h′ near′ far′ stores′
-unfolding firstBy farFrom lineReads lineStores named
-nexts-on c l ls p h m h′ near far stores notes near′ far′ stores′ notes′ e q y z x t = record {
-  head = x ∙ ap (λ (n : ℕ). cond (isHeader l) n h) q ∙ ap (cond (isHeader l) (suc (length ls))) (t .head);
-  reads = λ v k. near-at v (omega (arith, ln)) ∙ rw (t .reads v (omega (arith, ln)), e, q);
-  again = λ v k j. far-at v (omega (arith, ln)) (omega (arith, lf)) ∙ rw (t .reads v (omega (arith, ln)), t .again v (omega (arith, ln)) (omega (arith, lf)), e, q);
-  stored = λ v k.
-      let n : length stores′ ≡ length stores = ap (λ (d : List ℕ). length d) z ∙ store-length m p stores in
-      ap (λ (d : List ℕ). getD d v 0) z ∙ store-near m v p stores (omega arith) ∙ rw (t .stored v (omega arith), e, q);
-}
-  where
-    ln : length near′ ≡ length near
-    ln = ap (λ (d : Reads). length (d .0)) y ∙ runs-lengths c h m (runs (textOf l p)) (near, (far, notes)) .0
+-- what the tables have after a line
+module _ (own : List ℕ) (c : ℕ) (l : List ℕ) (ls : List (List ℕ)) (p : Line) (x h m : ℕ) (near far stores notes near′ far′ notes′ : List ℕ) (e : p ≡ parseOf l)
+    (y : (near′, (far′, notes′)) ≡ readRuns own c h m (runs (textOf l p)) (near, (aloneStore own m x p far, notes))) (w : length far ≡ length near) where
+  ln : length near′ ≡ length near
+  ln = ap (λ (d : Reads). length (d .0)) y ∙ runs-lengths own c h m (runs (textOf l p)) (near, (aloneStore own m x p far, notes)) .0
 
-    lf : length far′ ≡ length far
-    lf = ap (λ (d : Reads). length (d .1 .0)) y ∙ runs-lengths c h m (runs (textOf l p)) (near, (far, notes)) .1 .0
+  lf : length far′ ≡ length far
+  lf = ap (λ (d : Reads). length (d .1 .0)) y ∙ runs-lengths own c h m (runs (textOf l p)) (near, (aloneStore own m x p far, notes)) .1 .0 ∙ alone-length own m x p far
 
-    near-at : (v : ℕ) → v < length near → getD near′ v 0 ≡ cond (ltb 0 (readsOf v (textOf l p))) m (getD near v 0)
-    near-at v k = ap (λ (d : Reads). getD (d .0) v 0) y ∙ near-runs c h m v (runs (textOf l p)) (near, (far, notes)) k
+  reads-as : (v : ℕ) → named v (runs (textOf l p)) ≡ lineReads v l
+  unfolding lineReads named
+  reads-as v = ap (λ (q : Line). readsOf v (textOf l q)) e
 
-    far-at : (v : ℕ) → v < length near → v < length far → getD far′ v 0 ≡ cond (ltb 0 (readsOf v (textOf l p))) (cond (ltb 1 (readsOf v (textOf l p))) m (getD near v 0)) (getD far v 0)
-    far-at v k j = ap (λ (d : Reads). getD (d .1 .0) v 0) y ∙ far-runs c h m v (runs (textOf l p)) (near, (far, notes)) k j
+  near-at : (v : ℕ) → Known own near v → entryOf own v near′ ≡ cond (ltb 0 (lineReads v l)) m (entryOf own v near)
+  near-at v k =
+      ap (λ (d : Reads). entryOf own v (d .0)) y ∙ near-runs own c h m v (runs (textOf l p)) (near, (aloneStore own m x p far, notes)) k
+      ∙ ap (λ (n : ℕ). cond (ltb 0 n) m (entryOf own v near)) (reads-as v)
+
+  far-at : (v : ℕ) → Known own near v → entryOf own v far′ ≡ cond (ltb 0 (lineReads v l)) (cond (ltb 1 (lineReads v l)) m (entryOf own v near)) (entryOf own v (aloneStore own m x p far))
+  far-at v k =
+      ap (λ (d : Reads). entryOf own v (d .1 .0)) y
+      ∙ far-runs own c h m v (runs (textOf l p)) (near, (aloneStore own m x p far, notes)) k (known-as own near (aloneStore own m x p far) v (alone-length own m x p far ∙ w) k)
+      ∙ ap (λ (n : ℕ). cond (ltb 0 n) (cond (ltb 1 n) m (entryOf own v near)) (entryOf own v (aloneStore own m x p far))) (reads-as v)
+
+  alone-at : (v : ℕ) → Known own near v → (b : Bool) → eqb x 7 && lineStores v l ≡ b → entryOf own v (aloneStore own m x p far) ≡ cond b m (entryOf own v far)
+  unfolding lineStores
+  alone-at v k b z =
+      alone-near own m x v p far (known-as own near far v w k)
+      ∙ ap (λ (t : Bool). cond t m (entryOf own v far)) (ap (λ (q : Line). eqb x 7 && storesBy v q) e ∙ z)
+
+  nexts-on : (stores′ : List ℕ) (h′ : ℕ) → m ≡ suc (length ls) → stores′ ≡ markStore own m p stores → h′ ≡ cond (isHeader l) m h → Nexts own ls h near far stores → Nexts own (l ∷ ls) h′ near′ far′ stores′
+  unfolding firstBy farFrom lineStores
+  nexts-on stores′ h′ q z u t = record {
+    wide = lf ∙ w ∙ sym ln;
+    tall = lf ∙ t .tall ∙ sym lst;
+    head = u ∙ ap (λ (n : ℕ). cond (isHeader l) n h) q ∙ ap (cond (isHeader l) (suc (length ls))) (t .head);
+    reads = λ v k. let k′ = known-as own near′ near v (sym ln) k in near-at v k′ ∙ rw (t .reads v k′, q);
+    again = λ v k j. let k′ = known-as own near′ near v (sym ln) k in far-at v k′ ∙ go v k′ (ltb 0 (lineReads v l)) (lineStores v l) refl j;
+    stored = λ v k.
+        let k′ = known-as own near′ near v (sym ln) k in
+        ap (λ (d : List ℕ). entryOf own v d) z ∙ store-near own m v p stores (known-as own near stores v (sym (t .tall) ∙ w) k′) ∙ rw (t .stored v k′, e, q);
+  }
+    where
+      lst : length stores′ ≡ length stores
+      lst = ap (λ (d : List ℕ). length d) z ∙ store-length own m p stores
+
+      go : (v : ℕ) → Known own near v → (a b : Bool) → lineStores v l ≡ b → cond b (suc (length ls)) (storeFrom v ls) < cond a (suc (length ls)) (readFrom v ls) →
+          cond a (cond (ltb 1 (lineReads v l)) m (entryOf own v near)) (entryOf own v (aloneStore own m x p far)) ≡ cond a (cond (ltb 1 (lineReads v l)) (suc (length ls)) (readFrom v ls)) (farFrom v ls)
+      go v k true b i j = rw (t .reads v k, q)
+      go v k false true i j = let n = first-le (λ (l : List ℕ). ltb 0 (lineReads v l)) ls in absurd (omega arith)
+      go v k false false i j = alone-at v k false (ap (λ (b : Bool). eqb x 7 && b) i ∙ and-false (eqb x 7)) ∙ t .again v k j
 
 -- ---- the table of notes
 
@@ -184,57 +245,59 @@ notes-put us ps d k x n h = λ j. go j (eqb j k) refl
     go j false e = subst (At j) (sym (getD-set-other d k j x 0 (eqb-false j k e))) (h j)
 
 -- a read takes back no more than it may
-notes-back : (us : List (List ℕ)) (ps : List ℕ) (c h r : ℕ) (d : List ℕ) → NotesOf us ps d → NotesOf us ps (takeBack c h r d)
-notes-back us ps c h r d n = go (ltb h r && ltb r c) (eqb (getD d (c - r - 1) 0) 7) refl
+notes-back : (us : List (List ℕ)) (ps : List ℕ) (c h r f : ℕ) (d : List ℕ) → NotesOf us ps d → NotesOf us ps (backBy c h r f d)
+notes-back us ps c h r f d n = go (ltb h r && ltb r f) (ltb c f) (eqb (getD d (c - f) 0) 7) refl
   where
     i : ℕ
-    i = c - r - 1
+    i = c - f
 
-    go : (a b : Bool) → eqb (getD d i 0) 7 ≡ b → NotesOf us ps (cond a (cond b (set d i 4) d) d)
-    go true true e = notes-put us ps d i 4 (note-less (firstLine (drop i us)) (getD ps i 0) (drop (i + 1) us) (drop (i + 1) ps) (getD d i 0) (eqb-true (getD d i 0) 7 e) (n i)) n
-    go true false e = n
-    go false b e = n
+    go : (a b t : Bool) → eqb (getD d i 0) 7 ≡ t → NotesOf us ps (cond a (cond b d (cond t (set d i 4) d)) d)
+    go true true t e = n
+    go true false true e = notes-put us ps d i 4 (note-less (firstLine (drop i us)) (getD ps i 0) (drop (i + 1) us) (drop (i + 1) ps) (getD d i 0) (eqb-true (getD d i 0) 7 e) (n i)) n
+    go true false false e = n
+    go false b t e = n
 
-notes-name : (us : List (List ℕ)) (ps : List ℕ) (c h : ℕ) (r : RegName) (n d : List ℕ) → NotesOf us ps d → NotesOf us ps (backName c h r n d)
-notes-name us ps c h name.None n d k = k
-notes-name us ps c h (name.Reg q) n d k = notes-back us ps c h (getD n (q .0) 0) d k
+notes-name : (us : List (List ℕ)) (ps own : List ℕ) (c h : ℕ) (r : RegName) (n f d : List ℕ) → NotesOf us ps d → NotesOf us ps (backName own c h r n f d)
+notes-name us ps own c h name.None n f d k = k
+notes-name us ps own c h (name.Reg q) n f d k = notes-back us ps c h (entryOf own (q .0) n) (entryOf own (q .0) f) d k
 
-notes-runs : (us : List (List ℕ)) (ps : List ℕ) (c h m : ℕ) (rs : List (List ℕ)) (d : Reads) → NotesOf us ps (d .1 .1) → NotesOf us ps (readRuns c h m rs d .1 .1)
+notes-runs : (us : List (List ℕ)) (ps own : List ℕ) (c h m : ℕ) (rs : List (List ℕ)) (d : Reads) → NotesOf us ps (d .1 .1) → NotesOf us ps (readRuns own c h m rs d .1 .1)
 unfolding readRuns
-notes-runs us ps c h m [] d k = k
-notes-runs us ps c h m (r ∷ rs) d k = notes-runs us ps c h m rs (readName c h m (regOf r) d) (notes-name us ps c h (regOf r) (d .0) (d .1 .1) k)
+notes-runs us ps own c h m [] d k = k
+notes-runs us ps own c h m (r ∷ rs) d k = notes-runs us ps own c h m rs (readName own c h m (regOf r) d) (notes-name us ps own c h (regOf r) (d .0) (d .1 .0) (d .1 .1) k)
 
 -- it adds no 7
-back-keeps : (c h r k : ℕ) (d : List ℕ) → getD (takeBack c h r d) k 0 ≡ 7 → getD d k 0 ≡ 7
-back-keeps c h r k d = go (ltb h r && ltb r c) (eqb (getD d i 0) 7) refl
+back-keeps : (c h r f k : ℕ) (d : List ℕ) → getD (backBy c h r f d) k 0 ≡ 7 → getD d k 0 ≡ 7
+back-keeps c h r f k d = go (ltb h r && ltb r f) (ltb c f) (eqb (getD d i 0) 7) refl
   where
     i : ℕ
-    i = c - r - 1
+    i = c - f
 
     at : getD d i 0 ≡ 7 → (t : Bool) → eqb k i ≡ t → getD (set d i 4) k 0 ≡ 7 → getD d k 0 ≡ 7
     at e true z q = ap (λ (j : ℕ). getD d j 0) (eqb-true k i z) ∙ e
     at e false z q = sym (getD-set-other d i k 4 0 (eqb-false k i z)) ∙ q
 
-    go : (a b : Bool) → eqb (getD d i 0) 7 ≡ b → getD (cond a (cond b (set d i 4) d) d) k 0 ≡ 7 → getD d k 0 ≡ 7
-    go true true e q = at (eqb-true (getD d i 0) 7 e) (eqb k i) refl q
-    go true false e q = q
-    go false b e q = q
+    go : (a b t : Bool) → eqb (getD d i 0) 7 ≡ t → getD (cond a (cond b d (cond t (set d i 4) d)) d) k 0 ≡ 7 → getD d k 0 ≡ 7
+    go true true t e q = q
+    go true false true e q = at (eqb-true (getD d i 0) 7 e) (eqb k i) refl q
+    go true false false e q = q
+    go false b t e q = q
 
-name-keeps : (c h k : ℕ) (r : RegName) (n d : List ℕ) → getD (backName c h r n d) k 0 ≡ 7 → getD d k 0 ≡ 7
-name-keeps c h k name.None n d q = q
-name-keeps c h k (name.Reg v) n d q = back-keeps c h (getD n (v .0) 0) k d q
+name-keeps : (own : List ℕ) (c h k : ℕ) (r : RegName) (n f d : List ℕ) → getD (backName own c h r n f d) k 0 ≡ 7 → getD d k 0 ≡ 7
+name-keeps own c h k name.None n f d q = q
+name-keeps own c h k (name.Reg v) n f d q = back-keeps c h (entryOf own (v .0) n) (entryOf own (v .0) f) k d q
 
-runs-keep : (c h m k : ℕ) (rs : List (List ℕ)) (d : Reads) → getD (readRuns c h m rs d .1 .1) k 0 ≡ 7 → getD (d .1 .1) k 0 ≡ 7
+runs-keep : (own : List ℕ) (c h m k : ℕ) (rs : List (List ℕ)) (d : Reads) → getD (readRuns own c h m rs d .1 .1) k 0 ≡ 7 → getD (d .1 .1) k 0 ≡ 7
 unfolding readRuns
-runs-keep c h m k [] d q = q
-runs-keep c h m k (r ∷ rs) d q = name-keeps c h k (regOf r) (d .0) (d .1 .1) (runs-keep c h m k rs (readName c h m (regOf r) d) q)
+runs-keep own c h m k [] d q = q
+runs-keep own c h m k (r ∷ rs) d q = name-keeps own c h k (regOf r) (d .0) (d .1 .0) (d .1 .1) (runs-keep own c h m k rs (readName own c h m (regOf r) d) q)
 
 -- a read of what goes into the line with the number r takes the 7 back of the line above it, which has k above it
-module _ (c h r k : ℕ) (a : h < r) (z : k + suc r ≡ c) where
-  back-takes : (d : List ℕ) → getD (takeBack c h r d) k 0 ≡ 7 → ⊥
-  back-takes d = rw (lt-ltb h r a, lt-ltb r c (omega arith), i) (go (eqb (getD d k 0) 7) refl)
+module _ (own : List ℕ) (c h r k : ℕ) (a : h < r) (z : k + suc r ≡ c) where
+  back-takes : (d : List ℕ) → getD (backBy c h r (suc r) d) k 0 ≡ 7 → ⊥
+  back-takes d = rw (lt-ltb h r a, lt-ltb r (suc r) (omega arith), le-ltb c (suc r) (omega arith), i) (go (eqb (getD d k 0) 7) refl)
     where
-      i : c - r - 1 ≡ k
+      i : c - suc r ≡ k
       i = omega arith
 
       put : (t : Bool) → ltb k (length d) ≡ t → getD d k 0 ≡ 7 → getD (set d k 4) k 0 ≡ 7 → ⊥
@@ -245,123 +308,399 @@ module _ (c h r k : ℕ) (a : h < r) (z : k + suc r ≡ c) where
       go true e q = put (ltb k (length d)) refl (eqb-true (getD d k 0) 7 e) q
       go false e q = eqb-false (getD d k 0) 7 e q
 
-  name-takes : (v : ℕ) (w : RegName) (n d : List ℕ) → getD n v 0 ≡ r → regIs v w ≡ true → getD (backName c h w n d) k 0 ≡ 7 → ⊥
-  name-takes v name.None n d e i q = no i
-  name-takes v (name.Reg u) n d e i q =
-      let x : getD n (u .0) 0 ≡ r = ap (λ (j : ℕ). getD n j 0) (eqb-true (u .0) v i) ∙ e in
-      back-takes d (ap (λ (j : ℕ). getD (takeBack c h j d) k 0) (sym x) ∙ q)
+  name-takes : (v : ℕ) (w : RegName) (n f d : List ℕ) → entryOf own v n ≡ r → entryOf own v f ≡ suc r → regIs v w ≡ true → getD (backName own c h w n f d) k 0 ≡ 7 → ⊥
+  name-takes v name.None n f d e g i q = no i
+  name-takes v (name.Reg u) n f d e g i q =
+      let x : entryOf own (u .0) n ≡ r = ap (λ (j : ℕ). entryOf own j n) (eqb-true (u .0) v i) ∙ e in
+      let y : entryOf own (u .0) f ≡ suc r = ap (λ (j : ℕ). entryOf own j f) (eqb-true (u .0) v i) ∙ g in
+      back-takes d (ap (λ (j : ℕ). getD (backBy c h r j d) k 0) (sym y) ∙ ap (λ (j : ℕ). getD (backBy c h j (entryOf own (u .0) f) d) k 0) (sym x) ∙ q)
 
-  runs-take : (m v : ℕ) (rs : List (List ℕ)) (d : Reads) → v < length (d .0) → getD (d .0) v 0 ≡ r → 0 < named v rs → getD (readRuns c h m rs d .1 .1) k 0 ≡ 7 → ⊥
+  runs-take : (m v : ℕ) (rs : List (List ℕ)) (d : Reads) → Known own (d .0) v → Known own (d .1 .0) v → entryOf own v (d .0) ≡ r → entryOf own v (d .1 .0) ≡ suc r → 0 < named v rs →
+      getD (readRuns own c h m rs d .1 .1) k 0 ≡ 7 → ⊥
   unfolding readRuns countBy named
-  runs-take m v [] d l e j q = omega arith
-  runs-take m v (w ∷ rs) d l e j q =
-      go (λ i y. runs-take m v rs (readName c h m (regOf w) d) (omega (arith, name-length m (regOf w) (d .0))) (name-near m v (regOf w) (d .0) l ∙ ap (λ (b : Bool). cond b m (getD (d .0) v 0)) i ∙ e) y q)
+  runs-take m v [] d l l′ e g j q = omega arith
+  runs-take m v (w ∷ rs) d l l′ e g j q =
+      go (λ i y. runs-take m v rs (readName own c h m (regOf w) d) (known-as own (d .0) (markName own m (regOf w) (d .0)) v (name-length own m (regOf w) (d .0)) l) (known-as own (d .1 .0) (farName own (regOf w) (d .0) (d .1 .0)) v (far-length own (regOf w) (d .0) (d .1 .0)) l′)
+      (name-near own m v (regOf w) (d .0) l ∙ ap (λ (b : Bool). cond b m (entryOf own v (d .0))) i ∙ e)
+      (name-far own v (regOf w) (d .0) (d .1 .0) l′ ∙ ap (λ (b : Bool). cond b (entryOf own v (d .0)) (entryOf own v (d .1 .0))) i ∙ g) y q)
       (regIs v (regOf w)) refl j
     where
       go : (regIs v (regOf w) ≡ false → 0 < named v rs → ⊥) → (b : Bool) → regIs v (regOf w) ≡ b → 0 < cond b (suc (named v rs)) (named v rs) → ⊥
-      go f true i y = name-takes v (regOf w) (d .0) (d .1 .1) e i (runs-keep c h m k rs (readName c h m (regOf w) d) q)
+      go f true i y = name-takes v (regOf w) (d .0) (d .1 .0) (d .1 .1) e g i (runs-keep own c h m k rs (readName own c h m (regOf w) d) q)
       go f false i y = f i y
 
--- ---- the values that are read once, by the notes of the lines us at the end of the lines ls; the tables are of the registers below w
+-- a 4 stood before the reads of a line, or one of them put it there
+data Took (own : List ℕ) (c h k : ℕ) (rs : List (List ℕ)) (d : Reads) : Type 0 where
+  stood : getD (d .1 .1) k 0 ≡ 4 → Took own c h k rs d
+  took : (v : ℕ) → Known own (d .0) v → 0 < named v rs → h < entryOf own v (d .0) → entryOf own v (d .0) < entryOf own v (d .1 .0) → k + entryOf own v (d .1 .0) ≡ c → Took own c h k rs d
 
--- so of the line with k above it, which stores register v
-pub record OneRow (ls us : List (List ℕ)) (w k v : ℕ) : Type 0 where
+module _ (own : List ℕ) (c h k : ℕ) where
+  name-took : {A : Type 0} (w : RegName) (n f d : List ℕ) → getD (backName own c h w n f d) k 0 ≡ 4 → (getD d k 0 ≡ 4 → A) →
+      ((v : ℕ) → regIs v w ≡ true → h < entryOf own v n → entryOf own v n < entryOf own v f → k + entryOf own v f ≡ c → A) → A
+  name-took name.None n f d q s t = s q
+  name-took {A} (name.Reg u) n f d q s t = go (ltb h r && ltb r g) refl (ltb c g) refl (eqb (getD d i 0) 7) q
+    where
+      r : ℕ
+      r = entryOf own (u .0) n
+
+      g : ℕ
+      g = entryOf own (u .0) f
+
+      i : ℕ
+      i = c - g
+
+      at : ltb h r && ltb r g ≡ true → ltb c g ≡ false → (b : Bool) → eqb k i ≡ b → getD (set d i 4) k 0 ≡ 4 → A
+      at x y true z o =
+          let a = eqb-true k i z in
+          let b = ltb-false c g y in
+          t (u .0) (eq-eqb (u .0) (u .0) refl) (ltb-true h r (and-left (ltb h r) (ltb r g) x)) (ltb-true r g (and-right (ltb h r) (ltb r g) x)) (omega arith)
+      at x y false z o = s (sym (getD-set-other d i k 4 0 (eqb-false k i z)) ∙ o)
+
+      go : (a : Bool) → ltb h r && ltb r g ≡ a → (b : Bool) → ltb c g ≡ b → (e : Bool) → getD (cond a (cond b d (cond e (set d i 4) d)) d) k 0 ≡ 4 → A
+      go true x true y e o = s o
+      go true x false y true o = at x y (eqb k i) refl o
+      go true x false y false o = s o
+      go false x b y e o = s o
+
+  runs-took : (m : ℕ) (rs : List (List ℕ)) (d : Reads) → length (d .1 .0) ≡ length (d .0) → ((v : ℕ) → Known own (d .0) v → entryOf own v (d .0) ≤ m) →
+      getD (readRuns own c h m rs d .1 .1) k 0 ≡ 4 → Took own c h k rs d
+  unfolding readRuns countBy named
+  runs-took m [] d l b q = stood q
+  runs-took m (r ∷ rs) d l b q =
+      go (runs-took m rs (readName own c h m (regOf r) d) (far-length own (regOf r) (d .0) (d .1 .0) ∙ l ∙ sym (name-length own m (regOf r) (d .0))) most q)
+    where
+      ln : length (markName own m (regOf r) (d .0)) ≡ length (d .0)
+      ln = name-length own m (regOf r) (d .0)
+
+      less : (v : ℕ) (t : Bool) → entryOf own v (d .0) ≤ m → cond t m (entryOf own v (d .0)) ≤ m
+      less v true h = omega arith
+      less v false h = h
+
+      most : (v : ℕ) → Known own (markName own m (regOf r) (d .0)) v → entryOf own v (markName own m (regOf r) (d .0)) ≤ m
+      most v i =
+          let j = known-as own (markName own m (regOf r) (d .0)) (d .0) v (sym ln) i in
+          let e = name-near own m v (regOf r) (d .0) j in
+          omega (arith, e, less v (regIs v (regOf r)) (b v j))
+
+      at : (v : ℕ) → Known own (d .0) v → 0 < named v rs → h < entryOf own v (markName own m (regOf r) (d .0)) →
+          entryOf own v (markName own m (regOf r) (d .0)) < entryOf own v (farName own (regOf r) (d .0) (d .1 .0)) → k + entryOf own v (farName own (regOf r) (d .0) (d .1 .0)) ≡ c →
+          (t : Bool) → regIs v (regOf r) ≡ t → Took own c h k (r ∷ rs) d
+      at v i j x y z true e =
+          let n = name-near own m v (regOf r) (d .0) i ∙ ap (λ (t : Bool). cond t m (entryOf own v (d .0))) e in
+          let f = name-far own v (regOf r) (d .0) (d .1 .0) (known-as own (d .0) (d .1 .0) v l i) ∙ ap (λ (t : Bool). cond t (entryOf own v (d .0)) (entryOf own v (d .1 .0))) e in
+          absurd (omega (arith, n, f, y, b v i))
+      at v i j x y z false e =
+          let n = name-near own m v (regOf r) (d .0) i ∙ ap (λ (t : Bool). cond t m (entryOf own v (d .0))) e in
+          let f = name-far own v (regOf r) (d .0) (d .1 .0) (known-as own (d .0) (d .1 .0) v l i) ∙ ap (λ (t : Bool). cond t (entryOf own v (d .0)) (entryOf own v (d .1 .0))) e in
+          took v i (rw e j) (omega (arith, n, x)) (omega (arith, n, f, y)) (omega (arith, f, z))
+
+      go : Took own c h k rs (readName own c h m (regOf r) d) → Took own c h k (r ∷ rs) d
+      go (stood o) =
+          name-took (regOf r) (d .0) (d .1 .0) (d .1 .1) o stood
+          (λ v i x y z. took v (known-some own (d .0) v (omega arith)) (let n : 0 < suc (named v rs) = omega arith in rw i n) x y z)
+      go (took v i j x y z) = at v (known-as own (markName own m (regOf r) (d .0)) (d .0) v (sym ln) i) j x y z (regIs v (regOf r)) refl
+
+-- ---- the values that the notes say are read once, or more often, by the lines us at the end of the lines ls
+
+-- the line with k above it stores register v, which is read once
+pub record OneRow (own : List ℕ) (ls us : List (List ℕ)) (near far : List ℕ) (k v : ℕ) : Type 0 where
   pub next : ℕ
   pub row : k + suc next ≡ length ls
   pub among : next ≤ length us
-  pub known : v < w
-  pub up : OneUp v next us
+  pub known : Known own near v
+  pub first : headFrom us < next → readFrom v us ≡ next
+  pub mine : headFrom us < next → entryOf own v far ≡ suc next
+  pub up : CountUp (λ (n : ℕ). n ≡ 1) v next us
 
-abbrev pub Ones : List (List ℕ) → List (List ℕ) → ℕ → List ℕ → Type 0
-Ones ls us w d = (k : ℕ) (s : Store) → parseOf (firstLine (drop k ls)) ≡ line.Store s → getD d k 0 ≡ 7 → OneRow ls us w k (s .reg .0)
+-- more often
+pub record MoreRow (ls us : List (List ℕ)) (k v : ℕ) : Type 0 where
+  pub next : ℕ
+  pub row : k + suc next ≡ length ls
+  pub among : next ≤ length us
+  pub up : CountUp (λ (n : ℕ). 2 ≤ n) v next us
 
-ones-none : (ls us : List (List ℕ)) (w : ℕ) (d : List ℕ) → AtMost 0 d → Ones ls us w d
-ones-none ls us w d h = λ k s e q. let z = h k in absurd (omega arith)
+pub record Ones (own : List ℕ) (ls us : List (List ℕ)) (near far d : List ℕ) : Type 0 where
+  pub alone : (k : ℕ) (s : Store) → parseOf (firstLine (drop k ls)) ≡ line.Store s → getD d k 0 ≡ 7 → OneRow own ls us near far k (s .reg .0)
+  pub more : (k : ℕ) (s : Store) → parseOf (firstLine (drop k ls)) ≡ line.Store s → getD d k 0 ≡ 4 → MoreRow ls us k (s .reg .0)
+  pub marked : (v : ℕ) → Known own near v → entryOf own v near < entryOf own v far →
+      (entryOf own v far ≤ suc (length us)) × (lineStores v (firstLine (drop (length ls - entryOf own v far) ls)) ≡ true)
+
+ones-none : (own : List ℕ) (ls us : List (List ℕ)) (near far d : List ℕ) → AtMost 0 far → AtMost 0 d → Ones own ls us near far d
+ones-none own ls us near far d f h = record {
+  alone = λ k s e q. let z = h k in absurd (omega arith);
+  more = λ k s e q. let z = h k in absurd (omega arith);
+  marked = λ v k q. let z = f (slotOf (length far) own v) in absurd (omega arith);
+}
 
 pub once-none : (ls : List (List ℕ)) (d : List ℕ) → AtMost 0 d → OneOf ls d
-once-none ls d h = λ k s e q. let z = h k in absurd (omega arith)
+once-none ls d h = λ k s e. record { alone = λ q. let z = h k in absurd (omega arith); more = λ q. let z = h k in absurd (omega arith) }
 
-pub once-of : (ls : List (List ℕ)) (w : ℕ) (d : List ℕ) → Ones ls ls w d → OneOf ls d
-once-of ls w d o = λ k s e q.
-    let r : OneRow ls ls w k (s .reg .0) = o k s e q in
-    let z = r .row in
-    let i : length ls - suc (r .next) ≡ k = omega arith in
-    ap (λ (j : ℕ). readCount (s .reg .0) (areaOf (region ls) ls j)) (sym i) ∙ one-done (s .reg .0) (r .next) ls (omega arith) (r .up)
+pub once-of : (own : List ℕ) (ls : List (List ℕ)) (near far d : List ℕ) → Ones own ls ls near far d → OneOf ls d
+once-of own ls near far d o = λ k s e. record {
+  alone = λ q.
+      let r : OneRow own ls ls near far k (s .reg .0) = o .alone k s e q in
+      let z = r .row in
+      let i : length ls - suc (r .next) ≡ k = omega arith in
+      ap (λ (j : ℕ). readCount (s .reg .0) (areaOf (region ls) ls j)) (sym i) ∙ up-done (λ (n : ℕ). n ≡ 1) (s .reg .0) (r .next) ls (omega arith) (r .up);
+  more = λ q w.
+      let r : MoreRow ls ls k (s .reg .0) = o .more k s e q in
+      let z = r .row in
+      let i : length ls - suc (r .next) ≡ k = omega arith in
+      let y = up-done (λ (n : ℕ). 2 ≤ n) (s .reg .0) (r .next) ls (omega arith) (r .up) in
+      let x = ap (λ (j : ℕ). readCount (s .reg .0) (areaOf (region ls) ls j)) i ∙ w in
+      omega (arith, x, y);
+}
 
-module _ (ls : List (List ℕ)) (l : List ℕ) (us : List (List ℕ)) (ps : List ℕ) (j h x : ℕ) (p : Line) (near far stores notes : List ℕ) (t : Nexts us h near far stores)
-    (n : j + 1 + length us ≡ length ps) (g : length ps ≡ length ls) (d : drop j ls ≡ l ∷ us) (e : p ≡ parseOf l) (u : x ≡ lineNote p ps j (length us) h near far stores) where
+-- the register that a line stores
+stores-reg : (v : ℕ) (l : List ℕ) (s : Store) → parseOf l ≡ line.Store s → lineStores v l ≡ true → s .reg .0 ≡ v
+unfolding lineStores
+stores-reg v l s e q = eqb-true (s .reg .0) v (sym (ap (storesBy v) e) ∙ q)
+
+stores-some : (v : ℕ) (l : List ℕ) (q : Line) → parseOf l ≡ q → lineStores v l ≡ true → {A : Type 0} → ((s : Store) → parseOf l ≡ line.Store s → s .reg .0 ≡ v → A) → A
+unfolding lineStores
+stores-some v l line.Decl e h f = no (sym (ap (storesBy v) e) ∙ h)
+stores-some v l (line.Store s) e h f = f s e (eqb-true (s .reg .0) v (sym (ap (storesBy v) e) ∙ h))
+stores-some v l line.Other e h f = no (sym (ap (storesBy v) e) ∙ h)
+
+set-is : (d : List ℕ) (j x n : ℕ) → 0 < n → getD (set d j x) j 0 ≡ n → x ≡ n
+set-is d j x n h q = go (ltb j (length d)) refl
+  where
+    go : (b : Bool) → ltb j (length d) ≡ b → x ≡ n
+    go true y = sym (getD-set-same d j x 0 (ltb-true j (length d) y)) ∙ q
+    go false y =
+        let w : 0 ≡ n = sym (List·getD-eq-default d 0 (ltb-false j (length d) y)) ∙ ap (λ (c : List ℕ). getD c j 0) (set-past d j x (ltb-false j (length d) y)) ∙ q in
+        absurd (omega arith)
+
+module _ (own : List ℕ) (ls : List (List ℕ)) (l : List ℕ) (us : List (List ℕ)) (ps : List ℕ) (j h x m : ℕ) (p : Line) (near far stores notes : List ℕ) (t : Nexts own us h near far stores)
+    (n : j + 1 + length us ≡ length ps) (g : length ps ≡ length ls) (d : drop j ls ≡ l ∷ us) (e : p ≡ parseOf l) (u : x ≡ lineNote own p ps j (length us) h near far stores) (one : m ≡ suc (length us)) where
+  abbrev far₁ : List ℕ
+  far₁ = aloneStore own m x p far
+
   -- the line's own note
-  one-put : (s : Store) → parseOf l ≡ line.Store s → getD (set notes j x) j 0 ≡ 7 → (s .reg .0 < length near) × OneUp (s .reg .0) (length us) us
-  one-put s i q = go (ltb j (length notes)) refl
-    where
-      seven : x ≡ 7 → (s .reg .0 < length near) × OneUp (s .reg .0) (length us) us
-      seven z =
-          let y = line-one l us ps j h near far stores t n s x (sym i) (u ∙ ap (λ (k : Line). lineNote k ps j (length us) h near far stores) (e ∙ i)) z in
-          (y .0, one-new (s .reg .0) us (y .1 .0) (y .1 .1 .0) (y .1 .1 .1))
+  own-may : (s : Store) → parseOf l ≡ line.Store s → maySend x ≡ true →
+      Known own near (s .reg .0) × ((headFrom us < length us) × ((readFrom (s .reg .0) us ≡ length us) × (x ≡ cond (ltb (headFrom us) (farFrom (s .reg .0) us)) 4 7)))
+  own-may s i z = line-may own l us ps j h near far stores t n s x (u ∙ ap (λ (k : Line). lineNote own k ps j (length us) h near far stores) (e ∙ i)) z
 
-      go : (b : Bool) → ltb j (length notes) ≡ b → (s .reg .0 < length near) × OneUp (s .reg .0) (length us) us
-      go true y = seven (sym (getD-set-same notes j x 0 (ltb-true j (length notes) y)) ∙ q)
-      go false y =
-          let w : _≡_ {A = ℕ} 0 7 = sym (List·getD-eq-default notes 0 (ltb-false j (length notes) y)) ∙ ap (λ (c : List ℕ). getD c j 0) (set-past notes j x (ltb-false j (length notes) y)) ∙ q in
-          absurd (omega arith)
-
-  -- and those below it
-  ones-put : Ones ls us (length near) notes → Ones ls us (length near) (set notes j x)
-  ones-put o = λ k s i q. go k s i q (eqb k j) refl
+  far-one : (v : ℕ) → x ≡ 7 → x ≡ cond (ltb (headFrom us) (farFrom v us)) 4 7 → farFrom v us ≤ headFrom us
+  far-one v z q = go (ltb (headFrom us) (farFrom v us)) refl q
     where
-      go : (k : ℕ) (s : Store) → parseOf (firstLine (drop k ls)) ≡ line.Store s → getD (set notes j x) k 0 ≡ 7 → (b : Bool) → eqb k j ≡ b → OneRow ls us (length near) k (s .reg .0)
-      go k s i q true y =
+      go : (b : Bool) → ltb (headFrom us) (farFrom v us) ≡ b → x ≡ cond b 4 7 → farFrom v us ≤ headFrom us
+      go true y w = absurd (omega arith)
+      go false y w = ltb-false (headFrom us) (farFrom v us) y
+
+  far-two : (v : ℕ) → x ≡ 4 → x ≡ cond (ltb (headFrom us) (farFrom v us)) 4 7 → headFrom us < farFrom v us
+  far-two v z q = go (ltb (headFrom us) (farFrom v us)) refl q
+    where
+      go : (b : Bool) → ltb (headFrom us) (farFrom v us) ≡ b → x ≡ cond b 4 7 → headFrom us < farFrom v us
+      go true y w = ltb-true (headFrom us) (farFrom v us) y
+      go false y w = absurd (omega arith)
+
+  far-put : (v : ℕ) → Known own near v → (b : Bool) → eqb x 7 && lineStores v l ≡ b → entryOf own v far₁ ≡ cond b m (entryOf own v far)
+  unfolding lineStores
+  far-put v k b z =
+      alone-near own m x v p far (known-as own near far v (t .wide) k)
+      ∙ ap (λ (w : Bool). cond w m (entryOf own v far)) (ap (λ (q : Line). eqb x 7 && storesBy v q) e ∙ z)
+
+  at-line : (k : ℕ) → k ≡ j → parseOf (firstLine (drop k ls)) ≡ parseOf l
+  at-line k z = ap (λ (c : ℕ). parseOf (firstLine (drop c ls))) z ∙ ap (λ (c : List (List ℕ)). parseOf (firstLine c)) d
+
+  own-stores : (s : Store) → parseOf l ≡ line.Store s → lineStores (s .reg .0) l ≡ true
+  unfolding lineStores
+  own-stores s i = ap (storesBy (s .reg .0)) i ∙ eq-eqb (s .reg .0) (s .reg .0) refl
+
+  own-one : (s : Store) → parseOf l ≡ line.Store s → x ≡ 7 → OneRow own ls us near far₁ j (s .reg .0)
+  own-one s i z =
+      let y = own-may s i (ap maySend z) in
+      let c = next-count (s .reg .0) us (y .1 .0) (y .1 .1 .0) .0 (far-one (s .reg .0) z (y .1 .1 .1)) in
+      record {
+        next = length us;
+        row = omega (arith, n, g);
+        among = omega arith;
+        known = y .0;
+        first = λ a. y .1 .1 .0;
+        mine = λ a. far-put (s .reg .0) (y .0) true (and-both (eq-eqb x 7 z) (own-stores s i)) ∙ one;
+        up = upward (y .1 .0) c;
+      }
+
+  own-two : (s : Store) → parseOf l ≡ line.Store s → x ≡ 4 → MoreRow ls us j (s .reg .0)
+  own-two s i z =
+      let y = own-may s i (ap maySend z) in
+      let c = next-count (s .reg .0) us (y .1 .0) (y .1 .1 .0) .1 (far-two (s .reg .0) z (y .1 .1 .1)) in
+      record { next = length us; row = omega (arith, n, g); among = omega arith; up = upward (y .1 .0) c }
+
+  -- no other line's store is that which a mark is of
+  mine-on : (k v : ℕ) → (k ≡ j → ⊥) → (r : OneRow own ls us near far k v) → headFrom us < r .next → entryOf own v far₁ ≡ suc (r .next)
+  mine-on k v o r a = go (eqb x 7 && lineStores v l) refl
+    where
+      go : (b : Bool) → eqb x 7 && lineStores v l ≡ b → entryOf own v far₁ ≡ suc (r .next)
+      go false z = far-put v (r .known) false z ∙ r .mine a
+      go true z =
+          stores-some v l (parseOf l) refl (and-right (eqb x 7) (lineStores v l) z) (λ s i w.
+          let y = own-may s i (ap maySend (eqb-true x 7 (and-left (eqb x 7) (lineStores v l) z))) in
+          let f : readFrom v us ≡ length us = ap (λ (c : ℕ). readFrom c us) (sym w) ∙ y .1 .1 .0 in
+          absurd (o (omega (arith, f, r .first a, r .row, n, g))))
+
+  -- the notes with the line's own, before its reads
+  ones-put : Ones own ls us near far notes → Ones own ls us near far₁ (set notes j x)
+  ones-put o = record {
+    alone = λ k s i q. go-one k s i q (eqb k j) refl;
+    more = λ k s i q. go-two k s i q (eqb k j) refl;
+    marked = λ v k z. go-mark v k (eqb x 7 && lineStores v l) refl z;
+  }
+    where
+      go-one : (k : ℕ) (s : Store) → parseOf (firstLine (drop k ls)) ≡ line.Store s → getD (set notes j x) k 0 ≡ 7 → (b : Bool) → eqb k j ≡ b → OneRow own ls us near far₁ k (s .reg .0)
+      go-one k s i q true y =
           let z : k ≡ j = eqb-true k j y in
-          let w = one-put s (sym (ap (λ (c : ℕ). parseOf (firstLine (drop c ls))) z ∙ ap (λ (c : List (List ℕ)). parseOf (firstLine c)) d) ∙ i) (ap (λ (c : ℕ). getD (set notes j x) c 0) (sym z) ∙ q) in
-          record { next = length us; row = omega arith; among = omega arith; known = w .0; up = w .1 }
-      go k s i q false y = o k s i (sym (getD-set-other notes j k x 0 (eqb-false k j y)) ∙ q)
+          subst (λ (c : ℕ). OneRow own ls us near far₁ c (s .reg .0)) (sym z)
+          (own-one s (sym (at-line k z) ∙ i) (set-is notes j x 7 (omega arith) (ap (λ (c : ℕ). getD (set notes j x) c 0) (sym z) ∙ q)))
+      go-one k s i q false y =
+          let r = o .alone k s i (sym (getD-set-other notes j k x 0 (eqb-false k j y)) ∙ q) in
+          record { next = r .next; row = r .row; among = r .among; known = r .known; first = r .first; mine = mine-on k (s .reg .0) (eqb-false k j y) r; up = r .up }
+
+      go-two : (k : ℕ) (s : Store) → parseOf (firstLine (drop k ls)) ≡ line.Store s → getD (set notes j x) k 0 ≡ 4 → (b : Bool) → eqb k j ≡ b → MoreRow ls us k (s .reg .0)
+      go-two k s i q true y =
+          let z : k ≡ j = eqb-true k j y in
+          subst (λ (c : ℕ). MoreRow ls us c (s .reg .0)) (sym z)
+          (own-two s (sym (at-line k z) ∙ i) (set-is notes j x 4 (omega arith) (ap (λ (c : ℕ). getD (set notes j x) c 0) (sym z) ∙ q)))
+      go-two k s i q false y = o .more k s i (sym (getD-set-other notes j k x 0 (eqb-false k j y)) ∙ q)
+
+      go-mark : (v : ℕ) → Known own near v → (b : Bool) → eqb x 7 && lineStores v l ≡ b → entryOf own v near < entryOf own v far₁ →
+          (entryOf own v far₁ ≤ suc (length us)) × (lineStores v (firstLine (drop (length ls - entryOf own v far₁) ls)) ≡ true)
+      go-mark v k true y z =
+          let f = far-put v k true y in
+          let i : length ls - m ≡ j = omega (arith, n, g, one) in
+          rw f (omega (arith, one), ap (λ (c : ℕ). lineStores v (firstLine (drop c ls))) i ∙ ap (λ (c : List (List ℕ)). lineStores v (firstLine c)) d ∙ and-right (eqb x 7) (lineStores v l) y)
+      go-mark v k false y z = let f = far-put v k false y in rw f (o .marked v k (omega (arith, f, z)))
 
   -- and with what it reads
-  ones-on : (notes′ : List ℕ) (m : ℕ) → notes′ ≡ readRuns (length ps) h m (runs (textOf l p)) (near, (far, set notes j x)) .1 .1 → Ones ls us (length near) notes → Ones ls (l ∷ us) (length near) notes′
-  unfolding lineReads named
-  ones-on notes′ m y o = λ k s i q.
-      let z : getD (readRuns (length ps) h m (runs (textOf l p)) (near, (far, set notes j x)) .1 .1) k 0 ≡ 7 = ap (λ (c : List ℕ). getD c k 0) (sym y) ∙ q in
-      let r : OneRow ls us (length near) k (s .reg .0) = ones-put o k s i (runs-keep (length ps) h m k (runs (textOf l p)) (near, (far, set notes j x)) z) in
-      record {
-        next = r .next;
-        row = r .row;
-        among = omega (arith, r .among);
-        known = r .known;
-        up = one-on (s .reg .0) (r .next) l us (r .among) (λ a b. go (s .reg .0) (r .next) k (r .row) (r .known) z a b (ltb 0 (lineReads (s .reg .0) l)) refl) (r .up);
-      }
-    where
-      go : (v r k : ℕ) → k + suc r ≡ length ls → v < length near → getD (readRuns (length ps) h m (runs (textOf l p)) (near, (far, set notes j x)) .1 .1) k 0 ≡ 7 →
-          headFrom us < r → readFrom v us ≡ r → (b : Bool) → ltb 0 (lineReads v l) ≡ b → b ≡ false
-      go v r k w f z a c true i =
-          let c′ = t .head in
-          let e′ : lineReads v l ≡ named v (runs (textOf l p)) = ap (λ (q : Line). readsOf v (textOf l q)) (sym e) in
-          let i′ = ltb-true 0 (lineReads v l) i in
-          absurd (runs-take (length ps) h r k (omega arith) (omega arith) m v (runs (textOf l p)) (near, (far, set notes j x)) f (t .reads v f ∙ c) (omega arith) z)
-      go v r k w f z a c false i = refl
+  module _ (near′ far′ notes′ : List ℕ) (y : (near′, (far′, notes′)) ≡ readRuns own (length ps) h m (runs (textOf l p)) (near, (far₁, set notes j x))) (o : Ones own ls us near far₁ (set notes j x)) where
+    notes-at : (k n : ℕ) → getD notes′ k 0 ≡ n → getD (readRuns own (length ps) h m (runs (textOf l p)) (near, (far₁, set notes j x)) .1 .1) k 0 ≡ n
+    notes-at k n q = ap (λ (b : Reads). getD (b .1 .1) k 0) (sym y) ∙ q
+
+    near-is : (v : ℕ) → Known own near v → entryOf own v near′ ≡ cond (ltb 0 (lineReads v l)) m (entryOf own v near)
+    near-is v k = near-at own (length ps) l us p x h m near far stores (set notes j x) near′ far′ notes′ e y (t .wide) v k
+
+    far-is : (v : ℕ) → Known own near v → entryOf own v far′ ≡ cond (ltb 0 (lineReads v l)) (cond (ltb 1 (lineReads v l)) m (entryOf own v near)) (entryOf own v far₁)
+    far-is v k = far-at own (length ps) l us p x h m near far stores (set notes j x) near′ far′ notes′ e y (t .wide) v k
+
+    near-len : length near′ ≡ length near
+    near-len = ln own (length ps) l us p x h m near far stores (set notes j x) near′ far′ notes′ e y (t .wide)
+
+    reads-is : (v : ℕ) → named v (runs (textOf l p)) ≡ lineReads v l
+    reads-is v = reads-as own (length ps) l us p x h m near far stores (set notes j x) near′ far′ notes′ e y (t .wide) v
+
+    far-known : (v : ℕ) → Known own near v → Known own far₁ v
+    far-known v k = known-as own near far₁ v (alone-length own m x p far ∙ t .wide) k
+
+    -- a value that is still read once is not read by the line
+    silent : (k v : ℕ) (r : OneRow own ls us near far₁ k v) → getD notes′ k 0 ≡ 7 → headFrom us < r .next → (b : Bool) → ltb 0 (lineReads v l) ≡ b → b ≡ false
+    silent k v r q a true i =
+        let w = t .head in
+        let c = ltb-true 0 (lineReads v l) i in
+        absurd
+        (runs-take own (length ps) h (r .next) k (omega arith) (omega (arith, r .row, g)) m v (runs (textOf l p)) (near, (far₁, set notes j x)) (r .known) (far-known v (r .known)) (t .reads v (r .known) ∙ r .first a)
+        (r .mine a) (omega (arith, reads-is v, c)) (notes-at k 7 q))
+    silent k v r q a false i = refl
+
+    header-off : (r : ℕ) → r ≤ length us → headFrom (l ∷ us) < r → headFrom us < r
+    unfolding firstBy
+    header-off r a b = go (isHeader l) b
+      where
+        go : (t : Bool) → cond t (suc (length us)) (headFrom us) < r → headFrom us < r
+        go true z = absurd (omega arith)
+        go false z = z
+
+    one-row : (k v : ℕ) → OneRow own ls us near far₁ k v → getD notes′ k 0 ≡ 7 → OneRow own ls (l ∷ us) near′ far′ k v
+    unfolding firstBy
+    one-row k v r q = record {
+      next = r .next;
+      row = r .row;
+      among = omega (arith, r .among);
+      known = known-as own near near′ v near-len (r .known);
+      first = λ a.
+          let b = header-off (r .next) (r .among) a in
+          ap (λ (t : Bool). cond t (suc (length us)) (readFrom v us)) (silent k v r q b (ltb 0 (lineReads v l)) refl) ∙ r .first b;
+      mine = λ a.
+          let b = header-off (r .next) (r .among) a in
+          far-is v (r .known) ∙ ap (λ (t : Bool). cond t (cond (ltb 1 (lineReads v l)) m (entryOf own v near)) (entryOf own v far₁)) (silent k v r q b (ltb 0 (lineReads v l)) refl) ∙ r .mine b;
+      up = up-on (λ (n : ℕ). n ≡ 1) v (r .next) l us (r .among) (λ a c. let z = ltb-false 0 (lineReads v l) (silent k v r q a (ltb 0 (lineReads v l)) refl) in omega arith) (r .up);
+    }
+
+    more-row : (k : ℕ) (s : Store) → parseOf (firstLine (drop k ls)) ≡ line.Store s → Took own (length ps) h k (runs (textOf l p)) (near, (far₁, set notes j x)) → MoreRow ls (l ∷ us) k (s .reg .0)
+    more-row k s i (stood q) =
+        let r = o .more k s i q in
+        record { next = r .next; row = r .row; among = omega (arith, r .among); up = up-on (λ (n : ℕ). 2 ≤ n) (s .reg .0) (r .next) l us (r .among) (λ a c. omega arith) (r .up) }
+    more-row k s i (took v kn nm a b c) =
+        let w = o .marked v kn b in
+        let z : length ls - entryOf own v far₁ ≡ k = omega (arith, c, g) in
+        let q : s .reg .0 ≡ v = stores-reg v (firstLine (drop k ls)) s i (ap (λ (n : ℕ). lineStores v (firstLine (drop n ls))) (sym z) ∙ w .1) in
+        let hd = t .head in
+        let rd = t .reads v kn in
+        let some = read-some v us (omega arith) in
+        let rs = reads-is v in
+        subst (MoreRow ls (l ∷ us) k) (sym q)
+        (record {
+          next = entryOf own v far₁ - 1;
+          row = omega (arith, b, c, g);
+          among = omega (arith, w .0);
+          up = up-new (λ (n : ℕ). 2 ≤ n) v (entryOf own v far₁ - 1) l us (omega (arith, w .0)) (omega (arith, a, b, hd)) (omega (arith, some, rs, nm));
+        })
+
+    mark-row : (v : ℕ) → Known own near v → (b : Bool) → ltb 0 (lineReads v l) ≡ b → entryOf own v near′ < entryOf own v far′ →
+        (entryOf own v far′ ≤ suc (length (l ∷ us))) × (lineStores v (firstLine (drop (length ls - entryOf own v far′) ls)) ≡ true)
+    mark-row v k true z w =
+        let a = near-is v k ∙ ap (λ (b : Bool). cond b m (entryOf own v near)) z in
+        let f = far-is v k ∙ ap (λ (b : Bool). cond b (cond (ltb 1 (lineReads v l)) m (entryOf own v near)) (entryOf own v far₁)) z in
+        let c = go (ltb 1 (lineReads v l)) (omega (arith, t .reads v k, first-le (λ (l : List ℕ). ltb 0 (lineReads v l)) us, one)) in
+        absurd (omega (arith, a, f, c, w))
+      where
+        go : (b : Bool) → entryOf own v near ≤ m → cond b m (entryOf own v near) ≤ m
+        go true q = omega arith
+        go false q = q
+    mark-row v k false z w =
+        let a = near-is v k ∙ ap (λ (b : Bool). cond b m (entryOf own v near)) z in
+        let f = far-is v k ∙ ap (λ (b : Bool). cond b (cond (ltb 1 (lineReads v l)) m (entryOf own v near)) (entryOf own v far₁)) z in
+        let q = o .marked v k (omega (arith, a, f, w)) in
+        rw f (omega (arith, q .0), q .1)
+
+    ones-reads : Ones own ls (l ∷ us) near′ far′ notes′
+    ones-reads = record {
+      alone = λ k s i q. one-row k (s .reg .0) (o .alone k s i (runs-keep own (length ps) h m k (runs (textOf l p)) (near, (far₁, set notes j x)) (notes-at k 7 q))) q;
+      more = λ k s i q.
+          more-row k s i
+          (runs-took own (length ps) h k m (runs (textOf l p)) (near, (far₁, set notes j x)) (alone-length own m x p far ∙ t .wide)
+          (λ v z. omega (arith, t .reads v z, first-le (λ (l : List ℕ). ltb 0 (lineReads v l)) us, one)) (notes-at k 4 q));
+      marked = λ v k z. mark-row v (known-as own near′ near v (sym near-len) k) (ltb 0 (lineReads v l)) refl z;
+    }
+
+  ones-on : (near′ far′ notes′ : List ℕ) → (near′, (far′, notes′)) ≡ readRuns own (length ps) h m (runs (textOf l p)) (near, (far₁, set notes j x)) → Ones own ls us near far notes →
+      Ones own ls (l ∷ us) near′ far′ notes′
+  ones-on near′ far′ notes′ y o = ones-reads near′ far′ notes′ y (ones-put o)
 
 -- ---- the loop: the lines from i on are in the tables, there are m of them, and h is the number of the first header
 
-pub record NoteInv (t ps near far stores notes : List ℕ) (i m h : ℕ) : Type 0 where
+pub record NoteInv (own t ps near far stores notes : List ℕ) (i m h : ℕ) : Type 0 where
   pub i≤ : i ≤ length t
   pub front : Begins t i
   pub count : m ≡ length (linesOf (drop i t))
-  pub nexts : Nexts (linesOf (drop i t)) h near far stores
+  pub nexts : Nexts own (linesOf (drop i t)) h near far stores
   pub noted : NotesOf (linesOf t) ps notes
-  pub ones : Ones (linesOf t) (linesOf (drop i t)) (length near) notes
+  pub ones : Ones own (linesOf t) (linesOf (drop i t)) near far notes
 
-pub note-start : (t ps near far stores notes : List ℕ) → endsIn 10 t ≡ true → AtMost 0 near → AtMost 0 far → AtMost 0 stores → AtMost 0 notes → NoteInv t ps near far stores notes (length t) 0 0
-note-start t ps near far stores notes e a b c n =
+pub note-start : (own t ps near far stores notes : List ℕ) → endsIn 10 t ≡ true → (length far ≡ length near) × (length far ≡ length stores) → AtMost 0 near → AtMost 0 far → AtMost 0 stores → AtMost 0 notes →
+    NoteInv own t ps near far stores notes (length t) 0 0
+note-start own t ps near far stores notes e w a b c n =
     let z = lines-end t (length t) (omega arith) in
     record {
       i≤ = omega arith;
       front = begins-lf t (length t) (eqb-true (getD t (length t - 1) 0) 10 e);
       count = sym (ap (λ (ls : List (List ℕ)). length ls) z);
-      nexts = subst (λ (ls : List (List ℕ)). Nexts ls 0 near far stores) (sym z) (nexts-none 0 near far stores refl a b c);
+      nexts = subst (λ (ls : List (List ℕ)). Nexts own ls 0 near far stores) (sym z) (nexts-none own 0 near far stores w refl a b c);
       noted = notes-none (linesOf t) ps notes n;
-      ones = ones-none (linesOf t) (linesOf (drop (length t) t)) (length near) notes n;
+      ones = ones-none own (linesOf t) (linesOf (drop (length t) t)) near far notes b n;
     }
 
-module _ {t ps near far stores notes : List ℕ} {i m h : ℕ} (v : NoteInv t ps near far stores notes i m h) (k : 0 < i) where
+module _ {own t ps near far stores notes : List ℕ} {i m h : ℕ} (v : NoteInv own t ps near far stores notes i m h) (k : 0 < i) where
   -- the line above ends at an LF
   pub note-lf : (i - 1 < length t) × (getD t (i - 1) 0 ≡ 10)
   note-lf = (omega (arith, v .i≤), v .front (i - 1) (omega arith))
@@ -380,9 +719,9 @@ module _ {t ps near far stores notes : List ℕ} {i m h : ℕ} (v : NoteInv t ps
     row-above = let z = rows-above .0 in omega arith
 
     pub note-on : (l : List ℕ) (p : Line) (j x : ℕ) (near′ far′ stores′ notes₁ notes′ : List ℕ) (h′ : ℕ) → l ≡ part a (i - 1) t → p ≡ parseOf l → j ≡ length ps - (m + 1) →
-        x ≡ lineNote p ps j m h near far stores → notes₁ ≡ set notes j x →
-        (near′, (far′, notes′)) ≡ readRuns (length ps) h (m + 1) (runs (textOf l p)) (near, (far, notes₁)) → stores′ ≡ markStore (m + 1) p stores → h′ ≡ cond (isHeader l) (m + 1) h →
-        NoteInv t ps near′ far′ stores′ notes′ a (m + 1) h′
+        x ≡ lineNote own p ps j m h near far stores → notes₁ ≡ set notes j x →
+        (near′, (far′, notes′)) ≡ readRuns own (length ps) h (m + 1) (runs (textOf l p)) (near, (aloneStore own (m + 1) x p far, notes₁)) → stores′ ≡ markStore own (m + 1) p stores →
+        h′ ≡ cond (isHeader l) (m + 1) h → NoteInv own t ps near′ far′ stores′ notes′ a (m + 1) h′
     note-on l p j x near′ far′ stores′ notes₁ notes′ h′ e q w u g y s o =
         let ls : List (List ℕ) = linesOf (drop i t) in
         let rs : List (List ℕ) = runs (textOf l p) in
@@ -393,23 +732,24 @@ module _ {t ps near far stores notes : List ℕ} {i m h : ℕ} (v : NoteInv t ps
         let z = row-above in
         let one : m + 1 ≡ suc (length ls) = omega arith in
         let r : j + 1 + length ls ≡ length ps = omega arith in
-        let u′ : x ≡ lineNote p ps j (length ls) h near far stores = u ∙ ap (λ (b : ℕ). lineNote p ps j b h near far stores) f in
-        let y′ : (near′, (far′, notes′)) ≡ readRuns (length ps) h (m + 1) rs (near, (far, set notes j x)) = y ∙ ap (λ (b : List ℕ). readRuns (length ps) h (m + 1) rs (near, (far, b))) g in
-        let ln : length near′ ≡ length near = ap (λ (b : Reads). length (b .0)) y ∙ runs-lengths (length ps) h (m + 1) rs (near, (far, notes₁)) .0 in
+        let u′ : x ≡ lineNote own p ps j (length ls) h near far stores = u ∙ ap (λ (b : ℕ). lineNote own p ps j b h near far stores) f in
+        let y′ : (near′, (far′, notes′)) ≡ readRuns own (length ps) h (m + 1) rs (near, (aloneStore own (m + 1) x p far, set notes j x)) =
+        y ∙ ap (λ (b : List ℕ). readRuns own (length ps) h (m + 1) rs (near, (aloneStore own (m + 1) x p far, b))) g in
         record {
           i≤ = omega (arith, b .0, v .i≤);
           front = b .1;
           count = above-count;
-          nexts = rw c (nexts-on (length ps) l ls p h (m + 1) h′ near far stores notes₁ near′ far′ stores′ notes′ q one y s o (v .nexts));
+          nexts = rw c (nexts-on own (length ps) l ls p x h (m + 1) near far stores notes₁ near′ far′ notes′ q y (v .nexts .wide) stores′ h′ one s o (v .nexts));
           noted = subst (NotesOf (linesOf t) ps) (sym (ap (λ (b : Reads). b .1 .1) y′))
-              (notes-runs (linesOf t) ps (length ps) h (m + 1) rs (near, (far, set notes j x)) (notes-put (linesOf t) ps notes j x (rw (d, d′) (note-is l ls ps j h near far stores (v .nexts) r p x q u′)) (v .noted)));
-          ones = rw (c, ln) (ones-on (linesOf t) l ls ps j h x p near far stores notes (v .nexts) r n d q u′ notes′ (m + 1) (ap (λ (b : Reads). b .1 .1) y′) (v .ones));
+              (notes-runs (linesOf t) ps own (length ps) h (m + 1) rs (near, (aloneStore own (m + 1) x p far, set notes j x))
+              (notes-put (linesOf t) ps notes j x (rw (d, d′) (note-is own l ls ps j h near far stores (v .nexts) r p x q u′)) (v .noted)));
+          ones = rw c (ones-on own (linesOf t) l ls ps j h x (m + 1) p near far stores notes (v .nexts) r n d q u′ one near′ far′ notes′ y′ (v .ones));
         }
 
   module _ (n : length ps ≡ length (linesOf t)) where
     -- it has a row
     pub note-row : m + 1 ≤ length ps
-    note-row = let b = start-of t (i - 1) (note-lf .0) (note-lf .1) in row-above (b .at) (b .is) n
+    note-row = row-above (lineStart t (i - 1)) (start-of t (i - 1) (note-lf .0) (note-lf .1)) n
 
     pub note-count : (j : ℕ) → j ≡ length ps - (m + 1) → j + 1 + length (linesOf (drop (i - 1 + 1) t)) ≡ length (linesOf t)
     note-count j q =
@@ -417,78 +757,121 @@ module _ {t ps near far stores notes : List ℕ} {i m h : ℕ} (v : NoteInv t ps
         let z : length (linesOf (drop (i - 1 + 1) t)) ≡ length (linesOf (drop i t)) = ap (λ (x : ℕ). length (linesOf (drop x t))) e in
         omega (arith, v .count, note-row)
 
-pub ones-of : {t ps near far stores notes : List ℕ} {i m h : ℕ} → NoteInv t ps near far stores notes i m h → i ≤ 0 → OneOf (linesOf t) notes
-ones-of {t} {ps} {near} {far} {stores} {notes} {i} v z =
-    once-of (linesOf t) (length near) notes (subst (λ (j : ℕ). Ones (linesOf t) (linesOf (drop j t)) (length near) notes) (let y : i ≡ 0 = omega arith in y) (v .ones))
+pub ones-of : {own t ps near far stores notes : List ℕ} {i m h : ℕ} → NoteInv own t ps near far stores notes i m h → i ≤ 0 → OneOf (linesOf t) notes
+ones-of {own} {t} {ps} {near} {far} {stores} {notes} {i} v z =
+    once-of own (linesOf t) near far notes (subst (λ (j : ℕ). Ones own (linesOf t) (linesOf (drop j t)) near far notes) (let y : i ≡ 0 = omega arith in y) (v .ones))
 
 -- ---- the loop over the runs of a text that begin with `r`: it has come to the run at i; d₀ are the tables at its start, and d here
 
-pub record ReadsInv (c h m : ℕ) (s : List ℕ) (d₀ d : Reads) (i : ℕ) : Type 0 where
+pub record ReadsInv (own : List ℕ) (c h m : ℕ) (s : List ℕ) (d₀ d : Reads) (i : ℕ) : Type 0 where
   pub long : length (d .0) ≡ length (d₀ .0)
   pub wide : length (d .1 .0) ≡ length (d₀ .1 .0)
   pub tall : length (d .1 .1) ≡ length (d₀ .1 .1)
-  pub walk : RegWalk (readRuns c h m) s d₀ d i
+  pub walk : RegWalk (readRuns own c h m) s d₀ d i
 
-module _ (c h m : ℕ) where
+module _ (own : List ℕ) (c h m : ℕ) where
   -- what one run does
   abbrev readStep : List ℕ → Reads → Reads
-  readStep r x = readName c h m (regOf r) x
+  readStep r x = readName own c h m (regOf r) x
 
-  reads-flush : (cur : List ℕ) (rs : List (List ℕ)) (d : Reads) → readRuns c h m (flush cur ++ rs) d ≡ readRuns c h m rs (readStep cur d)
+  reads-flush : (cur : List ℕ) (rs : List (List ℕ)) (d : Reads) → readRuns own c h m (flush cur ++ rs) d ≡ readRuns own c h m rs (readStep cur d)
   unfolding readRuns regOf
   reads-flush [] rs d = refl
   reads-flush (x ∷ cur) rs d = refl
 
   -- one that begins with another byte names no register
   reads-other : (x : ℕ) (cur : List ℕ) (d : Reads) → eqb x 114 ≡ false → readStep (x ∷ cur) d ≡ d
-  reads-other x cur d e = ap (λ (r : RegName). readName c h m r d) (reg-first (x ∷ cur) (eqb-false x 114 e))
+  reads-other x cur d e = ap (λ (r : RegName). readName own c h m r d) (reg-first (x ∷ cur) (eqb-false x 114 e))
 
-  reads-empty : (d : Reads) → readRuns c h m [] d ≡ d
+  reads-empty : (d : Reads) → readRuns own c h m [] d ≡ d
   unfolding readRuns
   reads-empty d = refl
 
-  pub reads-start : (s : List ℕ) (d : Reads) (i : ℕ) → i ≡ 0 + regGap false (drop 0 s) → ReadsInv c h m s d d i
-  reads-start s d i q = record { long = refl; wide = refl; tall = refl; walk = regs-start (readRuns c h m) readStep reads-flush reads-other s d i q }
+  pub reads-start : (s : List ℕ) (d : Reads) (i : ℕ) → i ≡ 0 + regGap false (drop 0 s) → ReadsInv own c h m s d d i
+  reads-start s d i q = record { long = refl; wide = refl; tall = refl; walk = regs-start (readRuns own c h m) readStep reads-flush reads-other s d i q }
 
-  module _ {s : List ℕ} {d₀ d : Reads} {i : ℕ} (v : ReadsInv c h m s d₀ d i) where
+  module _ {s : List ℕ} {d₀ d : Reads} {i : ℕ} (v : ReadsInv own c h m s d₀ d i) where
     module _ (l : i < length s) (e : ℕ) (p : e ≡ i + runLen (drop i s)) (k : ℕ) (q : k ≡ e + regGap false (drop e s)) where
       pub reads-less : i < k
-      reads-less = regs-less (readRuns c h m) readStep reads-flush reads-other (v .walk) l e p k q
+      reads-less = regs-less (readRuns own c h m) readStep reads-flush reads-other (v .walk) l e p k q
 
-      pub reads-on : (w : List ℕ) → w ≡ part i e s → (d′ : Reads) → d′ ≡ readStep w d → ReadsInv c h m s d₀ d′ k
+      pub reads-on : (w : List ℕ) → w ≡ part i e s → (d′ : Reads) → d′ ≡ readStep w d → ReadsInv own c h m s d₀ d′ k
       reads-on w y d′ z = record {
-        long = ap (λ (t : Reads). length (t .0)) z ∙ name-length m (regOf w) (d .0) ∙ v .long;
-        wide = ap (λ (t : Reads). length (t .1 .0)) z ∙ far-length (regOf w) (d .0) (d .1 .0) ∙ v .wide;
-        tall = ap (λ (t : Reads). length (t .1 .1)) z ∙ notes-length c h (regOf w) (d .0) (d .1 .1) ∙ v .tall;
-        walk = regs-on (readRuns c h m) readStep reads-flush reads-other (v .walk) l e p k q w y z;
+        long = ap (λ (t : Reads). length (t .0)) z ∙ name-length own m (regOf w) (d .0) ∙ v .long;
+        wide = ap (λ (t : Reads). length (t .1 .0)) z ∙ far-length own (regOf w) (d .0) (d .1 .0) ∙ v .wide;
+        tall = ap (λ (t : Reads). length (t .1 .1)) z ∙ notes-length own c h (regOf w) (d .0) (d .1 .0) (d .1 .1) ∙ v .tall;
+        walk = regs-on (readRuns own c h m) readStep reads-flush reads-other (v .walk) l e p k q w y z;
       }
 
-    pub reads-end : length s ≤ i → d ≡ readRuns c h m (runs s) d₀
-    reads-end l = regs-end (readRuns c h m) readStep reads-flush reads-other (v .walk) reads-empty l
+    pub reads-end : length s ≤ i → d ≡ readRuns own c h m (runs s) d₀
+    reads-end l = regs-end (readRuns own c h m) readStep reads-flush reads-other (v .walk) reads-empty l
 
 -- a line keeps the lengths of the tables
-pub note-lengths : (c h m : ℕ) (near far stores notes : List ℕ) (p : Line) (l : List ℕ) {near′ far′ stores′ notes′ : List ℕ} →
-    (near′, (far′, notes′)) ≡ readRuns c h m (runs (textOf l p)) (near, (far, notes)) → stores′ ≡ markStore m p stores →
+pub note-lengths : (own : List ℕ) (c h m x : ℕ) (near far stores notes : List ℕ) (p : Line) (l : List ℕ) {near′ far′ stores′ notes′ : List ℕ} →
+    (near′, (far′, notes′)) ≡ readRuns own c h m (runs (textOf l p)) (near, (aloneStore own m x p far, notes)) → stores′ ≡ markStore own m p stores →
     (length near′ ≡ length near) × ((length far′ ≡ length far) × ((length stores′ ≡ length stores) × (length notes′ ≡ length notes)))
-note-lengths c h m near far stores notes p l y s =
-    let z = runs-lengths c h m (runs (textOf l p)) (near, (far, notes)) in
-    (ap (λ (d : Reads). length (d .0)) y ∙ z .0, (ap (λ (d : Reads). length (d .1 .0)) y ∙ z .1 .0, (ap (λ (d : List ℕ). length d) s ∙ store-length m p stores, ap (λ (d : Reads). length (d .1 .1)) y ∙ z .1 .1)))
+note-lengths own c h m x near far stores notes p l y s =
+    let z = runs-lengths own c h m (runs (textOf l p)) (near, (aloneStore own m x p far, notes)) in
+    (ap (λ (d : Reads). length (d .0)) y ∙ z .0, (ap (λ (d : Reads). length (d .1 .0)) y ∙ z .1 .0 ∙ alone-length own m x p far, (ap (λ (d : List ℕ). length d) s ∙ store-length own m p stores, ap (λ (d : Reads). length (d .1 .1)) y ∙ z .1 .1)))
 
 -- ---- the code: a read takes back what a note says
 
-module _ (c h r : ℕ) (d : List ℕ) where
-  pub back-none : r ≤ h → d ≡ takeBack c h r d
-  back-none k = rw (le-ltb h r k)
+module _ (c f : ℕ) (d : List ℕ) where
+  pub back-past : c < f → d ≡ takeBack c f d
+  back-past k = rw (lt-ltb c f k)
 
-  pub back-past : c ≤ r → d ≡ takeBack c h r d
-  back-past k = rw (le-ltb r c k, and-false (ltb h r))
+  module _ (k : f ≤ c) (x : ℕ) (q : x ≡ getD d (c - f) 0) where
+    pub back-other : (x ≡ 7 → ⊥) → d ≡ takeBack c f d
+    back-other n = rw (le-ltb c f k, sym q, ne-eqb x 7 n)
 
-  pub back-other : (x : ℕ) → x ≡ getD d (c - r - 1) 0 → (x ≡ 7 → ⊥) → d ≡ takeBack c h r d
-  back-other x q n = rw (sym q, ne-eqb x 7 n) (go (ltb h r && ltb r c))
-    where
-      go : (t : Bool) → d ≡ cond t d d
-      go true = refl
-      go false = refl
+    pub back-seven : x ≡ 7 → set d (c - f) 4 ≡ takeBack c f d
+    back-seven e = rw (le-ltb c f k, sym q, eq-eqb x 7 e)
 
-  pub back-seven : h < r → r < c → (x : ℕ) → x ≡ getD d (c - r - 1) 0 → x ≡ 7 → set d (c - r - 1) 4 ≡ takeBack c h r d
-  back-seven a b x q e = rw (lt-ltb h r a, lt-ltb r c b, sym q, eq-eqb x 7 e)
+-- ---- the code: a register that has the place i
+
+module _ (own : List ℕ) (v : ℕ) (near far : List ℕ) (i : ℕ) (e : i ≡ slotOf (length near) own v) (w : length far ≡ length near) where
+  far-slot : slotOf (length far) own v ≡ i
+  far-slot = ap (λ (n : ℕ). slotOf n own v) w ∙ sym e
+
+  -- it has none
+  module _ (k : length near ≤ i) where
+    pub read-past : (m c h : ℕ) (d : List ℕ) → (near ≡ withEntry own v m near) × ((far ≡ withEntry own v (entryOf own v near) far) × (d ≡ backBy c h (entryOf own v near) (entryOf own v far) d))
+    read-past m c h d =
+        let z : entryOf own v near ≡ 0 = List·getD-eq-default near 0 (omega (arith, e)) in
+        (set-past near (slotOf (length near) own v) m (omega (arith, e)), (set-past far (slotOf (length far) own v) (entryOf own v near) (omega (arith, far-slot, w)), rw (z, le-ltb h 0 (omega arith))))
+
+    pub write-past : (m x : ℕ) → (far ≡ aloneIn own m x v far) × (near ≡ withEntry own v m near)
+    write-past m x = (go (eqb x 7), set-past near (slotOf (length near) own v) m (omega (arith, e)))
+      where
+        go : (b : Bool) → far ≡ cond b (withEntry own v m far) far
+        go true = set-past far (slotOf (length far) own v) m (omega (arith, far-slot, w))
+        go false = refl
+
+  pub read-in : (m : ℕ) → (set near i m ≡ withEntry own v m near) × (set far i (getD near i 0) ≡ withEntry own v (entryOf own v near) far)
+  read-in m = (ap (λ (j : ℕ). set near j m) e, rw (far-slot, sym e))
+
+  -- a read that takes something back, and one that does not
+  pub back-on : (c h : ℕ) (d : List ℕ) (b : Bool) → ltb h (getD near i 0) && ltb (getD near i 0) (getD far i 0) ≡ b →
+      cond b (takeBack c (getD far i 0) d) d ≡ backBy c h (entryOf own v near) (entryOf own v far) d
+  back-on c h d b z = rw (far-slot, sym e, z)
+
+  pub write-in : (m x : ℕ) (b : Bool) → eqb x 7 ≡ b → cond b (set far i m) far ≡ aloneIn own m x v far
+  write-in m x b z = rw (far-slot, z)
+
+-- what a line reads, as its text is at hand
+pub line-reads : (own l t near far f notes : List ℕ) (c h m x : ℕ) (p : Line) (d : Reads) → t ≡ textOf l p → f ≡ aloneStore own m x p far → d ≡ readRuns own c h m (runs t) (near, (f, notes)) →
+    d ≡ readRuns own c h m (runs (textOf l p)) (near, (aloneStore own m x p far, notes))
+line-reads own l t near far f notes c h m x p d q g y =
+    y ∙ ap (λ (z : List ℕ). readRuns own c h m (runs z) (near, (f, notes))) q ∙ ap (λ (z : List ℕ). readRuns own c h m (runs (textOf l p)) (near, (z, notes))) g
+
+-- tables of one length that are wiped
+wiped-length : (d d′ : List ℕ) → d′ ≡ replicate (length d) 0 → length d′ ≡ length d
+wiped-length d d′ e = ap length e ∙ length-replicate {A = ℕ} (length d) 0
+
+pub wiped-lengths : (near far stores near′ far′ stores′ : List ℕ) → near′ ≡ replicate (length near) 0 → far′ ≡ replicate (length far) 0 → stores′ ≡ replicate (length stores) 0 →
+    (length far ≡ length near) × (length far ≡ length stores) → (length far′ ≡ length near′) × (length far′ ≡ length stores′)
+wiped-lengths near far stores near′ far′ stores′ a b c w =
+    (wiped-length far far′ b ∙ w .0 ∙ sym (wiped-length near near′ a), wiped-length far far′ b ∙ w .1 ∙ sym (wiped-length stores stores′ c))
+
+pub wiped-bytes : (d d′ : List ℕ) (r : ℕ) → Wrote d 0 (replicate (length d) 0) d′ r → d′ ≡ replicate (length d) 0
+wiped-bytes d d′ r w = wrote-whole w (length-replicate {A = ℕ} (length d) 0)

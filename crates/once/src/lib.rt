@@ -16,16 +16,21 @@ ghost use Rattle.once.specs.Scratch.{objectOf, isMember, liveBelow, chan
 ghost use Rattle.once.specs.Once.{deadBy, readCount, firstOf, takenBy, onceActs, optimizeOnce};
 ghost use Rattle.words.specs.Hits.{regHit, replaceReg};
 ghost use Rattle.reading.specs.Reading.{plain, pureIn};
-ghost use Rattle.reading.specs.Uses.{storesBy};
 ghost use Rattle.once.specs.Inner.Tables.{readBelow, anyCall, nextIn, Blank, hasHit, storeDrops, lineDrops, storeForwards, lineForwards, onceMarks, actBy, actsBy, isSet, firstDrops, firstTakes, markBy, firstMark, marksOf, areaAt};
-ghost use Rattle.once.specs.Inner.Noted.{CalmIn, Calm, LineAt, RowAt, DropIs, DropBy, sentTo, SendIs, SendBy, OneBy, OneOf, firstLine, NotesOf, EndsOf};
-ghost use Rattle.decls.specs.Inner.Seen.{AtMost};
+ghost use Rattle.once.specs.Inner.Noted.{noteStored, noteDead, CalmIn, Calm, LineAt, RowAt, DropIs, DropBy, sentTo, SendIs, SendBy, OneIs, OneBy, OneOf, firstLine, NotesOf, EndsOf};
 ghost use Rattle.place.specs.Inner.Fill.{Filled, flagsOf};
 ghost use Rattle.place.specs.Loops.{insideLoop};
 ghost use Rattle.place.specs.Inner.Loops.{someLoop};
 ghost use Rattle.place.specs.Region.{region};
 ghost use Rattle.place.specs.Paths.{blockPaths, tops};
 ghost use Rattle.place.specs.Inner.Parents.{pathParents};
+
+// The mark of a line: it stays, it goes, or it would go into the next line.
+const MARK_STAYS: u8 = 0;
+
+const MARK_GOES: u8 = 1;
+
+const MARK_SENDS: u8 = 2;
 
 // Whether a value is a bare member read, `A.B`.
 fn is_member(x: &[u8]) -> bool
@@ -170,13 +175,13 @@ fn called_below(text: &[u8], x: &[u8], obj: &[u8]) -> bool
 
 // Whether a register is read before it is stored again, down to the end of the region; the note of the store above may say so.
 fn live_below(below: &[u8], reg: names::Register, note: u8) -> bool
-    requires { ⌜ (note ≡ 5 → liveBelow (reg .0) (linesOf (now below)) ≡ false) × (note ≡ 6 → liveBelow (reg .0) (linesOf (now below)) ≡ false) ⌝ }
+    requires { ⌜ (note ≡ noteStored → liveBelow (reg .0) (linesOf (now below)) ≡ false) × (note ≡ noteDead → liveBelow (reg .0) (linesOf (now below)) ≡ false) ⌝ }
     ensures { λ r. ⌜ r ≡ liveBelow (reg .0) (linesOf (now (below .entry))) ⌝ }
 {
-    if note == 5 {
+    if note == noted::NOTE_STORED {
         return false;
     }
-    if note == 6 {
+    if note == noted::NOTE_DEAD {
         return false;
     }
     read_below(below, reg, false)
@@ -184,7 +189,7 @@ fn live_below(below: &[u8], reg: names::Register, note: u8) -> bool
 
 // Whether a store of a register with the value x and a note, above `below`, is a scratch load; no `(` stands in a rest of at most `calm` bytes.
 fn scratch_at(x: &[u8], reg: names::Register, below: &[u8], note: u8, calm: usize) -> bool
-    requires { ⌜ ((note ≡ 5 → liveBelow (reg .0) (linesOf (now below)) ≡ false) × (note ≡ 6 → liveBelow (reg .0) (linesOf (now below)) ≡ false)) × (CalmIn (now below) calm) ⌝ }
+    requires { ⌜ ((note ≡ noteStored → liveBelow (reg .0) (linesOf (now below)) ≡ false) × (note ≡ noteDead → liveBelow (reg .0) (linesOf (now below)) ≡ false)) × (CalmIn (now below) calm) ⌝ }
     ensures { λ r. ⌜ r ≡ scratchAt (reg .0) (now (x .entry)) (linesOf (now (below .entry))) ⌝ }
 {
     if below.len() <= calm {
@@ -279,7 +284,7 @@ fn store_drops(
     ensures answer { λ r. ⌜ r ≡ storeDrops plain (reg .0) (now (x .entry)) p in_loop (linesOf (now (below .entry))) (now (paths .entry)) ⌝ }
     ensures memory { λ _. ⌜ now (scratch .exit) ≡ now (scratch .entry) ⌝ }
 {
-    if (note == 3) | ((note == 4) | (note == 7)) {
+    if (note == noted::NOTE_READ) | ((note == noted::NOTE_SENT) | (note == noted::NOTE_ALONE)) {
         return false;
     }
     if scratch_at(x, reg, below, note, calm) {
@@ -288,7 +293,7 @@ fn store_drops(
     if in_loop {
         return false;
     }
-    if note == 5 {
+    if note == noted::NOTE_STORED {
         return false;
     }
     if words::count_reg(x, reg) != 0 {
@@ -297,7 +302,7 @@ fn store_drops(
     if !pure_value(x, scratch) {
         return false;
     }
-    if note == 6 {
+    if note == noted::NOTE_DEAD {
         return true;
     }
     dead_below(below, paths, p, reg)
@@ -329,17 +334,6 @@ fn line_drops(
     }
 }
 
-// Whether a line that is read already stores a register.
-fn stores_in(p: parse::Line, reg: names::Register) -> bool
-    ensures { λ r. ⌜ r ≡ storesBy (reg .0) p ⌝ }
-{
-    match p {
-        parse::Line::Decl => false,
-        parse::Line::Store(s) => s.reg.0 == reg.0,
-        parse::Line::Other => false,
-    }
-}
-
 // Whether a line can take a value in the place of a register.
 fn takes(line: &[u8], reg: names::Register) -> bool
     ensures { λ r. ⌜ r ≡ hasHit (regHit (reg .0) (now (line .entry))) ⌝ }
@@ -352,11 +346,14 @@ fn takes(line: &[u8], reg: names::Register) -> bool
 
 // Whether the region at the front of a text reads a register once in all; the note of a store of it may say so.
 fn once_in(run: &[u8], reg: names::Register, note: u8) -> bool
-    requires { ⌜ (note ≡ 7 → readCount (reg .0) (region (linesOf (now run))) ≡ 1) ⌝ }
+    requires { ⌜ OneIs (reg .0) (region (linesOf (now run))) note ⌝ }
     ensures { λ r. ⌜ r ≡ eqb (readCount (reg .0) (region (linesOf (now (run .entry))))) 1 ⌝ }
 {
-    if note == 7 {
+    if note == noted::NOTE_ALONE {
         return true;
+    }
+    if note == noted::NOTE_SENT {
+        return false;
     }
     let e = place::region_end(run, 0);
     read_once(lines::cut(run, 0, e), reg)
@@ -368,17 +365,17 @@ fn sent_to(reg: names::Register, next: &[u8], below: &[u8], note: u8) -> bool
     requires { ⌜ SendIs (reg .0) (now next ∷ linesOf (now below)) note ⌝ }
     ensures { λ r. ⌜ r ≡ sentTo (reg .0) (now (next .entry) ∷ linesOf (now (below .entry))) ⌝ }
 {
-    if (note == 4) | (note == 7) {
+    if (note == noted::NOTE_SENT) | (note == noted::NOTE_ALONE) {
         return true;
     }
-    if 2 < note {
+    if noted::NOTE_OTHER < note {
         return false;
     }
-    let q = parse::parse(next);
-    if stores_in(q, reg) {
+    let u = reading::use_of(next, reg);
+    if u.stores {
         return false;
     }
-    if words::count_reg(parse::text_of(next, q), reg) != 1 {
+    if u.reads != 1 {
         return false;
     }
     !read_below(below, reg, true)
@@ -397,7 +394,7 @@ fn store_forwards(
     note: u8,
     scratch: &mut [u8],
 ) -> bool
-    requires { ⌜ (Blank (length (now x)) (now scratch)) × ((SendIs (reg .0) (now next ∷ linesOf (now below)) note) × (note ≡ 7 → readCount (reg .0) (region (linesOf (now run))) ≡ 1)) ⌝ }
+    requires { ⌜ (Blank (length (now x)) (now scratch)) × ((SendIs (reg .0) (now next ∷ linesOf (now below)) note) × (OneIs (reg .0) (region (linesOf (now run))) note)) ⌝ }
     ensures answer { λ r. ⌜ r ≡ storeForwards plain (reg .0) (now (x .entry)) (region (linesOf (now (run .entry)))) in_loop gone (now (next .entry)) (linesOf (now (below .entry))) ⌝ }
     ensures memory { λ _. ⌜ now (scratch .exit) ≡ now (scratch .entry) ⌝ }
 {
@@ -504,7 +501,7 @@ fn next_drops(
     ensures memory { λ _. ⌜ now (scratch .exit) ≡ now (scratch .entry) ⌝ }
 {
     let c = lines::byte_at(notes, k);
-    if (c == 7) | ((0 < c) & (c < 5)) {
+    if (c == noted::NOTE_ALONE) | ((noted::NOTE_NONE < c) & (c < noted::NOTE_STORED)) {
         return false;
     }
     let n = noted::end_at(text, j, k, ends);
@@ -513,8 +510,7 @@ fn next_drops(
     drops_at(text, j, n, q, paths, k, h != 0, c, calm, scratch)
 }
 
-// The mark of a line that stays, read as p, in the region that `run` begins with, above the line from j to e: 2 where it would go into the next,
-// else 0; `next` says whether that one goes, and `note` is that of the line.
+// The mark of a line that does not go, read as p, in the region that `run` begins with, above the line from j to e; `next` says whether that one goes, and `note` is that of the line.
 fn mark_at(
     line: &[u8],
     p: parse::Line,
@@ -535,7 +531,7 @@ fn mark_at(
     ensures memory { λ _. ⌜ now (scratch .exit) ≡ now (scratch .entry) ⌝ }
 {
     if j >= text.len() {
-        return 0;
+        return MARK_STAYS;
     }
     let n = lines::after(text, e);
     if line_forwards(
@@ -549,13 +545,12 @@ fn mark_at(
         note,
         scratch,
     ) {
-        return 2;
+        return MARK_SENDS;
     }
-    0
+    MARK_STAYS
 }
 
-// The mark of the line from i to e, with k lines above it, in the region that begins at `run`: 1 where it goes, 2 where it would go into the
-// next, else 0, as most notes say at once.
+// The mark of the line from i to e, with k lines above it, in the region that begins at `run`: it stays, as most notes say at once.
 fn mark_line(
     text: &[u8],
     i: usize,
@@ -577,14 +572,14 @@ fn mark_line(
     ensures memory { λ _. ⌜ now (scratch .exit) ≡ now (scratch .entry) ⌝ }
 {
     let note = lines::byte_at(notes, k);
-    if (0 < note) & (note < 4) {
-        return 0;
+    if (noted::NOTE_NONE < note) & (note < noted::NOTE_SENT) {
+        return MARK_STAYS;
     }
     let line = lines::cut(text, i, e);
     let p = parse::parse(line);
     let h = lines::byte_at(loops, k);
     if drops_at(text, i, e, p, paths, k, h != 0, note, calm, scratch) {
-        return 1;
+        return MARK_GOES;
     }
     let j = lines::after(text, e);
     let next = next_drops(text, j, k + 1, paths, loops, calm, notes, ends, scratch);
@@ -633,43 +628,36 @@ fn mark_with(
     k
 }
 
-// Writes the mark of each line; `paths` has the block paths of the lines, `loops` whether each stands in a loop, and `ends` where each ends.
+// Writes the mark of each line; `paths` has the block paths of the lines, `loops` whether each stands in a loop, and `ends` where each ends. The
+// tables over registers and of notes are zeros afterwards.
 fn fill_marks(
     text: &[u8],
+    own: &[usize],
     paths: &[usize],
     loops: &[u8],
     scratch: &mut [u8],
     marks: &mut [u8],
+    near: &mut [u32],
+    far: &mut [u32],
+    stores: &mut [u32],
+    notes: &mut [u8],
     ends: &[usize],
 ) -> usize
     requires { ⌜ (Blank (length (now text)) (now scratch))
-        × ((length (linesOf (now text)) ≤ length (now marks)) × ((length (now paths) ≡ length (linesOf (now text))) × (EndsOf (now text) (now ends)))) ⌝ }
+        × ((length (linesOf (now text)) ≤ length (now marks))
+        × ((length (now paths) ≡ length (linesOf (now text)))
+        × (((length (now far) ≡ length (now near)) × (length (now far) ≡ length (now stores))) × (EndsOf (now text) (now ends))))) ⌝ }
     ensures answer { λ r. ⌜ Filled (now (marks .entry)) (marksOf plain (linesOf (now (text .entry))) (now (paths .entry)) (now (loops .entry))) (now (marks .exit)) r ⌝ }
     ensures memory { λ _. ⌜ now (scratch .exit) ≡ now (scratch .entry) ⌝ }
+    ensures tables { λ _. ⌜ (now (near .exit) ≡ replicate (length (now (near .entry))) 0)
+        × ((now (far .exit) ≡ replicate (length (now (far .entry))) 0)
+        × ((now (stores .exit) ≡ replicate (length (now (stores .entry))) 0) × (now (notes .exit) ≡ replicate (length (now (notes .entry))) 0))) ⌝ }
 {
-    let mut near = [0u32; 1024];
-    let mut far = [0u32; 1024];
-    let mut stores = [0u32; 1024];
-    let mut notes = [0u8; 1024];
-    noted::note_lines(
-        text,
-        paths,
-        &mut near,
-        &mut far,
-        &mut stores,
-        &mut notes,
-        ends,
-    );
+    noted::note_lines(text, own, paths, near, far, stores, notes, ends);
     let calm = calm_len(text);
-    mark_with(text, paths, loops, calm, &notes, ends, scratch, marks)
-}
-
-// Writes a line with its LF, and returns the place after it.
-fn put_whole(line: &[u8], out: &mut [u8], o: usize) -> usize
-    requires { ⌜ o + length (unlines (now line ∷ [])) ≤ length (now out) ⌝ }
-    ensures { λ r. ⌜ Wrote (now (out .entry)) o (unlines (now (line .entry) ∷ [])) (now (out .exit)) r ⌝ }
-{
-    lines::put_line(out, o, line)
+    let n = mark_with(text, paths, loops, calm, notes, ends, scratch, marks);
+    lines::wipe(notes, notes.len());
+    n
 }
 
 // Writes a line with a value in the place of a register, where it can take it.
@@ -682,7 +670,7 @@ fn put_into(line: &[u8], reg: names::Register, x: &[u8], out: &mut [u8], o: usiz
             let p = words::put_replaced(line, w, x, out, o);
             lines::put_byte(out, p, 10)
         }
-        words::Hit::Not => put_whole(line, out, o),
+        words::Hit::Not => lines::put_line(out, o, line),
     }
 }
 
@@ -692,12 +680,12 @@ fn put_taken(line: &[u8], above: &[u8], out: &mut [u8], o: usize) -> usize
     ensures { λ r. ⌜ Wrote (now (out .entry)) o (unlines (takenBy (now (above .entry)) (parseOf (now (above .entry))) (now (line .entry)) ∷ [])) (now (out .exit)) r ⌝ }
 {
     match parse::parse(above) {
-        parse::Line::Decl => put_whole(line, out, o),
+        parse::Line::Decl => lines::put_line(out, o, line),
         parse::Line::Store(s) => {
             let x = parse::value_of(above, s);
             put_into(line, s.reg, x, out, o)
         }
-        parse::Line::Other => put_whole(line, out, o),
+        parse::Line::Other => lines::put_line(out, o, line),
     }
 }
 
@@ -706,19 +694,19 @@ fn put_act(line: &[u8], above: &[u8], m: u8, n: u8, given: bool, out: &mut [u8],
     requires { ⌜ o + length (unlines (act (actBy m n given (now above) (now line)) (now line))) ≤ length (now out) ⌝ }
     ensures { λ r. ⌜ Wrote (now (out .entry)) o (unlines (act (actBy m n given (now (above .entry)) (now (line .entry))) (now (line .entry)))) (now (out .exit)) r ⌝ }
 {
-    if m == 1 {
+    if m == MARK_GOES {
         return o;
     }
-    if m == 2 {
-        if n == 2 {
-            return put_whole(line, out, o);
+    if m == MARK_SENDS {
+        if n == MARK_SENDS {
+            return lines::put_line(out, o, line);
         }
         return o;
     }
     if given {
         return put_taken(line, above, out, o);
     }
-    put_whole(line, out, o)
+    lines::put_line(out, o, line)
 }
 
 // Writes what becomes of lines by their marks; `ends` has the places where they end.
@@ -736,14 +724,14 @@ fn put_acts(text: &[u8], marks: &[u8], ends: &[usize], out: &mut [u8]) -> usize
     while i < text.len() {
         let e = noted::end_at(text, i, k, ends);
         let m = lines::byte_at(marks, k);
-        if (m == 0) & !given {
+        if (m == MARK_STAYS) & !given {
             k += 1;
             i = lines::after(text, e);
         } else {
             let n = lines::byte_at(marks, k + 1);
             let p = lines::put(out, o, lines::cut(text, c, i));
             o = put_act(&text[i..e], lines::cut(text, a, b), m, n, given, out, p);
-            given = (m == 2) & !(n == 2);
+            given = (m == MARK_SENDS) & !(n == MARK_SENDS);
             a = i;
             b = e;
             k += 1;
@@ -766,45 +754,77 @@ fn fill_loops(text: &[u8], some: bool, rows: usize, loops: &mut [u8]) -> usize
     rows
 }
 
-// Fills the tables of a text: which lines stand in a loop, their block paths, what becomes of them, and where they end.
+// Fills the tables of a text: which lines stand in a loop, their block paths, what becomes of them, and where they end. The tables over registers
+// and of notes are zeros afterwards.
 fn decide(
     text: &[u8],
+    own: &[usize],
     scratch: &mut [u8],
     loops: &mut [u8],
     marks: &mut [u8],
     paths: &mut [usize],
     up: &mut [u32],
+    near: &mut [u32],
+    far: &mut [u32],
+    stores: &mut [u32],
+    notes: &mut [u8],
     ends: &mut [usize],
 ) -> usize
     requires { ⌜ (length (linesOf (now text)) ≤ length (now loops))
         × ((length (linesOf (now text)) ≤ length (now marks))
         × ((length (linesOf (now text)) ≤ length (now paths))
         × ((length (pathParents (linesOf (now text))) ≤ length (now up))
-        × ((length (now up) < 2 ^ 32) × ((length (now text) ≤ length (now scratch)) × (AtMost 0 (now ends))))))) ⌝ }
+        × ((length (now up) < 2 ^ 32)
+        × ((length (now text) ≤ length (now scratch)) × ((length (now far) ≡ length (now near)) × (length (now far) ≡ length (now stores)))))))) ⌝ }
     ensures answer { λ r. ⌜ Filled (now (marks .entry)) (onceMarks plain (linesOf (now (text .entry)))) (now (marks .exit)) r ⌝ }
     ensures memory { λ _. ⌜ (Wrote (now (scratch .entry)) 0 (replicate (length (now (text .entry))) 0) (now (scratch .exit)) (length (now (text .entry))))
         × ((Filled (now (loops .entry)) (flagsOf (insideLoop (linesOf (now (text .entry))))) (now (loops .exit)) (length (flagsOf (insideLoop (linesOf (now (text .entry)))))))
         × ((Filled (now (paths .entry)) (tops (blockPaths (linesOf (now (text .entry))))) (now (paths .exit)) (length (tops (blockPaths (linesOf (now (text .entry)))))))
         × (Filled (now (up .entry)) (pathParents (linesOf (now (text .entry)))) (now (up .exit)) (length (pathParents (linesOf (now (text .entry)))))))) ⌝ }
+    ensures tables { λ _. ⌜ (now (near .exit) ≡ replicate (length (now (near .entry))) 0)
+        × ((now (far .exit) ≡ replicate (length (now (far .entry))) 0)
+        × ((now (stores .exit) ≡ replicate (length (now (stores .entry))) 0) × (now (notes .exit) ≡ replicate (length (now (notes .entry))) 0))) ⌝ }
     ensures ends { λ _. ⌜ EndsOf (now (text .entry)) (now (ends .exit)) ⌝ }
 {
     lines::wipe(scratch, text.len());
+    slots::wipe(ends);
     let x = place::block_paths(text, paths, up, ends);
     let k = x.rows;
     let n = fill_loops(text, x.loops, k, loops);
-    fill_marks(text, &paths[0..k], &loops[0..n], scratch, marks, ends)
+    fill_marks(
+        text,
+        own,
+        &paths[0..k],
+        &loops[0..n],
+        scratch,
+        marks,
+        near,
+        far,
+        stores,
+        notes,
+        ends,
+    )
 }
 
 // Writes the lines of a text without dead stores and scratch loads, with each value that is read once, on the next line, in that line, and
-// without the declared registers that are then unused. `mid` takes what the lines are before their declarations are pruned.
+// without the declared registers that are then unused. `mid` takes what the lines are before their declarations are pruned. `own` has the owners
+// of places in the tables over registers: `near`, `far` and `stores`, of one length, and `seen`. These, `notes` and `ends`, of one entry a line as
+// far as they reach, are zeros afterwards.
 pub fn optimize_once(
     text: &[u8],
+    own: &[usize],
     scratch: &mut [u8],
     mid: &mut [u8],
     loops: &mut [u8],
     marks: &mut [u8],
     paths: &mut [usize],
     up: &mut [u32],
+    near: &mut [u32],
+    far: &mut [u32],
+    stores: &mut [u32],
+    notes: &mut [u8],
+    ends: &mut [usize],
+    seen: &mut [usize],
     out: &mut [u8],
 ) -> usize
     requires { ⌜ (length (linesOf (now text)) ≤ length (now loops))
@@ -814,7 +834,8 @@ pub fn optimize_once(
         × ((length (now up) < 2 ^ 32)
         × ((length (now text) ≤ length (now scratch))
         × ((length (unlines (apply (onceActs plain (linesOf (now text))) (linesOf (now text)))) ≤ length (now mid))
-        × (length (unlines (optimizeOnce plain (linesOf (now text)))) ≤ length (now out)))))))) ⌝ }
+        × ((length (unlines (optimizeOnce plain (linesOf (now text)))) ≤ length (now out))
+        × ((length (now far) ≡ length (now near)) × (length (now far) ≡ length (now stores)))))))))) ⌝ }
     ensures answer { λ r. ⌜ Wrote (now (out .entry)) 0 (unlines (optimizeOnce plain (linesOf (now (text .entry))))) (now (out .exit)) r ⌝ }
     ensures memory { λ _. ⌜ (Wrote (now (scratch .entry)) 0 (replicate (length (now (text .entry))) 0) (now (scratch .exit)) (length (now (text .entry))))
         × ((Wrote (now (mid .entry)) 0 (unlines (apply (onceActs plain (linesOf (now (text .entry)))) (linesOf (now (text .entry))))) (now (mid .exit)) (length (unlines (apply (onceActs plain (linesOf (now (text .entry)))) (linesOf (now (text .entry)))))))
@@ -822,11 +843,27 @@ pub fn optimize_once(
         × ((Filled (now (marks .entry)) (onceMarks plain (linesOf (now (text .entry)))) (now (marks .exit)) (length (onceMarks plain (linesOf (now (text .entry))))))
         × ((Filled (now (paths .entry)) (tops (blockPaths (linesOf (now (text .entry))))) (now (paths .exit)) (length (tops (blockPaths (linesOf (now (text .entry)))))))
         × (Filled (now (up .entry)) (pathParents (linesOf (now (text .entry)))) (now (up .exit)) (length (pathParents (linesOf (now (text .entry)))))))))) ⌝ }
+    ensures tables { λ _. ⌜ (now (near .exit) ≡ replicate (length (now (near .entry))) 0)
+        × ((now (far .exit) ≡ replicate (length (now (far .entry))) 0)
+        × ((now (stores .exit) ≡ replicate (length (now (stores .entry))) 0)
+        × ((now (notes .exit) ≡ replicate (length (now (notes .entry))) 0)
+        × ((now (ends .exit) ≡ replicate (length (now (ends .entry))) 0) × (now (seen .exit) ≡ replicate (length (now (seen .entry))) 0))))) ⌝ }
 {
-    let mut ends = [0usize; 1024];
-    let n = decide(text, scratch, loops, marks, paths, up, &mut ends);
-    let m = put_acts(text, &marks[0..n], &ends, mid);
-    let own = [0usize; 1];
-    let mut seen = [0usize; 1024];
-    decls::prune_decls(&mid[0..m], &own[0..0], &mut seen, out)
+    let n = decide(
+        text,
+        own,
+        scratch,
+        loops,
+        marks,
+        paths,
+        up,
+        near,
+        far,
+        stores,
+        notes,
+        ends,
+    );
+    let m = put_acts(text, &marks[0..n], ends, mid);
+    slots::wipe(ends);
+    decls::prune_decls(&mid[0..m], own, seen, out)
 }

@@ -1,9 +1,11 @@
+-- `once::decide` meets its contract. Assumes nothing.
 use borrow.Author.Needs.{needs}
 use mathlib.Core.Path.{ap, _∙_}
 use native.Mathlib.Omega.{arith}
 use lib.ListN.{length}
 use Rattle.lines.specs.Lf.{linesOf}
 use Rattle.place.proofs.Paths.{length-tops}
+use Rattle.decls.proofs.SeenLaws.{wiped-most}
 use Rattle.once.proofs.BackLaws.{ends-of}
 use Rattle.once.proofs.Blanks.{blank-wiped}
 use Rattle.once.proofs.Passes.{filled-part, filled-to, filled-le, wrote-same, marks-filled}
@@ -13,13 +15,16 @@ use Rattle.once.proofs.decide.Tie as tie
 wipe-requires : tie.Need-wipe-requires
 wipe-requires c κs = search needs
 
+wipe-requires-2 : tie.Need-wipe-requires-2
+wipe-requires-2 c κs = search needs
+
 block-paths-requires : tie.Need-block-paths-requires
 block-paths-requires c κs = search needs
 
 fill-loops-requires : tie.Need-fill-loops-requires
 fill-loops-requires c κs =
     let b = c .before .before .before .before .before .before .before .block-paths .ensures in
-    (b .1 .0, (b .0 .0 .place ∙ length-tops (linesOf (c .before .before .before .before .before .before .before .before .before .before .before .before .before .before .before .before .before .before .before .before .before .before .args .text .now)), c .before .before .before .before .before .before .before .before .before .before .before .before .before .before .before .before .before .before .before .before .before .before .pre .0))
+    (b .1 .0, (b .0 .0 .place ∙ length-tops (linesOf (c .before .before .before .before .before .before .before .before .before .before .before .before .before .before .before .before .before .before .before .before .before .before .before .before .before .before .before .before .before .before .before .args .text .now)), c .before .before .before .before .before .before .before .before .before .before .before .before .before .before .before .before .before .before .before .before .before .before .before .before .before .before .before .before .before .before .before .pre .0))
 
 sub-fill-marks : tie.Need-sub-fill-marks
 sub-fill-marks c = search needs
@@ -41,13 +46,12 @@ part-fill-marks-end-2 c = omega (arith, filled-le (c .before .before .before .be
 
 fill-marks-requires : tie.Need-fill-marks-requires
 fill-marks-requires c κs =
-    let a = c .before .before .before .before .before .before .before .before .before .before .before .before .before .before .before .before .before .before .before .before .before .before .before .before .before .before .before .before .before .before .before .before .args in
-    let p = c .before .before .before .before .before .before .before .before .before .before .before .before .before .before .before .before .before .before .before .before .before .before .before .before .before .before .before .before .before .before .before .before .pre in
-    let b = c .before .before .before .before .before .before .before .before .before .before .before .before .before .before .before .before .before .block-paths .ensures in
-    (blank-wiped (c .before .before .before .before .before .before .before .before .before .before .before .before .before .before .before .before .before .before .before .before .before .before .before .wipe .ensures), (p .1 .0, (ap length (filled-part (b .0 .0)) ∙ length-tops (linesOf (a .text .now)), ends-of (a .text .now) (a .ends .now) _ (p .1 .1 .1 .1 .1 .1) (b .1 .1))))
+    let a = c .before .before .before .before .before .before .before .before .before .before .before .before .before .before .before .before .before .before .before .before .before .before .before .before .before .before .before .before .before .before .before .before .before .before .before .before .before .before .before .before .before .before .before .before .before .args in
+    let b = c .before .before .before .before .before .before .before .before .before .before .before .before .before .before .before .before .before .before .before .before .before .block-paths .ensures in
+    (blank-wiped (c .before .before .before .before .before .before .before .before .before .before .before .before .before .before .before .before .before .before .before .before .before .before .before .before .before .before .before .before .before .before .before .wipe .ensures), (c .before .before .before .before .before .before .before .before .before .before .before .before .before .before .before .before .before .before .before .before .before .before .before .before .before .before .before .before .before .before .before .before .before .before .before .before .before .before .before .before .before .before .before .before .before .pre .1 .0, (ap length (filled-part (b .0 .0)) ∙ length-tops (linesOf (a .text .now)), (c .before .before .before .before .before .before .before .before .before .before .before .before .before .before .before .before .before .before .before .before .before .before .before .before .before .before .before .before .before .before .before .before .before .before .before .before .before .before .before .before .before .before .before .before .before .pre .1 .1 .1 .1 .1 .1, ends-of (a .text .now) _ _ (wiped-most (length (a .ends .now)) _ (c .before .before .before .before .before .before .before .before .before .before .before .before .before .before .before .before .before .before .before .before .before .before .before .before .before .before .before .wipe2 .ensures)) (b .1 .1)))))
 
 same-length : tie.Need-same-length
-same-length c = search needs
+same-length c = c .before .before .before .before .before .before .before .before .before .before .before .before .fill-marks .kept .1 .1 .1 .1 .0 ∙ c .before .before .before .before .before .before .before .before .before .before .before .before .before .before .before .before .before .before .before .before .before .before .before .before .before .before .before .before .before .before .before .before .before .before .before .before .before .before .before .before .before .before .before .before .wipe .kept .0
 
 same-length-2 : tie.Need-same-length-2
 same-length-2 c = search needs
@@ -64,20 +68,32 @@ same-length-5 c = search needs
 same-length-6 : tie.Need-same-length-6
 same-length-6 c = search needs
 
+same-length-7 : tie.Need-same-length-7
+same-length-7 c = search needs
+
+same-length-8 : tie.Need-same-length-8
+same-length-8 c = search needs
+
+same-length-9 : tie.Need-same-length-9
+same-length-9 c = search needs
+
+same-length-10 : tie.Need-same-length-10
+same-length-10 c = c .before .before .before .before .before .before .before .before .before .before .before .before .before .before .before .before .before .before .before .before .before .before .before .before .before .before .before .before .before .before .before .before .before .before .block-paths .kept .1 .1 .1 .0 ∙ c .before .before .before .before .before .before .before .before .before .before .before .before .before .before .before .before .before .before .before .before .before .before .before .before .before .before .before .before .before .before .before .before .before .before .before .before .before .before .before .before .wipe2 .kept .0
+
 returns : tie.Need-returns
 returns c =
-    let a = c .before .before .before .before .before .before .before .before .before .before .before .before .before .before .before .before .before .before .before .before .before .before .before .before .before .before .before .before .before .before .before .before .before .before .before .before .before .args in
-    let p = c .before .before .before .before .before .before .before .before .before .before .before .before .before .before .before .before .before .before .before .before .before .before .before .before .before .before .before .before .before .before .before .before .before .before .before .before .before .pre in
-    let b = c .before .before .before .before .before .before .before .before .before .before .before .before .before .before .before .before .before .before .before .before .before .before .block-paths .ensures in
-    let f = c .before .before .before .before .before .before .before .before .before .before .before .before .before .before .fill-loops .ensures in
-    let e = c .before .before .before .before .fill-marks .ensures in
-    (marks-filled (linesOf (a .text .now)) (filled-part (b .0 .0)) (filled-part f) (e .0), ((wrote-same (e .1) (c .before .before .before .before .before .before .before .before .before .before .before .before .before .before .before .before .before .before .before .before .before .before .before .before .before .before .before .before .wipe .ensures), (filled-to f, (filled-to (b .0 .0), b .0 .1))), ends-of (a .text .now) (a .ends .now) _ (p .1 .1 .1 .1 .1 .1) (b .1 .1)))
+    let a = c .before .before .before .before .before .before .before .before .before .before .before .before .before .before .before .before .before .before .before .before .before .before .before .before .before .before .before .before .before .before .before .before .before .before .before .before .before .before .before .before .before .before .before .before .before .before .before .before .before .before .before .before .before .before .before .before .before .before .args in
+    let b = c .before .before .before .before .before .before .before .before .before .before .before .before .before .before .before .before .before .before .before .before .before .before .before .before .before .before .before .before .before .before .before .before .before .before .block-paths .ensures in
+    let f = c .before .before .before .before .before .before .before .before .before .before .before .before .before .before .before .before .before .before .before .before .before .before .before .before .before .before .fill-loops .ensures in
+    let e = c .before .before .before .before .before .before .before .before .before .before .before .before .fill-marks .ensures in
+    (marks-filled (linesOf (a .text .now)) (filled-part (b .0 .0)) (filled-part f) (e .0), ((wrote-same (e .1 .0) (c .before .before .before .before .before .before .before .before .before .before .before .before .before .before .before .before .before .before .before .before .before .before .before .before .before .before .before .before .before .before .before .before .before .before .before .before .before .before .before .before .before .before .before .before .wipe .ensures), (filled-to f, (filled-to (b .0 .0), b .0 .1))), (e .1 .1, ends-of (a .text .now) _ _ (wiped-most (length (a .ends .now)) _ (c .before .before .before .before .before .before .before .before .before .before .before .before .before .before .before .before .before .before .before .before .before .before .before .before .before .before .before .before .before .before .before .before .before .before .before .before .before .before .before .before .wipe2 .ensures)) (b .1 .1))))
 
 pub decide-spec : {M : Type 1} → statement M
 decide-spec =
     tie.close
     (tie.spec
     wipe-requires
+    wipe-requires-2
     block-paths-requires
     fill-loops-requires
     sub-fill-marks
@@ -93,4 +109,8 @@ decide-spec =
     same-length-4
     same-length-5
     same-length-6
+    same-length-7
+    same-length-8
+    same-length-9
+    same-length-10
     returns)

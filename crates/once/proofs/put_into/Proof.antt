@@ -10,7 +10,7 @@ use Rattle.once.proofs.put_into.Tie as tie
 use Rattle.once.proofs.put_into.Reads as reads
 use Rattle.once.proofs.put_into.Lts as lts
 use Rattle.lines.proofs.put_byte.Reads as put-byte-reads
-use Rattle.once.proofs.put_whole.Reads as put-whole-reads
+use Rattle.lines.proofs.put_line.Reads as put-line-reads
 use Rattle.words.proofs.find_reg.Reads as find-reg-reads
 use Rattle.words.proofs.put_replaced.Reads as put-replaced-reads
 
@@ -37,10 +37,10 @@ put-byte-requires c κs =
 enum-told : tie.Need-enum-told
 enum-told c = search needs
 
-put-whole-requires : tie.Need-put-whole-requires
-put-whole-requires c κs =
+put-line-requires : tie.Need-put-line-requires
+put-line-requires c κs =
     let a = c .before .before .before .before .before .before .before .args in
-    fits-as (a .o) (into-not (a .reg .0) (a .line .now) (a .x .now) (sym (c .before .before .before .find-reg .ensures) ∙ c .before .enum-told .given .1)) (c .before .before .before .before .before .before .before .pre)
+    fits-as (a .o) (line-is _ ∙ into-not (a .reg .0) (a .line .now) (a .x .now) (sym (c .before .before .before .find-reg .ensures) ∙ c .before .enum-told .given .1)) (c .before .before .before .before .before .before .before .pre)
 
 same-length : tie.Need-same-length
 same-length c = search needs
@@ -57,7 +57,7 @@ same-length-2 c = search needs
 returns-2 : tie.Need-returns-2
 returns-2 c =
     let a = c .before .before .before .before .before .before .before .before .before .before .args in
-    wrote-as (into-not (a .reg .0) (a .line .now) (a .x .now) (sym (c .before .before .before .before .before .before .find-reg .ensures) ∙ c .before .before .before .before .enum-told .given .1)) (c .before .before .put-whole .ensures)
+    wrote-as (line-is _ ∙ into-not (a .reg .0) (a .line .now) (a .x .now) (sym (c .before .before .before .before .before .before .find-reg .ensures) ∙ c .before .before .before .before .enum-told .given .1)) (c .before .before .put-line .ensures)
 
 pub put-into-spec : {M : Type 1} → statement M
 put-into-spec =
@@ -68,7 +68,7 @@ put-into-spec =
     put-replaced-requires
     put-byte-requires
     enum-told
-    put-whole-requires
+    put-line-requires
     same-length
     returns
     same-length-2

@@ -1,13 +1,13 @@
 use borrow.Author.Needs.{needs}
 use mathlib.Core.Path.{_≡_, sym, ap, _∙_}
 use Rattle.lines.proofs.OutLaws.{wrote-as}
-use Rattle.once.proofs.Writes.{fits-as, taken-as, taken-store}
+use Rattle.once.proofs.Writes.{fits-as, line-is, taken-as, taken-store}
 use Rattle.once.proofs.put_taken.Statement.{statement}
 use Rattle.once.proofs.put_taken.Tie as tie
 use Rattle.once.proofs.put_taken.Reads as reads
 use Rattle.once.proofs.put_taken.Lts as lts
 use Rattle.once.proofs.put_into.Reads as put-into-reads
-use Rattle.once.proofs.put_whole.Reads as put-whole-reads
+use Rattle.lines.proofs.put_line.Reads as put-line-reads
 use Rattle.parse.proofs.parse.Reads as parse-reads
 use Rattle.parse.proofs.value_of.Reads as value-of-reads
 
@@ -17,8 +17,8 @@ parse-requires c κs = search needs
 enum-told : tie.Need-enum-told
 enum-told c = search needs
 
-put-whole-requires : tie.Need-put-whole-requires
-put-whole-requires c κs = let a = c .before .before .before .before .before .before .before .args in fits-as (a .o) (taken-as (a .above .now) (a .line .now) _ (sym (c .before .enum-told .given .1) ∙ c .before .before .before .parse .ensures)) (c .before .before .before .before .before .before .before .pre)
+put-line-requires : tie.Need-put-line-requires
+put-line-requires c κs = let a = c .before .before .before .before .before .before .before .args in fits-as (a .o) (line-is _ ∙ taken-as (a .above .now) (a .line .now) _ (sym (c .before .enum-told .given .1) ∙ c .before .before .before .parse .ensures)) (c .before .before .before .before .before .before .before .pre)
 
 enum-known-s : tie.Need-enum-known-s
 enum-known-s c = search needs
@@ -32,14 +32,14 @@ put-into-requires c κs = let a = c .before .before .before .before .before .bef
 enum-told-2 : tie.Need-enum-told-2
 enum-told-2 c = search needs
 
-put-whole-requires-2 : tie.Need-put-whole-requires-2
-put-whole-requires-2 c κs = let a = c .before .before .before .before .before .before .before .args in fits-as (a .o) (taken-as (a .above .now) (a .line .now) _ (sym (c .before .enum-told2 .given .1) ∙ c .before .before .before .parse .ensures)) (c .before .before .before .before .before .before .before .pre)
+put-line-requires-2 : tie.Need-put-line-requires-2
+put-line-requires-2 c κs = let a = c .before .before .before .before .before .before .before .args in fits-as (a .o) (line-is _ ∙ taken-as (a .above .now) (a .line .now) _ (sym (c .before .enum-told2 .given .1) ∙ c .before .before .before .parse .ensures)) (c .before .before .before .before .before .before .before .pre)
 
 same-length : tie.Need-same-length
 same-length c = search needs
 
 returns : tie.Need-returns
-returns c = let a = c .before .before .before .before .before .before .before .before .before .before .args in wrote-as (taken-as (a .above .now) (a .line .now) _ (sym (c .before .before .before .before .enum-told .given .1) ∙ c .before .before .before .before .before .before .parse .ensures)) (c .before .before .put-whole .ensures)
+returns c = let a = c .before .before .before .before .before .before .before .before .before .before .args in wrote-as (line-is _ ∙ taken-as (a .above .now) (a .line .now) _ (sym (c .before .before .before .before .enum-told .given .1) ∙ c .before .before .before .before .before .before .parse .ensures)) (c .before .before .put-line .ensures)
 
 same-length-2 : tie.Need-same-length-2
 same-length-2 c = search needs
@@ -51,7 +51,7 @@ same-length-3 : tie.Need-same-length-3
 same-length-3 c = search needs
 
 returns-3 : tie.Need-returns-3
-returns-3 c = let a = c .before .before .before .before .before .before .before .before .before .before .args in wrote-as (taken-as (a .above .now) (a .line .now) _ (sym (c .before .before .before .before .enum-told2 .given .1) ∙ c .before .before .before .before .before .before .parse .ensures)) (c .before .before .put-whole2 .ensures)
+returns-3 c = let a = c .before .before .before .before .before .before .before .before .before .before .args in wrote-as (line-is _ ∙ taken-as (a .above .now) (a .line .now) _ (sym (c .before .before .before .before .enum-told2 .given .1) ∙ c .before .before .before .before .before .before .parse .ensures)) (c .before .before .put-line2 .ensures)
 
 pub put-taken-spec : {M : Type 1} → statement M
 put-taken-spec =
@@ -59,12 +59,12 @@ put-taken-spec =
     (tie.spec
     parse-requires
     enum-told
-    put-whole-requires
+    put-line-requires
     enum-known-s
     value-of-requires
     put-into-requires
     enum-told-2
-    put-whole-requires-2
+    put-line-requires-2
     same-length
     returns
     same-length-2

@@ -18,6 +18,8 @@ use Rattle.parse.specs.declared.Line.{Line}
 use Rattle.parse.specs.declared.Line.the-variants as line
 use Rattle.place.specs.Region.{isHeader, region, regionAt}
 use Rattle.reading.specs.Uses.{lineReads, lineStores}
+use Rattle.slots.specs.Inner.Slots.{slotOf, entryOf, withEntry}
+use Rattle.decls.specs.Inner.Seen.{markName}
 use Rattle.once.specs.Scratch.{liveBelow}
 use Rattle.once.specs.Once.{deadBy, readCount, laterRead}
 use Rattle.once.specs.Inner.Tables.{nextIn}
@@ -47,44 +49,81 @@ unfolding firstBy
 farFrom v [] = 0
 farFrom v (l ∷ ls) = cond (ltb 0 (lineReads v l)) (cond (ltb 1 (lineReads v l)) (suc (length ls)) (readFrom v ls)) (farFrom v ls)
 
--- the table d with the number m at the register that a name is
-abbrev pub markName : ℕ → RegName → List ℕ → List ℕ
-markName m name.None d = d
-markName m (name.Reg q) d = set d (q .0) m
+-- ---- what a note says of a line, and of what the lines below do with the register that it stores: nothing; a declaration; no store;
+abbrev pub noteNone : ℕ
+noteNone = 0
 
--- at the register that a line stores
-abbrev pub markStore : ℕ → Line → List ℕ → List ℕ
-markStore m line.Decl d = d
-markStore m (line.Store s) d = set d (s .reg .0) m
-markStore m line.Other d = d
+abbrev pub noteDecl : ℕ
+noteDecl = 1
+
+abbrev pub noteOther : ℕ
+noteOther = 2
+
+-- a line of the region reads it next;
+abbrev pub noteRead : ℕ
+noteRead = 3
+
+-- the next line does, once, and it is not read again before it is stored: the region reads it elsewhere too, or there alone;
+abbrev pub noteSent : ℕ
+noteSent = 4
+
+abbrev pub noteAlone : ℕ
+noteAlone = 7
+
+-- a line stores it next that reads it too, or in another block path; or nothing wants its value
+abbrev pub noteStored : ℕ
+noteStored = 5
+
+abbrev pub noteDead : ℕ
+noteDead = 6
+
+-- ---- tables of these numbers. The one of the second reads is right where a register is read before it is stored; a store whose value the
+-- region reads once, on the next line, puts its own number there, which is above that of the read
+
+-- the register v has a place in the table d
+abbrev pub Known : List ℕ → List ℕ → ℕ → Type 0
+Known own d v = slotOf (length d) own v < length d
 
 -- the table f of the second reads, where n has the first ones, after a read of the register that a name is
-abbrev pub farName : RegName → List ℕ → List ℕ → List ℕ
-farName name.None n f = f
-farName (name.Reg q) n f = set f (q .0) (getD n (q .0) 0)
+abbrev pub farName : List ℕ → RegName → List ℕ → List ℕ → List ℕ
+farName own name.None n f = f
+farName own (name.Reg q) n f = withEntry own (q .0) (entryOf own (q .0) n) f
 
--- the notes d of c lines after a read of a register that the line with the number r reads too, which is in the region above the header with the
--- number h: the note of the line just above that one says no more that its value is read once
-abbrev pub takeBack : ℕ → ℕ → ℕ → List ℕ → List ℕ
-takeBack c h r d = cond (ltb h r && ltb r c) (cond (eqb (getD d (c - r - 1) 0) 7) (set d (c - r - 1) 4) d) d
+-- after a store of register v by the line with the number m and the note x
+abbrev pub aloneIn : List ℕ → ℕ → ℕ → ℕ → List ℕ → List ℕ
+aloneIn own m x v f = cond (eqb x noteAlone) (withEntry own v m f) f
 
--- after a read of the register that a name is, where n has the first reads
-abbrev pub backName : ℕ → ℕ → RegName → List ℕ → List ℕ → List ℕ
-backName c h name.None n d = d
-backName c h (name.Reg q) n d = takeBack c h (getD n (q .0) 0) d
+-- so of the register that a line, as it was read, stores
+abbrev pub aloneStore : List ℕ → ℕ → ℕ → Line → List ℕ → List ℕ
+aloneStore own m x line.Decl f = f
+aloneStore own m x (line.Store s) f = aloneIn own m x (s .reg .0) f
+aloneStore own m x line.Other f = f
+
+-- the notes d of c lines where that of the line with the number f says no more that the region reads its value once
+abbrev pub takeBack : ℕ → ℕ → List ℕ → List ℕ
+takeBack c f d = cond (ltb c f) d (cond (eqb (getD d (c - f) 0) noteAlone) (set d (c - f) noteSent) d)
+
+-- after a read of a register with the numbers r and f in the two tables, where h is the number of the next header
+abbrev pub backBy : ℕ → ℕ → ℕ → ℕ → List ℕ → List ℕ
+backBy c h r f d = cond (ltb h r && ltb r f) (takeBack c f d) d
+
+-- so of the register that a name is
+abbrev pub backName : List ℕ → ℕ → ℕ → RegName → List ℕ → List ℕ → List ℕ → List ℕ
+backName own c h name.None n f d = d
+backName own c h (name.Reg q) n f d = backBy c h (entryOf own (q .0) n) (entryOf own (q .0) f) d
 
 -- the tables of the first reads and of the second ones, and the notes
 abbrev pub Reads : Type 0
 Reads = List ℕ × (List ℕ × List ℕ)
 
 -- after a read of the register that a name is in the line with the number m
-abbrev pub readName : ℕ → ℕ → ℕ → RegName → Reads → Reads
-readName c h m r d = (markName m r (d .0), (farName r (d .0) (d .1 .0), backName c h r (d .0) (d .1 .1)))
+abbrev pub readName : List ℕ → ℕ → ℕ → ℕ → RegName → Reads → Reads
+readName own c h m r d = (markName own m r (d .0), (farName own r (d .0) (d .1 .0), backName own c h r (d .0) (d .1 .0) (d .1 .1)))
 
 -- after the reads of the registers that runs name
-unfoldable pub readRuns : ℕ → ℕ → ℕ → List (List ℕ) → Reads → Reads
-readRuns c h m [] d = d
-readRuns c h m (r ∷ rs) d = readRuns c h m rs (readName c h m (regOf r) d)
+unfoldable pub readRuns : List ℕ → ℕ → ℕ → ℕ → List (List ℕ) → Reads → Reads
+readRuns own c h m [] d = d
+readRuns own c h m (r ∷ rs) d = readRuns own c h m rs (readName own c h m (regOf r) d)
 
 -- ---- the region of a line
 
@@ -135,49 +174,47 @@ EndIs s j m = 0 < m → m ≡ j + upTo (code "\n") (drop j s)
 abbrev pub EndsOf : List ℕ → List ℕ → Type 0
 EndsOf s d = (k j : ℕ) → linesOf (drop j s) ≡ drop k (linesOf s) → EndIs s j (getD d k 0)
 
--- ---- the note of a line: what it is, and what the lines below do with the register that it stores. 0 says nothing
+-- ---- the note of a line
 
 -- the line with k above it, and the one with the number s, are in one block path
 abbrev pub samePath : List ℕ → ℕ → ℕ → Bool
 samePath ps k s = not (ltb (length ps) s) && eqb (getD ps k 0) (getD ps (length ps - s) 0)
 
 -- that of a store above m lines, by the numbers of the first and the second line that read its register, of the first that stores it, and of
--- the first header: 3, 4 and 7 where a line of the region reads it next, 4 and 7 where that is the next line, which reads it once, and it is not
--- read again, 7 where it is not in the region either; 5 where a line stores it next that reads it too, or in another block path; 6 where nothing
--- wants its value
+-- the first header
 abbrev pub noteBy : ℕ → ℕ → ℕ → ℕ → ℕ → Bool → ℕ
 noteBy r f s h m same =
-    cond (ltb h r && ltb s r) (cond (eqb r m && not (ltb s f)) (cond (ltb h f) 4 7) 3)
-    (cond (ltb h r && eqb s r) 5
-    (cond (ltb h s) (cond same 6 5)
-    (cond (eqb r m) 0 6)))
+    cond (ltb h r && ltb s r) (cond (eqb r m && not (ltb s f)) (cond (ltb h f) noteSent noteAlone) noteRead)
+    (cond (ltb h r && eqb s r) noteStored
+    (cond (ltb h s) (cond same noteDead noteStored)
+    (cond (eqb r m) noteNone noteDead)))
 
--- the same by tables of these numbers; ps are the block paths of all lines, and k lines are above
-abbrev pub storeNote : ℕ → List ℕ → ℕ → ℕ → ℕ → List ℕ → List ℕ → List ℕ → ℕ
-storeNote v ps k m h near far stores =
-    cond (ltb v (length near) && (ltb v (length far) && ltb v (length stores)))
-    (noteBy (getD near v 0) (getD far v 0) (getD stores v 0) h m (samePath ps k (getD stores v 0))) 0
+-- the same by tables of these numbers, of one length; ps are the block paths of all lines, and k lines are above
+abbrev pub storeNote : List ℕ → ℕ → List ℕ → ℕ → ℕ → ℕ → List ℕ → List ℕ → List ℕ → ℕ
+storeNote own v ps k m h near far stores =
+    cond (ltb (slotOf (length near) own v) (length near))
+    (noteBy (entryOf own v near) (entryOf own v far) (entryOf own v stores) h m (samePath ps k (entryOf own v stores))) noteNone
 
--- that of a line, as it was read: 1 and 2 say that it is a declaration, or none of the two
-abbrev pub lineNote : Line → List ℕ → ℕ → ℕ → ℕ → List ℕ → List ℕ → List ℕ → ℕ
-lineNote line.Decl ps k m h near far stores = 1
-lineNote (line.Store s) ps k m h near far stores = storeNote (s .reg .0) ps k m h near far stores
-lineNote line.Other ps k m h near far stores = 2
+-- that of a line, as it was read
+abbrev pub lineNote : List ℕ → Line → List ℕ → ℕ → ℕ → ℕ → List ℕ → List ℕ → List ℕ → ℕ
+lineNote own line.Decl ps k m h near far stores = noteDecl
+lineNote own (line.Store s) ps k m h near far stores = storeNote own (s .reg .0) ps k m h near far stores
+lineNote own line.Other ps k m h near far stores = noteOther
 
 -- what a note says of a line is so
 abbrev pub KindIs : List ℕ → ℕ → Type 0
-KindIs l m = (m ≡ 1 → line.Decl ≡ parseOf l) × (m ≡ 2 → line.Other ≡ parseOf l)
+KindIs l m = (m ≡ noteDecl → line.Decl ≡ parseOf l) × (m ≡ noteOther → line.Other ≡ parseOf l)
 
 -- the value of a store is read next in the region
 abbrev pub readNext : ℕ → Bool
-readNext m = eqb m 3 || (eqb m 4 || eqb m 7)
+readNext m = eqb m noteRead || (eqb m noteSent || eqb m noteAlone)
 
 -- what a note says of a store of register v in block path p, above the lines ls with the block paths ps, is so: whether the value is read, and
 -- whether it is dead
 pub record DropIs (v p : ℕ) (ls : List (List ℕ)) (ps : List ℕ) (m : ℕ) : Type 0 where
   pub live : readNext m ≡ true → (liveBelow v ls ≡ true) × (deadBy p (nextIn v ls ps) ≡ false)
-  pub kept : m ≡ 5 → (liveBelow v ls ≡ false) × (deadBy p (nextIn v ls ps) ≡ false)
-  pub dead : m ≡ 6 → (liveBelow v ls ≡ false) × (deadBy p (nextIn v ls ps) ≡ true)
+  pub kept : m ≡ noteStored → (liveBelow v ls ≡ false) × (deadBy p (nextIn v ls ps) ≡ false)
+  pub dead : m ≡ noteDead → (liveBelow v ls ≡ false) × (deadBy p (nextIn v ls ps) ≡ true)
 
 -- the first line reads register v once and does not store it, and it is not read again below
 unfoldable pub sentTo : ℕ → List (List ℕ) → Bool
@@ -186,11 +223,11 @@ sentTo v (e ∷ ls) = not (lineStores v e) && (eqb (lineReads v e) 1 && not (lat
 
 -- the value of a store may go into the next line
 abbrev pub maySend : ℕ → Bool
-maySend m = eqb m 4 || eqb m 7
+maySend m = eqb m noteSent || eqb m noteAlone
 
 -- it does not
 abbrev pub noSend : ℕ → Bool
-noSend m = not (maySend m) && ltb 2 m
+noSend m = not (maySend m) && ltb noteOther m
 
 -- what a note says of a store of register v above the lines ls is so: whether its value may go into the next line
 pub record SendIs (v : ℕ) (ls : List (List ℕ)) (m : ℕ) : Type 0 where
@@ -199,11 +236,11 @@ pub record SendIs (v : ℕ) (ls : List (List ℕ)) (m : ℕ) : Type 0 where
 
 -- a note says at once that a line stays as it is: it is no store, or its value is read next in the region and does not go into the next line
 abbrev pub told : ℕ → Bool
-told m = ltb 0 m && ltb m 4
+told m = ltb noteNone m && ltb m noteSent
 
 -- a note says at once that a line does not go: it is no store, or its value is read next in the region
 abbrev pub settled : ℕ → Bool
-settled m = eqb m 7 || (ltb 0 m && ltb m 5)
+settled m = eqb m noteAlone || (ltb noteNone m && ltb m noteStored)
 
 -- so of the register that a line stores
 abbrev pub DropBy : List ℕ → ℕ → List (List ℕ) → List ℕ → ℕ → Type 0
@@ -227,9 +264,14 @@ firstLine (l ∷ ls) = l
 abbrev pub NotesOf : List (List ℕ) → List ℕ → List ℕ → Type 0
 NotesOf ls ps d = (k : ℕ) → NoteIs (firstLine (drop k ls)) (getD ps k 0) (drop (k + 1) ls) (drop (k + 1) ps) (getD d k 0)
 
--- what a note says of the register that a line stores, in the region run, is so: whether the region reads it once
+-- what a note says of a store of register v in the region run is so: whether the region reads it once
+pub record OneIs (v : ℕ) (run : List (List ℕ)) (m : ℕ) : Type 0 where
+  pub alone : m ≡ noteAlone → readCount v run ≡ 1
+  pub more : m ≡ noteSent → readCount v run ≡ 1 → ⊥
+
+-- so of the register that a line stores
 abbrev pub OneBy : List ℕ → List (List ℕ) → ℕ → Type 0
-OneBy l run m = (s : Store) → parseOf l ≡ line.Store s → m ≡ 7 → readCount (s .reg .0) run ≡ 1
+OneBy l run m = (s : Store) → parseOf l ≡ line.Store s → OneIs (s .reg .0) run m
 
 -- so of all lines by a table of notes
 abbrev pub OneOf : List (List ℕ) → List ℕ → Type 0

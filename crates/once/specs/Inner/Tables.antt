@@ -94,9 +94,19 @@ lineForwards R l run b goes e ls = forwardsBy R l run b goes e ls (parseOf l)
 
 -- ---- a mark for each line, and the acts by the marks
 
--- 1 where a line goes, 2 where it would go into the next, else 0; run is its region
+-- it stays, it goes, or it would go into the next line
+abbrev pub markStays : ℕ
+markStays = 0
+
+abbrev pub markGoes : ℕ
+markGoes = 1
+
+abbrev pub markSends : ℕ
+markSends = 2
+
+-- that of a line whose region is run
 unfoldable pub markOf : Reading → List (List ℕ) → Spot → List Spot → ℕ
-markOf R run d ss = cond (dropped R d ss) 1 (cond (forwards R run (d ∷ ss)) 2 0)
+markOf R run d ss = cond (dropped R d ss) markGoes (cond (forwards R run (d ∷ ss)) markSends markStays)
 
 -- the marks of lines; run is the region of the first
 unfoldable pub marksGo : Reading → List Spot → List (List ℕ) → List ℕ
@@ -111,16 +121,16 @@ onceMarks R ls = marksGo R (spots ls) (region ls)
 
 -- a line goes into the next: it would, and the next would not
 abbrev pub sends : ℕ → ℕ → Bool
-sends m n = eqb m 2 && not (eqb n 2)
+sends m n = eqb m markSends && not (eqb n markSends)
 
 -- what becomes of a line with the mark m, where n is that of the next line, and `given` says whether the line above goes into it
 abbrev pub actBy : ℕ → ℕ → Bool → List ℕ → List ℕ → Act
 actBy m n given above l =
-    cond (eqb m 1) gone
-    (cond (eqb m 2) (cond (eqb n 2) keep (into 1))
+    cond (eqb m markGoes) gone
+    (cond (eqb m markSends) (cond (eqb n markSends) keep (into 1))
     (cond given (become (takenBy above (parseOf above) l)) keep))
 
--- the acts of lines with their marks; a mark that is missing is 0
+-- the acts of lines with their marks; where a mark is missing, the line stays
 unfoldable pub actsBy : List (List ℕ) → List ℕ → Bool → List ℕ → List Act
 unfolding top
 actsBy [] ms given above = []
@@ -146,11 +156,11 @@ firstTakes R l run b goes (e ∷ ls) = lineForwards R l run b goes e ls
 
 -- the mark of a line that goes, or would go into the next
 abbrev pub markBy : Bool → Bool → ℕ
-markBy goes sent = cond goes 1 (cond sent 2 0)
+markBy goes sent = cond goes markGoes (cond sent markSends markStays)
 
 -- the mark of the first line, whose region is run; ps are the block paths of the lines, and fs say whether each stands in a loop
 unfoldable pub firstMark : Reading → List (List ℕ) → List ℕ → List ℕ → List (List ℕ) → ℕ
-firstMark R [] ps fs run = 0
+firstMark R [] ps fs run = markStays
 firstMark R (l ∷ ls) ps fs run =
     markBy (firstDrops R (l ∷ ls) ps (isSet (top fs))) (firstTakes R l run (isSet (top fs)) (firstDrops R ls (drop 1 ps) (isSet (top (drop 1 fs)))) ls)
 

@@ -1,25 +1,19 @@
+-- `once::noted::note_line` meets its contract. Assumes nothing.
 use borrow.Author.Needs.{needs}
-use Prim.Native.Nat.{ℕ}
 use mathlib.Core.Path.{ap, _∙_}
-use mathlib.Core.List.{List}
-use Rattle.words.specs.Runs.{runs}
-use Rattle.once.specs.Inner.Noted.{readRuns}
+use lib.ListN.{length}
+use Rattle.once.proofs.NoteFills.{alone-length, line-reads}
 use Rattle.once.proofs.noted.note_line.Statement.{statement}
 use Rattle.once.proofs.noted.note_line.Tie as tie
-use Rattle.once.proofs.noted.note_line.Reads as reads
-use Rattle.once.proofs.noted.note_line.Lts as lts
-use Rattle.once.proofs.noted.note_runs.Reads as note-runs-reads
-use Rattle.once.proofs.noted.note_store.Reads as note-store-reads
-use Rattle.parse.proofs.text_of.Reads as text-of-reads
 
 note-store-requires : tie.Need-note-store-requires
-note-store-requires c κs = search needs
+note-store-requires c κs = c .before .before .before .before .before .before .before .before .pre .1
 
 text-of-requires : tie.Need-text-of-requires
 text-of-requires c κs = search needs
 
 note-runs-requires : tie.Need-note-runs-requires
-note-runs-requires c κs = search needs
+note-runs-requires c κs = ap length (c .before .before .before .before .before .before .before .before .note-store .ensures .0) ∙ alone-length (c .before .before .before .before .before .before .before .before .before .before .before .before .before .before .before .before .before .args .own .now) (c .before .before .before .before .before .before .before .before .before .before .before .before .before .before .before .before .before .args .m) (c .before .before .before .before .before .before .before .before .before .before .before .before .before .before .before .before .before .args .x) (c .before .before .before .before .before .before .before .before .before .before .before .before .before .before .before .before .before .args .p) (c .before .before .before .before .before .before .before .before .before .before .before .before .before .before .before .before .before .args .far .now) ∙ c .before .before .before .before .before .before .before .before .before .before .before .before .before .before .before .before .before .pre .0
 
 same-length : tie.Need-same-length
 same-length c = search needs
@@ -34,9 +28,7 @@ same-length-4 : tie.Need-same-length-4
 same-length-4 c = search needs
 
 returns : tie.Need-returns
-returns c =
-    let a = c .before .before .before .before .before .before .before .before .before .before .before .before .before .before .before .before .before .before .before .before .args in
-    (c .before .before .before .before .before .before .note-runs .ensures ∙ ap (λ (x : List ℕ). readRuns (a .n) (a .h) (a .m) (runs x) (a .near .now, (a .far .now, a .notes .now))) (c .before .before .before .before .before .before .before .before .before .before .text-of .ensures), c .before .before .before .before .before .before .before .before .before .before .before .before .before .note-store .ensures)
+returns c = (line-reads (c .before .before .before .before .before .before .before .before .before .before .before .before .before .before .before .before .before .before .before .before .before .before .before .before .args .own .now) (c .before .before .before .before .before .before .before .before .before .before .before .before .before .before .before .before .before .before .before .before .before .before .before .before .args .line .now) _ (c .before .before .before .before .before .before .before .before .before .before .before .before .before .before .before .before .before .before .before .before .before .before .before .before .args .near .now) (c .before .before .before .before .before .before .before .before .before .before .before .before .before .before .before .before .before .before .before .before .before .before .before .before .args .far .now) _ (c .before .before .before .before .before .before .before .before .before .before .before .before .before .before .before .before .before .before .before .before .before .before .before .before .args .notes .now) (c .before .before .before .before .before .before .before .before .before .before .before .before .before .before .before .before .before .before .before .before .before .before .before .before .args .n) (c .before .before .before .before .before .before .before .before .before .before .before .before .before .before .before .before .before .before .before .before .before .before .before .before .args .h) (c .before .before .before .before .before .before .before .before .before .before .before .before .before .before .before .before .before .before .before .before .before .before .before .before .args .m) (c .before .before .before .before .before .before .before .before .before .before .before .before .before .before .before .before .before .before .before .before .before .before .before .before .args .x) (c .before .before .before .before .before .before .before .before .before .before .before .before .before .before .before .before .before .before .before .before .before .before .before .before .args .p) _ (c .before .before .before .before .before .before .before .before .before .before .text-of .ensures) (c .before .before .before .before .before .before .before .before .before .before .before .before .before .before .before .note-store .ensures .0) (c .before .before .before .before .before .before .note-runs .ensures), c .before .before .before .before .before .before .before .before .before .before .before .before .before .before .before .note-store .ensures .1)
 
 pub note-line-spec : {M : Type 1} → statement M
 note-line-spec =

@@ -1,136 +1,70 @@
+-- `once::noted::note_lines` meets its contract. Assumes nothing.
 use borrow.Author.Needs.{needs}
-use Prim.Native.Nat.{ℕ, _+_, _-_}
-use mathlib.Core.Path.{_≡_, refl, sym, ap, _∙_}
-use mathlib.Core.List.{List}
-use borrow.Author.Tests.{not-false}
-use native.Mathlib.Omega.{arith}
-use lib.ListN.{length, length-set}
-use Rattle.lines.specs.Lf.{part, linesOf}
-use Rattle.once.proofs.NoteFills.{NoteInv, once-none, notes-none, note-start, note-lf, note-row, note-count, note-on, ones-of, note-lengths}
+use Prim.Native.Nat.{ℕ}
+use mathlib.Core.Path.{ap, _∙_}
+use lib.ListN.{length, replicate}
+use Rattle.decls.proofs.SeenLaws.{wiped-most}
+use Rattle.once.proofs.NoteFills.{wiped-lengths, wiped-bytes}
 use Rattle.once.proofs.noted.note_lines.Statement.{statement}
 use Rattle.once.proofs.noted.note_lines.Tie as tie
 
-abbrev Inv-loop : tie.InvT-loop
-Inv-loop text paths near₀ far₀ stores₀ notes₀ ends n i₀ m₀ h₀ near far stores notes i m h =
-    NoteInv text paths near far stores notes i m h × ((length near ≡ length near₀) × ((length far ≡ length far₀) × ((length stores ≡ length stores₀) × (length notes ≡ length notes₀))))
+wipe-numbers-requires : tie.Need-wipe-numbers-requires
+wipe-numbers-requires c κs = search needs
 
-abbrev μ-loop : tie.MeasureT-loop
-μ-loop text paths near₀ far₀ stores₀ notes₀ ends n i₀ m₀ h₀ near far stores notes i m h = i
+wipe-numbers-requires-2 : tie.Need-wipe-numbers-requires-2
+wipe-numbers-requires-2 c κs = search needs
 
-ends-lf-requires : tie.Need-ends-lf-requires Inv-loop μ-loop
-ends-lf-requires c κs = search needs
+wipe-numbers-requires-3 : tie.Need-wipe-numbers-requires-3
+wipe-numbers-requires-3 c κs = search needs
 
-returns : tie.Need-returns Inv-loop μ-loop
+wipe-requires : tie.Need-wipe-requires
+wipe-requires c κs = search needs
+
+note-up-requires : tie.Need-note-up-requires
+note-up-requires c κs =
+    let a = c .before .before .before .before .before .before .before .before .before .before .before .before .before .before .before .before .before .before .before .before .before .before .before .before .before .before .before .before .args in
+    (c .before .before .before .before .before .before .before .before .before .before .before .before .before .before .before .before .before .before .before .before .before .before .before .before .before .before .before .before .pre .0, (wiped-lengths (a .near .now) (a .far .now) (a .stores .now) _ _ _ (c .before .before .before .before .before .before .before .before .before .before .before .before .before .before .before .before .before .before .wipe-numbers .ensures) (c .before .before .before .before .before .before .before .before .before .before .before .before .before .before .wipe-numbers2 .ensures) (c .before .before .before .before .before .before .before .before .before .before .wipe-numbers3 .ensures) (c .before .before .before .before .before .before .before .before .before .before .before .before .before .before .before .before .before .before .before .before .before .before .before .before .before .before .before .before .pre .1 .0), (wiped-most (length (a .near .now)) _ (c .before .before .before .before .before .before .before .before .before .before .before .before .before .before .before .before .before .before .wipe-numbers .ensures), (wiped-most (length (a .far .now)) _ (c .before .before .before .before .before .before .before .before .before .before .before .before .before .before .wipe-numbers2 .ensures), (wiped-most (length (a .stores .now)) _ (c .before .before .before .before .before .before .before .before .before .before .wipe-numbers3 .ensures), (wiped-most (length (a .notes .now)) _ (wiped-bytes (a .notes .now) _ _ (c .before .before .before .before .before .before .wipe .ensures)), c .before .before .before .before .before .before .before .before .before .before .before .before .before .before .before .before .before .before .before .before .before .before .before .before .before .before .before .before .pre .1 .1))))))
+
+wipe-numbers-requires-4 : tie.Need-wipe-numbers-requires-4
+wipe-numbers-requires-4 c κs = search needs
+
+wipe-numbers-requires-5 : tie.Need-wipe-numbers-requires-5
+wipe-numbers-requires-5 c κs = search needs
+
+wipe-numbers-requires-6 : tie.Need-wipe-numbers-requires-6
+wipe-numbers-requires-6 c κs = search needs
+
+same-length : tie.Need-same-length
+same-length c = search needs
+
+same-length-2 : tie.Need-same-length-2
+same-length-2 c = search needs
+
+same-length-3 : tie.Need-same-length-3
+same-length-3 c = search needs
+
+same-length-4 : tie.Need-same-length-4
+same-length-4 c = search needs
+
+returns : tie.Need-returns
 returns c =
-    let a = c .before .before .before .before .before .before .before .before .before .args in
-    let p = c .before .before .before .before .before .before .before .before .before .pre in
-    (once-none (linesOf (a .text .now)) (a .notes .now) (p .1 .1 .1 .1 .0), notes-none (linesOf (a .text .now)) (a .paths .now) (a .notes .now) (p .1 .1 .1 .1 .0))
-
-returns-2 : tie.Need-returns-2 Inv-loop μ-loop
-returns-2 c =
-    let a = c .before .before .before .before .before .before .before .before .before .before .args in
-    let p = c .before .before .before .before .before .before .before .before .before .before .pre in
-    (once-none (linesOf (a .text .now)) (a .notes .now) (p .1 .1 .1 .1 .0), notes-none (linesOf (a .text .now)) (a .paths .now) (a .notes .now) (p .1 .1 .1 .1 .0))
-
-loop-holds : tie.Need-loop-holds Inv-loop μ-loop
-loop-holds c =
-    let a = c .before .before .before .before .before .before .before .before .before .before .args in
-    let z = c .before .before .before .before .before .before .before .before .before .before .pre .1 in
-    (note-start (a .text .now) (a .paths .now) (a .near .now) (a .far .now) (a .stores .now) (a .notes .now) (sym (c .before .before .ends-lf .ensures) ∙ not-false _ (c .before .if1 .left)) (z .0) (z .1 .0) (z .1 .1 .0) (z .1 .1 .1 .0), (refl, (refl, (refl, refl))))
-
-sub-e : tie.Need-sub-e Inv-loop μ-loop
-sub-e c = omega arith
-
-row-of-requires : tie.Need-row-of-requires Inv-loop μ-loop
-row-of-requires c κs = note-row (c .before .loop .inv .0) (c .loop-test .taken) (c .before .before .before .before .before .before .before .before .before .before .before .before .pre .0)
-
-start-at-requires : tie.Need-start-at-requires Inv-loop μ-loop
-start-at-requires c κs =
-    let v = c .before .before .loop .inv .0 in
-    let p = c .before .before .before .before .before .before .before .before .before .before .before .before .before .pre in
-    (note-lf v (c .before .loop-test .taken), (note-count v (c .before .loop-test .taken) (p .0) (c .row-of .result) (c .row-of .ensures), p .1 .1 .1 .1 .1))
-
-sub-line : tie.Need-sub-line Inv-loop μ-loop
-sub-line c = omega (arith, c .start-at .ensures .0)
-
-part-line-start : tie.Need-part-line-start Inv-loop μ-loop
-part-line-start c = omega (arith, c .start-at .ensures .0)
-
-part-line-end : tie.Need-part-line-end Inv-loop μ-loop
-part-line-end c = omega (arith, note-lf (c .before .before .before .loop .inv .0) (c .before .before .loop-test .taken) .0)
-
-parse-requires : tie.Need-parse-requires Inv-loop μ-loop
-parse-requires c κs = search needs
-
-line-note-requires : tie.Need-line-note-requires Inv-loop μ-loop
-line-note-requires c κs = search needs
-
-put-note-requires : tie.Need-put-note-requires Inv-loop μ-loop
-put-note-requires c κs = search needs
-
-add-m : tie.Need-add-m Inv-loop μ-loop
-add-m c = omega (arith, c .before .before .before .before .before .before .before .before .before .before .before .before .before .before .before .before .before .before .before .before .before .before .before .before .good, c .before .before .before .before .before .before .before .before .before .before .before .before .before .before .if2 .left, note-row (c .before .before .before .before .before .before .before .before .before .before .before .before .before .loop .inv .0) (c .before .before .before .before .before .before .before .before .before .before .before .before .loop-test .taken) (c .before .before .before .before .before .before .before .before .before .before .before .before .before .before .before .before .before .before .before .before .before .before .before .before .pre .0))
-
-note-line-requires : tie.Need-note-line-requires Inv-loop μ-loop
-note-line-requires c κs = search needs
-
-head-at-requires : tie.Need-head-at-requires Inv-loop μ-loop
-head-at-requires c κs = search needs
-
-loop-less : tie.Need-loop-less Inv-loop μ-loop
-loop-less c = let l = c .before .before .before .before .before .before .before .before .before .before .before .before .before .before .before .before .before .before .before .before .before .before .before .before .before .before .before .loop in omega (arith, c .before .before .before .before .before .before .before .before .before .before .before .before .before .before .before .before .before .before .before .before .before .before .before .before .start-at .ensures .0, c .before .before .before .before .before .before .before .before .before .before .before .before .before .before .before .before .before .before .before .before .before .before .before .before .before .before .loop-test .taken)
-
-loop-again : tie.Need-loop-again Inv-loop μ-loop
-loop-again c =
-    let a = c .before .before .before .before .before .before .before .before .before .before .before .before .before .before .before .before .before .before .before .before .before .before .before .before .before .before .before .before .before .before .before .before .before .before .before .before .before .before .args in
-    let l = c .before .before .before .before .before .before .before .before .before .before .before .before .before .before .before .before .before .before .before .before .before .before .before .before .before .before .before .loop in
-    let r = c .before .before .before .before .before .before .before .before .before .note-line .ensures in
-    let w : List ℕ = part (c .before .before .before .before .before .before .before .before .before .before .before .before .before .before .before .before .before .before .before .before .before .before .before .before .start-at .result) (l .i - 1) (a .text .now) in
-    let z = l .inv .1 in
-    let y = note-lengths (length (a .paths .now)) (l .h) (l .m + 1) (l .near) (l .far) (l .stores) _ (c .before .before .before .before .before .before .before .before .before .before .before .before .before .before .before .before .before .before .before .before .before .before .parse .result) w (r .0) (r .1) in
-    (note-on (l .inv .0) (c .before .before .before .before .before .before .before .before .before .before .before .before .before .before .before .before .before .before .before .before .before .before .before .before .before .before .loop-test .taken) (c .before .before .before .before .before .before .before .before .before .before .before .before .before .before .before .before .before .before .before .before .before .before .before .before .start-at .result) (c .before .before .before .before .before .before .before .before .before .before .before .before .before .before .before .before .before .before .before .before .before .before .before .before .start-at .ensures) (c .before .before .before .before .before .before .before .before .before .before .before .before .before .before .before .before .before .before .before .before .before .before .before .before .before .before .before .before .before .before .before .before .before .before .before .before .before .before .pre .0) w (c .before .before .before .before .before .before .before .before .before .before .before .before .before .before .before .before .before .before .before .before .before .before .parse .result) (c .before .before .before .before .before .before .before .before .before .before .before .before .before .before .before .before .before .before .before .before .before .before .before .before .before .row-of .result) (c .before .before .before .before .before .before .before .before .before .before .before .before .before .before .before .before .before .before .line-note .result) _ _ _ _ _ (c .head-at .result) refl (c .before .before .before .before .before .before .before .before .before .before .before .before .before .before .before .before .before .before .before .before .before .before .parse .ensures) (c .before .before .before .before .before .before .before .before .before .before .before .before .before .before .before .before .before .before .before .before .before .before .before .before .before .row-of .ensures) (c .before .before .before .before .before .before .before .before .before .before .before .before .before .before .before .before .before .before .line-note .ensures) (c .before .before .before .before .before .before .before .before .before .before .before .before .before .before .before .before .put-note .ensures) (r .0) (r .1) (c .head-at .ensures), (y .0 ∙ z .0, (y .1 .0 ∙ z .1 .0, (y .1 .1 .0 ∙ z .1 .1 .0, y .1 .1 .1 ∙ ap length (c .before .before .before .before .before .before .before .before .before .before .before .before .before .before .before .before .put-note .ensures) ∙ length-set (l .notes) _ _ ∙ z .1 .1 .1))))
-
-same-length : tie.Need-same-length Inv-loop μ-loop
-same-length c = c .before .loop .inv .1 .0
-
-same-length-2 : tie.Need-same-length-2 Inv-loop μ-loop
-same-length-2 c = c .before .loop .inv .1 .1 .0
-
-same-length-3 : tie.Need-same-length-3 Inv-loop μ-loop
-same-length-3 c = c .before .loop .inv .1 .1 .1 .0
-
-same-length-4 : tie.Need-same-length-4 Inv-loop μ-loop
-same-length-4 c = c .before .loop .inv .1 .1 .1 .1
-
-returns-3 : tie.Need-returns-3 Inv-loop μ-loop
-returns-3 c = let v = c .before .loop .inv .0 in (ones-of v (c .loop-test .left), v .noted)
+    let k = c .before .before .before .before .before .before .before .before .before .before .before .before .before .before .before .before .before .before .before .before .note-up .kept in
+    (c .before .before .before .before .before .before .before .before .before .before .before .before .before .before .before .before .before .before .before .before .note-up .ensures .0, (c .before .before .before .before .before .before .before .before .before .before .before .before .before .before .before .before .before .before .before .before .note-up .ensures .1, (c .before .before .before .before .before .before .before .before .before .before .wipe-numbers4 .ensures ∙ ap (λ (n : ℕ). replicate n 0) (k .1 .1 .1 .0 ∙ c .before .before .before .before .before .before .before .before .before .before .before .before .before .before .before .before .before .before .before .before .before .before .before .before .before .before .before .before .before .before .before .before .before .before .before .before .before .before .before .wipe-numbers .kept .0), (c .before .before .before .before .before .before .wipe-numbers5 .ensures ∙ ap (λ (n : ℕ). replicate n 0) (k .1 .1 .1 .1 .0 ∙ c .before .before .before .before .before .before .before .before .before .before .before .before .before .before .before .before .before .before .before .before .before .before .before .before .before .before .before .before .before .before .before .before .before .before .before .wipe-numbers2 .kept .0), c .before .before .wipe-numbers6 .ensures ∙ ap (λ (n : ℕ). replicate n 0) (k .1 .1 .1 .1 .1 .0 ∙ c .before .before .before .before .before .before .before .before .before .before .before .before .before .before .before .before .before .before .before .before .before .before .before .before .before .before .before .before .before .before .before .wipe-numbers3 .kept .0)))))
 
 pub note-lines-spec : {M : Type 1} → statement M
 note-lines-spec =
     tie.close
     (tie.spec
-    Inv-loop
-    μ-loop
-    ends-lf-requires
-    returns
-    returns-2
-    loop-holds
-    sub-e
-    row-of-requires
-    start-at-requires
-    sub-line
-    part-line-start
-    part-line-end
-    parse-requires
-    line-note-requires
-    put-note-requires
-    add-m
-    note-line-requires
-    head-at-requires
-    loop-less
-    loop-again
+    wipe-numbers-requires
+    wipe-numbers-requires-2
+    wipe-numbers-requires-3
+    wipe-requires
+    note-up-requires
+    wipe-numbers-requires-4
+    wipe-numbers-requires-5
+    wipe-numbers-requires-6
     same-length
     same-length-2
     same-length-3
     same-length-4
-    returns-3)
+    returns)

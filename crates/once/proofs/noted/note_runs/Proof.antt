@@ -1,29 +1,25 @@
+-- `once::noted::note_runs` meets its contract. Assumes nothing.
 use borrow.Author.Needs.{needs}
 use Prim.Native.Nat.{_-_}
-use mathlib.Core.Path.{refl}
+use mathlib.Core.Path.{refl, sym, _∙_}
 use native.Mathlib.Omega.{arith}
 use lib.ListN.{length}
 use Rattle.words.proofs.RunLaws.{run-inside}
 use Rattle.once.proofs.NoteFills.{ReadsInv, reads-start, reads-less, reads-on, reads-end}
 use Rattle.once.proofs.noted.note_runs.Statement.{statement}
 use Rattle.once.proofs.noted.note_runs.Tie as tie
-use Rattle.once.proofs.noted.note_runs.Reads as reads
-use Rattle.once.proofs.noted.note_runs.Lts as lts
-use Rattle.once.proofs.noted.note_name.Reads as note-name-reads
-use Rattle.words.proofs.reg_start.Reads as reg-start-reads
-use Rattle.words.proofs.run_end.Reads as run-end-reads
 
 abbrev Inv-loop : tie.InvT-loop
-Inv-loop s m h n near₀ far₀ notes₀ i₀ near far notes i = ReadsInv n h m s (near₀, (far₀, notes₀)) (near, (far, notes)) i
+Inv-loop s own m h n near₀ far₀ notes₀ i₀ near far notes i = ReadsInv own n h m s (near₀, (far₀, notes₀)) (near, (far, notes)) i
 
 abbrev μ-loop : tie.MeasureT-loop
-μ-loop s m h n near₀ far₀ notes₀ i₀ near far notes i = length s - i
+μ-loop s own m h n near₀ far₀ notes₀ i₀ near far notes i = length s - i
 
 reg-start-requires : tie.Need-reg-start-requires Inv-loop μ-loop
 reg-start-requires c κs = search needs
 
 loop-holds : tie.Need-loop-holds Inv-loop μ-loop
-loop-holds c = let a = c .before .before .before .before .before .args in reads-start (a .n) (a .h) (a .m) (a .s .now) (a .near .now, (a .far .now, a .notes .now)) _ (c .reg-start .ensures)
+loop-holds c = reads-start (c .before .before .before .before .before .before .args .own .now) (c .before .before .before .before .before .before .args .n) (c .before .before .before .before .before .before .args .h) (c .before .before .before .before .before .before .args .m) (c .before .before .before .before .before .before .args .s .now) (c .before .before .before .before .before .before .args .near .now, (c .before .before .before .before .before .before .args .far .now, c .before .before .before .before .before .before .args .notes .now)) _ (c .reg-start .ensures)
 
 run-end-requires : tie.Need-run-end-requires Inv-loop μ-loop
 run-end-requires c κs = search needs
@@ -35,24 +31,21 @@ part-note-name-start : tie.Need-part-note-name-start Inv-loop μ-loop
 part-note-name-start c = omega (arith, c .run-end .ensures)
 
 part-note-name-end : tie.Need-part-note-name-end Inv-loop μ-loop
-part-note-name-end c = omega (arith, c .run-end .ensures, run-inside (c .before .before .before .before .before .before .before .before .args .s .now) (c .before .before .loop .i) (omega (arith, c .before .loop-test .taken)))
+part-note-name-end c = omega (arith, c .run-end .ensures, run-inside (c .before .before .before .before .before .before .before .before .before .args .s .now) (c .before .before .loop .i) (omega (arith, c .before .loop-test .taken)))
 
 note-name-requires : tie.Need-note-name-requires Inv-loop μ-loop
-note-name-requires c κs = search needs
+note-name-requires c κs = c .before .before .before .before .before .before .loop .inv .wide ∙ c .before .before .before .before .before .before .before .before .before .before .before .before .before .pre ∙ sym (c .before .before .before .before .before .before .loop .inv .long)
 
 reg-start-requires-2 : tie.Need-reg-start-requires-2 Inv-loop μ-loop
 reg-start-requires-2 c κs = search needs
 
 loop-less : tie.Need-loop-less Inv-loop μ-loop
-loop-less c =
-    let a = c .before .before .before .before .before .before .before .before .before .before .before .before .before .before .before .before .before .before .before .before .args in
-    omega (arith, c .before .before .before .before .before .before .before .before .before .before .before .before .before .loop-test .taken, reads-less (a .n) (a .h) (a .m) (c .before .before .before .before .before .before .before .before .before .before .before .before .before .before .loop .inv) (c .before .before .before .before .before .before .before .before .before .before .before .before .before .loop-test .taken) _ (c .before .before .before .before .before .before .before .before .before .before .before .before .run-end .ensures) _ (c .reg-start2 .ensures))
+loop-less c = omega (arith, c .before .before .before .before .before .before .before .before .before .before .before .before .before .loop-test .taken, reads-less (c .before .before .before .before .before .before .before .before .before .before .before .before .before .before .before .before .before .before .before .before .before .args .own .now) (c .before .before .before .before .before .before .before .before .before .before .before .before .before .before .before .before .before .before .before .before .before .args .n) (c .before .before .before .before .before .before .before .before .before .before .before .before .before .before .before .before .before .before .before .before .before .args .h) (c .before .before .before .before .before .before .before .before .before .before .before .before .before .before .before .before .before .before .before .before .before .args .m) (c .before .before .before .before .before .before .before .before .before .before .before .before .before .before .loop .inv) (c .before .before .before .before .before .before .before .before .before .before .before .before .before .loop-test .taken) _ (c .before .before .before .before .before .before .before .before .before .before .before .before .run-end .ensures) _ (c .reg-start2 .ensures))
 
 loop-again : tie.Need-loop-again Inv-loop μ-loop
 loop-again c =
-    let a = c .before .before .before .before .before .before .before .before .before .before .before .before .before .before .before .before .before .before .before .before .args in
     let e = c .before .before .before .before .before .before .before .note-name .ensures in
-    reads-on (a .n) (a .h) (a .m) (c .before .before .before .before .before .before .before .before .before .before .before .before .before .before .loop .inv) (c .before .before .before .before .before .before .before .before .before .before .before .before .before .loop-test .taken) _ (c .before .before .before .before .before .before .before .before .before .before .before .before .run-end .ensures) _ (c .reg-start2 .ensures) _ refl _ (rw (e .0, e .1 .0, e .1 .1))
+    reads-on (c .before .before .before .before .before .before .before .before .before .before .before .before .before .before .before .before .before .before .before .before .before .args .own .now) (c .before .before .before .before .before .before .before .before .before .before .before .before .before .before .before .before .before .before .before .before .before .args .n) (c .before .before .before .before .before .before .before .before .before .before .before .before .before .before .before .before .before .before .before .before .before .args .h) (c .before .before .before .before .before .before .before .before .before .before .before .before .before .before .before .before .before .before .before .before .before .args .m) (c .before .before .before .before .before .before .before .before .before .before .before .before .before .before .loop .inv) (c .before .before .before .before .before .before .before .before .before .before .before .before .before .loop-test .taken) _ (c .before .before .before .before .before .before .before .before .before .before .before .before .run-end .ensures) _ (c .reg-start2 .ensures) _ refl _ (rw (e .0, e .1 .0, e .1 .1))
 
 same-length : tie.Need-same-length Inv-loop μ-loop
 same-length c = c .before .loop .inv .long
@@ -64,7 +57,7 @@ same-length-3 : tie.Need-same-length-3 Inv-loop μ-loop
 same-length-3 c = c .before .loop .inv .tall
 
 returns : tie.Need-returns Inv-loop μ-loop
-returns c = let a = c .before .before .before .before .before .before .before .args in reads-end (a .n) (a .h) (a .m) (c .before .loop .inv) (c .loop-test .left)
+returns c = reads-end (c .before .before .before .before .before .before .before .before .args .own .now) (c .before .before .before .before .before .before .before .before .args .n) (c .before .before .before .before .before .before .before .before .args .h) (c .before .before .before .before .before .before .before .before .args .m) (c .before .loop .inv) (c .loop-test .left)
 
 pub note-runs-spec : {M : Type 1} → statement M
 note-runs-spec =
