@@ -130,10 +130,10 @@ room-length {s} r = omega (arith, room-lines r, ap length (lines-text s), length
 pub table : (n : ℕ) → n ≤ length {A = ℕ} (replicate n 0)
 table n = omega (arith, length-replicate {A = ℕ} n 0)
 
-pub once-room : {s : List ℕ} {loops marks paths up scratch mid out : ℕ} → Bounded s → scratch ≡ byteSize → mid ≡ byteSize → up ≡ blockSize → out ≡ byteSize → 1024 ≤ loops → 1024 ≤ marks → 1024 ≤ paths →
+pub once-room : {s : List ℕ} {loops marks paths up scratch mid out near far stores : ℕ} → Bounded s → scratch ≡ byteSize → mid ≡ byteSize → up ≡ blockSize → out ≡ byteSize → 1024 ≤ loops → 1024 ≤ marks → 1024 ≤ paths → (far ≡ near) × (far ≡ stores) →
     (length (linesOf s) ≤ loops) × ((length (linesOf s) ≤ marks) × ((length (linesOf s) ≤ paths) × ((length (pathParents (linesOf s)) ≤ up) × ((up < 2 ^ 32)
-    × ((length s ≤ scratch) × ((length (unlines (apply (onceActs plain (linesOf s)) (linesOf s))) ≤ mid) × (length (unlines (optimizeOnce plain (linesOf s))) ≤ out)))))))
-once-room {s} r qs qm qu qo ql qk qp = (
+    × ((length s ≤ scratch) × ((length (unlines (apply (onceActs plain (linesOf s)) (linesOf s))) ≤ mid) × ((length (unlines (optimizeOnce plain (linesOf s))) ≤ out) × ((far ≡ near) × (far ≡ stores)))))))))
+once-room {s} r qs qm qu qo ql qk qp w = (
   omega (arith, r .lines),
   (
     omega (arith, r .lines),
@@ -147,7 +147,7 @@ once-room {s} r qs qm qu qo ql qk qp = (
             omega (arith, room-length r),
             (
               omega (arith, room-fits (once-acts plain) r),
-              omega (arith, room-fits (tame-once plain) r),
+              (omega (arith, room-fits (tame-once plain) r), w),
             ),
           ),
         ),

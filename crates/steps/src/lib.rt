@@ -19,24 +19,41 @@ ghost use Rattle.steps.specs.Inner.Left.{leftC, leftD, leftE, leftU, Lef
 // So many numbers have a place in a table of registers or phis.
 const PLACES: usize = 1024;
 
-// Runs optimize_once, with its tables for 1,024 lines.
+// So many lines a text has at most.
+const LINES: usize = 1024;
+
+// Runs optimize_once, with its tables over lines and registers.
 fn once_step(src: &[u8], scratch: &mut [u8], mid: &mut [u8], u: &mut [u32], dst: &mut [u8]) -> usize
     requires { ⌜ Bounded (now src) × ((length (now scratch) ≡ byteSize) × ((length (now mid) ≡ byteSize) × ((length (now u) ≡ blockSize) × (length (now dst) ≡ byteSize)))) ⌝ }
     ensures { λ r. ⌜ Wrote (now (dst .entry)) 0 (unlines (optimizeOnce plain (linesOf (now (src .entry))))) (now (dst .exit)) r ⌝ }
     ensures memory { λ _. ⌜ (now (scratch .exit) ≡ leftC 2 (now (src .entry)) (now (scratch .entry))) × ((now (mid .exit) ≡ leftD 2 (now (src .entry)) (now (mid .entry)))
         × (now (u .exit) ≡ leftU 2 (now (src .entry)) (now (u .entry)))) ⌝ }
 {
-    let mut loops = [0u8; 1024];
-    let mut marks = [0u8; 1024];
-    let mut paths = [0usize; 1024];
+    let own = [0usize; 1];
+    let mut loops = [0u8; LINES];
+    let mut marks = [0u8; LINES];
+    let mut paths = [0usize; LINES];
+    let mut near = [0u32; PLACES];
+    let mut far = [0u32; PLACES];
+    let mut stores = [0u32; PLACES];
+    let mut notes = [0u8; LINES];
+    let mut ends = [0usize; LINES];
+    let mut seen = [0usize; PLACES];
     once::optimize_once(
         src,
+        &own[0..0],
         scratch,
         mid,
         &mut loops,
         &mut marks,
         &mut paths,
         u,
+        &mut near,
+        &mut far,
+        &mut stores,
+        &mut notes,
+        &mut ends,
+        &mut seen,
         dst,
     )
 }
