@@ -2,11 +2,11 @@
 use Prim.Native.Nat.{ℕ, zero, suc, _+_, _-_, _%_, _≤_, _<_}
 use mathlib.Core.Path.{_≡_, refl, sym, ap, _∙_}
 use mathlib.Core.Bool.{Bool, true, false, cond, _||_}
-use mathlib.Core.List.{List}
+use mathlib.Core.List.{List, _∷_, _++_}
 use native.Mathlib.Omega.{arith}
 use borrow.Author.Tests.{lt-ltb, le-ltb, ltb-true, ltb-false, eq-eqb, ne-eqb, eqb-true}
 use lib.Dec.{eqb, ltb}
-use lib.ListN.{length, getD, set, length-set}
+use lib.ListN.{length, getD, set, take, drop, replicate, length-set, length-replicate}
 use lib.Seq.{getD-set-same, getD-set-other}
 use Rattle.slots.specs.Inner.Slots.{spotGo, spot, seek, slotOf, entryOf, withEntry}
 
@@ -125,3 +125,25 @@ module _ (own : List ℕ) (d : List ℕ) (v x : ℕ) where
 -- a number that has a place in a table has one in every table of the same length
 pub slot-kept : (own d d′ : List ℕ) (v : ℕ) → length d′ ≡ length d → slotOf (length d) own v < length d → slotOf (length d′) own v < length d′
 slot-kept own d d′ v e h = rw e h
+
+-- the number v has a place in the table d
+abbrev pub Placed : List ℕ → ℕ → List ℕ → Type 0
+Placed own v d = slotOf (length d) own v < length d
+
+-- ---- tables of zeros
+
+pub zeros-long : {d : List ℕ} (n : ℕ) → d ≡ replicate n 0 → length d ≡ n
+zeros-long {d} n e = ap length e ∙ length-replicate {A = ℕ} n 0
+
+-- the front of one
+pub zeros-take : (k n : ℕ) {d : List ℕ} → d ≡ replicate n 0 → k ≤ n → take k d ≡ replicate k 0
+zeros-take k n e h = ap (take k) e ∙ go k n h
+  where
+    go : (k n : ℕ) → k ≤ n → take {A = ℕ} k (replicate n 0) ≡ replicate k 0
+    go zero n h = refl
+    go (suc k) zero h = absurd (omega arith)
+    go (suc k) (suc n) h = ap (λ (l : List ℕ). 0 ∷ l) (go k n (omega arith))
+
+-- what was lent of it, in the place of its front, leaves its length
+pub zeros-again : (k n : ℕ) (w : List ℕ) {d u : List ℕ} → d ≡ replicate n 0 → length (w ++ drop k d) ≡ length d → u ≡ replicate (length (w ++ drop k d)) 0 → u ≡ replicate n 0
+zeros-again k n w e f g = g ∙ ap (λ (m : ℕ). replicate m 0) (f ∙ zeros-long n e)

@@ -2,7 +2,7 @@
 pub mod gather;
 
 ghost use mathlib.Core.Path.{_≡_};
-ghost use Prim.Native.Nat.{_-_};
+ghost use Prim.Native.Nat.{_-_, min};
 ghost use lib.ListN.{length, replicate};
 ghost use Rattle.slots.specs.Inner.Slots.{spot, seek, slotOf, claimed};
 
@@ -87,4 +87,14 @@ pub fn claim(v: usize, own: &mut [usize])
         return;
     }
     own[i] = v;
+}
+
+// The lesser of two lengths.
+pub fn shorter(a: usize, b: usize) -> usize
+    ensures { λ r. ⌜ r ≡ min a b ⌝ }
+{
+    if a <= b {
+        return a;
+    }
+    b
 }
