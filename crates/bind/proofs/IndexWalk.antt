@@ -14,6 +14,8 @@ use Rattle.text.specs.Trim.{trimOf}
 use Rattle.parse.specs.Parse.{isDecl}
 use Rattle.place.specs.Region.{isHeader, untilHeader, region}
 use Rattle.place.proofs.Regions.{region-at}
+use Rattle.slots.specs.Inner.Slots.{entryOf}
+use Rattle.slots.proofs.SlotLaws.{Placed}
 use Rattle.decls.specs.Inner.Seen.{AtMost}
 use Rattle.bind.specs.declared.Site.{Site}
 use Rattle.bind.specs.Inner.Steps.{lineOf, boundAt}
@@ -23,7 +25,7 @@ use Rattle.bind.proofs.ToldLaws.{Entry, Tells, tells-new, entry-says, s
 use Rattle.bind.proofs.WalkLaws.{above-more, below-lines, RegionAt, lines-none}
 
 -- the loop: the tables tell of the region from top to end, where its first line is above i
-pub record IndexInv (t d₀ u₀ d u : List ℕ) (top end i k : ℕ) : Type 0 where
+pub record IndexInv (own t d₀ u₀ d u : List ℕ) (top end i k : ℕ) : Type 0 where
   pub same : length d ≡ length u
   pub long-d : length d ≡ length d₀
   pub long-u : length u ≡ length u₀
@@ -32,13 +34,13 @@ pub record IndexInv (t d₀ u₀ d u : List ℕ) (top end i k : ℕ) : Type 0 wh
   pub most-u : AtMost (k + length (untilHeader (linesOf (drop i t)))) u
   pub start : ℕ
   pub rows : k ≡ start + length (linesOf (part top i t))
-  pub tells : top < i → Tells top start (linesOf (part top end t)) d u
+  pub tells : top < i → Tells own top start (linesOf (part top end t)) d u
 
 none-length : (t : List ℕ) (i j : ℕ) → j ≡ i → length (linesOf (part j i t)) ≡ 0
 none-length t i j e = ap (λ (n : ℕ). length (linesOf (part n i t))) e ∙ ap (λ (l : List ℕ). length (linesOf l)) (part-none t i) ∙ ap length lines-none
 
-pub index-start : (t d u : List ℕ) (end : ℕ) → length d ≡ length u → AtMost 0 d → AtMost 0 u → IndexInv t d u d u 0 end 0 0
-index-start t d u end s f g = record {
+pub index-start : (own t d u : List ℕ) (end : ℕ) → length d ≡ length u → AtMost 0 d → AtMost 0 u → IndexInv own t d u d u 0 end 0 0
+index-start own t d u end s f g = record {
   same = s;
   long-d = refl;
   long-u = refl;
@@ -63,7 +65,7 @@ unfolding region
 region-cons l ls = refl
 
 -- where a header may have opened a region
-pub record IndexAt (t d₀ u₀ d u : List ℕ) (top end i k : ℕ) : Type 0 where
+pub record IndexAt (own t d₀ u₀ d u : List ℕ) (top end i k : ℕ) : Type 0 where
   pub same : length d ≡ length u
   pub long-d : length d ≡ length d₀
   pub long-u : length u ≡ length u₀
@@ -72,10 +74,10 @@ pub record IndexAt (t d₀ u₀ d u : List ℕ) (top end i k : ℕ) : Type 0 whe
   pub late : top < i → AtMost (k + length (region (linesOf (drop i t)))) u
   pub start : ℕ
   pub rows : k ≡ start + length (linesOf (part top i t))
-  pub tells : top < i → Tells top start (linesOf (part top end t)) d u
+  pub tells : top < i → Tells own top start (linesOf (part top end t)) d u
 
-module _ {t d₀ u₀ d u : List ℕ} {top end i k : ℕ} (h : IndexInv t d₀ u₀ d u top end i k) (e : ℕ) (l : i < length t) (q : e ≡ i + upTo 10 (drop i t)) (x : List ℕ) (z : x ≡ part i e t) where
-  pub index-same : isHeader x ≡ false → IndexAt t d₀ u₀ d u top end i k
+module _ {own t d₀ u₀ d u : List ℕ} {top end i k : ℕ} (h : IndexInv own t d₀ u₀ d u top end i k) (e : ℕ) (l : i < length t) (q : e ≡ i + upTo 10 (drop i t)) (x : List ℕ) (z : x ≡ part i e t) where
+  pub index-same : isHeader x ≡ false → IndexAt own t d₀ u₀ d u top end i k
   index-same n =
       let y : untilHeader (linesOf (drop i t)) ≡ region (linesOf (drop i t)) = rw (lines-at t i e l q) (until-some (part i e t) _ (ap isHeader (sym z) ∙ n)) in
       record {
@@ -90,7 +92,7 @@ module _ {t d₀ u₀ d u : List ℕ} {top end i k : ℕ} (h : IndexInv t d₀ u
         tells = h .tells;
       }
 
-  pub index-new : isHeader x ≡ true → (r : ℕ) → IndexAt t d₀ u₀ d u i r i k
+  pub index-new : isHeader x ≡ true → (r : ℕ) → IndexAt own t d₀ u₀ d u i r i k
   index-new n r =
       let y : untilHeader (linesOf (drop i t)) ≡ [] = ap untilHeader (lines-at t i e l q) ∙ until-none (part i e t) _ (ap isHeader (sym z) ∙ n) in
       record {
@@ -131,7 +133,7 @@ module _ {t : List ℕ} {us : List (List ℕ)} {top end i e : ℕ} (g : RegionAt
       let z : length (linesOf (part top i t)) ≡ 0 = none-length t i top (omega (arith, g .top≤)) in
       omega (arith, ap length region-is, length-append (linesOf (part top i t)) (part i e t ∷ linesOf (part j end t)))
 
-  module _ {d₀ u₀ d u d′ u′ : List ℕ} {k : ℕ} (h : IndexAt t d₀ u₀ d u top end i k) (p : d′ ≡ seenAt t top i end d) (r : u′ ≡ firstAt t top i end k d u) where
+  module _ {own d₀ u₀ d u d′ u′ : List ℕ} {k : ℕ} (h : IndexAt own t d₀ u₀ d u top end i k) (p : d′ ≡ seenAt own t top i end d) (r : u′ ≡ firstAt own t top i end k d u) where
     -- after the region is read, where it begins here
     pub record IndexOn : Type 0 where
       pub same : length d′ ≡ length u′
@@ -139,10 +141,10 @@ module _ {t : List ℕ} {us : List (List ℕ)} {top end i e : ℕ} (g : RegionAt
       pub most-u : AtMost (k + suc (length (linesOf (part j end t)))) u′
       pub start : ℕ
       pub rows : k ≡ start + length (linesOf (part top i t))
-      pub tells : Tells top start (linesOf (part top end t)) d′ u′
+      pub tells : Tells own top start (linesOf (part top end t)) d′ u′
 
     same-on : length d′ ≡ length u′
-    same-on = ap length p ∙ seen-at-length t top i end k d u ∙ h .same ∙ sym (ap length r ∙ first-at-length t top i end k d u)
+    same-on = ap length p ∙ seen-at-length own t top i end k d u ∙ h .same ∙ sym (ap length r ∙ first-at-length own t top i end k d u)
 
     kept : top < i → d′ ≡ d → u′ ≡ u → IndexOn
     kept w a b = record {
@@ -154,19 +156,19 @@ module _ {t : List ℕ} {us : List (List ℕ)} {top end i e : ℕ} (g : RegionAt
       tells = rw (a, b) (h .tells w);
     }
 
-    fresh : i ≤ top → d′ ≡ seenLines (top + 1) (linesOf (part top end t)) d → u′ ≡ againLines (top + 1) (k + 1) (linesOf (part top end t)) d (useLines (k + 1) k (linesOf (part top end t)) u) → IndexOn
+    fresh : i ≤ top → d′ ≡ seenLines own (top + 1) (linesOf (part top end t)) d → u′ ≡ againLines own (top + 1) (k + 1) (linesOf (part top end t)) d (useLines own (k + 1) k (linesOf (part top end t)) u) → IndexOn
     fresh w a b =
         let y : top ≡ i = omega (arith, g .top≤) in
         let n : length (linesOf (part top i t)) ≡ 0 = none-length t i top y in
         let m : length (linesOf (part top end t)) ≡ suc (length (linesOf (part j end t))) = omega (arith, ap length region-is, length-append (linesOf (part top i t)) (part i e t ∷ linesOf (part j end t)), n) in
-        let z = first-most (top + 1) k (linesOf (part top end t)) d u (omega arith) (h .fresh w) in
+        let z = first-most own (top + 1) k (linesOf (part top end t)) d u (omega arith) (h .fresh w) in
         record {
           same = same-on;
-          most-d = rw a (seen-most (top + 1) (i + 1) (linesOf (part top end t)) d (omega arith) (λ v. let s = h .most-d v in omega arith));
+          most-d = rw a (seen-most own (top + 1) (i + 1) (linesOf (part top end t)) d (omega arith) (λ v. let s = h .most-d v in omega arith));
           most-u = rw b (λ v. let s = z v in omega arith);
           start = k;
           rows = omega arith;
-          tells = rw (a, b) (tells-new top k (linesOf (part top end t)) d u (h .same) (λ v. let s = h .most-d v in omega arith) (h .fresh w));
+          tells = rw (a, b) (tells-new own top k (linesOf (part top end t)) d u (h .same) (λ v. let s = h .most-d v in omega arith) (h .fresh w));
         }
 
     seen-kept : ltb top i ≡ true → d′ ≡ d
@@ -177,11 +179,11 @@ module _ {t : List ℕ} {us : List (List ℕ)} {top end i e : ℕ} (g : RegionAt
     unfolding firstAt
     first-kept w = r ∙ rw w
 
-    seen-fresh : ltb top i ≡ false → d′ ≡ seenLines (top + 1) (linesOf (part top end t)) d
+    seen-fresh : ltb top i ≡ false → d′ ≡ seenLines own (top + 1) (linesOf (part top end t)) d
     unfolding seenAt
     seen-fresh w = p ∙ rw w
 
-    first-fresh : ltb top i ≡ false → u′ ≡ againLines (top + 1) (k + 1) (linesOf (part top end t)) d (useLines (k + 1) k (linesOf (part top end t)) u)
+    first-fresh : ltb top i ≡ false → u′ ≡ againLines own (top + 1) (k + 1) (linesOf (part top end t)) d (useLines own (k + 1) k (linesOf (part top end t)) u)
     unfolding firstAt
     first-fresh w = r ∙ rw w
 
@@ -195,27 +197,27 @@ module _ {t : List ℕ} {us : List (List ℕ)} {top end i e : ℕ} (g : RegionAt
     abbrev site : ℕ → Site
     site b = record { top = top; from = i; to = e; next = j; end = end; row = k; block = b }
 
-    entry-here : (v : ℕ) → v < length u′ → Entry v top (index-read .start) (linesOf (part top i t) ++ (part i e t ∷ linesOf (part j end t))) (getD d′ v 0) (getD u′ v 0)
-    entry-here v w = subst (λ (ls : List (List ℕ)). Entry v top (index-read .start) ls (getD d′ v 0) (getD u′ v 0)) region-is (index-read .tells v w)
+    entry-here : (v : ℕ) → Placed own v u′ → Entry v top (index-read .start) (linesOf (part top i t) ++ (part i e t ∷ linesOf (part j end t))) (entryOf own v d′) (entryOf own v u′)
+    entry-here v w = subst (λ (ls : List (List ℕ)). Entry v top (index-read .start) ls (entryOf own v d′) (entryOf own v u′)) region-is (index-read .tells v w)
 
-    pub index-told : (bs ss : List ℕ) → isDecl (trimOf (lineOf t (site (getD bs k 0)))) ≡ true → Told t (site (getD bs k 0)) bs ss d′ u′
+    pub index-told : (bs ss : List ℕ) → isDecl (trimOf (lineOf t (site (getD bs k 0)))) ≡ true → Told own t (site (getD bs k 0)) bs ss d′ u′
     unfolding boundAt
     index-told bs ss dc = record {
-      own = refl;
+      block = refl;
       same = index-read .same;
       fits = index-read .most-u;
-      says = λ v w. entry-says v top (index-read .start) k (linesOf (part top i t)) (part i e t) (linesOf (part j end t)) bs ss (getD d′ v 0) (getD u′ v 0) (entry-here v w) dc (index-read .rows) .0;
-      row = λ v w. entry-says v top (index-read .start) k (linesOf (part top i t)) (part i e t) (linesOf (part j end t)) bs ss (getD d′ v 0) (getD u′ v 0) (entry-here v w) dc (index-read .rows) .1;
+      says = λ v w. entry-says v top (index-read .start) k (linesOf (part top i t)) (part i e t) (linesOf (part j end t)) bs ss (entryOf own v d′) (entryOf own v u′) (entry-here v w) dc (index-read .rows) .0;
+      row = λ v w. entry-says v top (index-read .start) k (linesOf (part top i t)) (part i e t) (linesOf (part j end t)) bs ss (entryOf own v d′) (entryOf own v u′) (entry-here v w) dc (index-read .rows) .1;
     }
 
-    pub index-on : IndexInv t d₀ u₀ d′ u′ top end j (k + 1)
+    pub index-on : IndexInv own t d₀ u₀ d′ u′ top end j (k + 1)
     index-on =
         let a = index-read in
         let b : untilHeader (linesOf (drop j t)) ≡ linesOf (part j end t) = sym (below-lines t i e j end (omega arith) q y (g .ends)) in
         record {
           same = a .same;
-          long-d = ap length p ∙ seen-at-length t top i end k d u ∙ h .long-d;
-          long-u = ap length r ∙ first-at-length t top i end k d u ∙ h .long-u;
+          long-d = ap length p ∙ seen-at-length own t top i end k d u ∙ h .long-d;
+          long-u = ap length r ∙ first-at-length own t top i end k d u ∙ h .long-u;
           most-d = λ v. let z = a .most-d v in omega arith;
           fresh = λ w. absurd (omega (arith, g .top≤));
           most-u = λ v. let z = a .most-u v in omega (arith, ap length b);

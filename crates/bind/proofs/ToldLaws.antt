@@ -1,13 +1,12 @@
--- What the index of a region says of a register below the end of its tables. Assumes nothing.
+-- What the index of a region says of a register that has a place in its tables. Assumes nothing.
 use Prim.Native.Nat.{ℕ, zero, suc, _+_, _-_, _≤_, _<_}
-use mathlib.Core.Path.{_≡_, refl, sym, ap, _∙_}
+use mathlib.Core.Path.{_≡_, refl, sym, ap, _∙_, subst}
 use mathlib.Core.Bool.{Bool, true, false, cond, not, _&&_, _||_}
 use mathlib.Core.List.{List, [], _∷_, _++_}
 use native.Mathlib.Omega.{arith}
 use borrow.Author.Tests.{lt-ltb, le-ltb, ltb-true, ltb-false, eq-eqb, ne-eqb, eqb-true, eqb-false}
 use lib.Dec.{eqb, ltb}
-use lib.ListN.{length, getD, set}
-use lib.Seq.{getD-set-same, getD-set-other}
+use lib.ListN.{length, getD, set, take, replicate}
 use Rattle.lines.specs.Lf.{partsOf}
 use Rattle.lines.proofs.Tests.{no, and-false}
 use Rattle.text.specs.Trim.{trimOf}
@@ -19,25 +18,29 @@ use Rattle.parse.specs.declared.Line.{Line}
 use Rattle.parse.specs.declared.Line.the-variants as line
 use Rattle.words.specs.Runs.{runsGo, runs, countBy, readsOf}
 use Rattle.reading.specs.Uses.{lineReads, storesBy, lineStores, lineUses, usedIn}
-use Rattle.decls.specs.Inner.Seen.{AtMost}
+use Rattle.slots.specs.Inner.Slots.{slotOf, entryOf, withEntry}
+use Rattle.slots.proofs.SlotLaws.{Placed, slot-kept, entry-same, entry-other, zeros-long, zeros-take}
+use Rattle.decls.specs.Inner.Seen.{markName, AtMost}
+use Rattle.decls.proofs.SeenLaws.{name-length, zeros-most}
 use Rattle.bind.specs.Bind.{pieceCount, declCount, storeCount, piecesOf}
-use Rattle.bind.specs.Inner.Steps.{useRow, storesAt}
-use Rattle.bind.specs.Inner.Index.{markName, afterStore, afterRead, readName, readRuns, storeLine, useLine, useLines, againReg, againName, seenPieces, againPieces, seenLines, againLines, asked}
+use Rattle.bind.specs.declared.Site.{Site}
+use Rattle.bind.specs.Inner.Steps.{useRow, storesAt, boundAt}
+use Rattle.bind.specs.Inner.Index.{afterStore, afterRead, readName, readRuns, storeLine, useLine, useLines, againReg, againName, seenPieces, againPieces, seenLines, againLines, asked, Told, ReadyFor}
 use Rattle.bind.proofs.CountLaws.{piece-cons, piece-nil, decl-cons, decl-nil, store-cons, store-nil, use-here, use-next, use-nil}
-use Rattle.bind.proofs.IndexLaws.{name-length, read-length, store-length, use-length, uses-length, again-length, seen-pieces-length, again-pieces-length, agains-length}
+use Rattle.bind.proofs.IndexLaws.{read-length, store-length, use-length, uses-length, again-length, seen-pieces-length, again-pieces-length, agains-length}
 
 -- ---- the entry of register v, step by step
 
-set-by : (f : ℕ → ℕ) (k v : ℕ) (u : List ℕ) → v < length u → getD (set u k (f (getD u k 0))) v 0 ≡ cond (eqb k v) (f (getD u v 0)) (getD u v 0)
-set-by f k v u h = go (eqb k v) refl
+set-by : (own : List ℕ) (f : ℕ → ℕ) (k v : ℕ) (u : List ℕ) → Placed own v u → entryOf own v (withEntry own k (f (entryOf own k u)) u) ≡ cond (eqb k v) (f (entryOf own v u)) (entryOf own v u)
+set-by own f k v u h = go (eqb k v) refl
   where
-    go : (t : Bool) → eqb k v ≡ t → getD (set u k (f (getD u k 0))) v 0 ≡ cond t (f (getD u v 0)) (getD u v 0)
-    go true e = ap (λ (n : ℕ). getD (set u n (f (getD u n 0))) v 0) (eqb-true k v e) ∙ getD-set-same u v (f (getD u v 0)) 0 h
-    go false e = getD-set-other u k v (f (getD u k 0)) 0 (λ q. eqb-false k v e (sym q))
+    go : (t : Bool) → eqb k v ≡ t → entryOf own v (withEntry own k (f (entryOf own k u)) u) ≡ cond t (f (entryOf own v u)) (entryOf own v u)
+    go true e = ap (λ (n : ℕ). entryOf own v (withEntry own n (f (entryOf own n u)) u)) (eqb-true k v e) ∙ entry-same own u v (f (entryOf own v u)) h
+    go false e = entry-other own u k (f (entryOf own k u)) v h (eqb-false k v e)
 
-read-at : (b v : ℕ) (r : RegName) (u : List ℕ) → v < length u → getD (readName b r u) v 0 ≡ cond (regIs v r) (afterRead b (getD u v 0)) (getD u v 0)
-read-at b v name.None u h = refl
-read-at b v (name.Reg q) u h = set-by (λ (x : ℕ). afterRead b x) (q .0) v u h
+read-at : (own : List ℕ) (b v : ℕ) (r : RegName) (u : List ℕ) → Placed own v u → entryOf own v (readName own b r u) ≡ cond (regIs v r) (afterRead b (entryOf own v u)) (entryOf own v u)
+read-at own b v name.None u h = refl
+read-at own b v (name.Reg q) u h = set-by own (λ (x : ℕ). afterRead b x) (q .0) v u h
 
 read-twice : (b x : ℕ) → afterRead b (afterRead b x) ≡ afterRead b x
 read-twice b x = go (ltb x b) refl
@@ -46,28 +49,28 @@ read-twice b x = go (ltb x b) refl
     go true e = let z : b ≤ b = omega arith in rw (le-ltb b b z)
     go false e = rw e
 
-runs-at : (b v : ℕ) (rs : List (List ℕ)) (u : List ℕ) → v < length u →
-    getD (readRuns b rs u) v 0 ≡ cond (ltb 0 (countBy (λ (r : List ℕ). regIs v (regOf r)) rs)) (afterRead b (getD u v 0)) (getD u v 0)
+runs-at : (own : List ℕ) (b v : ℕ) (rs : List (List ℕ)) (u : List ℕ) → Placed own v u →
+    entryOf own v (readRuns own b rs u) ≡ cond (ltb 0 (countBy (λ (r : List ℕ). regIs v (regOf r)) rs)) (afterRead b (entryOf own v u)) (entryOf own v u)
 unfolding readRuns countBy
-runs-at b v [] u h = refl
-runs-at b v (r ∷ rs) u h =
-    runs-at b v rs (readName b (regOf r) u) (omega (arith, read-length b (regOf r) u))
-    ∙ ap (λ (y : ℕ). cond (ltb 0 (countBy (λ (r : List ℕ). regIs v (regOf r)) rs)) (afterRead b y) y) (read-at b v (regOf r) u h)
+runs-at own b v [] u h = refl
+runs-at own b v (r ∷ rs) u h =
+    runs-at own b v rs (readName own b (regOf r) u) (slot-kept own u (readName own b (regOf r) u) v (read-length own b (regOf r) u) h)
+    ∙ ap (λ (y : ℕ). cond (ltb 0 (countBy (λ (r : List ℕ). regIs v (regOf r)) rs)) (afterRead b y) y) (read-at own b v (regOf r) u h)
     ∙ go (regIs v (regOf r)) (countBy (λ (r : List ℕ). regIs v (regOf r)) rs)
   where
-    same : (t : Bool) → cond t (afterRead b (afterRead b (getD u v 0))) (afterRead b (getD u v 0)) ≡ afterRead b (getD u v 0)
-    same true = read-twice b (getD u v 0)
+    same : (t : Bool) → cond t (afterRead b (afterRead b (entryOf own v u))) (afterRead b (entryOf own v u)) ≡ afterRead b (entryOf own v u)
+    same true = read-twice b (entryOf own v u)
     same false = refl
 
-    go : (a : Bool) (n : ℕ) → cond (ltb 0 n) (afterRead b (cond a (afterRead b (getD u v 0)) (getD u v 0))) (cond a (afterRead b (getD u v 0)) (getD u v 0))
-        ≡ cond (ltb 0 (cond a (suc n) n)) (afterRead b (getD u v 0)) (getD u v 0)
-    go true n = let z : 0 < suc n = omega arith in same (ltb 0 n) ∙ sym (ap (λ (t : Bool). cond t (afterRead b (getD u v 0)) (getD u v 0)) (lt-ltb 0 (suc n) z))
+    go : (a : Bool) (n : ℕ) → cond (ltb 0 n) (afterRead b (cond a (afterRead b (entryOf own v u)) (entryOf own v u))) (cond a (afterRead b (entryOf own v u)) (entryOf own v u))
+        ≡ cond (ltb 0 (cond a (suc n) n)) (afterRead b (entryOf own v u)) (entryOf own v u)
+    go true n = let z : 0 < suc n = omega arith in same (ltb 0 n) ∙ sym (ap (λ (t : Bool). cond t (afterRead b (entryOf own v u)) (entryOf own v u)) (lt-ltb 0 (suc n) z))
     go false n = refl
 
-store-at : (b c v : ℕ) (p : Line) (u : List ℕ) → v < length u → getD (storeLine b c p u) v 0 ≡ cond (storesBy v p) (afterStore b c (getD u v 0)) (getD u v 0)
-store-at b c v line.Decl u h = refl
-store-at b c v (line.Store s) u h = set-by (λ (x : ℕ). afterStore b c x) (s .reg .0) v u h
-store-at b c v line.Other u h = refl
+store-at : (own : List ℕ) (b c v : ℕ) (p : Line) (u : List ℕ) → Placed own v u → entryOf own v (storeLine own b c p u) ≡ cond (storesBy v p) (afterStore b c (entryOf own v u)) (entryOf own v u)
+store-at own b c v line.Decl u h = refl
+store-at own b c v (line.Store s) u h = set-by own (λ (x : ℕ). afterStore b c x) (s .reg .0) v u h
+store-at own b c v line.Other u h = refl
 
 -- after the store of a line, then after its reads
 abbrev stored : ℕ → ℕ → ℕ → List ℕ → ℕ → ℕ
@@ -81,16 +84,16 @@ unfoldable pub useAt : ℕ → ℕ → ℕ → List (List ℕ) → ℕ → ℕ
 useAt v b k [] x = x
 useAt v b k (l ∷ ls) x = useAt v b (k + 1) ls (lineAt v b (k + 1) l x)
 
-line-at : (v b c : ℕ) (l u : List ℕ) → v < length u → getD (useLine b c l u) v 0 ≡ lineAt v b c l (getD u v 0)
+line-at : (own : List ℕ) (v b c : ℕ) (l u : List ℕ) → Placed own v u → entryOf own v (useLine own b c l u) ≡ lineAt v b c l (entryOf own v u)
 unfolding useLine lineStores lineReads
-line-at v b c l u h =
-    runs-at b v (runs (textOf l (parseOf l))) (storeLine b c (parseOf l) u) (omega (arith, store-length b c (parseOf l) u))
-    ∙ ap (λ (y : ℕ). cond (ltb 0 (readsOf v (textOf l (parseOf l)))) (afterRead b y) y) (store-at b c v (parseOf l) u h)
+line-at own v b c l u h =
+    runs-at own b v (runs (textOf l (parseOf l))) (storeLine own b c (parseOf l) u) (slot-kept own u (storeLine own b c (parseOf l) u) v (store-length own b c (parseOf l) u) h)
+    ∙ ap (λ (y : ℕ). cond (ltb 0 (readsOf v (textOf l (parseOf l)))) (afterRead b y) y) (store-at own b c v (parseOf l) u h)
 
-lines-at : (v b k : ℕ) (ls : List (List ℕ)) (u : List ℕ) → v < length u → getD (useLines b k ls u) v 0 ≡ useAt v b k ls (getD u v 0)
+lines-at : (own : List ℕ) (v b k : ℕ) (ls : List (List ℕ)) (u : List ℕ) → Placed own v u → entryOf own v (useLines own b k ls u) ≡ useAt v b k ls (entryOf own v u)
 unfolding useLines useAt
-lines-at v b k [] u h = refl
-lines-at v b k (l ∷ ls) u h = lines-at v b (k + 1) ls (useLine b (k + 1) l u) (omega (arith, use-length b (k + 1) l u)) ∙ ap (useAt v b (k + 1) ls) (line-at v b (k + 1) l u h)
+lines-at own v b k [] u h = refl
+lines-at own v b k (l ∷ ls) u h = lines-at own v b (k + 1) ls (useLine own b (k + 1) l u) (slot-kept own u (useLine own b (k + 1) l u) v (use-length own b (k + 1) l u) h) ∙ ap (useAt v b (k + 1) ls) (line-at own v b (k + 1) l u h)
 
 -- ---- one line
 
@@ -200,29 +203,29 @@ use-low v b k (l ∷ ls) x g h = go (lineStores v l) (ltb 0 (lineReads v l)) ref
 
 -- ---- declarations
 
-seen-at : (m v : ℕ) (r : RegName) (d : List ℕ) → v < length d → ltb (getD (markName m r d) v 0) m ≡ cond (regIs v r) false (ltb (getD d v 0) m)
-seen-at m v name.None d h = refl
-seen-at m v (name.Reg q) d h = ap (λ (x : ℕ). ltb x m) (set-by (λ (x : ℕ). m) (q .0) v d h) ∙ go (eqb (q .0) v)
+seen-at : (own : List ℕ) (m v : ℕ) (r : RegName) (d : List ℕ) → Placed own v d → ltb (entryOf own v (markName own m r d)) m ≡ cond (regIs v r) false (ltb (entryOf own v d) m)
+seen-at own m v name.None d h = refl
+seen-at own m v (name.Reg q) d h = ap (λ (x : ℕ). ltb x m) (set-by own (λ (x : ℕ). m) (q .0) v d h) ∙ go (eqb (q .0) v)
   where
-    go : (t : Bool) → ltb (cond t m (getD d v 0)) m ≡ cond t false (ltb (getD d v 0) m)
+    go : (t : Bool) → ltb (cond t m (entryOf own v d)) m ≡ cond t false (ltb (entryOf own v d) m)
     go true = let z : m ≤ m = omega arith in le-ltb m m z
     go false = refl
 
-again-at : (m b v : ℕ) (r : RegName) (d u : List ℕ) → v < length u → getD (againName m b r d u) v 0 ≡ cond (regIs v r && not (ltb (getD d v 0) m)) b (getD u v 0)
-again-at m b v name.None d u h = refl
-again-at m b v (name.Reg q) d u h = go (eqb (q .0) v) refl
+again-at : (own : List ℕ) (m b v : ℕ) (r : RegName) (d u : List ℕ) → Placed own v u → entryOf own v (againName own m b r d u) ≡ cond (regIs v r && not (ltb (entryOf own v d) m)) b (entryOf own v u)
+again-at own m b v name.None d u h = refl
+again-at own m b v (name.Reg q) d u h = go (eqb (q .0) v) refl
   where
-    other : (t : Bool) → (v ≡ q .0 → ⊥) → getD (cond t u (set u (q .0) b)) v 0 ≡ getD u v 0
+    other : (t : Bool) → (q .0 ≡ v → ⊥) → entryOf own v (cond t u (withEntry own (q .0) b u)) ≡ entryOf own v u
     other true n = refl
-    other false n = getD-set-other u (q .0) v b 0 n
+    other false n = entry-other own u (q .0) b v h n
 
-    this : (t : Bool) → getD (cond t u (set u v b)) v 0 ≡ cond (not t) b (getD u v 0)
+    this : (t : Bool) → entryOf own v (cond t u (withEntry own v b u)) ≡ cond (not t) b (entryOf own v u)
     this true = refl
-    this false = getD-set-same u v b 0 h
+    this false = entry-same own u v b h
 
-    go : (t : Bool) → eqb (q .0) v ≡ t → getD (againReg m b (q .0) d u) v 0 ≡ cond (t && not (ltb (getD d v 0) m)) b (getD u v 0)
-    go true e = ap (λ (n : ℕ). getD (againReg m b n d u) v 0) (eqb-true (q .0) v e) ∙ this (ltb (getD d v 0) m)
-    go false e = other (ltb (getD d (q .0) 0) m) (λ w. eqb-false (q .0) v e (sym w))
+    go : (t : Bool) → eqb (q .0) v ≡ t → entryOf own v (againReg own m b (q .0) d u) ≡ cond (t && not (ltb (entryOf own v d) m)) b (entryOf own v u)
+    go true e = ap (λ (n : ℕ). entryOf own v (againReg own m b n d u)) (eqb-true (q .0) v e) ∙ this (ltb (entryOf own v d) m)
+    go false e = other (ltb (entryOf own (q .0) d) m) (eqb-false (q .0) v e)
 
 -- how often a register was named that has an entry below m, or not
 abbrev times : Bool → ℕ
@@ -275,29 +278,29 @@ one-again true false b x = refl
 one-again false true b x = refl
 one-again false false b x = refl
 
-pieces-seen : (m v : ℕ) (ps : List (List ℕ)) (d : List ℕ) → v < length d → ltb (getD (seenPieces m ps d) v 0) m ≡ cond (ltb 0 (pieceCount v ps)) false (ltb (getD d v 0) m)
+pieces-seen : (own : List ℕ) (m v : ℕ) (ps : List (List ℕ)) (d : List ℕ) → Placed own v d → ltb (entryOf own v (seenPieces own m ps d)) m ≡ cond (ltb 0 (pieceCount v ps)) false (ltb (entryOf own v d) m)
 unfolding seenPieces
-pieces-seen m v [] d h = let z : pieceCount v [] ≤ 0 = omega (arith, piece-nil v) in sym (rw (le-ltb 0 (pieceCount v []) z))
-pieces-seen m v (p ∷ ps) d h =
-    pieces-seen m v ps (markName m (regOf (trimOf p)) d) (omega (arith, name-length m (regOf (trimOf p)) d))
-    ∙ ap (λ (t : Bool). cond (ltb 0 (pieceCount v ps)) false t) (seen-at m v (regOf (trimOf p)) d h ∙ one-is (regIs v (regOf (trimOf p))) (ltb (getD d v 0) m))
-    ∙ seen-more (ltb (getD d v 0) m) (cond (regIs v (regOf (trimOf p))) 1 0) (pieceCount v ps)
-    ∙ ap (λ (n : ℕ). cond (ltb 0 n) false (ltb (getD d v 0) m)) (sym (piece-cons v p ps (regIs v (regOf (trimOf p))) refl))
+pieces-seen own m v [] d h = let z : pieceCount v [] ≤ 0 = omega (arith, piece-nil v) in sym (rw (le-ltb 0 (pieceCount v []) z))
+pieces-seen own m v (p ∷ ps) d h =
+    pieces-seen own m v ps (markName own m (regOf (trimOf p)) d) (slot-kept own d (markName own m (regOf (trimOf p)) d) v (name-length own m (regOf (trimOf p)) d) h)
+    ∙ ap (λ (t : Bool). cond (ltb 0 (pieceCount v ps)) false t) (seen-at own m v (regOf (trimOf p)) d h ∙ one-is (regIs v (regOf (trimOf p))) (ltb (entryOf own v d) m))
+    ∙ seen-more (ltb (entryOf own v d) m) (cond (regIs v (regOf (trimOf p))) 1 0) (pieceCount v ps)
+    ∙ ap (λ (n : ℕ). cond (ltb 0 n) false (ltb (entryOf own v d) m)) (sym (piece-cons v p ps (regIs v (regOf (trimOf p))) refl))
 
-pieces-again : (m b v : ℕ) (ps : List (List ℕ)) (d u : List ℕ) → v < length d → v < length u → getD (againPieces m b ps d u) v 0 ≡ cond (ltb 1 (times (ltb (getD d v 0) m) + pieceCount v ps)) b (getD u v 0)
+pieces-again : (own : List ℕ) (m b v : ℕ) (ps : List (List ℕ)) (d u : List ℕ) → Placed own v d → Placed own v u → entryOf own v (againPieces own m b ps d u) ≡ cond (ltb 1 (times (ltb (entryOf own v d) m) + pieceCount v ps)) b (entryOf own v u)
 unfolding againPieces
-pieces-again m b v [] d u g h = sym (under (times (ltb (getD d v 0) m) + pieceCount v []) b (getD u v 0) (go (ltb (getD d v 0) m)))
+pieces-again own m b v [] d u g h = sym (under (times (ltb (entryOf own v d) m) + pieceCount v []) b (entryOf own v u) (go (ltb (entryOf own v d) m)))
   where
     go : (t : Bool) → times t + pieceCount v [] ≤ 1
     go true = omega (arith, piece-nil v)
     go false = omega (arith, piece-nil v)
-pieces-again m b v (p ∷ ps) d u g h =
-    pieces-again m b v ps (markName m (regOf (trimOf p)) d) (againName m b (regOf (trimOf p)) d u) (omega (arith, name-length m (regOf (trimOf p)) d)) (omega (arith, again-length m b (regOf (trimOf p)) d u))
-    ∙ ap (λ (t : Bool). cond (ltb 1 (times t + pieceCount v ps)) b (getD (againName m b (regOf (trimOf p)) d u) v 0)) (seen-at m v (regOf (trimOf p)) d g ∙ one-is (regIs v (regOf (trimOf p))) (ltb (getD d v 0) m))
-    ∙ ap (λ (y : ℕ). cond (ltb 1 (times (cond (ltb 0 (cond (regIs v (regOf (trimOf p))) 1 0)) false (ltb (getD d v 0) m)) + pieceCount v ps)) b y)
-    (again-at m b v (regOf (trimOf p)) d u h ∙ one-again (regIs v (regOf (trimOf p))) (ltb (getD d v 0) m) b (getD u v 0))
-    ∙ twice-more (ltb (getD d v 0) m) (cond (regIs v (regOf (trimOf p))) 1 0) (pieceCount v ps) b (getD u v 0)
-    ∙ ap (λ (n : ℕ). cond (ltb 1 (times (ltb (getD d v 0) m) + n)) b (getD u v 0)) (sym (piece-cons v p ps (regIs v (regOf (trimOf p))) refl))
+pieces-again own m b v (p ∷ ps) d u g h =
+    pieces-again own m b v ps (markName own m (regOf (trimOf p)) d) (againName own m b (regOf (trimOf p)) d u) (slot-kept own d (markName own m (regOf (trimOf p)) d) v (name-length own m (regOf (trimOf p)) d) g) (slot-kept own u (againName own m b (regOf (trimOf p)) d u) v (again-length own m b (regOf (trimOf p)) d u) h)
+    ∙ ap (λ (t : Bool). cond (ltb 1 (times t + pieceCount v ps)) b (entryOf own v (againName own m b (regOf (trimOf p)) d u))) (seen-at own m v (regOf (trimOf p)) d g ∙ one-is (regIs v (regOf (trimOf p))) (ltb (entryOf own v d) m))
+    ∙ ap (λ (y : ℕ). cond (ltb 1 (times (cond (ltb 0 (cond (regIs v (regOf (trimOf p))) 1 0)) false (ltb (entryOf own v d) m)) + pieceCount v ps)) b y)
+    (again-at own m b v (regOf (trimOf p)) d u h ∙ one-again (regIs v (regOf (trimOf p))) (ltb (entryOf own v d) m) b (entryOf own v u))
+    ∙ twice-more (ltb (entryOf own v d) m) (cond (regIs v (regOf (trimOf p))) 1 0) (pieceCount v ps) b (entryOf own v u)
+    ∙ ap (λ (n : ℕ). cond (ltb 1 (times (ltb (entryOf own v d) m) + n)) b (entryOf own v u)) (sym (piece-cons v p ps (regIs v (regOf (trimOf p))) refl))
 
 decl-more : (v : ℕ) (l : List ℕ) (ls : List (List ℕ)) → declCount v (l ∷ ls) ≡ pieceCount v (piecesOf l) + declCount v ls
 unfolding declCount piecesOf
@@ -307,28 +310,28 @@ decl-more v l ls = go (isDecl (trimOf l))
     go true = refl
     go false = omega (arith, piece-nil v)
 
-lines-seen : (m v : ℕ) (ls : List (List ℕ)) (d : List ℕ) → v < length d → ltb (getD (seenLines m ls d) v 0) m ≡ cond (ltb 0 (declCount v ls)) false (ltb (getD d v 0) m)
+lines-seen : (own : List ℕ) (m v : ℕ) (ls : List (List ℕ)) (d : List ℕ) → Placed own v d → ltb (entryOf own v (seenLines own m ls d)) m ≡ cond (ltb 0 (declCount v ls)) false (ltb (entryOf own v d) m)
 unfolding seenLines
-lines-seen m v [] d h = let z : declCount v [] ≤ 0 = omega (arith, decl-nil v) in sym (rw (le-ltb 0 (declCount v []) z))
-lines-seen m v (l ∷ ls) d h =
-    lines-seen m v ls (seenPieces m (piecesOf l) d) (omega (arith, seen-pieces-length m (piecesOf l) d))
-    ∙ ap (λ (t : Bool). cond (ltb 0 (declCount v ls)) false t) (pieces-seen m v (piecesOf l) d h)
-    ∙ seen-more (ltb (getD d v 0) m) (pieceCount v (piecesOf l)) (declCount v ls)
-    ∙ ap (λ (n : ℕ). cond (ltb 0 n) false (ltb (getD d v 0) m)) (sym (decl-more v l ls))
+lines-seen own m v [] d h = let z : declCount v [] ≤ 0 = omega (arith, decl-nil v) in sym (rw (le-ltb 0 (declCount v []) z))
+lines-seen own m v (l ∷ ls) d h =
+    lines-seen own m v ls (seenPieces own m (piecesOf l) d) (slot-kept own d (seenPieces own m (piecesOf l) d) v (seen-pieces-length own m (piecesOf l) d) h)
+    ∙ ap (λ (t : Bool). cond (ltb 0 (declCount v ls)) false t) (pieces-seen own m v (piecesOf l) d h)
+    ∙ seen-more (ltb (entryOf own v d) m) (pieceCount v (piecesOf l)) (declCount v ls)
+    ∙ ap (λ (n : ℕ). cond (ltb 0 n) false (ltb (entryOf own v d) m)) (sym (decl-more v l ls))
 
-lines-again : (m b v : ℕ) (ls : List (List ℕ)) (d u : List ℕ) → v < length d → v < length u → getD (againLines m b ls d u) v 0 ≡ cond (ltb 1 (times (ltb (getD d v 0) m) + declCount v ls)) b (getD u v 0)
+lines-again : (own : List ℕ) (m b v : ℕ) (ls : List (List ℕ)) (d u : List ℕ) → Placed own v d → Placed own v u → entryOf own v (againLines own m b ls d u) ≡ cond (ltb 1 (times (ltb (entryOf own v d) m) + declCount v ls)) b (entryOf own v u)
 unfolding againLines
-lines-again m b v [] d u g h = sym (under (times (ltb (getD d v 0) m) + declCount v []) b (getD u v 0) (go (ltb (getD d v 0) m)))
+lines-again own m b v [] d u g h = sym (under (times (ltb (entryOf own v d) m) + declCount v []) b (entryOf own v u) (go (ltb (entryOf own v d) m)))
   where
     go : (t : Bool) → times t + declCount v [] ≤ 1
     go true = omega (arith, decl-nil v)
     go false = omega (arith, decl-nil v)
-lines-again m b v (l ∷ ls) d u g h =
-    lines-again m b v ls (seenPieces m (piecesOf l) d) (againPieces m b (piecesOf l) d u) (omega (arith, seen-pieces-length m (piecesOf l) d)) (omega (arith, again-pieces-length m b (piecesOf l) d u))
-    ∙ ap (λ (t : Bool). cond (ltb 1 (times t + declCount v ls)) b (getD (againPieces m b (piecesOf l) d u) v 0)) (pieces-seen m v (piecesOf l) d g)
-    ∙ ap (λ (y : ℕ). cond (ltb 1 (times (cond (ltb 0 (pieceCount v (piecesOf l))) false (ltb (getD d v 0) m)) + declCount v ls)) b y) (pieces-again m b v (piecesOf l) d u g h)
-    ∙ twice-more (ltb (getD d v 0) m) (pieceCount v (piecesOf l)) (declCount v ls) b (getD u v 0)
-    ∙ ap (λ (n : ℕ). cond (ltb 1 (times (ltb (getD d v 0) m) + n)) b (getD u v 0)) (sym (decl-more v l ls))
+lines-again own m b v (l ∷ ls) d u g h =
+    lines-again own m b v ls (seenPieces own m (piecesOf l) d) (againPieces own m b (piecesOf l) d u) (slot-kept own d (seenPieces own m (piecesOf l) d) v (seen-pieces-length own m (piecesOf l) d) g) (slot-kept own u (againPieces own m b (piecesOf l) d u) v (again-pieces-length own m b (piecesOf l) d u) h)
+    ∙ ap (λ (t : Bool). cond (ltb 1 (times t + declCount v ls)) b (entryOf own v (againPieces own m b (piecesOf l) d u))) (pieces-seen own m v (piecesOf l) d g)
+    ∙ ap (λ (y : ℕ). cond (ltb 1 (times (cond (ltb 0 (pieceCount v (piecesOf l))) false (ltb (entryOf own v d) m)) + declCount v ls)) b y) (pieces-again own m b v (piecesOf l) d u g h)
+    ∙ twice-more (ltb (entryOf own v d) m) (pieceCount v (piecesOf l)) (declCount v ls) b (entryOf own v u)
+    ∙ ap (λ (n : ℕ). cond (ltb 1 (times (ltb (entryOf own v d) m) + n)) b (entryOf own v u)) (sym (decl-more v l ls))
 
 -- ---- the entries of a register after its region: a is the place at which the region begins, and k the row
 
@@ -338,30 +341,30 @@ pub record Entry (v a k : ℕ) (run : List (List ℕ)) (x y : ℕ) : Type 0 wher
   pub seen : ltb a x ≡ ltb 0 (declCount v run)
   pub first : y ≡ cond (ltb 1 (declCount v run)) (k + 1) (useAt v (k + 1) k run was)
 
-abbrev pub Tells : ℕ → ℕ → List (List ℕ) → List ℕ → List ℕ → Type 0
-Tells a k run d u = (v : ℕ) → v < length u → Entry v a k run (getD d v 0) (getD u v 0)
+abbrev pub Tells : List ℕ → ℕ → ℕ → List (List ℕ) → List ℕ → List ℕ → Type 0
+Tells own a k run d u = (v : ℕ) → Placed own v u → Entry v a k run (entryOf own v d) (entryOf own v u)
 
 above-by : (a x : ℕ) (t : Bool) → ltb x (a + 1) ≡ cond t false true → ltb a x ≡ t
 above-by a x true e = let z = ltb-false x (a + 1) e in lt-ltb a x (omega arith)
 above-by a x false e = let z = ltb-true x (a + 1) e in le-ltb a x (omega arith)
 
-pub tells-new : (a k : ℕ) (run : List (List ℕ)) (d u : List ℕ) → length d ≡ length u → AtMost a d → AtMost k u → Tells a k run (seenLines (a + 1) run d) (againLines (a + 1) (k + 1) run d (useLines (k + 1) k run u))
-tells-new a k run d u s f g v h =
-    let n : length (useLines (k + 1) k run u) ≡ length u = uses-length (k + 1) k run u in
-    let h₁ : v < length u = omega (arith, n, agains-length (a + 1) (k + 1) run d (useLines (k + 1) k run u)) in
-    let h₂ : v < length d = omega (arith, h₁, s) in
-    let p = f v in
-    let q = g v in
-    let z : ltb (getD d v 0) (a + 1) ≡ true = lt-ltb (getD d v 0) (a + 1) (omega arith) in
+pub tells-new : (own : List ℕ) (a k : ℕ) (run : List (List ℕ)) (d u : List ℕ) → length d ≡ length u → AtMost a d → AtMost k u → Tells own a k run (seenLines own (a + 1) run d) (againLines own (a + 1) (k + 1) run d (useLines own (k + 1) k run u))
+tells-new own a k run d u s f g v h =
+    let n : length (useLines own (k + 1) k run u) ≡ length u = uses-length own (k + 1) k run u in
+    let h₁ : Placed own v u = slot-kept own (againLines own (a + 1) (k + 1) run d (useLines own (k + 1) k run u)) u v (sym (agains-length own (a + 1) (k + 1) run d (useLines own (k + 1) k run u) ∙ n)) h in
+    let h₂ : Placed own v d = slot-kept own u d v s h₁ in
+    let p = f (slotOf (length d) own v) in
+    let q = g (slotOf (length u) own v) in
+    let z : ltb (entryOf own v d) (a + 1) ≡ true = lt-ltb (entryOf own v d) (a + 1) (omega arith) in
     record {
-      was = getD u v 0;
+      was = entryOf own v u;
       low = omega arith;
-      seen = above-by a (getD (seenLines (a + 1) run d) v 0) (ltb 0 (declCount v run)) (lines-seen (a + 1) v run d h₂ ∙ rw z);
+      seen = above-by a (entryOf own v (seenLines own (a + 1) run d)) (ltb 0 (declCount v run)) (lines-seen own (a + 1) v run d h₂ ∙ rw z);
       first =
-          lines-again (a + 1) (k + 1) v run d (useLines (k + 1) k run u) h₂ (omega (arith, n))
-          ∙ ap (λ (t : Bool). cond (ltb 1 (times t + declCount v run)) (k + 1) (getD (useLines (k + 1) k run u) v 0)) z
-          ∙ ap (λ (n : ℕ). cond (ltb 1 n) (k + 1) (getD (useLines (k + 1) k run u) v 0)) zero-add
-          ∙ ap (λ (y : ℕ). cond (ltb 1 (declCount v run)) (k + 1) y) (lines-at v (k + 1) k run u h₁);
+          lines-again own (a + 1) (k + 1) v run d (useLines own (k + 1) k run u) h₂ (slot-kept own u (useLines own (k + 1) k run u) v n h₁)
+          ∙ ap (λ (t : Bool). cond (ltb 1 (times t + declCount v run)) (k + 1) (entryOf own v (useLines own (k + 1) k run u))) z
+          ∙ ap (λ (n : ℕ). cond (ltb 1 n) (k + 1) (entryOf own v (useLines own (k + 1) k run u))) zero-add
+          ∙ ap (λ (y : ℕ). cond (ltb 1 (declCount v run)) (k + 1) y) (lines-at own v (k + 1) k run u h₁);
     }
   where
     zero-add : 0 + declCount v run ≡ declCount v run
@@ -534,6 +537,24 @@ module _ (v a k r : ℕ) (above : List (List ℕ)) (l : List ℕ) (below : List 
           (not-late (omega (arith, h .first ∙ over (declCount v (above ++ l ∷ below)) (k + 1) (useAt v (k + 1) k (above ++ l ∷ below) (h .was)) (omega (arith, decls-is, e)), rows)))
           (other (suc (suc n)) e (λ q. absurd (omega (arith, q))))
 
+-- ---- the question of the code, at the place i of a register
+
+pub told-says : {own t : List ℕ} {s : Site} {bs ss d u : List ℕ} (v : ℕ) {i : ℕ} → Told own t s bs ss d u → i ≡ slotOf (length u) own v → i < length u → asked bs ss (s .top) (s .row) (getD d i 0) (getD u i 0) ≡ boundAt t s bs ss v
+told-says {own} {t} {s} {bs} {ss} {d} {u} v {i} h p l =
+    ap (λ (x : ℕ). asked bs ss (s .top) (s .row) x (getD u i 0)) (ap (λ (n : ℕ). getD d n 0) (p ∙ ap (λ (n : ℕ). slotOf n own v) (sym (h .same))))
+    ∙ ap (λ (n : ℕ). asked bs ss (s .top) (s .row) (entryOf own v d) (getD u n 0)) p ∙ h .says v (subst (λ (n : ℕ). n < length u) p l)
+
+pub row-entry : (own : List ℕ) (v : ℕ) (u : List ℕ) {i x : ℕ} → i ≡ slotOf (length u) own v → i < length u → (Placed own v u → entryOf own v u ≡ x) → getD u i 0 ≡ x
+row-entry own v u p l f = ap (λ (n : ℕ). getD u n 0) p ∙ f (subst (λ (n : ℕ). n < length u) p l)
+
+pub ready-as : {own t : List ℕ} (l : List ℕ) {s : Site} {bs ss d u d′ u′ : List ℕ} → d′ ≡ d → u′ ≡ u → ReadyFor l own t s bs ss d u → ReadyFor l own t s bs ss d′ u′
+ready-as l p q h = rw (p, q) h
+
+-- ---- the front of a table of zeros
+
+pub zeros-cut : (k n : ℕ) {d : List ℕ} → d ≡ replicate n 0 → k ≤ n → (length (take k d) ≡ k) × (AtMost 0 (take k d))
+zeros-cut k n {d} e h = let z : take k d ≡ replicate k 0 = zeros-take k n e h in (zeros-long k z, subst (AtMost 0) (sym z) (zeros-most k))
+
 -- ---- no entry is above n
 
 set-most : (n k v x : ℕ) (d : List ℕ) → x ≤ n → getD d v 0 ≤ n → getD (set d k x) v 0 ≤ n
@@ -543,59 +564,59 @@ set-most n zero (suc v) x (y ∷ d) g h = h
 set-most n (suc k) zero x (y ∷ d) g h = h
 set-most n (suc k) (suc v) x (y ∷ d) g h = set-most n k v x d g h
 
-read-most : (b n : ℕ) (r : RegName) (u : List ℕ) → b ≤ n → AtMost n u → AtMost n (readName b r u)
-read-most b n name.None u g h = h
-read-most b n (name.Reg q) u g h = λ v. set-most n (q .0) v (afterRead b (getD u (q .0) 0)) u (cond-le (ltb (getD u (q .0) 0) b) b (getD u (q .0) 0) n g (h (q .0))) (h v)
+read-most : (own : List ℕ) (b n : ℕ) (r : RegName) (u : List ℕ) → b ≤ n → AtMost n u → AtMost n (readName own b r u)
+read-most own b n name.None u g h = h
+read-most own b n (name.Reg q) u g h = λ i. set-most n (slotOf (length u) own (q .0)) i (afterRead b (entryOf own (q .0) u)) u (cond-le (ltb (entryOf own (q .0) u) b) b (entryOf own (q .0) u) n g (h (slotOf (length u) own (q .0)))) (h i)
 
-runs-most : (b n : ℕ) (rs : List (List ℕ)) (u : List ℕ) → b ≤ n → AtMost n u → AtMost n (readRuns b rs u)
+runs-most : (own : List ℕ) (b n : ℕ) (rs : List (List ℕ)) (u : List ℕ) → b ≤ n → AtMost n u → AtMost n (readRuns own b rs u)
 unfolding readRuns
-runs-most b n [] u g h = h
-runs-most b n (r ∷ rs) u g h = runs-most b n rs (readName b (regOf r) u) g (read-most b n (regOf r) u g h)
+runs-most own b n [] u g h = h
+runs-most own b n (r ∷ rs) u g h = runs-most own b n rs (readName own b (regOf r) u) g (read-most own b n (regOf r) u g h)
 
-store-most : (b c n : ℕ) (p : Line) (u : List ℕ) → b ≤ n → c ≤ n → AtMost n u → AtMost n (storeLine b c p u)
-store-most b c n line.Decl u f g h = h
-store-most b c n (line.Store s) u f g h = λ v. set-most n (s .reg .0) v (afterStore b c (getD u (s .reg .0) 0)) u (cond-le (ltb (getD u (s .reg .0) 0) b) c b n g f) (h v)
-store-most b c n line.Other u f g h = h
+store-most : (own : List ℕ) (b c n : ℕ) (p : Line) (u : List ℕ) → b ≤ n → c ≤ n → AtMost n u → AtMost n (storeLine own b c p u)
+store-most own b c n line.Decl u f g h = h
+store-most own b c n (line.Store s) u f g h = λ i. set-most n (slotOf (length u) own (s .reg .0)) i (afterStore b c (entryOf own (s .reg .0) u)) u (cond-le (ltb (entryOf own (s .reg .0) u) b) c b n g f) (h i)
+store-most own b c n line.Other u f g h = h
 
-uses-most : (b k : ℕ) (ls : List (List ℕ)) (u : List ℕ) → b ≤ k + 1 → AtMost k u → AtMost (k + length ls) (useLines b k ls u)
+uses-most : (own : List ℕ) (b k : ℕ) (ls : List (List ℕ)) (u : List ℕ) → b ≤ k + 1 → AtMost k u → AtMost (k + length ls) (useLines own b k ls u)
 unfolding useLines useLine
-uses-most b k [] u g h = λ v. let z = h v in omega arith
-uses-most b k (l ∷ ls) u g h =
-    let f = uses-most b (k + 1) ls (useLine b (k + 1) l u) (omega arith) (runs-most b (k + 1) (runs (textOf l (parseOf l))) (storeLine b (k + 1) (parseOf l) u) g (store-most b (k + 1) (k + 1) (parseOf l) u g (omega arith) (λ v. let z = h v in omega arith))) in
+uses-most own b k [] u g h = λ v. let z = h v in omega arith
+uses-most own b k (l ∷ ls) u g h =
+    let f = uses-most own b (k + 1) ls (useLine own b (k + 1) l u) (omega arith) (runs-most own b (k + 1) (runs (textOf l (parseOf l))) (storeLine own b (k + 1) (parseOf l) u) g (store-most own b (k + 1) (k + 1) (parseOf l) u g (omega arith) (λ v. let z = h v in omega arith))) in
     λ v. let z = f v in omega arith
 
-again-most : (m b n : ℕ) (r : RegName) (d u : List ℕ) → b ≤ n → AtMost n u → AtMost n (againName m b r d u)
-again-most m b n name.None d u g h = h
-again-most m b n (name.Reg q) d u g h = go (ltb (getD d (q .0) 0) m)
+again-most : (own : List ℕ) (m b n : ℕ) (r : RegName) (d u : List ℕ) → b ≤ n → AtMost n u → AtMost n (againName own m b r d u)
+again-most own m b n name.None d u g h = h
+again-most own m b n (name.Reg q) d u g h = go (ltb (entryOf own (q .0) d) m)
   where
-    go : (t : Bool) → AtMost n (cond t u (set u (q .0) b))
+    go : (t : Bool) → AtMost n (cond t u (withEntry own (q .0) b u))
     go true = h
-    go false = λ v. set-most n (q .0) v b u g (h v)
+    go false = λ i. set-most n (slotOf (length u) own (q .0)) i b u g (h i)
 
-pieces-most : (m b n : ℕ) (ps : List (List ℕ)) (d u : List ℕ) → b ≤ n → AtMost n u → AtMost n (againPieces m b ps d u)
+pieces-most : (own : List ℕ) (m b n : ℕ) (ps : List (List ℕ)) (d u : List ℕ) → b ≤ n → AtMost n u → AtMost n (againPieces own m b ps d u)
 unfolding againPieces
-pieces-most m b n [] d u g h = h
-pieces-most m b n (p ∷ ps) d u g h = pieces-most m b n ps (markName m (regOf (trimOf p)) d) (againName m b (regOf (trimOf p)) d u) g (again-most m b n (regOf (trimOf p)) d u g h)
+pieces-most own m b n [] d u g h = h
+pieces-most own m b n (p ∷ ps) d u g h = pieces-most own m b n ps (markName own m (regOf (trimOf p)) d) (againName own m b (regOf (trimOf p)) d u) g (again-most own m b n (regOf (trimOf p)) d u g h)
 
-agains-most : (m b n : ℕ) (ls : List (List ℕ)) (d u : List ℕ) → b ≤ n → AtMost n u → AtMost n (againLines m b ls d u)
+agains-most : (own : List ℕ) (m b n : ℕ) (ls : List (List ℕ)) (d u : List ℕ) → b ≤ n → AtMost n u → AtMost n (againLines own m b ls d u)
 unfolding againLines
-agains-most m b n [] d u g h = h
-agains-most m b n (l ∷ ls) d u g h = agains-most m b n ls (seenPieces m (piecesOf l) d) (againPieces m b (piecesOf l) d u) g (pieces-most m b n (piecesOf l) d u g h)
+agains-most own m b n [] d u g h = h
+agains-most own m b n (l ∷ ls) d u g h = agains-most own m b n ls (seenPieces own m (piecesOf l) d) (againPieces own m b (piecesOf l) d u) g (pieces-most own m b n (piecesOf l) d u g h)
 
-mark-most : (m n : ℕ) (r : RegName) (d : List ℕ) → m ≤ n → AtMost n d → AtMost n (markName m r d)
-mark-most m n name.None d g h = h
-mark-most m n (name.Reg q) d g h = λ v. set-most n (q .0) v m d g (h v)
+mark-most : (own : List ℕ) (m n : ℕ) (r : RegName) (d : List ℕ) → m ≤ n → AtMost n d → AtMost n (markName own m r d)
+mark-most own m n name.None d g h = h
+mark-most own m n (name.Reg q) d g h = λ i. set-most n (slotOf (length d) own (q .0)) i m d g (h i)
 
-marks-most : (m n : ℕ) (ps : List (List ℕ)) (d : List ℕ) → m ≤ n → AtMost n d → AtMost n (seenPieces m ps d)
+marks-most : (own : List ℕ) (m n : ℕ) (ps : List (List ℕ)) (d : List ℕ) → m ≤ n → AtMost n d → AtMost n (seenPieces own m ps d)
 unfolding seenPieces
-marks-most m n [] d g h = h
-marks-most m n (p ∷ ps) d g h = marks-most m n ps (markName m (regOf (trimOf p)) d) g (mark-most m n (regOf (trimOf p)) d g h)
+marks-most own m n [] d g h = h
+marks-most own m n (p ∷ ps) d g h = marks-most own m n ps (markName own m (regOf (trimOf p)) d) g (mark-most own m n (regOf (trimOf p)) d g h)
 
-pub seen-most : (m n : ℕ) (ls : List (List ℕ)) (d : List ℕ) → m ≤ n → AtMost n d → AtMost n (seenLines m ls d)
+pub seen-most : (own : List ℕ) (m n : ℕ) (ls : List (List ℕ)) (d : List ℕ) → m ≤ n → AtMost n d → AtMost n (seenLines own m ls d)
 unfolding seenLines
-seen-most m n [] d g h = h
-seen-most m n (l ∷ ls) d g h = seen-most m n ls (seenPieces m (piecesOf l) d) g (marks-most m n (piecesOf l) d g h)
+seen-most own m n [] d g h = h
+seen-most own m n (l ∷ ls) d g h = seen-most own m n ls (seenPieces own m (piecesOf l) d) g (marks-most own m n (piecesOf l) d g h)
 
 -- after a region of one line or more
-pub first-most : (m k : ℕ) (ls : List (List ℕ)) (d u : List ℕ) → 0 < length ls → AtMost k u → AtMost (k + length ls) (againLines m (k + 1) ls d (useLines (k + 1) k ls u))
-first-most m k ls d u g h = agains-most m (k + 1) (k + length ls) ls d (useLines (k + 1) k ls u) (omega arith) (uses-most (k + 1) k ls u (omega arith) h)
+pub first-most : (own : List ℕ) (m k : ℕ) (ls : List (List ℕ)) (d u : List ℕ) → 0 < length ls → AtMost k u → AtMost (k + length ls) (againLines own m (k + 1) ls d (useLines own (k + 1) k ls u))
+first-most own m k ls d u g h = agains-most own m (k + 1) (k + length ls) ls d (useLines own (k + 1) k ls u) (omega arith) (uses-most own (k + 1) k ls u (omega arith) h)

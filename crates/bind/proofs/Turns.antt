@@ -24,7 +24,7 @@ use Rattle.reading.specs.Reading.{plain}
 use Rattle.bind.specs.declared.Site.{Site}
 use Rattle.bind.specs.Bind.{bindDeclarators}
 use Rattle.bind.specs.Inner.Steps.{lineOf, belowOf, boundAt, markRow, siteText, siteMarks, bindMarks}
-use Rattle.bind.specs.Inner.Index.{seenAt, firstAt, ReadyFor}
+use Rattle.bind.specs.Inner.Index.{seenAt, firstAt, siteSeen, siteFirst, ReadyFor}
 use Rattle.bind.specs.Inner.Sites.{stopBy, firstSite, siteOf, Walked}
 use Rattle.bind.proofs.WalkLaws.{BindInv, RegionAt, region-same, region-new, walk-start, walk-reach, walk-marks, walk-room, walk-on, walk-lt, walk-marked, walk-end, walk-filled}
 use Rattle.bind.proofs.IndexWalk.{IndexInv, IndexAt, index-start, index-same, index-new, region-fits, index-told, index-on}
@@ -97,32 +97,32 @@ site-made t r a e k j y = ap (λ (x : ℕ). record { top = a; from = r .start; t
 -- ---- the loop
 
 -- s is the site above, c its region, and the k-th line is the next
-pub record TurnInv (t es : List ℕ) (n : ℕ) (bs ss d₀ u₀ m₀ o₀ d u m o : List ℕ) (s : Site) (c k p : ℕ) : Type 0 where
+pub record TurnInv (own t es : List ℕ) (n : ℕ) (bs ss d₀ u₀ m₀ o₀ d u m o : List ℕ) (s : Site) (c k p : ℕ) : Type 0 where
   pub bind : BindInv t bs ss m₀ m o₀ o (s .top) (s .end) (s .next) k p
-  pub index : IndexInv t d₀ u₀ d u (s .top) (s .end) (s .next) k
+  pub index : IndexInv own t d₀ u₀ d u (s .top) (s .end) (s .next) k
   pub down : Down t bs (recordsOf (linesOf t) bs) (s .next) k c
   pub marked : Marked t es (s .next) k
   pub count : n ≡ length (linesOf t)
 
-pub turn-start : (t es : List ℕ) (n : ℕ) (bs ss d u m o : List ℕ) (s : Site) (x : ℕ) {c : ℕ} → length d ≡ length u → AtMost 0 d → AtMost 0 u → Walked t es n bs ss m o →
-    x ≡ stopBy es (length t) (n - 0) 0 0 → s ≡ firstSite x → c ≡ 0 → TurnInv t es n bs ss d u m o d u m o s c 0 0
+pub turn-start : (own t es : List ℕ) (n : ℕ) (bs ss d u m o : List ℕ) (s : Site) (x : ℕ) {c : ℕ} → length d ≡ length u → AtMost 0 d → AtMost 0 u → Walked t es n bs ss m o →
+    x ≡ stopBy es (length t) (n - 0) 0 0 → s ≡ firstSite x → c ≡ 0 → TurnInv own t es n bs ss d u m o d u m o s c 0 0
 unfolding firstSite
-turn-start t es n bs ss d u m o s x a b c w f e i =
+turn-start own t es n bs ss d u m o s x a b c w f e i =
     let down : Down t bs (recordsOf (linesOf t) bs) 0 0 0 = down-start (w .told .long) in
     let marked : Marked t es 0 0 = record { rest = w .told .behind; left = w .told .marks } in
-    subst (λ (y : ℕ). TurnInv t es n bs ss d u m o d u m o s y 0 0) (sym i) (subst (λ (y : Site). TurnInv t es n bs ss d u m o d u m o y 0 0 0) (sym e) (record {
+    subst (λ (y : ℕ). TurnInv own t es n bs ss d u m o d u m o s y 0 0) (sym i) (subst (λ (y : Site). TurnInv own t es n bs ss d u m o d u m o y 0 0 0) (sym e) (record {
       bind = walk-start t bs ss m o x (w .rows) (w .fits) (w .unmarked) (w .room) (λ e₁ l q g. f ∙ stop-is n n (w .told .count) (omega arith) (omega arith) down marked 0 (λ _. refl) ∙ ap (λ (y : ℕ). 0 + y) (end-on t 0 e₁ l q g));
-      index = index-start t d u x a b c;
+      index = index-start own t d u x a b c;
       down = down;
       marked = marked;
       count = w .told .count;
     }))
 
-pub turn-end : {t es : List ℕ} {n : ℕ} {bs ss d₀ u₀ m₀ o₀ d u m o : List ℕ} {s : Site} {c k p : ℕ} → TurnInv t es n bs ss d₀ u₀ m₀ o₀ d u m o s c k p → n ≤ k →
+pub turn-end : {own t es : List ℕ} {n : ℕ} {bs ss d₀ u₀ m₀ o₀ d u m o : List ℕ} {s : Site} {c k p : ℕ} → TurnInv own t es n bs ss d₀ u₀ m₀ o₀ d u m o s c k p → n ≤ k →
     (Wrote o₀ 0 (unlines (bindDeclarators plain (linesOf t))) o p) × (Filled m₀ (flagsOf (bindMarks plain (linesOf t))) m (length (linesOf t)))
 turn-end h l = let q = down-none (h .down) (let e = h .count in omega arith) in (walk-end (h .bind) q, walk-filled (h .bind) q)
 
-module _ {t es : List ℕ} {n : ℕ} {bs ss d₀ u₀ m₀ o₀ d u m o : List ℕ} {s : Site} {c k p : ℕ} (h : TurnInv t es n bs ss d₀ u₀ m₀ o₀ d u m o s c k p) (l : k < n) where
+module _ {own t es : List ℕ} {n : ℕ} {bs ss d₀ u₀ m₀ o₀ d u m o : List ℕ} {s : Site} {c k p : ℕ} (h : TurnInv own t es n bs ss d₀ u₀ m₀ o₀ d u m o s c k p) (l : k < n) where
   abbrev from : ℕ
   from = s .next
 
@@ -132,8 +132,9 @@ module _ {t es : List ℕ} {n : ℕ} {bs ss d₀ u₀ m₀ o₀ d u m o : List �
   abbrev next : ℕ
   next = min (to + 1) (length t)
 
-  abbrev own : ℕ
-  own = cond (isHeader (part from to t)) (suc c) c
+  -- the number of its region
+  abbrev number : ℕ
+  number = cond (isHeader (part from to t)) (suc c) c
 
   inside : from < length t
   inside = down-some (h .down) (let e = h .count in omega arith)
@@ -150,14 +151,14 @@ module _ {t es : List ℕ} {n : ℕ} {bs ss d₀ u₀ m₀ o₀ d u m o : List �
     pub end : ℕ
     pub is : s′ ≡ record { top = top; from = from; to = to; next = next; end = end; row = k; block = getD bs k 0 }
     pub region : RegionAt t (h .bind .us) from to top end
-    pub index : IndexAt t d₀ u₀ d u top end from k
+    pub index : IndexAt own t d₀ u₀ d u top end from k
 
   module _ {r : LineRec} {s′ : Site} (g : r ≡ getD rs k noRec)
       (z : s′ ≡ siteOf (length t) r (cond (eqb (r .region .0) c) (s .top) (r .start)) (cond (eqb (r .region .0) c) (s .end) (stopBy es (length t) (n - (k + 1)) (k + 1) (min (r .end + 1) (length t)))) k) where
-    rec-is : r ≡ recAt from to own (getD bs k 0)
+    rec-is : r ≡ recAt from to number (getD bs k 0)
     rec-is = g ∙ down-here (h .down) inside to refl
 
-    abbrev below : Down t bs rs next (k + 1) own
+    abbrev below : Down t bs rs next (k + 1) number
     below = down-on (h .down) inside to refl refl
 
     -- by whether the line has the region of the line above
@@ -174,11 +175,11 @@ module _ {t es : List ℕ} {n : ℕ} {bs ss d₀ u₀ m₀ o₀ d u m o : List �
     made : LineRec → Site
     made f = siteOf (length t) f (cond (eqb (f .region .0) c) (s .top) (f .start)) (cond (eqb (f .region .0) c) (s .end) (stopBy es (length t) (n - (k + 1)) (k + 1) (min (f .end + 1) (length t)))) k
 
-    site-is : (b : Bool) → eqb own c ≡ b → s′ ≡ record { top = topBy b; from = from; to = to; next = next; end = endBy b; row = k; block = getD bs k 0 }
+    site-is : (b : Bool) → eqb number c ≡ b → s′ ≡ record { top = topBy b; from = from; to = to; next = next; end = endBy b; row = k; block = getD bs k 0 }
     unfolding siteOf made
     site-is b q =
-        z ∙ ap made rec-is ∙ ap (λ (f : Bool). siteOf (length t) (recAt from to own (getD bs k 0)) (topBy f) (cond f (s .end) (stopBy es (length t) (n - (k + 1)) (k + 1) next)) k) q
-        ∙ ap (λ (e : ℕ). siteOf (length t) (recAt from to own (getD bs k 0)) (topBy b) (cond b (s .end) e) k) stops
+        z ∙ ap made rec-is ∙ ap (λ (f : Bool). siteOf (length t) (recAt from to number (getD bs k 0)) (topBy f) (cond f (s .end) (stopBy es (length t) (n - (k + 1)) (k + 1) next)) k) q
+        ∙ ap (λ (e : ℕ). siteOf (length t) (recAt from to number (getD bs k 0)) (topBy b) (cond b (s .end) e) k) stops
 
     sited : Sited s′
     sited = go (isHeader (part from to t)) refl
@@ -199,8 +200,8 @@ module _ {t es : List ℕ} {n : ℕ} {bs ss d₀ u₀ m₀ o₀ d u m o : List �
           index = index-same (h .index) to inside refl (part from to t) refl w₁;
         }
 
-    pub turn-read : (length d ≡ length u) × ((s′ .top < length t) × ((k < length m) × (s′ .from ≤ s′ .top → k + length (linesOf (part (s′ .top) (s′ .end) t)) ≤ length m)))
-    turn-read = subst (λ (x : Site). (length d ≡ length u) × ((x .top < length t) × ((k < length m) × (x .from ≤ x .top → k + length (linesOf (part (x .top) (x .end) t)) ≤ length m)))) (sym (sited .is)) (
+    pub turn-read : (length d ≡ length u) × ((s′ .top < length t) × ((s′ .row < length m) × (s′ .from ≤ s′ .top → s′ .row + length (linesOf (part (s′ .top) (s′ .end) t)) ≤ length m)))
+    turn-read = subst (λ (x : Site). (length d ≡ length u) × ((x .top < length t) × ((x .row < length m) × (x .from ≤ x .top → x .row + length (linesOf (part (x .top) (x .end) t)) ≤ length m)))) (sym (sited .is)) (
       h .index .same,
       (
         let i = inside in let a = sited .region .top≤ in omega arith,
@@ -211,28 +212,28 @@ module _ {t es : List ℕ} {n : ℕ} {bs ss d₀ u₀ m₀ o₀ d u m o : List �
       ),
     )
 
-    module _ {d′ u′ : List ℕ} (a : d′ ≡ seenAt t (s′ .top) (s′ .from) (s′ .end) d) (b : u′ ≡ firstAt t (s′ .top) (s′ .from) (s′ .end) k d u) where
-      seen-is : d′ ≡ seenAt t (sited .top) from (sited .end) d
-      seen-is = a ∙ ap (λ (x : Site). seenAt t (x .top) (x .from) (x .end) d) (sited .is)
+    module _ {d′ u′ : List ℕ} (a : d′ ≡ siteSeen own t s′ d) (b : u′ ≡ siteFirst own t s′ d u) where
+      seen-is : d′ ≡ seenAt own t (sited .top) from (sited .end) d
+      seen-is = a ∙ ap (λ (x : Site). siteSeen own t x d) (sited .is)
 
-      first-is : u′ ≡ firstAt t (sited .top) from (sited .end) k d u
-      first-is = b ∙ ap (λ (x : Site). firstAt t (x .top) (x .from) (x .end) k d u) (sited .is)
+      first-is : u′ ≡ firstAt own t (sited .top) from (sited .end) k d u
+      first-is = b ∙ ap (λ (x : Site). siteFirst own t x d u) (sited .is)
 
-      pub turn-line : (ReadyFor (trimOf (lineOf t s′)) t s′ bs ss d′ u′) × ((s′ .row + suc (length (belowOf t s′)) ≤ length m) × (p + length (siteText (boundAt t s′ bs ss) (lineOf t s′) (getD m (s′ .row) 0)) ≤ length o))
+      pub turn-line : (ReadyFor (trimOf (lineOf t s′)) own t s′ bs ss d′ u′) × ((s′ .row + suc (length (belowOf t s′)) ≤ length m) × (p + length (siteText (boundAt t s′ bs ss) (lineOf t s′) (getD m (s′ .row) 0)) ≤ length o))
       turn-line =
-          subst (λ (x : Site). (ReadyFor (trimOf (lineOf t x)) t x bs ss d′ u′) × ((x .row + suc (length (belowOf t x)) ≤ length m) × (p + length (siteText (boundAt t x bs ss) (lineOf t x) (getD m (x .row) 0)) ≤ length o))) (sym (sited .is)) (
+          subst (λ (x : Site). (ReadyFor (trimOf (lineOf t x)) own t x bs ss d′ u′) × ((x .row + suc (length (belowOf t x)) ≤ length m) × (p + length (siteText (boundAt t x bs ss) (lineOf t x) (getD m (x .row) 0)) ≤ length o))) (sym (sited .is)) (
             (walk-reach (h .bind) to inside refl (sited .region) next refl, index-told (sited .region) inside refl next refl (sited .index) seen-is first-is bs ss),
             (walk-marks (h .bind) to inside refl (sited .region) next refl, walk-room (h .bind) to inside refl (sited .region) next refl),
           )
 
       pub turn-on : {m′ o′ : List ℕ} {c′ p′ : ℕ} → c′ ≡ r .region .0 → Wrote o p (siteText (boundAt t s′ bs ss) (lineOf t s′) (getD m (s′ .row) 0)) o′ p′ → m′ ≡ siteMarks (boundAt t s′ bs ss) (markRow t s′) (lineOf t s′) m →
-          TurnInv t es n bs ss d₀ u₀ m₀ o₀ d′ u′ m′ o′ s′ c′ (k + 1) p′
+          TurnInv own t es n bs ss d₀ u₀ m₀ o₀ d′ u′ m′ o′ s′ c′ (k + 1) p′
       turn-on {m′} {o′} {c′} {p′} e v x =
           let y : Site = record { top = sited .top; from = from; to = to; next = next; end = sited .end; row = k; block = getD bs k 0 } in
           let v′ : Wrote o p (siteText (boundAt t y bs ss) (lineOf t y) (getD m k 0)) o′ p′ = subst (λ (f : Site). Wrote o p (siteText (boundAt t f bs ss) (lineOf t f) (getD m (f .row) 0)) o′ p′) (sited .is) v in
           let x′ : m′ ≡ siteMarks (boundAt t y bs ss) (markRow t y) (lineOf t y) m = subst (λ (f : Site). m′ ≡ siteMarks (boundAt t f bs ss) (markRow t f) (lineOf t f) m) (sited .is) x in
-          let i : c′ ≡ own = e ∙ ap (λ (f : LineRec). f .region .0) rec-is in
-          subst (λ (f : Site). TurnInv t es n bs ss d₀ u₀ m₀ o₀ d′ u′ m′ o′ f c′ (k + 1) p′) (sym (sited .is)) (record {
+          let i : c′ ≡ number = e ∙ ap (λ (f : LineRec). f .region .0) rec-is in
+          subst (λ (f : Site). TurnInv own t es n bs ss d₀ u₀ m₀ o₀ d′ u′ m′ o′ f c′ (k + 1) p′) (sym (sited .is)) (record {
             bind = walk-on (h .bind) to inside refl (sited .region) next refl v′ x′;
             index = index-on (sited .region) inside refl next refl (sited .index) seen-is first-is;
             down = subst (λ (f : ℕ). Down t bs rs next (k + 1) f) (sym i) (down-on (h .down) inside to refl refl);
@@ -242,18 +243,18 @@ module _ {t es : List ℕ} {n : ℕ} {bs ss d₀ u₀ m₀ o₀ d u m o : List �
 
 -- ---- the same, with a window w of the records, which ends above the line past
 
-pub record Viewed (t es : List ℕ) (n : ℕ) (bs ss d₀ u₀ m₀ o₀ d u m o : List ℕ) (w₀ w : List LineRec) (c : ℕ) (s : Site) (past k p : ℕ) : Type 0 where
-  pub turn : TurnInv t es n bs ss d₀ u₀ m₀ o₀ d u m o s c k p
+pub record Viewed (own t es : List ℕ) (n : ℕ) (bs ss d₀ u₀ m₀ o₀ d u m o : List ℕ) (w₀ w : List LineRec) (c : ℕ) (s : Site) (past k p : ℕ) : Type 0 where
+  pub turn : TurnInv own t es n bs ss d₀ u₀ m₀ o₀ d u m o s c k p
   pub some : 0 < length w
   pub same : length w ≡ length w₀
   pub low : k ≤ past
   pub high : past ≤ k + length w
   pub shows : Shows (recordsOf (linesOf t) bs) w past
 
-pub viewed-start : {t es : List ℕ} {n : ℕ} {bs ss d u m o : List ℕ} {w : List LineRec} {s : Site} {x : ℕ} → 0 < length w → length d ≡ length u → AtMost 0 d → AtMost 0 u → Walked t es n bs ss m o →
-    x ≡ stopBy es (length t) (n - 0) 0 0 → s ≡ firstSite x → Viewed t es n bs ss d u m o d u m o w w 0 s 0 0 0
-viewed-start {t} {es} {n} {bs} {ss} {d} {u} {m} {o} {w} {s} {x} z p q r v f e = record {
-  turn = turn-start t es n bs ss d u m o s x p q r v f e refl;
+pub viewed-start : {own t es : List ℕ} {n : ℕ} {bs ss d u m o : List ℕ} {w : List LineRec} {s : Site} {x : ℕ} → 0 < length w → length d ≡ length u → AtMost 0 d → AtMost 0 u → Walked t es n bs ss m o →
+    x ≡ stopBy es (length t) (n - 0) 0 0 → s ≡ firstSite x → Viewed own t es n bs ss d u m o d u m o w w 0 s 0 0 0
+viewed-start {own} {t} {es} {n} {bs} {ss} {d} {u} {m} {o} {w} {s} {x} z p q r v f e = record {
+  turn = turn-start own t es n bs ss d u m o s x p q r v f e refl;
   some = z;
   same = refl;
   low = omega arith;
@@ -261,7 +262,7 @@ viewed-start {t} {es} {n} {bs} {ss} {d} {u} {m} {o} {w} {s} {x} z p q r v f e = 
   shows = shows-start _ w;
 }
 
-module _ {t es : List ℕ} {n : ℕ} {bs ss d₀ u₀ m₀ o₀ d u m o : List ℕ} {w₀ w : List LineRec} {c : ℕ} {s : Site} {past k p : ℕ} (h : Viewed t es n bs ss d₀ u₀ m₀ o₀ d u m o w₀ w c s past k p) (i : Told t es bs n) (l : k < n) where
+module _ {own t es : List ℕ} {n : ℕ} {bs ss d₀ u₀ m₀ o₀ d u m o : List ℕ} {w₀ w : List LineRec} {c : ℕ} {s : Site} {past k p : ℕ} (h : Viewed own t es n bs ss d₀ u₀ m₀ o₀ d u m o w₀ w c s past k p) (i : Told t es bs n) (l : k < n) where
   -- what `refill` asks for
   pub viewed-asks : ((x : ℕ) → getD es x 0 < 2 ^ 64) → ((k ≤ n) × ((n ≤ length es) × ((n ≤ length bs) × (0 < length w)))) × (past ≤ k → Above past (lastOf w))
   viewed-asks g = ((omega arith, (told-long i .0, (told-long i .1, h .some))), λ q. shows-asks i (h .shows) (h .some) (omega (arith, q, l)) g)
@@ -277,7 +278,7 @@ module _ {t es : List ℕ} {n : ℕ} {bs ss d₀ u₀ m₀ o₀ d u m o : List �
     pub viewed-here : {r : LineRec} → r ≡ getD w′ (k + length w′ - past′) noRec → r ≡ getD (recordsOf (linesOf t) bs) k noRec
     viewed-here g = g ∙ filled .shows .front k (filled .below) (filled .above) (turn-get (h .turn) l)
 
-    pub viewed-on : {d′ u′ m′ o′ : List ℕ} {c′ : ℕ} {s′ : Site} {p′ : ℕ} → TurnInv t es n bs ss d₀ u₀ m₀ o₀ d′ u′ m′ o′ s′ c′ (k + 1) p′ → Viewed t es n bs ss d₀ u₀ m₀ o₀ d′ u′ m′ o′ w₀ w′ c′ s′ past′ (k + 1) p′
+    pub viewed-on : {d′ u′ m′ o′ : List ℕ} {c′ : ℕ} {s′ : Site} {p′ : ℕ} → TurnInv own t es n bs ss d₀ u₀ m₀ o₀ d′ u′ m′ o′ s′ c′ (k + 1) p′ → Viewed own t es n bs ss d₀ u₀ m₀ o₀ d′ u′ m′ o′ w₀ w′ c′ s′ past′ (k + 1) p′
     viewed-on v =
         let z = filled in
         record {

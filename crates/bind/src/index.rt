@@ -3,21 +3,31 @@
 ghost use mathlib.Core.Path.{_≡_};
 ghost use mathlib.Core.Bool.{true};
 ghost use Prim.Native.Nat.{_+_, _-_, _≤_, _<_, _^_};
-ghost use lib.ListN.{length, set, getD};
+ghost use lib.ListN.{length, getD, replicate};
 ghost use Rattle.lines.specs.Lf.{part, linesOf, partsOf};
 ghost use Rattle.text.specs.Trim.{trimOf};
 ghost use Rattle.names.specs.Names.{regOf};
 ghost use Rattle.parse.specs.Parse.{isDecl};
 ghost use Rattle.parse.specs.declared.Line.the-variants.{Store};
 ghost use Rattle.words.specs.Runs.{runs};
+ghost use Rattle.slots.specs.Inner.Slots.{entryOf, withEntry};
+ghost use Rattle.decls.specs.Inner.Seen.{markName};
 ghost use Rattle.bind.specs.Bind.{piecesOf};
-ghost use Rattle.bind.specs.Inner.Index.{markName, afterStore, afterRead, readName, readRuns, storeLine, useLine, useLines, againReg, againName, seenPieces, againPieces, seenLines, againLines, seenAt, firstAt, asked};
+ghost use Rattle.bind.specs.Inner.Index.{afterStore, afterRead, readName, readRuns, storeLine, useLine, useLines, againReg, againName, seenPieces, againPieces, seenLines, againLines, seenAt, firstAt, asked};
+
+// Makes every entry of both tables 0.
+pub fn wipe(seen: &mut [usize], first: &mut [usize])
+    ensures { λ _. ⌜ (now (seen .exit) ≡ replicate (length (now (seen .entry))) 0) × (now (first .exit) ≡ replicate (length (now (first .entry))) 0) ⌝ }
+{
+    slots::wipe(seen);
+    slots::wipe(first);
+}
 
 // Notes that a line reads a register.
-fn read_reg(reg: names::Register, b: usize, first: &mut [usize])
-    ensures { λ _. ⌜ now (first .exit) ≡ set (now (first .entry)) (reg .0) (afterRead b (getD (now (first .entry)) (reg .0) 0)) ⌝ }
+fn read_reg(reg: names::Register, own: &[usize], b: usize, first: &mut [usize])
+    ensures { λ _. ⌜ now (first .exit) ≡ withEntry (now (own .entry)) (reg .0) (afterRead b (entryOf (now (own .entry)) (reg .0) (now (first .entry)))) (now (first .entry)) ⌝ }
 {
-    let v = reg.0 as usize;
+    let v = slots::slot(reg.0 as usize, first.len(), own);
     if first.len() <= v {
         return;
     }
@@ -28,35 +38,35 @@ fn read_reg(reg: names::Register, b: usize, first: &mut [usize])
 }
 
 // The same of the register that a text names.
-fn read_name(t: &[u8], b: usize, first: &mut [usize])
-    ensures { λ _. ⌜ now (first .exit) ≡ readName b (regOf (now (t .entry))) (now (first .entry)) ⌝ }
+fn read_name(t: &[u8], own: &[usize], b: usize, first: &mut [usize])
+    ensures { λ _. ⌜ now (first .exit) ≡ readName (now (own .entry)) b (regOf (now (t .entry))) (now (first .entry)) ⌝ }
 {
     if lines::byte_at(t, 0) != b'r' {
         return;
     }
     match names::reg_name(t) {
-        names::RegName::Reg(q) => read_reg(q, b, first),
+        names::RegName::Reg(q) => read_reg(q, own, b, first),
         names::RegName::None => {}
     }
 }
 
 // The same of all registers that a text reads: runs that begin with another byte than `r` name none.
-fn read_runs(s: &[u8], b: usize, first: &mut [usize])
-    ensures { λ _. ⌜ now (first .exit) ≡ readRuns b (runs (now (s .entry))) (now (first .entry)) ⌝ }
+fn read_runs(s: &[u8], own: &[usize], b: usize, first: &mut [usize])
+    ensures { λ _. ⌜ now (first .exit) ≡ readRuns (now (own .entry)) b (runs (now (s .entry))) (now (first .entry)) ⌝ }
 {
     let mut i = words::reg_start(s, 0);
     while i < s.len() {
         let e = words::run_end(s, i);
-        read_name(&s[i..e], b, first);
+        read_name(&s[i..e], own, b, first);
         i = words::reg_start(s, e);
     }
 }
 
 // Notes that a line stores a register; `c` is one more than its row.
-fn store_reg(reg: names::Register, b: usize, c: usize, first: &mut [usize])
-    ensures { λ _. ⌜ now (first .exit) ≡ set (now (first .entry)) (reg .0) (afterStore b c (getD (now (first .entry)) (reg .0) 0)) ⌝ }
+fn store_reg(reg: names::Register, own: &[usize], b: usize, c: usize, first: &mut [usize])
+    ensures { λ _. ⌜ now (first .exit) ≡ withEntry (now (own .entry)) (reg .0) (afterStore b c (entryOf (now (own .entry)) (reg .0) (now (first .entry)))) (now (first .entry)) ⌝ }
 {
-    let v = reg.0 as usize;
+    let v = slots::slot(reg.0 as usize, first.len(), own);
     if first.len() <= v {
         return;
     }
@@ -68,20 +78,27 @@ fn store_reg(reg: names::Register, b: usize, c: usize, first: &mut [usize])
 }
 
 // Notes the registers that a store reads, and the one that it stores.
-fn use_store(line: &[u8], s: parse::Store, b: usize, c: usize, first: &mut [usize])
-    ensures { λ _. ⌜ now (first .exit) ≡ readRuns b (runs (part (s .from) (s .to) (now (line .entry)))) (storeLine b c (Store s) (now (first .entry))) ⌝ }
+fn use_store(line: &[u8], own: &[usize], s: parse::Store, b: usize, c: usize, first: &mut [usize])
+    ensures { λ _. ⌜ now (first .exit) ≡ readRuns (now (own .entry)) b (runs (part (s .from) (s .to) (now (line .entry)))) (storeLine (now (own .entry)) b c (Store s) (now (first .entry))) ⌝ }
 {
-    store_reg(s.reg, b, c, first);
-    read_runs(parse::value_of(line, s), b, first);
+    store_reg(s.reg, own, b, c, first);
+    read_runs(parse::value_of(line, s), own, b, first);
 }
 
 // Marks a register that a declaration names; one that has a mark already is `b` in the other table.
-fn see_reg(reg: names::Register, m: usize, b: usize, seen: &mut [usize], first: &mut [usize])
+fn see_reg(
+    reg: names::Register,
+    own: &[usize],
+    m: usize,
+    b: usize,
+    seen: &mut [usize],
+    first: &mut [usize],
+)
     requires { ⌜ length (now seen) ≡ length (now first) ⌝ }
-    ensures marked { λ _. ⌜ now (seen .exit) ≡ set (now (seen .entry)) (reg .0) m ⌝ }
-    ensures again { λ _. ⌜ now (first .exit) ≡ againReg m b (reg .0) (now (seen .entry)) (now (first .entry)) ⌝ }
+    ensures marked { λ _. ⌜ now (seen .exit) ≡ withEntry (now (own .entry)) (reg .0) m (now (seen .entry)) ⌝ }
+    ensures again { λ _. ⌜ now (first .exit) ≡ againReg (now (own .entry)) m b (reg .0) (now (seen .entry)) (now (first .entry)) ⌝ }
 {
-    let v = reg.0 as usize;
+    let v = slots::slot(reg.0 as usize, first.len(), own);
     if first.len() <= v {
         return;
     }
@@ -94,27 +111,34 @@ fn see_reg(reg: names::Register, m: usize, b: usize, seen: &mut [usize], first: 
 }
 
 // The same of the register that a text names.
-fn see_name(t: &[u8], m: usize, b: usize, seen: &mut [usize], first: &mut [usize])
+fn see_name(t: &[u8], own: &[usize], m: usize, b: usize, seen: &mut [usize], first: &mut [usize])
     requires { ⌜ length (now seen) ≡ length (now first) ⌝ }
-    ensures marked { λ _. ⌜ now (seen .exit) ≡ markName m (regOf (now (t .entry))) (now (seen .entry)) ⌝ }
-    ensures again { λ _. ⌜ now (first .exit) ≡ againName m b (regOf (now (t .entry))) (now (seen .entry)) (now (first .entry)) ⌝ }
+    ensures marked { λ _. ⌜ now (seen .exit) ≡ markName (now (own .entry)) m (regOf (now (t .entry))) (now (seen .entry)) ⌝ }
+    ensures again { λ _. ⌜ now (first .exit) ≡ againName (now (own .entry)) m b (regOf (now (t .entry))) (now (seen .entry)) (now (first .entry)) ⌝ }
 {
     match names::reg_name(t) {
-        names::RegName::Reg(q) => see_reg(q, m, b, seen, first),
+        names::RegName::Reg(q) => see_reg(q, own, m, b, seen, first),
         names::RegName::None => {}
     }
 }
 
 // The same of the pieces of a declaration.
-fn see_pieces(body: &[u8], m: usize, b: usize, seen: &mut [usize], first: &mut [usize])
+fn see_pieces(
+    body: &[u8],
+    own: &[usize],
+    m: usize,
+    b: usize,
+    seen: &mut [usize],
+    first: &mut [usize],
+)
     requires { ⌜ length (now seen) ≡ length (now first) ⌝ }
-    ensures marked { λ _. ⌜ now (seen .exit) ≡ seenPieces m (partsOf 44 (now (body .entry))) (now (seen .entry)) ⌝ }
-    ensures again { λ _. ⌜ now (first .exit) ≡ againPieces m b (partsOf 44 (now (body .entry))) (now (seen .entry)) (now (first .entry)) ⌝ }
+    ensures marked { λ _. ⌜ now (seen .exit) ≡ seenPieces (now (own .entry)) m (partsOf 44 (now (body .entry))) (now (seen .entry)) ⌝ }
+    ensures again { λ _. ⌜ now (first .exit) ≡ againPieces (now (own .entry)) m b (partsOf 44 (now (body .entry))) (now (seen .entry)) (now (first .entry)) ⌝ }
 {
     let mut i = 0;
     loop {
         let e = lines::find_byte(body, i, b',');
-        see_name(text::trim(&body[i..e]), m, b, seen, first);
+        see_name(text::trim(&body[i..e]), own, m, b, seen, first);
         if e >= body.len() {
             return;
         }
@@ -123,40 +147,56 @@ fn see_pieces(body: &[u8], m: usize, b: usize, seen: &mut [usize], first: &mut [
 }
 
 // The same of a line that is a declaration.
-fn see_decl(line: &[u8], m: usize, b: usize, seen: &mut [usize], first: &mut [usize])
+fn see_decl(line: &[u8], own: &[usize], m: usize, b: usize, seen: &mut [usize], first: &mut [usize])
     requires { ⌜ (isDecl (trimOf (now line)) ≡ true) × (length (now seen) ≡ length (now first)) ⌝ }
-    ensures marked { λ _. ⌜ now (seen .exit) ≡ seenPieces m (piecesOf (now (line .entry))) (now (seen .entry)) ⌝ }
-    ensures again { λ _. ⌜ now (first .exit) ≡ againPieces m b (piecesOf (now (line .entry))) (now (seen .entry)) (now (first .entry)) ⌝ }
+    ensures marked { λ _. ⌜ now (seen .exit) ≡ seenPieces (now (own .entry)) m (piecesOf (now (line .entry))) (now (seen .entry)) ⌝ }
+    ensures again { λ _. ⌜ now (first .exit) ≡ againPieces (now (own .entry)) m b (piecesOf (now (line .entry))) (now (seen .entry)) (now (first .entry)) ⌝ }
 {
     let t = text::trim(line);
-    see_pieces(lines::cut(t, 4, t.len() - 1), m, b, seen, first);
+    see_pieces(lines::cut(t, 4, t.len() - 1), own, m, b, seen, first);
 }
 
 // Notes the registers that a line stores and reads, or declares; `c` is one more than its row.
-fn read_line(line: &[u8], m: usize, b: usize, c: usize, seen: &mut [usize], first: &mut [usize])
+fn read_line(
+    line: &[u8],
+    own: &[usize],
+    m: usize,
+    b: usize,
+    c: usize,
+    seen: &mut [usize],
+    first: &mut [usize],
+)
     requires { ⌜ length (now seen) ≡ length (now first) ⌝ }
-    ensures marked { λ _. ⌜ now (seen .exit) ≡ seenPieces m (piecesOf (now (line .entry))) (now (seen .entry)) ⌝ }
-    ensures again { λ _. ⌜ now (first .exit) ≡ againPieces m b (piecesOf (now (line .entry))) (now (seen .entry)) (useLine b c (now (line .entry)) (now (first .entry))) ⌝ }
+    ensures marked { λ _. ⌜ now (seen .exit) ≡ seenPieces (now (own .entry)) m (piecesOf (now (line .entry))) (now (seen .entry)) ⌝ }
+    ensures again { λ _. ⌜ now (first .exit) ≡ againPieces (now (own .entry)) m b (piecesOf (now (line .entry))) (now (seen .entry)) (useLine (now (own .entry)) b c (now (line .entry)) (now (first .entry))) ⌝ }
 {
     let p = parse::parse(line);
     match p {
-        parse::Line::Decl => see_decl(line, m, b, seen, first),
-        parse::Line::Store(s) => use_store(line, s, b, c, first),
-        parse::Line::Other => read_runs(line, b, first),
+        parse::Line::Decl => see_decl(line, own, m, b, seen, first),
+        parse::Line::Store(s) => use_store(line, own, s, b, c, first),
+        parse::Line::Other => read_runs(line, own, b, first),
     }
 }
 
 // The same of the lines of a text, of which the first has the row `n`.
-fn read_lines(text: &[u8], m: usize, b: usize, n: usize, seen: &mut [usize], first: &mut [usize])
+fn read_lines(
+    text: &[u8],
+    own: &[usize],
+    m: usize,
+    b: usize,
+    n: usize,
+    seen: &mut [usize],
+    first: &mut [usize],
+)
     requires { ⌜ (length (now seen) ≡ length (now first)) × (n + length (linesOf (now text)) < 2 ^ 64) ⌝ }
-    ensures marked { λ _. ⌜ now (seen .exit) ≡ seenLines m (linesOf (now (text .entry))) (now (seen .entry)) ⌝ }
-    ensures again { λ _. ⌜ now (first .exit) ≡ againLines m b (linesOf (now (text .entry))) (now (seen .entry)) (useLines b n (linesOf (now (text .entry))) (now (first .entry))) ⌝ }
+    ensures marked { λ _. ⌜ now (seen .exit) ≡ seenLines (now (own .entry)) m (linesOf (now (text .entry))) (now (seen .entry)) ⌝ }
+    ensures again { λ _. ⌜ now (first .exit) ≡ againLines (now (own .entry)) m b (linesOf (now (text .entry))) (now (seen .entry)) (useLines (now (own .entry)) b n (linesOf (now (text .entry))) (now (first .entry))) ⌝ }
 {
     let mut i = 0;
     let mut k = n;
     while i < text.len() {
         let e = lines::find_byte(text, i, 10);
-        read_line(&text[i..e], m, b, k + 1, seen, first);
+        read_line(&text[i..e], own, m, b, k + 1, seen, first);
         k += 1;
         i = lines::after(text, e);
     }
@@ -165,6 +205,7 @@ fn read_lines(text: &[u8], m: usize, b: usize, n: usize, seen: &mut [usize], fir
 // Reads a region, from `a` to `e`, into the tables, where the line at `i`, in row `k`, is its first.
 pub fn read_region(
     text: &[u8],
+    own: &[usize],
     a: usize,
     i: usize,
     e: usize,
@@ -173,13 +214,13 @@ pub fn read_region(
     first: &mut [usize],
 )
     requires { ⌜ (length (now seen) ≡ length (now first)) × ((a < 2 ^ 64 - 1) × ((k < 2 ^ 64 - 1) × (i ≤ a → k + length (linesOf (part a e (now text))) < 2 ^ 64))) ⌝ }
-    ensures marked { λ _. ⌜ now (seen .exit) ≡ seenAt (now (text .entry)) a i e (now (seen .entry)) ⌝ }
-    ensures again { λ _. ⌜ now (first .exit) ≡ firstAt (now (text .entry)) a i e k (now (seen .entry)) (now (first .entry)) ⌝ }
+    ensures marked { λ _. ⌜ now (seen .exit) ≡ seenAt (now (own .entry)) (now (text .entry)) a i e (now (seen .entry)) ⌝ }
+    ensures again { λ _. ⌜ now (first .exit) ≡ firstAt (now (own .entry)) (now (text .entry)) a i e k (now (seen .entry)) (now (first .entry)) ⌝ }
 {
     if a < i {
         return;
     }
-    read_lines(lines::cut(text, a, e), a + 1, k + 1, k, seen, first);
+    read_lines(lines::cut(text, a, e), own, a + 1, k + 1, k, seen, first);
 }
 
 // Whether a register is bound, by its entries `x` and `y`: its declaration stands in row `k`, in the block `block`, and the region of that begins

@@ -7,7 +7,7 @@ ghost use mathlib.Core.List.{[], _∷_, _++_};
 ghost use Prim.Native.Nat.{suc, min, _≤_, _<_, _+_, _-_, _^_};
 ghost use lib.Dec.{eqb};
 ghost use lib.ListN.{length, getD, take, drop, replicate};
-ghost use Rattle.lines.specs.Lf.{linesOf, partsOf, unlines};
+ghost use Rattle.lines.specs.Lf.{part, linesOf, partsOf, unlines};
 ghost use Rattle.lines.specs.Inner.Out.{Wrote};
 ghost use Rattle.text.specs.Trim.{trimOf};
 ghost use Rattle.names.specs.Names.{regOf, regIs};
@@ -17,12 +17,13 @@ ghost use Rattle.place.specs.Starts.{startsGo};
 ghost use Rattle.place.specs.Inner.Parents.{idsParents};
 ghost use Rattle.place.specs.Inner.Fill.{Filled, flagsOf};
 ghost use Rattle.place.specs.Inner.Ends.{endMarks};
+ghost use Rattle.slots.specs.Inner.Slots.{slotOf, entryOf};
 ghost use Rattle.decls.specs.Inner.Seen.{AtMost};
 ghost use Rattle.decls.specs.Inner.Print.{kept, declText};
 ghost use Rattle.reading.specs.Reading.{plain};
 ghost use Rattle.reading.specs.Uses.{lineStores};
 ghost use Rattle.bind.specs.Bind.{spots, pieceCount, declCount, storeCount, promoted, bindDeclarators};
-ghost use Rattle.bind.specs.Inner.Index.{Ready, ReadyFor};
+ghost use Rattle.bind.specs.Inner.Index.{siteSeen, siteFirst, Ready, ReadyFor};
 ghost use Rattle.bind.specs.Inner.Steps.{lineOf, belowOf, useRow, storesAt, boundAt, markRow, passes, left, anyPass, noted, notedAll, otherText, siteText, siteMarks, bindMarks, Reach};
 ghost use Rattle.bind.specs.Inner.Sites.{stopBy, firstSite, siteOf, Walked};
 
@@ -214,6 +215,7 @@ fn bound(text: &[u8], s: Site, blocks: &[usize], starts: &[u8], reg: names::Regi
 // Whether a register is bound that the line of a site declares: the index says so, where it reaches to the register.
 fn told(
     text: &[u8],
+    own: &[usize],
     s: Site,
     blocks: &[usize],
     starts: &[u8],
@@ -221,10 +223,10 @@ fn told(
     first: &[usize],
     reg: names::Register,
 ) -> bool
-    requires { ⌜ Ready (now text) s (now blocks) (now starts) (now seen) (now first) ⌝ }
+    requires { ⌜ Ready (now own) (now text) s (now blocks) (now starts) (now seen) (now first) ⌝ }
     ensures { λ r. ⌜ r ≡ boundAt (now (text .entry)) s (now (blocks .entry)) (now (starts .entry)) (reg .0) ⌝ }
 {
-    let v = reg.0 as usize;
+    let v = slots::slot(reg.0 as usize, first.len(), own);
     if v < first.len() {
         return index::ask(blocks, starts, s.block, s.top, s.row, seen[v], first[v]);
     }
@@ -232,11 +234,11 @@ fn told(
 }
 
 // The row of the store that becomes the declaration of a register.
-fn store_row(text: &[u8], s: Site, first: &[usize], reg: names::Register) -> usize
-    requires { ⌜ (reg .0 < length (now first) → getD (now first) (reg .0) 0 ≡ suc (markRow (now text) s (reg .0))) × (markRow (now text) s (reg .0) < 2 ^ 64) ⌝ }
+fn store_row(text: &[u8], own: &[usize], s: Site, first: &[usize], reg: names::Register) -> usize
+    requires { ⌜ (slotOf (length (now first)) (now own) (reg .0) < length (now first) → entryOf (now own) (reg .0) (now first) ≡ suc (markRow (now text) s (reg .0))) × (markRow (now text) s (reg .0) < 2 ^ 64) ⌝ }
     ensures { λ r. ⌜ r ≡ markRow (now (text .entry)) s (reg .0) ⌝ }
 {
-    let v = reg.0 as usize;
+    let v = slots::slot(reg.0 as usize, first.len(), own);
     if v < first.len() {
         return first[v] - 1;
     }
@@ -247,6 +249,7 @@ fn store_row(text: &[u8], s: Site, first: &[usize], reg: names::Register) -> usi
 // Whether a text names a register that is not bound.
 fn is_left(
     text: &[u8],
+    own: &[usize],
     s: Site,
     blocks: &[usize],
     starts: &[u8],
@@ -254,11 +257,11 @@ fn is_left(
     first: &[usize],
     t: &[u8],
 ) -> bool
-    requires { ⌜ Ready (now text) s (now blocks) (now starts) (now seen) (now first) ⌝ }
+    requires { ⌜ Ready (now own) (now text) s (now blocks) (now starts) (now seen) (now first) ⌝ }
     ensures { λ r. ⌜ r ≡ left (boundAt (now (text .entry)) s (now (blocks .entry)) (now (starts .entry))) (now (t .entry)) ⌝ }
 {
     match names::reg_name(t) {
-        names::RegName::Reg(q) => !told(text, s, blocks, starts, seen, first, q),
+        names::RegName::Reg(q) => !told(text, own, s, blocks, starts, seen, first, q),
         names::RegName::None => false,
     }
 }
@@ -266,6 +269,7 @@ fn is_left(
 // Whether a name is bound; where it is, marks the line of the store that becomes its declaration.
 fn mark_name(
     text: &[u8],
+    own: &[usize],
     s: Site,
     blocks: &[usize],
     starts: &[u8],
@@ -274,16 +278,16 @@ fn mark_name(
     t: &[u8],
     marks: &mut [u8],
 ) -> bool
-    requires { ⌜ (Ready (now text) s (now blocks) (now starts) (now seen) (now first)) × (s .row + suc (length (belowOf (now text) s)) ≤ length (now marks)) ⌝ }
+    requires { ⌜ (Ready (now own) (now text) s (now blocks) (now starts) (now seen) (now first)) × (s .row + suc (length (belowOf (now text) s)) ≤ length (now marks)) ⌝ }
     ensures answer { λ r. ⌜ r ≡ passes (boundAt (now (text .entry)) s (now (blocks .entry)) (now (starts .entry))) (regOf (now (t .entry))) ⌝ }
     ensures memory { λ _. ⌜ now (marks .exit) ≡ noted (boundAt (now (text .entry)) s (now (blocks .entry)) (now (starts .entry))) (markRow (now (text .entry)) s) (regOf (now (t .entry))) (now (marks .entry)) ⌝ }
 {
     match names::reg_name(t) {
         names::RegName::Reg(q) => {
-            if !told(text, s, blocks, starts, seen, first, q) {
+            if !told(text, own, s, blocks, starts, seen, first, q) {
                 return false;
             }
-            let k = store_row(text, s, first, q);
+            let k = store_row(text, own, s, first, q);
             marks[k] = 1;
             true
         }
@@ -295,6 +299,7 @@ fn mark_name(
 fn mark_names(
     body: &[u8],
     text: &[u8],
+    own: &[usize],
     s: Site,
     blocks: &[usize],
     starts: &[u8],
@@ -302,7 +307,7 @@ fn mark_names(
     first: &[usize],
     marks: &mut [u8],
 ) -> bool
-    requires { ⌜ (Ready (now text) s (now blocks) (now starts) (now seen) (now first)) × (s .row + suc (length (belowOf (now text) s)) ≤ length (now marks)) ⌝ }
+    requires { ⌜ (Ready (now own) (now text) s (now blocks) (now starts) (now seen) (now first)) × (s .row + suc (length (belowOf (now text) s)) ≤ length (now marks)) ⌝ }
     ensures answer { λ r. ⌜ r ≡ anyPass (boundAt (now (text .entry)) s (now (blocks .entry)) (now (starts .entry))) (partsOf 44 (now (body .entry))) ⌝ }
     ensures memory { λ _. ⌜ now (marks .exit) ≡ notedAll (boundAt (now (text .entry)) s (now (blocks .entry)) (now (starts .entry))) (markRow (now (text .entry)) s) (partsOf 44 (now (body .entry))) (now (marks .entry)) ⌝ }
 {
@@ -312,6 +317,7 @@ fn mark_names(
         let e = lines::find_byte(body, i, b',');
         let b = mark_name(
             text,
+            own,
             s,
             blocks,
             starts,
@@ -333,6 +339,7 @@ fn put_decl(
     body: &[u8],
     indent: &[u8],
     text: &[u8],
+    own: &[usize],
     s: Site,
     blocks: &[usize],
     starts: &[u8],
@@ -341,7 +348,7 @@ fn put_decl(
     out: &mut [u8],
     o: usize,
 ) -> usize
-    requires { ⌜ (Ready (now text) s (now blocks) (now starts) (now seen) (now first))
+    requires { ⌜ (Ready (now own) (now text) s (now blocks) (now starts) (now seen) (now first))
         × (o + length (declText (now indent) (kept (left (boundAt (now text) s (now blocks) (now starts))) 1 (partsOf 44 (now body))) false) ≤ length (now out)) ⌝ }
     ensures { λ r. ⌜ Wrote (now (out .entry)) o (declText (now (indent .entry)) (kept (left (boundAt (now (text .entry)) s (now (blocks .entry)) (now (starts .entry)))) 1 (partsOf 44 (now (body .entry)))) false) (now (out .exit)) r ⌝ }
 {
@@ -350,7 +357,7 @@ fn put_decl(
     loop {
         let e = lines::find_byte(body, i, b',');
         let t = text::trim(&body[i..e]);
-        let l = is_left(text, s, blocks, starts, seen, first, t);
+        let l = is_left(text, own, s, blocks, starts, seen, first, t);
         p = decls::print::put_part(indent, o < p, l, t, 1, out, p);
         if e >= body.len() {
             return decls::print::put_end(o < p, out, p);
@@ -386,6 +393,7 @@ fn put_other(line: &[u8], m: u8, out: &mut [u8], o: usize) -> usize
 // Writes what the line of a site becomes, and marks the stores that take up the names which it gives up, where it may be a declaration.
 fn bind_decl(
     text: &[u8],
+    own: &[usize],
     s: Site,
     blocks: &[usize],
     starts: &[u8],
@@ -395,7 +403,7 @@ fn bind_decl(
     out: &mut [u8],
     o: usize,
 ) -> usize
-    requires { ⌜ (ReadyFor (trimOf (lineOf (now text) s)) (now text) s (now blocks) (now starts) (now seen) (now first))
+    requires { ⌜ (ReadyFor (trimOf (lineOf (now text) s)) (now own) (now text) s (now blocks) (now starts) (now seen) (now first))
         × ((s .row + suc (length (belowOf (now text) s)) ≤ length (now marks))
         × (o + length (siteText (boundAt (now text) s (now blocks) (now starts)) (lineOf (now text) s) (getD (now marks) (s .row) 0)) ≤ length (now out))) ⌝ }
     ensures answer { λ r. ⌜ Wrote (now (out .entry)) o (siteText (boundAt (now (text .entry)) s (now (blocks .entry)) (now (starts .entry))) (lineOf (now (text .entry)) s) (getD (now (marks .entry)) (s .row) 0)) (now (out .exit)) r ⌝ }
@@ -408,16 +416,29 @@ fn bind_decl(
         return put_other(line, marks[row], out, o);
     }
     let body = lines::cut(t, 4, t.len() - 1);
-    if !mark_names(body, text, s, blocks, starts, seen, first, marks) {
+    if !mark_names(body, text, own, s, blocks, starts, seen, first, marks) {
         return put_other(line, marks[row], out, o);
     }
     let indent = lines::cut(line, 0, text::trim_from(line));
-    put_decl(body, indent, text, s, blocks, starts, seen, first, out, o)
+    put_decl(
+        body,
+        indent,
+        text,
+        own,
+        s,
+        blocks,
+        starts,
+        seen,
+        first,
+        out,
+        o,
+    )
 }
 
 // The same of any line: one that does not begin with `l` gives up no name.
 fn bind_line(
     text: &[u8],
+    own: &[usize],
     s: Site,
     blocks: &[usize],
     starts: &[u8],
@@ -427,7 +448,7 @@ fn bind_line(
     out: &mut [u8],
     o: usize,
 ) -> usize
-    requires { ⌜ (ReadyFor (trimOf (lineOf (now text) s)) (now text) s (now blocks) (now starts) (now seen) (now first))
+    requires { ⌜ (ReadyFor (trimOf (lineOf (now text) s)) (now own) (now text) s (now blocks) (now starts) (now seen) (now first))
         × ((s .row + suc (length (belowOf (now text) s)) ≤ length (now marks))
         × (o + length (siteText (boundAt (now text) s (now blocks) (now starts)) (lineOf (now text) s) (getD (now marks) (s .row) 0)) ≤ length (now out))) ⌝ }
     ensures answer { λ r. ⌜ Wrote (now (out .entry)) o (siteText (boundAt (now (text .entry)) s (now (blocks .entry)) (now (starts .entry))) (lineOf (now (text .entry)) s) (getD (now (marks .entry)) (s .row) 0)) (now (out .exit)) r ⌝ }
@@ -438,7 +459,7 @@ fn bind_line(
         let row = s.row;
         return put_other(line, marks[row], out, o);
     }
-    bind_decl(text, s, blocks, starts, seen, first, marks, out, o)
+    bind_decl(text, own, s, blocks, starts, seen, first, marks, out, o)
 }
 
 // Makes the first `n` entries 0.
@@ -552,10 +573,37 @@ fn site_by(
     site_at(text, rec, top, end, k)
 }
 
+// Reads the region of a site into the index, where the site is its first line, and writes what its line becomes.
+fn walk_line(
+    text: &[u8],
+    own: &[usize],
+    s: Site,
+    blocks: &[usize],
+    starts: &[u8],
+    seen: &mut [usize],
+    first: &mut [usize],
+    marks: &mut [u8],
+    out: &mut [u8],
+    o: usize,
+) -> usize
+    requires { ⌜ ((length (now seen) ≡ length (now first)) × ((s .top < 2 ^ 64 - 1) × ((s .row < 2 ^ 64 - 1) × (s .from ≤ s .top → s .row + length (linesOf (part (s .top) (s .end) (now text))) < 2 ^ 64))))
+        × ((ReadyFor (trimOf (lineOf (now text) s)) (now own) (now text) s (now blocks) (now starts) (siteSeen (now own) (now text) s (now seen)) (siteFirst (now own) (now text) s (now seen) (now first)))
+        × ((s .row + suc (length (belowOf (now text) s)) ≤ length (now marks))
+        × (o + length (siteText (boundAt (now text) s (now blocks) (now starts)) (lineOf (now text) s) (getD (now marks) (s .row) 0)) ≤ length (now out)))) ⌝ }
+    ensures index { λ _. ⌜ (now (seen .exit) ≡ siteSeen (now (own .entry)) (now (text .entry)) s (now (seen .entry)))
+        × (now (first .exit) ≡ siteFirst (now (own .entry)) (now (text .entry)) s (now (seen .entry)) (now (first .entry))) ⌝ }
+    ensures answer { λ r. ⌜ Wrote (now (out .entry)) o (siteText (boundAt (now (text .entry)) s (now (blocks .entry)) (now (starts .entry))) (lineOf (now (text .entry)) s) (getD (now (marks .entry)) (s .row) 0)) (now (out .exit)) r ⌝ }
+    ensures memory { λ _. ⌜ now (marks .exit) ≡ siteMarks (boundAt (now (text .entry)) s (now (blocks .entry)) (now (starts .entry))) (markRow (now (text .entry)) s) (lineOf (now (text .entry)) s) (now (marks .entry)) ⌝ }
+{
+    index::read_region(text, own, s.top, s.from, s.end, s.row, seen, first);
+    bind_line(text, own, s, blocks, starts, seen, first, marks, out, o)
+}
+
 // The walk down the `n` lines, by their records in a lent window, with the tables of ends, blocks and starts, with no line marked, and with an index
 // that is empty.
 fn walk_lines(
     text: &[u8],
+    own: &[usize],
     ends: &[usize],
     n: usize,
     blocks: &[usize],
@@ -581,8 +629,7 @@ fn walk_lines(
         let rec = records::get(recs, k + recs.len() - past);
         s = site_by(text, ends, rec, k, n, c, s);
         c = rec.region;
-        index::read_region(text, s.top, s.from, s.end, k, seen, first);
-        o = bind_line(text, s, blocks, starts, seen, first, marks, out, o);
+        o = walk_line(text, own, s, blocks, starts, seen, first, marks, out, o);
         k += 1;
     }
     o
@@ -591,6 +638,7 @@ fn walk_lines(
 // The same with a window of its own.
 fn walk_window(
     text: &[u8],
+    own: &[usize],
     ends: &[usize],
     n: usize,
     blocks: &[usize],
@@ -608,6 +656,7 @@ fn walk_window(
     let mut recs = records::window();
     walk_lines(
         text,
+        own,
         ends,
         n,
         blocks,
@@ -620,45 +669,56 @@ fn walk_window(
     )
 }
 
-// The same with an index of its own.
+// The same with an index in lent tables, as long as the shorter of them.
 fn walk(
     text: &[u8],
+    own: &[usize],
     ends: &[usize],
     n: usize,
     blocks: &[usize],
     starts: &[u8],
+    seen: &mut [usize],
+    first: &mut [usize],
     marks: &mut [u8],
     out: &mut [u8],
 ) -> usize
     requires { ⌜ Walked (now text) (now ends) n (now blocks) (now starts) (now marks) (now out) ⌝ }
     ensures answer { λ r. ⌜ Wrote (now (out .entry)) 0 (unlines (bindDeclarators plain (linesOf (now (text .entry))))) (now (out .exit)) r ⌝ }
     ensures memory { λ _. ⌜ Filled (now (marks .entry)) (flagsOf (bindMarks plain (linesOf (now (text .entry))))) (now (marks .exit)) (length (linesOf (now (text .entry)))) ⌝ }
+    ensures index { λ _. ⌜ (now (seen .exit) ≡ replicate (length (now (seen .entry))) 0) × (now (first .exit) ≡ replicate (length (now (first .entry))) 0) ⌝ }
 {
-    let mut seen = [0usize; 1024];
-    let mut first = [0usize; 1024];
-    walk_window(
+    let h = slots::shorter(seen.len(), first.len());
+    index::wipe(seen, first);
+    let o = walk_window(
         text,
+        own,
         ends,
         n,
         blocks,
         starts,
-        &mut seen,
-        &mut first,
+        &mut seen[..h],
+        &mut first[..h],
         marks,
         out,
-    )
+    );
+    index::wipe(seen, first);
+    o
 }
 
 // A register that is declared once and stored once, with that store its first use, on a later line of its region and block that starts a
 // statement, leaves its declaration, and its store becomes one. Each line is followed by one LF. `ends`, `blocks`, `starts` and `up` are
-// left as `place::place_lines` fills them, and `marks` says for each line whether it was such a store.
+// left as `place::place_lines` fills them, and `marks` says for each line whether it was such a store. `seen` and `first` are room for the
+// index of a region, where `own` says which places are those of high registers; they are left with zeros.
 pub fn bind_declarators(
     text: &[u8],
+    own: &[usize],
     ends: &mut [usize],
     blocks: &mut [usize],
     starts: &mut [u8],
     up: &mut [u32],
     marks: &mut [u8],
+    seen: &mut [usize],
+    first: &mut [usize],
     out: &mut [u8],
 ) -> usize
     requires { ⌜ ((length (linesOf (now text)) ≤ length (now blocks))
@@ -671,9 +731,10 @@ pub fn bind_declarators(
         × ((Filled (now (starts .entry)) (flagsOf (startsGo (cleaned (linesOf (now (text .entry)))) true)) (now (starts .exit)) (length (linesOf (now (text .entry)))))
         × (Filled (now (up .entry)) (idsParents (linesOf (now (text .entry)))) (now (up .exit)) (length (idsParents (linesOf (now (text .entry))))))) ⌝ }
     ensures marked { λ _. ⌜ Filled (now (marks .entry)) (flagsOf (bindMarks plain (linesOf (now (text .entry))))) (now (marks .exit)) (length (linesOf (now (text .entry)))) ⌝ }
+    ensures index { λ _. ⌜ (now (seen .exit) ≡ replicate (length (now (seen .entry))) 0) × (now (first .exit) ≡ replicate (length (now (first .entry))) 0) ⌝ }
     ensures ends { λ _. ⌜ Filled (now (ends .entry)) (endMarks 0 (linesOf (now (text .entry)))) (now (ends .exit)) (length (linesOf (now (text .entry)))) ⌝ }
 {
     let n = place::place_lines(text, blocks, starts, up, ends);
     clear(marks, n);
-    walk(text, ends, n, blocks, starts, marks, out)
+    walk(text, own, ends, n, blocks, starts, seen, first, marks, out)
 }

@@ -14,18 +14,18 @@ place-lines-requires : tie.Need-place-lines-requires
 place-lines-requires c κs = search needs
 
 clear-requires : tie.Need-clear-requires
-clear-requires c κs = omega (arith, c .before .before .before .before .before .before .before .before .before .before .before .before .before .before .before .before .before .before .before .before .before .pre .1 .0, table-count (linesOf (c .before .before .before .before .before .before .before .before .before .before .before .before .before .before .before .before .before .before .before .before .before .args .text .now)) (c .before .before .before .before .before .before .before .before .before .place-lines .ensures .0 .0))
+clear-requires c κs = omega (arith, c .before .before .before .before .before .before .before .before .before .before .before .before .before .before .before .before .before .before .before .before .before .before .before .before .pre .1 .0, table-count (linesOf (c .before .before .before .before .before .before .before .before .before .before .before .before .before .before .before .before .before .before .before .before .before .before .before .before .args .text .now)) (c .before .before .before .before .before .before .before .before .before .place-lines .ensures .0 .0))
 
 walk-requires : tie.Need-walk-requires
-walk-requires c κs = let a = c .before .before .before .before .before .before .before .before .before .before .before .before .before .before .before .before .before .before .before .before .before .before .before .before .before .before .before .before .before .args in
-    let q = c .before .before .before .before .before .before .before .before .before .before .before .before .before .before .before .before .before .before .before .before .before .before .before .before .before .before .before .before .before .pre in
-    let p = c .before .before .before .before .before .before .before .before .before .before .before .before .before .before .before .before .before .place-lines .ensures .0 in
+walk-requires c κs = let a = c .before .before .before .before .before .before .before .before .before .before .before .before .before .before .before .before .before .before .before .before .before .before .before .before .before .before .before .before .before .before .before .before .before .before .args in
+    let q = c .before .before .before .before .before .before .before .before .before .before .before .before .before .before .before .before .before .before .before .before .before .before .before .before .before .before .before .before .before .before .before .before .before .before .pre in
+    let p = c .before .before .before .before .before .before .before .before .before .before .before .before .before .before .before .before .before .before .before .place-lines .ensures .0 in
     let n = table-count (linesOf (a .text .now)) (p .0) in
     record {
-      told = told-ids (a .text .now) (q .0 .0) (p .0) (c .before .before .before .before .before .before .before .before .before .before .before .before .before .before .before .before .before .place-lines .ensures .1);
+      told = told-ids (a .text .now) (q .0 .0) (p .0) (c .before .before .before .before .before .before .before .before .before .before .before .before .before .before .before .before .before .before .before .place-lines .ensures .1);
       rows = rows-filled (linesOf (a .text .now)) (p .0) (p .1 .0);
-      fits = omega (arith, q .1 .0, c .before .before .before .before .before .before .before .clear .ensures .place);
-      unmarked = cleared n (c .before .before .before .before .before .before .before .clear .ensures);
+      fits = omega (arith, q .1 .0, c .before .before .before .before .before .before .before .before .before .clear .ensures .place);
+      unmarked = cleared n (c .before .before .before .before .before .before .before .before .before .clear .ensures);
       room = q .1 .1 .0;
     }
 
@@ -47,14 +47,20 @@ same-length-5 c = search needs
 same-length-6 : tie.Need-same-length-6
 same-length-6 c = search needs
 
+same-length-7 : tie.Need-same-length-7
+same-length-7 c = search needs
+
+same-length-8 : tie.Need-same-length-8
+same-length-8 c = search needs
+
 returns : tie.Need-returns
-returns c = let a = c .before .before .before .before .before .before .before .before .before .before .before .before .before .before .before .before .before .before .before .before .before .before .before .before .before .before .before .before .before .before .before .before .before .before .args in
-    let q = c .before .before .before .before .before .before .before .before .before .before .before .before .before .before .before .before .before .before .before .before .before .before .before .before .before .before .before .before .before .before .before .before .before .before .pre in
-    let p = c .before .before .before .before .before .before .before .before .before .before .before .before .before .before .before .before .before .before .before .before .before .before .place-lines .ensures .0 in
-    let w = c .before .before .before .before .walk .ensures in
-    let m = c .before .before .before .before .before .before .before .before .before .before .before .before .clear .ensures in
+returns c = let a = c .before .before .before .before .before .before .before .before .before .before .before .before .before .before .before .before .before .before .before .before .before .before .before .before .before .before .before .before .before .before .before .before .before .before .before .before .before .before .before .before .before .before .before .args in
+    let q = c .before .before .before .before .before .before .before .before .before .before .before .before .before .before .before .before .before .before .before .before .before .before .before .before .before .before .before .before .before .before .before .before .before .before .before .before .before .before .before .before .before .before .before .pre in
+    let p = c .before .before .before .before .before .before .before .before .before .before .before .before .before .before .before .before .before .before .before .before .before .before .before .before .before .before .before .before .place-lines .ensures .0 in
+    let w = c .before .before .before .before .before .before .before .before .walk .ensures in
+    let m = c .before .before .before .before .before .before .before .before .before .before .before .before .before .before .before .before .before .before .clear .ensures in
     let n = table-count (linesOf (a .text .now)) (p .0) in
-    (w .0, ((filled-at n (p .0), (filled-at n (p .1 .0), p .1 .1)), (filled-then m (w .1) (omega (arith, n, m .place, w .1 .place)), filled-at n (c .before .before .before .before .before .before .before .before .before .before .before .before .before .before .before .before .before .before .before .before .before .before .place-lines .ensures .1))))
+    (w .0, ((filled-at n (p .0), (filled-at n (p .1 .0), p .1 .1)), (filled-then m (w .1 .0) (omega (arith, n, m .place, w .1 .0 .place)), (w .1 .1, filled-at n (c .before .before .before .before .before .before .before .before .before .before .before .before .before .before .before .before .before .before .before .before .before .before .before .before .before .before .before .before .place-lines .ensures .1)))))
 
 pub bind-declarators-spec : {M : Type 1} → statement M
 bind-declarators-spec =
@@ -69,4 +75,6 @@ bind-declarators-spec =
     same-length-4
     same-length-5
     same-length-6
+    same-length-7
+    same-length-8
     returns)

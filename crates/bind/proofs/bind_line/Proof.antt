@@ -27,22 +27,22 @@ slice-read-put-other c = search needs
 
 put-other-requires : tie.Need-put-other-requires
 put-other-requires c κs =
-    let a = c .before .before .before .before .before .before .before .before .before .before .before .before .before .args in
+    let a = c .before .before .before .before .before .before .before .before .before .before .before .before .before .before .args in
     let m = getD (a .marks .now) (a .s .row) 0 in
-    omega (arith, c .before .before .before .before .before .before .before .before .before .before .before .before .before .pre .1 .1, ap length (text-other (boundAt (a .text .now) (a .s) (a .blocks .now) (a .starts .now)) (markRow (a .text .now) (a .s)) (lineOf (a .text .now) (a .s)) (trimOf (lineOf (a .text .now) (a .s))) refl false (front-other (boundAt (a .text .now) (a .s) (a .blocks .now) (a .starts .now)) (lineOf (a .text .now) (a .s)) _ (c .before .before .before .before .before .cut .ensures) _ (c .before .before .before .before .trim-from .ensures) _ (c .before .before .before .byte-at .ensures) (c .before .before .if1 .taken)) refl m), ap (λ (x : List ℕ). length (otherText x m)) (c .before .before .before .before .before .cut .ensures))
+    omega (arith, c .before .before .before .before .before .before .before .before .before .before .before .before .before .before .pre .1 .1, ap length (text-other (boundAt (a .text .now) (a .s) (a .blocks .now) (a .starts .now)) (markRow (a .text .now) (a .s)) (lineOf (a .text .now) (a .s)) (trimOf (lineOf (a .text .now) (a .s))) refl false (front-other (boundAt (a .text .now) (a .s) (a .blocks .now) (a .starts .now)) (lineOf (a .text .now) (a .s)) _ (c .before .before .before .before .before .cut .ensures) _ (c .before .before .before .before .trim-from .ensures) _ (c .before .before .before .byte-at .ensures) (c .before .before .if1 .taken)) refl m), ap (λ (x : List ℕ). length (otherText x m)) (c .before .before .before .before .before .cut .ensures))
 
 same-length : tie.Need-same-length
 same-length c = search needs
 
 returns : tie.Need-returns
 returns c =
-    let a = c .before .before .before .before .before .before .before .before .before .before .before .before .before .before .before .before .args in
+    let a = c .before .before .before .before .before .before .before .before .before .before .before .before .before .before .before .before .before .args in
     let m = getD (a .marks .now) (a .s .row) 0 in
     let n = front-other (boundAt (a .text .now) (a .s) (a .blocks .now) (a .starts .now)) (lineOf (a .text .now) (a .s)) _ (c .before .before .before .before .before .before .before .before .cut .ensures) _ (c .before .before .before .before .before .before .before .trim-from .ensures) _ (c .before .before .before .before .before .before .byte-at .ensures) (c .before .before .before .before .before .if1 .taken) in
     (wrote-as (sym (text-other (boundAt (a .text .now) (a .s) (a .blocks .now) (a .starts .now)) (markRow (a .text .now) (a .s)) (lineOf (a .text .now) (a .s)) (trimOf (lineOf (a .text .now) (a .s))) refl false n refl m ∙ ap (λ (x : List ℕ). otherText x m) (sym (c .before .before .before .before .before .before .before .before .cut .ensures)))) (c .before .before .put-other .ensures), marks-other (boundAt (a .text .now) (a .s) (a .blocks .now) (a .starts .now)) (markRow (a .text .now) (a .s)) (lineOf (a .text .now) (a .s)) (trimOf (lineOf (a .text .now) (a .s))) refl false n refl (a .marks .now))
 
 bind-decl-requires : tie.Need-bind-decl-requires
-bind-decl-requires c κs = c .before .before .before .before .before .before .before .before .before .before .before .before .before .pre
+bind-decl-requires c κs = c .before .before .before .before .before .before .before .before .before .before .before .before .before .before .pre
 
 same-length-2 : tie.Need-same-length-2
 same-length-2 c = search needs

@@ -19,11 +19,11 @@ enum-told : tie.Need-enum-told
 enum-told c = search needs
 
 returns : tie.Need-returns
-returns c = let a = c .before .before .before .before .before .before .before .before .before .before .before .args in
+returns c = let a = c .before .before .before .before .before .before .before .before .before .before .before .before .args in
     ap not (c .told .ensures) ∙ sym (ap (fails (boundAt (a .text .now) (a .s) (a .blocks .now) (a .starts .now))) (sym (c .before .before .before .before .reg-name .ensures) ∙ c .before .before .q .given .1))
 
 returns-2 : tie.Need-returns-2
-returns-2 c = let a = c .before .before .before .before .before .before .before .before .before .args in
+returns-2 c = let a = c .before .before .before .before .before .before .before .before .before .before .args in
     sym (ap (fails (boundAt (a .text .now) (a .s) (a .blocks .now) (a .starts .now))) (sym (c .before .before .reg-name .ensures) ∙ c .enum-told .given .1))
 
 pub is-left-spec : {M : Type 1} → statement M

@@ -11,14 +11,14 @@ use Rattle.bind.proofs.put_decl.Statement.{statement}
 use Rattle.bind.proofs.put_decl.Tie as tie
 
 abbrev Inv-loop : tie.InvT-loop
-Inv-loop body indent text s blocks starts seen first out₀ o i₀ p₀ out i p = DeclInv (left (boundAt text s blocks starts)) 1 indent body out₀ out o i p
+Inv-loop body indent text own s blocks starts seen first out₀ o i₀ p₀ out i p = DeclInv (left (boundAt text s blocks starts)) 1 indent body out₀ out o i p
 
 abbrev μ-loop : tie.MeasureT-loop
-μ-loop body indent text s blocks starts seen first out₀ o i₀ p₀ out i p = length body - i
+μ-loop body indent text own s blocks starts seen first out₀ o i₀ p₀ out i p = length body - i
 
 loop-holds : tie.Need-loop-holds Inv-loop μ-loop
-loop-holds c = let a = c .before .before .before .before .before .before .before .before .args in
-    decl-start (left (boundAt (a .text .now) (a .s) (a .blocks .now) (a .starts .now))) 1 (a .indent .now) (a .body .now) (a .out .now) (a .o) (c .before .before .before .before .before .before .before .before .pre .1)
+loop-holds c = let a = c .before .before .before .before .before .before .before .before .before .args in
+    decl-start (left (boundAt (a .text .now) (a .s) (a .blocks .now) (a .starts .now))) 1 (a .indent .now) (a .body .now) (a .out .now) (a .o) (c .before .before .before .before .before .before .before .before .before .pre .1)
 
 find-byte-requires : tie.Need-find-byte-requires Inv-loop μ-loop
 find-byte-requires c κs = search needs
@@ -30,13 +30,13 @@ part-trim-start : tie.Need-part-trim-start Inv-loop μ-loop
 part-trim-start c = omega (arith, c .find-byte .ensures)
 
 part-trim-end : tie.Need-part-trim-end Inv-loop μ-loop
-part-trim-end c = omega (arith, find-le 44 (c .before .before .before .before .before .before .before .before .before .before .args .body .now) (c .before .loop .i) (c .find-byte .result) (c .before .loop .inv .i≤) (c .find-byte .ensures))
+part-trim-end c = omega (arith, find-le 44 (c .before .before .before .before .before .before .before .before .before .before .before .args .body .now) (c .before .loop .i) (c .find-byte .result) (c .before .loop .inv .i≤) (c .find-byte .ensures))
 
 trim-requires : tie.Need-trim-requires Inv-loop μ-loop
 trim-requires c κs = search needs
 
 is-left-requires : tie.Need-is-left-requires Inv-loop μ-loop
-is-left-requires c κs = c .before .before .before .before .before .before .before .before .before .before .before .before .pre .0
+is-left-requires c κs = c .before .before .before .before .before .before .before .before .before .before .before .before .before .pre .0
 
 put-part-requires : tie.Need-put-part-requires Inv-loop μ-loop
 put-part-requires c κs = let f = c .before .before .before .before .find-byte in

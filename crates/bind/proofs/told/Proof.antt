@@ -2,8 +2,12 @@
 use borrow.Author.Needs.{needs}
 use mathlib.Core.Path.{_∙_}
 use native.Mathlib.Omega.{arith}
+use Rattle.bind.proofs.ToldLaws.{told-says}
 use Rattle.bind.proofs.told.Statement.{statement}
 use Rattle.bind.proofs.told.Tie as tie
+
+slot-requires : tie.Need-slot-requires
+slot-requires c κs = search needs
 
 mul-ask : tie.Need-mul-ask
 mul-ask c = search needs
@@ -18,10 +22,10 @@ shared-slice-read-ask-2 : tie.Need-shared-slice-read-ask-2
 shared-slice-read-ask-2 c = search needs
 
 ask-requires : tie.Need-ask-requires
-ask-requires c κs = let p = c .before .before .before .before .before .before .before .before .pre in let f = p .1 .fits (c .before .before .before .before .before .before .before .before .args .reg .0) in (((omega (arith, p .0 .0), omega (arith, p .0 .0, f)), omega (arith, p .0 .1, f)), p .1 .own)
+ask-requires c κs = let p = c .before .before .before .before .before .before .before .before .before .before .pre in let f = p .1 .fits (c .before .before .before .slot .result) in (((omega (arith, p .0 .0), omega (arith, p .0 .0, f)), omega (arith, p .0 .1, f)), p .1 .block)
 
 returns : tie.Need-returns
-returns c = c .ask .ensures ∙ c .before .before .before .before .before .before .before .before .before .pre .1 .says (c .before .before .before .before .before .before .before .before .before .args .reg .0) (c .before .before .before .if1 .taken)
+returns c = let a = c .before .before .before .before .before .before .before .before .before .before .before .args in let p = c .before .before .before .before .before .before .before .before .before .before .before .pre .1 in c .ask .ensures ∙ told-says (a .reg .0) p (c .before .before .before .before .slot .ensures) (c .before .before .before .if1 .taken)
 
 bound-requires : tie.Need-bound-requires
 bound-requires c κs = search needs
@@ -33,6 +37,7 @@ pub told-spec : {M : Type 1} → statement M
 told-spec =
     tie.close
     (tie.spec
+    slot-requires
     mul-ask
     shared-slice-read-ask
     mul-ask-2

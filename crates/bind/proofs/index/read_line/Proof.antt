@@ -12,7 +12,7 @@ enum-told : tie.Need-enum-told
 enum-told c = search needs
 
 see-decl-requires : tie.Need-see-decl-requires
-see-decl-requires c κs = let a = c .before .before .before .before .before .before .before .before .args in (line-decl (a .m) (a .b) (a .c) (a .line .now) (a .seen .now) (a .first .now) (sym (c .before .before .before .before .parse .ensures) ∙ c .before .before .enum-told .given .1), c .before .before .before .before .before .before .before .before .pre)
+see-decl-requires c κs = let a = c .before .before .before .before .before .before .before .before .before .args in (line-decl (a .own .now) (a .m) (a .b) (a .c) (a .line .now) (a .seen .now) (a .first .now) (sym (c .before .before .before .before .parse .ensures) ∙ c .before .before .enum-told .given .1), c .before .before .before .before .before .before .before .before .before .pre)
 
 enum-known-p : tie.Need-enum-known-p
 enum-known-p c = search needs
@@ -33,19 +33,19 @@ same-length-2 : tie.Need-same-length-2
 same-length-2 c = search needs
 
 returns : tie.Need-returns
-returns c = let a = c .before .before .before .before .before .before .before .before .before .before .before .before .before .args in read-decl (a .m) (a .b) (a .c) (a .line .now) (a .seen .now) (a .first .now) (sym (c .before .before .before .before .before .before .before .before .before .parse .ensures) ∙ c .before .before .before .before .before .before .before .enum-told .given .1) (c .before .before .before .before .see-decl .ensures .0) (c .before .before .before .before .see-decl .ensures .1)
+returns c = let a = c .before .before .before .before .before .before .before .before .before .before .before .before .before .before .args in read-decl (a .own .now) (a .m) (a .b) (a .c) (a .line .now) (a .seen .now) (a .first .now) (sym (c .before .before .before .before .before .before .before .before .before .parse .ensures) ∙ c .before .before .before .before .before .before .before .enum-told .given .1) (c .before .before .before .before .see-decl .ensures .0) (c .before .before .before .before .see-decl .ensures .1)
 
 same-length-3 : tie.Need-same-length-3
 same-length-3 c = search needs
 
 returns-2 : tie.Need-returns-2
-returns-2 c = let a = c .before .before .before .before .before .before .before .before .before .before .before .args in read-store (a .m) (a .b) (a .c) (a .line .now) (a .seen .now) (a .first .now) (c .before .before .before .before .before .p .given .0 .0) (sym (c .before .before .before .before .before .before .before .parse .ensures) ∙ c .before .before .before .before .before .p .given .1) (c .before .before .use-store .ensures)
+returns-2 c = let a = c .before .before .before .before .before .before .before .before .before .before .before .before .args in read-store (a .own .now) (a .m) (a .b) (a .c) (a .line .now) (a .seen .now) (a .first .now) (c .before .before .before .before .before .p .given .0 .0) (sym (c .before .before .before .before .before .before .before .parse .ensures) ∙ c .before .before .before .before .before .p .given .1) (c .before .before .use-store .ensures)
 
 same-length-4 : tie.Need-same-length-4
 same-length-4 c = search needs
 
 returns-3 : tie.Need-returns-3
-returns-3 c = let a = c .before .before .before .before .before .before .before .before .before .before .args in read-other (a .m) (a .b) (a .c) (a .line .now) (a .seen .now) (a .first .now) (sym (c .before .before .before .before .before .before .parse .ensures) ∙ c .before .before .before .before .enum-told2 .given .1) (c .before .before .read-runs .ensures)
+returns-3 c = let a = c .before .before .before .before .before .before .before .before .before .before .before .args in read-other (a .own .now) (a .m) (a .b) (a .c) (a .line .now) (a .seen .now) (a .first .now) (sym (c .before .before .before .before .before .before .parse .ensures) ∙ c .before .before .before .before .enum-told2 .given .1) (c .before .before .read-runs .ensures)
 
 pub read-line-spec : {M : Type 1} → statement M
 read-line-spec =

@@ -15,16 +15,16 @@ use Rattle.words.proofs.reg_start.Reads as reg-start-reads
 use Rattle.words.proofs.run_end.Reads as run-end-reads
 
 abbrev Inv-loop : tie.InvT-loop
-Inv-loop s b first₀ i₀ first i = ReadInv b s first₀ first i
+Inv-loop s own b first₀ i₀ first i = ReadInv own b s first₀ first i
 
 abbrev μ-loop : tie.MeasureT-loop
-μ-loop s b first₀ i₀ first i = length s - i
+μ-loop s own b first₀ i₀ first i = length s - i
 
 reg-start-requires : tie.Need-reg-start-requires Inv-loop μ-loop
 reg-start-requires c κs = search needs
 
 loop-holds : tie.Need-loop-holds Inv-loop μ-loop
-loop-holds c = let a = c .before .before .before .args in read-start (a .b) (a .s .now) (a .first .now) _ (c .reg-start .ensures)
+loop-holds c = let a = c .before .before .before .before .args in read-start (a .own .now) (a .b) (a .s .now) (a .first .now) _ (c .reg-start .ensures)
 
 run-end-requires : tie.Need-run-end-requires Inv-loop μ-loop
 run-end-requires c κs = search needs
@@ -36,7 +36,7 @@ part-read-name-start : tie.Need-part-read-name-start Inv-loop μ-loop
 part-read-name-start c = omega (arith, c .run-end .ensures)
 
 part-read-name-end : tie.Need-part-read-name-end Inv-loop μ-loop
-part-read-name-end c = omega (arith, c .run-end .ensures, run-inside (c .before .before .before .before .before .before .args .s .now) (c .before .before .loop .i) (omega (arith, c .before .loop-test .taken)))
+part-read-name-end c = omega (arith, c .run-end .ensures, run-inside (c .before .before .before .before .before .before .before .args .s .now) (c .before .before .loop .i) (omega (arith, c .before .loop-test .taken)))
 
 read-name-requires : tie.Need-read-name-requires Inv-loop μ-loop
 read-name-requires c κs = search needs
@@ -45,16 +45,16 @@ reg-start-requires-2 : tie.Need-reg-start-requires-2 Inv-loop μ-loop
 reg-start-requires-2 c κs = search needs
 
 loop-less : tie.Need-loop-less Inv-loop μ-loop
-loop-less c = omega (arith, c .before .before .before .before .before .before .before .loop-test .taken, read-less (c .before .before .before .before .before .before .before .before .before .before .before .before .args .b) (c .before .before .before .before .before .before .before .before .loop .inv) (c .before .before .before .before .before .before .before .loop-test .taken) _ (c .before .before .before .before .before .before .run-end .ensures) _ (c .reg-start2 .ensures))
+loop-less c = omega (arith, c .before .before .before .before .before .before .before .loop-test .taken, read-less (c .before .before .before .before .before .before .before .before .before .before .before .before .before .args .own .now) (c .before .before .before .before .before .before .before .before .before .before .before .before .before .args .b) (c .before .before .before .before .before .before .before .before .loop .inv) (c .before .before .before .before .before .before .before .loop-test .taken) _ (c .before .before .before .before .before .before .run-end .ensures) _ (c .reg-start2 .ensures))
 
 loop-again : tie.Need-loop-again Inv-loop μ-loop
-loop-again c = read-on (c .before .before .before .before .before .before .before .before .before .before .before .before .args .b) (c .before .before .before .before .before .before .before .before .loop .inv) (c .before .before .before .before .before .before .before .loop-test .taken) _ (c .before .before .before .before .before .before .run-end .ensures) _ (c .reg-start2 .ensures) _ _ refl (c .before .before .before .read-name .ensures)
+loop-again c = read-on (c .before .before .before .before .before .before .before .before .before .before .before .before .before .args .own .now) (c .before .before .before .before .before .before .before .before .before .before .before .before .before .args .b) (c .before .before .before .before .before .before .before .before .loop .inv) (c .before .before .before .before .before .before .before .loop-test .taken) _ (c .before .before .before .before .before .before .run-end .ensures) _ (c .reg-start2 .ensures) _ _ refl (c .before .before .before .read-name .ensures)
 
 same-length : tie.Need-same-length Inv-loop μ-loop
 same-length c = c .before .loop .inv .long
 
 returns : tie.Need-returns Inv-loop μ-loop
-returns c = read-end (c .before .before .before .before .before .args .b) (c .before .loop .inv) (c .loop-test .left)
+returns c = read-end (c .before .before .before .before .before .before .args .own .now) (c .before .before .before .before .before .before .args .b) (c .before .loop .inv) (c .loop-test .left)
 
 pub read-runs-spec : {M : Type 1} → statement M
 read-runs-spec =

@@ -1,12 +1,14 @@
 -- `bind::index::store_reg` meets its contract. Assumes nothing.
 use borrow.Author.Needs.{needs}
-use Rattle.decls.proofs.SeenLaws.{set-past}
-use Rattle.bind.proofs.IndexLaws.{store-low, store-high}
+use Rattle.bind.proofs.IndexLaws.{entry-past, store-low, store-high}
 use Rattle.bind.proofs.index.store_reg.Statement.{statement}
 use Rattle.bind.proofs.index.store_reg.Tie as tie
 
+slot-requires : tie.Need-slot-requires
+slot-requires c κs = search needs
+
 returns : tie.Need-returns
-returns c = set-past _ _ _ (c .if1 .taken)
+returns c = entry-past (c .before .before .before .before .args .own .now) (c .before .before .before .before .args .reg .0) (c .before .before .before .before .args .first .now) (c .before .slot .ensures) _ (c .if1 .taken)
 
 mul-if2 : tie.Need-mul-if2
 mul-if2 c = search needs
@@ -24,7 +26,7 @@ same-length : tie.Need-same-length
 same-length c = search needs
 
 returns-2 : tie.Need-returns-2
-returns-2 c = let a = c .before .before .before .args in store-low (a .b) (a .first .now) (a .reg .0) (a .c) (c .if2 .taken)
+returns-2 c = store-low (c .before .before .before .before .before .before .args .own .now) (c .before .before .before .before .before .before .args .reg .0) (c .before .before .before .before .before .before .args .first .now) (c .before .before .before .slot .ensures) (c .before .before .before .before .before .before .args .b) (c .before .before .before .before .before .before .args .c) (c .if2 .taken)
 
 mul-first-2 : tie.Need-mul-first-2
 mul-first-2 c = search needs
@@ -36,12 +38,13 @@ same-length-2 : tie.Need-same-length-2
 same-length-2 c = search needs
 
 returns-3 : tie.Need-returns-3
-returns-3 c = let a = c .before .before .before .args in store-high (a .b) (a .first .now) (a .reg .0) (a .c) (c .if2 .left)
+returns-3 c = store-high (c .before .before .before .before .before .before .args .own .now) (c .before .before .before .before .before .before .args .reg .0) (c .before .before .before .before .before .before .args .first .now) (c .before .before .before .slot .ensures) (c .before .before .before .before .before .before .args .b) (c .before .before .before .before .before .before .args .c) (c .if2 .left)
 
 pub store-reg-spec : {M : Type 1} → statement M
 store-reg-spec =
     tie.close
     (tie.spec
+    slot-requires
     returns
     mul-if2
     slice-read-if2

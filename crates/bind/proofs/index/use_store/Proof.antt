@@ -17,7 +17,7 @@ same-length : tie.Need-same-length
 same-length c = search needs
 
 returns : tie.Need-returns
-returns c = let a = c .before .before .before .before .before .before .before .before .before .before .before .args in store-used (a .b) (a .c) (a .line .now) (a .first .now) _ _ (c .before .before .before .before .value-of .result .now) (a .s) (c .before .before .before .before .before .before .before .store-reg .ensures) (c .before .before .before .before .value-of .ensures) (c .before .before .read-runs .ensures)
+returns c = let a = c .before .before .before .before .before .before .before .before .before .before .before .before .args in store-used (a .own .now) (a .b) (a .c) (a .line .now) (a .first .now) _ _ (c .before .before .before .before .value-of .result .now) (a .s) (c .before .before .before .before .before .before .before .store-reg .ensures) (c .before .before .before .before .value-of .ensures) (c .before .before .read-runs .ensures)
 
 pub use-store-spec : {M : Type 1} → statement M
 use-store-spec =
