@@ -6,7 +6,7 @@ ghost use mathlib.Core.Bool.{true, not, _&&_, _||_};
 ghost use mathlib.Core.List.{List};
 ghost use Prim.Native.Nat.{ℕ, _≤_, _+_};
 ghost use lib.Dec.{eqb};
-ghost use lib.ListN.{length, getD};
+ghost use lib.ListN.{length, getD, replicate};
 ghost use Rattle.lines.specs.Lf.{partsOf, linesOf, unlines, prefixed, same};
 ghost use Rattle.lines.specs.Inner.Out.{Wrote};
 ghost use Rattle.names.specs.Names.{isDigit, isTemp};
@@ -125,44 +125,51 @@ fn temp_read(text: &[u8], name: &[u8]) -> bool
 }
 
 // Whether some line of a text declares a temp: the table says so, where it reaches to it.
-fn is_declared(text: &[u8], name: &[u8], declared: &[u8]) -> bool
-    requires { ⌜ (isTemp (now name) ≡ true) × (Tells (λ (x : List ℕ). declaredIn x (linesOf (now text))) (now declared)) ⌝ }
+fn is_declared(text: &[u8], own: &[usize], name: &[u8], declared: &[u8]) -> bool
+    requires { ⌜ (isTemp (now name) ≡ true) × (Tells (now own) (λ (x : List ℕ). declaredIn x (linesOf (now text))) (now declared)) ⌝ }
     ensures { λ r. ⌜ r ≡ declaredIn (now (name .entry)) (linesOf (now (text .entry))) ⌝ }
 {
-    match table::flag_of(name, declared) {
+    match table::flag_of(name, own, declared) {
         table::Flag::Is(b) => b,
         table::Flag::Past => declared_in(text, name),
     }
 }
 
 // Whether some line of a text reads a temp that is declared: the table says so, where it reaches to it.
-fn is_read(text: &[u8], name: &[u8], read: &[u8]) -> bool
+fn is_read(text: &[u8], own: &[usize], name: &[u8], read: &[u8]) -> bool
     requires { ⌜ ((isTemp (now name) ≡ true) × (declaredIn (now name) (linesOf (now text)) ≡ true))
-        × (TellsOf (λ (x : List ℕ). declaredIn x (linesOf (now text))) (λ (x : List ℕ). tempRead x (linesOf (now text))) (now read)) ⌝ }
+        × (TellsOf (now own) (λ (x : List ℕ). declaredIn x (linesOf (now text))) (λ (x : List ℕ). tempRead x (linesOf (now text))) (now read)) ⌝ }
     ensures { λ r. ⌜ r ≡ tempRead (now (name .entry)) (linesOf (now (text .entry))) ⌝ }
 {
-    match table::flag_of(name, read) {
+    match table::flag_of(name, own, read) {
         table::Flag::Is(b) => b,
         table::Flag::Past => temp_read(text, name),
     }
 }
 
 // Whether a temp is dead: some line of a text declares it, and none reads it.
-fn is_dead(text: &[u8], name: &[u8], declared: &[u8], read: &[u8]) -> bool
+fn is_dead(text: &[u8], own: &[usize], name: &[u8], declared: &[u8], read: &[u8]) -> bool
     requires { ⌜ (isTemp (now name) ≡ true)
-        × ((Tells (λ (x : List ℕ). declaredIn x (linesOf (now text))) (now declared)) × (TellsOf (λ (x : List ℕ). declaredIn x (linesOf (now text))) (λ (x : List ℕ). tempRead x (linesOf (now text))) (now read))) ⌝ }
+        × ((Tells (now own) (λ (x : List ℕ). declaredIn x (linesOf (now text))) (now declared)) × (TellsOf (now own) (λ (x : List ℕ). declaredIn x (linesOf (now text))) (λ (x : List ℕ). tempRead x (linesOf (now text))) (now read))) ⌝ }
     ensures { λ r. ⌜ r ≡ declaredIn (now (name .entry)) (linesOf (now (text .entry))) && not (tempRead (now (name .entry)) (linesOf (now (text .entry)))) ⌝ }
 {
-    if !is_declared(text, name, declared) {
+    if !is_declared(text, own, name, declared) {
         return false;
     }
-    !is_read(text, name, read)
+    !is_read(text, own, name, read)
 }
 
 // Whether a line of a text goes. The value of a store of a temp is judged first, and left in `scratch` without its comments.
-fn goes(line: &[u8], text: &[u8], declared: &[u8], read: &[u8], scratch: &mut [u8]) -> bool
+fn goes(
+    line: &[u8],
+    text: &[u8],
+    own: &[usize],
+    declared: &[u8],
+    read: &[u8],
+    scratch: &mut [u8],
+) -> bool
     requires { ⌜ (length (now line) ≤ length (now scratch))
-        × ((Tells (λ (x : List ℕ). declaredIn x (linesOf (now text))) (now declared)) × (TellsOf (λ (x : List ℕ). declaredIn x (linesOf (now text))) (λ (x : List ℕ). tempRead x (linesOf (now text))) (now read))) ⌝ }
+        × ((Tells (now own) (λ (x : List ℕ). declaredIn x (linesOf (now text))) (now declared)) × (TellsOf (now own) (λ (x : List ℕ). declaredIn x (linesOf (now text))) (λ (x : List ℕ). tempRead x (linesOf (now text))) (now read))) ⌝ }
     ensures answer { λ r. ⌜ r ≡ tempGoes plain (linesOf (now (text .entry))) (now (line .entry)) ⌝ }
     ensures memory { λ _. ⌜ now (scratch .exit) ≡ scratchLine (now (line .entry)) (now (scratch .entry)) ⌝ }
 {
@@ -176,7 +183,7 @@ fn goes(line: &[u8], text: &[u8], declared: &[u8], read: &[u8], scratch: &mut [u
             if !expr::is_pure(expr::purity(reading::right_of(t, s), scratch)) {
                 return false;
             }
-            is_dead(text, name, declared, read)
+            is_dead(text, own, name, declared, read)
         }
         reading::Assign::None => false,
     }
@@ -186,6 +193,7 @@ fn goes(line: &[u8], text: &[u8], declared: &[u8], read: &[u8], scratch: &mut [u
 fn put_line(
     line: &[u8],
     text: &[u8],
+    own: &[usize],
     declared: &[u8],
     read: &[u8],
     scratch: &mut [u8],
@@ -193,12 +201,12 @@ fn put_line(
     o: usize,
 ) -> usize
     requires { ⌜ ((length (now line) ≤ length (now scratch))
-        × ((Tells (λ (x : List ℕ). declaredIn x (linesOf (now text))) (now declared)) × (TellsOf (λ (x : List ℕ). declaredIn x (linesOf (now text))) (λ (x : List ℕ). tempRead x (linesOf (now text))) (now read))))
+        × ((Tells (now own) (λ (x : List ℕ). declaredIn x (linesOf (now text))) (now declared)) × (TellsOf (now own) (λ (x : List ℕ). declaredIn x (linesOf (now text))) (λ (x : List ℕ). tempRead x (linesOf (now text))) (now read))))
         × (o + length (tempText plain (linesOf (now text)) (now line)) ≤ length (now out)) ⌝ }
     ensures answer { λ r. ⌜ Wrote (now (out .entry)) o (tempText plain (linesOf (now (text .entry))) (now (line .entry))) (now (out .exit)) r ⌝ }
     ensures memory { λ _. ⌜ now (scratch .exit) ≡ scratchLine (now (line .entry)) (now (scratch .entry)) ⌝ }
 {
-    if goes(line, text, declared, read, scratch) {
+    if goes(line, text, own, declared, read, scratch) {
         return o;
     }
     let p = lines::put(out, o, line);
@@ -208,13 +216,14 @@ fn put_line(
 // The same as prune_dead_temps, with tables of the temps that the text declares and reads.
 fn prune_with(
     text: &[u8],
+    own: &[usize],
     declared: &[u8],
     read: &[u8],
     scratch: &mut [u8],
     out: &mut [u8],
 ) -> usize
     requires { ⌜ ((length (now text) ≤ length (now scratch))
-        × ((Tells (λ (x : List ℕ). declaredIn x (linesOf (now text))) (now declared)) × (TellsOf (λ (x : List ℕ). declaredIn x (linesOf (now text))) (λ (x : List ℕ). tempRead x (linesOf (now text))) (now read))))
+        × ((Tells (now own) (λ (x : List ℕ). declaredIn x (linesOf (now text))) (now declared)) × (TellsOf (now own) (λ (x : List ℕ). declaredIn x (linesOf (now text))) (λ (x : List ℕ). tempRead x (linesOf (now text))) (now read))))
         × (length (unlines (pruneDeadTemps plain (linesOf (now text)))) ≤ length (now out)) ⌝ }
     ensures answer { λ r. ⌜ Wrote (now (out .entry)) 0 (unlines (pruneDeadTemps plain (linesOf (now (text .entry))))) (now (out .exit)) r ⌝ }
     ensures memory { λ _. ⌜ now (scratch .exit) ≡ tempScratch (linesOf (now (text .entry))) (now (scratch .entry)) ⌝ }
@@ -223,23 +232,30 @@ fn prune_with(
     let mut o = 0;
     while i < text.len() {
         let e = lines::find_byte(text, i, 10);
-        o = put_line(&text[i..e], text, declared, read, scratch, out, o);
+        o = put_line(&text[i..e], text, own, declared, read, scratch, out, o);
         i = lines::after(text, e);
     }
     o
 }
 
-// The same as prune_dead_temps, with tables.
-fn prune_tables(text: &[u8], scratch: &mut [u8], out: &mut [u8]) -> usize
-    requires { ⌜ (length (now text) ≤ length (now scratch)) × (length (unlines (pruneDeadTemps plain (linesOf (now text)))) ≤ length (now out)) ⌝ }
+// The same as prune_dead_temps, with tables of zeros, as long as each other, for the temps that the text declares and reads.
+fn prune_tables(
+    text: &[u8],
+    own: &mut [usize],
+    declared: &mut [u8],
+    read: &mut [u8],
+    scratch: &mut [u8],
+    out: &mut [u8],
+) -> usize
+    requires { ⌜ ((now declared ≡ replicate (length (now read)) 0) × (now read ≡ replicate (length (now read)) 0))
+        × ((length (now text) ≤ length (now scratch)) × (length (unlines (pruneDeadTemps plain (linesOf (now text)))) ≤ length (now out))) ⌝ }
     ensures answer { λ r. ⌜ Wrote (now (out .entry)) 0 (unlines (pruneDeadTemps plain (linesOf (now (text .entry))))) (now (out .exit)) r ⌝ }
     ensures memory { λ _. ⌜ now (scratch .exit) ≡ tempScratch (linesOf (now (text .entry))) (now (scratch .entry)) ⌝ }
 {
-    let mut declared = [0u8; 1024];
-    let mut read = [0u8; 1024];
-    table::flag_decls(text, &mut declared);
-    table::flag_used(text, &declared, &mut read);
-    prune_with(text, &declared, &read, scratch, out)
+    table::claim_decls(text, declared.len(), own);
+    table::flag_decls(text, own, declared);
+    table::flag_used(text, own, declared, read);
+    prune_with(text, own, declared, read, scratch, out)
 }
 
 // Whether a text begins with a `t` and a digit.
@@ -266,14 +282,28 @@ fn has_temp(s: &[u8]) -> bool
 }
 
 // A store of a declared temp that nothing reads goes, where its value is pure. Each line is followed by one LF; the values of the stores
-// of temps are left in `scratch`, one over the other, without their comments. A text that names no temp stays as it is.
-pub fn prune_dead_temps(text: &[u8], scratch: &mut [u8], out: &mut [u8]) -> usize
+// of temps are left in `scratch`, one over the other, without their comments. A text that names no temp stays as it is. `declared` and `read`
+// are room for the flags of temps, and `own` for the owners of those with high keys; they are left with zeros.
+pub fn prune_dead_temps(
+    text: &[u8],
+    own: &mut [usize],
+    declared: &mut [u8],
+    read: &mut [u8],
+    scratch: &mut [u8],
+    out: &mut [u8],
+) -> usize
     requires { ⌜ (length (now text) ≤ length (now scratch)) × (length (unlines (pruneDeadTemps plain (linesOf (now text)))) ≤ length (now out)) ⌝ }
     ensures answer { λ r. ⌜ Wrote (now (out .entry)) 0 (unlines (pruneDeadTemps plain (linesOf (now (text .entry))))) (now (out .exit)) r ⌝ }
     ensures memory { λ _. ⌜ now (scratch .exit) ≡ tempScratch (linesOf (now (text .entry))) (now (scratch .entry)) ⌝ }
+    ensures tables { λ _. ⌜ (now (own .exit) ≡ replicate (length (now (own .entry))) 0)
+        × ((now (declared .exit) ≡ replicate (length (now (declared .entry))) 0) × (now (read .exit) ≡ replicate (length (now (read .entry))) 0)) ⌝ }
 {
+    table::wipe(own, declared, read);
     if !has_temp(text) {
         return lines::put_lines(text, out, 0);
     }
-    prune_tables(text, scratch, out)
+    let n = slots::shorter(declared.len(), read.len());
+    let o = prune_tables(text, own, &mut declared[..n], &mut read[..n], scratch, out);
+    table::wipe(own, declared, read);
+    o
 }

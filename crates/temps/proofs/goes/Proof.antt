@@ -33,7 +33,7 @@ is-temp-name-requires c κs = search needs
 
 returns : tie.Need-returns
 returns c =
-    let a = c .before .before .before .before .before .before .before .before .before .before .before .before .before .args in
+    let a = c .before .before .before .before .before .before .before .before .before .before .before .before .before .before .args in
     let p = c .before .before .before .before .before .before .before .trim .ensures .0 in
     let w = assign-split _ _ (sym (c .before .before .before .before .before .before .assign-of .ensures) ∙ c .before .before .before .before .s .given .1) in
     let q = c .before .before .left-of .ensures ∙ w .is-left in
@@ -45,9 +45,9 @@ right-of-requires c κs = search needs
 
 purity-requires : tie.Need-purity-requires
 purity-requires c κs =
-    let a = c .before .before .before .before .before .before .before .before .before .before .before .before .before .before .before .args in
+    let a = c .before .before .before .before .before .before .before .before .before .before .before .before .before .before .before .before .args in
     let w = assign-split _ _ (sym (c .before .before .before .before .before .before .before .before .assign-of .ensures) ∙ c .before .before .before .before .before .before .s .given .1) in
-    omega (arith, c .before .before .before .before .before .before .before .before .before .before .before .before .before .before .before .pre .0, value-room (a .line .now) _ _ (c .before .before .before .before .before .before .before .before .before .trim .ensures .0) (c .before .right-of .ensures ∙ w .is-right))
+    omega (arith, c .before .before .before .before .before .before .before .before .before .before .before .before .before .before .before .before .pre .0, value-room (a .line .now) _ _ (c .before .before .before .before .before .before .before .before .before .trim .ensures .0) (c .before .right-of .ensures ∙ w .is-right))
 
 is-pure-requires : tie.Need-is-pure-requires
 is-pure-requires c κs = search needs
@@ -57,7 +57,7 @@ same-length c = search needs
 
 returns-2 : tie.Need-returns-2
 returns-2 c =
-    let a = c .before .before .before .before .before .before .before .before .before .before .before .before .before .before .before .before .before .before .before .before .args in
+    let a = c .before .before .before .before .before .before .before .before .before .before .before .before .before .before .before .before .before .before .before .before .before .args in
     let p = c .before .before .before .before .before .before .before .before .before .before .before .before .before .before .trim .ensures .0 in
     let w = assign-split _ _ (sym (c .before .before .before .before .before .before .before .before .before .before .before .before .before .assign-of .ensures) ∙ c .before .before .before .before .before .before .before .before .before .before .before .s .given .1) in
     let q = c .before .before .before .before .before .before .before .before .before .left-of .ensures ∙ w .is-left in
@@ -70,7 +70,7 @@ returns-2 c =
     )
 
 is-dead-requires : tie.Need-is-dead-requires
-is-dead-requires c κs = (so (c .before .before .before .before .before .before .before .before .is-temp-name .ensures) (not-false _ (c .before .before .before .before .before .before .before .if1 .left)), c .before .before .before .before .before .before .before .before .before .before .before .before .before .before .before .before .before .before .before .before .pre .1)
+is-dead-requires c κs = (so (c .before .before .before .before .before .before .before .before .is-temp-name .ensures) (not-false _ (c .before .before .before .before .before .before .before .if1 .left)), c .before .before .before .before .before .before .before .before .before .before .before .before .before .before .before .before .before .before .before .before .before .pre .1)
 
 enum-told : tie.Need-enum-told
 enum-told c = search needs
@@ -80,7 +80,7 @@ same-length-2 c = search needs
 
 returns-3 : tie.Need-returns-3
 returns-3 c =
-    let a = c .before .before .before .before .before .before .before .before .before .before .before .before .before .before .before .before .before .before .before .before .before .args in
+    let a = c .before .before .before .before .before .before .before .before .before .before .before .before .before .before .before .before .before .before .before .before .before .before .args in
     let p = c .before .before .before .before .before .before .before .before .before .before .before .before .before .before .before .trim .ensures .0 in
     let w = assign-split _ _ (sym (c .before .before .before .before .before .before .before .before .before .before .before .before .before .before .assign-of .ensures) ∙ c .before .before .before .before .before .before .before .before .before .before .before .before .s .given .1) in
     let q = c .before .before .before .before .before .before .before .before .before .before .left-of .ensures ∙ w .is-left in
@@ -94,7 +94,7 @@ returns-3 c =
 
 returns-4 : tie.Need-returns-4
 returns-4 c =
-    let a = c .before .before .before .before .before .before .before .before .before .args in
+    let a = c .before .before .before .before .before .before .before .before .before .before .args in
     let p = c .before .before .before .trim .ensures .0 in
     let n = assign-not _ (sym (c .before .before .assign-of .ensures) ∙ c .enum-told .given .1) in
     (sym (goes-other plain (linesOf (a .text .now)) (a .line .now) _ p n), sym (scratch-other (a .scratch .now) (a .line .now) _ p n))

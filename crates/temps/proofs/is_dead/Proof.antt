@@ -7,13 +7,13 @@ use Rattle.temps.proofs.is_dead.Statement.{statement}
 use Rattle.temps.proofs.is_dead.Tie as tie
 
 is-declared-requires : tie.Need-is-declared-requires
-is-declared-requires c κs = let s = c .before .before .before .before in (s .pre .0, s .pre .1 .0)
+is-declared-requires c κs = (c .before .before .before .before .before .pre .0, c .before .before .before .before .before .pre .1 .0)
 
 returns : tie.Need-returns
 returns c = rw (so (c .before .is-declared .ensures) (not-true _ (c .if1 .taken)))
 
 is-read-requires : tie.Need-is-read-requires
-is-read-requires c κs = let s = c .before .before .before .before .before .before in ((s .pre .0, so (c .before .is-declared .ensures) (not-false _ (c .if1 .left))), s .pre .1 .1)
+is-read-requires c κs = ((c .before .before .before .before .before .before .before .pre .0, so (c .before .is-declared .ensures) (not-false _ (c .if1 .left))), c .before .before .before .before .before .before .before .pre .1 .1)
 
 returns-2 : tie.Need-returns-2
 returns-2 c = rw (so (c .before .before .is-declared .ensures) (not-false _ (c .before .if1 .left))) (ap not (c .is-read .ensures))

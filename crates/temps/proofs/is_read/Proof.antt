@@ -19,10 +19,10 @@ enum-told : tie.Need-enum-told
 enum-told c = search needs
 
 temp-read-requires : tie.Need-temp-read-requires
-temp-read-requires c κs = c .before .before .before .before .before .before .pre .0 .0
+temp-read-requires c κs = c .before .before .before .before .before .before .before .pre .0 .0
 
 returns : tie.Need-returns
-returns c = let s = c .before .before .before .before .before .before .before in let a = s .args in told (λ (x : List ℕ). tempRead x (linesOf (a .text .now))) (a .name .now) (a .read .now) _ (λ n q h. s .pre .1 (a .name .now) n (s .pre .0 .0) (s .pre .0 .1) q h) (sym (c .before .before .before .flag-of .ensures) ∙ c .before .b .given .1)
+returns c = let a = c .before .before .before .before .before .before .before .before .args in told (a .own .now) (λ (x : List ℕ). tempRead x (linesOf (a .text .now))) (a .name .now) (a .read .now) _ (λ n q h. c .before .before .before .before .before .before .before .before .pre .1 (a .name .now) n (c .before .before .before .before .before .before .before .before .pre .0 .0) (c .before .before .before .before .before .before .before .before .pre .0 .1) q h) (sym (c .before .before .before .flag-of .ensures) ∙ c .before .b .given .1)
 
 returns-2 : tie.Need-returns-2
 returns-2 c = search needs

@@ -10,13 +10,13 @@ use Rattle.temps.proofs.prune_with.Statement.{statement}
 use Rattle.temps.proofs.prune_with.Tie as tie
 
 abbrev Inv-loop : tie.InvT-loop
-Inv-loop text declared read scratch₀ out₀ i₀ o₀ scratch out i o = TempInv text scratch₀ out₀ scratch out i o
+Inv-loop text own declared read scratch₀ out₀ i₀ o₀ scratch out i o = TempInv text scratch₀ out₀ scratch out i o
 
 abbrev μ-loop : tie.MeasureT-loop
-μ-loop text declared read scratch₀ out₀ i₀ o₀ scratch out i o = length text - i
+μ-loop text own declared read scratch₀ out₀ i₀ o₀ scratch out i o = length text - i
 
 loop-holds : tie.Need-loop-holds Inv-loop μ-loop
-loop-holds c = temp-start _ _ _ (c .before .before .before .before .before .pre .0 .0) (c .before .before .before .before .before .pre .1)
+loop-holds c = temp-start _ _ _ (c .before .before .before .before .before .before .pre .0 .0) (c .before .before .before .before .before .before .pre .1)
 
 find-byte-requires : tie.Need-find-byte-requires Inv-loop μ-loop
 find-byte-requires c κs = search needs
@@ -28,12 +28,12 @@ part-put-line-start : tie.Need-part-put-line-start Inv-loop μ-loop
 part-put-line-start c = omega arith
 
 part-put-line-end : tie.Need-part-put-line-end Inv-loop μ-loop
-part-put-line-end c = omega (arith, find-le 10 (c .before .before .before .before .before .before .before .before .args .text .now) (c .before .before .loop .i) (c .find-byte .result) (c .before .before .loop .inv .i≤) (c .find-byte .ensures))
+part-put-line-end c = omega (arith, find-le 10 (c .before .before .before .before .before .before .before .before .before .args .text .now) (c .before .before .loop .i) (c .find-byte .result) (c .before .before .loop .inv .i≤) (c .find-byte .ensures))
 
 put-line-requires : tie.Need-put-line-requires Inv-loop μ-loop
 put-line-requires c κs =
     let r = temp-room (c .before .before .before .before .before .loop .inv) (c .before .before .before .find-byte .result) (c .before .before .before .before .loop-test .taken) (c .before .before .before .find-byte .ensures) in
-    ((r .0, c .before .before .before .before .before .before .before .before .before .before .before .pre .0 .1), r .1)
+    ((r .0, c .before .before .before .before .before .before .before .before .before .before .before .before .pre .0 .1), r .1)
 
 after-requires : tie.Need-after-requires Inv-loop μ-loop
 after-requires c κs = search needs
@@ -44,7 +44,7 @@ loop-less c = omega (arith, c .after .ensures, c .before .before .before .before
 loop-again : tie.Need-loop-again Inv-loop μ-loop
 loop-again c =
     let p = c .before .before .before .before .before .put-line in
-    temp-on (c .before .before .before .before .before .before .before .before .before .before .before .loop .inv) (c .before .before .before .before .before .before .before .before .before .find-byte .result) (c .before .before .before .before .before .before .before .before .before .before .loop-test .taken) (c .before .before .before .before .before .before .before .before .before .find-byte .ensures) _ _ _ _ (p .ensures .0) (p .ensures .1) (p .kept .1 .1 .1 .1 .0) (c .after .ensures)
+    temp-on (c .before .before .before .before .before .before .before .before .before .before .before .loop .inv) (c .before .before .before .before .before .before .before .before .before .find-byte .result) (c .before .before .before .before .before .before .before .before .before .before .loop-test .taken) (c .before .before .before .before .before .before .before .before .before .find-byte .ensures) _ _ _ _ (p .ensures .0) (p .ensures .1) (p .kept .1 .1 .1 .1 .1 .0) (c .after .ensures)
 
 same-length : tie.Need-same-length Inv-loop μ-loop
 same-length c = c .before .loop .inv .same-scratch

@@ -9,13 +9,13 @@ use Rattle.temps.proofs.table.flag_lines.Statement.{statement}
 use Rattle.temps.proofs.table.flag_lines.Tie as tie
 
 abbrev Inv-loop : tie.InvT-loop
-Inv-loop text table₀ i₀ table i = FlagInv flagLines text table₀ table i
+Inv-loop text own table₀ i₀ table i = FlagInv (flagLines own) text table₀ table i
 
 abbrev μ-loop : tie.MeasureT-loop
-μ-loop text table₀ i₀ table i = length text - i
+μ-loop text own table₀ i₀ table i = length text - i
 
 loop-holds : tie.Need-loop-holds Inv-loop μ-loop
-loop-holds c = flag-start flagLines _ _
+loop-holds c = flag-start (flagLines (c .before .before .before .args .own .now)) _ _
 
 find-byte-requires : tie.Need-find-byte-requires Inv-loop μ-loop
 find-byte-requires c κs = search needs
@@ -36,13 +36,13 @@ loop-less : tie.Need-loop-less Inv-loop μ-loop
 loop-less c = omega (arith, c .after .ensures, c .before .before .before .before .before .before .before .find-byte .ensures, c .before .before .before .before .before .before .before .before .loop-test .taken)
 
 loop-again : tie.Need-loop-again Inv-loop μ-loop
-loop-again c = lines-on (c .before .before .before .before .before .before .before .before .before .loop .inv) (c .before .before .before .before .before .before .before .find-byte .result) (c .after .result) (c .before .before .before .before .before .before .cut .result .now) (c .before .before .before .before .before .trim .result .now) _ (c .before .before .before .before .before .before .before .before .loop-test .taken) (c .before .before .before .before .before .before .before .find-byte .ensures) (c .before .before .before .before .before .before .cut .ensures) (c .before .before .before .before .before .trim .ensures .0) (c .before .before .before .flag-reads .ensures) (c .after .ensures)
+loop-again c = lines-on _ (c .before .before .before .before .before .before .before .before .before .loop .inv) (c .before .before .before .before .before .before .before .find-byte .result) (c .after .result) (c .before .before .before .before .before .before .cut .result .now) (c .before .before .before .before .before .trim .result .now) _ (c .before .before .before .before .before .before .before .before .loop-test .taken) (c .before .before .before .before .before .before .before .find-byte .ensures) (c .before .before .before .before .before .before .cut .ensures) (c .before .before .before .before .before .trim .ensures .0) (c .before .before .before .flag-reads .ensures) (c .after .ensures)
 
 same-length : tie.Need-same-length Inv-loop μ-loop
 same-length c = c .before .loop .inv .long
 
 returns : tie.Need-returns Inv-loop μ-loop
-returns c = lines-done (c .before .loop .inv) (c .loop-test .left)
+returns c = lines-done _ (c .before .loop .inv) (c .loop-test .left)
 
 pub flag-lines-spec : {M : Type 1} → statement M
 flag-lines-spec =

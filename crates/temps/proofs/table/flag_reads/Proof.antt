@@ -11,7 +11,7 @@ is-binding-requires : tie.Need-is-binding-requires
 is-binding-requires c κs = search needs
 
 returns : tie.Need-returns
-returns c = reads-binding _ _ (so (c .before .is-binding .ensures) (c .if1 .taken))
+returns c = reads-binding _ _ _ (so (c .before .is-binding .ensures) (c .if1 .taken))
 
 assign-of-requires : tie.Need-assign-of-requires
 assign-of-requires c κs = search needs
@@ -35,13 +35,13 @@ same-length : tie.Need-same-length
 same-length c = search needs
 
 returns-2 : tie.Need-returns-2
-returns-2 c = let a = c .before .before .before .before .before .before .before .before .before .before .before .before .before .args in let w = assign-split (a .t .now) _ (sym (c .before .before .before .before .before .before .before .before .assign-of .ensures) ∙ c .before .before .before .before .before .before .s .given .1) in c .before .before .flag-runs .ensures ∙ reads-store (a .t .now) (a .table .now) (so (c .before .before .before .before .before .before .before .before .before .before .is-binding .ensures) (c .before .before .before .before .before .before .before .before .before .if1 .left)) (c .before .before .before .before .left-of .result .now) (w .assigns) (c .before .before .before .before .left-of .ensures ∙ w .is-left)
+returns-2 c = let a = c .before .before .before .before .before .before .before .before .before .before .before .before .before .before .args in let w = assign-split (a .t .now) _ (sym (c .before .before .before .before .before .before .before .before .assign-of .ensures) ∙ c .before .before .before .before .before .before .s .given .1) in c .before .before .flag-runs .ensures ∙ reads-store (a .own .now) (a .t .now) (a .table .now) (so (c .before .before .before .before .before .before .before .before .before .before .is-binding .ensures) (c .before .before .before .before .before .before .before .before .before .if1 .left)) (c .before .before .before .before .left-of .result .now) (w .assigns) (c .before .before .before .before .left-of .ensures ∙ w .is-left)
 
 same-length-2 : tie.Need-same-length-2
 same-length-2 c = search needs
 
 returns-3 : tie.Need-returns-3
-returns-3 c = let a = c .before .before .before .before .before .before .before .before .before .before .before .args in c .before .before .flag-runs2 .ensures ∙ reads-free (a .t .now) (a .table .now) (so (c .before .before .before .before .before .before .before .before .is-binding .ensures) (c .before .before .before .before .before .before .before .if1 .left)) (a .t .now) (assign-not (a .t .now) (sym (c .before .before .before .before .before .before .assign-of .ensures) ∙ c .before .before .before .before .enum-told .given .1))
+returns-3 c = let a = c .before .before .before .before .before .before .before .before .before .before .before .before .args in c .before .before .flag-runs2 .ensures ∙ reads-free (a .own .now) (a .t .now) (a .table .now) (so (c .before .before .before .before .before .before .before .before .is-binding .ensures) (c .before .before .before .before .before .before .before .if1 .left)) (a .t .now) (assign-not (a .t .now) (sym (c .before .before .before .before .before .before .assign-of .ensures) ∙ c .before .before .before .before .enum-told .given .1))
 
 pub flag-reads-spec : {M : Type 1} → statement M
 flag-reads-spec =

@@ -7,7 +7,7 @@ use Rattle.temps.proofs.table.flag_run.Statement.{statement}
 use Rattle.temps.proofs.table.flag_run.Tie as tie
 
 returns : tie.Need-returns
-returns c = let a = c .before .before .before .before .args in run-empty (a .left .now) (a .r .now) (a .table .now) (a .skip) (c .if1 .taken)
+returns c = let a = c .before .before .before .before .before .args in run-empty (a .own .now) (a .left .now) (a .r .now) (a .table .now) (a .skip) (c .if1 .taken)
 
 flag-temp-requires : tie.Need-flag-temp-requires
 flag-temp-requires c κs = search needs
@@ -16,13 +16,13 @@ same-length : tie.Need-same-length
 same-length c = search needs
 
 returns-2 : tie.Need-returns-2
-returns-2 c = let a = c .before .before .before .before .before .before .before .before .before .args in let s = run-free (a .left .now) (a .r .now) (a .table .now) (a .skip) (not-true _ (c .before .before .before .before .if2 .taken)) (c .before .before .before .before .before .if1 .left) in (s .0, c .before .before .flag-temp .ensures ∙ s .1)
+returns-2 c = let a = c .before .before .before .before .before .before .before .before .before .before .args in let s = run-free (a .own .now) (a .left .now) (a .r .now) (a .table .now) (a .skip) (not-true _ (c .before .before .before .before .if2 .taken)) (c .before .before .before .before .before .if1 .left) in (s .0, c .before .before .flag-temp .ensures ∙ s .1)
 
 same-requires : tie.Need-same-requires
 same-requires c κs = search needs
 
 returns-3 : tie.Need-returns-3
-returns-3 c = let a = c .before .before .before .before .before .before .before .args in run-left (a .left .now) (a .r .now) (a .table .now) (a .skip) (not-false _ (c .before .before .if2 .left)) (c .before .before .before .if1 .left) (sym (c .before .same .ensures) ∙ c .if3 .taken)
+returns-3 c = let a = c .before .before .before .before .before .before .before .before .args in run-left (a .own .now) (a .left .now) (a .r .now) (a .table .now) (a .skip) (not-false _ (c .before .before .if2 .left)) (c .before .before .before .if1 .left) (sym (c .before .same .ensures) ∙ c .if3 .taken)
 
 flag-temp-requires-2 : tie.Need-flag-temp-requires-2
 flag-temp-requires-2 c κs = search needs
@@ -31,7 +31,7 @@ same-length-2 : tie.Need-same-length-2
 same-length-2 c = search needs
 
 returns-4 : tie.Need-returns-4
-returns-4 c = let a = c .before .before .before .before .before .before .before .before .before .before .before .args in let s = run-other (a .left .now) (a .r .now) (a .table .now) (a .skip) (not-false _ (c .before .before .before .before .before .before .if2 .left)) (c .before .before .before .before .before .before .before .if1 .left) (sym (c .before .before .before .before .before .same .ensures) ∙ c .before .before .before .before .if3 .left) in (s .0, c .before .before .flag-temp2 .ensures ∙ s .1)
+returns-4 c = let a = c .before .before .before .before .before .before .before .before .before .before .before .before .args in let s = run-other (a .own .now) (a .left .now) (a .r .now) (a .table .now) (a .skip) (not-false _ (c .before .before .before .before .before .before .if2 .left)) (c .before .before .before .before .before .before .before .if1 .left) (sym (c .before .before .before .before .before .same .ensures) ∙ c .before .before .before .before .if3 .left) in (s .0, c .before .before .flag-temp2 .ensures ∙ s .1)
 
 pub flag-run-spec : {M : Type 1} → statement M
 flag-run-spec =

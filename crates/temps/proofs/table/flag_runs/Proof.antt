@@ -9,13 +9,13 @@ use Rattle.temps.proofs.table.flag_runs.Statement.{statement}
 use Rattle.temps.proofs.table.flag_runs.Tie as tie
 
 abbrev Inv-loop : tie.InvT-loop
-Inv-loop s left k table₀ skip₀ a₀ i₀ table skip a i = RunsInv left s table₀ table k skip a i
+Inv-loop s own left k table₀ skip₀ a₀ i₀ table skip a i = RunsInv own left s table₀ table k skip a i
 
 abbrev μ-loop : tie.MeasureT-loop
-μ-loop s left k table₀ skip₀ a₀ i₀ table skip a i = length s - i
+μ-loop s own left k table₀ skip₀ a₀ i₀ table skip a i = length s - i
 
 loop-holds : tie.Need-loop-holds Inv-loop μ-loop
-loop-holds c = let a = c .before .before .before .args in runs-start (a .left .now) (a .s .now) (a .table .now) (a .k)
+loop-holds c = let a = c .before .before .before .before .args in runs-start (a .own .now) (a .left .now) (a .s .now) (a .table .now) (a .k)
 
 shared-slice-read-is-name-byte : tie.Need-shared-slice-read-is-name-byte Inv-loop μ-loop
 shared-slice-read-is-name-byte c = search needs
@@ -30,7 +30,7 @@ loop-less : tie.Need-loop-less Inv-loop μ-loop
 loop-less c = omega arith
 
 loop-again : tie.Need-loop-again Inv-loop μ-loop
-loop-again c = runs-name (c .before .before .before .before .loop .inv) (c .before .before .before .loop-test .taken) (sym (c .before .is-name-byte .ensures) ∙ c .if1 .taken)
+loop-again c = runs-name _ (c .before .before .before .before .loop .inv) (c .before .before .before .loop-test .taken) (sym (c .before .is-name-byte .ensures) ∙ c .if1 .taken)
 
 cut-requires : tie.Need-cut-requires Inv-loop μ-loop
 cut-requires c κs = search needs
@@ -45,7 +45,7 @@ loop-less-2 : tie.Need-loop-less-2 Inv-loop μ-loop
 loop-less-2 c = omega arith
 
 loop-again-2 : tie.Need-loop-again-2 Inv-loop μ-loop
-loop-again-2 c = let f = c .before .before .flag-run in runs-gap (c .before .before .before .before .before .before .before .before .before .loop .inv) (c .before .before .before .before .cut .result .now) _ (f .result) (c .before .before .before .before .cut .ensures) (f .ensures .0) (f .ensures .1) (c .before .before .before .before .before .before .before .before .loop-test .taken) (sym (c .before .before .before .before .before .before .is-name-byte .ensures) ∙ c .before .before .before .before .before .if1 .left)
+loop-again-2 c = let f = c .before .before .flag-run in runs-gap _ (c .before .before .before .before .before .before .before .before .before .loop .inv) (c .before .before .before .before .cut .result .now) _ (f .result) (c .before .before .before .before .cut .ensures) (f .ensures .0) (f .ensures .1) (c .before .before .before .before .before .before .before .before .loop-test .taken) (sym (c .before .before .before .before .before .before .is-name-byte .ensures) ∙ c .before .before .before .before .before .if1 .left)
 
 cut-requires-2 : tie.Need-cut-requires-2 Inv-loop μ-loop
 cut-requires-2 c κs = search needs
@@ -54,10 +54,10 @@ flag-run-requires-2 : tie.Need-flag-run-requires-2 Inv-loop μ-loop
 flag-run-requires-2 c κs = search needs
 
 same-length : tie.Need-same-length Inv-loop μ-loop
-same-length c = let f = c .before .before .flag-run2 in run-long (c .before .before .before .before .before .before .loop .inv) (c .before .before .before .before .cut2 .result .now) _ (f .result) (c .before .before .before .before .cut2 .ensures) (f .ensures .0) (f .ensures .1)
+same-length c = let f = c .before .before .flag-run2 in run-long _ (c .before .before .before .before .before .before .loop .inv) (c .before .before .before .before .cut2 .result .now) _ (f .result) (c .before .before .before .before .cut2 .ensures) (f .ensures .0) (f .ensures .1)
 
 returns : tie.Need-returns Inv-loop μ-loop
-returns c = let f = c .before .before .flag-run2 in runs-end (c .before .before .before .before .before .before .loop .inv) (c .before .before .before .before .cut2 .result .now) _ (f .result) (c .before .before .before .before .cut2 .ensures) (f .ensures .0) (f .ensures .1) (c .before .before .before .before .before .loop-test .left)
+returns c = let f = c .before .before .flag-run2 in runs-end _ (c .before .before .before .before .before .before .loop .inv) (c .before .before .before .before .cut2 .result .now) _ (f .result) (c .before .before .before .before .cut2 .ensures) (f .ensures .0) (f .ensures .1) (c .before .before .before .before .before .loop-test .left)
 
 pub flag-runs-spec : {M : Type 1} → statement M
 flag-runs-spec =

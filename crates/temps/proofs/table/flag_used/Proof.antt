@@ -13,7 +13,7 @@ any-flag-requires : tie.Need-any-flag-requires
 any-flag-requires c κs = search needs
 
 returns : tie.Need-returns
-returns c = let a = c .before .before .before .before .before .args in sym (used-by (a .declared .now) (linesOf (a .text .now)) (a .table .now) false (so (c .before .any-flag .ensures) (not-true _ (c .if1 .taken))))
+returns c = let a = c .before .before .before .before .before .before .args in sym (used-by (a .own .now) (a .declared .now) (linesOf (a .text .now)) (a .table .now) false (so (c .before .any-flag .ensures) (not-true _ (c .if1 .taken))))
 
 flag-lines-requires : tie.Need-flag-lines-requires
 flag-lines-requires c κs = search needs
@@ -22,7 +22,7 @@ same-length : tie.Need-same-length
 same-length c = search needs
 
 returns-2 : tie.Need-returns-2
-returns-2 c = let a = c .before .before .before .before .before .before .before .before .before .args in c .before .before .flag-lines .ensures ∙ sym (used-by (a .declared .now) (linesOf (a .text .now)) (a .table .now) true (so (c .before .before .before .before .before .any-flag .ensures) (not-false _ (c .before .before .before .before .if1 .left))))
+returns-2 c = let a = c .before .before .before .before .before .before .before .before .before .before .args in c .before .before .flag-lines .ensures ∙ sym (used-by (a .own .now) (a .declared .now) (linesOf (a .text .now)) (a .table .now) true (so (c .before .before .before .before .before .any-flag .ensures) (not-false _ (c .before .before .before .before .if1 .left))))
 
 pub flag-used-spec : {M : Type 1} → statement M
 flag-used-spec =
