@@ -7,7 +7,7 @@ use Rattle.limits.specs.declared.Answer.{Answer}
 use Rattle.steps.specs.Step.{stepOf}
 use Rattle.passes.specs.Passes.{resultOf}
 use Rattle.opt.specs.Whole.{whole}
-use Rattle.limits.specs.Entry.{isShort, answerOf, passAnswer}
+use Rattle.limits.specs.Entry.{small, isShort, answerOf, passAnswer}
 
 -- what a text becomes by all passes, and by one of them
 abbrev pub tidied : List ℕ → List ℕ
@@ -18,7 +18,7 @@ passed k t = resultOf (stepOf plain k) t
 
 -- the answer for all passes, and for one of them: t the text, a to u the work buffers, o the result buffer
 abbrev pub tidyAnswer : (t a b c d e u o : List ℕ) → Answer
-tidyAnswer t a b c d e u o = answerOf (isShort (length a) (length b) (length c) (length d) (length e) (length u)) t (tidied t) (length o)
+tidyAnswer t a b c d e u o = answerOf small (isShort small (length a) (length b) (length c) (length d) (length e) (length u)) t (tidied t) (length o)
 
 abbrev pub onePassAnswer : ℕ → (t a b c d e u o : List ℕ) → Answer
-onePassAnswer k t a b c d e u o = passAnswer k (isShort (length a) (length b) (length c) (length d) (length e) (length u)) t (passed k t) (length o)
+onePassAnswer k t a b c d e u o = passAnswer small k (isShort small (length a) (length b) (length c) (length d) (length e) (length u)) t (passed k t) (length o)

@@ -1,7 +1,7 @@
 // The entries for C and Rust: include/optlines.h declares them.
 ghost use mathlib.Core.Path.{_≡_};
 ghost use Rattle.limits.specs.Answer.{numberOf, lengthOf, placeOf};
-ghost use Rattle.limits.specs.Entry.{outAfter};
+ghost use Rattle.limits.specs.Entry.{small, outAfter};
 ghost use Rattle.opt.specs.Room.{After};
 ghost use Rattle.capi.specs.Called.{tidied, passed, tidyAnswer, onePassAnswer};
 
@@ -23,7 +23,7 @@ pub extern "C" fn optlines_optimize(
     ensures size { λ _. ⌜ now (size .exit) ≡ lengthOf (tidyAnswer (now (text .entry)) (now (a .entry)) (now (b .entry)) (now (c .entry)) (now (d .entry)) (now (e .entry)) (now (u .entry)) (now (out .entry))) ⌝ }
     ensures place { λ _. ⌜ now (place .exit) ≡ placeOf (tidyAnswer (now (text .entry)) (now (a .entry)) (now (b .entry)) (now (c .entry)) (now (d .entry)) (now (e .entry)) (now (u .entry)) (now (out .entry))) ⌝ }
     ensures result { λ _. ⌜ now (out .exit) ≡ outAfter (tidyAnswer (now (text .entry)) (now (a .entry)) (now (b .entry)) (now (c .entry)) (now (d .entry)) (now (e .entry)) (now (u .entry)) (now (out .entry))) (tidied (now (text .entry))) (now (out .entry)) ⌝ }
-    ensures work { λ _. ⌜ After (tidyAnswer (now (text .entry)) (now (a .entry)) (now (b .entry)) (now (c .entry)) (now (d .entry)) (now (e .entry)) (now (u .entry)) (now (out .entry))) (now (a .entry)) (now (b .entry)) (now (c .entry)) (now (d .entry)) (now (e .entry)) (now (u .entry)) (now (a .exit)) (now (b .exit)) (now (c .exit)) (now (d .exit)) (now (e .exit)) (now (u .exit)) ⌝ }
+    ensures work { λ _. ⌜ After small (tidyAnswer (now (text .entry)) (now (a .entry)) (now (b .entry)) (now (c .entry)) (now (d .entry)) (now (e .entry)) (now (u .entry)) (now (out .entry))) (now (a .entry)) (now (b .entry)) (now (c .entry)) (now (d .entry)) (now (e .entry)) (now (u .entry)) (now (a .exit)) (now (b .exit)) (now (c .exit)) (now (d .exit)) (now (e .exit)) (now (u .exit)) ⌝ }
 {
     let answer = opt::optimize(text, a, b, c, d, e, u, out);
     *size = limits::length_of(answer);
@@ -50,7 +50,7 @@ pub extern "C" fn optlines_run_pass(
     ensures size { λ _. ⌜ now (size .exit) ≡ lengthOf (onePassAnswer pass (now (text .entry)) (now (a .entry)) (now (b .entry)) (now (c .entry)) (now (d .entry)) (now (e .entry)) (now (u .entry)) (now (out .entry))) ⌝ }
     ensures place { λ _. ⌜ now (place .exit) ≡ placeOf (onePassAnswer pass (now (text .entry)) (now (a .entry)) (now (b .entry)) (now (c .entry)) (now (d .entry)) (now (e .entry)) (now (u .entry)) (now (out .entry))) ⌝ }
     ensures result { λ _. ⌜ now (out .exit) ≡ outAfter (onePassAnswer pass (now (text .entry)) (now (a .entry)) (now (b .entry)) (now (c .entry)) (now (d .entry)) (now (e .entry)) (now (u .entry)) (now (out .entry))) (passed pass (now (text .entry))) (now (out .entry)) ⌝ }
-    ensures work { λ _. ⌜ After (onePassAnswer pass (now (text .entry)) (now (a .entry)) (now (b .entry)) (now (c .entry)) (now (d .entry)) (now (e .entry)) (now (u .entry)) (now (out .entry))) (now (a .entry)) (now (b .entry)) (now (c .entry)) (now (d .entry)) (now (e .entry)) (now (u .entry)) (now (a .exit)) (now (b .exit)) (now (c .exit)) (now (d .exit)) (now (e .exit)) (now (u .exit)) ⌝ }
+    ensures work { λ _. ⌜ After small (onePassAnswer pass (now (text .entry)) (now (a .entry)) (now (b .entry)) (now (c .entry)) (now (d .entry)) (now (e .entry)) (now (u .entry)) (now (out .entry))) (now (a .entry)) (now (b .entry)) (now (c .entry)) (now (d .entry)) (now (e .entry)) (now (u .entry)) (now (a .exit)) (now (b .exit)) (now (c .exit)) (now (d .exit)) (now (e .exit)) (now (u .exit)) ⌝ }
 {
     let answer = opt::run_pass(pass, text, a, b, c, d, e, u, out);
     *size = limits::length_of(answer);

@@ -8,29 +8,38 @@ use Rattle.lines.specs.Lf.{within}
 use Rattle.lines.specs.Steps.{splitLines}
 use Rattle.text.specs.declared.Utf8.the-variants as utf8-is
 use Rattle.text.specs.Utf8Form.{utf8Of}
+use Rattle.limits.specs.declared.Limits.{Limits}
 use Rattle.limits.specs.declared.Answer.{Answer}
 use Rattle.limits.specs.Answer.{numberOf, lengthOf, placeOf}
-use Rattle.limits.specs.Entry.{roomed, answerOf, passAnswer}
+use Rattle.limits.specs.Entry.{small, roomed, answerOf, passAnswer}
 use Rattle.limits.proofs.AnswerLaws.{lines-many, text-long, text-read}
 
 -- the number, the length and the place of an answer
 abbrev pub numbersOf : Answer → ℕ × (ℕ × ℕ)
 numbersOf r = (numberOf r, (lengthOf r, placeOf r))
 
--- xs: the result; room: the length of the result buffer
-module _ (t xs : List ℕ) (room : ℕ) where
+-- L: the limits of an entry; xs: the result; room: the length of the result buffer
+module _ (L : Limits) (t xs : List ℕ) (room : ℕ) where
   -- a text that is too long: 2, with the most bytes that a text may have
-  pub long-numbers : (short : Bool) → 16384 < length t → numbersOf (answerOf short t xs room) ≡ (2, (0, 16384))
+  pub long-numbers : (short : Bool) → L .bytes < length t → numbersOf (answerOf L short t xs room) ≡ (2, (0, L .bytes))
   unfolding answerOf numberOf lengthOf placeOf
-  long-numbers short h = ap numbersOf (sym (text-long t (roomed (length xs) room) short h))
+  long-numbers short h = ap numbersOf (sym (text-long L t (roomed (length xs) room) short h))
 
   -- a text of too many lines that no check before refuses: 5, with the most lines that a text may have
-  pub many-numbers : length t ≤ 16384 → utf8Of t ≡ utf8-is.Valid → 1024 < length (splitLines t) → numbersOf (answerOf false t xs room) ≡ (5, (0, 1024))
+  pub many-numbers : length t ≤ L .bytes → utf8Of t ≡ utf8-is.Valid → L .lines < length (splitLines t) → numbersOf (answerOf L false t xs room) ≡ (5, (0, L .lines))
   unfolding answerOf numberOf lengthOf placeOf
   many-numbers h v k =
-      ap numbersOf (sym (lines-many t (roomed (length xs) room) k ∙ text-read t (roomed (length xs) room) false h refl {x = utf8-is.Valid} v))
+      ap numbersOf (sym (lines-many L t (roomed (length xs) room) k ∙ text-read L t (roomed (length xs) room) false h refl {x = utf8-is.Valid} v))
 
   -- the pass entry answers so too, of a pass that there is
-  pub pass-numbers : (k : ℕ) (short : Bool) → within 1 6 k ≡ true → passAnswer k short t xs room ≡ answerOf short t xs room
+  pub pass-numbers : (k : ℕ) (short : Bool) → within 1 6 k ≡ true → passAnswer L k short t xs room ≡ answerOf L short t xs room
   unfolding passAnswer
   pass-numbers k short h = rw h
+
+-- the numbers of `optimize` and `run_pass`
+module _ (t xs : List ℕ) (room : ℕ) where
+  pub long-small : (short : Bool) → 16384 < length t → numbersOf (answerOf small short t xs room) ≡ (2, (0, 16384))
+  long-small = long-numbers small t xs room
+
+  pub many-small : length t ≤ 16384 → utf8Of t ≡ utf8-is.Valid → 1024 < length (splitLines t) → numbersOf (answerOf small false t xs room) ≡ (5, (0, 1024))
+  many-small = many-numbers small t xs room

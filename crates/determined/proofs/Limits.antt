@@ -14,6 +14,12 @@ use Rattle.determined.proofs.Outcomes.{Determined, fixed, fixed-by, one
 pub out-once : {r₁ r₂ : Answer} (result d : List ℕ) {d₁ d₂ : List ℕ} → r₁ ≡ r₂ → d₁ ≡ outAfter r₁ result d → d₂ ≡ outAfter r₂ result d → d₁ ≡ d₂
 out-once result d p f g = f ∙ (ap (λ r. outAfter r result d) p ∙ sym g)
 
+pub small-fixed : Determined limits.small.ended (λ κs z. z) limits.small.Reads.ensures
+small-fixed = fixed limits.small.Reads.Learnt (λ κs a x y l m. l ∙ sym m)
+
+pub byte-size-fixed : Determined limits.byte_size.ended (λ κs z. z) limits.byte_size.Reads.ensures
+byte-size-fixed = fixed limits.byte_size.Reads.Learnt (λ κs a x y l m. l ∙ sym m)
+
 pub number-of-fixed : Determined limits.number_of.ended (λ κs z. z) limits.number_of.Reads.ensures
 number-of-fixed = fixed limits.number_of.Reads.Learnt (λ κs a x y l m. l ∙ sym m)
 

@@ -4,6 +4,7 @@ use mathlib.Core.Path.{_≡_, ap, sym, _∙_}
 use mathlib.Core.List.{List}
 use denote.Ref.{now}
 use Rattle.reading.specs.Reading.{plain}
+use Rattle.limits.specs.declared.Limits.{Limits}
 use Rattle.limits.specs.declared.Answer.{Answer}
 use Rattle.steps.specs.Step.{stepOf}
 use Rattle.passes.specs.Passes.{resultOf}
@@ -15,19 +16,19 @@ use Rattle.determined.proofs.Outcomes.{Determined, fixed-by, one, more}
 use Rattle.determined.proofs.Limits.{out-once}
 
 -- the work buffers after one answer are the same, and then what is said of the rest
-pub after-once : {r₁ r₂ : Answer} {a b c d e u a₁ b₁ c₁ d₁ e₁ u₁ a₂ b₂ c₂ d₂ e₂ u₂ : List ℕ} {rest : Type 0} → r₁ ≡ r₂ → After r₁ a b c d e u a₁ b₁ c₁ d₁ e₁ u₁ →
-    After r₂ a b c d e u a₂ b₂ c₂ d₂ e₂ u₂ → rest → (a₁ ≡ a₂) × ((b₁ ≡ b₂) × ((c₁ ≡ c₂) × ((d₁ ≡ d₂) × ((e₁ ≡ e₂) × ((u₁ ≡ u₂) × rest)))))
-after-once {r₁} {r₂} {a} {b} {c} {d} {e} {u} p f g rest = (
-  f .a-after ∙ (ap (λ r. workAfter r byteSize a) p ∙ sym (g .a-after)),
+pub after-once : {L : Limits} {r₁ r₂ : Answer} {a b c d e u a₁ b₁ c₁ d₁ e₁ u₁ a₂ b₂ c₂ d₂ e₂ u₂ : List ℕ} {rest : Type 0} → r₁ ≡ r₂ → After L r₁ a b c d e u a₁ b₁ c₁ d₁ e₁ u₁ →
+    After L r₂ a b c d e u a₂ b₂ c₂ d₂ e₂ u₂ → rest → (a₁ ≡ a₂) × ((b₁ ≡ b₂) × ((c₁ ≡ c₂) × ((d₁ ≡ d₂) × ((e₁ ≡ e₂) × ((u₁ ≡ u₂) × rest)))))
+after-once {L} {r₁} {r₂} {a} {b} {c} {d} {e} {u} p f g rest = (
+  f .a-after ∙ (ap (λ r. workAfter r (byteSize L) a) p ∙ sym (g .a-after)),
   (
-    f .b-after ∙ (ap (λ r. workAfter r byteSize b) p ∙ sym (g .b-after)),
+    f .b-after ∙ (ap (λ r. workAfter r (byteSize L) b) p ∙ sym (g .b-after)),
     (
-      f .c-after ∙ (ap (λ r. workAfter r byteSize c) p ∙ sym (g .c-after)),
+      f .c-after ∙ (ap (λ r. workAfter r (byteSize L) c) p ∙ sym (g .c-after)),
       (
-        f .d-after ∙ (ap (λ r. workAfter r byteSize d) p ∙ sym (g .d-after)),
+        f .d-after ∙ (ap (λ r. workAfter r (byteSize L) d) p ∙ sym (g .d-after)),
         (
-          f .e-after ∙ (ap (λ r. workAfter r byteSize e) p ∙ sym (g .e-after)),
-          (f .u-after ∙ (ap (λ r. workAfter r blockSize u) p ∙ sym (g .u-after)), rest),
+          f .e-after ∙ (ap (λ r. workAfter r (byteSize L) e) p ∙ sym (g .e-after)),
+          (f .u-after ∙ (ap (λ r. workAfter r (blockSize L) u) p ∙ sym (g .u-after)), rest),
         ),
       ),
     ),

@@ -17,85 +17,94 @@ use Rattle.lines.proofs.Tests.{no}
 use Rattle.text.specs.declared.Utf8 as utf8
 use Rattle.text.specs.declared.Utf8.the-variants as utf8-is
 use Rattle.text.specs.Utf8Form.{utf8Of}
+use Rattle.limits.specs.declared.Limits.{Limits}
 use Rattle.limits.specs.declared.Answer.{Answer}
 use Rattle.limits.specs.declared.Answer.the-variants.{Done, BadPass, TooLong, ShortWork, TooManyLines, Crowded, ShortResult}
 use Rattle.limits.specs.Answer.{numberOf, lengthOf, placeOf, passesRan, isDone}
-use Rattle.limits.specs.Entry.{byteSize, blockSize, isShort, byUtf8, byCrowd, checkedLines, checked, roomed, answerOf, passAnswer, blank, workAfter, outAfter}
+use Rattle.limits.specs.Entry.{small, byUtf8, byCrowd, checkedLines, checked, roomed, answerOf, passAnswer, blank, workAfter, outAfter}
+use Rattle.limits.specs.Inner.Sane.{Sane, Within}
 
 -- ---- one check after the other
 
-module _ (t : List ℕ) (fine : Answer) where
-  pub lines-many : 1024 < length (splitLines t) → TooManyLines ≡ checkedLines t fine
+module _ (L : Limits) (t : List ℕ) (fine : Answer) where
+  pub lines-many : L .lines < length (splitLines t) → TooManyLines (L .lines) ≡ checkedLines L t fine
   unfolding checkedLines
-  lines-many h = rw (lt-ltb 1024 (length (splitLines t)) h)
+  lines-many h = rw (lt-ltb (L .lines) (length (splitLines t)) h)
 
-  pub lines-few : length (splitLines t) ≤ 1024 → {x : crowd.Crowded} → overFrom 64 91 0 (splitLines t) ≡ x → byCrowd x fine ≡ checkedLines t fine
+  pub lines-few : length (splitLines t) ≤ L .lines → {x : crowd.Crowded} → overFrom 64 91 0 (splitLines t) ≡ x → byCrowd x fine ≡ checkedLines L t fine
   unfolding checkedLines
-  lines-few h e = rw (le-ltb 1024 (length (splitLines t)) h, e)
+  lines-few h e = rw (le-ltb (L .lines) (length (splitLines t)) h, e)
 
   module _ (short : Bool) where
-    pub text-long : 16384 < length t → TooLong ≡ checked short t fine
+    pub text-long : L .bytes < length t → TooLong (L .bytes) ≡ checked L short t fine
     unfolding checked
-    text-long h = rw (lt-ltb 16384 (length t) h)
+    text-long h = rw (lt-ltb (L .bytes) (length t) h)
 
-    pub work-short : length t ≤ 16384 → short ≡ true → ShortWork ≡ checked short t fine
+    pub work-short : length t ≤ L .bytes → short ≡ true → ShortWork ≡ checked L short t fine
     unfolding checked
-    work-short h e = rw (le-ltb 16384 (length t) h, e)
+    work-short h e = rw (le-ltb (L .bytes) (length t) h, e)
 
-    pub text-read : length t ≤ 16384 → short ≡ false → {x : utf8.Utf8} → utf8Of t ≡ x → byUtf8 x (checkedLines t fine) ≡ checked short t fine
+    pub text-read : length t ≤ L .bytes → short ≡ false → {x : utf8.Utf8} → utf8Of t ≡ x → byUtf8 x (checkedLines L t fine) ≡ checked L short t fine
     unfolding checked
-    text-read h e q = rw (le-ltb 16384 (length t) h, e, q)
+    text-read h e q = rw (le-ltb (L .bytes) (length t) h, e, q)
 
 -- ---- a text that no check refuses, and one that a check refuses
 
-abbrev tests : Bool → Bool → utf8.Utf8 → Bool → crowd.Crowded → Answer → Answer
-tests p s v q o x = cond p TooLong (cond s ShortWork (byUtf8 v (cond q TooManyLines (byCrowd o x))))
+abbrev tests : Limits → Bool → Bool → utf8.Utf8 → Bool → crowd.Crowded → Answer → Answer
+tests L p s v q o x = cond p (TooLong (L .bytes)) (cond s ShortWork (byUtf8 v (cond q (TooManyLines (L .lines)) (byCrowd o x))))
 
-record Passed (p s : Bool) (v : utf8.Utf8) (q : Bool) (o : crowd.Crowded) : Type 0 where
+record Passed (L : Limits) (p s : Bool) (v : utf8.Utf8) (q : Bool) (o : crowd.Crowded) : Type 0 where
   not-long : p ≡ false
   not-short : s ≡ false
   not-many : q ≡ false
-  same : (x : Answer) → tests p s v q o x ≡ x
+  same : (x : Answer) → tests L p s v q o x ≡ x
 
-passed-by : (p s : Bool) (v : utf8.Utf8) (q : Bool) (o : crowd.Crowded) → isDone (tests p s v q o (Done 0)) ≡ true → Passed p s v q o
+passed-by : (L : Limits) (p s : Bool) (v : utf8.Utf8) (q : Bool) (o : crowd.Crowded) → isDone (tests L p s v q o (Done 0)) ≡ true → Passed L p s v q o
 unfolding isDone
-passed-by true s v q o h = no h
-passed-by false true v q o h = no h
-passed-by false false (utf8-is.Bad i) q o h = no h
-passed-by false false utf8-is.Valid true o h = no h
-passed-by false false utf8-is.Valid false (crowd-is.At n) h = no h
-passed-by false false utf8-is.Valid false crowd-is.Nowhere h = record { not-long = refl; not-short = refl; not-many = refl; same = λ x. refl }
+passed-by L true s v q o h = no h
+passed-by L false true v q o h = no h
+passed-by L false false (utf8-is.Bad i) q o h = no h
+passed-by L false false utf8-is.Valid true o h = no h
+passed-by L false false utf8-is.Valid false (crowd-is.At n) h = no h
+passed-by L false false utf8-is.Valid false crowd-is.Nowhere h = record { not-long = refl; not-short = refl; not-many = refl; same = λ x. refl }
 
-stopped-by : (p s : Bool) (v : utf8.Utf8) (q : Bool) (o : crowd.Crowded) → isDone (tests p s v q o (Done 0)) ≡ false → (x : Answer) →
-    (tests p s v q o x ≡ tests p s v q o (Done 0)) × (passesRan (tests p s v q o (Done 0)) ≡ false)
+stopped-by : (L : Limits) (p s : Bool) (v : utf8.Utf8) (q : Bool) (o : crowd.Crowded) → isDone (tests L p s v q o (Done 0)) ≡ false → (x : Answer) →
+    (tests L p s v q o x ≡ tests L p s v q o (Done 0)) × (passesRan (tests L p s v q o (Done 0)) ≡ false)
 unfolding isDone passesRan
-stopped-by true s v q o h x = (refl, refl)
-stopped-by false true v q o h x = (refl, refl)
-stopped-by false false (utf8-is.Bad i) q o h x = (refl, refl)
-stopped-by false false utf8-is.Valid true o h x = (refl, refl)
-stopped-by false false utf8-is.Valid false (crowd-is.At n) h x = (refl, refl)
-stopped-by false false utf8-is.Valid false crowd-is.Nowhere h x = no (sym h)
+stopped-by L true s v q o h x = (refl, refl)
+stopped-by L false true v q o h x = (refl, refl)
+stopped-by L false false (utf8-is.Bad i) q o h x = (refl, refl)
+stopped-by L false false utf8-is.Valid true o h x = (refl, refl)
+stopped-by L false false utf8-is.Valid false (crowd-is.At n) h x = (refl, refl)
+stopped-by L false false utf8-is.Valid false crowd-is.Nowhere h x = no (sym h)
 
-pub record Accepted (short : Bool) (t : List ℕ) : Type 0 where
+-- no check refuses a text: a work buffer is not too short, and the text is within the limits
+pub record Accepted (L : Limits) (short : Bool) (t : List ℕ) : Type 0 where
   pub long-enough : short ≡ false
-  pub bytes : length t ≤ 16384
-  pub lines : length (splitLines t) ≤ 1024
-  pub same : (x : Answer) → checked short t x ≡ x
+  pub bytes : length t ≤ L .bytes
+  pub lines : length (splitLines t) ≤ L .lines
+  pub same : (x : Answer) → checked L short t x ≡ x
 
-pub accepted-by : (short : Bool) (t : List ℕ) → isDone (checked short t (Done 0)) ≡ true → Accepted short t
+pub accepted-by : (L : Limits) (short : Bool) (t : List ℕ) → isDone (checked L short t (Done 0)) ≡ true → Accepted L short t
 unfolding checked checkedLines
-accepted-by short t h =
-    let p = passed-by (ltb 16384 (length t)) short (utf8Of t) (ltb 1024 (length (splitLines t))) (overFrom 64 91 0 (splitLines t)) h in
+accepted-by L short t h =
+    let p = passed-by L (ltb (L .bytes) (length t)) short (utf8Of t) (ltb (L .lines) (length (splitLines t))) (overFrom 64 91 0 (splitLines t)) h in
     record {
       long-enough = p .not-short;
-      bytes = ltb-false 16384 (length t) (p .not-long);
-      lines = ltb-false 1024 (length (splitLines t)) (p .not-many);
+      bytes = ltb-false (L .bytes) (length t) (p .not-long);
+      lines = ltb-false (L .lines) (length (splitLines t)) (p .not-many);
       same = p .same;
     }
 
-pub refused-by : (short : Bool) (t : List ℕ) → isDone (checked short t (Done 0)) ≡ false → (x : Answer) → (checked short t x ≡ checked short t (Done 0)) × (passesRan (checked short t (Done 0)) ≡ false)
+pub accepted-within : {L : Limits} {short : Bool} {t : List ℕ} → Sane L → Accepted L short t → Within L t
+accepted-within s p = record { sane = s; bytes = p .bytes; lines = p .lines }
+
+pub refused-by : (L : Limits) (short : Bool) (t : List ℕ) → isDone (checked L short t (Done 0)) ≡ false → (x : Answer) → (checked L short t x ≡ checked L short t (Done 0)) × (passesRan (checked L short t (Done 0)) ≡ false)
 unfolding checked checkedLines
-refused-by short t h x = stopped-by (ltb 16384 (length t)) short (utf8Of t) (ltb 1024 (length (splitLines t))) (overFrom 64 91 0 (splitLines t)) h x
+refused-by L short t h x = stopped-by L (ltb (L .bytes) (length t)) short (utf8Of t) (ltb (L .lines) (length (splitLines t))) (overFrom 64 91 0 (splitLines t)) h x
+
+pub sane-small : Sane small
+sane-small = record { bytes-reach = omega arith; lines-reach = omega arith }
 
 -- ---- what an answer leaves
 
@@ -140,20 +149,20 @@ pub done-not : (r : Answer) {n : ℕ} → n ≡ numberOf r → (n ≡ 0 → ⊥)
 unfolding isDone
 done-not r {n} e h = ne-eqb (numberOf r) 0 (λ z. h (e ∙ z))
 
-pub answer-refused : (r : Answer) (short : Bool) (t xs : List ℕ) (room : ℕ) → r ≡ checked short t (Done 0) → isDone r ≡ false → (r ≡ answerOf short t xs room) × (passesRan r ≡ false)
+pub answer-refused : (r : Answer) (L : Limits) (short : Bool) (t xs : List ℕ) (room : ℕ) → r ≡ checked L short t (Done 0) → isDone r ≡ false → (r ≡ answerOf L short t xs room) × (passesRan r ≡ false)
 unfolding answerOf
-answer-refused r short t xs room e h = let p = refused-by short t (ap isDone (sym e) ∙ h) (roomed (length xs) room) in (e ∙ sym (p .0), ap passesRan e ∙ p .1)
+answer-refused r L short t xs room e h = let p = refused-by L short t (ap isDone (sym e) ∙ h) (roomed (length xs) room) in (e ∙ sym (p .0), ap passesRan e ∙ p .1)
 
-pub answer-accepted : {r : Answer} (short : Bool) (t xs : List ℕ) (room : ℕ) → Accepted short t → r ≡ roomed (length xs) room → r ≡ answerOf short t xs room
+pub answer-accepted : {r : Answer} (L : Limits) (short : Bool) (t xs : List ℕ) (room : ℕ) → Accepted L short t → r ≡ roomed (length xs) room → r ≡ answerOf L short t xs room
 unfolding answerOf
-answer-accepted short t xs room p e = e ∙ sym (p .same (roomed (length xs) room))
+answer-accepted L short t xs room p e = e ∙ sym (p .same (roomed (length xs) room))
 
-module _ (k : ℕ) (short : Bool) (t xs : List ℕ) (room : ℕ) where
-  pub pass-bad : within 1 6 k ≡ false → BadPass ≡ passAnswer k short t xs room
+module _ (L : Limits) (k : ℕ) (short : Bool) (t xs : List ℕ) (room : ℕ) where
+  pub pass-bad : within 1 6 k ≡ false → BadPass ≡ passAnswer L k short t xs room
   unfolding passAnswer
   pass-bad h = rw h
 
-  pub pass-good : within 1 6 k ≡ true → answerOf short t xs room ≡ passAnswer k short t xs room
+  pub pass-good : within 1 6 k ≡ true → answerOf L short t xs room ≡ passAnswer L k short t xs room
   unfolding passAnswer
   pass-good h = rw h
 

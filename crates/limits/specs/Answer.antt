@@ -8,10 +8,10 @@ use Rattle.limits.specs.declared.Answer.the-variants.{Done, BadPass, Too
 unfoldable pub numberOf : Answer → ℕ
 numberOf (Done n) = 0
 numberOf BadPass = 1
-numberOf TooLong = 2
+numberOf (TooLong n) = 2
 numberOf ShortWork = 3
 numberOf (NotUtf8 i) = 4
-numberOf TooManyLines = 5
+numberOf (TooManyLines n) = 5
 numberOf (Crowded n) = 6
 numberOf (ShortResult n) = 7
 
@@ -19,20 +19,20 @@ numberOf (ShortResult n) = 7
 unfoldable pub lengthOf : Answer → ℕ
 lengthOf (Done n) = n
 lengthOf BadPass = 0
-lengthOf TooLong = 0
+lengthOf (TooLong n) = 0
 lengthOf ShortWork = 0
 lengthOf (NotUtf8 i) = 0
-lengthOf TooManyLines = 0
+lengthOf (TooManyLines n) = 0
 lengthOf (Crowded n) = 0
 lengthOf (ShortResult n) = 0
 
 unfoldable pub placeOf : Answer → ℕ
 placeOf (Done n) = 0
 placeOf BadPass = 0
-placeOf TooLong = 16384
+placeOf (TooLong n) = n
 placeOf ShortWork = 0
 placeOf (NotUtf8 i) = i
-placeOf TooManyLines = 1024
+placeOf (TooManyLines n) = n
 placeOf (Crowded n) = n
 placeOf (ShortResult n) = n
 

@@ -1,5 +1,5 @@
 -- What the entries answer, and what stands in the lent buffers afterwards. Assumes nothing.
-use Prim.Native.Nat.{ℕ}
+use Prim.Native.Nat.{ℕ, _+_, _*_}
 use Prim.Native.Char.{code}
 use mathlib.Core.Bool.{Bool, cond, _||_}
 use mathlib.Core.List.{List, _++_}
@@ -12,21 +12,26 @@ use Rattle.lines.specs.Steps.{splitLines, overFrom}
 use Rattle.text.specs.declared.Utf8 as utf8
 use Rattle.text.specs.declared.Utf8.the-variants as utf8-is
 use Rattle.text.specs.Utf8Form.{utf8Of}
+use Rattle.limits.specs.declared.Limits.{Limits}
 use Rattle.limits.specs.declared.Answer.{Answer}
 use Rattle.limits.specs.declared.Answer.the-variants.{Done, BadPass, TooLong, ShortWork, NotUtf8, TooManyLines, Crowded, ShortResult}
 use Rattle.limits.specs.Answer.{passesRan, isDone}
 
--- the stated size of each of the five work buffers of bytes, and of the one of numbers
-abbrev pub byteSize : ℕ
-byteSize = 32769
+-- the most bytes and the most lines of a text that `optimize` and `run_pass` take
+abbrev pub small : Limits
+small = record { bytes = 16384; lines = 1024 }
 
-abbrev pub blockSize : ℕ
-blockSize = 16384
+-- the stated size of each of the five work buffers of bytes, and of the one of numbers
+abbrev pub byteSize : Limits → ℕ
+byteSize L = 2 * L .bytes + 1
+
+abbrev pub blockSize : Limits → ℕ
+blockSize L = L .bytes
 
 -- a lent work buffer is shorter than its stated size: the lengths of the six
-abbrev pub isShort : ℕ → ℕ → ℕ → ℕ → ℕ → ℕ → Bool
-isShort a b c d e u =
-    ltb a byteSize || (ltb b byteSize || (ltb c byteSize || (ltb d byteSize || (ltb e byteSize || ltb u blockSize))))
+abbrev pub isShort : Limits → ℕ → ℕ → ℕ → ℕ → ℕ → ℕ → Bool
+isShort L a b c d e u =
+    ltb a (byteSize L) || (ltb b (byteSize L) || (ltb c (byteSize L) || (ltb d (byteSize L) || (ltb e (byteSize L) || ltb u (blockSize L)))))
 
 -- ---- the checks, in their order; `fine` where none refuses
 
@@ -39,29 +44,29 @@ byCrowd crowd-is.Nowhere fine = fine
 byCrowd (crowd-is.At n) fine = Crowded n
 
 -- by its lines
-unfoldable pub checkedLines : List ℕ → Answer → Answer
-checkedLines t fine = cond (ltb 1024 (length (splitLines t))) TooManyLines (byCrowd (overFrom 64 (code "[") 0 (splitLines t)) fine)
+unfoldable pub checkedLines : Limits → List ℕ → Answer → Answer
+checkedLines L t fine = cond (ltb (L .lines) (length (splitLines t))) (TooManyLines (L .lines)) (byCrowd (overFrom 64 (code "[") 0 (splitLines t)) fine)
 
-unfoldable pub checked : Bool → List ℕ → Answer → Answer
+unfoldable pub checked : Limits → Bool → List ℕ → Answer → Answer
 unfolding checkedLines
-checked short t fine =
-    cond (ltb 16384 (length t)) TooLong
+checked L short t fine =
+    cond (ltb (L .bytes) (length t)) (TooLong (L .bytes))
     (cond short ShortWork
-    (byUtf8 (utf8Of t) (checkedLines t fine)))
+    (byUtf8 (utf8Of t) (checkedLines L t fine)))
 
 -- the result is n bytes long, and the result buffer `room`
 abbrev pub roomed : ℕ → ℕ → Answer
 roomed n room = cond (ltb room n) (ShortResult n) (Done n)
 
 -- `short`: whether a work buffer is too short; t: the text; result: what it becomes; room: the length of the result buffer
-unfoldable pub answerOf : Bool → List ℕ → List ℕ → ℕ → Answer
+unfoldable pub answerOf : Limits → Bool → List ℕ → List ℕ → ℕ → Answer
 unfolding checked
-answerOf short t result room = checked short t (roomed (length result) room)
+answerOf L short t result room = checked L short t (roomed (length result) room)
 
 -- and of the pass entry
-unfoldable pub passAnswer : ℕ → Bool → List ℕ → List ℕ → ℕ → Answer
+unfoldable pub passAnswer : Limits → ℕ → Bool → List ℕ → List ℕ → ℕ → Answer
 unfolding answerOf
-passAnswer k short t result room = cond (within 1 6 k) (answerOf short t result room) BadPass
+passAnswer L k short t result room = cond (within 1 6 k) (answerOf L short t result room) BadPass
 
 -- ---- memory
 

@@ -5,21 +5,52 @@ ghost use Rattle.lines.specs.Lf.{linesOf};
 ghost use Rattle.lines.specs.Steps.{joined};
 ghost use Rattle.limits.specs.declared.Answer.the-variants.{Done};
 ghost use Rattle.limits.specs.Answer.{numberOf, lengthOf, placeOf};
-ghost use Rattle.limits.specs.Entry.{isShort, checkedLines, checked, roomed, outAfter};
+ghost use Rattle.limits.specs.Entry.{small, byteSize, isShort, checkedLines, checked, roomed, outAfter};
+ghost use Rattle.limits.specs.Inner.Sane.{Sane};
 
-// How many bytes of each work buffer are used, and how many numbers.
-pub const BYTES: usize = 32769;
+// How much an entry takes: the most bytes and the most lines of a text.
+pub struct Limits {
+    pub bytes: usize,
+    pub lines: usize,
+}
 
-pub const BLOCKS: usize = 16384;
+// What is asked of a run: the passes from `from` up to `to`, over a text within limits.
+pub struct Task {
+    pub from: usize,
+    pub to: usize,
+    pub limits: Limits,
+}
+
+// The limits of `optimize` and `run_pass`.
+pub const SMALL_BYTES: usize = 16384;
+
+pub const SMALL_LINES: usize = 1024;
+
+pub fn small() -> Limits
+    ensures { λ r. ⌜ r ≡ small ⌝ }
+{
+    Limits {
+        bytes: SMALL_BYTES,
+        lines: SMALL_LINES,
+    }
+}
+
+// How many bytes of each work buffer are used: a text may come to twice its length, and an LF.
+pub fn byte_size(m: Limits) -> usize
+    requires { ⌜ Sane m ⌝ }
+    ensures { λ r. ⌜ r ≡ byteSize m ⌝ }
+{
+    2 * m.bytes + 1
+}
 
 // What an entry answers: the length of the result, or why there is none.
 pub enum Answer {
     Done(usize),
     BadPass,
-    TooLong,
+    TooLong(usize),
     ShortWork,
     NotUtf8(usize),
-    TooManyLines,
+    TooManyLines(usize),
     Crowded(usize),
     ShortResult(usize),
 }
@@ -31,10 +62,10 @@ pub fn number_of(r: Answer) -> u8
     match r {
         Answer::Done(n) => 0,
         Answer::BadPass => 1,
-        Answer::TooLong => 2,
+        Answer::TooLong(n) => 2,
         Answer::ShortWork => 3,
         Answer::NotUtf8(i) => 4,
-        Answer::TooManyLines => 5,
+        Answer::TooManyLines(n) => 5,
         Answer::Crowded(n) => 6,
         Answer::ShortResult(n) => 7,
     }
@@ -47,10 +78,10 @@ pub fn length_of(r: Answer) -> usize
     match r {
         Answer::Done(n) => n,
         Answer::BadPass => 0,
-        Answer::TooLong => 0,
+        Answer::TooLong(n) => 0,
         Answer::ShortWork => 0,
         Answer::NotUtf8(i) => 0,
-        Answer::TooManyLines => 0,
+        Answer::TooManyLines(n) => 0,
         Answer::Crowded(n) => 0,
         Answer::ShortResult(n) => 0,
     }
@@ -63,43 +94,45 @@ pub fn place_of(r: Answer) -> usize
     match r {
         Answer::Done(n) => 0,
         Answer::BadPass => 0,
-        Answer::TooLong => 16384,
+        Answer::TooLong(n) => n,
         Answer::ShortWork => 0,
         Answer::NotUtf8(i) => i,
-        Answer::TooManyLines => 1024,
+        Answer::TooManyLines(n) => n,
         Answer::Crowded(n) => n,
         Answer::ShortResult(n) => n,
     }
 }
 
 // Whether one of six work buffers, of these lengths, is shorter than its stated size.
-pub fn too_short(a: usize, b: usize, c: usize, d: usize, e: usize, u: usize) -> bool
-    ensures { λ r. ⌜ r ≡ isShort a b c d e u ⌝ }
+pub fn too_short(m: Limits, a: usize, b: usize, c: usize, d: usize, e: usize, u: usize) -> bool
+    requires { ⌜ Sane m ⌝ }
+    ensures { λ r. ⌜ r ≡ isShort m a b c d e u ⌝ }
 {
-    if a < BYTES {
+    let size = byte_size(m);
+    if a < size {
         return true;
     }
-    if b < BYTES {
+    if b < size {
         return true;
     }
-    if c < BYTES {
+    if c < size {
         return true;
     }
-    if d < BYTES {
+    if d < size {
         return true;
     }
-    if e < BYTES {
+    if e < size {
         return true;
     }
-    u < BLOCKS
+    u < m.bytes
 }
 
 // Why a text is refused by its lines, or `Done` where it is not.
-fn refused_lines(text: &[u8]) -> Answer
-    ensures { λ r. ⌜ r ≡ checkedLines (now (text .entry)) (Done 0) ⌝ }
+fn refused_lines(m: Limits, text: &[u8]) -> Answer
+    ensures { λ r. ⌜ r ≡ checkedLines m (now (text .entry)) (Done 0) ⌝ }
 {
-    if lines::count_lines(text) > 1024 {
-        return Answer::TooManyLines;
+    if lines::count_lines(text) > m.lines {
+        return Answer::TooManyLines(m.lines);
     }
     match lines::crowded_line(text, 64) {
         lines::Crowded::At(n) => Answer::Crowded(n),
@@ -108,18 +141,18 @@ fn refused_lines(text: &[u8]) -> Answer
 }
 
 // Why a text is refused, or `Done` where it is not. The checks stand in their order.
-pub fn refused(text: &[u8], short: bool) -> Answer
-    ensures { λ r. ⌜ r ≡ checked short (now (text .entry)) (Done 0) ⌝ }
+pub fn refused(m: Limits, text: &[u8], short: bool) -> Answer
+    ensures { λ r. ⌜ r ≡ checked m short (now (text .entry)) (Done 0) ⌝ }
 {
-    if text.len() > 16384 {
-        return Answer::TooLong;
+    if text.len() > m.bytes {
+        return Answer::TooLong(m.bytes);
     }
     if short {
         return Answer::ShortWork;
     }
     match text::check_utf8(text) {
         text::Utf8::Bad(i) => Answer::NotUtf8(i),
-        text::Utf8::Valid => refused_lines(text),
+        text::Utf8::Valid => refused_lines(m, text),
     }
 }
 

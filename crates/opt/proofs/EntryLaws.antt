@@ -1,6 +1,6 @@
 -- Laws of the sizes, of what an answer leaves in all buffers, and of the passes that an entry runs. Assumes nothing.
 use Prim.Native.Nat.{ℕ, _+_, _-_, _≤_}
-use mathlib.Core.Path.{_≡_, refl, sym, ap, _∙_}
+use mathlib.Core.Path.{_≡_, refl, sym, ap, subst, _∙_}
 use mathlib.Core.Bool.{Bool, true, false, _||_}
 use mathlib.Core.List.{List, _++_}
 use native.Mathlib.Omega.{arith}
@@ -11,7 +11,9 @@ use lib.Seq.{length-take-le}
 use Rattle.lines.specs.Lf.{endsIn}
 use Rattle.lines.specs.Steps.{splitLines, joined}
 use Rattle.lines.proofs.Tests.{no}
-use Rattle.reading.specs.Reading.{Reading}
+use Rattle.reading.specs.Reading.{Reading, plain}
+use Rattle.limits.specs.declared.Limits.{Limits}
+use Rattle.limits.specs.declared.Task.{Task}
 use Rattle.limits.specs.declared.Answer.{Answer}
 use Rattle.limits.specs.Answer.{passesRan}
 use Rattle.limits.proofs.AnswerLaws.{work-kept, work-wiped, roomed-runs}
@@ -19,7 +21,7 @@ use Rattle.steps.specs.Step.{stepOf}
 use Rattle.passes.specs.Passes.{resultOf}
 use Rattle.passes.specs.Inner.Passes.{stepsOf}
 use Rattle.opt.specs.Whole.{whole}
-use Rattle.limits.specs.Entry.{byteSize, blockSize, isShort, roomed, blank}
+use Rattle.limits.specs.Entry.{byteSize, blockSize, isShort, roomed, answerOf, outAfter, blank}
 use Rattle.opt.specs.Room.{After}
 use Rattle.opt.specs.Inner.Room.{Long, Wiped}
 
@@ -29,20 +31,20 @@ or-none : (a b : Bool) → a || b ≡ false → (a ≡ false) × (b ≡ false)
 or-none true b h = no (sym h)
 or-none false b h = (refl, h)
 
-pub long-by : (a b c d e u : List ℕ) → isShort (length a) (length b) (length c) (length d) (length e) (length u) ≡ false → Long a b c d e u
-long-by a b c d e u h =
-    let p = or-none (ltb (length a) byteSize) _ h in
-    let q = or-none (ltb (length b) byteSize) _ (p .1) in
-    let r = or-none (ltb (length c) byteSize) _ (q .1) in
-    let s = or-none (ltb (length d) byteSize) _ (r .1) in
-    let t = or-none (ltb (length e) byteSize) _ (s .1) in
+pub long-by : (L : Limits) (a b c d e u : List ℕ) → isShort L (length a) (length b) (length c) (length d) (length e) (length u) ≡ false → Long L a b c d e u
+long-by L a b c d e u h =
+    let p = or-none (ltb (length a) (byteSize L)) _ h in
+    let q = or-none (ltb (length b) (byteSize L)) _ (p .1) in
+    let r = or-none (ltb (length c) (byteSize L)) _ (q .1) in
+    let s = or-none (ltb (length d) (byteSize L)) _ (r .1) in
+    let t = or-none (ltb (length e) (byteSize L)) _ (s .1) in
     record {
-      a-long = ltb-false (length a) byteSize (p .0);
-      b-long = ltb-false (length b) byteSize (q .0);
-      c-long = ltb-false (length c) byteSize (r .0);
-      d-long = ltb-false (length d) byteSize (s .0);
-      e-long = ltb-false (length e) byteSize (t .0);
-      u-long = ltb-false (length u) blockSize (t .1);
+      a-long = ltb-false (length a) (byteSize L) (p .0);
+      b-long = ltb-false (length b) (byteSize L) (q .0);
+      c-long = ltb-false (length c) (byteSize L) (r .0);
+      d-long = ltb-false (length d) (byteSize L) (s .0);
+      e-long = ltb-false (length e) (byteSize L) (t .0);
+      u-long = ltb-false (length u) (blockSize L) (t .1);
     }
 
 -- ---- the stated part of a longer buffer
@@ -50,34 +52,40 @@ long-by a b c d e u h =
 pub stated : (n : ℕ) (d : List ℕ) → n ≤ length d → n ≡ length (take n d)
 stated n d h = sym (length-take-le n d h)
 
+pub sized-part : {n m : ℕ} (d : List ℕ) → n ≡ m → m ≤ length d → length (take n d) ≡ m
+sized-part {n} d q h = omega (arith, stated n d (omega arith))
+
 pub same-part : (n : ℕ) (d xs : List ℕ) → n ≤ length d → length xs ≡ length (take n d) → length (xs ++ drop n d) ≡ length d
 same-part n d xs h q = omega (arith, length-append xs (drop n d), length-drop n d, stated n d h)
 
-pub wiped-part : (n m : ℕ) (d : List ℕ) {xs : List ℕ} → xs ≡ blank m → xs ++ drop n d ≡ blank m ++ drop n d
-wiped-part n m d e = ap (λ (x : List ℕ). x ++ drop n d) e
+pub wiped-part : (n : ℕ) (d : List ℕ) {xs : List ℕ} {m : ℕ} → n ≡ m → m ≤ length d → xs ≡ blank (length (take n d)) → xs ++ drop n d ≡ blank m ++ drop m d
+wiped-part n d {xs} {m} q h e = e₁ ∙ ap (λ (k : ℕ). blank k ++ drop k d) q
+  where
+    e₁ : xs ++ drop n d ≡ blank n ++ drop n d
+    e₁ = ap (λ (x : List ℕ). x ++ drop n d) (e ∙ ap blank (sym (stated n d (omega arith))))
 
 -- ---- what an answer leaves
 
-pub all-kept : (r : Answer) (a b c d e u : List ℕ) → passesRan r ≡ false → After r a b c d e u a b c d e u
-all-kept r a b c d e u h = record {
-  a-after = work-kept r byteSize a h;
-  b-after = work-kept r byteSize b h;
-  c-after = work-kept r byteSize c h;
-  d-after = work-kept r byteSize d h;
-  e-after = work-kept r byteSize e h;
-  u-after = work-kept r blockSize u h;
+pub all-kept : (L : Limits) (r : Answer) (a b c d e u : List ℕ) → passesRan r ≡ false → After L r a b c d e u a b c d e u
+all-kept L r a b c d e u h = record {
+  a-after = work-kept r (byteSize L) a h;
+  b-after = work-kept r (byteSize L) b h;
+  c-after = work-kept r (byteSize L) c h;
+  d-after = work-kept r (byteSize L) d h;
+  e-after = work-kept r (byteSize L) e h;
+  u-after = work-kept r (blockSize L) u h;
 }
 
-pub all-wiped : {r : Answer} (n room : ℕ) {a b c d e u a′ b′ c′ d′ e′ u′ : List ℕ} → r ≡ roomed n room → Wiped a b c d e u a′ b′ c′ d′ e′ u′ → After r a b c d e u a′ b′ c′ d′ e′ u′
-all-wiped {r} n room {a} {b} {c} {d} {e} {u} q w =
+pub all-wiped : {L : Limits} {r : Answer} (n room : ℕ) {a b c d e u a′ b′ c′ d′ e′ u′ : List ℕ} → r ≡ roomed n room → Wiped L a b c d e u a′ b′ c′ d′ e′ u′ → After L r a b c d e u a′ b′ c′ d′ e′ u′
+all-wiped {L} {r} n room {a} {b} {c} {d} {e} {u} q w =
     let h = ap passesRan q ∙ roomed-runs n room in
     record {
-      a-after = work-wiped r byteSize a h (w .a-wiped);
-      b-after = work-wiped r byteSize b h (w .b-wiped);
-      c-after = work-wiped r byteSize c h (w .c-wiped);
-      d-after = work-wiped r byteSize d h (w .d-wiped);
-      e-after = work-wiped r byteSize e h (w .e-wiped);
-      u-after = work-wiped r blockSize u h (w .u-wiped);
+      a-after = work-wiped r (byteSize L) a h (w .a-wiped);
+      b-after = work-wiped r (byteSize L) b h (w .b-wiped);
+      c-after = work-wiped r (byteSize L) c h (w .c-wiped);
+      d-after = work-wiped r (byteSize L) d h (w .d-wiped);
+      e-after = work-wiped r (byteSize L) e h (w .e-wiped);
+      u-after = work-wiped r (blockSize L) u h (w .u-wiped);
     }
 
 -- ---- which passes an entry runs
@@ -99,3 +107,15 @@ unfolding resultOf
 result-one R k t =
     let q : k + 1 - k ≡ 1 = omega arith in
     ap (joined (endsIn 10 t)) (sym (ap (λ (n : ℕ). stepsOf R k n (splitLines t)) q ∙ steps-one R k (splitLines t)))
+
+-- ---- the task of an entry
+
+-- what `tidy` promises: r the answer, t the text, o the result buffer, a to u the work buffers
+abbrev Tidied : Task → Answer → (t o a b c d e u o′ a′ b′ c′ d′ e′ u′ : List ℕ) → Type 0
+Tidied m r t o a b c d e u o′ a′ b′ c′ d′ e′ u′ =
+    (r ≡ answerOf (m .limits) (isShort (m .limits) (length a) (length b) (length c) (length d) (length e) (length u)) t (resultOf (stepsOf plain (m .from) (m .to - m .from)) t) (length o))
+    × ((o′ ≡ outAfter r (resultOf (stepsOf plain (m .from) (m .to - m .from)) t) o) × After (m .limits) r a b c d e u a′ b′ c′ d′ e′ u′)
+
+-- it is promised of the task that the entry made
+pub tidied-as : {m n : Task} {r : Answer} (t o a b c d e u : List ℕ) {o′ a′ b′ c′ d′ e′ u′ : List ℕ} → m ≡ n → Tidied m r t o a b c d e u o′ a′ b′ c′ d′ e′ u′ → Tidied n r t o a b c d e u o′ a′ b′ c′ d′ e′ u′
+tidied-as {r = r} t o a b c d e u {o′} {a′} {b′} {c′} {d′} {e′} {u′} q h = subst (λ (m : Task). Tidied m r t o a b c d e u o′ a′ b′ c′ d′ e′ u′) q h

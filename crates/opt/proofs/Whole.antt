@@ -28,6 +28,7 @@ use Rattle.calls.specs.Calls.{rebuildCalls}
 use Rattle.decls.specs.Decls.{pruneDecls}
 use Rattle.bind.specs.Bind.{bindDeclarators}
 use Rattle.reading.proofs.ByLine.{ByLine}
+use Rattle.limits.specs.declared.Limits.{Limits}
 use Rattle.limits.specs.declared.Answer.{Answer}
 use Rattle.limits.specs.declared.Answer.the-variants.{Done, TooLong, ShortWork, TooManyLines, ShortResult}
 use Rattle.limits.specs.Answer.{numberOf, isDone}
@@ -50,14 +51,14 @@ unfolding resultOf whole
 result-composed R t = refl
 
 -- where no check refuses a text and the result buffer d is long enough, the answer is the result's length, and the result stands at the front of d
-pub optimize-whole : (short : Bool) (t d : List ℕ) → Accepted short t → length (resultOf (whole plain) t) ≤ length d →
-    (answerOf short t (resultOf (whole plain) t) (length d) ≡ Done (length (resultOf (whole plain) t)))
+pub optimize-whole : (L : Limits) (short : Bool) (t d : List ℕ) → Accepted L short t → length (resultOf (whole plain) t) ≤ length d →
+    (answerOf L short t (resultOf (whole plain) t) (length d) ≡ Done (length (resultOf (whole plain) t)))
     × (outAfter (Done (length (resultOf (whole plain) t))) (resultOf (whole plain) t) d ≡ resultOf (whole plain) t ++ drop (length (resultOf (whole plain) t)) d)
 unfolding outAfter isDone numberOf
-optimize-whole short t d p h =
+optimize-whole L short t d p h =
     let n : ℕ = length (resultOf (whole plain) t) in
     let q : Done n ≡ roomed n (length d) = rw (le-ltb (length d) n h) in
-    (sym (answer-accepted short t (resultOf (whole plain) t) (length d) p q), refl)
+    (sym (answer-accepted L short t (resultOf (whole plain) t) (length d) p q), refl)
 
 -- ---- no result is longer than twice its text
 
@@ -124,21 +125,22 @@ pass-twice {R} c k t = result-twice (stepOf R k) t (tame-step c k)
 
 -- ---- the edges: one more is refused, the last that fits goes on to the next check
 
-module _ (short : Bool) (t xs : List ℕ) (room : ℕ) where
-  pub bytes-over : length t ≡ 16385 → answerOf short t xs room ≡ TooLong
+module _ (L : Limits) (short : Bool) (t xs : List ℕ) (room : ℕ) where
+  pub bytes-over : length t ≡ suc (L .bytes) → answerOf L short t xs room ≡ TooLong (L .bytes)
   unfolding answerOf
-  bytes-over e = sym (text-long t (roomed (length xs) room) short (omega arith))
+  bytes-over e = sym (text-long L t (roomed (length xs) room) short (omega arith))
 
-  pub bytes-edge : length t ≡ 16384 → answerOf short t xs room ≡ cond short ShortWork (byUtf8 (utf8Of t) (checkedLines t (roomed (length xs) room)))
+  pub bytes-edge : length t ≡ L .bytes → answerOf L short t xs room ≡ cond short ShortWork (byUtf8 (utf8Of t) (checkedLines L t (roomed (length xs) room)))
   unfolding answerOf checked
-  bytes-edge e = rw (le-ltb 16384 (length t) (omega arith))
+  bytes-edge e = rw (le-ltb (L .bytes) (length t) (omega arith))
 
-pub lines-over : (t : List ℕ) (x : Answer) → length (splitLines t) ≡ 1025 → checkedLines t x ≡ TooManyLines
-lines-over t x e = sym (lines-many t x (omega arith))
+module _ (L : Limits) (t : List ℕ) (x : Answer) where
+  pub lines-over : length (splitLines t) ≡ suc (L .lines) → checkedLines L t x ≡ TooManyLines (L .lines)
+  lines-over e = sym (lines-many L t x (omega arith))
 
-pub lines-edge : (t : List ℕ) (x : Answer) → length (splitLines t) ≡ 1024 → checkedLines t x ≡ byCrowd (overFrom 64 91 0 (splitLines t)) x
-unfolding checkedLines
-lines-edge t x e = rw (le-ltb 1024 (length (splitLines t)) (omega arith))
+  pub lines-edge : length (splitLines t) ≡ L .lines → checkedLines L t x ≡ byCrowd (overFrom 64 91 0 (splitLines t)) x
+  unfolding checkedLines
+  lines-edge e = rw (le-ltb (L .lines) (length (splitLines t)) (omega arith))
 
 -- 64 brackets on a line pass, 65 do not
 pub brackets-edge : overFrom 64 91 0 (replicate 64 91 ∷ []) ≡ crowd-is.Nowhere

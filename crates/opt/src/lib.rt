@@ -3,20 +3,20 @@ ghost use mathlib.Core.Path.{_≡_};
 ghost use Prim.Native.Nat.{_≤_, _-_};
 ghost use lib.ListN.{length};
 ghost use Rattle.lines.specs.Lf.{within};
-ghost use Rattle.lines.specs.Steps.{splitLines};
 ghost use Rattle.reading.specs.Reading.{plain};
-ghost use Rattle.limits.specs.Entry.{isShort, roomed, answerOf, passAnswer, outAfter};
+ghost use Rattle.limits.specs.Entry.{small, isShort, roomed, answerOf, passAnswer, outAfter};
+ghost use Rattle.limits.specs.Inner.Sane.{Sane, Within};
 ghost use Rattle.steps.specs.Step.{stepOf};
 ghost use Rattle.passes.specs.Passes.{resultOf};
 ghost use Rattle.passes.specs.Inner.Passes.{stepsOf};
 ghost use Rattle.opt.specs.Whole.{whole};
 ghost use Rattle.opt.specs.Room.{After};
-ghost use Rattle.opt.specs.Inner.Room.{Long, Wiped};
+ghost use Rattle.opt.specs.Inner.Room.{taskOf, Long, Wiped};
+use limits::Task;
 
-// Runs the passes from `k` up to `to` over a text, in the front of longer work buffers.
+// Runs the passes of a task over a text, in the front of longer work buffers.
 fn run(
-    k: usize,
-    to: usize,
+    m: Task,
     text: &[u8],
     a: &mut [u8],
     b: &mut [u8],
@@ -26,31 +26,29 @@ fn run(
     u: &mut [u32],
     out: &mut [u8],
 ) -> limits::Answer
-    requires { ⌜ (length (now text) ≤ 16384) × ((length (splitLines (now text)) ≤ 1024) × Long (now a) (now b) (now c) (now d) (now e) (now u)) ⌝ }
-    ensures answer { λ r. ⌜ r ≡ roomed (length (resultOf (stepsOf plain k (to - k)) (now (text .entry)))) (length (now (out .entry))) ⌝ }
-    ensures memory { λ r. ⌜ (now (out .exit) ≡ outAfter r (resultOf (stepsOf plain k (to - k)) (now (text .entry))) (now (out .entry)))
-        × Wiped (now (a .entry)) (now (b .entry)) (now (c .entry)) (now (d .entry)) (now (e .entry)) (now (u .entry)) (now (a .exit)) (now (b .exit)) (now (c .exit)) (now (d .exit)) (now (e .exit)) (now (u .exit)) ⌝ }
+    requires { ⌜ Within (m .limits) (now text) × Long (m .limits) (now a) (now b) (now c) (now d) (now e) (now u) ⌝ }
+    ensures answer { λ r. ⌜ r ≡ roomed (length (resultOf (stepsOf plain (m .from) (m .to - m .from)) (now (text .entry)))) (length (now (out .entry))) ⌝ }
+    ensures memory { λ r. ⌜ (now (out .exit) ≡ outAfter r (resultOf (stepsOf plain (m .from) (m .to - m .from)) (now (text .entry))) (now (out .entry)))
+        × Wiped (m .limits) (now (a .entry)) (now (b .entry)) (now (c .entry)) (now (d .entry)) (now (e .entry)) (now (u .entry)) (now (a .exit)) (now (b .exit)) (now (c .exit)) (now (d .exit)) (now (e .exit)) (now (u .exit)) ⌝ }
 {
-    let n = limits::BYTES;
-    let m = limits::BLOCKS;
+    let n = limits::byte_size(m.limits);
+    let blocks = m.limits.bytes;
     passes::work(
-        k,
-        to,
+        m,
         text,
         &mut a[..n],
         &mut b[..n],
         &mut c[..n],
         &mut d[..n],
         &mut e[..n],
-        &mut u[..m],
+        &mut u[..blocks],
         out,
     )
 }
 
-// Checks a text, and runs the passes from `k` up to `to` over it.
+// Checks a text, and runs the passes of a task over it.
 fn tidy(
-    k: usize,
-    to: usize,
+    m: Task,
     text: &[u8],
     a: &mut [u8],
     b: &mut [u8],
@@ -60,16 +58,33 @@ fn tidy(
     u: &mut [u32],
     out: &mut [u8],
 ) -> limits::Answer
-    ensures answer { λ r. ⌜ r ≡ answerOf (isShort (length (now (a .entry))) (length (now (b .entry))) (length (now (c .entry))) (length (now (d .entry))) (length (now (e .entry))) (length (now (u .entry)))) (now (text .entry)) (resultOf (stepsOf plain k (to - k)) (now (text .entry))) (length (now (out .entry))) ⌝ }
-    ensures memory { λ r. ⌜ (now (out .exit) ≡ outAfter r (resultOf (stepsOf plain k (to - k)) (now (text .entry))) (now (out .entry)))
-        × After r (now (a .entry)) (now (b .entry)) (now (c .entry)) (now (d .entry)) (now (e .entry)) (now (u .entry)) (now (a .exit)) (now (b .exit)) (now (c .exit)) (now (d .exit)) (now (e .exit)) (now (u .exit)) ⌝ }
+    requires { ⌜ Sane (m .limits) ⌝ }
+    ensures answer { λ r. ⌜ r ≡ answerOf (m .limits) (isShort (m .limits) (length (now (a .entry))) (length (now (b .entry))) (length (now (c .entry))) (length (now (d .entry))) (length (now (e .entry))) (length (now (u .entry)))) (now (text .entry)) (resultOf (stepsOf plain (m .from) (m .to - m .from)) (now (text .entry))) (length (now (out .entry))) ⌝ }
+    ensures memory { λ r. ⌜ (now (out .exit) ≡ outAfter r (resultOf (stepsOf plain (m .from) (m .to - m .from)) (now (text .entry))) (now (out .entry)))
+        × After (m .limits) r (now (a .entry)) (now (b .entry)) (now (c .entry)) (now (d .entry)) (now (e .entry)) (now (u .entry)) (now (a .exit)) (now (b .exit)) (now (c .exit)) (now (d .exit)) (now (e .exit)) (now (u .exit)) ⌝ }
 {
-    let short = limits::too_short(a.len(), b.len(), c.len(), d.len(), e.len(), u.len());
-    let r = limits::refused(text, short);
+    let short = limits::too_short(
+        m.limits,
+        a.len(),
+        b.len(),
+        c.len(),
+        d.len(),
+        e.len(),
+        u.len(),
+    );
+    let r = limits::refused(m.limits, text, short);
     if limits::number_of(r) != 0 {
         return r;
     }
-    run(k, to, text, a, b, c, d, e, u, out)
+    run(m, text, a, b, c, d, e, u, out)
+}
+
+// The passes from a number up to another, within the limits of the two entries.
+fn task(from: usize, to: usize) -> Task
+    ensures { λ r. ⌜ r ≡ taskOf small from to ⌝ }
+{
+    let limits = limits::small();
+    Task { from, to, limits }
 }
 
 // Removes the lines that declare globals from a text, runs the six passes over it, and writes the result to the front of `out`. Of each of
@@ -84,11 +99,11 @@ pub fn optimize(
     u: &mut [u32],
     out: &mut [u8],
 ) -> limits::Answer
-    ensures answer { λ r. ⌜ r ≡ answerOf (isShort (length (now (a .entry))) (length (now (b .entry))) (length (now (c .entry))) (length (now (d .entry))) (length (now (e .entry))) (length (now (u .entry)))) (now (text .entry)) (resultOf (whole plain) (now (text .entry))) (length (now (out .entry))) ⌝ }
+    ensures answer { λ r. ⌜ r ≡ answerOf small (isShort small (length (now (a .entry))) (length (now (b .entry))) (length (now (c .entry))) (length (now (d .entry))) (length (now (e .entry))) (length (now (u .entry)))) (now (text .entry)) (resultOf (whole plain) (now (text .entry))) (length (now (out .entry))) ⌝ }
     ensures memory { λ r. ⌜ (now (out .exit) ≡ outAfter r (resultOf (whole plain) (now (text .entry))) (now (out .entry)))
-        × After r (now (a .entry)) (now (b .entry)) (now (c .entry)) (now (d .entry)) (now (e .entry)) (now (u .entry)) (now (a .exit)) (now (b .exit)) (now (c .exit)) (now (d .exit)) (now (e .exit)) (now (u .exit)) ⌝ }
+        × After small r (now (a .entry)) (now (b .entry)) (now (c .entry)) (now (d .entry)) (now (e .entry)) (now (u .entry)) (now (a .exit)) (now (b .exit)) (now (c .exit)) (now (d .exit)) (now (e .exit)) (now (u .exit)) ⌝ }
 {
-    tidy(0, 7, text, a, b, c, d, e, u, out)
+    tidy(task(0, 7), text, a, b, c, d, e, u, out)
 }
 
 // Whether a number is that of a pass.
@@ -110,12 +125,12 @@ pub fn run_pass(
     u: &mut [u32],
     out: &mut [u8],
 ) -> limits::Answer
-    ensures answer { λ r. ⌜ r ≡ passAnswer pass (isShort (length (now (a .entry))) (length (now (b .entry))) (length (now (c .entry))) (length (now (d .entry))) (length (now (e .entry))) (length (now (u .entry)))) (now (text .entry)) (resultOf (stepOf plain pass) (now (text .entry))) (length (now (out .entry))) ⌝ }
+    ensures answer { λ r. ⌜ r ≡ passAnswer small pass (isShort small (length (now (a .entry))) (length (now (b .entry))) (length (now (c .entry))) (length (now (d .entry))) (length (now (e .entry))) (length (now (u .entry)))) (now (text .entry)) (resultOf (stepOf plain pass) (now (text .entry))) (length (now (out .entry))) ⌝ }
     ensures memory { λ r. ⌜ (now (out .exit) ≡ outAfter r (resultOf (stepOf plain pass) (now (text .entry))) (now (out .entry)))
-        × After r (now (a .entry)) (now (b .entry)) (now (c .entry)) (now (d .entry)) (now (e .entry)) (now (u .entry)) (now (a .exit)) (now (b .exit)) (now (c .exit)) (now (d .exit)) (now (e .exit)) (now (u .exit)) ⌝ }
+        × After small r (now (a .entry)) (now (b .entry)) (now (c .entry)) (now (d .entry)) (now (e .entry)) (now (u .entry)) (now (a .exit)) (now (b .exit)) (now (c .exit)) (now (d .exit)) (now (e .exit)) (now (u .exit)) ⌝ }
 {
     if !is_pass(pass) {
         return limits::Answer::BadPass;
     }
-    tidy(pass, pass + 1, text, a, b, c, d, e, u, out)
+    tidy(task(pass, pass + 1), text, a, b, c, d, e, u, out)
 }

@@ -16,6 +16,8 @@ use Rattle.weight.proofs.Moves.{split-weight}
 use Rattle.weight.proofs.Braces.{braces-le}
 use Rattle.reading.specs.Reading.{Reading}
 use Rattle.reading.proofs.ByLine.{ByLine}
+use Rattle.limits.specs.declared.Limits.{Limits}
+use Rattle.limits.specs.Inner.Sane.{Within}
 use Rattle.steps.specs.Inner.Bounds.{Bounded}
 use Rattle.steps.proofs.Tame.{Tame, tame-same, tame-then, tame-step}
 use Rattle.passes.specs.Inner.Passes.{stepsOf}
@@ -28,27 +30,28 @@ tame-steps c k (suc n) = tame-then (tame-step c k) (tame-steps c (suc k) n)
 
 -- ---- lines between two passes over a text t
 
-pub record Between (t : List ℕ) (ls : List (List ℕ)) : Type 0 where
+pub record Between (L : Limits) (t : List ℕ) (ls : List (List ℕ)) : Type 0 where
   pub clean : noLf ls ≡ true
   pub light : (H : ℕ) → weight H (unlines ls) ≤ weight H t + 1
-  pub few : length ls ≤ 1024
+  pub few : length ls ≤ L .lines
 
-pub between-start : (t : List ℕ) → length (splitLines t) ≤ 1024 → Between t (splitLines t)
-between-start t h = record { clean = split-noLf t; light = λ H. split-weight H t; few = h }
+pub between-start : {L : Limits} (t : List ℕ) → Within L t → Between L t (splitLines t)
+between-start t h = record { clean = split-noLf t; light = λ H. split-weight H t; few = h .lines }
 
-pub between-on : {t : List ℕ} {ls : List (List ℕ)} {f : List (List ℕ) → List (List ℕ)} → Tame f → Between t ls → Between t (f ls)
-between-on {t} {ls} {f} p w = record {
+pub between-on : {L : Limits} {t : List ℕ} {ls : List (List ℕ)} {f : List (List ℕ) → List (List ℕ)} → Tame f → Between L t ls → Between L t (f ls)
+between-on {ls = ls} p w = record {
   clean = p .keeps ls (w .clean);
   light = λ H. omega (arith, p .weighs H ls, w .light H);
   few = omega (arith, p .counts ls, w .few);
 }
 
--- they have room: at most twice the text and one LF, 1,024 lines, and no more `{` than the text
-pub between-room : {t : List ℕ} {ls : List (List ℕ)} → length t ≤ 16384 → Between t ls → Bounded (unlines ls)
-between-room {t} {ls} h w =
+-- they have room: at most twice the text and one LF, no more lines, and no more `{` than the text
+pub between-room : {L : Limits} {t : List ℕ} {ls : List (List ℕ)} → Within L t → Between L t ls → Bounded L (unlines ls)
+between-room {t = t} {ls = ls} h w =
     let e = lines-unlines ls (w .clean) in
     record {
-      heavy = omega (arith, ap (λ (ms : List (List ℕ)). weight 0 (unlines ms)) e, w .light 0, weight-twice t);
+      sane = h .sane;
+      heavy = omega (arith, ap (λ (ms : List (List ℕ)). weight 0 (unlines ms)) e, w .light 0, weight-twice t, h .bytes);
       lines = omega (arith, ap length e, w .few);
-      braces = omega (arith, braces-le (unlines ls) t 1 (w .light), count-le 123 t);
+      braces = omega (arith, braces-le (unlines ls) t 1 (w .light), count-le 123 t, h .bytes);
     }

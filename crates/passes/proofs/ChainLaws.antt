@@ -17,7 +17,9 @@ use Rattle.steps.specs.Step.{stepOf}
 use Rattle.steps.specs.Inner.Bounds.{Bounded, Sized}
 use Rattle.steps.proofs.Tame.{tame-step}
 use Rattle.passes.specs.Inner.Passes.{stepsOf}
+use Rattle.limits.specs.declared.Limits.{Limits}
 use Rattle.limits.specs.Entry.{byteSize}
+use Rattle.limits.specs.Inner.Sane.{Within}
 use Rattle.passes.specs.Inner.Buffers.{Front}
 use Rattle.passes.proofs.Between.{Between, between-start, between-on, between-room}
 
@@ -32,26 +34,26 @@ front-copied {a} {b} {a′} {xs} {n} {r} f w = let g = wrote-front w in record {
 
 -- ---- the loop of `chain`
 
-pub record ChainInv (k to : ℕ) (t a b c d e u : List ℕ) (n j : ℕ) : Type 0 where
-  pub short : length t ≤ 16384
-  pub a-size : length a ≡ byteSize
-  pub sized : Sized b c d e u
+pub record ChainInv (L : Limits) (k to : ℕ) (t a b c d e u : List ℕ) (n j : ℕ) : Type 0 where
+  pub taken : Within L t
+  pub a-size : length a ≡ byteSize L
+  pub sized : Sized L b c d e u
   pub now-lines : List (List ℕ)
-  pub between : Between t now-lines
+  pub between : Between L t now-lines
   pub front : Front a n (unlines now-lines)
   pub so-far : stepsOf plain j (to - j) now-lines ≡ stepsOf plain k (to - k) (splitLines t)
 
-pub split-fits : (t a : List ℕ) → length t ≤ 16384 → length a ≡ byteSize → length (unlines (splitLines t)) ≤ length a
-split-fits t a h q = omega (arith, split-room t)
+pub split-fits : {L : Limits} (t a : List ℕ) → Within L t → length a ≡ byteSize L → length (unlines (splitLines t)) ≤ length a
+split-fits t a h q = omega (arith, split-room t, h .bytes)
 
-pub chain-start : (k to : ℕ) {t a a′ b c d e u : List ℕ} {n : ℕ} → length t ≤ 16384 → length (splitLines t) ≤ 1024 → length a ≡ byteSize → Sized b c d e u →
-    Wrote a 0 (unlines (splitLines t)) a′ n → ChainInv k to t a′ b c d e u n k
-chain-start k to {t} {a} h l q s w = record {
-  short = h;
+pub chain-start : {L : Limits} (k to : ℕ) {t a a′ b c d e u : List ℕ} {n : ℕ} → Within L t → length a ≡ byteSize L → Sized L b c d e u →
+    Wrote a 0 (unlines (splitLines t)) a′ n → ChainInv L k to t a′ b c d e u n k
+chain-start k to {t} h q s w = record {
+  taken = h;
   a-size = wrote-length w ∙ q;
   sized = s;
   now-lines = splitLines t;
-  between = between-start t l;
+  between = between-start t h;
   front = wrote-front w;
   so-far = refl;
 }
@@ -64,20 +66,20 @@ steps-none : (R : Reading) (j : ℕ) (ls : List (List ℕ)) → stepsOf R j 0 ls
 unfolding stepsOf
 steps-none R j ls = refl
 
-module _ {k to : ℕ} {t a b c d e u : List ℕ} {n j : ℕ} (h : ChainInv k to t a b c d e u n j) where
-  pub chain-room : Bounded (take n a)
-  chain-room = rw (h .front .is) (between-room (h .short) (h .between))
+module _ {L : Limits} {k to : ℕ} {t a b c d e u : List ℕ} {n j : ℕ} (h : ChainInv L k to t a b c d e u n j) where
+  pub chain-room : Bounded L (take n a)
+  chain-room = rw (h .front .is) (between-room (h .taken) (h .between))
 
   -- a pass from the front of a into b, and what it wrote back to the front of a
   pub chain-on : {a′ b′ c′ d′ e′ u′ : List ℕ} {r m : ℕ} → j < to → Wrote b 0 (unlines (stepOf plain j (linesOf (take n a)))) b′ r → length c′ ≡ length c → length d′ ≡ length d → length e′ ≡ length e → length u′ ≡ length u →
-      Wrote a 0 (take r b′) a′ m → ChainInv k to t a′ b′ c′ d′ e′ u′ m (j + 1)
+      Wrote a 0 (take r b′) a′ m → ChainInv L k to t a′ b′ c′ d′ e′ u′ m (j + 1)
   chain-on l w qc qd qe qu v =
       let f = front-copied (wrote-front w) v in
       let ls : List (List ℕ) = h .now-lines in
       let g : linesOf (take n a) ≡ ls = ap linesOf (h .front .is) ∙ lines-unlines ls (h .between .clean) in
       let z : to - j ≡ suc (to - (j + 1)) = omega arith in
       record {
-        short = h .short;
+        taken = h .taken;
         a-size = wrote-length v ∙ h .a-size;
         sized = record {
           b-size = wrote-length w ∙ h .sized .b-size;

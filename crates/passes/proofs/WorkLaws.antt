@@ -13,17 +13,29 @@ use Rattle.limits.specs.declared.Answer.{Answer}
 use Rattle.limits.specs.Entry.{roomed, outAfter, blank}
 use Rattle.steps.proofs.Tame.{Tame}
 use Rattle.passes.specs.Passes.{resultOf}
-use Rattle.passes.specs.Inner.Buffers.{Front}
+use Rattle.passes.specs.Inner.Buffers.{Front, Blank}
 
 -- ---- zeroing
 
-pub wiped-all : {d d′ : List ℕ} {n r : ℕ} → length d ≡ n → Wrote d 0 (replicate n 0) d′ r → d′ ≡ blank n
+pub wiped-all : (d : List ℕ) {d′ : List ℕ} {n r : ℕ} → n ≡ length d → Wrote d 0 (replicate n 0) d′ r → d′ ≡ blank (length d)
 unfolding blank
-wiped-all {n = n} e w = wrote-whole w (length-replicate {A = ℕ} n 0 ∙ sym e)
+wiped-all d {n = n} e w = wrote-whole w (length-replicate {A = ℕ} n 0 ∙ e) ∙ ap (λ (m : ℕ). replicate m 0) e
 
-pub wiped-numbers : (d : List ℕ) {d′ : List ℕ} {n : ℕ} → length d ≡ n → d′ ≡ replicate (length d) 0 → d′ ≡ blank n
+pub wiped-numbers : (d : List ℕ) {d′ : List ℕ} → d′ ≡ replicate (length d) 0 → d′ ≡ blank (length d)
 unfolding blank
-wiped-numbers d e w = w ∙ ap (λ (n : ℕ). replicate n 0) e
+wiped-numbers d w = w
+
+-- of buffers that are as long as those before
+pub blank-as : {a b c d e u a₁ b₁ c₁ d₁ e₁ u₁ a′ b′ c′ d′ e′ u′ : List ℕ} → length a₁ ≡ length a → length b₁ ≡ length b → length c₁ ≡ length c → length d₁ ≡ length d → length e₁ ≡ length e → length u₁ ≡ length u →
+    Blank a₁ b₁ c₁ d₁ e₁ u₁ a′ b′ c′ d′ e′ u′ → Blank a b c d e u a′ b′ c′ d′ e′ u′
+blank-as qa qb qc qd qe qu w = record {
+  a-blank = w .a-blank ∙ ap blank qa;
+  b-blank = w .b-blank ∙ ap blank qb;
+  c-blank = w .c-blank ∙ ap blank qc;
+  d-blank = w .d-blank ∙ ap blank qd;
+  e-blank = w .e-blank ∙ ap blank qe;
+  u-blank = w .u-blank ∙ ap blank qu;
+}
 
 -- ---- the last step
 

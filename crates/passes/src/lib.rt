@@ -6,15 +6,16 @@ ghost use Rattle.lines.specs.Lf.{endsIn, linesOf, unlines};
 ghost use Rattle.lines.specs.Steps.{splitLines, joined};
 ghost use Rattle.reading.specs.Reading.{plain};
 ghost use Rattle.limits.specs.Entry.{byteSize, roomed, outAfter};
+ghost use Rattle.limits.specs.Inner.Sane.{Within};
 ghost use Rattle.steps.specs.Inner.Bounds.{Sized};
 ghost use Rattle.passes.specs.Passes.{resultOf};
 ghost use Rattle.passes.specs.Inner.Passes.{stepsOf};
 ghost use Rattle.passes.specs.Inner.Buffers.{Front, Blank};
+use limits::Task;
 
-// Writes the lines of a text into a buffer, runs the passes from `k` up to `to` over them, and returns how many bytes they are then.
+// Writes the lines of a text into a buffer, runs the passes of a task over them, and returns how many bytes they are then.
 fn chain(
-    k: usize,
-    to: usize,
+    m: Task,
     text: &[u8],
     a: &mut [u8],
     b: &mut [u8],
@@ -23,13 +24,14 @@ fn chain(
     e: &mut [u8],
     u: &mut [u32],
 ) -> usize
-    requires { ⌜ (length (now text) ≤ 16384) × ((length (splitLines (now text)) ≤ 1024) × ((length (now a) ≡ byteSize) × Sized (now b) (now c) (now d) (now e) (now u))) ⌝ }
-    ensures { λ r. ⌜ Front (now (a .exit)) r (unlines (stepsOf plain k (to - k) (splitLines (now (text .entry))))) ⌝ }
+    requires { ⌜ Within (m .limits) (now text) × ((length (now a) ≡ byteSize (m .limits)) × Sized (m .limits) (now b) (now c) (now d) (now e) (now u)) ⌝ }
+    ensures { λ r. ⌜ Front (now (a .exit)) r (unlines (stepsOf plain (m .from) (m .to - m .from) (splitLines (now (text .entry))))) ⌝ }
 {
     let mut n = lines::split_lines(text, a);
-    let mut j = k;
+    let to = m.to;
+    let mut j = m.from;
     while j < to {
-        let r = steps::step(j, &a[..n], b, c, d, e, u);
+        let r = steps::step(j, m, &a[..n], b, c, d, e, u);
         n = lines::put(a, 0, &b[..r]);
         j += 1;
     }
@@ -38,14 +40,13 @@ fn chain(
 
 // Makes every work buffer 0.
 fn wipe_all(a: &mut [u8], b: &mut [u8], c: &mut [u8], d: &mut [u8], e: &mut [u8], u: &mut [u32])
-    requires { ⌜ (length (now a) ≡ byteSize) × Sized (now b) (now c) (now d) (now e) (now u) ⌝ }
-    ensures { λ _. ⌜ Blank (now (a .exit)) (now (b .exit)) (now (c .exit)) (now (d .exit)) (now (e .exit)) (now (u .exit)) ⌝ }
+    ensures { λ _. ⌜ Blank (now (a .entry)) (now (b .entry)) (now (c .entry)) (now (d .entry)) (now (e .entry)) (now (u .entry)) (now (a .exit)) (now (b .exit)) (now (c .exit)) (now (d .exit)) (now (e .exit)) (now (u .exit)) ⌝ }
 {
-    lines::wipe(a, limits::BYTES);
-    lines::wipe(b, limits::BYTES);
-    lines::wipe(c, limits::BYTES);
-    lines::wipe(d, limits::BYTES);
-    lines::wipe(e, limits::BYTES);
+    lines::wipe(a, a.len());
+    lines::wipe(b, b.len());
+    lines::wipe(c, c.len());
+    lines::wipe(d, d.len());
+    lines::wipe(e, e.len());
     lines::wipe_numbers(u);
 }
 
@@ -62,10 +63,10 @@ fn close(
     u: &mut [u32],
     out: &mut [u8],
 ) -> limits::Answer
-    requires { ⌜ (n ≤ length (now a)) × ((length (now a) ≡ byteSize) × Sized (now b) (now c) (now d) (now e) (now u)) ⌝ }
+    requires { ⌜ n ≤ length (now a) ⌝ }
     ensures answer { λ r. ⌜ r ≡ roomed (length (joined (endsIn 10 (now (text .entry))) (linesOf (take n (now (a .entry)))))) (length (now (out .entry))) ⌝ }
     ensures memory { λ r. ⌜ (now (out .exit) ≡ outAfter r (joined (endsIn 10 (now (text .entry))) (linesOf (take n (now (a .entry))))) (now (out .entry)))
-        × Blank (now (a .exit)) (now (b .exit)) (now (c .exit)) (now (d .exit)) (now (e .exit)) (now (u .exit)) ⌝ }
+        × Blank (now (a .entry)) (now (b .entry)) (now (c .entry)) (now (d .entry)) (now (e .entry)) (now (u .entry)) (now (a .exit)) (now (b .exit)) (now (c .exit)) (now (d .exit)) (now (e .exit)) (now (u .exit)) ⌝ }
 {
     let ended = lines::ends_lf(text);
     let r = limits::finish(&a[..n], ended, out);
@@ -73,10 +74,9 @@ fn close(
     r
 }
 
-// Runs the passes from `k` up to `to` over a text, in work buffers of the stated sizes, and leaves these 0.
+// Runs the passes of a task over a text, in work buffers of the stated sizes, and leaves these 0.
 pub fn work(
-    k: usize,
-    to: usize,
+    m: Task,
     text: &[u8],
     a: &mut [u8],
     b: &mut [u8],
@@ -86,11 +86,11 @@ pub fn work(
     u: &mut [u32],
     out: &mut [u8],
 ) -> limits::Answer
-    requires { ⌜ (length (now text) ≤ 16384) × ((length (splitLines (now text)) ≤ 1024) × ((length (now a) ≡ byteSize) × Sized (now b) (now c) (now d) (now e) (now u))) ⌝ }
-    ensures answer { λ r. ⌜ r ≡ roomed (length (resultOf (stepsOf plain k (to - k)) (now (text .entry)))) (length (now (out .entry))) ⌝ }
-    ensures memory { λ r. ⌜ (now (out .exit) ≡ outAfter r (resultOf (stepsOf plain k (to - k)) (now (text .entry))) (now (out .entry)))
-        × Blank (now (a .exit)) (now (b .exit)) (now (c .exit)) (now (d .exit)) (now (e .exit)) (now (u .exit)) ⌝ }
+    requires { ⌜ Within (m .limits) (now text) × ((length (now a) ≡ byteSize (m .limits)) × Sized (m .limits) (now b) (now c) (now d) (now e) (now u)) ⌝ }
+    ensures answer { λ r. ⌜ r ≡ roomed (length (resultOf (stepsOf plain (m .from) (m .to - m .from)) (now (text .entry)))) (length (now (out .entry))) ⌝ }
+    ensures memory { λ r. ⌜ (now (out .exit) ≡ outAfter r (resultOf (stepsOf plain (m .from) (m .to - m .from)) (now (text .entry))) (now (out .entry)))
+        × Blank (now (a .entry)) (now (b .entry)) (now (c .entry)) (now (d .entry)) (now (e .entry)) (now (u .entry)) (now (a .exit)) (now (b .exit)) (now (c .exit)) (now (d .exit)) (now (e .exit)) (now (u .exit)) ⌝ }
 {
-    let n = chain(k, to, text, a, b, c, d, e, u);
+    let n = chain(m, text, a, b, c, d, e, u);
     close(n, text, a, b, c, d, e, u, out)
 }

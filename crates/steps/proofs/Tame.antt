@@ -39,7 +39,8 @@ use Rattle.decls.proofs.Keeps.{keeps-noLf}
 use Rattle.decls.proofs.Decl.{prune-weight}
 use Rattle.decls.proofs.Passes.{prune-lines}
 use Rattle.steps.specs.Step.{stepOf}
-use Rattle.limits.specs.Entry.{byteSize, blockSize}
+use Rattle.limits.specs.declared.Limits.{Limits}
+use Rattle.limits.specs.Entry.{small, byteSize, blockSize}
 use Rattle.steps.specs.Inner.Bounds.{Bounded}
 
 pub record Tame (f : List (List ℕ) → List (List ℕ)) : Type 0 where
@@ -113,16 +114,16 @@ tame-step {R} c k =
 -- ---- the room that a text within bounds has
 
 -- what a pass makes of it
-pub room-fits : {s : List ℕ} {f : List (List ℕ) → List (List ℕ)} → Tame f → Bounded s → length (unlines (f (linesOf s))) ≤ byteSize
-room-fits {s} {f} p r =
+pub room-fits : {L : Limits} {s : List ℕ} {f : List (List ℕ) → List (List ℕ)} → Tame f → Bounded L s → length (unlines (f (linesOf s))) ≤ byteSize L
+room-fits {s = s} {f = f} p r =
     omega (arith, length-weight 0 (unlines (f (linesOf s))), p .weighs 0 (linesOf s), r .heavy)
 
 -- the lines as they are
-pub room-lines : {s : List ℕ} → Bounded s → length (unlines (linesOf s)) ≤ byteSize
+pub room-lines : {L : Limits} {s : List ℕ} → Bounded L s → length (unlines (linesOf s)) ≤ byteSize L
 room-lines r = room-fits tame-same r
 
-pub room-length : {s : List ℕ} → Bounded s → length s ≤ byteSize
-room-length {s} r = omega (arith, room-lines r, ap length (lines-text s), length-append s (missingLf s))
+pub room-length : {L : Limits} {s : List ℕ} → Bounded L s → length s ≤ byteSize L
+room-length {s = s} r = omega (arith, room-lines r, ap length (lines-text s), length-append s (missingLf s))
 
 -- ---- the room that passes with tables and scratch ask for
 
@@ -130,19 +131,19 @@ room-length {s} r = omega (arith, room-lines r, ap length (lines-text s), length
 pub table : (n : ℕ) → n ≤ length {A = ℕ} (replicate n 0)
 table n = omega (arith, length-replicate {A = ℕ} n 0)
 
-pub once-room : {s : List ℕ} {loops marks paths up scratch mid out near far stores : ℕ} → Bounded s → scratch ≡ byteSize → mid ≡ byteSize → up ≡ blockSize → out ≡ byteSize → 1024 ≤ loops → 1024 ≤ marks → 1024 ≤ paths → (far ≡ near) × (far ≡ stores) →
+pub once-room : {L : Limits} {s : List ℕ} {loops marks paths up scratch mid out near far stores : ℕ} → Bounded L s → scratch ≡ byteSize L → mid ≡ byteSize L → up ≡ blockSize L → out ≡ byteSize L → small .lines ≤ loops → small .lines ≤ marks → small .lines ≤ paths → (far ≡ near) × (far ≡ stores) →
     (length (linesOf s) ≤ loops) × ((length (linesOf s) ≤ marks) × ((length (linesOf s) ≤ paths) × ((length (pathParents (linesOf s)) ≤ up) × ((up < 2 ^ 32)
     × ((length s ≤ scratch) × ((length (unlines (apply (onceActs plain (linesOf s)) (linesOf s))) ≤ mid) × ((length (unlines (optimizeOnce plain (linesOf s))) ≤ out) × ((far ≡ near) × (far ≡ stores)))))))))
-once-room {s} r qs qm qu qo ql qk qp w = (
-  omega (arith, r .lines),
+once-room {s = s} r qs qm qu qo ql qk qp w = (
+  omega (arith, r .lines, r .sane .lines-reach),
   (
-    omega (arith, r .lines),
+    omega (arith, r .lines, r .sane .lines-reach),
     (
-      omega (arith, r .lines),
+      omega (arith, r .lines, r .sane .lines-reach),
       (
         omega (arith, path-parents-text s, r .braces),
         (
-          omega arith,
+          omega (arith, r .sane .bytes-reach),
           (
             omega (arith, room-length r),
             (
@@ -156,9 +157,9 @@ once-room {s} r qs qm qu qo ql qk qp w = (
   ),
 )
 
-pub phis-room : {s : List ℕ} → Bounded s →
-    (longest plain s ≤ byteSize) × ((length (unlines (round plain (linesOf s))) ≤ byteSize) × ((length (unlines (round plain (round plain (linesOf s)))) ≤ byteSize) × (length (unlines (pruneDeadPhis plain (linesOf s))) ≤ byteSize)))
-phis-room {s} r =
+pub phis-room : {L : Limits} {s : List ℕ} → Bounded L s →
+    (longest plain s ≤ byteSize L) × ((length (unlines (round plain (linesOf s))) ≤ byteSize L) × ((length (unlines (round plain (round plain (linesOf s)))) ≤ byteSize L) × (length (unlines (pruneDeadPhis plain (linesOf s))) ≤ byteSize L)))
+phis-room {s = s} r =
     let one : List (List ℕ) = round plain (linesOf s) in
     let v = round-weight 0 plain (linesOf s) in (
       omega (arith, longest-weight 0 s, r .heavy),
@@ -171,27 +172,27 @@ phis-room {s} r =
       ),
     )
 
-pub calls-room : {s : List ℕ} {owner blocks starts up stack cur next clean out ends : ℕ} → Bounded s → up ≡ blockSize → cur ≡ byteSize → next ≡ byteSize → clean ≡ byteSize → out ≡ byteSize → 1024 ≤ ends →
-    1024 ≤ owner → 1024 ≤ blocks → 1024 ≤ starts → byteSize < stack →
+pub calls-room : {L : Limits} {s : List ℕ} {owner blocks starts up stack cur next clean out ends : ℕ} → Bounded L s → up ≡ blockSize L → cur ≡ byteSize L → next ≡ byteSize L → clean ≡ byteSize L → out ≡ byteSize L → small .lines ≤ ends →
+    small .lines ≤ owner → small .lines ≤ blocks → small .lines ≤ starts → byteSize small < stack →
     ((length (linesOf s) ≤ owner) × ((length (linesOf s) ≤ blocks) × (length (linesOf s) ≤ starts)))
     × (((length (idsParents (linesOf s)) ≤ up) × (up < 2 ^ 32))
     × (((length s < stack) × ((length s ≤ cur) × ((length s ≤ next) × (length s ≤ clean))))
     × ((length (unlines (rebuildCalls (leavesOf plain) (linesOf s))) ≤ out) × (length (linesOf s) ≤ ends))))
-calls-room {s} r qu qc qn ql qo qr ko kb ks kt = (
-  (omega (arith, r .lines), (omega (arith, r .lines), omega (arith, r .lines))),
+calls-room {s = s} r qu qc qn ql qo qr ko kb ks kt = (
+  (omega (arith, r .lines, r .sane .lines-reach), (omega (arith, r .lines, r .sane .lines-reach), omega (arith, r .lines, r .sane .lines-reach))),
   (
-    (omega (arith, ids-parents-text s, r .braces), omega arith),
+    (omega (arith, ids-parents-text s, r .braces), omega (arith, r .sane .bytes-reach)),
     (
-      (omega (arith, room-length r), (omega (arith, room-length r), (omega (arith, room-length r), omega (arith, room-length r)))),
-      (omega (arith, room-fits (tame-calls plain) r), omega (arith, r .lines)),
+      (omega (arith, room-length r, r .sane .bytes-reach), (omega (arith, room-length r), (omega (arith, room-length r), omega (arith, room-length r)))),
+      (omega (arith, room-fits (tame-calls plain) r), omega (arith, r .lines, r .sane .lines-reach)),
     ),
   ),
 )
 
-pub bind-room : {s : List ℕ} {blocks starts up marks out ends : ℕ} → Bounded s → up ≡ blockSize → out ≡ byteSize → 1024 ≤ ends → 1024 ≤ blocks → 1024 ≤ starts → 1024 ≤ marks →
+pub bind-room : {L : Limits} {s : List ℕ} {blocks starts up marks out ends : ℕ} → Bounded L s → up ≡ blockSize L → out ≡ byteSize L → small .lines ≤ ends → small .lines ≤ blocks → small .lines ≤ starts → small .lines ≤ marks →
     ((length (linesOf s) ≤ blocks) × ((length (linesOf s) ≤ starts) × ((length (idsParents (linesOf s)) ≤ up) × (up < 2 ^ 32))))
     × ((length (linesOf s) ≤ marks) × ((length (unlines (bindDeclarators plain (linesOf s))) ≤ out) × (length (linesOf s) ≤ ends)))
-bind-room {s} r qu qo qr qb qs qm = (
-  (omega (arith, r .lines), (omega (arith, r .lines), (omega (arith, ids-parents-text s, r .braces), omega arith))),
-  (omega (arith, r .lines), (omega (arith, room-fits (tame-bind plain-by-line) r), omega (arith, r .lines))),
+bind-room {s = s} r qu qo qr qb qs qm = (
+  (omega (arith, r .lines, r .sane .lines-reach), (omega (arith, r .lines, r .sane .lines-reach), (omega (arith, ids-parents-text s, r .braces), omega (arith, r .sane .bytes-reach)))),
+  (omega (arith, r .lines, r .sane .lines-reach), (omega (arith, room-fits (tame-bind plain-by-line) r), omega (arith, r .lines, r .sane .lines-reach))),
 )

@@ -1,3 +1,4 @@
+-- `limits::refused` meets its contract. Assumes nothing.
 use borrow.Author.Needs.{needs}
 use mathlib.Core.Path.{sym, _∙_}
 use Rattle.limits.specs.declared.Answer.the-variants.{Done}
@@ -6,10 +7,10 @@ use Rattle.limits.proofs.refused.Statement.{statement}
 use Rattle.limits.proofs.refused.Tie as tie
 
 returns : tie.Need-returns
-returns c = text-long (c .before .before .args .text .now) (Done 0) _ (c .if1 .taken)
+returns c = text-long (c .before .before .before .args .m) (c .before .before .before .args .text .now) (Done 0) _ (c .if1 .taken)
 
 returns-2 : tie.Need-returns-2
-returns-2 c = work-short (c .before .before .before .args .text .now) (Done 0) _ (c .before .if1 .left) (c .if2 .taken)
+returns-2 c = work-short (c .before .before .before .before .args .m) (c .before .before .before .before .args .text .now) (Done 0) _ (c .before .if1 .left) (c .if2 .taken)
 
 check-utf8-requires : tie.Need-check-utf8-requires
 check-utf8-requires c κs = search needs
@@ -24,10 +25,10 @@ refused-lines-requires : tie.Need-refused-lines-requires
 refused-lines-requires c κs = search needs
 
 returns-3 : tie.Need-returns-3
-returns-3 c = text-read (c .before .before .before .before .before .before .before .args .text .now) (Done 0) _ (c .before .before .before .before .before .if1 .left) (c .before .before .before .before .if2 .left) (sym (c .before .before .before .check-utf8 .ensures) ∙ c .before .i .given .1)
+returns-3 c = text-read (c .before .before .before .before .before .before .before .before .args .m) (c .before .before .before .before .before .before .before .before .args .text .now) (Done 0) _ (c .before .before .before .before .before .if1 .left) (c .before .before .before .before .if2 .left) (sym (c .before .before .before .check-utf8 .ensures) ∙ c .before .i .given .1)
 
 returns-4 : tie.Need-returns-4
-returns-4 c = c .refused-lines .ensures ∙ text-read (c .before .before .before .before .before .before .before .args .text .now) (Done 0) _ (c .before .before .before .before .before .if1 .left) (c .before .before .before .before .if2 .left) (sym (c .before .before .before .check-utf8 .ensures) ∙ c .before .enum-told .given .1)
+returns-4 c = c .refused-lines .ensures ∙ text-read (c .before .before .before .before .before .before .before .before .args .m) (c .before .before .before .before .before .before .before .before .args .text .now) (Done 0) _ (c .before .before .before .before .before .if1 .left) (c .before .before .before .before .if2 .left) (sym (c .before .before .before .check-utf8 .ensures) ∙ c .before .enum-told .given .1)
 
 pub refused-spec : {M : Type 1} → statement M
 refused-spec =

@@ -1,110 +1,82 @@
-use mathlib.Core.Path.{sym}
+-- `opt::run` meets its contract. Assumes nothing.
+use borrow.Author.Needs.{needs}
+use mathlib.Core.Path.{refl, sym}
 use native.Mathlib.Omega.{arith}
-use Rattle.opt.proofs.EntryLaws.{stated, same-part, wiped-part}
+use Rattle.opt.proofs.EntryLaws.{stated, sized-part, same-part, wiped-part}
 use Rattle.opt.proofs.run.Statement.{statement}
 use Rattle.opt.proofs.run.Tie as tie
 
+byte-size-requires : tie.Need-byte-size-requires
+byte-size-requires c κs = c .before .before .before .before .before .before .before .before .pre .0 .sane
+
 slice-relend-prefix-work : tie.Need-slice-relend-prefix-work
-slice-relend-prefix-work c = c .before .before .before .before .before .before .before .before .pre .1 .1 .a-long
+slice-relend-prefix-work c = omega (arith, c .byte-size .ensures, c .before .before .before .before .before .before .before .before .before .pre .1 .a-long)
 
 slice-aggregate-work : tie.Need-slice-aggregate-work
-slice-aggregate-work c = stated 32769 (c .before .before .before .before .before .before .before .before .before .args .a .now) (c .before .before .before .before .before .before .before .before .before .pre .1 .1 .a-long)
+slice-aggregate-work c = stated _ (c .before .before .before .before .before .before .before .before .before .before .args .a .now) (omega (arith, c .before .byte-size .ensures, c .before .before .before .before .before .before .before .before .before .before .pre .1 .a-long))
 
 slice-relend-prefix-work-2 : tie.Need-slice-relend-prefix-work-2
-slice-relend-prefix-work-2 c = c .before .before .before .before .before .before .before .before .before .pre .1 .1 .b-long
+slice-relend-prefix-work-2 c = omega (arith, c .before .byte-size .ensures, c .before .before .before .before .before .before .before .before .before .before .pre .1 .b-long)
 
 slice-aggregate-work-2 : tie.Need-slice-aggregate-work-2
-slice-aggregate-work-2 c = stated 32769 (c .before .before .before .before .before .before .before .before .before .before .args .b .now) (c .before .before .before .before .before .before .before .before .before .before .pre .1 .1 .b-long)
+slice-aggregate-work-2 c = stated _ (c .before .before .before .before .before .before .before .before .before .before .before .args .b .now) (omega (arith, c .before .before .byte-size .ensures, c .before .before .before .before .before .before .before .before .before .before .before .pre .1 .b-long))
 
 slice-relend-prefix-work-3 : tie.Need-slice-relend-prefix-work-3
-slice-relend-prefix-work-3 c = c .before .before .before .before .before .before .before .before .before .before .pre .1 .1 .c-long
+slice-relend-prefix-work-3 c = omega (arith, c .before .before .byte-size .ensures, c .before .before .before .before .before .before .before .before .before .before .before .pre .1 .c-long)
 
 slice-aggregate-work-3 : tie.Need-slice-aggregate-work-3
-slice-aggregate-work-3 c = stated 32769 (c .before .before .before .before .before .before .before .before .before .before .before .args .c .now) (c .before .before .before .before .before .before .before .before .before .before .before .pre .1 .1 .c-long)
+slice-aggregate-work-3 c = stated _ (c .before .before .before .before .before .before .before .before .before .before .before .before .args .c .now) (omega (arith, c .before .before .before .byte-size .ensures, c .before .before .before .before .before .before .before .before .before .before .before .before .pre .1 .c-long))
 
 slice-relend-prefix-work-4 : tie.Need-slice-relend-prefix-work-4
-slice-relend-prefix-work-4 c = c .before .before .before .before .before .before .before .before .before .before .before .pre .1 .1 .d-long
+slice-relend-prefix-work-4 c = omega (arith, c .before .before .before .byte-size .ensures, c .before .before .before .before .before .before .before .before .before .before .before .before .pre .1 .d-long)
 
 slice-aggregate-work-4 : tie.Need-slice-aggregate-work-4
-slice-aggregate-work-4 c = stated 32769 (c .before .before .before .before .before .before .before .before .before .before .before .before .args .d .now) (c .before .before .before .before .before .before .before .before .before .before .before .before .pre .1 .1 .d-long)
+slice-aggregate-work-4 c = stated _ (c .before .before .before .before .before .before .before .before .before .before .before .before .before .args .d .now) (omega (arith, c .before .before .before .before .byte-size .ensures, c .before .before .before .before .before .before .before .before .before .before .before .before .before .pre .1 .d-long))
 
 slice-relend-prefix-work-5 : tie.Need-slice-relend-prefix-work-5
-slice-relend-prefix-work-5 c = c .before .before .before .before .before .before .before .before .before .before .before .before .pre .1 .1 .e-long
+slice-relend-prefix-work-5 c = omega (arith, c .before .before .before .before .byte-size .ensures, c .before .before .before .before .before .before .before .before .before .before .before .before .before .pre .1 .e-long)
 
 slice-aggregate-work-5 : tie.Need-slice-aggregate-work-5
-slice-aggregate-work-5 c = stated 32769 (c .before .before .before .before .before .before .before .before .before .before .before .before .before .args .e .now) (c .before .before .before .before .before .before .before .before .before .before .before .before .before .pre .1 .1 .e-long)
+slice-aggregate-work-5 c = stated _ (c .before .before .before .before .before .before .before .before .before .before .before .before .before .before .args .e .now) (omega (arith, c .before .before .before .before .before .byte-size .ensures, c .before .before .before .before .before .before .before .before .before .before .before .before .before .before .pre .1 .e-long))
 
 slice-relend-prefix-work-6 : tie.Need-slice-relend-prefix-work-6
-slice-relend-prefix-work-6 c = omega (arith, c .before .before .before .before .before .before .before .before .before .before .before .before .before .pre .1 .1 .u-long)
+slice-relend-prefix-work-6 c = c .before .before .before .before .before .before .before .before .before .before .before .before .before .before .pre .1 .u-long
 
 slice-aggregate-work-6 : tie.Need-slice-aggregate-work-6
-slice-aggregate-work-6 c = stated _ (c .before .before .before .before .before .before .before .before .before .before .before .before .before .before .args .u .now) (omega (arith, c .before .before .before .before .before .before .before .before .before .before .before .before .before .before .pre .1 .1 .u-long))
+slice-aggregate-work-6 c = stated _ (c .before .before .before .before .before .before .before .before .before .before .before .before .before .before .before .args .u .now) (c .before .before .before .before .before .before .before .before .before .before .before .before .before .before .before .pre .1 .u-long)
 
 work-requires : tie.Need-work-requires
-work-requires c κs =
-    let p = c .before .before .before .before .before .before .before .before .before .before .before .before .before .before .before .pre in
-    let a = c .before .before .before .before .before .before .before .before .before .before .before .before .before .before .before .args in
-    let l = p .1 .1 in (
-      p .0,
-      (
-        p .1 .0,
-        (
-          sym (stated 32769 (a .a .now) (l .a-long)),
-          record {
-            b-size = sym (stated 32769 (a .b .now) (l .b-long));
-            c-size = sym (stated 32769 (a .c .now) (l .c-long));
-            d-size = sym (stated 32769 (a .d .now) (l .d-long));
-            e-size = sym (stated 32769 (a .e .now) (l .e-long));
-            u-size = sym (stated 16384 (a .u .now) (l .u-long));
-          },
-        ),
-      ),
-    )
+work-requires c κs = let p = c .before .before .before .before .before .before .before .before .before .before .before .before .before .before .before .before .pre in let a = c .before .before .before .before .before .before .before .before .before .before .before .before .before .before .before .before .args in let l = p .1 in let q = c .before .before .before .before .before .before .before .byte-size .ensures in (p .0, (sized-part (a .a .now) q (l .a-long), record { b-size = sized-part (a .b .now) q (l .b-long); c-size = sized-part (a .c .now) q (l .c-long); d-size = sized-part (a .d .now) q (l .d-long); e-size = sized-part (a .e .now) q (l .e-long); u-size = sym (stated _ (a .u .now) (l .u-long)) }))
 
 same-length : tie.Need-same-length
-same-length c = same-part 32769 (c .before .before .before .before .before .before .before .before .before .before .before .before .before .before .before .before .before .before .before .before .before .before .before .before .before .before .before .before .before .before .args .a .now) (c .before .before .before .before .before .before .before .before .before .before .before .before .before .before .work .last .1 .1 .1 .0) (c .before .before .before .before .before .before .before .before .before .before .before .before .before .before .before .before .before .before .before .before .before .before .before .before .before .before .before .before .before .before .pre .1 .1 .a-long) (c .before .before .before .before .before .before .before .before .before .before .before .before .before .before .work .kept .1 .1 .1 .0)
+same-length c = same-part (c .before .before .before .before .before .before .before .before .before .before .before .before .before .before .before .before .before .before .before .before .before .before .byte-size .result) (c .before .before .before .before .before .before .before .before .before .before .before .before .before .before .before .before .before .before .before .before .before .before .before .before .before .before .before .before .before .before .before .args .a .now) (c .before .before .before .before .before .before .before .before .before .before .before .before .before .before .work .last .1 .1 .0) (omega (arith, c .before .before .before .before .before .before .before .before .before .before .before .before .before .before .before .before .before .before .before .before .before .before .byte-size .ensures, c .before .before .before .before .before .before .before .before .before .before .before .before .before .before .before .before .before .before .before .before .before .before .before .before .before .before .before .before .before .before .before .pre .1 .a-long)) (c .before .before .before .before .before .before .before .before .before .before .before .before .before .before .work .kept .1 .1 .0)
 
 same-length-2 : tie.Need-same-length-2
-same-length-2 c = same-part 32769 (c .before .before .before .before .before .before .before .before .before .before .before .before .before .before .before .before .before .before .before .before .before .before .before .before .before .before .before .before .before .before .args .b .now) (c .before .before .before .before .before .before .before .before .before .before .before .before .before .before .work .last .1 .1 .1 .1 .0) (c .before .before .before .before .before .before .before .before .before .before .before .before .before .before .before .before .before .before .before .before .before .before .before .before .before .before .before .before .before .before .pre .1 .1 .b-long) (c .before .before .before .before .before .before .before .before .before .before .before .before .before .before .work .kept .1 .1 .1 .1 .0)
+same-length-2 c = same-part (c .before .before .before .before .before .before .before .before .before .before .before .before .before .before .before .before .before .before .before .before .before .before .byte-size .result) (c .before .before .before .before .before .before .before .before .before .before .before .before .before .before .before .before .before .before .before .before .before .before .before .before .before .before .before .before .before .before .before .args .b .now) (c .before .before .before .before .before .before .before .before .before .before .before .before .before .before .work .last .1 .1 .1 .0) (omega (arith, c .before .before .before .before .before .before .before .before .before .before .before .before .before .before .before .before .before .before .before .before .before .before .byte-size .ensures, c .before .before .before .before .before .before .before .before .before .before .before .before .before .before .before .before .before .before .before .before .before .before .before .before .before .before .before .before .before .before .before .pre .1 .b-long)) (c .before .before .before .before .before .before .before .before .before .before .before .before .before .before .work .kept .1 .1 .1 .0)
 
 same-length-3 : tie.Need-same-length-3
-same-length-3 c = same-part 32769 (c .before .before .before .before .before .before .before .before .before .before .before .before .before .before .before .before .before .before .before .before .before .before .before .before .before .before .before .before .before .before .args .c .now) (c .before .before .before .before .before .before .before .before .before .before .before .before .before .before .work .last .1 .1 .1 .1 .1 .0) (c .before .before .before .before .before .before .before .before .before .before .before .before .before .before .before .before .before .before .before .before .before .before .before .before .before .before .before .before .before .before .pre .1 .1 .c-long) (c .before .before .before .before .before .before .before .before .before .before .before .before .before .before .work .kept .1 .1 .1 .1 .1 .0)
+same-length-3 c = same-part (c .before .before .before .before .before .before .before .before .before .before .before .before .before .before .before .before .before .before .before .before .before .before .byte-size .result) (c .before .before .before .before .before .before .before .before .before .before .before .before .before .before .before .before .before .before .before .before .before .before .before .before .before .before .before .before .before .before .before .args .c .now) (c .before .before .before .before .before .before .before .before .before .before .before .before .before .before .work .last .1 .1 .1 .1 .0) (omega (arith, c .before .before .before .before .before .before .before .before .before .before .before .before .before .before .before .before .before .before .before .before .before .before .byte-size .ensures, c .before .before .before .before .before .before .before .before .before .before .before .before .before .before .before .before .before .before .before .before .before .before .before .before .before .before .before .before .before .before .before .pre .1 .c-long)) (c .before .before .before .before .before .before .before .before .before .before .before .before .before .before .work .kept .1 .1 .1 .1 .0)
 
 same-length-4 : tie.Need-same-length-4
-same-length-4 c = same-part 32769 (c .before .before .before .before .before .before .before .before .before .before .before .before .before .before .before .before .before .before .before .before .before .before .before .before .before .before .before .before .before .before .args .d .now) (c .before .before .before .before .before .before .before .before .before .before .before .before .before .before .work .last .1 .1 .1 .1 .1 .1 .0) (c .before .before .before .before .before .before .before .before .before .before .before .before .before .before .before .before .before .before .before .before .before .before .before .before .before .before .before .before .before .before .pre .1 .1 .d-long) (c .before .before .before .before .before .before .before .before .before .before .before .before .before .before .work .kept .1 .1 .1 .1 .1 .1 .0)
+same-length-4 c = same-part (c .before .before .before .before .before .before .before .before .before .before .before .before .before .before .before .before .before .before .before .before .before .before .byte-size .result) (c .before .before .before .before .before .before .before .before .before .before .before .before .before .before .before .before .before .before .before .before .before .before .before .before .before .before .before .before .before .before .before .args .d .now) (c .before .before .before .before .before .before .before .before .before .before .before .before .before .before .work .last .1 .1 .1 .1 .1 .0) (omega (arith, c .before .before .before .before .before .before .before .before .before .before .before .before .before .before .before .before .before .before .before .before .before .before .byte-size .ensures, c .before .before .before .before .before .before .before .before .before .before .before .before .before .before .before .before .before .before .before .before .before .before .before .before .before .before .before .before .before .before .before .pre .1 .d-long)) (c .before .before .before .before .before .before .before .before .before .before .before .before .before .before .work .kept .1 .1 .1 .1 .1 .0)
 
 same-length-5 : tie.Need-same-length-5
-same-length-5 c = same-part 32769 (c .before .before .before .before .before .before .before .before .before .before .before .before .before .before .before .before .before .before .before .before .before .before .before .before .before .before .before .before .before .before .args .e .now) (c .before .before .before .before .before .before .before .before .before .before .before .before .before .before .work .last .1 .1 .1 .1 .1 .1 .1 .0) (c .before .before .before .before .before .before .before .before .before .before .before .before .before .before .before .before .before .before .before .before .before .before .before .before .before .before .before .before .before .before .pre .1 .1 .e-long) (c .before .before .before .before .before .before .before .before .before .before .before .before .before .before .work .kept .1 .1 .1 .1 .1 .1 .1 .0)
+same-length-5 c = same-part (c .before .before .before .before .before .before .before .before .before .before .before .before .before .before .before .before .before .before .before .before .before .before .byte-size .result) (c .before .before .before .before .before .before .before .before .before .before .before .before .before .before .before .before .before .before .before .before .before .before .before .before .before .before .before .before .before .before .before .args .e .now) (c .before .before .before .before .before .before .before .before .before .before .before .before .before .before .work .last .1 .1 .1 .1 .1 .1 .0) (omega (arith, c .before .before .before .before .before .before .before .before .before .before .before .before .before .before .before .before .before .before .before .before .before .before .byte-size .ensures, c .before .before .before .before .before .before .before .before .before .before .before .before .before .before .before .before .before .before .before .before .before .before .before .before .before .before .before .before .before .before .before .pre .1 .e-long)) (c .before .before .before .before .before .before .before .before .before .before .before .before .before .before .work .kept .1 .1 .1 .1 .1 .1 .0)
 
 same-length-6 : tie.Need-same-length-6
-same-length-6 c = same-part 16384 (c .before .before .before .before .before .before .before .before .before .before .before .before .before .before .before .before .before .before .before .before .before .before .before .before .before .before .before .before .before .before .args .u .now) (c .before .before .before .before .before .before .before .before .before .before .before .before .before .before .work .last .1 .1 .1 .1 .1 .1 .1 .1 .0) (c .before .before .before .before .before .before .before .before .before .before .before .before .before .before .before .before .before .before .before .before .before .before .before .before .before .before .before .before .before .before .pre .1 .1 .u-long) (c .before .before .before .before .before .before .before .before .before .before .before .before .before .before .work .kept .1 .1 .1 .1 .1 .1 .1 .1 .0)
+same-length-6 c = same-part _ (c .before .before .before .before .before .before .before .before .before .before .before .before .before .before .before .before .before .before .before .before .before .before .before .before .before .before .before .before .before .before .before .args .u .now) (c .before .before .before .before .before .before .before .before .before .before .before .before .before .before .work .last .1 .1 .1 .1 .1 .1 .1 .0) (c .before .before .before .before .before .before .before .before .before .before .before .before .before .before .before .before .before .before .before .before .before .before .before .before .before .before .before .before .before .before .before .pre .1 .u-long) (c .before .before .before .before .before .before .before .before .before .before .before .before .before .before .work .kept .1 .1 .1 .1 .1 .1 .1 .0)
 
 same-length-7 : tie.Need-same-length-7
-same-length-7 c = c .before .before .before .before .before .before .before .before .before .before .before .before .before .before .work .kept .1 .1 .1 .1 .1 .1 .1 .1 .1 .0
+same-length-7 c = c .before .before .before .before .before .before .before .before .before .before .before .before .before .before .work .kept .1 .1 .1 .1 .1 .1 .1 .1 .0
 
 returns : tie.Need-returns
-returns c =
-    let a = c .before .before .before .before .before .before .before .before .before .before .before .before .before .before .before .before .before .before .before .before .before .before .before .before .before .before .before .before .before .before .args in
-    let w = c .before .before .before .before .before .before .before .before .before .before .before .before .before .before .work .ensures in
-    let z = w .1 .1 in (
-      w .0,
-      (
-        w .1 .0,
-        record {
-          a-wiped = wiped-part 32769 32769 (a .a .now) (z .a-blank);
-          b-wiped = wiped-part 32769 32769 (a .b .now) (z .b-blank);
-          c-wiped = wiped-part 32769 32769 (a .c .now) (z .c-blank);
-          d-wiped = wiped-part 32769 32769 (a .d .now) (z .d-blank);
-          e-wiped = wiped-part 32769 32769 (a .e .now) (z .e-blank);
-          u-wiped = wiped-part 16384 16384 (a .u .now) (z .u-blank);
-        },
-      ),
-    )
+returns c = let a = c .before .before .before .before .before .before .before .before .before .before .before .before .before .before .before .before .before .before .before .before .before .before .before .before .before .before .before .before .before .before .before .args in let l = c .before .before .before .before .before .before .before .before .before .before .before .before .before .before .before .before .before .before .before .before .before .before .before .before .before .before .before .before .before .before .before .pre .1 in let q = c .before .before .before .before .before .before .before .before .before .before .before .before .before .before .before .before .before .before .before .before .before .before .byte-size .ensures in let w = c .before .before .before .before .before .before .before .before .before .before .before .before .before .before .work .ensures in let z = w .1 .1 in (w .0, (w .1 .0, record { a-wiped = wiped-part _ (a .a .now) q (l .a-long) (z .a-blank); b-wiped = wiped-part _ (a .b .now) q (l .b-long) (z .b-blank); c-wiped = wiped-part _ (a .c .now) q (l .c-long) (z .c-blank); d-wiped = wiped-part _ (a .d .now) q (l .d-long) (z .d-blank); e-wiped = wiped-part _ (a .e .now) q (l .e-long) (z .e-blank); u-wiped = wiped-part _ (a .u .now) refl (l .u-long) (z .u-blank) }))
 
 pub run-spec : {M : Type 1} → statement M
 run-spec =
     tie.close
     (tie.spec
+    byte-size-requires
     slice-relend-prefix-work
     slice-aggregate-work
     slice-relend-prefix-work-2

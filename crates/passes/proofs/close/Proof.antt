@@ -1,3 +1,4 @@
+-- `passes::close` meets its contract. Assumes nothing.
 use borrow.Author.Needs.{needs}
 use Prim.Native.Nat.{ℕ}
 use mathlib.Core.Path.{ap, sym, _∙_}
@@ -18,7 +19,7 @@ slice-reshare-prefix-finish : tie.Need-slice-reshare-prefix-finish
 slice-reshare-prefix-finish c = search needs
 
 slice-aggregate-finish : tie.Need-slice-aggregate-finish
-slice-aggregate-finish c = let p = c .before .before .before .before .before .before .before .before .before .before in sym (length-take-le (p .args .n) (p .args .a .now) (p .pre .0))
+slice-aggregate-finish c = let p = c .before .before .before .before .before .before .before .before .before .before in sym (length-take-le (p .args .n) (p .args .a .now) (p .pre))
 
 finish-requires : tie.Need-finish-requires
 finish-requires c κs = search needs
@@ -48,13 +49,7 @@ same-length-7 : tie.Need-same-length-7
 same-length-7 c = search needs
 
 returns : tie.Need-returns
-returns c =
-    let g = c .before .before .before .before .before .before .before .before .before .before .before .before .before .before .before .before .before .before .before .before .before .before .before .before .before .before .before .before .before .before .before .before .before .args in
-    let f = c .before .before .before .before .before .before .before .before .before .before .before .before .before .before .before .before .before .before .before .before .before .finish in
-    let q = ap (λ (x : Bool). joined x (linesOf (take (g .n) (g .a .now)))) (c .before .before .before .before .before .before .before .before .before .before .before .before .before .before .before .before .before .before .before .before .before .before .before .before .ends-lf .ensures) in (
-      f .ensures .0 ∙ ap (λ (x : List ℕ). roomed (length x) (length (g .out .now))) q,
-      (f .ensures .1 ∙ ap (λ (x : List ℕ). outAfter (f .result) x (g .out .now)) q, c .before .before .before .before .before .before .before .before .before .before .before .before .wipe-all .ensures),
-    )
+returns c = let g = c .before .before .before .before .before .before .before .before .before .before .before .before .before .before .before .before .before .before .before .before .before .before .before .before .before .before .before .before .before .before .before .before .before .args in let f = c .before .before .before .before .before .before .before .before .before .before .before .before .before .before .before .before .before .before .before .before .before .finish in let q = ap (λ (x : Bool). joined x (linesOf (take (g .n) (g .a .now)))) (c .before .before .before .before .before .before .before .before .before .before .before .before .before .before .before .before .before .before .before .before .before .before .before .before .ends-lf .ensures) in (f .ensures .0 ∙ ap (λ (x : List ℕ). roomed (length x) (length (g .out .now))) q, (f .ensures .1 ∙ ap (λ (x : List ℕ). outAfter (f .result) x (g .out .now)) q, c .before .before .before .before .before .before .before .before .before .before .before .before .wipe-all .ensures))
 
 pub close-spec : {M : Type 1} → statement M
 close-spec =

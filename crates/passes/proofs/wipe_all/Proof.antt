@@ -1,5 +1,6 @@
-use native.Mathlib.Omega.{arith}
+-- `passes::wipe_all` meets its contract. Assumes nothing.
 use borrow.Author.Needs.{needs}
+use mathlib.Core.Path.{refl}
 use Rattle.passes.proofs.WorkLaws.{wiped-all, wiped-numbers}
 use Rattle.passes.proofs.wipe_all.Statement.{statement}
 use Rattle.passes.proofs.wipe_all.Tie as tie
@@ -17,7 +18,7 @@ wipe-requires-4 : tie.Need-wipe-requires-4
 wipe-requires-4 c κs = search needs
 
 wipe-requires-5 : tie.Need-wipe-requires-5
-wipe-requires-5 c κs = omega arith
+wipe-requires-5 c κs = search needs
 
 wipe-numbers-requires : tie.Need-wipe-numbers-requires
 wipe-numbers-requires c κs = search needs
@@ -41,17 +42,7 @@ same-length-6 : tie.Need-same-length-6
 same-length-6 c = search needs
 
 returns : tie.Need-returns
-returns c =
-    let p = c .before .before .before .before .before .before .before .before .before .before .before .before .before .before .before .before .before .before .before .before .before .before .before .before .before .before .before .before .before .before .pre in
-    let g = c .before .before .before .before .before .before .before .before .before .before .before .before .before .before .before .before .before .before .before .before .before .before .before .before .before .before .before .before .before .before .args in
-    record {
-      a-blank = wiped-all (p .0) (c .before .before .before .before .before .before .before .before .before .before .before .before .before .before .before .before .before .before .before .before .before .before .wipe .ensures);
-      b-blank = wiped-all (p .1 .b-size) (c .before .before .before .before .before .before .before .before .before .before .before .before .before .before .before .before .before .before .wipe2 .ensures);
-      c-blank = wiped-all (p .1 .c-size) (c .before .before .before .before .before .before .before .before .before .before .before .before .before .before .wipe3 .ensures);
-      d-blank = wiped-all (p .1 .d-size) (c .before .before .before .before .before .before .before .before .before .before .wipe4 .ensures);
-      e-blank = wiped-all (p .1 .e-size) (c .before .before .before .before .before .before .wipe5 .ensures);
-      u-blank = wiped-numbers (g .u .now) (p .1 .u-size) (c .before .before .wipe-numbers .ensures);
-    }
+returns c = let g = c .before .before .before .before .before .before .before .before .before .before .before .before .before .before .before .before .before .before .before .before .before .before .before .before .before .before .before .before .before .before .args in record { a-blank = wiped-all (g .a .now) refl (c .before .before .before .before .before .before .before .before .before .before .before .before .before .before .before .before .before .before .before .before .before .before .wipe .ensures); b-blank = wiped-all (g .b .now) refl (c .before .before .before .before .before .before .before .before .before .before .before .before .before .before .before .before .before .before .wipe2 .ensures); c-blank = wiped-all (g .c .now) refl (c .before .before .before .before .before .before .before .before .before .before .before .before .before .before .wipe3 .ensures); d-blank = wiped-all (g .d .now) refl (c .before .before .before .before .before .before .before .before .before .before .wipe4 .ensures); e-blank = wiped-all (g .e .now) refl (c .before .before .before .before .before .before .wipe5 .ensures); u-blank = wiped-numbers (g .u .now) (c .before .before .wipe-numbers .ensures) }
 
 pub wipe-all-spec : {M : Type 1} → statement M
 wipe-all-spec =

@@ -5,13 +5,13 @@ use Rattle.pruned.specs.declared.Judged.the-variants.{Accepted, TooLong,
 
 unfoldable pub placeOf : Judged → ℕ
 placeOf Accepted = 0
-placeOf TooLong = 16384
+placeOf (TooLong n) = n
 placeOf ShortWork = 0
 placeOf (NotUtf8 i) = i
-placeOf TooManyLines = 1024
+placeOf (TooManyLines n) = n
 placeOf (Crowded n) = n
-placeOf PrunedTooLong = 16384
+placeOf (PrunedTooLong n) = n
 placeOf (PrunedNotUtf8 i) = i
-placeOf PrunedTooManyLines = 1024
+placeOf (PrunedTooManyLines n) = n
 placeOf (PrunedCrowded n) = n
 placeOf (NotAccepted n) = n

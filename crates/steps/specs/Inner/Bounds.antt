@@ -6,18 +6,21 @@ use mathlib.Core.List.{List}
 use lib.ListN.{length}
 use Rattle.lines.specs.Lf.{linesOf, unlines, countOf}
 use Rattle.weight.specs.Inner.Weight.{weight}
+use Rattle.limits.specs.declared.Limits.{Limits}
 use Rattle.limits.specs.Entry.{byteSize, blockSize}
+use Rattle.limits.specs.Inner.Sane.{Sane}
 
 -- the lines of a text are within the bounds of the work buffers: in weight, in number, and in the blocks that they can open
-pub record Bounded (s : List ℕ) : Type 0 where
-  pub heavy : weight 0 (unlines (linesOf s)) ≤ byteSize
-  pub lines : length (linesOf s) ≤ 1024
-  pub braces : countOf (code "{") s ≤ blockSize
+pub record Bounded (L : Limits) (s : List ℕ) : Type 0 where
+  pub sane : Sane L
+  pub heavy : weight 0 (unlines (linesOf s)) ≤ byteSize L
+  pub lines : length (linesOf s) ≤ L .lines
+  pub braces : countOf (code "{") s ≤ blockSize L
 
 -- the work buffers have their stated sizes
-pub record Sized (b c d e u : List ℕ) : Type 0 where
-  pub b-size : length b ≡ byteSize
-  pub c-size : length c ≡ byteSize
-  pub d-size : length d ≡ byteSize
-  pub e-size : length e ≡ byteSize
-  pub u-size : length u ≡ blockSize
+pub record Sized (L : Limits) (b c d e u : List ℕ) : Type 0 where
+  pub b-size : length b ≡ byteSize L
+  pub c-size : length c ≡ byteSize L
+  pub d-size : length d ≡ byteSize L
+  pub e-size : length e ≡ byteSize L
+  pub u-size : length u ≡ blockSize L
