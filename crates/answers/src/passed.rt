@@ -1,6 +1,11 @@
 // Answers of the passes, over lines that are each followed by an LF.
 use crate::say::nothing;
 
+// The tables are small, so that few texts do without numbers that are not low, and some have more of them than there are places.
+const LOW: usize = 12;
+const OWNERS: usize = 8;
+const PLACES: usize = LOW + OWNERS;
+
 // The first pass.
 fn prune_dead_temps(a: &[u8], out: &mut [u8]) -> usize {
     let mut space = io::large_buffer();
@@ -11,7 +16,18 @@ fn prune_dead_temps(a: &[u8], out: &mut [u8]) -> usize {
     if out.len() / 2 <= a.len() {
         return nothing();
     }
-    temps::prune_dead_temps(a, scratch, out)
+    let mut own = [0usize; OWNERS];
+    let mut declared = [0u8; PLACES];
+    let mut read = [0u8; PLACES];
+    temps::prune_dead_temps(a, &mut own, &mut declared, &mut read, scratch, out)
+}
+
+// The owners that are there.
+fn lent(own: &[usize], n: usize) -> &[usize] {
+    if own.len() < n {
+        return own;
+    }
+    &own[..n]
 }
 
 // The fifth.
@@ -19,7 +35,10 @@ fn prune_decls(a: &[u8], out: &mut [u8]) -> usize {
     if out.len() / 2 <= a.len() {
         return nothing();
     }
-    decls::prune_decls(a, out)
+    let mut own = [0usize; OWNERS];
+    let h = slots::gather::gather(a, LOW, &mut own);
+    let mut seen = [0usize; PLACES];
+    decls::prune_decls(a, lent(&own, h), &mut seen, out)
 }
 
 // The answer of a pass, 41 for the first.

@@ -27,11 +27,13 @@ fn chain(
     requires { ⌜ Within (m .limits) (now text) × ((length (now a) ≡ byteSize (m .limits)) × Sized (m .limits) (now b) (now c) (now d) (now e) (now u)) ⌝ }
     ensures { λ r. ⌜ Front (now (a .exit)) r (unlines (stepsOf plain (m .from) (m .to - m .from) (splitLines (now (text .entry))))) ⌝ }
 {
+    let mut own = [0usize; steps::OWNERS];
     let mut n = lines::split_lines(text, a);
+    let h = slots::gather::gather(&a[..n], steps::LOW, &mut own);
     let to = m.to;
     let mut j = m.from;
     while j < to {
-        let r = steps::step(j, m, &a[..n], b, c, d, e, u);
+        let r = steps::step(j, m, &a[..n], &own[..h], b, c, d, e, u);
         n = lines::put(a, 0, &b[..r]);
         j += 1;
     }
