@@ -3,7 +3,9 @@ use crate::say::nothing;
 
 // The tables are small, so that few texts do without numbers that are not low, and some have more of them than there are places.
 const LOW: usize = 12;
+
 const OWNERS: usize = 8;
+
 const PLACES: usize = LOW + OWNERS;
 
 // The first pass.

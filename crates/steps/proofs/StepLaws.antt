@@ -71,8 +71,8 @@ module _ {s c d e u : List ℕ} where
   unfolding leftC leftD leftE leftU
   left-0 = record { c-left = refl; d-left = refl; e-left = refl; u-left = refl }
 
-  pub left-1 : {c′ : List ℕ} → c′ ≡ tempScratch (linesOf s) c → Left 1 s c d e u c′ d e u
-  unfolding leftC leftD leftE leftU
+  pub left-1 : {c′ : List ℕ} → c′ ≡ leftC 1 s c → Left 1 s c d e u c′ d e u
+  unfolding leftD leftE leftU
   left-1 p = record { c-left = p; d-left = refl; e-left = refl; u-left = refl }
 
   pub left-2 : {c′ d′ u′ : List ℕ} → (c′ ≡ leftC 2 s c) × ((d′ ≡ leftD 2 s d) × (u′ ≡ leftU 2 s u)) → Left 2 s c d e u c′ d′ e u′
@@ -108,6 +108,10 @@ module _ {s c d e u : List ℕ} where
   }
 
 -- by what the passes with tables ensure
+pub temps-left : (s c : List ℕ) {c′ : List ℕ} → c′ ≡ tempScratch (linesOf s) c → c′ ≡ leftC 1 s c
+unfolding leftC
+temps-left s c p = p
+
 pub once-left : (s : List ℕ) {c d u c′ d′ u′ : List ℕ} {n m l : ℕ} → Wrote c 0 (replicate (length s) 0) c′ n → Wrote d 0 (unlines (apply (onceActs plain (linesOf s)) (linesOf s))) d′ m →
     Filled u (pathParents (linesOf s)) u′ l → (c′ ≡ leftC 2 s c) × ((d′ ≡ leftD 2 s d) × (u′ ≡ leftU 2 s u))
 unfolding leftC leftD leftU

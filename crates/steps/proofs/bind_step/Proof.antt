@@ -1,3 +1,4 @@
+-- `steps::bind_step` meets its contract. Assumes nothing.
 use borrow.Author.Needs.{needs}
 use Rattle.steps.proofs.Tame.{table, bind-room}
 use Rattle.steps.proofs.StepLaws.{bind-left}
@@ -16,10 +17,14 @@ slice-aggregate-bind-declarators-3 c = search needs
 slice-aggregate-bind-declarators-4 : tie.Need-slice-aggregate-bind-declarators-4
 slice-aggregate-bind-declarators-4 c = search needs
 
+slice-aggregate-bind-declarators-5 : tie.Need-slice-aggregate-bind-declarators-5
+slice-aggregate-bind-declarators-5 c = search needs
+
+slice-aggregate-bind-declarators-6 : tie.Need-slice-aggregate-bind-declarators-6
+slice-aggregate-bind-declarators-6 c = search needs
+
 bind-declarators-requires : tie.Need-bind-declarators-requires
-bind-declarators-requires c κs =
-    let p = c .before .before .before .before .before .before .before .before .before .pre in
-    bind-room (p .0) (p .1 .0) (p .1 .1) (table 1024) (table 1024) (table 1024) (table 1024)
+bind-declarators-requires c κs = let p = c .before .before .before .before .before .before .before .before .before .before .before .before .pre in bind-room (p .0) (p .1 .0) (p .1 .1) (table 1024) (table 1024) (table 1024) (table 1024)
 
 same-length : tie.Need-same-length
 same-length c = search needs
@@ -28,7 +33,7 @@ same-length-2 : tie.Need-same-length-2
 same-length-2 c = search needs
 
 returns : tie.Need-returns
-returns c = let p = c .before .before .before .before .before .before .before .before .bind-declarators .ensures in (p .0, bind-left _ (p .1 .0 .1 .1))
+returns c = let p = c .before .before .before .before .before .before .before .before .before .before .bind-declarators .ensures in (p .0, bind-left _ (p .1 .0 .1 .1))
 
 pub bind-step-spec : {M : Type 1} → statement M
 bind-step-spec =
@@ -38,6 +43,8 @@ bind-step-spec =
     slice-aggregate-bind-declarators-2
     slice-aggregate-bind-declarators-3
     slice-aggregate-bind-declarators-4
+    slice-aggregate-bind-declarators-5
+    slice-aggregate-bind-declarators-6
     bind-declarators-requires
     same-length
     same-length-2

@@ -5,20 +5,11 @@ use Rattle.steps.proofs.Tame.{room-fits, tame-decls}
 use Rattle.steps.proofs.decls_step.Statement.{statement}
 use Rattle.steps.proofs.decls_step.Tie as tie
 
-sub-prune-decls : tie.Need-sub-prune-decls
-sub-prune-decls c = search needs
-
-part-prune-decls-start : tie.Need-part-prune-decls-start
-part-prune-decls-start c = search needs
-
-part-prune-decls-end : tie.Need-part-prune-decls-end
-part-prune-decls-end c = search needs
-
 slice-aggregate-prune-decls : tie.Need-slice-aggregate-prune-decls
 slice-aggregate-prune-decls c = search needs
 
 prune-decls-requires : tie.Need-prune-decls-requires
-prune-decls-requires c κs = omega (arith, room-fits tame-decls (c .before .before .before .before .before .before .pre .0), c .before .before .before .before .before .before .pre .1)
+prune-decls-requires c κs = omega (arith, room-fits tame-decls (c .before .before .before .before .before .pre .0), c .before .before .before .before .before .pre .1)
 
 same-length : tie.Need-same-length
 same-length c = search needs
@@ -30,9 +21,6 @@ pub decls-step-spec : {M : Type 1} → statement M
 decls-step-spec =
     tie.close
     (tie.spec
-    sub-prune-decls
-    part-prune-decls-start
-    part-prune-decls-end
     slice-aggregate-prune-decls
     prune-decls-requires
     same-length

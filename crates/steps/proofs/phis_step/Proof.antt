@@ -6,20 +6,11 @@ use Rattle.steps.proofs.StepLaws.{phis-left}
 use Rattle.steps.proofs.phis_step.Statement.{statement}
 use Rattle.steps.proofs.phis_step.Tie as tie
 
-sub-prune-dead-phis : tie.Need-sub-prune-dead-phis
-sub-prune-dead-phis c = search needs
-
-part-prune-dead-phis-start : tie.Need-part-prune-dead-phis-start
-part-prune-dead-phis-start c = search needs
-
-part-prune-dead-phis-end : tie.Need-part-prune-dead-phis-end
-part-prune-dead-phis-end c = search needs
-
 slice-aggregate-prune-dead-phis : tie.Need-slice-aggregate-prune-dead-phis
 slice-aggregate-prune-dead-phis c = search needs
 
 prune-dead-phis-requires : tie.Need-prune-dead-phis-requires
-prune-dead-phis-requires c κs = let p = c .before .before .before .before .before .before .before .before .before .before .before .before .pre in let q = phis-room (p .0) in (omega (arith, q .0, p .1 .0), (omega (arith, q .1 .0, p .1 .1 .0), (omega (arith, q .1 .1 .0, p .1 .1 .1 .0), omega (arith, q .1 .1 .1, p .1 .1 .1 .1))))
+prune-dead-phis-requires c κs = let p = c .before .before .before .before .before .before .before .before .before .before .before .pre in let q = phis-room (p .0) in (omega (arith, q .0, p .1 .0), (omega (arith, q .1 .0, p .1 .1 .0), (omega (arith, q .1 .1 .0, p .1 .1 .1 .0), omega (arith, q .1 .1 .1, p .1 .1 .1 .1))))
 
 same-length : tie.Need-same-length
 same-length c = search needs
@@ -40,9 +31,6 @@ pub phis-step-spec : {M : Type 1} → statement M
 phis-step-spec =
     tie.close
     (tie.spec
-    sub-prune-dead-phis
-    part-prune-dead-phis-start
-    part-prune-dead-phis-end
     slice-aggregate-prune-dead-phis
     prune-dead-phis-requires
     same-length

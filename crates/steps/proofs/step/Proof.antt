@@ -9,7 +9,7 @@ use Rattle.steps.proofs.step.Statement.{statement}
 use Rattle.steps.proofs.step.Tie as tie
 
 phis-step-requires : tie.Need-phis-step-requires
-phis-step-requires c κs = let p = c .before .before .before .before .before .before .before .before .before .before .before .pre in (p .0, (p .1 .c-size, (p .1 .d-size, (p .1 .e-size, p .1 .b-size))))
+phis-step-requires c κs = let p = c .before .before .before .before .before .before .before .before .before .before .before .before .pre in (p .0, (p .1 .c-size, (p .1 .d-size, (p .1 .e-size, p .1 .b-size))))
 
 same-length : tie.Need-same-length
 same-length c = search needs
@@ -24,10 +24,10 @@ same-length-4 : tie.Need-same-length-4
 same-length-4 c = search needs
 
 returns : tie.Need-returns
-returns c = let p = c .before .before .before .before .before .before .before .before .phis-step .ensures in (wrote-as (ap unlines (sym (step-3 plain (c .before .before .before .before .before .before .before .before .before .before .before .before .before .before .before .before .before .before .before .before .args .k) (linesOf (c .before .before .before .before .before .before .before .before .before .before .before .before .before .before .before .before .before .before .before .before .args .src .now)) (c .before .before .before .before .before .before .before .before .before .before .before .before .before .if1 .taken)))) (p .0), left-as (c .before .before .before .before .before .before .before .before .before .before .before .before .before .if1 .taken) (left-3 (p .1)))
+returns c = let p = c .before .before .before .before .before .before .before .before .phis-step .ensures in (wrote-as (ap unlines (sym (step-3 plain (c .before .before .before .before .before .before .before .before .before .before .before .before .before .before .before .before .before .before .before .before .before .args .k) (linesOf (c .before .before .before .before .before .before .before .before .before .before .before .before .before .before .before .before .before .before .before .before .before .args .src .now)) (c .before .before .before .before .before .before .before .before .before .before .before .before .before .if1 .taken)))) (p .0), left-as (c .before .before .before .before .before .before .before .before .before .before .before .before .before .if1 .taken) (left-3 (p .1)))
 
 bind-step-requires : tie.Need-bind-step-requires
-bind-step-requires c κs = let p = c .before .before .before .before .before .before .before .before .before .before .pre in (p .0, (p .1 .u-size, p .1 .b-size))
+bind-step-requires c κs = let p = c .before .before .before .before .before .before .before .before .before .before .before .pre in (p .0, (p .1 .u-size, p .1 .b-size))
 
 same-length-5 : tie.Need-same-length-5
 same-length-5 c = search needs
@@ -36,13 +36,10 @@ same-length-6 : tie.Need-same-length-6
 same-length-6 c = search needs
 
 returns-2 : tie.Need-returns-2
-returns-2 c = let p = c .before .before .before .before .bind-step .ensures in
-    let g = c .before .before .before .before .before .before .before .before .before .before .before .before .before .before .before .args in
-    let q = c .before .before .before .before .before .before .before .if2 .taken in
-    (wrote-as (ap unlines (sym (step-6 plain (g .k) (linesOf (g .src .now)) q))) (p .0), left-as q (left-6 (p .1)))
+returns-2 c = let p = c .before .before .before .before .bind-step .ensures in (wrote-as (ap unlines (sym (step-6 plain (c .before .before .before .before .before .before .before .before .before .before .before .before .before .before .before .before .args .k) (linesOf (c .before .before .before .before .before .before .before .before .before .before .before .before .before .before .before .before .args .src .now)) (c .before .before .before .before .before .before .before .if2 .taken)))) (p .0), left-as (c .before .before .before .before .before .before .before .if2 .taken) (left-6 (p .1)))
 
 other-step-requires : tie.Need-other-step-requires
-other-step-requires c κs = ((c .before .before .before .before .before .before .if1 .left, c .before .before .before .before .before .if2 .left), c .before .before .before .before .before .before .before .before .before .before .before .before .before .pre)
+other-step-requires c κs = ((c .before .before .before .before .before .before .if1 .left, c .before .before .before .before .before .if2 .left), c .before .before .before .before .before .before .before .before .before .before .before .before .before .before .pre)
 
 same-length-7 : tie.Need-same-length-7
 same-length-7 c = search needs

@@ -1,0 +1,41 @@
+-- `steps::temps_step` meets its contract. Assumes nothing.
+use borrow.Author.Needs.{needs}
+use native.Mathlib.Omega.{arith}
+use Rattle.reading.specs.Reading.{plain}
+use Rattle.steps.proofs.Tame.{tame-temps, room-fits, room-length}
+use Rattle.steps.proofs.StepLaws.{temps-left}
+use Rattle.steps.proofs.temps_step.Statement.{statement}
+use Rattle.steps.proofs.temps_step.Tie as tie
+
+slice-aggregate-prune-dead-temps : tie.Need-slice-aggregate-prune-dead-temps
+slice-aggregate-prune-dead-temps c = search needs
+
+slice-aggregate-prune-dead-temps-2 : tie.Need-slice-aggregate-prune-dead-temps-2
+slice-aggregate-prune-dead-temps-2 c = search needs
+
+slice-aggregate-prune-dead-temps-3 : tie.Need-slice-aggregate-prune-dead-temps-3
+slice-aggregate-prune-dead-temps-3 c = search needs
+
+prune-dead-temps-requires : tie.Need-prune-dead-temps-requires
+prune-dead-temps-requires c κs = let p = c .before .before .before .before .before .before .before .before .pre in (omega (arith, room-length (p .0), p .1 .0), omega (arith, room-fits (tame-temps plain) (p .0), p .1 .1))
+
+same-length : tie.Need-same-length
+same-length c = search needs
+
+same-length-2 : tie.Need-same-length-2
+same-length-2 c = search needs
+
+returns : tie.Need-returns
+returns c = let p = c .before .before .before .before .before .before .before .prune-dead-temps .ensures in (p .0, temps-left _ _ (p .1 .0))
+
+pub temps-step-spec : {M : Type 1} → statement M
+temps-step-spec =
+    tie.close
+    (tie.spec
+    slice-aggregate-prune-dead-temps
+    slice-aggregate-prune-dead-temps-2
+    slice-aggregate-prune-dead-temps-3
+    prune-dead-temps-requires
+    same-length
+    same-length-2
+    returns)
