@@ -13,6 +13,14 @@ ghost use Rattle.passes.specs.Inner.Passes.{stepsOf};
 ghost use Rattle.passes.specs.Inner.Buffers.{Front, Blank};
 use limits::Task;
 
+// The first `n` owners, where there are so many.
+fn front(own: &[usize], n: usize) -> &[usize] {
+    if own.len() < n {
+        return own;
+    }
+    &own[..n]
+}
+
 // Writes the lines of a text into a buffer, runs the passes of a task over them, and returns how many bytes they are then.
 fn chain(
     m: Task,
@@ -33,7 +41,7 @@ fn chain(
     let to = m.to;
     let mut j = m.from;
     while j < to {
-        let r = steps::step(j, m, &a[..n], &own[..h], b, c, d, e, u);
+        let r = steps::step(j, m, &a[..n], front(&own, h), b, c, d, e, u);
         n = lines::put(a, 0, &b[..r]);
         j += 1;
     }
