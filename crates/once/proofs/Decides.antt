@@ -9,13 +9,13 @@ use lib.ListN.{length, length-take, length-drop}
 use Rattle.lines.specs.Lf.{part}
 use borrow.Author.Tests.{eq-eqb, ne-eqb}
 use Rattle.lines.proofs.Tests.{and-false, and-true}
-use Rattle.parse.specs.Parse.{parseOf, textOf}
+use Rattle.parse.specs.Parse.{parseOf}
 use Rattle.parse.specs.declared.Line.{Line}
 use Rattle.parse.specs.declared.Line.the-variants as line
 use Rattle.words.specs.Runs.{readsOf}
 use Rattle.words.specs.Hits.{regHit}
 use Rattle.reading.specs.Reading.{Reading, pureIn}
-use Rattle.reading.specs.Uses.{lineReads, storesBy, lineStores}
+use Rattle.reading.specs.Uses.{lineReads, lineStores}
 use Rattle.once.specs.Scratch.{isMember, liveBelow, scratchAt}
 use Rattle.once.specs.Once.{deadBy, readCount, laterRead}
 use Rattle.once.specs.Inner.Tables.{nextIn, storeDrops, dropsBy, lineDrops, hasHit, storeForwards, forwardsBy, lineForwards}
@@ -59,16 +59,6 @@ module _ (R : Reading) (v : ℕ) (x : List ℕ) (p : ℕ) (b : Bool) (ls : List 
 pub drops-at : (R : Reading) (l : List ℕ) (p : ℕ) (b : Bool) (ls : List (List ℕ)) (ps : List ℕ) (k : Line) → k ≡ parseOf l → dropsBy R l p b ls ps k ≡ lineDrops R l p b ls ps
 unfolding lineDrops
 drops-at R l p b ls ps k q = ap (dropsBy R l p b ls ps) q
-
--- ---- a line that is read already
-
-pub stores-read : (v : ℕ) (l : List ℕ) (k : Line) → k ≡ parseOf l → storesBy v k ≡ lineStores v l
-unfolding lineStores
-stores-read v l k q = ap (storesBy v) q
-
-pub reads-read : (v : ℕ) (l : List ℕ) (k : Line) (t : List ℕ) → k ≡ parseOf l → t ≡ textOf l k → readsOf v t ≡ lineReads v l
-unfolding lineReads
-reads-read v l k t q p = ap (λ (u : List ℕ). readsOf v u) (p ∙ ap (textOf l) q)
 
 -- ---- a store that goes into the next line
 

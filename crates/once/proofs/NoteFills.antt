@@ -32,7 +32,7 @@ use Rattle.slots.specs.Inner.Slots.{slotOf, entryOf, withEntry}
 use Rattle.slots.proofs.SlotLaws.{entry-length, entry-same, entry-other}
 use Rattle.decls.proofs.SeenLaws.{set-past, name-length}
 use Rattle.once.specs.Once.{readCount}
-use Rattle.once.specs.Inner.Noted.{firstBy, readFrom, storeFrom, headFrom, farFrom, Known, farName, aloneIn, aloneStore, takeBack, backBy, backName, Reads, readName, readRuns, areaOf, Begins, StartOf, lineNote, maySend, NoteIs, firstLine, NotesOf, OneIs, OneOf}
+use Rattle.once.specs.Inner.Noted.{firstBy, readFrom, storeFrom, headFrom, farFrom, Known, farName, aloneIn, aloneStore, takeBack, backBy, backName, Reads, readName, readRuns, areaOf, Begins, StartOf, lineNote, maySend, NoteIs, firstLine, NotesOf, OneOf}
 use Rattle.once.proofs.NextLaws.{first-le, Nexts, note-is, line-may, note-nothing, note-less}
 use Rattle.once.proofs.AreaLaws.{read-some, next-count, CountUp, upward, up-new, up-on, up-done}
 use Rattle.once.proofs.BackLaws.{begins-lf, rows-back, line-back, start-of}
