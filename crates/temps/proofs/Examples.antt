@@ -1,13 +1,16 @@
 -- A listing that holds each case of `prune_dead_temps`, as one table. Assumes nothing.
-use Prim.Native.Nat.{ℕ}
+use Prim.Native.Nat.{ℕ, _+_, _^_}
 use mathlib.Core.Path.{_≡_, refl}
 use mathlib.Core.Bool.{Bool, true, false}
 use mathlib.Core.List.{List, [], _∷_, map}
+use Rattle.lines.specs.Ascii.{ascii}
 use Rattle.lines.specs.Lf.{upTo, prefixed, same, cutOn, partsOf}
 use Rattle.text.specs.White.{isWhite}
 use Rattle.text.specs.Utf8Form.{seqLen}
 use Rattle.text.specs.Trim.{whiteChar, whiteHead, whiteTail, lead, fromOf, endWhite, toOf, trimOf}
 use Rattle.names.specs.Names.{numbered, readNumber, regOf, isTemp, isIdent}
+use Rattle.names.specs.Inner.Names.{zeros}
+use Rattle.names.specs.declared.Number.the-variants as number
 use Rattle.words.specs.Hits.{hitsGo, hits}
 use Rattle.expr.specs.Fix.{deep, fix}
 use Rattle.expr.specs.Comments.{strip, stripComments}
@@ -16,6 +19,7 @@ use Rattle.reading.specs.Reading.{plain}
 use Rattle.reading.specs.Assign.{isAssign, leftOf, rightOf}
 use Rattle.temps.specs.Temps.{anyPiece, declares, tempReads, declaredIn, tempRead}
 use Rattle.temps.specs.Inner.Scratch.{tempGoes}
+use Rattle.temps.specs.Inner.Table.{keyOf}
 
 -- a line, and whether it goes
 pub record Row : Type 0 where
@@ -44,3 +48,8 @@ rows =
 pub examples : map (tempGoes plain (map (λ (r : Row). r .line) rows)) (map (λ (r : Row). r .line) rows) ≡ map (λ (r : Row). r .goes) rows
 unfolding rows upTo prefixed same cutOn partsOf isWhite seqLen whiteChar whiteHead whiteTail lead fromOf endWhite toOf trimOf numbered readNumber regOf isTemp isIdent hitsGo hits deep fix strip stripComments spaceStart spaceEnd spaceTrim wrapped shapeOf openings closings elements pureBy judge purityOf isAssign leftOf rightOf anyPiece declares tempReads declaredIn tempRead tempGoes
 examples = refl
+
+-- the key of `t7` is its number, `t07` and `t007` have others, and `t` and `r7` have none
+pub keys : map keyOf (ascii "t7" ∷ ascii "t07" ∷ ascii "t007" ∷ ascii "t" ∷ ascii "r7" ∷ []) ≡ number.Of 7 ∷ number.Of (2 ^ 63 + 449) ∷ number.Of (2 ^ 63 + 450) ∷ number.None ∷ number.None ∷ []
+unfolding keyOf prefixed zeros numbered readNumber
+keys = refl

@@ -159,7 +159,7 @@ key-text s k h = go (prefixed tempWord s) refl
     go true e = by e (readNumber (drop 1 s)) refl (sym (key-is s e refl (readNumber (drop 1 s)) refl) ∙ h)
 
 -- so two names of one key are one text
-key-one : (s t : List ℕ) (k : ℕ) → keyOf s ≡ number.Of k → keyOf t ≡ number.Of k → s ≡ t
+pub key-one : (s t : List ℕ) (k : ℕ) → keyOf s ≡ number.Of k → keyOf t ≡ number.Of k → s ≡ t
 key-one s t k g h =
     let p = key-text s k g in
     let q = key-text t k h in
