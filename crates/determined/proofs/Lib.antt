@@ -18,6 +18,7 @@ pub mod Phis
 pub mod Calls
 pub mod Bind
 pub mod Globals
+pub mod Flaws
 pub mod Limits
 pub mod Pruned
 pub mod Steps

@@ -1,0 +1,5 @@
+pub mod FlawLaws
+pub mod Cutting
+pub mod Completing
+pub mod Excluding
+pub mod Examples
