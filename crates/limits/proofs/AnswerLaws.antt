@@ -17,11 +17,14 @@ use Rattle.lines.proofs.Tests.{no}
 use Rattle.text.specs.declared.Utf8 as utf8
 use Rattle.text.specs.declared.Utf8.the-variants as utf8-is
 use Rattle.text.specs.Utf8Form.{utf8Of}
+use Rattle.flaws.specs.declared.Flaw as flaw
+use Rattle.flaws.specs.declared.Flaw.the-variants as flaw-is
+use Rattle.flaws.specs.Flaws.{flawOf}
 use Rattle.limits.specs.declared.Limits.{Limits}
 use Rattle.limits.specs.declared.Answer.{Answer}
 use Rattle.limits.specs.declared.Answer.the-variants.{Done, BadPass, TooLong, ShortWork, TooManyLines, Crowded, ShortResult}
 use Rattle.limits.specs.Answer.{numberOf, lengthOf, placeOf, passesRan, isDone}
-use Rattle.limits.specs.Entry.{small, byUtf8, byCrowd, checkedLines, checked, roomed, answerOf, passAnswer, blank, workAfter, outAfter}
+use Rattle.limits.specs.Entry.{small, byFlaw, byUtf8, byCrowd, checkedLines, checked, roomed, answerOf, passAnswer, blank, workAfter, outAfter}
 use Rattle.limits.specs.Inner.Sane.{Sane, Within}
 
 -- ---- one check after the other
@@ -44,39 +47,50 @@ module _ (L : Limits) (t : List ℕ) (fine : Answer) where
     unfolding checked
     work-short h e = rw (le-ltb (L .bytes) (length t) h, e)
 
-    pub text-read : length t ≤ L .bytes → short ≡ false → {x : utf8.Utf8} → utf8Of t ≡ x → byUtf8 x (checkedLines L t fine) ≡ checked L short t fine
+    pub text-read : length t ≤ L .bytes → short ≡ false → {x : utf8.Utf8} → utf8Of t ≡ x → byUtf8 x t (checkedLines L t fine) ≡ checked L short t fine
     unfolding checked
     text-read h e q = rw (le-ltb (L .bytes) (length t) h, e, q)
 
+    pub text-bad : length t ≤ L .bytes → short ≡ false → {r : Answer} {f : flaw.Flaw} {i : ℕ} → r ≡ byFlaw f i → f ≡ flawOf (drop i t) → utf8Of t ≡ utf8-is.Bad i → r ≡ checked L short t fine
+    text-bad h e {i = i} p q w = p ∙ ap (λ (y : flaw.Flaw). byFlaw y i) q ∙ text-read h e w
+
 -- ---- a text that no check refuses, and one that a check refuses
 
-abbrev tests : Limits → Bool → Bool → utf8.Utf8 → Bool → crowd.Crowded → Answer → Answer
-tests L p s v q o x = cond p (TooLong (L .bytes)) (cond s ShortWork (byUtf8 v (cond q (TooManyLines (L .lines)) (byCrowd o x))))
+-- what is wrong with the bytes is no answer of a run
+flaw-done : (f : flaw.Flaw) (i : ℕ) → (isDone (byFlaw f i) ≡ false) × (passesRan (byFlaw f i) ≡ false)
+unfolding isDone passesRan
+flaw-done flaw-is.Other i = (refl, refl)
+flaw-done flaw-is.Cut i = (refl, refl)
+flaw-done flaw-is.Overlong i = (refl, refl)
+flaw-done flaw-is.Outside i = (refl, refl)
 
-record Passed (L : Limits) (p s : Bool) (v : utf8.Utf8) (q : Bool) (o : crowd.Crowded) : Type 0 where
+abbrev tests : Limits → Bool → Bool → utf8.Utf8 → List ℕ → Bool → crowd.Crowded → Answer → Answer
+tests L p s v t q o x = cond p (TooLong (L .bytes)) (cond s ShortWork (byUtf8 v t (cond q (TooManyLines (L .lines)) (byCrowd o x))))
+
+record Passed (L : Limits) (p s : Bool) (v : utf8.Utf8) (t : List ℕ) (q : Bool) (o : crowd.Crowded) : Type 0 where
   not-long : p ≡ false
   not-short : s ≡ false
   not-many : q ≡ false
-  same : (x : Answer) → tests L p s v q o x ≡ x
+  same : (x : Answer) → tests L p s v t q o x ≡ x
 
-passed-by : (L : Limits) (p s : Bool) (v : utf8.Utf8) (q : Bool) (o : crowd.Crowded) → isDone (tests L p s v q o (Done 0)) ≡ true → Passed L p s v q o
+passed-by : (L : Limits) (p s : Bool) (v : utf8.Utf8) (t : List ℕ) (q : Bool) (o : crowd.Crowded) → isDone (tests L p s v t q o (Done 0)) ≡ true → Passed L p s v t q o
 unfolding isDone
-passed-by L true s v q o h = no h
-passed-by L false true v q o h = no h
-passed-by L false false (utf8-is.Bad i) q o h = no h
-passed-by L false false utf8-is.Valid true o h = no h
-passed-by L false false utf8-is.Valid false (crowd-is.At n) h = no h
-passed-by L false false utf8-is.Valid false crowd-is.Nowhere h = record { not-long = refl; not-short = refl; not-many = refl; same = λ x. refl }
+passed-by L true s v t q o h = no h
+passed-by L false true v t q o h = no h
+passed-by L false false (utf8-is.Bad i) t q o h = no (sym (flaw-done (flawOf (drop i t)) i .0) ∙ h)
+passed-by L false false utf8-is.Valid t true o h = no h
+passed-by L false false utf8-is.Valid t false (crowd-is.At n) h = no h
+passed-by L false false utf8-is.Valid t false crowd-is.Nowhere h = record { not-long = refl; not-short = refl; not-many = refl; same = λ x. refl }
 
-stopped-by : (L : Limits) (p s : Bool) (v : utf8.Utf8) (q : Bool) (o : crowd.Crowded) → isDone (tests L p s v q o (Done 0)) ≡ false → (x : Answer) →
-    (tests L p s v q o x ≡ tests L p s v q o (Done 0)) × (passesRan (tests L p s v q o (Done 0)) ≡ false)
+stopped-by : (L : Limits) (p s : Bool) (v : utf8.Utf8) (t : List ℕ) (q : Bool) (o : crowd.Crowded) → isDone (tests L p s v t q o (Done 0)) ≡ false → (x : Answer) →
+    (tests L p s v t q o x ≡ tests L p s v t q o (Done 0)) × (passesRan (tests L p s v t q o (Done 0)) ≡ false)
 unfolding isDone passesRan
-stopped-by L true s v q o h x = (refl, refl)
-stopped-by L false true v q o h x = (refl, refl)
-stopped-by L false false (utf8-is.Bad i) q o h x = (refl, refl)
-stopped-by L false false utf8-is.Valid true o h x = (refl, refl)
-stopped-by L false false utf8-is.Valid false (crowd-is.At n) h x = (refl, refl)
-stopped-by L false false utf8-is.Valid false crowd-is.Nowhere h x = no (sym h)
+stopped-by L true s v t q o h x = (refl, refl)
+stopped-by L false true v t q o h x = (refl, refl)
+stopped-by L false false (utf8-is.Bad i) t q o h x = (refl, flaw-done (flawOf (drop i t)) i .1)
+stopped-by L false false utf8-is.Valid t true o h x = (refl, refl)
+stopped-by L false false utf8-is.Valid t false (crowd-is.At n) h x = (refl, refl)
+stopped-by L false false utf8-is.Valid t false crowd-is.Nowhere h x = no (sym h)
 
 -- no check refuses a text: a work buffer is not too short, and the text is within the limits
 pub record Accepted (L : Limits) (short : Bool) (t : List ℕ) : Type 0 where
@@ -88,7 +102,7 @@ pub record Accepted (L : Limits) (short : Bool) (t : List ℕ) : Type 0 where
 pub accepted-by : (L : Limits) (short : Bool) (t : List ℕ) → isDone (checked L short t (Done 0)) ≡ true → Accepted L short t
 unfolding checked checkedLines
 accepted-by L short t h =
-    let p = passed-by L (ltb (L .bytes) (length t)) short (utf8Of t) (ltb (L .lines) (length (splitLines t))) (overFrom 64 91 0 (splitLines t)) h in
+    let p = passed-by L (ltb (L .bytes) (length t)) short (utf8Of t) t (ltb (L .lines) (length (splitLines t))) (overFrom 64 91 0 (splitLines t)) h in
     record {
       long-enough = p .not-short;
       bytes = ltb-false (L .bytes) (length t) (p .not-long);
@@ -101,7 +115,7 @@ accepted-within s p = record { sane = s; bytes = p .bytes; lines = p .lines }
 
 pub refused-by : (L : Limits) (short : Bool) (t : List ℕ) → isDone (checked L short t (Done 0)) ≡ false → (x : Answer) → (checked L short t x ≡ checked L short t (Done 0)) × (passesRan (checked L short t (Done 0)) ≡ false)
 unfolding checked checkedLines
-refused-by L short t h x = stopped-by L (ltb (L .bytes) (length t)) short (utf8Of t) (ltb (L .lines) (length (splitLines t))) (overFrom 64 91 0 (splitLines t)) h x
+refused-by L short t h x = stopped-by L (ltb (L .bytes) (length t)) short (utf8Of t) t (ltb (L .lines) (length (splitLines t))) (overFrom 64 91 0 (splitLines t)) h x
 
 pub sane-small : Sane small
 sane-small = record { bytes-reach = omega arith; lines-reach = omega arith }
@@ -189,3 +203,7 @@ out-short n xs d = refl
 pub out-done : {d xs d′ : List ℕ} {r : ℕ} → Wrote d 0 xs d′ r → d′ ≡ outAfter (Done r) xs d
 unfolding outAfter isDone putAt
 out-done {d} {xs} w = w .holds ∙ ap (λ (n : ℕ). take 0 d ++ xs ++ drop n d) (zero-add (length xs))
+
+-- the answer for what is wrong, by its case
+pub flaw-as : (f : flaw.Flaw) (i : ℕ) {x : flaw.Flaw} → f ≡ x → byFlaw x i ≡ byFlaw f i
+flaw-as f i e = ap (λ (y : flaw.Flaw). byFlaw y i) (sym e)

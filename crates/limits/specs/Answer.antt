@@ -3,7 +3,7 @@ use Prim.Native.Nat.{ℕ}
 use mathlib.Core.Bool.{Bool, _||_}
 use lib.Dec.{eqb}
 use Rattle.limits.specs.declared.Answer.{Answer}
-use Rattle.limits.specs.declared.Answer.the-variants.{Done, BadPass, TooLong, ShortWork, NotUtf8, TooManyLines, Crowded, ShortResult}
+use Rattle.limits.specs.declared.Answer.the-variants.{Done, BadPass, TooLong, ShortWork, NotUtf8, TooManyLines, Crowded, ShortResult, Cut, Overlong, Outside}
 
 unfoldable pub numberOf : Answer → ℕ
 numberOf (Done n) = 0
@@ -14,6 +14,9 @@ numberOf (NotUtf8 i) = 4
 numberOf (TooManyLines n) = 5
 numberOf (Crowded n) = 6
 numberOf (ShortResult n) = 7
+numberOf (Cut i) = 9
+numberOf (Overlong i) = 10
+numberOf (Outside i) = 11
 
 -- a refusal has length 0
 unfoldable pub lengthOf : Answer → ℕ
@@ -25,6 +28,9 @@ lengthOf (NotUtf8 i) = 0
 lengthOf (TooManyLines n) = 0
 lengthOf (Crowded n) = 0
 lengthOf (ShortResult n) = 0
+lengthOf (Cut i) = 0
+lengthOf (Overlong i) = 0
+lengthOf (Outside i) = 0
 
 unfoldable pub placeOf : Answer → ℕ
 placeOf (Done n) = 0
@@ -35,6 +41,9 @@ placeOf (NotUtf8 i) = i
 placeOf (TooManyLines n) = n
 placeOf (Crowded n) = n
 placeOf (ShortResult n) = n
+placeOf (Cut i) = i
+placeOf (Overlong i) = i
+placeOf (Outside i) = i
 
 -- the result was written: number 0
 unfoldable pub isDone : Answer → Bool

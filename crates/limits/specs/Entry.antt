@@ -12,9 +12,12 @@ use Rattle.lines.specs.Steps.{splitLines, overFrom}
 use Rattle.text.specs.declared.Utf8 as utf8
 use Rattle.text.specs.declared.Utf8.the-variants as utf8-is
 use Rattle.text.specs.Utf8Form.{utf8Of}
+use Rattle.flaws.specs.declared.Flaw as flaw
+use Rattle.flaws.specs.declared.Flaw.the-variants as flaw-is
+use Rattle.flaws.specs.Flaws.{flawOf}
 use Rattle.limits.specs.declared.Limits.{Limits}
 use Rattle.limits.specs.declared.Answer.{Answer}
-use Rattle.limits.specs.declared.Answer.the-variants.{Done, BadPass, TooLong, ShortWork, NotUtf8, TooManyLines, Crowded, ShortResult}
+use Rattle.limits.specs.declared.Answer.the-variants.{Done, BadPass, TooLong, ShortWork, NotUtf8, TooManyLines, Crowded, ShortResult, Cut, Overlong, Outside}
 use Rattle.limits.specs.Answer.{passesRan, isDone}
 
 -- the most bytes and the most lines of a text that `optimize` and `run_pass` take
@@ -35,9 +38,16 @@ isShort L a b c d e u =
 
 -- ---- the checks, in their order; `fine` where none refuses
 
-abbrev pub byUtf8 : utf8.Utf8 → Answer → Answer
-byUtf8 utf8-is.Valid fine = fine
-byUtf8 (utf8-is.Bad i) fine = NotUtf8 i
+-- what is wrong where the first bad sequence begins, at the place i
+abbrev pub byFlaw : flaw.Flaw → ℕ → Answer
+byFlaw flaw-is.Other i = NotUtf8 i
+byFlaw flaw-is.Cut i = Cut i
+byFlaw flaw-is.Overlong i = Overlong i
+byFlaw flaw-is.Outside i = Outside i
+
+abbrev pub byUtf8 : utf8.Utf8 → List ℕ → Answer → Answer
+byUtf8 utf8-is.Valid t fine = fine
+byUtf8 (utf8-is.Bad i) t fine = byFlaw (flawOf (drop i t)) i
 
 abbrev pub byCrowd : crowd.Crowded → Answer → Answer
 byCrowd crowd-is.Nowhere fine = fine
@@ -52,7 +62,7 @@ unfolding checkedLines
 checked L short t fine =
     cond (ltb (L .bytes) (length t)) (TooLong (L .bytes))
     (cond short ShortWork
-    (byUtf8 (utf8Of t) (checkedLines L t fine)))
+    (byUtf8 (utf8Of t) t (checkedLines L t fine)))
 
 -- the result is n bytes long, and the result buffer `room`
 abbrev pub roomed : ℕ → ℕ → Answer

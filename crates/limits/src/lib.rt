@@ -5,7 +5,7 @@ ghost use Rattle.lines.specs.Lf.{linesOf};
 ghost use Rattle.lines.specs.Steps.{joined};
 ghost use Rattle.limits.specs.declared.Answer.the-variants.{Done};
 ghost use Rattle.limits.specs.Answer.{numberOf, lengthOf, placeOf};
-ghost use Rattle.limits.specs.Entry.{small, byteSize, isShort, checkedLines, checked, roomed, outAfter};
+ghost use Rattle.limits.specs.Entry.{small, byteSize, isShort, byFlaw, checkedLines, checked, roomed, outAfter};
 ghost use Rattle.limits.specs.Inner.Sane.{Sane};
 
 // How much an entry takes: the most bytes and the most lines of a text.
@@ -53,6 +53,9 @@ pub enum Answer {
     TooManyLines(usize),
     Crowded(usize),
     ShortResult(usize),
+    Cut(usize),
+    Overlong(usize),
+    Outside(usize),
 }
 
 // The number of an answer: 0, or that of the check that refused.
@@ -68,6 +71,9 @@ pub fn number_of(r: Answer) -> u8
         Answer::TooManyLines(n) => 5,
         Answer::Crowded(n) => 6,
         Answer::ShortResult(n) => 7,
+        Answer::Cut(i) => 9,
+        Answer::Overlong(i) => 10,
+        Answer::Outside(i) => 11,
     }
 }
 
@@ -84,6 +90,9 @@ pub fn length_of(r: Answer) -> usize
         Answer::TooManyLines(n) => 0,
         Answer::Crowded(n) => 0,
         Answer::ShortResult(n) => 0,
+        Answer::Cut(i) => 0,
+        Answer::Overlong(i) => 0,
+        Answer::Outside(i) => 0,
     }
 }
 
@@ -100,6 +109,9 @@ pub fn place_of(r: Answer) -> usize
         Answer::TooManyLines(n) => n,
         Answer::Crowded(n) => n,
         Answer::ShortResult(n) => n,
+        Answer::Cut(i) => i,
+        Answer::Overlong(i) => i,
+        Answer::Outside(i) => i,
     }
 }
 
@@ -140,6 +152,18 @@ fn refused_lines(m: Limits, text: &[u8]) -> Answer
     }
 }
 
+// The answer for a text whose first bad sequence stands at a place.
+fn by_flaw(f: flaws::Flaw, i: usize) -> Answer
+    ensures { λ r. ⌜ r ≡ byFlaw f i ⌝ }
+{
+    match f {
+        flaws::Flaw::Other => Answer::NotUtf8(i),
+        flaws::Flaw::Cut => Answer::Cut(i),
+        flaws::Flaw::Overlong => Answer::Overlong(i),
+        flaws::Flaw::Outside => Answer::Outside(i),
+    }
+}
+
 // Why a text is refused, or `Done` where it is not. The checks stand in their order.
 pub fn refused(m: Limits, text: &[u8], short: bool) -> Answer
     ensures { λ r. ⌜ r ≡ checked m short (now (text .entry)) (Done 0) ⌝ }
@@ -151,7 +175,7 @@ pub fn refused(m: Limits, text: &[u8], short: bool) -> Answer
         return Answer::ShortWork;
     }
     match text::check_utf8(text) {
-        text::Utf8::Bad(i) => Answer::NotUtf8(i),
+        text::Utf8::Bad(i) => by_flaw(flaws::flaw_at(text, i), i),
         text::Utf8::Valid => refused_lines(m, text),
     }
 }

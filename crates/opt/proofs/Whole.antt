@@ -130,7 +130,7 @@ module _ (L : Limits) (short : Bool) (t xs : List ℕ) (room : ℕ) where
   unfolding answerOf
   bytes-over e = sym (text-long L t (roomed (length xs) room) short (omega arith))
 
-  pub bytes-edge : length t ≡ L .bytes → answerOf L short t xs room ≡ cond short ShortWork (byUtf8 (utf8Of t) (checkedLines L t (roomed (length xs) room)))
+  pub bytes-edge : length t ≡ L .bytes → answerOf L short t xs room ≡ cond short ShortWork (byUtf8 (utf8Of t) t (checkedLines L t (roomed (length xs) room)))
   unfolding answerOf checked
   bytes-edge e = rw (le-ltb (L .bytes) (length t) (omega arith))
 
