@@ -80,11 +80,18 @@ fn explain_long(text: &[u8], place: usize) {
     say_whole();
 }
 
-fn explain_utf8(text: &[u8], place: usize) {
-    say(b"it is not UTF-8\n");
+fn explain_cut(text: &[u8], place: usize) {
+    say(b"it ends within a character\n");
+    say_where(b"the first byte of that character", text, place);
+    say(b"optlines: the file was cut there: ask for it again\n");
+}
+
+// Says what is wrong with bytes that no cut explains.
+fn explain_damage(what: &[u8], text: &[u8], place: usize) {
+    say(what);
     say_where(b"the first bad byte", text, place);
     say(
-        b"optlines: convert the listing to UTF-8, as iconv does; a file that was cut can end within a character\n",
+        b"optlines: the file is damaged there, or is not in UTF-8: ask for a whole one, or convert it, as iconv does\n",
     );
 }
 
@@ -115,9 +122,20 @@ pub fn explain(number: u8, place: usize, text: &[u8], name: &[u8]) {
     match number {
         1 => explain_pass(),
         2 => explain_long(text, place),
-        4 => explain_utf8(text, place),
+        4 => explain_damage(b"it is not UTF-8\n", text, place),
         5 => explain_lines(text, place),
         6 => explain_crowded(text, place),
+        9 => explain_cut(text, place),
+        10 => explain_damage(
+            b"it has an overlong form, which UTF-8 has not\n",
+            text,
+            place,
+        ),
+        11 => explain_damage(
+            b"it has a surrogate or a value above U+10FFFF, which UTF-8 has not\n",
+            text,
+            place,
+        ),
         _ => explain_other(),
     }
 }
