@@ -37,7 +37,25 @@ pub fn crowded_line(text: &str) -> Option<usize> {
     text.lines().position(|l| l.bytes().filter(|b| *b == b'[').count() > MOST_BRACKETS)
 }
 
-/// The text, if none of the refusals 1 to 6 holds.
+/// The number for bytes that are not UTF-8, document 02's wish 2. That a text ends within a character is what Rust's library says of it.
+fn flaw(rest: &[u8], cut: bool) -> u8 {
+    match rest {
+        _ if cut => 9,
+        [0xC0 | 0xC1, ..] | [0xE0, 0x80..=0x9F, ..] | [0xF0, 0x80..=0x8F, ..] => 10,
+        [0xED, 0xA0..=0xBF, ..] | [0xF4, 0x90..=0xBF, ..] => 11,
+        _ => 4,
+    }
+}
+
+/// The text, or the refusal for its bytes.
+fn utf8(text: &[u8]) -> Result<&str, Answer> {
+    std::str::from_utf8(text).map_err(|e| {
+        let at = e.valid_up_to();
+        refused(flaw(&text[at..], e.error_len().is_none()), at)
+    })
+}
+
+/// The text, if no refusal but 7 holds.
 fn accepted(asked: &Asked, work: u8) -> Result<&str, Answer> {
     if asked.pass > 6 {
         return Err(refused(1, 0));
@@ -48,7 +66,7 @@ fn accepted(asked: &Asked, work: u8) -> Result<&str, Answer> {
     if (1..=work).contains(&asked.short) {
         return Err(refused(3, 0));
     }
-    let text = std::str::from_utf8(&asked.text).map_err(|e| refused(4, e.valid_up_to()))?;
+    let text = utf8(&asked.text)?;
     if text.lines().count() > MOST_LINES {
         return Err(refused(5, MOST_LINES));
     }

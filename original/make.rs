@@ -154,8 +154,13 @@ fn all_texts(wire: &mut Wire, alphabet: &[&str], tokens: u64, passes: &[u8]) -> 
     })
 }
 
+/// Requests for the whole of texts about the rules of UTF-8.
+fn flaws(wire: &mut Wire, mut texts: impl Iterator<Item = Vec<u8>>) -> Option<()> {
+    texts.try_for_each(|text| write(wire, &Asked { pass: 0, short: 0, room: MOST_ROOM, text }))
+}
+
 fn number(word: Option<&String>) -> u64 {
-    let usage = "make SEED COUNT | make leaves SEED COUNT [FUNCTION..] | make all ALPHABET TOKENS [PASS..]";
+    let usage = "make SEED COUNT | make leaves SEED COUNT [FUNCTION..] | make all ALPHABET TOKENS [PASS..] | make flaws SEED COUNT | make flaws all BYTES";
     word.and_then(|w| w.parse().ok()).unwrap_or_else(|| wire::usage(usage))
 }
 
@@ -170,6 +175,13 @@ fn main() {
     // None where the reader has gone away: nothing is left to do then
     let _ = match words.first().map(String::as_str) {
         Some("leaves") => asking::requests(&mut wire, number(words.get(1)), number(words.get(2)), &numbers(&words)),
+        Some("flaws") if words.get(1).is_some_and(|w| w == "all") => {
+            flaws(&mut wire, (0..texts::edge_count(number(words.get(2)) as u32)).map(texts::edge_text))
+        }
+        Some("flaws") => {
+            let (seed, count) = (number(words.get(1)), number(words.get(2)));
+            flaws(&mut wire, (0..count).map(|index| texts::flawed(&mut Random::new(seed, index))))
+        }
         Some("all") => {
             let passes = if words.len() > 3 { numbers(&words) } else { (0..=6).collect() };
             let name = words.get(1).map_or("", String::as_str);

@@ -19,6 +19,12 @@ const SEQUENCES: &[&[u8]] = &[
     b"\xe2\x80\x8b", b"\xef\xbb\xbf",
 ];
 
+/// The bytes at which a rule of UTF-8 begins or ends, and some beside them.
+const EDGES: &[u8] = b"\x00\n\x41\x7f\x80\x8f\x90\x9f\xa0\xbf\xc0\xc1\xc2\xdf\xe0\xe1\xec\xed\xee\xef\xf0\xf1\xf3\xf4\xf5\xff";
+
+/// Characters of two, three and four bytes, the first and the last of each form.
+const WIDE: &[&str] = &["\u{80}", "\u{7ff}", "\u{800}", "\u{d7ff}", "\u{e000}", "\u{ffff}", "\u{10000}", "\u{10ffff}"];
+
 /// The fragments that the whole and each pass have most to do with.
 const FOR_PASS: [&[&str]; 7] = [
     &["frag"],
@@ -51,6 +57,41 @@ fn put(text: &mut Vec<u8>, at: usize, bytes: &[u8]) {
 pub fn with_sequence(random: &mut Random, mut text: Vec<u8>) -> Vec<u8> {
     let at = place(random, &text);
     put(&mut text, at, random.pick(SEQUENCES));
+    text
+}
+
+/// How many texts of up to that many edge bytes there are.
+pub fn edge_count(bytes: u32) -> u64 {
+    (0..=bytes).map(|n| (EDGES.len() as u64).pow(n)).sum()
+}
+
+/// The text of edge bytes of that number: the shortest first, none left out.
+pub fn edge_text(number: u64) -> Vec<u8> {
+    let (mut rest, base) = (number, EDGES.len() as u64);
+    let mut out = Vec::new();
+    while rest > 0 {
+        rest -= 1;
+        out.push(EDGES[(rest % base) as usize]);
+        rest /= base;
+    }
+    out
+}
+
+/// A text of wide and narrow characters that is cut, damaged, both or neither.
+pub fn flawed(random: &mut Random) -> Vec<u8> {
+    let some = |r: &mut Random| if r.below(2) == 0 { r.pick(WIDE) } else { r.pick(TOKENS) };
+    let mut text: Vec<u8> = (0..random.between(1, 12)).flat_map(|_| some(random).bytes()).collect();
+    let how = random.below(8);
+    if how < 5 {
+        text.truncate(random.below(text.len() + 1));
+    }
+    if how > 3 && how < 7 {
+        text = with_sequence(random, text);
+    }
+    if how == 6 {
+        let at = place(random, &text);
+        put(&mut text, at, &[EDGES[random.below(EDGES.len())]]);
+    }
     text
 }
 
