@@ -78,8 +78,12 @@
  *                                    not 0 to 6; optlines_optimize: never)
  *         2 OPTLINES_TOO_LONG        text is longer than 16,384 bytes      16384
  *         3 OPTLINES_SHORT_WORK      a to e or u is shorter than stated    0
- *         4 OPTLINES_NOT_UTF8        text is not UTF-8 (RFC 3629)          first byte of the first
- *                                                                          bad sequence, from 0
+ *         4 OPTLINES_NOT_UTF8        text is not UTF-8 (RFC 3629), and     first byte of the first
+ *                                    none of 9, 10 and 11 says why         bad sequence, from 0
+ *         9 OPTLINES_CUT             text ends within a character          that character, as for 4
+ *        10 OPTLINES_OVERLONG        text has an overlong form             as for 4
+ *        11 OPTLINES_OUTSIDE         text has a surrogate, or a value      as for 4
+ *                                    above U+10FFFF
  *         5 OPTLINES_TOO_MANY_LINES  more than 1,024 lines                 1024
  *         6 OPTLINES_CROWDED         a line with more than 64 bytes '['    that line, from 0
  *         7 OPTLINES_SHORT_RESULT    out is shorter than the result        the length it needs
@@ -87,7 +91,10 @@
  *         255 OPTLINES_OVERLAP       text lies in *work (optlines_tidy     0
  *                                    alone, which checks it first of all)
  *
- *     So a text that is too long and not UTF-8 gets 2. Nothing else is refused. A later release may
+ *     So a text that is too long and not UTF-8 gets 2. The numbers 4, 9, 10 and 11 exclude one
+ *     another: they tell of the first bad sequence. A well-formed text that was cut anywhere gets
+ *     none of 4, 10 and 11; so after 9 the whole text is to be asked for again, and after the
+ *     others it is damaged, or in another encoding. Nothing else is refused. A later release may
  *     have more numbers, so treat every number but 0 as a refusal.
  *
  * MEMORY AFTER A CALL
@@ -181,6 +188,9 @@ enum {
     OPTLINES_TOO_MANY_LINES = 5,
     OPTLINES_CROWDED = 6,
     OPTLINES_SHORT_RESULT = 7,
+    OPTLINES_CUT = 9,
+    OPTLINES_OVERLONG = 10,
+    OPTLINES_OUTSIDE = 11,
     OPTLINES_OVERLAP = 255
 };
 

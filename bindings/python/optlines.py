@@ -24,6 +24,7 @@ STACK = 163840  # bytes of stack that are enough for a call, as far as it was me
 
 # The numbers of include/optlines.h.
 (DONE, BAD_PASS, TOO_LONG, SHORT_WORK, NOT_UTF8, TOO_MANY_LINES, CROWDED, SHORT_RESULT) = range(8)
+(CUT, OVERLONG, OUTSIDE) = range(9, 12)
 
 _WORDS = {
     BAD_PASS: "there is no such pass: they are 1 to 6",
@@ -33,6 +34,9 @@ _WORDS = {
     TOO_MANY_LINES: "the text has more than %d lines" % LINES,
     CROWDED: "line {line} has more than %d bytes '['" % BRACKETS,
     SHORT_RESULT: "the result needs {place} bytes of room",
+    CUT: "the text was cut: it ends within the character at byte {place}, counted from 0",
+    OVERLONG: "the text has an overlong form: see byte {place}, counted from 0",
+    OUTSIDE: "the text has a surrogate or a value above U+10FFFF: see byte {place}, counted from 0",
 }
 _UNKNOWN = "refused with number {number} and place {place}, unknown to this module"
 _SONAME = "liboptlines.so.1"

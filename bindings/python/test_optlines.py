@@ -128,7 +128,10 @@ class Calls(unittest.TestCase):
         self.refused(0, crowd + b"\xff", o.NOT_UTF8, len(crowd), room=0)
         self.refused(0, crowd, o.TOO_MANY_LINES, o.LINES, room=0)
         self.refused(0, crowd[1 + o.LINES - 7:], o.CROWDED, 7, room=0)
-        self.refused(0, b"ab\xed\xa0\x80", o.NOT_UTF8, 2)
+        self.refused(0, b"ab\xe2\x82\n", o.NOT_UTF8, 2)
+        self.refused(0, b"ab\xe2\x82", o.CUT, 2)
+        self.refused(0, b"ab\xc0\x80", o.OVERLONG, 2)
+        self.refused(0, b"ab\xed\xa0\x80", o.OUTSIDE, 2)
 
     def test_nothing_lent(self):
         """Null pointers where the length is 0."""
@@ -166,12 +169,18 @@ class Module(unittest.TestCase):
         self.raises(o.TOO_LONG, o.TEXT, "the text is longer than 16384 bytes", o.optimize, long)
         self.raises(o.NOT_UTF8, 2, "the text is not UTF-8: see byte 2, counted from 0",
                     o.optimize, b"ab\xff")
+        self.raises(o.CUT, 2, "the text was cut: it ends within the character at byte 2, "
+                    "counted from 0", o.optimize, b"ab\xe2\x82")
+        self.raises(o.OVERLONG, 2, "the text has an overlong form: see byte 2, counted from 0",
+                    o.optimize, b"ab\xc0\x80")
+        self.raises(o.OUTSIDE, 2, "the text has a surrogate or a value above U+10FFFF: see byte 2, "
+                    "counted from 0", o.optimize, b"ab\xed\xa0\x80")
         self.raises(o.TOO_MANY_LINES, o.LINES, "the text has more than 1024 lines",
                     o.optimize, many)
         self.raises(o.CROWDED, 1, "line 2 has more than 64 bytes '['",
                     o.optimize, b"a\n" + b"[" * (o.BRACKETS + 1))
-        unknown = "refused with number 9 and place 5, unknown to this module"
-        self.assertEqual(str(o.Refused(9, 5)), unknown)
+        unknown = "refused with number 99 and place 5, unknown to this module"
+        self.assertEqual(str(o.Refused(99, 5)), unknown)
 
     def test_text_must_be_bytes(self):
         for wrong in ("let r0;", None, bytearray(b"a")):
@@ -231,7 +240,7 @@ class Header(unittest.TestCase):
 
     def test_numbers(self):
         found = re.findall(r"^    OPTLINES_(\w+) = (\d+)", self.text, re.M)
-        self.assertEqual(len(found), 9)
+        self.assertEqual(len(found), 12)
         for name, value in found:
             if name != "OVERLAP":  # of the inline function for C alone
                 self.assertEqual(getattr(o, name), int(value), name)

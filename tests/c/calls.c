@@ -190,7 +190,10 @@ static void order(void)
     q.text += 1 + OPTLINES_LINES - 7;
     q.text_length -= 1 + OPTLINES_LINES - 7;
     refused("6 before 7", q, OPTLINES_CROWDED, 7);
-    refused("a surrogate", text_of(0, "ab\xED\xA0\x80"), OPTLINES_NOT_UTF8, 2);
+    refused("a byte that cannot go on", text_of(0, "ab\xE2\x82\n"), OPTLINES_NOT_UTF8, 2);
+    refused("a character that is cut", text_of(0, "ab\xE2\x82"), OPTLINES_CUT, 2);
+    refused("an overlong form", text_of(0, "ab\xC0\x80"), OPTLINES_OVERLONG, 2);
+    refused("a surrogate", text_of(0, "ab\xED\xA0\x80"), OPTLINES_OUTSIDE, 2);
 }
 
 /* Null pointers where the length is 0. */

@@ -82,9 +82,10 @@ static void look(uint8_t number, size_t length, uint8_t fill)
 /* The answer is one of the table. */
 static void judge(uint8_t pass, uint8_t number, size_t length, size_t place)
 {
-    static const size_t least[8] = {0, 0, OPTLINES_TEXT, 0, 0, OPTLINES_LINES, 0, 1};
-    static const size_t most[8] = {0, 0, OPTLINES_TEXT, 0, OPTLINES_TEXT - 1, OPTLINES_LINES, OPTLINES_LINES - 1, ROOM};
-    if (number > 7 || place < least[number] || place > most[number])
+    enum { LAST = OPTLINES_TEXT - 1, NONE = 8 };
+    static const size_t least[12] = {0, 0, OPTLINES_TEXT, 0, 0, OPTLINES_LINES, 0, 1, 0, 0, 0, 0};
+    static const size_t most[12] = {0, 0, OPTLINES_TEXT, 0, LAST, OPTLINES_LINES, OPTLINES_LINES - 1, ROOM, 0, LAST, LAST, LAST};
+    if (number > OPTLINES_OUTSIDE || number == NONE || place < least[number] || place > most[number])
         fail("no answer of the table");
     if (length > out.size || length > 2 * text.size || (number != OPTLINES_DONE && length != 0))
         fail("a length that cannot be");

@@ -87,7 +87,10 @@ static void refusals(void)
     expect("the largest pass", (size_t)-1, sample, strlen(sample), OPTLINES_BAD_PASS, 0, "");
     memset(text, 'x', sizeof text);
     expect("16,385 bytes", 0, text, sizeof text, OPTLINES_TOO_LONG, OPTLINES_TEXT, "");
-    expect("a surrogate", 0, "ab\xED\xA0\x80", 5, OPTLINES_NOT_UTF8, 2, "");
+    expect("a byte that cannot go on", 0, "ab\xE2\x82\n", 5, OPTLINES_NOT_UTF8, 2, "");
+    expect("a character that is cut", 0, "ab\xE2\x82", 4, OPTLINES_CUT, 2, "");
+    expect("an overlong form", 0, "ab\xC0\x80", 4, OPTLINES_OVERLONG, 2, "");
+    expect("a surrogate", 0, "ab\xED\xA0\x80", 5, OPTLINES_OUTSIDE, 2, "");
     memset(text, '\n', OPTLINES_LINES + 1);
     expect("1,025 lines", 6, text, OPTLINES_LINES + 1, OPTLINES_TOO_MANY_LINES, OPTLINES_LINES, "");
     memset(text, '[', OPTLINES_BRACKETS + 1);

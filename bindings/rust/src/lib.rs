@@ -38,7 +38,8 @@ pub enum Refusal {
     TooLong,
     /// A work buffer is shorter than its stated size.
     ShortWork,
-    /// The text is not UTF-8: the first byte of the first bad sequence, from 0.
+    /// The text is not UTF-8, and none of [`Refusal::Cut`], [`Refusal::Overlong`] and
+    /// [`Refusal::Outside`] says why: the first byte of the first bad sequence, from 0.
     NotUtf8(usize),
     /// The text has more than [`LINES`] lines.
     TooManyLines,
@@ -46,6 +47,12 @@ pub enum Refusal {
     Crowded(usize),
     /// The result buffer is shorter than the result: the length needed.
     ShortResult(usize),
+    /// The text ends within a character, so it was cut: the first byte of that character, from 0.
+    Cut(usize),
+    /// The text has an overlong form: its first byte, from 0.
+    Overlong(usize),
+    /// The text has a surrogate or a value above U+10FFFF: its first byte, from 0.
+    Outside(usize),
     /// A number that this wrapper does not know: the library is a later one.
     Other {
         /// What the library answered.
@@ -67,6 +74,9 @@ impl Refusal {
             5 => Refusal::TooManyLines,
             6 => Refusal::Crowded(place),
             7 => Refusal::ShortResult(place),
+            9 => Refusal::Cut(place),
+            10 => Refusal::Overlong(place),
+            11 => Refusal::Outside(place),
             _ => Refusal::Other { number, place },
         })
     }
@@ -81,6 +91,9 @@ impl Refusal {
             Refusal::TooManyLines => 5,
             Refusal::Crowded(_) => 6,
             Refusal::ShortResult(_) => 7,
+            Refusal::Cut(_) => 9,
+            Refusal::Overlong(_) => 10,
+            Refusal::Outside(_) => 11,
             Refusal::Other { number, .. } => number,
         }
     }
@@ -94,6 +107,9 @@ impl Refusal {
             Refusal::NotUtf8(place)
             | Refusal::Crowded(place)
             | Refusal::ShortResult(place)
+            | Refusal::Cut(place)
+            | Refusal::Overlong(place)
+            | Refusal::Outside(place)
             | Refusal::Other { place, .. } => place,
         }
     }
@@ -117,6 +133,24 @@ impl fmt::Display for Refusal {
                 )
             }
             Refusal::ShortResult(need) => write!(f, "the result needs {need} bytes of room"),
+            Refusal::Cut(at) => {
+                write!(
+                    f,
+                    "the text was cut: it ends within the character at byte {at}, counted from 0"
+                )
+            }
+            Refusal::Overlong(at) => {
+                write!(
+                    f,
+                    "the text has an overlong form: see byte {at}, counted from 0"
+                )
+            }
+            Refusal::Outside(at) => {
+                write!(
+                    f,
+                    "the text has a surrogate or a value above U+10FFFF: see byte {at}, counted from 0"
+                )
+            }
             Refusal::Other { number, place } => {
                 write!(
                     f,
@@ -264,7 +298,8 @@ mod tests {
         for (number, place) in answers.into_iter().chain((8..=255).map(|n| (n, 5))) {
             let refusal = Refusal::of(number, place).expect("a refusal");
             assert_eq!((refusal.number(), refusal.place()), (number, place));
-            assert_eq!(number > 7, refusal == Refusal::Other { number, place });
+            let known = matches!(number, 1..=7 | 9..=11);
+            assert_eq!(!known, refusal == Refusal::Other { number, place });
         }
         assert_eq!(Refusal::of(0, 0), None);
     }

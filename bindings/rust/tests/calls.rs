@@ -147,7 +147,10 @@ fn refusals() {
     for short in 1..=6 {
         expect(0, b"\xFF", short, 0, Err(Refusal::ShortWork));
     }
-    expect(6, b"ab\xED\xA0\x80", 0, 0, Err(Refusal::NotUtf8(2)));
+    expect(0, b"ab\xE2\x82\n", 0, 0, Err(Refusal::NotUtf8(2)));
+    expect(0, b"ab\xE2\x82", 0, 0, Err(Refusal::Cut(2)));
+    expect(6, b"ab\xC0\x80", 0, 0, Err(Refusal::Overlong(2)));
+    expect(6, b"ab\xED\xA0\x80", 0, 0, Err(Refusal::Outside(2)));
     expect(0, &lines(LINES + 1), 0, 0, Err(Refusal::TooManyLines));
     expect(0, &brackets(BRACKETS + 1), 0, 0, Err(Refusal::Crowded(1)));
     expect(
@@ -181,6 +184,18 @@ fn words() {
     assert_eq!(
         said(b"ab\xFF"),
         "the text is not UTF-8: see byte 2, counted from 0"
+    );
+    assert_eq!(
+        said(b"ab\xE2\x82"),
+        "the text was cut: it ends within the character at byte 2, counted from 0"
+    );
+    assert_eq!(
+        said(b"ab\xC0\x80"),
+        "the text has an overlong form: see byte 2, counted from 0"
+    );
+    assert_eq!(
+        said(b"ab\xED\xA0\x80"),
+        "the text has a surrogate or a value above U+10FFFF: see byte 2, counted from 0"
     );
     assert_eq!(said(&lines(LINES + 1)), "the text has more than 1024 lines");
     assert_eq!(

@@ -60,6 +60,9 @@ fn every_number() {
         ("TOO_MANY_LINES", of(Refusal::TooManyLines)),
         ("CROWDED", of(Refusal::Crowded(0))),
         ("SHORT_RESULT", of(Refusal::ShortResult(0))),
+        ("CUT", of(Refusal::Cut(0))),
+        ("OVERLONG", of(Refusal::Overlong(0))),
+        ("OUTSIDE", of(Refusal::Outside(0))),
         ("OVERLAP", 255), // of the inline function for C alone
     ];
     assert_eq!(found, wanted);
