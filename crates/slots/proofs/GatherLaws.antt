@@ -12,16 +12,9 @@ use lib.Seq.{drop-cons, drop-drop, take-all}
 use Rattle.lines.proofs.Tests.{and-true}
 use Rattle.names.specs.Names.{isDigit}
 use Rattle.slots.specs.Inner.Slots.{spot, claimed}
-use Rattle.slots.specs.Inner.Gather.{fourAt, fourNear, longGo, hasLong, grown, entered, enteredAll}
+use Rattle.slots.specs.Inner.Gather.{fourNear, longGo, hasLong, grown, entered, enteredAll}
 
 -- ---- looking for four digits
-
-module _ (t : List ℕ) where
-  pub near-not : isDigit (getD t 3 0) ≡ false → fourNear t ≡ false
-  near-not e = ap (λ (b : Bool). b && (fourAt 0 t || (fourAt 1 t || (fourAt 2 t || fourAt 3 t)))) e
-
-  pub near-is : isDigit (getD t 3 0) ≡ true → fourNear t ≡ (fourAt 0 t || (fourAt 1 t || (fourAt 2 t || fourAt 3 t)))
-  near-is e = ap (λ (b : Bool). b && (fourAt 0 t || (fourAt 1 t || (fourAt 2 t || fourAt 3 t)))) e
 
 -- nothing is found in nothing
 pub long-none : (k : ℕ) → longGo k [] ≡ false

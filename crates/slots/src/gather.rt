@@ -1,9 +1,9 @@
 // The owners of a text: its numbers of four digits and more take places, in their order.
 ghost use mathlib.Core.Path.{_≡_};
 ghost use mathlib.Core.Bool.{true};
-ghost use Prim.Native.Nat.{_≤_};
+ghost use lib.ListN.{getD};
 ghost use Rattle.names.specs.Names.{isDigit};
-ghost use Rattle.slots.specs.Inner.Gather.{fourAt, fourNear, hasLong, grown, entered, enteredAll, gathered, gatheredLen};
+ghost use Rattle.slots.specs.Inner.Gather.{fourNear, hasLong, grown, entered, enteredAll, gathered, gatheredLen};
 
 // Numbers of more digits than this grow no more.
 const LARGE: usize = 1000000000000000000;
@@ -14,24 +14,27 @@ fn is_digit(b: u8) -> bool
     (b'0' <= b) & (b <= b'9')
 }
 
-// Whether four digits stand at a place near the front.
-fn four_at(w: &[u8], k: usize) -> bool
-    requires { ⌜ k ≤ 3 ⌝ }
-    ensures { λ r. ⌜ r ≡ fourAt k (now (w .entry)) ⌝ }
+// Whether a digit stands at a place.
+fn digit_at(w: &[u8], k: usize) -> bool
+    ensures { λ r. ⌜ r ≡ isDigit (getD (now (w .entry)) k 0) ⌝ }
 {
     is_digit(lines::byte_at(w, k))
-        & (is_digit(lines::byte_at(w, k + 1))
-            & (is_digit(lines::byte_at(w, k + 2)) & is_digit(lines::byte_at(w, k + 3))))
 }
 
 // Whether the fourth byte is a digit, and one of four.
 fn four_near(w: &[u8]) -> bool
     ensures { λ r. ⌜ r ≡ fourNear (now (w .entry)) ⌝ }
 {
-    if !is_digit(lines::byte_at(w, 3)) {
+    if !digit_at(w, 3) {
         return false;
     }
-    four_at(w, 0) | (four_at(w, 1) | (four_at(w, 2) | four_at(w, 3)))
+    if digit_at(w, 2) {
+        if digit_at(w, 1) {
+            return digit_at(w, 0) | digit_at(w, 4);
+        }
+        return digit_at(w, 4) & digit_at(w, 5);
+    }
+    digit_at(w, 4) & (digit_at(w, 5) & digit_at(w, 6))
 }
 
 // Whether a text has a number of four digits: every fourth byte is looked at.

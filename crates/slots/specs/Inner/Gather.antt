@@ -10,13 +10,14 @@ use Rattle.slots.specs.Inner.Slots.{claimed}
 
 -- ---- whether there is such a number
 
--- four digits stand at the place k
-abbrev pub fourAt : ℕ → List ℕ → Bool
-fourAt k t = isDigit (getD t k 0) && (isDigit (getD t (k + 1) 0) && (isDigit (getD t (k + 2) 0) && isDigit (getD t (k + 3) 0)))
+-- a digit stands at the place k
+abbrev pub digitAt : List ℕ → ℕ → Bool
+digitAt t k = isDigit (getD t k 0)
 
 -- the fourth byte is a digit, and one of four
 abbrev pub fourNear : List ℕ → Bool
-fourNear t = isDigit (getD t 3 0) && (fourAt 0 t || (fourAt 1 t || (fourAt 2 t || fourAt 3 t)))
+fourNear t =
+    digitAt t 3 && cond (digitAt t 2) (cond (digitAt t 1) (digitAt t 0 || digitAt t 4) (digitAt t 4 && digitAt t 5)) (digitAt t 4 && (digitAt t 5 && digitAt t 6))
 
 -- so it is here, or four bytes further, of k places that are looked at
 unfoldable pub longGo : ℕ → List ℕ → Bool
