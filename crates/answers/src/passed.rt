@@ -24,23 +24,15 @@ fn prune_dead_temps(a: &[u8], out: &mut [u8]) -> usize {
     temps::prune_dead_temps(a, &mut own, &mut declared, &mut read, scratch, out)
 }
 
-// The owners that are there.
-fn lent(own: &[usize], n: usize) -> &[usize] {
-    if own.len() < n {
-        return own;
-    }
-    &own[..n]
-}
-
 // The fifth.
 fn prune_decls(a: &[u8], out: &mut [u8]) -> usize {
     if out.len() / 2 <= a.len() {
         return nothing();
     }
     let mut own = [0usize; OWNERS];
-    let h = slots::gather::gather(a, LOW, &mut own);
+    slots::gather::gather(a, LOW, &mut own);
     let mut seen = [0usize; PLACES];
-    decls::prune_decls(a, lent(&own, h), &mut seen, out)
+    decls::prune_decls(a, &own, &mut seen, out)
 }
 
 // The answer of a pass, 41 for the first.

@@ -1,16 +1,12 @@
+-- `answers::passed::prune_dead_temps` meets its contract. Assumes nothing.
+use borrow.Author.Needs.{needs}
 use native.Mathlib.Omega.{arith}
 use Rattle.reading.specs.Reading.{plain}
 use Rattle.temps.specs.Temps.{pruneDeadTemps}
 use Rattle.temps.proofs.Keeps.{temps-weight}
 use Rattle.answers.proofs.Bounds.{pass-room}
-use borrow.Author.Needs.{needs}
 use Rattle.answers.proofs.passed.prune_dead_temps.Statement.{statement}
 use Rattle.answers.proofs.passed.prune_dead_temps.Tie as tie
-use Rattle.answers.proofs.passed.prune_dead_temps.Reads as reads
-use Rattle.answers.proofs.passed.prune_dead_temps.Lts as lts
-use Rattle.io.proofs.large_buffer.Reads as large-buffer-reads
-use Rattle.temps.proofs.prune_dead_temps.Reads as prune-dead-temps-reads
-use Rattle.answers.proofs.say.nothing.Reads as nothing-reads
 
 large-buffer-requires : tie.Need-large-buffer-requires
 large-buffer-requires c κs = search needs
@@ -30,8 +26,17 @@ nothing-requires-2 c κs = search needs
 returns-2 : tie.Need-returns-2
 returns-2 c = search needs
 
+slice-aggregate-prune-dead-temps : tie.Need-slice-aggregate-prune-dead-temps
+slice-aggregate-prune-dead-temps c = search needs
+
+slice-aggregate-prune-dead-temps-2 : tie.Need-slice-aggregate-prune-dead-temps-2
+slice-aggregate-prune-dead-temps-2 c = search needs
+
+slice-aggregate-prune-dead-temps-3 : tie.Need-slice-aggregate-prune-dead-temps-3
+slice-aggregate-prune-dead-temps-3 c = search needs
+
 prune-dead-temps-requires : tie.Need-prune-dead-temps-requires
-prune-dead-temps-requires c κs = (omega (arith, c .before .before .if1 .left), omega (arith, pass-room (pruneDeadTemps plain) (temps-weight 0 plain) (c .before .before .before .before .before .before .before .args .a .now), c .before .if2 .left))
+prune-dead-temps-requires c κs = (omega (arith, c .before .before .before .before .before .if1 .left), omega (arith, pass-room (pruneDeadTemps plain) (temps-weight 0 plain) (c .before .before .before .before .before .before .before .before .before .before .args .a .now), c .before .before .before .before .if2 .left))
 
 same-length : tie.Need-same-length
 same-length c = search needs
@@ -49,6 +54,9 @@ prune-dead-temps-spec =
     returns
     nothing-requires-2
     returns-2
+    slice-aggregate-prune-dead-temps
+    slice-aggregate-prune-dead-temps-2
+    slice-aggregate-prune-dead-temps-3
     prune-dead-temps-requires
     same-length
     returns-3)

@@ -1,14 +1,11 @@
+-- `answers::passed::prune_decls` meets its contract. Assumes nothing.
+use borrow.Author.Needs.{needs}
 use native.Mathlib.Omega.{arith}
 use Rattle.decls.specs.Decls.{pruneDecls}
 use Rattle.decls.proofs.Decl.{prune-weight}
 use Rattle.answers.proofs.Bounds.{pass-room}
-use borrow.Author.Needs.{needs}
 use Rattle.answers.proofs.passed.prune_decls.Statement.{statement}
 use Rattle.answers.proofs.passed.prune_decls.Tie as tie
-use Rattle.answers.proofs.passed.prune_decls.Reads as reads
-use Rattle.answers.proofs.passed.prune_decls.Lts as lts
-use Rattle.decls.proofs.prune_decls.Reads as prune-decls-reads
-use Rattle.answers.proofs.say.nothing.Reads as nothing-reads
 
 nothing-requires : tie.Need-nothing-requires
 nothing-requires c κs = search needs
@@ -16,8 +13,20 @@ nothing-requires c κs = search needs
 returns : tie.Need-returns
 returns c = search needs
 
+slice-aggregate-gather : tie.Need-slice-aggregate-gather
+slice-aggregate-gather c = search needs
+
+gather-requires : tie.Need-gather-requires
+gather-requires c κs = search needs
+
+slice-aggregate-prune-decls : tie.Need-slice-aggregate-prune-decls
+slice-aggregate-prune-decls c = search needs
+
+slice-aggregate-prune-decls-2 : tie.Need-slice-aggregate-prune-decls-2
+slice-aggregate-prune-decls-2 c = search needs
+
 prune-decls-requires : tie.Need-prune-decls-requires
-prune-decls-requires c κs = omega (arith, pass-room pruneDecls (prune-weight 0) (c .before .before .before .before .args .a .now), c .before .if1 .left)
+prune-decls-requires c κs = omega (arith, pass-room pruneDecls (prune-weight 0) (c .before .before .before .before .before .before .before .before .before .args .a .now), c .before .before .before .before .before .before .if1 .left)
 
 same-length : tie.Need-same-length
 same-length c = search needs
@@ -27,4 +36,14 @@ returns-2 c = search needs
 
 pub prune-decls-spec : {M : Type 1} → statement M
 prune-decls-spec =
-    tie.close (tie.spec nothing-requires returns prune-decls-requires same-length returns-2)
+    tie.close
+    (tie.spec
+    nothing-requires
+    returns
+    slice-aggregate-gather
+    gather-requires
+    slice-aggregate-prune-decls
+    slice-aggregate-prune-decls-2
+    prune-decls-requires
+    same-length
+    returns-2)
