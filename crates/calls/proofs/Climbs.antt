@@ -38,10 +38,11 @@ use Rattle.calls.proofs.WalkLaws.{ownersIn, row-stands, store-absorb, r
 
 -- ---- what a step in a lent buffer was, by what it gave back
 
-pub record PutLine (s : Step) (d d′ : List ℕ) (n : ℕ) : Type 0 where
+pub record PutLine (s : Step) (d′ : List ℕ) (n : ℕ) : Type 0 where
   pub next : List ℕ
+  pub before : List ℕ
   pub step : s ≡ absorb next
-  pub wrote : Wrote d 0 next d′ n
+  pub wrote : Wrote before 0 next d′ n
 
 never-line : {A : Type 0} {n : ℕ} → made.Nothing ≡ made.Line n → A
 never-line h = let z : _≡_ {A = ℕ} 0 1 = cc in absurd (omega arith)
@@ -49,22 +50,18 @@ never-line h = let z : _≡_ {A = ℕ} 0 1 = cc in absurd (omega arith)
 never-nothing : {A : Type 0} {n : ℕ} → made.Line n ≡ made.Nothing → A
 never-nothing h = let z : _≡_ {A = ℕ} 0 1 = cc in absurd (omega arith)
 
-pub put-line : {e d e′ d′ : List ℕ} {s : Step} {r : Made} {n : ℕ} → PutAs e d s e′ d′ r → r ≡ made.Line n → PutLine s d d′ n
+pub put-line : {d d′ : List ℕ} {s : Step} {r : Made} {n : ℕ} → PutAs d s d′ r → r ≡ made.Line n → PutLine s d′ n
 put-line (ends l) q = never-line q
-put-line {d = d} {d′ = d′} {n = n} (puts {next = next} {n = k} l w) q = let z : k ≡ n = cc in record { next = next; step = refl; wrote = subst (Wrote d 0 next d′) z w }
+put-line {d′ = d′} {n = n} (puts {next = next} {d₁ = d₁} {n = k} l w) q = let z : k ≡ n = cc in record { next = next; before = d₁; step = refl; wrote = subst (Wrote d₁ 0 next d′) z w }
 
-pub put-end : {e d e′ d′ : List ℕ} {s : Step} {r : Made} → PutAs e d s e′ d′ r → r ≡ made.Nothing → s ≡ end
+pub put-end : {d d′ : List ℕ} {s : Step} {r : Made} → PutAs d s d′ r → r ≡ made.Nothing → s ≡ end
 put-end (ends l) q = refl
 put-end (puts l w) q = never-nothing q
 
--- both buffers keep their lengths
-pub put-kept : {e d e′ d′ : List ℕ} {s : Step} {r : Made} → PutAs e d s e′ d′ r → length e′ ≡ length e
-put-kept (ends l) = l
-put-kept (puts l w) = l
-
-pub put-out : {e d e′ d′ : List ℕ} {s : Step} {r : Made} → PutAs e d s e′ d′ r → length d′ ≡ length d
-put-out (ends l) = refl
-put-out (puts l w) = wrote-length w
+-- the buffer keeps its length
+pub put-out : {d d′ : List ℕ} {s : Step} {r : Made} → PutAs d s d′ r → length d′ ≡ length d
+put-out (ends l) = l
+put-out (puts l w) = wrote-length w ∙ l
 
 -- ---- the state of a walk, with the rows that it stands for
 
@@ -91,7 +88,7 @@ pub record ClimbAt (t : List ℕ) (n i f : ℕ) (bs fs owner₀ stack : List ℕ
   pub room : h + c ≤ m
 
 -- what does not change on the way
-pub record Ground (t : List ℕ) (n i : ℕ) (bs fs owner₀ : List ℕ) (m : ℕ) (cur₀ next₀ clean₀ : List ℕ) : Type 0 where
+pub record Ground (t : List ℕ) (n i : ℕ) (bs fs owner₀ : List ℕ) (m : ℕ) (cur₀ next₀ : List ℕ) : Type 0 where
   pub i≤ : i ≤ length t
   pub given-is : given (walkAt t n .rows) ≡ take n (linesOf t)
   pub n-owner : n ≤ length owner₀
@@ -99,14 +96,12 @@ pub record Ground (t : List ℕ) (n i : ℕ) (bs fs owner₀ : List ℕ) (m : �
   pub n-starts : n < length fs
   pub m-cur : m ≤ length cur₀
   pub m-next : m ≤ length next₀
-  pub m-clean : m ≤ length clean₀
 
-pub record Climb (t : List ℕ) (n i f : ℕ) (bs fs owner₀ stack : List ℕ) (m : ℕ) (cur₀ next₀ clean₀ owner cur next clean : List ℕ) (k p h c : ℕ) (over : Bool) (steps : ℕ) : Type 0 where
-  pub ground : Ground t n i bs fs owner₀ m cur₀ next₀ clean₀
+pub record Climb (t : List ℕ) (n i f : ℕ) (bs fs owner₀ stack : List ℕ) (m : ℕ) (cur₀ next₀ owner cur next : List ℕ) (k p h c : ℕ) (over : Bool) (steps : ℕ) : Type 0 where
+  pub ground : Ground t n i bs fs owner₀ m cur₀ next₀
   pub same-owner : length owner ≡ length owner₀
   pub same-cur : length cur ≡ length cur₀
   pub same-next : length next ≡ length next₀
-  pub same-clean : length clean ≡ length clean₀
   pub left : ℕ
   pub rest : List Row
   pub back : List Row
@@ -117,12 +112,11 @@ pub record Climb (t : List ℕ) (n i f : ℕ) (bs fs owner₀ stack : List ℕ) 
   pub at : ClimbAt t n i f bs fs owner₀ stack m owner cur k p h c over steps left rest back d took lines text
 
 -- in a turn: a step is left, and a row
-pub record Turning (t : List ℕ) (n i f : ℕ) (bs fs owner₀ stack : List ℕ) (m : ℕ) (cur₀ next₀ clean₀ owner cur next clean : List ℕ) (k p h c : ℕ) (over : Bool) (steps : ℕ) : Type 0 where
-  pub ground : Ground t n i bs fs owner₀ m cur₀ next₀ clean₀
+pub record Turning (t : List ℕ) (n i f : ℕ) (bs fs owner₀ stack : List ℕ) (m : ℕ) (cur₀ next₀ owner cur next : List ℕ) (k p h c : ℕ) (over : Bool) (steps : ℕ) : Type 0 where
+  pub ground : Ground t n i bs fs owner₀ m cur₀ next₀
   pub same-owner : length owner ≡ length owner₀
   pub same-cur : length cur ≡ length cur₀
   pub same-next : length next ≡ length next₀
-  pub same-clean : length clean ≡ length clean₀
   pub left : ℕ
   pub row : Row
   pub rest : List Row
@@ -135,12 +129,12 @@ pub record Turning (t : List ℕ) (n i f : ℕ) (bs fs owner₀ stack : List ℕ
 
 -- ---- at the foot
 
-pub climb-start : {t : List ℕ} {n i f : ℕ} {bs fs owner stack : List ℕ} {o size : ℕ} {cur next clean : List ℕ} {over : Bool} →
+pub climb-start : {t : List ℕ} {n i f : ℕ} {bs fs owner stack : List ℕ} {o size : ℕ} {cur next : List ℕ} {over : Bool} →
     Keeps t n (rowsAt t n) owner stack o → Stands t n i f → Placed t bs fs → Foot t n over cur size →
-    o + size ≤ length cur → o + size ≤ length next → o + size ≤ length clean →
-    Climb t n i f bs fs owner stack (o + size) cur next clean owner cur next clean n i o size over 0
+    o + size ≤ length cur → o + size ≤ length next →
+    Climb t n i f bs fs owner stack (o + size) cur next owner cur next n i o size over 0
 unfolding climb unlines linesIn noLf ownersIn act made
-climb-start {t} {n} {i} {f} {bs} {fs} {owner} {stack} {o} {size} {cur} {next} {clean} {over} e s p q a b c =
+climb-start {t} {n} {i} {f} {bs} {fs} {owner} {stack} {o} {size} {cur} {next} {over} e s p q a b =
     let w : walkAt t n ≡ walk (leavesOf plain) (getD bs n 0) (λ v. readLater (leavesOf plain) v (linesOf (drop f t))) climb (rowsAt t n) 1 over (lineAt t n) [] [] =
     walk-is t n (s .within)
     ∙ ap (λ (x : ℕ). walk (leavesOf plain) x (λ v. readLater (leavesOf plain) v (drop (suc n) (linesOf t))) climb (rowsAt t n) 1 (isHeader (lineAt t n)) (lineAt t n) [] []) (sym (block-at p n (s .within)))
@@ -160,12 +154,10 @@ climb-start {t} {n} {i} {f} {bs} {fs} {owner} {stack} {o} {size} {cur} {next} {c
         n-starts = omega (arith, p .starts-many, s .within);
         m-cur = a;
         m-next = b;
-        m-clean = c;
       };
       same-owner = refl;
       same-cur = refl;
       same-next = refl;
-      same-clean = refl;
       left = climb;
       rest = rowsAt t n;
       back = [];
@@ -206,8 +198,8 @@ owners-onto (r ∷ back) rest =
     ∙ ap (λ (x : List ℕ). x ++ ownersIn back) (owners-snoc r rest)
     ∙ append-assoc (ownersOf (actsUp rest [])) (ownerOf (r .act) ∷ []) (ownersIn back)
 
-module _ {t : List ℕ} {n i f : ℕ} {bs fs owner₀ stack : List ℕ} {m : ℕ} {cur₀ next₀ clean₀ owner cur : List ℕ} {k p h c : ℕ} {over : Bool} {steps left : ℕ} {rest back : List Row} {d : ℕ} {took : List ℕ}
-    {lines : List (List ℕ)} {text : List ℕ} (g : Ground t n i bs fs owner₀ m cur₀ next₀ clean₀) (s : length owner ≡ length owner₀) (u : length cur ≡ length cur₀)
+module _ {t : List ℕ} {n i f : ℕ} {bs fs owner₀ stack : List ℕ} {m : ℕ} {cur₀ next₀ owner cur : List ℕ} {k p h c : ℕ} {over : Bool} {steps left : ℕ} {rest back : List Row} {d : ℕ} {took : List ℕ}
+    {lines : List (List ℕ)} {text : List ℕ} (g : Ground t n i bs fs owner₀ m cur₀ next₀) (s : length owner ≡ length owner₀) (u : length cur ≡ length cur₀)
     (a : ClimbAt t n i f bs fs owner₀ stack m owner cur k p h c over steps left rest back d took lines text) where
   peak : walkAt t n ≡ record { act = made took text; rows = onto back rest } → Peaked t n owner₀ owner stack cur h c m
   peak e =
@@ -234,8 +226,8 @@ module _ {t : List ℕ} {n i f : ℕ} {bs fs owner₀ stack : List ℕ} {m : ℕ
       passed-d : 1 ≤ d
       passed-d = low (a .walks .past)
 
-module _ {t : List ℕ} {n i f : ℕ} {bs fs owner₀ stack : List ℕ} {m : ℕ} {cur₀ next₀ clean₀ owner cur next clean : List ℕ} {k p h c : ℕ} {over : Bool} {steps : ℕ}
-    (v : Climb t n i f bs fs owner₀ stack m cur₀ next₀ clean₀ owner cur next clean k p h c over steps) where
+module _ {t : List ℕ} {n i f : ℕ} {bs fs owner₀ stack : List ℕ} {m : ℕ} {cur₀ next₀ owner cur next : List ℕ} {k p h c : ℕ} {over : Bool} {steps : ℕ}
+    (v : Climb t n i f bs fs owner₀ stack m cur₀ next₀ owner cur next k p h c over steps) where
   -- no step is left
   climb-spent : 64 ≤ steps → Peaked t n owner₀ owner stack cur h c m
   climb-spent z = go (v .left) (v .at)
@@ -253,11 +245,11 @@ module _ {t : List ℕ} {n i f : ℕ} {bs fs owner₀ stack : List ℕ} {m : ℕ
       go (suc left) [] a = peak (v .ground) (v .same-owner) (v .same-cur) a (edge-top (a .walks))
       go (suc left) (r ∷ rs) a = absurd (omega (arith, a .many))
 
-  climb-turn : steps < 64 → (k ≡ 0 → ⊥) → Turning t n i f bs fs owner₀ stack m cur₀ next₀ clean₀ owner cur next clean k p h c over steps
+  climb-turn : steps < 64 → (k ≡ 0 → ⊥) → Turning t n i f bs fs owner₀ stack m cur₀ next₀ owner cur next k p h c over steps
   climb-turn z e = go (v .left) (v .rest) (v .at)
     where
       go : (left : ℕ) (rest : List Row) → ClimbAt t n i f bs fs owner₀ stack m owner cur k p h c over steps left rest (v .back) (v .d) (v .took) (v .lines) (v .text) →
-          Turning t n i f bs fs owner₀ stack m cur₀ next₀ clean₀ owner cur next clean k p h c over steps
+          Turning t n i f bs fs owner₀ stack m cur₀ next₀ owner cur next k p h c over steps
       go zero rest a = absurd (omega (arith, a .last))
       go (suc left) [] a = absurd (e (sym (a .many)))
       go (suc left) (r ∷ rs) a =
@@ -266,7 +258,6 @@ module _ {t : List ℕ} {n i f : ℕ} {bs fs owner₀ stack : List ℕ} {m : ℕ
             same-owner = v .same-owner;
             same-cur = v .same-cur;
             same-next = v .same-next;
-            same-clean = v .same-clean;
             left = left;
             row = r;
             rest = rs;
@@ -278,10 +269,10 @@ module _ {t : List ℕ} {n i f : ℕ} {bs fs owner₀ stack : List ℕ} {m : ℕ
             at = a;
           }
 
-module _ {t : List ℕ} {n i f : ℕ} {bs fs owner₀ stack : List ℕ} {m : ℕ} {cur₀ next₀ clean₀ owner cur next clean : List ℕ} {k p h c : ℕ} {over : Bool} {steps : ℕ}
-    (v : Climb t n i f bs fs owner₀ stack m cur₀ next₀ clean₀ owner cur next clean k p h c over steps) where
+module _ {t : List ℕ} {n i f : ℕ} {bs fs owner₀ stack : List ℕ} {m : ℕ} {cur₀ next₀ owner cur next : List ℕ} {k p h c : ℕ} {over : Bool} {steps : ℕ}
+    (v : Climb t n i f bs fs owner₀ stack m cur₀ next₀ owner cur next k p h c over steps) where
   -- the loop's test, either way
-  pub climb-in : ltb 0 k && ltb steps 64 ≡ true → Turning t n i f bs fs owner₀ stack m cur₀ next₀ clean₀ owner cur next clean k p h c over steps
+  pub climb-in : ltb 0 k && ltb steps 64 ≡ true → Turning t n i f bs fs owner₀ stack m cur₀ next₀ owner cur next k p h c over steps
   climb-in e = climb-turn v (ltb-true steps 64 (and-right (ltb 0 k) (ltb steps 64) e)) (λ z. omega (arith, ltb-true 0 k (and-left (ltb 0 k) (ltb steps 64) e)))
 
   pub climb-out : ltb 0 k && ltb steps 64 ≡ false → Peaked t n owner₀ owner stack cur h c m
@@ -294,8 +285,8 @@ module _ {t : List ℕ} {n i f : ℕ} {bs fs owner₀ stack : List ℕ} {m : ℕ
 
 -- ---- in a turn
 
-module _ {t : List ℕ} {n i f : ℕ} {bs fs owner₀ stack : List ℕ} {m : ℕ} {cur₀ next₀ clean₀ owner cur next clean : List ℕ} {k p h c : ℕ} {over : Bool} {steps : ℕ}
-    (v : Turning t n i f bs fs owner₀ stack m cur₀ next₀ clean₀ owner cur next clean k p h c over steps) where
+module _ {t : List ℕ} {n i f : ℕ} {bs fs owner₀ stack : List ℕ} {m : ℕ} {cur₀ next₀ owner cur next : List ℕ} {k p h c : ℕ} {over : Bool} {steps : ℕ}
+    (v : Turning t n i f bs fs owner₀ stack m cur₀ next₀ owner cur next k p h c over steps) where
   told-here : RowTold bs fs (v .row .item) (linesIn (v .rest))
   unfolding Told
   told-here = v .at .told .0
@@ -420,7 +411,7 @@ module _ {t : List ℕ} {n i f : ℕ} {bs fs owner₀ stack : List ℕ} {m : ℕ
     -- it is
     pub drop-on : (q : ℕ) (z : q ≡ lineStart t (p - 1)) (r : Bool) → r ≡ eqb (getD owner (k - 1 + getD owner (k - 1) 0) 0) (n - (k - 1 + getD owner (k - 1) 0)) → r ≡ true →
         (x : List ℕ) → x ≡ part q (p - 1) t → (y : Bool) → y ≡ isHeader x →
-        Climb t n i f bs fs owner₀ stack m cur₀ next₀ clean₀ owner cur next clean (k - 1) q h c (over || y) (steps + 1)
+        Climb t n i f bs fs owner₀ stack m cur₀ next₀ owner cur next (k - 1) q h c (over || y) (steps + 1)
     unfolding linesIn ownersIn standing act
     drop-on q z r e y x a b s =
         let w = text-line q z in
@@ -429,7 +420,6 @@ module _ {t : List ℕ} {n i f : ℕ} {bs fs owner₀ stack : List ℕ} {m : ℕ
           same-owner = v .same-owner;
           same-cur = v .same-cur;
           same-next = v .same-next;
-          same-clean = v .same-clean;
           left = v .left;
           rest = v .rest;
           back = v .row ∷ v .back;
@@ -538,20 +528,16 @@ module _ {t : List ℕ} {n i f : ℕ} {bs fs owner₀ stack : List ℕ} {m : ℕ
             value-less : length val + 1 ≤ length (up-row .text)
             value-less = value-length (up-row .text) (s .reg .0) val (valued (up-row .text) (s .reg .0) val parsed-here)
 
-            pub absorb-room : (length val + 2 ≤ length clean) × (length cc₀ + length val + 2 ≤ length next)
-            absorb-room =
-                let a = stack-line b z .whole in (
-                  omega (arith, value-less, v .at .room, v .ground .m-clean, v .same-clean),
-                  omega (arith, value-less, v .at .room, v .ground .m-next, v .same-next, ap length cur-is, v .at .sized),
-                )
+            pub absorb-room : length cc₀ + length val + 2 ≤ length next
+            absorb-room = let a = stack-line b z .whole in omega (arith, value-less, v .at .room, v .ground .m-next, v .same-next, ap length cur-is, v .at .sized)
 
-            module _ {clean′ next′ : List ℕ} {r : Made} (o : PutAs clean next step-code clean′ next′ r) where
+            module _ {next′ : List ℕ} {r : Made} (o : PutAs next step-code next′ r) where
               -- it could not be put in
               pub none-end : r ≡ made.Nothing → Peaked t n owner₀ owner stack cur h c m
               none-end x = step-end (step-is ∙ put-end o x)
 
               module _ {size : ℕ} (x : r ≡ made.Line size) (new : List ℕ) (e₄ : new ≡ part 0 size next′) where
-                out : PutLine step-code next next′ size
+                out : PutLine step-code next′ size
                 out = put-line o x
 
                 new-is : new ≡ out .next
@@ -573,7 +559,7 @@ module _ {t : List ℕ} {n i f : ℕ} {bs fs owner₀ stack : List ℕ} {m : ℕ
                 -- it was put in, and the row goes into the line
                 pub absorb-on : {cur′ : List ℕ} {c′ : ℕ} → Wrote cur 0 new cur′ c′ →
                     (q : ℕ) (z₁ : q ≡ lineStart t (p - 1)) (a : List ℕ) → a ≡ part q (p - 1) t → (hd : Bool) → hd ≡ isHeader a →
-                    Climb t n i f bs fs owner₀ stack m cur₀ next₀ clean₀ (set owner (k - 1) (n - k + 1)) cur′ next′ clean′ (k - 1) q b c′ (over || hd) (steps + 1)
+                    Climb t n i f bs fs owner₀ stack m cur₀ next₀ (set owner (k - 1) (n - k + 1)) cur′ next′ (k - 1) q b c′ (over || hd) (steps + 1)
                 unfolding linesIn ownersIn ownerOf act made
                 absorb-on {cur′} {c′} w q z₁ a e₅ hd e₆ =
                     let tl = text-line q z₁ in
@@ -585,7 +571,6 @@ module _ {t : List ℕ} {n i f : ℕ} {bs fs owner₀ stack : List ℕ} {m : ℕ
                       same-owner = length-set owner (k - 1) (n - k + 1) ∙ v .same-owner;
                       same-cur = wrote-length w ∙ v .same-cur;
                       same-next = put-out o ∙ v .same-next;
-                      same-clean = put-kept o ∙ v .same-clean;
                       left = v .left;
                       rest = v .rest;
                       back = record { item = v .row .item; act = into (v .d) } ∷ v .back;

@@ -2,13 +2,13 @@
 use Prim.Native.Nat.{ℕ, zero, suc, _+_, _-_, _≤_, _<_, min}
 use mathlib.Core.Path.{_≡_, refl, sym, ap, _∙_}
 use mathlib.Core.Bool.{Bool, true, false, cond, not, _&&_, _||_}
-use mathlib.Core.List.{List, [], _∷_, _++_}
+use mathlib.Core.List.{List, [], _∷_, _++_, append-assoc}
 use native.Mathlib.Omega.{arith}
 use borrow.Author.Tests.{eq-eqb, ne-eqb, lt-ltb, le-ltb, ltb-true, ltb-false}
 use lib.Dec.{eqb, ltb}
 use lib.ListN.{length, take, drop, getD, length-append, length-drop, drop-of-length-le, List·getD-append}
-use lib.Seq.{drop-cons, getD-append-add}
-use Rattle.lines.specs.Lf.{part, upTo, prefixed, holds, linesOf, unlines}
+use lib.Seq.{drop-cons, getD-append-add, take-all}
+use Rattle.lines.specs.Lf.{part, upTo, prefixed, endsIn, holds, linesOf, unlines}
 use Rattle.lines.specs.Inner.Lf.{lineStart, lacks}
 use Rattle.lines.proofs.LfLaws.{lines-at, lines-end}
 use Rattle.lines.proofs.Starts.{start-here, start-on, start-front}
@@ -25,15 +25,21 @@ use Rattle.forms.specs.Primary.{parenIfNeeded}
 use Rattle.forms.specs.Breaks.{breaksWith, breaks}
 use Rattle.lexical.specs.Idents.{wordsIn}
 use Rattle.lexical.specs.Lex.{stripLexical}
+use Rattle.lexical.specs.Inner.Lex.{tailOf}
+use Rattle.lexical.specs.Inner.Plain.{plainLen}
+use Rattle.lexical.proofs.LexLaws.{lex-start, lex-end}
+use Rattle.lexical.proofs.PlainLaws.{lex-plain}
 use Rattle.words.specs.declared.Hit.the-variants as hit
-use Rattle.words.specs.Hits.{regHit, afterNew, asTarget, replacedAt, replaceReg}
+use Rattle.words.specs.Hits.{regHit, afterNew, asTarget, glueLeft, glueRight, glued, replacedAt, replaceReg}
+use Rattle.names.specs.Names.{isDigit}
+use Rattle.words.proofs.Glue.{glued-bare, replaced-is, replaced-length}
 use Rattle.text.specs.declared.Span.{Span}
 use Rattle.lines.specs.Inner.Out.{Wrote}
 use Rattle.lines.proofs.OutLaws.{wrote-part}
 use Rattle.calls.specs.Leaves.{newed, operand}
 use Rattle.calls.specs.LeavesOf.{parsedBy, parsedOf, contextOf, isCall, isControlLine, leavesOf}
 use Rattle.calls.specs.Calls.{Step, end, absorb, orEnd, putBy, storesIn, readLater}
-use Rattle.calls.specs.Inner.Steps.{breaksDown, absorbStep, PutAs, ends, puts}
+use Rattle.calls.specs.Inner.Steps.{breaksDown, wrapped, absorbStep, PutAs, ends, puts}
 use Rattle.calls.specs.declared.Made.{Made}
 use Rattle.calls.specs.declared.Made.the-variants as made
 
@@ -161,15 +167,49 @@ pub down-clean : (value clean : List ℕ) → clean ≡ stripLexical value → (
 unfolding breaks
 down-clean value clean e ls os k c = c ∙ ap (λ (t : List ℕ). breaksDown (breaksWith value (wordsIn t)) ls os) e
 
+-- a value of plain bytes is clean as it is
+plain-clean : (value : List ℕ) → plainLen value ≡ length value → value ≡ stripLexical value
+plain-clean value e =
+    let z : length value ≡ 0 + plainLen value = omega (arith, e) in
+    let n : length value - 0 ≡ length value = omega arith in
+    sym (ap (λ (k : ℕ). take k value) n ∙ take-all (length value) value (omega arith)) ∙ lex-end (lex-plain (lex-start value (tailOf []) refl) (length value) z _ refl) (omega arith)
+
+pub down-plain : (value : List ℕ) (k : ℕ) → k ≡ 0 + plainLen (drop 0 value) → k ≡ length value → (ls : List (List ℕ)) (os : List ℕ) (b : Bool) →
+    b ≡ breaksDown (breaksWith value (wordsIn value)) ls os → b ≡ breaksDown (breaks value) ls os
+down-plain value k p q = down-clean value value (plain-clean value (omega (arith, p, q)))
+
 -- ---- putting a value in
 
 -- what was written at the front of a buffer, cut out of it
 pub front-is : {d xs d′ t : List ℕ} {n : ℕ} → Wrote d 0 xs d′ n → t ≡ part 0 n d′ → t ≡ xs
 front-is {d′ = d′} {n = n} w e = let z : n - 0 ≡ n = omega arith in e ∙ ap (λ (k : ℕ). take k d′) z ∙ wrote-part w
 
--- the place after it is its length
-pub front-at : {d xs d′ : List ℕ} {n : ℕ} → Wrote d 0 xs d′ n → Wrote d 0 xs d′ (length xs)
-front-at w = record { fits = w .fits; place = omega arith; holds = w .holds }
+-- a value in parentheses is glued to nothing
+wrapped-free : (before v after : List ℕ) → glueLeft before (wrapped v) || glueRight (wrapped v) after ≡ false
+unfolding glueLeft glueRight prefixed
+wrapped-free before v after = go (getD (40 ∷ v ++ 41 ∷ []) (length (40 ∷ v ++ 41 ∷ []) - 1) 0) last
+  where
+    last : getD (40 ∷ v ++ 41 ∷ []) (length (40 ∷ v ++ 41 ∷ []) - 1) 0 ≡ 41
+    last =
+        let n : length (40 ∷ v ++ 41 ∷ []) - 1 ≡ length (40 ∷ v) + 0 = omega (arith, length-append (40 ∷ v) (41 ∷ [])) in
+        ap (λ (k : ℕ). getD (40 ∷ v ++ 41 ∷ []) k 0) n ∙ getD-append-add (40 ∷ v) (41 ∷ []) 0 0
+
+    go : (x : ℕ) → x ≡ 41 → ((endsIn 45 before && false) || (endsIn 43 before && false)) || (isDigit x && prefixed (46 ∷ []) after) ≡ false
+    go x e = rw (and-false (endsIn 45 before), and-false (endsIn 43 before), e)
+
+-- a line with a value in parentheses in the place of a hit, by its parts
+module _ (from to : ℕ) (l v before after : List ℕ) (p : before ≡ part 0 from l) (q : after ≡ part to (length l) l) where
+  wrapped-bare : glued before (wrapped v) after ≡ wrapped v
+  wrapped-bare = glued-bare before (wrapped v) after (wrapped-free before v after)
+
+  pub wrapped-is : (((before ++ (40 ∷ [])) ++ v) ++ (41 ∷ [])) ++ after ≡ replacedAt from to l (wrapped v)
+  wrapped-is =
+      ap (λ (t : List ℕ). t ++ after)
+      (ap (λ (t : List ℕ). t ++ (41 ∷ [])) (append-assoc before (40 ∷ []) v) ∙ append-assoc before (40 ∷ v) (41 ∷ []) ∙ ap (λ (t : List ℕ). before ++ t) (sym wrapped-bare))
+      ∙ replaced-is from to l (wrapped v) before after p q
+
+  pub wrapped-long : length before + 2 + length v + length after ≡ length (replacedAt from to l (wrapped v))
+  wrapped-long = omega (arith, replaced-length from to l (wrapped v) before after p q, ap length wrapped-bare, length-append (40 ∷ v) (41 ∷ []))
 
 module _ (R : Reading) (cur : List ℕ) (v : ℕ) (value : List ℕ) where
   pub put-none : regHit v cur ≡ hit.Not → putBy (leavesOf R) (contextOf cur v) cur v value ≡ end
@@ -190,14 +230,14 @@ module _ (R : Reading) (cur : List ℕ) (v : ℕ) (value : List ℕ) where
         go true = rw e
         go false = rw e
 
-pub as-end : {e e′ d : List ℕ} {s : Step} → length e′ ≡ length e → s ≡ end → PutAs e d s e′ d made.Nothing
+pub as-end : {d d′ : List ℕ} {s : Step} → length d′ ≡ length d → s ≡ end → PutAs d s d′ made.Nothing
 as-end l q = rw q (ends l)
 
-pub as-puts : {e d e′ d′ next : List ℕ} {n : ℕ} {s : Step} → s ≡ absorb next → length e′ ≡ length e → Wrote d 0 next d′ n → PutAs e d s e′ d′ (made.Line n)
-as-puts q l w = rw q (puts l w)
+pub as-puts : {d d′ next : List ℕ} {n : ℕ} {s : Step} → s ≡ absorb next → Wrote d 0 next d′ n → PutAs d s d′ (made.Line n)
+as-puts q w = rw q (puts refl w)
 
--- the scratch buffer may have been written before
-pub put-after : {e₀ e d e′ d′ : List ℕ} {s : Step} {r : Made} → length e ≡ length e₀ → PutAs e d s e′ d′ r → PutAs e₀ d s e′ d′ r
+-- the buffer may have been written before
+pub put-after : {d₀ d d′ : List ℕ} {s : Step} {r : Made} → length d ≡ length d₀ → PutAs d s d′ r → PutAs d₀ s d′ r
 put-after q (ends l) = ends (l ∙ q)
 put-after q (puts l w) = puts (l ∙ q) w
 
@@ -223,7 +263,7 @@ module _ (R : Reading) (cur : List ℕ) (v : ℕ) (value : List ℕ) (below take
         unfolding absorbStep
         absorb-puts q = rw (← a, eq-eqb n 1 z, ← b, h, ← c, q)
 
-pub put-step : {e d e′ d′ : List ℕ} {s t : Step} {r : Made} → s ≡ t → PutAs e d t e′ d′ r → PutAs e d s e′ d′ r
+pub put-step : {d d′ : List ℕ} {s t : Step} {r : Made} → s ≡ t → PutAs d t d′ r → PutAs d s d′ r
 put-step q p = rw q p
 
 -- ---- the scan back to the LF above

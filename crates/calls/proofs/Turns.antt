@@ -88,7 +88,7 @@ module _ (t : List ℕ) (n : ℕ) (h : n < length (linesOf t)) where
   unfolding turn
   rows-walked e = rows-suc t n h ∙ rw e (ap (settleRow (leavesOf plain) (itemAt t n)) (sym (walk-is t n h)))
 
-module _ {t : List ℕ} {n i e : ℕ} {bs fs owner stack : List ℕ} {o : ℕ} {cur next clean : List ℕ} (v : Ready t n i e bs fs owner stack o cur next clean) where
+module _ {t : List ℕ} {n i e : ℕ} {bs fs owner stack : List ℕ} {o : ℕ} {cur next : List ℕ} (v : Ready t n i e bs fs owner stack o cur next) where
   pub end-in : e ≤ length t
   end-in = find-le 10 t i e (omega (arith, v .spot .inside)) (v .spot .ends)
 
@@ -163,7 +163,7 @@ module _ {t : List ℕ} {n i e : ℕ} {bs fs owner stack : List ℕ} {o : ℕ} {
     foot = record { line = wrote-part w ∙ line-here; header = q ∙ ap isHeader line-here; sized = omega (arith, size-is, line-size) }
 
     pub walk-ready : (f : ℕ) → f ≡ min (e + 1) (length t) →
-        (Keeps t n (rowsAt t n) (set owner n 0) stack o) × ((Stands t n i f) × ((Placed t bs fs) × ((Foot t n top cur′ size) × ((o + size ≤ length cur′) × ((o + size ≤ length next) × (o + size ≤ length clean))))))
+        (Keeps t n (rowsAt t n) (set owner n 0) stack o) × ((Stands t n i f) × ((Placed t bs fs) × ((Foot t n top cur′ size) × ((o + size ≤ length cur′) × (o + size ≤ length next)))))
     walk-ready f z = (
       keeps-set,
       (
@@ -174,7 +174,7 @@ module _ {t : List ℕ} {n i e : ℕ} {bs fs owner stack : List ℕ} {o : ℕ} {
             foot,
             (
               omega (arith, size-is, v .low, end-in, end-after, v .cur-room, wrote-length w),
-              (omega (arith, size-is, v .low, end-in, end-after, v .next-room), omega (arith, size-is, v .low, end-in, end-after, v .clean-room)),
+              omega (arith, size-is, v .low, end-in, end-after, v .next-room),
             ),
           ),
         ),
@@ -212,7 +212,7 @@ module _ {t : List ℕ} {n i e : ℕ} {bs fs owner stack : List ℕ} {o : ℕ} {
 
 -- ---- the loop over all lines
 
-pub record Passes (t bs fs owner₀ stack₀ cur₀ next₀ clean₀ owner stack cur next clean : List ℕ) (i n o : ℕ) : Type 0 where
+pub record Passes (t bs fs owner₀ stack₀ cur₀ next₀ owner stack cur next : List ℕ) (i n o : ℕ) : Type 0 where
   pub placed : Placed t bs fs
   pub i≤ : i ≤ length t
   pub here : linesOf (drop i t) ≡ drop n (linesOf t)
@@ -225,17 +225,15 @@ pub record Passes (t bs fs owner₀ stack₀ cur₀ next₀ clean₀ owner stack
   pub same-stack : length stack ≡ length stack₀
   pub same-cur : length cur ≡ length cur₀
   pub same-next : length next ≡ length next₀
-  pub same-clean : length clean ≡ length clean₀
   pub owner-room : length (linesOf t) ≤ length owner₀
   pub stack-room : length t < length stack₀
   pub cur-room : length t ≤ length cur₀
   pub next-room : length t ≤ length next₀
-  pub clean-room : length t ≤ length clean₀
 
-pub passes-start : {t bs fs owner stack cur next clean : List ℕ} → Placed t bs fs → length (linesOf t) ≤ length owner → length t < length stack → length t ≤ length cur → length t ≤ length next → length t ≤ length clean →
-    Passes t bs fs owner stack cur next clean owner stack cur next clean 0 0 0
+pub passes-start : {t bs fs owner stack cur next : List ℕ} → Placed t bs fs → length (linesOf t) ≤ length owner → length t < length stack → length t ≤ length cur → length t ≤ length next →
+    Passes t bs fs owner stack cur next owner stack cur next 0 0 0
 unfolding rowsAt rowsTo actsUp ownersOf apply unlines
-passes-start p a b c d e = record {
+passes-start p a b c d = record {
   placed = p;
   i≤ = omega arith;
   here = refl;
@@ -248,12 +246,10 @@ passes-start p a b c d e = record {
   same-stack = refl;
   same-cur = refl;
   same-next = refl;
-  same-clean = refl;
   owner-room = a;
   stack-room = b;
   cur-room = c;
   next-room = d;
-  clean-room = e;
 }
 
 -- the byte at the first b is b
@@ -266,12 +262,12 @@ at-first b (x ∷ xs) h = go (eqb x b) refl h (λ k. at-first b xs k)
     go true e k f = eqb-true x b e
     go false e k f = f (omega arith)
 
-module _ {t bs fs owner₀ stack₀ cur₀ next₀ clean₀ owner stack cur next clean : List ℕ} {i n o : ℕ} (v : Passes t bs fs owner₀ stack₀ cur₀ next₀ clean₀ owner stack cur next clean i n o) where
+module _ {t bs fs owner₀ stack₀ cur₀ next₀ owner stack cur next : List ℕ} {i n o : ℕ} (v : Passes t bs fs owner₀ stack₀ cur₀ next₀ owner stack cur next i n o) where
   module _ (h : i < length t) (e : ℕ) (q : e ≡ i + upTo 10 (drop i t)) where
     some-line : n < length (linesOf t)
     some-line = let z = ap length (sym (lines-at t i e h q) ∙ v .here) in omega (arith, length-drop n (linesOf t))
 
-    pub passes-ready : Ready t n i e bs fs owner stack o cur next clean
+    pub passes-ready : Ready t n i e bs fs owner stack o cur next
     passes-ready = record {
       keeps = v .keeps;
       spot = record { inside = h; above = v .above h; here = v .here; ends = q };
@@ -281,7 +277,6 @@ module _ {t bs fs owner₀ stack₀ cur₀ next₀ clean₀ owner stack cur next
       stack-room = omega (arith, v .stack-room, v .same-stack);
       cur-room = omega (arith, v .cur-room, v .same-cur);
       next-room = omega (arith, v .next-room, v .same-next);
-      clean-room = omega (arith, v .clean-room, v .same-clean);
     }
 
     line-ended : e < length t → take (e + 1) t ≡ unlines (take (suc n) (linesOf t))
@@ -295,17 +290,17 @@ module _ {t bs fs owner₀ stack₀ cur₀ next₀ clean₀ owner stack cur next
         ∙ ap (λ (x : List ℕ). unlines (take n (linesOf t)) ++ x) (part-more t i e (end-after r) k ∙ ap (λ (x : ℕ). part i e t ++ (x ∷ [])) b ∙ ap (λ (x : List ℕ). x ++ (10 ∷ [])) (line-here r))
         ∙ sym (ap unlines (take-suc (linesOf t) n [] some-line) ∙ unlines-append (take n (linesOf t)) (lineAt t n ∷ []))
 
-    pub passes-on : {owner′ stack′ cur′ next′ clean′ : List ℕ} {o′ i′ : ℕ} → Turned t n owner owner′ stack′ o o′ → i′ ≡ min (e + 1) (length t) →
-        length owner′ ≡ length owner → length stack′ ≡ length stack → length cur′ ≡ length cur → length next′ ≡ length next → length clean′ ≡ length clean →
-        Passes t bs fs owner₀ stack₀ cur₀ next₀ clean₀ owner′ stack′ cur′ next′ clean′ i′ (n + 1) o′
-    passes-on {owner′} {stack′} {cur′} {next′} {clean′} {o′} {i′} w z l₁ l₂ l₃ l₄ l₅ =
+    pub passes-on : {owner′ stack′ cur′ next′ : List ℕ} {o′ i′ : ℕ} → Turned t n owner owner′ stack′ o o′ → i′ ≡ min (e + 1) (length t) →
+        length owner′ ≡ length owner → length stack′ ≡ length stack → length cur′ ≡ length cur → length next′ ≡ length next →
+        Passes t bs fs owner₀ stack₀ cur₀ next₀ owner′ stack′ cur′ next′ i′ (n + 1) o′
+    passes-on {owner′} {stack′} {cur′} {next′} {o′} {i′} w z l₁ l₂ l₃ l₄ =
         let r = passes-ready in
         let s : suc n ≡ n + 1 = sym (add-one n) in
         let d : drop (suc n) owner ≡ drop (suc n) owner₀ =
         ap (λ (x : ℕ). drop x owner) s ∙ sym (lib.Seq.drop-drop 1 n owner) ∙ ap (drop 1) (v .beyond) ∙ lib.Seq.drop-drop 1 n owner₀ ∙ ap (λ (x : ℕ). drop x owner₀) (sym s) in
         let y : linesOf (drop i′ t) ≡ drop (suc n) (linesOf t) =
         ap (λ (x : ℕ). linesOf (drop x t)) z ∙ ap (drop 1) (sym (lines-at t i e h q) ∙ v .here ∙ drop-cons (linesOf t) n [] some-line) in
-        subst (λ (k : ℕ). Passes t bs fs owner₀ stack₀ cur₀ next₀ clean₀ owner′ stack′ cur′ next′ clean′ i′ k o′) s
+        subst (λ (k : ℕ). Passes t bs fs owner₀ stack₀ cur₀ next₀ owner′ stack′ cur′ next′ i′ k o′) s
         record {
           placed = v .placed;
           i≤ = omega arith;
@@ -319,12 +314,10 @@ module _ {t bs fs owner₀ stack₀ cur₀ next₀ clean₀ owner stack cur next
           same-stack = l₂ ∙ v .same-stack;
           same-cur = l₃ ∙ v .same-cur;
           same-next = l₄ ∙ v .same-next;
-          same-clean = l₅ ∙ v .same-clean;
           owner-room = v .owner-room;
           stack-room = v .stack-room;
           cur-room = v .cur-room;
           next-room = v .next-room;
-          clean-room = v .clean-room;
         }
 
   pub passes-end : length t ≤ i → Rebuilt t owner₀ owner stack o

@@ -23,7 +23,7 @@ ghost use Rattle.place.specs.Inner.Ends.{endMarks};
 ghost use Rattle.records.specs.Inner.Records.{Told};
 ghost use Rattle.calls.specs.LeavesOf.{isCall, isControlLine, contextOf, leavesOf};
 ghost use Rattle.calls.specs.Calls.{readLater, putBy, rebuildCallsActs, rebuildCalls};
-ghost use Rattle.calls.specs.Inner.Steps.{isSecond, mayControl, breaksDown, absorbStep, PutAs};
+ghost use Rattle.calls.specs.Inner.Steps.{isSecond, mayControl, breaksDown, wrapped, absorbStep, PutAs};
 ghost use Rattle.calls.specs.Inner.Tables.{rowsAt, Keeps, Stands, Placed, Foot, Peaked, Ready, Turned, Rebuilt, ownersOf};
 
 // What putting a value into a line makes: a line of so many bytes, or nothing.
@@ -136,41 +136,51 @@ fn breaks_taken(value: &[u8], clean: &[u8], text: &[u8], owner: &[usize]) -> boo
     false
 }
 
-// The same of a value that is not cleaned yet; it is cleaned where there are lines above.
-fn breaks_above(value: &[u8], text: &[u8], owner: &[usize], clean: &mut [u8]) -> bool
-    requires { ⌜ length (now value) ≤ length (now clean) ⌝ }
+// The same of a value that is not cleaned yet. One of plain bytes is clean as it is; where another has lines above, its cleaned text stands
+// in `out` while they are asked: a word of it may be in pieces in the value, as that of `a/**/b` is.
+fn breaks_above(value: &[u8], text: &[u8], owner: &[usize], out: &mut [u8]) -> bool
+    requires { ⌜ length (now value) ≤ length (now out) ⌝ }
     ensures { λ r. ⌜ r ≡ breaksDown (breaks (now (value .entry))) (linesOf (now (text .entry))) (now (owner .entry)) ⌝ }
 {
     if text.len() == 0 {
         return false;
     }
-    let n = lexical::strip_lexical(value, clean, 0);
-    breaks_taken(value, lines::cut(clean, 0, n), text, owner)
+    if lexical::plain_end(value, 0) == value.len() {
+        return breaks_taken(value, value, text, owner);
+    }
+    let n = lexical::strip_lexical(value, out, 0);
+    breaks_taken(value, lines::cut(out, 0, n), text, owner)
 }
 
-// Writes a line with a value in the place of a hit, in parentheses where it needs them, and returns the place after it; the value so
-// written stands in `rep` too.
-fn put_value(
-    line: &[u8],
-    w: text::Span,
-    value: &[u8],
-    after: bool,
-    rep: &mut [u8],
-    out: &mut [u8],
-) -> usize
-    requires { ⌜ (length (parenIfNeeded (now value) after) ≤ length (now rep))
-        × (length (replacedAt (w .from) (w .to) (now line) (parenIfNeeded (now value) after)) ≤ length (now out)) ⌝ }
-    ensures { λ r. ⌜ (Wrote (now (rep .entry)) 0 (parenIfNeeded (now (value .entry)) after) (now (rep .exit)) (length (parenIfNeeded (now (value .entry)) after)))
-        × (Wrote (now (out .entry)) 0 (replacedAt (w .from) (w .to) (now (line .entry)) (parenIfNeeded (now (value .entry)) after)) (now (out .exit)) r) ⌝ }
+// Writes a line with a value in parentheses in the place of a hit, and returns the place after it.
+fn put_wrapped(line: &[u8], w: text::Span, value: &[u8], out: &mut [u8]) -> usize
+    requires { ⌜ length (replacedAt (w .from) (w .to) (now line) (wrapped (now value))) ≤ length (now out) ⌝ }
+    ensures { λ r. ⌜ Wrote (now (out .entry)) 0 (replacedAt (w .from) (w .to) (now (line .entry)) (wrapped (now (value .entry)))) (now (out .exit)) r ⌝ }
 {
-    let n = forms::put_paren(value, after, rep, 0);
-    words::put_replaced(line, w, lines::cut(rep, 0, n), out, 0)
+    let from = w.from;
+    let to = w.to;
+    let p = lines::put(out, 0, lines::cut(line, 0, from));
+    let q = lines::put_byte(out, p, b'(');
+    let v = lines::put(out, q, value);
+    let e = lines::put_byte(out, v, b')');
+    lines::put(out, e, lines::cut(line, to, line.len()))
+}
+
+// Writes a line with a value in the place of a hit, in parentheses where it needs them, and returns the place after it.
+fn put_value(line: &[u8], w: text::Span, value: &[u8], after: bool, out: &mut [u8]) -> usize
+    requires { ⌜ length (replacedAt (w .from) (w .to) (now line) (parenIfNeeded (now value) after)) ≤ length (now out) ⌝ }
+    ensures { λ r. ⌜ Wrote (now (out .entry)) 0 (replacedAt (w .from) (w .to) (now (line .entry)) (parenIfNeeded (now (value .entry)) after)) (now (out .exit)) r ⌝ }
+{
+    if forms::bare(value, after) {
+        return words::put_replaced(line, w, value, out, 0);
+    }
+    put_wrapped(line, w, value, out)
 }
 
 // Writes a line with a value in the place of a register, where the register stands once and not as a target.
-fn put_in(line: &[u8], reg: names::Register, value: &[u8], rep: &mut [u8], out: &mut [u8]) -> Made
-    requires { ⌜ (length (now value) + 2 ≤ length (now rep)) × (length (now line) + length (now value) + 2 ≤ length (now out)) ⌝ }
-    ensures { λ r. ⌜ PutAs (now (rep .entry)) (now (out .entry)) (putBy (leavesOf plain) (contextOf (now (line .entry)) (reg .0)) (now (line .entry)) (reg .0) (now (value .entry))) (now (rep .exit)) (now (out .exit)) r ⌝ }
+fn put_in(line: &[u8], reg: names::Register, value: &[u8], out: &mut [u8]) -> Made
+    requires { ⌜ length (now line) + length (now value) + 2 ≤ length (now out) ⌝ }
+    ensures { λ r. ⌜ PutAs (now (out .entry)) (putBy (leavesOf plain) (contextOf (now (line .entry)) (reg .0)) (now (line .entry)) (reg .0) (now (value .entry))) (now (out .exit)) r ⌝ }
 {
     match words::find_reg(line, reg) {
         words::Hit::One(w) => {
@@ -178,7 +188,7 @@ fn put_in(line: &[u8], reg: names::Register, value: &[u8], rep: &mut [u8], out: 
                 return Made::Nothing;
             }
             let after = words::after_new(line, w.from);
-            let n = put_value(line, w, value, after, rep, out);
+            let n = put_value(line, w, value, after, out);
             Made::Line(n)
         }
         words::Hit::Not => Made::Nothing,
@@ -194,11 +204,10 @@ fn absorb(
     below: &[u8],
     taken: &[u8],
     owner: &[usize],
-    clean: &mut [u8],
     out: &mut [u8],
 ) -> Made
-    requires { ⌜ (length (now value) + 2 ≤ length (now clean)) × (length (now line) + length (now value) + 2 ≤ length (now out)) ⌝ }
-    ensures { λ r. ⌜ PutAs (now (clean .entry)) (now (out .entry)) (absorbStep plain (now (line .entry)) (reg .0) (now (value .entry)) (linesOf (now (below .entry))) (linesOf (now (taken .entry))) (now (owner .entry))) (now (clean .exit)) (now (out .exit)) r ⌝ }
+    requires { ⌜ length (now line) + length (now value) + 2 ≤ length (now out) ⌝ }
+    ensures { λ r. ⌜ PutAs (now (out .entry)) (absorbStep plain (now (line .entry)) (reg .0) (now (value .entry)) (linesOf (now (below .entry))) (linesOf (now (taken .entry))) (now (owner .entry))) (now (out .exit)) r ⌝ }
 {
     let u = reading::use_of(line, reg);
     if u.reads != 1 {
@@ -207,10 +216,10 @@ fn absorb(
     if read_later(below, reg) {
         return Made::Nothing;
     }
-    if breaks_above(value, taken, owner, clean) {
+    if breaks_above(value, taken, owner, out) {
         return Made::Nothing;
     }
-    put_in(line, reg, value, clean, out)
+    put_in(line, reg, value, out)
 }
 
 // Whether the line that a dropped line k went into has gone into line n itself.
@@ -258,13 +267,12 @@ fn walk_up(
     size: usize,
     cur: &mut [u8],
     next: &mut [u8],
-    clean: &mut [u8],
 ) -> Peak
     requires { ⌜ (Keeps (now text) n (rowsAt (now text) n) (now owner) (now stack) o)
         × ((Stands (now text) n i below)
         × ((Placed (now text) (now blocks) (now starts))
         × ((Foot (now text) n top (now cur) size)
-        × ((o + size ≤ length (now cur)) × ((o + size ≤ length (now next)) × (o + size ≤ length (now clean))))))) ⌝ }
+        × ((o + size ≤ length (now cur)) × (o + size ≤ length (now next)))))) ⌝ }
     ensures { λ r. ⌜ Peaked (now (text .entry)) n (now (owner .entry)) (now (owner .exit)) (now (stack .entry)) (now (cur .exit)) (r .height) (r .size) (o + size) ⌝ }
 {
     let mut k = n;
@@ -295,7 +303,7 @@ fn walk_up(
             let line = lines::cut(cur, 0, c);
             let under = lines::cut(text, below, text.len());
             let taken = lines::cut(text, p, i);
-            let made = absorb(line, s.reg, v, under, taken, &owner[k..n], clean, next);
+            let made = absorb(line, s.reg, v, under, taken, &owner[k..n], next);
             let Made::Line(m) = made else { break };
             c = lines::put(cur, 0, lines::cut(next, 0, m));
             owner[k - 1] = n - k + 1;
@@ -330,9 +338,8 @@ fn turn_line(
     o: usize,
     cur: &mut [u8],
     next: &mut [u8],
-    clean: &mut [u8],
 ) -> usize
-    requires { ⌜ Ready (now text) n i e (now blocks) (now starts) (now owner) (now stack) o (now cur) (now next) (now clean) ⌝ }
+    requires { ⌜ Ready (now text) n i e (now blocks) (now starts) (now owner) (now stack) o (now cur) (now next) ⌝ }
     ensures { λ r. ⌜ Turned (now (text .entry)) n (now (owner .entry)) (now (owner .exit)) (now (stack .exit)) o r ⌝ }
 {
     owner[n] = 0;
@@ -356,7 +363,6 @@ fn turn_line(
         size,
         cur,
         next,
-        clean,
     );
     let h = w.height;
     let m = w.size;
@@ -374,12 +380,11 @@ fn rebuild_lines(
     stack: &mut [u8],
     cur: &mut [u8],
     next: &mut [u8],
-    clean: &mut [u8],
     recs: &mut [records::LineRec],
 ) -> usize
     requires { ⌜ (0 < length (now recs)) × ((Placed (now text) (now blocks) (now starts))
         × ((length (linesOf (now text)) ≤ length (now owner)) × ((length (now text) < length (now stack))
-        × ((length (now text) ≤ length (now cur)) × ((length (now text) ≤ length (now next)) × ((length (now text) ≤ length (now clean)) × (Told (now text) (now ends) (now blocks) m))))))) ⌝ }
+        × ((length (now text) ≤ length (now cur)) × ((length (now text) ≤ length (now next)) × (Told (now text) (now ends) (now blocks) m)))))) ⌝ }
     ensures { λ r. ⌜ Rebuilt (now (text .entry)) (now (owner .entry)) (now (owner .exit)) (now (stack .exit)) r ⌝ }
 {
     let mut past = 0;
@@ -400,7 +405,6 @@ fn rebuild_lines(
             o,
             cur,
             next,
-            clean,
         );
         n += 1;
     }
@@ -418,11 +422,10 @@ fn rebuild_window(
     stack: &mut [u8],
     cur: &mut [u8],
     next: &mut [u8],
-    clean: &mut [u8],
 ) -> usize
     requires { ⌜ (Placed (now text) (now blocks) (now starts))
         × ((length (linesOf (now text)) ≤ length (now owner)) × ((length (now text) < length (now stack))
-        × ((length (now text) ≤ length (now cur)) × ((length (now text) ≤ length (now next)) × ((length (now text) ≤ length (now clean)) × (Told (now text) (now ends) (now blocks) m)))))) ⌝ }
+        × ((length (now text) ≤ length (now cur)) × ((length (now text) ≤ length (now next)) × (Told (now text) (now ends) (now blocks) m))))) ⌝ }
     ensures { λ r. ⌜ Rebuilt (now (text .entry)) (now (owner .entry)) (now (owner .exit)) (now (stack .exit)) r ⌝ }
 {
     let mut recs = records::window();
@@ -436,7 +439,6 @@ fn rebuild_window(
         stack,
         cur,
         next,
-        clean,
         &mut recs,
     )
 }
@@ -452,7 +454,7 @@ fn wipe(s: &mut [u8])
     }
 }
 
-// Writes what becomes of all lines, with a stack and three more buffers that are wiped at the end.
+// Writes what becomes of all lines, with a stack and two more buffers that are wiped at the end.
 fn rebuild_with(
     text: &[u8],
     ends: &[usize],
@@ -463,43 +465,29 @@ fn rebuild_with(
     stack: &mut [u8],
     cur: &mut [u8],
     next: &mut [u8],
-    clean: &mut [u8],
     out: &mut [u8],
 ) -> usize
     requires { ⌜ ((Placed (now text) (now blocks) (now starts))
         × ((length (linesOf (now text)) ≤ length (now owner)) × ((length (now text) < length (now stack))
-        × ((length (now text) ≤ length (now cur)) × ((length (now text) ≤ length (now next)) × ((length (now text) ≤ length (now clean))
-        × (length (unlines (rebuildCalls (leavesOf plain) (linesOf (now text)))) ≤ length (now out))))))))
+        × ((length (now text) ≤ length (now cur)) × ((length (now text) ≤ length (now next))
+        × (length (unlines (rebuildCalls (leavesOf plain) (linesOf (now text)))) ≤ length (now out)))))))
         × (Told (now text) (now ends) (now blocks) m) ⌝ }
     ensures answer { λ r. ⌜ Wrote (now (out .entry)) 0 (unlines (rebuildCalls (leavesOf plain) (linesOf (now (text .entry))))) (now (out .exit)) r ⌝ }
     ensures owners { λ _. ⌜ Filled (now (owner .entry)) (ownersOf (rebuildCallsActs (leavesOf plain) (linesOf (now (text .entry))))) (now (owner .exit)) (length (linesOf (now (text .entry)))) ⌝ }
     ensures scratch { λ _. ⌜ (now (stack .exit) ≡ replicate (length (now (stack .entry))) 0)
-        × ((now (cur .exit) ≡ replicate (length (now (cur .entry))) 0)
-        × ((now (next .exit) ≡ replicate (length (now (next .entry))) 0) × (now (clean .exit) ≡ replicate (length (now (clean .entry))) 0))) ⌝ }
+        × ((now (cur .exit) ≡ replicate (length (now (cur .entry))) 0) × (now (next .exit) ≡ replicate (length (now (next .entry))) 0)) ⌝ }
 {
-    let o = rebuild_window(
-        text,
-        ends,
-        m,
-        blocks,
-        starts,
-        owner,
-        stack,
-        cur,
-        next,
-        clean,
-    );
+    let o = rebuild_window(text, ends, m, blocks, starts, owner, stack, cur, next);
     let r = lines::put(out, 0, lines::cut(stack, 0, o));
     wipe(stack);
     wipe(cur);
     wipe(next);
-    wipe(clean);
     r
 }
 
 // The values of stores go back into the call that follows them. Each line is followed by one LF; `owner` gets for each line how far below it
 // the line stands that took it in, or 0, `ends`, `blocks`, `starts` and `up` are left as `place::place_lines` fills them, and the front of the
-// four buffers before `out` is wiped.
+// three buffers before `out` is wiped.
 pub fn rebuild_calls(
     text: &[u8],
     ends: &mut [usize],
@@ -510,12 +498,11 @@ pub fn rebuild_calls(
     stack: &mut [u8],
     cur: &mut [u8],
     next: &mut [u8],
-    clean: &mut [u8],
     out: &mut [u8],
 ) -> usize
     requires { ⌜ ((length (linesOf (now text)) ≤ length (now owner)) × ((length (linesOf (now text)) ≤ length (now blocks)) × (length (linesOf (now text)) ≤ length (now starts))))
         × (((length (idsParents (linesOf (now text))) ≤ length (now up)) × (length (now up) < 2 ^ 32))
-        × (((length (now text) < length (now stack)) × ((length (now text) ≤ length (now cur)) × ((length (now text) ≤ length (now next)) × (length (now text) ≤ length (now clean)))))
+        × (((length (now text) < length (now stack)) × ((length (now text) ≤ length (now cur)) × (length (now text) ≤ length (now next))))
         × ((length (unlines (rebuildCalls (leavesOf plain) (linesOf (now text)))) ≤ length (now out)) × (length (linesOf (now text)) ≤ length (now ends))))) ⌝ }
     ensures answer { λ r. ⌜ Wrote (now (out .entry)) 0 (unlines (rebuildCalls (leavesOf plain) (linesOf (now (text .entry))))) (now (out .exit)) r ⌝ }
     ensures owners { λ _. ⌜ Filled (now (owner .entry)) (ownersOf (rebuildCallsActs (leavesOf plain) (linesOf (now (text .entry))))) (now (owner .exit)) (length (linesOf (now (text .entry)))) ⌝ }
@@ -524,8 +511,7 @@ pub fn rebuild_calls(
         × (Filled (now (up .entry)) (idsParents (linesOf (now (text .entry)))) (now (up .exit)) (length (idsParents (linesOf (now (text .entry))))))) ⌝ }
     ensures scratch { λ _. ⌜ (Wrote (now (stack .entry)) 0 (replicate (length (now (text .entry)) + 1) 0) (now (stack .exit)) (length (now (text .entry)) + 1))
         × ((Wrote (now (cur .entry)) 0 (replicate (length (now (text .entry))) 0) (now (cur .exit)) (length (now (text .entry))))
-        × ((Wrote (now (next .entry)) 0 (replicate (length (now (text .entry))) 0) (now (next .exit)) (length (now (text .entry))))
-        × (Wrote (now (clean .entry)) 0 (replicate (length (now (text .entry))) 0) (now (clean .exit)) (length (now (text .entry)))))) ⌝ }
+        × (Wrote (now (next .entry)) 0 (replicate (length (now (text .entry))) 0) (now (next .exit)) (length (now (text .entry))))) ⌝ }
     ensures ends { λ _. ⌜ Filled (now (ends .entry)) (endMarks 0 (linesOf (now (text .entry)))) (now (ends .exit)) (length (linesOf (now (text .entry)))) ⌝ }
 {
     let m = text.len();
@@ -541,7 +527,6 @@ pub fn rebuild_calls(
         &mut stack[..h],
         &mut cur[..m],
         &mut next[..m],
-        &mut clean[..m],
         out,
     )
 }

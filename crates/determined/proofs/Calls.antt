@@ -19,7 +19,7 @@ rebuild-calls-fixed = fixed-by calls.rebuild_calls.Reads.Learnt (λ w κs a x. m
             filled-once (p .1 .0) (q .1 .0) .0,
             (
               filled-once (p .1 .1) (q .1 .1) .0,
-              (wrote-once (f .0) (g .0) .0, (wrote-once (f .1 .0) (g .1 .0) .0, (wrote-once (f .1 .1 .0) (g .1 .1 .0) .0, (wrote-once (f .1 .1 .1) (g .1 .1 .1) .0, wrote-once (l .0) (m .0))))),
+              (wrote-once (f .0) (g .0) .0, (wrote-once (f .1 .0) (g .1 .0) .0, (wrote-once (f .1 .1) (g .1 .1) .0, wrote-once (l .0) (m .0)))),
             ),
           ),
         ),

@@ -83,8 +83,9 @@ module _ {s c d e u : List ℕ} where
   unfolding leftU
   left-3 p = record { c-left = p .0; d-left = p .1 .0; e-left = p .1 .1; u-left = refl }
 
-  pub left-4 : {c′ d′ e′ u′ : List ℕ} → (c′ ≡ leftC 4 s c) × ((d′ ≡ leftD 4 s d) × ((e′ ≡ leftE 4 s e) × (u′ ≡ leftU 4 s u))) → Left 4 s c d e u c′ d′ e′ u′
-  left-4 p = record { c-left = p .0; d-left = p .1 .0; e-left = p .1 .1 .0; u-left = p .1 .1 .1 }
+  pub left-4 : {c′ d′ u′ : List ℕ} → (c′ ≡ leftC 4 s c) × ((d′ ≡ leftD 4 s d) × (u′ ≡ leftU 4 s u)) → Left 4 s c d e u c′ d′ e u′
+  unfolding leftE
+  left-4 p = record { c-left = p .0; d-left = p .1 .0; e-left = refl; u-left = p .1 .1 }
 
   pub left-5 : Left 5 s c d e u c d e u
   unfolding leftC leftD leftE leftU
@@ -103,7 +104,7 @@ module _ {s c d e u : List ℕ} where
   left-else {k} n1 n2 n3 n4 n6 = record {
     c-left = rw (ne-eqb k 1 n1, ne-eqb k 2 n2, ne-eqb k 3 n3, ne-eqb k 4 n4);
     d-left = rw (ne-eqb k 2 n2, ne-eqb k 3 n3, ne-eqb k 4 n4);
-    e-left = rw (ne-eqb k 3 n3, ne-eqb k 4 n4);
+    e-left = rw (ne-eqb k 3 n3);
     u-left = rw (ne-eqb k 2 n2, ne-eqb k 4 n4, ne-eqb k 6 n6);
   }
 
@@ -122,10 +123,10 @@ pub phis-left : (s : List ℕ) {c d e c′ d′ e′ : List ℕ} {n m l : ℕ} �
 unfolding leftC leftD leftE
 phis-left s p q r = (p .holds, (q .holds, r .holds))
 
-pub calls-left : (s : List ℕ) {c d e u c′ d′ e′ u′ : List ℕ} {n m l o : ℕ} → Wrote c 0 (replicate (length s) 0) c′ n → Wrote d 0 (replicate (length s) 0) d′ m → Wrote e 0 (replicate (length s) 0) e′ l →
-    Filled u (idsParents (linesOf s)) u′ o → (c′ ≡ leftC 4 s c) × ((d′ ≡ leftD 4 s d) × ((e′ ≡ leftE 4 s e) × (u′ ≡ leftU 4 s u)))
-unfolding leftC leftD leftE leftU
-calls-left s p q r f = (p .holds, (q .holds, (r .holds, filled-at f)))
+pub calls-left : (s : List ℕ) {c d u c′ d′ u′ : List ℕ} {n m o : ℕ} → Wrote c 0 (replicate (length s) 0) c′ n → Wrote d 0 (replicate (length s) 0) d′ m →
+    Filled u (idsParents (linesOf s)) u′ o → (c′ ≡ leftC 4 s c) × ((d′ ≡ leftD 4 s d) × (u′ ≡ leftU 4 s u))
+unfolding leftC leftD leftU
+calls-left s p q f = (p .holds, (q .holds, filled-at f))
 
 pub bind-left : (s : List ℕ) {u u′ : List ℕ} {n : ℕ} → Filled u (idsParents (linesOf s)) u′ n → u′ ≡ leftU 6 s u
 unfolding leftU

@@ -172,18 +172,18 @@ phis-room {s = s} r =
       ),
     )
 
-pub calls-room : {L : Limits} {s : List ℕ} {owner blocks starts up stack cur next clean out ends : ℕ} → Bounded L s → up ≡ blockSize L → cur ≡ byteSize L → next ≡ byteSize L → clean ≡ byteSize L → out ≡ byteSize L → small .lines ≤ ends →
+pub calls-room : {L : Limits} {s : List ℕ} {owner blocks starts up stack cur next out ends : ℕ} → Bounded L s → up ≡ blockSize L → cur ≡ byteSize L → next ≡ byteSize L → out ≡ byteSize L → small .lines ≤ ends →
     small .lines ≤ owner → small .lines ≤ blocks → small .lines ≤ starts → byteSize small < stack →
     ((length (linesOf s) ≤ owner) × ((length (linesOf s) ≤ blocks) × (length (linesOf s) ≤ starts)))
     × (((length (idsParents (linesOf s)) ≤ up) × (up < 2 ^ 32))
-    × (((length s < stack) × ((length s ≤ cur) × ((length s ≤ next) × (length s ≤ clean))))
+    × (((length s < stack) × ((length s ≤ cur) × (length s ≤ next)))
     × ((length (unlines (rebuildCalls (leavesOf plain) (linesOf s))) ≤ out) × (length (linesOf s) ≤ ends))))
-calls-room {s = s} r qu qc qn ql qo qr ko kb ks kt = (
+calls-room {s = s} r qu qc qn qo qr ko kb ks kt = (
   (omega (arith, r .lines, r .sane .lines-reach), (omega (arith, r .lines, r .sane .lines-reach), omega (arith, r .lines, r .sane .lines-reach))),
   (
     (omega (arith, ids-parents-text s, r .braces), omega (arith, r .sane .bytes-reach)),
     (
-      (omega (arith, room-length r, r .sane .bytes-reach), (omega (arith, room-length r), (omega (arith, room-length r), omega (arith, room-length r)))),
+      (omega (arith, room-length r, r .sane .bytes-reach), (omega (arith, room-length r), omega (arith, room-length r))),
       (omega (arith, room-fits (tame-calls plain) r), omega (arith, r .lines, r .sane .lines-reach)),
     ),
   ),

@@ -79,14 +79,13 @@ fn calls_step(
     src: &[u8],
     cur: &mut [u8],
     next: &mut [u8],
-    clean: &mut [u8],
     u: &mut [u32],
     dst: &mut [u8],
 ) -> usize
-    requires { ⌜ Bounded (m .limits) (now src) × ((length (now cur) ≡ byteSize (m .limits)) × ((length (now next) ≡ byteSize (m .limits)) × ((length (now clean) ≡ byteSize (m .limits)) × ((length (now u) ≡ blockSize (m .limits)) × (length (now dst) ≡ byteSize (m .limits)))))) ⌝ }
+    requires { ⌜ Bounded (m .limits) (now src) × ((length (now cur) ≡ byteSize (m .limits)) × ((length (now next) ≡ byteSize (m .limits)) × ((length (now u) ≡ blockSize (m .limits)) × (length (now dst) ≡ byteSize (m .limits))))) ⌝ }
     ensures { λ r. ⌜ Wrote (now (dst .entry)) 0 (unlines (rebuildCalls (leavesOf plain) (linesOf (now (src .entry))))) (now (dst .exit)) r ⌝ }
     ensures memory { λ _. ⌜ (now (cur .exit) ≡ leftC 4 (now (src .entry)) (now (cur .entry))) × ((now (next .exit) ≡ leftD 4 (now (src .entry)) (now (next .entry)))
-        × ((now (clean .exit) ≡ leftE 4 (now (src .entry)) (now (clean .entry))) × (now (u .exit) ≡ leftU 4 (now (src .entry)) (now (u .entry))))) ⌝ }
+        × (now (u .exit) ≡ leftU 4 (now (src .entry)) (now (u .entry)))) ⌝ }
 {
     let mut ends = [0usize; LINES];
     let mut owner = [0usize; LINES];
@@ -103,7 +102,6 @@ fn calls_step(
         &mut stack,
         cur,
         next,
-        clean,
         dst,
     )
 }
@@ -201,7 +199,7 @@ fn other_step(
         return once_step(m, src, own, c, d, u, dst);
     }
     if k == 4 {
-        return calls_step(m, src, c, d, e, u, dst);
+        return calls_step(m, src, c, d, u, dst);
     }
     if k == 5 {
         return decls_step(m, src, own, dst);

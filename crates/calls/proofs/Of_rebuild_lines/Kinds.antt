@@ -8,7 +8,7 @@ use denote.Array
 use mathlib.Core.List
 use mir.Syntax
 
-abbrev pub ps : List.List (Kinds.PK 10)
+abbrev pub ps : List.List (Kinds.PK 9)
 ps =
     List._∷_
     (ShrSlice.pShrS (Referent.rtF (Referent.fInt Syntax.w8)) 0 tt)
@@ -29,10 +29,8 @@ ps =
     (List._∷_
     (MutSlice.pMutS (Referent.rtF (Referent.fInt Syntax.w8)) 7 tt)
     (List._∷_
-    (MutSlice.pMutS (Referent.rtF (Referent.fInt Syntax.w8)) 8 tt)
-    (List._∷_
-    (MutSlice.pMutS Elem.R 9 tt)
-    List.[]))))))))))
+    (MutSlice.pMutS Elem.R 8 tt)
+    List.[])))))))))
 
-abbrev pub r : Kinds.RK 10
+abbrev pub r : Kinds.RK 9
 r = Kinds.rNum Syntax.w64

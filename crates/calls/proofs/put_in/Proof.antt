@@ -1,8 +1,8 @@
+-- `calls::put_in` meets its contract. Assumes nothing.
 use borrow.Author.Needs.{needs}
 use native.Mathlib.Omega.{arith}
 use mathlib.Core.Path.{refl, sym, _∙_}
 use Rattle.lines.proofs.Tests.{so}
-use Rattle.lines.proofs.OutLaws.{wrote-length}
 use Rattle.words.proofs.Places.{replace-hit}
 use Rattle.forms.specs.Primary.{parenIfNeeded}
 use Rattle.forms.proofs.PrimaryLaws.{paren-length}
@@ -10,12 +10,6 @@ use Rattle.reading.specs.Reading.{plain}
 use Rattle.calls.proofs.StepLaws.{put-none, put-target, put-one, as-end, as-puts}
 use Rattle.calls.proofs.put_in.Statement.{statement}
 use Rattle.calls.proofs.put_in.Tie as tie
-use Rattle.calls.proofs.put_in.Reads as reads
-use Rattle.calls.proofs.put_in.Lts as lts
-use Rattle.calls.proofs.put_value.Reads as put-value-reads
-use Rattle.words.proofs.after_new.Reads as after-new-reads
-use Rattle.words.proofs.as_target.Reads as as-target-reads
-use Rattle.words.proofs.find_reg.Reads as find-reg-reads
 
 find-reg-requires : tie.Need-find-reg-requires
 find-reg-requires c κs = search needs
@@ -28,7 +22,7 @@ as-target-requires c κs = search needs
 
 returns : tie.Need-returns
 returns c =
-    let a = c .before .before .before .before .before .before .before .before .before .before .args in
+    let a = c .before .before .before .before .before .before .before .before .before .args in
     let w = c .before .before .before .w .given in
     as-end refl (put-target plain (a .line .now) (a .reg .0) (a .value .now) (w .0 .0) (sym (c .before .before .before .before .before .find-reg .ensures) ∙ w .1) (so (c .before .as-target .ensures) (c .if1 .taken)))
 
@@ -37,11 +31,11 @@ after-new-requires c κs = search needs
 
 put-value-requires : tie.Need-put-value-requires
 put-value-requires c κs =
-    let a = c .before .before .before .before .before .before .before .before .before .before .before .before .before .args in
-    let w = c .before .before .before .before .before .before .w .given in
-    let p = c .before .before .before .before .before .before .before .before .before .before .before .before .before .pre in
-    let n = paren-length (a .value .now) (c .before .before .after-new .result) in
-    (omega (arith, p .0, n), omega (arith, p .1, n, replace-hit (a .reg .0) (a .line .now) (parenIfNeeded (a .value .now) (c .before .before .after-new .result)) (w .0 .0) (sym (c .before .before .before .before .before .before .before .before .find-reg .ensures) ∙ w .1)))
+    let a = c .before .before .before .before .before .before .before .before .before .before .before .args in
+    let w = c .before .before .before .before .before .w .given in
+    let p = c .before .before .before .before .before .before .before .before .before .before .before .pre in
+    let n = paren-length (a .value .now) (c .before .after-new .result) in
+    omega (arith, p, n, replace-hit (a .reg .0) (a .line .now) (parenIfNeeded (a .value .now) (c .before .after-new .result)) (w .0 .0) (sym (c .before .before .before .before .before .before .before .find-reg .ensures) ∙ w .1))
 
 enum-told : tie.Need-enum-told
 enum-told c = search needs
@@ -49,19 +43,16 @@ enum-told c = search needs
 same-length : tie.Need-same-length
 same-length c = search needs
 
-same-length-2 : tie.Need-same-length-2
-same-length-2 c = search needs
-
 returns-2 : tie.Need-returns-2
 returns-2 c =
-    let a = c .before .before .before .before .before .before .before .before .before .before .before .before .before .before .before .before .before .before .args in
-    let w = c .before .before .before .before .before .before .before .before .before .before .before .w .given in
-    let p = c .before .before .before .before .put-value .ensures in
-    as-puts (put-one plain (a .line .now) (a .reg .0) (a .value .now) (w .0 .0) (sym (c .before .before .before .before .before .before .before .before .before .before .before .before .before .find-reg .ensures) ∙ w .1) (so (c .before .before .before .before .before .before .before .before .before .as-target .ensures) (c .before .before .before .before .before .before .before .before .if1 .left)) _ (c .before .before .before .before .before .before .before .after-new .ensures)) (wrote-length (p .0)) (p .1)
+    let a = c .before .before .before .before .before .before .before .before .before .before .before .before .before .before .args in
+    let w = c .before .before .before .before .before .before .before .before .w .given in
+    let p = c .before .before .put-value .ensures in
+    as-puts (put-one plain (a .line .now) (a .reg .0) (a .value .now) (w .0 .0) (sym (c .before .before .before .before .before .before .before .before .before .before .find-reg .ensures) ∙ w .1) (so (c .before .before .before .before .before .before .as-target .ensures) (c .before .before .before .before .before .if1 .left)) _ (c .before .before .before .before .after-new .ensures)) p
 
 returns-3 : tie.Need-returns-3
 returns-3 c =
-    let a = c .before .before .before .before .before .before .before .args in
+    let a = c .before .before .before .before .before .before .args in
     as-end refl (put-none plain (a .line .now) (a .reg .0) (a .value .now) (sym (c .before .before .find-reg .ensures) ∙ c .enum-told .given .1))
 
 pub put-in-spec : {M : Type 1} → statement M
@@ -76,6 +67,5 @@ put-in-spec =
     put-value-requires
     enum-told
     same-length
-    same-length-2
     returns-2
     returns-3)

@@ -3,7 +3,7 @@ use Prim.Native.Nat.{ℕ, zero, suc}
 use Prim.Native.Char.{code}
 use mathlib.Core.Path.{_≡_}
 use mathlib.Core.Bool.{Bool, true, false, cond, not, _&&_, _||_}
-use mathlib.Core.List.{List, [], _∷_}
+use mathlib.Core.List.{List, [], _∷_, _++_}
 use lib.Dec.{eqb}
 use lib.ListN.{length, getD}
 use Rattle.lines.specs.Ascii.{ascii}
@@ -38,8 +38,11 @@ absorbStep R cur v value below taken owner =
     cond (eqb (lineReads v cur) 1 && (not (readLater (leavesOf R) v below) && not (breaksDown (breaks value) taken owner)))
     (putBy (leavesOf R) (contextOf cur v) cur v value) end
 
--- a step in a lent buffer d, which is d′ then, with another, e, which keeps its length: the line that it makes stands at the front of d, or nothing
--- was written there
-pub data PutAs (e d : List ℕ) : Step → List ℕ → List ℕ → Made → Type 0 where
-  ends : {e′ : List ℕ} → length e′ ≡ length e → PutAs e d end e′ d made.Nothing
-  puts : {next e′ d′ : List ℕ} {n : ℕ} → length e′ ≡ length e → Wrote d 0 next d′ n → PutAs e d (absorb next) e′ d′ (made.Line n)
+-- a value in parentheses
+abbrev pub wrapped : List ℕ → List ℕ
+wrapped v = code "(" ∷ v ++ ascii ")"
+
+-- a step in a lent buffer d, which is d′ then and keeps its length: the line that it makes stands at the front of it, or there is none
+pub data PutAs (d : List ℕ) : Step → List ℕ → Made → Type 0 where
+  ends : {d′ : List ℕ} → length d′ ≡ length d → PutAs d end d′ made.Nothing
+  puts : {next d₁ d′ : List ℕ} {n : ℕ} → length d₁ ≡ length d → Wrote d₁ 0 next d′ n → PutAs d (absorb next) d′ (made.Line n)

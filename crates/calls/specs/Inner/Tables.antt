@@ -101,7 +101,7 @@ pub record Spot (t : List ℕ) (n i e : ℕ) : Type 0 where
   pub ends : e ≡ i + upTo (code "\n") (drop i t)
 
 -- all is ready for line n, which stands from i up to e: the tables, and room in the buffers
-pub record Ready (t : List ℕ) (n i e : ℕ) (blocks starts owner stack : List ℕ) (o : ℕ) (cur next clean : List ℕ) : Type 0 where
+pub record Ready (t : List ℕ) (n i e : ℕ) (blocks starts owner stack : List ℕ) (o : ℕ) (cur next : List ℕ) : Type 0 where
   pub keeps : Keeps t n (rowsAt t n) owner stack o
   pub spot : Spot t n i e
   pub placed : Placed t blocks starts
@@ -110,7 +110,6 @@ pub record Ready (t : List ℕ) (n i e : ℕ) (blocks starts owner stack : List 
   pub stack-room : length t < length stack
   pub cur-room : length t ≤ length cur
   pub next-room : length t ≤ length next
-  pub clean-room : length t ≤ length clean
 
 -- after line n: the tables keep one row more, and the stack has grown by no more than the line and its LF
 pub record Turned (t : List ℕ) (n : ℕ) (owner owner′ stack : List ℕ) (o r : ℕ) : Type 0 where

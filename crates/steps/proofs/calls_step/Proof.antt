@@ -21,8 +21,8 @@ slice-aggregate-rebuild-calls-5 c = search needs
 
 rebuild-calls-requires : tie.Need-rebuild-calls-requires
 rebuild-calls-requires c κs =
-    let p = c .before .before .before .before .before .before .before .before .before .before .before .before .before .before .before .before .pre in
-    calls-room (p .0) (p .1 .1 .1 .1 .0) (p .1 .0) (p .1 .1 .0) (p .1 .1 .1 .0) (p .1 .1 .1 .1 .1) (table 1024) (table 1024) (table 1024) (table 1024) (table 32770)
+    let p = c .before .before .before .before .before .before .before .before .before .before .before .before .before .before .pre in
+    calls-room (p .0) (p .1 .1 .1 .0) (p .1 .0) (p .1 .1 .0) (p .1 .1 .1 .1) (table 1024) (table 1024) (table 1024) (table 1024) (table 32770)
 
 same-length : tie.Need-same-length
 same-length c = search needs
@@ -36,11 +36,8 @@ same-length-3 c = search needs
 same-length-4 : tie.Need-same-length-4
 same-length-4 c = search needs
 
-same-length-5 : tie.Need-same-length-5
-same-length-5 c = search needs
-
 returns : tie.Need-returns
-returns c = let p = c .before .before .before .before .before .before .before .before .before .before .before .before .before .before .before .rebuild-calls .ensures in (p .0, calls-left _ (p .1 .1 .1 .0 .1 .0) (p .1 .1 .1 .0 .1 .1 .0) (p .1 .1 .1 .0 .1 .1 .1) (p .1 .1 .0 .1 .1))
+returns c = let p = c .before .before .before .before .before .before .before .before .before .before .before .before .before .rebuild-calls .ensures in (p .0, calls-left _ (p .1 .1 .1 .0 .1 .0) (p .1 .1 .1 .0 .1 .1) (p .1 .1 .0 .1 .1))
 
 pub calls-step-spec : {M : Type 1} → statement M
 calls-step-spec =
@@ -56,5 +53,4 @@ calls-step-spec =
     same-length-2
     same-length-3
     same-length-4
-    same-length-5
     returns)

@@ -50,7 +50,7 @@ returns-3 : tie.Need-returns-3
 returns-3 c = let p = c .before .before .before .before .before .before .before .before .once-step .ensures in (wrote-as (ap unlines (sym (step-2 plain (c .before .before .before .before .before .before .before .before .before .before .before .before .before .before .before .before .before .before .before .before .before .before .before .args .k) (linesOf (c .before .before .before .before .before .before .before .before .before .before .before .before .before .before .before .before .before .before .before .before .before .before .before .args .src .now)) (c .before .before .before .before .before .before .before .before .before .before .before .before .before .if3 .taken)))) (p .0), left-as (c .before .before .before .before .before .before .before .before .before .before .before .before .before .if3 .taken) (left-2 (p .1)))
 
 calls-step-requires : tie.Need-calls-step-requires
-calls-step-requires c κs = let p = c .before .before .before .before .before .before .before .before .before .before .before .before .before .before .before .before .pre .1 in (p .0, (p .1 .c-size, (p .1 .d-size, (p .1 .e-size, (p .1 .u-size, p .1 .b-size)))))
+calls-step-requires c κs = let p = c .before .before .before .before .before .before .before .before .before .before .before .before .before .before .before .pre .1 in (p .0, (p .1 .c-size, (p .1 .d-size, (p .1 .u-size, p .1 .b-size))))
 
 same-length-8 : tie.Need-same-length-8
 same-length-8 c = search needs
@@ -64,17 +64,14 @@ same-length-10 c = search needs
 same-length-11 : tie.Need-same-length-11
 same-length-11 c = search needs
 
-same-length-12 : tie.Need-same-length-12
-same-length-12 c = search needs
-
 returns-4 : tie.Need-returns-4
-returns-4 c = let p = c .before .before .before .before .before .before .before .before .before .before .calls-step .ensures in (wrote-as (ap unlines (sym (step-4 plain (c .before .before .before .before .before .before .before .before .before .before .before .before .before .before .before .before .before .before .before .before .before .before .before .before .before .before .before .args .k) (linesOf (c .before .before .before .before .before .before .before .before .before .before .before .before .before .before .before .before .before .before .before .before .before .before .before .before .before .before .before .args .src .now)) (c .before .before .before .before .before .before .before .before .before .before .before .before .before .before .before .before .if4 .taken)))) (p .0), left-as (c .before .before .before .before .before .before .before .before .before .before .before .before .before .before .before .before .if4 .taken) (left-4 (p .1)))
+returns-4 c = let p = c .before .before .before .before .before .before .before .before .calls-step .ensures in (wrote-as (ap unlines (sym (step-4 plain (c .before .before .before .before .before .before .before .before .before .before .before .before .before .before .before .before .before .before .before .before .before .before .before .before .args .k) (linesOf (c .before .before .before .before .before .before .before .before .before .before .before .before .before .before .before .before .before .before .before .before .before .before .before .before .args .src .now)) (c .before .before .before .before .before .before .before .before .before .before .before .before .before .if4 .taken)))) (p .0), left-as (c .before .before .before .before .before .before .before .before .before .before .before .before .before .if4 .taken) (left-4 (p .1)))
 
 decls-step-requires : tie.Need-decls-step-requires
 decls-step-requires c κs = let p = c .before .before .before .before .before .before .before .before .before .before .before .before .before .pre .1 in (p .0, p .1 .b-size)
 
-same-length-13 : tie.Need-same-length-13
-same-length-13 c = search needs
+same-length-12 : tie.Need-same-length-12
+same-length-12 c = search needs
 
 returns-5 : tie.Need-returns-5
 returns-5 c = let p = c .before .before .decls-step .ensures in (wrote-as (ap unlines (sym (step-5 plain (c .before .before .before .before .before .before .before .before .before .before .before .before .before .before .before .before .args .k) (linesOf (c .before .before .before .before .before .before .before .before .before .before .before .before .before .before .before .before .args .src .now)) (c .before .before .before .before .if5 .taken)))) (p), left-as (c .before .before .before .before .if5 .taken) left-5)
@@ -82,8 +79,8 @@ returns-5 c = let p = c .before .before .decls-step .ensures in (wrote-as (ap un
 put-lines-requires : tie.Need-put-lines-requires
 put-lines-requires c κs = let p = c .before .before .before .before .before .before .before .before .before .before .before .before .before .pre .1 in omega (arith, room-lines (p .0), p .1 .b-size)
 
-same-length-14 : tie.Need-same-length-14
-same-length-14 c = search needs
+same-length-13 : tie.Need-same-length-13
+same-length-13 c = search needs
 
 returns-6 : tie.Need-returns-6
 returns-6 c = (wrote-as (ap unlines (sym (step-else plain (c .before .before .before .before .before .before .before .before .before .before .before .before .before .before .before .before .args .k) (linesOf (c .before .before .before .before .before .before .before .before .before .before .before .before .before .before .before .before .args .src .now)) (c .before .before .before .before .before .before .before .before .if1 .left) (c .before .before .before .before .before .before .before .if2 .left) (c .before .before .before .before .before .before .if3 .left) (c .before .before .before .before .before .before .before .before .before .before .before .before .before .before .before .before .pre .0 .0) (c .before .before .before .before .before .if4 .left) (c .before .before .before .before .if5 .left) (c .before .before .before .before .before .before .before .before .before .before .before .before .before .before .before .before .pre .0 .1)))) (c .before .before .put-lines .ensures), left-else (c .before .before .before .before .before .before .before .if2 .left) (c .before .before .before .before .before .before .if3 .left) (c .before .before .before .before .before .before .before .before .before .before .before .before .before .before .before .before .pre .0 .0) (c .before .before .before .before .before .if4 .left) (c .before .before .before .before .before .before .before .before .before .before .before .before .before .before .before .before .pre .0 .1))
@@ -110,11 +107,10 @@ other-step-spec =
     same-length-9
     same-length-10
     same-length-11
-    same-length-12
     returns-4
     decls-step-requires
-    same-length-13
+    same-length-12
     returns-5
     put-lines-requires
-    same-length-14
+    same-length-13
     returns-6)

@@ -32,9 +32,9 @@ leftD k s d =
     (cond (eqb k 4) (putAt d 0 (replicate (length s) 0))
     d))
 
--- the buffer e: the lines of the second round of pass 3, or zeros
+-- the buffer e: the lines of the second round of pass 3
 unfoldable pub leftE : ℕ → List ℕ → List ℕ → List ℕ
-leftE k s e = cond (eqb k 3) (putAt e 0 (unlines (round plain (round plain (linesOf s))))) (cond (eqb k 4) (putAt e 0 (replicate (length s) 0)) e)
+leftE k s e = cond (eqb k 3) (putAt e 0 (unlines (round plain (round plain (linesOf s))))) e
 
 -- the block numbers u: the parents of the blocks that passes 2, 4 and 6 go by
 unfoldable pub leftU : ℕ → List ℕ → List ℕ → List ℕ

@@ -48,7 +48,7 @@ use mir.Val
 use prog.Wp
 use types.Kit
 
-abbrev pub ps : List.List (Kinds.PK 10)
+abbrev pub ps : List.List (Kinds.PK 9)
 ps =
     List._∷_
     (ShrSlice.pShrS (Referent.rtF (Referent.fInt Syntax.w8)) 0 tt)
@@ -69,12 +69,10 @@ ps =
     (List._∷_
     (MutSlice.pMutS (Referent.rtF (Referent.fInt Syntax.w8)) 7 tt)
     (List._∷_
-    (MutSlice.pMutS (Referent.rtF (Referent.fInt Syntax.w8)) 8 tt)
-    (List._∷_
-    (MutSlice.pMutS Elem.R 9 tt)
-    List.[]))))))))))
+    (MutSlice.pMutS Elem.R 8 tt)
+    List.[])))))))))
 
-abbrev pub r : Kinds.RK 10
+abbrev pub r : Kinds.RK 9
 r = Num.rNum Syntax.w64
 
 abbrev pub xs : List.List Syntax.Ty
@@ -191,18 +189,10 @@ xs =
     (Syntax.tcons
     (Syntax.tyRef Syntax.erased Syntax.mut (Syntax.tyInt Syntax.w8))
     (Syntax.tcons (Syntax.tyInt Syntax.w64) Syntax.tnil)))
-    (List._∷_
-    (Syntax.tyRef Syntax.erased Syntax.mut (Syntax.tyInt Syntax.w8))
-    (List._∷_
-    (Syntax.tyStruct
-    (List._∷_ 38 (List._∷_ 91 (List._∷_ 93 List.[])))
-    (Syntax.tcons
-    (Syntax.tyRef Syntax.erased Syntax.mut (Syntax.tyInt Syntax.w8))
-    (Syntax.tcons (Syntax.tyInt Syntax.w64) Syntax.tnil)))
-    List.[])))))))))))))))))))))
+    List.[])))))))))))))))))))
 
 abbrev pub m : Nat.ℕ
-m = 7
+m = 6
 
 abbrev pub ps·0 : List.List (Kinds.PK 3)
 ps·0 =
@@ -247,7 +237,7 @@ r·1 = Value.rVal record {
   of-mem = Local.whole-mem 𝓤 H A W (Declared.row LineRec.the-type);
 }
 
-abbrev pub ps·2 : List.List (Kinds.PK 8)
+abbrev pub ps·2 : List.List (Kinds.PK 7)
 ps·2 =
     List._∷_
     (ShrSlice.pShrS (Referent.rtF (Referent.fInt Syntax.w8)) 0 tt)
@@ -269,11 +259,9 @@ ps·2 =
     (Num.pNum Syntax.w64)
     (List._∷_
     (MutSlice.pMutS (Referent.rtF (Referent.fInt Syntax.w8)) 5 tt)
-    (List._∷_
-    (MutSlice.pMutS (Referent.rtF (Referent.fInt Syntax.w8)) 6 tt)
-    (List._∷_ (MutSlice.pMutS (Referent.rtF (Referent.fInt Syntax.w8)) 7 tt) List.[])))))))))))
+    (List._∷_ (MutSlice.pMutS (Referent.rtF (Referent.fInt Syntax.w8)) 6 tt) List.[]))))))))))
 
-abbrev pub r·2 : Kinds.RK 8
+abbrev pub r·2 : Kinds.RK 7
 r·2 = Num.rNum Syntax.w64
 
 abbrev pub hs : List.List Syntax.Home
@@ -336,32 +324,24 @@ hs =
     Syntax.valueLocal
     (List._∷_
     Syntax.valueLocal
-    (List._∷_
-    Syntax.valueLocal
-    (List._∷_
-    Syntax.valueLocal
-    (List._∷_
-    Syntax.valueLocal
-    (List._∷_
-    Syntax.valueLocal
-    (List._∷_ Syntax.valueLocal List.[])))))))))))))))))))))))))))))))))
+    (List._∷_ Syntax.valueLocal (List._∷_ Syntax.valueLocal List.[]))))))))))))))))))))))))))))))
 
 abbrev b0 : Syntax.Body
-b0 = Syntax.assign (Syntax.place 12 List.[]) (Syntax.rvOpd (Syntax.int Syntax.w64 0))
+b0 = Syntax.assign (Syntax.place 11 List.[]) (Syntax.rvOpd (Syntax.int Syntax.w64 0))
 
 abbrev b1 : Syntax.Body
-b1 = Syntax.assign (Syntax.place 13 List.[]) (Syntax.rvOpd (Syntax.int Syntax.w64 0))
+b1 = Syntax.assign (Syntax.place 12 List.[]) (Syntax.rvOpd (Syntax.int Syntax.w64 0))
 
 abbrev b2 : Syntax.Body
-b2 = Syntax.assign (Syntax.place 14 List.[]) (Syntax.rvOpd (Syntax.int Syntax.w64 0))
+b2 = Syntax.assign (Syntax.place 13 List.[]) (Syntax.rvOpd (Syntax.int Syntax.w64 0))
 
 abbrev b3 : Syntax.Body
 b3 =
     Syntax.assign
-    (Syntax.place 16 List.[])
+    (Syntax.place 15 List.[])
     (Syntax.op2
     (Syntax.lt Syntax.unsigned)
-    (Syntax.copy (Syntax.place 13 List.[]))
+    (Syntax.copy (Syntax.place 12 List.[]))
     (Syntax.copy (Syntax.place 3 List.[])))
 
 abbrev b4 : Syntax.Body
@@ -371,15 +351,15 @@ abbrev b5 : Syntax.Body
 b5 = Syntax.exit 1
 
 abbrev b6 : Syntax.Body
-b6 = Syntax.cond (Syntax.copy (Syntax.place 16 List.[])) b4 b5
+b6 = Syntax.cond (Syntax.copy (Syntax.place 15 List.[])) b4 b5
 
 abbrev b7 : Syntax.Body
 b7 =
     Syntax.assign
-    (Syntax.place 17 List.[])
+    (Syntax.place 16 List.[])
     (Syntax.addrOf
     (Syntax.place
-    11
+    10
     (List._∷_
     (Syntax.field 0)
     (List._∷_ (Syntax.deref Elem.held) List.[]))))
@@ -387,11 +367,11 @@ b7 =
 abbrev b8 : Syntax.Body
 b8 =
     Syntax.assign
-    (Syntax.place 18 List.[])
+    (Syntax.place 17 List.[])
     (Syntax.aggregate
     (List._∷_
-    (Syntax.copy (Syntax.place 17 List.[]))
-    (List._∷_ (Syntax.copy (Syntax.place 11 (List._∷_ (Syntax.field 1) List.[]))) List.[])))
+    (Syntax.copy (Syntax.place 16 List.[]))
+    (List._∷_ (Syntax.copy (Syntax.place 10 (List._∷_ (Syntax.field 1) List.[]))) List.[])))
 
 abbrev b9 : Syntax.Body
 b9 =
@@ -404,19 +384,19 @@ b9 =
     (List._∷_
     (Syntax.copy (Syntax.place 3 List.[]))
     (List._∷_
-    (Syntax.copy (Syntax.place 13 List.[]))
-    (List._∷_
     (Syntax.copy (Syntax.place 12 List.[]))
-    (List._∷_ (Syntax.copy (Syntax.place 18 List.[])) List.[]))))))
-    (Syntax.place 12 List.[])
+    (List._∷_
+    (Syntax.copy (Syntax.place 11 List.[]))
+    (List._∷_ (Syntax.copy (Syntax.place 17 List.[])) List.[]))))))
+    (Syntax.place 11 List.[])
 
 abbrev b10 : Syntax.Body
 b10 =
     Syntax.assign
-    (Syntax.place 19 List.[])
+    (Syntax.place 18 List.[])
     (Syntax.addrOf
     (Syntax.place
-    11
+    10
     (List._∷_
     (Syntax.field 0)
     (List._∷_ (Syntax.deref Elem.held) List.[]))))
@@ -424,49 +404,49 @@ b10 =
 abbrev b11 : Syntax.Body
 b11 =
     Syntax.assign
-    (Syntax.place 20 List.[])
+    (Syntax.place 19 List.[])
     (Syntax.aggregate
     (List._∷_
-    (Syntax.copy (Syntax.place 19 List.[]))
-    (List._∷_ (Syntax.copy (Syntax.place 11 (List._∷_ (Syntax.field 1) List.[]))) List.[])))
+    (Syntax.copy (Syntax.place 18 List.[]))
+    (List._∷_ (Syntax.copy (Syntax.place 10 (List._∷_ (Syntax.field 1) List.[]))) List.[])))
 
 abbrev b12 : Syntax.Body
 b12 =
     Syntax.assign
-    (Syntax.place 21 List.[])
-    (Syntax.rvOpd (Syntax.copy (Syntax.place 11 (List._∷_ (Syntax.field 1) List.[]))))
+    (Syntax.place 20 List.[])
+    (Syntax.rvOpd (Syntax.copy (Syntax.place 10 (List._∷_ (Syntax.field 1) List.[]))))
 
 abbrev b13 : Syntax.Body
 b13 =
     Syntax.assign
-    (Syntax.place 22 List.[])
+    (Syntax.place 21 List.[])
     (Syntax.op2
     (Syntax.add Syntax.unsigned)
-    (Syntax.copy (Syntax.place 13 List.[]))
-    (Syntax.copy (Syntax.place 21 List.[])))
+    (Syntax.copy (Syntax.place 12 List.[]))
+    (Syntax.copy (Syntax.place 20 List.[])))
 
 abbrev b14 : Syntax.Body
 b14 =
     Syntax.assign
-    (Syntax.place 23 List.[])
+    (Syntax.place 22 List.[])
     (Syntax.op2
     (Syntax.sub Syntax.unsigned)
-    (Syntax.copy (Syntax.place 22 List.[]))
-    (Syntax.copy (Syntax.place 12 List.[])))
+    (Syntax.copy (Syntax.place 21 List.[]))
+    (Syntax.copy (Syntax.place 11 List.[])))
 
 abbrev b15 : Syntax.Body
 b15 =
     Syntax.call
     "records::get"
     (List._∷_
-    (Syntax.copy (Syntax.place 20 List.[]))
-    (List._∷_ (Syntax.copy (Syntax.place 23 List.[])) List.[]))
-    (Syntax.place 15 List.[])
+    (Syntax.copy (Syntax.place 19 List.[]))
+    (List._∷_ (Syntax.copy (Syntax.place 22 List.[])) List.[]))
+    (Syntax.place 14 List.[])
 
 abbrev b16 : Syntax.Body
 b16 =
     Syntax.assign
-    (Syntax.place 24 List.[])
+    (Syntax.place 23 List.[])
     (Syntax.addrOf
     (Syntax.place
     6
@@ -475,16 +455,16 @@ b16 =
 abbrev b17 : Syntax.Body
 b17 =
     Syntax.assign
-    (Syntax.place 25 List.[])
+    (Syntax.place 24 List.[])
     (Syntax.aggregate
     (List._∷_
-    (Syntax.copy (Syntax.place 24 List.[]))
+    (Syntax.copy (Syntax.place 23 List.[]))
     (List._∷_ (Syntax.copy (Syntax.place 6 (List._∷_ (Syntax.field 1) List.[]))) List.[])))
 
 abbrev b18 : Syntax.Body
 b18 =
     Syntax.assign
-    (Syntax.place 26 List.[])
+    (Syntax.place 25 List.[])
     (Syntax.addrOf
     (Syntax.place
     7
@@ -493,16 +473,16 @@ b18 =
 abbrev b19 : Syntax.Body
 b19 =
     Syntax.assign
-    (Syntax.place 27 List.[])
+    (Syntax.place 26 List.[])
     (Syntax.aggregate
     (List._∷_
-    (Syntax.copy (Syntax.place 26 List.[]))
+    (Syntax.copy (Syntax.place 25 List.[]))
     (List._∷_ (Syntax.copy (Syntax.place 7 (List._∷_ (Syntax.field 1) List.[]))) List.[])))
 
 abbrev b20 : Syntax.Body
 b20 =
     Syntax.assign
-    (Syntax.place 28 List.[])
+    (Syntax.place 27 List.[])
     (Syntax.addrOf
     (Syntax.place
     8
@@ -511,16 +491,16 @@ b20 =
 abbrev b21 : Syntax.Body
 b21 =
     Syntax.assign
-    (Syntax.place 29 List.[])
+    (Syntax.place 28 List.[])
     (Syntax.aggregate
     (List._∷_
-    (Syntax.copy (Syntax.place 28 List.[]))
+    (Syntax.copy (Syntax.place 27 List.[]))
     (List._∷_ (Syntax.copy (Syntax.place 8 (List._∷_ (Syntax.field 1) List.[]))) List.[])))
 
 abbrev b22 : Syntax.Body
 b22 =
     Syntax.assign
-    (Syntax.place 30 List.[])
+    (Syntax.place 29 List.[])
     (Syntax.addrOf
     (Syntax.place
     9
@@ -529,163 +509,137 @@ b22 =
 abbrev b23 : Syntax.Body
 b23 =
     Syntax.assign
-    (Syntax.place 31 List.[])
+    (Syntax.place 30 List.[])
     (Syntax.aggregate
     (List._∷_
-    (Syntax.copy (Syntax.place 30 List.[]))
+    (Syntax.copy (Syntax.place 29 List.[]))
     (List._∷_ (Syntax.copy (Syntax.place 9 (List._∷_ (Syntax.field 1) List.[]))) List.[])))
 
 abbrev b24 : Syntax.Body
 b24 =
-    Syntax.assign
-    (Syntax.place 32 List.[])
-    (Syntax.addrOf
-    (Syntax.place
-    10
-    (List._∷_ (Syntax.field 0) (List._∷_ (Syntax.deref (Syntax.tyInt Syntax.w8)) List.[]))))
-
-abbrev b25 : Syntax.Body
-b25 =
-    Syntax.assign
-    (Syntax.place 33 List.[])
-    (Syntax.aggregate
-    (List._∷_
-    (Syntax.copy (Syntax.place 32 List.[]))
-    (List._∷_ (Syntax.copy (Syntax.place 10 (List._∷_ (Syntax.field 1) List.[]))) List.[])))
-
-abbrev b26 : Syntax.Body
-b26 =
     Syntax.call
     "calls::turn_line"
     (List._∷_
     (Syntax.copy (Syntax.place 1 List.[]))
     (List._∷_
-    (Syntax.copy (Syntax.place 15 (List._∷_ (Syntax.field 0) List.[])))
+    (Syntax.copy (Syntax.place 14 (List._∷_ (Syntax.field 0) List.[])))
     (List._∷_
-    (Syntax.copy (Syntax.place 15 (List._∷_ (Syntax.field 1) List.[])))
+    (Syntax.copy (Syntax.place 14 (List._∷_ (Syntax.field 1) List.[])))
     (List._∷_
-    (Syntax.copy (Syntax.place 13 List.[]))
+    (Syntax.copy (Syntax.place 12 List.[]))
     (List._∷_
     (Syntax.copy (Syntax.place 4 List.[]))
     (List._∷_
     (Syntax.copy (Syntax.place 5 List.[]))
     (List._∷_
-    (Syntax.copy (Syntax.place 25 List.[]))
+    (Syntax.copy (Syntax.place 24 List.[]))
     (List._∷_
-    (Syntax.copy (Syntax.place 27 List.[]))
+    (Syntax.copy (Syntax.place 26 List.[]))
     (List._∷_
-    (Syntax.copy (Syntax.place 14 List.[]))
+    (Syntax.copy (Syntax.place 13 List.[]))
     (List._∷_
-    (Syntax.copy (Syntax.place 29 List.[]))
-    (List._∷_
-    (Syntax.copy (Syntax.place 31 List.[]))
-    (List._∷_ (Syntax.copy (Syntax.place 33 List.[])) List.[]))))))))))))
-    (Syntax.place 14 List.[])
-
-abbrev b27 : Syntax.Body
-b27 =
-    Syntax.assign
+    (Syntax.copy (Syntax.place 28 List.[]))
+    (List._∷_ (Syntax.copy (Syntax.place 30 List.[])) List.[])))))))))))
     (Syntax.place 13 List.[])
+
+abbrev b25 : Syntax.Body
+b25 =
+    Syntax.assign
+    (Syntax.place 12 List.[])
     (Syntax.op2
     (Syntax.add Syntax.unsigned)
-    (Syntax.copy (Syntax.place 13 List.[]))
+    (Syntax.copy (Syntax.place 12 List.[]))
     (Syntax.int Syntax.w64 1))
 
+abbrev b26 : Syntax.Body
+b26 = Syntax.seq b24 b25
+
+abbrev b27 : Syntax.Body
+b27 = Syntax.seq b23 b26
+
 abbrev b28 : Syntax.Body
-b28 = Syntax.seq b26 b27
+b28 = Syntax.seq b22 b27
 
 abbrev b29 : Syntax.Body
-b29 = Syntax.seq b25 b28
+b29 = Syntax.seq b21 b28
 
 abbrev b30 : Syntax.Body
-b30 = Syntax.seq b24 b29
+b30 = Syntax.seq b20 b29
 
 abbrev b31 : Syntax.Body
-b31 = Syntax.seq b23 b30
+b31 = Syntax.seq b19 b30
 
 abbrev b32 : Syntax.Body
-b32 = Syntax.seq b22 b31
+b32 = Syntax.seq b18 b31
 
 abbrev b33 : Syntax.Body
-b33 = Syntax.seq b21 b32
+b33 = Syntax.seq b17 b32
 
 abbrev b34 : Syntax.Body
-b34 = Syntax.seq b20 b33
+b34 = Syntax.seq b16 b33
 
 abbrev b35 : Syntax.Body
-b35 = Syntax.seq b19 b34
+b35 = Syntax.seq b15 b34
 
 abbrev b36 : Syntax.Body
-b36 = Syntax.seq b18 b35
+b36 = Syntax.seq b14 b35
 
 abbrev b37 : Syntax.Body
-b37 = Syntax.seq b17 b36
+b37 = Syntax.seq b13 b36
 
 abbrev b38 : Syntax.Body
-b38 = Syntax.seq b16 b37
+b38 = Syntax.seq b12 b37
 
 abbrev b39 : Syntax.Body
-b39 = Syntax.seq b15 b38
+b39 = Syntax.seq b11 b38
 
 abbrev b40 : Syntax.Body
-b40 = Syntax.seq b14 b39
+b40 = Syntax.seq b10 b39
 
 abbrev b41 : Syntax.Body
-b41 = Syntax.seq b13 b40
+b41 = Syntax.seq b9 b40
 
 abbrev b42 : Syntax.Body
-b42 = Syntax.seq b12 b41
+b42 = Syntax.seq b8 b41
 
 abbrev b43 : Syntax.Body
-b43 = Syntax.seq b11 b42
+b43 = Syntax.seq b7 b42
 
 abbrev b44 : Syntax.Body
-b44 = Syntax.seq b10 b43
+b44 = Syntax.seq b6 b43
 
 abbrev b45 : Syntax.Body
-b45 = Syntax.seq b9 b44
+b45 = Syntax.seq b3 b44
 
 abbrev b46 : Syntax.Body
-b46 = Syntax.seq b8 b45
+b46 = Syntax.loop b45
 
 abbrev b47 : Syntax.Body
-b47 = Syntax.seq b7 b46
+b47 = Syntax.block b46
 
 abbrev b48 : Syntax.Body
-b48 = Syntax.seq b6 b47
+b48 = Syntax.assign (Syntax.place 0 List.[]) (Syntax.rvOpd (Syntax.copy (Syntax.place 13 List.[])))
 
 abbrev b49 : Syntax.Body
-b49 = Syntax.seq b3 b48
+b49 = Syntax.return
 
 abbrev b50 : Syntax.Body
-b50 = Syntax.loop b49
+b50 = Syntax.seq b48 b49
 
 abbrev b51 : Syntax.Body
-b51 = Syntax.block b50
+b51 = Syntax.seq b47 b50
 
 abbrev b52 : Syntax.Body
-b52 = Syntax.assign (Syntax.place 0 List.[]) (Syntax.rvOpd (Syntax.copy (Syntax.place 14 List.[])))
+b52 = Syntax.seq b2 b51
 
 abbrev b53 : Syntax.Body
-b53 = Syntax.return
+b53 = Syntax.seq b1 b52
 
 abbrev b54 : Syntax.Body
-b54 = Syntax.seq b52 b53
-
-abbrev b55 : Syntax.Body
-b55 = Syntax.seq b51 b54
-
-abbrev b56 : Syntax.Body
-b56 = Syntax.seq b2 b55
-
-abbrev b57 : Syntax.Body
-b57 = Syntax.seq b1 b56
-
-abbrev b58 : Syntax.Body
-b58 = Syntax.seq b0 b57
+b54 = Syntax.seq b0 b53
 
 abbrev pub body : Syntax.Body
-body = b58
+body = b54
 
 abbrev pub Claims : Type 1
 Claims =
@@ -693,8 +647,8 @@ Claims =
     Kinds.Out 3 ps·0 r·0 ×
     Kinds.In 1 ps·1 ×
     Kinds.Out 1 ps·1 r·1 ×
-    Kinds.In 8 ps·2 ×
-    Kinds.Out 8 ps·2 r·2
+    Kinds.In 7 ps·2 ×
+    Kinds.Out 7 ps·2 r·2
 
 abbrev pub t0 : List.List Row.Entry
 t0 = List._∷_ (0, Rows.any-gone (Syntax.tyInt Syntax.w64)) (List._∷_ (
@@ -748,20 +702,14 @@ t0 = List._∷_ (0, Rows.any-gone (Syntax.tyInt Syntax.w64)) (List._∷_ (
 ) (List._∷_ (
   10,
   Mut.mslice
-      (Referent.rtF (Referent.fInt Syntax.w8))
-      (Syntax.tyRef (Syntax.named 8) Syntax.mut (Syntax.tyInt Syntax.w8))
-      8,
-) (List._∷_ (
-  11,
-  Mut.mslice
       Elem.R
-      (Syntax.tyRef (Syntax.named 9) Syntax.mut Elem.ty)
-      9,
-) (List._∷_ (12, Rows.any-gone (Syntax.tyInt Syntax.w64)) (List._∷_ (
-  13,
+      (Syntax.tyRef (Syntax.named 8) Syntax.mut Elem.ty)
+      8,
+) (List._∷_ (11, Rows.any-gone (Syntax.tyInt Syntax.w64)) (List._∷_ (
+  12,
   Rows.any-gone (Syntax.tyInt Syntax.w64),
-) (List._∷_ (14, Rows.any-gone (Syntax.tyInt Syntax.w64)) (List._∷_ (
-  15,
+) (List._∷_ (13, Rows.any-gone (Syntax.tyInt Syntax.w64)) (List._∷_ (
+  14,
   Rows.any-gone
       (Syntax.tyStruct
       (List._∷_
@@ -812,15 +760,15 @@ t0 = List._∷_ (0, Rows.any-gone (Syntax.tyInt Syntax.w64)) (List._∷_ (
       (List._∷_ 101 (List._∷_ 103 (List._∷_ 105 (List._∷_ 111 (List._∷_ 110 List.[])))))))))))))
       (Syntax.tcons (Syntax.tyInt Syntax.w64) Syntax.tnil))
       (Syntax.tcons (Syntax.tyInt Syntax.w64) Syntax.tnil))))),
-) List.[])))))))))))))))
+) (List._∷_ (15, Rows.any-gone Syntax.tyBool) List.[])))))))))))))))
 
 abbrev pub t1 : List.List Row.Entry
-t1 = List._∷_ (16, Rows.any-gone Syntax.tyBool) (List._∷_ (
-  17,
+t1 = List._∷_ (
+  16,
   Rows.any-gone
       (Syntax.tyRef Syntax.erased Syntax.mut Elem.ty),
 ) (List._∷_ (
-  18,
+  17,
   Rows.any-gone
       (Syntax.tyStruct
       (List._∷_ 38 (List._∷_ 91 (List._∷_ 93 List.[])))
@@ -828,25 +776,25 @@ t1 = List._∷_ (16, Rows.any-gone Syntax.tyBool) (List._∷_ (
       (Syntax.tyRef Syntax.erased Syntax.mut Elem.ty)
       (Syntax.tcons (Syntax.tyInt Syntax.w64) Syntax.tnil))),
 ) (List._∷_ (
-  19,
+  18,
   Rows.any-gone
       (Syntax.tyRef Syntax.erased Syntax.imm Elem.ty),
 ) (List._∷_ (
-  20,
+  19,
   Rows.any-gone
       (Syntax.tyStruct
       (List._∷_ 38 (List._∷_ 91 (List._∷_ 93 List.[])))
       (Syntax.tcons
       (Syntax.tyRef Syntax.erased Syntax.imm Elem.ty)
       (Syntax.tcons (Syntax.tyInt Syntax.w64) Syntax.tnil))),
-) (List._∷_ (21, Rows.any-gone (Syntax.tyInt Syntax.w64)) (List._∷_ (
-  22,
+) (List._∷_ (20, Rows.any-gone (Syntax.tyInt Syntax.w64)) (List._∷_ (
+  21,
   Rows.any-gone (Syntax.tyInt Syntax.w64),
-) (List._∷_ (23, Rows.any-gone (Syntax.tyInt Syntax.w64)) (List._∷_ (
-  24,
+) (List._∷_ (22, Rows.any-gone (Syntax.tyInt Syntax.w64)) (List._∷_ (
+  23,
   Rows.any-gone (Syntax.tyRef Syntax.erased Syntax.mut (Syntax.tyInt Syntax.w64)),
 ) (List._∷_ (
-  25,
+  24,
   Rows.any-gone
       (Syntax.tyStruct
       (List._∷_ 38 (List._∷_ 91 (List._∷_ 93 List.[])))
@@ -855,55 +803,41 @@ t1 = List._∷_ (16, Rows.any-gone Syntax.tyBool) (List._∷_ (
       (Syntax.tcons (Syntax.tyInt Syntax.w64) Syntax.tnil))),
 )
     (List._∷_
-    (26, Rows.any-gone (Syntax.tyRef Syntax.erased Syntax.mut (Syntax.tyInt Syntax.w8)))
+    (25, Rows.any-gone (Syntax.tyRef Syntax.erased Syntax.mut (Syntax.tyInt Syntax.w8)))
     (List._∷_ (
-      27,
+      26,
       Rows.any-gone
           (Syntax.tyStruct
           (List._∷_ 38 (List._∷_ 91 (List._∷_ 93 List.[])))
           (Syntax.tcons
           (Syntax.tyRef Syntax.erased Syntax.mut (Syntax.tyInt Syntax.w8))
           (Syntax.tcons (Syntax.tyInt Syntax.w64) Syntax.tnil))),
+    ) (List._∷_ (
+      27,
+      Rows.any-gone (Syntax.tyRef Syntax.erased Syntax.mut (Syntax.tyInt Syntax.w8)),
     ) (List._∷_ (
       28,
-      Rows.any-gone (Syntax.tyRef Syntax.erased Syntax.mut (Syntax.tyInt Syntax.w8)),
+      Rows.any-gone
+          (Syntax.tyStruct
+          (List._∷_ 38 (List._∷_ 91 (List._∷_ 93 List.[])))
+          (Syntax.tcons
+          (Syntax.tyRef Syntax.erased Syntax.mut (Syntax.tyInt Syntax.w8))
+          (Syntax.tcons (Syntax.tyInt Syntax.w64) Syntax.tnil))),
     ) (List._∷_ (
       29,
-      Rows.any-gone
-          (Syntax.tyStruct
-          (List._∷_ 38 (List._∷_ 91 (List._∷_ 93 List.[])))
-          (Syntax.tcons
-          (Syntax.tyRef Syntax.erased Syntax.mut (Syntax.tyInt Syntax.w8))
-          (Syntax.tcons (Syntax.tyInt Syntax.w64) Syntax.tnil))),
-    ) (List._∷_ (
-      30,
       Rows.any-gone (Syntax.tyRef Syntax.erased Syntax.mut (Syntax.tyInt Syntax.w8)),
     ) (List._∷_ (
-      31,
+      30,
       Rows.any-gone
           (Syntax.tyStruct
           (List._∷_ 38 (List._∷_ 91 (List._∷_ 93 List.[])))
           (Syntax.tcons
           (Syntax.tyRef Syntax.erased Syntax.mut (Syntax.tyInt Syntax.w8))
           (Syntax.tcons (Syntax.tyInt Syntax.w64) Syntax.tnil))),
-    ) List.[])))))))))))))))
+    ) List.[]))))))))))))))
 
 abbrev pub t2 : List.List Row.Entry
-t2 =
-    List._∷_
-    (32, Rows.any-gone (Syntax.tyRef Syntax.erased Syntax.mut (Syntax.tyInt Syntax.w8)))
-    (List._∷_ (
-      33,
-      Rows.any-gone
-          (Syntax.tyStruct
-          (List._∷_ 38 (List._∷_ 91 (List._∷_ 93 List.[])))
-          (Syntax.tcons
-          (Syntax.tyRef Syntax.erased Syntax.mut (Syntax.tyInt Syntax.w8))
-          (Syntax.tcons (Syntax.tyInt Syntax.w64) Syntax.tnil))),
-    ) List.[])
-
-abbrev pub t3 : List.List Row.Entry
-t3 = List._∷_ (0, Rows.sc-here (Row.sInt Syntax.w64)) (List._∷_ (
+t2 = List._∷_ (0, Rows.sc-here (Row.sInt Syntax.w64)) (List._∷_ (
   1,
   Rows.sslice
       (Referent.rtF (Referent.fInt Syntax.w8))
@@ -954,20 +888,14 @@ t3 = List._∷_ (0, Rows.sc-here (Row.sInt Syntax.w64)) (List._∷_ (
 ) (List._∷_ (
   10,
   Mut.mslice
-      (Referent.rtF (Referent.fInt Syntax.w8))
-      (Syntax.tyRef (Syntax.named 8) Syntax.mut (Syntax.tyInt Syntax.w8))
-      8,
-) (List._∷_ (
-  11,
-  Mut.mslice
       Elem.R
-      (Syntax.tyRef (Syntax.named 9) Syntax.mut Elem.ty)
-      9,
-) (List._∷_ (12, Rows.any-gone (Syntax.tyInt Syntax.w64)) (List._∷_ (
-  13,
+      (Syntax.tyRef (Syntax.named 8) Syntax.mut Elem.ty)
+      8,
+) (List._∷_ (11, Rows.any-gone (Syntax.tyInt Syntax.w64)) (List._∷_ (
+  12,
   Rows.any-gone (Syntax.tyInt Syntax.w64),
-) (List._∷_ (14, Rows.any-gone (Syntax.tyInt Syntax.w64)) (List._∷_ (
-  15,
+) (List._∷_ (13, Rows.any-gone (Syntax.tyInt Syntax.w64)) (List._∷_ (
+  14,
   Rows.any-gone
       (Syntax.tyStruct
       (List._∷_
@@ -1018,7 +946,119 @@ t3 = List._∷_ (0, Rows.sc-here (Row.sInt Syntax.w64)) (List._∷_ (
       (List._∷_ 101 (List._∷_ 103 (List._∷_ 105 (List._∷_ 111 (List._∷_ 110 List.[])))))))))))))
       (Syntax.tcons (Syntax.tyInt Syntax.w64) Syntax.tnil))
       (Syntax.tcons (Syntax.tyInt Syntax.w64) Syntax.tnil))))),
-) List.[])))))))))))))))
+) (List._∷_ (15, Rows.any-gone Syntax.tyBool) List.[])))))))))))))))
+
+abbrev pub t3 : List.List Row.Entry
+t3 = List._∷_ (0, Rows.any-gone (Syntax.tyInt Syntax.w64)) (List._∷_ (
+  1,
+  Rows.sslice
+      (Referent.rtF (Referent.fInt Syntax.w8))
+      (Syntax.tyRef (Syntax.named 0) Syntax.imm (Syntax.tyInt Syntax.w8))
+      0,
+) (List._∷_ (
+  2,
+  Rows.sslice
+      (Referent.rtF (Referent.fInt Syntax.w64))
+      (Syntax.tyRef (Syntax.named 1) Syntax.imm (Syntax.tyInt Syntax.w64))
+      1,
+) (List._∷_ (3, Rows.sc-here (Row.sInt Syntax.w64)) (List._∷_ (
+  4,
+  Rows.sslice
+      (Referent.rtF (Referent.fInt Syntax.w64))
+      (Syntax.tyRef (Syntax.named 2) Syntax.imm (Syntax.tyInt Syntax.w64))
+      2,
+) (List._∷_ (
+  5,
+  Rows.sslice
+      (Referent.rtF (Referent.fInt Syntax.w8))
+      (Syntax.tyRef (Syntax.named 3) Syntax.imm (Syntax.tyInt Syntax.w8))
+      3,
+) (List._∷_ (
+  6,
+  Mut.mslice
+      (Referent.rtF (Referent.fInt Syntax.w64))
+      (Syntax.tyRef (Syntax.named 4) Syntax.mut (Syntax.tyInt Syntax.w64))
+      4,
+) (List._∷_ (
+  7,
+  Mut.mslice
+      (Referent.rtF (Referent.fInt Syntax.w8))
+      (Syntax.tyRef (Syntax.named 5) Syntax.mut (Syntax.tyInt Syntax.w8))
+      5,
+) (List._∷_ (
+  8,
+  Mut.mslice
+      (Referent.rtF (Referent.fInt Syntax.w8))
+      (Syntax.tyRef (Syntax.named 6) Syntax.mut (Syntax.tyInt Syntax.w8))
+      6,
+) (List._∷_ (
+  9,
+  Mut.mslice
+      (Referent.rtF (Referent.fInt Syntax.w8))
+      (Syntax.tyRef (Syntax.named 7) Syntax.mut (Syntax.tyInt Syntax.w8))
+      7,
+) (List._∷_ (
+  10,
+  Mut.mslice
+      Elem.R
+      (Syntax.tyRef (Syntax.named 8) Syntax.mut Elem.ty)
+      8,
+) (List._∷_ (11, Rows.sc-here (Row.sInt Syntax.w64)) (List._∷_ (
+  12,
+  Rows.any-gone (Syntax.tyInt Syntax.w64),
+) (List._∷_ (13, Rows.any-gone (Syntax.tyInt Syntax.w64)) (List._∷_ (
+  14,
+  Rows.any-gone
+      (Syntax.tyStruct
+      (List._∷_
+      114
+      (List._∷_
+      101
+      (List._∷_
+      99
+      (List._∷_
+      111
+      (List._∷_
+      114
+      (List._∷_
+      100
+      (List._∷_
+      115
+      (List._∷_
+      58
+      (List._∷_
+      58
+      (List._∷_
+      76
+      (List._∷_
+      105
+      (List._∷_ 110 (List._∷_ 101 (List._∷_ 82 (List._∷_ 101 (List._∷_ 99 List.[]))))))))))))))))
+      (Syntax.tcons
+      (Syntax.tyInt Syntax.w64)
+      (Syntax.tcons
+      (Syntax.tyInt Syntax.w64)
+      (Syntax.tcons
+      (Syntax.tyStruct
+      (List._∷_
+      112
+      (List._∷_
+      108
+      (List._∷_
+      97
+      (List._∷_
+      99
+      (List._∷_
+      101
+      (List._∷_
+      58
+      (List._∷_
+      58
+      (List._∷_
+      82
+      (List._∷_ 101 (List._∷_ 103 (List._∷_ 105 (List._∷_ 111 (List._∷_ 110 List.[])))))))))))))
+      (Syntax.tcons (Syntax.tyInt Syntax.w64) Syntax.tnil))
+      (Syntax.tcons (Syntax.tyInt Syntax.w64) Syntax.tnil))))),
+) (List._∷_ (15, Rows.any-gone Syntax.tyBool) List.[])))))))))))))))
 
 abbrev pub t4 : List.List Row.Entry
 t4 = List._∷_ (0, Rows.any-gone (Syntax.tyInt Syntax.w64)) (List._∷_ (
@@ -1072,20 +1112,14 @@ t4 = List._∷_ (0, Rows.any-gone (Syntax.tyInt Syntax.w64)) (List._∷_ (
 ) (List._∷_ (
   10,
   Mut.mslice
-      (Referent.rtF (Referent.fInt Syntax.w8))
-      (Syntax.tyRef (Syntax.named 8) Syntax.mut (Syntax.tyInt Syntax.w8))
-      8,
-) (List._∷_ (
-  11,
-  Mut.mslice
       Elem.R
-      (Syntax.tyRef (Syntax.named 9) Syntax.mut Elem.ty)
-      9,
-) (List._∷_ (12, Rows.sc-here (Row.sInt Syntax.w64)) (List._∷_ (
-  13,
-  Rows.any-gone (Syntax.tyInt Syntax.w64),
-) (List._∷_ (14, Rows.any-gone (Syntax.tyInt Syntax.w64)) (List._∷_ (
-  15,
+      (Syntax.tyRef (Syntax.named 8) Syntax.mut Elem.ty)
+      8,
+) (List._∷_ (11, Rows.sc-here (Row.sInt Syntax.w64)) (List._∷_ (
+  12,
+  Rows.sc-here (Row.sInt Syntax.w64),
+) (List._∷_ (13, Rows.any-gone (Syntax.tyInt Syntax.w64)) (List._∷_ (
+  14,
   Rows.any-gone
       (Syntax.tyStruct
       (List._∷_
@@ -1136,7 +1170,7 @@ t4 = List._∷_ (0, Rows.any-gone (Syntax.tyInt Syntax.w64)) (List._∷_ (
       (List._∷_ 101 (List._∷_ 103 (List._∷_ 105 (List._∷_ 111 (List._∷_ 110 List.[])))))))))))))
       (Syntax.tcons (Syntax.tyInt Syntax.w64) Syntax.tnil))
       (Syntax.tcons (Syntax.tyInt Syntax.w64) Syntax.tnil))))),
-) List.[])))))))))))))))
+) (List._∷_ (15, Rows.any-gone Syntax.tyBool) List.[])))))))))))))))
 
 abbrev pub t5 : List.List Row.Entry
 t5 = List._∷_ (0, Rows.any-gone (Syntax.tyInt Syntax.w64)) (List._∷_ (
@@ -1190,20 +1224,14 @@ t5 = List._∷_ (0, Rows.any-gone (Syntax.tyInt Syntax.w64)) (List._∷_ (
 ) (List._∷_ (
   10,
   Mut.mslice
-      (Referent.rtF (Referent.fInt Syntax.w8))
-      (Syntax.tyRef (Syntax.named 8) Syntax.mut (Syntax.tyInt Syntax.w8))
-      8,
-) (List._∷_ (
-  11,
-  Mut.mslice
       Elem.R
-      (Syntax.tyRef (Syntax.named 9) Syntax.mut Elem.ty)
-      9,
-) (List._∷_ (12, Rows.sc-here (Row.sInt Syntax.w64)) (List._∷_ (
-  13,
+      (Syntax.tyRef (Syntax.named 8) Syntax.mut Elem.ty)
+      8,
+) (List._∷_ (11, Rows.sc-here (Row.sInt Syntax.w64)) (List._∷_ (
+  12,
   Rows.sc-here (Row.sInt Syntax.w64),
-) (List._∷_ (14, Rows.any-gone (Syntax.tyInt Syntax.w64)) (List._∷_ (
-  15,
+) (List._∷_ (13, Rows.sc-here (Row.sInt Syntax.w64)) (List._∷_ (
+  14,
   Rows.any-gone
       (Syntax.tyStruct
       (List._∷_
@@ -1254,7 +1282,7 @@ t5 = List._∷_ (0, Rows.any-gone (Syntax.tyInt Syntax.w64)) (List._∷_ (
       (List._∷_ 101 (List._∷_ 103 (List._∷_ 105 (List._∷_ 111 (List._∷_ 110 List.[])))))))))))))
       (Syntax.tcons (Syntax.tyInt Syntax.w64) Syntax.tnil))
       (Syntax.tcons (Syntax.tyInt Syntax.w64) Syntax.tnil))))),
-) List.[])))))))))))))))
+) (List._∷_ (15, Rows.any-gone Syntax.tyBool) List.[])))))))))))))))
 
 abbrev pub t6 : List.List Row.Entry
 t6 = List._∷_ (0, Rows.any-gone (Syntax.tyInt Syntax.w64)) (List._∷_ (
@@ -1308,20 +1336,14 @@ t6 = List._∷_ (0, Rows.any-gone (Syntax.tyInt Syntax.w64)) (List._∷_ (
 ) (List._∷_ (
   10,
   Mut.mslice
-      (Referent.rtF (Referent.fInt Syntax.w8))
-      (Syntax.tyRef (Syntax.named 8) Syntax.mut (Syntax.tyInt Syntax.w8))
-      8,
-) (List._∷_ (
-  11,
-  Mut.mslice
       Elem.R
-      (Syntax.tyRef (Syntax.named 9) Syntax.mut Elem.ty)
-      9,
-) (List._∷_ (12, Rows.sc-here (Row.sInt Syntax.w64)) (List._∷_ (
-  13,
+      (Syntax.tyRef (Syntax.named 8) Syntax.mut Elem.ty)
+      8,
+) (List._∷_ (11, Rows.sc-here (Row.sInt Syntax.w64)) (List._∷_ (
+  12,
   Rows.sc-here (Row.sInt Syntax.w64),
-) (List._∷_ (14, Rows.sc-here (Row.sInt Syntax.w64)) (List._∷_ (
-  15,
+) (List._∷_ (13, Rows.sc-here (Row.sInt Syntax.w64)) (List._∷_ (
+  14,
   Rows.any-gone
       (Syntax.tyStruct
       (List._∷_
@@ -1372,84 +1394,10 @@ t6 = List._∷_ (0, Rows.any-gone (Syntax.tyInt Syntax.w64)) (List._∷_ (
       (List._∷_ 101 (List._∷_ 103 (List._∷_ 105 (List._∷_ 111 (List._∷_ 110 List.[])))))))))))))
       (Syntax.tcons (Syntax.tyInt Syntax.w64) Syntax.tnil))
       (Syntax.tcons (Syntax.tyInt Syntax.w64) Syntax.tnil))))),
-) List.[])))))))))))))))
+) (List._∷_ (15, Rows.sc-here Row.sBool) List.[])))))))))))))))
 
 abbrev pub t7 : List.List Row.Entry
-t7 = List._∷_ (16, Rows.sc-here Row.sBool) (List._∷_ (
-  17,
-  Rows.any-gone
-      (Syntax.tyRef Syntax.erased Syntax.mut Elem.ty),
-) (List._∷_ (
-  18,
-  Rows.any-gone
-      (Syntax.tyStruct
-      (List._∷_ 38 (List._∷_ 91 (List._∷_ 93 List.[])))
-      (Syntax.tcons
-      (Syntax.tyRef Syntax.erased Syntax.mut Elem.ty)
-      (Syntax.tcons (Syntax.tyInt Syntax.w64) Syntax.tnil))),
-) (List._∷_ (
-  19,
-  Rows.any-gone
-      (Syntax.tyRef Syntax.erased Syntax.imm Elem.ty),
-) (List._∷_ (
-  20,
-  Rows.any-gone
-      (Syntax.tyStruct
-      (List._∷_ 38 (List._∷_ 91 (List._∷_ 93 List.[])))
-      (Syntax.tcons
-      (Syntax.tyRef Syntax.erased Syntax.imm Elem.ty)
-      (Syntax.tcons (Syntax.tyInt Syntax.w64) Syntax.tnil))),
-) (List._∷_ (21, Rows.any-gone (Syntax.tyInt Syntax.w64)) (List._∷_ (
-  22,
-  Rows.any-gone (Syntax.tyInt Syntax.w64),
-) (List._∷_ (23, Rows.any-gone (Syntax.tyInt Syntax.w64)) (List._∷_ (
-  24,
-  Rows.any-gone (Syntax.tyRef Syntax.erased Syntax.mut (Syntax.tyInt Syntax.w64)),
-) (List._∷_ (
-  25,
-  Rows.any-gone
-      (Syntax.tyStruct
-      (List._∷_ 38 (List._∷_ 91 (List._∷_ 93 List.[])))
-      (Syntax.tcons
-      (Syntax.tyRef Syntax.erased Syntax.mut (Syntax.tyInt Syntax.w64))
-      (Syntax.tcons (Syntax.tyInt Syntax.w64) Syntax.tnil))),
-)
-    (List._∷_
-    (26, Rows.any-gone (Syntax.tyRef Syntax.erased Syntax.mut (Syntax.tyInt Syntax.w8)))
-    (List._∷_ (
-      27,
-      Rows.any-gone
-          (Syntax.tyStruct
-          (List._∷_ 38 (List._∷_ 91 (List._∷_ 93 List.[])))
-          (Syntax.tcons
-          (Syntax.tyRef Syntax.erased Syntax.mut (Syntax.tyInt Syntax.w8))
-          (Syntax.tcons (Syntax.tyInt Syntax.w64) Syntax.tnil))),
-    ) (List._∷_ (
-      28,
-      Rows.any-gone (Syntax.tyRef Syntax.erased Syntax.mut (Syntax.tyInt Syntax.w8)),
-    ) (List._∷_ (
-      29,
-      Rows.any-gone
-          (Syntax.tyStruct
-          (List._∷_ 38 (List._∷_ 91 (List._∷_ 93 List.[])))
-          (Syntax.tcons
-          (Syntax.tyRef Syntax.erased Syntax.mut (Syntax.tyInt Syntax.w8))
-          (Syntax.tcons (Syntax.tyInt Syntax.w64) Syntax.tnil))),
-    ) (List._∷_ (
-      30,
-      Rows.any-gone (Syntax.tyRef Syntax.erased Syntax.mut (Syntax.tyInt Syntax.w8)),
-    ) (List._∷_ (
-      31,
-      Rows.any-gone
-          (Syntax.tyStruct
-          (List._∷_ 38 (List._∷_ 91 (List._∷_ 93 List.[])))
-          (Syntax.tcons
-          (Syntax.tyRef Syntax.erased Syntax.mut (Syntax.tyInt Syntax.w8))
-          (Syntax.tcons (Syntax.tyInt Syntax.w64) Syntax.tnil))),
-    ) List.[])))))))))))))))
-
-abbrev pub t8 : List.List Row.Entry
-t8 = List._∷_ (0, Rows.any-gone (Syntax.tyInt Syntax.w64)) (List._∷_ (
+t7 = List._∷_ (0, Rows.any-gone (Syntax.tyInt Syntax.w64)) (List._∷_ (
   1,
   Rows.sslice
       (Referent.rtF (Referent.fInt Syntax.w8))
@@ -1499,23 +1447,17 @@ t8 = List._∷_ (0, Rows.any-gone (Syntax.tyInt Syntax.w64)) (List._∷_ (
       7,
 ) (List._∷_ (
   10,
-  Mut.mslice
-      (Referent.rtF (Referent.fInt Syntax.w8))
-      (Syntax.tyRef (Syntax.named 8) Syntax.mut (Syntax.tyInt Syntax.w8))
-      8,
-) (List._∷_ (
-  11,
   Relend.mslice-owed
       Elem.R
-      (Syntax.tyRef (Syntax.named 9) Syntax.mut Elem.ty)
+      (Syntax.tyRef (Syntax.named 8) Syntax.mut Elem.ty)
+      8
       9
-      10
       Row.off,
-) (List._∷_ (12, Rows.sc-here (Row.sInt Syntax.w64)) (List._∷_ (
-  13,
+) (List._∷_ (11, Rows.sc-here (Row.sInt Syntax.w64)) (List._∷_ (
+  12,
   Rows.sc-here (Row.sInt Syntax.w64),
-) (List._∷_ (14, Rows.sc-here (Row.sInt Syntax.w64)) (List._∷_ (
-  15,
+) (List._∷_ (13, Rows.sc-here (Row.sInt Syntax.w64)) (List._∷_ (
+  14,
   Rows.any-gone
       (Syntax.tyStruct
       (List._∷_
@@ -1566,17 +1508,17 @@ t8 = List._∷_ (0, Rows.any-gone (Syntax.tyInt Syntax.w64)) (List._∷_ (
       (List._∷_ 101 (List._∷_ 103 (List._∷_ 105 (List._∷_ 111 (List._∷_ 110 List.[])))))))))))))
       (Syntax.tcons (Syntax.tyInt Syntax.w64) Syntax.tnil))
       (Syntax.tcons (Syntax.tyInt Syntax.w64) Syntax.tnil))))),
-) List.[])))))))))))))))
+) (List._∷_ (15, Rows.any-gone Syntax.tyBool) List.[])))))))))))))))
 
-abbrev pub t9 : List.List Row.Entry
-t9 = List._∷_ (16, Rows.any-gone Syntax.tyBool) (List._∷_ (
-  17,
+abbrev pub t8 : List.List Row.Entry
+t8 = List._∷_ (
+  16,
   Relend.msptr
       Elem.R
       (Syntax.tyRef Syntax.erased Syntax.mut Elem.ty)
-      10,
+      9,
 ) (List._∷_ (
-  18,
+  17,
   Rows.any-gone
       (Syntax.tyStruct
       (List._∷_ 38 (List._∷_ 91 (List._∷_ 93 List.[])))
@@ -1584,25 +1526,25 @@ t9 = List._∷_ (16, Rows.any-gone Syntax.tyBool) (List._∷_ (
       (Syntax.tyRef Syntax.erased Syntax.mut Elem.ty)
       (Syntax.tcons (Syntax.tyInt Syntax.w64) Syntax.tnil))),
 ) (List._∷_ (
-  19,
+  18,
   Rows.any-gone
       (Syntax.tyRef Syntax.erased Syntax.imm Elem.ty),
 ) (List._∷_ (
-  20,
+  19,
   Rows.any-gone
       (Syntax.tyStruct
       (List._∷_ 38 (List._∷_ 91 (List._∷_ 93 List.[])))
       (Syntax.tcons
       (Syntax.tyRef Syntax.erased Syntax.imm Elem.ty)
       (Syntax.tcons (Syntax.tyInt Syntax.w64) Syntax.tnil))),
-) (List._∷_ (21, Rows.any-gone (Syntax.tyInt Syntax.w64)) (List._∷_ (
-  22,
+) (List._∷_ (20, Rows.any-gone (Syntax.tyInt Syntax.w64)) (List._∷_ (
+  21,
   Rows.any-gone (Syntax.tyInt Syntax.w64),
-) (List._∷_ (23, Rows.any-gone (Syntax.tyInt Syntax.w64)) (List._∷_ (
-  24,
+) (List._∷_ (22, Rows.any-gone (Syntax.tyInt Syntax.w64)) (List._∷_ (
+  23,
   Rows.any-gone (Syntax.tyRef Syntax.erased Syntax.mut (Syntax.tyInt Syntax.w64)),
 ) (List._∷_ (
-  25,
+  24,
   Rows.any-gone
       (Syntax.tyStruct
       (List._∷_ 38 (List._∷_ 91 (List._∷_ 93 List.[])))
@@ -1611,70 +1553,70 @@ t9 = List._∷_ (16, Rows.any-gone Syntax.tyBool) (List._∷_ (
       (Syntax.tcons (Syntax.tyInt Syntax.w64) Syntax.tnil))),
 )
     (List._∷_
-    (26, Rows.any-gone (Syntax.tyRef Syntax.erased Syntax.mut (Syntax.tyInt Syntax.w8)))
+    (25, Rows.any-gone (Syntax.tyRef Syntax.erased Syntax.mut (Syntax.tyInt Syntax.w8)))
     (List._∷_ (
-      27,
+      26,
       Rows.any-gone
           (Syntax.tyStruct
           (List._∷_ 38 (List._∷_ 91 (List._∷_ 93 List.[])))
           (Syntax.tcons
           (Syntax.tyRef Syntax.erased Syntax.mut (Syntax.tyInt Syntax.w8))
           (Syntax.tcons (Syntax.tyInt Syntax.w64) Syntax.tnil))),
+    ) (List._∷_ (
+      27,
+      Rows.any-gone (Syntax.tyRef Syntax.erased Syntax.mut (Syntax.tyInt Syntax.w8)),
     ) (List._∷_ (
       28,
-      Rows.any-gone (Syntax.tyRef Syntax.erased Syntax.mut (Syntax.tyInt Syntax.w8)),
+      Rows.any-gone
+          (Syntax.tyStruct
+          (List._∷_ 38 (List._∷_ 91 (List._∷_ 93 List.[])))
+          (Syntax.tcons
+          (Syntax.tyRef Syntax.erased Syntax.mut (Syntax.tyInt Syntax.w8))
+          (Syntax.tcons (Syntax.tyInt Syntax.w64) Syntax.tnil))),
     ) (List._∷_ (
       29,
-      Rows.any-gone
-          (Syntax.tyStruct
-          (List._∷_ 38 (List._∷_ 91 (List._∷_ 93 List.[])))
-          (Syntax.tcons
-          (Syntax.tyRef Syntax.erased Syntax.mut (Syntax.tyInt Syntax.w8))
-          (Syntax.tcons (Syntax.tyInt Syntax.w64) Syntax.tnil))),
-    ) (List._∷_ (
-      30,
       Rows.any-gone (Syntax.tyRef Syntax.erased Syntax.mut (Syntax.tyInt Syntax.w8)),
     ) (List._∷_ (
-      31,
+      30,
       Rows.any-gone
           (Syntax.tyStruct
           (List._∷_ 38 (List._∷_ 91 (List._∷_ 93 List.[])))
           (Syntax.tcons
           (Syntax.tyRef Syntax.erased Syntax.mut (Syntax.tyInt Syntax.w8))
           (Syntax.tcons (Syntax.tyInt Syntax.w64) Syntax.tnil))),
-    ) List.[])))))))))))))))
+    ) List.[]))))))))))))))
 
-abbrev pub t10 : List.List Row.Entry
-t10 = List._∷_ (16, Rows.any-gone Syntax.tyBool) (List._∷_ (
-  17,
+abbrev pub t9 : List.List Row.Entry
+t9 = List._∷_ (
+  16,
   Rows.any-gone
       (Syntax.tyRef Syntax.erased Syntax.mut Elem.ty),
 ) (List._∷_ (
-  18,
+  17,
   Mut.mslice
       Elem.R
       (Syntax.tyRef Syntax.erased Syntax.mut Elem.ty)
-      10,
+      9,
 ) (List._∷_ (
-  19,
+  18,
   Rows.any-gone
       (Syntax.tyRef Syntax.erased Syntax.imm Elem.ty),
 ) (List._∷_ (
-  20,
+  19,
   Rows.any-gone
       (Syntax.tyStruct
       (List._∷_ 38 (List._∷_ 91 (List._∷_ 93 List.[])))
       (Syntax.tcons
       (Syntax.tyRef Syntax.erased Syntax.imm Elem.ty)
       (Syntax.tcons (Syntax.tyInt Syntax.w64) Syntax.tnil))),
-) (List._∷_ (21, Rows.any-gone (Syntax.tyInt Syntax.w64)) (List._∷_ (
-  22,
+) (List._∷_ (20, Rows.any-gone (Syntax.tyInt Syntax.w64)) (List._∷_ (
+  21,
   Rows.any-gone (Syntax.tyInt Syntax.w64),
-) (List._∷_ (23, Rows.any-gone (Syntax.tyInt Syntax.w64)) (List._∷_ (
-  24,
+) (List._∷_ (22, Rows.any-gone (Syntax.tyInt Syntax.w64)) (List._∷_ (
+  23,
   Rows.any-gone (Syntax.tyRef Syntax.erased Syntax.mut (Syntax.tyInt Syntax.w64)),
 ) (List._∷_ (
-  25,
+  24,
   Rows.any-gone
       (Syntax.tyStruct
       (List._∷_ 38 (List._∷_ 91 (List._∷_ 93 List.[])))
@@ -1683,69 +1625,69 @@ t10 = List._∷_ (16, Rows.any-gone Syntax.tyBool) (List._∷_ (
       (Syntax.tcons (Syntax.tyInt Syntax.w64) Syntax.tnil))),
 )
     (List._∷_
-    (26, Rows.any-gone (Syntax.tyRef Syntax.erased Syntax.mut (Syntax.tyInt Syntax.w8)))
+    (25, Rows.any-gone (Syntax.tyRef Syntax.erased Syntax.mut (Syntax.tyInt Syntax.w8)))
     (List._∷_ (
-      27,
+      26,
       Rows.any-gone
           (Syntax.tyStruct
           (List._∷_ 38 (List._∷_ 91 (List._∷_ 93 List.[])))
           (Syntax.tcons
           (Syntax.tyRef Syntax.erased Syntax.mut (Syntax.tyInt Syntax.w8))
           (Syntax.tcons (Syntax.tyInt Syntax.w64) Syntax.tnil))),
+    ) (List._∷_ (
+      27,
+      Rows.any-gone (Syntax.tyRef Syntax.erased Syntax.mut (Syntax.tyInt Syntax.w8)),
     ) (List._∷_ (
       28,
-      Rows.any-gone (Syntax.tyRef Syntax.erased Syntax.mut (Syntax.tyInt Syntax.w8)),
+      Rows.any-gone
+          (Syntax.tyStruct
+          (List._∷_ 38 (List._∷_ 91 (List._∷_ 93 List.[])))
+          (Syntax.tcons
+          (Syntax.tyRef Syntax.erased Syntax.mut (Syntax.tyInt Syntax.w8))
+          (Syntax.tcons (Syntax.tyInt Syntax.w64) Syntax.tnil))),
     ) (List._∷_ (
       29,
-      Rows.any-gone
-          (Syntax.tyStruct
-          (List._∷_ 38 (List._∷_ 91 (List._∷_ 93 List.[])))
-          (Syntax.tcons
-          (Syntax.tyRef Syntax.erased Syntax.mut (Syntax.tyInt Syntax.w8))
-          (Syntax.tcons (Syntax.tyInt Syntax.w64) Syntax.tnil))),
-    ) (List._∷_ (
-      30,
       Rows.any-gone (Syntax.tyRef Syntax.erased Syntax.mut (Syntax.tyInt Syntax.w8)),
     ) (List._∷_ (
-      31,
+      30,
       Rows.any-gone
           (Syntax.tyStruct
           (List._∷_ 38 (List._∷_ 91 (List._∷_ 93 List.[])))
           (Syntax.tcons
           (Syntax.tyRef Syntax.erased Syntax.mut (Syntax.tyInt Syntax.w8))
           (Syntax.tcons (Syntax.tyInt Syntax.w64) Syntax.tnil))),
-    ) List.[])))))))))))))))
+    ) List.[]))))))))))))))
 
-abbrev pub t11 : List.List Row.Entry
-t11 = List._∷_ (16, Rows.any-gone Syntax.tyBool) (List._∷_ (
-  17,
+abbrev pub t10 : List.List Row.Entry
+t10 = List._∷_ (
+  16,
   Rows.any-gone
       (Syntax.tyRef Syntax.erased Syntax.mut Elem.ty),
 ) (List._∷_ (
-  18,
+  17,
   Mut.msleft
       Elem.R
       (Syntax.tyRef Syntax.erased Syntax.mut Elem.ty),
 ) (List._∷_ (
-  19,
+  18,
   Rows.any-gone
       (Syntax.tyRef Syntax.erased Syntax.imm Elem.ty),
 ) (List._∷_ (
-  20,
+  19,
   Rows.any-gone
       (Syntax.tyStruct
       (List._∷_ 38 (List._∷_ 91 (List._∷_ 93 List.[])))
       (Syntax.tcons
       (Syntax.tyRef Syntax.erased Syntax.imm Elem.ty)
       (Syntax.tcons (Syntax.tyInt Syntax.w64) Syntax.tnil))),
-) (List._∷_ (21, Rows.any-gone (Syntax.tyInt Syntax.w64)) (List._∷_ (
-  22,
+) (List._∷_ (20, Rows.any-gone (Syntax.tyInt Syntax.w64)) (List._∷_ (
+  21,
   Rows.any-gone (Syntax.tyInt Syntax.w64),
-) (List._∷_ (23, Rows.any-gone (Syntax.tyInt Syntax.w64)) (List._∷_ (
-  24,
+) (List._∷_ (22, Rows.any-gone (Syntax.tyInt Syntax.w64)) (List._∷_ (
+  23,
   Rows.any-gone (Syntax.tyRef Syntax.erased Syntax.mut (Syntax.tyInt Syntax.w64)),
 ) (List._∷_ (
-  25,
+  24,
   Rows.any-gone
       (Syntax.tyStruct
       (List._∷_ 38 (List._∷_ 91 (List._∷_ 93 List.[])))
@@ -1754,41 +1696,41 @@ t11 = List._∷_ (16, Rows.any-gone Syntax.tyBool) (List._∷_ (
       (Syntax.tcons (Syntax.tyInt Syntax.w64) Syntax.tnil))),
 )
     (List._∷_
-    (26, Rows.any-gone (Syntax.tyRef Syntax.erased Syntax.mut (Syntax.tyInt Syntax.w8)))
+    (25, Rows.any-gone (Syntax.tyRef Syntax.erased Syntax.mut (Syntax.tyInt Syntax.w8)))
     (List._∷_ (
-      27,
+      26,
       Rows.any-gone
           (Syntax.tyStruct
           (List._∷_ 38 (List._∷_ 91 (List._∷_ 93 List.[])))
           (Syntax.tcons
           (Syntax.tyRef Syntax.erased Syntax.mut (Syntax.tyInt Syntax.w8))
           (Syntax.tcons (Syntax.tyInt Syntax.w64) Syntax.tnil))),
+    ) (List._∷_ (
+      27,
+      Rows.any-gone (Syntax.tyRef Syntax.erased Syntax.mut (Syntax.tyInt Syntax.w8)),
     ) (List._∷_ (
       28,
-      Rows.any-gone (Syntax.tyRef Syntax.erased Syntax.mut (Syntax.tyInt Syntax.w8)),
+      Rows.any-gone
+          (Syntax.tyStruct
+          (List._∷_ 38 (List._∷_ 91 (List._∷_ 93 List.[])))
+          (Syntax.tcons
+          (Syntax.tyRef Syntax.erased Syntax.mut (Syntax.tyInt Syntax.w8))
+          (Syntax.tcons (Syntax.tyInt Syntax.w64) Syntax.tnil))),
     ) (List._∷_ (
       29,
-      Rows.any-gone
-          (Syntax.tyStruct
-          (List._∷_ 38 (List._∷_ 91 (List._∷_ 93 List.[])))
-          (Syntax.tcons
-          (Syntax.tyRef Syntax.erased Syntax.mut (Syntax.tyInt Syntax.w8))
-          (Syntax.tcons (Syntax.tyInt Syntax.w64) Syntax.tnil))),
-    ) (List._∷_ (
-      30,
       Rows.any-gone (Syntax.tyRef Syntax.erased Syntax.mut (Syntax.tyInt Syntax.w8)),
     ) (List._∷_ (
-      31,
+      30,
       Rows.any-gone
           (Syntax.tyStruct
           (List._∷_ 38 (List._∷_ 91 (List._∷_ 93 List.[])))
           (Syntax.tcons
           (Syntax.tyRef Syntax.erased Syntax.mut (Syntax.tyInt Syntax.w8))
           (Syntax.tcons (Syntax.tyInt Syntax.w64) Syntax.tnil))),
-    ) List.[])))))))))))))))
+    ) List.[]))))))))))))))
 
-abbrev pub t12 : List.List Row.Entry
-t12 = List._∷_ (0, Rows.any-gone (Syntax.tyInt Syntax.w64)) (List._∷_ (
+abbrev pub t11 : List.List Row.Entry
+t11 = List._∷_ (0, Rows.any-gone (Syntax.tyInt Syntax.w64)) (List._∷_ (
   1,
   Rows.sslice
       (Referent.rtF (Referent.fInt Syntax.w8))
@@ -1838,23 +1780,17 @@ t12 = List._∷_ (0, Rows.any-gone (Syntax.tyInt Syntax.w64)) (List._∷_ (
       7,
 ) (List._∷_ (
   10,
-  Mut.mslice
-      (Referent.rtF (Referent.fInt Syntax.w8))
-      (Syntax.tyRef (Syntax.named 8) Syntax.mut (Syntax.tyInt Syntax.w8))
-      8,
-) (List._∷_ (
-  11,
   Reshare.mslice-owedS
       Elem.R
-      (Syntax.tyRef (Syntax.named 9) Syntax.mut Elem.ty)
-      9
-      11
+      (Syntax.tyRef (Syntax.named 8) Syntax.mut Elem.ty)
+      8
+      10
       Row.off,
-) (List._∷_ (12, Rows.sc-here (Row.sInt Syntax.w64)) (List._∷_ (
-  13,
+) (List._∷_ (11, Rows.sc-here (Row.sInt Syntax.w64)) (List._∷_ (
+  12,
   Rows.sc-here (Row.sInt Syntax.w64),
-) (List._∷_ (14, Rows.sc-here (Row.sInt Syntax.w64)) (List._∷_ (
-  15,
+) (List._∷_ (13, Rows.sc-here (Row.sInt Syntax.w64)) (List._∷_ (
+  14,
   Rows.any-gone
       (Syntax.tyStruct
       (List._∷_
@@ -1905,15 +1841,15 @@ t12 = List._∷_ (0, Rows.any-gone (Syntax.tyInt Syntax.w64)) (List._∷_ (
       (List._∷_ 101 (List._∷_ 103 (List._∷_ 105 (List._∷_ 111 (List._∷_ 110 List.[])))))))))))))
       (Syntax.tcons (Syntax.tyInt Syntax.w64) Syntax.tnil))
       (Syntax.tcons (Syntax.tyInt Syntax.w64) Syntax.tnil))))),
-) List.[])))))))))))))))
+) (List._∷_ (15, Rows.any-gone Syntax.tyBool) List.[])))))))))))))))
 
-abbrev pub t13 : List.List Row.Entry
-t13 = List._∷_ (16, Rows.any-gone Syntax.tyBool) (List._∷_ (
-  17,
+abbrev pub t12 : List.List Row.Entry
+t12 = List._∷_ (
+  16,
   Rows.any-gone
       (Syntax.tyRef Syntax.erased Syntax.mut Elem.ty),
 ) (List._∷_ (
-  18,
+  17,
   Rows.any-gone
       (Syntax.tyStruct
       (List._∷_ 38 (List._∷_ 91 (List._∷_ 93 List.[])))
@@ -1921,27 +1857,27 @@ t13 = List._∷_ (16, Rows.any-gone Syntax.tyBool) (List._∷_ (
       (Syntax.tyRef Syntax.erased Syntax.mut Elem.ty)
       (Syntax.tcons (Syntax.tyInt Syntax.w64) Syntax.tnil))),
 ) (List._∷_ (
-  19,
+  18,
   Relend.ssptr
       Elem.R
       (Syntax.tyRef Syntax.erased Syntax.imm Elem.ty)
-      11,
+      10,
 ) (List._∷_ (
-  20,
+  19,
   Rows.any-gone
       (Syntax.tyStruct
       (List._∷_ 38 (List._∷_ 91 (List._∷_ 93 List.[])))
       (Syntax.tcons
       (Syntax.tyRef Syntax.erased Syntax.imm Elem.ty)
       (Syntax.tcons (Syntax.tyInt Syntax.w64) Syntax.tnil))),
-) (List._∷_ (21, Rows.any-gone (Syntax.tyInt Syntax.w64)) (List._∷_ (
-  22,
+) (List._∷_ (20, Rows.any-gone (Syntax.tyInt Syntax.w64)) (List._∷_ (
+  21,
   Rows.any-gone (Syntax.tyInt Syntax.w64),
-) (List._∷_ (23, Rows.any-gone (Syntax.tyInt Syntax.w64)) (List._∷_ (
-  24,
+) (List._∷_ (22, Rows.any-gone (Syntax.tyInt Syntax.w64)) (List._∷_ (
+  23,
   Rows.any-gone (Syntax.tyRef Syntax.erased Syntax.mut (Syntax.tyInt Syntax.w64)),
 ) (List._∷_ (
-  25,
+  24,
   Rows.any-gone
       (Syntax.tyStruct
       (List._∷_ 38 (List._∷_ 91 (List._∷_ 93 List.[])))
@@ -1950,46 +1886,118 @@ t13 = List._∷_ (16, Rows.any-gone Syntax.tyBool) (List._∷_ (
       (Syntax.tcons (Syntax.tyInt Syntax.w64) Syntax.tnil))),
 )
     (List._∷_
-    (26, Rows.any-gone (Syntax.tyRef Syntax.erased Syntax.mut (Syntax.tyInt Syntax.w8)))
+    (25, Rows.any-gone (Syntax.tyRef Syntax.erased Syntax.mut (Syntax.tyInt Syntax.w8)))
     (List._∷_ (
-      27,
+      26,
       Rows.any-gone
           (Syntax.tyStruct
           (List._∷_ 38 (List._∷_ 91 (List._∷_ 93 List.[])))
           (Syntax.tcons
           (Syntax.tyRef Syntax.erased Syntax.mut (Syntax.tyInt Syntax.w8))
           (Syntax.tcons (Syntax.tyInt Syntax.w64) Syntax.tnil))),
+    ) (List._∷_ (
+      27,
+      Rows.any-gone (Syntax.tyRef Syntax.erased Syntax.mut (Syntax.tyInt Syntax.w8)),
     ) (List._∷_ (
       28,
-      Rows.any-gone (Syntax.tyRef Syntax.erased Syntax.mut (Syntax.tyInt Syntax.w8)),
+      Rows.any-gone
+          (Syntax.tyStruct
+          (List._∷_ 38 (List._∷_ 91 (List._∷_ 93 List.[])))
+          (Syntax.tcons
+          (Syntax.tyRef Syntax.erased Syntax.mut (Syntax.tyInt Syntax.w8))
+          (Syntax.tcons (Syntax.tyInt Syntax.w64) Syntax.tnil))),
     ) (List._∷_ (
       29,
-      Rows.any-gone
-          (Syntax.tyStruct
-          (List._∷_ 38 (List._∷_ 91 (List._∷_ 93 List.[])))
-          (Syntax.tcons
-          (Syntax.tyRef Syntax.erased Syntax.mut (Syntax.tyInt Syntax.w8))
-          (Syntax.tcons (Syntax.tyInt Syntax.w64) Syntax.tnil))),
-    ) (List._∷_ (
-      30,
       Rows.any-gone (Syntax.tyRef Syntax.erased Syntax.mut (Syntax.tyInt Syntax.w8)),
     ) (List._∷_ (
-      31,
+      30,
       Rows.any-gone
           (Syntax.tyStruct
           (List._∷_ 38 (List._∷_ 91 (List._∷_ 93 List.[])))
           (Syntax.tcons
           (Syntax.tyRef Syntax.erased Syntax.mut (Syntax.tyInt Syntax.w8))
           (Syntax.tcons (Syntax.tyInt Syntax.w64) Syntax.tnil))),
-    ) List.[])))))))))))))))
+    ) List.[]))))))))))))))
+
+abbrev pub t13 : List.List Row.Entry
+t13 = List._∷_ (
+  16,
+  Rows.any-gone
+      (Syntax.tyRef Syntax.erased Syntax.mut Elem.ty),
+) (List._∷_ (
+  17,
+  Rows.any-gone
+      (Syntax.tyStruct
+      (List._∷_ 38 (List._∷_ 91 (List._∷_ 93 List.[])))
+      (Syntax.tcons
+      (Syntax.tyRef Syntax.erased Syntax.mut Elem.ty)
+      (Syntax.tcons (Syntax.tyInt Syntax.w64) Syntax.tnil))),
+) (List._∷_ (
+  18,
+  Rows.any-gone
+      (Syntax.tyRef Syntax.erased Syntax.imm Elem.ty),
+) (List._∷_ (
+  19,
+  Rows.sslice
+      Elem.R
+      (Syntax.tyRef Syntax.erased Syntax.imm Elem.ty)
+      10,
+) (List._∷_ (20, Rows.any-gone (Syntax.tyInt Syntax.w64)) (List._∷_ (
+  21,
+  Rows.any-gone (Syntax.tyInt Syntax.w64),
+) (List._∷_ (22, Rows.any-gone (Syntax.tyInt Syntax.w64)) (List._∷_ (
+  23,
+  Rows.any-gone (Syntax.tyRef Syntax.erased Syntax.mut (Syntax.tyInt Syntax.w64)),
+) (List._∷_ (
+  24,
+  Rows.any-gone
+      (Syntax.tyStruct
+      (List._∷_ 38 (List._∷_ 91 (List._∷_ 93 List.[])))
+      (Syntax.tcons
+      (Syntax.tyRef Syntax.erased Syntax.mut (Syntax.tyInt Syntax.w64))
+      (Syntax.tcons (Syntax.tyInt Syntax.w64) Syntax.tnil))),
+)
+    (List._∷_
+    (25, Rows.any-gone (Syntax.tyRef Syntax.erased Syntax.mut (Syntax.tyInt Syntax.w8)))
+    (List._∷_ (
+      26,
+      Rows.any-gone
+          (Syntax.tyStruct
+          (List._∷_ 38 (List._∷_ 91 (List._∷_ 93 List.[])))
+          (Syntax.tcons
+          (Syntax.tyRef Syntax.erased Syntax.mut (Syntax.tyInt Syntax.w8))
+          (Syntax.tcons (Syntax.tyInt Syntax.w64) Syntax.tnil))),
+    ) (List._∷_ (
+      27,
+      Rows.any-gone (Syntax.tyRef Syntax.erased Syntax.mut (Syntax.tyInt Syntax.w8)),
+    ) (List._∷_ (
+      28,
+      Rows.any-gone
+          (Syntax.tyStruct
+          (List._∷_ 38 (List._∷_ 91 (List._∷_ 93 List.[])))
+          (Syntax.tcons
+          (Syntax.tyRef Syntax.erased Syntax.mut (Syntax.tyInt Syntax.w8))
+          (Syntax.tcons (Syntax.tyInt Syntax.w64) Syntax.tnil))),
+    ) (List._∷_ (
+      29,
+      Rows.any-gone (Syntax.tyRef Syntax.erased Syntax.mut (Syntax.tyInt Syntax.w8)),
+    ) (List._∷_ (
+      30,
+      Rows.any-gone
+          (Syntax.tyStruct
+          (List._∷_ 38 (List._∷_ 91 (List._∷_ 93 List.[])))
+          (Syntax.tcons
+          (Syntax.tyRef Syntax.erased Syntax.mut (Syntax.tyInt Syntax.w8))
+          (Syntax.tcons (Syntax.tyInt Syntax.w64) Syntax.tnil))),
+    ) List.[]))))))))))))))
 
 abbrev pub t14 : List.List Row.Entry
-t14 = List._∷_ (16, Rows.any-gone Syntax.tyBool) (List._∷_ (
-  17,
+t14 = List._∷_ (
+  16,
   Rows.any-gone
       (Syntax.tyRef Syntax.erased Syntax.mut Elem.ty),
 ) (List._∷_ (
-  18,
+  17,
   Rows.any-gone
       (Syntax.tyStruct
       (List._∷_ 38 (List._∷_ 91 (List._∷_ 93 List.[])))
@@ -1997,23 +2005,23 @@ t14 = List._∷_ (16, Rows.any-gone Syntax.tyBool) (List._∷_ (
       (Syntax.tyRef Syntax.erased Syntax.mut Elem.ty)
       (Syntax.tcons (Syntax.tyInt Syntax.w64) Syntax.tnil))),
 ) (List._∷_ (
-  19,
+  18,
   Rows.any-gone
       (Syntax.tyRef Syntax.erased Syntax.imm Elem.ty),
 ) (List._∷_ (
-  20,
+  19,
   Rows.sslice
       Elem.R
       (Syntax.tyRef Syntax.erased Syntax.imm Elem.ty)
-      11,
-) (List._∷_ (21, Rows.any-gone (Syntax.tyInt Syntax.w64)) (List._∷_ (
-  22,
+      10,
+) (List._∷_ (20, Rows.sc-here (Row.sInt Syntax.w64)) (List._∷_ (
+  21,
   Rows.any-gone (Syntax.tyInt Syntax.w64),
-) (List._∷_ (23, Rows.any-gone (Syntax.tyInt Syntax.w64)) (List._∷_ (
-  24,
+) (List._∷_ (22, Rows.any-gone (Syntax.tyInt Syntax.w64)) (List._∷_ (
+  23,
   Rows.any-gone (Syntax.tyRef Syntax.erased Syntax.mut (Syntax.tyInt Syntax.w64)),
 ) (List._∷_ (
-  25,
+  24,
   Rows.any-gone
       (Syntax.tyStruct
       (List._∷_ 38 (List._∷_ 91 (List._∷_ 93 List.[])))
@@ -2022,46 +2030,46 @@ t14 = List._∷_ (16, Rows.any-gone Syntax.tyBool) (List._∷_ (
       (Syntax.tcons (Syntax.tyInt Syntax.w64) Syntax.tnil))),
 )
     (List._∷_
-    (26, Rows.any-gone (Syntax.tyRef Syntax.erased Syntax.mut (Syntax.tyInt Syntax.w8)))
+    (25, Rows.any-gone (Syntax.tyRef Syntax.erased Syntax.mut (Syntax.tyInt Syntax.w8)))
     (List._∷_ (
-      27,
+      26,
       Rows.any-gone
           (Syntax.tyStruct
           (List._∷_ 38 (List._∷_ 91 (List._∷_ 93 List.[])))
           (Syntax.tcons
           (Syntax.tyRef Syntax.erased Syntax.mut (Syntax.tyInt Syntax.w8))
           (Syntax.tcons (Syntax.tyInt Syntax.w64) Syntax.tnil))),
+    ) (List._∷_ (
+      27,
+      Rows.any-gone (Syntax.tyRef Syntax.erased Syntax.mut (Syntax.tyInt Syntax.w8)),
     ) (List._∷_ (
       28,
-      Rows.any-gone (Syntax.tyRef Syntax.erased Syntax.mut (Syntax.tyInt Syntax.w8)),
+      Rows.any-gone
+          (Syntax.tyStruct
+          (List._∷_ 38 (List._∷_ 91 (List._∷_ 93 List.[])))
+          (Syntax.tcons
+          (Syntax.tyRef Syntax.erased Syntax.mut (Syntax.tyInt Syntax.w8))
+          (Syntax.tcons (Syntax.tyInt Syntax.w64) Syntax.tnil))),
     ) (List._∷_ (
       29,
-      Rows.any-gone
-          (Syntax.tyStruct
-          (List._∷_ 38 (List._∷_ 91 (List._∷_ 93 List.[])))
-          (Syntax.tcons
-          (Syntax.tyRef Syntax.erased Syntax.mut (Syntax.tyInt Syntax.w8))
-          (Syntax.tcons (Syntax.tyInt Syntax.w64) Syntax.tnil))),
-    ) (List._∷_ (
-      30,
       Rows.any-gone (Syntax.tyRef Syntax.erased Syntax.mut (Syntax.tyInt Syntax.w8)),
     ) (List._∷_ (
-      31,
+      30,
       Rows.any-gone
           (Syntax.tyStruct
           (List._∷_ 38 (List._∷_ 91 (List._∷_ 93 List.[])))
           (Syntax.tcons
           (Syntax.tyRef Syntax.erased Syntax.mut (Syntax.tyInt Syntax.w8))
           (Syntax.tcons (Syntax.tyInt Syntax.w64) Syntax.tnil))),
-    ) List.[])))))))))))))))
+    ) List.[]))))))))))))))
 
 abbrev pub t15 : List.List Row.Entry
-t15 = List._∷_ (16, Rows.any-gone Syntax.tyBool) (List._∷_ (
-  17,
+t15 = List._∷_ (
+  16,
   Rows.any-gone
       (Syntax.tyRef Syntax.erased Syntax.mut Elem.ty),
 ) (List._∷_ (
-  18,
+  17,
   Rows.any-gone
       (Syntax.tyStruct
       (List._∷_ 38 (List._∷_ 91 (List._∷_ 93 List.[])))
@@ -2069,23 +2077,23 @@ t15 = List._∷_ (16, Rows.any-gone Syntax.tyBool) (List._∷_ (
       (Syntax.tyRef Syntax.erased Syntax.mut Elem.ty)
       (Syntax.tcons (Syntax.tyInt Syntax.w64) Syntax.tnil))),
 ) (List._∷_ (
-  19,
+  18,
   Rows.any-gone
       (Syntax.tyRef Syntax.erased Syntax.imm Elem.ty),
 ) (List._∷_ (
-  20,
+  19,
   Rows.sslice
       Elem.R
       (Syntax.tyRef Syntax.erased Syntax.imm Elem.ty)
-      11,
-) (List._∷_ (21, Rows.sc-here (Row.sInt Syntax.w64)) (List._∷_ (
-  22,
-  Rows.any-gone (Syntax.tyInt Syntax.w64),
-) (List._∷_ (23, Rows.any-gone (Syntax.tyInt Syntax.w64)) (List._∷_ (
-  24,
+      10,
+) (List._∷_ (20, Rows.sc-here (Row.sInt Syntax.w64)) (List._∷_ (
+  21,
+  Rows.sc-here (Row.sInt Syntax.w64),
+) (List._∷_ (22, Rows.any-gone (Syntax.tyInt Syntax.w64)) (List._∷_ (
+  23,
   Rows.any-gone (Syntax.tyRef Syntax.erased Syntax.mut (Syntax.tyInt Syntax.w64)),
 ) (List._∷_ (
-  25,
+  24,
   Rows.any-gone
       (Syntax.tyStruct
       (List._∷_ 38 (List._∷_ 91 (List._∷_ 93 List.[])))
@@ -2094,46 +2102,46 @@ t15 = List._∷_ (16, Rows.any-gone Syntax.tyBool) (List._∷_ (
       (Syntax.tcons (Syntax.tyInt Syntax.w64) Syntax.tnil))),
 )
     (List._∷_
-    (26, Rows.any-gone (Syntax.tyRef Syntax.erased Syntax.mut (Syntax.tyInt Syntax.w8)))
+    (25, Rows.any-gone (Syntax.tyRef Syntax.erased Syntax.mut (Syntax.tyInt Syntax.w8)))
     (List._∷_ (
-      27,
+      26,
       Rows.any-gone
           (Syntax.tyStruct
           (List._∷_ 38 (List._∷_ 91 (List._∷_ 93 List.[])))
           (Syntax.tcons
           (Syntax.tyRef Syntax.erased Syntax.mut (Syntax.tyInt Syntax.w8))
           (Syntax.tcons (Syntax.tyInt Syntax.w64) Syntax.tnil))),
+    ) (List._∷_ (
+      27,
+      Rows.any-gone (Syntax.tyRef Syntax.erased Syntax.mut (Syntax.tyInt Syntax.w8)),
     ) (List._∷_ (
       28,
-      Rows.any-gone (Syntax.tyRef Syntax.erased Syntax.mut (Syntax.tyInt Syntax.w8)),
+      Rows.any-gone
+          (Syntax.tyStruct
+          (List._∷_ 38 (List._∷_ 91 (List._∷_ 93 List.[])))
+          (Syntax.tcons
+          (Syntax.tyRef Syntax.erased Syntax.mut (Syntax.tyInt Syntax.w8))
+          (Syntax.tcons (Syntax.tyInt Syntax.w64) Syntax.tnil))),
     ) (List._∷_ (
       29,
-      Rows.any-gone
-          (Syntax.tyStruct
-          (List._∷_ 38 (List._∷_ 91 (List._∷_ 93 List.[])))
-          (Syntax.tcons
-          (Syntax.tyRef Syntax.erased Syntax.mut (Syntax.tyInt Syntax.w8))
-          (Syntax.tcons (Syntax.tyInt Syntax.w64) Syntax.tnil))),
-    ) (List._∷_ (
-      30,
       Rows.any-gone (Syntax.tyRef Syntax.erased Syntax.mut (Syntax.tyInt Syntax.w8)),
     ) (List._∷_ (
-      31,
+      30,
       Rows.any-gone
           (Syntax.tyStruct
           (List._∷_ 38 (List._∷_ 91 (List._∷_ 93 List.[])))
           (Syntax.tcons
           (Syntax.tyRef Syntax.erased Syntax.mut (Syntax.tyInt Syntax.w8))
           (Syntax.tcons (Syntax.tyInt Syntax.w64) Syntax.tnil))),
-    ) List.[])))))))))))))))
+    ) List.[]))))))))))))))
 
 abbrev pub t16 : List.List Row.Entry
-t16 = List._∷_ (16, Rows.any-gone Syntax.tyBool) (List._∷_ (
-  17,
+t16 = List._∷_ (
+  16,
   Rows.any-gone
       (Syntax.tyRef Syntax.erased Syntax.mut Elem.ty),
 ) (List._∷_ (
-  18,
+  17,
   Rows.any-gone
       (Syntax.tyStruct
       (List._∷_ 38 (List._∷_ 91 (List._∷_ 93 List.[])))
@@ -2141,23 +2149,23 @@ t16 = List._∷_ (16, Rows.any-gone Syntax.tyBool) (List._∷_ (
       (Syntax.tyRef Syntax.erased Syntax.mut Elem.ty)
       (Syntax.tcons (Syntax.tyInt Syntax.w64) Syntax.tnil))),
 ) (List._∷_ (
-  19,
+  18,
   Rows.any-gone
       (Syntax.tyRef Syntax.erased Syntax.imm Elem.ty),
 ) (List._∷_ (
-  20,
+  19,
   Rows.sslice
       Elem.R
       (Syntax.tyRef Syntax.erased Syntax.imm Elem.ty)
-      11,
-) (List._∷_ (21, Rows.sc-here (Row.sInt Syntax.w64)) (List._∷_ (
-  22,
+      10,
+) (List._∷_ (20, Rows.any-gone (Syntax.tyInt Syntax.w64)) (List._∷_ (
+  21,
   Rows.sc-here (Row.sInt Syntax.w64),
-) (List._∷_ (23, Rows.any-gone (Syntax.tyInt Syntax.w64)) (List._∷_ (
-  24,
+) (List._∷_ (22, Rows.any-gone (Syntax.tyInt Syntax.w64)) (List._∷_ (
+  23,
   Rows.any-gone (Syntax.tyRef Syntax.erased Syntax.mut (Syntax.tyInt Syntax.w64)),
 ) (List._∷_ (
-  25,
+  24,
   Rows.any-gone
       (Syntax.tyStruct
       (List._∷_ 38 (List._∷_ 91 (List._∷_ 93 List.[])))
@@ -2166,46 +2174,46 @@ t16 = List._∷_ (16, Rows.any-gone Syntax.tyBool) (List._∷_ (
       (Syntax.tcons (Syntax.tyInt Syntax.w64) Syntax.tnil))),
 )
     (List._∷_
-    (26, Rows.any-gone (Syntax.tyRef Syntax.erased Syntax.mut (Syntax.tyInt Syntax.w8)))
+    (25, Rows.any-gone (Syntax.tyRef Syntax.erased Syntax.mut (Syntax.tyInt Syntax.w8)))
     (List._∷_ (
-      27,
+      26,
       Rows.any-gone
           (Syntax.tyStruct
           (List._∷_ 38 (List._∷_ 91 (List._∷_ 93 List.[])))
           (Syntax.tcons
           (Syntax.tyRef Syntax.erased Syntax.mut (Syntax.tyInt Syntax.w8))
           (Syntax.tcons (Syntax.tyInt Syntax.w64) Syntax.tnil))),
+    ) (List._∷_ (
+      27,
+      Rows.any-gone (Syntax.tyRef Syntax.erased Syntax.mut (Syntax.tyInt Syntax.w8)),
     ) (List._∷_ (
       28,
-      Rows.any-gone (Syntax.tyRef Syntax.erased Syntax.mut (Syntax.tyInt Syntax.w8)),
+      Rows.any-gone
+          (Syntax.tyStruct
+          (List._∷_ 38 (List._∷_ 91 (List._∷_ 93 List.[])))
+          (Syntax.tcons
+          (Syntax.tyRef Syntax.erased Syntax.mut (Syntax.tyInt Syntax.w8))
+          (Syntax.tcons (Syntax.tyInt Syntax.w64) Syntax.tnil))),
     ) (List._∷_ (
       29,
-      Rows.any-gone
-          (Syntax.tyStruct
-          (List._∷_ 38 (List._∷_ 91 (List._∷_ 93 List.[])))
-          (Syntax.tcons
-          (Syntax.tyRef Syntax.erased Syntax.mut (Syntax.tyInt Syntax.w8))
-          (Syntax.tcons (Syntax.tyInt Syntax.w64) Syntax.tnil))),
-    ) (List._∷_ (
-      30,
       Rows.any-gone (Syntax.tyRef Syntax.erased Syntax.mut (Syntax.tyInt Syntax.w8)),
     ) (List._∷_ (
-      31,
+      30,
       Rows.any-gone
           (Syntax.tyStruct
           (List._∷_ 38 (List._∷_ 91 (List._∷_ 93 List.[])))
           (Syntax.tcons
           (Syntax.tyRef Syntax.erased Syntax.mut (Syntax.tyInt Syntax.w8))
           (Syntax.tcons (Syntax.tyInt Syntax.w64) Syntax.tnil))),
-    ) List.[])))))))))))))))
+    ) List.[]))))))))))))))
 
 abbrev pub t17 : List.List Row.Entry
-t17 = List._∷_ (16, Rows.any-gone Syntax.tyBool) (List._∷_ (
-  17,
+t17 = List._∷_ (
+  16,
   Rows.any-gone
       (Syntax.tyRef Syntax.erased Syntax.mut Elem.ty),
 ) (List._∷_ (
-  18,
+  17,
   Rows.any-gone
       (Syntax.tyStruct
       (List._∷_ 38 (List._∷_ 91 (List._∷_ 93 List.[])))
@@ -2213,23 +2221,23 @@ t17 = List._∷_ (16, Rows.any-gone Syntax.tyBool) (List._∷_ (
       (Syntax.tyRef Syntax.erased Syntax.mut Elem.ty)
       (Syntax.tcons (Syntax.tyInt Syntax.w64) Syntax.tnil))),
 ) (List._∷_ (
-  19,
+  18,
   Rows.any-gone
       (Syntax.tyRef Syntax.erased Syntax.imm Elem.ty),
 ) (List._∷_ (
-  20,
+  19,
   Rows.sslice
       Elem.R
       (Syntax.tyRef Syntax.erased Syntax.imm Elem.ty)
-      11,
-) (List._∷_ (21, Rows.any-gone (Syntax.tyInt Syntax.w64)) (List._∷_ (
-  22,
+      10,
+) (List._∷_ (20, Rows.any-gone (Syntax.tyInt Syntax.w64)) (List._∷_ (
+  21,
   Rows.sc-here (Row.sInt Syntax.w64),
-) (List._∷_ (23, Rows.any-gone (Syntax.tyInt Syntax.w64)) (List._∷_ (
-  24,
+) (List._∷_ (22, Rows.sc-here (Row.sInt Syntax.w64)) (List._∷_ (
+  23,
   Rows.any-gone (Syntax.tyRef Syntax.erased Syntax.mut (Syntax.tyInt Syntax.w64)),
 ) (List._∷_ (
-  25,
+  24,
   Rows.any-gone
       (Syntax.tyStruct
       (List._∷_ 38 (List._∷_ 91 (List._∷_ 93 List.[])))
@@ -2238,46 +2246,46 @@ t17 = List._∷_ (16, Rows.any-gone Syntax.tyBool) (List._∷_ (
       (Syntax.tcons (Syntax.tyInt Syntax.w64) Syntax.tnil))),
 )
     (List._∷_
-    (26, Rows.any-gone (Syntax.tyRef Syntax.erased Syntax.mut (Syntax.tyInt Syntax.w8)))
+    (25, Rows.any-gone (Syntax.tyRef Syntax.erased Syntax.mut (Syntax.tyInt Syntax.w8)))
     (List._∷_ (
-      27,
+      26,
       Rows.any-gone
           (Syntax.tyStruct
           (List._∷_ 38 (List._∷_ 91 (List._∷_ 93 List.[])))
           (Syntax.tcons
           (Syntax.tyRef Syntax.erased Syntax.mut (Syntax.tyInt Syntax.w8))
           (Syntax.tcons (Syntax.tyInt Syntax.w64) Syntax.tnil))),
+    ) (List._∷_ (
+      27,
+      Rows.any-gone (Syntax.tyRef Syntax.erased Syntax.mut (Syntax.tyInt Syntax.w8)),
     ) (List._∷_ (
       28,
-      Rows.any-gone (Syntax.tyRef Syntax.erased Syntax.mut (Syntax.tyInt Syntax.w8)),
+      Rows.any-gone
+          (Syntax.tyStruct
+          (List._∷_ 38 (List._∷_ 91 (List._∷_ 93 List.[])))
+          (Syntax.tcons
+          (Syntax.tyRef Syntax.erased Syntax.mut (Syntax.tyInt Syntax.w8))
+          (Syntax.tcons (Syntax.tyInt Syntax.w64) Syntax.tnil))),
     ) (List._∷_ (
       29,
-      Rows.any-gone
-          (Syntax.tyStruct
-          (List._∷_ 38 (List._∷_ 91 (List._∷_ 93 List.[])))
-          (Syntax.tcons
-          (Syntax.tyRef Syntax.erased Syntax.mut (Syntax.tyInt Syntax.w8))
-          (Syntax.tcons (Syntax.tyInt Syntax.w64) Syntax.tnil))),
-    ) (List._∷_ (
-      30,
       Rows.any-gone (Syntax.tyRef Syntax.erased Syntax.mut (Syntax.tyInt Syntax.w8)),
     ) (List._∷_ (
-      31,
+      30,
       Rows.any-gone
           (Syntax.tyStruct
           (List._∷_ 38 (List._∷_ 91 (List._∷_ 93 List.[])))
           (Syntax.tcons
           (Syntax.tyRef Syntax.erased Syntax.mut (Syntax.tyInt Syntax.w8))
           (Syntax.tcons (Syntax.tyInt Syntax.w64) Syntax.tnil))),
-    ) List.[])))))))))))))))
+    ) List.[]))))))))))))))
 
 abbrev pub t18 : List.List Row.Entry
-t18 = List._∷_ (16, Rows.any-gone Syntax.tyBool) (List._∷_ (
-  17,
+t18 = List._∷_ (
+  16,
   Rows.any-gone
       (Syntax.tyRef Syntax.erased Syntax.mut Elem.ty),
 ) (List._∷_ (
-  18,
+  17,
   Rows.any-gone
       (Syntax.tyStruct
       (List._∷_ 38 (List._∷_ 91 (List._∷_ 93 List.[])))
@@ -2285,23 +2293,23 @@ t18 = List._∷_ (16, Rows.any-gone Syntax.tyBool) (List._∷_ (
       (Syntax.tyRef Syntax.erased Syntax.mut Elem.ty)
       (Syntax.tcons (Syntax.tyInt Syntax.w64) Syntax.tnil))),
 ) (List._∷_ (
-  19,
+  18,
   Rows.any-gone
       (Syntax.tyRef Syntax.erased Syntax.imm Elem.ty),
 ) (List._∷_ (
-  20,
+  19,
   Rows.sslice
       Elem.R
       (Syntax.tyRef Syntax.erased Syntax.imm Elem.ty)
-      11,
-) (List._∷_ (21, Rows.any-gone (Syntax.tyInt Syntax.w64)) (List._∷_ (
-  22,
-  Rows.sc-here (Row.sInt Syntax.w64),
-) (List._∷_ (23, Rows.sc-here (Row.sInt Syntax.w64)) (List._∷_ (
-  24,
+      10,
+) (List._∷_ (20, Rows.any-gone (Syntax.tyInt Syntax.w64)) (List._∷_ (
+  21,
+  Rows.any-gone (Syntax.tyInt Syntax.w64),
+) (List._∷_ (22, Rows.sc-here (Row.sInt Syntax.w64)) (List._∷_ (
+  23,
   Rows.any-gone (Syntax.tyRef Syntax.erased Syntax.mut (Syntax.tyInt Syntax.w64)),
 ) (List._∷_ (
-  25,
+  24,
   Rows.any-gone
       (Syntax.tyStruct
       (List._∷_ 38 (List._∷_ 91 (List._∷_ 93 List.[])))
@@ -2310,46 +2318,111 @@ t18 = List._∷_ (16, Rows.any-gone Syntax.tyBool) (List._∷_ (
       (Syntax.tcons (Syntax.tyInt Syntax.w64) Syntax.tnil))),
 )
     (List._∷_
-    (26, Rows.any-gone (Syntax.tyRef Syntax.erased Syntax.mut (Syntax.tyInt Syntax.w8)))
+    (25, Rows.any-gone (Syntax.tyRef Syntax.erased Syntax.mut (Syntax.tyInt Syntax.w8)))
     (List._∷_ (
-      27,
+      26,
       Rows.any-gone
           (Syntax.tyStruct
           (List._∷_ 38 (List._∷_ 91 (List._∷_ 93 List.[])))
           (Syntax.tcons
           (Syntax.tyRef Syntax.erased Syntax.mut (Syntax.tyInt Syntax.w8))
           (Syntax.tcons (Syntax.tyInt Syntax.w64) Syntax.tnil))),
+    ) (List._∷_ (
+      27,
+      Rows.any-gone (Syntax.tyRef Syntax.erased Syntax.mut (Syntax.tyInt Syntax.w8)),
     ) (List._∷_ (
       28,
-      Rows.any-gone (Syntax.tyRef Syntax.erased Syntax.mut (Syntax.tyInt Syntax.w8)),
+      Rows.any-gone
+          (Syntax.tyStruct
+          (List._∷_ 38 (List._∷_ 91 (List._∷_ 93 List.[])))
+          (Syntax.tcons
+          (Syntax.tyRef Syntax.erased Syntax.mut (Syntax.tyInt Syntax.w8))
+          (Syntax.tcons (Syntax.tyInt Syntax.w64) Syntax.tnil))),
     ) (List._∷_ (
       29,
-      Rows.any-gone
-          (Syntax.tyStruct
-          (List._∷_ 38 (List._∷_ 91 (List._∷_ 93 List.[])))
-          (Syntax.tcons
-          (Syntax.tyRef Syntax.erased Syntax.mut (Syntax.tyInt Syntax.w8))
-          (Syntax.tcons (Syntax.tyInt Syntax.w64) Syntax.tnil))),
-    ) (List._∷_ (
-      30,
       Rows.any-gone (Syntax.tyRef Syntax.erased Syntax.mut (Syntax.tyInt Syntax.w8)),
     ) (List._∷_ (
-      31,
+      30,
       Rows.any-gone
           (Syntax.tyStruct
           (List._∷_ 38 (List._∷_ 91 (List._∷_ 93 List.[])))
           (Syntax.tcons
           (Syntax.tyRef Syntax.erased Syntax.mut (Syntax.tyInt Syntax.w8))
           (Syntax.tcons (Syntax.tyInt Syntax.w64) Syntax.tnil))),
-    ) List.[])))))))))))))))
+    ) List.[]))))))))))))))
 
 abbrev pub t19 : List.List Row.Entry
-t19 = List._∷_ (16, Rows.any-gone Syntax.tyBool) (List._∷_ (
-  17,
+t19 = List._∷_ (0, Rows.any-gone (Syntax.tyInt Syntax.w64)) (List._∷_ (
+  1,
+  Rows.sslice
+      (Referent.rtF (Referent.fInt Syntax.w8))
+      (Syntax.tyRef (Syntax.named 0) Syntax.imm (Syntax.tyInt Syntax.w8))
+      0,
+) (List._∷_ (
+  2,
+  Rows.sslice
+      (Referent.rtF (Referent.fInt Syntax.w64))
+      (Syntax.tyRef (Syntax.named 1) Syntax.imm (Syntax.tyInt Syntax.w64))
+      1,
+) (List._∷_ (3, Rows.sc-here (Row.sInt Syntax.w64)) (List._∷_ (
+  4,
+  Rows.sslice
+      (Referent.rtF (Referent.fInt Syntax.w64))
+      (Syntax.tyRef (Syntax.named 2) Syntax.imm (Syntax.tyInt Syntax.w64))
+      2,
+) (List._∷_ (
+  5,
+  Rows.sslice
+      (Referent.rtF (Referent.fInt Syntax.w8))
+      (Syntax.tyRef (Syntax.named 3) Syntax.imm (Syntax.tyInt Syntax.w8))
+      3,
+) (List._∷_ (
+  6,
+  Mut.mslice
+      (Referent.rtF (Referent.fInt Syntax.w64))
+      (Syntax.tyRef (Syntax.named 4) Syntax.mut (Syntax.tyInt Syntax.w64))
+      4,
+) (List._∷_ (
+  7,
+  Mut.mslice
+      (Referent.rtF (Referent.fInt Syntax.w8))
+      (Syntax.tyRef (Syntax.named 5) Syntax.mut (Syntax.tyInt Syntax.w8))
+      5,
+) (List._∷_ (
+  8,
+  Mut.mslice
+      (Referent.rtF (Referent.fInt Syntax.w8))
+      (Syntax.tyRef (Syntax.named 6) Syntax.mut (Syntax.tyInt Syntax.w8))
+      6,
+) (List._∷_ (
+  9,
+  Mut.mslice
+      (Referent.rtF (Referent.fInt Syntax.w8))
+      (Syntax.tyRef (Syntax.named 7) Syntax.mut (Syntax.tyInt Syntax.w8))
+      7,
+) (List._∷_ (
+  10,
+  Reshare.mslice-owedS
+      Elem.R
+      (Syntax.tyRef (Syntax.named 8) Syntax.mut Elem.ty)
+      8
+      10
+      Row.off,
+) (List._∷_ (11, Rows.sc-here (Row.sInt Syntax.w64)) (List._∷_ (
+  12,
+  Rows.sc-here (Row.sInt Syntax.w64),
+) (List._∷_ (13, Rows.sc-here (Row.sInt Syntax.w64)) (List._∷_ (
+  14,
+  Rows.whole (Declared.row LineRec.the-type),
+) (List._∷_ (15, Rows.any-gone Syntax.tyBool) List.[])))))))))))))))
+
+abbrev pub t20 : List.List Row.Entry
+t20 = List._∷_ (
+  16,
   Rows.any-gone
       (Syntax.tyRef Syntax.erased Syntax.mut Elem.ty),
 ) (List._∷_ (
-  18,
+  17,
   Rows.any-gone
       (Syntax.tyStruct
       (List._∷_ 38 (List._∷_ 91 (List._∷_ 93 List.[])))
@@ -2357,23 +2430,25 @@ t19 = List._∷_ (16, Rows.any-gone Syntax.tyBool) (List._∷_ (
       (Syntax.tyRef Syntax.erased Syntax.mut Elem.ty)
       (Syntax.tcons (Syntax.tyInt Syntax.w64) Syntax.tnil))),
 ) (List._∷_ (
-  19,
+  18,
   Rows.any-gone
       (Syntax.tyRef Syntax.erased Syntax.imm Elem.ty),
 ) (List._∷_ (
-  20,
-  Rows.sslice
-      Elem.R
+  19,
+  Rows.any-gone
+      (Syntax.tyStruct
+      (List._∷_ 38 (List._∷_ 91 (List._∷_ 93 List.[])))
+      (Syntax.tcons
       (Syntax.tyRef Syntax.erased Syntax.imm Elem.ty)
-      11,
-) (List._∷_ (21, Rows.any-gone (Syntax.tyInt Syntax.w64)) (List._∷_ (
-  22,
+      (Syntax.tcons (Syntax.tyInt Syntax.w64) Syntax.tnil))),
+) (List._∷_ (20, Rows.any-gone (Syntax.tyInt Syntax.w64)) (List._∷_ (
+  21,
   Rows.any-gone (Syntax.tyInt Syntax.w64),
-) (List._∷_ (23, Rows.sc-here (Row.sInt Syntax.w64)) (List._∷_ (
-  24,
+) (List._∷_ (22, Rows.sc-here (Row.sInt Syntax.w64)) (List._∷_ (
+  23,
   Rows.any-gone (Syntax.tyRef Syntax.erased Syntax.mut (Syntax.tyInt Syntax.w64)),
 ) (List._∷_ (
-  25,
+  24,
   Rows.any-gone
       (Syntax.tyStruct
       (List._∷_ 38 (List._∷_ 91 (List._∷_ 93 List.[])))
@@ -2382,41 +2457,41 @@ t19 = List._∷_ (16, Rows.any-gone Syntax.tyBool) (List._∷_ (
       (Syntax.tcons (Syntax.tyInt Syntax.w64) Syntax.tnil))),
 )
     (List._∷_
-    (26, Rows.any-gone (Syntax.tyRef Syntax.erased Syntax.mut (Syntax.tyInt Syntax.w8)))
+    (25, Rows.any-gone (Syntax.tyRef Syntax.erased Syntax.mut (Syntax.tyInt Syntax.w8)))
     (List._∷_ (
-      27,
+      26,
       Rows.any-gone
           (Syntax.tyStruct
           (List._∷_ 38 (List._∷_ 91 (List._∷_ 93 List.[])))
           (Syntax.tcons
           (Syntax.tyRef Syntax.erased Syntax.mut (Syntax.tyInt Syntax.w8))
           (Syntax.tcons (Syntax.tyInt Syntax.w64) Syntax.tnil))),
+    ) (List._∷_ (
+      27,
+      Rows.any-gone (Syntax.tyRef Syntax.erased Syntax.mut (Syntax.tyInt Syntax.w8)),
     ) (List._∷_ (
       28,
-      Rows.any-gone (Syntax.tyRef Syntax.erased Syntax.mut (Syntax.tyInt Syntax.w8)),
+      Rows.any-gone
+          (Syntax.tyStruct
+          (List._∷_ 38 (List._∷_ 91 (List._∷_ 93 List.[])))
+          (Syntax.tcons
+          (Syntax.tyRef Syntax.erased Syntax.mut (Syntax.tyInt Syntax.w8))
+          (Syntax.tcons (Syntax.tyInt Syntax.w64) Syntax.tnil))),
     ) (List._∷_ (
       29,
-      Rows.any-gone
-          (Syntax.tyStruct
-          (List._∷_ 38 (List._∷_ 91 (List._∷_ 93 List.[])))
-          (Syntax.tcons
-          (Syntax.tyRef Syntax.erased Syntax.mut (Syntax.tyInt Syntax.w8))
-          (Syntax.tcons (Syntax.tyInt Syntax.w64) Syntax.tnil))),
-    ) (List._∷_ (
-      30,
       Rows.any-gone (Syntax.tyRef Syntax.erased Syntax.mut (Syntax.tyInt Syntax.w8)),
     ) (List._∷_ (
-      31,
+      30,
       Rows.any-gone
           (Syntax.tyStruct
           (List._∷_ 38 (List._∷_ 91 (List._∷_ 93 List.[])))
           (Syntax.tcons
           (Syntax.tyRef Syntax.erased Syntax.mut (Syntax.tyInt Syntax.w8))
           (Syntax.tcons (Syntax.tyInt Syntax.w64) Syntax.tnil))),
-    ) List.[])))))))))))))))
+    ) List.[]))))))))))))))
 
-abbrev pub t20 : List.List Row.Entry
-t20 = List._∷_ (0, Rows.any-gone (Syntax.tyInt Syntax.w64)) (List._∷_ (
+abbrev pub t21 : List.List Row.Entry
+t21 = List._∷_ (0, Rows.any-gone (Syntax.tyInt Syntax.w64)) (List._∷_ (
   1,
   Rows.sslice
       (Referent.rtF (Referent.fInt Syntax.w8))
@@ -2467,98 +2542,16 @@ t20 = List._∷_ (0, Rows.any-gone (Syntax.tyInt Syntax.w64)) (List._∷_ (
 ) (List._∷_ (
   10,
   Mut.mslice
-      (Referent.rtF (Referent.fInt Syntax.w8))
-      (Syntax.tyRef (Syntax.named 8) Syntax.mut (Syntax.tyInt Syntax.w8))
-      8,
-) (List._∷_ (
-  11,
-  Reshare.mslice-owedS
       Elem.R
-      (Syntax.tyRef (Syntax.named 9) Syntax.mut Elem.ty)
-      9
-      11
-      Row.off,
-) (List._∷_ (12, Rows.sc-here (Row.sInt Syntax.w64)) (List._∷_ (
-  13,
+      (Syntax.tyRef (Syntax.named 8) Syntax.mut Elem.ty)
+      8,
+) (List._∷_ (11, Rows.sc-here (Row.sInt Syntax.w64)) (List._∷_ (
+  12,
   Rows.sc-here (Row.sInt Syntax.w64),
-) (List._∷_ (14, Rows.sc-here (Row.sInt Syntax.w64)) (List._∷_ (
-  15,
+) (List._∷_ (13, Rows.sc-here (Row.sInt Syntax.w64)) (List._∷_ (
+  14,
   Rows.whole (Declared.row LineRec.the-type),
-) List.[])))))))))))))))
-
-abbrev pub t21 : List.List Row.Entry
-t21 = List._∷_ (16, Rows.any-gone Syntax.tyBool) (List._∷_ (
-  17,
-  Rows.any-gone
-      (Syntax.tyRef Syntax.erased Syntax.mut Elem.ty),
-) (List._∷_ (
-  18,
-  Rows.any-gone
-      (Syntax.tyStruct
-      (List._∷_ 38 (List._∷_ 91 (List._∷_ 93 List.[])))
-      (Syntax.tcons
-      (Syntax.tyRef Syntax.erased Syntax.mut Elem.ty)
-      (Syntax.tcons (Syntax.tyInt Syntax.w64) Syntax.tnil))),
-) (List._∷_ (
-  19,
-  Rows.any-gone
-      (Syntax.tyRef Syntax.erased Syntax.imm Elem.ty),
-) (List._∷_ (
-  20,
-  Rows.any-gone
-      (Syntax.tyStruct
-      (List._∷_ 38 (List._∷_ 91 (List._∷_ 93 List.[])))
-      (Syntax.tcons
-      (Syntax.tyRef Syntax.erased Syntax.imm Elem.ty)
-      (Syntax.tcons (Syntax.tyInt Syntax.w64) Syntax.tnil))),
-) (List._∷_ (21, Rows.any-gone (Syntax.tyInt Syntax.w64)) (List._∷_ (
-  22,
-  Rows.any-gone (Syntax.tyInt Syntax.w64),
-) (List._∷_ (23, Rows.sc-here (Row.sInt Syntax.w64)) (List._∷_ (
-  24,
-  Rows.any-gone (Syntax.tyRef Syntax.erased Syntax.mut (Syntax.tyInt Syntax.w64)),
-) (List._∷_ (
-  25,
-  Rows.any-gone
-      (Syntax.tyStruct
-      (List._∷_ 38 (List._∷_ 91 (List._∷_ 93 List.[])))
-      (Syntax.tcons
-      (Syntax.tyRef Syntax.erased Syntax.mut (Syntax.tyInt Syntax.w64))
-      (Syntax.tcons (Syntax.tyInt Syntax.w64) Syntax.tnil))),
-)
-    (List._∷_
-    (26, Rows.any-gone (Syntax.tyRef Syntax.erased Syntax.mut (Syntax.tyInt Syntax.w8)))
-    (List._∷_ (
-      27,
-      Rows.any-gone
-          (Syntax.tyStruct
-          (List._∷_ 38 (List._∷_ 91 (List._∷_ 93 List.[])))
-          (Syntax.tcons
-          (Syntax.tyRef Syntax.erased Syntax.mut (Syntax.tyInt Syntax.w8))
-          (Syntax.tcons (Syntax.tyInt Syntax.w64) Syntax.tnil))),
-    ) (List._∷_ (
-      28,
-      Rows.any-gone (Syntax.tyRef Syntax.erased Syntax.mut (Syntax.tyInt Syntax.w8)),
-    ) (List._∷_ (
-      29,
-      Rows.any-gone
-          (Syntax.tyStruct
-          (List._∷_ 38 (List._∷_ 91 (List._∷_ 93 List.[])))
-          (Syntax.tcons
-          (Syntax.tyRef Syntax.erased Syntax.mut (Syntax.tyInt Syntax.w8))
-          (Syntax.tcons (Syntax.tyInt Syntax.w64) Syntax.tnil))),
-    ) (List._∷_ (
-      30,
-      Rows.any-gone (Syntax.tyRef Syntax.erased Syntax.mut (Syntax.tyInt Syntax.w8)),
-    ) (List._∷_ (
-      31,
-      Rows.any-gone
-          (Syntax.tyStruct
-          (List._∷_ 38 (List._∷_ 91 (List._∷_ 93 List.[])))
-          (Syntax.tcons
-          (Syntax.tyRef Syntax.erased Syntax.mut (Syntax.tyInt Syntax.w8))
-          (Syntax.tcons (Syntax.tyInt Syntax.w64) Syntax.tnil))),
-    ) List.[])))))))))))))))
+) (List._∷_ (15, Rows.any-gone Syntax.tyBool) List.[])))))))))))))))
 
 abbrev pub t22 : List.List Row.Entry
 t22 = List._∷_ (0, Rows.any-gone (Syntax.tyInt Syntax.w64)) (List._∷_ (
@@ -2587,80 +2580,11 @@ t22 = List._∷_ (0, Rows.any-gone (Syntax.tyInt Syntax.w64)) (List._∷_ (
       3,
 ) (List._∷_ (
   6,
-  Mut.mslice
-      (Referent.rtF (Referent.fInt Syntax.w64))
-      (Syntax.tyRef (Syntax.named 4) Syntax.mut (Syntax.tyInt Syntax.w64))
-      4,
-) (List._∷_ (
-  7,
-  Mut.mslice
-      (Referent.rtF (Referent.fInt Syntax.w8))
-      (Syntax.tyRef (Syntax.named 5) Syntax.mut (Syntax.tyInt Syntax.w8))
-      5,
-) (List._∷_ (
-  8,
-  Mut.mslice
-      (Referent.rtF (Referent.fInt Syntax.w8))
-      (Syntax.tyRef (Syntax.named 6) Syntax.mut (Syntax.tyInt Syntax.w8))
-      6,
-) (List._∷_ (
-  9,
-  Mut.mslice
-      (Referent.rtF (Referent.fInt Syntax.w8))
-      (Syntax.tyRef (Syntax.named 7) Syntax.mut (Syntax.tyInt Syntax.w8))
-      7,
-) (List._∷_ (
-  10,
-  Mut.mslice
-      (Referent.rtF (Referent.fInt Syntax.w8))
-      (Syntax.tyRef (Syntax.named 8) Syntax.mut (Syntax.tyInt Syntax.w8))
-      8,
-) (List._∷_ (
-  11,
-  Mut.mslice
-      Elem.R
-      (Syntax.tyRef (Syntax.named 9) Syntax.mut Elem.ty)
-      9,
-) (List._∷_ (12, Rows.sc-here (Row.sInt Syntax.w64)) (List._∷_ (
-  13,
-  Rows.sc-here (Row.sInt Syntax.w64),
-) (List._∷_ (14, Rows.sc-here (Row.sInt Syntax.w64)) (List._∷_ (
-  15,
-  Rows.whole (Declared.row LineRec.the-type),
-) List.[])))))))))))))))
-
-abbrev pub t23 : List.List Row.Entry
-t23 = List._∷_ (0, Rows.any-gone (Syntax.tyInt Syntax.w64)) (List._∷_ (
-  1,
-  Rows.sslice
-      (Referent.rtF (Referent.fInt Syntax.w8))
-      (Syntax.tyRef (Syntax.named 0) Syntax.imm (Syntax.tyInt Syntax.w8))
-      0,
-) (List._∷_ (
-  2,
-  Rows.sslice
-      (Referent.rtF (Referent.fInt Syntax.w64))
-      (Syntax.tyRef (Syntax.named 1) Syntax.imm (Syntax.tyInt Syntax.w64))
-      1,
-) (List._∷_ (3, Rows.sc-here (Row.sInt Syntax.w64)) (List._∷_ (
-  4,
-  Rows.sslice
-      (Referent.rtF (Referent.fInt Syntax.w64))
-      (Syntax.tyRef (Syntax.named 2) Syntax.imm (Syntax.tyInt Syntax.w64))
-      2,
-) (List._∷_ (
-  5,
-  Rows.sslice
-      (Referent.rtF (Referent.fInt Syntax.w8))
-      (Syntax.tyRef (Syntax.named 3) Syntax.imm (Syntax.tyInt Syntax.w8))
-      3,
-) (List._∷_ (
-  6,
   Relend.mslice-owed
       (Referent.rtF (Referent.fInt Syntax.w64))
       (Syntax.tyRef (Syntax.named 4) Syntax.mut (Syntax.tyInt Syntax.w64))
       4
-      12
+      11
       Row.off,
 ) (List._∷_ (
   7,
@@ -2683,30 +2607,24 @@ t23 = List._∷_ (0, Rows.any-gone (Syntax.tyInt Syntax.w64)) (List._∷_ (
 ) (List._∷_ (
   10,
   Mut.mslice
-      (Referent.rtF (Referent.fInt Syntax.w8))
-      (Syntax.tyRef (Syntax.named 8) Syntax.mut (Syntax.tyInt Syntax.w8))
-      8,
-) (List._∷_ (
-  11,
-  Mut.mslice
       Elem.R
-      (Syntax.tyRef (Syntax.named 9) Syntax.mut Elem.ty)
-      9,
-) (List._∷_ (12, Rows.sc-here (Row.sInt Syntax.w64)) (List._∷_ (
-  13,
+      (Syntax.tyRef (Syntax.named 8) Syntax.mut Elem.ty)
+      8,
+) (List._∷_ (11, Rows.sc-here (Row.sInt Syntax.w64)) (List._∷_ (
+  12,
   Rows.sc-here (Row.sInt Syntax.w64),
-) (List._∷_ (14, Rows.sc-here (Row.sInt Syntax.w64)) (List._∷_ (
-  15,
+) (List._∷_ (13, Rows.sc-here (Row.sInt Syntax.w64)) (List._∷_ (
+  14,
   Rows.whole (Declared.row LineRec.the-type),
-) List.[])))))))))))))))
+) (List._∷_ (15, Rows.any-gone Syntax.tyBool) List.[])))))))))))))))
 
-abbrev pub t24 : List.List Row.Entry
-t24 = List._∷_ (16, Rows.any-gone Syntax.tyBool) (List._∷_ (
-  17,
+abbrev pub t23 : List.List Row.Entry
+t23 = List._∷_ (
+  16,
   Rows.any-gone
       (Syntax.tyRef Syntax.erased Syntax.mut Elem.ty),
 ) (List._∷_ (
-  18,
+  17,
   Rows.any-gone
       (Syntax.tyStruct
       (List._∷_ 38 (List._∷_ 91 (List._∷_ 93 List.[])))
@@ -2714,28 +2632,28 @@ t24 = List._∷_ (16, Rows.any-gone Syntax.tyBool) (List._∷_ (
       (Syntax.tyRef Syntax.erased Syntax.mut Elem.ty)
       (Syntax.tcons (Syntax.tyInt Syntax.w64) Syntax.tnil))),
 ) (List._∷_ (
-  19,
+  18,
   Rows.any-gone
       (Syntax.tyRef Syntax.erased Syntax.imm Elem.ty),
 ) (List._∷_ (
-  20,
+  19,
   Rows.any-gone
       (Syntax.tyStruct
       (List._∷_ 38 (List._∷_ 91 (List._∷_ 93 List.[])))
       (Syntax.tcons
       (Syntax.tyRef Syntax.erased Syntax.imm Elem.ty)
       (Syntax.tcons (Syntax.tyInt Syntax.w64) Syntax.tnil))),
-) (List._∷_ (21, Rows.any-gone (Syntax.tyInt Syntax.w64)) (List._∷_ (
-  22,
+) (List._∷_ (20, Rows.any-gone (Syntax.tyInt Syntax.w64)) (List._∷_ (
+  21,
   Rows.any-gone (Syntax.tyInt Syntax.w64),
-) (List._∷_ (23, Rows.any-gone (Syntax.tyInt Syntax.w64)) (List._∷_ (
-  24,
+) (List._∷_ (22, Rows.any-gone (Syntax.tyInt Syntax.w64)) (List._∷_ (
+  23,
   Relend.msptr
       (Referent.rtF (Referent.fInt Syntax.w64))
       (Syntax.tyRef Syntax.erased Syntax.mut (Syntax.tyInt Syntax.w64))
-      12,
+      11,
 ) (List._∷_ (
-  25,
+  24,
   Rows.any-gone
       (Syntax.tyStruct
       (List._∷_ 38 (List._∷_ 91 (List._∷_ 93 List.[])))
@@ -2744,46 +2662,46 @@ t24 = List._∷_ (16, Rows.any-gone Syntax.tyBool) (List._∷_ (
       (Syntax.tcons (Syntax.tyInt Syntax.w64) Syntax.tnil))),
 )
     (List._∷_
-    (26, Rows.any-gone (Syntax.tyRef Syntax.erased Syntax.mut (Syntax.tyInt Syntax.w8)))
+    (25, Rows.any-gone (Syntax.tyRef Syntax.erased Syntax.mut (Syntax.tyInt Syntax.w8)))
     (List._∷_ (
-      27,
+      26,
       Rows.any-gone
           (Syntax.tyStruct
           (List._∷_ 38 (List._∷_ 91 (List._∷_ 93 List.[])))
           (Syntax.tcons
           (Syntax.tyRef Syntax.erased Syntax.mut (Syntax.tyInt Syntax.w8))
           (Syntax.tcons (Syntax.tyInt Syntax.w64) Syntax.tnil))),
+    ) (List._∷_ (
+      27,
+      Rows.any-gone (Syntax.tyRef Syntax.erased Syntax.mut (Syntax.tyInt Syntax.w8)),
     ) (List._∷_ (
       28,
-      Rows.any-gone (Syntax.tyRef Syntax.erased Syntax.mut (Syntax.tyInt Syntax.w8)),
+      Rows.any-gone
+          (Syntax.tyStruct
+          (List._∷_ 38 (List._∷_ 91 (List._∷_ 93 List.[])))
+          (Syntax.tcons
+          (Syntax.tyRef Syntax.erased Syntax.mut (Syntax.tyInt Syntax.w8))
+          (Syntax.tcons (Syntax.tyInt Syntax.w64) Syntax.tnil))),
     ) (List._∷_ (
       29,
-      Rows.any-gone
-          (Syntax.tyStruct
-          (List._∷_ 38 (List._∷_ 91 (List._∷_ 93 List.[])))
-          (Syntax.tcons
-          (Syntax.tyRef Syntax.erased Syntax.mut (Syntax.tyInt Syntax.w8))
-          (Syntax.tcons (Syntax.tyInt Syntax.w64) Syntax.tnil))),
-    ) (List._∷_ (
-      30,
       Rows.any-gone (Syntax.tyRef Syntax.erased Syntax.mut (Syntax.tyInt Syntax.w8)),
     ) (List._∷_ (
-      31,
+      30,
       Rows.any-gone
           (Syntax.tyStruct
           (List._∷_ 38 (List._∷_ 91 (List._∷_ 93 List.[])))
           (Syntax.tcons
           (Syntax.tyRef Syntax.erased Syntax.mut (Syntax.tyInt Syntax.w8))
           (Syntax.tcons (Syntax.tyInt Syntax.w64) Syntax.tnil))),
-    ) List.[])))))))))))))))
+    ) List.[]))))))))))))))
 
-abbrev pub t25 : List.List Row.Entry
-t25 = List._∷_ (16, Rows.any-gone Syntax.tyBool) (List._∷_ (
-  17,
+abbrev pub t24 : List.List Row.Entry
+t24 = List._∷_ (
+  16,
   Rows.any-gone
       (Syntax.tyRef Syntax.erased Syntax.mut Elem.ty),
 ) (List._∷_ (
-  18,
+  17,
   Rows.any-gone
       (Syntax.tyStruct
       (List._∷_ 38 (List._∷_ 91 (List._∷_ 93 List.[])))
@@ -2791,66 +2709,66 @@ t25 = List._∷_ (16, Rows.any-gone Syntax.tyBool) (List._∷_ (
       (Syntax.tyRef Syntax.erased Syntax.mut Elem.ty)
       (Syntax.tcons (Syntax.tyInt Syntax.w64) Syntax.tnil))),
 ) (List._∷_ (
-  19,
+  18,
   Rows.any-gone
       (Syntax.tyRef Syntax.erased Syntax.imm Elem.ty),
 ) (List._∷_ (
-  20,
+  19,
   Rows.any-gone
       (Syntax.tyStruct
       (List._∷_ 38 (List._∷_ 91 (List._∷_ 93 List.[])))
       (Syntax.tcons
       (Syntax.tyRef Syntax.erased Syntax.imm Elem.ty)
       (Syntax.tcons (Syntax.tyInt Syntax.w64) Syntax.tnil))),
-) (List._∷_ (21, Rows.any-gone (Syntax.tyInt Syntax.w64)) (List._∷_ (
-  22,
+) (List._∷_ (20, Rows.any-gone (Syntax.tyInt Syntax.w64)) (List._∷_ (
+  21,
   Rows.any-gone (Syntax.tyInt Syntax.w64),
-) (List._∷_ (23, Rows.any-gone (Syntax.tyInt Syntax.w64)) (List._∷_ (
-  24,
+) (List._∷_ (22, Rows.any-gone (Syntax.tyInt Syntax.w64)) (List._∷_ (
+  23,
   Rows.any-gone (Syntax.tyRef Syntax.erased Syntax.mut (Syntax.tyInt Syntax.w64)),
 ) (List._∷_ (
-  25,
+  24,
   Mut.mslice
       (Referent.rtF (Referent.fInt Syntax.w64))
       (Syntax.tyRef Syntax.erased Syntax.mut (Syntax.tyInt Syntax.w64))
-      12,
+      11,
 )
     (List._∷_
-    (26, Rows.any-gone (Syntax.tyRef Syntax.erased Syntax.mut (Syntax.tyInt Syntax.w8)))
+    (25, Rows.any-gone (Syntax.tyRef Syntax.erased Syntax.mut (Syntax.tyInt Syntax.w8)))
     (List._∷_ (
-      27,
+      26,
       Rows.any-gone
           (Syntax.tyStruct
           (List._∷_ 38 (List._∷_ 91 (List._∷_ 93 List.[])))
           (Syntax.tcons
           (Syntax.tyRef Syntax.erased Syntax.mut (Syntax.tyInt Syntax.w8))
           (Syntax.tcons (Syntax.tyInt Syntax.w64) Syntax.tnil))),
+    ) (List._∷_ (
+      27,
+      Rows.any-gone (Syntax.tyRef Syntax.erased Syntax.mut (Syntax.tyInt Syntax.w8)),
     ) (List._∷_ (
       28,
-      Rows.any-gone (Syntax.tyRef Syntax.erased Syntax.mut (Syntax.tyInt Syntax.w8)),
+      Rows.any-gone
+          (Syntax.tyStruct
+          (List._∷_ 38 (List._∷_ 91 (List._∷_ 93 List.[])))
+          (Syntax.tcons
+          (Syntax.tyRef Syntax.erased Syntax.mut (Syntax.tyInt Syntax.w8))
+          (Syntax.tcons (Syntax.tyInt Syntax.w64) Syntax.tnil))),
     ) (List._∷_ (
       29,
-      Rows.any-gone
-          (Syntax.tyStruct
-          (List._∷_ 38 (List._∷_ 91 (List._∷_ 93 List.[])))
-          (Syntax.tcons
-          (Syntax.tyRef Syntax.erased Syntax.mut (Syntax.tyInt Syntax.w8))
-          (Syntax.tcons (Syntax.tyInt Syntax.w64) Syntax.tnil))),
-    ) (List._∷_ (
-      30,
       Rows.any-gone (Syntax.tyRef Syntax.erased Syntax.mut (Syntax.tyInt Syntax.w8)),
     ) (List._∷_ (
-      31,
+      30,
       Rows.any-gone
           (Syntax.tyStruct
           (List._∷_ 38 (List._∷_ 91 (List._∷_ 93 List.[])))
           (Syntax.tcons
           (Syntax.tyRef Syntax.erased Syntax.mut (Syntax.tyInt Syntax.w8))
           (Syntax.tcons (Syntax.tyInt Syntax.w64) Syntax.tnil))),
-    ) List.[])))))))))))))))
+    ) List.[]))))))))))))))
 
-abbrev pub t26 : List.List Row.Entry
-t26 = List._∷_ (0, Rows.any-gone (Syntax.tyInt Syntax.w64)) (List._∷_ (
+abbrev pub t25 : List.List Row.Entry
+t25 = List._∷_ (0, Rows.any-gone (Syntax.tyInt Syntax.w64)) (List._∷_ (
   1,
   Rows.sslice
       (Referent.rtF (Referent.fInt Syntax.w8))
@@ -2880,7 +2798,7 @@ t26 = List._∷_ (0, Rows.any-gone (Syntax.tyInt Syntax.w64)) (List._∷_ (
       (Referent.rtF (Referent.fInt Syntax.w64))
       (Syntax.tyRef (Syntax.named 4) Syntax.mut (Syntax.tyInt Syntax.w64))
       4
-      12
+      11
       Row.off,
 ) (List._∷_ (
   7,
@@ -2888,7 +2806,7 @@ t26 = List._∷_ (0, Rows.any-gone (Syntax.tyInt Syntax.w64)) (List._∷_ (
       (Referent.rtF (Referent.fInt Syntax.w8))
       (Syntax.tyRef (Syntax.named 5) Syntax.mut (Syntax.tyInt Syntax.w8))
       5
-      13
+      12
       Row.off,
 ) (List._∷_ (
   8,
@@ -2905,30 +2823,24 @@ t26 = List._∷_ (0, Rows.any-gone (Syntax.tyInt Syntax.w64)) (List._∷_ (
 ) (List._∷_ (
   10,
   Mut.mslice
-      (Referent.rtF (Referent.fInt Syntax.w8))
-      (Syntax.tyRef (Syntax.named 8) Syntax.mut (Syntax.tyInt Syntax.w8))
-      8,
-) (List._∷_ (
-  11,
-  Mut.mslice
       Elem.R
-      (Syntax.tyRef (Syntax.named 9) Syntax.mut Elem.ty)
-      9,
-) (List._∷_ (12, Rows.sc-here (Row.sInt Syntax.w64)) (List._∷_ (
-  13,
+      (Syntax.tyRef (Syntax.named 8) Syntax.mut Elem.ty)
+      8,
+) (List._∷_ (11, Rows.sc-here (Row.sInt Syntax.w64)) (List._∷_ (
+  12,
   Rows.sc-here (Row.sInt Syntax.w64),
-) (List._∷_ (14, Rows.sc-here (Row.sInt Syntax.w64)) (List._∷_ (
-  15,
+) (List._∷_ (13, Rows.sc-here (Row.sInt Syntax.w64)) (List._∷_ (
+  14,
   Rows.whole (Declared.row LineRec.the-type),
-) List.[])))))))))))))))
+) (List._∷_ (15, Rows.any-gone Syntax.tyBool) List.[])))))))))))))))
 
-abbrev pub t27 : List.List Row.Entry
-t27 = List._∷_ (16, Rows.any-gone Syntax.tyBool) (List._∷_ (
-  17,
+abbrev pub t26 : List.List Row.Entry
+t26 = List._∷_ (
+  16,
   Rows.any-gone
       (Syntax.tyRef Syntax.erased Syntax.mut Elem.ty),
 ) (List._∷_ (
-  18,
+  17,
   Rows.any-gone
       (Syntax.tyStruct
       (List._∷_ 38 (List._∷_ 91 (List._∷_ 93 List.[])))
@@ -2936,37 +2848,37 @@ t27 = List._∷_ (16, Rows.any-gone Syntax.tyBool) (List._∷_ (
       (Syntax.tyRef Syntax.erased Syntax.mut Elem.ty)
       (Syntax.tcons (Syntax.tyInt Syntax.w64) Syntax.tnil))),
 ) (List._∷_ (
-  19,
+  18,
   Rows.any-gone
       (Syntax.tyRef Syntax.erased Syntax.imm Elem.ty),
 ) (List._∷_ (
-  20,
+  19,
   Rows.any-gone
       (Syntax.tyStruct
       (List._∷_ 38 (List._∷_ 91 (List._∷_ 93 List.[])))
       (Syntax.tcons
       (Syntax.tyRef Syntax.erased Syntax.imm Elem.ty)
       (Syntax.tcons (Syntax.tyInt Syntax.w64) Syntax.tnil))),
-) (List._∷_ (21, Rows.any-gone (Syntax.tyInt Syntax.w64)) (List._∷_ (
-  22,
+) (List._∷_ (20, Rows.any-gone (Syntax.tyInt Syntax.w64)) (List._∷_ (
+  21,
   Rows.any-gone (Syntax.tyInt Syntax.w64),
-) (List._∷_ (23, Rows.any-gone (Syntax.tyInt Syntax.w64)) (List._∷_ (
-  24,
+) (List._∷_ (22, Rows.any-gone (Syntax.tyInt Syntax.w64)) (List._∷_ (
+  23,
   Rows.any-gone (Syntax.tyRef Syntax.erased Syntax.mut (Syntax.tyInt Syntax.w64)),
 ) (List._∷_ (
-  25,
+  24,
   Mut.mslice
       (Referent.rtF (Referent.fInt Syntax.w64))
       (Syntax.tyRef Syntax.erased Syntax.mut (Syntax.tyInt Syntax.w64))
+      11,
+) (List._∷_ (
+  25,
+  Relend.msptr
+      (Referent.rtF (Referent.fInt Syntax.w8))
+      (Syntax.tyRef Syntax.erased Syntax.mut (Syntax.tyInt Syntax.w8))
       12,
 ) (List._∷_ (
   26,
-  Relend.msptr
-      (Referent.rtF (Referent.fInt Syntax.w8))
-      (Syntax.tyRef Syntax.erased Syntax.mut (Syntax.tyInt Syntax.w8))
-      13,
-) (List._∷_ (
-  27,
   Rows.any-gone
       (Syntax.tyStruct
       (List._∷_ 38 (List._∷_ 91 (List._∷_ 93 List.[])))
@@ -2975,9 +2887,9 @@ t27 = List._∷_ (16, Rows.any-gone Syntax.tyBool) (List._∷_ (
       (Syntax.tcons (Syntax.tyInt Syntax.w64) Syntax.tnil))),
 )
     (List._∷_
-    (28, Rows.any-gone (Syntax.tyRef Syntax.erased Syntax.mut (Syntax.tyInt Syntax.w8)))
+    (27, Rows.any-gone (Syntax.tyRef Syntax.erased Syntax.mut (Syntax.tyInt Syntax.w8)))
     (List._∷_ (
-      29,
+      28,
       Rows.any-gone
           (Syntax.tyStruct
           (List._∷_ 38 (List._∷_ 91 (List._∷_ 93 List.[])))
@@ -2985,25 +2897,25 @@ t27 = List._∷_ (16, Rows.any-gone Syntax.tyBool) (List._∷_ (
           (Syntax.tyRef Syntax.erased Syntax.mut (Syntax.tyInt Syntax.w8))
           (Syntax.tcons (Syntax.tyInt Syntax.w64) Syntax.tnil))),
     ) (List._∷_ (
-      30,
+      29,
       Rows.any-gone (Syntax.tyRef Syntax.erased Syntax.mut (Syntax.tyInt Syntax.w8)),
     ) (List._∷_ (
-      31,
+      30,
       Rows.any-gone
           (Syntax.tyStruct
           (List._∷_ 38 (List._∷_ 91 (List._∷_ 93 List.[])))
           (Syntax.tcons
           (Syntax.tyRef Syntax.erased Syntax.mut (Syntax.tyInt Syntax.w8))
           (Syntax.tcons (Syntax.tyInt Syntax.w64) Syntax.tnil))),
-    ) List.[])))))))))))))))
+    ) List.[]))))))))))))))
 
-abbrev pub t28 : List.List Row.Entry
-t28 = List._∷_ (16, Rows.any-gone Syntax.tyBool) (List._∷_ (
-  17,
+abbrev pub t27 : List.List Row.Entry
+t27 = List._∷_ (
+  16,
   Rows.any-gone
       (Syntax.tyRef Syntax.erased Syntax.mut Elem.ty),
 ) (List._∷_ (
-  18,
+  17,
   Rows.any-gone
       (Syntax.tyStruct
       (List._∷_ 38 (List._∷_ 91 (List._∷_ 93 List.[])))
@@ -3011,64 +2923,64 @@ t28 = List._∷_ (16, Rows.any-gone Syntax.tyBool) (List._∷_ (
       (Syntax.tyRef Syntax.erased Syntax.mut Elem.ty)
       (Syntax.tcons (Syntax.tyInt Syntax.w64) Syntax.tnil))),
 ) (List._∷_ (
-  19,
+  18,
   Rows.any-gone
       (Syntax.tyRef Syntax.erased Syntax.imm Elem.ty),
 ) (List._∷_ (
-  20,
+  19,
   Rows.any-gone
       (Syntax.tyStruct
       (List._∷_ 38 (List._∷_ 91 (List._∷_ 93 List.[])))
       (Syntax.tcons
       (Syntax.tyRef Syntax.erased Syntax.imm Elem.ty)
       (Syntax.tcons (Syntax.tyInt Syntax.w64) Syntax.tnil))),
-) (List._∷_ (21, Rows.any-gone (Syntax.tyInt Syntax.w64)) (List._∷_ (
-  22,
+) (List._∷_ (20, Rows.any-gone (Syntax.tyInt Syntax.w64)) (List._∷_ (
+  21,
   Rows.any-gone (Syntax.tyInt Syntax.w64),
-) (List._∷_ (23, Rows.any-gone (Syntax.tyInt Syntax.w64)) (List._∷_ (
-  24,
+) (List._∷_ (22, Rows.any-gone (Syntax.tyInt Syntax.w64)) (List._∷_ (
+  23,
   Rows.any-gone (Syntax.tyRef Syntax.erased Syntax.mut (Syntax.tyInt Syntax.w64)),
 ) (List._∷_ (
-  25,
+  24,
   Mut.mslice
       (Referent.rtF (Referent.fInt Syntax.w64))
       (Syntax.tyRef Syntax.erased Syntax.mut (Syntax.tyInt Syntax.w64))
-      12,
+      11,
 )
     (List._∷_
-    (26, Rows.any-gone (Syntax.tyRef Syntax.erased Syntax.mut (Syntax.tyInt Syntax.w8)))
+    (25, Rows.any-gone (Syntax.tyRef Syntax.erased Syntax.mut (Syntax.tyInt Syntax.w8)))
     (List._∷_ (
-      27,
+      26,
       Mut.mslice
           (Referent.rtF (Referent.fInt Syntax.w8))
           (Syntax.tyRef Syntax.erased Syntax.mut (Syntax.tyInt Syntax.w8))
-          13,
+          12,
+    ) (List._∷_ (
+      27,
+      Rows.any-gone (Syntax.tyRef Syntax.erased Syntax.mut (Syntax.tyInt Syntax.w8)),
     ) (List._∷_ (
       28,
-      Rows.any-gone (Syntax.tyRef Syntax.erased Syntax.mut (Syntax.tyInt Syntax.w8)),
+      Rows.any-gone
+          (Syntax.tyStruct
+          (List._∷_ 38 (List._∷_ 91 (List._∷_ 93 List.[])))
+          (Syntax.tcons
+          (Syntax.tyRef Syntax.erased Syntax.mut (Syntax.tyInt Syntax.w8))
+          (Syntax.tcons (Syntax.tyInt Syntax.w64) Syntax.tnil))),
     ) (List._∷_ (
       29,
-      Rows.any-gone
-          (Syntax.tyStruct
-          (List._∷_ 38 (List._∷_ 91 (List._∷_ 93 List.[])))
-          (Syntax.tcons
-          (Syntax.tyRef Syntax.erased Syntax.mut (Syntax.tyInt Syntax.w8))
-          (Syntax.tcons (Syntax.tyInt Syntax.w64) Syntax.tnil))),
-    ) (List._∷_ (
-      30,
       Rows.any-gone (Syntax.tyRef Syntax.erased Syntax.mut (Syntax.tyInt Syntax.w8)),
     ) (List._∷_ (
-      31,
+      30,
       Rows.any-gone
           (Syntax.tyStruct
           (List._∷_ 38 (List._∷_ 91 (List._∷_ 93 List.[])))
           (Syntax.tcons
           (Syntax.tyRef Syntax.erased Syntax.mut (Syntax.tyInt Syntax.w8))
           (Syntax.tcons (Syntax.tyInt Syntax.w64) Syntax.tnil))),
-    ) List.[])))))))))))))))
+    ) List.[]))))))))))))))
 
-abbrev pub t29 : List.List Row.Entry
-t29 = List._∷_ (0, Rows.any-gone (Syntax.tyInt Syntax.w64)) (List._∷_ (
+abbrev pub t28 : List.List Row.Entry
+t28 = List._∷_ (0, Rows.any-gone (Syntax.tyInt Syntax.w64)) (List._∷_ (
   1,
   Rows.sslice
       (Referent.rtF (Referent.fInt Syntax.w8))
@@ -3098,7 +3010,7 @@ t29 = List._∷_ (0, Rows.any-gone (Syntax.tyInt Syntax.w64)) (List._∷_ (
       (Referent.rtF (Referent.fInt Syntax.w64))
       (Syntax.tyRef (Syntax.named 4) Syntax.mut (Syntax.tyInt Syntax.w64))
       4
-      12
+      11
       Row.off,
 ) (List._∷_ (
   7,
@@ -3106,7 +3018,7 @@ t29 = List._∷_ (0, Rows.any-gone (Syntax.tyInt Syntax.w64)) (List._∷_ (
       (Referent.rtF (Referent.fInt Syntax.w8))
       (Syntax.tyRef (Syntax.named 5) Syntax.mut (Syntax.tyInt Syntax.w8))
       5
-      13
+      12
       Row.off,
 ) (List._∷_ (
   8,
@@ -3114,7 +3026,7 @@ t29 = List._∷_ (0, Rows.any-gone (Syntax.tyInt Syntax.w64)) (List._∷_ (
       (Referent.rtF (Referent.fInt Syntax.w8))
       (Syntax.tyRef (Syntax.named 6) Syntax.mut (Syntax.tyInt Syntax.w8))
       6
-      14
+      13
       Row.off,
 ) (List._∷_ (
   9,
@@ -3125,30 +3037,24 @@ t29 = List._∷_ (0, Rows.any-gone (Syntax.tyInt Syntax.w64)) (List._∷_ (
 ) (List._∷_ (
   10,
   Mut.mslice
-      (Referent.rtF (Referent.fInt Syntax.w8))
-      (Syntax.tyRef (Syntax.named 8) Syntax.mut (Syntax.tyInt Syntax.w8))
-      8,
-) (List._∷_ (
-  11,
-  Mut.mslice
       Elem.R
-      (Syntax.tyRef (Syntax.named 9) Syntax.mut Elem.ty)
-      9,
-) (List._∷_ (12, Rows.sc-here (Row.sInt Syntax.w64)) (List._∷_ (
-  13,
+      (Syntax.tyRef (Syntax.named 8) Syntax.mut Elem.ty)
+      8,
+) (List._∷_ (11, Rows.sc-here (Row.sInt Syntax.w64)) (List._∷_ (
+  12,
   Rows.sc-here (Row.sInt Syntax.w64),
-) (List._∷_ (14, Rows.sc-here (Row.sInt Syntax.w64)) (List._∷_ (
-  15,
+) (List._∷_ (13, Rows.sc-here (Row.sInt Syntax.w64)) (List._∷_ (
+  14,
   Rows.whole (Declared.row LineRec.the-type),
-) List.[])))))))))))))))
+) (List._∷_ (15, Rows.any-gone Syntax.tyBool) List.[])))))))))))))))
 
-abbrev pub t30 : List.List Row.Entry
-t30 = List._∷_ (16, Rows.any-gone Syntax.tyBool) (List._∷_ (
-  17,
+abbrev pub t29 : List.List Row.Entry
+t29 = List._∷_ (
+  16,
   Rows.any-gone
       (Syntax.tyRef Syntax.erased Syntax.mut Elem.ty),
 ) (List._∷_ (
-  18,
+  17,
   Rows.any-gone
       (Syntax.tyStruct
       (List._∷_ 38 (List._∷_ 91 (List._∷_ 93 List.[])))
@@ -3156,72 +3062,72 @@ t30 = List._∷_ (16, Rows.any-gone Syntax.tyBool) (List._∷_ (
       (Syntax.tyRef Syntax.erased Syntax.mut Elem.ty)
       (Syntax.tcons (Syntax.tyInt Syntax.w64) Syntax.tnil))),
 ) (List._∷_ (
-  19,
+  18,
   Rows.any-gone
       (Syntax.tyRef Syntax.erased Syntax.imm Elem.ty),
 ) (List._∷_ (
-  20,
+  19,
   Rows.any-gone
       (Syntax.tyStruct
       (List._∷_ 38 (List._∷_ 91 (List._∷_ 93 List.[])))
       (Syntax.tcons
       (Syntax.tyRef Syntax.erased Syntax.imm Elem.ty)
       (Syntax.tcons (Syntax.tyInt Syntax.w64) Syntax.tnil))),
-) (List._∷_ (21, Rows.any-gone (Syntax.tyInt Syntax.w64)) (List._∷_ (
-  22,
+) (List._∷_ (20, Rows.any-gone (Syntax.tyInt Syntax.w64)) (List._∷_ (
+  21,
   Rows.any-gone (Syntax.tyInt Syntax.w64),
-) (List._∷_ (23, Rows.any-gone (Syntax.tyInt Syntax.w64)) (List._∷_ (
-  24,
+) (List._∷_ (22, Rows.any-gone (Syntax.tyInt Syntax.w64)) (List._∷_ (
+  23,
   Rows.any-gone (Syntax.tyRef Syntax.erased Syntax.mut (Syntax.tyInt Syntax.w64)),
 ) (List._∷_ (
-  25,
+  24,
   Mut.mslice
       (Referent.rtF (Referent.fInt Syntax.w64))
       (Syntax.tyRef Syntax.erased Syntax.mut (Syntax.tyInt Syntax.w64))
-      12,
+      11,
 )
     (List._∷_
-    (26, Rows.any-gone (Syntax.tyRef Syntax.erased Syntax.mut (Syntax.tyInt Syntax.w8)))
+    (25, Rows.any-gone (Syntax.tyRef Syntax.erased Syntax.mut (Syntax.tyInt Syntax.w8)))
     (List._∷_ (
-      27,
+      26,
       Mut.mslice
           (Referent.rtF (Referent.fInt Syntax.w8))
           (Syntax.tyRef Syntax.erased Syntax.mut (Syntax.tyInt Syntax.w8))
-          13,
+          12,
     ) (List._∷_ (
-      28,
+      27,
       Relend.msptr
           (Referent.rtF (Referent.fInt Syntax.w8))
           (Syntax.tyRef Syntax.erased Syntax.mut (Syntax.tyInt Syntax.w8))
-          14,
+          13,
+    ) (List._∷_ (
+      28,
+      Rows.any-gone
+          (Syntax.tyStruct
+          (List._∷_ 38 (List._∷_ 91 (List._∷_ 93 List.[])))
+          (Syntax.tcons
+          (Syntax.tyRef Syntax.erased Syntax.mut (Syntax.tyInt Syntax.w8))
+          (Syntax.tcons (Syntax.tyInt Syntax.w64) Syntax.tnil))),
     ) (List._∷_ (
       29,
-      Rows.any-gone
-          (Syntax.tyStruct
-          (List._∷_ 38 (List._∷_ 91 (List._∷_ 93 List.[])))
-          (Syntax.tcons
-          (Syntax.tyRef Syntax.erased Syntax.mut (Syntax.tyInt Syntax.w8))
-          (Syntax.tcons (Syntax.tyInt Syntax.w64) Syntax.tnil))),
-    ) (List._∷_ (
-      30,
       Rows.any-gone (Syntax.tyRef Syntax.erased Syntax.mut (Syntax.tyInt Syntax.w8)),
     ) (List._∷_ (
-      31,
+      30,
       Rows.any-gone
           (Syntax.tyStruct
           (List._∷_ 38 (List._∷_ 91 (List._∷_ 93 List.[])))
           (Syntax.tcons
           (Syntax.tyRef Syntax.erased Syntax.mut (Syntax.tyInt Syntax.w8))
           (Syntax.tcons (Syntax.tyInt Syntax.w64) Syntax.tnil))),
-    ) List.[])))))))))))))))
+    ) List.[]))))))))))))))
 
-abbrev pub t31 : List.List Row.Entry
-t31 = List._∷_ (16, Rows.any-gone Syntax.tyBool) (List._∷_ (
-  17,
+abbrev pub t30 : List.List Row.Entry
+t30 = List._∷_ (
+  16,
   Rows.any-gone
       (Syntax.tyRef Syntax.erased Syntax.mut Elem.ty),
 ) (List._∷_ (
-  18,
+  17,
   Rows.any-gone
       (Syntax.tyStruct
       (List._∷_ 38 (List._∷_ 91 (List._∷_ 93 List.[])))
@@ -3229,62 +3135,62 @@ t31 = List._∷_ (16, Rows.any-gone Syntax.tyBool) (List._∷_ (
       (Syntax.tyRef Syntax.erased Syntax.mut Elem.ty)
       (Syntax.tcons (Syntax.tyInt Syntax.w64) Syntax.tnil))),
 ) (List._∷_ (
-  19,
+  18,
   Rows.any-gone
       (Syntax.tyRef Syntax.erased Syntax.imm Elem.ty),
 ) (List._∷_ (
-  20,
+  19,
   Rows.any-gone
       (Syntax.tyStruct
       (List._∷_ 38 (List._∷_ 91 (List._∷_ 93 List.[])))
       (Syntax.tcons
       (Syntax.tyRef Syntax.erased Syntax.imm Elem.ty)
       (Syntax.tcons (Syntax.tyInt Syntax.w64) Syntax.tnil))),
-) (List._∷_ (21, Rows.any-gone (Syntax.tyInt Syntax.w64)) (List._∷_ (
-  22,
+) (List._∷_ (20, Rows.any-gone (Syntax.tyInt Syntax.w64)) (List._∷_ (
+  21,
   Rows.any-gone (Syntax.tyInt Syntax.w64),
-) (List._∷_ (23, Rows.any-gone (Syntax.tyInt Syntax.w64)) (List._∷_ (
-  24,
+) (List._∷_ (22, Rows.any-gone (Syntax.tyInt Syntax.w64)) (List._∷_ (
+  23,
   Rows.any-gone (Syntax.tyRef Syntax.erased Syntax.mut (Syntax.tyInt Syntax.w64)),
 ) (List._∷_ (
-  25,
+  24,
   Mut.mslice
       (Referent.rtF (Referent.fInt Syntax.w64))
       (Syntax.tyRef Syntax.erased Syntax.mut (Syntax.tyInt Syntax.w64))
-      12,
+      11,
 )
     (List._∷_
-    (26, Rows.any-gone (Syntax.tyRef Syntax.erased Syntax.mut (Syntax.tyInt Syntax.w8)))
+    (25, Rows.any-gone (Syntax.tyRef Syntax.erased Syntax.mut (Syntax.tyInt Syntax.w8)))
     (List._∷_ (
+      26,
+      Mut.mslice
+          (Referent.rtF (Referent.fInt Syntax.w8))
+          (Syntax.tyRef Syntax.erased Syntax.mut (Syntax.tyInt Syntax.w8))
+          12,
+    ) (List._∷_ (
       27,
+      Rows.any-gone (Syntax.tyRef Syntax.erased Syntax.mut (Syntax.tyInt Syntax.w8)),
+    ) (List._∷_ (
+      28,
       Mut.mslice
           (Referent.rtF (Referent.fInt Syntax.w8))
           (Syntax.tyRef Syntax.erased Syntax.mut (Syntax.tyInt Syntax.w8))
           13,
     ) (List._∷_ (
-      28,
-      Rows.any-gone (Syntax.tyRef Syntax.erased Syntax.mut (Syntax.tyInt Syntax.w8)),
-    ) (List._∷_ (
       29,
-      Mut.mslice
-          (Referent.rtF (Referent.fInt Syntax.w8))
-          (Syntax.tyRef Syntax.erased Syntax.mut (Syntax.tyInt Syntax.w8))
-          14,
+      Rows.any-gone (Syntax.tyRef Syntax.erased Syntax.mut (Syntax.tyInt Syntax.w8)),
     ) (List._∷_ (
       30,
-      Rows.any-gone (Syntax.tyRef Syntax.erased Syntax.mut (Syntax.tyInt Syntax.w8)),
-    ) (List._∷_ (
-      31,
       Rows.any-gone
           (Syntax.tyStruct
           (List._∷_ 38 (List._∷_ 91 (List._∷_ 93 List.[])))
           (Syntax.tcons
           (Syntax.tyRef Syntax.erased Syntax.mut (Syntax.tyInt Syntax.w8))
           (Syntax.tcons (Syntax.tyInt Syntax.w64) Syntax.tnil))),
-    ) List.[])))))))))))))))
+    ) List.[]))))))))))))))
 
-abbrev pub t32 : List.List Row.Entry
-t32 = List._∷_ (0, Rows.any-gone (Syntax.tyInt Syntax.w64)) (List._∷_ (
+abbrev pub t31 : List.List Row.Entry
+t31 = List._∷_ (0, Rows.any-gone (Syntax.tyInt Syntax.w64)) (List._∷_ (
   1,
   Rows.sslice
       (Referent.rtF (Referent.fInt Syntax.w8))
@@ -3314,7 +3220,7 @@ t32 = List._∷_ (0, Rows.any-gone (Syntax.tyInt Syntax.w64)) (List._∷_ (
       (Referent.rtF (Referent.fInt Syntax.w64))
       (Syntax.tyRef (Syntax.named 4) Syntax.mut (Syntax.tyInt Syntax.w64))
       4
-      12
+      11
       Row.off,
 ) (List._∷_ (
   7,
@@ -3322,7 +3228,7 @@ t32 = List._∷_ (0, Rows.any-gone (Syntax.tyInt Syntax.w64)) (List._∷_ (
       (Referent.rtF (Referent.fInt Syntax.w8))
       (Syntax.tyRef (Syntax.named 5) Syntax.mut (Syntax.tyInt Syntax.w8))
       5
-      13
+      12
       Row.off,
 ) (List._∷_ (
   8,
@@ -3330,7 +3236,7 @@ t32 = List._∷_ (0, Rows.any-gone (Syntax.tyInt Syntax.w64)) (List._∷_ (
       (Referent.rtF (Referent.fInt Syntax.w8))
       (Syntax.tyRef (Syntax.named 6) Syntax.mut (Syntax.tyInt Syntax.w8))
       6
-      14
+      13
       Row.off,
 ) (List._∷_ (
   9,
@@ -3338,35 +3244,29 @@ t32 = List._∷_ (0, Rows.any-gone (Syntax.tyInt Syntax.w64)) (List._∷_ (
       (Referent.rtF (Referent.fInt Syntax.w8))
       (Syntax.tyRef (Syntax.named 7) Syntax.mut (Syntax.tyInt Syntax.w8))
       7
-      15
+      14
       Row.off,
 ) (List._∷_ (
   10,
   Mut.mslice
-      (Referent.rtF (Referent.fInt Syntax.w8))
-      (Syntax.tyRef (Syntax.named 8) Syntax.mut (Syntax.tyInt Syntax.w8))
-      8,
-) (List._∷_ (
-  11,
-  Mut.mslice
       Elem.R
-      (Syntax.tyRef (Syntax.named 9) Syntax.mut Elem.ty)
-      9,
-) (List._∷_ (12, Rows.sc-here (Row.sInt Syntax.w64)) (List._∷_ (
-  13,
+      (Syntax.tyRef (Syntax.named 8) Syntax.mut Elem.ty)
+      8,
+) (List._∷_ (11, Rows.sc-here (Row.sInt Syntax.w64)) (List._∷_ (
+  12,
   Rows.sc-here (Row.sInt Syntax.w64),
-) (List._∷_ (14, Rows.sc-here (Row.sInt Syntax.w64)) (List._∷_ (
-  15,
+) (List._∷_ (13, Rows.sc-here (Row.sInt Syntax.w64)) (List._∷_ (
+  14,
   Rows.whole (Declared.row LineRec.the-type),
-) List.[])))))))))))))))
+) (List._∷_ (15, Rows.any-gone Syntax.tyBool) List.[])))))))))))))))
 
-abbrev pub t33 : List.List Row.Entry
-t33 = List._∷_ (16, Rows.any-gone Syntax.tyBool) (List._∷_ (
-  17,
+abbrev pub t32 : List.List Row.Entry
+t32 = List._∷_ (
+  16,
   Rows.any-gone
       (Syntax.tyRef Syntax.erased Syntax.mut Elem.ty),
 ) (List._∷_ (
-  18,
+  17,
   Rows.any-gone
       (Syntax.tyStruct
       (List._∷_ 38 (List._∷_ 91 (List._∷_ 93 List.[])))
@@ -3374,70 +3274,70 @@ t33 = List._∷_ (16, Rows.any-gone Syntax.tyBool) (List._∷_ (
       (Syntax.tyRef Syntax.erased Syntax.mut Elem.ty)
       (Syntax.tcons (Syntax.tyInt Syntax.w64) Syntax.tnil))),
 ) (List._∷_ (
-  19,
+  18,
   Rows.any-gone
       (Syntax.tyRef Syntax.erased Syntax.imm Elem.ty),
 ) (List._∷_ (
-  20,
+  19,
   Rows.any-gone
       (Syntax.tyStruct
       (List._∷_ 38 (List._∷_ 91 (List._∷_ 93 List.[])))
       (Syntax.tcons
       (Syntax.tyRef Syntax.erased Syntax.imm Elem.ty)
       (Syntax.tcons (Syntax.tyInt Syntax.w64) Syntax.tnil))),
-) (List._∷_ (21, Rows.any-gone (Syntax.tyInt Syntax.w64)) (List._∷_ (
-  22,
+) (List._∷_ (20, Rows.any-gone (Syntax.tyInt Syntax.w64)) (List._∷_ (
+  21,
   Rows.any-gone (Syntax.tyInt Syntax.w64),
-) (List._∷_ (23, Rows.any-gone (Syntax.tyInt Syntax.w64)) (List._∷_ (
-  24,
+) (List._∷_ (22, Rows.any-gone (Syntax.tyInt Syntax.w64)) (List._∷_ (
+  23,
   Rows.any-gone (Syntax.tyRef Syntax.erased Syntax.mut (Syntax.tyInt Syntax.w64)),
 ) (List._∷_ (
-  25,
+  24,
   Mut.mslice
       (Referent.rtF (Referent.fInt Syntax.w64))
       (Syntax.tyRef Syntax.erased Syntax.mut (Syntax.tyInt Syntax.w64))
-      12,
+      11,
 )
     (List._∷_
-    (26, Rows.any-gone (Syntax.tyRef Syntax.erased Syntax.mut (Syntax.tyInt Syntax.w8)))
+    (25, Rows.any-gone (Syntax.tyRef Syntax.erased Syntax.mut (Syntax.tyInt Syntax.w8)))
     (List._∷_ (
+      26,
+      Mut.mslice
+          (Referent.rtF (Referent.fInt Syntax.w8))
+          (Syntax.tyRef Syntax.erased Syntax.mut (Syntax.tyInt Syntax.w8))
+          12,
+    ) (List._∷_ (
       27,
+      Rows.any-gone (Syntax.tyRef Syntax.erased Syntax.mut (Syntax.tyInt Syntax.w8)),
+    ) (List._∷_ (
+      28,
       Mut.mslice
           (Referent.rtF (Referent.fInt Syntax.w8))
           (Syntax.tyRef Syntax.erased Syntax.mut (Syntax.tyInt Syntax.w8))
           13,
     ) (List._∷_ (
-      28,
-      Rows.any-gone (Syntax.tyRef Syntax.erased Syntax.mut (Syntax.tyInt Syntax.w8)),
-    ) (List._∷_ (
       29,
-      Mut.mslice
+      Relend.msptr
           (Referent.rtF (Referent.fInt Syntax.w8))
           (Syntax.tyRef Syntax.erased Syntax.mut (Syntax.tyInt Syntax.w8))
           14,
     ) (List._∷_ (
       30,
-      Relend.msptr
-          (Referent.rtF (Referent.fInt Syntax.w8))
-          (Syntax.tyRef Syntax.erased Syntax.mut (Syntax.tyInt Syntax.w8))
-          15,
-    ) (List._∷_ (
-      31,
       Rows.any-gone
           (Syntax.tyStruct
           (List._∷_ 38 (List._∷_ 91 (List._∷_ 93 List.[])))
           (Syntax.tcons
           (Syntax.tyRef Syntax.erased Syntax.mut (Syntax.tyInt Syntax.w8))
           (Syntax.tcons (Syntax.tyInt Syntax.w64) Syntax.tnil))),
-    ) List.[])))))))))))))))
+    ) List.[]))))))))))))))
 
-abbrev pub t34 : List.List Row.Entry
-t34 = List._∷_ (16, Rows.any-gone Syntax.tyBool) (List._∷_ (
-  17,
+abbrev pub t33 : List.List Row.Entry
+t33 = List._∷_ (
+  16,
   Rows.any-gone
       (Syntax.tyRef Syntax.erased Syntax.mut Elem.ty),
 ) (List._∷_ (
-  18,
+  17,
   Rows.any-gone
       (Syntax.tyStruct
       (List._∷_ 38 (List._∷_ 91 (List._∷_ 93 List.[])))
@@ -3445,57 +3345,119 @@ t34 = List._∷_ (16, Rows.any-gone Syntax.tyBool) (List._∷_ (
       (Syntax.tyRef Syntax.erased Syntax.mut Elem.ty)
       (Syntax.tcons (Syntax.tyInt Syntax.w64) Syntax.tnil))),
 ) (List._∷_ (
-  19,
+  18,
   Rows.any-gone
       (Syntax.tyRef Syntax.erased Syntax.imm Elem.ty),
 ) (List._∷_ (
-  20,
+  19,
   Rows.any-gone
       (Syntax.tyStruct
       (List._∷_ 38 (List._∷_ 91 (List._∷_ 93 List.[])))
       (Syntax.tcons
       (Syntax.tyRef Syntax.erased Syntax.imm Elem.ty)
       (Syntax.tcons (Syntax.tyInt Syntax.w64) Syntax.tnil))),
-) (List._∷_ (21, Rows.any-gone (Syntax.tyInt Syntax.w64)) (List._∷_ (
-  22,
+) (List._∷_ (20, Rows.any-gone (Syntax.tyInt Syntax.w64)) (List._∷_ (
+  21,
   Rows.any-gone (Syntax.tyInt Syntax.w64),
-) (List._∷_ (23, Rows.any-gone (Syntax.tyInt Syntax.w64)) (List._∷_ (
-  24,
+) (List._∷_ (22, Rows.any-gone (Syntax.tyInt Syntax.w64)) (List._∷_ (
+  23,
   Rows.any-gone (Syntax.tyRef Syntax.erased Syntax.mut (Syntax.tyInt Syntax.w64)),
 ) (List._∷_ (
-  25,
+  24,
   Mut.mslice
       (Referent.rtF (Referent.fInt Syntax.w64))
       (Syntax.tyRef Syntax.erased Syntax.mut (Syntax.tyInt Syntax.w64))
-      12,
+      11,
 )
     (List._∷_
-    (26, Rows.any-gone (Syntax.tyRef Syntax.erased Syntax.mut (Syntax.tyInt Syntax.w8)))
+    (25, Rows.any-gone (Syntax.tyRef Syntax.erased Syntax.mut (Syntax.tyInt Syntax.w8)))
     (List._∷_ (
+      26,
+      Mut.mslice
+          (Referent.rtF (Referent.fInt Syntax.w8))
+          (Syntax.tyRef Syntax.erased Syntax.mut (Syntax.tyInt Syntax.w8))
+          12,
+    ) (List._∷_ (
       27,
+      Rows.any-gone (Syntax.tyRef Syntax.erased Syntax.mut (Syntax.tyInt Syntax.w8)),
+    ) (List._∷_ (
+      28,
       Mut.mslice
           (Referent.rtF (Referent.fInt Syntax.w8))
           (Syntax.tyRef Syntax.erased Syntax.mut (Syntax.tyInt Syntax.w8))
           13,
     ) (List._∷_ (
-      28,
+      29,
       Rows.any-gone (Syntax.tyRef Syntax.erased Syntax.mut (Syntax.tyInt Syntax.w8)),
     ) (List._∷_ (
-      29,
+      30,
       Mut.mslice
           (Referent.rtF (Referent.fInt Syntax.w8))
           (Syntax.tyRef Syntax.erased Syntax.mut (Syntax.tyInt Syntax.w8))
           14,
+    ) List.[]))))))))))))))
+
+abbrev pub t34 : List.List Row.Entry
+t34 = List._∷_ (
+  16,
+  Rows.any-gone
+      (Syntax.tyRef Syntax.erased Syntax.mut Elem.ty),
+) (List._∷_ (
+  17,
+  Rows.any-gone
+      (Syntax.tyStruct
+      (List._∷_ 38 (List._∷_ 91 (List._∷_ 93 List.[])))
+      (Syntax.tcons
+      (Syntax.tyRef Syntax.erased Syntax.mut Elem.ty)
+      (Syntax.tcons (Syntax.tyInt Syntax.w64) Syntax.tnil))),
+) (List._∷_ (
+  18,
+  Rows.any-gone
+      (Syntax.tyRef Syntax.erased Syntax.imm Elem.ty),
+) (List._∷_ (
+  19,
+  Rows.any-gone
+      (Syntax.tyStruct
+      (List._∷_ 38 (List._∷_ 91 (List._∷_ 93 List.[])))
+      (Syntax.tcons
+      (Syntax.tyRef Syntax.erased Syntax.imm Elem.ty)
+      (Syntax.tcons (Syntax.tyInt Syntax.w64) Syntax.tnil))),
+) (List._∷_ (20, Rows.any-gone (Syntax.tyInt Syntax.w64)) (List._∷_ (
+  21,
+  Rows.any-gone (Syntax.tyInt Syntax.w64),
+) (List._∷_ (22, Rows.any-gone (Syntax.tyInt Syntax.w64)) (List._∷_ (
+  23,
+  Rows.any-gone (Syntax.tyRef Syntax.erased Syntax.mut (Syntax.tyInt Syntax.w64)),
+) (List._∷_ (
+  24,
+  Mut.msleft
+      (Referent.rtF (Referent.fInt Syntax.w64))
+      (Syntax.tyRef Syntax.erased Syntax.mut (Syntax.tyInt Syntax.w64)),
+)
+    (List._∷_
+    (25, Rows.any-gone (Syntax.tyRef Syntax.erased Syntax.mut (Syntax.tyInt Syntax.w8)))
+    (List._∷_ (
+      26,
+      Mut.msleft
+          (Referent.rtF (Referent.fInt Syntax.w8))
+          (Syntax.tyRef Syntax.erased Syntax.mut (Syntax.tyInt Syntax.w8)),
     ) (List._∷_ (
-      30,
+      27,
       Rows.any-gone (Syntax.tyRef Syntax.erased Syntax.mut (Syntax.tyInt Syntax.w8)),
     ) (List._∷_ (
-      31,
-      Mut.mslice
+      28,
+      Mut.msleft
           (Referent.rtF (Referent.fInt Syntax.w8))
-          (Syntax.tyRef Syntax.erased Syntax.mut (Syntax.tyInt Syntax.w8))
-          15,
-    ) List.[])))))))))))))))
+          (Syntax.tyRef Syntax.erased Syntax.mut (Syntax.tyInt Syntax.w8)),
+    ) (List._∷_ (
+      29,
+      Rows.any-gone (Syntax.tyRef Syntax.erased Syntax.mut (Syntax.tyInt Syntax.w8)),
+    ) (List._∷_ (
+      30,
+      Mut.msleft
+          (Referent.rtF (Referent.fInt Syntax.w8))
+          (Syntax.tyRef Syntax.erased Syntax.mut (Syntax.tyInt Syntax.w8)),
+    ) List.[]))))))))))))))
 
 abbrev pub t35 : List.List Row.Entry
 t35 = List._∷_ (0, Rows.any-gone (Syntax.tyInt Syntax.w64)) (List._∷_ (
@@ -3528,7 +3490,7 @@ t35 = List._∷_ (0, Rows.any-gone (Syntax.tyInt Syntax.w64)) (List._∷_ (
       (Referent.rtF (Referent.fInt Syntax.w64))
       (Syntax.tyRef (Syntax.named 4) Syntax.mut (Syntax.tyInt Syntax.w64))
       4
-      12
+      11
       Row.off,
 ) (List._∷_ (
   7,
@@ -3536,7 +3498,7 @@ t35 = List._∷_ (0, Rows.any-gone (Syntax.tyInt Syntax.w64)) (List._∷_ (
       (Referent.rtF (Referent.fInt Syntax.w8))
       (Syntax.tyRef (Syntax.named 5) Syntax.mut (Syntax.tyInt Syntax.w8))
       5
-      13
+      12
       Row.off,
 ) (List._∷_ (
   8,
@@ -3544,7 +3506,7 @@ t35 = List._∷_ (0, Rows.any-gone (Syntax.tyInt Syntax.w64)) (List._∷_ (
       (Referent.rtF (Referent.fInt Syntax.w8))
       (Syntax.tyRef (Syntax.named 6) Syntax.mut (Syntax.tyInt Syntax.w8))
       6
-      14
+      13
       Row.off,
 ) (List._∷_ (
   9,
@@ -3552,66 +3514,196 @@ t35 = List._∷_ (0, Rows.any-gone (Syntax.tyInt Syntax.w64)) (List._∷_ (
       (Referent.rtF (Referent.fInt Syntax.w8))
       (Syntax.tyRef (Syntax.named 7) Syntax.mut (Syntax.tyInt Syntax.w8))
       7
-      15
+      14
       Row.off,
 ) (List._∷_ (
   10,
-  Relend.mslice-owed
-      (Referent.rtF (Referent.fInt Syntax.w8))
-      (Syntax.tyRef (Syntax.named 8) Syntax.mut (Syntax.tyInt Syntax.w8))
-      8
-      16
-      Row.off,
-) (List._∷_ (
-  11,
   Mut.mslice
       Elem.R
-      (Syntax.tyRef (Syntax.named 9) Syntax.mut Elem.ty)
-      9,
-) (List._∷_ (12, Rows.sc-here (Row.sInt Syntax.w64)) (List._∷_ (
-  13,
+      (Syntax.tyRef (Syntax.named 8) Syntax.mut Elem.ty)
+      8,
+) (List._∷_ (11, Rows.sc-here (Row.sInt Syntax.w64)) (List._∷_ (
+  12,
   Rows.sc-here (Row.sInt Syntax.w64),
-) (List._∷_ (14, Rows.sc-here (Row.sInt Syntax.w64)) (List._∷_ (
-  15,
-  Rows.whole (Declared.row LineRec.the-type),
-) List.[])))))))))))))))
-
-abbrev pub t36 : List.List Row.Entry
-t36 = List._∷_ (
-  32,
-  Relend.msptr
-      (Referent.rtF (Referent.fInt Syntax.w8))
-      (Syntax.tyRef Syntax.erased Syntax.mut (Syntax.tyInt Syntax.w8))
-      16,
-) (List._∷_ (
-  33,
+) (List._∷_ (13, Rows.sc-here (Row.sInt Syntax.w64)) (List._∷_ (
+  14,
   Rows.any-gone
       (Syntax.tyStruct
-      (List._∷_ 38 (List._∷_ 91 (List._∷_ 93 List.[])))
+      (List._∷_
+      114
+      (List._∷_
+      101
+      (List._∷_
+      99
+      (List._∷_
+      111
+      (List._∷_
+      114
+      (List._∷_
+      100
+      (List._∷_
+      115
+      (List._∷_
+      58
+      (List._∷_
+      58
+      (List._∷_
+      76
+      (List._∷_
+      105
+      (List._∷_ 110 (List._∷_ 101 (List._∷_ 82 (List._∷_ 101 (List._∷_ 99 List.[]))))))))))))))))
       (Syntax.tcons
-      (Syntax.tyRef Syntax.erased Syntax.mut (Syntax.tyInt Syntax.w8))
-      (Syntax.tcons (Syntax.tyInt Syntax.w64) Syntax.tnil))),
-) List.[])
+      (Syntax.tyInt Syntax.w64)
+      (Syntax.tcons
+      (Syntax.tyInt Syntax.w64)
+      (Syntax.tcons
+      (Syntax.tyStruct
+      (List._∷_
+      112
+      (List._∷_
+      108
+      (List._∷_
+      97
+      (List._∷_
+      99
+      (List._∷_
+      101
+      (List._∷_
+      58
+      (List._∷_
+      58
+      (List._∷_
+      82
+      (List._∷_ 101 (List._∷_ 103 (List._∷_ 105 (List._∷_ 111 (List._∷_ 110 List.[])))))))))))))
+      (Syntax.tcons (Syntax.tyInt Syntax.w64) Syntax.tnil))
+      (Syntax.tcons (Syntax.tyInt Syntax.w64) Syntax.tnil))))),
+) (List._∷_ (15, Rows.any-gone Syntax.tyBool) List.[])))))))))))))))
+
+abbrev pub t36 : List.List Row.Entry
+t36 = List._∷_ (0, Rows.any-gone (Syntax.tyInt Syntax.w64)) (List._∷_ (
+  1,
+  Rows.sslice
+      (Referent.rtF (Referent.fInt Syntax.w8))
+      (Syntax.tyRef (Syntax.named 0) Syntax.imm (Syntax.tyInt Syntax.w8))
+      0,
+) (List._∷_ (
+  2,
+  Rows.sslice
+      (Referent.rtF (Referent.fInt Syntax.w64))
+      (Syntax.tyRef (Syntax.named 1) Syntax.imm (Syntax.tyInt Syntax.w64))
+      1,
+) (List._∷_ (3, Rows.sc-here (Row.sInt Syntax.w64)) (List._∷_ (
+  4,
+  Rows.sslice
+      (Referent.rtF (Referent.fInt Syntax.w64))
+      (Syntax.tyRef (Syntax.named 2) Syntax.imm (Syntax.tyInt Syntax.w64))
+      2,
+) (List._∷_ (
+  5,
+  Rows.sslice
+      (Referent.rtF (Referent.fInt Syntax.w8))
+      (Syntax.tyRef (Syntax.named 3) Syntax.imm (Syntax.tyInt Syntax.w8))
+      3,
+) (List._∷_ (
+  6,
+  Mut.mslice
+      (Referent.rtF (Referent.fInt Syntax.w64))
+      (Syntax.tyRef (Syntax.named 4) Syntax.mut (Syntax.tyInt Syntax.w64))
+      4,
+) (List._∷_ (
+  7,
+  Relend.mslice-owed
+      (Referent.rtF (Referent.fInt Syntax.w8))
+      (Syntax.tyRef (Syntax.named 5) Syntax.mut (Syntax.tyInt Syntax.w8))
+      5
+      12
+      Row.off,
+) (List._∷_ (
+  8,
+  Relend.mslice-owed
+      (Referent.rtF (Referent.fInt Syntax.w8))
+      (Syntax.tyRef (Syntax.named 6) Syntax.mut (Syntax.tyInt Syntax.w8))
+      6
+      13
+      Row.off,
+) (List._∷_ (
+  9,
+  Relend.mslice-owed
+      (Referent.rtF (Referent.fInt Syntax.w8))
+      (Syntax.tyRef (Syntax.named 7) Syntax.mut (Syntax.tyInt Syntax.w8))
+      7
+      14
+      Row.off,
+) (List._∷_ (
+  10,
+  Mut.mslice
+      Elem.R
+      (Syntax.tyRef (Syntax.named 8) Syntax.mut Elem.ty)
+      8,
+) (List._∷_ (11, Rows.sc-here (Row.sInt Syntax.w64)) (List._∷_ (
+  12,
+  Rows.sc-here (Row.sInt Syntax.w64),
+) (List._∷_ (13, Rows.sc-here (Row.sInt Syntax.w64)) (List._∷_ (
+  14,
+  Rows.any-gone
+      (Syntax.tyStruct
+      (List._∷_
+      114
+      (List._∷_
+      101
+      (List._∷_
+      99
+      (List._∷_
+      111
+      (List._∷_
+      114
+      (List._∷_
+      100
+      (List._∷_
+      115
+      (List._∷_
+      58
+      (List._∷_
+      58
+      (List._∷_
+      76
+      (List._∷_
+      105
+      (List._∷_ 110 (List._∷_ 101 (List._∷_ 82 (List._∷_ 101 (List._∷_ 99 List.[]))))))))))))))))
+      (Syntax.tcons
+      (Syntax.tyInt Syntax.w64)
+      (Syntax.tcons
+      (Syntax.tyInt Syntax.w64)
+      (Syntax.tcons
+      (Syntax.tyStruct
+      (List._∷_
+      112
+      (List._∷_
+      108
+      (List._∷_
+      97
+      (List._∷_
+      99
+      (List._∷_
+      101
+      (List._∷_
+      58
+      (List._∷_
+      58
+      (List._∷_
+      82
+      (List._∷_ 101 (List._∷_ 103 (List._∷_ 105 (List._∷_ 111 (List._∷_ 110 List.[])))))))))))))
+      (Syntax.tcons (Syntax.tyInt Syntax.w64) Syntax.tnil))
+      (Syntax.tcons (Syntax.tyInt Syntax.w64) Syntax.tnil))))),
+) (List._∷_ (15, Rows.any-gone Syntax.tyBool) List.[])))))))))))))))
 
 abbrev pub t37 : List.List Row.Entry
 t37 = List._∷_ (
-  32,
-  Rows.any-gone (Syntax.tyRef Syntax.erased Syntax.mut (Syntax.tyInt Syntax.w8)),
-) (List._∷_ (
-  33,
-  Mut.mslice
-      (Referent.rtF (Referent.fInt Syntax.w8))
-      (Syntax.tyRef Syntax.erased Syntax.mut (Syntax.tyInt Syntax.w8))
-      16,
-) List.[])
-
-abbrev pub t38 : List.List Row.Entry
-t38 = List._∷_ (16, Rows.any-gone Syntax.tyBool) (List._∷_ (
-  17,
+  16,
   Rows.any-gone
       (Syntax.tyRef Syntax.erased Syntax.mut Elem.ty),
 ) (List._∷_ (
-  18,
+  17,
   Rows.any-gone
       (Syntax.tyStruct
       (List._∷_ 38 (List._∷_ 91 (List._∷_ 93 List.[])))
@@ -3619,64 +3711,240 @@ t38 = List._∷_ (16, Rows.any-gone Syntax.tyBool) (List._∷_ (
       (Syntax.tyRef Syntax.erased Syntax.mut Elem.ty)
       (Syntax.tcons (Syntax.tyInt Syntax.w64) Syntax.tnil))),
 ) (List._∷_ (
-  19,
+  18,
   Rows.any-gone
       (Syntax.tyRef Syntax.erased Syntax.imm Elem.ty),
 ) (List._∷_ (
-  20,
+  19,
   Rows.any-gone
       (Syntax.tyStruct
       (List._∷_ 38 (List._∷_ 91 (List._∷_ 93 List.[])))
       (Syntax.tcons
       (Syntax.tyRef Syntax.erased Syntax.imm Elem.ty)
       (Syntax.tcons (Syntax.tyInt Syntax.w64) Syntax.tnil))),
-) (List._∷_ (21, Rows.any-gone (Syntax.tyInt Syntax.w64)) (List._∷_ (
-  22,
+) (List._∷_ (20, Rows.any-gone (Syntax.tyInt Syntax.w64)) (List._∷_ (
+  21,
   Rows.any-gone (Syntax.tyInt Syntax.w64),
-) (List._∷_ (23, Rows.any-gone (Syntax.tyInt Syntax.w64)) (List._∷_ (
-  24,
+) (List._∷_ (22, Rows.any-gone (Syntax.tyInt Syntax.w64)) (List._∷_ (
+  23,
   Rows.any-gone (Syntax.tyRef Syntax.erased Syntax.mut (Syntax.tyInt Syntax.w64)),
 ) (List._∷_ (
-  25,
-  Mut.msleft
-      (Referent.rtF (Referent.fInt Syntax.w64))
-      (Syntax.tyRef Syntax.erased Syntax.mut (Syntax.tyInt Syntax.w64)),
+  24,
+  Rows.any-gone
+      (Syntax.tyStruct
+      (List._∷_ 38 (List._∷_ 91 (List._∷_ 93 List.[])))
+      (Syntax.tcons
+      (Syntax.tyRef Syntax.erased Syntax.mut (Syntax.tyInt Syntax.w64))
+      (Syntax.tcons (Syntax.tyInt Syntax.w64) Syntax.tnil))),
 )
     (List._∷_
-    (26, Rows.any-gone (Syntax.tyRef Syntax.erased Syntax.mut (Syntax.tyInt Syntax.w8)))
+    (25, Rows.any-gone (Syntax.tyRef Syntax.erased Syntax.mut (Syntax.tyInt Syntax.w8)))
     (List._∷_ (
-      27,
+      26,
       Mut.msleft
           (Referent.rtF (Referent.fInt Syntax.w8))
           (Syntax.tyRef Syntax.erased Syntax.mut (Syntax.tyInt Syntax.w8)),
+    ) (List._∷_ (
+      27,
+      Rows.any-gone (Syntax.tyRef Syntax.erased Syntax.mut (Syntax.tyInt Syntax.w8)),
     ) (List._∷_ (
       28,
-      Rows.any-gone (Syntax.tyRef Syntax.erased Syntax.mut (Syntax.tyInt Syntax.w8)),
+      Mut.msleft
+          (Referent.rtF (Referent.fInt Syntax.w8))
+          (Syntax.tyRef Syntax.erased Syntax.mut (Syntax.tyInt Syntax.w8)),
     ) (List._∷_ (
       29,
-      Mut.msleft
-          (Referent.rtF (Referent.fInt Syntax.w8))
-          (Syntax.tyRef Syntax.erased Syntax.mut (Syntax.tyInt Syntax.w8)),
-    ) (List._∷_ (
-      30,
       Rows.any-gone (Syntax.tyRef Syntax.erased Syntax.mut (Syntax.tyInt Syntax.w8)),
     ) (List._∷_ (
-      31,
+      30,
       Mut.msleft
           (Referent.rtF (Referent.fInt Syntax.w8))
           (Syntax.tyRef Syntax.erased Syntax.mut (Syntax.tyInt Syntax.w8)),
-    ) List.[])))))))))))))))
+    ) List.[]))))))))))))))
+
+abbrev pub t38 : List.List Row.Entry
+t38 = List._∷_ (0, Rows.any-gone (Syntax.tyInt Syntax.w64)) (List._∷_ (
+  1,
+  Rows.sslice
+      (Referent.rtF (Referent.fInt Syntax.w8))
+      (Syntax.tyRef (Syntax.named 0) Syntax.imm (Syntax.tyInt Syntax.w8))
+      0,
+) (List._∷_ (
+  2,
+  Rows.sslice
+      (Referent.rtF (Referent.fInt Syntax.w64))
+      (Syntax.tyRef (Syntax.named 1) Syntax.imm (Syntax.tyInt Syntax.w64))
+      1,
+) (List._∷_ (3, Rows.sc-here (Row.sInt Syntax.w64)) (List._∷_ (
+  4,
+  Rows.sslice
+      (Referent.rtF (Referent.fInt Syntax.w64))
+      (Syntax.tyRef (Syntax.named 2) Syntax.imm (Syntax.tyInt Syntax.w64))
+      2,
+) (List._∷_ (
+  5,
+  Rows.sslice
+      (Referent.rtF (Referent.fInt Syntax.w8))
+      (Syntax.tyRef (Syntax.named 3) Syntax.imm (Syntax.tyInt Syntax.w8))
+      3,
+) (List._∷_ (
+  6,
+  Mut.mslice
+      (Referent.rtF (Referent.fInt Syntax.w64))
+      (Syntax.tyRef (Syntax.named 4) Syntax.mut (Syntax.tyInt Syntax.w64))
+      4,
+) (List._∷_ (
+  7,
+  Mut.mslice
+      (Referent.rtF (Referent.fInt Syntax.w8))
+      (Syntax.tyRef (Syntax.named 5) Syntax.mut (Syntax.tyInt Syntax.w8))
+      5,
+) (List._∷_ (
+  8,
+  Relend.mslice-owed
+      (Referent.rtF (Referent.fInt Syntax.w8))
+      (Syntax.tyRef (Syntax.named 6) Syntax.mut (Syntax.tyInt Syntax.w8))
+      6
+      13
+      Row.off,
+) (List._∷_ (
+  9,
+  Relend.mslice-owed
+      (Referent.rtF (Referent.fInt Syntax.w8))
+      (Syntax.tyRef (Syntax.named 7) Syntax.mut (Syntax.tyInt Syntax.w8))
+      7
+      14
+      Row.off,
+) (List._∷_ (
+  10,
+  Mut.mslice
+      Elem.R
+      (Syntax.tyRef (Syntax.named 8) Syntax.mut Elem.ty)
+      8,
+) (List._∷_ (11, Rows.sc-here (Row.sInt Syntax.w64)) (List._∷_ (
+  12,
+  Rows.sc-here (Row.sInt Syntax.w64),
+) (List._∷_ (13, Rows.sc-here (Row.sInt Syntax.w64)) (List._∷_ (
+  14,
+  Rows.any-gone
+      (Syntax.tyStruct
+      (List._∷_
+      114
+      (List._∷_
+      101
+      (List._∷_
+      99
+      (List._∷_
+      111
+      (List._∷_
+      114
+      (List._∷_
+      100
+      (List._∷_
+      115
+      (List._∷_
+      58
+      (List._∷_
+      58
+      (List._∷_
+      76
+      (List._∷_
+      105
+      (List._∷_ 110 (List._∷_ 101 (List._∷_ 82 (List._∷_ 101 (List._∷_ 99 List.[]))))))))))))))))
+      (Syntax.tcons
+      (Syntax.tyInt Syntax.w64)
+      (Syntax.tcons
+      (Syntax.tyInt Syntax.w64)
+      (Syntax.tcons
+      (Syntax.tyStruct
+      (List._∷_
+      112
+      (List._∷_
+      108
+      (List._∷_
+      97
+      (List._∷_
+      99
+      (List._∷_
+      101
+      (List._∷_
+      58
+      (List._∷_
+      58
+      (List._∷_
+      82
+      (List._∷_ 101 (List._∷_ 103 (List._∷_ 105 (List._∷_ 111 (List._∷_ 110 List.[])))))))))))))
+      (Syntax.tcons (Syntax.tyInt Syntax.w64) Syntax.tnil))
+      (Syntax.tcons (Syntax.tyInt Syntax.w64) Syntax.tnil))))),
+) (List._∷_ (15, Rows.any-gone Syntax.tyBool) List.[])))))))))))))))
 
 abbrev pub t39 : List.List Row.Entry
 t39 = List._∷_ (
-  32,
-  Rows.any-gone (Syntax.tyRef Syntax.erased Syntax.mut (Syntax.tyInt Syntax.w8)),
+  16,
+  Rows.any-gone
+      (Syntax.tyRef Syntax.erased Syntax.mut Elem.ty),
 ) (List._∷_ (
-  33,
-  Mut.msleft
-      (Referent.rtF (Referent.fInt Syntax.w8))
-      (Syntax.tyRef Syntax.erased Syntax.mut (Syntax.tyInt Syntax.w8)),
-) List.[])
+  17,
+  Rows.any-gone
+      (Syntax.tyStruct
+      (List._∷_ 38 (List._∷_ 91 (List._∷_ 93 List.[])))
+      (Syntax.tcons
+      (Syntax.tyRef Syntax.erased Syntax.mut Elem.ty)
+      (Syntax.tcons (Syntax.tyInt Syntax.w64) Syntax.tnil))),
+) (List._∷_ (
+  18,
+  Rows.any-gone
+      (Syntax.tyRef Syntax.erased Syntax.imm Elem.ty),
+) (List._∷_ (
+  19,
+  Rows.any-gone
+      (Syntax.tyStruct
+      (List._∷_ 38 (List._∷_ 91 (List._∷_ 93 List.[])))
+      (Syntax.tcons
+      (Syntax.tyRef Syntax.erased Syntax.imm Elem.ty)
+      (Syntax.tcons (Syntax.tyInt Syntax.w64) Syntax.tnil))),
+) (List._∷_ (20, Rows.any-gone (Syntax.tyInt Syntax.w64)) (List._∷_ (
+  21,
+  Rows.any-gone (Syntax.tyInt Syntax.w64),
+) (List._∷_ (22, Rows.any-gone (Syntax.tyInt Syntax.w64)) (List._∷_ (
+  23,
+  Rows.any-gone (Syntax.tyRef Syntax.erased Syntax.mut (Syntax.tyInt Syntax.w64)),
+) (List._∷_ (
+  24,
+  Rows.any-gone
+      (Syntax.tyStruct
+      (List._∷_ 38 (List._∷_ 91 (List._∷_ 93 List.[])))
+      (Syntax.tcons
+      (Syntax.tyRef Syntax.erased Syntax.mut (Syntax.tyInt Syntax.w64))
+      (Syntax.tcons (Syntax.tyInt Syntax.w64) Syntax.tnil))),
+)
+    (List._∷_
+    (25, Rows.any-gone (Syntax.tyRef Syntax.erased Syntax.mut (Syntax.tyInt Syntax.w8)))
+    (List._∷_ (
+      26,
+      Rows.any-gone
+          (Syntax.tyStruct
+          (List._∷_ 38 (List._∷_ 91 (List._∷_ 93 List.[])))
+          (Syntax.tcons
+          (Syntax.tyRef Syntax.erased Syntax.mut (Syntax.tyInt Syntax.w8))
+          (Syntax.tcons (Syntax.tyInt Syntax.w64) Syntax.tnil))),
+    ) (List._∷_ (
+      27,
+      Rows.any-gone (Syntax.tyRef Syntax.erased Syntax.mut (Syntax.tyInt Syntax.w8)),
+    ) (List._∷_ (
+      28,
+      Mut.msleft
+          (Referent.rtF (Referent.fInt Syntax.w8))
+          (Syntax.tyRef Syntax.erased Syntax.mut (Syntax.tyInt Syntax.w8)),
+    ) (List._∷_ (
+      29,
+      Rows.any-gone (Syntax.tyRef Syntax.erased Syntax.mut (Syntax.tyInt Syntax.w8)),
+    ) (List._∷_ (
+      30,
+      Mut.msleft
+          (Referent.rtF (Referent.fInt Syntax.w8))
+          (Syntax.tyRef Syntax.erased Syntax.mut (Syntax.tyInt Syntax.w8)),
+    ) List.[]))))))))))))))
 
 abbrev pub t40 : List.List Row.Entry
 t40 = List._∷_ (0, Rows.any-gone (Syntax.tyInt Syntax.w64)) (List._∷_ (
@@ -3705,55 +3973,41 @@ t40 = List._∷_ (0, Rows.any-gone (Syntax.tyInt Syntax.w64)) (List._∷_ (
       3,
 ) (List._∷_ (
   6,
-  Relend.mslice-owed
+  Mut.mslice
       (Referent.rtF (Referent.fInt Syntax.w64))
       (Syntax.tyRef (Syntax.named 4) Syntax.mut (Syntax.tyInt Syntax.w64))
-      4
-      12
-      Row.off,
+      4,
 ) (List._∷_ (
   7,
-  Relend.mslice-owed
+  Mut.mslice
       (Referent.rtF (Referent.fInt Syntax.w8))
       (Syntax.tyRef (Syntax.named 5) Syntax.mut (Syntax.tyInt Syntax.w8))
-      5
-      13
-      Row.off,
+      5,
 ) (List._∷_ (
   8,
-  Relend.mslice-owed
+  Mut.mslice
       (Referent.rtF (Referent.fInt Syntax.w8))
       (Syntax.tyRef (Syntax.named 6) Syntax.mut (Syntax.tyInt Syntax.w8))
-      6
-      14
-      Row.off,
+      6,
 ) (List._∷_ (
   9,
   Relend.mslice-owed
       (Referent.rtF (Referent.fInt Syntax.w8))
       (Syntax.tyRef (Syntax.named 7) Syntax.mut (Syntax.tyInt Syntax.w8))
       7
-      15
+      14
       Row.off,
 ) (List._∷_ (
   10,
-  Relend.mslice-owed
-      (Referent.rtF (Referent.fInt Syntax.w8))
-      (Syntax.tyRef (Syntax.named 8) Syntax.mut (Syntax.tyInt Syntax.w8))
-      8
-      16
-      Row.off,
-) (List._∷_ (
-  11,
   Mut.mslice
       Elem.R
-      (Syntax.tyRef (Syntax.named 9) Syntax.mut Elem.ty)
-      9,
-) (List._∷_ (12, Rows.sc-here (Row.sInt Syntax.w64)) (List._∷_ (
-  13,
+      (Syntax.tyRef (Syntax.named 8) Syntax.mut Elem.ty)
+      8,
+) (List._∷_ (11, Rows.sc-here (Row.sInt Syntax.w64)) (List._∷_ (
+  12,
   Rows.sc-here (Row.sInt Syntax.w64),
-) (List._∷_ (14, Rows.sc-here (Row.sInt Syntax.w64)) (List._∷_ (
-  15,
+) (List._∷_ (13, Rows.sc-here (Row.sInt Syntax.w64)) (List._∷_ (
+  14,
   Rows.any-gone
       (Syntax.tyStruct
       (List._∷_
@@ -3804,201 +4058,193 @@ t40 = List._∷_ (0, Rows.any-gone (Syntax.tyInt Syntax.w64)) (List._∷_ (
       (List._∷_ 101 (List._∷_ 103 (List._∷_ 105 (List._∷_ 111 (List._∷_ 110 List.[])))))))))))))
       (Syntax.tcons (Syntax.tyInt Syntax.w64) Syntax.tnil))
       (Syntax.tcons (Syntax.tyInt Syntax.w64) Syntax.tnil))))),
-) List.[])))))))))))))))
+) (List._∷_ (15, Rows.any-gone Syntax.tyBool) List.[])))))))))))))))
 
 abbrev pub t41 : List.List Row.Entry
-t41 = List._∷_ (0, Rows.any-gone (Syntax.tyInt Syntax.w64)) (List._∷_ (
-  1,
-  Rows.sslice
-      (Referent.rtF (Referent.fInt Syntax.w8))
-      (Syntax.tyRef (Syntax.named 0) Syntax.imm (Syntax.tyInt Syntax.w8))
-      0,
+t41 = List._∷_ (
+  16,
+  Rows.any-gone
+      (Syntax.tyRef Syntax.erased Syntax.mut Elem.ty),
 ) (List._∷_ (
-  2,
-  Rows.sslice
-      (Referent.rtF (Referent.fInt Syntax.w64))
-      (Syntax.tyRef (Syntax.named 1) Syntax.imm (Syntax.tyInt Syntax.w64))
-      1,
-) (List._∷_ (3, Rows.sc-here (Row.sInt Syntax.w64)) (List._∷_ (
-  4,
-  Rows.sslice
-      (Referent.rtF (Referent.fInt Syntax.w64))
-      (Syntax.tyRef (Syntax.named 2) Syntax.imm (Syntax.tyInt Syntax.w64))
-      2,
-) (List._∷_ (
-  5,
-  Rows.sslice
-      (Referent.rtF (Referent.fInt Syntax.w8))
-      (Syntax.tyRef (Syntax.named 3) Syntax.imm (Syntax.tyInt Syntax.w8))
-      3,
-) (List._∷_ (
-  6,
-  Mut.mslice
-      (Referent.rtF (Referent.fInt Syntax.w64))
-      (Syntax.tyRef (Syntax.named 4) Syntax.mut (Syntax.tyInt Syntax.w64))
-      4,
-) (List._∷_ (
-  7,
-  Relend.mslice-owed
-      (Referent.rtF (Referent.fInt Syntax.w8))
-      (Syntax.tyRef (Syntax.named 5) Syntax.mut (Syntax.tyInt Syntax.w8))
-      5
-      13
-      Row.off,
-) (List._∷_ (
-  8,
-  Relend.mslice-owed
-      (Referent.rtF (Referent.fInt Syntax.w8))
-      (Syntax.tyRef (Syntax.named 6) Syntax.mut (Syntax.tyInt Syntax.w8))
-      6
-      14
-      Row.off,
-) (List._∷_ (
-  9,
-  Relend.mslice-owed
-      (Referent.rtF (Referent.fInt Syntax.w8))
-      (Syntax.tyRef (Syntax.named 7) Syntax.mut (Syntax.tyInt Syntax.w8))
-      7
-      15
-      Row.off,
-) (List._∷_ (
-  10,
-  Relend.mslice-owed
-      (Referent.rtF (Referent.fInt Syntax.w8))
-      (Syntax.tyRef (Syntax.named 8) Syntax.mut (Syntax.tyInt Syntax.w8))
-      8
-      16
-      Row.off,
-) (List._∷_ (
-  11,
-  Mut.mslice
-      Elem.R
-      (Syntax.tyRef (Syntax.named 9) Syntax.mut Elem.ty)
-      9,
-) (List._∷_ (12, Rows.sc-here (Row.sInt Syntax.w64)) (List._∷_ (
-  13,
-  Rows.sc-here (Row.sInt Syntax.w64),
-) (List._∷_ (14, Rows.sc-here (Row.sInt Syntax.w64)) (List._∷_ (
-  15,
+  17,
   Rows.any-gone
       (Syntax.tyStruct
-      (List._∷_
-      114
-      (List._∷_
-      101
-      (List._∷_
-      99
-      (List._∷_
-      111
-      (List._∷_
-      114
-      (List._∷_
-      100
-      (List._∷_
-      115
-      (List._∷_
-      58
-      (List._∷_
-      58
-      (List._∷_
-      76
-      (List._∷_
-      105
-      (List._∷_ 110 (List._∷_ 101 (List._∷_ 82 (List._∷_ 101 (List._∷_ 99 List.[]))))))))))))))))
+      (List._∷_ 38 (List._∷_ 91 (List._∷_ 93 List.[])))
       (Syntax.tcons
-      (Syntax.tyInt Syntax.w64)
-      (Syntax.tcons
-      (Syntax.tyInt Syntax.w64)
-      (Syntax.tcons
+      (Syntax.tyRef Syntax.erased Syntax.mut Elem.ty)
+      (Syntax.tcons (Syntax.tyInt Syntax.w64) Syntax.tnil))),
+) (List._∷_ (
+  18,
+  Rows.any-gone
+      (Syntax.tyRef Syntax.erased Syntax.imm Elem.ty),
+) (List._∷_ (
+  19,
+  Rows.any-gone
       (Syntax.tyStruct
-      (List._∷_
-      112
-      (List._∷_
-      108
-      (List._∷_
-      97
-      (List._∷_
-      99
-      (List._∷_
-      101
-      (List._∷_
-      58
-      (List._∷_
-      58
-      (List._∷_
-      82
-      (List._∷_ 101 (List._∷_ 103 (List._∷_ 105 (List._∷_ 111 (List._∷_ 110 List.[])))))))))))))
-      (Syntax.tcons (Syntax.tyInt Syntax.w64) Syntax.tnil))
-      (Syntax.tcons (Syntax.tyInt Syntax.w64) Syntax.tnil))))),
-) List.[])))))))))))))))
+      (List._∷_ 38 (List._∷_ 91 (List._∷_ 93 List.[])))
+      (Syntax.tcons
+      (Syntax.tyRef Syntax.erased Syntax.imm Elem.ty)
+      (Syntax.tcons (Syntax.tyInt Syntax.w64) Syntax.tnil))),
+) (List._∷_ (20, Rows.any-gone (Syntax.tyInt Syntax.w64)) (List._∷_ (
+  21,
+  Rows.any-gone (Syntax.tyInt Syntax.w64),
+) (List._∷_ (22, Rows.any-gone (Syntax.tyInt Syntax.w64)) (List._∷_ (
+  23,
+  Rows.any-gone (Syntax.tyRef Syntax.erased Syntax.mut (Syntax.tyInt Syntax.w64)),
+) (List._∷_ (
+  24,
+  Rows.any-gone
+      (Syntax.tyStruct
+      (List._∷_ 38 (List._∷_ 91 (List._∷_ 93 List.[])))
+      (Syntax.tcons
+      (Syntax.tyRef Syntax.erased Syntax.mut (Syntax.tyInt Syntax.w64))
+      (Syntax.tcons (Syntax.tyInt Syntax.w64) Syntax.tnil))),
+)
+    (List._∷_
+    (25, Rows.any-gone (Syntax.tyRef Syntax.erased Syntax.mut (Syntax.tyInt Syntax.w8)))
+    (List._∷_ (
+      26,
+      Rows.any-gone
+          (Syntax.tyStruct
+          (List._∷_ 38 (List._∷_ 91 (List._∷_ 93 List.[])))
+          (Syntax.tcons
+          (Syntax.tyRef Syntax.erased Syntax.mut (Syntax.tyInt Syntax.w8))
+          (Syntax.tcons (Syntax.tyInt Syntax.w64) Syntax.tnil))),
+    ) (List._∷_ (
+      27,
+      Rows.any-gone (Syntax.tyRef Syntax.erased Syntax.mut (Syntax.tyInt Syntax.w8)),
+    ) (List._∷_ (
+      28,
+      Rows.any-gone
+          (Syntax.tyStruct
+          (List._∷_ 38 (List._∷_ 91 (List._∷_ 93 List.[])))
+          (Syntax.tcons
+          (Syntax.tyRef Syntax.erased Syntax.mut (Syntax.tyInt Syntax.w8))
+          (Syntax.tcons (Syntax.tyInt Syntax.w64) Syntax.tnil))),
+    ) (List._∷_ (
+      29,
+      Rows.any-gone (Syntax.tyRef Syntax.erased Syntax.mut (Syntax.tyInt Syntax.w8)),
+    ) (List._∷_ (
+      30,
+      Mut.msleft
+          (Referent.rtF (Referent.fInt Syntax.w8))
+          (Syntax.tyRef Syntax.erased Syntax.mut (Syntax.tyInt Syntax.w8)),
+    ) List.[]))))))))))))))
 
 abbrev pub t42 : List.List Row.Entry
-t42 = List._∷_ (16, Rows.any-gone Syntax.tyBool) (List._∷_ (
-  17,
-  Rows.any-gone
-      (Syntax.tyRef Syntax.erased Syntax.mut Elem.ty),
+t42 = List._∷_ (0, Rows.sc-here (Row.sInt Syntax.w64)) (List._∷_ (
+  1,
+  Rows.sslice
+      (Referent.rtF (Referent.fInt Syntax.w8))
+      (Syntax.tyRef (Syntax.named 0) Syntax.imm (Syntax.tyInt Syntax.w8))
+      0,
 ) (List._∷_ (
-  18,
+  2,
+  Rows.sslice
+      (Referent.rtF (Referent.fInt Syntax.w64))
+      (Syntax.tyRef (Syntax.named 1) Syntax.imm (Syntax.tyInt Syntax.w64))
+      1,
+) (List._∷_ (3, Rows.sc-here (Row.sInt Syntax.w64)) (List._∷_ (
+  4,
+  Rows.sslice
+      (Referent.rtF (Referent.fInt Syntax.w64))
+      (Syntax.tyRef (Syntax.named 2) Syntax.imm (Syntax.tyInt Syntax.w64))
+      2,
+) (List._∷_ (
+  5,
+  Rows.sslice
+      (Referent.rtF (Referent.fInt Syntax.w8))
+      (Syntax.tyRef (Syntax.named 3) Syntax.imm (Syntax.tyInt Syntax.w8))
+      3,
+) (List._∷_ (
+  6,
+  Mut.mslice
+      (Referent.rtF (Referent.fInt Syntax.w64))
+      (Syntax.tyRef (Syntax.named 4) Syntax.mut (Syntax.tyInt Syntax.w64))
+      4,
+) (List._∷_ (
+  7,
+  Mut.mslice
+      (Referent.rtF (Referent.fInt Syntax.w8))
+      (Syntax.tyRef (Syntax.named 5) Syntax.mut (Syntax.tyInt Syntax.w8))
+      5,
+) (List._∷_ (
+  8,
+  Mut.mslice
+      (Referent.rtF (Referent.fInt Syntax.w8))
+      (Syntax.tyRef (Syntax.named 6) Syntax.mut (Syntax.tyInt Syntax.w8))
+      6,
+) (List._∷_ (
+  9,
+  Mut.mslice
+      (Referent.rtF (Referent.fInt Syntax.w8))
+      (Syntax.tyRef (Syntax.named 7) Syntax.mut (Syntax.tyInt Syntax.w8))
+      7,
+) (List._∷_ (
+  10,
+  Mut.mslice
+      Elem.R
+      (Syntax.tyRef (Syntax.named 8) Syntax.mut Elem.ty)
+      8,
+) (List._∷_ (11, Rows.sc-here (Row.sInt Syntax.w64)) (List._∷_ (
+  12,
+  Rows.sc-here (Row.sInt Syntax.w64),
+) (List._∷_ (13, Rows.sc-here (Row.sInt Syntax.w64)) (List._∷_ (
+  14,
   Rows.any-gone
       (Syntax.tyStruct
-      (List._∷_ 38 (List._∷_ 91 (List._∷_ 93 List.[])))
+      (List._∷_
+      114
+      (List._∷_
+      101
+      (List._∷_
+      99
+      (List._∷_
+      111
+      (List._∷_
+      114
+      (List._∷_
+      100
+      (List._∷_
+      115
+      (List._∷_
+      58
+      (List._∷_
+      58
+      (List._∷_
+      76
+      (List._∷_
+      105
+      (List._∷_ 110 (List._∷_ 101 (List._∷_ 82 (List._∷_ 101 (List._∷_ 99 List.[]))))))))))))))))
       (Syntax.tcons
-      (Syntax.tyRef Syntax.erased Syntax.mut Elem.ty)
-      (Syntax.tcons (Syntax.tyInt Syntax.w64) Syntax.tnil))),
-) (List._∷_ (
-  19,
-  Rows.any-gone
-      (Syntax.tyRef Syntax.erased Syntax.imm Elem.ty),
-) (List._∷_ (
-  20,
-  Rows.any-gone
+      (Syntax.tyInt Syntax.w64)
+      (Syntax.tcons
+      (Syntax.tyInt Syntax.w64)
+      (Syntax.tcons
       (Syntax.tyStruct
-      (List._∷_ 38 (List._∷_ 91 (List._∷_ 93 List.[])))
-      (Syntax.tcons
-      (Syntax.tyRef Syntax.erased Syntax.imm Elem.ty)
-      (Syntax.tcons (Syntax.tyInt Syntax.w64) Syntax.tnil))),
-) (List._∷_ (21, Rows.any-gone (Syntax.tyInt Syntax.w64)) (List._∷_ (
-  22,
-  Rows.any-gone (Syntax.tyInt Syntax.w64),
-) (List._∷_ (23, Rows.any-gone (Syntax.tyInt Syntax.w64)) (List._∷_ (
-  24,
-  Rows.any-gone (Syntax.tyRef Syntax.erased Syntax.mut (Syntax.tyInt Syntax.w64)),
-) (List._∷_ (
-  25,
-  Rows.any-gone
-      (Syntax.tyStruct
-      (List._∷_ 38 (List._∷_ 91 (List._∷_ 93 List.[])))
-      (Syntax.tcons
-      (Syntax.tyRef Syntax.erased Syntax.mut (Syntax.tyInt Syntax.w64))
-      (Syntax.tcons (Syntax.tyInt Syntax.w64) Syntax.tnil))),
-)
-    (List._∷_
-    (26, Rows.any-gone (Syntax.tyRef Syntax.erased Syntax.mut (Syntax.tyInt Syntax.w8)))
-    (List._∷_ (
-      27,
-      Mut.msleft
-          (Referent.rtF (Referent.fInt Syntax.w8))
-          (Syntax.tyRef Syntax.erased Syntax.mut (Syntax.tyInt Syntax.w8)),
-    ) (List._∷_ (
-      28,
-      Rows.any-gone (Syntax.tyRef Syntax.erased Syntax.mut (Syntax.tyInt Syntax.w8)),
-    ) (List._∷_ (
-      29,
-      Mut.msleft
-          (Referent.rtF (Referent.fInt Syntax.w8))
-          (Syntax.tyRef Syntax.erased Syntax.mut (Syntax.tyInt Syntax.w8)),
-    ) (List._∷_ (
-      30,
-      Rows.any-gone (Syntax.tyRef Syntax.erased Syntax.mut (Syntax.tyInt Syntax.w8)),
-    ) (List._∷_ (
-      31,
-      Mut.msleft
-          (Referent.rtF (Referent.fInt Syntax.w8))
-          (Syntax.tyRef Syntax.erased Syntax.mut (Syntax.tyInt Syntax.w8)),
-    ) List.[])))))))))))))))
+      (List._∷_
+      112
+      (List._∷_
+      108
+      (List._∷_
+      97
+      (List._∷_
+      99
+      (List._∷_
+      101
+      (List._∷_
+      58
+      (List._∷_
+      58
+      (List._∷_
+      82
+      (List._∷_ 101 (List._∷_ 103 (List._∷_ 105 (List._∷_ 111 (List._∷_ 110 List.[])))))))))))))
+      (Syntax.tcons (Syntax.tyInt Syntax.w64) Syntax.tnil))
+      (Syntax.tcons (Syntax.tyInt Syntax.w64) Syntax.tnil))))),
+) (List._∷_ (15, Rows.any-gone Syntax.tyBool) List.[])))))))))))))))
 
 abbrev pub t43 : List.List Row.Entry
-t43 = List._∷_ (0, Rows.any-gone (Syntax.tyInt Syntax.w64)) (List._∷_ (
+t43 = List._∷_ (0, Rows.sc-here (Row.sInt Syntax.w64)) (List._∷_ (
   1,
   Rows.sslice
       (Referent.rtF (Referent.fInt Syntax.w8))
@@ -4036,39 +4282,27 @@ t43 = List._∷_ (0, Rows.any-gone (Syntax.tyInt Syntax.w64)) (List._∷_ (
       5,
 ) (List._∷_ (
   8,
-  Relend.mslice-owed
+  Mut.mslice
       (Referent.rtF (Referent.fInt Syntax.w8))
       (Syntax.tyRef (Syntax.named 6) Syntax.mut (Syntax.tyInt Syntax.w8))
-      6
-      14
-      Row.off,
+      6,
 ) (List._∷_ (
   9,
-  Relend.mslice-owed
+  Mut.mslice
       (Referent.rtF (Referent.fInt Syntax.w8))
       (Syntax.tyRef (Syntax.named 7) Syntax.mut (Syntax.tyInt Syntax.w8))
-      7
-      15
-      Row.off,
+      7,
 ) (List._∷_ (
   10,
-  Relend.mslice-owed
-      (Referent.rtF (Referent.fInt Syntax.w8))
-      (Syntax.tyRef (Syntax.named 8) Syntax.mut (Syntax.tyInt Syntax.w8))
-      8
-      16
-      Row.off,
-) (List._∷_ (
-  11,
   Mut.mslice
       Elem.R
-      (Syntax.tyRef (Syntax.named 9) Syntax.mut Elem.ty)
-      9,
-) (List._∷_ (12, Rows.sc-here (Row.sInt Syntax.w64)) (List._∷_ (
-  13,
+      (Syntax.tyRef (Syntax.named 8) Syntax.mut Elem.ty)
+      8,
+) (List._∷_ (11, Rows.any-gone (Syntax.tyInt Syntax.w64)) (List._∷_ (
+  12,
   Rows.sc-here (Row.sInt Syntax.w64),
-) (List._∷_ (14, Rows.sc-here (Row.sInt Syntax.w64)) (List._∷_ (
-  15,
+) (List._∷_ (13, Rows.sc-here (Row.sInt Syntax.w64)) (List._∷_ (
+  14,
   Rows.any-gone
       (Syntax.tyStruct
       (List._∷_
@@ -4119,78 +4353,122 @@ t43 = List._∷_ (0, Rows.any-gone (Syntax.tyInt Syntax.w64)) (List._∷_ (
       (List._∷_ 101 (List._∷_ 103 (List._∷_ 105 (List._∷_ 111 (List._∷_ 110 List.[])))))))))))))
       (Syntax.tcons (Syntax.tyInt Syntax.w64) Syntax.tnil))
       (Syntax.tcons (Syntax.tyInt Syntax.w64) Syntax.tnil))))),
-) List.[])))))))))))))))
+) (List._∷_ (15, Rows.any-gone Syntax.tyBool) List.[])))))))))))))))
 
 abbrev pub t44 : List.List Row.Entry
-t44 = List._∷_ (16, Rows.any-gone Syntax.tyBool) (List._∷_ (
-  17,
-  Rows.any-gone
-      (Syntax.tyRef Syntax.erased Syntax.mut Elem.ty),
+t44 = List._∷_ (0, Rows.sc-here (Row.sInt Syntax.w64)) (List._∷_ (
+  1,
+  Rows.sslice
+      (Referent.rtF (Referent.fInt Syntax.w8))
+      (Syntax.tyRef (Syntax.named 0) Syntax.imm (Syntax.tyInt Syntax.w8))
+      0,
 ) (List._∷_ (
-  18,
-  Rows.any-gone
-      (Syntax.tyStruct
-      (List._∷_ 38 (List._∷_ 91 (List._∷_ 93 List.[])))
-      (Syntax.tcons
-      (Syntax.tyRef Syntax.erased Syntax.mut Elem.ty)
-      (Syntax.tcons (Syntax.tyInt Syntax.w64) Syntax.tnil))),
+  2,
+  Rows.sslice
+      (Referent.rtF (Referent.fInt Syntax.w64))
+      (Syntax.tyRef (Syntax.named 1) Syntax.imm (Syntax.tyInt Syntax.w64))
+      1,
+) (List._∷_ (3, Rows.sc-here (Row.sInt Syntax.w64)) (List._∷_ (
+  4,
+  Rows.sslice
+      (Referent.rtF (Referent.fInt Syntax.w64))
+      (Syntax.tyRef (Syntax.named 2) Syntax.imm (Syntax.tyInt Syntax.w64))
+      2,
 ) (List._∷_ (
-  19,
-  Rows.any-gone
-      (Syntax.tyRef Syntax.erased Syntax.imm Elem.ty),
+  5,
+  Rows.sslice
+      (Referent.rtF (Referent.fInt Syntax.w8))
+      (Syntax.tyRef (Syntax.named 3) Syntax.imm (Syntax.tyInt Syntax.w8))
+      3,
 ) (List._∷_ (
-  20,
-  Rows.any-gone
-      (Syntax.tyStruct
-      (List._∷_ 38 (List._∷_ 91 (List._∷_ 93 List.[])))
-      (Syntax.tcons
-      (Syntax.tyRef Syntax.erased Syntax.imm Elem.ty)
-      (Syntax.tcons (Syntax.tyInt Syntax.w64) Syntax.tnil))),
-) (List._∷_ (21, Rows.any-gone (Syntax.tyInt Syntax.w64)) (List._∷_ (
-  22,
+  6,
+  Mut.mslice
+      (Referent.rtF (Referent.fInt Syntax.w64))
+      (Syntax.tyRef (Syntax.named 4) Syntax.mut (Syntax.tyInt Syntax.w64))
+      4,
+) (List._∷_ (
+  7,
+  Mut.mslice
+      (Referent.rtF (Referent.fInt Syntax.w8))
+      (Syntax.tyRef (Syntax.named 5) Syntax.mut (Syntax.tyInt Syntax.w8))
+      5,
+) (List._∷_ (
+  8,
+  Mut.mslice
+      (Referent.rtF (Referent.fInt Syntax.w8))
+      (Syntax.tyRef (Syntax.named 6) Syntax.mut (Syntax.tyInt Syntax.w8))
+      6,
+) (List._∷_ (
+  9,
+  Mut.mslice
+      (Referent.rtF (Referent.fInt Syntax.w8))
+      (Syntax.tyRef (Syntax.named 7) Syntax.mut (Syntax.tyInt Syntax.w8))
+      7,
+) (List._∷_ (
+  10,
+  Mut.mslice
+      Elem.R
+      (Syntax.tyRef (Syntax.named 8) Syntax.mut Elem.ty)
+      8,
+) (List._∷_ (11, Rows.any-gone (Syntax.tyInt Syntax.w64)) (List._∷_ (
+  12,
   Rows.any-gone (Syntax.tyInt Syntax.w64),
-) (List._∷_ (23, Rows.any-gone (Syntax.tyInt Syntax.w64)) (List._∷_ (
-  24,
-  Rows.any-gone (Syntax.tyRef Syntax.erased Syntax.mut (Syntax.tyInt Syntax.w64)),
-) (List._∷_ (
-  25,
+) (List._∷_ (13, Rows.sc-here (Row.sInt Syntax.w64)) (List._∷_ (
+  14,
   Rows.any-gone
       (Syntax.tyStruct
-      (List._∷_ 38 (List._∷_ 91 (List._∷_ 93 List.[])))
+      (List._∷_
+      114
+      (List._∷_
+      101
+      (List._∷_
+      99
+      (List._∷_
+      111
+      (List._∷_
+      114
+      (List._∷_
+      100
+      (List._∷_
+      115
+      (List._∷_
+      58
+      (List._∷_
+      58
+      (List._∷_
+      76
+      (List._∷_
+      105
+      (List._∷_ 110 (List._∷_ 101 (List._∷_ 82 (List._∷_ 101 (List._∷_ 99 List.[]))))))))))))))))
       (Syntax.tcons
-      (Syntax.tyRef Syntax.erased Syntax.mut (Syntax.tyInt Syntax.w64))
-      (Syntax.tcons (Syntax.tyInt Syntax.w64) Syntax.tnil))),
-)
-    (List._∷_
-    (26, Rows.any-gone (Syntax.tyRef Syntax.erased Syntax.mut (Syntax.tyInt Syntax.w8)))
-    (List._∷_ (
-      27,
-      Rows.any-gone
-          (Syntax.tyStruct
-          (List._∷_ 38 (List._∷_ 91 (List._∷_ 93 List.[])))
-          (Syntax.tcons
-          (Syntax.tyRef Syntax.erased Syntax.mut (Syntax.tyInt Syntax.w8))
-          (Syntax.tcons (Syntax.tyInt Syntax.w64) Syntax.tnil))),
-    ) (List._∷_ (
-      28,
-      Rows.any-gone (Syntax.tyRef Syntax.erased Syntax.mut (Syntax.tyInt Syntax.w8)),
-    ) (List._∷_ (
-      29,
-      Mut.msleft
-          (Referent.rtF (Referent.fInt Syntax.w8))
-          (Syntax.tyRef Syntax.erased Syntax.mut (Syntax.tyInt Syntax.w8)),
-    ) (List._∷_ (
-      30,
-      Rows.any-gone (Syntax.tyRef Syntax.erased Syntax.mut (Syntax.tyInt Syntax.w8)),
-    ) (List._∷_ (
-      31,
-      Mut.msleft
-          (Referent.rtF (Referent.fInt Syntax.w8))
-          (Syntax.tyRef Syntax.erased Syntax.mut (Syntax.tyInt Syntax.w8)),
-    ) List.[])))))))))))))))
+      (Syntax.tyInt Syntax.w64)
+      (Syntax.tcons
+      (Syntax.tyInt Syntax.w64)
+      (Syntax.tcons
+      (Syntax.tyStruct
+      (List._∷_
+      112
+      (List._∷_
+      108
+      (List._∷_
+      97
+      (List._∷_
+      99
+      (List._∷_
+      101
+      (List._∷_
+      58
+      (List._∷_
+      58
+      (List._∷_
+      82
+      (List._∷_ 101 (List._∷_ 103 (List._∷_ 105 (List._∷_ 111 (List._∷_ 110 List.[])))))))))))))
+      (Syntax.tcons (Syntax.tyInt Syntax.w64) Syntax.tnil))
+      (Syntax.tcons (Syntax.tyInt Syntax.w64) Syntax.tnil))))),
+) (List._∷_ (15, Rows.any-gone Syntax.tyBool) List.[])))))))))))))))
 
 abbrev pub t45 : List.List Row.Entry
-t45 = List._∷_ (0, Rows.any-gone (Syntax.tyInt Syntax.w64)) (List._∷_ (
+t45 = List._∷_ (0, Rows.sc-here (Row.sInt Syntax.w64)) (List._∷_ (
   1,
   Rows.sslice
       (Referent.rtF (Referent.fInt Syntax.w8))
@@ -4234,222 +4512,21 @@ t45 = List._∷_ (0, Rows.any-gone (Syntax.tyInt Syntax.w64)) (List._∷_ (
       6,
 ) (List._∷_ (
   9,
-  Relend.mslice-owed
+  Mut.mslice
       (Referent.rtF (Referent.fInt Syntax.w8))
       (Syntax.tyRef (Syntax.named 7) Syntax.mut (Syntax.tyInt Syntax.w8))
-      7
-      15
-      Row.off,
+      7,
 ) (List._∷_ (
   10,
-  Relend.mslice-owed
-      (Referent.rtF (Referent.fInt Syntax.w8))
-      (Syntax.tyRef (Syntax.named 8) Syntax.mut (Syntax.tyInt Syntax.w8))
-      8
-      16
-      Row.off,
-) (List._∷_ (
-  11,
   Mut.mslice
       Elem.R
-      (Syntax.tyRef (Syntax.named 9) Syntax.mut Elem.ty)
-      9,
-) (List._∷_ (12, Rows.sc-here (Row.sInt Syntax.w64)) (List._∷_ (
-  13,
-  Rows.sc-here (Row.sInt Syntax.w64),
-) (List._∷_ (14, Rows.sc-here (Row.sInt Syntax.w64)) (List._∷_ (
-  15,
-  Rows.any-gone
-      (Syntax.tyStruct
-      (List._∷_
-      114
-      (List._∷_
-      101
-      (List._∷_
-      99
-      (List._∷_
-      111
-      (List._∷_
-      114
-      (List._∷_
-      100
-      (List._∷_
-      115
-      (List._∷_
-      58
-      (List._∷_
-      58
-      (List._∷_
-      76
-      (List._∷_
-      105
-      (List._∷_ 110 (List._∷_ 101 (List._∷_ 82 (List._∷_ 101 (List._∷_ 99 List.[]))))))))))))))))
-      (Syntax.tcons
-      (Syntax.tyInt Syntax.w64)
-      (Syntax.tcons
-      (Syntax.tyInt Syntax.w64)
-      (Syntax.tcons
-      (Syntax.tyStruct
-      (List._∷_
-      112
-      (List._∷_
-      108
-      (List._∷_
-      97
-      (List._∷_
-      99
-      (List._∷_
-      101
-      (List._∷_
-      58
-      (List._∷_
-      58
-      (List._∷_
-      82
-      (List._∷_ 101 (List._∷_ 103 (List._∷_ 105 (List._∷_ 111 (List._∷_ 110 List.[])))))))))))))
-      (Syntax.tcons (Syntax.tyInt Syntax.w64) Syntax.tnil))
-      (Syntax.tcons (Syntax.tyInt Syntax.w64) Syntax.tnil))))),
-) List.[])))))))))))))))
-
-abbrev pub t46 : List.List Row.Entry
-t46 = List._∷_ (16, Rows.any-gone Syntax.tyBool) (List._∷_ (
-  17,
-  Rows.any-gone
-      (Syntax.tyRef Syntax.erased Syntax.mut Elem.ty),
-) (List._∷_ (
-  18,
-  Rows.any-gone
-      (Syntax.tyStruct
-      (List._∷_ 38 (List._∷_ 91 (List._∷_ 93 List.[])))
-      (Syntax.tcons
-      (Syntax.tyRef Syntax.erased Syntax.mut Elem.ty)
-      (Syntax.tcons (Syntax.tyInt Syntax.w64) Syntax.tnil))),
-) (List._∷_ (
-  19,
-  Rows.any-gone
-      (Syntax.tyRef Syntax.erased Syntax.imm Elem.ty),
-) (List._∷_ (
-  20,
-  Rows.any-gone
-      (Syntax.tyStruct
-      (List._∷_ 38 (List._∷_ 91 (List._∷_ 93 List.[])))
-      (Syntax.tcons
-      (Syntax.tyRef Syntax.erased Syntax.imm Elem.ty)
-      (Syntax.tcons (Syntax.tyInt Syntax.w64) Syntax.tnil))),
-) (List._∷_ (21, Rows.any-gone (Syntax.tyInt Syntax.w64)) (List._∷_ (
-  22,
+      (Syntax.tyRef (Syntax.named 8) Syntax.mut Elem.ty)
+      8,
+) (List._∷_ (11, Rows.any-gone (Syntax.tyInt Syntax.w64)) (List._∷_ (
+  12,
   Rows.any-gone (Syntax.tyInt Syntax.w64),
-) (List._∷_ (23, Rows.any-gone (Syntax.tyInt Syntax.w64)) (List._∷_ (
-  24,
-  Rows.any-gone (Syntax.tyRef Syntax.erased Syntax.mut (Syntax.tyInt Syntax.w64)),
-) (List._∷_ (
-  25,
-  Rows.any-gone
-      (Syntax.tyStruct
-      (List._∷_ 38 (List._∷_ 91 (List._∷_ 93 List.[])))
-      (Syntax.tcons
-      (Syntax.tyRef Syntax.erased Syntax.mut (Syntax.tyInt Syntax.w64))
-      (Syntax.tcons (Syntax.tyInt Syntax.w64) Syntax.tnil))),
-)
-    (List._∷_
-    (26, Rows.any-gone (Syntax.tyRef Syntax.erased Syntax.mut (Syntax.tyInt Syntax.w8)))
-    (List._∷_ (
-      27,
-      Rows.any-gone
-          (Syntax.tyStruct
-          (List._∷_ 38 (List._∷_ 91 (List._∷_ 93 List.[])))
-          (Syntax.tcons
-          (Syntax.tyRef Syntax.erased Syntax.mut (Syntax.tyInt Syntax.w8))
-          (Syntax.tcons (Syntax.tyInt Syntax.w64) Syntax.tnil))),
-    ) (List._∷_ (
-      28,
-      Rows.any-gone (Syntax.tyRef Syntax.erased Syntax.mut (Syntax.tyInt Syntax.w8)),
-    ) (List._∷_ (
-      29,
-      Rows.any-gone
-          (Syntax.tyStruct
-          (List._∷_ 38 (List._∷_ 91 (List._∷_ 93 List.[])))
-          (Syntax.tcons
-          (Syntax.tyRef Syntax.erased Syntax.mut (Syntax.tyInt Syntax.w8))
-          (Syntax.tcons (Syntax.tyInt Syntax.w64) Syntax.tnil))),
-    ) (List._∷_ (
-      30,
-      Rows.any-gone (Syntax.tyRef Syntax.erased Syntax.mut (Syntax.tyInt Syntax.w8)),
-    ) (List._∷_ (
-      31,
-      Mut.msleft
-          (Referent.rtF (Referent.fInt Syntax.w8))
-          (Syntax.tyRef Syntax.erased Syntax.mut (Syntax.tyInt Syntax.w8)),
-    ) List.[])))))))))))))))
-
-abbrev pub t47 : List.List Row.Entry
-t47 = List._∷_ (0, Rows.any-gone (Syntax.tyInt Syntax.w64)) (List._∷_ (
-  1,
-  Rows.sslice
-      (Referent.rtF (Referent.fInt Syntax.w8))
-      (Syntax.tyRef (Syntax.named 0) Syntax.imm (Syntax.tyInt Syntax.w8))
-      0,
-) (List._∷_ (
-  2,
-  Rows.sslice
-      (Referent.rtF (Referent.fInt Syntax.w64))
-      (Syntax.tyRef (Syntax.named 1) Syntax.imm (Syntax.tyInt Syntax.w64))
-      1,
-) (List._∷_ (3, Rows.sc-here (Row.sInt Syntax.w64)) (List._∷_ (
-  4,
-  Rows.sslice
-      (Referent.rtF (Referent.fInt Syntax.w64))
-      (Syntax.tyRef (Syntax.named 2) Syntax.imm (Syntax.tyInt Syntax.w64))
-      2,
-) (List._∷_ (
-  5,
-  Rows.sslice
-      (Referent.rtF (Referent.fInt Syntax.w8))
-      (Syntax.tyRef (Syntax.named 3) Syntax.imm (Syntax.tyInt Syntax.w8))
-      3,
-) (List._∷_ (
-  6,
-  Mut.mslice
-      (Referent.rtF (Referent.fInt Syntax.w64))
-      (Syntax.tyRef (Syntax.named 4) Syntax.mut (Syntax.tyInt Syntax.w64))
-      4,
-) (List._∷_ (
-  7,
-  Mut.mslice
-      (Referent.rtF (Referent.fInt Syntax.w8))
-      (Syntax.tyRef (Syntax.named 5) Syntax.mut (Syntax.tyInt Syntax.w8))
-      5,
-) (List._∷_ (
-  8,
-  Mut.mslice
-      (Referent.rtF (Referent.fInt Syntax.w8))
-      (Syntax.tyRef (Syntax.named 6) Syntax.mut (Syntax.tyInt Syntax.w8))
-      6,
-) (List._∷_ (
-  9,
-  Mut.mslice
-      (Referent.rtF (Referent.fInt Syntax.w8))
-      (Syntax.tyRef (Syntax.named 7) Syntax.mut (Syntax.tyInt Syntax.w8))
-      7,
-) (List._∷_ (
-  10,
-  Relend.mslice-owed
-      (Referent.rtF (Referent.fInt Syntax.w8))
-      (Syntax.tyRef (Syntax.named 8) Syntax.mut (Syntax.tyInt Syntax.w8))
-      8
-      16
-      Row.off,
-) (List._∷_ (
-  11,
-  Mut.mslice
-      Elem.R
-      (Syntax.tyRef (Syntax.named 9) Syntax.mut Elem.ty)
-      9,
-) (List._∷_ (12, Rows.sc-here (Row.sInt Syntax.w64)) (List._∷_ (
-  13,
-  Rows.sc-here (Row.sInt Syntax.w64),
-) (List._∷_ (14, Rows.sc-here (Row.sInt Syntax.w64)) (List._∷_ (
-  15,
+) (List._∷_ (13, Rows.any-gone (Syntax.tyInt Syntax.w64)) (List._∷_ (
+  14,
   Rows.any-gone
       (Syntax.tyStruct
       (List._∷_
@@ -4500,680 +4577,193 @@ t47 = List._∷_ (0, Rows.any-gone (Syntax.tyInt Syntax.w64)) (List._∷_ (
       (List._∷_ 101 (List._∷_ 103 (List._∷_ 105 (List._∷_ 111 (List._∷_ 110 List.[])))))))))))))
       (Syntax.tcons (Syntax.tyInt Syntax.w64) Syntax.tnil))
       (Syntax.tcons (Syntax.tyInt Syntax.w64) Syntax.tnil))))),
-) List.[])))))))))))))))
-
-abbrev pub t48 : List.List Row.Entry
-t48 = List._∷_ (0, Rows.sc-here (Row.sInt Syntax.w64)) (List._∷_ (
-  1,
-  Rows.sslice
-      (Referent.rtF (Referent.fInt Syntax.w8))
-      (Syntax.tyRef (Syntax.named 0) Syntax.imm (Syntax.tyInt Syntax.w8))
-      0,
-) (List._∷_ (
-  2,
-  Rows.sslice
-      (Referent.rtF (Referent.fInt Syntax.w64))
-      (Syntax.tyRef (Syntax.named 1) Syntax.imm (Syntax.tyInt Syntax.w64))
-      1,
-) (List._∷_ (3, Rows.sc-here (Row.sInt Syntax.w64)) (List._∷_ (
-  4,
-  Rows.sslice
-      (Referent.rtF (Referent.fInt Syntax.w64))
-      (Syntax.tyRef (Syntax.named 2) Syntax.imm (Syntax.tyInt Syntax.w64))
-      2,
-) (List._∷_ (
-  5,
-  Rows.sslice
-      (Referent.rtF (Referent.fInt Syntax.w8))
-      (Syntax.tyRef (Syntax.named 3) Syntax.imm (Syntax.tyInt Syntax.w8))
-      3,
-) (List._∷_ (
-  6,
-  Mut.mslice
-      (Referent.rtF (Referent.fInt Syntax.w64))
-      (Syntax.tyRef (Syntax.named 4) Syntax.mut (Syntax.tyInt Syntax.w64))
-      4,
-) (List._∷_ (
-  7,
-  Mut.mslice
-      (Referent.rtF (Referent.fInt Syntax.w8))
-      (Syntax.tyRef (Syntax.named 5) Syntax.mut (Syntax.tyInt Syntax.w8))
-      5,
-) (List._∷_ (
-  8,
-  Mut.mslice
-      (Referent.rtF (Referent.fInt Syntax.w8))
-      (Syntax.tyRef (Syntax.named 6) Syntax.mut (Syntax.tyInt Syntax.w8))
-      6,
-) (List._∷_ (
-  9,
-  Mut.mslice
-      (Referent.rtF (Referent.fInt Syntax.w8))
-      (Syntax.tyRef (Syntax.named 7) Syntax.mut (Syntax.tyInt Syntax.w8))
-      7,
-) (List._∷_ (
-  10,
-  Mut.mslice
-      (Referent.rtF (Referent.fInt Syntax.w8))
-      (Syntax.tyRef (Syntax.named 8) Syntax.mut (Syntax.tyInt Syntax.w8))
-      8,
-) (List._∷_ (
-  11,
-  Mut.mslice
-      Elem.R
-      (Syntax.tyRef (Syntax.named 9) Syntax.mut Elem.ty)
-      9,
-) (List._∷_ (12, Rows.sc-here (Row.sInt Syntax.w64)) (List._∷_ (
-  13,
-  Rows.sc-here (Row.sInt Syntax.w64),
-) (List._∷_ (14, Rows.sc-here (Row.sInt Syntax.w64)) (List._∷_ (
-  15,
-  Rows.any-gone
-      (Syntax.tyStruct
-      (List._∷_
-      114
-      (List._∷_
-      101
-      (List._∷_
-      99
-      (List._∷_
-      111
-      (List._∷_
-      114
-      (List._∷_
-      100
-      (List._∷_
-      115
-      (List._∷_
-      58
-      (List._∷_
-      58
-      (List._∷_
-      76
-      (List._∷_
-      105
-      (List._∷_ 110 (List._∷_ 101 (List._∷_ 82 (List._∷_ 101 (List._∷_ 99 List.[]))))))))))))))))
-      (Syntax.tcons
-      (Syntax.tyInt Syntax.w64)
-      (Syntax.tcons
-      (Syntax.tyInt Syntax.w64)
-      (Syntax.tcons
-      (Syntax.tyStruct
-      (List._∷_
-      112
-      (List._∷_
-      108
-      (List._∷_
-      97
-      (List._∷_
-      99
-      (List._∷_
-      101
-      (List._∷_
-      58
-      (List._∷_
-      58
-      (List._∷_
-      82
-      (List._∷_ 101 (List._∷_ 103 (List._∷_ 105 (List._∷_ 111 (List._∷_ 110 List.[])))))))))))))
-      (Syntax.tcons (Syntax.tyInt Syntax.w64) Syntax.tnil))
-      (Syntax.tcons (Syntax.tyInt Syntax.w64) Syntax.tnil))))),
-) List.[])))))))))))))))
-
-abbrev pub t49 : List.List Row.Entry
-t49 = List._∷_ (0, Rows.sc-here (Row.sInt Syntax.w64)) (List._∷_ (
-  1,
-  Rows.sslice
-      (Referent.rtF (Referent.fInt Syntax.w8))
-      (Syntax.tyRef (Syntax.named 0) Syntax.imm (Syntax.tyInt Syntax.w8))
-      0,
-) (List._∷_ (
-  2,
-  Rows.sslice
-      (Referent.rtF (Referent.fInt Syntax.w64))
-      (Syntax.tyRef (Syntax.named 1) Syntax.imm (Syntax.tyInt Syntax.w64))
-      1,
-) (List._∷_ (3, Rows.sc-here (Row.sInt Syntax.w64)) (List._∷_ (
-  4,
-  Rows.sslice
-      (Referent.rtF (Referent.fInt Syntax.w64))
-      (Syntax.tyRef (Syntax.named 2) Syntax.imm (Syntax.tyInt Syntax.w64))
-      2,
-) (List._∷_ (
-  5,
-  Rows.sslice
-      (Referent.rtF (Referent.fInt Syntax.w8))
-      (Syntax.tyRef (Syntax.named 3) Syntax.imm (Syntax.tyInt Syntax.w8))
-      3,
-) (List._∷_ (
-  6,
-  Mut.mslice
-      (Referent.rtF (Referent.fInt Syntax.w64))
-      (Syntax.tyRef (Syntax.named 4) Syntax.mut (Syntax.tyInt Syntax.w64))
-      4,
-) (List._∷_ (
-  7,
-  Mut.mslice
-      (Referent.rtF (Referent.fInt Syntax.w8))
-      (Syntax.tyRef (Syntax.named 5) Syntax.mut (Syntax.tyInt Syntax.w8))
-      5,
-) (List._∷_ (
-  8,
-  Mut.mslice
-      (Referent.rtF (Referent.fInt Syntax.w8))
-      (Syntax.tyRef (Syntax.named 6) Syntax.mut (Syntax.tyInt Syntax.w8))
-      6,
-) (List._∷_ (
-  9,
-  Mut.mslice
-      (Referent.rtF (Referent.fInt Syntax.w8))
-      (Syntax.tyRef (Syntax.named 7) Syntax.mut (Syntax.tyInt Syntax.w8))
-      7,
-) (List._∷_ (
-  10,
-  Mut.mslice
-      (Referent.rtF (Referent.fInt Syntax.w8))
-      (Syntax.tyRef (Syntax.named 8) Syntax.mut (Syntax.tyInt Syntax.w8))
-      8,
-) (List._∷_ (
-  11,
-  Mut.mslice
-      Elem.R
-      (Syntax.tyRef (Syntax.named 9) Syntax.mut Elem.ty)
-      9,
-) (List._∷_ (12, Rows.any-gone (Syntax.tyInt Syntax.w64)) (List._∷_ (
-  13,
-  Rows.sc-here (Row.sInt Syntax.w64),
-) (List._∷_ (14, Rows.sc-here (Row.sInt Syntax.w64)) (List._∷_ (
-  15,
-  Rows.any-gone
-      (Syntax.tyStruct
-      (List._∷_
-      114
-      (List._∷_
-      101
-      (List._∷_
-      99
-      (List._∷_
-      111
-      (List._∷_
-      114
-      (List._∷_
-      100
-      (List._∷_
-      115
-      (List._∷_
-      58
-      (List._∷_
-      58
-      (List._∷_
-      76
-      (List._∷_
-      105
-      (List._∷_ 110 (List._∷_ 101 (List._∷_ 82 (List._∷_ 101 (List._∷_ 99 List.[]))))))))))))))))
-      (Syntax.tcons
-      (Syntax.tyInt Syntax.w64)
-      (Syntax.tcons
-      (Syntax.tyInt Syntax.w64)
-      (Syntax.tcons
-      (Syntax.tyStruct
-      (List._∷_
-      112
-      (List._∷_
-      108
-      (List._∷_
-      97
-      (List._∷_
-      99
-      (List._∷_
-      101
-      (List._∷_
-      58
-      (List._∷_
-      58
-      (List._∷_
-      82
-      (List._∷_ 101 (List._∷_ 103 (List._∷_ 105 (List._∷_ 111 (List._∷_ 110 List.[])))))))))))))
-      (Syntax.tcons (Syntax.tyInt Syntax.w64) Syntax.tnil))
-      (Syntax.tcons (Syntax.tyInt Syntax.w64) Syntax.tnil))))),
-) List.[])))))))))))))))
-
-abbrev pub t50 : List.List Row.Entry
-t50 = List._∷_ (0, Rows.sc-here (Row.sInt Syntax.w64)) (List._∷_ (
-  1,
-  Rows.sslice
-      (Referent.rtF (Referent.fInt Syntax.w8))
-      (Syntax.tyRef (Syntax.named 0) Syntax.imm (Syntax.tyInt Syntax.w8))
-      0,
-) (List._∷_ (
-  2,
-  Rows.sslice
-      (Referent.rtF (Referent.fInt Syntax.w64))
-      (Syntax.tyRef (Syntax.named 1) Syntax.imm (Syntax.tyInt Syntax.w64))
-      1,
-) (List._∷_ (3, Rows.sc-here (Row.sInt Syntax.w64)) (List._∷_ (
-  4,
-  Rows.sslice
-      (Referent.rtF (Referent.fInt Syntax.w64))
-      (Syntax.tyRef (Syntax.named 2) Syntax.imm (Syntax.tyInt Syntax.w64))
-      2,
-) (List._∷_ (
-  5,
-  Rows.sslice
-      (Referent.rtF (Referent.fInt Syntax.w8))
-      (Syntax.tyRef (Syntax.named 3) Syntax.imm (Syntax.tyInt Syntax.w8))
-      3,
-) (List._∷_ (
-  6,
-  Mut.mslice
-      (Referent.rtF (Referent.fInt Syntax.w64))
-      (Syntax.tyRef (Syntax.named 4) Syntax.mut (Syntax.tyInt Syntax.w64))
-      4,
-) (List._∷_ (
-  7,
-  Mut.mslice
-      (Referent.rtF (Referent.fInt Syntax.w8))
-      (Syntax.tyRef (Syntax.named 5) Syntax.mut (Syntax.tyInt Syntax.w8))
-      5,
-) (List._∷_ (
-  8,
-  Mut.mslice
-      (Referent.rtF (Referent.fInt Syntax.w8))
-      (Syntax.tyRef (Syntax.named 6) Syntax.mut (Syntax.tyInt Syntax.w8))
-      6,
-) (List._∷_ (
-  9,
-  Mut.mslice
-      (Referent.rtF (Referent.fInt Syntax.w8))
-      (Syntax.tyRef (Syntax.named 7) Syntax.mut (Syntax.tyInt Syntax.w8))
-      7,
-) (List._∷_ (
-  10,
-  Mut.mslice
-      (Referent.rtF (Referent.fInt Syntax.w8))
-      (Syntax.tyRef (Syntax.named 8) Syntax.mut (Syntax.tyInt Syntax.w8))
-      8,
-) (List._∷_ (
-  11,
-  Mut.mslice
-      Elem.R
-      (Syntax.tyRef (Syntax.named 9) Syntax.mut Elem.ty)
-      9,
-) (List._∷_ (12, Rows.any-gone (Syntax.tyInt Syntax.w64)) (List._∷_ (
-  13,
-  Rows.any-gone (Syntax.tyInt Syntax.w64),
-) (List._∷_ (14, Rows.sc-here (Row.sInt Syntax.w64)) (List._∷_ (
-  15,
-  Rows.any-gone
-      (Syntax.tyStruct
-      (List._∷_
-      114
-      (List._∷_
-      101
-      (List._∷_
-      99
-      (List._∷_
-      111
-      (List._∷_
-      114
-      (List._∷_
-      100
-      (List._∷_
-      115
-      (List._∷_
-      58
-      (List._∷_
-      58
-      (List._∷_
-      76
-      (List._∷_
-      105
-      (List._∷_ 110 (List._∷_ 101 (List._∷_ 82 (List._∷_ 101 (List._∷_ 99 List.[]))))))))))))))))
-      (Syntax.tcons
-      (Syntax.tyInt Syntax.w64)
-      (Syntax.tcons
-      (Syntax.tyInt Syntax.w64)
-      (Syntax.tcons
-      (Syntax.tyStruct
-      (List._∷_
-      112
-      (List._∷_
-      108
-      (List._∷_
-      97
-      (List._∷_
-      99
-      (List._∷_
-      101
-      (List._∷_
-      58
-      (List._∷_
-      58
-      (List._∷_
-      82
-      (List._∷_ 101 (List._∷_ 103 (List._∷_ 105 (List._∷_ 111 (List._∷_ 110 List.[])))))))))))))
-      (Syntax.tcons (Syntax.tyInt Syntax.w64) Syntax.tnil))
-      (Syntax.tcons (Syntax.tyInt Syntax.w64) Syntax.tnil))))),
-) List.[])))))))))))))))
-
-abbrev pub t51 : List.List Row.Entry
-t51 = List._∷_ (0, Rows.sc-here (Row.sInt Syntax.w64)) (List._∷_ (
-  1,
-  Rows.sslice
-      (Referent.rtF (Referent.fInt Syntax.w8))
-      (Syntax.tyRef (Syntax.named 0) Syntax.imm (Syntax.tyInt Syntax.w8))
-      0,
-) (List._∷_ (
-  2,
-  Rows.sslice
-      (Referent.rtF (Referent.fInt Syntax.w64))
-      (Syntax.tyRef (Syntax.named 1) Syntax.imm (Syntax.tyInt Syntax.w64))
-      1,
-) (List._∷_ (3, Rows.sc-here (Row.sInt Syntax.w64)) (List._∷_ (
-  4,
-  Rows.sslice
-      (Referent.rtF (Referent.fInt Syntax.w64))
-      (Syntax.tyRef (Syntax.named 2) Syntax.imm (Syntax.tyInt Syntax.w64))
-      2,
-) (List._∷_ (
-  5,
-  Rows.sslice
-      (Referent.rtF (Referent.fInt Syntax.w8))
-      (Syntax.tyRef (Syntax.named 3) Syntax.imm (Syntax.tyInt Syntax.w8))
-      3,
-) (List._∷_ (
-  6,
-  Mut.mslice
-      (Referent.rtF (Referent.fInt Syntax.w64))
-      (Syntax.tyRef (Syntax.named 4) Syntax.mut (Syntax.tyInt Syntax.w64))
-      4,
-) (List._∷_ (
-  7,
-  Mut.mslice
-      (Referent.rtF (Referent.fInt Syntax.w8))
-      (Syntax.tyRef (Syntax.named 5) Syntax.mut (Syntax.tyInt Syntax.w8))
-      5,
-) (List._∷_ (
-  8,
-  Mut.mslice
-      (Referent.rtF (Referent.fInt Syntax.w8))
-      (Syntax.tyRef (Syntax.named 6) Syntax.mut (Syntax.tyInt Syntax.w8))
-      6,
-) (List._∷_ (
-  9,
-  Mut.mslice
-      (Referent.rtF (Referent.fInt Syntax.w8))
-      (Syntax.tyRef (Syntax.named 7) Syntax.mut (Syntax.tyInt Syntax.w8))
-      7,
-) (List._∷_ (
-  10,
-  Mut.mslice
-      (Referent.rtF (Referent.fInt Syntax.w8))
-      (Syntax.tyRef (Syntax.named 8) Syntax.mut (Syntax.tyInt Syntax.w8))
-      8,
-) (List._∷_ (
-  11,
-  Mut.mslice
-      Elem.R
-      (Syntax.tyRef (Syntax.named 9) Syntax.mut Elem.ty)
-      9,
-) (List._∷_ (12, Rows.any-gone (Syntax.tyInt Syntax.w64)) (List._∷_ (
-  13,
-  Rows.any-gone (Syntax.tyInt Syntax.w64),
-) (List._∷_ (14, Rows.any-gone (Syntax.tyInt Syntax.w64)) (List._∷_ (
-  15,
-  Rows.any-gone
-      (Syntax.tyStruct
-      (List._∷_
-      114
-      (List._∷_
-      101
-      (List._∷_
-      99
-      (List._∷_
-      111
-      (List._∷_
-      114
-      (List._∷_
-      100
-      (List._∷_
-      115
-      (List._∷_
-      58
-      (List._∷_
-      58
-      (List._∷_
-      76
-      (List._∷_
-      105
-      (List._∷_ 110 (List._∷_ 101 (List._∷_ 82 (List._∷_ 101 (List._∷_ 99 List.[]))))))))))))))))
-      (Syntax.tcons
-      (Syntax.tyInt Syntax.w64)
-      (Syntax.tcons
-      (Syntax.tyInt Syntax.w64)
-      (Syntax.tcons
-      (Syntax.tyStruct
-      (List._∷_
-      112
-      (List._∷_
-      108
-      (List._∷_
-      97
-      (List._∷_
-      99
-      (List._∷_
-      101
-      (List._∷_
-      58
-      (List._∷_
-      58
-      (List._∷_
-      82
-      (List._∷_ 101 (List._∷_ 103 (List._∷_ 105 (List._∷_ 111 (List._∷_ 110 List.[])))))))))))))
-      (Syntax.tcons (Syntax.tyInt Syntax.w64) Syntax.tnil))
-      (Syntax.tcons (Syntax.tyInt Syntax.w64) Syntax.tnil))))),
-) List.[])))))))))))))))
+) (List._∷_ (15, Rows.any-gone Syntax.tyBool) List.[])))))))))))))))
 
 abbrev pub T0 : Row.Cx
-T0 = record { locals = List._++_ t0 (List._++_ t1 t2); slots = List.[] }
+T0 = record { locals = List._++_ t0 t1; slots = List.[] }
 
 abbrev pub T1 : Row.Cx
-T1 = record { locals = List._++_ t3 (List._++_ t1 t2); slots = List.[] }
+T1 = record { locals = List._++_ t2 t1; slots = List.[] }
 
 abbrev pub T2 : Row.Cx
-T2 = record { locals = List._++_ t0 (List._++_ t1 t2); slots = List.[] }
+T2 = record { locals = List._++_ t0 t1; slots = List.[] }
 
 abbrev pub T3 : Row.Cx
-T3 = record { locals = List._++_ t0 (List._++_ t1 t2); slots = List.[] }
+T3 = record { locals = List._++_ t0 t1; slots = List.[] }
 
 abbrev pub T4 : Row.Cx
-T4 = record { locals = List._++_ t0 (List._++_ t1 t2); slots = List.[] }
+T4 = record { locals = List._++_ t0 t1; slots = List.[] }
 
 abbrev pub T5 : Row.Cx
-T5 = record { locals = List._++_ t0 (List._++_ t1 t2); slots = List.[] }
+T5 = record { locals = List._++_ t0 t1; slots = List.[] }
 
 abbrev pub T6 : Row.Cx
-T6 = record { locals = List._++_ t0 (List._++_ t1 t2); slots = List.[] }
+T6 = record { locals = List._++_ t0 t1; slots = List.[] }
 
 abbrev pub T7 : Row.Cx
-T7 = record { locals = List._++_ t0 (List._++_ t1 t2); slots = List.[] }
+T7 = record { locals = List._++_ t0 t1; slots = List.[] }
 
 abbrev pub T8 : Row.Cx
-T8 = record { locals = List._++_ t0 (List._++_ t1 t2); slots = List.[] }
+T8 = record { locals = List._++_ t0 t1; slots = List.[] }
 
 abbrev pub T9 : Row.Cx
-T9 = record { locals = List._++_ t0 (List._++_ t1 t2); slots = List.[] }
+T9 = record { locals = List._++_ t0 t1; slots = List.[] }
 
 abbrev pub T10 : Row.Cx
-T10 = record { locals = List._++_ t0 (List._++_ t1 t2); slots = List.[] }
+T10 = record { locals = List._++_ t3 t1; slots = List.[] }
 
 abbrev pub T11 : Row.Cx
-T11 = record { locals = List._++_ t4 (List._++_ t1 t2); slots = List.[] }
+T11 = record { locals = List._++_ t4 t1; slots = List.[] }
 
 abbrev pub T12 : Row.Cx
-T12 = record { locals = List._++_ t5 (List._++_ t1 t2); slots = List.[] }
+T12 = record { locals = List._++_ t5 t1; slots = List.[] }
 
 abbrev pub T13 : Row.Cx
-T13 = record { locals = List._++_ t6 (List._++_ t1 t2); slots = List.[] }
+T13 = record { locals = List._++_ t5 t1; slots = List.[] }
 
 abbrev pub T14 : Row.Cx
-T14 = record { locals = List._++_ t6 (List._++_ t1 t2); slots = List.[] }
+T14 = record { locals = List._++_ t6 t1; slots = List.[] }
 
 abbrev pub T15 : Row.Cx
-T15 = record { locals = List._++_ t6 (List._++_ t7 t2); slots = List.[] }
+T15 = record { locals = List._++_ t5 t1; slots = List.[] }
 
 abbrev pub T16 : Row.Cx
-T16 = record { locals = List._++_ t6 (List._++_ t1 t2); slots = List.[] }
+T16 = record { locals = List._++_ t5 t1; slots = List.[] }
 
 abbrev pub T17 : Row.Cx
-T17 = record { locals = List._++_ t6 (List._++_ t1 t2); slots = List.[] }
+T17 = record { locals = List._++_ t5 t1; slots = List.[] }
 
-abbrev pub T18 : Row.Cx
-T18 = record { locals = List._++_ t6 (List._++_ t1 t2); slots = List.[] }
+abbrev pub T19 : Row.Cx
+T19 = record { locals = List._++_ t7 t8; slots = List.[] }
 
 abbrev pub T20 : Row.Cx
-T20 = record { locals = List._++_ t8 (List._++_ t9 t2); slots = List.[] }
+T20 = record { locals = List._++_ t7 t9; slots = List.[] }
 
 abbrev pub T21 : Row.Cx
-T21 = record { locals = List._++_ t8 (List._++_ t10 t2); slots = List.[] }
+T21 = record { locals = List._++_ t7 t10; slots = List.[] }
 
-abbrev pub T22 : Row.Cx
-T22 = record { locals = List._++_ t8 (List._++_ t11 t2); slots = List.[] }
+abbrev pub T23 : Row.Cx
+T23 = record { locals = List._++_ t5 t1; slots = List.[] }
 
-abbrev pub T24 : Row.Cx
-T24 = record { locals = List._++_ t6 (List._++_ t1 t2); slots = List.[] }
+abbrev pub T26 : Row.Cx
+T26 = record { locals = List._++_ t11 t12; slots = List.[] }
 
 abbrev pub T27 : Row.Cx
-T27 = record { locals = List._++_ t12 (List._++_ t13 t2); slots = List.[] }
+T27 = record { locals = List._++_ t11 t13; slots = List.[] }
 
 abbrev pub T28 : Row.Cx
-T28 = record { locals = List._++_ t12 (List._++_ t14 t2); slots = List.[] }
+T28 = record { locals = List._++_ t11 t14; slots = List.[] }
 
 abbrev pub T29 : Row.Cx
-T29 = record { locals = List._++_ t12 (List._++_ t15 t2); slots = List.[] }
+T29 = record { locals = List._++_ t11 t15; slots = List.[] }
 
 abbrev pub T30 : Row.Cx
-T30 = record { locals = List._++_ t12 (List._++_ t16 t2); slots = List.[] }
+T30 = record { locals = List._++_ t11 t16; slots = List.[] }
 
 abbrev pub T31 : Row.Cx
-T31 = record { locals = List._++_ t12 (List._++_ t17 t2); slots = List.[] }
+T31 = record { locals = List._++_ t11 t17; slots = List.[] }
 
 abbrev pub T32 : Row.Cx
-T32 = record { locals = List._++_ t12 (List._++_ t18 t2); slots = List.[] }
+T32 = record { locals = List._++_ t11 t18; slots = List.[] }
 
 abbrev pub T33 : Row.Cx
-T33 = record { locals = List._++_ t12 (List._++_ t19 t2); slots = List.[] }
+T33 = record { locals = List._++_ t19 t18; slots = List.[] }
 
 abbrev pub T34 : Row.Cx
-T34 = record { locals = List._++_ t20 (List._++_ t19 t2); slots = List.[] }
+T34 = record { locals = List._++_ t19 t20; slots = List.[] }
 
 abbrev pub T35 : Row.Cx
-T35 = record { locals = List._++_ t20 (List._++_ t21 t2); slots = List.[] }
+T35 = record { locals = List._++_ t19 t1; slots = List.[] }
 
-abbrev pub T36 : Row.Cx
-T36 = record { locals = List._++_ t20 (List._++_ t1 t2); slots = List.[] }
+abbrev pub T37 : Row.Cx
+T37 = record { locals = List._++_ t21 t1; slots = List.[] }
 
-abbrev pub T38 : Row.Cx
-T38 = record { locals = List._++_ t22 (List._++_ t1 t2); slots = List.[] }
+abbrev pub T40 : Row.Cx
+T40 = record { locals = List._++_ t22 t23; slots = List.[] }
 
 abbrev pub T41 : Row.Cx
-T41 = record { locals = List._++_ t23 (List._++_ t24 t2); slots = List.[] }
+T41 = record { locals = List._++_ t22 t24; slots = List.[] }
 
-abbrev pub T42 : Row.Cx
-T42 = record { locals = List._++_ t23 (List._++_ t25 t2); slots = List.[] }
+abbrev pub T43 : Row.Cx
+T43 = record { locals = List._++_ t25 t26; slots = List.[] }
 
 abbrev pub T44 : Row.Cx
-T44 = record { locals = List._++_ t26 (List._++_ t27 t2); slots = List.[] }
+T44 = record { locals = List._++_ t25 t27; slots = List.[] }
 
-abbrev pub T45 : Row.Cx
-T45 = record { locals = List._++_ t26 (List._++_ t28 t2); slots = List.[] }
+abbrev pub T46 : Row.Cx
+T46 = record { locals = List._++_ t28 t29; slots = List.[] }
 
 abbrev pub T47 : Row.Cx
-T47 = record { locals = List._++_ t29 (List._++_ t30 t2); slots = List.[] }
+T47 = record { locals = List._++_ t28 t30; slots = List.[] }
 
-abbrev pub T48 : Row.Cx
-T48 = record { locals = List._++_ t29 (List._++_ t31 t2); slots = List.[] }
+abbrev pub T49 : Row.Cx
+T49 = record { locals = List._++_ t31 t32; slots = List.[] }
 
 abbrev pub T50 : Row.Cx
-T50 = record { locals = List._++_ t32 (List._++_ t33 t2); slots = List.[] }
+T50 = record { locals = List._++_ t31 t33; slots = List.[] }
 
 abbrev pub T51 : Row.Cx
-T51 = record { locals = List._++_ t32 (List._++_ t34 t2); slots = List.[] }
+T51 = record { locals = List._++_ t31 t34; slots = List.[] }
 
-abbrev pub T53 : Row.Cx
-T53 = record { locals = List._++_ t35 (List._++_ t34 t36); slots = List.[] }
+abbrev pub T52 : Row.Cx
+T52 = record { locals = List._++_ t35 t34; slots = List.[] }
 
 abbrev pub T54 : Row.Cx
-T54 = record { locals = List._++_ t35 (List._++_ t34 t37); slots = List.[] }
+T54 = record { locals = List._++_ t36 t37; slots = List.[] }
 
 abbrev pub T55 : Row.Cx
-T55 = record { locals = List._++_ t35 (List._++_ t38 t39); slots = List.[] }
-
-abbrev pub T56 : Row.Cx
-T56 = record { locals = List._++_ t40 (List._++_ t38 t39); slots = List.[] }
+T55 = record { locals = List._++_ t36 t37; slots = List.[] }
 
 abbrev pub T58 : Row.Cx
-T58 = record { locals = List._++_ t41 (List._++_ t42 t39); slots = List.[] }
+T58 = record { locals = List._++_ t38 t39; slots = List.[] }
 
 abbrev pub T59 : Row.Cx
-T59 = record { locals = List._++_ t41 (List._++_ t42 t39); slots = List.[] }
+T59 = record { locals = List._++_ t38 t39; slots = List.[] }
 
 abbrev pub T62 : Row.Cx
-T62 = record { locals = List._++_ t43 (List._++_ t44 t39); slots = List.[] }
+T62 = record { locals = List._++_ t40 t41; slots = List.[] }
 
 abbrev pub T63 : Row.Cx
-T63 = record { locals = List._++_ t43 (List._++_ t44 t39); slots = List.[] }
+T63 = record { locals = List._++_ t40 t41; slots = List.[] }
 
 abbrev pub T66 : Row.Cx
-T66 = record { locals = List._++_ t45 (List._++_ t46 t39); slots = List.[] }
+T66 = record { locals = List._++_ t5 t1; slots = List.[] }
 
 abbrev pub T67 : Row.Cx
-T67 = record { locals = List._++_ t45 (List._++_ t46 t39); slots = List.[] }
+T67 = record { locals = List._++_ t5 t1; slots = List.[] }
+
+abbrev pub T69 : Row.Cx
+T69 = record { locals = List._++_ t5 t1; slots = List.[] }
 
 abbrev pub T70 : Row.Cx
-T70 = record { locals = List._++_ t47 (List._++_ t1 t39); slots = List.[] }
+T70 = record { locals = List._++_ t42 t1; slots = List.[] }
 
 abbrev pub T71 : Row.Cx
-T71 = record { locals = List._++_ t47 (List._++_ t1 t39); slots = List.[] }
+T71 = record { locals = List._++_ t43 t1; slots = List.[] }
+
+abbrev pub T72 : Row.Cx
+T72 = record { locals = List._++_ t44 t1; slots = List.[] }
+
+abbrev pub T73 : Row.Cx
+T73 = record { locals = List._++_ t45 t1; slots = List.[] }
 
 abbrev pub T74 : Row.Cx
-T74 = record { locals = List._++_ t6 (List._++_ t1 t2); slots = List.[] }
-
-abbrev pub T75 : Row.Cx
-T75 = record { locals = List._++_ t6 (List._++_ t1 t2); slots = List.[] }
-
-abbrev pub T77 : Row.Cx
-T77 = record { locals = List._++_ t6 (List._++_ t1 t2); slots = List.[] }
-
-abbrev pub T78 : Row.Cx
-T78 = record { locals = List._++_ t48 (List._++_ t1 t2); slots = List.[] }
-
-abbrev pub T79 : Row.Cx
-T79 = record { locals = List._++_ t49 (List._++_ t1 t2); slots = List.[] }
-
-abbrev pub T80 : Row.Cx
-T80 = record { locals = List._++_ t50 (List._++_ t1 t2); slots = List.[] }
-
-abbrev pub T81 : Row.Cx
-T81 = record { locals = List._++_ t51 (List._++_ t1 t2); slots = List.[] }
-
-abbrev pub T82 : Row.Cx
-T82 = record { locals = List._++_ t3 (List._++_ t1 t2); slots = List.[] }
+T74 = record { locals = List._++_ t2 t1; slots = List.[] }
 
 abbrev pub O0 : Typed.Outs
 O0 = record { next = Option.none; exits = List.[]; returns = Option.some T1 }
 
 abbrev pub O1 : Typed.Outs
-O1 = Typed.withNext (Option.some T14) O0
+O1 = Typed.withNext (Option.some T13) O0
 
 abbrev pub O2 : Typed.Outs
 O2 = Typed.inBlock₀ O1
 
 abbrev pub O3 : Typed.Outs
-O3 = Typed.inLoop₀ T13 O2
+O3 = Typed.inLoop₀ T12 O2
 
 abbrev pub O4 : Typed.Outs
-O4 = Typed.withNext (Option.some T16) O3
+O4 = Typed.withNext (Option.some T15) O3
 
 abbrev pub InvT-loop : Type 1
 InvT-loop =
@@ -5186,13 +4776,11 @@ InvT-loop =
     List.List (Referent.rtF (Referent.fInt Syntax.w8) .Denot) →
     List.List (Referent.rtF (Referent.fInt Syntax.w8) .Denot) →
     List.List (Referent.rtF (Referent.fInt Syntax.w8) .Denot) →
-    List.List (Referent.rtF (Referent.fInt Syntax.w8) .Denot) →
     List.List (Elem.R .Denot) →
     Rows.sc-here (Row.sInt Syntax.w64) .Mod →
     Rows.sc-here (Row.sInt Syntax.w64) .Mod →
     Rows.sc-here (Row.sInt Syntax.w64) .Mod →
     List.List (Referent.rtF (Referent.fInt Syntax.w64) .Denot) →
-    List.List (Referent.rtF (Referent.fInt Syntax.w8) .Denot) →
     List.List (Referent.rtF (Referent.fInt Syntax.w8) .Denot) →
     List.List (Referent.rtF (Referent.fInt Syntax.w8) .Denot) →
     List.List (Referent.rtF (Referent.fInt Syntax.w8) .Denot) →
@@ -5213,13 +4801,11 @@ MeasureT-loop =
     List.List (Referent.rtF (Referent.fInt Syntax.w8) .Denot) →
     List.List (Referent.rtF (Referent.fInt Syntax.w8) .Denot) →
     List.List (Referent.rtF (Referent.fInt Syntax.w8) .Denot) →
-    List.List (Referent.rtF (Referent.fInt Syntax.w8) .Denot) →
     List.List (Elem.R .Denot) →
     Rows.sc-here (Row.sInt Syntax.w64) .Mod →
     Rows.sc-here (Row.sInt Syntax.w64) .Mod →
     Rows.sc-here (Row.sInt Syntax.w64) .Mod →
     List.List (Referent.rtF (Referent.fInt Syntax.w64) .Denot) →
-    List.List (Referent.rtF (Referent.fInt Syntax.w8) .Denot) →
     List.List (Referent.rtF (Referent.fInt Syntax.w8) .Denot) →
     List.List (Referent.rtF (Referent.fInt Syntax.w8) .Denot) →
     List.List (Referent.rtF (Referent.fInt Syntax.w8) .Denot) →
@@ -5326,17 +4912,14 @@ module _ (claims· : Claims) where
       0
       λ x. x
 
-  abbrev s8 : Typed.Gives T9 T10
+  abbrev s8 : Typed.Mo T9 → Typed.Mo T10
   s8 =
-      Know.k-sl-known
-      (Referent.fInt Syntax.w8)
+      Scalar.n-use
       T9
-      10
-      8
-      (Syntax.tyRef (Syntax.named 8) Syntax.mut (Syntax.tyInt Syntax.w8))
-      Row.off
-      0
-      λ x. x
+      (Scalar.oInt Syntax.w64 0)
+      11
+      (Rows.sc-here (Row.sInt Syntax.w64))
+      (Row.sInt Syntax.w64 .of)
 
   abbrev s9 : Typed.Mo T10 → Typed.Mo T11
   s9 =
@@ -5356,68 +4939,59 @@ module _ (claims· : Claims) where
       (Rows.sc-here (Row.sInt Syntax.w64))
       (Row.sInt Syntax.w64 .of)
 
-  abbrev s11 : Typed.Mo T12 → Typed.Mo T13
+  abbrev s11 : Typed.Asks T12 T14
   s11 =
-      Scalar.n-use
-      T12
-      (Scalar.oInt Syntax.w64 0)
-      14
-      (Rows.sc-here (Row.sInt Syntax.w64))
-      (Row.sInt Syntax.w64 .of)
-
-  abbrev s12 : Typed.Asks T13 T15
-  s12 =
       Scalar.k-op2
-      T13
+      T12
       (Syntax.lt Syntax.unsigned)
-      (Scalar.oAt 13 (Syntax.tyInt Syntax.w64) (Row.valS (Row.sInt Syntax.w64)))
+      (Scalar.oAt 12 (Syntax.tyInt Syntax.w64) (Row.valS (Row.sInt Syntax.w64)))
       (Scalar.oAt 3 (Syntax.tyInt Syntax.w64) (Row.valS (Row.sInt Syntax.w64)))
-      16
+      15
       (Rows.sc-here Row.sBool)
       (Row.sBool .of)
 
-  abbrev s13 : Typed.Mo T15 → Typed.Mo T17
-  s13 = Scalar.n-room T15 16 Syntax.tyBool
+  abbrev s12 : Typed.Mo T14 → Typed.Mo T16
+  s12 = Scalar.n-room T14 15 Syntax.tyBool
 
-  abbrev s14 : Typed.Mo T15 → Typed.Mo T18
-  s14 = Scalar.n-room T15 16 Syntax.tyBool
+  abbrev s13 : Typed.Mo T14 → Typed.Mo T17
+  s13 = Scalar.n-room T14 15 Syntax.tyBool
 
-  abbrev s16 : Typed.Gives T16 T20
-  s16 =
+  abbrev s15 : Typed.Gives T15 T19
+  s15 =
       Relend.k-sl-relend
       Elem.R
-      T16
-      11
-      17
-      9
+      T15
       10
-      (Syntax.tyRef (Syntax.named 9) Syntax.mut Elem.ty)
+      16
+      8
+      9
+      (Syntax.tyRef (Syntax.named 8) Syntax.mut Elem.ty)
       (Syntax.tyRef Syntax.erased Syntax.mut Elem.ty)
       Row.off
       λ x. x
 
-  abbrev s17 : Typed.Asks T20 T21
-  s17 =
+  abbrev s16 : Typed.Asks T19 T20
+  s16 =
       Relend.k-sl-aggregate
       Elem.R
       (Relend.asMut Elem.R)
-      T20
+      T19
+      16
       17
-      18
-      10
+      9
       (Syntax.tyRef Syntax.erased Syntax.mut Elem.ty)
       (Syntax.tyRef Syntax.erased Syntax.mut Elem.ty)
       (λ x. x)
       (Scalar.oFld
-      11
+      10
       (List._∷_ (Syntax.field 1) List.[])
       (Syntax.tyInt Syntax.w64)
       8
       λ v. Shared.lenV
       (v .0))
 
-  abbrev s18 : Typed.Both T21 T22
-  s18 = Call.callB ps·0 r·0 (claims· .0) (claims· .1) T21 (
+  abbrev s17 : Typed.Both T20 T21
+  s17 = Call.callB ps·0 r·0 (claims· .0) (claims· .1) T20 (
     record {
       pos = 2;
       ty = Syntax.tyRef (Syntax.named 1) Syntax.imm (Syntax.tyInt Syntax.w64);
@@ -5432,12 +5006,12 @@ module _ (claims· : Claims) where
       (
         Num.vAt 3 λ x. x,
         (
-          Num.vAt 13 λ x. x,
+          Num.vAt 12 λ x. x,
           (
-            Num.vAt 12 λ x. x,
+            Num.vAt 11 λ x. x,
             (
               record {
-                pos = 18;
+                pos = 17;
                 ty = Syntax.tyRef
                     Syntax.erased
                     Syntax.mut
@@ -5450,111 +5024,111 @@ module _ (claims· : Claims) where
         ),
       ),
     ),
-  ) 12 (List._∷_ 1 (List._∷_ 2 (List._∷_ 10 List.[]))) (Syntax.tyInt Syntax.w64)
+  ) 11 (List._∷_ 1 (List._∷_ 2 (List._∷_ 9 List.[]))) (Syntax.tyInt Syntax.w64)
 
-  abbrev s20 : Typed.Both T22 T24
-  s20 =
+  abbrev s19 : Typed.Both T21 T23
+  s19 =
       Relend.k-back-sl
       Elem.R
-      T22
-      18
-      11
-      9
+      T21
+      17
       10
-      (Syntax.tyRef (Syntax.named 9) Syntax.mut Elem.ty)
+      8
+      9
+      (Syntax.tyRef (Syntax.named 8) Syntax.mut Elem.ty)
       (Syntax.tyRef Syntax.erased Syntax.mut Elem.ty)
       Row.off
       (λ x. x)
       λ x. x
 
-  abbrev s23 : Typed.Gives T24 T27
-  s23 =
+  abbrev s22 : Typed.Gives T23 T26
+  s22 =
       Reshare.k-sl-reshare
       Elem.R
-      T24
-      11
-      19
-      9
-      11
-      (Syntax.tyRef (Syntax.named 9) Syntax.mut Elem.ty)
+      T23
+      10
+      18
+      8
+      10
+      (Syntax.tyRef (Syntax.named 8) Syntax.mut Elem.ty)
       (Syntax.tyRef Syntax.erased Syntax.imm Elem.ty)
       Row.off
       λ x. x
 
-  abbrev s24 : Typed.Asks T27 T28
-  s24 =
+  abbrev s23 : Typed.Asks T26 T27
+  s23 =
       Relend.k-sl-aggregate
       Elem.R
       (Relend.asShr Elem.R)
-      T27
+      T26
+      18
       19
-      20
-      11
+      10
       (Syntax.tyRef Syntax.erased Syntax.imm Elem.ty)
       (Syntax.tyRef Syntax.erased Syntax.imm Elem.ty)
       (λ x. x)
       (Scalar.oFld
-      11
+      10
       (List._∷_ (Syntax.field 1) List.[])
       (Syntax.tyInt Syntax.w64)
       8
       λ v. Shared.lenV
       (v .0))
 
-  abbrev s25 : Typed.Mo T28 → Typed.Mo T29
-  s25 =
+  abbrev s24 : Typed.Mo T27 → Typed.Mo T28
+  s24 =
       Scalar.n-use
-      T28
+      T27
       (Scalar.oFld
-      11
+      10
       (List._∷_ (Syntax.field 1) List.[])
       (Syntax.tyInt Syntax.w64)
       8
       λ v. Shared.lenV
       (v .0))
+      20
+      (Rows.sc-here (Row.sInt Syntax.w64))
+      (Row.sInt Syntax.w64 .of)
+
+  abbrev s25 : Typed.Asks T28 T29
+  s25 =
+      Scalar.k-op2
+      T28
+      (Syntax.add Syntax.unsigned)
+      (Scalar.oAt 12 (Syntax.tyInt Syntax.w64) (Row.valS (Row.sInt Syntax.w64)))
+      (Scalar.oAt 20 (Syntax.tyInt Syntax.w64) (Row.valS (Row.sInt Syntax.w64)))
       21
       (Rows.sc-here (Row.sInt Syntax.w64))
       (Row.sInt Syntax.w64 .of)
 
-  abbrev s26 : Typed.Asks T29 T30
-  s26 =
+  abbrev s26 : Typed.Mo T29 → Typed.Mo T30
+  s26 = Scalar.n-room T29 20 (Syntax.tyInt Syntax.w64)
+
+  abbrev s27 : Typed.Asks T30 T31
+  s27 =
       Scalar.k-op2
-      T29
-      (Syntax.add Syntax.unsigned)
-      (Scalar.oAt 13 (Syntax.tyInt Syntax.w64) (Row.valS (Row.sInt Syntax.w64)))
+      T30
+      (Syntax.sub Syntax.unsigned)
       (Scalar.oAt 21 (Syntax.tyInt Syntax.w64) (Row.valS (Row.sInt Syntax.w64)))
+      (Scalar.oAt 11 (Syntax.tyInt Syntax.w64) (Row.valS (Row.sInt Syntax.w64)))
       22
       (Rows.sc-here (Row.sInt Syntax.w64))
       (Row.sInt Syntax.w64 .of)
 
-  abbrev s27 : Typed.Mo T30 → Typed.Mo T31
-  s27 = Scalar.n-room T30 21 (Syntax.tyInt Syntax.w64)
+  abbrev s28 : Typed.Mo T31 → Typed.Mo T32
+  s28 = Scalar.n-room T31 21 (Syntax.tyInt Syntax.w64)
 
-  abbrev s28 : Typed.Asks T31 T32
-  s28 =
-      Scalar.k-op2
-      T31
-      (Syntax.sub Syntax.unsigned)
-      (Scalar.oAt 22 (Syntax.tyInt Syntax.w64) (Row.valS (Row.sInt Syntax.w64)))
-      (Scalar.oAt 12 (Syntax.tyInt Syntax.w64) (Row.valS (Row.sInt Syntax.w64)))
-      23
-      (Rows.sc-here (Row.sInt Syntax.w64))
-      (Row.sInt Syntax.w64 .of)
-
-  abbrev s29 : Typed.Mo T32 → Typed.Mo T33
-  s29 = Scalar.n-room T32 22 (Syntax.tyInt Syntax.w64)
-
-  abbrev s30 : Typed.Both T33 T34
-  s30 = Call.callB ps·1 r·1 (claims· .2) (claims· .3) T33 (
+  abbrev s29 : Typed.Both T32 T33
+  s29 = Call.callB ps·1 r·1 (claims· .2) (claims· .3) T32 (
     record {
-      pos = 20;
+      pos = 19;
       ty = Syntax.tyRef Syntax.erased Syntax.imm Elem.ty;
       ref = λ x. x;
     },
-    (Num.vAt 23 λ x. x, tt),
+    (Num.vAt 22 λ x. x, tt),
   )
-      15
-      (List._∷_ 11 List.[])
+      14
+      (List._∷_ 10 List.[])
       (Syntax.tyStruct
       (List._∷_
       114
@@ -5605,55 +5179,55 @@ module _ (claims· : Claims) where
       (Syntax.tcons (Syntax.tyInt Syntax.w64) Syntax.tnil))
       (Syntax.tcons (Syntax.tyInt Syntax.w64) Syntax.tnil)))))
 
-  abbrev s31 : Typed.Mo T34 → Typed.Mo T35
-  s31 =
+  abbrev s30 : Typed.Mo T33 → Typed.Mo T34
+  s30 =
       Scalar.n-room
-      T34
-      20
+      T33
+      19
       (Syntax.tyStruct
       (List._∷_ 38 (List._∷_ 91 (List._∷_ 93 List.[])))
       (Syntax.tcons
       (Syntax.tyRef Syntax.erased Syntax.imm Elem.ty)
       (Syntax.tcons (Syntax.tyInt Syntax.w64) Syntax.tnil)))
 
-  abbrev s32 : Typed.Mo T35 → Typed.Mo T36
-  s32 = Scalar.n-room T35 23 (Syntax.tyInt Syntax.w64)
+  abbrev s31 : Typed.Mo T34 → Typed.Mo T35
+  s31 = Scalar.n-room T34 22 (Syntax.tyInt Syntax.w64)
 
-  abbrev s34 : Typed.Mo T36 → Typed.Mo T38
-  s34 =
+  abbrev s33 : Typed.Mo T35 → Typed.Mo T37
+  s33 =
       Reshare.n-back-sl-shr
       Elem.R
-      T36
-      11
-      9
-      11
-      (Syntax.tyRef (Syntax.named 9) Syntax.mut Elem.ty)
+      T35
+      10
+      8
+      10
+      (Syntax.tyRef (Syntax.named 8) Syntax.mut Elem.ty)
       Row.off
       λ x. x
 
-  abbrev s37 : Typed.Gives T38 T41
-  s37 =
+  abbrev s36 : Typed.Gives T37 T40
+  s36 =
       Relend.k-sl-relend
       (Referent.rtF (Referent.fInt Syntax.w64))
-      T38
+      T37
       6
-      24
+      23
       4
-      12
+      11
       (Syntax.tyRef (Syntax.named 4) Syntax.mut (Syntax.tyInt Syntax.w64))
       (Syntax.tyRef Syntax.erased Syntax.mut (Syntax.tyInt Syntax.w64))
       Row.off
       λ x. x
 
-  abbrev s38 : Typed.Asks T41 T42
-  s38 =
+  abbrev s37 : Typed.Asks T40 T41
+  s37 =
       Relend.k-sl-aggregate
       (Referent.rtF (Referent.fInt Syntax.w64))
       (Relend.asMut (Referent.rtF (Referent.fInt Syntax.w64)))
-      T41
+      T40
+      23
       24
-      25
-      12
+      11
       (Syntax.tyRef Syntax.erased Syntax.mut (Syntax.tyInt Syntax.w64))
       (Syntax.tyRef Syntax.erased Syntax.mut (Syntax.tyInt Syntax.w64))
       (λ x. x)
@@ -5665,29 +5239,29 @@ module _ (claims· : Claims) where
       λ v. Shared.lenV
       (v .0))
 
-  abbrev s40 : Typed.Gives T42 T44
-  s40 =
+  abbrev s39 : Typed.Gives T41 T43
+  s39 =
       Relend.k-sl-relend
       (Referent.rtF (Referent.fInt Syntax.w8))
-      T42
+      T41
       7
-      26
+      25
       5
-      13
+      12
       (Syntax.tyRef (Syntax.named 5) Syntax.mut (Syntax.tyInt Syntax.w8))
       (Syntax.tyRef Syntax.erased Syntax.mut (Syntax.tyInt Syntax.w8))
       Row.off
       λ x. x
 
-  abbrev s41 : Typed.Asks T44 T45
-  s41 =
+  abbrev s40 : Typed.Asks T43 T44
+  s40 =
       Relend.k-sl-aggregate
       (Referent.rtF (Referent.fInt Syntax.w8))
       (Relend.asMut (Referent.rtF (Referent.fInt Syntax.w8)))
-      T44
+      T43
+      25
       26
-      27
-      13
+      12
       (Syntax.tyRef Syntax.erased Syntax.mut (Syntax.tyInt Syntax.w8))
       (Syntax.tyRef Syntax.erased Syntax.mut (Syntax.tyInt Syntax.w8))
       (λ x. x)
@@ -5699,29 +5273,29 @@ module _ (claims· : Claims) where
       λ v. Shared.lenV
       (v .0))
 
-  abbrev s43 : Typed.Gives T45 T47
-  s43 =
+  abbrev s42 : Typed.Gives T44 T46
+  s42 =
       Relend.k-sl-relend
       (Referent.rtF (Referent.fInt Syntax.w8))
-      T45
+      T44
       8
-      28
+      27
       6
-      14
+      13
       (Syntax.tyRef (Syntax.named 6) Syntax.mut (Syntax.tyInt Syntax.w8))
       (Syntax.tyRef Syntax.erased Syntax.mut (Syntax.tyInt Syntax.w8))
       Row.off
       λ x. x
 
-  abbrev s44 : Typed.Asks T47 T48
-  s44 =
+  abbrev s43 : Typed.Asks T46 T47
+  s43 =
       Relend.k-sl-aggregate
       (Referent.rtF (Referent.fInt Syntax.w8))
       (Relend.asMut (Referent.rtF (Referent.fInt Syntax.w8)))
-      T47
+      T46
+      27
       28
-      29
-      14
+      13
       (Syntax.tyRef Syntax.erased Syntax.mut (Syntax.tyInt Syntax.w8))
       (Syntax.tyRef Syntax.erased Syntax.mut (Syntax.tyInt Syntax.w8))
       (λ x. x)
@@ -5733,29 +5307,29 @@ module _ (claims· : Claims) where
       λ v. Shared.lenV
       (v .0))
 
-  abbrev s46 : Typed.Gives T48 T50
-  s46 =
+  abbrev s45 : Typed.Gives T47 T49
+  s45 =
       Relend.k-sl-relend
       (Referent.rtF (Referent.fInt Syntax.w8))
-      T48
+      T47
       9
-      30
+      29
       7
-      15
+      14
       (Syntax.tyRef (Syntax.named 7) Syntax.mut (Syntax.tyInt Syntax.w8))
       (Syntax.tyRef Syntax.erased Syntax.mut (Syntax.tyInt Syntax.w8))
       Row.off
       λ x. x
 
-  abbrev s47 : Typed.Asks T50 T51
-  s47 =
+  abbrev s46 : Typed.Asks T49 T50
+  s46 =
       Relend.k-sl-aggregate
       (Referent.rtF (Referent.fInt Syntax.w8))
       (Relend.asMut (Referent.rtF (Referent.fInt Syntax.w8)))
-      T50
+      T49
+      29
       30
-      31
-      15
+      14
       (Syntax.tyRef Syntax.erased Syntax.mut (Syntax.tyInt Syntax.w8))
       (Syntax.tyRef Syntax.erased Syntax.mut (Syntax.tyInt Syntax.w8))
       (λ x. x)
@@ -5767,53 +5341,19 @@ module _ (claims· : Claims) where
       λ v. Shared.lenV
       (v .0))
 
-  abbrev s49 : Typed.Gives T51 T53
-  s49 =
-      Relend.k-sl-relend
-      (Referent.rtF (Referent.fInt Syntax.w8))
-      T51
-      10
-      32
-      8
-      16
-      (Syntax.tyRef (Syntax.named 8) Syntax.mut (Syntax.tyInt Syntax.w8))
-      (Syntax.tyRef Syntax.erased Syntax.mut (Syntax.tyInt Syntax.w8))
-      Row.off
-      λ x. x
-
-  abbrev s50 : Typed.Asks T53 T54
-  s50 =
-      Relend.k-sl-aggregate
-      (Referent.rtF (Referent.fInt Syntax.w8))
-      (Relend.asMut (Referent.rtF (Referent.fInt Syntax.w8)))
-      T53
-      32
-      33
-      16
-      (Syntax.tyRef Syntax.erased Syntax.mut (Syntax.tyInt Syntax.w8))
-      (Syntax.tyRef Syntax.erased Syntax.mut (Syntax.tyInt Syntax.w8))
-      (λ x. x)
-      (Scalar.oFld
-      10
-      (List._∷_ (Syntax.field 1) List.[])
-      (Syntax.tyInt Syntax.w64)
-      8
-      λ v. Shared.lenV
-      (v .0))
-
-  abbrev s51 : Typed.Both T54 T55
-  s51 = Call.callB ps·2 r·2 (claims· .4) (claims· .5) T54 (
+  abbrev s47 : Typed.Both T50 T51
+  s47 = Call.callB ps·2 r·2 (claims· .4) (claims· .5) T50 (
     record {
       pos = 1;
       ty = Syntax.tyRef (Syntax.named 0) Syntax.imm (Syntax.tyInt Syntax.w8);
       ref = λ x. x;
     },
     (
-      Num.vFld 15 (List._∷_ (Syntax.field 0) List.[]) 0 λ x. LineRec.struct .as-values x .0,
+      Num.vFld 14 (List._∷_ (Syntax.field 0) List.[]) 0 λ x. LineRec.struct .as-values x .0,
       (
-        Num.vFld 15 (List._∷_ (Syntax.field 1) List.[]) 8 λ x. LineRec.struct .as-values x .1 .0,
+        Num.vFld 14 (List._∷_ (Syntax.field 1) List.[]) 8 λ x. LineRec.struct .as-values x .1 .0,
         (
-          Num.vAt 13 λ x. x,
+          Num.vAt 12 λ x. x,
           (
             record {
               pos = 4;
@@ -5828,38 +5368,31 @@ module _ (claims· : Claims) where
               },
               (
                 record {
-                  pos = 25;
+                  pos = 24;
                   ty = Syntax.tyRef Syntax.erased Syntax.mut (Syntax.tyInt Syntax.w64);
                   ref = λ x. x;
                 },
                 (
                   record {
-                    pos = 27;
+                    pos = 26;
                     ty = Syntax.tyRef Syntax.erased Syntax.mut (Syntax.tyInt Syntax.w8);
                     ref = λ x. x;
                   },
                   (
-                    Num.vAt 14 λ x. x,
+                    Num.vAt 13 λ x. x,
                     (
                       record {
-                        pos = 29;
+                        pos = 28;
                         ty = Syntax.tyRef Syntax.erased Syntax.mut (Syntax.tyInt Syntax.w8);
                         ref = λ x. x;
                       },
                       (
                         record {
-                          pos = 31;
+                          pos = 30;
                           ty = Syntax.tyRef Syntax.erased Syntax.mut (Syntax.tyInt Syntax.w8);
                           ref = λ x. x;
                         },
-                        (
-                          record {
-                            pos = 33;
-                            ty = Syntax.tyRef Syntax.erased Syntax.mut (Syntax.tyInt Syntax.w8);
-                            ref = λ x. x;
-                          },
-                          tt,
-                        ),
+                        tt,
                       ),
                     ),
                   ),
@@ -5871,19 +5404,17 @@ module _ (claims· : Claims) where
       ),
     ),
   )
-      14
+      13
       (List._∷_
       0
-      (List._∷_
-      2
-      (List._∷_ 3 (List._∷_ 12 (List._∷_ 13 (List._∷_ 14 (List._∷_ 15 (List._∷_ 16 List.[]))))))))
+      (List._∷_ 2 (List._∷_ 3 (List._∷_ 11 (List._∷_ 12 (List._∷_ 13 (List._∷_ 14 List.[])))))))
       (Syntax.tyInt Syntax.w64)
 
-  abbrev s52 : Typed.Mo T55 → Typed.Mo T56
-  s52 =
+  abbrev s48 : Typed.Mo T51 → Typed.Mo T52
+  s48 =
       Scalar.n-room
-      T55
-      15
+      T51
+      14
       (Syntax.tyStruct
       (List._∷_
       114
@@ -5934,17 +5465,44 @@ module _ (claims· : Claims) where
       (Syntax.tcons (Syntax.tyInt Syntax.w64) Syntax.tnil))
       (Syntax.tcons (Syntax.tyInt Syntax.w64) Syntax.tnil)))))
 
-  abbrev s54 : Typed.Both T56 T58
-  s54 =
+  abbrev s50 : Typed.Both T52 T54
+  s50 =
       Relend.k-back-sl
       (Referent.rtF (Referent.fInt Syntax.w64))
-      T56
-      25
+      T52
+      24
       6
       4
-      12
+      11
       (Syntax.tyRef (Syntax.named 4) Syntax.mut (Syntax.tyInt Syntax.w64))
       (Syntax.tyRef Syntax.erased Syntax.mut (Syntax.tyInt Syntax.w64))
+      Row.off
+      (λ x. x)
+      λ x. x
+
+  abbrev s51 : Typed.Gives T54 T55
+  s51 =
+      Know.k-sl-known
+      (Referent.fInt Syntax.w64)
+      T54
+      6
+      4
+      (Syntax.tyRef (Syntax.named 4) Syntax.mut (Syntax.tyInt Syntax.w64))
+      Row.off
+      0
+      λ x. x
+
+  abbrev s54 : Typed.Both T55 T58
+  s54 =
+      Relend.k-back-sl
+      (Referent.rtF (Referent.fInt Syntax.w8))
+      T55
+      26
+      7
+      5
+      12
+      (Syntax.tyRef (Syntax.named 5) Syntax.mut (Syntax.tyInt Syntax.w8))
+      (Syntax.tyRef Syntax.erased Syntax.mut (Syntax.tyInt Syntax.w8))
       Row.off
       (λ x. x)
       λ x. x
@@ -5952,11 +5510,11 @@ module _ (claims· : Claims) where
   abbrev s55 : Typed.Gives T58 T59
   s55 =
       Know.k-sl-known
-      (Referent.fInt Syntax.w64)
+      (Referent.fInt Syntax.w8)
       T58
-      6
-      4
-      (Syntax.tyRef (Syntax.named 4) Syntax.mut (Syntax.tyInt Syntax.w64))
+      7
+      5
+      (Syntax.tyRef (Syntax.named 5) Syntax.mut (Syntax.tyInt Syntax.w8))
       Row.off
       0
       λ x. x
@@ -5966,11 +5524,11 @@ module _ (claims· : Claims) where
       Relend.k-back-sl
       (Referent.rtF (Referent.fInt Syntax.w8))
       T59
-      27
-      7
-      5
+      28
+      8
+      6
       13
-      (Syntax.tyRef (Syntax.named 5) Syntax.mut (Syntax.tyInt Syntax.w8))
+      (Syntax.tyRef (Syntax.named 6) Syntax.mut (Syntax.tyInt Syntax.w8))
       (Syntax.tyRef Syntax.erased Syntax.mut (Syntax.tyInt Syntax.w8))
       Row.off
       (λ x. x)
@@ -5981,9 +5539,9 @@ module _ (claims· : Claims) where
       Know.k-sl-known
       (Referent.fInt Syntax.w8)
       T62
-      7
-      5
-      (Syntax.tyRef (Syntax.named 5) Syntax.mut (Syntax.tyInt Syntax.w8))
+      8
+      6
+      (Syntax.tyRef (Syntax.named 6) Syntax.mut (Syntax.tyInt Syntax.w8))
       Row.off
       0
       λ x. x
@@ -5993,11 +5551,11 @@ module _ (claims· : Claims) where
       Relend.k-back-sl
       (Referent.rtF (Referent.fInt Syntax.w8))
       T63
-      29
-      8
-      6
+      30
+      9
+      7
       14
-      (Syntax.tyRef (Syntax.named 6) Syntax.mut (Syntax.tyInt Syntax.w8))
+      (Syntax.tyRef (Syntax.named 7) Syntax.mut (Syntax.tyInt Syntax.w8))
       (Syntax.tyRef Syntax.erased Syntax.mut (Syntax.tyInt Syntax.w8))
       Row.off
       (λ x. x)
@@ -6008,33 +5566,6 @@ module _ (claims· : Claims) where
       Know.k-sl-known
       (Referent.fInt Syntax.w8)
       T66
-      8
-      6
-      (Syntax.tyRef (Syntax.named 6) Syntax.mut (Syntax.tyInt Syntax.w8))
-      Row.off
-      0
-      λ x. x
-
-  abbrev s66 : Typed.Both T67 T70
-  s66 =
-      Relend.k-back-sl
-      (Referent.rtF (Referent.fInt Syntax.w8))
-      T67
-      31
-      9
-      7
-      15
-      (Syntax.tyRef (Syntax.named 7) Syntax.mut (Syntax.tyInt Syntax.w8))
-      (Syntax.tyRef Syntax.erased Syntax.mut (Syntax.tyInt Syntax.w8))
-      Row.off
-      (λ x. x)
-      λ x. x
-
-  abbrev s67 : Typed.Gives T70 T71
-  s67 =
-      Know.k-sl-known
-      (Referent.fInt Syntax.w8)
-      T70
       9
       7
       (Syntax.tyRef (Syntax.named 7) Syntax.mut (Syntax.tyInt Syntax.w8))
@@ -6042,68 +5573,40 @@ module _ (claims· : Claims) where
       0
       λ x. x
 
-  abbrev s70 : Typed.Both T71 T74
-  s70 =
-      Relend.k-back-sl
-      (Referent.rtF (Referent.fInt Syntax.w8))
-      T71
-      33
-      10
-      8
-      16
-      (Syntax.tyRef (Syntax.named 8) Syntax.mut (Syntax.tyInt Syntax.w8))
-      (Syntax.tyRef Syntax.erased Syntax.mut (Syntax.tyInt Syntax.w8))
-      Row.off
-      (λ x. x)
-      λ x. x
-
-  abbrev s71 : Typed.Gives T74 T75
-  s71 =
-      Know.k-sl-known
-      (Referent.fInt Syntax.w8)
-      T74
-      10
-      8
-      (Syntax.tyRef (Syntax.named 8) Syntax.mut (Syntax.tyInt Syntax.w8))
-      Row.off
-      0
-      λ x. x
-
-  abbrev s73 : Typed.Asks T75 T77
-  s73 =
+  abbrev s65 : Typed.Asks T67 T69
+  s65 =
       Scalar.k-op2
-      T75
+      T67
       (Syntax.add Syntax.unsigned)
-      (Scalar.oAt 13 (Syntax.tyInt Syntax.w64) (Row.valS (Row.sInt Syntax.w64)))
+      (Scalar.oAt 12 (Syntax.tyInt Syntax.w64) (Row.valS (Row.sInt Syntax.w64)))
       (Scalar.oInt Syntax.w64 1)
-      13
+      12
       (Rows.sc-here (Row.sInt Syntax.w64))
       (Row.sInt Syntax.w64 .of)
 
-  abbrev s74 : Typed.Mo T14 → Typed.Mo T78
-  s74 =
+  abbrev s66 : Typed.Mo T13 → Typed.Mo T70
+  s66 =
       Scalar.n-use
-      T14
-      (Scalar.oAt 14 (Syntax.tyInt Syntax.w64) (Row.valS (Row.sInt Syntax.w64)))
+      T13
+      (Scalar.oAt 13 (Syntax.tyInt Syntax.w64) (Row.valS (Row.sInt Syntax.w64)))
       0
       (Rows.sc-here (Row.sInt Syntax.w64))
       (Row.sInt Syntax.w64 .of)
 
-  abbrev s75 : Typed.Mo T78 → Typed.Mo T79
-  s75 = Scalar.n-room T78 12 (Syntax.tyInt Syntax.w64)
+  abbrev s67 : Typed.Mo T70 → Typed.Mo T71
+  s67 = Scalar.n-room T70 11 (Syntax.tyInt Syntax.w64)
 
-  abbrev s76 : Typed.Mo T79 → Typed.Mo T80
-  s76 = Scalar.n-room T79 13 (Syntax.tyInt Syntax.w64)
+  abbrev s68 : Typed.Mo T71 → Typed.Mo T72
+  s68 = Scalar.n-room T71 12 (Syntax.tyInt Syntax.w64)
 
-  abbrev s77 : Typed.Mo T80 → Typed.Mo T81
-  s77 = Scalar.n-room T80 14 (Syntax.tyInt Syntax.w64)
+  abbrev s69 : Typed.Mo T72 → Typed.Mo T73
+  s69 = Scalar.n-room T72 13 (Syntax.tyInt Syntax.w64)
 
-  abbrev s78 : Typed.Mo T81 → Typed.Mo T82
-  s78 = Scalar.n-room T81 3 (Syntax.tyInt Syntax.w64)
+  abbrev s70 : Typed.Mo T73 → Typed.Mo T74
+  s70 = Scalar.n-room T73 3 (Syntax.tyInt Syntax.w64)
 
   abbrev put0 :
       List.List (Referent.rtF (Referent.fInt Syntax.w64) .Denot) ×
-      List.List (Referent.rtF (Referent.fInt Syntax.w8) .Denot) ×
       List.List (Referent.rtF (Referent.fInt Syntax.w8) .Denot) ×
       List.List (Referent.rtF (Referent.fInt Syntax.w8) .Denot) ×
       List.List (Referent.rtF (Referent.fInt Syntax.w8) .Denot) ×
@@ -6111,314 +5614,282 @@ module _ (claims· : Claims) where
       Rows.sc-here (Row.sInt Syntax.w64) .Mod ×
       Rows.sc-here (Row.sInt Syntax.w64) .Mod ×
       Rows.sc-here (Row.sInt Syntax.w64) .Mod →
-      Typed.Mo T13 →
-      Typed.Mo T13
+      Typed.Mo T12 →
+      Typed.Mo T12
   put0 =
       λ vs u. Row.set
-      14
-      (14, Rows.sc-here (Row.sInt Syntax.w64))
-      (vs .8)
-      (T13 .locals)
-      (Row.set 13 (13, Rows.sc-here (Row.sInt Syntax.w64)) (vs .7) (T13 .locals) (Row.set 12 (
-        12,
-        Rows.sc-here (Row.sInt Syntax.w64),
-      ) (vs .6) (T13 .locals) (Row.set 11 (
+      13
+      (13, Rows.sc-here (Row.sInt Syntax.w64))
+      (vs .7)
+      (T12 .locals)
+      (Row.set 12 (12, Rows.sc-here (Row.sInt Syntax.w64)) (vs .6) (T12 .locals) (Row.set 11 (
         11,
+        Rows.sc-here (Row.sInt Syntax.w64),
+      ) (vs .5) (T12 .locals) (Row.set 10 (
+        10,
         Mut.mslice
             Elem.R
             (Syntax.tyRef
-            (Syntax.named 9)
+            (Syntax.named 8)
             Syntax.mut
             Elem.ty)
-            9,
-      ) record {
-        ptr = Row.get 11 (T13 .locals) u .ptr;
-        name = Row.get 11 (T13 .locals) u .name;
-        now = vs .5;
-      } (T13 .locals) (Row.set 10 (
-        10,
-        Mut.mslice
-            (Referent.rtF (Referent.fInt Syntax.w8))
-            (Syntax.tyRef (Syntax.named 8) Syntax.mut (Syntax.tyInt Syntax.w8))
             8,
       ) record {
-        ptr = Row.get 10 (T13 .locals) u .ptr;
-        name = Row.get 10 (T13 .locals) u .name;
+        ptr = Row.get 10 (T12 .locals) u .ptr;
+        name = Row.get 10 (T12 .locals) u .name;
         now = vs .4;
-      } (T13 .locals) (Row.set 9 (
+      } (T12 .locals) (Row.set 9 (
         9,
         Mut.mslice
             (Referent.rtF (Referent.fInt Syntax.w8))
             (Syntax.tyRef (Syntax.named 7) Syntax.mut (Syntax.tyInt Syntax.w8))
             7,
       ) record {
-        ptr = Row.get 9 (T13 .locals) u .ptr;
-        name = Row.get 9 (T13 .locals) u .name;
+        ptr = Row.get 9 (T12 .locals) u .ptr;
+        name = Row.get 9 (T12 .locals) u .name;
         now = vs .3;
-      } (T13 .locals) (Row.set 8 (
+      } (T12 .locals) (Row.set 8 (
         8,
         Mut.mslice
             (Referent.rtF (Referent.fInt Syntax.w8))
             (Syntax.tyRef (Syntax.named 6) Syntax.mut (Syntax.tyInt Syntax.w8))
             6,
       ) record {
-        ptr = Row.get 8 (T13 .locals) u .ptr;
-        name = Row.get 8 (T13 .locals) u .name;
+        ptr = Row.get 8 (T12 .locals) u .ptr;
+        name = Row.get 8 (T12 .locals) u .name;
         now = vs .2;
-      } (T13 .locals) (Row.set 7 (
+      } (T12 .locals) (Row.set 7 (
         7,
         Mut.mslice
             (Referent.rtF (Referent.fInt Syntax.w8))
             (Syntax.tyRef (Syntax.named 5) Syntax.mut (Syntax.tyInt Syntax.w8))
             5,
       ) record {
-        ptr = Row.get 7 (T13 .locals) u .ptr;
-        name = Row.get 7 (T13 .locals) u .name;
+        ptr = Row.get 7 (T12 .locals) u .ptr;
+        name = Row.get 7 (T12 .locals) u .name;
         now = vs .1;
-      } (T13 .locals) (Row.set 6 (
+      } (T12 .locals) (Row.set 6 (
         6,
         Mut.mslice
             (Referent.rtF (Referent.fInt Syntax.w64))
             (Syntax.tyRef (Syntax.named 4) Syntax.mut (Syntax.tyInt Syntax.w64))
             4,
       ) record {
-        ptr = Row.get 6 (T13 .locals) u .ptr;
-        name = Row.get 6 (T13 .locals) u .name;
+        ptr = Row.get 6 (T12 .locals) u .ptr;
+        name = Row.get 6 (T12 .locals) u .name;
         now = vs .0;
-      } (T13 .locals) u))))))))
+      } (T12 .locals) u)))))))
 
-  module _ (Pre· : (κs : Lifetimes.Lfts 10) → Kinds.Dens κs ps → Type 0)
-      (Post· : (κs : Lifetimes.Lfts 10) → (a : Kinds.Dens κs ps) → Kinds.Plain 10 ps r κs) where
+  module _ (Pre· : (κs : Lifetimes.Lfts 9) → Kinds.Dens κs ps → Type 0)
+      (Post· : (κs : Lifetimes.Lfts 9) → (a : Kinds.Dens κs ps) → Kinds.Plain 9 ps r κs) where
     module _ (M : Type 1) where
       abbrev pub Closed : Type 2
       Closed =
           (𝓤 : URA.URA M) (H : Wp.Heap 𝓤) (A : Atoms.Atoms 𝓤) (W : Kit.Given 𝓤 H A) (𝓣 : Wp.Tables
           𝓤 H) (known0 : Plain.Known 𝓤 H A W 𝓣 3 ps·0 r·0 (claims· .0) (claims· .1)
           "records::refill") (known1 : Plain.Known 𝓤 H A W 𝓣 1 ps·1 r·1 (claims· .2) (claims· .3)
-          "records::get") (known2 : Plain.Known 𝓤 H A W 𝓣 8 ps·2 r·2 (claims· .4) (claims· .5)
-          "calls::turn_line") → Statement.Triple 𝓤 (Wp.WpFn 𝓤 H (𝓣 .C) (𝓣 .Λ) (Function.fnOf 10 ps
-          r xs m hs body)) (Function.plainOf 𝓤 H A 10 ps r Pre· Post·)
+          "records::get") (known2 : Plain.Known 𝓤 H A W 𝓣 7 ps·2 r·2 (claims· .4) (claims· .5)
+          "calls::turn_line") → Statement.Triple 𝓤 (Wp.WpFn 𝓤 H (𝓣 .C) (𝓣 .Λ) (Function.fnOf 9 ps r
+          xs m hs body)) (Function.plainOf 𝓤 H A 9 ps r Pre· Post·)
 
     module _ (Inv·0 : InvT-loop) (μ·0 : MeasureT-loop) where
-      abbrev at0 : Typed.TF T17 O4
+      abbrev at0 : Typed.TF T16 O4
       at0 = Typed.atNext O4
 
-      abbrev at1 : Typed.TF T15 O4
-      at1 = λ Ψ. Typed.pass T15 T17 s13 (at0 Ψ)
+      abbrev at1 : Typed.TF T14 O4
+      at1 = λ Ψ. Typed.pass T14 T16 s12 (at0 Ψ)
 
-      abbrev at2 : Typed.TF T18 O4
+      abbrev at2 : Typed.TF T17 O4
       at2 = Typed.atExit 1 O4
 
-      abbrev at3 : Typed.TF T15 O4
-      at3 = λ Ψ. Typed.pass T15 T18 s14 (at2 Ψ)
+      abbrev at3 : Typed.TF T14 O4
+      at3 = λ Ψ. Typed.pass T14 T17 s13 (at2 Ψ)
 
-      abbrev at4 : Typed.TF T15 O4
-      at4 = Scalar.Φcond T15 O4 16 (λ x. x) at1 at3
+      abbrev at4 : Typed.TF T14 O4
+      at4 = Scalar.Φcond T14 O4 15 (λ x. x) at1 at3
 
-      abbrev at5 : Typed.TF T75 O3
-      at5 = λ Ψ. Typed.ask s73 (Typed.atNext O3 Ψ)
+      abbrev at5 : Typed.TF T67 O3
+      at5 = λ Ψ. Typed.ask s65 (Typed.atNext O3 Ψ)
 
-      abbrev at6 : Typed.TF T75 O3
+      abbrev at6 : Typed.TF T67 O3
       at6 = λ Ψ. at5 Ψ
 
-      abbrev at7 : Typed.TF T74 O3
-      at7 = λ Ψ. Typed.give s71 (at6 Ψ)
+      abbrev at7 : Typed.TF T66 O3
+      at7 = λ Ψ. Typed.give s63 (at6 Ψ)
 
-      abbrev at8 : Typed.TF T71 O3
-      at8 = λ Ψ. Typed.both s70 (at7 Ψ)
+      abbrev at8 : Typed.TF T63 O3
+      at8 = λ Ψ. Typed.both s62 (at7 Ψ)
 
-      abbrev at9 : Typed.TF T71 O3
+      abbrev at9 : Typed.TF T63 O3
       at9 = λ Ψ. at8 Ψ
 
-      abbrev at10 : Typed.TF T71 O3
+      abbrev at10 : Typed.TF T63 O3
       at10 = λ Ψ. at9 Ψ
 
-      abbrev at11 : Typed.TF T70 O3
-      at11 = λ Ψ. Typed.give s67 (at10 Ψ)
+      abbrev at11 : Typed.TF T62 O3
+      at11 = λ Ψ. Typed.give s59 (at10 Ψ)
 
-      abbrev at12 : Typed.TF T67 O3
-      at12 = λ Ψ. Typed.both s66 (at11 Ψ)
+      abbrev at12 : Typed.TF T59 O3
+      at12 = λ Ψ. Typed.both s58 (at11 Ψ)
 
-      abbrev at13 : Typed.TF T67 O3
+      abbrev at13 : Typed.TF T59 O3
       at13 = λ Ψ. at12 Ψ
 
-      abbrev at14 : Typed.TF T67 O3
+      abbrev at14 : Typed.TF T59 O3
       at14 = λ Ψ. at13 Ψ
 
-      abbrev at15 : Typed.TF T66 O3
-      at15 = λ Ψ. Typed.give s63 (at14 Ψ)
+      abbrev at15 : Typed.TF T58 O3
+      at15 = λ Ψ. Typed.give s55 (at14 Ψ)
 
-      abbrev at16 : Typed.TF T63 O3
-      at16 = λ Ψ. Typed.both s62 (at15 Ψ)
+      abbrev at16 : Typed.TF T55 O3
+      at16 = λ Ψ. Typed.both s54 (at15 Ψ)
 
-      abbrev at17 : Typed.TF T63 O3
+      abbrev at17 : Typed.TF T55 O3
       at17 = λ Ψ. at16 Ψ
 
-      abbrev at18 : Typed.TF T63 O3
+      abbrev at18 : Typed.TF T55 O3
       at18 = λ Ψ. at17 Ψ
 
-      abbrev at19 : Typed.TF T62 O3
-      at19 = λ Ψ. Typed.give s59 (at18 Ψ)
+      abbrev at19 : Typed.TF T54 O3
+      at19 = λ Ψ. Typed.give s51 (at18 Ψ)
 
-      abbrev at20 : Typed.TF T59 O3
-      at20 = λ Ψ. Typed.both s58 (at19 Ψ)
+      abbrev at20 : Typed.TF T52 O3
+      at20 = λ Ψ. Typed.both s50 (at19 Ψ)
 
-      abbrev at21 : Typed.TF T59 O3
+      abbrev at21 : Typed.TF T52 O3
       at21 = λ Ψ. at20 Ψ
 
-      abbrev at22 : Typed.TF T59 O3
-      at22 = λ Ψ. at21 Ψ
+      abbrev at22 : Typed.TF T51 O3
+      at22 = λ Ψ. Typed.pass T51 T52 s48 (at21 Ψ)
 
-      abbrev at23 : Typed.TF T58 O3
-      at23 = λ Ψ. Typed.give s55 (at22 Ψ)
+      abbrev at23 : Typed.TF T50 O3
+      at23 = λ Ψ. Typed.both s47 (at22 Ψ)
 
-      abbrev at24 : Typed.TF T56 O3
-      at24 = λ Ψ. Typed.both s54 (at23 Ψ)
+      abbrev at24 : Typed.TF T49 O3
+      at24 = λ Ψ. Typed.ask s46 (at23 Ψ)
 
-      abbrev at25 : Typed.TF T56 O3
-      at25 = λ Ψ. at24 Ψ
+      abbrev at25 : Typed.TF T47 O3
+      at25 = λ Ψ. Typed.give s45 (at24 Ψ)
 
-      abbrev at26 : Typed.TF T55 O3
-      at26 = λ Ψ. Typed.pass T55 T56 s52 (at25 Ψ)
+      abbrev at26 : Typed.TF T47 O3
+      at26 = λ Ψ. at25 Ψ
 
-      abbrev at27 : Typed.TF T54 O3
-      at27 = λ Ψ. Typed.both s51 (at26 Ψ)
+      abbrev at27 : Typed.TF T46 O3
+      at27 = λ Ψ. Typed.ask s43 (at26 Ψ)
 
-      abbrev at28 : Typed.TF T53 O3
-      at28 = λ Ψ. Typed.ask s50 (at27 Ψ)
+      abbrev at28 : Typed.TF T44 O3
+      at28 = λ Ψ. Typed.give s42 (at27 Ψ)
 
-      abbrev at29 : Typed.TF T51 O3
-      at29 = λ Ψ. Typed.give s49 (at28 Ψ)
+      abbrev at29 : Typed.TF T44 O3
+      at29 = λ Ψ. at28 Ψ
 
-      abbrev at30 : Typed.TF T51 O3
-      at30 = λ Ψ. at29 Ψ
+      abbrev at30 : Typed.TF T43 O3
+      at30 = λ Ψ. Typed.ask s40 (at29 Ψ)
 
-      abbrev at31 : Typed.TF T50 O3
-      at31 = λ Ψ. Typed.ask s47 (at30 Ψ)
+      abbrev at31 : Typed.TF T41 O3
+      at31 = λ Ψ. Typed.give s39 (at30 Ψ)
 
-      abbrev at32 : Typed.TF T48 O3
-      at32 = λ Ψ. Typed.give s46 (at31 Ψ)
+      abbrev at32 : Typed.TF T41 O3
+      at32 = λ Ψ. at31 Ψ
 
-      abbrev at33 : Typed.TF T48 O3
-      at33 = λ Ψ. at32 Ψ
+      abbrev at33 : Typed.TF T40 O3
+      at33 = λ Ψ. Typed.ask s37 (at32 Ψ)
 
-      abbrev at34 : Typed.TF T47 O3
-      at34 = λ Ψ. Typed.ask s44 (at33 Ψ)
+      abbrev at34 : Typed.TF T37 O3
+      at34 = λ Ψ. Typed.give s36 (at33 Ψ)
 
-      abbrev at35 : Typed.TF T45 O3
-      at35 = λ Ψ. Typed.give s43 (at34 Ψ)
+      abbrev at35 : Typed.TF T37 O3
+      at35 = λ Ψ. at34 Ψ
 
-      abbrev at36 : Typed.TF T45 O3
+      abbrev at36 : Typed.TF T37 O3
       at36 = λ Ψ. at35 Ψ
 
-      abbrev at37 : Typed.TF T44 O3
-      at37 = λ Ψ. Typed.ask s41 (at36 Ψ)
+      abbrev at37 : Typed.TF T35 O3
+      at37 = λ Ψ. Typed.pass T35 T37 s33 (at36 Ψ)
 
-      abbrev at38 : Typed.TF T42 O3
-      at38 = λ Ψ. Typed.give s40 (at37 Ψ)
+      abbrev at38 : Typed.TF T35 O3
+      at38 = λ Ψ. at37 Ψ
 
-      abbrev at39 : Typed.TF T42 O3
-      at39 = λ Ψ. at38 Ψ
+      abbrev at39 : Typed.TF T34 O3
+      at39 = λ Ψ. Typed.pass T34 T35 s31 (at38 Ψ)
 
-      abbrev at40 : Typed.TF T41 O3
-      at40 = λ Ψ. Typed.ask s38 (at39 Ψ)
+      abbrev at40 : Typed.TF T33 O3
+      at40 = λ Ψ. Typed.pass T33 T34 s30 (at39 Ψ)
 
-      abbrev at41 : Typed.TF T38 O3
-      at41 = λ Ψ. Typed.give s37 (at40 Ψ)
+      abbrev at41 : Typed.TF T32 O3
+      at41 = λ Ψ. Typed.both s29 (at40 Ψ)
 
-      abbrev at42 : Typed.TF T38 O3
-      at42 = λ Ψ. at41 Ψ
+      abbrev at42 : Typed.TF T31 O3
+      at42 = λ Ψ. Typed.pass T31 T32 s28 (at41 Ψ)
 
-      abbrev at43 : Typed.TF T38 O3
-      at43 = λ Ψ. at42 Ψ
+      abbrev at43 : Typed.TF T30 O3
+      at43 = λ Ψ. Typed.ask s27 (at42 Ψ)
 
-      abbrev at44 : Typed.TF T36 O3
-      at44 = λ Ψ. Typed.pass T36 T38 s34 (at43 Ψ)
+      abbrev at44 : Typed.TF T29 O3
+      at44 = λ Ψ. Typed.pass T29 T30 s26 (at43 Ψ)
 
-      abbrev at45 : Typed.TF T36 O3
-      at45 = λ Ψ. at44 Ψ
+      abbrev at45 : Typed.TF T28 O3
+      at45 = λ Ψ. Typed.ask s25 (at44 Ψ)
 
-      abbrev at46 : Typed.TF T35 O3
-      at46 = λ Ψ. Typed.pass T35 T36 s32 (at45 Ψ)
+      abbrev at46 : Typed.TF T27 O3
+      at46 = λ Ψ. Typed.pass T27 T28 s24 (at45 Ψ)
 
-      abbrev at47 : Typed.TF T34 O3
-      at47 = λ Ψ. Typed.pass T34 T35 s31 (at46 Ψ)
+      abbrev at47 : Typed.TF T26 O3
+      at47 = λ Ψ. Typed.ask s23 (at46 Ψ)
 
-      abbrev at48 : Typed.TF T33 O3
-      at48 = λ Ψ. Typed.both s30 (at47 Ψ)
+      abbrev at48 : Typed.TF T23 O3
+      at48 = λ Ψ. Typed.give s22 (at47 Ψ)
 
-      abbrev at49 : Typed.TF T32 O3
-      at49 = λ Ψ. Typed.pass T32 T33 s29 (at48 Ψ)
+      abbrev at49 : Typed.TF T23 O3
+      at49 = λ Ψ. at48 Ψ
 
-      abbrev at50 : Typed.TF T31 O3
-      at50 = λ Ψ. Typed.ask s28 (at49 Ψ)
+      abbrev at50 : Typed.TF T23 O3
+      at50 = λ Ψ. at49 Ψ
 
-      abbrev at51 : Typed.TF T30 O3
-      at51 = λ Ψ. Typed.pass T30 T31 s27 (at50 Ψ)
+      abbrev at51 : Typed.TF T21 O3
+      at51 = λ Ψ. Typed.both s19 (at50 Ψ)
 
-      abbrev at52 : Typed.TF T29 O3
-      at52 = λ Ψ. Typed.ask s26 (at51 Ψ)
+      abbrev at52 : Typed.TF T21 O3
+      at52 = λ Ψ. at51 Ψ
 
-      abbrev at53 : Typed.TF T28 O3
-      at53 = λ Ψ. Typed.pass T28 T29 s25 (at52 Ψ)
+      abbrev at53 : Typed.TF T20 O3
+      at53 = λ Ψ. Typed.both s17 (at52 Ψ)
 
-      abbrev at54 : Typed.TF T27 O3
-      at54 = λ Ψ. Typed.ask s24 (at53 Ψ)
+      abbrev at54 : Typed.TF T19 O3
+      at54 = λ Ψ. Typed.ask s16 (at53 Ψ)
 
-      abbrev at55 : Typed.TF T24 O3
-      at55 = λ Ψ. Typed.give s23 (at54 Ψ)
+      abbrev at55 : Typed.TF T15 O3
+      at55 = λ Ψ. Typed.give s15 (at54 Ψ)
 
-      abbrev at56 : Typed.TF T24 O3
+      abbrev at56 : Typed.TF T15 O3
       at56 = λ Ψ. at55 Ψ
 
-      abbrev at57 : Typed.TF T24 O3
-      at57 = λ Ψ. at56 Ψ
+      abbrev at57 : Typed.TF T14 O3
+      at57 = λ Ψ. at4 (Typed.wantNext T15 O3 (at56 Ψ) Ψ)
 
-      abbrev at58 : Typed.TF T22 O3
-      at58 = λ Ψ. Typed.both s20 (at57 Ψ)
+      abbrev at58 : Typed.TF T12 O3
+      at58 = λ Ψ. Typed.ask s11 (at57 Ψ)
 
-      abbrev at59 : Typed.TF T22 O3
-      at59 = λ Ψ. at58 Ψ
-
-      abbrev at60 : Typed.TF T21 O3
-      at60 = λ Ψ. Typed.both s18 (at59 Ψ)
-
-      abbrev at61 : Typed.TF T20 O3
-      at61 = λ Ψ. Typed.ask s17 (at60 Ψ)
-
-      abbrev at62 : Typed.TF T16 O3
-      at62 = λ Ψ. Typed.give s16 (at61 Ψ)
-
-      abbrev at63 : Typed.TF T16 O3
-      at63 = λ Ψ. at62 Ψ
-
-      abbrev at64 : Typed.TF T15 O3
-      at64 = λ Ψ. at4 (Typed.wantNext T16 O3 (at63 Ψ) Ψ)
-
-      abbrev at65 : Typed.TF T13 O3
-      at65 = λ Ψ. Typed.ask s12 (at64 Ψ)
-
-      abbrev at66 : Typed.TF T13 O2
-      at66 =
+      abbrev at59 : Typed.TF T12 O2
+      at59 =
           Typed.LoopBy
-          T13
+          T12
           O2
           put0
           (λ u vs. Inv·0
-          (Row.get 1 (T13 .locals) u .now)
-          (Row.get 2 (T13 .locals) u .now)
-          (Row.get 3 (T13 .locals) u)
-          (Row.get 4 (T13 .locals) u .now)
-          (Row.get 5 (T13 .locals) u .now)
-          (Row.get 6 (T13 .locals) u .now)
-          (Row.get 7 (T13 .locals) u .now)
-          (Row.get 8 (T13 .locals) u .now)
-          (Row.get 9 (T13 .locals) u .now)
-          (Row.get 10 (T13 .locals) u .now)
-          (Row.get 11 (T13 .locals) u .now)
-          (Row.get 12 (T13 .locals) u)
-          (Row.get 13 (T13 .locals) u)
-          (Row.get 14 (T13 .locals) u)
+          (Row.get 1 (T12 .locals) u .now)
+          (Row.get 2 (T12 .locals) u .now)
+          (Row.get 3 (T12 .locals) u)
+          (Row.get 4 (T12 .locals) u .now)
+          (Row.get 5 (T12 .locals) u .now)
+          (Row.get 6 (T12 .locals) u .now)
+          (Row.get 7 (T12 .locals) u .now)
+          (Row.get 8 (T12 .locals) u .now)
+          (Row.get 9 (T12 .locals) u .now)
+          (Row.get 10 (T12 .locals) u .now)
+          (Row.get 11 (T12 .locals) u)
+          (Row.get 12 (T12 .locals) u)
+          (Row.get 13 (T12 .locals) u)
           (vs .0)
           (vs .1)
           (vs .2)
@@ -6426,23 +5897,21 @@ module _ (claims· : Claims) where
           (vs .4)
           (vs .5)
           (vs .6)
-          (vs .7)
-          (vs .8))
+          (vs .7))
           (λ u vs. μ·0
-          (Row.get 1 (T13 .locals) u .now)
-          (Row.get 2 (T13 .locals) u .now)
-          (Row.get 3 (T13 .locals) u)
-          (Row.get 4 (T13 .locals) u .now)
-          (Row.get 5 (T13 .locals) u .now)
-          (Row.get 6 (T13 .locals) u .now)
-          (Row.get 7 (T13 .locals) u .now)
-          (Row.get 8 (T13 .locals) u .now)
-          (Row.get 9 (T13 .locals) u .now)
-          (Row.get 10 (T13 .locals) u .now)
-          (Row.get 11 (T13 .locals) u .now)
-          (Row.get 12 (T13 .locals) u)
-          (Row.get 13 (T13 .locals) u)
-          (Row.get 14 (T13 .locals) u)
+          (Row.get 1 (T12 .locals) u .now)
+          (Row.get 2 (T12 .locals) u .now)
+          (Row.get 3 (T12 .locals) u)
+          (Row.get 4 (T12 .locals) u .now)
+          (Row.get 5 (T12 .locals) u .now)
+          (Row.get 6 (T12 .locals) u .now)
+          (Row.get 7 (T12 .locals) u .now)
+          (Row.get 8 (T12 .locals) u .now)
+          (Row.get 9 (T12 .locals) u .now)
+          (Row.get 10 (T12 .locals) u .now)
+          (Row.get 11 (T12 .locals) u)
+          (Row.get 12 (T12 .locals) u)
+          (Row.get 13 (T12 .locals) u)
           (vs .0)
           (vs .1)
           (vs .2)
@@ -6450,72 +5919,68 @@ module _ (claims· : Claims) where
           (vs .4)
           (vs .5)
           (vs .6)
-          (vs .7)
-          (vs .8))
-          at65
+          (vs .7))
+          at58
 
-      abbrev at67 : Typed.TF T13 O1
-      at67 = λ Ψ. at66 (Typed.inBlock O1 Ψ)
+      abbrev at60 : Typed.TF T12 O1
+      at60 = λ Ψ. at59 (Typed.inBlock O1 Ψ)
 
-      abbrev at68 : Typed.TF T82 O0
-      at68 = Typed.atRet O0
+      abbrev at61 : Typed.TF T74 O0
+      at61 = Typed.atRet O0
 
-      abbrev at69 : Typed.TF T81 O0
-      at69 = λ Ψ. Typed.pass T81 T82 s78 (at68 Ψ)
+      abbrev at62 : Typed.TF T73 O0
+      at62 = λ Ψ. Typed.pass T73 T74 s70 (at61 Ψ)
 
-      abbrev at70 : Typed.TF T80 O0
-      at70 = λ Ψ. Typed.pass T80 T81 s77 (at69 Ψ)
+      abbrev at63 : Typed.TF T72 O0
+      at63 = λ Ψ. Typed.pass T72 T73 s69 (at62 Ψ)
 
-      abbrev at71 : Typed.TF T79 O0
-      at71 = λ Ψ. Typed.pass T79 T80 s76 (at70 Ψ)
+      abbrev at64 : Typed.TF T71 O0
+      at64 = λ Ψ. Typed.pass T71 T72 s68 (at63 Ψ)
 
-      abbrev at72 : Typed.TF T78 O0
-      at72 = λ Ψ. Typed.pass T78 T79 s75 (at71 Ψ)
+      abbrev at65 : Typed.TF T70 O0
+      at65 = λ Ψ. Typed.pass T70 T71 s67 (at64 Ψ)
 
-      abbrev at73 : Typed.TF T14 O0
-      at73 = λ Ψ. Typed.pass T14 T78 s74 (at72 Ψ)
+      abbrev at66 : Typed.TF T13 O0
+      at66 = λ Ψ. Typed.pass T13 T70 s66 (at65 Ψ)
 
-      abbrev at74 : Typed.TF T13 O0
-      at74 = λ Ψ. at67 (Typed.wantNext T14 O0 (at73 Ψ) Ψ)
+      abbrev at67 : Typed.TF T12 O0
+      at67 = λ Ψ. at60 (Typed.wantNext T13 O0 (at66 Ψ) Ψ)
 
-      abbrev at75 : Typed.TF T12 O0
-      at75 = λ Ψ. Typed.pass T12 T13 s11 (at74 Ψ)
+      abbrev at68 : Typed.TF T11 O0
+      at68 = λ Ψ. Typed.pass T11 T12 s10 (at67 Ψ)
 
-      abbrev at76 : Typed.TF T11 O0
-      at76 = λ Ψ. Typed.pass T11 T12 s10 (at75 Ψ)
+      abbrev at69 : Typed.TF T10 O0
+      at69 = λ Ψ. Typed.pass T10 T11 s9 (at68 Ψ)
 
-      abbrev at77 : Typed.TF T10 O0
-      at77 = λ Ψ. Typed.pass T10 T11 s9 (at76 Ψ)
+      abbrev at70 : Typed.TF T9 O0
+      at70 = λ Ψ. Typed.pass T9 T10 s8 (at69 Ψ)
 
-      abbrev at78 : Typed.TF T9 O0
-      at78 = λ Ψ. Typed.give s8 (at77 Ψ)
+      abbrev at71 : Typed.TF T8 O0
+      at71 = λ Ψ. Typed.give s7 (at70 Ψ)
 
-      abbrev at79 : Typed.TF T8 O0
-      at79 = λ Ψ. Typed.give s7 (at78 Ψ)
+      abbrev at72 : Typed.TF T7 O0
+      at72 = λ Ψ. Typed.give s6 (at71 Ψ)
 
-      abbrev at80 : Typed.TF T7 O0
-      at80 = λ Ψ. Typed.give s6 (at79 Ψ)
+      abbrev at73 : Typed.TF T6 O0
+      at73 = λ Ψ. Typed.give s5 (at72 Ψ)
 
-      abbrev at81 : Typed.TF T6 O0
-      at81 = λ Ψ. Typed.give s5 (at80 Ψ)
+      abbrev at74 : Typed.TF T5 O0
+      at74 = λ Ψ. Typed.give s4 (at73 Ψ)
 
-      abbrev at82 : Typed.TF T5 O0
-      at82 = λ Ψ. Typed.give s4 (at81 Ψ)
+      abbrev at75 : Typed.TF T4 O0
+      at75 = λ Ψ. Typed.give s3 (at74 Ψ)
 
-      abbrev at83 : Typed.TF T4 O0
-      at83 = λ Ψ. Typed.give s3 (at82 Ψ)
+      abbrev at76 : Typed.TF T3 O0
+      at76 = λ Ψ. Typed.give s2 (at75 Ψ)
 
-      abbrev at84 : Typed.TF T3 O0
-      at84 = λ Ψ. Typed.give s2 (at83 Ψ)
+      abbrev at77 : Typed.TF T2 O0
+      at77 = λ Ψ. Typed.give s1 (at76 Ψ)
 
-      abbrev at85 : Typed.TF T2 O0
-      at85 = λ Ψ. Typed.give s1 (at84 Ψ)
-
-      abbrev at86 : Typed.TF T0 O0
-      at86 = λ Ψ. Typed.give s0 (at85 Ψ)
+      abbrev at78 : Typed.TF T0 O0
+      at78 = λ Ψ. Typed.give s0 (at77 Ψ)
 
       abbrev pub Φ : Typed.TF T0 O0
-      Φ = at86
+      Φ = at78
 
       module _ {M : Type 1} (𝓤 : URA.URA M) (H : Wp.Heap 𝓤) (A : Atoms.Atoms 𝓤)
           (W : Kit.Given 𝓤 H A) (𝓣 : Wp.Tables 𝓤 H) where
@@ -6523,11 +5988,11 @@ module _ (claims· : Claims) where
         Knowns =
             Plain.Known 𝓤 H A W 𝓣 3 ps·0 r·0 (claims· .0) (claims· .1) "records::refill" ×
             Plain.Known 𝓤 H A W 𝓣 1 ps·1 r·1 (claims· .2) (claims· .3) "records::get" ×
-            Plain.Known 𝓤 H A W 𝓣 8 ps·2 r·2 (claims· .4) (claims· .5) "calls::turn_line"
+            Plain.Known 𝓤 H A W 𝓣 7 ps·2 r·2 (claims· .4) (claims· .5) "calls::turn_line"
 
-      module _ (κs : Lifetimes.Lfts 10) (qs : Lifetimes.Shares 10) where
-        abbrev g8 : List.List Row.Entry
-        g8 = List._∷_ (0, Rows.any-gone (Syntax.tyInt Syntax.w64)) (List._∷_ (
+      module _ (κs : Lifetimes.Lfts 9) (qs : Lifetimes.Shares 9) where
+        abbrev g7 : List.List Row.Entry
+        g7 = List._∷_ (0, Rows.any-gone (Syntax.tyInt Syntax.w64)) (List._∷_ (
           1,
           Rows.sslice
               (Referent.rtF (Referent.fInt Syntax.w8))
@@ -6577,26 +6042,141 @@ module _ (claims· : Claims) where
               7,
         ) (List._∷_ (
           10,
-          Mut.mslice
-              (Referent.rtF (Referent.fInt Syntax.w8))
-              (Syntax.tyRef (Syntax.named 8) Syntax.mut (Syntax.tyInt Syntax.w8))
-              8,
-        ) (List._∷_ (
-          11,
           Relend.mslice-owed
               Elem.R
               (Syntax.tyRef
-              (Syntax.named 9)
+              (Syntax.named 8)
               Syntax.mut
               Elem.ty)
+              8
               9
+              (Row.lease (κs .1 .1 .1 .1 .1 .1 .1 .1 .0) (qs .1 .1 .1 .1 .1 .1 .1 .1 .0)),
+        ) (List._∷_ (11, Rows.sc-here (Row.sInt Syntax.w64)) (List._∷_ (
+          12,
+          Rows.sc-here (Row.sInt Syntax.w64),
+        ) (List._∷_ (13, Rows.sc-here (Row.sInt Syntax.w64)) (List._∷_ (
+          14,
+          Rows.any-gone
+              (Syntax.tyStruct
+              (List._∷_
+              114
+              (List._∷_
+              101
+              (List._∷_
+              99
+              (List._∷_
+              111
+              (List._∷_
+              114
+              (List._∷_
+              100
+              (List._∷_
+              115
+              (List._∷_
+              58
+              (List._∷_
+              58
+              (List._∷_
+              76
+              (List._∷_
+              105
+              (List._∷_
+              110
+              (List._∷_ 101 (List._∷_ 82 (List._∷_ 101 (List._∷_ 99 List.[]))))))))))))))))
+              (Syntax.tcons
+              (Syntax.tyInt Syntax.w64)
+              (Syntax.tcons
+              (Syntax.tyInt Syntax.w64)
+              (Syntax.tcons
+              (Syntax.tyStruct
+              (List._∷_
+              112
+              (List._∷_
+              108
+              (List._∷_
+              97
+              (List._∷_
+              99
+              (List._∷_
+              101
+              (List._∷_
+              58
+              (List._∷_
+              58
+              (List._∷_
+              82
+              (List._∷_
+              101
+              (List._∷_ 103 (List._∷_ 105 (List._∷_ 111 (List._∷_ 110 List.[])))))))))))))
+              (Syntax.tcons (Syntax.tyInt Syntax.w64) Syntax.tnil))
+              (Syntax.tcons (Syntax.tyInt Syntax.w64) Syntax.tnil))))),
+        ) (List._∷_ (15, Rows.any-gone Syntax.tyBool) List.[])))))))))))))))
+
+        abbrev g11 : List.List Row.Entry
+        g11 = List._∷_ (0, Rows.any-gone (Syntax.tyInt Syntax.w64)) (List._∷_ (
+          1,
+          Rows.sslice
+              (Referent.rtF (Referent.fInt Syntax.w8))
+              (Syntax.tyRef (Syntax.named 0) Syntax.imm (Syntax.tyInt Syntax.w8))
+              0,
+        ) (List._∷_ (
+          2,
+          Rows.sslice
+              (Referent.rtF (Referent.fInt Syntax.w64))
+              (Syntax.tyRef (Syntax.named 1) Syntax.imm (Syntax.tyInt Syntax.w64))
+              1,
+        ) (List._∷_ (3, Rows.sc-here (Row.sInt Syntax.w64)) (List._∷_ (
+          4,
+          Rows.sslice
+              (Referent.rtF (Referent.fInt Syntax.w64))
+              (Syntax.tyRef (Syntax.named 2) Syntax.imm (Syntax.tyInt Syntax.w64))
+              2,
+        ) (List._∷_ (
+          5,
+          Rows.sslice
+              (Referent.rtF (Referent.fInt Syntax.w8))
+              (Syntax.tyRef (Syntax.named 3) Syntax.imm (Syntax.tyInt Syntax.w8))
+              3,
+        ) (List._∷_ (
+          6,
+          Mut.mslice
+              (Referent.rtF (Referent.fInt Syntax.w64))
+              (Syntax.tyRef (Syntax.named 4) Syntax.mut (Syntax.tyInt Syntax.w64))
+              4,
+        ) (List._∷_ (
+          7,
+          Mut.mslice
+              (Referent.rtF (Referent.fInt Syntax.w8))
+              (Syntax.tyRef (Syntax.named 5) Syntax.mut (Syntax.tyInt Syntax.w8))
+              5,
+        ) (List._∷_ (
+          8,
+          Mut.mslice
+              (Referent.rtF (Referent.fInt Syntax.w8))
+              (Syntax.tyRef (Syntax.named 6) Syntax.mut (Syntax.tyInt Syntax.w8))
+              6,
+        ) (List._∷_ (
+          9,
+          Mut.mslice
+              (Referent.rtF (Referent.fInt Syntax.w8))
+              (Syntax.tyRef (Syntax.named 7) Syntax.mut (Syntax.tyInt Syntax.w8))
+              7,
+        ) (List._∷_ (
+          10,
+          Reshare.mslice-owedS
+              Elem.R
+              (Syntax.tyRef
+              (Syntax.named 8)
+              Syntax.mut
+              Elem.ty)
+              8
               10
-              (Row.lease (κs .1 .1 .1 .1 .1 .1 .1 .1 .1 .0) (qs .1 .1 .1 .1 .1 .1 .1 .1 .1 .0)),
-        ) (List._∷_ (12, Rows.sc-here (Row.sInt Syntax.w64)) (List._∷_ (
-          13,
+              (Row.lease (κs .1 .1 .1 .1 .1 .1 .1 .1 .0) (qs .1 .1 .1 .1 .1 .1 .1 .1 .0)),
+        ) (List._∷_ (11, Rows.sc-here (Row.sInt Syntax.w64)) (List._∷_ (
+          12,
           Rows.sc-here (Row.sInt Syntax.w64),
-        ) (List._∷_ (14, Rows.sc-here (Row.sInt Syntax.w64)) (List._∷_ (
-          15,
+        ) (List._∷_ (13, Rows.sc-here (Row.sInt Syntax.w64)) (List._∷_ (
+          14,
           Rows.any-gone
               (Syntax.tyStruct
               (List._∷_
@@ -6651,10 +6231,10 @@ module _ (claims· : Claims) where
               (List._∷_ 103 (List._∷_ 105 (List._∷_ 111 (List._∷_ 110 List.[])))))))))))))
               (Syntax.tcons (Syntax.tyInt Syntax.w64) Syntax.tnil))
               (Syntax.tcons (Syntax.tyInt Syntax.w64) Syntax.tnil))))),
-        ) List.[])))))))))))))))
+        ) (List._∷_ (15, Rows.any-gone Syntax.tyBool) List.[])))))))))))))))
 
-        abbrev g12 : List.List Row.Entry
-        g12 = List._∷_ (0, Rows.any-gone (Syntax.tyInt Syntax.w64)) (List._∷_ (
+        abbrev g19 : List.List Row.Entry
+        g19 = List._∷_ (0, Rows.any-gone (Syntax.tyInt Syntax.w64)) (List._∷_ (
           1,
           Rows.sslice
               (Referent.rtF (Referent.fInt Syntax.w8))
@@ -6704,158 +6284,25 @@ module _ (claims· : Claims) where
               7,
         ) (List._∷_ (
           10,
-          Mut.mslice
-              (Referent.rtF (Referent.fInt Syntax.w8))
-              (Syntax.tyRef (Syntax.named 8) Syntax.mut (Syntax.tyInt Syntax.w8))
-              8,
-        ) (List._∷_ (
-          11,
           Reshare.mslice-owedS
               Elem.R
               (Syntax.tyRef
-              (Syntax.named 9)
+              (Syntax.named 8)
               Syntax.mut
               Elem.ty)
-              9
-              11
-              (Row.lease (κs .1 .1 .1 .1 .1 .1 .1 .1 .1 .0) (qs .1 .1 .1 .1 .1 .1 .1 .1 .1 .0)),
-        ) (List._∷_ (12, Rows.sc-here (Row.sInt Syntax.w64)) (List._∷_ (
-          13,
+              8
+              10
+              (Row.lease (κs .1 .1 .1 .1 .1 .1 .1 .1 .0) (qs .1 .1 .1 .1 .1 .1 .1 .1 .0)),
+        ) (List._∷_ (11, Rows.sc-here (Row.sInt Syntax.w64)) (List._∷_ (
+          12,
           Rows.sc-here (Row.sInt Syntax.w64),
-        ) (List._∷_ (14, Rows.sc-here (Row.sInt Syntax.w64)) (List._∷_ (
-          15,
-          Rows.any-gone
-              (Syntax.tyStruct
-              (List._∷_
-              114
-              (List._∷_
-              101
-              (List._∷_
-              99
-              (List._∷_
-              111
-              (List._∷_
-              114
-              (List._∷_
-              100
-              (List._∷_
-              115
-              (List._∷_
-              58
-              (List._∷_
-              58
-              (List._∷_
-              76
-              (List._∷_
-              105
-              (List._∷_
-              110
-              (List._∷_ 101 (List._∷_ 82 (List._∷_ 101 (List._∷_ 99 List.[]))))))))))))))))
-              (Syntax.tcons
-              (Syntax.tyInt Syntax.w64)
-              (Syntax.tcons
-              (Syntax.tyInt Syntax.w64)
-              (Syntax.tcons
-              (Syntax.tyStruct
-              (List._∷_
-              112
-              (List._∷_
-              108
-              (List._∷_
-              97
-              (List._∷_
-              99
-              (List._∷_
-              101
-              (List._∷_
-              58
-              (List._∷_
-              58
-              (List._∷_
-              82
-              (List._∷_
-              101
-              (List._∷_ 103 (List._∷_ 105 (List._∷_ 111 (List._∷_ 110 List.[])))))))))))))
-              (Syntax.tcons (Syntax.tyInt Syntax.w64) Syntax.tnil))
-              (Syntax.tcons (Syntax.tyInt Syntax.w64) Syntax.tnil))))),
-        ) List.[])))))))))))))))
-
-        abbrev g20 : List.List Row.Entry
-        g20 = List._∷_ (0, Rows.any-gone (Syntax.tyInt Syntax.w64)) (List._∷_ (
-          1,
-          Rows.sslice
-              (Referent.rtF (Referent.fInt Syntax.w8))
-              (Syntax.tyRef (Syntax.named 0) Syntax.imm (Syntax.tyInt Syntax.w8))
-              0,
-        ) (List._∷_ (
-          2,
-          Rows.sslice
-              (Referent.rtF (Referent.fInt Syntax.w64))
-              (Syntax.tyRef (Syntax.named 1) Syntax.imm (Syntax.tyInt Syntax.w64))
-              1,
-        ) (List._∷_ (3, Rows.sc-here (Row.sInt Syntax.w64)) (List._∷_ (
-          4,
-          Rows.sslice
-              (Referent.rtF (Referent.fInt Syntax.w64))
-              (Syntax.tyRef (Syntax.named 2) Syntax.imm (Syntax.tyInt Syntax.w64))
-              2,
-        ) (List._∷_ (
-          5,
-          Rows.sslice
-              (Referent.rtF (Referent.fInt Syntax.w8))
-              (Syntax.tyRef (Syntax.named 3) Syntax.imm (Syntax.tyInt Syntax.w8))
-              3,
-        ) (List._∷_ (
-          6,
-          Mut.mslice
-              (Referent.rtF (Referent.fInt Syntax.w64))
-              (Syntax.tyRef (Syntax.named 4) Syntax.mut (Syntax.tyInt Syntax.w64))
-              4,
-        ) (List._∷_ (
-          7,
-          Mut.mslice
-              (Referent.rtF (Referent.fInt Syntax.w8))
-              (Syntax.tyRef (Syntax.named 5) Syntax.mut (Syntax.tyInt Syntax.w8))
-              5,
-        ) (List._∷_ (
-          8,
-          Mut.mslice
-              (Referent.rtF (Referent.fInt Syntax.w8))
-              (Syntax.tyRef (Syntax.named 6) Syntax.mut (Syntax.tyInt Syntax.w8))
-              6,
-        ) (List._∷_ (
-          9,
-          Mut.mslice
-              (Referent.rtF (Referent.fInt Syntax.w8))
-              (Syntax.tyRef (Syntax.named 7) Syntax.mut (Syntax.tyInt Syntax.w8))
-              7,
-        ) (List._∷_ (
-          10,
-          Mut.mslice
-              (Referent.rtF (Referent.fInt Syntax.w8))
-              (Syntax.tyRef (Syntax.named 8) Syntax.mut (Syntax.tyInt Syntax.w8))
-              8,
-        ) (List._∷_ (
-          11,
-          Reshare.mslice-owedS
-              Elem.R
-              (Syntax.tyRef
-              (Syntax.named 9)
-              Syntax.mut
-              Elem.ty)
-              9
-              11
-              (Row.lease (κs .1 .1 .1 .1 .1 .1 .1 .1 .1 .0) (qs .1 .1 .1 .1 .1 .1 .1 .1 .1 .0)),
-        ) (List._∷_ (12, Rows.sc-here (Row.sInt Syntax.w64)) (List._∷_ (
-          13,
-          Rows.sc-here (Row.sInt Syntax.w64),
-        ) (List._∷_ (14, Rows.sc-here (Row.sInt Syntax.w64)) (List._∷_ (
-          15,
+        ) (List._∷_ (13, Rows.sc-here (Row.sInt Syntax.w64)) (List._∷_ (
+          14,
           Rows.whole (Declared.row LineRec.the-type),
-        ) List.[])))))))))))))))
+        ) (List._∷_ (15, Rows.any-gone Syntax.tyBool) List.[])))))))))))))))
 
-        abbrev g23 : List.List Row.Entry
-        g23 = List._∷_ (0, Rows.any-gone (Syntax.tyInt Syntax.w64)) (List._∷_ (
+        abbrev g22 : List.List Row.Entry
+        g22 = List._∷_ (0, Rows.any-gone (Syntax.tyInt Syntax.w64)) (List._∷_ (
           1,
           Rows.sslice
               (Referent.rtF (Referent.fInt Syntax.w8))
@@ -6885,7 +6332,7 @@ module _ (claims· : Claims) where
               (Referent.rtF (Referent.fInt Syntax.w64))
               (Syntax.tyRef (Syntax.named 4) Syntax.mut (Syntax.tyInt Syntax.w64))
               4
-              12
+              11
               (Row.lease (κs .1 .1 .1 .1 .0) (qs .1 .1 .1 .1 .0)),
         ) (List._∷_ (
           7,
@@ -6908,28 +6355,22 @@ module _ (claims· : Claims) where
         ) (List._∷_ (
           10,
           Mut.mslice
-              (Referent.rtF (Referent.fInt Syntax.w8))
-              (Syntax.tyRef (Syntax.named 8) Syntax.mut (Syntax.tyInt Syntax.w8))
-              8,
-        ) (List._∷_ (
-          11,
-          Mut.mslice
               Elem.R
               (Syntax.tyRef
-              (Syntax.named 9)
+              (Syntax.named 8)
               Syntax.mut
               Elem.ty)
-              9,
-        ) (List._∷_ (12, Rows.sc-here (Row.sInt Syntax.w64)) (List._∷_ (
-          13,
+              8,
+        ) (List._∷_ (11, Rows.sc-here (Row.sInt Syntax.w64)) (List._∷_ (
+          12,
           Rows.sc-here (Row.sInt Syntax.w64),
-        ) (List._∷_ (14, Rows.sc-here (Row.sInt Syntax.w64)) (List._∷_ (
-          15,
+        ) (List._∷_ (13, Rows.sc-here (Row.sInt Syntax.w64)) (List._∷_ (
+          14,
           Rows.whole (Declared.row LineRec.the-type),
-        ) List.[])))))))))))))))
+        ) (List._∷_ (15, Rows.any-gone Syntax.tyBool) List.[])))))))))))))))
 
-        abbrev g26 : List.List Row.Entry
-        g26 = List._∷_ (0, Rows.any-gone (Syntax.tyInt Syntax.w64)) (List._∷_ (
+        abbrev g25 : List.List Row.Entry
+        g25 = List._∷_ (0, Rows.any-gone (Syntax.tyInt Syntax.w64)) (List._∷_ (
           1,
           Rows.sslice
               (Referent.rtF (Referent.fInt Syntax.w8))
@@ -6959,7 +6400,7 @@ module _ (claims· : Claims) where
               (Referent.rtF (Referent.fInt Syntax.w64))
               (Syntax.tyRef (Syntax.named 4) Syntax.mut (Syntax.tyInt Syntax.w64))
               4
-              12
+              11
               (Row.lease (κs .1 .1 .1 .1 .0) (qs .1 .1 .1 .1 .0)),
         ) (List._∷_ (
           7,
@@ -6967,7 +6408,7 @@ module _ (claims· : Claims) where
               (Referent.rtF (Referent.fInt Syntax.w8))
               (Syntax.tyRef (Syntax.named 5) Syntax.mut (Syntax.tyInt Syntax.w8))
               5
-              13
+              12
               (Row.lease (κs .1 .1 .1 .1 .1 .0) (qs .1 .1 .1 .1 .1 .0)),
         ) (List._∷_ (
           8,
@@ -6984,28 +6425,22 @@ module _ (claims· : Claims) where
         ) (List._∷_ (
           10,
           Mut.mslice
-              (Referent.rtF (Referent.fInt Syntax.w8))
-              (Syntax.tyRef (Syntax.named 8) Syntax.mut (Syntax.tyInt Syntax.w8))
-              8,
-        ) (List._∷_ (
-          11,
-          Mut.mslice
               Elem.R
               (Syntax.tyRef
-              (Syntax.named 9)
+              (Syntax.named 8)
               Syntax.mut
               Elem.ty)
-              9,
-        ) (List._∷_ (12, Rows.sc-here (Row.sInt Syntax.w64)) (List._∷_ (
-          13,
+              8,
+        ) (List._∷_ (11, Rows.sc-here (Row.sInt Syntax.w64)) (List._∷_ (
+          12,
           Rows.sc-here (Row.sInt Syntax.w64),
-        ) (List._∷_ (14, Rows.sc-here (Row.sInt Syntax.w64)) (List._∷_ (
-          15,
+        ) (List._∷_ (13, Rows.sc-here (Row.sInt Syntax.w64)) (List._∷_ (
+          14,
           Rows.whole (Declared.row LineRec.the-type),
-        ) List.[])))))))))))))))
+        ) (List._∷_ (15, Rows.any-gone Syntax.tyBool) List.[])))))))))))))))
 
-        abbrev g29 : List.List Row.Entry
-        g29 = List._∷_ (0, Rows.any-gone (Syntax.tyInt Syntax.w64)) (List._∷_ (
+        abbrev g28 : List.List Row.Entry
+        g28 = List._∷_ (0, Rows.any-gone (Syntax.tyInt Syntax.w64)) (List._∷_ (
           1,
           Rows.sslice
               (Referent.rtF (Referent.fInt Syntax.w8))
@@ -7035,7 +6470,7 @@ module _ (claims· : Claims) where
               (Referent.rtF (Referent.fInt Syntax.w64))
               (Syntax.tyRef (Syntax.named 4) Syntax.mut (Syntax.tyInt Syntax.w64))
               4
-              12
+              11
               (Row.lease (κs .1 .1 .1 .1 .0) (qs .1 .1 .1 .1 .0)),
         ) (List._∷_ (
           7,
@@ -7043,7 +6478,7 @@ module _ (claims· : Claims) where
               (Referent.rtF (Referent.fInt Syntax.w8))
               (Syntax.tyRef (Syntax.named 5) Syntax.mut (Syntax.tyInt Syntax.w8))
               5
-              13
+              12
               (Row.lease (κs .1 .1 .1 .1 .1 .0) (qs .1 .1 .1 .1 .1 .0)),
         ) (List._∷_ (
           8,
@@ -7051,7 +6486,7 @@ module _ (claims· : Claims) where
               (Referent.rtF (Referent.fInt Syntax.w8))
               (Syntax.tyRef (Syntax.named 6) Syntax.mut (Syntax.tyInt Syntax.w8))
               6
-              14
+              13
               (Row.lease (κs .1 .1 .1 .1 .1 .1 .0) (qs .1 .1 .1 .1 .1 .1 .0)),
         ) (List._∷_ (
           9,
@@ -7062,28 +6497,22 @@ module _ (claims· : Claims) where
         ) (List._∷_ (
           10,
           Mut.mslice
-              (Referent.rtF (Referent.fInt Syntax.w8))
-              (Syntax.tyRef (Syntax.named 8) Syntax.mut (Syntax.tyInt Syntax.w8))
-              8,
-        ) (List._∷_ (
-          11,
-          Mut.mslice
               Elem.R
               (Syntax.tyRef
-              (Syntax.named 9)
+              (Syntax.named 8)
               Syntax.mut
               Elem.ty)
-              9,
-        ) (List._∷_ (12, Rows.sc-here (Row.sInt Syntax.w64)) (List._∷_ (
-          13,
+              8,
+        ) (List._∷_ (11, Rows.sc-here (Row.sInt Syntax.w64)) (List._∷_ (
+          12,
           Rows.sc-here (Row.sInt Syntax.w64),
-        ) (List._∷_ (14, Rows.sc-here (Row.sInt Syntax.w64)) (List._∷_ (
-          15,
+        ) (List._∷_ (13, Rows.sc-here (Row.sInt Syntax.w64)) (List._∷_ (
+          14,
           Rows.whole (Declared.row LineRec.the-type),
-        ) List.[])))))))))))))))
+        ) (List._∷_ (15, Rows.any-gone Syntax.tyBool) List.[])))))))))))))))
 
-        abbrev g32 : List.List Row.Entry
-        g32 = List._∷_ (0, Rows.any-gone (Syntax.tyInt Syntax.w64)) (List._∷_ (
+        abbrev g31 : List.List Row.Entry
+        g31 = List._∷_ (0, Rows.any-gone (Syntax.tyInt Syntax.w64)) (List._∷_ (
           1,
           Rows.sslice
               (Referent.rtF (Referent.fInt Syntax.w8))
@@ -7113,7 +6542,7 @@ module _ (claims· : Claims) where
               (Referent.rtF (Referent.fInt Syntax.w64))
               (Syntax.tyRef (Syntax.named 4) Syntax.mut (Syntax.tyInt Syntax.w64))
               4
-              12
+              11
               (Row.lease (κs .1 .1 .1 .1 .0) (qs .1 .1 .1 .1 .0)),
         ) (List._∷_ (
           7,
@@ -7121,7 +6550,7 @@ module _ (claims· : Claims) where
               (Referent.rtF (Referent.fInt Syntax.w8))
               (Syntax.tyRef (Syntax.named 5) Syntax.mut (Syntax.tyInt Syntax.w8))
               5
-              13
+              12
               (Row.lease (κs .1 .1 .1 .1 .1 .0) (qs .1 .1 .1 .1 .1 .0)),
         ) (List._∷_ (
           8,
@@ -7129,7 +6558,7 @@ module _ (claims· : Claims) where
               (Referent.rtF (Referent.fInt Syntax.w8))
               (Syntax.tyRef (Syntax.named 6) Syntax.mut (Syntax.tyInt Syntax.w8))
               6
-              14
+              13
               (Row.lease (κs .1 .1 .1 .1 .1 .1 .0) (qs .1 .1 .1 .1 .1 .1 .0)),
         ) (List._∷_ (
           9,
@@ -7137,30 +6566,24 @@ module _ (claims· : Claims) where
               (Referent.rtF (Referent.fInt Syntax.w8))
               (Syntax.tyRef (Syntax.named 7) Syntax.mut (Syntax.tyInt Syntax.w8))
               7
-              15
+              14
               (Row.lease (κs .1 .1 .1 .1 .1 .1 .1 .0) (qs .1 .1 .1 .1 .1 .1 .1 .0)),
         ) (List._∷_ (
           10,
           Mut.mslice
-              (Referent.rtF (Referent.fInt Syntax.w8))
-              (Syntax.tyRef (Syntax.named 8) Syntax.mut (Syntax.tyInt Syntax.w8))
-              8,
-        ) (List._∷_ (
-          11,
-          Mut.mslice
               Elem.R
               (Syntax.tyRef
-              (Syntax.named 9)
+              (Syntax.named 8)
               Syntax.mut
               Elem.ty)
-              9,
-        ) (List._∷_ (12, Rows.sc-here (Row.sInt Syntax.w64)) (List._∷_ (
-          13,
+              8,
+        ) (List._∷_ (11, Rows.sc-here (Row.sInt Syntax.w64)) (List._∷_ (
+          12,
           Rows.sc-here (Row.sInt Syntax.w64),
-        ) (List._∷_ (14, Rows.sc-here (Row.sInt Syntax.w64)) (List._∷_ (
-          15,
+        ) (List._∷_ (13, Rows.sc-here (Row.sInt Syntax.w64)) (List._∷_ (
+          14,
           Rows.whole (Declared.row LineRec.the-type),
-        ) List.[])))))))))))))))
+        ) (List._∷_ (15, Rows.any-gone Syntax.tyBool) List.[])))))))))))))))
 
         abbrev g35 : List.List Row.Entry
         g35 = List._∷_ (0, Rows.any-gone (Syntax.tyInt Syntax.w64)) (List._∷_ (
@@ -7193,7 +6616,7 @@ module _ (claims· : Claims) where
               (Referent.rtF (Referent.fInt Syntax.w64))
               (Syntax.tyRef (Syntax.named 4) Syntax.mut (Syntax.tyInt Syntax.w64))
               4
-              12
+              11
               (Row.lease (κs .1 .1 .1 .1 .0) (qs .1 .1 .1 .1 .0)),
         ) (List._∷_ (
           7,
@@ -7201,7 +6624,7 @@ module _ (claims· : Claims) where
               (Referent.rtF (Referent.fInt Syntax.w8))
               (Syntax.tyRef (Syntax.named 5) Syntax.mut (Syntax.tyInt Syntax.w8))
               5
-              13
+              12
               (Row.lease (κs .1 .1 .1 .1 .1 .0) (qs .1 .1 .1 .1 .1 .0)),
         ) (List._∷_ (
           8,
@@ -7209,7 +6632,7 @@ module _ (claims· : Claims) where
               (Referent.rtF (Referent.fInt Syntax.w8))
               (Syntax.tyRef (Syntax.named 6) Syntax.mut (Syntax.tyInt Syntax.w8))
               6
-              14
+              13
               (Row.lease (κs .1 .1 .1 .1 .1 .1 .0) (qs .1 .1 .1 .1 .1 .1 .0)),
         ) (List._∷_ (
           9,
@@ -7217,32 +6640,325 @@ module _ (claims· : Claims) where
               (Referent.rtF (Referent.fInt Syntax.w8))
               (Syntax.tyRef (Syntax.named 7) Syntax.mut (Syntax.tyInt Syntax.w8))
               7
-              15
+              14
               (Row.lease (κs .1 .1 .1 .1 .1 .1 .1 .0) (qs .1 .1 .1 .1 .1 .1 .1 .0)),
         ) (List._∷_ (
           10,
-          Relend.mslice-owed
-              (Referent.rtF (Referent.fInt Syntax.w8))
-              (Syntax.tyRef (Syntax.named 8) Syntax.mut (Syntax.tyInt Syntax.w8))
-              8
-              16
-              (Row.lease (κs .1 .1 .1 .1 .1 .1 .1 .1 .0) (qs .1 .1 .1 .1 .1 .1 .1 .1 .0)),
-        ) (List._∷_ (
-          11,
           Mut.mslice
               Elem.R
               (Syntax.tyRef
-              (Syntax.named 9)
+              (Syntax.named 8)
               Syntax.mut
               Elem.ty)
-              9,
-        ) (List._∷_ (12, Rows.sc-here (Row.sInt Syntax.w64)) (List._∷_ (
-          13,
+              8,
+        ) (List._∷_ (11, Rows.sc-here (Row.sInt Syntax.w64)) (List._∷_ (
+          12,
           Rows.sc-here (Row.sInt Syntax.w64),
-        ) (List._∷_ (14, Rows.sc-here (Row.sInt Syntax.w64)) (List._∷_ (
-          15,
-          Rows.whole (Declared.row LineRec.the-type),
-        ) List.[])))))))))))))))
+        ) (List._∷_ (13, Rows.sc-here (Row.sInt Syntax.w64)) (List._∷_ (
+          14,
+          Rows.any-gone
+              (Syntax.tyStruct
+              (List._∷_
+              114
+              (List._∷_
+              101
+              (List._∷_
+              99
+              (List._∷_
+              111
+              (List._∷_
+              114
+              (List._∷_
+              100
+              (List._∷_
+              115
+              (List._∷_
+              58
+              (List._∷_
+              58
+              (List._∷_
+              76
+              (List._∷_
+              105
+              (List._∷_
+              110
+              (List._∷_ 101 (List._∷_ 82 (List._∷_ 101 (List._∷_ 99 List.[]))))))))))))))))
+              (Syntax.tcons
+              (Syntax.tyInt Syntax.w64)
+              (Syntax.tcons
+              (Syntax.tyInt Syntax.w64)
+              (Syntax.tcons
+              (Syntax.tyStruct
+              (List._∷_
+              112
+              (List._∷_
+              108
+              (List._∷_
+              97
+              (List._∷_
+              99
+              (List._∷_
+              101
+              (List._∷_
+              58
+              (List._∷_
+              58
+              (List._∷_
+              82
+              (List._∷_
+              101
+              (List._∷_ 103 (List._∷_ 105 (List._∷_ 111 (List._∷_ 110 List.[])))))))))))))
+              (Syntax.tcons (Syntax.tyInt Syntax.w64) Syntax.tnil))
+              (Syntax.tcons (Syntax.tyInt Syntax.w64) Syntax.tnil))))),
+        ) (List._∷_ (15, Rows.any-gone Syntax.tyBool) List.[])))))))))))))))
+
+        abbrev g36 : List.List Row.Entry
+        g36 = List._∷_ (0, Rows.any-gone (Syntax.tyInt Syntax.w64)) (List._∷_ (
+          1,
+          Rows.sslice
+              (Referent.rtF (Referent.fInt Syntax.w8))
+              (Syntax.tyRef (Syntax.named 0) Syntax.imm (Syntax.tyInt Syntax.w8))
+              0,
+        ) (List._∷_ (
+          2,
+          Rows.sslice
+              (Referent.rtF (Referent.fInt Syntax.w64))
+              (Syntax.tyRef (Syntax.named 1) Syntax.imm (Syntax.tyInt Syntax.w64))
+              1,
+        ) (List._∷_ (3, Rows.sc-here (Row.sInt Syntax.w64)) (List._∷_ (
+          4,
+          Rows.sslice
+              (Referent.rtF (Referent.fInt Syntax.w64))
+              (Syntax.tyRef (Syntax.named 2) Syntax.imm (Syntax.tyInt Syntax.w64))
+              2,
+        ) (List._∷_ (
+          5,
+          Rows.sslice
+              (Referent.rtF (Referent.fInt Syntax.w8))
+              (Syntax.tyRef (Syntax.named 3) Syntax.imm (Syntax.tyInt Syntax.w8))
+              3,
+        ) (List._∷_ (
+          6,
+          Mut.mslice
+              (Referent.rtF (Referent.fInt Syntax.w64))
+              (Syntax.tyRef (Syntax.named 4) Syntax.mut (Syntax.tyInt Syntax.w64))
+              4,
+        ) (List._∷_ (
+          7,
+          Relend.mslice-owed
+              (Referent.rtF (Referent.fInt Syntax.w8))
+              (Syntax.tyRef (Syntax.named 5) Syntax.mut (Syntax.tyInt Syntax.w8))
+              5
+              12
+              (Row.lease (κs .1 .1 .1 .1 .1 .0) (qs .1 .1 .1 .1 .1 .0)),
+        ) (List._∷_ (
+          8,
+          Relend.mslice-owed
+              (Referent.rtF (Referent.fInt Syntax.w8))
+              (Syntax.tyRef (Syntax.named 6) Syntax.mut (Syntax.tyInt Syntax.w8))
+              6
+              13
+              (Row.lease (κs .1 .1 .1 .1 .1 .1 .0) (qs .1 .1 .1 .1 .1 .1 .0)),
+        ) (List._∷_ (
+          9,
+          Relend.mslice-owed
+              (Referent.rtF (Referent.fInt Syntax.w8))
+              (Syntax.tyRef (Syntax.named 7) Syntax.mut (Syntax.tyInt Syntax.w8))
+              7
+              14
+              (Row.lease (κs .1 .1 .1 .1 .1 .1 .1 .0) (qs .1 .1 .1 .1 .1 .1 .1 .0)),
+        ) (List._∷_ (
+          10,
+          Mut.mslice
+              Elem.R
+              (Syntax.tyRef
+              (Syntax.named 8)
+              Syntax.mut
+              Elem.ty)
+              8,
+        ) (List._∷_ (11, Rows.sc-here (Row.sInt Syntax.w64)) (List._∷_ (
+          12,
+          Rows.sc-here (Row.sInt Syntax.w64),
+        ) (List._∷_ (13, Rows.sc-here (Row.sInt Syntax.w64)) (List._∷_ (
+          14,
+          Rows.any-gone
+              (Syntax.tyStruct
+              (List._∷_
+              114
+              (List._∷_
+              101
+              (List._∷_
+              99
+              (List._∷_
+              111
+              (List._∷_
+              114
+              (List._∷_
+              100
+              (List._∷_
+              115
+              (List._∷_
+              58
+              (List._∷_
+              58
+              (List._∷_
+              76
+              (List._∷_
+              105
+              (List._∷_
+              110
+              (List._∷_ 101 (List._∷_ 82 (List._∷_ 101 (List._∷_ 99 List.[]))))))))))))))))
+              (Syntax.tcons
+              (Syntax.tyInt Syntax.w64)
+              (Syntax.tcons
+              (Syntax.tyInt Syntax.w64)
+              (Syntax.tcons
+              (Syntax.tyStruct
+              (List._∷_
+              112
+              (List._∷_
+              108
+              (List._∷_
+              97
+              (List._∷_
+              99
+              (List._∷_
+              101
+              (List._∷_
+              58
+              (List._∷_
+              58
+              (List._∷_
+              82
+              (List._∷_
+              101
+              (List._∷_ 103 (List._∷_ 105 (List._∷_ 111 (List._∷_ 110 List.[])))))))))))))
+              (Syntax.tcons (Syntax.tyInt Syntax.w64) Syntax.tnil))
+              (Syntax.tcons (Syntax.tyInt Syntax.w64) Syntax.tnil))))),
+        ) (List._∷_ (15, Rows.any-gone Syntax.tyBool) List.[])))))))))))))))
+
+        abbrev g38 : List.List Row.Entry
+        g38 = List._∷_ (0, Rows.any-gone (Syntax.tyInt Syntax.w64)) (List._∷_ (
+          1,
+          Rows.sslice
+              (Referent.rtF (Referent.fInt Syntax.w8))
+              (Syntax.tyRef (Syntax.named 0) Syntax.imm (Syntax.tyInt Syntax.w8))
+              0,
+        ) (List._∷_ (
+          2,
+          Rows.sslice
+              (Referent.rtF (Referent.fInt Syntax.w64))
+              (Syntax.tyRef (Syntax.named 1) Syntax.imm (Syntax.tyInt Syntax.w64))
+              1,
+        ) (List._∷_ (3, Rows.sc-here (Row.sInt Syntax.w64)) (List._∷_ (
+          4,
+          Rows.sslice
+              (Referent.rtF (Referent.fInt Syntax.w64))
+              (Syntax.tyRef (Syntax.named 2) Syntax.imm (Syntax.tyInt Syntax.w64))
+              2,
+        ) (List._∷_ (
+          5,
+          Rows.sslice
+              (Referent.rtF (Referent.fInt Syntax.w8))
+              (Syntax.tyRef (Syntax.named 3) Syntax.imm (Syntax.tyInt Syntax.w8))
+              3,
+        ) (List._∷_ (
+          6,
+          Mut.mslice
+              (Referent.rtF (Referent.fInt Syntax.w64))
+              (Syntax.tyRef (Syntax.named 4) Syntax.mut (Syntax.tyInt Syntax.w64))
+              4,
+        ) (List._∷_ (
+          7,
+          Mut.mslice
+              (Referent.rtF (Referent.fInt Syntax.w8))
+              (Syntax.tyRef (Syntax.named 5) Syntax.mut (Syntax.tyInt Syntax.w8))
+              5,
+        ) (List._∷_ (
+          8,
+          Relend.mslice-owed
+              (Referent.rtF (Referent.fInt Syntax.w8))
+              (Syntax.tyRef (Syntax.named 6) Syntax.mut (Syntax.tyInt Syntax.w8))
+              6
+              13
+              (Row.lease (κs .1 .1 .1 .1 .1 .1 .0) (qs .1 .1 .1 .1 .1 .1 .0)),
+        ) (List._∷_ (
+          9,
+          Relend.mslice-owed
+              (Referent.rtF (Referent.fInt Syntax.w8))
+              (Syntax.tyRef (Syntax.named 7) Syntax.mut (Syntax.tyInt Syntax.w8))
+              7
+              14
+              (Row.lease (κs .1 .1 .1 .1 .1 .1 .1 .0) (qs .1 .1 .1 .1 .1 .1 .1 .0)),
+        ) (List._∷_ (
+          10,
+          Mut.mslice
+              Elem.R
+              (Syntax.tyRef
+              (Syntax.named 8)
+              Syntax.mut
+              Elem.ty)
+              8,
+        ) (List._∷_ (11, Rows.sc-here (Row.sInt Syntax.w64)) (List._∷_ (
+          12,
+          Rows.sc-here (Row.sInt Syntax.w64),
+        ) (List._∷_ (13, Rows.sc-here (Row.sInt Syntax.w64)) (List._∷_ (
+          14,
+          Rows.any-gone
+              (Syntax.tyStruct
+              (List._∷_
+              114
+              (List._∷_
+              101
+              (List._∷_
+              99
+              (List._∷_
+              111
+              (List._∷_
+              114
+              (List._∷_
+              100
+              (List._∷_
+              115
+              (List._∷_
+              58
+              (List._∷_
+              58
+              (List._∷_
+              76
+              (List._∷_
+              105
+              (List._∷_
+              110
+              (List._∷_ 101 (List._∷_ 82 (List._∷_ 101 (List._∷_ 99 List.[]))))))))))))))))
+              (Syntax.tcons
+              (Syntax.tyInt Syntax.w64)
+              (Syntax.tcons
+              (Syntax.tyInt Syntax.w64)
+              (Syntax.tcons
+              (Syntax.tyStruct
+              (List._∷_
+              112
+              (List._∷_
+              108
+              (List._∷_
+              97
+              (List._∷_
+              99
+              (List._∷_
+              101
+              (List._∷_
+              58
+              (List._∷_
+              58
+              (List._∷_
+              82
+              (List._∷_
+              101
+              (List._∷_ 103 (List._∷_ 105 (List._∷_ 111 (List._∷_ 110 List.[])))))))))))))
+              (Syntax.tcons (Syntax.tyInt Syntax.w64) Syntax.tnil))
+              (Syntax.tcons (Syntax.tyInt Syntax.w64) Syntax.tnil))))),
+        ) (List._∷_ (15, Rows.any-gone Syntax.tyBool) List.[])))))))))))))))
 
         abbrev g40 : List.List Row.Entry
         g40 = List._∷_ (0, Rows.any-gone (Syntax.tyInt Syntax.w64)) (List._∷_ (
@@ -7271,405 +6987,6 @@ module _ (claims· : Claims) where
               3,
         ) (List._∷_ (
           6,
-          Relend.mslice-owed
-              (Referent.rtF (Referent.fInt Syntax.w64))
-              (Syntax.tyRef (Syntax.named 4) Syntax.mut (Syntax.tyInt Syntax.w64))
-              4
-              12
-              (Row.lease (κs .1 .1 .1 .1 .0) (qs .1 .1 .1 .1 .0)),
-        ) (List._∷_ (
-          7,
-          Relend.mslice-owed
-              (Referent.rtF (Referent.fInt Syntax.w8))
-              (Syntax.tyRef (Syntax.named 5) Syntax.mut (Syntax.tyInt Syntax.w8))
-              5
-              13
-              (Row.lease (κs .1 .1 .1 .1 .1 .0) (qs .1 .1 .1 .1 .1 .0)),
-        ) (List._∷_ (
-          8,
-          Relend.mslice-owed
-              (Referent.rtF (Referent.fInt Syntax.w8))
-              (Syntax.tyRef (Syntax.named 6) Syntax.mut (Syntax.tyInt Syntax.w8))
-              6
-              14
-              (Row.lease (κs .1 .1 .1 .1 .1 .1 .0) (qs .1 .1 .1 .1 .1 .1 .0)),
-        ) (List._∷_ (
-          9,
-          Relend.mslice-owed
-              (Referent.rtF (Referent.fInt Syntax.w8))
-              (Syntax.tyRef (Syntax.named 7) Syntax.mut (Syntax.tyInt Syntax.w8))
-              7
-              15
-              (Row.lease (κs .1 .1 .1 .1 .1 .1 .1 .0) (qs .1 .1 .1 .1 .1 .1 .1 .0)),
-        ) (List._∷_ (
-          10,
-          Relend.mslice-owed
-              (Referent.rtF (Referent.fInt Syntax.w8))
-              (Syntax.tyRef (Syntax.named 8) Syntax.mut (Syntax.tyInt Syntax.w8))
-              8
-              16
-              (Row.lease (κs .1 .1 .1 .1 .1 .1 .1 .1 .0) (qs .1 .1 .1 .1 .1 .1 .1 .1 .0)),
-        ) (List._∷_ (
-          11,
-          Mut.mslice
-              Elem.R
-              (Syntax.tyRef
-              (Syntax.named 9)
-              Syntax.mut
-              Elem.ty)
-              9,
-        ) (List._∷_ (12, Rows.sc-here (Row.sInt Syntax.w64)) (List._∷_ (
-          13,
-          Rows.sc-here (Row.sInt Syntax.w64),
-        ) (List._∷_ (14, Rows.sc-here (Row.sInt Syntax.w64)) (List._∷_ (
-          15,
-          Rows.any-gone
-              (Syntax.tyStruct
-              (List._∷_
-              114
-              (List._∷_
-              101
-              (List._∷_
-              99
-              (List._∷_
-              111
-              (List._∷_
-              114
-              (List._∷_
-              100
-              (List._∷_
-              115
-              (List._∷_
-              58
-              (List._∷_
-              58
-              (List._∷_
-              76
-              (List._∷_
-              105
-              (List._∷_
-              110
-              (List._∷_ 101 (List._∷_ 82 (List._∷_ 101 (List._∷_ 99 List.[]))))))))))))))))
-              (Syntax.tcons
-              (Syntax.tyInt Syntax.w64)
-              (Syntax.tcons
-              (Syntax.tyInt Syntax.w64)
-              (Syntax.tcons
-              (Syntax.tyStruct
-              (List._∷_
-              112
-              (List._∷_
-              108
-              (List._∷_
-              97
-              (List._∷_
-              99
-              (List._∷_
-              101
-              (List._∷_
-              58
-              (List._∷_
-              58
-              (List._∷_
-              82
-              (List._∷_
-              101
-              (List._∷_ 103 (List._∷_ 105 (List._∷_ 111 (List._∷_ 110 List.[])))))))))))))
-              (Syntax.tcons (Syntax.tyInt Syntax.w64) Syntax.tnil))
-              (Syntax.tcons (Syntax.tyInt Syntax.w64) Syntax.tnil))))),
-        ) List.[])))))))))))))))
-
-        abbrev g41 : List.List Row.Entry
-        g41 = List._∷_ (0, Rows.any-gone (Syntax.tyInt Syntax.w64)) (List._∷_ (
-          1,
-          Rows.sslice
-              (Referent.rtF (Referent.fInt Syntax.w8))
-              (Syntax.tyRef (Syntax.named 0) Syntax.imm (Syntax.tyInt Syntax.w8))
-              0,
-        ) (List._∷_ (
-          2,
-          Rows.sslice
-              (Referent.rtF (Referent.fInt Syntax.w64))
-              (Syntax.tyRef (Syntax.named 1) Syntax.imm (Syntax.tyInt Syntax.w64))
-              1,
-        ) (List._∷_ (3, Rows.sc-here (Row.sInt Syntax.w64)) (List._∷_ (
-          4,
-          Rows.sslice
-              (Referent.rtF (Referent.fInt Syntax.w64))
-              (Syntax.tyRef (Syntax.named 2) Syntax.imm (Syntax.tyInt Syntax.w64))
-              2,
-        ) (List._∷_ (
-          5,
-          Rows.sslice
-              (Referent.rtF (Referent.fInt Syntax.w8))
-              (Syntax.tyRef (Syntax.named 3) Syntax.imm (Syntax.tyInt Syntax.w8))
-              3,
-        ) (List._∷_ (
-          6,
-          Mut.mslice
-              (Referent.rtF (Referent.fInt Syntax.w64))
-              (Syntax.tyRef (Syntax.named 4) Syntax.mut (Syntax.tyInt Syntax.w64))
-              4,
-        ) (List._∷_ (
-          7,
-          Relend.mslice-owed
-              (Referent.rtF (Referent.fInt Syntax.w8))
-              (Syntax.tyRef (Syntax.named 5) Syntax.mut (Syntax.tyInt Syntax.w8))
-              5
-              13
-              (Row.lease (κs .1 .1 .1 .1 .1 .0) (qs .1 .1 .1 .1 .1 .0)),
-        ) (List._∷_ (
-          8,
-          Relend.mslice-owed
-              (Referent.rtF (Referent.fInt Syntax.w8))
-              (Syntax.tyRef (Syntax.named 6) Syntax.mut (Syntax.tyInt Syntax.w8))
-              6
-              14
-              (Row.lease (κs .1 .1 .1 .1 .1 .1 .0) (qs .1 .1 .1 .1 .1 .1 .0)),
-        ) (List._∷_ (
-          9,
-          Relend.mslice-owed
-              (Referent.rtF (Referent.fInt Syntax.w8))
-              (Syntax.tyRef (Syntax.named 7) Syntax.mut (Syntax.tyInt Syntax.w8))
-              7
-              15
-              (Row.lease (κs .1 .1 .1 .1 .1 .1 .1 .0) (qs .1 .1 .1 .1 .1 .1 .1 .0)),
-        ) (List._∷_ (
-          10,
-          Relend.mslice-owed
-              (Referent.rtF (Referent.fInt Syntax.w8))
-              (Syntax.tyRef (Syntax.named 8) Syntax.mut (Syntax.tyInt Syntax.w8))
-              8
-              16
-              (Row.lease (κs .1 .1 .1 .1 .1 .1 .1 .1 .0) (qs .1 .1 .1 .1 .1 .1 .1 .1 .0)),
-        ) (List._∷_ (
-          11,
-          Mut.mslice
-              Elem.R
-              (Syntax.tyRef
-              (Syntax.named 9)
-              Syntax.mut
-              Elem.ty)
-              9,
-        ) (List._∷_ (12, Rows.sc-here (Row.sInt Syntax.w64)) (List._∷_ (
-          13,
-          Rows.sc-here (Row.sInt Syntax.w64),
-        ) (List._∷_ (14, Rows.sc-here (Row.sInt Syntax.w64)) (List._∷_ (
-          15,
-          Rows.any-gone
-              (Syntax.tyStruct
-              (List._∷_
-              114
-              (List._∷_
-              101
-              (List._∷_
-              99
-              (List._∷_
-              111
-              (List._∷_
-              114
-              (List._∷_
-              100
-              (List._∷_
-              115
-              (List._∷_
-              58
-              (List._∷_
-              58
-              (List._∷_
-              76
-              (List._∷_
-              105
-              (List._∷_
-              110
-              (List._∷_ 101 (List._∷_ 82 (List._∷_ 101 (List._∷_ 99 List.[]))))))))))))))))
-              (Syntax.tcons
-              (Syntax.tyInt Syntax.w64)
-              (Syntax.tcons
-              (Syntax.tyInt Syntax.w64)
-              (Syntax.tcons
-              (Syntax.tyStruct
-              (List._∷_
-              112
-              (List._∷_
-              108
-              (List._∷_
-              97
-              (List._∷_
-              99
-              (List._∷_
-              101
-              (List._∷_
-              58
-              (List._∷_
-              58
-              (List._∷_
-              82
-              (List._∷_
-              101
-              (List._∷_ 103 (List._∷_ 105 (List._∷_ 111 (List._∷_ 110 List.[])))))))))))))
-              (Syntax.tcons (Syntax.tyInt Syntax.w64) Syntax.tnil))
-              (Syntax.tcons (Syntax.tyInt Syntax.w64) Syntax.tnil))))),
-        ) List.[])))))))))))))))
-
-        abbrev g43 : List.List Row.Entry
-        g43 = List._∷_ (0, Rows.any-gone (Syntax.tyInt Syntax.w64)) (List._∷_ (
-          1,
-          Rows.sslice
-              (Referent.rtF (Referent.fInt Syntax.w8))
-              (Syntax.tyRef (Syntax.named 0) Syntax.imm (Syntax.tyInt Syntax.w8))
-              0,
-        ) (List._∷_ (
-          2,
-          Rows.sslice
-              (Referent.rtF (Referent.fInt Syntax.w64))
-              (Syntax.tyRef (Syntax.named 1) Syntax.imm (Syntax.tyInt Syntax.w64))
-              1,
-        ) (List._∷_ (3, Rows.sc-here (Row.sInt Syntax.w64)) (List._∷_ (
-          4,
-          Rows.sslice
-              (Referent.rtF (Referent.fInt Syntax.w64))
-              (Syntax.tyRef (Syntax.named 2) Syntax.imm (Syntax.tyInt Syntax.w64))
-              2,
-        ) (List._∷_ (
-          5,
-          Rows.sslice
-              (Referent.rtF (Referent.fInt Syntax.w8))
-              (Syntax.tyRef (Syntax.named 3) Syntax.imm (Syntax.tyInt Syntax.w8))
-              3,
-        ) (List._∷_ (
-          6,
-          Mut.mslice
-              (Referent.rtF (Referent.fInt Syntax.w64))
-              (Syntax.tyRef (Syntax.named 4) Syntax.mut (Syntax.tyInt Syntax.w64))
-              4,
-        ) (List._∷_ (
-          7,
-          Mut.mslice
-              (Referent.rtF (Referent.fInt Syntax.w8))
-              (Syntax.tyRef (Syntax.named 5) Syntax.mut (Syntax.tyInt Syntax.w8))
-              5,
-        ) (List._∷_ (
-          8,
-          Relend.mslice-owed
-              (Referent.rtF (Referent.fInt Syntax.w8))
-              (Syntax.tyRef (Syntax.named 6) Syntax.mut (Syntax.tyInt Syntax.w8))
-              6
-              14
-              (Row.lease (κs .1 .1 .1 .1 .1 .1 .0) (qs .1 .1 .1 .1 .1 .1 .0)),
-        ) (List._∷_ (
-          9,
-          Relend.mslice-owed
-              (Referent.rtF (Referent.fInt Syntax.w8))
-              (Syntax.tyRef (Syntax.named 7) Syntax.mut (Syntax.tyInt Syntax.w8))
-              7
-              15
-              (Row.lease (κs .1 .1 .1 .1 .1 .1 .1 .0) (qs .1 .1 .1 .1 .1 .1 .1 .0)),
-        ) (List._∷_ (
-          10,
-          Relend.mslice-owed
-              (Referent.rtF (Referent.fInt Syntax.w8))
-              (Syntax.tyRef (Syntax.named 8) Syntax.mut (Syntax.tyInt Syntax.w8))
-              8
-              16
-              (Row.lease (κs .1 .1 .1 .1 .1 .1 .1 .1 .0) (qs .1 .1 .1 .1 .1 .1 .1 .1 .0)),
-        ) (List._∷_ (
-          11,
-          Mut.mslice
-              Elem.R
-              (Syntax.tyRef
-              (Syntax.named 9)
-              Syntax.mut
-              Elem.ty)
-              9,
-        ) (List._∷_ (12, Rows.sc-here (Row.sInt Syntax.w64)) (List._∷_ (
-          13,
-          Rows.sc-here (Row.sInt Syntax.w64),
-        ) (List._∷_ (14, Rows.sc-here (Row.sInt Syntax.w64)) (List._∷_ (
-          15,
-          Rows.any-gone
-              (Syntax.tyStruct
-              (List._∷_
-              114
-              (List._∷_
-              101
-              (List._∷_
-              99
-              (List._∷_
-              111
-              (List._∷_
-              114
-              (List._∷_
-              100
-              (List._∷_
-              115
-              (List._∷_
-              58
-              (List._∷_
-              58
-              (List._∷_
-              76
-              (List._∷_
-              105
-              (List._∷_
-              110
-              (List._∷_ 101 (List._∷_ 82 (List._∷_ 101 (List._∷_ 99 List.[]))))))))))))))))
-              (Syntax.tcons
-              (Syntax.tyInt Syntax.w64)
-              (Syntax.tcons
-              (Syntax.tyInt Syntax.w64)
-              (Syntax.tcons
-              (Syntax.tyStruct
-              (List._∷_
-              112
-              (List._∷_
-              108
-              (List._∷_
-              97
-              (List._∷_
-              99
-              (List._∷_
-              101
-              (List._∷_
-              58
-              (List._∷_
-              58
-              (List._∷_
-              82
-              (List._∷_
-              101
-              (List._∷_ 103 (List._∷_ 105 (List._∷_ 111 (List._∷_ 110 List.[])))))))))))))
-              (Syntax.tcons (Syntax.tyInt Syntax.w64) Syntax.tnil))
-              (Syntax.tcons (Syntax.tyInt Syntax.w64) Syntax.tnil))))),
-        ) List.[])))))))))))))))
-
-        abbrev g45 : List.List Row.Entry
-        g45 = List._∷_ (0, Rows.any-gone (Syntax.tyInt Syntax.w64)) (List._∷_ (
-          1,
-          Rows.sslice
-              (Referent.rtF (Referent.fInt Syntax.w8))
-              (Syntax.tyRef (Syntax.named 0) Syntax.imm (Syntax.tyInt Syntax.w8))
-              0,
-        ) (List._∷_ (
-          2,
-          Rows.sslice
-              (Referent.rtF (Referent.fInt Syntax.w64))
-              (Syntax.tyRef (Syntax.named 1) Syntax.imm (Syntax.tyInt Syntax.w64))
-              1,
-        ) (List._∷_ (3, Rows.sc-here (Row.sInt Syntax.w64)) (List._∷_ (
-          4,
-          Rows.sslice
-              (Referent.rtF (Referent.fInt Syntax.w64))
-              (Syntax.tyRef (Syntax.named 2) Syntax.imm (Syntax.tyInt Syntax.w64))
-              2,
-        ) (List._∷_ (
-          5,
-          Rows.sslice
-              (Referent.rtF (Referent.fInt Syntax.w8))
-              (Syntax.tyRef (Syntax.named 3) Syntax.imm (Syntax.tyInt Syntax.w8))
-              3,
-        ) (List._∷_ (
-          6,
           Mut.mslice
               (Referent.rtF (Referent.fInt Syntax.w64))
               (Syntax.tyRef (Syntax.named 4) Syntax.mut (Syntax.tyInt Syntax.w64))
@@ -7692,30 +7009,22 @@ module _ (claims· : Claims) where
               (Referent.rtF (Referent.fInt Syntax.w8))
               (Syntax.tyRef (Syntax.named 7) Syntax.mut (Syntax.tyInt Syntax.w8))
               7
-              15
+              14
               (Row.lease (κs .1 .1 .1 .1 .1 .1 .1 .0) (qs .1 .1 .1 .1 .1 .1 .1 .0)),
         ) (List._∷_ (
           10,
-          Relend.mslice-owed
-              (Referent.rtF (Referent.fInt Syntax.w8))
-              (Syntax.tyRef (Syntax.named 8) Syntax.mut (Syntax.tyInt Syntax.w8))
-              8
-              16
-              (Row.lease (κs .1 .1 .1 .1 .1 .1 .1 .1 .0) (qs .1 .1 .1 .1 .1 .1 .1 .1 .0)),
-        ) (List._∷_ (
-          11,
           Mut.mslice
               Elem.R
               (Syntax.tyRef
-              (Syntax.named 9)
+              (Syntax.named 8)
               Syntax.mut
               Elem.ty)
-              9,
-        ) (List._∷_ (12, Rows.sc-here (Row.sInt Syntax.w64)) (List._∷_ (
-          13,
+              8,
+        ) (List._∷_ (11, Rows.sc-here (Row.sInt Syntax.w64)) (List._∷_ (
+          12,
           Rows.sc-here (Row.sInt Syntax.w64),
-        ) (List._∷_ (14, Rows.sc-here (Row.sInt Syntax.w64)) (List._∷_ (
-          15,
+        ) (List._∷_ (13, Rows.sc-here (Row.sInt Syntax.w64)) (List._∷_ (
+          14,
           Rows.any-gone
               (Syntax.tyStruct
               (List._∷_
@@ -7770,138 +7079,11 @@ module _ (claims· : Claims) where
               (List._∷_ 103 (List._∷_ 105 (List._∷_ 111 (List._∷_ 110 List.[])))))))))))))
               (Syntax.tcons (Syntax.tyInt Syntax.w64) Syntax.tnil))
               (Syntax.tcons (Syntax.tyInt Syntax.w64) Syntax.tnil))))),
-        ) List.[])))))))))))))))
-
-        abbrev g47 : List.List Row.Entry
-        g47 = List._∷_ (0, Rows.any-gone (Syntax.tyInt Syntax.w64)) (List._∷_ (
-          1,
-          Rows.sslice
-              (Referent.rtF (Referent.fInt Syntax.w8))
-              (Syntax.tyRef (Syntax.named 0) Syntax.imm (Syntax.tyInt Syntax.w8))
-              0,
-        ) (List._∷_ (
-          2,
-          Rows.sslice
-              (Referent.rtF (Referent.fInt Syntax.w64))
-              (Syntax.tyRef (Syntax.named 1) Syntax.imm (Syntax.tyInt Syntax.w64))
-              1,
-        ) (List._∷_ (3, Rows.sc-here (Row.sInt Syntax.w64)) (List._∷_ (
-          4,
-          Rows.sslice
-              (Referent.rtF (Referent.fInt Syntax.w64))
-              (Syntax.tyRef (Syntax.named 2) Syntax.imm (Syntax.tyInt Syntax.w64))
-              2,
-        ) (List._∷_ (
-          5,
-          Rows.sslice
-              (Referent.rtF (Referent.fInt Syntax.w8))
-              (Syntax.tyRef (Syntax.named 3) Syntax.imm (Syntax.tyInt Syntax.w8))
-              3,
-        ) (List._∷_ (
-          6,
-          Mut.mslice
-              (Referent.rtF (Referent.fInt Syntax.w64))
-              (Syntax.tyRef (Syntax.named 4) Syntax.mut (Syntax.tyInt Syntax.w64))
-              4,
-        ) (List._∷_ (
-          7,
-          Mut.mslice
-              (Referent.rtF (Referent.fInt Syntax.w8))
-              (Syntax.tyRef (Syntax.named 5) Syntax.mut (Syntax.tyInt Syntax.w8))
-              5,
-        ) (List._∷_ (
-          8,
-          Mut.mslice
-              (Referent.rtF (Referent.fInt Syntax.w8))
-              (Syntax.tyRef (Syntax.named 6) Syntax.mut (Syntax.tyInt Syntax.w8))
-              6,
-        ) (List._∷_ (
-          9,
-          Mut.mslice
-              (Referent.rtF (Referent.fInt Syntax.w8))
-              (Syntax.tyRef (Syntax.named 7) Syntax.mut (Syntax.tyInt Syntax.w8))
-              7,
-        ) (List._∷_ (
-          10,
-          Relend.mslice-owed
-              (Referent.rtF (Referent.fInt Syntax.w8))
-              (Syntax.tyRef (Syntax.named 8) Syntax.mut (Syntax.tyInt Syntax.w8))
-              8
-              16
-              (Row.lease (κs .1 .1 .1 .1 .1 .1 .1 .1 .0) (qs .1 .1 .1 .1 .1 .1 .1 .1 .0)),
-        ) (List._∷_ (
-          11,
-          Mut.mslice
-              Elem.R
-              (Syntax.tyRef
-              (Syntax.named 9)
-              Syntax.mut
-              Elem.ty)
-              9,
-        ) (List._∷_ (12, Rows.sc-here (Row.sInt Syntax.w64)) (List._∷_ (
-          13,
-          Rows.sc-here (Row.sInt Syntax.w64),
-        ) (List._∷_ (14, Rows.sc-here (Row.sInt Syntax.w64)) (List._∷_ (
-          15,
-          Rows.any-gone
-              (Syntax.tyStruct
-              (List._∷_
-              114
-              (List._∷_
-              101
-              (List._∷_
-              99
-              (List._∷_
-              111
-              (List._∷_
-              114
-              (List._∷_
-              100
-              (List._∷_
-              115
-              (List._∷_
-              58
-              (List._∷_
-              58
-              (List._∷_
-              76
-              (List._∷_
-              105
-              (List._∷_
-              110
-              (List._∷_ 101 (List._∷_ 82 (List._∷_ 101 (List._∷_ 99 List.[]))))))))))))))))
-              (Syntax.tcons
-              (Syntax.tyInt Syntax.w64)
-              (Syntax.tcons
-              (Syntax.tyInt Syntax.w64)
-              (Syntax.tcons
-              (Syntax.tyStruct
-              (List._∷_
-              112
-              (List._∷_
-              108
-              (List._∷_
-              97
-              (List._∷_
-              99
-              (List._∷_
-              101
-              (List._∷_
-              58
-              (List._∷_
-              58
-              (List._∷_
-              82
-              (List._∷_
-              101
-              (List._∷_ 103 (List._∷_ 105 (List._∷_ 111 (List._∷_ 110 List.[])))))))))))))
-              (Syntax.tcons (Syntax.tyInt Syntax.w64) Syntax.tnil))
-              (Syntax.tcons (Syntax.tyInt Syntax.w64) Syntax.tnil))))),
-        ) List.[])))))))))))))))
+        ) (List._∷_ (15, Rows.any-gone Syntax.tyBool) List.[])))))))))))))))
 
         abbrev G0 : Row.Cx
         G0 = record {
-          locals = List._++_ t0 (List._++_ t1 t2);
+          locals = List._++_ t0 t1;
           slots = List._∷_
               (Row.lease (κs .0) (qs .0))
               (List._∷_
@@ -7921,21 +7103,17 @@ module _ (claims· : Claims) where
               (List._∷_
               (Row.lease (κs .1 .1 .1 .1 .1 .1 .1 .1 .0) (qs .1 .1 .1 .1 .1 .1 .1 .1 .0))
               (List._∷_
-              (Row.lease (κs .1 .1 .1 .1 .1 .1 .1 .1 .1 .0) (qs .1 .1 .1 .1 .1 .1 .1 .1 .1 .0))
-              (List._∷_
               Row.off
               (List._∷_
               Row.off
               (List._∷_
               Row.off
-              (List._∷_
-              Row.off
-              (List._∷_ Row.off (List._∷_ Row.off (List._∷_ Row.off List.[]))))))))))))))));
+              (List._∷_ Row.off (List._∷_ Row.off (List._∷_ Row.off List.[]))))))))))))));
         }
 
         abbrev G1 : Row.Cx
         G1 = record {
-          locals = List._++_ t3 (List._++_ t1 t2);
+          locals = List._++_ t2 t1;
           slots = List._∷_
               (Row.lease (κs .0) (qs .0))
               (List._∷_
@@ -7955,21 +7133,17 @@ module _ (claims· : Claims) where
               (List._∷_
               (Row.lease (κs .1 .1 .1 .1 .1 .1 .1 .1 .0) (qs .1 .1 .1 .1 .1 .1 .1 .1 .0))
               (List._∷_
-              (Row.lease (κs .1 .1 .1 .1 .1 .1 .1 .1 .1 .0) (qs .1 .1 .1 .1 .1 .1 .1 .1 .1 .0))
-              (List._∷_
               Row.off
               (List._∷_
               Row.off
               (List._∷_
               Row.off
-              (List._∷_
-              Row.off
-              (List._∷_ Row.off (List._∷_ Row.off (List._∷_ Row.off List.[]))))))))))))))));
+              (List._∷_ Row.off (List._∷_ Row.off (List._∷_ Row.off List.[]))))))))))))));
         }
 
         abbrev G2 : Row.Cx
         G2 = record {
-          locals = List._++_ t0 (List._++_ t1 t2);
+          locals = List._++_ t0 t1;
           slots = List._∷_
               (Row.lease (κs .0) (qs .0))
               (List._∷_
@@ -7989,21 +7163,17 @@ module _ (claims· : Claims) where
               (List._∷_
               (Row.lease (κs .1 .1 .1 .1 .1 .1 .1 .1 .0) (qs .1 .1 .1 .1 .1 .1 .1 .1 .0))
               (List._∷_
-              (Row.lease (κs .1 .1 .1 .1 .1 .1 .1 .1 .1 .0) (qs .1 .1 .1 .1 .1 .1 .1 .1 .1 .0))
-              (List._∷_
               Row.off
               (List._∷_
               Row.off
               (List._∷_
               Row.off
-              (List._∷_
-              Row.off
-              (List._∷_ Row.off (List._∷_ Row.off (List._∷_ Row.off List.[]))))))))))))))));
+              (List._∷_ Row.off (List._∷_ Row.off (List._∷_ Row.off List.[]))))))))))))));
         }
 
         abbrev G3 : Row.Cx
         G3 = record {
-          locals = List._++_ t0 (List._++_ t1 t2);
+          locals = List._++_ t0 t1;
           slots = List._∷_
               (Row.lease (κs .0) (qs .0))
               (List._∷_
@@ -8023,21 +7193,17 @@ module _ (claims· : Claims) where
               (List._∷_
               (Row.lease (κs .1 .1 .1 .1 .1 .1 .1 .1 .0) (qs .1 .1 .1 .1 .1 .1 .1 .1 .0))
               (List._∷_
-              (Row.lease (κs .1 .1 .1 .1 .1 .1 .1 .1 .1 .0) (qs .1 .1 .1 .1 .1 .1 .1 .1 .1 .0))
-              (List._∷_
               Row.off
               (List._∷_
               Row.off
               (List._∷_
               Row.off
-              (List._∷_
-              Row.off
-              (List._∷_ Row.off (List._∷_ Row.off (List._∷_ Row.off List.[]))))))))))))))));
+              (List._∷_ Row.off (List._∷_ Row.off (List._∷_ Row.off List.[]))))))))))))));
         }
 
         abbrev G4 : Row.Cx
         G4 = record {
-          locals = List._++_ t0 (List._++_ t1 t2);
+          locals = List._++_ t0 t1;
           slots = List._∷_
               (Row.lease (κs .0) (qs .0))
               (List._∷_
@@ -8057,21 +7223,17 @@ module _ (claims· : Claims) where
               (List._∷_
               (Row.lease (κs .1 .1 .1 .1 .1 .1 .1 .1 .0) (qs .1 .1 .1 .1 .1 .1 .1 .1 .0))
               (List._∷_
-              (Row.lease (κs .1 .1 .1 .1 .1 .1 .1 .1 .1 .0) (qs .1 .1 .1 .1 .1 .1 .1 .1 .1 .0))
-              (List._∷_
               Row.off
               (List._∷_
               Row.off
               (List._∷_
               Row.off
-              (List._∷_
-              Row.off
-              (List._∷_ Row.off (List._∷_ Row.off (List._∷_ Row.off List.[]))))))))))))))));
+              (List._∷_ Row.off (List._∷_ Row.off (List._∷_ Row.off List.[]))))))))))))));
         }
 
         abbrev G5 : Row.Cx
         G5 = record {
-          locals = List._++_ t0 (List._++_ t1 t2);
+          locals = List._++_ t0 t1;
           slots = List._∷_
               (Row.lease (κs .0) (qs .0))
               (List._∷_
@@ -8091,21 +7253,17 @@ module _ (claims· : Claims) where
               (List._∷_
               (Row.lease (κs .1 .1 .1 .1 .1 .1 .1 .1 .0) (qs .1 .1 .1 .1 .1 .1 .1 .1 .0))
               (List._∷_
-              (Row.lease (κs .1 .1 .1 .1 .1 .1 .1 .1 .1 .0) (qs .1 .1 .1 .1 .1 .1 .1 .1 .1 .0))
-              (List._∷_
               Row.off
               (List._∷_
               Row.off
               (List._∷_
               Row.off
-              (List._∷_
-              Row.off
-              (List._∷_ Row.off (List._∷_ Row.off (List._∷_ Row.off List.[]))))))))))))))));
+              (List._∷_ Row.off (List._∷_ Row.off (List._∷_ Row.off List.[]))))))))))))));
         }
 
         abbrev G6 : Row.Cx
         G6 = record {
-          locals = List._++_ t0 (List._++_ t1 t2);
+          locals = List._++_ t0 t1;
           slots = List._∷_
               (Row.lease (κs .0) (qs .0))
               (List._∷_
@@ -8125,21 +7283,17 @@ module _ (claims· : Claims) where
               (List._∷_
               (Row.lease (κs .1 .1 .1 .1 .1 .1 .1 .1 .0) (qs .1 .1 .1 .1 .1 .1 .1 .1 .0))
               (List._∷_
-              (Row.lease (κs .1 .1 .1 .1 .1 .1 .1 .1 .1 .0) (qs .1 .1 .1 .1 .1 .1 .1 .1 .1 .0))
-              (List._∷_
               Row.off
               (List._∷_
               Row.off
               (List._∷_
               Row.off
-              (List._∷_
-              Row.off
-              (List._∷_ Row.off (List._∷_ Row.off (List._∷_ Row.off List.[]))))))))))))))));
+              (List._∷_ Row.off (List._∷_ Row.off (List._∷_ Row.off List.[]))))))))))))));
         }
 
         abbrev G7 : Row.Cx
         G7 = record {
-          locals = List._++_ t0 (List._++_ t1 t2);
+          locals = List._++_ t0 t1;
           slots = List._∷_
               (Row.lease (κs .0) (qs .0))
               (List._∷_
@@ -8159,21 +7313,17 @@ module _ (claims· : Claims) where
               (List._∷_
               (Row.lease (κs .1 .1 .1 .1 .1 .1 .1 .1 .0) (qs .1 .1 .1 .1 .1 .1 .1 .1 .0))
               (List._∷_
-              (Row.lease (κs .1 .1 .1 .1 .1 .1 .1 .1 .1 .0) (qs .1 .1 .1 .1 .1 .1 .1 .1 .1 .0))
-              (List._∷_
               Row.off
               (List._∷_
               Row.off
               (List._∷_
               Row.off
-              (List._∷_
-              Row.off
-              (List._∷_ Row.off (List._∷_ Row.off (List._∷_ Row.off List.[]))))))))))))))));
+              (List._∷_ Row.off (List._∷_ Row.off (List._∷_ Row.off List.[]))))))))))))));
         }
 
         abbrev G8 : Row.Cx
         G8 = record {
-          locals = List._++_ t0 (List._++_ t1 t2);
+          locals = List._++_ t0 t1;
           slots = List._∷_
               (Row.lease (κs .0) (qs .0))
               (List._∷_
@@ -8193,21 +7343,17 @@ module _ (claims· : Claims) where
               (List._∷_
               (Row.lease (κs .1 .1 .1 .1 .1 .1 .1 .1 .0) (qs .1 .1 .1 .1 .1 .1 .1 .1 .0))
               (List._∷_
-              (Row.lease (κs .1 .1 .1 .1 .1 .1 .1 .1 .1 .0) (qs .1 .1 .1 .1 .1 .1 .1 .1 .1 .0))
-              (List._∷_
               Row.off
               (List._∷_
               Row.off
               (List._∷_
               Row.off
-              (List._∷_
-              Row.off
-              (List._∷_ Row.off (List._∷_ Row.off (List._∷_ Row.off List.[]))))))))))))))));
+              (List._∷_ Row.off (List._∷_ Row.off (List._∷_ Row.off List.[]))))))))))))));
         }
 
         abbrev G9 : Row.Cx
         G9 = record {
-          locals = List._++_ t0 (List._++_ t1 t2);
+          locals = List._++_ t0 t1;
           slots = List._∷_
               (Row.lease (κs .0) (qs .0))
               (List._∷_
@@ -8227,21 +7373,17 @@ module _ (claims· : Claims) where
               (List._∷_
               (Row.lease (κs .1 .1 .1 .1 .1 .1 .1 .1 .0) (qs .1 .1 .1 .1 .1 .1 .1 .1 .0))
               (List._∷_
-              (Row.lease (κs .1 .1 .1 .1 .1 .1 .1 .1 .1 .0) (qs .1 .1 .1 .1 .1 .1 .1 .1 .1 .0))
-              (List._∷_
               Row.off
               (List._∷_
               Row.off
               (List._∷_
               Row.off
-              (List._∷_
-              Row.off
-              (List._∷_ Row.off (List._∷_ Row.off (List._∷_ Row.off List.[]))))))))))))))));
+              (List._∷_ Row.off (List._∷_ Row.off (List._∷_ Row.off List.[]))))))))))))));
         }
 
         abbrev G10 : Row.Cx
         G10 = record {
-          locals = List._++_ t0 (List._++_ t1 t2);
+          locals = List._++_ t3 t1;
           slots = List._∷_
               (Row.lease (κs .0) (qs .0))
               (List._∷_
@@ -8261,21 +7403,17 @@ module _ (claims· : Claims) where
               (List._∷_
               (Row.lease (κs .1 .1 .1 .1 .1 .1 .1 .1 .0) (qs .1 .1 .1 .1 .1 .1 .1 .1 .0))
               (List._∷_
-              (Row.lease (κs .1 .1 .1 .1 .1 .1 .1 .1 .1 .0) (qs .1 .1 .1 .1 .1 .1 .1 .1 .1 .0))
-              (List._∷_
               Row.off
               (List._∷_
               Row.off
               (List._∷_
               Row.off
-              (List._∷_
-              Row.off
-              (List._∷_ Row.off (List._∷_ Row.off (List._∷_ Row.off List.[]))))))))))))))));
+              (List._∷_ Row.off (List._∷_ Row.off (List._∷_ Row.off List.[]))))))))))))));
         }
 
         abbrev G11 : Row.Cx
         G11 = record {
-          locals = List._++_ t4 (List._++_ t1 t2);
+          locals = List._++_ t4 t1;
           slots = List._∷_
               (Row.lease (κs .0) (qs .0))
               (List._∷_
@@ -8295,21 +7433,17 @@ module _ (claims· : Claims) where
               (List._∷_
               (Row.lease (κs .1 .1 .1 .1 .1 .1 .1 .1 .0) (qs .1 .1 .1 .1 .1 .1 .1 .1 .0))
               (List._∷_
-              (Row.lease (κs .1 .1 .1 .1 .1 .1 .1 .1 .1 .0) (qs .1 .1 .1 .1 .1 .1 .1 .1 .1 .0))
-              (List._∷_
               Row.off
               (List._∷_
               Row.off
               (List._∷_
               Row.off
-              (List._∷_
-              Row.off
-              (List._∷_ Row.off (List._∷_ Row.off (List._∷_ Row.off List.[]))))))))))))))));
+              (List._∷_ Row.off (List._∷_ Row.off (List._∷_ Row.off List.[]))))))))))))));
         }
 
         abbrev G12 : Row.Cx
         G12 = record {
-          locals = List._++_ t5 (List._++_ t1 t2);
+          locals = List._++_ t5 t1;
           slots = List._∷_
               (Row.lease (κs .0) (qs .0))
               (List._∷_
@@ -8329,21 +7463,17 @@ module _ (claims· : Claims) where
               (List._∷_
               (Row.lease (κs .1 .1 .1 .1 .1 .1 .1 .1 .0) (qs .1 .1 .1 .1 .1 .1 .1 .1 .0))
               (List._∷_
-              (Row.lease (κs .1 .1 .1 .1 .1 .1 .1 .1 .1 .0) (qs .1 .1 .1 .1 .1 .1 .1 .1 .1 .0))
-              (List._∷_
               Row.off
               (List._∷_
               Row.off
               (List._∷_
               Row.off
-              (List._∷_
-              Row.off
-              (List._∷_ Row.off (List._∷_ Row.off (List._∷_ Row.off List.[]))))))))))))))));
+              (List._∷_ Row.off (List._∷_ Row.off (List._∷_ Row.off List.[]))))))))))))));
         }
 
         abbrev G13 : Row.Cx
         G13 = record {
-          locals = List._++_ t6 (List._++_ t1 t2);
+          locals = List._++_ t5 t1;
           slots = List._∷_
               (Row.lease (κs .0) (qs .0))
               (List._∷_
@@ -8363,21 +7493,17 @@ module _ (claims· : Claims) where
               (List._∷_
               (Row.lease (κs .1 .1 .1 .1 .1 .1 .1 .1 .0) (qs .1 .1 .1 .1 .1 .1 .1 .1 .0))
               (List._∷_
-              (Row.lease (κs .1 .1 .1 .1 .1 .1 .1 .1 .1 .0) (qs .1 .1 .1 .1 .1 .1 .1 .1 .1 .0))
-              (List._∷_
               Row.off
               (List._∷_
               Row.off
               (List._∷_
               Row.off
-              (List._∷_
-              Row.off
-              (List._∷_ Row.off (List._∷_ Row.off (List._∷_ Row.off List.[]))))))))))))))));
+              (List._∷_ Row.off (List._∷_ Row.off (List._∷_ Row.off List.[]))))))))))))));
         }
 
         abbrev G14 : Row.Cx
         G14 = record {
-          locals = List._++_ t6 (List._++_ t1 t2);
+          locals = List._++_ t6 t1;
           slots = List._∷_
               (Row.lease (κs .0) (qs .0))
               (List._∷_
@@ -8397,21 +7523,17 @@ module _ (claims· : Claims) where
               (List._∷_
               (Row.lease (κs .1 .1 .1 .1 .1 .1 .1 .1 .0) (qs .1 .1 .1 .1 .1 .1 .1 .1 .0))
               (List._∷_
-              (Row.lease (κs .1 .1 .1 .1 .1 .1 .1 .1 .1 .0) (qs .1 .1 .1 .1 .1 .1 .1 .1 .1 .0))
-              (List._∷_
               Row.off
               (List._∷_
               Row.off
               (List._∷_
               Row.off
-              (List._∷_
-              Row.off
-              (List._∷_ Row.off (List._∷_ Row.off (List._∷_ Row.off List.[]))))))))))))))));
+              (List._∷_ Row.off (List._∷_ Row.off (List._∷_ Row.off List.[]))))))))))))));
         }
 
         abbrev G15 : Row.Cx
         G15 = record {
-          locals = List._++_ t6 (List._++_ t7 t2);
+          locals = List._++_ t5 t1;
           slots = List._∷_
               (Row.lease (κs .0) (qs .0))
               (List._∷_
@@ -8431,21 +7553,17 @@ module _ (claims· : Claims) where
               (List._∷_
               (Row.lease (κs .1 .1 .1 .1 .1 .1 .1 .1 .0) (qs .1 .1 .1 .1 .1 .1 .1 .1 .0))
               (List._∷_
-              (Row.lease (κs .1 .1 .1 .1 .1 .1 .1 .1 .1 .0) (qs .1 .1 .1 .1 .1 .1 .1 .1 .1 .0))
-              (List._∷_
               Row.off
               (List._∷_
               Row.off
               (List._∷_
               Row.off
-              (List._∷_
-              Row.off
-              (List._∷_ Row.off (List._∷_ Row.off (List._∷_ Row.off List.[]))))))))))))))));
+              (List._∷_ Row.off (List._∷_ Row.off (List._∷_ Row.off List.[]))))))))))))));
         }
 
         abbrev G16 : Row.Cx
         G16 = record {
-          locals = List._++_ t6 (List._++_ t1 t2);
+          locals = List._++_ t5 t1;
           slots = List._∷_
               (Row.lease (κs .0) (qs .0))
               (List._∷_
@@ -8465,21 +7583,17 @@ module _ (claims· : Claims) where
               (List._∷_
               (Row.lease (κs .1 .1 .1 .1 .1 .1 .1 .1 .0) (qs .1 .1 .1 .1 .1 .1 .1 .1 .0))
               (List._∷_
-              (Row.lease (κs .1 .1 .1 .1 .1 .1 .1 .1 .1 .0) (qs .1 .1 .1 .1 .1 .1 .1 .1 .1 .0))
-              (List._∷_
               Row.off
               (List._∷_
               Row.off
               (List._∷_
               Row.off
-              (List._∷_
-              Row.off
-              (List._∷_ Row.off (List._∷_ Row.off (List._∷_ Row.off List.[]))))))))))))))));
+              (List._∷_ Row.off (List._∷_ Row.off (List._∷_ Row.off List.[]))))))))))))));
         }
 
         abbrev G17 : Row.Cx
         G17 = record {
-          locals = List._++_ t6 (List._++_ t1 t2);
+          locals = List._++_ t5 t1;
           slots = List._∷_
               (Row.lease (κs .0) (qs .0))
               (List._∷_
@@ -8499,21 +7613,17 @@ module _ (claims· : Claims) where
               (List._∷_
               (Row.lease (κs .1 .1 .1 .1 .1 .1 .1 .1 .0) (qs .1 .1 .1 .1 .1 .1 .1 .1 .0))
               (List._∷_
-              (Row.lease (κs .1 .1 .1 .1 .1 .1 .1 .1 .1 .0) (qs .1 .1 .1 .1 .1 .1 .1 .1 .1 .0))
-              (List._∷_
               Row.off
               (List._∷_
               Row.off
               (List._∷_
               Row.off
-              (List._∷_
-              Row.off
-              (List._∷_ Row.off (List._∷_ Row.off (List._∷_ Row.off List.[]))))))))))))))));
+              (List._∷_ Row.off (List._∷_ Row.off (List._∷_ Row.off List.[]))))))))))))));
         }
 
         abbrev G18 : Row.Cx
         G18 = record {
-          locals = List._++_ t6 (List._++_ t1 t2);
+          locals = List._++_ t5 t1;
           slots = List._∷_
               (Row.lease (κs .0) (qs .0))
               (List._∷_
@@ -8533,21 +7643,17 @@ module _ (claims· : Claims) where
               (List._∷_
               (Row.lease (κs .1 .1 .1 .1 .1 .1 .1 .1 .0) (qs .1 .1 .1 .1 .1 .1 .1 .1 .0))
               (List._∷_
-              (Row.lease (κs .1 .1 .1 .1 .1 .1 .1 .1 .1 .0) (qs .1 .1 .1 .1 .1 .1 .1 .1 .1 .0))
+              Row.alive
               (List._∷_
               Row.off
               (List._∷_
               Row.off
-              (List._∷_
-              Row.off
-              (List._∷_
-              Row.off
-              (List._∷_ Row.off (List._∷_ Row.off (List._∷_ Row.off List.[]))))))))))))))));
+              (List._∷_ Row.off (List._∷_ Row.off (List._∷_ Row.off List.[]))))))))))))));
         }
 
         abbrev G19 : Row.Cx
         G19 = record {
-          locals = List._++_ t6 (List._++_ t1 t2);
+          locals = List._++_ g7 t8;
           slots = List._∷_
               (Row.lease (κs .0) (qs .0))
               (List._∷_
@@ -8565,23 +7671,19 @@ module _ (claims· : Claims) where
               (List._∷_
               (Row.lease (κs .1 .1 .1 .1 .1 .1 .1 .0) (qs .1 .1 .1 .1 .1 .1 .1 .0))
               (List._∷_
-              (Row.lease (κs .1 .1 .1 .1 .1 .1 .1 .1 .0) (qs .1 .1 .1 .1 .1 .1 .1 .1 .0))
-              (List._∷_
-              (Row.lease (κs .1 .1 .1 .1 .1 .1 .1 .1 .1 .0) (qs .1 .1 .1 .1 .1 .1 .1 .1 .1 .0))
+              Row.off
               (List._∷_
               Row.alive
               (List._∷_
               Row.off
               (List._∷_
               Row.off
-              (List._∷_
-              Row.off
-              (List._∷_ Row.off (List._∷_ Row.off (List._∷_ Row.off List.[]))))))))))))))));
+              (List._∷_ Row.off (List._∷_ Row.off (List._∷_ Row.off List.[]))))))))))))));
         }
 
         abbrev G20 : Row.Cx
         G20 = record {
-          locals = List._++_ g8 (List._++_ t9 t2);
+          locals = List._++_ g7 t9;
           slots = List._∷_
               (Row.lease (κs .0) (qs .0))
               (List._∷_
@@ -8599,8 +7701,6 @@ module _ (claims· : Claims) where
               (List._∷_
               (Row.lease (κs .1 .1 .1 .1 .1 .1 .1 .0) (qs .1 .1 .1 .1 .1 .1 .1 .0))
               (List._∷_
-              (Row.lease (κs .1 .1 .1 .1 .1 .1 .1 .1 .0) (qs .1 .1 .1 .1 .1 .1 .1 .1 .0))
-              (List._∷_
               Row.off
               (List._∷_
               Row.alive
@@ -8608,14 +7708,12 @@ module _ (claims· : Claims) where
               Row.off
               (List._∷_
               Row.off
-              (List._∷_
-              Row.off
-              (List._∷_ Row.off (List._∷_ Row.off (List._∷_ Row.off List.[]))))))))))))))));
+              (List._∷_ Row.off (List._∷_ Row.off (List._∷_ Row.off List.[]))))))))))))));
         }
 
         abbrev G21 : Row.Cx
         G21 = record {
-          locals = List._++_ g8 (List._++_ t10 t2);
+          locals = List._++_ g7 t10;
           slots = List._∷_
               (Row.lease (κs .0) (qs .0))
               (List._∷_
@@ -8633,8 +7731,6 @@ module _ (claims· : Claims) where
               (List._∷_
               (Row.lease (κs .1 .1 .1 .1 .1 .1 .1 .0) (qs .1 .1 .1 .1 .1 .1 .1 .0))
               (List._∷_
-              (Row.lease (κs .1 .1 .1 .1 .1 .1 .1 .1 .0) (qs .1 .1 .1 .1 .1 .1 .1 .1 .0))
-              (List._∷_
               Row.off
               (List._∷_
               Row.alive
@@ -8642,14 +7738,12 @@ module _ (claims· : Claims) where
               Row.off
               (List._∷_
               Row.off
-              (List._∷_
-              Row.off
-              (List._∷_ Row.off (List._∷_ Row.off (List._∷_ Row.off List.[]))))))))))))))));
+              (List._∷_ Row.off (List._∷_ Row.off (List._∷_ Row.off List.[]))))))))))))));
         }
 
         abbrev G22 : Row.Cx
         G22 = record {
-          locals = List._++_ g8 (List._++_ t11 t2);
+          locals = List._++_ g7 t10;
           slots = List._∷_
               (Row.lease (κs .0) (qs .0))
               (List._∷_
@@ -8667,23 +7761,19 @@ module _ (claims· : Claims) where
               (List._∷_
               (Row.lease (κs .1 .1 .1 .1 .1 .1 .1 .0) (qs .1 .1 .1 .1 .1 .1 .1 .0))
               (List._∷_
-              (Row.lease (κs .1 .1 .1 .1 .1 .1 .1 .1 .0) (qs .1 .1 .1 .1 .1 .1 .1 .1 .0))
-              (List._∷_
               Row.off
               (List._∷_
-              Row.alive
-              (List._∷_
-              Row.off
+              Row.dead
               (List._∷_
               Row.off
               (List._∷_
               Row.off
-              (List._∷_ Row.off (List._∷_ Row.off (List._∷_ Row.off List.[]))))))))))))))));
+              (List._∷_ Row.off (List._∷_ Row.off (List._∷_ Row.off List.[]))))))))))))));
         }
 
         abbrev G23 : Row.Cx
         G23 = record {
-          locals = List._++_ g8 (List._++_ t11 t2);
+          locals = List._++_ t5 t1;
           slots = List._∷_
               (Row.lease (κs .0) (qs .0))
               (List._∷_
@@ -8703,21 +7793,17 @@ module _ (claims· : Claims) where
               (List._∷_
               (Row.lease (κs .1 .1 .1 .1 .1 .1 .1 .1 .0) (qs .1 .1 .1 .1 .1 .1 .1 .1 .0))
               (List._∷_
-              Row.off
-              (List._∷_
               Row.dead
               (List._∷_
               Row.off
               (List._∷_
               Row.off
-              (List._∷_
-              Row.off
-              (List._∷_ Row.off (List._∷_ Row.off (List._∷_ Row.off List.[]))))))))))))))));
+              (List._∷_ Row.off (List._∷_ Row.off (List._∷_ Row.off List.[]))))))))))))));
         }
 
         abbrev G24 : Row.Cx
         G24 = record {
-          locals = List._++_ t6 (List._++_ t1 t2);
+          locals = List._++_ t5 t1;
           slots = List._∷_
               (Row.lease (κs .0) (qs .0))
               (List._∷_
@@ -8737,21 +7823,17 @@ module _ (claims· : Claims) where
               (List._∷_
               (Row.lease (κs .1 .1 .1 .1 .1 .1 .1 .1 .0) (qs .1 .1 .1 .1 .1 .1 .1 .1 .0))
               (List._∷_
-              (Row.lease (κs .1 .1 .1 .1 .1 .1 .1 .1 .1 .0) (qs .1 .1 .1 .1 .1 .1 .1 .1 .1 .0))
-              (List._∷_
-              Row.dead
-              (List._∷_
               Row.off
               (List._∷_
               Row.off
               (List._∷_
               Row.off
-              (List._∷_ Row.off (List._∷_ Row.off (List._∷_ Row.off List.[]))))))))))))))));
+              (List._∷_ Row.off (List._∷_ Row.off (List._∷_ Row.off List.[]))))))))))))));
         }
 
         abbrev G25 : Row.Cx
         G25 = record {
-          locals = List._++_ t6 (List._++_ t1 t2);
+          locals = List._++_ t5 t1;
           slots = List._∷_
               (Row.lease (κs .0) (qs .0))
               (List._∷_
@@ -8771,21 +7853,17 @@ module _ (claims· : Claims) where
               (List._∷_
               (Row.lease (κs .1 .1 .1 .1 .1 .1 .1 .1 .0) (qs .1 .1 .1 .1 .1 .1 .1 .1 .0))
               (List._∷_
-              (Row.lease (κs .1 .1 .1 .1 .1 .1 .1 .1 .1 .0) (qs .1 .1 .1 .1 .1 .1 .1 .1 .1 .0))
-              (List._∷_
               Row.off
               (List._∷_
-              Row.off
+              Row.alive
               (List._∷_
               Row.off
-              (List._∷_
-              Row.off
-              (List._∷_ Row.off (List._∷_ Row.off (List._∷_ Row.off List.[]))))))))))))))));
+              (List._∷_ Row.off (List._∷_ Row.off (List._∷_ Row.off List.[]))))))))))))));
         }
 
         abbrev G26 : Row.Cx
         G26 = record {
-          locals = List._++_ t6 (List._++_ t1 t2);
+          locals = List._++_ g11 t12;
           slots = List._∷_
               (Row.lease (κs .0) (qs .0))
               (List._∷_
@@ -8803,23 +7881,19 @@ module _ (claims· : Claims) where
               (List._∷_
               (Row.lease (κs .1 .1 .1 .1 .1 .1 .1 .0) (qs .1 .1 .1 .1 .1 .1 .1 .0))
               (List._∷_
-              (Row.lease (κs .1 .1 .1 .1 .1 .1 .1 .1 .0) (qs .1 .1 .1 .1 .1 .1 .1 .1 .0))
-              (List._∷_
-              (Row.lease (κs .1 .1 .1 .1 .1 .1 .1 .1 .1 .0) (qs .1 .1 .1 .1 .1 .1 .1 .1 .1 .0))
+              Row.off
               (List._∷_
               Row.off
               (List._∷_
               Row.alive
               (List._∷_
               Row.off
-              (List._∷_
-              Row.off
-              (List._∷_ Row.off (List._∷_ Row.off (List._∷_ Row.off List.[]))))))))))))))));
+              (List._∷_ Row.off (List._∷_ Row.off (List._∷_ Row.off List.[]))))))))))))));
         }
 
         abbrev G27 : Row.Cx
         G27 = record {
-          locals = List._++_ g12 (List._++_ t13 t2);
+          locals = List._++_ g11 t13;
           slots = List._∷_
               (Row.lease (κs .0) (qs .0))
               (List._∷_
@@ -8837,8 +7911,6 @@ module _ (claims· : Claims) where
               (List._∷_
               (Row.lease (κs .1 .1 .1 .1 .1 .1 .1 .0) (qs .1 .1 .1 .1 .1 .1 .1 .0))
               (List._∷_
-              (Row.lease (κs .1 .1 .1 .1 .1 .1 .1 .1 .0) (qs .1 .1 .1 .1 .1 .1 .1 .1 .0))
-              (List._∷_
               Row.off
               (List._∷_
               Row.off
@@ -8846,14 +7918,12 @@ module _ (claims· : Claims) where
               Row.alive
               (List._∷_
               Row.off
-              (List._∷_
-              Row.off
-              (List._∷_ Row.off (List._∷_ Row.off (List._∷_ Row.off List.[]))))))))))))))));
+              (List._∷_ Row.off (List._∷_ Row.off (List._∷_ Row.off List.[]))))))))))))));
         }
 
         abbrev G28 : Row.Cx
         G28 = record {
-          locals = List._++_ g12 (List._++_ t14 t2);
+          locals = List._++_ g11 t14;
           slots = List._∷_
               (Row.lease (κs .0) (qs .0))
               (List._∷_
@@ -8871,8 +7941,6 @@ module _ (claims· : Claims) where
               (List._∷_
               (Row.lease (κs .1 .1 .1 .1 .1 .1 .1 .0) (qs .1 .1 .1 .1 .1 .1 .1 .0))
               (List._∷_
-              (Row.lease (κs .1 .1 .1 .1 .1 .1 .1 .1 .0) (qs .1 .1 .1 .1 .1 .1 .1 .1 .0))
-              (List._∷_
               Row.off
               (List._∷_
               Row.off
@@ -8880,14 +7948,12 @@ module _ (claims· : Claims) where
               Row.alive
               (List._∷_
               Row.off
-              (List._∷_
-              Row.off
-              (List._∷_ Row.off (List._∷_ Row.off (List._∷_ Row.off List.[]))))))))))))))));
+              (List._∷_ Row.off (List._∷_ Row.off (List._∷_ Row.off List.[]))))))))))))));
         }
 
         abbrev G29 : Row.Cx
         G29 = record {
-          locals = List._++_ g12 (List._++_ t15 t2);
+          locals = List._++_ g11 t15;
           slots = List._∷_
               (Row.lease (κs .0) (qs .0))
               (List._∷_
@@ -8905,8 +7971,6 @@ module _ (claims· : Claims) where
               (List._∷_
               (Row.lease (κs .1 .1 .1 .1 .1 .1 .1 .0) (qs .1 .1 .1 .1 .1 .1 .1 .0))
               (List._∷_
-              (Row.lease (κs .1 .1 .1 .1 .1 .1 .1 .1 .0) (qs .1 .1 .1 .1 .1 .1 .1 .1 .0))
-              (List._∷_
               Row.off
               (List._∷_
               Row.off
@@ -8914,14 +7978,12 @@ module _ (claims· : Claims) where
               Row.alive
               (List._∷_
               Row.off
-              (List._∷_
-              Row.off
-              (List._∷_ Row.off (List._∷_ Row.off (List._∷_ Row.off List.[]))))))))))))))));
+              (List._∷_ Row.off (List._∷_ Row.off (List._∷_ Row.off List.[]))))))))))))));
         }
 
         abbrev G30 : Row.Cx
         G30 = record {
-          locals = List._++_ g12 (List._++_ t16 t2);
+          locals = List._++_ g11 t16;
           slots = List._∷_
               (Row.lease (κs .0) (qs .0))
               (List._∷_
@@ -8939,8 +8001,6 @@ module _ (claims· : Claims) where
               (List._∷_
               (Row.lease (κs .1 .1 .1 .1 .1 .1 .1 .0) (qs .1 .1 .1 .1 .1 .1 .1 .0))
               (List._∷_
-              (Row.lease (κs .1 .1 .1 .1 .1 .1 .1 .1 .0) (qs .1 .1 .1 .1 .1 .1 .1 .1 .0))
-              (List._∷_
               Row.off
               (List._∷_
               Row.off
@@ -8948,14 +8008,12 @@ module _ (claims· : Claims) where
               Row.alive
               (List._∷_
               Row.off
-              (List._∷_
-              Row.off
-              (List._∷_ Row.off (List._∷_ Row.off (List._∷_ Row.off List.[]))))))))))))))));
+              (List._∷_ Row.off (List._∷_ Row.off (List._∷_ Row.off List.[]))))))))))))));
         }
 
         abbrev G31 : Row.Cx
         G31 = record {
-          locals = List._++_ g12 (List._++_ t17 t2);
+          locals = List._++_ g11 t17;
           slots = List._∷_
               (Row.lease (κs .0) (qs .0))
               (List._∷_
@@ -8973,8 +8031,6 @@ module _ (claims· : Claims) where
               (List._∷_
               (Row.lease (κs .1 .1 .1 .1 .1 .1 .1 .0) (qs .1 .1 .1 .1 .1 .1 .1 .0))
               (List._∷_
-              (Row.lease (κs .1 .1 .1 .1 .1 .1 .1 .1 .0) (qs .1 .1 .1 .1 .1 .1 .1 .1 .0))
-              (List._∷_
               Row.off
               (List._∷_
               Row.off
@@ -8982,14 +8038,12 @@ module _ (claims· : Claims) where
               Row.alive
               (List._∷_
               Row.off
-              (List._∷_
-              Row.off
-              (List._∷_ Row.off (List._∷_ Row.off (List._∷_ Row.off List.[]))))))))))))))));
+              (List._∷_ Row.off (List._∷_ Row.off (List._∷_ Row.off List.[]))))))))))))));
         }
 
         abbrev G32 : Row.Cx
         G32 = record {
-          locals = List._++_ g12 (List._++_ t18 t2);
+          locals = List._++_ g11 t18;
           slots = List._∷_
               (Row.lease (κs .0) (qs .0))
               (List._∷_
@@ -9007,8 +8061,6 @@ module _ (claims· : Claims) where
               (List._∷_
               (Row.lease (κs .1 .1 .1 .1 .1 .1 .1 .0) (qs .1 .1 .1 .1 .1 .1 .1 .0))
               (List._∷_
-              (Row.lease (κs .1 .1 .1 .1 .1 .1 .1 .1 .0) (qs .1 .1 .1 .1 .1 .1 .1 .1 .0))
-              (List._∷_
               Row.off
               (List._∷_
               Row.off
@@ -9016,14 +8068,12 @@ module _ (claims· : Claims) where
               Row.alive
               (List._∷_
               Row.off
-              (List._∷_
-              Row.off
-              (List._∷_ Row.off (List._∷_ Row.off (List._∷_ Row.off List.[]))))))))))))))));
+              (List._∷_ Row.off (List._∷_ Row.off (List._∷_ Row.off List.[]))))))))))))));
         }
 
         abbrev G33 : Row.Cx
         G33 = record {
-          locals = List._++_ g12 (List._++_ t19 t2);
+          locals = List._++_ g19 t18;
           slots = List._∷_
               (Row.lease (κs .0) (qs .0))
               (List._∷_
@@ -9041,8 +8091,6 @@ module _ (claims· : Claims) where
               (List._∷_
               (Row.lease (κs .1 .1 .1 .1 .1 .1 .1 .0) (qs .1 .1 .1 .1 .1 .1 .1 .0))
               (List._∷_
-              (Row.lease (κs .1 .1 .1 .1 .1 .1 .1 .1 .0) (qs .1 .1 .1 .1 .1 .1 .1 .1 .0))
-              (List._∷_
               Row.off
               (List._∷_
               Row.off
@@ -9050,14 +8098,12 @@ module _ (claims· : Claims) where
               Row.alive
               (List._∷_
               Row.off
-              (List._∷_
-              Row.off
-              (List._∷_ Row.off (List._∷_ Row.off (List._∷_ Row.off List.[]))))))))))))))));
+              (List._∷_ Row.off (List._∷_ Row.off (List._∷_ Row.off List.[]))))))))))))));
         }
 
         abbrev G34 : Row.Cx
         G34 = record {
-          locals = List._++_ g20 (List._++_ t19 t2);
+          locals = List._++_ g19 t20;
           slots = List._∷_
               (Row.lease (κs .0) (qs .0))
               (List._∷_
@@ -9075,8 +8121,6 @@ module _ (claims· : Claims) where
               (List._∷_
               (Row.lease (κs .1 .1 .1 .1 .1 .1 .1 .0) (qs .1 .1 .1 .1 .1 .1 .1 .0))
               (List._∷_
-              (Row.lease (κs .1 .1 .1 .1 .1 .1 .1 .1 .0) (qs .1 .1 .1 .1 .1 .1 .1 .1 .0))
-              (List._∷_
               Row.off
               (List._∷_
               Row.off
@@ -9084,14 +8128,12 @@ module _ (claims· : Claims) where
               Row.alive
               (List._∷_
               Row.off
-              (List._∷_
-              Row.off
-              (List._∷_ Row.off (List._∷_ Row.off (List._∷_ Row.off List.[]))))))))))))))));
+              (List._∷_ Row.off (List._∷_ Row.off (List._∷_ Row.off List.[]))))))))))))));
         }
 
         abbrev G35 : Row.Cx
         G35 = record {
-          locals = List._++_ g20 (List._++_ t21 t2);
+          locals = List._++_ g19 t1;
           slots = List._∷_
               (Row.lease (κs .0) (qs .0))
               (List._∷_
@@ -9109,8 +8151,6 @@ module _ (claims· : Claims) where
               (List._∷_
               (Row.lease (κs .1 .1 .1 .1 .1 .1 .1 .0) (qs .1 .1 .1 .1 .1 .1 .1 .0))
               (List._∷_
-              (Row.lease (κs .1 .1 .1 .1 .1 .1 .1 .1 .0) (qs .1 .1 .1 .1 .1 .1 .1 .1 .0))
-              (List._∷_
               Row.off
               (List._∷_
               Row.off
@@ -9118,14 +8158,12 @@ module _ (claims· : Claims) where
               Row.alive
               (List._∷_
               Row.off
-              (List._∷_
-              Row.off
-              (List._∷_ Row.off (List._∷_ Row.off (List._∷_ Row.off List.[]))))))))))))))));
+              (List._∷_ Row.off (List._∷_ Row.off (List._∷_ Row.off List.[]))))))))))))));
         }
 
         abbrev G36 : Row.Cx
         G36 = record {
-          locals = List._++_ g20 (List._++_ t1 t2);
+          locals = List._++_ g19 t1;
           slots = List._∷_
               (Row.lease (κs .0) (qs .0))
               (List._∷_
@@ -9143,23 +8181,19 @@ module _ (claims· : Claims) where
               (List._∷_
               (Row.lease (κs .1 .1 .1 .1 .1 .1 .1 .0) (qs .1 .1 .1 .1 .1 .1 .1 .0))
               (List._∷_
-              (Row.lease (κs .1 .1 .1 .1 .1 .1 .1 .1 .0) (qs .1 .1 .1 .1 .1 .1 .1 .1 .0))
-              (List._∷_
               Row.off
               (List._∷_
               Row.off
               (List._∷_
-              Row.alive
+              Row.dead
               (List._∷_
               Row.off
-              (List._∷_
-              Row.off
-              (List._∷_ Row.off (List._∷_ Row.off (List._∷_ Row.off List.[]))))))))))))))));
+              (List._∷_ Row.off (List._∷_ Row.off (List._∷_ Row.off List.[]))))))))))))));
         }
 
         abbrev G37 : Row.Cx
         G37 = record {
-          locals = List._++_ g20 (List._++_ t1 t2);
+          locals = List._++_ t21 t1;
           slots = List._∷_
               (Row.lease (κs .0) (qs .0))
               (List._∷_
@@ -9181,19 +8215,15 @@ module _ (claims· : Claims) where
               (List._∷_
               Row.off
               (List._∷_
-              Row.off
-              (List._∷_
               Row.dead
               (List._∷_
               Row.off
-              (List._∷_
-              Row.off
-              (List._∷_ Row.off (List._∷_ Row.off (List._∷_ Row.off List.[]))))))))))))))));
+              (List._∷_ Row.off (List._∷_ Row.off (List._∷_ Row.off List.[]))))))))))))));
         }
 
         abbrev G38 : Row.Cx
         G38 = record {
-          locals = List._++_ t22 (List._++_ t1 t2);
+          locals = List._++_ t21 t1;
           slots = List._∷_
               (Row.lease (κs .0) (qs .0))
               (List._∷_
@@ -9213,21 +8243,17 @@ module _ (claims· : Claims) where
               (List._∷_
               (Row.lease (κs .1 .1 .1 .1 .1 .1 .1 .1 .0) (qs .1 .1 .1 .1 .1 .1 .1 .1 .0))
               (List._∷_
-              (Row.lease (κs .1 .1 .1 .1 .1 .1 .1 .1 .1 .0) (qs .1 .1 .1 .1 .1 .1 .1 .1 .1 .0))
-              (List._∷_
               Row.off
-              (List._∷_
-              Row.dead
               (List._∷_
               Row.off
               (List._∷_
               Row.off
-              (List._∷_ Row.off (List._∷_ Row.off (List._∷_ Row.off List.[]))))))))))))))));
+              (List._∷_ Row.off (List._∷_ Row.off (List._∷_ Row.off List.[]))))))))))))));
         }
 
         abbrev G39 : Row.Cx
         G39 = record {
-          locals = List._++_ t22 (List._++_ t1 t2);
+          locals = List._++_ t21 t1;
           slots = List._∷_
               (Row.lease (κs .0) (qs .0))
               (List._∷_
@@ -9247,21 +8273,17 @@ module _ (claims· : Claims) where
               (List._∷_
               (Row.lease (κs .1 .1 .1 .1 .1 .1 .1 .1 .0) (qs .1 .1 .1 .1 .1 .1 .1 .1 .0))
               (List._∷_
-              (Row.lease (κs .1 .1 .1 .1 .1 .1 .1 .1 .1 .0) (qs .1 .1 .1 .1 .1 .1 .1 .1 .1 .0))
-              (List._∷_
               Row.off
               (List._∷_
               Row.off
               (List._∷_
-              Row.off
-              (List._∷_
-              Row.off
-              (List._∷_ Row.off (List._∷_ Row.off (List._∷_ Row.off List.[]))))))))))))))));
+              Row.alive
+              (List._∷_ Row.off (List._∷_ Row.off (List._∷_ Row.off List.[]))))))))))))));
         }
 
         abbrev G40 : Row.Cx
         G40 = record {
-          locals = List._++_ t22 (List._++_ t1 t2);
+          locals = List._++_ g22 t23;
           slots = List._∷_
               (Row.lease (κs .0) (qs .0))
               (List._∷_
@@ -9271,7 +8293,7 @@ module _ (claims· : Claims) where
               (List._∷_
               (Row.lease (κs .1 .1 .1 .0) (qs .1 .1 .1 .0))
               (List._∷_
-              (Row.lease (κs .1 .1 .1 .1 .0) (qs .1 .1 .1 .1 .0))
+              Row.off
               (List._∷_
               (Row.lease (κs .1 .1 .1 .1 .1 .0) (qs .1 .1 .1 .1 .1 .0))
               (List._∷_
@@ -9281,21 +8303,17 @@ module _ (claims· : Claims) where
               (List._∷_
               (Row.lease (κs .1 .1 .1 .1 .1 .1 .1 .1 .0) (qs .1 .1 .1 .1 .1 .1 .1 .1 .0))
               (List._∷_
-              (Row.lease (κs .1 .1 .1 .1 .1 .1 .1 .1 .1 .0) (qs .1 .1 .1 .1 .1 .1 .1 .1 .1 .0))
-              (List._∷_
               Row.off
               (List._∷_
               Row.off
               (List._∷_
               Row.alive
-              (List._∷_
-              Row.off
-              (List._∷_ Row.off (List._∷_ Row.off (List._∷_ Row.off List.[]))))))))))))))));
+              (List._∷_ Row.off (List._∷_ Row.off (List._∷_ Row.off List.[]))))))))))))));
         }
 
         abbrev G41 : Row.Cx
         G41 = record {
-          locals = List._++_ g23 (List._++_ t24 t2);
+          locals = List._++_ g22 t24;
           slots = List._∷_
               (Row.lease (κs .0) (qs .0))
               (List._∷_
@@ -9315,21 +8333,17 @@ module _ (claims· : Claims) where
               (List._∷_
               (Row.lease (κs .1 .1 .1 .1 .1 .1 .1 .1 .0) (qs .1 .1 .1 .1 .1 .1 .1 .1 .0))
               (List._∷_
-              (Row.lease (κs .1 .1 .1 .1 .1 .1 .1 .1 .1 .0) (qs .1 .1 .1 .1 .1 .1 .1 .1 .1 .0))
-              (List._∷_
               Row.off
               (List._∷_
               Row.off
               (List._∷_
               Row.alive
-              (List._∷_
-              Row.off
-              (List._∷_ Row.off (List._∷_ Row.off (List._∷_ Row.off List.[]))))))))))))))));
+              (List._∷_ Row.off (List._∷_ Row.off (List._∷_ Row.off List.[]))))))))))))));
         }
 
         abbrev G42 : Row.Cx
         G42 = record {
-          locals = List._++_ g23 (List._++_ t25 t2);
+          locals = List._++_ g22 t24;
           slots = List._∷_
               (Row.lease (κs .0) (qs .0))
               (List._∷_
@@ -9349,21 +8363,17 @@ module _ (claims· : Claims) where
               (List._∷_
               (Row.lease (κs .1 .1 .1 .1 .1 .1 .1 .1 .0) (qs .1 .1 .1 .1 .1 .1 .1 .1 .0))
               (List._∷_
-              (Row.lease (κs .1 .1 .1 .1 .1 .1 .1 .1 .1 .0) (qs .1 .1 .1 .1 .1 .1 .1 .1 .1 .0))
-              (List._∷_
               Row.off
               (List._∷_
               Row.off
               (List._∷_
               Row.alive
-              (List._∷_
-              Row.off
-              (List._∷_ Row.off (List._∷_ Row.off (List._∷_ Row.off List.[]))))))))))))))));
+              (List._∷_ Row.alive (List._∷_ Row.off (List._∷_ Row.off List.[]))))))))))))));
         }
 
         abbrev G43 : Row.Cx
         G43 = record {
-          locals = List._++_ g23 (List._++_ t25 t2);
+          locals = List._++_ g25 t26;
           slots = List._∷_
               (Row.lease (κs .0) (qs .0))
               (List._∷_
@@ -9375,7 +8385,7 @@ module _ (claims· : Claims) where
               (List._∷_
               Row.off
               (List._∷_
-              (Row.lease (κs .1 .1 .1 .1 .1 .0) (qs .1 .1 .1 .1 .1 .0))
+              Row.off
               (List._∷_
               (Row.lease (κs .1 .1 .1 .1 .1 .1 .0) (qs .1 .1 .1 .1 .1 .1 .0))
               (List._∷_
@@ -9383,21 +8393,17 @@ module _ (claims· : Claims) where
               (List._∷_
               (Row.lease (κs .1 .1 .1 .1 .1 .1 .1 .1 .0) (qs .1 .1 .1 .1 .1 .1 .1 .1 .0))
               (List._∷_
-              (Row.lease (κs .1 .1 .1 .1 .1 .1 .1 .1 .1 .0) (qs .1 .1 .1 .1 .1 .1 .1 .1 .1 .0))
-              (List._∷_
               Row.off
               (List._∷_
               Row.off
               (List._∷_
               Row.alive
-              (List._∷_
-              Row.alive
-              (List._∷_ Row.off (List._∷_ Row.off (List._∷_ Row.off List.[]))))))))))))))));
+              (List._∷_ Row.alive (List._∷_ Row.off (List._∷_ Row.off List.[]))))))))))))));
         }
 
         abbrev G44 : Row.Cx
         G44 = record {
-          locals = List._++_ g26 (List._++_ t27 t2);
+          locals = List._++_ g25 t27;
           slots = List._∷_
               (Row.lease (κs .0) (qs .0))
               (List._∷_
@@ -9417,21 +8423,17 @@ module _ (claims· : Claims) where
               (List._∷_
               (Row.lease (κs .1 .1 .1 .1 .1 .1 .1 .1 .0) (qs .1 .1 .1 .1 .1 .1 .1 .1 .0))
               (List._∷_
-              (Row.lease (κs .1 .1 .1 .1 .1 .1 .1 .1 .1 .0) (qs .1 .1 .1 .1 .1 .1 .1 .1 .1 .0))
-              (List._∷_
               Row.off
               (List._∷_
               Row.off
               (List._∷_
               Row.alive
-              (List._∷_
-              Row.alive
-              (List._∷_ Row.off (List._∷_ Row.off (List._∷_ Row.off List.[]))))))))))))))));
+              (List._∷_ Row.alive (List._∷_ Row.off (List._∷_ Row.off List.[]))))))))))))));
         }
 
         abbrev G45 : Row.Cx
         G45 = record {
-          locals = List._++_ g26 (List._++_ t28 t2);
+          locals = List._++_ g25 t27;
           slots = List._∷_
               (Row.lease (κs .0) (qs .0))
               (List._∷_
@@ -9451,21 +8453,17 @@ module _ (claims· : Claims) where
               (List._∷_
               (Row.lease (κs .1 .1 .1 .1 .1 .1 .1 .1 .0) (qs .1 .1 .1 .1 .1 .1 .1 .1 .0))
               (List._∷_
-              (Row.lease (κs .1 .1 .1 .1 .1 .1 .1 .1 .1 .0) (qs .1 .1 .1 .1 .1 .1 .1 .1 .1 .0))
-              (List._∷_
               Row.off
               (List._∷_
               Row.off
               (List._∷_
               Row.alive
-              (List._∷_
-              Row.alive
-              (List._∷_ Row.off (List._∷_ Row.off (List._∷_ Row.off List.[]))))))))))))))));
+              (List._∷_ Row.alive (List._∷_ Row.alive (List._∷_ Row.off List.[]))))))))))))));
         }
 
         abbrev G46 : Row.Cx
         G46 = record {
-          locals = List._++_ g26 (List._++_ t28 t2);
+          locals = List._++_ g28 t29;
           slots = List._∷_
               (Row.lease (κs .0) (qs .0))
               (List._∷_
@@ -9479,27 +8477,23 @@ module _ (claims· : Claims) where
               (List._∷_
               Row.off
               (List._∷_
-              (Row.lease (κs .1 .1 .1 .1 .1 .1 .0) (qs .1 .1 .1 .1 .1 .1 .0))
+              Row.off
               (List._∷_
               (Row.lease (κs .1 .1 .1 .1 .1 .1 .1 .0) (qs .1 .1 .1 .1 .1 .1 .1 .0))
               (List._∷_
               (Row.lease (κs .1 .1 .1 .1 .1 .1 .1 .1 .0) (qs .1 .1 .1 .1 .1 .1 .1 .1 .0))
               (List._∷_
-              (Row.lease (κs .1 .1 .1 .1 .1 .1 .1 .1 .1 .0) (qs .1 .1 .1 .1 .1 .1 .1 .1 .1 .0))
-              (List._∷_
               Row.off
               (List._∷_
               Row.off
               (List._∷_
               Row.alive
-              (List._∷_
-              Row.alive
-              (List._∷_ Row.alive (List._∷_ Row.off (List._∷_ Row.off List.[]))))))))))))))));
+              (List._∷_ Row.alive (List._∷_ Row.alive (List._∷_ Row.off List.[]))))))))))))));
         }
 
         abbrev G47 : Row.Cx
         G47 = record {
-          locals = List._++_ g29 (List._++_ t30 t2);
+          locals = List._++_ g28 t30;
           slots = List._∷_
               (Row.lease (κs .0) (qs .0))
               (List._∷_
@@ -9519,21 +8513,17 @@ module _ (claims· : Claims) where
               (List._∷_
               (Row.lease (κs .1 .1 .1 .1 .1 .1 .1 .1 .0) (qs .1 .1 .1 .1 .1 .1 .1 .1 .0))
               (List._∷_
-              (Row.lease (κs .1 .1 .1 .1 .1 .1 .1 .1 .1 .0) (qs .1 .1 .1 .1 .1 .1 .1 .1 .1 .0))
-              (List._∷_
               Row.off
               (List._∷_
               Row.off
               (List._∷_
               Row.alive
-              (List._∷_
-              Row.alive
-              (List._∷_ Row.alive (List._∷_ Row.off (List._∷_ Row.off List.[]))))))))))))))));
+              (List._∷_ Row.alive (List._∷_ Row.alive (List._∷_ Row.off List.[]))))))))))))));
         }
 
         abbrev G48 : Row.Cx
         G48 = record {
-          locals = List._++_ g29 (List._++_ t31 t2);
+          locals = List._++_ g28 t30;
           slots = List._∷_
               (Row.lease (κs .0) (qs .0))
               (List._∷_
@@ -9553,21 +8543,17 @@ module _ (claims· : Claims) where
               (List._∷_
               (Row.lease (κs .1 .1 .1 .1 .1 .1 .1 .1 .0) (qs .1 .1 .1 .1 .1 .1 .1 .1 .0))
               (List._∷_
-              (Row.lease (κs .1 .1 .1 .1 .1 .1 .1 .1 .1 .0) (qs .1 .1 .1 .1 .1 .1 .1 .1 .1 .0))
-              (List._∷_
               Row.off
               (List._∷_
               Row.off
               (List._∷_
               Row.alive
-              (List._∷_
-              Row.alive
-              (List._∷_ Row.alive (List._∷_ Row.off (List._∷_ Row.off List.[]))))))))))))))));
+              (List._∷_ Row.alive (List._∷_ Row.alive (List._∷_ Row.alive List.[]))))))))))))));
         }
 
         abbrev G49 : Row.Cx
         G49 = record {
-          locals = List._++_ g29 (List._++_ t31 t2);
+          locals = List._++_ g31 t32;
           slots = List._∷_
               (Row.lease (κs .0) (qs .0))
               (List._∷_
@@ -9583,25 +8569,21 @@ module _ (claims· : Claims) where
               (List._∷_
               Row.off
               (List._∷_
-              (Row.lease (κs .1 .1 .1 .1 .1 .1 .1 .0) (qs .1 .1 .1 .1 .1 .1 .1 .0))
+              Row.off
               (List._∷_
               (Row.lease (κs .1 .1 .1 .1 .1 .1 .1 .1 .0) (qs .1 .1 .1 .1 .1 .1 .1 .1 .0))
               (List._∷_
-              (Row.lease (κs .1 .1 .1 .1 .1 .1 .1 .1 .1 .0) (qs .1 .1 .1 .1 .1 .1 .1 .1 .1 .0))
-              (List._∷_
               Row.off
               (List._∷_
               Row.off
               (List._∷_
               Row.alive
-              (List._∷_
-              Row.alive
-              (List._∷_ Row.alive (List._∷_ Row.alive (List._∷_ Row.off List.[]))))))))))))))));
+              (List._∷_ Row.alive (List._∷_ Row.alive (List._∷_ Row.alive List.[]))))))))))))));
         }
 
         abbrev G50 : Row.Cx
         G50 = record {
-          locals = List._++_ g32 (List._++_ t33 t2);
+          locals = List._++_ g31 t33;
           slots = List._∷_
               (Row.lease (κs .0) (qs .0))
               (List._∷_
@@ -9621,21 +8603,17 @@ module _ (claims· : Claims) where
               (List._∷_
               (Row.lease (κs .1 .1 .1 .1 .1 .1 .1 .1 .0) (qs .1 .1 .1 .1 .1 .1 .1 .1 .0))
               (List._∷_
-              (Row.lease (κs .1 .1 .1 .1 .1 .1 .1 .1 .1 .0) (qs .1 .1 .1 .1 .1 .1 .1 .1 .1 .0))
-              (List._∷_
               Row.off
               (List._∷_
               Row.off
               (List._∷_
               Row.alive
-              (List._∷_
-              Row.alive
-              (List._∷_ Row.alive (List._∷_ Row.alive (List._∷_ Row.off List.[]))))))))))))))));
+              (List._∷_ Row.alive (List._∷_ Row.alive (List._∷_ Row.alive List.[]))))))))))))));
         }
 
         abbrev G51 : Row.Cx
         G51 = record {
-          locals = List._++_ g32 (List._++_ t34 t2);
+          locals = List._++_ g31 t34;
           slots = List._∷_
               (Row.lease (κs .0) (qs .0))
               (List._∷_
@@ -9655,21 +8633,17 @@ module _ (claims· : Claims) where
               (List._∷_
               (Row.lease (κs .1 .1 .1 .1 .1 .1 .1 .1 .0) (qs .1 .1 .1 .1 .1 .1 .1 .1 .0))
               (List._∷_
-              (Row.lease (κs .1 .1 .1 .1 .1 .1 .1 .1 .1 .0) (qs .1 .1 .1 .1 .1 .1 .1 .1 .1 .0))
-              (List._∷_
               Row.off
               (List._∷_
               Row.off
               (List._∷_
               Row.alive
-              (List._∷_
-              Row.alive
-              (List._∷_ Row.alive (List._∷_ Row.alive (List._∷_ Row.off List.[]))))))))))))))));
+              (List._∷_ Row.alive (List._∷_ Row.alive (List._∷_ Row.alive List.[]))))))))))))));
         }
 
         abbrev G52 : Row.Cx
         G52 = record {
-          locals = List._++_ g32 (List._++_ t34 t2);
+          locals = List._++_ g35 t34;
           slots = List._∷_
               (Row.lease (κs .0) (qs .0))
               (List._∷_
@@ -9689,21 +8663,17 @@ module _ (claims· : Claims) where
               (List._∷_
               (Row.lease (κs .1 .1 .1 .1 .1 .1 .1 .1 .0) (qs .1 .1 .1 .1 .1 .1 .1 .1 .0))
               (List._∷_
-              (Row.lease (κs .1 .1 .1 .1 .1 .1 .1 .1 .1 .0) (qs .1 .1 .1 .1 .1 .1 .1 .1 .1 .0))
-              (List._∷_
               Row.off
               (List._∷_
               Row.off
               (List._∷_
               Row.alive
-              (List._∷_
-              Row.alive
-              (List._∷_ Row.alive (List._∷_ Row.alive (List._∷_ Row.alive List.[]))))))))))))))));
+              (List._∷_ Row.alive (List._∷_ Row.alive (List._∷_ Row.alive List.[]))))))))))))));
         }
 
         abbrev G53 : Row.Cx
         G53 = record {
-          locals = List._++_ g35 (List._++_ t34 t36);
+          locals = List._++_ g35 t34;
           slots = List._∷_
               (Row.lease (κs .0) (qs .0))
               (List._∷_
@@ -9721,23 +8691,19 @@ module _ (claims· : Claims) where
               (List._∷_
               Row.off
               (List._∷_
-              Row.off
-              (List._∷_
-              (Row.lease (κs .1 .1 .1 .1 .1 .1 .1 .1 .1 .0) (qs .1 .1 .1 .1 .1 .1 .1 .1 .1 .0))
+              (Row.lease (κs .1 .1 .1 .1 .1 .1 .1 .1 .0) (qs .1 .1 .1 .1 .1 .1 .1 .1 .0))
               (List._∷_
               Row.off
               (List._∷_
               Row.off
               (List._∷_
-              Row.alive
-              (List._∷_
-              Row.alive
-              (List._∷_ Row.alive (List._∷_ Row.alive (List._∷_ Row.alive List.[]))))))))))))))));
+              Row.dead
+              (List._∷_ Row.alive (List._∷_ Row.alive (List._∷_ Row.alive List.[]))))))))))))));
         }
 
         abbrev G54 : Row.Cx
         G54 = record {
-          locals = List._++_ g35 (List._++_ t34 t37);
+          locals = List._++_ g36 t37;
           slots = List._∷_
               (Row.lease (κs .0) (qs .0))
               (List._∷_
@@ -9747,7 +8713,7 @@ module _ (claims· : Claims) where
               (List._∷_
               (Row.lease (κs .1 .1 .1 .0) (qs .1 .1 .1 .0))
               (List._∷_
-              Row.off
+              (Row.lease (κs .1 .1 .1 .1 .0) (qs .1 .1 .1 .1 .0))
               (List._∷_
               Row.off
               (List._∷_
@@ -9755,23 +8721,19 @@ module _ (claims· : Claims) where
               (List._∷_
               Row.off
               (List._∷_
-              Row.off
-              (List._∷_
-              (Row.lease (κs .1 .1 .1 .1 .1 .1 .1 .1 .1 .0) (qs .1 .1 .1 .1 .1 .1 .1 .1 .1 .0))
+              (Row.lease (κs .1 .1 .1 .1 .1 .1 .1 .1 .0) (qs .1 .1 .1 .1 .1 .1 .1 .1 .0))
               (List._∷_
               Row.off
               (List._∷_
               Row.off
               (List._∷_
-              Row.alive
-              (List._∷_
-              Row.alive
-              (List._∷_ Row.alive (List._∷_ Row.alive (List._∷_ Row.alive List.[]))))))))))))))));
+              Row.dead
+              (List._∷_ Row.alive (List._∷_ Row.alive (List._∷_ Row.alive List.[]))))))))))))));
         }
 
         abbrev G55 : Row.Cx
         G55 = record {
-          locals = List._++_ g35 (List._++_ t38 t39);
+          locals = List._++_ g36 t37;
           slots = List._∷_
               (Row.lease (κs .0) (qs .0))
               (List._∷_
@@ -9781,7 +8743,7 @@ module _ (claims· : Claims) where
               (List._∷_
               (Row.lease (κs .1 .1 .1 .0) (qs .1 .1 .1 .0))
               (List._∷_
-              Row.off
+              (Row.lease (κs .1 .1 .1 .1 .0) (qs .1 .1 .1 .1 .0))
               (List._∷_
               Row.off
               (List._∷_
@@ -9789,23 +8751,19 @@ module _ (claims· : Claims) where
               (List._∷_
               Row.off
               (List._∷_
-              Row.off
-              (List._∷_
-              (Row.lease (κs .1 .1 .1 .1 .1 .1 .1 .1 .1 .0) (qs .1 .1 .1 .1 .1 .1 .1 .1 .1 .0))
+              (Row.lease (κs .1 .1 .1 .1 .1 .1 .1 .1 .0) (qs .1 .1 .1 .1 .1 .1 .1 .1 .0))
               (List._∷_
               Row.off
               (List._∷_
               Row.off
               (List._∷_
-              Row.alive
-              (List._∷_
-              Row.alive
-              (List._∷_ Row.alive (List._∷_ Row.alive (List._∷_ Row.alive List.[]))))))))))))))));
+              Row.dead
+              (List._∷_ Row.alive (List._∷_ Row.alive (List._∷_ Row.alive List.[]))))))))))))));
         }
 
         abbrev G56 : Row.Cx
         G56 = record {
-          locals = List._++_ g40 (List._++_ t38 t39);
+          locals = List._++_ g36 t37;
           slots = List._∷_
               (Row.lease (κs .0) (qs .0))
               (List._∷_
@@ -9815,7 +8773,7 @@ module _ (claims· : Claims) where
               (List._∷_
               (Row.lease (κs .1 .1 .1 .0) (qs .1 .1 .1 .0))
               (List._∷_
-              Row.off
+              (Row.lease (κs .1 .1 .1 .1 .0) (qs .1 .1 .1 .1 .0))
               (List._∷_
               Row.off
               (List._∷_
@@ -9823,23 +8781,19 @@ module _ (claims· : Claims) where
               (List._∷_
               Row.off
               (List._∷_
-              Row.off
-              (List._∷_
-              (Row.lease (κs .1 .1 .1 .1 .1 .1 .1 .1 .1 .0) (qs .1 .1 .1 .1 .1 .1 .1 .1 .1 .0))
+              (Row.lease (κs .1 .1 .1 .1 .1 .1 .1 .1 .0) (qs .1 .1 .1 .1 .1 .1 .1 .1 .0))
               (List._∷_
               Row.off
               (List._∷_
               Row.off
               (List._∷_
-              Row.alive
-              (List._∷_
-              Row.alive
-              (List._∷_ Row.alive (List._∷_ Row.alive (List._∷_ Row.alive List.[]))))))))))))))));
+              Row.off
+              (List._∷_ Row.alive (List._∷_ Row.alive (List._∷_ Row.alive List.[]))))))))))))));
         }
 
         abbrev G57 : Row.Cx
         G57 = record {
-          locals = List._++_ g40 (List._++_ t38 t39);
+          locals = List._++_ g36 t37;
           slots = List._∷_
               (Row.lease (κs .0) (qs .0))
               (List._∷_
@@ -9849,7 +8803,7 @@ module _ (claims· : Claims) where
               (List._∷_
               (Row.lease (κs .1 .1 .1 .0) (qs .1 .1 .1 .0))
               (List._∷_
-              Row.off
+              (Row.lease (κs .1 .1 .1 .1 .0) (qs .1 .1 .1 .1 .0))
               (List._∷_
               Row.off
               (List._∷_
@@ -9857,23 +8811,19 @@ module _ (claims· : Claims) where
               (List._∷_
               Row.off
               (List._∷_
-              Row.off
-              (List._∷_
-              (Row.lease (κs .1 .1 .1 .1 .1 .1 .1 .1 .1 .0) (qs .1 .1 .1 .1 .1 .1 .1 .1 .1 .0))
+              (Row.lease (κs .1 .1 .1 .1 .1 .1 .1 .1 .0) (qs .1 .1 .1 .1 .1 .1 .1 .1 .0))
               (List._∷_
               Row.off
               (List._∷_
               Row.off
               (List._∷_
-              Row.dead
-              (List._∷_
-              Row.alive
-              (List._∷_ Row.alive (List._∷_ Row.alive (List._∷_ Row.alive List.[]))))))))))))))));
+              Row.off
+              (List._∷_ Row.dead (List._∷_ Row.alive (List._∷_ Row.alive List.[]))))))))))))));
         }
 
         abbrev G58 : Row.Cx
         G58 = record {
-          locals = List._++_ g41 (List._++_ t42 t39);
+          locals = List._++_ g38 t39;
           slots = List._∷_
               (Row.lease (κs .0) (qs .0))
               (List._∷_
@@ -9885,29 +8835,25 @@ module _ (claims· : Claims) where
               (List._∷_
               (Row.lease (κs .1 .1 .1 .1 .0) (qs .1 .1 .1 .1 .0))
               (List._∷_
-              Row.off
+              (Row.lease (κs .1 .1 .1 .1 .1 .0) (qs .1 .1 .1 .1 .1 .0))
               (List._∷_
               Row.off
               (List._∷_
               Row.off
               (List._∷_
-              Row.off
-              (List._∷_
-              (Row.lease (κs .1 .1 .1 .1 .1 .1 .1 .1 .1 .0) (qs .1 .1 .1 .1 .1 .1 .1 .1 .1 .0))
+              (Row.lease (κs .1 .1 .1 .1 .1 .1 .1 .1 .0) (qs .1 .1 .1 .1 .1 .1 .1 .1 .0))
               (List._∷_
               Row.off
               (List._∷_
               Row.off
               (List._∷_
-              Row.dead
-              (List._∷_
-              Row.alive
-              (List._∷_ Row.alive (List._∷_ Row.alive (List._∷_ Row.alive List.[]))))))))))))))));
+              Row.off
+              (List._∷_ Row.dead (List._∷_ Row.alive (List._∷_ Row.alive List.[]))))))))))))));
         }
 
         abbrev G59 : Row.Cx
         G59 = record {
-          locals = List._++_ g41 (List._++_ t42 t39);
+          locals = List._++_ g38 t39;
           slots = List._∷_
               (Row.lease (κs .0) (qs .0))
               (List._∷_
@@ -9919,29 +8865,25 @@ module _ (claims· : Claims) where
               (List._∷_
               (Row.lease (κs .1 .1 .1 .1 .0) (qs .1 .1 .1 .1 .0))
               (List._∷_
-              Row.off
+              (Row.lease (κs .1 .1 .1 .1 .1 .0) (qs .1 .1 .1 .1 .1 .0))
               (List._∷_
               Row.off
               (List._∷_
               Row.off
               (List._∷_
-              Row.off
-              (List._∷_
-              (Row.lease (κs .1 .1 .1 .1 .1 .1 .1 .1 .1 .0) (qs .1 .1 .1 .1 .1 .1 .1 .1 .1 .0))
+              (Row.lease (κs .1 .1 .1 .1 .1 .1 .1 .1 .0) (qs .1 .1 .1 .1 .1 .1 .1 .1 .0))
               (List._∷_
               Row.off
               (List._∷_
               Row.off
               (List._∷_
-              Row.dead
-              (List._∷_
-              Row.alive
-              (List._∷_ Row.alive (List._∷_ Row.alive (List._∷_ Row.alive List.[]))))))))))))))));
+              Row.off
+              (List._∷_ Row.dead (List._∷_ Row.alive (List._∷_ Row.alive List.[]))))))))))))));
         }
 
         abbrev G60 : Row.Cx
         G60 = record {
-          locals = List._++_ g41 (List._++_ t42 t39);
+          locals = List._++_ g38 t39;
           slots = List._∷_
               (Row.lease (κs .0) (qs .0))
               (List._∷_
@@ -9953,29 +8895,25 @@ module _ (claims· : Claims) where
               (List._∷_
               (Row.lease (κs .1 .1 .1 .1 .0) (qs .1 .1 .1 .1 .0))
               (List._∷_
-              Row.off
+              (Row.lease (κs .1 .1 .1 .1 .1 .0) (qs .1 .1 .1 .1 .1 .0))
               (List._∷_
               Row.off
               (List._∷_
               Row.off
               (List._∷_
-              Row.off
-              (List._∷_
-              (Row.lease (κs .1 .1 .1 .1 .1 .1 .1 .1 .1 .0) (qs .1 .1 .1 .1 .1 .1 .1 .1 .1 .0))
+              (Row.lease (κs .1 .1 .1 .1 .1 .1 .1 .1 .0) (qs .1 .1 .1 .1 .1 .1 .1 .1 .0))
               (List._∷_
               Row.off
               (List._∷_
               Row.off
               (List._∷_
               Row.off
-              (List._∷_
-              Row.alive
-              (List._∷_ Row.alive (List._∷_ Row.alive (List._∷_ Row.alive List.[]))))))))))))))));
+              (List._∷_ Row.off (List._∷_ Row.alive (List._∷_ Row.alive List.[]))))))))))))));
         }
 
         abbrev G61 : Row.Cx
         G61 = record {
-          locals = List._++_ g41 (List._++_ t42 t39);
+          locals = List._++_ g38 t39;
           slots = List._∷_
               (Row.lease (κs .0) (qs .0))
               (List._∷_
@@ -9987,29 +8925,25 @@ module _ (claims· : Claims) where
               (List._∷_
               (Row.lease (κs .1 .1 .1 .1 .0) (qs .1 .1 .1 .1 .0))
               (List._∷_
-              Row.off
+              (Row.lease (κs .1 .1 .1 .1 .1 .0) (qs .1 .1 .1 .1 .1 .0))
               (List._∷_
               Row.off
               (List._∷_
               Row.off
               (List._∷_
-              Row.off
-              (List._∷_
-              (Row.lease (κs .1 .1 .1 .1 .1 .1 .1 .1 .1 .0) (qs .1 .1 .1 .1 .1 .1 .1 .1 .1 .0))
+              (Row.lease (κs .1 .1 .1 .1 .1 .1 .1 .1 .0) (qs .1 .1 .1 .1 .1 .1 .1 .1 .0))
               (List._∷_
               Row.off
               (List._∷_
               Row.off
               (List._∷_
               Row.off
-              (List._∷_
-              Row.dead
-              (List._∷_ Row.alive (List._∷_ Row.alive (List._∷_ Row.alive List.[]))))))))))))))));
+              (List._∷_ Row.off (List._∷_ Row.dead (List._∷_ Row.alive List.[]))))))))))))));
         }
 
         abbrev G62 : Row.Cx
         G62 = record {
-          locals = List._++_ g43 (List._++_ t44 t39);
+          locals = List._++_ g40 t41;
           slots = List._∷_
               (Row.lease (κs .0) (qs .0))
               (List._∷_
@@ -10023,27 +8957,23 @@ module _ (claims· : Claims) where
               (List._∷_
               (Row.lease (κs .1 .1 .1 .1 .1 .0) (qs .1 .1 .1 .1 .1 .0))
               (List._∷_
+              (Row.lease (κs .1 .1 .1 .1 .1 .1 .0) (qs .1 .1 .1 .1 .1 .1 .0))
+              (List._∷_
+              Row.off
+              (List._∷_
+              (Row.lease (κs .1 .1 .1 .1 .1 .1 .1 .1 .0) (qs .1 .1 .1 .1 .1 .1 .1 .1 .0))
+              (List._∷_
               Row.off
               (List._∷_
               Row.off
               (List._∷_
               Row.off
-              (List._∷_
-              (Row.lease (κs .1 .1 .1 .1 .1 .1 .1 .1 .1 .0) (qs .1 .1 .1 .1 .1 .1 .1 .1 .1 .0))
-              (List._∷_
-              Row.off
-              (List._∷_
-              Row.off
-              (List._∷_
-              Row.off
-              (List._∷_
-              Row.dead
-              (List._∷_ Row.alive (List._∷_ Row.alive (List._∷_ Row.alive List.[]))))))))))))))));
+              (List._∷_ Row.off (List._∷_ Row.dead (List._∷_ Row.alive List.[]))))))))))))));
         }
 
         abbrev G63 : Row.Cx
         G63 = record {
-          locals = List._++_ g43 (List._++_ t44 t39);
+          locals = List._++_ g40 t41;
           slots = List._∷_
               (Row.lease (κs .0) (qs .0))
               (List._∷_
@@ -10057,27 +8987,23 @@ module _ (claims· : Claims) where
               (List._∷_
               (Row.lease (κs .1 .1 .1 .1 .1 .0) (qs .1 .1 .1 .1 .1 .0))
               (List._∷_
+              (Row.lease (κs .1 .1 .1 .1 .1 .1 .0) (qs .1 .1 .1 .1 .1 .1 .0))
+              (List._∷_
+              Row.off
+              (List._∷_
+              (Row.lease (κs .1 .1 .1 .1 .1 .1 .1 .1 .0) (qs .1 .1 .1 .1 .1 .1 .1 .1 .0))
+              (List._∷_
               Row.off
               (List._∷_
               Row.off
               (List._∷_
               Row.off
-              (List._∷_
-              (Row.lease (κs .1 .1 .1 .1 .1 .1 .1 .1 .1 .0) (qs .1 .1 .1 .1 .1 .1 .1 .1 .1 .0))
-              (List._∷_
-              Row.off
-              (List._∷_
-              Row.off
-              (List._∷_
-              Row.off
-              (List._∷_
-              Row.dead
-              (List._∷_ Row.alive (List._∷_ Row.alive (List._∷_ Row.alive List.[]))))))))))))))));
+              (List._∷_ Row.off (List._∷_ Row.dead (List._∷_ Row.alive List.[]))))))))))))));
         }
 
         abbrev G64 : Row.Cx
         G64 = record {
-          locals = List._++_ g43 (List._++_ t44 t39);
+          locals = List._++_ g40 t41;
           slots = List._∷_
               (Row.lease (κs .0) (qs .0))
               (List._∷_
@@ -10091,27 +9017,23 @@ module _ (claims· : Claims) where
               (List._∷_
               (Row.lease (κs .1 .1 .1 .1 .1 .0) (qs .1 .1 .1 .1 .1 .0))
               (List._∷_
-              Row.off
+              (Row.lease (κs .1 .1 .1 .1 .1 .1 .0) (qs .1 .1 .1 .1 .1 .1 .0))
               (List._∷_
               Row.off
               (List._∷_
-              Row.off
-              (List._∷_
-              (Row.lease (κs .1 .1 .1 .1 .1 .1 .1 .1 .1 .0) (qs .1 .1 .1 .1 .1 .1 .1 .1 .1 .0))
+              (Row.lease (κs .1 .1 .1 .1 .1 .1 .1 .1 .0) (qs .1 .1 .1 .1 .1 .1 .1 .1 .0))
               (List._∷_
               Row.off
               (List._∷_
               Row.off
               (List._∷_
               Row.off
-              (List._∷_
-              Row.off
-              (List._∷_ Row.alive (List._∷_ Row.alive (List._∷_ Row.alive List.[]))))))))))))))));
+              (List._∷_ Row.off (List._∷_ Row.off (List._∷_ Row.alive List.[]))))))))))))));
         }
 
         abbrev G65 : Row.Cx
         G65 = record {
-          locals = List._++_ g43 (List._++_ t44 t39);
+          locals = List._++_ g40 t41;
           slots = List._∷_
               (Row.lease (κs .0) (qs .0))
               (List._∷_
@@ -10125,27 +9047,23 @@ module _ (claims· : Claims) where
               (List._∷_
               (Row.lease (κs .1 .1 .1 .1 .1 .0) (qs .1 .1 .1 .1 .1 .0))
               (List._∷_
-              Row.off
+              (Row.lease (κs .1 .1 .1 .1 .1 .1 .0) (qs .1 .1 .1 .1 .1 .1 .0))
               (List._∷_
               Row.off
               (List._∷_
-              Row.off
-              (List._∷_
-              (Row.lease (κs .1 .1 .1 .1 .1 .1 .1 .1 .1 .0) (qs .1 .1 .1 .1 .1 .1 .1 .1 .1 .0))
+              (Row.lease (κs .1 .1 .1 .1 .1 .1 .1 .1 .0) (qs .1 .1 .1 .1 .1 .1 .1 .1 .0))
               (List._∷_
               Row.off
               (List._∷_
               Row.off
               (List._∷_
               Row.off
-              (List._∷_
-              Row.off
-              (List._∷_ Row.dead (List._∷_ Row.alive (List._∷_ Row.alive List.[]))))))))))))))));
+              (List._∷_ Row.off (List._∷_ Row.off (List._∷_ Row.dead List.[]))))))))))))));
         }
 
         abbrev G66 : Row.Cx
         G66 = record {
-          locals = List._++_ g45 (List._++_ t46 t39);
+          locals = List._++_ t5 t1;
           slots = List._∷_
               (Row.lease (κs .0) (qs .0))
               (List._∷_
@@ -10161,25 +9079,21 @@ module _ (claims· : Claims) where
               (List._∷_
               (Row.lease (κs .1 .1 .1 .1 .1 .1 .0) (qs .1 .1 .1 .1 .1 .1 .0))
               (List._∷_
-              Row.off
+              (Row.lease (κs .1 .1 .1 .1 .1 .1 .1 .0) (qs .1 .1 .1 .1 .1 .1 .1 .0))
               (List._∷_
-              Row.off
-              (List._∷_
-              (Row.lease (κs .1 .1 .1 .1 .1 .1 .1 .1 .1 .0) (qs .1 .1 .1 .1 .1 .1 .1 .1 .1 .0))
-              (List._∷_
-              Row.off
+              (Row.lease (κs .1 .1 .1 .1 .1 .1 .1 .1 .0) (qs .1 .1 .1 .1 .1 .1 .1 .1 .0))
               (List._∷_
               Row.off
               (List._∷_
               Row.off
               (List._∷_
               Row.off
-              (List._∷_ Row.dead (List._∷_ Row.alive (List._∷_ Row.alive List.[]))))))))))))))));
+              (List._∷_ Row.off (List._∷_ Row.off (List._∷_ Row.dead List.[]))))))))))))));
         }
 
         abbrev G67 : Row.Cx
         G67 = record {
-          locals = List._++_ g45 (List._++_ t46 t39);
+          locals = List._++_ t5 t1;
           slots = List._∷_
               (Row.lease (κs .0) (qs .0))
               (List._∷_
@@ -10195,25 +9109,21 @@ module _ (claims· : Claims) where
               (List._∷_
               (Row.lease (κs .1 .1 .1 .1 .1 .1 .0) (qs .1 .1 .1 .1 .1 .1 .0))
               (List._∷_
-              Row.off
+              (Row.lease (κs .1 .1 .1 .1 .1 .1 .1 .0) (qs .1 .1 .1 .1 .1 .1 .1 .0))
               (List._∷_
-              Row.off
-              (List._∷_
-              (Row.lease (κs .1 .1 .1 .1 .1 .1 .1 .1 .1 .0) (qs .1 .1 .1 .1 .1 .1 .1 .1 .1 .0))
-              (List._∷_
-              Row.off
+              (Row.lease (κs .1 .1 .1 .1 .1 .1 .1 .1 .0) (qs .1 .1 .1 .1 .1 .1 .1 .1 .0))
               (List._∷_
               Row.off
               (List._∷_
               Row.off
               (List._∷_
               Row.off
-              (List._∷_ Row.dead (List._∷_ Row.alive (List._∷_ Row.alive List.[]))))))))))))))));
+              (List._∷_ Row.off (List._∷_ Row.off (List._∷_ Row.dead List.[]))))))))))))));
         }
 
         abbrev G68 : Row.Cx
         G68 = record {
-          locals = List._++_ g45 (List._++_ t46 t39);
+          locals = List._++_ t5 t1;
           slots = List._∷_
               (Row.lease (κs .0) (qs .0))
               (List._∷_
@@ -10229,25 +9139,21 @@ module _ (claims· : Claims) where
               (List._∷_
               (Row.lease (κs .1 .1 .1 .1 .1 .1 .0) (qs .1 .1 .1 .1 .1 .1 .0))
               (List._∷_
-              Row.off
+              (Row.lease (κs .1 .1 .1 .1 .1 .1 .1 .0) (qs .1 .1 .1 .1 .1 .1 .1 .0))
               (List._∷_
-              Row.off
-              (List._∷_
-              (Row.lease (κs .1 .1 .1 .1 .1 .1 .1 .1 .1 .0) (qs .1 .1 .1 .1 .1 .1 .1 .1 .1 .0))
-              (List._∷_
-              Row.off
+              (Row.lease (κs .1 .1 .1 .1 .1 .1 .1 .1 .0) (qs .1 .1 .1 .1 .1 .1 .1 .1 .0))
               (List._∷_
               Row.off
               (List._∷_
               Row.off
               (List._∷_
               Row.off
-              (List._∷_ Row.off (List._∷_ Row.alive (List._∷_ Row.alive List.[]))))))))))))))));
+              (List._∷_ Row.off (List._∷_ Row.off (List._∷_ Row.off List.[]))))))))))))));
         }
 
         abbrev G69 : Row.Cx
         G69 = record {
-          locals = List._++_ g45 (List._++_ t46 t39);
+          locals = List._++_ t5 t1;
           slots = List._∷_
               (Row.lease (κs .0) (qs .0))
               (List._∷_
@@ -10263,25 +9169,21 @@ module _ (claims· : Claims) where
               (List._∷_
               (Row.lease (κs .1 .1 .1 .1 .1 .1 .0) (qs .1 .1 .1 .1 .1 .1 .0))
               (List._∷_
-              Row.off
+              (Row.lease (κs .1 .1 .1 .1 .1 .1 .1 .0) (qs .1 .1 .1 .1 .1 .1 .1 .0))
               (List._∷_
-              Row.off
-              (List._∷_
-              (Row.lease (κs .1 .1 .1 .1 .1 .1 .1 .1 .1 .0) (qs .1 .1 .1 .1 .1 .1 .1 .1 .1 .0))
-              (List._∷_
-              Row.off
+              (Row.lease (κs .1 .1 .1 .1 .1 .1 .1 .1 .0) (qs .1 .1 .1 .1 .1 .1 .1 .1 .0))
               (List._∷_
               Row.off
               (List._∷_
               Row.off
               (List._∷_
               Row.off
-              (List._∷_ Row.off (List._∷_ Row.dead (List._∷_ Row.alive List.[]))))))))))))))));
+              (List._∷_ Row.off (List._∷_ Row.off (List._∷_ Row.off List.[]))))))))))))));
         }
 
         abbrev G70 : Row.Cx
         G70 = record {
-          locals = List._++_ g47 (List._++_ t1 t39);
+          locals = List._++_ t42 t1;
           slots = List._∷_
               (Row.lease (κs .0) (qs .0))
               (List._∷_
@@ -10299,23 +9201,19 @@ module _ (claims· : Claims) where
               (List._∷_
               (Row.lease (κs .1 .1 .1 .1 .1 .1 .1 .0) (qs .1 .1 .1 .1 .1 .1 .1 .0))
               (List._∷_
-              Row.off
-              (List._∷_
-              (Row.lease (κs .1 .1 .1 .1 .1 .1 .1 .1 .1 .0) (qs .1 .1 .1 .1 .1 .1 .1 .1 .1 .0))
+              (Row.lease (κs .1 .1 .1 .1 .1 .1 .1 .1 .0) (qs .1 .1 .1 .1 .1 .1 .1 .1 .0))
               (List._∷_
               Row.off
               (List._∷_
               Row.off
               (List._∷_
               Row.off
-              (List._∷_
-              Row.off
-              (List._∷_ Row.off (List._∷_ Row.dead (List._∷_ Row.alive List.[]))))))))))))))));
+              (List._∷_ Row.off (List._∷_ Row.off (List._∷_ Row.off List.[]))))))))))))));
         }
 
         abbrev G71 : Row.Cx
         G71 = record {
-          locals = List._++_ g47 (List._++_ t1 t39);
+          locals = List._++_ t43 t1;
           slots = List._∷_
               (Row.lease (κs .0) (qs .0))
               (List._∷_
@@ -10333,23 +9231,19 @@ module _ (claims· : Claims) where
               (List._∷_
               (Row.lease (κs .1 .1 .1 .1 .1 .1 .1 .0) (qs .1 .1 .1 .1 .1 .1 .1 .0))
               (List._∷_
-              Row.off
-              (List._∷_
-              (Row.lease (κs .1 .1 .1 .1 .1 .1 .1 .1 .1 .0) (qs .1 .1 .1 .1 .1 .1 .1 .1 .1 .0))
+              (Row.lease (κs .1 .1 .1 .1 .1 .1 .1 .1 .0) (qs .1 .1 .1 .1 .1 .1 .1 .1 .0))
               (List._∷_
               Row.off
               (List._∷_
               Row.off
               (List._∷_
               Row.off
-              (List._∷_
-              Row.off
-              (List._∷_ Row.off (List._∷_ Row.dead (List._∷_ Row.alive List.[]))))))))))))))));
+              (List._∷_ Row.off (List._∷_ Row.off (List._∷_ Row.off List.[]))))))))))))));
         }
 
         abbrev G72 : Row.Cx
         G72 = record {
-          locals = List._++_ g47 (List._++_ t1 t39);
+          locals = List._++_ t44 t1;
           slots = List._∷_
               (Row.lease (κs .0) (qs .0))
               (List._∷_
@@ -10367,23 +9261,19 @@ module _ (claims· : Claims) where
               (List._∷_
               (Row.lease (κs .1 .1 .1 .1 .1 .1 .1 .0) (qs .1 .1 .1 .1 .1 .1 .1 .0))
               (List._∷_
-              Row.off
-              (List._∷_
-              (Row.lease (κs .1 .1 .1 .1 .1 .1 .1 .1 .1 .0) (qs .1 .1 .1 .1 .1 .1 .1 .1 .1 .0))
+              (Row.lease (κs .1 .1 .1 .1 .1 .1 .1 .1 .0) (qs .1 .1 .1 .1 .1 .1 .1 .1 .0))
               (List._∷_
               Row.off
               (List._∷_
               Row.off
               (List._∷_
               Row.off
-              (List._∷_
-              Row.off
-              (List._∷_ Row.off (List._∷_ Row.off (List._∷_ Row.alive List.[]))))))))))))))));
+              (List._∷_ Row.off (List._∷_ Row.off (List._∷_ Row.off List.[]))))))))))))));
         }
 
         abbrev G73 : Row.Cx
         G73 = record {
-          locals = List._++_ g47 (List._++_ t1 t39);
+          locals = List._++_ t45 t1;
           slots = List._∷_
               (Row.lease (κs .0) (qs .0))
               (List._∷_
@@ -10401,23 +9291,19 @@ module _ (claims· : Claims) where
               (List._∷_
               (Row.lease (κs .1 .1 .1 .1 .1 .1 .1 .0) (qs .1 .1 .1 .1 .1 .1 .1 .0))
               (List._∷_
-              Row.off
-              (List._∷_
-              (Row.lease (κs .1 .1 .1 .1 .1 .1 .1 .1 .1 .0) (qs .1 .1 .1 .1 .1 .1 .1 .1 .1 .0))
+              (Row.lease (κs .1 .1 .1 .1 .1 .1 .1 .1 .0) (qs .1 .1 .1 .1 .1 .1 .1 .1 .0))
               (List._∷_
               Row.off
               (List._∷_
               Row.off
               (List._∷_
               Row.off
-              (List._∷_
-              Row.off
-              (List._∷_ Row.off (List._∷_ Row.off (List._∷_ Row.dead List.[]))))))))))))))));
+              (List._∷_ Row.off (List._∷_ Row.off (List._∷_ Row.off List.[]))))))))))))));
         }
 
         abbrev G74 : Row.Cx
         G74 = record {
-          locals = List._++_ t6 (List._++_ t1 t2);
+          locals = List._++_ t2 t1;
           slots = List._∷_
               (Row.lease (κs .0) (qs .0))
               (List._∷_
@@ -10437,315 +9323,39 @@ module _ (claims· : Claims) where
               (List._∷_
               (Row.lease (κs .1 .1 .1 .1 .1 .1 .1 .1 .0) (qs .1 .1 .1 .1 .1 .1 .1 .1 .0))
               (List._∷_
-              (Row.lease (κs .1 .1 .1 .1 .1 .1 .1 .1 .1 .0) (qs .1 .1 .1 .1 .1 .1 .1 .1 .1 .0))
-              (List._∷_
               Row.off
               (List._∷_
               Row.off
               (List._∷_
               Row.off
-              (List._∷_
-              Row.off
-              (List._∷_ Row.off (List._∷_ Row.off (List._∷_ Row.dead List.[]))))))))))))))));
-        }
-
-        abbrev G75 : Row.Cx
-        G75 = record {
-          locals = List._++_ t6 (List._++_ t1 t2);
-          slots = List._∷_
-              (Row.lease (κs .0) (qs .0))
-              (List._∷_
-              (Row.lease (κs .1 .0) (qs .1 .0))
-              (List._∷_
-              (Row.lease (κs .1 .1 .0) (qs .1 .1 .0))
-              (List._∷_
-              (Row.lease (κs .1 .1 .1 .0) (qs .1 .1 .1 .0))
-              (List._∷_
-              (Row.lease (κs .1 .1 .1 .1 .0) (qs .1 .1 .1 .1 .0))
-              (List._∷_
-              (Row.lease (κs .1 .1 .1 .1 .1 .0) (qs .1 .1 .1 .1 .1 .0))
-              (List._∷_
-              (Row.lease (κs .1 .1 .1 .1 .1 .1 .0) (qs .1 .1 .1 .1 .1 .1 .0))
-              (List._∷_
-              (Row.lease (κs .1 .1 .1 .1 .1 .1 .1 .0) (qs .1 .1 .1 .1 .1 .1 .1 .0))
-              (List._∷_
-              (Row.lease (κs .1 .1 .1 .1 .1 .1 .1 .1 .0) (qs .1 .1 .1 .1 .1 .1 .1 .1 .0))
-              (List._∷_
-              (Row.lease (κs .1 .1 .1 .1 .1 .1 .1 .1 .1 .0) (qs .1 .1 .1 .1 .1 .1 .1 .1 .1 .0))
-              (List._∷_
-              Row.off
-              (List._∷_
-              Row.off
-              (List._∷_
-              Row.off
-              (List._∷_
-              Row.off
-              (List._∷_ Row.off (List._∷_ Row.off (List._∷_ Row.dead List.[]))))))))))))))));
-        }
-
-        abbrev G76 : Row.Cx
-        G76 = record {
-          locals = List._++_ t6 (List._++_ t1 t2);
-          slots = List._∷_
-              (Row.lease (κs .0) (qs .0))
-              (List._∷_
-              (Row.lease (κs .1 .0) (qs .1 .0))
-              (List._∷_
-              (Row.lease (κs .1 .1 .0) (qs .1 .1 .0))
-              (List._∷_
-              (Row.lease (κs .1 .1 .1 .0) (qs .1 .1 .1 .0))
-              (List._∷_
-              (Row.lease (κs .1 .1 .1 .1 .0) (qs .1 .1 .1 .1 .0))
-              (List._∷_
-              (Row.lease (κs .1 .1 .1 .1 .1 .0) (qs .1 .1 .1 .1 .1 .0))
-              (List._∷_
-              (Row.lease (κs .1 .1 .1 .1 .1 .1 .0) (qs .1 .1 .1 .1 .1 .1 .0))
-              (List._∷_
-              (Row.lease (κs .1 .1 .1 .1 .1 .1 .1 .0) (qs .1 .1 .1 .1 .1 .1 .1 .0))
-              (List._∷_
-              (Row.lease (κs .1 .1 .1 .1 .1 .1 .1 .1 .0) (qs .1 .1 .1 .1 .1 .1 .1 .1 .0))
-              (List._∷_
-              (Row.lease (κs .1 .1 .1 .1 .1 .1 .1 .1 .1 .0) (qs .1 .1 .1 .1 .1 .1 .1 .1 .1 .0))
-              (List._∷_
-              Row.off
-              (List._∷_
-              Row.off
-              (List._∷_
-              Row.off
-              (List._∷_
-              Row.off
-              (List._∷_ Row.off (List._∷_ Row.off (List._∷_ Row.off List.[]))))))))))))))));
-        }
-
-        abbrev G77 : Row.Cx
-        G77 = record {
-          locals = List._++_ t6 (List._++_ t1 t2);
-          slots = List._∷_
-              (Row.lease (κs .0) (qs .0))
-              (List._∷_
-              (Row.lease (κs .1 .0) (qs .1 .0))
-              (List._∷_
-              (Row.lease (κs .1 .1 .0) (qs .1 .1 .0))
-              (List._∷_
-              (Row.lease (κs .1 .1 .1 .0) (qs .1 .1 .1 .0))
-              (List._∷_
-              (Row.lease (κs .1 .1 .1 .1 .0) (qs .1 .1 .1 .1 .0))
-              (List._∷_
-              (Row.lease (κs .1 .1 .1 .1 .1 .0) (qs .1 .1 .1 .1 .1 .0))
-              (List._∷_
-              (Row.lease (κs .1 .1 .1 .1 .1 .1 .0) (qs .1 .1 .1 .1 .1 .1 .0))
-              (List._∷_
-              (Row.lease (κs .1 .1 .1 .1 .1 .1 .1 .0) (qs .1 .1 .1 .1 .1 .1 .1 .0))
-              (List._∷_
-              (Row.lease (κs .1 .1 .1 .1 .1 .1 .1 .1 .0) (qs .1 .1 .1 .1 .1 .1 .1 .1 .0))
-              (List._∷_
-              (Row.lease (κs .1 .1 .1 .1 .1 .1 .1 .1 .1 .0) (qs .1 .1 .1 .1 .1 .1 .1 .1 .1 .0))
-              (List._∷_
-              Row.off
-              (List._∷_
-              Row.off
-              (List._∷_
-              Row.off
-              (List._∷_
-              Row.off
-              (List._∷_ Row.off (List._∷_ Row.off (List._∷_ Row.off List.[]))))))))))))))));
-        }
-
-        abbrev G78 : Row.Cx
-        G78 = record {
-          locals = List._++_ t48 (List._++_ t1 t2);
-          slots = List._∷_
-              (Row.lease (κs .0) (qs .0))
-              (List._∷_
-              (Row.lease (κs .1 .0) (qs .1 .0))
-              (List._∷_
-              (Row.lease (κs .1 .1 .0) (qs .1 .1 .0))
-              (List._∷_
-              (Row.lease (κs .1 .1 .1 .0) (qs .1 .1 .1 .0))
-              (List._∷_
-              (Row.lease (κs .1 .1 .1 .1 .0) (qs .1 .1 .1 .1 .0))
-              (List._∷_
-              (Row.lease (κs .1 .1 .1 .1 .1 .0) (qs .1 .1 .1 .1 .1 .0))
-              (List._∷_
-              (Row.lease (κs .1 .1 .1 .1 .1 .1 .0) (qs .1 .1 .1 .1 .1 .1 .0))
-              (List._∷_
-              (Row.lease (κs .1 .1 .1 .1 .1 .1 .1 .0) (qs .1 .1 .1 .1 .1 .1 .1 .0))
-              (List._∷_
-              (Row.lease (κs .1 .1 .1 .1 .1 .1 .1 .1 .0) (qs .1 .1 .1 .1 .1 .1 .1 .1 .0))
-              (List._∷_
-              (Row.lease (κs .1 .1 .1 .1 .1 .1 .1 .1 .1 .0) (qs .1 .1 .1 .1 .1 .1 .1 .1 .1 .0))
-              (List._∷_
-              Row.off
-              (List._∷_
-              Row.off
-              (List._∷_
-              Row.off
-              (List._∷_
-              Row.off
-              (List._∷_ Row.off (List._∷_ Row.off (List._∷_ Row.off List.[]))))))))))))))));
-        }
-
-        abbrev G79 : Row.Cx
-        G79 = record {
-          locals = List._++_ t49 (List._++_ t1 t2);
-          slots = List._∷_
-              (Row.lease (κs .0) (qs .0))
-              (List._∷_
-              (Row.lease (κs .1 .0) (qs .1 .0))
-              (List._∷_
-              (Row.lease (κs .1 .1 .0) (qs .1 .1 .0))
-              (List._∷_
-              (Row.lease (κs .1 .1 .1 .0) (qs .1 .1 .1 .0))
-              (List._∷_
-              (Row.lease (κs .1 .1 .1 .1 .0) (qs .1 .1 .1 .1 .0))
-              (List._∷_
-              (Row.lease (κs .1 .1 .1 .1 .1 .0) (qs .1 .1 .1 .1 .1 .0))
-              (List._∷_
-              (Row.lease (κs .1 .1 .1 .1 .1 .1 .0) (qs .1 .1 .1 .1 .1 .1 .0))
-              (List._∷_
-              (Row.lease (κs .1 .1 .1 .1 .1 .1 .1 .0) (qs .1 .1 .1 .1 .1 .1 .1 .0))
-              (List._∷_
-              (Row.lease (κs .1 .1 .1 .1 .1 .1 .1 .1 .0) (qs .1 .1 .1 .1 .1 .1 .1 .1 .0))
-              (List._∷_
-              (Row.lease (κs .1 .1 .1 .1 .1 .1 .1 .1 .1 .0) (qs .1 .1 .1 .1 .1 .1 .1 .1 .1 .0))
-              (List._∷_
-              Row.off
-              (List._∷_
-              Row.off
-              (List._∷_
-              Row.off
-              (List._∷_
-              Row.off
-              (List._∷_ Row.off (List._∷_ Row.off (List._∷_ Row.off List.[]))))))))))))))));
-        }
-
-        abbrev G80 : Row.Cx
-        G80 = record {
-          locals = List._++_ t50 (List._++_ t1 t2);
-          slots = List._∷_
-              (Row.lease (κs .0) (qs .0))
-              (List._∷_
-              (Row.lease (κs .1 .0) (qs .1 .0))
-              (List._∷_
-              (Row.lease (κs .1 .1 .0) (qs .1 .1 .0))
-              (List._∷_
-              (Row.lease (κs .1 .1 .1 .0) (qs .1 .1 .1 .0))
-              (List._∷_
-              (Row.lease (κs .1 .1 .1 .1 .0) (qs .1 .1 .1 .1 .0))
-              (List._∷_
-              (Row.lease (κs .1 .1 .1 .1 .1 .0) (qs .1 .1 .1 .1 .1 .0))
-              (List._∷_
-              (Row.lease (κs .1 .1 .1 .1 .1 .1 .0) (qs .1 .1 .1 .1 .1 .1 .0))
-              (List._∷_
-              (Row.lease (κs .1 .1 .1 .1 .1 .1 .1 .0) (qs .1 .1 .1 .1 .1 .1 .1 .0))
-              (List._∷_
-              (Row.lease (κs .1 .1 .1 .1 .1 .1 .1 .1 .0) (qs .1 .1 .1 .1 .1 .1 .1 .1 .0))
-              (List._∷_
-              (Row.lease (κs .1 .1 .1 .1 .1 .1 .1 .1 .1 .0) (qs .1 .1 .1 .1 .1 .1 .1 .1 .1 .0))
-              (List._∷_
-              Row.off
-              (List._∷_
-              Row.off
-              (List._∷_
-              Row.off
-              (List._∷_
-              Row.off
-              (List._∷_ Row.off (List._∷_ Row.off (List._∷_ Row.off List.[]))))))))))))))));
-        }
-
-        abbrev G81 : Row.Cx
-        G81 = record {
-          locals = List._++_ t51 (List._++_ t1 t2);
-          slots = List._∷_
-              (Row.lease (κs .0) (qs .0))
-              (List._∷_
-              (Row.lease (κs .1 .0) (qs .1 .0))
-              (List._∷_
-              (Row.lease (κs .1 .1 .0) (qs .1 .1 .0))
-              (List._∷_
-              (Row.lease (κs .1 .1 .1 .0) (qs .1 .1 .1 .0))
-              (List._∷_
-              (Row.lease (κs .1 .1 .1 .1 .0) (qs .1 .1 .1 .1 .0))
-              (List._∷_
-              (Row.lease (κs .1 .1 .1 .1 .1 .0) (qs .1 .1 .1 .1 .1 .0))
-              (List._∷_
-              (Row.lease (κs .1 .1 .1 .1 .1 .1 .0) (qs .1 .1 .1 .1 .1 .1 .0))
-              (List._∷_
-              (Row.lease (κs .1 .1 .1 .1 .1 .1 .1 .0) (qs .1 .1 .1 .1 .1 .1 .1 .0))
-              (List._∷_
-              (Row.lease (κs .1 .1 .1 .1 .1 .1 .1 .1 .0) (qs .1 .1 .1 .1 .1 .1 .1 .1 .0))
-              (List._∷_
-              (Row.lease (κs .1 .1 .1 .1 .1 .1 .1 .1 .1 .0) (qs .1 .1 .1 .1 .1 .1 .1 .1 .1 .0))
-              (List._∷_
-              Row.off
-              (List._∷_
-              Row.off
-              (List._∷_
-              Row.off
-              (List._∷_
-              Row.off
-              (List._∷_ Row.off (List._∷_ Row.off (List._∷_ Row.off List.[]))))))))))))))));
-        }
-
-        abbrev G82 : Row.Cx
-        G82 = record {
-          locals = List._++_ t3 (List._++_ t1 t2);
-          slots = List._∷_
-              (Row.lease (κs .0) (qs .0))
-              (List._∷_
-              (Row.lease (κs .1 .0) (qs .1 .0))
-              (List._∷_
-              (Row.lease (κs .1 .1 .0) (qs .1 .1 .0))
-              (List._∷_
-              (Row.lease (κs .1 .1 .1 .0) (qs .1 .1 .1 .0))
-              (List._∷_
-              (Row.lease (κs .1 .1 .1 .1 .0) (qs .1 .1 .1 .1 .0))
-              (List._∷_
-              (Row.lease (κs .1 .1 .1 .1 .1 .0) (qs .1 .1 .1 .1 .1 .0))
-              (List._∷_
-              (Row.lease (κs .1 .1 .1 .1 .1 .1 .0) (qs .1 .1 .1 .1 .1 .1 .0))
-              (List._∷_
-              (Row.lease (κs .1 .1 .1 .1 .1 .1 .1 .0) (qs .1 .1 .1 .1 .1 .1 .1 .0))
-              (List._∷_
-              (Row.lease (κs .1 .1 .1 .1 .1 .1 .1 .1 .0) (qs .1 .1 .1 .1 .1 .1 .1 .1 .0))
-              (List._∷_
-              (Row.lease (κs .1 .1 .1 .1 .1 .1 .1 .1 .1 .0) (qs .1 .1 .1 .1 .1 .1 .1 .1 .1 .0))
-              (List._∷_
-              Row.off
-              (List._∷_
-              Row.off
-              (List._∷_
-              Row.off
-              (List._∷_
-              Row.off
-              (List._∷_ Row.off (List._∷_ Row.off (List._∷_ Row.off List.[]))))))))))))))));
+              (List._∷_ Row.off (List._∷_ Row.off (List._∷_ Row.off List.[]))))))))))))));
         }
 
         abbrev Δ0 : Typed.Outs
         Δ0 = record { next = Option.none; exits = List.[]; returns = Option.some G1 }
 
         abbrev Δ1 : Typed.Outs
-        Δ1 = Typed.withNext (Option.some G14) Δ0
+        Δ1 = Typed.withNext (Option.some G13) Δ0
 
         abbrev Δ2 : Typed.Outs
         Δ2 = Typed.inBlock₀ Δ1
 
         abbrev Δ3 : Typed.Outs
-        Δ3 = Typed.inLoop₀ G13 Δ2
+        Δ3 = Typed.inLoop₀ G12 Δ2
 
         abbrev Δ4 : Typed.Outs
-        Δ4 = Typed.withNext (Option.some G16) Δ3
+        Δ4 = Typed.withNext (Option.some G15) Δ3
 
         module _ {M : Type 1} (𝓤 : URA.URA M) (H : Wp.Heap 𝓤) (A : Atoms.Atoms 𝓤)
             (W : Kit.Given 𝓤 H A) (𝓣 : Wp.Tables 𝓤 H) (known : Knowns 𝓤 H A W 𝓣)
-            (bs : List.List Nat.ℕ) (bd : Lifetimes.AllOutlive 10 (Kinds.osR r) κs) where
+            (bs : List.List Nat.ℕ) (bd : Lifetimes.AllOutlive 9 (Kinds.osR r) κs) where
           abbrev E : Wp.Env 𝓤 H
           E = Frame.EnvOf 𝓤 H (List._∷_ (Kinds.tyR r) (Enter.tysP ps xs)) bs
 
-          d0 : Typed.Typed 𝓤 H A 𝓣 E G17 b4 Δ4 at0
+          d0 : Typed.Typed 𝓤 H A 𝓣 E G16 b4 Δ4 at0
           d0 = Typed.t-skip 𝓤 H A W 𝓣 E Δ4 tt
 
-          d1 : Typed.Typed 𝓤 H A 𝓣 E G15 b4 Δ4 at1
+          d1 : Typed.Typed 𝓤 H A 𝓣 E G14 b4 Δ4 at1
           d1 =
               Typed.g-pre
               𝓤
@@ -10754,19 +9364,19 @@ module _ (claims· : Claims) where
               W
               𝓣
               E
-              G15
-              G17
+              G14
+              G16
               b4
               Δ4
-              (Typed.pass T15 T17 s13)
+              (Typed.pass T14 T16 s12)
               at0
-              (Scalar.g-room 𝓤 H A W E G15 16 Syntax.tyBool (Scalar.room-sc 𝓤 H A W Row.sBool))
+              (Scalar.g-room 𝓤 H A W E G14 15 Syntax.tyBool (Scalar.room-sc 𝓤 H A W Row.sBool))
               d0
 
-          d2 : Typed.Typed 𝓤 H A 𝓣 E G18 b5 Δ4 at2
+          d2 : Typed.Typed 𝓤 H A 𝓣 E G17 b5 Δ4 at2
           d2 = Typed.t-exit 𝓤 H A W 𝓣 E 1 Δ4 tt
 
-          d3 : Typed.Typed 𝓤 H A 𝓣 E G15 b5 Δ4 at3
+          d3 : Typed.Typed 𝓤 H A 𝓣 E G14 b5 Δ4 at3
           d3 =
               Typed.g-pre
               𝓤
@@ -10775,16 +9385,16 @@ module _ (claims· : Claims) where
               W
               𝓣
               E
-              G15
-              G18
+              G14
+              G17
               b5
               Δ4
-              (Typed.pass T15 T18 s14)
+              (Typed.pass T14 T17 s13)
               at2
-              (Scalar.g-room 𝓤 H A W E G15 16 Syntax.tyBool (Scalar.room-sc 𝓤 H A W Row.sBool))
+              (Scalar.g-room 𝓤 H A W E G14 15 Syntax.tyBool (Scalar.room-sc 𝓤 H A W Row.sBool))
               d2
 
-          d4 : Typed.Typed 𝓤 H A 𝓣 E G15 b6 Δ4 at4
+          d4 : Typed.Typed 𝓤 H A 𝓣 E G14 b6 Δ4 at4
           d4 =
               Scalar.t-cond
               𝓤
@@ -10793,8 +9403,8 @@ module _ (claims· : Claims) where
               W
               E
               𝓣
-              G15
-              16
+              G14
+              15
               (λ x. x)
               b4
               b5
@@ -10806,7 +9416,7 @@ module _ (claims· : Claims) where
               d1
               d3
 
-          d5 : Typed.Typed 𝓤 H A 𝓣 E G76 b27 Δ3 at5
+          d5 : Typed.Typed 𝓤 H A 𝓣 E G68 b25 Δ3 at5
           d5 =
               Typed.s-typed
               𝓤
@@ -10815,10 +9425,10 @@ module _ (claims· : Claims) where
               W
               𝓣
               E
-              G76
-              b27
+              G68
+              b25
               Δ3
-              (Typed.ask s73)
+              (Typed.ask s65)
               tt
               (Scalar.t-op2
               𝓤
@@ -10827,11 +9437,11 @@ module _ (claims· : Claims) where
               W
               E
               𝓣
-              G76
+              G68
               (Syntax.add Syntax.unsigned)
-              (Scalar.oAt 13 (Syntax.tyInt Syntax.w64) (Row.valS (Row.sInt Syntax.w64)))
+              (Scalar.oAt 12 (Syntax.tyInt Syntax.w64) (Row.valS (Row.sInt Syntax.w64)))
               (Scalar.oInt Syntax.w64 1)
-              13
+              12
               (Rows.sc-here (Row.sInt Syntax.w64))
               (Syntax.tyInt Syntax.w64)
               (Row.valS (Row.sInt Syntax.w64))
@@ -10844,7 +9454,7 @@ module _ (claims· : Claims) where
               (λ u. Path'.refl)
               λ u. tt)
 
-          d6 : Typed.Typed 𝓤 H A 𝓣 E G75 b27 Δ3 at6
+          d6 : Typed.Typed 𝓤 H A 𝓣 E G67 b25 Δ3 at6
           d6 =
               Typed.g-pre
               𝓤
@@ -10853,16 +9463,16 @@ module _ (claims· : Claims) where
               W
               𝓣
               E
-              G75
-              G76
-              b27
+              G67
+              G68
+              b25
               Δ3
               (λ Ψ. Ψ)
               at5
-              (Lifetime.g-forget 𝓤 H A W E G75 16 Row.dead Path'.refl)
+              (Lifetime.g-forget 𝓤 H A W E G67 14 Row.dead Path'.refl)
               d5
 
-          d7 : Typed.Typed 𝓤 H A 𝓣 E G74 b27 Δ3 at7
+          d7 : Typed.Typed 𝓤 H A 𝓣 E G66 b25 Δ3 at7
           d7 =
               Typed.g-pre
               𝓤
@@ -10871,11 +9481,11 @@ module _ (claims· : Claims) where
               W
               𝓣
               E
-              G74
-              G75
-              b27
+              G66
+              G67
+              b25
               Δ3
-              (Typed.give s71)
+              (Typed.give s63)
               at6
               (Know.g-sl-known
               𝓤
@@ -10884,138 +9494,7 @@ module _ (claims· : Claims) where
               W
               (Referent.fInt Syntax.w8)
               E
-              G74
-              10
-              8
-              (Syntax.tyRef (Syntax.named 8) Syntax.mut (Syntax.tyInt Syntax.w8))
-              (Row.lease (κs .1 .1 .1 .1 .1 .1 .1 .1 .0) (qs .1 .1 .1 .1 .1 .1 .1 .1 .0))
-              0
-              (λ x. x)
-              record { fits = Dec'.lit< tt }
-              (Reads'.as-is
-              𝓤
-              H
-              A
-              (Mut.mslice
-              (Referent.rtF (Referent.fInt Syntax.w8))
-              (Syntax.tyRef (Syntax.named 8) Syntax.mut (Syntax.tyInt Syntax.w8))
-              8))
-              Path'.refl
-              tt)
-              d6
-
-          d8 : Typed.Typed 𝓤 H A 𝓣 E G73 b27 Δ3 at8
-          d8 =
-              Typed.g-pre
-              𝓤
-              H
-              A
-              W
-              𝓣
-              E
-              G73
-              G74
-              b27
-              Δ3
-              (Typed.both s70)
-              at7
-              (Relend.g-back-sl
-              𝓤
-              H
-              A
-              W
-              E
-              (Referent.rtF (Referent.fInt Syntax.w8))
-              G73
-              33
-              10
-              8
-              16
-              (Syntax.tyRef (Syntax.named 8) Syntax.mut (Syntax.tyInt Syntax.w8))
-              (Syntax.tyRef Syntax.erased Syntax.mut (Syntax.tyInt Syntax.w8))
-              (Row.lease (κs .1 .1 .1 .1 .1 .1 .1 .1 .0) (qs .1 .1 .1 .1 .1 .1 .1 .1 .0))
-              (λ x. x)
-              (λ x. x)
-              (Reads'.as-is
-              𝓤
-              H
-              A
-              (Mut.msleft
-              (Referent.rtF (Referent.fInt Syntax.w8))
-              (Syntax.tyRef Syntax.erased Syntax.mut (Syntax.tyInt Syntax.w8))))
-              (Reads'.as-is
-              𝓤
-              H
-              A
-              (Relend.mslice-owed
-              (Referent.rtF (Referent.fInt Syntax.w8))
-              (Syntax.tyRef (Syntax.named 8) Syntax.mut (Syntax.tyInt Syntax.w8))
-              8
-              16
-              (Row.lease (κs .1 .1 .1 .1 .1 .1 .1 .1 .0) (qs .1 .1 .1 .1 .1 .1 .1 .1 .0))))
-              Path'.refl
-              Path'.refl)
-              d7
-
-          d9 : Typed.Typed 𝓤 H A 𝓣 E G72 b27 Δ3 at9
-          d9 =
-              Typed.g-pre
-              𝓤
-              H
-              A
-              W
-              𝓣
-              E
-              G72
-              G73
-              b27
-              Δ3
-              (λ Ψ. Ψ)
-              at8
-              (Lifetime.g-end 𝓤 H A W E G72 16 Path'.refl)
-              d8
-
-          d10 : Typed.Typed 𝓤 H A 𝓣 E G71 b27 Δ3 at10
-          d10 =
-              Typed.g-pre
-              𝓤
-              H
-              A
-              W
-              𝓣
-              E
-              G71
-              G72
-              b27
-              Δ3
-              (λ Ψ. Ψ)
-              at9
-              (Lifetime.g-forget 𝓤 H A W E G71 15 Row.dead Path'.refl)
-              d9
-
-          d11 : Typed.Typed 𝓤 H A 𝓣 E G70 b27 Δ3 at11
-          d11 =
-              Typed.g-pre
-              𝓤
-              H
-              A
-              W
-              𝓣
-              E
-              G70
-              G71
-              b27
-              Δ3
-              (Typed.give s67)
-              at10
-              (Know.g-sl-known
-              𝓤
-              H
-              A
-              W
-              (Referent.fInt Syntax.w8)
-              E
-              G70
+              G66
               9
               7
               (Syntax.tyRef (Syntax.named 7) Syntax.mut (Syntax.tyInt Syntax.w8))
@@ -11033,10 +9512,10 @@ module _ (claims· : Claims) where
               7))
               Path'.refl
               tt)
-              d10
+              d6
 
-          d12 : Typed.Typed 𝓤 H A 𝓣 E G69 b27 Δ3 at12
-          d12 =
+          d8 : Typed.Typed 𝓤 H A 𝓣 E G65 b25 Δ3 at8
+          d8 =
               Typed.g-pre
               𝓤
               H
@@ -11044,12 +9523,12 @@ module _ (claims· : Claims) where
               W
               𝓣
               E
-              G69
-              G70
-              b27
+              G65
+              G66
+              b25
               Δ3
-              (Typed.both s66)
-              at11
+              (Typed.both s62)
+              at7
               (Relend.g-back-sl
               𝓤
               H
@@ -11057,11 +9536,11 @@ module _ (claims· : Claims) where
               W
               E
               (Referent.rtF (Referent.fInt Syntax.w8))
-              G69
-              31
+              G65
+              30
               9
               7
-              15
+              14
               (Syntax.tyRef (Syntax.named 7) Syntax.mut (Syntax.tyInt Syntax.w8))
               (Syntax.tyRef Syntax.erased Syntax.mut (Syntax.tyInt Syntax.w8))
               (Row.lease (κs .1 .1 .1 .1 .1 .1 .1 .0) (qs .1 .1 .1 .1 .1 .1 .1 .0))
@@ -11082,14 +9561,14 @@ module _ (claims· : Claims) where
               (Referent.rtF (Referent.fInt Syntax.w8))
               (Syntax.tyRef (Syntax.named 7) Syntax.mut (Syntax.tyInt Syntax.w8))
               7
-              15
+              14
               (Row.lease (κs .1 .1 .1 .1 .1 .1 .1 .0) (qs .1 .1 .1 .1 .1 .1 .1 .0))))
               Path'.refl
               Path'.refl)
-              d11
+              d7
 
-          d13 : Typed.Typed 𝓤 H A 𝓣 E G68 b27 Δ3 at13
-          d13 =
+          d9 : Typed.Typed 𝓤 H A 𝓣 E G64 b25 Δ3 at9
+          d9 =
               Typed.g-pre
               𝓤
               H
@@ -11097,17 +9576,17 @@ module _ (claims· : Claims) where
               W
               𝓣
               E
-              G68
-              G69
-              b27
+              G64
+              G65
+              b25
               Δ3
               (λ Ψ. Ψ)
-              at12
-              (Lifetime.g-end 𝓤 H A W E G68 15 Path'.refl)
-              d12
+              at8
+              (Lifetime.g-end 𝓤 H A W E G64 14 Path'.refl)
+              d8
 
-          d14 : Typed.Typed 𝓤 H A 𝓣 E G67 b27 Δ3 at14
-          d14 =
+          d10 : Typed.Typed 𝓤 H A 𝓣 E G63 b25 Δ3 at10
+          d10 =
               Typed.g-pre
               𝓤
               H
@@ -11115,17 +9594,17 @@ module _ (claims· : Claims) where
               W
               𝓣
               E
-              G67
-              G68
-              b27
+              G63
+              G64
+              b25
               Δ3
               (λ Ψ. Ψ)
-              at13
-              (Lifetime.g-forget 𝓤 H A W E G67 14 Row.dead Path'.refl)
-              d13
+              at9
+              (Lifetime.g-forget 𝓤 H A W E G63 13 Row.dead Path'.refl)
+              d9
 
-          d15 : Typed.Typed 𝓤 H A 𝓣 E G66 b27 Δ3 at15
-          d15 =
+          d11 : Typed.Typed 𝓤 H A 𝓣 E G62 b25 Δ3 at11
+          d11 =
               Typed.g-pre
               𝓤
               H
@@ -11133,12 +9612,12 @@ module _ (claims· : Claims) where
               W
               𝓣
               E
-              G66
-              G67
-              b27
+              G62
+              G63
+              b25
               Δ3
-              (Typed.give s63)
-              at14
+              (Typed.give s59)
+              at10
               (Know.g-sl-known
               𝓤
               H
@@ -11146,7 +9625,7 @@ module _ (claims· : Claims) where
               W
               (Referent.fInt Syntax.w8)
               E
-              G66
+              G62
               8
               6
               (Syntax.tyRef (Syntax.named 6) Syntax.mut (Syntax.tyInt Syntax.w8))
@@ -11164,10 +9643,10 @@ module _ (claims· : Claims) where
               6))
               Path'.refl
               tt)
-              d14
+              d10
 
-          d16 : Typed.Typed 𝓤 H A 𝓣 E G65 b27 Δ3 at16
-          d16 =
+          d12 : Typed.Typed 𝓤 H A 𝓣 E G61 b25 Δ3 at12
+          d12 =
               Typed.g-pre
               𝓤
               H
@@ -11175,12 +9654,12 @@ module _ (claims· : Claims) where
               W
               𝓣
               E
-              G65
-              G66
-              b27
+              G61
+              G62
+              b25
               Δ3
-              (Typed.both s62)
-              at15
+              (Typed.both s58)
+              at11
               (Relend.g-back-sl
               𝓤
               H
@@ -11188,11 +9667,11 @@ module _ (claims· : Claims) where
               W
               E
               (Referent.rtF (Referent.fInt Syntax.w8))
-              G65
-              29
+              G61
+              28
               8
               6
-              14
+              13
               (Syntax.tyRef (Syntax.named 6) Syntax.mut (Syntax.tyInt Syntax.w8))
               (Syntax.tyRef Syntax.erased Syntax.mut (Syntax.tyInt Syntax.w8))
               (Row.lease (κs .1 .1 .1 .1 .1 .1 .0) (qs .1 .1 .1 .1 .1 .1 .0))
@@ -11213,14 +9692,14 @@ module _ (claims· : Claims) where
               (Referent.rtF (Referent.fInt Syntax.w8))
               (Syntax.tyRef (Syntax.named 6) Syntax.mut (Syntax.tyInt Syntax.w8))
               6
-              14
+              13
               (Row.lease (κs .1 .1 .1 .1 .1 .1 .0) (qs .1 .1 .1 .1 .1 .1 .0))))
               Path'.refl
               Path'.refl)
-              d15
+              d11
 
-          d17 : Typed.Typed 𝓤 H A 𝓣 E G64 b27 Δ3 at17
-          d17 =
+          d13 : Typed.Typed 𝓤 H A 𝓣 E G60 b25 Δ3 at13
+          d13 =
               Typed.g-pre
               𝓤
               H
@@ -11228,17 +9707,17 @@ module _ (claims· : Claims) where
               W
               𝓣
               E
-              G64
-              G65
-              b27
+              G60
+              G61
+              b25
               Δ3
               (λ Ψ. Ψ)
-              at16
-              (Lifetime.g-end 𝓤 H A W E G64 14 Path'.refl)
-              d16
+              at12
+              (Lifetime.g-end 𝓤 H A W E G60 13 Path'.refl)
+              d12
 
-          d18 : Typed.Typed 𝓤 H A 𝓣 E G63 b27 Δ3 at18
-          d18 =
+          d14 : Typed.Typed 𝓤 H A 𝓣 E G59 b25 Δ3 at14
+          d14 =
               Typed.g-pre
               𝓤
               H
@@ -11246,17 +9725,17 @@ module _ (claims· : Claims) where
               W
               𝓣
               E
-              G63
-              G64
-              b27
+              G59
+              G60
+              b25
               Δ3
               (λ Ψ. Ψ)
-              at17
-              (Lifetime.g-forget 𝓤 H A W E G63 13 Row.dead Path'.refl)
-              d17
+              at13
+              (Lifetime.g-forget 𝓤 H A W E G59 12 Row.dead Path'.refl)
+              d13
 
-          d19 : Typed.Typed 𝓤 H A 𝓣 E G62 b27 Δ3 at19
-          d19 =
+          d15 : Typed.Typed 𝓤 H A 𝓣 E G58 b25 Δ3 at15
+          d15 =
               Typed.g-pre
               𝓤
               H
@@ -11264,12 +9743,12 @@ module _ (claims· : Claims) where
               W
               𝓣
               E
-              G62
-              G63
-              b27
+              G58
+              G59
+              b25
               Δ3
-              (Typed.give s59)
-              at18
+              (Typed.give s55)
+              at14
               (Know.g-sl-known
               𝓤
               H
@@ -11277,7 +9756,7 @@ module _ (claims· : Claims) where
               W
               (Referent.fInt Syntax.w8)
               E
-              G62
+              G58
               7
               5
               (Syntax.tyRef (Syntax.named 5) Syntax.mut (Syntax.tyInt Syntax.w8))
@@ -11295,10 +9774,10 @@ module _ (claims· : Claims) where
               5))
               Path'.refl
               tt)
-              d18
+              d14
 
-          d20 : Typed.Typed 𝓤 H A 𝓣 E G61 b27 Δ3 at20
-          d20 =
+          d16 : Typed.Typed 𝓤 H A 𝓣 E G57 b25 Δ3 at16
+          d16 =
               Typed.g-pre
               𝓤
               H
@@ -11306,12 +9785,12 @@ module _ (claims· : Claims) where
               W
               𝓣
               E
-              G61
-              G62
-              b27
+              G57
+              G58
+              b25
               Δ3
-              (Typed.both s58)
-              at19
+              (Typed.both s54)
+              at15
               (Relend.g-back-sl
               𝓤
               H
@@ -11319,11 +9798,11 @@ module _ (claims· : Claims) where
               W
               E
               (Referent.rtF (Referent.fInt Syntax.w8))
-              G61
-              27
+              G57
+              26
               7
               5
-              13
+              12
               (Syntax.tyRef (Syntax.named 5) Syntax.mut (Syntax.tyInt Syntax.w8))
               (Syntax.tyRef Syntax.erased Syntax.mut (Syntax.tyInt Syntax.w8))
               (Row.lease (κs .1 .1 .1 .1 .1 .0) (qs .1 .1 .1 .1 .1 .0))
@@ -11344,14 +9823,14 @@ module _ (claims· : Claims) where
               (Referent.rtF (Referent.fInt Syntax.w8))
               (Syntax.tyRef (Syntax.named 5) Syntax.mut (Syntax.tyInt Syntax.w8))
               5
-              13
+              12
               (Row.lease (κs .1 .1 .1 .1 .1 .0) (qs .1 .1 .1 .1 .1 .0))))
               Path'.refl
               Path'.refl)
-              d19
+              d15
 
-          d21 : Typed.Typed 𝓤 H A 𝓣 E G60 b27 Δ3 at21
-          d21 =
+          d17 : Typed.Typed 𝓤 H A 𝓣 E G56 b25 Δ3 at17
+          d17 =
               Typed.g-pre
               𝓤
               H
@@ -11359,17 +9838,17 @@ module _ (claims· : Claims) where
               W
               𝓣
               E
-              G60
-              G61
-              b27
+              G56
+              G57
+              b25
               Δ3
               (λ Ψ. Ψ)
-              at20
-              (Lifetime.g-end 𝓤 H A W E G60 13 Path'.refl)
-              d20
+              at16
+              (Lifetime.g-end 𝓤 H A W E G56 12 Path'.refl)
+              d16
 
-          d22 : Typed.Typed 𝓤 H A 𝓣 E G59 b27 Δ3 at22
-          d22 =
+          d18 : Typed.Typed 𝓤 H A 𝓣 E G55 b25 Δ3 at18
+          d18 =
               Typed.g-pre
               𝓤
               H
@@ -11377,17 +9856,17 @@ module _ (claims· : Claims) where
               W
               𝓣
               E
-              G59
-              G60
-              b27
+              G55
+              G56
+              b25
               Δ3
               (λ Ψ. Ψ)
-              at21
-              (Lifetime.g-forget 𝓤 H A W E G59 12 Row.dead Path'.refl)
-              d21
+              at17
+              (Lifetime.g-forget 𝓤 H A W E G55 11 Row.dead Path'.refl)
+              d17
 
-          d23 : Typed.Typed 𝓤 H A 𝓣 E G58 b27 Δ3 at23
-          d23 =
+          d19 : Typed.Typed 𝓤 H A 𝓣 E G54 b25 Δ3 at19
+          d19 =
               Typed.g-pre
               𝓤
               H
@@ -11395,12 +9874,12 @@ module _ (claims· : Claims) where
               W
               𝓣
               E
-              G58
-              G59
-              b27
+              G54
+              G55
+              b25
               Δ3
-              (Typed.give s55)
-              at22
+              (Typed.give s51)
+              at18
               (Know.g-sl-known
               𝓤
               H
@@ -11408,7 +9887,7 @@ module _ (claims· : Claims) where
               W
               (Referent.fInt Syntax.w64)
               E
-              G58
+              G54
               6
               4
               (Syntax.tyRef (Syntax.named 4) Syntax.mut (Syntax.tyInt Syntax.w64))
@@ -11426,10 +9905,10 @@ module _ (claims· : Claims) where
               4))
               Path'.refl
               tt)
-              d22
+              d18
 
-          d24 : Typed.Typed 𝓤 H A 𝓣 E G57 b27 Δ3 at24
-          d24 =
+          d20 : Typed.Typed 𝓤 H A 𝓣 E G53 b25 Δ3 at20
+          d20 =
               Typed.g-pre
               𝓤
               H
@@ -11437,12 +9916,12 @@ module _ (claims· : Claims) where
               W
               𝓣
               E
-              G57
-              G58
-              b27
+              G53
+              G54
+              b25
               Δ3
-              (Typed.both s54)
-              at23
+              (Typed.both s50)
+              at19
               (Relend.g-back-sl
               𝓤
               H
@@ -11450,11 +9929,11 @@ module _ (claims· : Claims) where
               W
               E
               (Referent.rtF (Referent.fInt Syntax.w64))
-              G57
-              25
+              G53
+              24
               6
               4
-              12
+              11
               (Syntax.tyRef (Syntax.named 4) Syntax.mut (Syntax.tyInt Syntax.w64))
               (Syntax.tyRef Syntax.erased Syntax.mut (Syntax.tyInt Syntax.w64))
               (Row.lease (κs .1 .1 .1 .1 .0) (qs .1 .1 .1 .1 .0))
@@ -11475,14 +9954,14 @@ module _ (claims· : Claims) where
               (Referent.rtF (Referent.fInt Syntax.w64))
               (Syntax.tyRef (Syntax.named 4) Syntax.mut (Syntax.tyInt Syntax.w64))
               4
-              12
+              11
               (Row.lease (κs .1 .1 .1 .1 .0) (qs .1 .1 .1 .1 .0))))
               Path'.refl
               Path'.refl)
-              d23
+              d19
 
-          d25 : Typed.Typed 𝓤 H A 𝓣 E G56 b27 Δ3 at25
-          d25 =
+          d21 : Typed.Typed 𝓤 H A 𝓣 E G52 b25 Δ3 at21
+          d21 =
               Typed.g-pre
               𝓤
               H
@@ -11490,17 +9969,17 @@ module _ (claims· : Claims) where
               W
               𝓣
               E
-              G56
-              G57
-              b27
+              G52
+              G53
+              b25
               Δ3
               (λ Ψ. Ψ)
-              at24
-              (Lifetime.g-end 𝓤 H A W E G56 12 Path'.refl)
-              d24
+              at20
+              (Lifetime.g-end 𝓤 H A W E G52 11 Path'.refl)
+              d20
 
-          d26 : Typed.Typed 𝓤 H A 𝓣 E G55 b27 Δ3 at26
-          d26 =
+          d22 : Typed.Typed 𝓤 H A 𝓣 E G51 b25 Δ3 at22
+          d22 =
               Typed.g-pre
               𝓤
               H
@@ -11508,20 +9987,20 @@ module _ (claims· : Claims) where
               W
               𝓣
               E
-              G55
-              G56
-              b27
+              G51
+              G52
+              b25
               Δ3
-              (Typed.pass T55 T56 s52)
-              at25
+              (Typed.pass T51 T52 s48)
+              at21
               (Scalar.g-room
               𝓤
               H
               A
               W
               E
-              G55
-              15
+              G51
+              14
               (Syntax.tyStruct
               (List._∷_
               114
@@ -11635,10 +10114,10 @@ module _ (claims· : Claims) where
               (Syntax.tcons (Syntax.tyInt Syntax.w64) Syntax.tnil))
               (Syntax.tcons (Syntax.tyInt Syntax.w64) Syntax.tnil)))))
               Path'.refl))
-              d25
+              d21
 
-          d27 : Typed.Typed 𝓤 H A 𝓣 E G54 b28 Δ3 at27
-          d27 =
+          d23 : Typed.Typed 𝓤 H A 𝓣 E G50 b26 Δ3 at23
+          d23 =
               Typed.s-seq
               𝓤
               H
@@ -11646,20 +10125,20 @@ module _ (claims· : Claims) where
               W
               𝓣
               E
-              G54
-              G55
-              b26
-              b27
+              G50
+              G51
+              b24
+              b25
               Δ3
-              (Typed.both s51)
-              at26
+              (Typed.both s47)
+              at22
               (Plain.t-call-plain
               𝓤
               H
               A
               W
               𝓣
-              8
+              7
               ps·2
               r·2
               (claims· .4)
@@ -11668,7 +10147,7 @@ module _ (claims· : Claims) where
               (known .2)
               E
               (λ pos β. β)
-              G54 (
+              G50 (
                 record {
                   pos = 1;
                   ty = Syntax.tyRef (Syntax.named 0) Syntax.imm (Syntax.tyInt Syntax.w8);
@@ -11676,20 +10155,20 @@ module _ (claims· : Claims) where
                 },
                 (
                   Num.vFld
-                      15
+                      14
                       (List._∷_ (Syntax.field 0) List.[])
                       0
                       λ x. LineRec.struct .as-values
                       x .0,
                   (
                     Num.vFld
-                        15
+                        14
                         (List._∷_ (Syntax.field 1) List.[])
                         8
                         λ x. LineRec.struct .as-values
                         x .1 .0,
                     (
-                      Num.vAt 13 λ x. x,
+                      Num.vAt 12 λ x. x,
                       (
                         record {
                           pos = 4;
@@ -11704,13 +10183,13 @@ module _ (claims· : Claims) where
                           },
                           (
                             record {
-                              pos = 25;
+                              pos = 24;
                               ty = Syntax.tyRef Syntax.erased Syntax.mut (Syntax.tyInt Syntax.w64);
                               ref = λ x. x;
                             },
                             (
                               record {
-                                pos = 27;
+                                pos = 26;
                                 ty = Syntax.tyRef
                                     Syntax.erased
                                     Syntax.mut
@@ -11718,10 +10197,10 @@ module _ (claims· : Claims) where
                                 ref = λ x. x;
                               },
                               (
-                                Num.vAt 14 λ x. x,
+                                Num.vAt 13 λ x. x,
                                 (
                                   record {
-                                    pos = 29;
+                                    pos = 28;
                                     ty = Syntax.tyRef
                                         Syntax.erased
                                         Syntax.mut
@@ -11730,24 +10209,14 @@ module _ (claims· : Claims) where
                                   },
                                   (
                                     record {
-                                      pos = 31;
+                                      pos = 30;
                                       ty = Syntax.tyRef
                                           Syntax.erased
                                           Syntax.mut
                                           (Syntax.tyInt Syntax.w8);
                                       ref = λ x. x;
                                     },
-                                    (
-                                      record {
-                                        pos = 33;
-                                        ty = Syntax.tyRef
-                                            Syntax.erased
-                                            Syntax.mut
-                                            (Syntax.tyInt Syntax.w8);
-                                        ref = λ x. x;
-                                      },
-                                      tt,
-                                    ),
+                                    tt,
                                   ),
                                 ),
                               ),
@@ -11759,15 +10228,13 @@ module _ (claims· : Claims) where
                   ),
                 ),
               )
-              14
+              13
               (List._∷_
               0
               (List._∷_
               2
-              (List._∷_
-              3
-              (List._∷_ 12 (List._∷_ 13 (List._∷_ 14 (List._∷_ 15 (List._∷_ 16 List.[]))))))))
-              (Call.sub-id 𝓤 H A W (G54 .slots)) (
+              (List._∷_ 3 (List._∷_ 11 (List._∷_ 12 (List._∷_ 13 (List._∷_ 14 List.[])))))))
+              (Call.sub-id 𝓤 H A W (G50 .slots)) (
                 ShrSlice.spares-sslice
                     𝓤
                     H
@@ -11861,7 +10328,7 @@ module _ (claims· : Claims) where
                                 (Mut.mslice
                                 (Referent.rtF (Referent.fInt Syntax.w64))
                                 (Syntax.tyRef Syntax.erased Syntax.mut (Syntax.tyInt Syntax.w64))
-                                12),
+                                11),
                             Mut.reads-mslice
                                 𝓤
                                 H
@@ -11869,7 +10336,7 @@ module _ (claims· : Claims) where
                                 W
                                 (Referent.rtF (Referent.fInt Syntax.w64))
                                 (Syntax.tyRef Syntax.erased Syntax.mut (Syntax.tyInt Syntax.w64))
-                                12,
+                                11,
                             Path'.refl,
                             (
                               Reads'.as-is
@@ -11879,7 +10346,7 @@ module _ (claims· : Claims) where
                                   (Mut.mslice
                                   (Referent.rtF (Referent.fInt Syntax.w8))
                                   (Syntax.tyRef Syntax.erased Syntax.mut (Syntax.tyInt Syntax.w8))
-                                  13),
+                                  12),
                               Mut.reads-mslice
                                   𝓤
                                   H
@@ -11887,7 +10354,7 @@ module _ (claims· : Claims) where
                                   W
                                   (Referent.rtF (Referent.fInt Syntax.w8))
                                   (Syntax.tyRef Syntax.erased Syntax.mut (Syntax.tyInt Syntax.w8))
-                                  13,
+                                  12,
                               Path'.refl,
                               (
                                 (Scalar.reads-sc 𝓤 H A W (Row.sInt Syntax.w64), Path'.refl),
@@ -11902,7 +10369,7 @@ module _ (claims· : Claims) where
                                       Syntax.erased
                                       Syntax.mut
                                       (Syntax.tyInt Syntax.w8))
-                                      14),
+                                      13),
                                   Mut.reads-mslice
                                       𝓤
                                       H
@@ -11913,7 +10380,7 @@ module _ (claims· : Claims) where
                                       Syntax.erased
                                       Syntax.mut
                                       (Syntax.tyInt Syntax.w8))
-                                      14,
+                                      13,
                                   Path'.refl,
                                   (
                                     Reads'.as-is
@@ -11926,7 +10393,7 @@ module _ (claims· : Claims) where
                                         Syntax.erased
                                         Syntax.mut
                                         (Syntax.tyInt Syntax.w8))
-                                        15),
+                                        14),
                                     Mut.reads-mslice
                                         𝓤
                                         H
@@ -11937,34 +10404,9 @@ module _ (claims· : Claims) where
                                         Syntax.erased
                                         Syntax.mut
                                         (Syntax.tyInt Syntax.w8))
-                                        15,
+                                        14,
                                     Path'.refl,
-                                    (
-                                      Reads'.as-is
-                                          𝓤
-                                          H
-                                          A
-                                          (Mut.mslice
-                                          (Referent.rtF (Referent.fInt Syntax.w8))
-                                          (Syntax.tyRef
-                                          Syntax.erased
-                                          Syntax.mut
-                                          (Syntax.tyInt Syntax.w8))
-                                          16),
-                                      Mut.reads-mslice
-                                          𝓤
-                                          H
-                                          A
-                                          W
-                                          (Referent.rtF (Referent.fInt Syntax.w8))
-                                          (Syntax.tyRef
-                                          Syntax.erased
-                                          Syntax.mut
-                                          (Syntax.tyInt Syntax.w8))
-                                          16,
-                                      Path'.refl,
-                                      tt,
-                                    ),
+                                    tt,
                                   ),
                                 ),
                               ),
@@ -11977,12 +10419,12 @@ module _ (claims· : Claims) where
                 ),
               )
               (Scalar.room-sc 𝓤 H A W (Row.sInt Syntax.w64))
-              (tt, (tt, (tt, (tt, (tt, (tt, (tt, (tt, tt))))))))
+              (tt, (tt, (tt, (tt, (tt, (tt, (tt, tt)))))))
               Path'.refl)
-              d26
+              d22
 
-          d28 : Typed.Typed 𝓤 H A 𝓣 E G53 b29 Δ3 at28
-          d28 =
+          d24 : Typed.Typed 𝓤 H A 𝓣 E G49 b27 Δ3 at24
+          d24 =
               Typed.s-seq
               𝓤
               H
@@ -11990,254 +10432,13 @@ module _ (claims· : Claims) where
               W
               𝓣
               E
-              G53
-              G54
-              b25
-              b28
-              Δ3
-              (Typed.ask s50)
-              at27
-              (Relend.t-sl-aggregate
-              𝓤
-              H
-              A
-              W
-              E
-              (Referent.rtF (Referent.fInt Syntax.w8))
-              𝓣
-              (Relend.asMut (Referent.rtF (Referent.fInt Syntax.w8)))
-              G53
-              32
-              33
-              16
-              (Syntax.tyRef Syntax.erased Syntax.mut (Syntax.tyInt Syntax.w8))
-              (Syntax.tyRef Syntax.erased Syntax.mut (Syntax.tyInt Syntax.w8))
-              (λ x. x)
-              (Scalar.oFld
-              10
-              (List._∷_ (Syntax.field 1) List.[])
-              (Syntax.tyInt Syntax.w64)
-              8
-              λ v. Shared.lenV
-              (v .0))
-              (Reads'.as-is
-              𝓤
-              H
-              A
-              (Relend.msptr
-              (Referent.rtF (Referent.fInt Syntax.w8))
-              (Syntax.tyRef Syntax.erased Syntax.mut (Syntax.tyInt Syntax.w8))
-              16))
-              (Reads'.room-gone
-              𝓤
-              H
-              A
-              (Syntax.tyStruct
-              (List._∷_ 38 (List._∷_ 91 (List._∷_ 93 List.[])))
-              (Syntax.tcons
-              (Syntax.tyRef Syntax.erased Syntax.mut (Syntax.tyInt Syntax.w8))
-              (Syntax.tcons (Syntax.tyInt Syntax.w64) Syntax.tnil)))) (
-                Relend.reads-owed-len
-                    𝓤
-                    H
-                    A
-                    W
-                    (Referent.rtF (Referent.fInt Syntax.w8))
-                    (Syntax.tyRef (Syntax.named 8) Syntax.mut (Syntax.tyInt Syntax.w8))
-                    8
-                    16
-                    (Row.lease (κs .1 .1 .1 .1 .1 .1 .1 .1 .0) (qs .1 .1 .1 .1 .1 .1 .1 .1 .0))
-                    8
-                    Path'.refl,
-                Path'.refl,
-              )
-              Path'.refl
-              Path'.refl
-              λ b o k. tt)
-              d27
-
-          d29 : Typed.Typed 𝓤 H A 𝓣 E G52 b30 Δ3 at29
-          d29 =
-              Typed.s-seq
-              𝓤
-              H
-              A
-              W
-              𝓣
-              E
-              G52
-              G53
-              b24
-              b29
-              Δ3
-              (Typed.give s49)
-              at28
-              (Relend.t-sl-relend
-              𝓤
-              H
-              A
-              W
-              E
-              (Referent.rtF (Referent.fInt Syntax.w8))
-              𝓣
-              G52
-              10
-              32
-              8
-              16
-              (Syntax.tyRef (Syntax.named 8) Syntax.mut (Syntax.tyInt Syntax.w8))
-              (Syntax.tyRef Syntax.erased Syntax.mut (Syntax.tyInt Syntax.w8))
-              (Row.lease (κs .1 .1 .1 .1 .1 .1 .1 .1 .0) (qs .1 .1 .1 .1 .1 .1 .1 .1 .0))
-              0
-              (λ x. x)
-              (Reads'.as-is
-              𝓤
-              H
-              A
-              (Mut.mslice
-              (Referent.rtF (Referent.fInt Syntax.w8))
-              (Syntax.tyRef (Syntax.named 8) Syntax.mut (Syntax.tyInt Syntax.w8))
-              8))
-              (Reads'.room-gone
-              𝓤
-              H
-              A
-              (Syntax.tyRef Syntax.erased Syntax.mut (Syntax.tyInt Syntax.w8)))
-              Path'.refl
-              tt
-              Path'.refl
-              Path'.refl
-              Path'.refl
-              λ b o. tt)
-              d28
-
-          d30 : Typed.Typed 𝓤 H A 𝓣 E G51 b30 Δ3 at30
-          d30 =
-              Typed.g-pre
-              𝓤
-              H
-              A
-              W
-              𝓣
-              E
-              G51
-              G52
-              b30
-              Δ3
-              (λ Ψ. Ψ)
-              at29
-              (Lifetime.g-begin 𝓤 H A W E G51 16 (
-                tt,
-                (
-                  tt,
-                  (
-                    tt,
-                    (
-                      tt,
-                      (
-                        tt,
-                        (
-                          tt,
-                          (
-                            (tt, tt),
-                            (
-                              (tt, tt),
-                              (
-                                (tt, tt),
-                                (
-                                  (tt, tt),
-                                  (
-                                    tt,
-                                    (
-                                      tt,
-                                      (
-                                        tt,
-                                        (
-                                          tt,
-                                          (
-                                            tt,
-                                            (
-                                              tt,
-                                              (
-                                                tt,
-                                                (
-                                                  tt,
-                                                  (
-                                                    tt,
-                                                    (
-                                                      tt,
-                                                      (
-                                                        tt,
-                                                        (
-                                                          tt,
-                                                          (
-                                                            tt,
-                                                            (
-                                                              tt,
-                                                              (
-                                                                tt,
-                                                                (
-                                                                  tt,
-                                                                  (
-                                                                    tt,
-                                                                    (
-                                                                      tt,
-                                                                      (
-                                                                        tt,
-                                                                        (
-                                                                          tt,
-                                                                          (
-                                                                            tt,
-                                                                            (tt, (tt, (tt, tt))),
-                                                                          ),
-                                                                        ),
-                                                                      ),
-                                                                    ),
-                                                                  ),
-                                                                ),
-                                                              ),
-                                                            ),
-                                                          ),
-                                                        ),
-                                                      ),
-                                                    ),
-                                                  ),
-                                                ),
-                                              ),
-                                            ),
-                                          ),
-                                        ),
-                                      ),
-                                    ),
-                                  ),
-                                ),
-                              ),
-                            ),
-                          ),
-                        ),
-                      ),
-                    ),
-                  ),
-                ),
-              ))
-              d29
-
-          d31 : Typed.Typed 𝓤 H A 𝓣 E G50 b31 Δ3 at31
-          d31 =
-              Typed.s-seq
-              𝓤
-              H
-              A
-              W
-              𝓣
-              E
+              G49
               G50
-              G51
               b23
-              b30
+              b26
               Δ3
-              (Typed.ask s47)
-              at30
+              (Typed.ask s46)
+              at23
               (Relend.t-sl-aggregate
               𝓤
               H
@@ -12247,10 +10448,10 @@ module _ (claims· : Claims) where
               (Referent.rtF (Referent.fInt Syntax.w8))
               𝓣
               (Relend.asMut (Referent.rtF (Referent.fInt Syntax.w8)))
-              G50
+              G49
+              29
               30
-              31
-              15
+              14
               (Syntax.tyRef Syntax.erased Syntax.mut (Syntax.tyInt Syntax.w8))
               (Syntax.tyRef Syntax.erased Syntax.mut (Syntax.tyInt Syntax.w8))
               (λ x. x)
@@ -12268,7 +10469,7 @@ module _ (claims· : Claims) where
               (Relend.msptr
               (Referent.rtF (Referent.fInt Syntax.w8))
               (Syntax.tyRef Syntax.erased Syntax.mut (Syntax.tyInt Syntax.w8))
-              15))
+              14))
               (Reads'.room-gone
               𝓤
               H
@@ -12286,7 +10487,7 @@ module _ (claims· : Claims) where
                     (Referent.rtF (Referent.fInt Syntax.w8))
                     (Syntax.tyRef (Syntax.named 7) Syntax.mut (Syntax.tyInt Syntax.w8))
                     7
-                    15
+                    14
                     (Row.lease (κs .1 .1 .1 .1 .1 .1 .1 .0) (qs .1 .1 .1 .1 .1 .1 .1 .0))
                     8
                     Path'.refl,
@@ -12295,10 +10496,10 @@ module _ (claims· : Claims) where
               Path'.refl
               Path'.refl
               λ b o k. tt)
-              d30
+              d23
 
-          d32 : Typed.Typed 𝓤 H A 𝓣 E G49 b32 Δ3 at32
-          d32 =
+          d25 : Typed.Typed 𝓤 H A 𝓣 E G48 b28 Δ3 at25
+          d25 =
               Typed.s-seq
               𝓤
               H
@@ -12306,13 +10507,13 @@ module _ (claims· : Claims) where
               W
               𝓣
               E
+              G48
               G49
-              G50
               b22
-              b31
+              b27
               Δ3
-              (Typed.give s46)
-              at31
+              (Typed.give s45)
+              at24
               (Relend.t-sl-relend
               𝓤
               H
@@ -12321,11 +10522,11 @@ module _ (claims· : Claims) where
               E
               (Referent.rtF (Referent.fInt Syntax.w8))
               𝓣
-              G49
+              G48
               9
-              30
+              29
               7
-              15
+              14
               (Syntax.tyRef (Syntax.named 7) Syntax.mut (Syntax.tyInt Syntax.w8))
               (Syntax.tyRef Syntax.erased Syntax.mut (Syntax.tyInt Syntax.w8))
               (Row.lease (κs .1 .1 .1 .1 .1 .1 .1 .0) (qs .1 .1 .1 .1 .1 .1 .1 .0))
@@ -12350,10 +10551,10 @@ module _ (claims· : Claims) where
               Path'.refl
               Path'.refl
               λ b o. tt)
-              d31
+              d24
 
-          d33 : Typed.Typed 𝓤 H A 𝓣 E G48 b32 Δ3 at33
-          d33 =
+          d26 : Typed.Typed 𝓤 H A 𝓣 E G47 b28 Δ3 at26
+          d26 =
               Typed.g-pre
               𝓤
               H
@@ -12361,13 +10562,13 @@ module _ (claims· : Claims) where
               W
               𝓣
               E
+              G47
               G48
-              G49
-              b32
+              b28
               Δ3
               (λ Ψ. Ψ)
-              at32
-              (Lifetime.g-begin 𝓤 H A W E G48 15 (
+              at25
+              (Lifetime.g-begin 𝓤 H A W E G47 14 (
                 tt,
                 (
                   tt,
@@ -12421,19 +10622,7 @@ module _ (claims· : Claims) where
                                                                   tt,
                                                                   (
                                                                     tt,
-                                                                    (
-                                                                      tt,
-                                                                      (
-                                                                        tt,
-                                                                        (
-                                                                          tt,
-                                                                          (
-                                                                            tt,
-                                                                            (tt, (tt, (tt, tt))),
-                                                                          ),
-                                                                        ),
-                                                                      ),
-                                                                    ),
+                                                                    (tt, (tt, (tt, (tt, tt)))),
                                                                   ),
                                                                 ),
                                                               ),
@@ -12461,10 +10650,10 @@ module _ (claims· : Claims) where
                   ),
                 ),
               ))
-              d32
+              d25
 
-          d34 : Typed.Typed 𝓤 H A 𝓣 E G47 b33 Δ3 at34
-          d34 =
+          d27 : Typed.Typed 𝓤 H A 𝓣 E G46 b29 Δ3 at27
+          d27 =
               Typed.s-seq
               𝓤
               H
@@ -12472,13 +10661,13 @@ module _ (claims· : Claims) where
               W
               𝓣
               E
+              G46
               G47
-              G48
               b21
-              b32
+              b28
               Δ3
-              (Typed.ask s44)
-              at33
+              (Typed.ask s43)
+              at26
               (Relend.t-sl-aggregate
               𝓤
               H
@@ -12488,10 +10677,10 @@ module _ (claims· : Claims) where
               (Referent.rtF (Referent.fInt Syntax.w8))
               𝓣
               (Relend.asMut (Referent.rtF (Referent.fInt Syntax.w8)))
-              G47
+              G46
+              27
               28
-              29
-              14
+              13
               (Syntax.tyRef Syntax.erased Syntax.mut (Syntax.tyInt Syntax.w8))
               (Syntax.tyRef Syntax.erased Syntax.mut (Syntax.tyInt Syntax.w8))
               (λ x. x)
@@ -12509,7 +10698,7 @@ module _ (claims· : Claims) where
               (Relend.msptr
               (Referent.rtF (Referent.fInt Syntax.w8))
               (Syntax.tyRef Syntax.erased Syntax.mut (Syntax.tyInt Syntax.w8))
-              14))
+              13))
               (Reads'.room-gone
               𝓤
               H
@@ -12527,7 +10716,7 @@ module _ (claims· : Claims) where
                     (Referent.rtF (Referent.fInt Syntax.w8))
                     (Syntax.tyRef (Syntax.named 6) Syntax.mut (Syntax.tyInt Syntax.w8))
                     6
-                    14
+                    13
                     (Row.lease (κs .1 .1 .1 .1 .1 .1 .0) (qs .1 .1 .1 .1 .1 .1 .0))
                     8
                     Path'.refl,
@@ -12536,10 +10725,10 @@ module _ (claims· : Claims) where
               Path'.refl
               Path'.refl
               λ b o k. tt)
-              d33
+              d26
 
-          d35 : Typed.Typed 𝓤 H A 𝓣 E G46 b34 Δ3 at35
-          d35 =
+          d28 : Typed.Typed 𝓤 H A 𝓣 E G45 b30 Δ3 at28
+          d28 =
               Typed.s-seq
               𝓤
               H
@@ -12547,13 +10736,13 @@ module _ (claims· : Claims) where
               W
               𝓣
               E
+              G45
               G46
-              G47
               b20
-              b33
+              b29
               Δ3
-              (Typed.give s43)
-              at34
+              (Typed.give s42)
+              at27
               (Relend.t-sl-relend
               𝓤
               H
@@ -12562,11 +10751,11 @@ module _ (claims· : Claims) where
               E
               (Referent.rtF (Referent.fInt Syntax.w8))
               𝓣
-              G46
+              G45
               8
-              28
+              27
               6
-              14
+              13
               (Syntax.tyRef (Syntax.named 6) Syntax.mut (Syntax.tyInt Syntax.w8))
               (Syntax.tyRef Syntax.erased Syntax.mut (Syntax.tyInt Syntax.w8))
               (Row.lease (κs .1 .1 .1 .1 .1 .1 .0) (qs .1 .1 .1 .1 .1 .1 .0))
@@ -12591,10 +10780,10 @@ module _ (claims· : Claims) where
               Path'.refl
               Path'.refl
               λ b o. tt)
-              d34
+              d27
 
-          d36 : Typed.Typed 𝓤 H A 𝓣 E G45 b34 Δ3 at36
-          d36 =
+          d29 : Typed.Typed 𝓤 H A 𝓣 E G44 b30 Δ3 at29
+          d29 =
               Typed.g-pre
               𝓤
               H
@@ -12602,13 +10791,13 @@ module _ (claims· : Claims) where
               W
               𝓣
               E
+              G44
               G45
-              G46
-              b34
+              b30
               Δ3
               (λ Ψ. Ψ)
-              at35
-              (Lifetime.g-begin 𝓤 H A W E G45 14 (
+              at28
+              (Lifetime.g-begin 𝓤 H A W E G44 13 (
                 tt,
                 (
                   tt,
@@ -12662,19 +10851,7 @@ module _ (claims· : Claims) where
                                                                   tt,
                                                                   (
                                                                     tt,
-                                                                    (
-                                                                      tt,
-                                                                      (
-                                                                        tt,
-                                                                        (
-                                                                          tt,
-                                                                          (
-                                                                            tt,
-                                                                            (tt, (tt, (tt, tt))),
-                                                                          ),
-                                                                        ),
-                                                                      ),
-                                                                    ),
+                                                                    (tt, (tt, (tt, (tt, tt)))),
                                                                   ),
                                                                 ),
                                                               ),
@@ -12702,10 +10879,10 @@ module _ (claims· : Claims) where
                   ),
                 ),
               ))
-              d35
+              d28
 
-          d37 : Typed.Typed 𝓤 H A 𝓣 E G44 b35 Δ3 at37
-          d37 =
+          d30 : Typed.Typed 𝓤 H A 𝓣 E G43 b31 Δ3 at30
+          d30 =
               Typed.s-seq
               𝓤
               H
@@ -12713,13 +10890,13 @@ module _ (claims· : Claims) where
               W
               𝓣
               E
+              G43
               G44
-              G45
               b19
-              b34
+              b30
               Δ3
-              (Typed.ask s41)
-              at36
+              (Typed.ask s40)
+              at29
               (Relend.t-sl-aggregate
               𝓤
               H
@@ -12729,10 +10906,10 @@ module _ (claims· : Claims) where
               (Referent.rtF (Referent.fInt Syntax.w8))
               𝓣
               (Relend.asMut (Referent.rtF (Referent.fInt Syntax.w8)))
-              G44
+              G43
+              25
               26
-              27
-              13
+              12
               (Syntax.tyRef Syntax.erased Syntax.mut (Syntax.tyInt Syntax.w8))
               (Syntax.tyRef Syntax.erased Syntax.mut (Syntax.tyInt Syntax.w8))
               (λ x. x)
@@ -12750,7 +10927,7 @@ module _ (claims· : Claims) where
               (Relend.msptr
               (Referent.rtF (Referent.fInt Syntax.w8))
               (Syntax.tyRef Syntax.erased Syntax.mut (Syntax.tyInt Syntax.w8))
-              13))
+              12))
               (Reads'.room-gone
               𝓤
               H
@@ -12768,7 +10945,7 @@ module _ (claims· : Claims) where
                     (Referent.rtF (Referent.fInt Syntax.w8))
                     (Syntax.tyRef (Syntax.named 5) Syntax.mut (Syntax.tyInt Syntax.w8))
                     5
-                    13
+                    12
                     (Row.lease (κs .1 .1 .1 .1 .1 .0) (qs .1 .1 .1 .1 .1 .0))
                     8
                     Path'.refl,
@@ -12777,10 +10954,10 @@ module _ (claims· : Claims) where
               Path'.refl
               Path'.refl
               λ b o k. tt)
-              d36
+              d29
 
-          d38 : Typed.Typed 𝓤 H A 𝓣 E G43 b36 Δ3 at38
-          d38 =
+          d31 : Typed.Typed 𝓤 H A 𝓣 E G42 b32 Δ3 at31
+          d31 =
               Typed.s-seq
               𝓤
               H
@@ -12788,13 +10965,13 @@ module _ (claims· : Claims) where
               W
               𝓣
               E
+              G42
               G43
-              G44
               b18
-              b35
+              b31
               Δ3
-              (Typed.give s40)
-              at37
+              (Typed.give s39)
+              at30
               (Relend.t-sl-relend
               𝓤
               H
@@ -12803,11 +10980,11 @@ module _ (claims· : Claims) where
               E
               (Referent.rtF (Referent.fInt Syntax.w8))
               𝓣
-              G43
+              G42
               7
-              26
+              25
               5
-              13
+              12
               (Syntax.tyRef (Syntax.named 5) Syntax.mut (Syntax.tyInt Syntax.w8))
               (Syntax.tyRef Syntax.erased Syntax.mut (Syntax.tyInt Syntax.w8))
               (Row.lease (κs .1 .1 .1 .1 .1 .0) (qs .1 .1 .1 .1 .1 .0))
@@ -12832,10 +11009,10 @@ module _ (claims· : Claims) where
               Path'.refl
               Path'.refl
               λ b o. tt)
-              d37
+              d30
 
-          d39 : Typed.Typed 𝓤 H A 𝓣 E G42 b36 Δ3 at39
-          d39 =
+          d32 : Typed.Typed 𝓤 H A 𝓣 E G41 b32 Δ3 at32
+          d32 =
               Typed.g-pre
               𝓤
               H
@@ -12843,13 +11020,13 @@ module _ (claims· : Claims) where
               W
               𝓣
               E
+              G41
               G42
-              G43
-              b36
+              b32
               Δ3
               (λ Ψ. Ψ)
-              at38
-              (Lifetime.g-begin 𝓤 H A W E G42 13 (
+              at31
+              (Lifetime.g-begin 𝓤 H A W E G41 12 (
                 tt,
                 (
                   tt,
@@ -12903,19 +11080,7 @@ module _ (claims· : Claims) where
                                                                   tt,
                                                                   (
                                                                     tt,
-                                                                    (
-                                                                      tt,
-                                                                      (
-                                                                        tt,
-                                                                        (
-                                                                          tt,
-                                                                          (
-                                                                            tt,
-                                                                            (tt, (tt, (tt, tt))),
-                                                                          ),
-                                                                        ),
-                                                                      ),
-                                                                    ),
+                                                                    (tt, (tt, (tt, (tt, tt)))),
                                                                   ),
                                                                 ),
                                                               ),
@@ -12943,10 +11108,10 @@ module _ (claims· : Claims) where
                   ),
                 ),
               ))
-              d38
+              d31
 
-          d40 : Typed.Typed 𝓤 H A 𝓣 E G41 b37 Δ3 at40
-          d40 =
+          d33 : Typed.Typed 𝓤 H A 𝓣 E G40 b33 Δ3 at33
+          d33 =
               Typed.s-seq
               𝓤
               H
@@ -12954,13 +11119,13 @@ module _ (claims· : Claims) where
               W
               𝓣
               E
+              G40
               G41
-              G42
               b17
-              b36
+              b32
               Δ3
-              (Typed.ask s38)
-              at39
+              (Typed.ask s37)
+              at32
               (Relend.t-sl-aggregate
               𝓤
               H
@@ -12970,10 +11135,10 @@ module _ (claims· : Claims) where
               (Referent.rtF (Referent.fInt Syntax.w64))
               𝓣
               (Relend.asMut (Referent.rtF (Referent.fInt Syntax.w64)))
-              G41
+              G40
+              23
               24
-              25
-              12
+              11
               (Syntax.tyRef Syntax.erased Syntax.mut (Syntax.tyInt Syntax.w64))
               (Syntax.tyRef Syntax.erased Syntax.mut (Syntax.tyInt Syntax.w64))
               (λ x. x)
@@ -12991,7 +11156,7 @@ module _ (claims· : Claims) where
               (Relend.msptr
               (Referent.rtF (Referent.fInt Syntax.w64))
               (Syntax.tyRef Syntax.erased Syntax.mut (Syntax.tyInt Syntax.w64))
-              12))
+              11))
               (Reads'.room-gone
               𝓤
               H
@@ -13009,7 +11174,7 @@ module _ (claims· : Claims) where
                     (Referent.rtF (Referent.fInt Syntax.w64))
                     (Syntax.tyRef (Syntax.named 4) Syntax.mut (Syntax.tyInt Syntax.w64))
                     4
-                    12
+                    11
                     (Row.lease (κs .1 .1 .1 .1 .0) (qs .1 .1 .1 .1 .0))
                     8
                     Path'.refl,
@@ -13018,10 +11183,10 @@ module _ (claims· : Claims) where
               Path'.refl
               Path'.refl
               λ b o k. tt)
-              d39
+              d32
 
-          d41 : Typed.Typed 𝓤 H A 𝓣 E G40 b38 Δ3 at41
-          d41 =
+          d34 : Typed.Typed 𝓤 H A 𝓣 E G39 b34 Δ3 at34
+          d34 =
               Typed.s-seq
               𝓤
               H
@@ -13029,13 +11194,13 @@ module _ (claims· : Claims) where
               W
               𝓣
               E
+              G39
               G40
-              G41
               b16
-              b37
+              b33
               Δ3
-              (Typed.give s37)
-              at40
+              (Typed.give s36)
+              at33
               (Relend.t-sl-relend
               𝓤
               H
@@ -13044,11 +11209,11 @@ module _ (claims· : Claims) where
               E
               (Referent.rtF (Referent.fInt Syntax.w64))
               𝓣
-              G40
+              G39
               6
-              24
+              23
               4
-              12
+              11
               (Syntax.tyRef (Syntax.named 4) Syntax.mut (Syntax.tyInt Syntax.w64))
               (Syntax.tyRef Syntax.erased Syntax.mut (Syntax.tyInt Syntax.w64))
               (Row.lease (κs .1 .1 .1 .1 .0) (qs .1 .1 .1 .1 .0))
@@ -13073,10 +11238,10 @@ module _ (claims· : Claims) where
               Path'.refl
               Path'.refl
               λ b o. tt)
-              d40
+              d33
 
-          d42 : Typed.Typed 𝓤 H A 𝓣 E G39 b38 Δ3 at42
-          d42 =
+          d35 : Typed.Typed 𝓤 H A 𝓣 E G38 b34 Δ3 at35
+          d35 =
               Typed.g-pre
               𝓤
               H
@@ -13084,13 +11249,13 @@ module _ (claims· : Claims) where
               W
               𝓣
               E
+              G38
               G39
-              G40
-              b38
+              b34
               Δ3
               (λ Ψ. Ψ)
-              at41
-              (Lifetime.g-begin 𝓤 H A W E G39 12 (
+              at34
+              (Lifetime.g-begin 𝓤 H A W E G38 11 (
                 tt,
                 (
                   tt,
@@ -13144,19 +11309,7 @@ module _ (claims· : Claims) where
                                                                   tt,
                                                                   (
                                                                     tt,
-                                                                    (
-                                                                      tt,
-                                                                      (
-                                                                        tt,
-                                                                        (
-                                                                          tt,
-                                                                          (
-                                                                            tt,
-                                                                            (tt, (tt, (tt, tt))),
-                                                                          ),
-                                                                        ),
-                                                                      ),
-                                                                    ),
+                                                                    (tt, (tt, (tt, (tt, tt)))),
                                                                   ),
                                                                 ),
                                                               ),
@@ -13184,28 +11337,10 @@ module _ (claims· : Claims) where
                   ),
                 ),
               ))
-              d41
+              d34
 
-          d43 : Typed.Typed 𝓤 H A 𝓣 E G38 b38 Δ3 at43
-          d43 =
-              Typed.g-pre
-              𝓤
-              H
-              A
-              W
-              𝓣
-              E
-              G38
-              G39
-              b38
-              Δ3
-              (λ Ψ. Ψ)
-              at42
-              (Lifetime.g-forget 𝓤 H A W E G38 11 Row.dead Path'.refl)
-              d42
-
-          d44 : Typed.Typed 𝓤 H A 𝓣 E G37 b38 Δ3 at44
-          d44 =
+          d36 : Typed.Typed 𝓤 H A 𝓣 E G37 b34 Δ3 at36
+          d36 =
               Typed.g-pre
               𝓤
               H
@@ -13215,10 +11350,28 @@ module _ (claims· : Claims) where
               E
               G37
               G38
-              b38
+              b34
               Δ3
-              (Typed.pass T36 T38 s34)
-              at43
+              (λ Ψ. Ψ)
+              at35
+              (Lifetime.g-forget 𝓤 H A W E G37 10 Row.dead Path'.refl)
+              d35
+
+          d37 : Typed.Typed 𝓤 H A 𝓣 E G36 b34 Δ3 at37
+          d37 =
+              Typed.g-pre
+              𝓤
+              H
+              A
+              W
+              𝓣
+              E
+              G36
+              G37
+              b34
+              Δ3
+              (Typed.pass T35 T37 s33)
+              at36
               (Reshare.g-back-sl-shr
               𝓤
               H
@@ -13226,15 +11379,15 @@ module _ (claims· : Claims) where
               W
               E
               Elem.R
-              G37
-              11
-              9
-              11
+              G36
+              10
+              8
+              10
               (Syntax.tyRef
-              (Syntax.named 9)
+              (Syntax.named 8)
               Syntax.mut
               Elem.ty)
-              (Row.lease (κs .1 .1 .1 .1 .1 .1 .1 .1 .1 .0) (qs .1 .1 .1 .1 .1 .1 .1 .1 .1 .0))
+              (Row.lease (κs .1 .1 .1 .1 .1 .1 .1 .1 .0) (qs .1 .1 .1 .1 .1 .1 .1 .1 .0))
               (λ x. x)
               (Reads'.as-is
               𝓤
@@ -13243,18 +11396,18 @@ module _ (claims· : Claims) where
               (Reshare.mslice-owedS
               Elem.R
               (Syntax.tyRef
-              (Syntax.named 9)
+              (Syntax.named 8)
               Syntax.mut
               Elem.ty)
-              9
-              11
-              (Row.lease (κs .1 .1 .1 .1 .1 .1 .1 .1 .1 .0) (qs .1 .1 .1 .1 .1 .1 .1 .1 .1 .0))))
+              8
+              10
+              (Row.lease (κs .1 .1 .1 .1 .1 .1 .1 .1 .0) (qs .1 .1 .1 .1 .1 .1 .1 .1 .0))))
               Path'.refl
               Path'.refl)
-              d43
+              d36
 
-          d45 : Typed.Typed 𝓤 H A 𝓣 E G36 b38 Δ3 at45
-          d45 =
+          d38 : Typed.Typed 𝓤 H A 𝓣 E G35 b34 Δ3 at38
+          d38 =
               Typed.g-pre
               𝓤
               H
@@ -13262,44 +11415,17 @@ module _ (claims· : Claims) where
               W
               𝓣
               E
+              G35
               G36
-              G37
-              b38
+              b34
               Δ3
               (λ Ψ. Ψ)
-              at44
-              (Lifetime.g-end 𝓤 H A W E G36 11 Path'.refl)
-              d44
+              at37
+              (Lifetime.g-end 𝓤 H A W E G35 10 Path'.refl)
+              d37
 
-          d46 : Typed.Typed 𝓤 H A 𝓣 E G35 b38 Δ3 at46
-          d46 =
-              Typed.g-pre
-              𝓤
-              H
-              A
-              W
-              𝓣
-              E
-              G35
-              G36
-              b38
-              Δ3
-              (Typed.pass T35 T36 s32)
-              at45
-              (Scalar.g-room
-              𝓤
-              H
-              A
-              W
-              E
-              G35
-              23
-              (Syntax.tyInt Syntax.w64)
-              (Scalar.room-sc 𝓤 H A W (Row.sInt Syntax.w64)))
-              d45
-
-          d47 : Typed.Typed 𝓤 H A 𝓣 E G34 b38 Δ3 at47
-          d47 =
+          d39 : Typed.Typed 𝓤 H A 𝓣 E G34 b34 Δ3 at39
+          d39 =
               Typed.g-pre
               𝓤
               H
@@ -13309,10 +11435,10 @@ module _ (claims· : Claims) where
               E
               G34
               G35
-              b38
+              b34
               Δ3
               (Typed.pass T34 T35 s31)
-              at46
+              at38
               (Scalar.g-room
               𝓤
               H
@@ -13320,7 +11446,34 @@ module _ (claims· : Claims) where
               W
               E
               G34
-              20
+              22
+              (Syntax.tyInt Syntax.w64)
+              (Scalar.room-sc 𝓤 H A W (Row.sInt Syntax.w64)))
+              d38
+
+          d40 : Typed.Typed 𝓤 H A 𝓣 E G33 b34 Δ3 at40
+          d40 =
+              Typed.g-pre
+              𝓤
+              H
+              A
+              W
+              𝓣
+              E
+              G33
+              G34
+              b34
+              Δ3
+              (Typed.pass T33 T34 s30)
+              at39
+              (Scalar.g-room
+              𝓤
+              H
+              A
+              W
+              E
+              G33
+              19
               (Syntax.tyStruct
               (List._∷_ 38 (List._∷_ 91 (List._∷_ 93 List.[])))
               (Syntax.tcons
@@ -13339,11 +11492,11 @@ module _ (claims· : Claims) where
               Syntax.erased
               Syntax.imm
               Elem.ty)
-              11))
-              d46
+              10))
+              d39
 
-          d48 : Typed.Typed 𝓤 H A 𝓣 E G33 b39 Δ3 at48
-          d48 =
+          d41 : Typed.Typed 𝓤 H A 𝓣 E G32 b35 Δ3 at41
+          d41 =
               Typed.s-seq
               𝓤
               H
@@ -13351,13 +11504,13 @@ module _ (claims· : Claims) where
               W
               𝓣
               E
+              G32
               G33
-              G34
               b15
-              b38
+              b34
               Δ3
-              (Typed.both s30)
-              at47
+              (Typed.both s29)
+              at40
               (Plain.t-call-plain
               𝓤
               H
@@ -13373,20 +11526,20 @@ module _ (claims· : Claims) where
               (known .1)
               E
               (λ pos β. β)
-              G33 (
+              G32 (
                 record {
-                  pos = 20;
+                  pos = 19;
                   ty = Syntax.tyRef
                       Syntax.erased
                       Syntax.imm
                       Elem.ty;
                   ref = λ x. x;
                 },
-                (Num.vAt 23 λ x. x, tt),
+                (Num.vAt 22 λ x. x, tt),
               )
-              15
-              (List._∷_ 11 List.[])
-              (Call.sub-id 𝓤 H A W (G33 .slots)) (
+              14
+              (List._∷_ 10 List.[])
+              (Call.sub-id 𝓤 H A W (G32 .slots)) (
                 ShrSlice.spares-sslice
                     𝓤
                     H
@@ -13397,7 +11550,7 @@ module _ (claims· : Claims) where
                     Syntax.erased
                     Syntax.imm
                     Elem.ty)
-                    11,
+                    10,
                 Shared.reads-sslice
                     𝓤
                     H
@@ -13408,7 +11561,7 @@ module _ (claims· : Claims) where
                     Syntax.erased
                     Syntax.imm
                     Elem.ty)
-                    11,
+                    10,
                 Path'.refl,
                 ((Scalar.reads-sc 𝓤 H A W (Row.sInt Syntax.w64), Path'.refl), tt),
               )
@@ -13471,10 +11624,10 @@ module _ (claims· : Claims) where
               (Syntax.tcons (Syntax.tyInt Syntax.w64) Syntax.tnil))))))
               (tt, tt)
               Path'.refl)
-              d47
+              d40
 
-          d49 : Typed.Typed 𝓤 H A 𝓣 E G32 b39 Δ3 at49
-          d49 =
+          d42 : Typed.Typed 𝓤 H A 𝓣 E G31 b35 Δ3 at42
+          d42 =
               Typed.g-pre
               𝓤
               H
@@ -13482,94 +11635,26 @@ module _ (claims· : Claims) where
               W
               𝓣
               E
+              G31
               G32
-              G33
-              b39
+              b35
               Δ3
-              (Typed.pass T32 T33 s29)
-              at48
+              (Typed.pass T31 T32 s28)
+              at41
               (Scalar.g-room
               𝓤
               H
               A
               W
               E
-              G32
-              22
-              (Syntax.tyInt Syntax.w64)
-              (Scalar.room-sc 𝓤 H A W (Row.sInt Syntax.w64)))
-              d48
-
-          d50 : Typed.Typed 𝓤 H A 𝓣 E G31 b40 Δ3 at50
-          d50 =
-              Typed.s-seq
-              𝓤
-              H
-              A
-              W
-              𝓣
-              E
               G31
-              G32
-              b14
-              b39
-              Δ3
-              (Typed.ask s28)
-              at49
-              (Scalar.t-op2
-              𝓤
-              H
-              A
-              W
-              E
-              𝓣
-              G31
-              (Syntax.sub Syntax.unsigned)
-              (Scalar.oAt 22 (Syntax.tyInt Syntax.w64) (Row.valS (Row.sInt Syntax.w64)))
-              (Scalar.oAt 12 (Syntax.tyInt Syntax.w64) (Row.valS (Row.sInt Syntax.w64)))
-              23
-              (Rows.sc-here (Row.sInt Syntax.w64))
-              (Syntax.tyInt Syntax.w64)
-              (Row.valS (Row.sInt Syntax.w64))
-              (Row.sInt Syntax.w64 .of)
-              (Scalar.reads-sc 𝓤 H A W (Row.sInt Syntax.w64), Path'.refl)
-              (Scalar.reads-sc 𝓤 H A W (Row.sInt Syntax.w64), Path'.refl)
-              (Reads'.room-gone 𝓤 H A (Syntax.tyInt Syntax.w64))
-              (Scalar.holds-sc 𝓤 H A W (Row.sInt Syntax.w64))
-              Path'.refl
-              (λ u. Path'.refl)
-              λ u. tt)
-              d49
-
-          d51 : Typed.Typed 𝓤 H A 𝓣 E G30 b40 Δ3 at51
-          d51 =
-              Typed.g-pre
-              𝓤
-              H
-              A
-              W
-              𝓣
-              E
-              G30
-              G31
-              b40
-              Δ3
-              (Typed.pass T30 T31 s27)
-              at50
-              (Scalar.g-room
-              𝓤
-              H
-              A
-              W
-              E
-              G30
               21
               (Syntax.tyInt Syntax.w64)
               (Scalar.room-sc 𝓤 H A W (Row.sInt Syntax.w64)))
-              d50
+              d41
 
-          d52 : Typed.Typed 𝓤 H A 𝓣 E G29 b41 Δ3 at52
-          d52 =
+          d43 : Typed.Typed 𝓤 H A 𝓣 E G30 b36 Δ3 at43
+          d43 =
               Typed.s-seq
               𝓤
               H
@@ -13577,13 +11662,13 @@ module _ (claims· : Claims) where
               W
               𝓣
               E
-              G29
               G30
-              b13
-              b40
+              G31
+              b14
+              b35
               Δ3
-              (Typed.ask s26)
-              at51
+              (Typed.ask s27)
+              at42
               (Scalar.t-op2
               𝓤
               H
@@ -13591,10 +11676,10 @@ module _ (claims· : Claims) where
               W
               E
               𝓣
-              G29
-              (Syntax.add Syntax.unsigned)
-              (Scalar.oAt 13 (Syntax.tyInt Syntax.w64) (Row.valS (Row.sInt Syntax.w64)))
+              G30
+              (Syntax.sub Syntax.unsigned)
               (Scalar.oAt 21 (Syntax.tyInt Syntax.w64) (Row.valS (Row.sInt Syntax.w64)))
+              (Scalar.oAt 11 (Syntax.tyInt Syntax.w64) (Row.valS (Row.sInt Syntax.w64)))
               22
               (Rows.sc-here (Row.sInt Syntax.w64))
               (Syntax.tyInt Syntax.w64)
@@ -13607,10 +11692,37 @@ module _ (claims· : Claims) where
               Path'.refl
               (λ u. Path'.refl)
               λ u. tt)
-              d51
+              d42
 
-          d53 : Typed.Typed 𝓤 H A 𝓣 E G28 b42 Δ3 at53
-          d53 =
+          d44 : Typed.Typed 𝓤 H A 𝓣 E G29 b36 Δ3 at44
+          d44 =
+              Typed.g-pre
+              𝓤
+              H
+              A
+              W
+              𝓣
+              E
+              G29
+              G30
+              b36
+              Δ3
+              (Typed.pass T29 T30 s26)
+              at43
+              (Scalar.g-room
+              𝓤
+              H
+              A
+              W
+              E
+              G29
+              20
+              (Syntax.tyInt Syntax.w64)
+              (Scalar.room-sc 𝓤 H A W (Row.sInt Syntax.w64)))
+              d43
+
+          d45 : Typed.Typed 𝓤 H A 𝓣 E G28 b37 Δ3 at45
+          d45 =
               Typed.s-seq
               𝓤
               H
@@ -13620,11 +11732,52 @@ module _ (claims· : Claims) where
               E
               G28
               G29
-              b12
-              b41
+              b13
+              b36
               Δ3
-              (Typed.pass T28 T29 s25)
-              at52
+              (Typed.ask s25)
+              at44
+              (Scalar.t-op2
+              𝓤
+              H
+              A
+              W
+              E
+              𝓣
+              G28
+              (Syntax.add Syntax.unsigned)
+              (Scalar.oAt 12 (Syntax.tyInt Syntax.w64) (Row.valS (Row.sInt Syntax.w64)))
+              (Scalar.oAt 20 (Syntax.tyInt Syntax.w64) (Row.valS (Row.sInt Syntax.w64)))
+              21
+              (Rows.sc-here (Row.sInt Syntax.w64))
+              (Syntax.tyInt Syntax.w64)
+              (Row.valS (Row.sInt Syntax.w64))
+              (Row.sInt Syntax.w64 .of)
+              (Scalar.reads-sc 𝓤 H A W (Row.sInt Syntax.w64), Path'.refl)
+              (Scalar.reads-sc 𝓤 H A W (Row.sInt Syntax.w64), Path'.refl)
+              (Reads'.room-gone 𝓤 H A (Syntax.tyInt Syntax.w64))
+              (Scalar.holds-sc 𝓤 H A W (Row.sInt Syntax.w64))
+              Path'.refl
+              (λ u. Path'.refl)
+              λ u. tt)
+              d44
+
+          d46 : Typed.Typed 𝓤 H A 𝓣 E G27 b38 Δ3 at46
+          d46 =
+              Typed.s-seq
+              𝓤
+              H
+              A
+              W
+              𝓣
+              E
+              G27
+              G28
+              b12
+              b37
+              Δ3
+              (Typed.pass T27 T28 s24)
+              at45
               (Scalar.t-use
               𝓤
               H
@@ -13632,15 +11785,15 @@ module _ (claims· : Claims) where
               W
               E
               𝓣
-              G28
+              G27
               (Scalar.oFld
-              11
+              10
               (List._∷_ (Syntax.field 1) List.[])
               (Syntax.tyInt Syntax.w64)
               8
               λ v. Shared.lenV
               (v .0))
-              21
+              20
               (Rows.sc-here (Row.sInt Syntax.w64))
               (Syntax.tyInt Syntax.w64)
               (Row.valS (Row.sInt Syntax.w64))
@@ -13652,14 +11805,12 @@ module _ (claims· : Claims) where
                     W
                     Elem.R
                     (Syntax.tyRef
-                    (Syntax.named 9)
+                    (Syntax.named 8)
                     Syntax.mut
                     Elem.ty)
-                    9
-                    11
-                    (Row.lease
-                    (κs .1 .1 .1 .1 .1 .1 .1 .1 .1 .0)
-                    (qs .1 .1 .1 .1 .1 .1 .1 .1 .1 .0))
+                    8
+                    10
+                    (Row.lease (κs .1 .1 .1 .1 .1 .1 .1 .1 .0) (qs .1 .1 .1 .1 .1 .1 .1 .1 .0))
                     8
                     Path'.refl,
                 Path'.refl,
@@ -13669,10 +11820,10 @@ module _ (claims· : Claims) where
               Path'.refl
               (λ u. Path'.refl)
               λ u. tt)
-              d52
+              d45
 
-          d54 : Typed.Typed 𝓤 H A 𝓣 E G27 b43 Δ3 at54
-          d54 =
+          d47 : Typed.Typed 𝓤 H A 𝓣 E G26 b39 Δ3 at47
+          d47 =
               Typed.s-seq
               𝓤
               H
@@ -13680,13 +11831,13 @@ module _ (claims· : Claims) where
               W
               𝓣
               E
+              G26
               G27
-              G28
               b11
-              b42
+              b38
               Δ3
-              (Typed.ask s24)
-              at53
+              (Typed.ask s23)
+              at46
               (Relend.t-sl-aggregate
               𝓤
               H
@@ -13696,10 +11847,10 @@ module _ (claims· : Claims) where
               Elem.R
               𝓣
               (Relend.asShr Elem.R)
-              G27
+              G26
+              18
               19
-              20
-              11
+              10
               (Syntax.tyRef
               Syntax.erased
               Syntax.imm
@@ -13710,7 +11861,7 @@ module _ (claims· : Claims) where
               Elem.ty)
               (λ x. x)
               (Scalar.oFld
-              11
+              10
               (List._∷_ (Syntax.field 1) List.[])
               (Syntax.tyInt Syntax.w64)
               8
@@ -13726,7 +11877,7 @@ module _ (claims· : Claims) where
               Syntax.erased
               Syntax.imm
               Elem.ty)
-              11))
+              10))
               (Reads'.room-gone
               𝓤
               H
@@ -13746,14 +11897,12 @@ module _ (claims· : Claims) where
                     W
                     Elem.R
                     (Syntax.tyRef
-                    (Syntax.named 9)
+                    (Syntax.named 8)
                     Syntax.mut
                     Elem.ty)
-                    9
-                    11
-                    (Row.lease
-                    (κs .1 .1 .1 .1 .1 .1 .1 .1 .1 .0)
-                    (qs .1 .1 .1 .1 .1 .1 .1 .1 .1 .0))
+                    8
+                    10
+                    (Row.lease (κs .1 .1 .1 .1 .1 .1 .1 .1 .0) (qs .1 .1 .1 .1 .1 .1 .1 .1 .0))
                     8
                     Path'.refl,
                 Path'.refl,
@@ -13761,10 +11910,10 @@ module _ (claims· : Claims) where
               Path'.refl
               Path'.refl
               λ b o k. tt)
-              d53
+              d46
 
-          d55 : Typed.Typed 𝓤 H A 𝓣 E G26 b44 Δ3 at55
-          d55 =
+          d48 : Typed.Typed 𝓤 H A 𝓣 E G25 b40 Δ3 at48
+          d48 =
               Typed.s-seq
               𝓤
               H
@@ -13772,13 +11921,13 @@ module _ (claims· : Claims) where
               W
               𝓣
               E
+              G25
               G26
-              G27
               b10
-              b43
+              b39
               Δ3
-              (Typed.give s23)
-              at54
+              (Typed.give s22)
+              at47
               (Reshare.t-sl-reshare
               𝓤
               H
@@ -13787,20 +11936,20 @@ module _ (claims· : Claims) where
               E
               Elem.R
               𝓣
-              G26
-              11
-              19
-              9
-              11
+              G25
+              10
+              18
+              8
+              10
               (Syntax.tyRef
-              (Syntax.named 9)
+              (Syntax.named 8)
               Syntax.mut
               Elem.ty)
               (Syntax.tyRef
               Syntax.erased
               Syntax.imm
               Elem.ty)
-              (Row.lease (κs .1 .1 .1 .1 .1 .1 .1 .1 .1 .0) (qs .1 .1 .1 .1 .1 .1 .1 .1 .1 .0))
+              (Row.lease (κs .1 .1 .1 .1 .1 .1 .1 .1 .0) (qs .1 .1 .1 .1 .1 .1 .1 .1 .0))
               0
               (λ x. x)
               (Reads'.as-is
@@ -13810,10 +11959,10 @@ module _ (claims· : Claims) where
               (Mut.mslice
               Elem.R
               (Syntax.tyRef
-              (Syntax.named 9)
+              (Syntax.named 8)
               Syntax.mut
               Elem.ty)
-              9))
+              8))
               (Reads'.room-gone
               𝓤
               H
@@ -13828,10 +11977,10 @@ module _ (claims· : Claims) where
               Path'.refl
               Path'.refl
               λ b o. tt)
-              d54
+              d47
 
-          d56 : Typed.Typed 𝓤 H A 𝓣 E G25 b44 Δ3 at56
-          d56 =
+          d49 : Typed.Typed 𝓤 H A 𝓣 E G24 b40 Δ3 at49
+          d49 =
               Typed.g-pre
               𝓤
               H
@@ -13839,13 +11988,13 @@ module _ (claims· : Claims) where
               W
               𝓣
               E
+              G24
               G25
-              G26
-              b44
+              b40
               Δ3
               (λ Ψ. Ψ)
-              at55
-              (Lifetime.g-begin 𝓤 H A W E G25 11 (
+              at48
+              (Lifetime.g-begin 𝓤 H A W E G24 10 (
                 tt,
                 (
                   tt,
@@ -13899,19 +12048,7 @@ module _ (claims· : Claims) where
                                                                   tt,
                                                                   (
                                                                     tt,
-                                                                    (
-                                                                      tt,
-                                                                      (
-                                                                        tt,
-                                                                        (
-                                                                          tt,
-                                                                          (
-                                                                            tt,
-                                                                            (tt, (tt, (tt, tt))),
-                                                                          ),
-                                                                        ),
-                                                                      ),
-                                                                    ),
+                                                                    (tt, (tt, (tt, (tt, tt)))),
                                                                   ),
                                                                 ),
                                                               ),
@@ -13939,28 +12076,10 @@ module _ (claims· : Claims) where
                   ),
                 ),
               ))
-              d55
+              d48
 
-          d57 : Typed.Typed 𝓤 H A 𝓣 E G24 b44 Δ3 at57
-          d57 =
-              Typed.g-pre
-              𝓤
-              H
-              A
-              W
-              𝓣
-              E
-              G24
-              G25
-              b44
-              Δ3
-              (λ Ψ. Ψ)
-              at56
-              (Lifetime.g-forget 𝓤 H A W E G24 10 Row.dead Path'.refl)
-              d56
-
-          d58 : Typed.Typed 𝓤 H A 𝓣 E G23 b44 Δ3 at58
-          d58 =
+          d50 : Typed.Typed 𝓤 H A 𝓣 E G23 b40 Δ3 at50
+          d50 =
               Typed.g-pre
               𝓤
               H
@@ -13970,10 +12089,28 @@ module _ (claims· : Claims) where
               E
               G23
               G24
-              b44
+              b40
               Δ3
-              (Typed.both s20)
-              at57
+              (λ Ψ. Ψ)
+              at49
+              (Lifetime.g-forget 𝓤 H A W E G23 9 Row.dead Path'.refl)
+              d49
+
+          d51 : Typed.Typed 𝓤 H A 𝓣 E G22 b40 Δ3 at51
+          d51 =
+              Typed.g-pre
+              𝓤
+              H
+              A
+              W
+              𝓣
+              E
+              G22
+              G23
+              b40
+              Δ3
+              (Typed.both s19)
+              at50
               (Relend.g-back-sl
               𝓤
               H
@@ -13981,20 +12118,20 @@ module _ (claims· : Claims) where
               W
               E
               Elem.R
-              G23
-              18
-              11
-              9
+              G22
+              17
               10
+              8
+              9
               (Syntax.tyRef
-              (Syntax.named 9)
+              (Syntax.named 8)
               Syntax.mut
               Elem.ty)
               (Syntax.tyRef
               Syntax.erased
               Syntax.mut
               Elem.ty)
-              (Row.lease (κs .1 .1 .1 .1 .1 .1 .1 .1 .1 .0) (qs .1 .1 .1 .1 .1 .1 .1 .1 .1 .0))
+              (Row.lease (κs .1 .1 .1 .1 .1 .1 .1 .1 .0) (qs .1 .1 .1 .1 .1 .1 .1 .1 .0))
               (λ x. x)
               (λ x. x)
               (Reads'.as-is
@@ -14014,37 +12151,19 @@ module _ (claims· : Claims) where
               (Relend.mslice-owed
               Elem.R
               (Syntax.tyRef
-              (Syntax.named 9)
+              (Syntax.named 8)
               Syntax.mut
               Elem.ty)
+              8
               9
-              10
-              (Row.lease (κs .1 .1 .1 .1 .1 .1 .1 .1 .1 .0) (qs .1 .1 .1 .1 .1 .1 .1 .1 .1 .0))))
+              (Row.lease (κs .1 .1 .1 .1 .1 .1 .1 .1 .0) (qs .1 .1 .1 .1 .1 .1 .1 .1 .0))))
               Path'.refl
               Path'.refl)
-              d57
+              d50
 
-          d59 : Typed.Typed 𝓤 H A 𝓣 E G22 b44 Δ3 at59
-          d59 =
+          d52 : Typed.Typed 𝓤 H A 𝓣 E G21 b40 Δ3 at52
+          d52 =
               Typed.g-pre
-              𝓤
-              H
-              A
-              W
-              𝓣
-              E
-              G22
-              G23
-              b44
-              Δ3
-              (λ Ψ. Ψ)
-              at58
-              (Lifetime.g-end 𝓤 H A W E G22 10 Path'.refl)
-              d58
-
-          d60 : Typed.Typed 𝓤 H A 𝓣 E G21 b45 Δ3 at60
-          d60 =
-              Typed.s-seq
               𝓤
               H
               A
@@ -14053,11 +12172,29 @@ module _ (claims· : Claims) where
               E
               G21
               G22
-              b9
-              b44
+              b40
               Δ3
-              (Typed.both s18)
-              at59
+              (λ Ψ. Ψ)
+              at51
+              (Lifetime.g-end 𝓤 H A W E G21 9 Path'.refl)
+              d51
+
+          d53 : Typed.Typed 𝓤 H A 𝓣 E G20 b41 Δ3 at53
+          d53 =
+              Typed.s-seq
+              𝓤
+              H
+              A
+              W
+              𝓣
+              E
+              G20
+              G21
+              b9
+              b40
+              Δ3
+              (Typed.both s17)
+              at52
               (Plain.t-call-plain
               𝓤
               H
@@ -14073,7 +12210,7 @@ module _ (claims· : Claims) where
               (known .0)
               E
               (λ pos β. β)
-              G21 (
+              G20 (
                 record {
                   pos = 2;
                   ty = Syntax.tyRef (Syntax.named 1) Syntax.imm (Syntax.tyInt Syntax.w64);
@@ -14088,12 +12225,12 @@ module _ (claims· : Claims) where
                   (
                     Num.vAt 3 λ x. x,
                     (
-                      Num.vAt 13 λ x. x,
+                      Num.vAt 12 λ x. x,
                       (
-                        Num.vAt 12 λ x. x,
+                        Num.vAt 11 λ x. x,
                         (
                           record {
-                            pos = 18;
+                            pos = 17;
                             ty = Syntax.tyRef
                                 Syntax.erased
                                 Syntax.mut
@@ -14107,9 +12244,9 @@ module _ (claims· : Claims) where
                   ),
                 ),
               )
-              12
-              (List._∷_ 1 (List._∷_ 2 (List._∷_ 10 List.[])))
-              (Call.sub-id 𝓤 H A W (G21 .slots)) (
+              11
+              (List._∷_ 1 (List._∷_ 2 (List._∷_ 9 List.[])))
+              (Call.sub-id 𝓤 H A W (G20 .slots)) (
                 ShrSlice.spares-sslice
                     𝓤
                     H
@@ -14162,7 +12299,7 @@ module _ (claims· : Claims) where
                               Syntax.erased
                               Syntax.mut
                               Elem.ty)
-                              10),
+                              9),
                           Mut.reads-mslice
                               𝓤
                               H
@@ -14173,7 +12310,7 @@ module _ (claims· : Claims) where
                               Syntax.erased
                               Syntax.mut
                               Elem.ty)
-                              10,
+                              9,
                           Path'.refl,
                           tt,
                         ),
@@ -14185,10 +12322,10 @@ module _ (claims· : Claims) where
               (Scalar.room-sc 𝓤 H A W (Row.sInt Syntax.w64))
               (tt, (tt, (tt, tt)))
               Path'.refl)
-              d59
+              d52
 
-          d61 : Typed.Typed 𝓤 H A 𝓣 E G20 b46 Δ3 at61
-          d61 =
+          d54 : Typed.Typed 𝓤 H A 𝓣 E G19 b42 Δ3 at54
+          d54 =
               Typed.s-seq
               𝓤
               H
@@ -14196,13 +12333,13 @@ module _ (claims· : Claims) where
               W
               𝓣
               E
+              G19
               G20
-              G21
               b8
-              b45
+              b41
               Δ3
-              (Typed.ask s17)
-              at60
+              (Typed.ask s16)
+              at53
               (Relend.t-sl-aggregate
               𝓤
               H
@@ -14212,10 +12349,10 @@ module _ (claims· : Claims) where
               Elem.R
               𝓣
               (Relend.asMut Elem.R)
-              G20
+              G19
+              16
               17
-              18
-              10
+              9
               (Syntax.tyRef
               Syntax.erased
               Syntax.mut
@@ -14226,7 +12363,7 @@ module _ (claims· : Claims) where
               Elem.ty)
               (λ x. x)
               (Scalar.oFld
-              11
+              10
               (List._∷_ (Syntax.field 1) List.[])
               (Syntax.tyInt Syntax.w64)
               8
@@ -14242,7 +12379,7 @@ module _ (claims· : Claims) where
               Syntax.erased
               Syntax.mut
               Elem.ty)
-              10))
+              9))
               (Reads'.room-gone
               𝓤
               H
@@ -14262,14 +12399,12 @@ module _ (claims· : Claims) where
                     W
                     Elem.R
                     (Syntax.tyRef
-                    (Syntax.named 9)
+                    (Syntax.named 8)
                     Syntax.mut
                     Elem.ty)
+                    8
                     9
-                    10
-                    (Row.lease
-                    (κs .1 .1 .1 .1 .1 .1 .1 .1 .1 .0)
-                    (qs .1 .1 .1 .1 .1 .1 .1 .1 .1 .0))
+                    (Row.lease (κs .1 .1 .1 .1 .1 .1 .1 .1 .0) (qs .1 .1 .1 .1 .1 .1 .1 .1 .0))
                     8
                     Path'.refl,
                 Path'.refl,
@@ -14277,10 +12412,10 @@ module _ (claims· : Claims) where
               Path'.refl
               Path'.refl
               λ b o k. tt)
-              d60
+              d53
 
-          d62 : Typed.Typed 𝓤 H A 𝓣 E G19 b47 Δ3 at62
-          d62 =
+          d55 : Typed.Typed 𝓤 H A 𝓣 E G18 b43 Δ3 at55
+          d55 =
               Typed.s-seq
               𝓤
               H
@@ -14288,13 +12423,13 @@ module _ (claims· : Claims) where
               W
               𝓣
               E
+              G18
               G19
-              G20
               b7
-              b46
+              b42
               Δ3
-              (Typed.give s16)
-              at61
+              (Typed.give s15)
+              at54
               (Relend.t-sl-relend
               𝓤
               H
@@ -14303,20 +12438,20 @@ module _ (claims· : Claims) where
               E
               Elem.R
               𝓣
-              G19
-              11
-              17
-              9
+              G18
               10
+              16
+              8
+              9
               (Syntax.tyRef
-              (Syntax.named 9)
+              (Syntax.named 8)
               Syntax.mut
               Elem.ty)
               (Syntax.tyRef
               Syntax.erased
               Syntax.mut
               Elem.ty)
-              (Row.lease (κs .1 .1 .1 .1 .1 .1 .1 .1 .1 .0) (qs .1 .1 .1 .1 .1 .1 .1 .1 .1 .0))
+              (Row.lease (κs .1 .1 .1 .1 .1 .1 .1 .1 .0) (qs .1 .1 .1 .1 .1 .1 .1 .1 .0))
               0
               (λ x. x)
               (Reads'.as-is
@@ -14326,10 +12461,10 @@ module _ (claims· : Claims) where
               (Mut.mslice
               Elem.R
               (Syntax.tyRef
-              (Syntax.named 9)
+              (Syntax.named 8)
               Syntax.mut
               Elem.ty)
-              9))
+              8))
               (Reads'.room-gone
               𝓤
               H
@@ -14344,10 +12479,10 @@ module _ (claims· : Claims) where
               Path'.refl
               Path'.refl
               λ b o. tt)
-              d61
+              d54
 
-          d63 : Typed.Typed 𝓤 H A 𝓣 E G16 b47 Δ3 at63
-          d63 =
+          d56 : Typed.Typed 𝓤 H A 𝓣 E G15 b43 Δ3 at56
+          d56 =
               Typed.g-pre
               𝓤
               H
@@ -14355,13 +12490,13 @@ module _ (claims· : Claims) where
               W
               𝓣
               E
-              G16
-              G19
-              b47
+              G15
+              G18
+              b43
               Δ3
               (λ Ψ. Ψ)
-              at62
-              (Lifetime.g-begin 𝓤 H A W E G16 10 (
+              at55
+              (Lifetime.g-begin 𝓤 H A W E G15 9 (
                 tt,
                 (
                   tt,
@@ -14415,19 +12550,7 @@ module _ (claims· : Claims) where
                                                                   tt,
                                                                   (
                                                                     tt,
-                                                                    (
-                                                                      tt,
-                                                                      (
-                                                                        tt,
-                                                                        (
-                                                                          tt,
-                                                                          (
-                                                                            tt,
-                                                                            (tt, (tt, (tt, tt))),
-                                                                          ),
-                                                                        ),
-                                                                      ),
-                                                                    ),
+                                                                    (tt, (tt, (tt, (tt, tt)))),
                                                                   ),
                                                                 ),
                                                               ),
@@ -14455,13 +12578,13 @@ module _ (claims· : Claims) where
                   ),
                 ),
               ))
-              d62
+              d55
 
-          d64 : Typed.Typed 𝓤 H A 𝓣 E G15 b48 Δ3 at64
-          d64 = Typed.t-seq 𝓤 H A W 𝓣 E G15 G16 b6 b47 Δ3 at4 at63 d4 d63
+          d57 : Typed.Typed 𝓤 H A 𝓣 E G14 b44 Δ3 at57
+          d57 = Typed.t-seq 𝓤 H A W 𝓣 E G14 G15 b6 b43 Δ3 at4 at56 d4 d56
 
-          d65 : Typed.Typed 𝓤 H A 𝓣 E G13 b49 Δ3 at65
-          d65 =
+          d58 : Typed.Typed 𝓤 H A 𝓣 E G12 b45 Δ3 at58
+          d58 =
               Typed.s-seq
               𝓤
               H
@@ -14469,13 +12592,13 @@ module _ (claims· : Claims) where
               W
               𝓣
               E
-              G13
-              G15
+              G12
+              G14
               b3
-              b48
+              b44
               Δ3
-              (Typed.ask s12)
-              at64
+              (Typed.ask s11)
+              at57
               (Scalar.t-op2
               𝓤
               H
@@ -14483,11 +12606,11 @@ module _ (claims· : Claims) where
               W
               E
               𝓣
-              G13
+              G12
               (Syntax.lt Syntax.unsigned)
-              (Scalar.oAt 13 (Syntax.tyInt Syntax.w64) (Row.valS (Row.sInt Syntax.w64)))
+              (Scalar.oAt 12 (Syntax.tyInt Syntax.w64) (Row.valS (Row.sInt Syntax.w64)))
               (Scalar.oAt 3 (Syntax.tyInt Syntax.w64) (Row.valS (Row.sInt Syntax.w64)))
-              16
+              15
               (Rows.sc-here Row.sBool)
               Syntax.tyBool
               (Row.valS Row.sBool)
@@ -14499,10 +12622,10 @@ module _ (claims· : Claims) where
               Path'.refl
               (λ u. Path'.refl)
               λ u. tt)
-              d64
+              d57
 
-          d66 : Typed.Typed 𝓤 H A 𝓣 E G13 b50 Δ2 at66
-          d66 =
+          d59 : Typed.Typed 𝓤 H A 𝓣 E G12 b46 Δ2 at59
+          d59 =
               Typed.t-loop-by
               𝓤
               H
@@ -14510,25 +12633,24 @@ module _ (claims· : Claims) where
               W
               𝓣
               E
-              G13
-              b49
+              G12
+              b45
               Δ2
               put0
               (λ u vs. Inv·0
-              (Row.get 1 (T13 .locals) u .now)
-              (Row.get 2 (T13 .locals) u .now)
-              (Row.get 3 (T13 .locals) u)
-              (Row.get 4 (T13 .locals) u .now)
-              (Row.get 5 (T13 .locals) u .now)
-              (Row.get 6 (T13 .locals) u .now)
-              (Row.get 7 (T13 .locals) u .now)
-              (Row.get 8 (T13 .locals) u .now)
-              (Row.get 9 (T13 .locals) u .now)
-              (Row.get 10 (T13 .locals) u .now)
-              (Row.get 11 (T13 .locals) u .now)
-              (Row.get 12 (T13 .locals) u)
-              (Row.get 13 (T13 .locals) u)
-              (Row.get 14 (T13 .locals) u)
+              (Row.get 1 (T12 .locals) u .now)
+              (Row.get 2 (T12 .locals) u .now)
+              (Row.get 3 (T12 .locals) u)
+              (Row.get 4 (T12 .locals) u .now)
+              (Row.get 5 (T12 .locals) u .now)
+              (Row.get 6 (T12 .locals) u .now)
+              (Row.get 7 (T12 .locals) u .now)
+              (Row.get 8 (T12 .locals) u .now)
+              (Row.get 9 (T12 .locals) u .now)
+              (Row.get 10 (T12 .locals) u .now)
+              (Row.get 11 (T12 .locals) u)
+              (Row.get 12 (T12 .locals) u)
+              (Row.get 13 (T12 .locals) u)
               (vs .0)
               (vs .1)
               (vs .2)
@@ -14536,23 +12658,21 @@ module _ (claims· : Claims) where
               (vs .4)
               (vs .5)
               (vs .6)
-              (vs .7)
-              (vs .8))
+              (vs .7))
               (λ u vs. μ·0
-              (Row.get 1 (T13 .locals) u .now)
-              (Row.get 2 (T13 .locals) u .now)
-              (Row.get 3 (T13 .locals) u)
-              (Row.get 4 (T13 .locals) u .now)
-              (Row.get 5 (T13 .locals) u .now)
-              (Row.get 6 (T13 .locals) u .now)
-              (Row.get 7 (T13 .locals) u .now)
-              (Row.get 8 (T13 .locals) u .now)
-              (Row.get 9 (T13 .locals) u .now)
-              (Row.get 10 (T13 .locals) u .now)
-              (Row.get 11 (T13 .locals) u .now)
-              (Row.get 12 (T13 .locals) u)
-              (Row.get 13 (T13 .locals) u)
-              (Row.get 14 (T13 .locals) u)
+              (Row.get 1 (T12 .locals) u .now)
+              (Row.get 2 (T12 .locals) u .now)
+              (Row.get 3 (T12 .locals) u)
+              (Row.get 4 (T12 .locals) u .now)
+              (Row.get 5 (T12 .locals) u .now)
+              (Row.get 6 (T12 .locals) u .now)
+              (Row.get 7 (T12 .locals) u .now)
+              (Row.get 8 (T12 .locals) u .now)
+              (Row.get 9 (T12 .locals) u .now)
+              (Row.get 10 (T12 .locals) u .now)
+              (Row.get 11 (T12 .locals) u)
+              (Row.get 12 (T12 .locals) u)
+              (Row.get 13 (T12 .locals) u)
               (vs .0)
               (vs .1)
               (vs .2)
@@ -14560,19 +12680,18 @@ module _ (claims· : Claims) where
               (vs .4)
               (vs .5)
               (vs .6)
-              (vs .7)
-              (vs .8))
-              at65
-              d65
+              (vs .7))
+              at58
+              d58
 
-          d67 : Typed.Typed 𝓤 H A 𝓣 E G13 b51 Δ1 at67
-          d67 = Typed.t-block 𝓤 H A W 𝓣 E G13 b50 Δ1 at66 d66
+          d60 : Typed.Typed 𝓤 H A 𝓣 E G12 b47 Δ1 at60
+          d60 = Typed.t-block 𝓤 H A W 𝓣 E G12 b46 Δ1 at59 d59
 
-          d68 : Typed.Typed 𝓤 H A 𝓣 E G82 b53 Δ0 at68
-          d68 = Typed.t-return 𝓤 H A W 𝓣 E Δ0 tt
+          d61 : Typed.Typed 𝓤 H A 𝓣 E G74 b49 Δ0 at61
+          d61 = Typed.t-return 𝓤 H A W 𝓣 E Δ0 tt
 
-          d69 : Typed.Typed 𝓤 H A 𝓣 E G81 b53 Δ0 at69
-          d69 =
+          d62 : Typed.Typed 𝓤 H A 𝓣 E G73 b49 Δ0 at62
+          d62 =
               Typed.g-pre
               𝓤
               H
@@ -14580,26 +12699,26 @@ module _ (claims· : Claims) where
               W
               𝓣
               E
-              G81
-              G82
-              b53
+              G73
+              G74
+              b49
               Δ0
-              (Typed.pass T81 T82 s78)
-              at68
+              (Typed.pass T73 T74 s70)
+              at61
               (Scalar.g-room
               𝓤
               H
               A
               W
               E
-              G81
+              G73
               3
               (Syntax.tyInt Syntax.w64)
               (Scalar.room-sc 𝓤 H A W (Row.sInt Syntax.w64)))
-              d68
+              d61
 
-          d70 : Typed.Typed 𝓤 H A 𝓣 E G80 b53 Δ0 at70
-          d70 =
+          d63 : Typed.Typed 𝓤 H A 𝓣 E G72 b49 Δ0 at63
+          d63 =
               Typed.g-pre
               𝓤
               H
@@ -14607,53 +12726,26 @@ module _ (claims· : Claims) where
               W
               𝓣
               E
-              G80
-              G81
-              b53
+              G72
+              G73
+              b49
               Δ0
-              (Typed.pass T80 T81 s77)
-              at69
+              (Typed.pass T72 T73 s69)
+              at62
               (Scalar.g-room
               𝓤
               H
               A
               W
               E
-              G80
-              14
-              (Syntax.tyInt Syntax.w64)
-              (Scalar.room-sc 𝓤 H A W (Row.sInt Syntax.w64)))
-              d69
-
-          d71 : Typed.Typed 𝓤 H A 𝓣 E G79 b53 Δ0 at71
-          d71 =
-              Typed.g-pre
-              𝓤
-              H
-              A
-              W
-              𝓣
-              E
-              G79
-              G80
-              b53
-              Δ0
-              (Typed.pass T79 T80 s76)
-              at70
-              (Scalar.g-room
-              𝓤
-              H
-              A
-              W
-              E
-              G79
+              G72
               13
               (Syntax.tyInt Syntax.w64)
               (Scalar.room-sc 𝓤 H A W (Row.sInt Syntax.w64)))
-              d70
+              d62
 
-          d72 : Typed.Typed 𝓤 H A 𝓣 E G78 b53 Δ0 at72
-          d72 =
+          d64 : Typed.Typed 𝓤 H A 𝓣 E G71 b49 Δ0 at64
+          d64 =
               Typed.g-pre
               𝓤
               H
@@ -14661,26 +12753,53 @@ module _ (claims· : Claims) where
               W
               𝓣
               E
-              G78
-              G79
-              b53
+              G71
+              G72
+              b49
               Δ0
-              (Typed.pass T78 T79 s75)
-              at71
+              (Typed.pass T71 T72 s68)
+              at63
               (Scalar.g-room
               𝓤
               H
               A
               W
               E
-              G78
+              G71
               12
               (Syntax.tyInt Syntax.w64)
               (Scalar.room-sc 𝓤 H A W (Row.sInt Syntax.w64)))
-              d71
+              d63
 
-          d73 : Typed.Typed 𝓤 H A 𝓣 E G14 b54 Δ0 at73
-          d73 =
+          d65 : Typed.Typed 𝓤 H A 𝓣 E G70 b49 Δ0 at65
+          d65 =
+              Typed.g-pre
+              𝓤
+              H
+              A
+              W
+              𝓣
+              E
+              G70
+              G71
+              b49
+              Δ0
+              (Typed.pass T70 T71 s67)
+              at64
+              (Scalar.g-room
+              𝓤
+              H
+              A
+              W
+              E
+              G70
+              11
+              (Syntax.tyInt Syntax.w64)
+              (Scalar.room-sc 𝓤 H A W (Row.sInt Syntax.w64)))
+              d64
+
+          d66 : Typed.Typed 𝓤 H A 𝓣 E G13 b50 Δ0 at66
+          d66 =
               Typed.s-seq
               𝓤
               H
@@ -14688,13 +12807,13 @@ module _ (claims· : Claims) where
               W
               𝓣
               E
-              G14
-              G78
-              b52
-              b53
+              G13
+              G70
+              b48
+              b49
               Δ0
-              (Typed.pass T14 T78 s74)
-              at72
+              (Typed.pass T13 T70 s66)
+              at65
               (Scalar.t-use
               𝓤
               H
@@ -14702,8 +12821,8 @@ module _ (claims· : Claims) where
               W
               E
               𝓣
-              G14
-              (Scalar.oAt 14 (Syntax.tyInt Syntax.w64) (Row.valS (Row.sInt Syntax.w64)))
+              G13
+              (Scalar.oAt 13 (Syntax.tyInt Syntax.w64) (Row.valS (Row.sInt Syntax.w64)))
               0
               (Rows.sc-here (Row.sInt Syntax.w64))
               (Syntax.tyInt Syntax.w64)
@@ -14715,51 +12834,13 @@ module _ (claims· : Claims) where
               Path'.refl
               (λ u. Path'.refl)
               λ u. tt)
-              d72
+              d65
 
-          d74 : Typed.Typed 𝓤 H A 𝓣 E G13 b55 Δ0 at74
-          d74 = Typed.t-seq 𝓤 H A W 𝓣 E G13 G14 b51 b54 Δ0 at67 at73 d67 d73
+          d67 : Typed.Typed 𝓤 H A 𝓣 E G12 b51 Δ0 at67
+          d67 = Typed.t-seq 𝓤 H A W 𝓣 E G12 G13 b47 b50 Δ0 at60 at66 d60 d66
 
-          d75 : Typed.Typed 𝓤 H A 𝓣 E G12 b56 Δ0 at75
-          d75 =
-              Typed.s-seq
-              𝓤
-              H
-              A
-              W
-              𝓣
-              E
-              G12
-              G13
-              b2
-              b55
-              Δ0
-              (Typed.pass T12 T13 s11)
-              at74
-              (Scalar.t-use
-              𝓤
-              H
-              A
-              W
-              E
-              𝓣
-              G12
-              (Scalar.oInt Syntax.w64 0)
-              14
-              (Rows.sc-here (Row.sInt Syntax.w64))
-              (Syntax.tyInt Syntax.w64)
-              (Row.valS (Row.sInt Syntax.w64))
-              (Row.sInt Syntax.w64 .of)
-              tt
-              (Reads'.room-gone 𝓤 H A (Syntax.tyInt Syntax.w64))
-              (Scalar.holds-sc 𝓤 H A W (Row.sInt Syntax.w64))
-              Path'.refl
-              (λ u. Path'.refl)
-              λ u. tt)
-              d74
-
-          d76 : Typed.Typed 𝓤 H A 𝓣 E G11 b57 Δ0 at76
-          d76 =
+          d68 : Typed.Typed 𝓤 H A 𝓣 E G11 b52 Δ0 at68
+          d68 =
               Typed.s-seq
               𝓤
               H
@@ -14769,11 +12850,11 @@ module _ (claims· : Claims) where
               E
               G11
               G12
-              b1
-              b56
+              b2
+              b51
               Δ0
               (Typed.pass T11 T12 s10)
-              at75
+              at67
               (Scalar.t-use
               𝓤
               H
@@ -14794,10 +12875,10 @@ module _ (claims· : Claims) where
               Path'.refl
               (λ u. Path'.refl)
               λ u. tt)
-              d75
+              d67
 
-          d77 : Typed.Typed 𝓤 H A 𝓣 E G10 b58 Δ0 at77
-          d77 =
+          d69 : Typed.Typed 𝓤 H A 𝓣 E G10 b53 Δ0 at69
+          d69 =
               Typed.s-seq
               𝓤
               H
@@ -14807,11 +12888,11 @@ module _ (claims· : Claims) where
               E
               G10
               G11
-              b0
-              b57
+              b1
+              b52
               Δ0
               (Typed.pass T10 T11 s9)
-              at76
+              at68
               (Scalar.t-use
               𝓤
               H
@@ -14832,11 +12913,11 @@ module _ (claims· : Claims) where
               Path'.refl
               (λ u. Path'.refl)
               λ u. tt)
-              d76
+              d68
 
-          d78 : Typed.Typed 𝓤 H A 𝓣 E G9 b58 Δ0 at78
-          d78 =
-              Typed.g-pre
+          d70 : Typed.Typed 𝓤 H A 𝓣 E G9 b54 Δ0 at70
+          d70 =
+              Typed.s-seq
               𝓤
               H
               A
@@ -14845,39 +12926,35 @@ module _ (claims· : Claims) where
               E
               G9
               G10
-              b58
+              b0
+              b53
               Δ0
-              (Typed.give s8)
-              at77
-              (Know.g-sl-known
+              (Typed.pass T9 T10 s8)
+              at69
+              (Scalar.t-use
               𝓤
               H
               A
               W
-              (Referent.fInt Syntax.w8)
               E
+              𝓣
               G9
-              10
-              8
-              (Syntax.tyRef (Syntax.named 8) Syntax.mut (Syntax.tyInt Syntax.w8))
-              (Row.lease (κs .1 .1 .1 .1 .1 .1 .1 .1 .0) (qs .1 .1 .1 .1 .1 .1 .1 .1 .0))
-              0
-              (λ x. x)
-              record { fits = Dec'.lit< tt }
-              (Reads'.as-is
-              𝓤
-              H
-              A
-              (Mut.mslice
-              (Referent.rtF (Referent.fInt Syntax.w8))
-              (Syntax.tyRef (Syntax.named 8) Syntax.mut (Syntax.tyInt Syntax.w8))
-              8))
+              (Scalar.oInt Syntax.w64 0)
+              11
+              (Rows.sc-here (Row.sInt Syntax.w64))
+              (Syntax.tyInt Syntax.w64)
+              (Row.valS (Row.sInt Syntax.w64))
+              (Row.sInt Syntax.w64 .of)
+              tt
+              (Reads'.room-gone 𝓤 H A (Syntax.tyInt Syntax.w64))
+              (Scalar.holds-sc 𝓤 H A W (Row.sInt Syntax.w64))
               Path'.refl
-              tt)
-              d77
+              (λ u. Path'.refl)
+              λ u. tt)
+              d69
 
-          d79 : Typed.Typed 𝓤 H A 𝓣 E G8 b58 Δ0 at79
-          d79 =
+          d71 : Typed.Typed 𝓤 H A 𝓣 E G8 b54 Δ0 at71
+          d71 =
               Typed.g-pre
               𝓤
               H
@@ -14887,10 +12964,10 @@ module _ (claims· : Claims) where
               E
               G8
               G9
-              b58
+              b54
               Δ0
               (Typed.give s7)
-              at78
+              at70
               (Know.g-sl-known
               𝓤
               H
@@ -14916,10 +12993,10 @@ module _ (claims· : Claims) where
               7))
               Path'.refl
               tt)
-              d78
+              d70
 
-          d80 : Typed.Typed 𝓤 H A 𝓣 E G7 b58 Δ0 at80
-          d80 =
+          d72 : Typed.Typed 𝓤 H A 𝓣 E G7 b54 Δ0 at72
+          d72 =
               Typed.g-pre
               𝓤
               H
@@ -14929,10 +13006,10 @@ module _ (claims· : Claims) where
               E
               G7
               G8
-              b58
+              b54
               Δ0
               (Typed.give s6)
-              at79
+              at71
               (Know.g-sl-known
               𝓤
               H
@@ -14958,10 +13035,10 @@ module _ (claims· : Claims) where
               6))
               Path'.refl
               tt)
-              d79
+              d71
 
-          d81 : Typed.Typed 𝓤 H A 𝓣 E G6 b58 Δ0 at81
-          d81 =
+          d73 : Typed.Typed 𝓤 H A 𝓣 E G6 b54 Δ0 at73
+          d73 =
               Typed.g-pre
               𝓤
               H
@@ -14971,10 +13048,10 @@ module _ (claims· : Claims) where
               E
               G6
               G7
-              b58
+              b54
               Δ0
               (Typed.give s5)
-              at80
+              at72
               (Know.g-sl-known
               𝓤
               H
@@ -15000,10 +13077,10 @@ module _ (claims· : Claims) where
               5))
               Path'.refl
               tt)
-              d80
+              d72
 
-          d82 : Typed.Typed 𝓤 H A 𝓣 E G5 b58 Δ0 at82
-          d82 =
+          d74 : Typed.Typed 𝓤 H A 𝓣 E G5 b54 Δ0 at74
+          d74 =
               Typed.g-pre
               𝓤
               H
@@ -15013,10 +13090,10 @@ module _ (claims· : Claims) where
               E
               G5
               G6
-              b58
+              b54
               Δ0
               (Typed.give s4)
-              at81
+              at73
               (Know.g-sl-known
               𝓤
               H
@@ -15042,10 +13119,10 @@ module _ (claims· : Claims) where
               4))
               Path'.refl
               tt)
-              d81
+              d73
 
-          d83 : Typed.Typed 𝓤 H A 𝓣 E G4 b58 Δ0 at83
-          d83 =
+          d75 : Typed.Typed 𝓤 H A 𝓣 E G4 b54 Δ0 at75
+          d75 =
               Typed.g-pre
               𝓤
               H
@@ -15055,10 +13132,10 @@ module _ (claims· : Claims) where
               E
               G4
               G5
-              b58
+              b54
               Δ0
               (Typed.give s3)
-              at82
+              at74
               (Know.g-shs-known
               𝓤
               H
@@ -15084,10 +13161,10 @@ module _ (claims· : Claims) where
               3))
               Path'.refl
               tt)
-              d82
+              d74
 
-          d84 : Typed.Typed 𝓤 H A 𝓣 E G3 b58 Δ0 at84
-          d84 =
+          d76 : Typed.Typed 𝓤 H A 𝓣 E G3 b54 Δ0 at76
+          d76 =
               Typed.g-pre
               𝓤
               H
@@ -15097,10 +13174,10 @@ module _ (claims· : Claims) where
               E
               G3
               G4
-              b58
+              b54
               Δ0
               (Typed.give s2)
-              at83
+              at75
               (Know.g-shs-known
               𝓤
               H
@@ -15126,10 +13203,10 @@ module _ (claims· : Claims) where
               2))
               Path'.refl
               tt)
-              d83
+              d75
 
-          d85 : Typed.Typed 𝓤 H A 𝓣 E G2 b58 Δ0 at85
-          d85 =
+          d77 : Typed.Typed 𝓤 H A 𝓣 E G2 b54 Δ0 at77
+          d77 =
               Typed.g-pre
               𝓤
               H
@@ -15139,10 +13216,10 @@ module _ (claims· : Claims) where
               E
               G2
               G3
-              b58
+              b54
               Δ0
               (Typed.give s1)
-              at84
+              at76
               (Know.g-shs-known
               𝓤
               H
@@ -15168,10 +13245,10 @@ module _ (claims· : Claims) where
               1))
               Path'.refl
               tt)
-              d84
+              d76
 
-          d86 : Typed.Typed 𝓤 H A 𝓣 E G0 b58 Δ0 at86
-          d86 =
+          d78 : Typed.Typed 𝓤 H A 𝓣 E G0 b54 Δ0 at78
+          d78 =
               Typed.g-pre
               𝓤
               H
@@ -15181,10 +13258,10 @@ module _ (claims· : Claims) where
               E
               G0
               G2
-              b58
+              b54
               Δ0
               (Typed.give s0)
-              at85
+              at77
               (Know.g-shs-known
               𝓤
               H
@@ -15210,7 +13287,7 @@ module _ (claims· : Claims) where
               0))
               Path'.refl
               tt)
-              d85
+              d77
 
           pub typed :
               Typed.Typed
@@ -15219,45 +13296,42 @@ module _ (claims· : Claims) where
               A
               𝓣
               E
-              (Function.Γin 10 ps r xs m κs qs)
-              b58
-              (Function.Δret 10 ps r xs m κs qs)
+              (Function.Γin 9 ps r xs m κs qs)
+              b54
+              (Function.Δret 9 ps r xs m κs qs)
               Φ
-          typed = d86
+          typed = d78
 
-      module _ (κs : Lifetimes.Lfts 10) where
+      module _ (κs : Lifetimes.Lfts 9) where
         pub record Args : Type 0 where
-          pub text : Kinds.Den {n = 10}
+          pub text : Kinds.Den {n = 9}
               κs
               (ShrSlice.pShrS (Referent.rtF (Referent.fInt Syntax.w8)) 0 tt)
-          pub ends : Kinds.Den {n = 10}
+          pub ends : Kinds.Den {n = 9}
               κs
               (ShrSlice.pShrS (Referent.rtF (Referent.fInt Syntax.w64)) 1 tt)
-          pub m : Kinds.Den {n = 10} κs (Num.pNum Syntax.w64)
-          pub blocks : Kinds.Den {n = 10}
+          pub m : Kinds.Den {n = 9} κs (Num.pNum Syntax.w64)
+          pub blocks : Kinds.Den {n = 9}
               κs
               (ShrSlice.pShrS (Referent.rtF (Referent.fInt Syntax.w64)) 2 tt)
-          pub starts : Kinds.Den {n = 10}
+          pub starts : Kinds.Den {n = 9}
               κs
               (ShrSlice.pShrS (Referent.rtF (Referent.fInt Syntax.w8)) 3 tt)
-          pub owner : Kinds.Den {n = 10}
+          pub owner : Kinds.Den {n = 9}
               κs
               (MutSlice.pMutS (Referent.rtF (Referent.fInt Syntax.w64)) 4 tt)
-          pub stack : Kinds.Den {n = 10}
+          pub stack : Kinds.Den {n = 9}
               κs
               (MutSlice.pMutS (Referent.rtF (Referent.fInt Syntax.w8)) 5 tt)
-          pub cur : Kinds.Den {n = 10}
+          pub cur : Kinds.Den {n = 9}
               κs
               (MutSlice.pMutS (Referent.rtF (Referent.fInt Syntax.w8)) 6 tt)
-          pub next : Kinds.Den {n = 10}
+          pub next : Kinds.Den {n = 9}
               κs
               (MutSlice.pMutS (Referent.rtF (Referent.fInt Syntax.w8)) 7 tt)
-          pub clean : Kinds.Den {n = 10}
+          pub recs : Kinds.Den {n = 9}
               κs
-              (MutSlice.pMutS (Referent.rtF (Referent.fInt Syntax.w8)) 8 tt)
-          pub recs : Kinds.Den {n = 10}
-              κs
-              (MutSlice.pMutS Elem.R 9 tt)
+              (MutSlice.pMutS Elem.R 8 tt)
 
         abbrev pub dens : (a : Args) → Kinds.Dens κs ps
         dens = λ a. (
@@ -15268,10 +13342,7 @@ module _ (claims· : Claims) where
               a .m,
               (
                 a .blocks,
-                (
-                  a .starts,
-                  (a .owner, (a .stack, (a .cur, (a .next, (a .clean, (a .recs, tt)))))),
-                ),
+                (a .starts, (a .owner, (a .stack, (a .cur, (a .next, (a .recs, tt)))))),
               ),
             ),
           ),
@@ -15281,10 +13352,10 @@ module _ (claims· : Claims) where
           pub record Ranges : Type 0 where
             pub m : Val.Fits Syntax.w64 (args· .m)
 
-      abbrev pub m0 : (κs : Lifetimes.Lfts 10) → (args : Args κs) → Typed.Mo T0
+      abbrev pub m0 : (κs : Lifetimes.Lfts 9) → (args : Args κs) → Typed.Mo T0
       m0 = λ κs args. (tt, Enter.partsP κs 1 ps xs (dens κs args))
 
-      abbrev W0 : (κs : Lifetimes.Lfts 10) → (args : Args κs) → Typed.Want O0
+      abbrev W0 : (κs : Lifetimes.Lfts 9) → (args : Args κs) → Typed.Want O0
       W0 = λ κs args. (
         λ u. ⊥,
         tt,
@@ -15294,14 +13365,14 @@ module _ (claims· : Claims) where
             (dens κs args)
             (Function.resV r κs (u .0))
             (Clauses.atExit
-            (Kinds.endedOf 10 ps r)
+            (Kinds.endedOf 9 ps r)
             κs
             (dens κs args)
             (Enter.lastsP κs 1 ps xs (dens κs args) (u .1))),
       )
 
       pub record Start : Type 0 where
-        pub κs : Lifetimes.Lfts 10
+        pub κs : Lifetimes.Lfts 9
         pub args : Args κs
         pub good : Kinds.GoodsP κs ps (dens κs args)
         pub fits : Ranges κs args
@@ -15412,6 +13483,46 @@ module _ (claims· : Claims) where
           Typed.Mo T9
       m8 = λ before given. s7 .next (m7 (before .before) (before .slice-known3 .given)) given
 
+      abbrev pub m9 :
+          (before : After-slice-known3) →
+          (given : s7 .gives (m7 (before .before) (before .slice-known3 .given))) →
+          Typed.Mo T10
+      m9 = λ before given. s8 (m8 before given)
+
+      abbrev pub m10 :
+          (before : After-slice-known3) →
+          (given : s7 .gives (m7 (before .before) (before .slice-known3 .given))) →
+          Typed.Mo T11
+      m10 = λ before given. s9 (m9 before given)
+
+      abbrev pub m11 :
+          (before : After-slice-known3) →
+          (given : s7 .gives (m7 (before .before) (before .slice-known3 .given))) →
+          Typed.Mo T12
+      m11 = λ before given. s10 (m10 before given)
+
+      abbrev W1 :
+          (before : After-slice-known3) →
+          (given : s7 .gives (m7 (before .before) (before .slice-known3 .given))) →
+          Typed.Want O1
+      W1 =
+          λ before given. Typed.wantNext
+          T13
+          O0
+          (at66
+          (W0
+          (before .before .before .before .before .before .before .before .κs)
+          (before .before .before .before .before .before .before .before .args)))
+          (W0
+          (before .before .before .before .before .before .before .before .κs)
+          (before .before .before .before .before .before .before .before .args))
+
+      abbrev W2 :
+          (before : After-slice-known3) →
+          (given : s7 .gives (m7 (before .before) (before .slice-known3 .given))) →
+          Typed.Want O2
+      W2 = λ before given. Typed.inBlock O1 (W1 before given)
+
       module _ (before· : After-slice-known3) where
         pub record After-slice-known4·own : Type 0 where
           pub given : s7 .gives (m7 (before· .before) (before· .slice-known3 .given))
@@ -15420,120 +13531,57 @@ module _ (claims· : Claims) where
         pub before : After-slice-known3
         pub slice-known4 : After-slice-known4·own before
 
-      abbrev pub m9 :
-          (before : After-slice-known4) →
-          (given : s8 .gives (m8 (before .before) (before .slice-known4 .given))) →
-          Typed.Mo T10
-      m9 = λ before given. s8 .next (m8 (before .before) (before .slice-known4 .given)) given
-
-      abbrev pub m10 :
-          (before : After-slice-known4) →
-          (given : s8 .gives (m8 (before .before) (before .slice-known4 .given))) →
-          Typed.Mo T11
-      m10 = λ before given. s9 (m9 before given)
-
-      abbrev pub m11 :
-          (before : After-slice-known4) →
-          (given : s8 .gives (m8 (before .before) (before .slice-known4 .given))) →
-          Typed.Mo T12
-      m11 = λ before given. s10 (m10 before given)
+      abbrev pub Need-loop-holds : Type 0
+      Need-loop-holds =
+          (c : After-slice-known4) →
+          Inv·0
+          (Row.get 1 (T12 .locals) (m11 (c .before) (c .slice-known4 .given)) .now)
+          (Row.get 2 (T12 .locals) (m11 (c .before) (c .slice-known4 .given)) .now)
+          (Row.get 3 (T12 .locals) (m11 (c .before) (c .slice-known4 .given)))
+          (Row.get 4 (T12 .locals) (m11 (c .before) (c .slice-known4 .given)) .now)
+          (Row.get 5 (T12 .locals) (m11 (c .before) (c .slice-known4 .given)) .now)
+          (Row.get 6 (T12 .locals) (m11 (c .before) (c .slice-known4 .given)) .now)
+          (Row.get 7 (T12 .locals) (m11 (c .before) (c .slice-known4 .given)) .now)
+          (Row.get 8 (T12 .locals) (m11 (c .before) (c .slice-known4 .given)) .now)
+          (Row.get 9 (T12 .locals) (m11 (c .before) (c .slice-known4 .given)) .now)
+          (Row.get 10 (T12 .locals) (m11 (c .before) (c .slice-known4 .given)) .now)
+          (Row.get 11 (T12 .locals) (m11 (c .before) (c .slice-known4 .given)))
+          (Row.get 12 (T12 .locals) (m11 (c .before) (c .slice-known4 .given)))
+          (Row.get 13 (T12 .locals) (m11 (c .before) (c .slice-known4 .given)))
+          (Row.get 6 (T12 .locals) (m11 (c .before) (c .slice-known4 .given)) .now)
+          (Row.get 7 (T12 .locals) (m11 (c .before) (c .slice-known4 .given)) .now)
+          (Row.get 8 (T12 .locals) (m11 (c .before) (c .slice-known4 .given)) .now)
+          (Row.get 9 (T12 .locals) (m11 (c .before) (c .slice-known4 .given)) .now)
+          (Row.get 10 (T12 .locals) (m11 (c .before) (c .slice-known4 .given)) .now)
+          (Row.get 11 (T12 .locals) (m11 (c .before) (c .slice-known4 .given)))
+          (Row.get 12 (T12 .locals) (m11 (c .before) (c .slice-known4 .given)))
+          (Row.get 13 (T12 .locals) (m11 (c .before) (c .slice-known4 .given)))
 
       abbrev pub m12 :
           (before : After-slice-known4) →
-          (given : s8 .gives (m8 (before .before) (before .slice-known4 .given))) →
-          Typed.Mo T13
-      m12 = λ before given. s11 (m11 before given)
-
-      abbrev W1 :
-          (before : After-slice-known4) →
-          (given : s8 .gives (m8 (before .before) (before .slice-known4 .given))) →
-          Typed.Want O1
-      W1 =
-          λ before given. Typed.wantNext
-          T14
-          O0
-          (at73
-          (W0
-          (before .before .before .before .before .before .before .before .before .κs)
-          (before .before .before .before .before .before .before .before .before .args)))
-          (W0
-          (before .before .before .before .before .before .before .before .before .κs)
-          (before .before .before .before .before .before .before .before .before .args))
-
-      abbrev W2 :
-          (before : After-slice-known4) →
-          (given : s8 .gives (m8 (before .before) (before .slice-known4 .given))) →
-          Typed.Want O2
-      W2 = λ before given. Typed.inBlock O1 (W1 before given)
-
-      module _ (before· : After-slice-known4) where
-        pub record After-slice-known5·own : Type 0 where
-          pub given : s8 .gives (m8 (before· .before) (before· .slice-known4 .given))
-
-      pub record After-slice-known5 : Type 0 where
-        pub before : After-slice-known4
-        pub slice-known5 : After-slice-known5·own before
-
-      abbrev pub Need-loop-holds : Type 0
-      Need-loop-holds =
-          (c : After-slice-known5) →
-          Inv·0
-          (Row.get 1 (T13 .locals) (m12 (c .before) (c .slice-known5 .given)) .now)
-          (Row.get 2 (T13 .locals) (m12 (c .before) (c .slice-known5 .given)) .now)
-          (Row.get 3 (T13 .locals) (m12 (c .before) (c .slice-known5 .given)))
-          (Row.get 4 (T13 .locals) (m12 (c .before) (c .slice-known5 .given)) .now)
-          (Row.get 5 (T13 .locals) (m12 (c .before) (c .slice-known5 .given)) .now)
-          (Row.get 6 (T13 .locals) (m12 (c .before) (c .slice-known5 .given)) .now)
-          (Row.get 7 (T13 .locals) (m12 (c .before) (c .slice-known5 .given)) .now)
-          (Row.get 8 (T13 .locals) (m12 (c .before) (c .slice-known5 .given)) .now)
-          (Row.get 9 (T13 .locals) (m12 (c .before) (c .slice-known5 .given)) .now)
-          (Row.get 10 (T13 .locals) (m12 (c .before) (c .slice-known5 .given)) .now)
-          (Row.get 11 (T13 .locals) (m12 (c .before) (c .slice-known5 .given)) .now)
-          (Row.get 12 (T13 .locals) (m12 (c .before) (c .slice-known5 .given)))
-          (Row.get 13 (T13 .locals) (m12 (c .before) (c .slice-known5 .given)))
-          (Row.get 14 (T13 .locals) (m12 (c .before) (c .slice-known5 .given)))
-          (Row.get 6 (T13 .locals) (m12 (c .before) (c .slice-known5 .given)) .now)
-          (Row.get 7 (T13 .locals) (m12 (c .before) (c .slice-known5 .given)) .now)
-          (Row.get 8 (T13 .locals) (m12 (c .before) (c .slice-known5 .given)) .now)
-          (Row.get 9 (T13 .locals) (m12 (c .before) (c .slice-known5 .given)) .now)
-          (Row.get 10 (T13 .locals) (m12 (c .before) (c .slice-known5 .given)) .now)
-          (Row.get 11 (T13 .locals) (m12 (c .before) (c .slice-known5 .given)) .now)
-          (Row.get 12 (T13 .locals) (m12 (c .before) (c .slice-known5 .given)))
-          (Row.get 13 (T13 .locals) (m12 (c .before) (c .slice-known5 .given)))
-          (Row.get 14 (T13 .locals) (m12 (c .before) (c .slice-known5 .given)))
-
-      abbrev pub m13 :
-          (before : After-slice-known5) →
           (owner : List.List (Referent.rtF (Referent.fInt Syntax.w64) .Denot)) →
           (stack : List.List (Referent.rtF (Referent.fInt Syntax.w8) .Denot)) →
           (cur : List.List (Referent.rtF (Referent.fInt Syntax.w8) .Denot)) →
           (next : List.List (Referent.rtF (Referent.fInt Syntax.w8) .Denot)) →
-          (clean : List.List (Referent.rtF (Referent.fInt Syntax.w8) .Denot)) →
           (recs : List.List (Elem.R .Denot)) →
           (past : Rows.sc-here (Row.sInt Syntax.w64) .Mod) →
           (n : Rows.sc-here (Row.sInt Syntax.w64) .Mod) →
           (o : Rows.sc-here (Row.sInt Syntax.w64) .Mod) →
-          Typed.Mo T13
-      m13 = λ before owner stack cur next clean recs past n o. Row.set 14 (
-        14,
+          Typed.Mo T12
+      m12 = λ before owner stack cur next recs past n o. Row.set 13 (
+        13,
         Rows.sc-here (Row.sInt Syntax.w64),
-      ) o (Row.setRow 13 (13, Rows.sc-here (Row.sInt Syntax.w64)) (Row.setRow 12 (
-        12,
-        Rows.sc-here (Row.sInt Syntax.w64),
-      ) (Row.setRow 11 (
+      ) o (Row.setRow 12 (12, Rows.sc-here (Row.sInt Syntax.w64)) (Row.setRow 11 (
         11,
-        Mut.mslice
-            Elem.R
-            (Syntax.tyRef
-            (Syntax.named 9)
-            Syntax.mut
-            Elem.ty)
-            9,
+        Rows.sc-here (Row.sInt Syntax.w64),
       ) (Row.setRow 10 (
         10,
         Mut.mslice
-            (Referent.rtF (Referent.fInt Syntax.w8))
-            (Syntax.tyRef (Syntax.named 8) Syntax.mut (Syntax.tyInt Syntax.w8))
+            Elem.R
+            (Syntax.tyRef
+            (Syntax.named 8)
+            Syntax.mut
+            Elem.ty)
             8,
       ) (Row.setRow 9 (
         9,
@@ -15559,24 +13607,18 @@ module _ (claims· : Claims) where
             (Referent.rtF (Referent.fInt Syntax.w64))
             (Syntax.tyRef (Syntax.named 4) Syntax.mut (Syntax.tyInt Syntax.w64))
             4,
-      ) (T13 .locals)))))))))
-          (Row.set 13 (13, Rows.sc-here (Row.sInt Syntax.w64)) n (Row.setRow 12 (
-            12,
+      ) (T12 .locals))))))))
+          (Row.set 12 (12, Rows.sc-here (Row.sInt Syntax.w64)) n (Row.setRow 11 (
+            11,
             Rows.sc-here (Row.sInt Syntax.w64),
-          ) (Row.setRow 11 (
-            11,
-            Mut.mslice
-                Elem.R
-                (Syntax.tyRef
-                (Syntax.named 9)
-                Syntax.mut
-                Elem.ty)
-                9,
           ) (Row.setRow 10 (
             10,
             Mut.mslice
-                (Referent.rtF (Referent.fInt Syntax.w8))
-                (Syntax.tyRef (Syntax.named 8) Syntax.mut (Syntax.tyInt Syntax.w8))
+                Elem.R
+                (Syntax.tyRef
+                (Syntax.named 8)
+                Syntax.mut
+                Elem.ty)
                 8,
           ) (Row.setRow 9 (
             9,
@@ -15602,21 +13644,15 @@ module _ (claims· : Claims) where
                 (Referent.rtF (Referent.fInt Syntax.w64))
                 (Syntax.tyRef (Syntax.named 4) Syntax.mut (Syntax.tyInt Syntax.w64))
                 4,
-          ) (T13 .locals))))))))
-          (Row.set 12 (12, Rows.sc-here (Row.sInt Syntax.w64)) past (Row.setRow 11 (
-            11,
+          ) (T12 .locals)))))))
+          (Row.set 11 (11, Rows.sc-here (Row.sInt Syntax.w64)) past (Row.setRow 10 (
+            10,
             Mut.mslice
                 Elem.R
                 (Syntax.tyRef
-                (Syntax.named 9)
+                (Syntax.named 8)
                 Syntax.mut
                 Elem.ty)
-                9,
-          ) (Row.setRow 10 (
-            10,
-            Mut.mslice
-                (Referent.rtF (Referent.fInt Syntax.w8))
-                (Syntax.tyRef (Syntax.named 8) Syntax.mut (Syntax.tyInt Syntax.w8))
                 8,
           ) (Row.setRow 9 (
             9,
@@ -15642,71 +13678,25 @@ module _ (claims· : Claims) where
                 (Referent.rtF (Referent.fInt Syntax.w64))
                 (Syntax.tyRef (Syntax.named 4) Syntax.mut (Syntax.tyInt Syntax.w64))
                 4,
-          ) (T13 .locals))))))) (Row.set 11 (
-            11,
+          ) (T12 .locals)))))) (Row.set 10 (
+            10,
             Mut.mslice
                 Elem.R
                 (Syntax.tyRef
-                (Syntax.named 9)
+                (Syntax.named 8)
                 Syntax.mut
                 Elem.ty)
-                9,
+                8,
           ) record {
             ptr = Row.get
-                11
-                (T13 .locals)
-                (m12 (before .before) (before .slice-known5 .given)) .ptr;
+                10
+                (T12 .locals)
+                (m11 (before .before) (before .slice-known4 .given)) .ptr;
             name = Row.get
-                11
-                (T13 .locals)
-                (m12 (before .before) (before .slice-known5 .given)) .name;
+                10
+                (T12 .locals)
+                (m11 (before .before) (before .slice-known4 .given)) .name;
             now = recs;
-          } (Row.setRow 10 (
-            10,
-            Mut.mslice
-                (Referent.rtF (Referent.fInt Syntax.w8))
-                (Syntax.tyRef (Syntax.named 8) Syntax.mut (Syntax.tyInt Syntax.w8))
-                8,
-          ) (Row.setRow 9 (
-            9,
-            Mut.mslice
-                (Referent.rtF (Referent.fInt Syntax.w8))
-                (Syntax.tyRef (Syntax.named 7) Syntax.mut (Syntax.tyInt Syntax.w8))
-                7,
-          ) (Row.setRow 8 (
-            8,
-            Mut.mslice
-                (Referent.rtF (Referent.fInt Syntax.w8))
-                (Syntax.tyRef (Syntax.named 6) Syntax.mut (Syntax.tyInt Syntax.w8))
-                6,
-          ) (Row.setRow 7 (
-            7,
-            Mut.mslice
-                (Referent.rtF (Referent.fInt Syntax.w8))
-                (Syntax.tyRef (Syntax.named 5) Syntax.mut (Syntax.tyInt Syntax.w8))
-                5,
-          ) (Row.setRow 6 (
-            6,
-            Mut.mslice
-                (Referent.rtF (Referent.fInt Syntax.w64))
-                (Syntax.tyRef (Syntax.named 4) Syntax.mut (Syntax.tyInt Syntax.w64))
-                4,
-          ) (T13 .locals)))))) (Row.set 10 (
-            10,
-            Mut.mslice
-                (Referent.rtF (Referent.fInt Syntax.w8))
-                (Syntax.tyRef (Syntax.named 8) Syntax.mut (Syntax.tyInt Syntax.w8))
-                8,
-          ) record {
-            ptr = Row.get
-                10
-                (T13 .locals)
-                (m12 (before .before) (before .slice-known5 .given)) .ptr;
-            name = Row.get
-                10
-                (T13 .locals)
-                (m12 (before .before) (before .slice-known5 .given)) .name;
-            now = clean;
           } (Row.setRow 9 (
             9,
             Mut.mslice
@@ -15731,7 +13721,7 @@ module _ (claims· : Claims) where
                 (Referent.rtF (Referent.fInt Syntax.w64))
                 (Syntax.tyRef (Syntax.named 4) Syntax.mut (Syntax.tyInt Syntax.w64))
                 4,
-          ) (T13 .locals))))) (Row.set 9 (
+          ) (T12 .locals))))) (Row.set 9 (
             9,
             Mut.mslice
                 (Referent.rtF (Referent.fInt Syntax.w8))
@@ -15740,12 +13730,12 @@ module _ (claims· : Claims) where
           ) record {
             ptr = Row.get
                 9
-                (T13 .locals)
-                (m12 (before .before) (before .slice-known5 .given)) .ptr;
+                (T12 .locals)
+                (m11 (before .before) (before .slice-known4 .given)) .ptr;
             name = Row.get
                 9
-                (T13 .locals)
-                (m12 (before .before) (before .slice-known5 .given)) .name;
+                (T12 .locals)
+                (m11 (before .before) (before .slice-known4 .given)) .name;
             now = next;
           } (Row.setRow 8 (
             8,
@@ -15765,7 +13755,7 @@ module _ (claims· : Claims) where
                 (Referent.rtF (Referent.fInt Syntax.w64))
                 (Syntax.tyRef (Syntax.named 4) Syntax.mut (Syntax.tyInt Syntax.w64))
                 4,
-          ) (T13 .locals)))) (Row.set 8 (
+          ) (T12 .locals)))) (Row.set 8 (
             8,
             Mut.mslice
                 (Referent.rtF (Referent.fInt Syntax.w8))
@@ -15774,12 +13764,12 @@ module _ (claims· : Claims) where
           ) record {
             ptr = Row.get
                 8
-                (T13 .locals)
-                (m12 (before .before) (before .slice-known5 .given)) .ptr;
+                (T12 .locals)
+                (m11 (before .before) (before .slice-known4 .given)) .ptr;
             name = Row.get
                 8
-                (T13 .locals)
-                (m12 (before .before) (before .slice-known5 .given)) .name;
+                (T12 .locals)
+                (m11 (before .before) (before .slice-known4 .given)) .name;
             now = cur;
           } (Row.setRow 7 (
             7,
@@ -15793,7 +13783,7 @@ module _ (claims· : Claims) where
                 (Referent.rtF (Referent.fInt Syntax.w64))
                 (Syntax.tyRef (Syntax.named 4) Syntax.mut (Syntax.tyInt Syntax.w64))
                 4,
-          ) (T13 .locals))) (Row.set 7 (
+          ) (T12 .locals))) (Row.set 7 (
             7,
             Mut.mslice
                 (Referent.rtF (Referent.fInt Syntax.w8))
@@ -15802,12 +13792,12 @@ module _ (claims· : Claims) where
           ) record {
             ptr = Row.get
                 7
-                (T13 .locals)
-                (m12 (before .before) (before .slice-known5 .given)) .ptr;
+                (T12 .locals)
+                (m11 (before .before) (before .slice-known4 .given)) .ptr;
             name = Row.get
                 7
-                (T13 .locals)
-                (m12 (before .before) (before .slice-known5 .given)) .name;
+                (T12 .locals)
+                (m11 (before .before) (before .slice-known4 .given)) .name;
             now = stack;
           } (Row.setRow 6 (
             6,
@@ -15815,7 +13805,7 @@ module _ (claims· : Claims) where
                 (Referent.rtF (Referent.fInt Syntax.w64))
                 (Syntax.tyRef (Syntax.named 4) Syntax.mut (Syntax.tyInt Syntax.w64))
                 4,
-          ) (T13 .locals)) (Row.set 6 (
+          ) (T12 .locals)) (Row.set 6 (
             6,
             Mut.mslice
                 (Referent.rtF (Referent.fInt Syntax.w64))
@@ -15824,50 +13814,48 @@ module _ (claims· : Claims) where
           ) record {
             ptr = Row.get
                 6
-                (T13 .locals)
-                (m12 (before .before) (before .slice-known5 .given)) .ptr;
+                (T12 .locals)
+                (m11 (before .before) (before .slice-known4 .given)) .ptr;
             name = Row.get
                 6
-                (T13 .locals)
-                (m12 (before .before) (before .slice-known5 .given)) .name;
+                (T12 .locals)
+                (m11 (before .before) (before .slice-known4 .given)) .name;
             now = owner;
-          } (T13 .locals) (m12 (before .before) (before .slice-known5 .given))))))))))
+          } (T12 .locals) (m11 (before .before) (before .slice-known4 .given)))))))))
 
       abbrev W3 :
-          (before : After-slice-known5) →
+          (before : After-slice-known4) →
           (owner : List.List (Referent.rtF (Referent.fInt Syntax.w64) .Denot)) →
           (stack : List.List (Referent.rtF (Referent.fInt Syntax.w8) .Denot)) →
           (cur : List.List (Referent.rtF (Referent.fInt Syntax.w8) .Denot)) →
           (next : List.List (Referent.rtF (Referent.fInt Syntax.w8) .Denot)) →
-          (clean : List.List (Referent.rtF (Referent.fInt Syntax.w8) .Denot)) →
           (recs : List.List (Elem.R .Denot)) →
           (past : Rows.sc-here (Row.sInt Syntax.w64) .Mod) →
           (n : Rows.sc-here (Row.sInt Syntax.w64) .Mod) →
           (o : Rows.sc-here (Row.sInt Syntax.w64) .Mod) →
           Typed.Want O3
       W3 =
-          λ before owner stack cur next clean recs past n o. Typed.inLoop
-          T13
+          λ before owner stack cur next recs past n o. Typed.inLoop
+          T12
           O2
           (Typed.Round
-          T13
+          T12
           O2
           put0
           (λ u vs. Inv·0
-          (Row.get 1 (T13 .locals) u .now)
-          (Row.get 2 (T13 .locals) u .now)
-          (Row.get 3 (T13 .locals) u)
-          (Row.get 4 (T13 .locals) u .now)
-          (Row.get 5 (T13 .locals) u .now)
-          (Row.get 6 (T13 .locals) u .now)
-          (Row.get 7 (T13 .locals) u .now)
-          (Row.get 8 (T13 .locals) u .now)
-          (Row.get 9 (T13 .locals) u .now)
-          (Row.get 10 (T13 .locals) u .now)
-          (Row.get 11 (T13 .locals) u .now)
-          (Row.get 12 (T13 .locals) u)
-          (Row.get 13 (T13 .locals) u)
-          (Row.get 14 (T13 .locals) u)
+          (Row.get 1 (T12 .locals) u .now)
+          (Row.get 2 (T12 .locals) u .now)
+          (Row.get 3 (T12 .locals) u)
+          (Row.get 4 (T12 .locals) u .now)
+          (Row.get 5 (T12 .locals) u .now)
+          (Row.get 6 (T12 .locals) u .now)
+          (Row.get 7 (T12 .locals) u .now)
+          (Row.get 8 (T12 .locals) u .now)
+          (Row.get 9 (T12 .locals) u .now)
+          (Row.get 10 (T12 .locals) u .now)
+          (Row.get 11 (T12 .locals) u)
+          (Row.get 12 (T12 .locals) u)
+          (Row.get 13 (T12 .locals) u)
           (vs .0)
           (vs .1)
           (vs .2)
@@ -15875,23 +13863,21 @@ module _ (claims· : Claims) where
           (vs .4)
           (vs .5)
           (vs .6)
-          (vs .7)
-          (vs .8))
+          (vs .7))
           (λ u vs. μ·0
-          (Row.get 1 (T13 .locals) u .now)
-          (Row.get 2 (T13 .locals) u .now)
-          (Row.get 3 (T13 .locals) u)
-          (Row.get 4 (T13 .locals) u .now)
-          (Row.get 5 (T13 .locals) u .now)
-          (Row.get 6 (T13 .locals) u .now)
-          (Row.get 7 (T13 .locals) u .now)
-          (Row.get 8 (T13 .locals) u .now)
-          (Row.get 9 (T13 .locals) u .now)
-          (Row.get 10 (T13 .locals) u .now)
-          (Row.get 11 (T13 .locals) u .now)
-          (Row.get 12 (T13 .locals) u)
-          (Row.get 13 (T13 .locals) u)
-          (Row.get 14 (T13 .locals) u)
+          (Row.get 1 (T12 .locals) u .now)
+          (Row.get 2 (T12 .locals) u .now)
+          (Row.get 3 (T12 .locals) u)
+          (Row.get 4 (T12 .locals) u .now)
+          (Row.get 5 (T12 .locals) u .now)
+          (Row.get 6 (T12 .locals) u .now)
+          (Row.get 7 (T12 .locals) u .now)
+          (Row.get 8 (T12 .locals) u .now)
+          (Row.get 9 (T12 .locals) u .now)
+          (Row.get 10 (T12 .locals) u .now)
+          (Row.get 11 (T12 .locals) u)
+          (Row.get 12 (T12 .locals) u)
+          (Row.get 13 (T12 .locals) u)
           (vs .0)
           (vs .1)
           (vs .2)
@@ -15899,121 +13885,110 @@ module _ (claims· : Claims) where
           (vs .4)
           (vs .5)
           (vs .6)
-          (vs .7)
-          (vs .8))
-          at65
-          (m12 (before .before) (before .slice-known5 .given))
-          (owner, stack, cur, next, clean, recs, past, n, o))
-          (W2 (before .before) (before .slice-known5 .given))
+          (vs .7))
+          at58
+          (m11 (before .before) (before .slice-known4 .given))
+          (owner, stack, cur, next, recs, past, n, o))
+          (W2 (before .before) (before .slice-known4 .given))
 
-      abbrev pub m14 :
-          (before : After-slice-known5) →
+      abbrev pub m13 :
+          (before : After-slice-known4) →
           (owner : List.List (Referent.rtF (Referent.fInt Syntax.w64) .Denot)) →
           (stack : List.List (Referent.rtF (Referent.fInt Syntax.w8) .Denot)) →
           (cur : List.List (Referent.rtF (Referent.fInt Syntax.w8) .Denot)) →
           (next : List.List (Referent.rtF (Referent.fInt Syntax.w8) .Denot)) →
-          (clean : List.List (Referent.rtF (Referent.fInt Syntax.w8) .Denot)) →
           (recs : List.List (Elem.R .Denot)) →
           (past : Rows.sc-here (Row.sInt Syntax.w64) .Mod) →
           (n : Rows.sc-here (Row.sInt Syntax.w64) .Mod) →
           (o : Rows.sc-here (Row.sInt Syntax.w64) .Mod) →
-          Typed.Mo T15
-      m14 =
-          λ before owner stack cur next clean recs past n o. s12 .next
-          (m13 before owner stack cur next clean recs past n o)
+          Typed.Mo T14
+      m13 =
+          λ before owner stack cur next recs past n o. s11 .next
+          (m12 before owner stack cur next recs past n o)
 
       abbrev W4 :
-          (before : After-slice-known5) →
+          (before : After-slice-known4) →
           (owner : List.List (Referent.rtF (Referent.fInt Syntax.w64) .Denot)) →
           (stack : List.List (Referent.rtF (Referent.fInt Syntax.w8) .Denot)) →
           (cur : List.List (Referent.rtF (Referent.fInt Syntax.w8) .Denot)) →
           (next : List.List (Referent.rtF (Referent.fInt Syntax.w8) .Denot)) →
-          (clean : List.List (Referent.rtF (Referent.fInt Syntax.w8) .Denot)) →
           (recs : List.List (Elem.R .Denot)) →
           (past : Rows.sc-here (Row.sInt Syntax.w64) .Mod) →
           (n : Rows.sc-here (Row.sInt Syntax.w64) .Mod) →
           (o : Rows.sc-here (Row.sInt Syntax.w64) .Mod) →
           Typed.Want O4
       W4 =
-          λ before owner stack cur next clean recs past n o. Typed.wantNext
-          T16
+          λ before owner stack cur next recs past n o. Typed.wantNext
+          T15
           O3
-          (at63 (W3 before owner stack cur next clean recs past n o))
-          (W3 before owner stack cur next clean recs past n o)
+          (at56 (W3 before owner stack cur next recs past n o))
+          (W3 before owner stack cur next recs past n o)
 
-      module _ (before· : After-slice-known5) where
+      module _ (before· : After-slice-known4) where
         pub record At-loop·own : Type 0 where
           pub owner : List.List (Referent.rtF (Referent.fInt Syntax.w64) .Denot)
           pub stack : List.List (Referent.rtF (Referent.fInt Syntax.w8) .Denot)
           pub cur : List.List (Referent.rtF (Referent.fInt Syntax.w8) .Denot)
           pub next : List.List (Referent.rtF (Referent.fInt Syntax.w8) .Denot)
-          pub clean : List.List (Referent.rtF (Referent.fInt Syntax.w8) .Denot)
           pub recs : List.List (Elem.R .Denot)
           pub past : Rows.sc-here (Row.sInt Syntax.w64) .Mod
           pub n : Rows.sc-here (Row.sInt Syntax.w64) .Mod
           pub o : Rows.sc-here (Row.sInt Syntax.w64) .Mod
           pub inv : Inv·0
-              (Row.get 1 (T13 .locals) (m12 (before· .before) (before· .slice-known5 .given)) .now)
-              (Row.get 2 (T13 .locals) (m12 (before· .before) (before· .slice-known5 .given)) .now)
-              (Row.get 3 (T13 .locals) (m12 (before· .before) (before· .slice-known5 .given)))
-              (Row.get 4 (T13 .locals) (m12 (before· .before) (before· .slice-known5 .given)) .now)
-              (Row.get 5 (T13 .locals) (m12 (before· .before) (before· .slice-known5 .given)) .now)
-              (Row.get 6 (T13 .locals) (m12 (before· .before) (before· .slice-known5 .given)) .now)
-              (Row.get 7 (T13 .locals) (m12 (before· .before) (before· .slice-known5 .given)) .now)
-              (Row.get 8 (T13 .locals) (m12 (before· .before) (before· .slice-known5 .given)) .now)
-              (Row.get 9 (T13 .locals) (m12 (before· .before) (before· .slice-known5 .given)) .now)
+              (Row.get 1 (T12 .locals) (m11 (before· .before) (before· .slice-known4 .given)) .now)
+              (Row.get 2 (T12 .locals) (m11 (before· .before) (before· .slice-known4 .given)) .now)
+              (Row.get 3 (T12 .locals) (m11 (before· .before) (before· .slice-known4 .given)))
+              (Row.get 4 (T12 .locals) (m11 (before· .before) (before· .slice-known4 .given)) .now)
+              (Row.get 5 (T12 .locals) (m11 (before· .before) (before· .slice-known4 .given)) .now)
+              (Row.get 6 (T12 .locals) (m11 (before· .before) (before· .slice-known4 .given)) .now)
+              (Row.get 7 (T12 .locals) (m11 (before· .before) (before· .slice-known4 .given)) .now)
+              (Row.get 8 (T12 .locals) (m11 (before· .before) (before· .slice-known4 .given)) .now)
+              (Row.get 9 (T12 .locals) (m11 (before· .before) (before· .slice-known4 .given)) .now)
               (Row.get
               10
-              (T13 .locals)
-              (m12 (before· .before) (before· .slice-known5 .given)) .now)
-              (Row.get
-              11
-              (T13 .locals)
-              (m12 (before· .before) (before· .slice-known5 .given)) .now)
-              (Row.get 12 (T13 .locals) (m12 (before· .before) (before· .slice-known5 .given)))
-              (Row.get 13 (T13 .locals) (m12 (before· .before) (before· .slice-known5 .given)))
-              (Row.get 14 (T13 .locals) (m12 (before· .before) (before· .slice-known5 .given)))
+              (T12 .locals)
+              (m11 (before· .before) (before· .slice-known4 .given)) .now)
+              (Row.get 11 (T12 .locals) (m11 (before· .before) (before· .slice-known4 .given)))
+              (Row.get 12 (T12 .locals) (m11 (before· .before) (before· .slice-known4 .given)))
+              (Row.get 13 (T12 .locals) (m11 (before· .before) (before· .slice-known4 .given)))
               owner
               stack
               cur
               next
-              clean
               recs
               past
               n
               o
 
       pub record At-loop : Type 0 where
-        pub before : After-slice-known5
+        pub before : After-slice-known4
         pub loop : At-loop·own before
 
       module _ (before· : At-loop) where
         pub record In-loop·own : Type 0 where
           pub taken : Nat._<_
               (Row.get
-              13
-              (T13 .locals)
-              (m13
+              12
+              (T12 .locals)
+              (m12
               (before· .before)
               (before· .loop .owner)
               (before· .loop .stack)
               (before· .loop .cur)
               (before· .loop .next)
-              (before· .loop .clean)
               (before· .loop .recs)
               (before· .loop .past)
               (before· .loop .n)
               (before· .loop .o)))
               (Row.get
               3
-              (T13 .locals)
-              (m13
+              (T12 .locals)
+              (m12
               (before· .before)
               (before· .loop .owner)
               (before· .loop .stack)
               (before· .loop .cur)
               (before· .loop .next)
-              (before· .loop .clean)
               (before· .loop .recs)
               (before· .loop .past)
               (before· .loop .n)
@@ -16023,16 +13998,15 @@ module _ (claims· : Claims) where
         pub before : At-loop
         pub loop-test : In-loop·own before
 
-      abbrev pub m15 : (before : At-loop) → Typed.Mo T17
-      m15 =
-          λ before. s13
-          (m14
+      abbrev pub m14 : (before : At-loop) → Typed.Mo T16
+      m14 =
+          λ before. s12
+          (m13
           (before .before)
           (before .loop .owner)
           (before .loop .stack)
           (before .loop .cur)
           (before .loop .next)
-          (before .loop .clean)
           (before .loop .recs)
           (before .loop .past)
           (before .loop .n)
@@ -16043,28 +14017,26 @@ module _ (claims· : Claims) where
           pub left : Nat._≤_
               (Row.get
               3
-              (T13 .locals)
-              (m13
+              (T12 .locals)
+              (m12
               (before· .before)
               (before· .loop .owner)
               (before· .loop .stack)
               (before· .loop .cur)
               (before· .loop .next)
-              (before· .loop .clean)
               (before· .loop .recs)
               (before· .loop .past)
               (before· .loop .n)
               (before· .loop .o)))
               (Row.get
-              13
-              (T13 .locals)
-              (m13
+              12
+              (T12 .locals)
+              (m12
               (before· .before)
               (before· .loop .owner)
               (before· .loop .stack)
               (before· .loop .cur)
               (before· .loop .next)
-              (before· .loop .clean)
               (before· .loop .recs)
               (before· .loop .past)
               (before· .loop .n)
@@ -16074,32 +14046,31 @@ module _ (claims· : Claims) where
         pub before : At-loop
         pub loop-test : After-loop·own before
 
-      abbrev pub m16 : (before : At-loop) → Typed.Mo T18
-      m16 =
-          λ before. s14
-          (m14
+      abbrev pub m15 : (before : At-loop) → Typed.Mo T17
+      m15 =
+          λ before. s13
+          (m13
           (before .before)
           (before .loop .owner)
           (before .loop .stack)
           (before .loop .cur)
           (before .loop .next)
-          (before .loop .clean)
           (before .loop .recs)
           (before .loop .past)
           (before .loop .n)
           (before .loop .o))
 
-      abbrev pub m17 :
-          (before : In-loop) → (given : s16 .gives (m15 (before .before))) → Typed.Mo T20
-      m17 = λ before given. s16 .next (m15 (before .before)) given
+      abbrev pub m16 :
+          (before : In-loop) → (given : s15 .gives (m14 (before .before))) → Typed.Mo T19
+      m16 = λ before given. s15 .next (m14 (before .before)) given
 
-      abbrev pub m18 :
-          (before : In-loop) → (given : s16 .gives (m15 (before .before))) → Typed.Mo T21
-      m18 = λ before given. s17 .next (m17 before given)
+      abbrev pub m17 :
+          (before : In-loop) → (given : s15 .gives (m14 (before .before))) → Typed.Mo T20
+      m17 = λ before given. s16 .next (m16 before given)
 
       module _ (before· : In-loop) where
         pub record After-refill-arg·own : Type 0 where
-          pub given : s16 .gives (m15 (before· .before))
+          pub given : s15 .gives (m14 (before· .before))
 
       pub record After-refill-arg : Type 0 where
         pub before : In-loop
@@ -16107,17 +14078,17 @@ module _ (claims· : Claims) where
 
       abbrev pub Need-refill-requires : Type 0
       Need-refill-requires =
-          (c : After-refill-arg) → s18 .asks (m18 (c .before) (c .refill-arg .given))
+          (c : After-refill-arg) → s17 .asks (m17 (c .before) (c .refill-arg .given))
 
-      abbrev pub m19 :
+      abbrev pub m18 :
           (before : After-refill-arg) →
-          (given : s18 .gives (m18 (before .before) (before .refill-arg .given))) →
-          Typed.Mo T22
-      m19 = λ before given. s18 .next (m18 (before .before) (before .refill-arg .given)) given
+          (given : s17 .gives (m17 (before .before) (before .refill-arg .given))) →
+          Typed.Mo T21
+      m18 = λ before given. s17 .next (m17 (before .before) (before .refill-arg .given)) given
 
       module _ (before· : After-refill-arg) where
         abbrev pub After-refill·own : Type 0
-        After-refill·own = Called.Called ps·0 r·0 (claims· .1) T21 (
+        After-refill·own = Called.Called ps·0 r·0 (claims· .1) T20 (
           record {
             pos = 2;
             ty = Syntax.tyRef (Syntax.named 1) Syntax.imm (Syntax.tyInt Syntax.w64);
@@ -16132,12 +14103,12 @@ module _ (claims· : Claims) where
             (
               Num.vAt 3 λ x. x,
               (
-                Num.vAt 13 λ x. x,
+                Num.vAt 12 λ x. x,
                 (
-                  Num.vAt 12 λ x. x,
+                  Num.vAt 11 λ x. x,
                   (
                     record {
-                      pos = 18;
+                      pos = 17;
                       ty = Syntax.tyRef
                           Syntax.erased
                           Syntax.mut
@@ -16150,15 +14121,15 @@ module _ (claims· : Claims) where
               ),
             ),
           ),
-        ) (m18 (before· .before) (before· .refill-arg .given))
+        ) (m17 (before· .before) (before· .refill-arg .given))
 
       pub record After-refill : Type 0 where
         pub before : After-refill-arg
         pub refill : After-refill·own before
 
       abbrev pub After-refill·gave :
-          (c : After-refill) → s18 .gives (m18 (c .before .before) (c .before .refill-arg .given))
-      After-refill·gave = λ c. Called.given ps·0 r·0 (claims· .1) T21 (
+          (c : After-refill) → s17 .gives (m17 (c .before .before) (c .before .refill-arg .given))
+      After-refill·gave = λ c. Called.given ps·0 r·0 (claims· .1) T20 (
         record {
           pos = 2;
           ty = Syntax.tyRef (Syntax.named 1) Syntax.imm (Syntax.tyInt Syntax.w64);
@@ -16173,12 +14144,12 @@ module _ (claims· : Claims) where
           (
             Num.vAt 3 λ x. x,
             (
-              Num.vAt 13 λ x. x,
+              Num.vAt 12 λ x. x,
               (
-                Num.vAt 12 λ x. x,
+                Num.vAt 11 λ x. x,
                 (
                   record {
-                    pos = 18;
+                    pos = 17;
                     ty = Syntax.tyRef
                         Syntax.erased
                         Syntax.mut
@@ -16191,266 +14162,246 @@ module _ (claims· : Claims) where
             ),
           ),
         ),
-      ) (m18 (c .before .before) (c .before .refill-arg .given)) (c .refill)
+      ) (m17 (c .before .before) (c .before .refill-arg .given)) (c .refill)
 
-      abbrev pub m20 :
+      abbrev pub m19 :
           (before : After-refill) →
-          (given : s20 .gives (m19 (before .before) (After-refill·gave before))) →
-          Typed.Mo T24
-      m20 = λ before given. s20 .next (m19 (before .before) (After-refill·gave before)) given
+          (given : s19 .gives (m18 (before .before) (After-refill·gave before))) →
+          Typed.Mo T23
+      m19 = λ before given. s19 .next (m18 (before .before) (After-refill·gave before)) given
 
       module _ (before· : After-refill) where
         pub record After-recs·own : Type 0 where
-          pub given : s20 .gives (m19 (before· .before) (After-refill·gave before·))
+          pub given : s19 .gives (m18 (before· .before) (After-refill·gave before·))
 
       pub record After-recs : Type 0 where
         pub before : After-refill
         pub recs : After-recs·own before
 
+      abbrev pub m20 :
+          (before : After-recs) →
+          (given : s22 .gives (m19 (before .before) (before .recs .given))) →
+          Typed.Mo T26
+      m20 = λ before given. s22 .next (m19 (before .before) (before .recs .given)) given
+
       abbrev pub m21 :
           (before : After-recs) →
-          (given : s23 .gives (m20 (before .before) (before .recs .given))) →
+          (given : s22 .gives (m19 (before .before) (before .recs .given))) →
           Typed.Mo T27
-      m21 = λ before given. s23 .next (m20 (before .before) (before .recs .given)) given
+      m21 = λ before given. s23 .next (m20 before given)
 
       abbrev pub m22 :
           (before : After-recs) →
-          (given : s23 .gives (m20 (before .before) (before .recs .given))) →
+          (given : s22 .gives (m19 (before .before) (before .recs .given))) →
           Typed.Mo T28
-      m22 = λ before given. s24 .next (m21 before given)
-
-      abbrev pub m23 :
-          (before : After-recs) →
-          (given : s23 .gives (m20 (before .before) (before .recs .given))) →
-          Typed.Mo T29
-      m23 = λ before given. s25 (m22 before given)
+      m22 = λ before given. s24 (m21 before given)
 
       module _ (before· : After-recs) where
         pub record After-get-arg·own : Type 0 where
-          pub given : s23 .gives (m20 (before· .before) (before· .recs .given))
+          pub given : s22 .gives (m19 (before· .before) (before· .recs .given))
 
       pub record After-get-arg : Type 0 where
         pub before : After-recs
         pub get-arg : After-get-arg·own before
 
       abbrev pub Need-add-get : Type 0
-      Need-add-get = (c : After-get-arg) → s26 .asks (m23 (c .before) (c .get-arg .given))
+      Need-add-get = (c : After-get-arg) → s25 .asks (m22 (c .before) (c .get-arg .given))
+
+      abbrev pub m23 :
+          (before : After-recs) →
+          (given : s22 .gives (m19 (before .before) (before .recs .given))) →
+          Typed.Mo T29
+      m23 = λ before given. s25 .next (m22 before given)
 
       abbrev pub m24 :
           (before : After-recs) →
-          (given : s23 .gives (m20 (before .before) (before .recs .given))) →
+          (given : s22 .gives (m19 (before .before) (before .recs .given))) →
           Typed.Mo T30
-      m24 = λ before given. s26 .next (m23 before given)
+      m24 = λ before given. s26 (m23 before given)
+
+      abbrev pub Need-sub-get : Type 0
+      Need-sub-get = (c : After-get-arg) → s27 .asks (m24 (c .before) (c .get-arg .given))
 
       abbrev pub m25 :
           (before : After-recs) →
-          (given : s23 .gives (m20 (before .before) (before .recs .given))) →
+          (given : s22 .gives (m19 (before .before) (before .recs .given))) →
           Typed.Mo T31
-      m25 = λ before given. s27 (m24 before given)
-
-      abbrev pub Need-sub-get : Type 0
-      Need-sub-get = (c : After-get-arg) → s28 .asks (m25 (c .before) (c .get-arg .given))
+      m25 = λ before given. s27 .next (m24 before given)
 
       abbrev pub m26 :
           (before : After-recs) →
-          (given : s23 .gives (m20 (before .before) (before .recs .given))) →
+          (given : s22 .gives (m19 (before .before) (before .recs .given))) →
           Typed.Mo T32
-      m26 = λ before given. s28 .next (m25 before given)
-
-      abbrev pub m27 :
-          (before : After-recs) →
-          (given : s23 .gives (m20 (before .before) (before .recs .given))) →
-          Typed.Mo T33
-      m27 = λ before given. s29 (m26 before given)
+      m26 = λ before given. s28 (m25 before given)
 
       abbrev pub Need-get-requires : Type 0
-      Need-get-requires = (c : After-get-arg) → s30 .asks (m27 (c .before) (c .get-arg .given))
+      Need-get-requires = (c : After-get-arg) → s29 .asks (m26 (c .before) (c .get-arg .given))
 
-      abbrev pub m28 :
+      abbrev pub m27 :
           (before : After-get-arg) →
-          (given : s30 .gives (m27 (before .before) (before .get-arg .given))) →
-          Typed.Mo T34
-      m28 = λ before given. s30 .next (m27 (before .before) (before .get-arg .given)) given
+          (given : s29 .gives (m26 (before .before) (before .get-arg .given))) →
+          Typed.Mo T33
+      m27 = λ before given. s29 .next (m26 (before .before) (before .get-arg .given)) given
 
       module _ (before· : After-get-arg) where
         abbrev pub After-get·own : Type 0
-        After-get·own = Called.Called ps·1 r·1 (claims· .3) T33 (
+        After-get·own = Called.Called ps·1 r·1 (claims· .3) T32 (
           record {
-            pos = 20;
+            pos = 19;
             ty = Syntax.tyRef
                 Syntax.erased
                 Syntax.imm
                 Elem.ty;
             ref = λ x. x;
           },
-          (Num.vAt 23 λ x. x, tt),
-        ) (m27 (before· .before) (before· .get-arg .given))
+          (Num.vAt 22 λ x. x, tt),
+        ) (m26 (before· .before) (before· .get-arg .given))
 
       pub record After-get : Type 0 where
         pub before : After-get-arg
         pub get : After-get·own before
 
       abbrev pub After-get·gave :
-          (c : After-get) → s30 .gives (m27 (c .before .before) (c .before .get-arg .given))
-      After-get·gave = λ c. Called.given ps·1 r·1 (claims· .3) T33 (
+          (c : After-get) → s29 .gives (m26 (c .before .before) (c .before .get-arg .given))
+      After-get·gave = λ c. Called.given ps·1 r·1 (claims· .3) T32 (
         record {
-          pos = 20;
+          pos = 19;
           ty = Syntax.tyRef
               Syntax.erased
               Syntax.imm
               Elem.ty;
           ref = λ x. x;
         },
-        (Num.vAt 23 λ x. x, tt),
-      ) (m27 (c .before .before) (c .before .get-arg .given)) (c .get)
+        (Num.vAt 22 λ x. x, tt),
+      ) (m26 (c .before .before) (c .before .get-arg .given)) (c .get)
+
+      abbrev pub m28 :
+          (before : After-get-arg) →
+          (given : s29 .gives (m26 (before .before) (before .get-arg .given))) →
+          Typed.Mo T34
+      m28 = λ before given. s30 (m27 before given)
 
       abbrev pub m29 :
           (before : After-get-arg) →
-          (given : s30 .gives (m27 (before .before) (before .get-arg .given))) →
+          (given : s29 .gives (m26 (before .before) (before .get-arg .given))) →
           Typed.Mo T35
       m29 = λ before given. s31 (m28 before given)
 
       abbrev pub m30 :
           (before : After-get-arg) →
-          (given : s30 .gives (m27 (before .before) (before .get-arg .given))) →
-          Typed.Mo T36
-      m30 = λ before given. s32 (m29 before given)
+          (given : s29 .gives (m26 (before .before) (before .get-arg .given))) →
+          Typed.Mo T37
+      m30 = λ before given. s33 (m29 before given)
 
       abbrev pub m31 :
-          (before : After-get-arg) →
-          (given : s30 .gives (m27 (before .before) (before .get-arg .given))) →
-          Typed.Mo T38
-      m31 = λ before given. s34 (m30 before given)
+          (before : After-get) →
+          (given : s36 .gives (m30 (before .before) (After-get·gave before))) →
+          Typed.Mo T40
+      m31 = λ before given. s36 .next (m30 (before .before) (After-get·gave before)) given
 
       abbrev pub m32 :
           (before : After-get) →
-          (given : s37 .gives (m31 (before .before) (After-get·gave before))) →
+          (given : s36 .gives (m30 (before .before) (After-get·gave before))) →
           Typed.Mo T41
-      m32 = λ before given. s37 .next (m31 (before .before) (After-get·gave before)) given
-
-      abbrev pub m33 :
-          (before : After-get) →
-          (given : s37 .gives (m31 (before .before) (After-get·gave before))) →
-          Typed.Mo T42
-      m33 = λ before given. s38 .next (m32 before given)
+      m32 = λ before given. s37 .next (m31 before given)
 
       module _ (before· : After-get) where
         pub record After-turn-line-arg·own : Type 0 where
-          pub given : s37 .gives (m31 (before· .before) (After-get·gave before·))
+          pub given : s36 .gives (m30 (before· .before) (After-get·gave before·))
 
       pub record After-turn-line-arg : Type 0 where
         pub before : After-get
         pub turn-line-arg : After-turn-line-arg·own before
 
+      abbrev pub m33 :
+          (before : After-turn-line-arg) →
+          (given : s39 .gives (m32 (before .before) (before .turn-line-arg .given))) →
+          Typed.Mo T43
+      m33 = λ before given. s39 .next (m32 (before .before) (before .turn-line-arg .given)) given
+
       abbrev pub m34 :
           (before : After-turn-line-arg) →
-          (given : s40 .gives (m33 (before .before) (before .turn-line-arg .given))) →
+          (given : s39 .gives (m32 (before .before) (before .turn-line-arg .given))) →
           Typed.Mo T44
-      m34 = λ before given. s40 .next (m33 (before .before) (before .turn-line-arg .given)) given
-
-      abbrev pub m35 :
-          (before : After-turn-line-arg) →
-          (given : s40 .gives (m33 (before .before) (before .turn-line-arg .given))) →
-          Typed.Mo T45
-      m35 = λ before given. s41 .next (m34 before given)
+      m34 = λ before given. s40 .next (m33 before given)
 
       module _ (before· : After-turn-line-arg) where
         pub record After-turn-line-arg2·own : Type 0 where
-          pub given : s40 .gives (m33 (before· .before) (before· .turn-line-arg .given))
+          pub given : s39 .gives (m32 (before· .before) (before· .turn-line-arg .given))
 
       pub record After-turn-line-arg2 : Type 0 where
         pub before : After-turn-line-arg
         pub turn-line-arg2 : After-turn-line-arg2·own before
 
+      abbrev pub m35 :
+          (before : After-turn-line-arg2) →
+          (given : s42 .gives (m34 (before .before) (before .turn-line-arg2 .given))) →
+          Typed.Mo T46
+      m35 = λ before given. s42 .next (m34 (before .before) (before .turn-line-arg2 .given)) given
+
       abbrev pub m36 :
           (before : After-turn-line-arg2) →
-          (given : s43 .gives (m35 (before .before) (before .turn-line-arg2 .given))) →
+          (given : s42 .gives (m34 (before .before) (before .turn-line-arg2 .given))) →
           Typed.Mo T47
-      m36 = λ before given. s43 .next (m35 (before .before) (before .turn-line-arg2 .given)) given
-
-      abbrev pub m37 :
-          (before : After-turn-line-arg2) →
-          (given : s43 .gives (m35 (before .before) (before .turn-line-arg2 .given))) →
-          Typed.Mo T48
-      m37 = λ before given. s44 .next (m36 before given)
+      m36 = λ before given. s43 .next (m35 before given)
 
       module _ (before· : After-turn-line-arg2) where
         pub record After-turn-line-arg3·own : Type 0 where
-          pub given : s43 .gives (m35 (before· .before) (before· .turn-line-arg2 .given))
+          pub given : s42 .gives (m34 (before· .before) (before· .turn-line-arg2 .given))
 
       pub record After-turn-line-arg3 : Type 0 where
         pub before : After-turn-line-arg2
         pub turn-line-arg3 : After-turn-line-arg3·own before
 
+      abbrev pub m37 :
+          (before : After-turn-line-arg3) →
+          (given : s45 .gives (m36 (before .before) (before .turn-line-arg3 .given))) →
+          Typed.Mo T49
+      m37 = λ before given. s45 .next (m36 (before .before) (before .turn-line-arg3 .given)) given
+
       abbrev pub m38 :
           (before : After-turn-line-arg3) →
-          (given : s46 .gives (m37 (before .before) (before .turn-line-arg3 .given))) →
+          (given : s45 .gives (m36 (before .before) (before .turn-line-arg3 .given))) →
           Typed.Mo T50
-      m38 = λ before given. s46 .next (m37 (before .before) (before .turn-line-arg3 .given)) given
-
-      abbrev pub m39 :
-          (before : After-turn-line-arg3) →
-          (given : s46 .gives (m37 (before .before) (before .turn-line-arg3 .given))) →
-          Typed.Mo T51
-      m39 = λ before given. s47 .next (m38 before given)
+      m38 = λ before given. s46 .next (m37 before given)
 
       module _ (before· : After-turn-line-arg3) where
         pub record After-turn-line-arg4·own : Type 0 where
-          pub given : s46 .gives (m37 (before· .before) (before· .turn-line-arg3 .given))
+          pub given : s45 .gives (m36 (before· .before) (before· .turn-line-arg3 .given))
 
       pub record After-turn-line-arg4 : Type 0 where
         pub before : After-turn-line-arg3
         pub turn-line-arg4 : After-turn-line-arg4·own before
 
-      abbrev pub m40 :
-          (before : After-turn-line-arg4) →
-          (given : s49 .gives (m39 (before .before) (before .turn-line-arg4 .given))) →
-          Typed.Mo T53
-      m40 = λ before given. s49 .next (m39 (before .before) (before .turn-line-arg4 .given)) given
-
-      abbrev pub m41 :
-          (before : After-turn-line-arg4) →
-          (given : s49 .gives (m39 (before .before) (before .turn-line-arg4 .given))) →
-          Typed.Mo T54
-      m41 = λ before given. s50 .next (m40 before given)
-
-      module _ (before· : After-turn-line-arg4) where
-        pub record After-turn-line-arg5·own : Type 0 where
-          pub given : s49 .gives (m39 (before· .before) (before· .turn-line-arg4 .given))
-
-      pub record After-turn-line-arg5 : Type 0 where
-        pub before : After-turn-line-arg4
-        pub turn-line-arg5 : After-turn-line-arg5·own before
-
       abbrev pub Need-turn-line-requires : Type 0
       Need-turn-line-requires =
-          (c : After-turn-line-arg5) → s51 .asks (m41 (c .before) (c .turn-line-arg5 .given))
+          (c : After-turn-line-arg4) → s47 .asks (m38 (c .before) (c .turn-line-arg4 .given))
 
-      abbrev pub m42 :
-          (before : After-turn-line-arg5) →
-          (given : s51 .gives (m41 (before .before) (before .turn-line-arg5 .given))) →
-          Typed.Mo T55
-      m42 = λ before given. s51 .next (m41 (before .before) (before .turn-line-arg5 .given)) given
+      abbrev pub m39 :
+          (before : After-turn-line-arg4) →
+          (given : s47 .gives (m38 (before .before) (before .turn-line-arg4 .given))) →
+          Typed.Mo T51
+      m39 = λ before given. s47 .next (m38 (before .before) (before .turn-line-arg4 .given)) given
 
-      module _ (before· : After-turn-line-arg5) where
+      module _ (before· : After-turn-line-arg4) where
         abbrev pub After-turn-line·own : Type 0
-        After-turn-line·own = Called.Called ps·2 r·2 (claims· .5) T54 (
+        After-turn-line·own = Called.Called ps·2 r·2 (claims· .5) T50 (
           record {
             pos = 1;
             ty = Syntax.tyRef (Syntax.named 0) Syntax.imm (Syntax.tyInt Syntax.w8);
             ref = λ x. x;
           },
           (
-            Num.vFld 15 (List._∷_ (Syntax.field 0) List.[]) 0 λ x. LineRec.struct .as-values x .0,
+            Num.vFld 14 (List._∷_ (Syntax.field 0) List.[]) 0 λ x. LineRec.struct .as-values x .0,
             (
               Num.vFld
-                  15
+                  14
                   (List._∷_ (Syntax.field 1) List.[])
                   8
                   λ x. LineRec.struct .as-values
                   x .1 .0,
               (
-                Num.vAt 13 λ x. x,
+                Num.vAt 12 λ x. x,
                 (
                   record {
                     pos = 4;
@@ -16465,121 +14416,27 @@ module _ (claims· : Claims) where
                     },
                     (
                       record {
-                        pos = 25;
+                        pos = 24;
                         ty = Syntax.tyRef Syntax.erased Syntax.mut (Syntax.tyInt Syntax.w64);
                         ref = λ x. x;
                       },
                       (
                         record {
-                          pos = 27;
+                          pos = 26;
                           ty = Syntax.tyRef Syntax.erased Syntax.mut (Syntax.tyInt Syntax.w8);
                           ref = λ x. x;
                         },
                         (
-                          Num.vAt 14 λ x. x,
+                          Num.vAt 13 λ x. x,
                           (
                             record {
-                              pos = 29;
+                              pos = 28;
                               ty = Syntax.tyRef Syntax.erased Syntax.mut (Syntax.tyInt Syntax.w8);
                               ref = λ x. x;
                             },
                             (
                               record {
-                                pos = 31;
-                                ty = Syntax.tyRef
-                                    Syntax.erased
-                                    Syntax.mut
-                                    (Syntax.tyInt Syntax.w8);
-                                ref = λ x. x;
-                              },
-                              (
-                                record {
-                                  pos = 33;
-                                  ty = Syntax.tyRef
-                                      Syntax.erased
-                                      Syntax.mut
-                                      (Syntax.tyInt Syntax.w8);
-                                  ref = λ x. x;
-                                },
-                                tt,
-                              ),
-                            ),
-                          ),
-                        ),
-                      ),
-                    ),
-                  ),
-                ),
-              ),
-            ),
-          ),
-        ) (m41 (before· .before) (before· .turn-line-arg5 .given))
-
-      pub record After-turn-line : Type 0 where
-        pub before : After-turn-line-arg5
-        pub turn-line : After-turn-line·own before
-
-      abbrev pub After-turn-line·gave :
-          (c : After-turn-line) →
-          s51 .gives (m41 (c .before .before) (c .before .turn-line-arg5 .given))
-      After-turn-line·gave = λ c. Called.given ps·2 r·2 (claims· .5) T54 (
-        record {
-          pos = 1;
-          ty = Syntax.tyRef (Syntax.named 0) Syntax.imm (Syntax.tyInt Syntax.w8);
-          ref = λ x. x;
-        },
-        (
-          Num.vFld 15 (List._∷_ (Syntax.field 0) List.[]) 0 λ x. LineRec.struct .as-values x .0,
-          (
-            Num.vFld
-                15
-                (List._∷_ (Syntax.field 1) List.[])
-                8
-                λ x. LineRec.struct .as-values
-                x .1 .0,
-            (
-              Num.vAt 13 λ x. x,
-              (
-                record {
-                  pos = 4;
-                  ty = Syntax.tyRef (Syntax.named 2) Syntax.imm (Syntax.tyInt Syntax.w64);
-                  ref = λ x. x;
-                },
-                (
-                  record {
-                    pos = 5;
-                    ty = Syntax.tyRef (Syntax.named 3) Syntax.imm (Syntax.tyInt Syntax.w8);
-                    ref = λ x. x;
-                  },
-                  (
-                    record {
-                      pos = 25;
-                      ty = Syntax.tyRef Syntax.erased Syntax.mut (Syntax.tyInt Syntax.w64);
-                      ref = λ x. x;
-                    },
-                    (
-                      record {
-                        pos = 27;
-                        ty = Syntax.tyRef Syntax.erased Syntax.mut (Syntax.tyInt Syntax.w8);
-                        ref = λ x. x;
-                      },
-                      (
-                        Num.vAt 14 λ x. x,
-                        (
-                          record {
-                            pos = 29;
-                            ty = Syntax.tyRef Syntax.erased Syntax.mut (Syntax.tyInt Syntax.w8);
-                            ref = λ x. x;
-                          },
-                          (
-                            record {
-                              pos = 31;
-                              ty = Syntax.tyRef Syntax.erased Syntax.mut (Syntax.tyInt Syntax.w8);
-                              ref = λ x. x;
-                            },
-                            (
-                              record {
-                                pos = 33;
+                                pos = 30;
                                 ty = Syntax.tyRef
                                     Syntax.erased
                                     Syntax.mut
@@ -16597,556 +14454,515 @@ module _ (claims· : Claims) where
               ),
             ),
           ),
+        ) (m38 (before· .before) (before· .turn-line-arg4 .given))
+
+      pub record After-turn-line : Type 0 where
+        pub before : After-turn-line-arg4
+        pub turn-line : After-turn-line·own before
+
+      abbrev pub After-turn-line·gave :
+          (c : After-turn-line) →
+          s47 .gives (m38 (c .before .before) (c .before .turn-line-arg4 .given))
+      After-turn-line·gave = λ c. Called.given ps·2 r·2 (claims· .5) T50 (
+        record {
+          pos = 1;
+          ty = Syntax.tyRef (Syntax.named 0) Syntax.imm (Syntax.tyInt Syntax.w8);
+          ref = λ x. x;
+        },
+        (
+          Num.vFld 14 (List._∷_ (Syntax.field 0) List.[]) 0 λ x. LineRec.struct .as-values x .0,
+          (
+            Num.vFld
+                14
+                (List._∷_ (Syntax.field 1) List.[])
+                8
+                λ x. LineRec.struct .as-values
+                x .1 .0,
+            (
+              Num.vAt 12 λ x. x,
+              (
+                record {
+                  pos = 4;
+                  ty = Syntax.tyRef (Syntax.named 2) Syntax.imm (Syntax.tyInt Syntax.w64);
+                  ref = λ x. x;
+                },
+                (
+                  record {
+                    pos = 5;
+                    ty = Syntax.tyRef (Syntax.named 3) Syntax.imm (Syntax.tyInt Syntax.w8);
+                    ref = λ x. x;
+                  },
+                  (
+                    record {
+                      pos = 24;
+                      ty = Syntax.tyRef Syntax.erased Syntax.mut (Syntax.tyInt Syntax.w64);
+                      ref = λ x. x;
+                    },
+                    (
+                      record {
+                        pos = 26;
+                        ty = Syntax.tyRef Syntax.erased Syntax.mut (Syntax.tyInt Syntax.w8);
+                        ref = λ x. x;
+                      },
+                      (
+                        Num.vAt 13 λ x. x,
+                        (
+                          record {
+                            pos = 28;
+                            ty = Syntax.tyRef Syntax.erased Syntax.mut (Syntax.tyInt Syntax.w8);
+                            ref = λ x. x;
+                          },
+                          (
+                            record {
+                              pos = 30;
+                              ty = Syntax.tyRef Syntax.erased Syntax.mut (Syntax.tyInt Syntax.w8);
+                              ref = λ x. x;
+                            },
+                            tt,
+                          ),
+                        ),
+                      ),
+                    ),
+                  ),
+                ),
+              ),
+            ),
+          ),
         ),
-      ) (m41 (c .before .before) (c .before .turn-line-arg5 .given)) (c .turn-line)
+      ) (m38 (c .before .before) (c .before .turn-line-arg4 .given)) (c .turn-line)
 
-      abbrev pub m43 :
-          (before : After-turn-line-arg5) →
-          (given : s51 .gives (m41 (before .before) (before .turn-line-arg5 .given))) →
-          Typed.Mo T56
-      m43 = λ before given. s52 (m42 before given)
+      abbrev pub m40 :
+          (before : After-turn-line-arg4) →
+          (given : s47 .gives (m38 (before .before) (before .turn-line-arg4 .given))) →
+          Typed.Mo T52
+      m40 = λ before given. s48 (m39 before given)
 
-      abbrev pub m44 :
+      abbrev pub m41 :
           (before : After-turn-line) →
-          (given : s54 .gives (m43 (before .before) (After-turn-line·gave before))) →
-          Typed.Mo T58
-      m44 = λ before given. s54 .next (m43 (before .before) (After-turn-line·gave before)) given
+          (given : s50 .gives (m40 (before .before) (After-turn-line·gave before))) →
+          Typed.Mo T54
+      m41 = λ before given. s50 .next (m40 (before .before) (After-turn-line·gave before)) given
 
       module _ (before· : After-turn-line) where
         pub record After-owner·own : Type 0 where
-          pub given : s54 .gives (m43 (before· .before) (After-turn-line·gave before·))
+          pub given : s50 .gives (m40 (before· .before) (After-turn-line·gave before·))
 
       pub record After-owner : Type 0 where
         pub before : After-turn-line
         pub owner : After-owner·own before
 
-      abbrev pub m45 :
+      abbrev pub m42 :
           (before : After-owner) →
-          (given : s55 .gives (m44 (before .before) (before .owner .given))) →
-          Typed.Mo T59
-      m45 = λ before given. s55 .next (m44 (before .before) (before .owner .given)) given
+          (given : s51 .gives (m41 (before .before) (before .owner .given))) →
+          Typed.Mo T55
+      m42 = λ before given. s51 .next (m41 (before .before) (before .owner .given)) given
 
       module _ (before· : After-owner) where
-        pub record After-slice-known6·own : Type 0 where
-          pub given : s55 .gives (m44 (before· .before) (before· .owner .given))
+        pub record After-slice-known5·own : Type 0 where
+          pub given : s51 .gives (m41 (before· .before) (before· .owner .given))
 
-      pub record After-slice-known6 : Type 0 where
+      pub record After-slice-known5 : Type 0 where
         pub before : After-owner
-        pub slice-known6 : After-slice-known6·own before
+        pub slice-known5 : After-slice-known5·own before
 
-      abbrev pub m46 :
-          (before : After-slice-known6) →
-          (given : s58 .gives (m45 (before .before) (before .slice-known6 .given))) →
-          Typed.Mo T62
-      m46 = λ before given. s58 .next (m45 (before .before) (before .slice-known6 .given)) given
+      abbrev pub m43 :
+          (before : After-slice-known5) →
+          (given : s54 .gives (m42 (before .before) (before .slice-known5 .given))) →
+          Typed.Mo T58
+      m43 = λ before given. s54 .next (m42 (before .before) (before .slice-known5 .given)) given
 
-      module _ (before· : After-slice-known6) where
+      module _ (before· : After-slice-known5) where
         pub record After-stack·own : Type 0 where
-          pub given : s58 .gives (m45 (before· .before) (before· .slice-known6 .given))
+          pub given : s54 .gives (m42 (before· .before) (before· .slice-known5 .given))
 
       pub record After-stack : Type 0 where
-        pub before : After-slice-known6
+        pub before : After-slice-known5
         pub stack : After-stack·own before
 
-      abbrev pub m47 :
+      abbrev pub m44 :
           (before : After-stack) →
-          (given : s59 .gives (m46 (before .before) (before .stack .given))) →
-          Typed.Mo T63
-      m47 = λ before given. s59 .next (m46 (before .before) (before .stack .given)) given
+          (given : s55 .gives (m43 (before .before) (before .stack .given))) →
+          Typed.Mo T59
+      m44 = λ before given. s55 .next (m43 (before .before) (before .stack .given)) given
 
       module _ (before· : After-stack) where
-        pub record After-slice-known7·own : Type 0 where
-          pub given : s59 .gives (m46 (before· .before) (before· .stack .given))
+        pub record After-slice-known6·own : Type 0 where
+          pub given : s55 .gives (m43 (before· .before) (before· .stack .given))
 
-      pub record After-slice-known7 : Type 0 where
+      pub record After-slice-known6 : Type 0 where
         pub before : After-stack
-        pub slice-known7 : After-slice-known7·own before
+        pub slice-known6 : After-slice-known6·own before
 
-      abbrev pub m48 :
-          (before : After-slice-known7) →
-          (given : s62 .gives (m47 (before .before) (before .slice-known7 .given))) →
-          Typed.Mo T66
-      m48 = λ before given. s62 .next (m47 (before .before) (before .slice-known7 .given)) given
+      abbrev pub m45 :
+          (before : After-slice-known6) →
+          (given : s58 .gives (m44 (before .before) (before .slice-known6 .given))) →
+          Typed.Mo T62
+      m45 = λ before given. s58 .next (m44 (before .before) (before .slice-known6 .given)) given
 
-      module _ (before· : After-slice-known7) where
+      module _ (before· : After-slice-known6) where
         pub record After-cur·own : Type 0 where
-          pub given : s62 .gives (m47 (before· .before) (before· .slice-known7 .given))
+          pub given : s58 .gives (m44 (before· .before) (before· .slice-known6 .given))
 
       pub record After-cur : Type 0 where
-        pub before : After-slice-known7
+        pub before : After-slice-known6
         pub cur : After-cur·own before
 
-      abbrev pub m49 :
+      abbrev pub m46 :
           (before : After-cur) →
-          (given : s63 .gives (m48 (before .before) (before .cur .given))) →
-          Typed.Mo T67
-      m49 = λ before given. s63 .next (m48 (before .before) (before .cur .given)) given
+          (given : s59 .gives (m45 (before .before) (before .cur .given))) →
+          Typed.Mo T63
+      m46 = λ before given. s59 .next (m45 (before .before) (before .cur .given)) given
 
       module _ (before· : After-cur) where
-        pub record After-slice-known8·own : Type 0 where
-          pub given : s63 .gives (m48 (before· .before) (before· .cur .given))
+        pub record After-slice-known7·own : Type 0 where
+          pub given : s59 .gives (m45 (before· .before) (before· .cur .given))
 
-      pub record After-slice-known8 : Type 0 where
+      pub record After-slice-known7 : Type 0 where
         pub before : After-cur
-        pub slice-known8 : After-slice-known8·own before
+        pub slice-known7 : After-slice-known7·own before
 
-      abbrev pub m50 :
-          (before : After-slice-known8) →
-          (given : s66 .gives (m49 (before .before) (before .slice-known8 .given))) →
-          Typed.Mo T70
-      m50 = λ before given. s66 .next (m49 (before .before) (before .slice-known8 .given)) given
+      abbrev pub m47 :
+          (before : After-slice-known7) →
+          (given : s62 .gives (m46 (before .before) (before .slice-known7 .given))) →
+          Typed.Mo T66
+      m47 = λ before given. s62 .next (m46 (before .before) (before .slice-known7 .given)) given
 
-      module _ (before· : After-slice-known8) where
+      module _ (before· : After-slice-known7) where
         pub record After-next·own : Type 0 where
-          pub given : s66 .gives (m49 (before· .before) (before· .slice-known8 .given))
+          pub given : s62 .gives (m46 (before· .before) (before· .slice-known7 .given))
 
       pub record After-next : Type 0 where
-        pub before : After-slice-known8
+        pub before : After-slice-known7
         pub next : After-next·own before
 
-      abbrev pub m51 :
+      abbrev pub m48 :
           (before : After-next) →
-          (given : s67 .gives (m50 (before .before) (before .next .given))) →
-          Typed.Mo T71
-      m51 = λ before given. s67 .next (m50 (before .before) (before .next .given)) given
+          (given : s63 .gives (m47 (before .before) (before .next .given))) →
+          Typed.Mo T67
+      m48 = λ before given. s63 .next (m47 (before .before) (before .next .given)) given
 
       module _ (before· : After-next) where
-        pub record After-slice-known9·own : Type 0 where
-          pub given : s67 .gives (m50 (before· .before) (before· .next .given))
+        pub record After-slice-known8·own : Type 0 where
+          pub given : s63 .gives (m47 (before· .before) (before· .next .given))
 
-      pub record After-slice-known9 : Type 0 where
+      pub record After-slice-known8 : Type 0 where
         pub before : After-next
-        pub slice-known9 : After-slice-known9·own before
-
-      abbrev pub m52 :
-          (before : After-slice-known9) →
-          (given : s70 .gives (m51 (before .before) (before .slice-known9 .given))) →
-          Typed.Mo T74
-      m52 = λ before given. s70 .next (m51 (before .before) (before .slice-known9 .given)) given
-
-      module _ (before· : After-slice-known9) where
-        pub record After-clean·own : Type 0 where
-          pub given : s70 .gives (m51 (before· .before) (before· .slice-known9 .given))
-
-      pub record After-clean : Type 0 where
-        pub before : After-slice-known9
-        pub clean : After-clean·own before
-
-      abbrev pub m53 :
-          (before : After-clean) →
-          (given : s71 .gives (m52 (before .before) (before .clean .given))) →
-          Typed.Mo T75
-      m53 = λ before given. s71 .next (m52 (before .before) (before .clean .given)) given
-
-      module _ (before· : After-clean) where
-        pub record After-slice-known10·own : Type 0 where
-          pub given : s71 .gives (m52 (before· .before) (before· .clean .given))
-
-      pub record After-slice-known10 : Type 0 where
-        pub before : After-clean
-        pub slice-known10 : After-slice-known10·own before
+        pub slice-known8 : After-slice-known8·own before
 
       abbrev pub Need-add-n : Type 0
-      Need-add-n =
-          (c : After-slice-known10) → s73 .asks (m53 (c .before) (c .slice-known10 .given))
+      Need-add-n = (c : After-slice-known8) → s65 .asks (m48 (c .before) (c .slice-known8 .given))
 
-      abbrev pub m54 :
-          (before : After-clean) →
-          (given : s71 .gives (m52 (before .before) (before .clean .given))) →
-          Typed.Mo T77
-      m54 = λ before given. s73 .next (m53 before given)
+      abbrev pub m49 :
+          (before : After-next) →
+          (given : s63 .gives (m47 (before .before) (before .next .given))) →
+          Typed.Mo T69
+      m49 = λ before given. s65 .next (m48 before given)
 
       abbrev pub Need-loop-less : Type 0
       Need-loop-less =
-          (c : After-slice-known10) → Nat._<_ (μ·0 (Row.get 1 (T13 .locals) (m12
+          (c : After-slice-known8) → Nat._<_ (μ·0 (Row.get 1 (T12 .locals) (m11
           (c .before .before .before .before .before .before .before .before .before .before
-          .before .before .before .before .before .before .before .before .before .before .before
-          .before .before .before)
+          .before .before .before .before .before .before .before .before .before .before .before)
           (c .before .before .before .before .before .before .before .before .before .before
-          .before .before .before .before .before .before .before .before .before .before .before
-          .before .before .slice-known5 .given)) .now) (Row.get 2 (T13 .locals) (m12
+          .before .before .before .before .before .before .before .before .before .before
+          .slice-known4 .given)) .now) (Row.get 2 (T12 .locals) (m11
           (c .before .before .before .before .before .before .before .before .before .before
-          .before .before .before .before .before .before .before .before .before .before .before
-          .before .before .before)
+          .before .before .before .before .before .before .before .before .before .before .before)
           (c .before .before .before .before .before .before .before .before .before .before
-          .before .before .before .before .before .before .before .before .before .before .before
-          .before .before .slice-known5 .given)) .now) (Row.get 3 (T13 .locals) (m12
+          .before .before .before .before .before .before .before .before .before .before
+          .slice-known4 .given)) .now) (Row.get 3 (T12 .locals) (m11
           (c .before .before .before .before .before .before .before .before .before .before
-          .before .before .before .before .before .before .before .before .before .before .before
-          .before .before .before)
+          .before .before .before .before .before .before .before .before .before .before .before)
           (c .before .before .before .before .before .before .before .before .before .before
-          .before .before .before .before .before .before .before .before .before .before .before
-          .before .before .slice-known5 .given))) (Row.get 4 (T13 .locals) (m12
+          .before .before .before .before .before .before .before .before .before .before
+          .slice-known4 .given))) (Row.get 4 (T12 .locals) (m11
           (c .before .before .before .before .before .before .before .before .before .before
-          .before .before .before .before .before .before .before .before .before .before .before
-          .before .before .before)
+          .before .before .before .before .before .before .before .before .before .before .before)
           (c .before .before .before .before .before .before .before .before .before .before
-          .before .before .before .before .before .before .before .before .before .before .before
-          .before .before .slice-known5 .given)) .now) (Row.get 5 (T13 .locals) (m12
+          .before .before .before .before .before .before .before .before .before .before
+          .slice-known4 .given)) .now) (Row.get 5 (T12 .locals) (m11
           (c .before .before .before .before .before .before .before .before .before .before
-          .before .before .before .before .before .before .before .before .before .before .before
-          .before .before .before)
+          .before .before .before .before .before .before .before .before .before .before .before)
           (c .before .before .before .before .before .before .before .before .before .before
-          .before .before .before .before .before .before .before .before .before .before .before
-          .before .before .slice-known5 .given)) .now) (Row.get 6 (T13 .locals) (m12
+          .before .before .before .before .before .before .before .before .before .before
+          .slice-known4 .given)) .now) (Row.get 6 (T12 .locals) (m11
           (c .before .before .before .before .before .before .before .before .before .before
-          .before .before .before .before .before .before .before .before .before .before .before
-          .before .before .before)
+          .before .before .before .before .before .before .before .before .before .before .before)
           (c .before .before .before .before .before .before .before .before .before .before
-          .before .before .before .before .before .before .before .before .before .before .before
-          .before .before .slice-known5 .given)) .now) (Row.get 7 (T13 .locals) (m12
+          .before .before .before .before .before .before .before .before .before .before
+          .slice-known4 .given)) .now) (Row.get 7 (T12 .locals) (m11
           (c .before .before .before .before .before .before .before .before .before .before
-          .before .before .before .before .before .before .before .before .before .before .before
-          .before .before .before)
+          .before .before .before .before .before .before .before .before .before .before .before)
           (c .before .before .before .before .before .before .before .before .before .before
-          .before .before .before .before .before .before .before .before .before .before .before
-          .before .before .slice-known5 .given)) .now) (Row.get 8 (T13 .locals) (m12
+          .before .before .before .before .before .before .before .before .before .before
+          .slice-known4 .given)) .now) (Row.get 8 (T12 .locals) (m11
           (c .before .before .before .before .before .before .before .before .before .before
-          .before .before .before .before .before .before .before .before .before .before .before
-          .before .before .before)
+          .before .before .before .before .before .before .before .before .before .before .before)
           (c .before .before .before .before .before .before .before .before .before .before
-          .before .before .before .before .before .before .before .before .before .before .before
-          .before .before .slice-known5 .given)) .now) (Row.get 9 (T13 .locals) (m12
+          .before .before .before .before .before .before .before .before .before .before
+          .slice-known4 .given)) .now) (Row.get 9 (T12 .locals) (m11
           (c .before .before .before .before .before .before .before .before .before .before
-          .before .before .before .before .before .before .before .before .before .before .before
-          .before .before .before)
+          .before .before .before .before .before .before .before .before .before .before .before)
           (c .before .before .before .before .before .before .before .before .before .before
-          .before .before .before .before .before .before .before .before .before .before .before
-          .before .before .slice-known5 .given)) .now) (Row.get 10 (T13 .locals) (m12
+          .before .before .before .before .before .before .before .before .before .before
+          .slice-known4 .given)) .now) (Row.get 10 (T12 .locals) (m11
           (c .before .before .before .before .before .before .before .before .before .before
-          .before .before .before .before .before .before .before .before .before .before .before
-          .before .before .before)
+          .before .before .before .before .before .before .before .before .before .before .before)
           (c .before .before .before .before .before .before .before .before .before .before
-          .before .before .before .before .before .before .before .before .before .before .before
-          .before .before .slice-known5 .given)) .now) (Row.get 11 (T13 .locals) (m12
+          .before .before .before .before .before .before .before .before .before .before
+          .slice-known4 .given)) .now) (Row.get 11 (T12 .locals) (m11
           (c .before .before .before .before .before .before .before .before .before .before
-          .before .before .before .before .before .before .before .before .before .before .before
-          .before .before .before)
+          .before .before .before .before .before .before .before .before .before .before .before)
           (c .before .before .before .before .before .before .before .before .before .before
-          .before .before .before .before .before .before .before .before .before .before .before
-          .before .before .slice-known5 .given)) .now) (Row.get 12 (T13 .locals) (m12
+          .before .before .before .before .before .before .before .before .before .before
+          .slice-known4 .given))) (Row.get 12 (T12 .locals) (m11
           (c .before .before .before .before .before .before .before .before .before .before
-          .before .before .before .before .before .before .before .before .before .before .before
-          .before .before .before)
+          .before .before .before .before .before .before .before .before .before .before .before)
           (c .before .before .before .before .before .before .before .before .before .before
-          .before .before .before .before .before .before .before .before .before .before .before
-          .before .before .slice-known5 .given))) (Row.get 13 (T13 .locals) (m12
+          .before .before .before .before .before .before .before .before .before .before
+          .slice-known4 .given))) (Row.get 13 (T12 .locals) (m11
           (c .before .before .before .before .before .before .before .before .before .before
-          .before .before .before .before .before .before .before .before .before .before .before
-          .before .before .before)
+          .before .before .before .before .before .before .before .before .before .before .before)
           (c .before .before .before .before .before .before .before .before .before .before
-          .before .before .before .before .before .before .before .before .before .before .before
-          .before .before .slice-known5 .given))) (Row.get 14 (T13 .locals) (m12
+          .before .before .before .before .before .before .before .before .before .before
+          .slice-known4 .given))) (Row.get 6 (T12 .locals) (m49 (c .before)
+          (c .slice-known8 .given)) .now) (Row.get 7 (T12 .locals) (m49 (c .before)
+          (c .slice-known8 .given)) .now) (Row.get 8 (T12 .locals) (m49 (c .before)
+          (c .slice-known8 .given)) .now) (Row.get 9 (T12 .locals) (m49 (c .before)
+          (c .slice-known8 .given)) .now) (Row.get 10 (T12 .locals) (m49 (c .before)
+          (c .slice-known8 .given)) .now) (Row.get 11 (T12 .locals) (m49 (c .before)
+          (c .slice-known8 .given))) (Row.get 12 (T12 .locals) (m49 (c .before)
+          (c .slice-known8 .given))) (Row.get 13 (T12 .locals) (m49 (c .before)
+          (c .slice-known8 .given)))) (μ·0 (Row.get 1 (T12 .locals) (m11
           (c .before .before .before .before .before .before .before .before .before .before
-          .before .before .before .before .before .before .before .before .before .before .before
-          .before .before .before)
+          .before .before .before .before .before .before .before .before .before .before .before)
           (c .before .before .before .before .before .before .before .before .before .before
-          .before .before .before .before .before .before .before .before .before .before .before
-          .before .before .slice-known5 .given))) (Row.get 6 (T13 .locals) (m54 (c .before)
-          (c .slice-known10 .given)) .now) (Row.get 7 (T13 .locals) (m54 (c .before)
-          (c .slice-known10 .given)) .now) (Row.get 8 (T13 .locals) (m54 (c .before)
-          (c .slice-known10 .given)) .now) (Row.get 9 (T13 .locals) (m54 (c .before)
-          (c .slice-known10 .given)) .now) (Row.get 10 (T13 .locals) (m54 (c .before)
-          (c .slice-known10 .given)) .now) (Row.get 11 (T13 .locals) (m54 (c .before)
-          (c .slice-known10 .given)) .now) (Row.get 12 (T13 .locals) (m54 (c .before)
-          (c .slice-known10 .given))) (Row.get 13 (T13 .locals) (m54 (c .before)
-          (c .slice-known10 .given))) (Row.get 14 (T13 .locals) (m54 (c .before)
-          (c .slice-known10 .given)))) (μ·0 (Row.get 1 (T13 .locals) (m12
+          .before .before .before .before .before .before .before .before .before .before
+          .slice-known4 .given)) .now) (Row.get 2 (T12 .locals) (m11
           (c .before .before .before .before .before .before .before .before .before .before
-          .before .before .before .before .before .before .before .before .before .before .before
-          .before .before .before)
+          .before .before .before .before .before .before .before .before .before .before .before)
           (c .before .before .before .before .before .before .before .before .before .before
-          .before .before .before .before .before .before .before .before .before .before .before
-          .before .before .slice-known5 .given)) .now) (Row.get 2 (T13 .locals) (m12
+          .before .before .before .before .before .before .before .before .before .before
+          .slice-known4 .given)) .now) (Row.get 3 (T12 .locals) (m11
           (c .before .before .before .before .before .before .before .before .before .before
-          .before .before .before .before .before .before .before .before .before .before .before
-          .before .before .before)
+          .before .before .before .before .before .before .before .before .before .before .before)
           (c .before .before .before .before .before .before .before .before .before .before
-          .before .before .before .before .before .before .before .before .before .before .before
-          .before .before .slice-known5 .given)) .now) (Row.get 3 (T13 .locals) (m12
+          .before .before .before .before .before .before .before .before .before .before
+          .slice-known4 .given))) (Row.get 4 (T12 .locals) (m11
           (c .before .before .before .before .before .before .before .before .before .before
-          .before .before .before .before .before .before .before .before .before .before .before
-          .before .before .before)
+          .before .before .before .before .before .before .before .before .before .before .before)
           (c .before .before .before .before .before .before .before .before .before .before
-          .before .before .before .before .before .before .before .before .before .before .before
-          .before .before .slice-known5 .given))) (Row.get 4 (T13 .locals) (m12
+          .before .before .before .before .before .before .before .before .before .before
+          .slice-known4 .given)) .now) (Row.get 5 (T12 .locals) (m11
           (c .before .before .before .before .before .before .before .before .before .before
-          .before .before .before .before .before .before .before .before .before .before .before
-          .before .before .before)
+          .before .before .before .before .before .before .before .before .before .before .before)
           (c .before .before .before .before .before .before .before .before .before .before
-          .before .before .before .before .before .before .before .before .before .before .before
-          .before .before .slice-known5 .given)) .now) (Row.get 5 (T13 .locals) (m12
+          .before .before .before .before .before .before .before .before .before .before
+          .slice-known4 .given)) .now) (Row.get 6 (T12 .locals) (m11
           (c .before .before .before .before .before .before .before .before .before .before
-          .before .before .before .before .before .before .before .before .before .before .before
-          .before .before .before)
+          .before .before .before .before .before .before .before .before .before .before .before)
           (c .before .before .before .before .before .before .before .before .before .before
-          .before .before .before .before .before .before .before .before .before .before .before
-          .before .before .slice-known5 .given)) .now) (Row.get 6 (T13 .locals) (m12
+          .before .before .before .before .before .before .before .before .before .before
+          .slice-known4 .given)) .now) (Row.get 7 (T12 .locals) (m11
           (c .before .before .before .before .before .before .before .before .before .before
-          .before .before .before .before .before .before .before .before .before .before .before
-          .before .before .before)
+          .before .before .before .before .before .before .before .before .before .before .before)
           (c .before .before .before .before .before .before .before .before .before .before
-          .before .before .before .before .before .before .before .before .before .before .before
-          .before .before .slice-known5 .given)) .now) (Row.get 7 (T13 .locals) (m12
+          .before .before .before .before .before .before .before .before .before .before
+          .slice-known4 .given)) .now) (Row.get 8 (T12 .locals) (m11
           (c .before .before .before .before .before .before .before .before .before .before
-          .before .before .before .before .before .before .before .before .before .before .before
-          .before .before .before)
+          .before .before .before .before .before .before .before .before .before .before .before)
           (c .before .before .before .before .before .before .before .before .before .before
-          .before .before .before .before .before .before .before .before .before .before .before
-          .before .before .slice-known5 .given)) .now) (Row.get 8 (T13 .locals) (m12
+          .before .before .before .before .before .before .before .before .before .before
+          .slice-known4 .given)) .now) (Row.get 9 (T12 .locals) (m11
           (c .before .before .before .before .before .before .before .before .before .before
-          .before .before .before .before .before .before .before .before .before .before .before
-          .before .before .before)
+          .before .before .before .before .before .before .before .before .before .before .before)
           (c .before .before .before .before .before .before .before .before .before .before
-          .before .before .before .before .before .before .before .before .before .before .before
-          .before .before .slice-known5 .given)) .now) (Row.get 9 (T13 .locals) (m12
+          .before .before .before .before .before .before .before .before .before .before
+          .slice-known4 .given)) .now) (Row.get 10 (T12 .locals) (m11
           (c .before .before .before .before .before .before .before .before .before .before
-          .before .before .before .before .before .before .before .before .before .before .before
-          .before .before .before)
+          .before .before .before .before .before .before .before .before .before .before .before)
           (c .before .before .before .before .before .before .before .before .before .before
-          .before .before .before .before .before .before .before .before .before .before .before
-          .before .before .slice-known5 .given)) .now) (Row.get 10 (T13 .locals) (m12
+          .before .before .before .before .before .before .before .before .before .before
+          .slice-known4 .given)) .now) (Row.get 11 (T12 .locals) (m11
           (c .before .before .before .before .before .before .before .before .before .before
-          .before .before .before .before .before .before .before .before .before .before .before
-          .before .before .before)
+          .before .before .before .before .before .before .before .before .before .before .before)
           (c .before .before .before .before .before .before .before .before .before .before
-          .before .before .before .before .before .before .before .before .before .before .before
-          .before .before .slice-known5 .given)) .now) (Row.get 11 (T13 .locals) (m12
+          .before .before .before .before .before .before .before .before .before .before
+          .slice-known4 .given))) (Row.get 12 (T12 .locals) (m11
           (c .before .before .before .before .before .before .before .before .before .before
-          .before .before .before .before .before .before .before .before .before .before .before
-          .before .before .before)
+          .before .before .before .before .before .before .before .before .before .before .before)
           (c .before .before .before .before .before .before .before .before .before .before
-          .before .before .before .before .before .before .before .before .before .before .before
-          .before .before .slice-known5 .given)) .now) (Row.get 12 (T13 .locals) (m12
+          .before .before .before .before .before .before .before .before .before .before
+          .slice-known4 .given))) (Row.get 13 (T12 .locals) (m11
           (c .before .before .before .before .before .before .before .before .before .before
-          .before .before .before .before .before .before .before .before .before .before .before
-          .before .before .before)
+          .before .before .before .before .before .before .before .before .before .before .before)
           (c .before .before .before .before .before .before .before .before .before .before
-          .before .before .before .before .before .before .before .before .before .before .before
-          .before .before .slice-known5 .given))) (Row.get 13 (T13 .locals) (m12
+          .before .before .before .before .before .before .before .before .before .before
+          .slice-known4 .given)))
           (c .before .before .before .before .before .before .before .before .before .before
-          .before .before .before .before .before .before .before .before .before .before .before
-          .before .before .before)
+          .before .before .before .before .before .before .before .before .before .loop .owner)
           (c .before .before .before .before .before .before .before .before .before .before
-          .before .before .before .before .before .before .before .before .before .before .before
-          .before .before .slice-known5 .given))) (Row.get 14 (T13 .locals) (m12
+          .before .before .before .before .before .before .before .before .before .loop .stack)
           (c .before .before .before .before .before .before .before .before .before .before
-          .before .before .before .before .before .before .before .before .before .before .before
-          .before .before .before)
+          .before .before .before .before .before .before .before .before .before .loop .cur)
           (c .before .before .before .before .before .before .before .before .before .before
-          .before .before .before .before .before .before .before .before .before .before .before
-          .before .before .slice-known5 .given)))
+          .before .before .before .before .before .before .before .before .before .loop .next)
           (c .before .before .before .before .before .before .before .before .before .before
-          .before .before .before .before .before .before .before .before .before .before .before
-          .before .loop .owner)
+          .before .before .before .before .before .before .before .before .before .loop .recs)
           (c .before .before .before .before .before .before .before .before .before .before
-          .before .before .before .before .before .before .before .before .before .before .before
-          .before .loop .stack)
+          .before .before .before .before .before .before .before .before .before .loop .past)
           (c .before .before .before .before .before .before .before .before .before .before
-          .before .before .before .before .before .before .before .before .before .before .before
-          .before .loop .cur)
+          .before .before .before .before .before .before .before .before .before .loop .n)
           (c .before .before .before .before .before .before .before .before .before .before
-          .before .before .before .before .before .before .before .before .before .before .before
-          .before .loop .next)
-          (c .before .before .before .before .before .before .before .before .before .before
-          .before .before .before .before .before .before .before .before .before .before .before
-          .before .loop .clean)
-          (c .before .before .before .before .before .before .before .before .before .before
-          .before .before .before .before .before .before .before .before .before .before .before
-          .before .loop .recs)
-          (c .before .before .before .before .before .before .before .before .before .before
-          .before .before .before .before .before .before .before .before .before .before .before
-          .before .loop .past)
-          (c .before .before .before .before .before .before .before .before .before .before
-          .before .before .before .before .before .before .before .before .before .before .before
-          .before .loop .n)
-          (c .before .before .before .before .before .before .before .before .before .before
-          .before .before .before .before .before .before .before .before .before .before .before
-          .before .loop .o))
+          .before .before .before .before .before .before .before .before .before .loop .o))
 
       abbrev pub Need-loop-again : Type 0
       Need-loop-again =
-          (c : After-slice-known10) → Inv·0 (Row.get 1 (T13 .locals) (m12
+          (c : After-slice-known8) → Inv·0 (Row.get 1 (T12 .locals) (m11
           (c .before .before .before .before .before .before .before .before .before .before
-          .before .before .before .before .before .before .before .before .before .before .before
-          .before .before .before)
+          .before .before .before .before .before .before .before .before .before .before .before)
           (c .before .before .before .before .before .before .before .before .before .before
-          .before .before .before .before .before .before .before .before .before .before .before
-          .before .before .slice-known5 .given)) .now) (Row.get 2 (T13 .locals) (m12
+          .before .before .before .before .before .before .before .before .before .before
+          .slice-known4 .given)) .now) (Row.get 2 (T12 .locals) (m11
           (c .before .before .before .before .before .before .before .before .before .before
-          .before .before .before .before .before .before .before .before .before .before .before
-          .before .before .before)
+          .before .before .before .before .before .before .before .before .before .before .before)
           (c .before .before .before .before .before .before .before .before .before .before
-          .before .before .before .before .before .before .before .before .before .before .before
-          .before .before .slice-known5 .given)) .now) (Row.get 3 (T13 .locals) (m12
+          .before .before .before .before .before .before .before .before .before .before
+          .slice-known4 .given)) .now) (Row.get 3 (T12 .locals) (m11
           (c .before .before .before .before .before .before .before .before .before .before
-          .before .before .before .before .before .before .before .before .before .before .before
-          .before .before .before)
+          .before .before .before .before .before .before .before .before .before .before .before)
           (c .before .before .before .before .before .before .before .before .before .before
-          .before .before .before .before .before .before .before .before .before .before .before
-          .before .before .slice-known5 .given))) (Row.get 4 (T13 .locals) (m12
+          .before .before .before .before .before .before .before .before .before .before
+          .slice-known4 .given))) (Row.get 4 (T12 .locals) (m11
           (c .before .before .before .before .before .before .before .before .before .before
-          .before .before .before .before .before .before .before .before .before .before .before
-          .before .before .before)
+          .before .before .before .before .before .before .before .before .before .before .before)
           (c .before .before .before .before .before .before .before .before .before .before
-          .before .before .before .before .before .before .before .before .before .before .before
-          .before .before .slice-known5 .given)) .now) (Row.get 5 (T13 .locals) (m12
+          .before .before .before .before .before .before .before .before .before .before
+          .slice-known4 .given)) .now) (Row.get 5 (T12 .locals) (m11
           (c .before .before .before .before .before .before .before .before .before .before
-          .before .before .before .before .before .before .before .before .before .before .before
-          .before .before .before)
+          .before .before .before .before .before .before .before .before .before .before .before)
           (c .before .before .before .before .before .before .before .before .before .before
-          .before .before .before .before .before .before .before .before .before .before .before
-          .before .before .slice-known5 .given)) .now) (Row.get 6 (T13 .locals) (m12
+          .before .before .before .before .before .before .before .before .before .before
+          .slice-known4 .given)) .now) (Row.get 6 (T12 .locals) (m11
           (c .before .before .before .before .before .before .before .before .before .before
-          .before .before .before .before .before .before .before .before .before .before .before
-          .before .before .before)
+          .before .before .before .before .before .before .before .before .before .before .before)
           (c .before .before .before .before .before .before .before .before .before .before
-          .before .before .before .before .before .before .before .before .before .before .before
-          .before .before .slice-known5 .given)) .now) (Row.get 7 (T13 .locals) (m12
+          .before .before .before .before .before .before .before .before .before .before
+          .slice-known4 .given)) .now) (Row.get 7 (T12 .locals) (m11
           (c .before .before .before .before .before .before .before .before .before .before
-          .before .before .before .before .before .before .before .before .before .before .before
-          .before .before .before)
+          .before .before .before .before .before .before .before .before .before .before .before)
           (c .before .before .before .before .before .before .before .before .before .before
-          .before .before .before .before .before .before .before .before .before .before .before
-          .before .before .slice-known5 .given)) .now) (Row.get 8 (T13 .locals) (m12
+          .before .before .before .before .before .before .before .before .before .before
+          .slice-known4 .given)) .now) (Row.get 8 (T12 .locals) (m11
           (c .before .before .before .before .before .before .before .before .before .before
-          .before .before .before .before .before .before .before .before .before .before .before
-          .before .before .before)
+          .before .before .before .before .before .before .before .before .before .before .before)
           (c .before .before .before .before .before .before .before .before .before .before
-          .before .before .before .before .before .before .before .before .before .before .before
-          .before .before .slice-known5 .given)) .now) (Row.get 9 (T13 .locals) (m12
+          .before .before .before .before .before .before .before .before .before .before
+          .slice-known4 .given)) .now) (Row.get 9 (T12 .locals) (m11
           (c .before .before .before .before .before .before .before .before .before .before
-          .before .before .before .before .before .before .before .before .before .before .before
-          .before .before .before)
+          .before .before .before .before .before .before .before .before .before .before .before)
           (c .before .before .before .before .before .before .before .before .before .before
-          .before .before .before .before .before .before .before .before .before .before .before
-          .before .before .slice-known5 .given)) .now) (Row.get 10 (T13 .locals) (m12
+          .before .before .before .before .before .before .before .before .before .before
+          .slice-known4 .given)) .now) (Row.get 10 (T12 .locals) (m11
           (c .before .before .before .before .before .before .before .before .before .before
-          .before .before .before .before .before .before .before .before .before .before .before
-          .before .before .before)
+          .before .before .before .before .before .before .before .before .before .before .before)
           (c .before .before .before .before .before .before .before .before .before .before
-          .before .before .before .before .before .before .before .before .before .before .before
-          .before .before .slice-known5 .given)) .now) (Row.get 11 (T13 .locals) (m12
+          .before .before .before .before .before .before .before .before .before .before
+          .slice-known4 .given)) .now) (Row.get 11 (T12 .locals) (m11
           (c .before .before .before .before .before .before .before .before .before .before
-          .before .before .before .before .before .before .before .before .before .before .before
-          .before .before .before)
+          .before .before .before .before .before .before .before .before .before .before .before)
           (c .before .before .before .before .before .before .before .before .before .before
-          .before .before .before .before .before .before .before .before .before .before .before
-          .before .before .slice-known5 .given)) .now) (Row.get 12 (T13 .locals) (m12
+          .before .before .before .before .before .before .before .before .before .before
+          .slice-known4 .given))) (Row.get 12 (T12 .locals) (m11
           (c .before .before .before .before .before .before .before .before .before .before
-          .before .before .before .before .before .before .before .before .before .before .before
-          .before .before .before)
+          .before .before .before .before .before .before .before .before .before .before .before)
           (c .before .before .before .before .before .before .before .before .before .before
-          .before .before .before .before .before .before .before .before .before .before .before
-          .before .before .slice-known5 .given))) (Row.get 13 (T13 .locals) (m12
+          .before .before .before .before .before .before .before .before .before .before
+          .slice-known4 .given))) (Row.get 13 (T12 .locals) (m11
           (c .before .before .before .before .before .before .before .before .before .before
-          .before .before .before .before .before .before .before .before .before .before .before
-          .before .before .before)
+          .before .before .before .before .before .before .before .before .before .before .before)
           (c .before .before .before .before .before .before .before .before .before .before
-          .before .before .before .before .before .before .before .before .before .before .before
-          .before .before .slice-known5 .given))) (Row.get 14 (T13 .locals) (m12
-          (c .before .before .before .before .before .before .before .before .before .before
-          .before .before .before .before .before .before .before .before .before .before .before
-          .before .before .before)
-          (c .before .before .before .before .before .before .before .before .before .before
-          .before .before .before .before .before .before .before .before .before .before .before
-          .before .before .slice-known5 .given))) (Row.get 6 (T13 .locals) (m54 (c .before)
-          (c .slice-known10 .given)) .now) (Row.get 7 (T13 .locals) (m54 (c .before)
-          (c .slice-known10 .given)) .now) (Row.get 8 (T13 .locals) (m54 (c .before)
-          (c .slice-known10 .given)) .now) (Row.get 9 (T13 .locals) (m54 (c .before)
-          (c .slice-known10 .given)) .now) (Row.get 10 (T13 .locals) (m54 (c .before)
-          (c .slice-known10 .given)) .now) (Row.get 11 (T13 .locals) (m54 (c .before)
-          (c .slice-known10 .given)) .now) (Row.get 12 (T13 .locals) (m54 (c .before)
-          (c .slice-known10 .given))) (Row.get 13 (T13 .locals) (m54 (c .before)
-          (c .slice-known10 .given))) (Row.get 14 (T13 .locals) (m54 (c .before)
-          (c .slice-known10 .given)))
+          .before .before .before .before .before .before .before .before .before .before
+          .slice-known4 .given))) (Row.get 6 (T12 .locals) (m49 (c .before)
+          (c .slice-known8 .given)) .now) (Row.get 7 (T12 .locals) (m49 (c .before)
+          (c .slice-known8 .given)) .now) (Row.get 8 (T12 .locals) (m49 (c .before)
+          (c .slice-known8 .given)) .now) (Row.get 9 (T12 .locals) (m49 (c .before)
+          (c .slice-known8 .given)) .now) (Row.get 10 (T12 .locals) (m49 (c .before)
+          (c .slice-known8 .given)) .now) (Row.get 11 (T12 .locals) (m49 (c .before)
+          (c .slice-known8 .given))) (Row.get 12 (T12 .locals) (m49 (c .before)
+          (c .slice-known8 .given))) (Row.get 13 (T12 .locals) (m49 (c .before)
+          (c .slice-known8 .given)))
 
-      abbrev pub m55 : (before : At-loop) → Typed.Mo T78
-      m55 = λ before. s74 (m16 before)
+      abbrev pub m50 : (before : At-loop) → Typed.Mo T70
+      m50 = λ before. s66 (m15 before)
 
-      abbrev pub m56 : (before : At-loop) → Typed.Mo T79
-      m56 = λ before. s75 (m55 before)
+      abbrev pub m51 : (before : At-loop) → Typed.Mo T71
+      m51 = λ before. s67 (m50 before)
 
-      abbrev pub m57 : (before : At-loop) → Typed.Mo T80
-      m57 = λ before. s76 (m56 before)
+      abbrev pub m52 : (before : At-loop) → Typed.Mo T72
+      m52 = λ before. s68 (m51 before)
 
-      abbrev pub m58 : (before : At-loop) → Typed.Mo T81
-      m58 = λ before. s77 (m57 before)
+      abbrev pub m53 : (before : At-loop) → Typed.Mo T73
+      m53 = λ before. s69 (m52 before)
 
-      abbrev pub m59 : (before : At-loop) → Typed.Mo T82
-      m59 = λ before. s78 (m58 before)
+      abbrev pub m54 : (before : At-loop) → Typed.Mo T74
+      m54 = λ before. s70 (m53 before)
 
       abbrev pub Need-same-length : Type 0
       Need-same-length =
-          (c : After-loop) → MutSlice.SameLen (Row.get 6 (T82 .locals) (m59 (c .before))) (dens
-          (c .before .before .before .before .before .before .before .before .before .before
-          .before .κs)
-          (c .before .before .before .before .before .before .before .before .before .before
-          .before .args) .1 .1 .1 .1 .1 .0)
+          (c : After-loop) → MutSlice.SameLen (Row.get 6 (T74 .locals) (m54 (c .before))) (dens
+          (c .before .before .before .before .before .before .before .before .before .before .κs)
+          (c .before .before .before .before .before .before .before .before .before .before .args)
+          .1 .1 .1 .1 .1 .0)
 
       abbrev pub Need-same-length-2 : Type 0
       Need-same-length-2 =
-          (c : After-loop) → MutSlice.SameLen (Row.get 7 (T82 .locals) (m59 (c .before))) (dens
-          (c .before .before .before .before .before .before .before .before .before .before
-          .before .κs)
-          (c .before .before .before .before .before .before .before .before .before .before
-          .before .args) .1 .1 .1 .1 .1 .1 .0)
+          (c : After-loop) → MutSlice.SameLen (Row.get 7 (T74 .locals) (m54 (c .before))) (dens
+          (c .before .before .before .before .before .before .before .before .before .before .κs)
+          (c .before .before .before .before .before .before .before .before .before .before .args)
+          .1 .1 .1 .1 .1 .1 .0)
 
       abbrev pub Need-same-length-3 : Type 0
       Need-same-length-3 =
-          (c : After-loop) → MutSlice.SameLen (Row.get 8 (T82 .locals) (m59 (c .before))) (dens
-          (c .before .before .before .before .before .before .before .before .before .before
-          .before .κs)
-          (c .before .before .before .before .before .before .before .before .before .before
-          .before .args) .1 .1 .1 .1 .1 .1 .1 .0)
+          (c : After-loop) → MutSlice.SameLen (Row.get 8 (T74 .locals) (m54 (c .before))) (dens
+          (c .before .before .before .before .before .before .before .before .before .before .κs)
+          (c .before .before .before .before .before .before .before .before .before .before .args)
+          .1 .1 .1 .1 .1 .1 .1 .0)
 
       abbrev pub Need-same-length-4 : Type 0
       Need-same-length-4 =
-          (c : After-loop) → MutSlice.SameLen (Row.get 9 (T82 .locals) (m59 (c .before))) (dens
-          (c .before .before .before .before .before .before .before .before .before .before
-          .before .κs)
-          (c .before .before .before .before .before .before .before .before .before .before
-          .before .args) .1 .1 .1 .1 .1 .1 .1 .1 .0)
+          (c : After-loop) → MutSlice.SameLen (Row.get 9 (T74 .locals) (m54 (c .before))) (dens
+          (c .before .before .before .before .before .before .before .before .before .before .κs)
+          (c .before .before .before .before .before .before .before .before .before .before .args)
+          .1 .1 .1 .1 .1 .1 .1 .1 .0)
 
       abbrev pub Need-same-length-5 : Type 0
       Need-same-length-5 =
-          (c : After-loop) → MutSlice.SameLen (Row.get 10 (T82 .locals) (m59 (c .before))) (dens
-          (c .before .before .before .before .before .before .before .before .before .before
-          .before .κs)
-          (c .before .before .before .before .before .before .before .before .before .before
-          .before .args) .1 .1 .1 .1 .1 .1 .1 .1 .1 .0)
-
-      abbrev pub Need-same-length-6 : Type 0
-      Need-same-length-6 =
-          (c : After-loop) → MutSlice.SameLen (Row.get 11 (T82 .locals) (m59 (c .before))) (dens
-          (c .before .before .before .before .before .before .before .before .before .before
-          .before .κs)
-          (c .before .before .before .before .before .before .before .before .before .before
-          .before .args) .1 .1 .1 .1 .1 .1 .1 .1 .1 .1 .0)
+          (c : After-loop) → MutSlice.SameLen (Row.get 10 (T74 .locals) (m54 (c .before))) (dens
+          (c .before .before .before .before .before .before .before .before .before .before .κs)
+          (c .before .before .before .before .before .before .before .before .before .before .args)
+          .1 .1 .1 .1 .1 .1 .1 .1 .1 .0)
 
       abbrev pub Need-returns : Type 0
       Need-returns =
           (c : After-loop) → Post·
-          (c .before .before .before .before .before .before .before .before .before .before
-          .before .κs) (dens
-          (c .before .before .before .before .before .before .before .before .before .before
-          .before .κs)
-          (c .before .before .before .before .before .before .before .before .before .before
-          .before .args)) (Function.resV r
-          (c .before .before .before .before .before .before .before .before .before .before
-          .before .κs) (m59 (c .before) .0)) (Clauses.atExit (Kinds.endedOf 10 ps r)
-          (c .before .before .before .before .before .before .before .before .before .before
-          .before .κs) (dens
-          (c .before .before .before .before .before .before .before .before .before .before
-          .before .κs)
-          (c .before .before .before .before .before .before .before .before .before .before
-          .before .args)) (Enter.lastsP
-          (c .before .before .before .before .before .before .before .before .before .before
-          .before .κs) 1 ps xs (dens
-          (c .before .before .before .before .before .before .before .before .before .before
-          .before .κs)
-          (c .before .before .before .before .before .before .before .before .before .before
-          .before .args)) (m59 (c .before) .1)))
+          (c .before .before .before .before .before .before .before .before .before .before .κs)
+          (dens
+          (c .before .before .before .before .before .before .before .before .before .before .κs)
+          (c .before .before .before .before .before .before .before .before .before .before .args)
+          ) (Function.resV r
+          (c .before .before .before .before .before .before .before .before .before .before .κs)
+          (m54 (c .before) .0)) (Clauses.atExit (Kinds.endedOf 9 ps r)
+          (c .before .before .before .before .before .before .before .before .before .before .κs)
+          (dens
+          (c .before .before .before .before .before .before .before .before .before .before .κs)
+          (c .before .before .before .before .before .before .before .before .before .before .args)
+          ) (Enter.lastsP
+          (c .before .before .before .before .before .before .before .before .before .before .κs) 1
+          ps xs (dens
+          (c .before .before .before .before .before .before .before .before .before .before .κs)
+          (c .before .before .before .before .before .before .before .before .before .before .args)
+          ) (m54 (c .before) .1)))
 
       module _ (loop-holds : Need-loop-holds) (refill-requires : Need-refill-requires)
           (add-get : Need-add-get) (sub-get : Need-sub-get) (get-requires : Need-get-requires)
@@ -17154,14 +14970,12 @@ module _ (claims· : Claims) where
           (loop-less : Need-loop-less) (loop-again : Need-loop-again)
           (same-length : Need-same-length) (same-length-2 : Need-same-length-2)
           (same-length-3 : Need-same-length-3) (same-length-4 : Need-same-length-4)
-          (same-length-5 : Need-same-length-5) (same-length-6 : Need-same-length-6)
-          (returns : Need-returns) where
+          (same-length-5 : Need-same-length-5) (returns : Need-returns) where
         lay7 :
-            (c : After-loop) → at73 (W0
+            (c : After-loop) → at66 (W0
+            (c .before .before .before .before .before .before .before .before .before .before .κs)
             (c .before .before .before .before .before .before .before .before .before .before
-            .before .κs)
-            (c .before .before .before .before .before .before .before .before .before .before
-            .before .args)) (m16 (c .before))
+            .args)) (m15 (c .before))
         lay7 = λ c. (
           (
             Path'.refl,
@@ -17174,66 +14988,53 @@ module _ (claims· : Claims) where
                   (
                     Path'.refl,
                     (
-                      MutSlice.fix-len (Row.get 6 (T82 .locals) (m59 (c .before)) .ptr) (Row.get 6
-                          (T82 .locals) (m59 (c .before)) .name) (Row.get 6 (T82 .locals) (m59
+                      MutSlice.fix-len (Row.get 6 (T74 .locals) (m54 (c .before)) .ptr) (Row.get 6
+                          (T74 .locals) (m54 (c .before)) .name) (Row.get 6 (T74 .locals) (m54
                           (c .before)) .now) (dens
                           (c .before .before .before .before .before .before .before .before
-                          .before .before .before .κs)
+                          .before .before .κs)
                           (c .before .before .before .before .before .before .before .before
-                          .before .before .before .args) .1 .1 .1 .1 .1 .0 .now) (same-length
+                          .before .before .args) .1 .1 .1 .1 .1 .0 .now) (same-length
                           record { before = c .before; loop-test = c .loop-test }),
                       (
-                        MutSlice.fix-len (Row.get 7 (T82 .locals) (m59 (c .before)) .ptr) (Row.get
-                            7 (T82 .locals) (m59 (c .before)) .name) (Row.get 7 (T82 .locals) (m59
+                        MutSlice.fix-len (Row.get 7 (T74 .locals) (m54 (c .before)) .ptr) (Row.get
+                            7 (T74 .locals) (m54 (c .before)) .name) (Row.get 7 (T74 .locals) (m54
                             (c .before)) .now) (dens
                             (c .before .before .before .before .before .before .before .before
-                            .before .before .before .κs)
+                            .before .before .κs)
                             (c .before .before .before .before .before .before .before .before
-                            .before .before .before .args) .1 .1 .1 .1 .1 .1 .0 .now)
-                            (same-length-2
+                            .before .before .args) .1 .1 .1 .1 .1 .1 .0 .now) (same-length-2
                             record { before = c .before; loop-test = c .loop-test }),
                         (
-                          MutSlice.fix-len (Row.get 8 (T82 .locals) (m59 (c .before)) .ptr)
-                              (Row.get 8 (T82 .locals) (m59 (c .before)) .name) (Row.get 8
-                              (T82 .locals) (m59 (c .before)) .now) (dens
+                          MutSlice.fix-len (Row.get 8 (T74 .locals) (m54 (c .before)) .ptr)
+                              (Row.get 8 (T74 .locals) (m54 (c .before)) .name) (Row.get 8
+                              (T74 .locals) (m54 (c .before)) .now) (dens
                               (c .before .before .before .before .before .before .before .before
-                              .before .before .before .κs)
+                              .before .before .κs)
                               (c .before .before .before .before .before .before .before .before
-                              .before .before .before .args) .1 .1 .1 .1 .1 .1 .1 .0 .now)
-                              (same-length-3
+                              .before .before .args) .1 .1 .1 .1 .1 .1 .1 .0 .now) (same-length-3
                               record { before = c .before; loop-test = c .loop-test }),
                           (
-                            MutSlice.fix-len (Row.get 9 (T82 .locals) (m59 (c .before)) .ptr)
-                                (Row.get 9 (T82 .locals) (m59 (c .before)) .name) (Row.get 9
-                                (T82 .locals) (m59 (c .before)) .now) (dens
+                            MutSlice.fix-len (Row.get 9 (T74 .locals) (m54 (c .before)) .ptr)
+                                (Row.get 9 (T74 .locals) (m54 (c .before)) .name) (Row.get 9
+                                (T74 .locals) (m54 (c .before)) .now) (dens
                                 (c .before .before .before .before .before .before .before .before
-                                .before .before .before .κs)
+                                .before .before .κs)
                                 (c .before .before .before .before .before .before .before .before
-                                .before .before .before .args) .1 .1 .1 .1 .1 .1 .1 .1 .0 .now)
+                                .before .before .args) .1 .1 .1 .1 .1 .1 .1 .1 .0 .now)
                                 (same-length-4
                                 record { before = c .before; loop-test = c .loop-test }),
                             (
-                              MutSlice.fix-len (Row.get 10 (T82 .locals) (m59 (c .before)) .ptr)
-                                  (Row.get 10 (T82 .locals) (m59 (c .before)) .name) (Row.get 10
-                                  (T82 .locals) (m59 (c .before)) .now) (dens
+                              MutSlice.fix-len (Row.get 10 (T74 .locals) (m54 (c .before)) .ptr)
+                                  (Row.get 10 (T74 .locals) (m54 (c .before)) .name) (Row.get 10
+                                  (T74 .locals) (m54 (c .before)) .now) (dens
                                   (c .before .before .before .before .before .before .before
-                                  .before .before .before .before .κs)
+                                  .before .before .before .κs)
                                   (c .before .before .before .before .before .before .before
-                                  .before .before .before .before .args) .1 .1 .1 .1 .1 .1 .1 .1 .1
-                                  .0 .now) (same-length-5
+                                  .before .before .before .args) .1 .1 .1 .1 .1 .1 .1 .1 .1 .0
+                                  .now) (same-length-5
                                   record { before = c .before; loop-test = c .loop-test }),
-                              (
-                                MutSlice.fix-len (Row.get 11 (T82 .locals) (m59 (c .before)) .ptr)
-                                    (Row.get 11 (T82 .locals) (m59 (c .before)) .name) (Row.get 11
-                                    (T82 .locals) (m59 (c .before)) .now) (dens
-                                    (c .before .before .before .before .before .before .before
-                                    .before .before .before .before .κs)
-                                    (c .before .before .before .before .before .before .before
-                                    .before .before .before .before .args) .1 .1 .1 .1 .1 .1 .1 .1
-                                    .1 .1 .0 .now) (same-length-6
-                                    record { before = c .before; loop-test = c .loop-test }),
-                                tt,
-                              ),
+                              tt,
                             ),
                           ),
                         ),
@@ -17248,27 +15049,25 @@ module _ (claims· : Claims) where
         )
 
         lay6 :
-            (c : After-turn-line) → at26 (W3
+            (c : After-turn-line) → at22 (W3
             (c .before .before .before .before .before .before .before .before .before .before
-            .before .before .before)
+            .before .before)
             (c .before .before .before .before .before .before .before .before .before .before
-            .before .before .loop .owner)
+            .before .loop .owner)
             (c .before .before .before .before .before .before .before .before .before .before
-            .before .before .loop .stack)
+            .before .loop .stack)
             (c .before .before .before .before .before .before .before .before .before .before
-            .before .before .loop .cur)
+            .before .loop .cur)
             (c .before .before .before .before .before .before .before .before .before .before
-            .before .before .loop .next)
+            .before .loop .next)
             (c .before .before .before .before .before .before .before .before .before .before
-            .before .before .loop .clean)
+            .before .loop .recs)
             (c .before .before .before .before .before .before .before .before .before .before
-            .before .before .loop .recs)
+            .before .loop .past)
             (c .before .before .before .before .before .before .before .before .before .before
-            .before .before .loop .past)
+            .before .loop .n)
             (c .before .before .before .before .before .before .before .before .before .before
-            .before .before .loop .n)
-            (c .before .before .before .before .before .before .before .before .before .before
-            .before .before .loop .o)) (m42 (c .before) (After-turn-line·gave c))
+            .before .loop .o)) (m39 (c .before) (After-turn-line·gave c))
         lay6 = λ c. (
           Path'.refl,
           λ g. λ g'. (
@@ -17278,12 +15077,652 @@ module _ (claims· : Claims) where
               λ g'4. λ g'5. (
                 Path'.refl,
                 λ g'6. λ g'7. (
-                  Path'.refl,
-                  λ g'8. λ g'9. (
-                    add-n record {
+                  add-n record {
+                    before = record {
                       before = record {
                         before = record {
                           before = record {
+                            before = record {
+                              before = record {
+                                before = record {
+                                  before = record {
+                                    before = c .before;
+                                    turn-line = c .turn-line;
+                                  };
+                                  owner = record { given = g };
+                                };
+                                slice-known5 = record { given = g' };
+                              };
+                              stack = record { given = g'' };
+                            };
+                            slice-known6 = record { given = g'3 };
+                          };
+                          cur = record { given = g'4 };
+                        };
+                        slice-known7 = record { given = g'5 };
+                      };
+                      next = record { given = g'6 };
+                    };
+                    slice-known8 = record { given = g'7 };
+                  },
+                  (
+                    μ·0
+                        (Row.get 1 (T12 .locals) (m11
+                        (c .before .before .before .before .before .before .before .before .before
+                        .before .before .before .before)
+                        (c .before .before .before .before .before .before .before .before .before
+                        .before .before .before .slice-known4 .given)) .now)
+                        (Row.get 2 (T12 .locals) (m11
+                        (c .before .before .before .before .before .before .before .before .before
+                        .before .before .before .before)
+                        (c .before .before .before .before .before .before .before .before .before
+                        .before .before .before .slice-known4 .given)) .now)
+                        (Row.get 3 (T12 .locals) (m11
+                        (c .before .before .before .before .before .before .before .before .before
+                        .before .before .before .before)
+                        (c .before .before .before .before .before .before .before .before .before
+                        .before .before .before .slice-known4 .given)))
+                        (Row.get 4 (T12 .locals) (m11
+                        (c .before .before .before .before .before .before .before .before .before
+                        .before .before .before .before)
+                        (c .before .before .before .before .before .before .before .before .before
+                        .before .before .before .slice-known4 .given)) .now)
+                        (Row.get 5 (T12 .locals) (m11
+                        (c .before .before .before .before .before .before .before .before .before
+                        .before .before .before .before)
+                        (c .before .before .before .before .before .before .before .before .before
+                        .before .before .before .slice-known4 .given)) .now)
+                        (Row.get 6 (T12 .locals) (m11
+                        (c .before .before .before .before .before .before .before .before .before
+                        .before .before .before .before)
+                        (c .before .before .before .before .before .before .before .before .before
+                        .before .before .before .slice-known4 .given)) .now)
+                        (Row.get 7 (T12 .locals) (m11
+                        (c .before .before .before .before .before .before .before .before .before
+                        .before .before .before .before)
+                        (c .before .before .before .before .before .before .before .before .before
+                        .before .before .before .slice-known4 .given)) .now)
+                        (Row.get 8 (T12 .locals) (m11
+                        (c .before .before .before .before .before .before .before .before .before
+                        .before .before .before .before)
+                        (c .before .before .before .before .before .before .before .before .before
+                        .before .before .before .slice-known4 .given)) .now)
+                        (Row.get 9 (T12 .locals) (m11
+                        (c .before .before .before .before .before .before .before .before .before
+                        .before .before .before .before)
+                        (c .before .before .before .before .before .before .before .before .before
+                        .before .before .before .slice-known4 .given)) .now)
+                        (Row.get 10 (T12 .locals) (m11
+                        (c .before .before .before .before .before .before .before .before .before
+                        .before .before .before .before)
+                        (c .before .before .before .before .before .before .before .before .before
+                        .before .before .before .slice-known4 .given)) .now)
+                        (Row.get 11 (T12 .locals) (m11
+                        (c .before .before .before .before .before .before .before .before .before
+                        .before .before .before .before)
+                        (c .before .before .before .before .before .before .before .before .before
+                        .before .before .before .slice-known4 .given)))
+                        (Row.get 12 (T12 .locals) (m11
+                        (c .before .before .before .before .before .before .before .before .before
+                        .before .before .before .before)
+                        (c .before .before .before .before .before .before .before .before .before
+                        .before .before .before .slice-known4 .given)))
+                        (Row.get 13 (T12 .locals) (m11
+                        (c .before .before .before .before .before .before .before .before .before
+                        .before .before .before .before)
+                        (c .before .before .before .before .before .before .before .before .before
+                        .before .before .before .slice-known4 .given)))
+                        (Row.get 6 (T12 .locals) (m49 record {
+                          before = record {
+                            before = record {
+                              before = record {
+                                before = record {
+                                  before = record {
+                                    before = record {
+                                      before = record {
+                                        before = c .before;
+                                        turn-line = c .turn-line;
+                                      };
+                                      owner = record { given = g };
+                                    };
+                                    slice-known5 = record { given = g' };
+                                  };
+                                  stack = record { given = g'' };
+                                };
+                                slice-known6 = record { given = g'3 };
+                              };
+                              cur = record { given = g'4 };
+                            };
+                            slice-known7 = record { given = g'5 };
+                          };
+                          next = record { given = g'6 };
+                        } g'7) .now)
+                        (Row.get 7 (T12 .locals) (m49 record {
+                          before = record {
+                            before = record {
+                              before = record {
+                                before = record {
+                                  before = record {
+                                    before = record {
+                                      before = record {
+                                        before = c .before;
+                                        turn-line = c .turn-line;
+                                      };
+                                      owner = record { given = g };
+                                    };
+                                    slice-known5 = record { given = g' };
+                                  };
+                                  stack = record { given = g'' };
+                                };
+                                slice-known6 = record { given = g'3 };
+                              };
+                              cur = record { given = g'4 };
+                            };
+                            slice-known7 = record { given = g'5 };
+                          };
+                          next = record { given = g'6 };
+                        } g'7) .now)
+                        (Row.get 8 (T12 .locals) (m49 record {
+                          before = record {
+                            before = record {
+                              before = record {
+                                before = record {
+                                  before = record {
+                                    before = record {
+                                      before = record {
+                                        before = c .before;
+                                        turn-line = c .turn-line;
+                                      };
+                                      owner = record { given = g };
+                                    };
+                                    slice-known5 = record { given = g' };
+                                  };
+                                  stack = record { given = g'' };
+                                };
+                                slice-known6 = record { given = g'3 };
+                              };
+                              cur = record { given = g'4 };
+                            };
+                            slice-known7 = record { given = g'5 };
+                          };
+                          next = record { given = g'6 };
+                        } g'7) .now)
+                        (Row.get 9 (T12 .locals) (m49 record {
+                          before = record {
+                            before = record {
+                              before = record {
+                                before = record {
+                                  before = record {
+                                    before = record {
+                                      before = record {
+                                        before = c .before;
+                                        turn-line = c .turn-line;
+                                      };
+                                      owner = record { given = g };
+                                    };
+                                    slice-known5 = record { given = g' };
+                                  };
+                                  stack = record { given = g'' };
+                                };
+                                slice-known6 = record { given = g'3 };
+                              };
+                              cur = record { given = g'4 };
+                            };
+                            slice-known7 = record { given = g'5 };
+                          };
+                          next = record { given = g'6 };
+                        } g'7) .now)
+                        (Row.get 10 (T12 .locals) (m49 record {
+                          before = record {
+                            before = record {
+                              before = record {
+                                before = record {
+                                  before = record {
+                                    before = record {
+                                      before = record {
+                                        before = c .before;
+                                        turn-line = c .turn-line;
+                                      };
+                                      owner = record { given = g };
+                                    };
+                                    slice-known5 = record { given = g' };
+                                  };
+                                  stack = record { given = g'' };
+                                };
+                                slice-known6 = record { given = g'3 };
+                              };
+                              cur = record { given = g'4 };
+                            };
+                            slice-known7 = record { given = g'5 };
+                          };
+                          next = record { given = g'6 };
+                        } g'7) .now)
+                        (Row.get 11 (T12 .locals) (m49 record {
+                          before = record {
+                            before = record {
+                              before = record {
+                                before = record {
+                                  before = record {
+                                    before = record {
+                                      before = record {
+                                        before = c .before;
+                                        turn-line = c .turn-line;
+                                      };
+                                      owner = record { given = g };
+                                    };
+                                    slice-known5 = record { given = g' };
+                                  };
+                                  stack = record { given = g'' };
+                                };
+                                slice-known6 = record { given = g'3 };
+                              };
+                              cur = record { given = g'4 };
+                            };
+                            slice-known7 = record { given = g'5 };
+                          };
+                          next = record { given = g'6 };
+                        } g'7))
+                        (Row.get 12 (T12 .locals) (m49 record {
+                          before = record {
+                            before = record {
+                              before = record {
+                                before = record {
+                                  before = record {
+                                    before = record {
+                                      before = record {
+                                        before = c .before;
+                                        turn-line = c .turn-line;
+                                      };
+                                      owner = record { given = g };
+                                    };
+                                    slice-known5 = record { given = g' };
+                                  };
+                                  stack = record { given = g'' };
+                                };
+                                slice-known6 = record { given = g'3 };
+                              };
+                              cur = record { given = g'4 };
+                            };
+                            slice-known7 = record { given = g'5 };
+                          };
+                          next = record { given = g'6 };
+                        } g'7))
+                        (Row.get 13 (T12 .locals) (m49 record {
+                          before = record {
+                            before = record {
+                              before = record {
+                                before = record {
+                                  before = record {
+                                    before = record {
+                                      before = record {
+                                        before = c .before;
+                                        turn-line = c .turn-line;
+                                      };
+                                      owner = record { given = g };
+                                    };
+                                    slice-known5 = record { given = g' };
+                                  };
+                                  stack = record { given = g'' };
+                                };
+                                slice-known6 = record { given = g'3 };
+                              };
+                              cur = record { given = g'4 };
+                            };
+                            slice-known7 = record { given = g'5 };
+                          };
+                          next = record { given = g'6 };
+                        } g'7)),
+                    loop-less record {
+                      before = record {
+                        before = record {
+                          before = record {
+                            before = record {
+                              before = record {
+                                before = record {
+                                  before = record {
+                                    before = record {
+                                      before = c .before;
+                                      turn-line = c .turn-line;
+                                    };
+                                    owner = record { given = g };
+                                  };
+                                  slice-known5 = record { given = g' };
+                                };
+                                stack = record { given = g'' };
+                              };
+                              slice-known6 = record { given = g'3 };
+                            };
+                            cur = record { given = g'4 };
+                          };
+                          slice-known7 = record { given = g'5 };
+                        };
+                        next = record { given = g'6 };
+                      };
+                      slice-known8 = record { given = g'7 };
+                    },
+                    (
+                      (
+                        Row.get 6 (T12 .locals) (m49 record {
+                          before = record {
+                            before = record {
+                              before = record {
+                                before = record {
+                                  before = record {
+                                    before = record {
+                                      before = record {
+                                        before = c .before;
+                                        turn-line = c .turn-line;
+                                      };
+                                      owner = record { given = g };
+                                    };
+                                    slice-known5 = record { given = g' };
+                                  };
+                                  stack = record { given = g'' };
+                                };
+                                slice-known6 = record { given = g'3 };
+                              };
+                              cur = record { given = g'4 };
+                            };
+                            slice-known7 = record { given = g'5 };
+                          };
+                          next = record { given = g'6 };
+                        } g'7) .now,
+                        Row.get 7 (T12 .locals) (m49 record {
+                          before = record {
+                            before = record {
+                              before = record {
+                                before = record {
+                                  before = record {
+                                    before = record {
+                                      before = record {
+                                        before = c .before;
+                                        turn-line = c .turn-line;
+                                      };
+                                      owner = record { given = g };
+                                    };
+                                    slice-known5 = record { given = g' };
+                                  };
+                                  stack = record { given = g'' };
+                                };
+                                slice-known6 = record { given = g'3 };
+                              };
+                              cur = record { given = g'4 };
+                            };
+                            slice-known7 = record { given = g'5 };
+                          };
+                          next = record { given = g'6 };
+                        } g'7) .now,
+                        Row.get 8 (T12 .locals) (m49 record {
+                          before = record {
+                            before = record {
+                              before = record {
+                                before = record {
+                                  before = record {
+                                    before = record {
+                                      before = record {
+                                        before = c .before;
+                                        turn-line = c .turn-line;
+                                      };
+                                      owner = record { given = g };
+                                    };
+                                    slice-known5 = record { given = g' };
+                                  };
+                                  stack = record { given = g'' };
+                                };
+                                slice-known6 = record { given = g'3 };
+                              };
+                              cur = record { given = g'4 };
+                            };
+                            slice-known7 = record { given = g'5 };
+                          };
+                          next = record { given = g'6 };
+                        } g'7) .now,
+                        Row.get 9 (T12 .locals) (m49 record {
+                          before = record {
+                            before = record {
+                              before = record {
+                                before = record {
+                                  before = record {
+                                    before = record {
+                                      before = record {
+                                        before = c .before;
+                                        turn-line = c .turn-line;
+                                      };
+                                      owner = record { given = g };
+                                    };
+                                    slice-known5 = record { given = g' };
+                                  };
+                                  stack = record { given = g'' };
+                                };
+                                slice-known6 = record { given = g'3 };
+                              };
+                              cur = record { given = g'4 };
+                            };
+                            slice-known7 = record { given = g'5 };
+                          };
+                          next = record { given = g'6 };
+                        } g'7) .now,
+                        Row.get 10 (T12 .locals) (m49 record {
+                          before = record {
+                            before = record {
+                              before = record {
+                                before = record {
+                                  before = record {
+                                    before = record {
+                                      before = record {
+                                        before = c .before;
+                                        turn-line = c .turn-line;
+                                      };
+                                      owner = record { given = g };
+                                    };
+                                    slice-known5 = record { given = g' };
+                                  };
+                                  stack = record { given = g'' };
+                                };
+                                slice-known6 = record { given = g'3 };
+                              };
+                              cur = record { given = g'4 };
+                            };
+                            slice-known7 = record { given = g'5 };
+                          };
+                          next = record { given = g'6 };
+                        } g'7) .now,
+                        Row.get 11 (T12 .locals) (m49 record {
+                          before = record {
+                            before = record {
+                              before = record {
+                                before = record {
+                                  before = record {
+                                    before = record {
+                                      before = record {
+                                        before = c .before;
+                                        turn-line = c .turn-line;
+                                      };
+                                      owner = record { given = g };
+                                    };
+                                    slice-known5 = record { given = g' };
+                                  };
+                                  stack = record { given = g'' };
+                                };
+                                slice-known6 = record { given = g'3 };
+                              };
+                              cur = record { given = g'4 };
+                            };
+                            slice-known7 = record { given = g'5 };
+                          };
+                          next = record { given = g'6 };
+                        } g'7),
+                        Row.get 12 (T12 .locals) (m49 record {
+                          before = record {
+                            before = record {
+                              before = record {
+                                before = record {
+                                  before = record {
+                                    before = record {
+                                      before = record {
+                                        before = c .before;
+                                        turn-line = c .turn-line;
+                                      };
+                                      owner = record { given = g };
+                                    };
+                                    slice-known5 = record { given = g' };
+                                  };
+                                  stack = record { given = g'' };
+                                };
+                                slice-known6 = record { given = g'3 };
+                              };
+                              cur = record { given = g'4 };
+                            };
+                            slice-known7 = record { given = g'5 };
+                          };
+                          next = record { given = g'6 };
+                        } g'7),
+                        Row.get 13 (T12 .locals) (m49 record {
+                          before = record {
+                            before = record {
+                              before = record {
+                                before = record {
+                                  before = record {
+                                    before = record {
+                                      before = record {
+                                        before = c .before;
+                                        turn-line = c .turn-line;
+                                      };
+                                      owner = record { given = g };
+                                    };
+                                    slice-known5 = record { given = g' };
+                                  };
+                                  stack = record { given = g'' };
+                                };
+                                slice-known6 = record { given = g'3 };
+                              };
+                              cur = record { given = g'4 };
+                            };
+                            slice-known7 = record { given = g'5 };
+                          };
+                          next = record { given = g'6 };
+                        } g'7),
+                      ),
+                      Path'.refl {a = m49 record {
+                        before = record {
+                          before = record {
+                            before = record {
+                              before = record {
+                                before = record {
+                                  before = record {
+                                    before = record {
+                                      before = c .before;
+                                      turn-line = c .turn-line;
+                                    };
+                                    owner = record { given = g };
+                                  };
+                                  slice-known5 = record { given = g' };
+                                };
+                                stack = record { given = g'' };
+                              };
+                              slice-known6 = record { given = g'3 };
+                            };
+                            cur = record { given = g'4 };
+                          };
+                          slice-known7 = record { given = g'5 };
+                        };
+                        next = record { given = g'6 };
+                      } g'7},
+                      loop-again record {
+                        before = record {
+                          before = record {
+                            before = record {
+                              before = record {
+                                before = record {
+                                  before = record {
+                                    before = record {
+                                      before = record {
+                                        before = c .before;
+                                        turn-line = c .turn-line;
+                                      };
+                                      owner = record { given = g };
+                                    };
+                                    slice-known5 = record { given = g' };
+                                  };
+                                  stack = record { given = g'' };
+                                };
+                                slice-known6 = record { given = g'3 };
+                              };
+                              cur = record { given = g'4 };
+                            };
+                            slice-known7 = record { given = g'5 };
+                          };
+                          next = record { given = g'6 };
+                        };
+                        slice-known8 = record { given = g'7 };
+                      },
+                      Path'.refl {a = μ·0
+                          (Row.get 1 (T12 .locals) (m11
+                          (c .before .before .before .before .before .before .before .before
+                          .before .before .before .before .before)
+                          (c .before .before .before .before .before .before .before .before
+                          .before .before .before .before .slice-known4 .given)) .now)
+                          (Row.get 2 (T12 .locals) (m11
+                          (c .before .before .before .before .before .before .before .before
+                          .before .before .before .before .before)
+                          (c .before .before .before .before .before .before .before .before
+                          .before .before .before .before .slice-known4 .given)) .now)
+                          (Row.get 3 (T12 .locals) (m11
+                          (c .before .before .before .before .before .before .before .before
+                          .before .before .before .before .before)
+                          (c .before .before .before .before .before .before .before .before
+                          .before .before .before .before .slice-known4 .given)))
+                          (Row.get 4 (T12 .locals) (m11
+                          (c .before .before .before .before .before .before .before .before
+                          .before .before .before .before .before)
+                          (c .before .before .before .before .before .before .before .before
+                          .before .before .before .before .slice-known4 .given)) .now)
+                          (Row.get 5 (T12 .locals) (m11
+                          (c .before .before .before .before .before .before .before .before
+                          .before .before .before .before .before)
+                          (c .before .before .before .before .before .before .before .before
+                          .before .before .before .before .slice-known4 .given)) .now)
+                          (Row.get 6 (T12 .locals) (m11
+                          (c .before .before .before .before .before .before .before .before
+                          .before .before .before .before .before)
+                          (c .before .before .before .before .before .before .before .before
+                          .before .before .before .before .slice-known4 .given)) .now)
+                          (Row.get 7 (T12 .locals) (m11
+                          (c .before .before .before .before .before .before .before .before
+                          .before .before .before .before .before)
+                          (c .before .before .before .before .before .before .before .before
+                          .before .before .before .before .slice-known4 .given)) .now)
+                          (Row.get 8 (T12 .locals) (m11
+                          (c .before .before .before .before .before .before .before .before
+                          .before .before .before .before .before)
+                          (c .before .before .before .before .before .before .before .before
+                          .before .before .before .before .slice-known4 .given)) .now)
+                          (Row.get 9 (T12 .locals) (m11
+                          (c .before .before .before .before .before .before .before .before
+                          .before .before .before .before .before)
+                          (c .before .before .before .before .before .before .before .before
+                          .before .before .before .before .slice-known4 .given)) .now)
+                          (Row.get 10 (T12 .locals) (m11
+                          (c .before .before .before .before .before .before .before .before
+                          .before .before .before .before .before)
+                          (c .before .before .before .before .before .before .before .before
+                          .before .before .before .before .slice-known4 .given)) .now)
+                          (Row.get 11 (T12 .locals) (m11
+                          (c .before .before .before .before .before .before .before .before
+                          .before .before .before .before .before)
+                          (c .before .before .before .before .before .before .before .before
+                          .before .before .before .before .slice-known4 .given)))
+                          (Row.get 12 (T12 .locals) (m11
+                          (c .before .before .before .before .before .before .before .before
+                          .before .before .before .before .before)
+                          (c .before .before .before .before .before .before .before .before
+                          .before .before .before .before .slice-known4 .given)))
+                          (Row.get 13 (T12 .locals) (m11
+                          (c .before .before .before .before .before .before .before .before
+                          .before .before .before .before .before)
+                          (c .before .before .before .before .before .before .before .before
+                          .before .before .before .before .slice-known4 .given)))
+                          (Row.get 6 (T12 .locals) (m49 record {
                             before = record {
                               before = record {
                                 before = record {
@@ -17296,97 +15735,19 @@ module _ (claims· : Claims) where
                                         };
                                         owner = record { given = g };
                                       };
-                                      slice-known6 = record { given = g' };
+                                      slice-known5 = record { given = g' };
                                     };
                                     stack = record { given = g'' };
                                   };
-                                  slice-known7 = record { given = g'3 };
+                                  slice-known6 = record { given = g'3 };
                                 };
                                 cur = record { given = g'4 };
                               };
-                              slice-known8 = record { given = g'5 };
+                              slice-known7 = record { given = g'5 };
                             };
                             next = record { given = g'6 };
-                          };
-                          slice-known9 = record { given = g'7 };
-                        };
-                        clean = record { given = g'8 };
-                      };
-                      slice-known10 = record { given = g'9 };
-                    },
-                    (
-                      μ·0
-                          (Row.get 1 (T13 .locals) (m12
-                          (c .before .before .before .before .before .before .before .before
-                          .before .before .before .before .before .before)
-                          (c .before .before .before .before .before .before .before .before
-                          .before .before .before .before .before .slice-known5 .given)) .now)
-                          (Row.get 2 (T13 .locals) (m12
-                          (c .before .before .before .before .before .before .before .before
-                          .before .before .before .before .before .before)
-                          (c .before .before .before .before .before .before .before .before
-                          .before .before .before .before .before .slice-known5 .given)) .now)
-                          (Row.get 3 (T13 .locals) (m12
-                          (c .before .before .before .before .before .before .before .before
-                          .before .before .before .before .before .before)
-                          (c .before .before .before .before .before .before .before .before
-                          .before .before .before .before .before .slice-known5 .given)))
-                          (Row.get 4 (T13 .locals) (m12
-                          (c .before .before .before .before .before .before .before .before
-                          .before .before .before .before .before .before)
-                          (c .before .before .before .before .before .before .before .before
-                          .before .before .before .before .before .slice-known5 .given)) .now)
-                          (Row.get 5 (T13 .locals) (m12
-                          (c .before .before .before .before .before .before .before .before
-                          .before .before .before .before .before .before)
-                          (c .before .before .before .before .before .before .before .before
-                          .before .before .before .before .before .slice-known5 .given)) .now)
-                          (Row.get 6 (T13 .locals) (m12
-                          (c .before .before .before .before .before .before .before .before
-                          .before .before .before .before .before .before)
-                          (c .before .before .before .before .before .before .before .before
-                          .before .before .before .before .before .slice-known5 .given)) .now)
-                          (Row.get 7 (T13 .locals) (m12
-                          (c .before .before .before .before .before .before .before .before
-                          .before .before .before .before .before .before)
-                          (c .before .before .before .before .before .before .before .before
-                          .before .before .before .before .before .slice-known5 .given)) .now)
-                          (Row.get 8 (T13 .locals) (m12
-                          (c .before .before .before .before .before .before .before .before
-                          .before .before .before .before .before .before)
-                          (c .before .before .before .before .before .before .before .before
-                          .before .before .before .before .before .slice-known5 .given)) .now)
-                          (Row.get 9 (T13 .locals) (m12
-                          (c .before .before .before .before .before .before .before .before
-                          .before .before .before .before .before .before)
-                          (c .before .before .before .before .before .before .before .before
-                          .before .before .before .before .before .slice-known5 .given)) .now)
-                          (Row.get 10 (T13 .locals) (m12
-                          (c .before .before .before .before .before .before .before .before
-                          .before .before .before .before .before .before)
-                          (c .before .before .before .before .before .before .before .before
-                          .before .before .before .before .before .slice-known5 .given)) .now)
-                          (Row.get 11 (T13 .locals) (m12
-                          (c .before .before .before .before .before .before .before .before
-                          .before .before .before .before .before .before)
-                          (c .before .before .before .before .before .before .before .before
-                          .before .before .before .before .before .slice-known5 .given)) .now)
-                          (Row.get 12 (T13 .locals) (m12
-                          (c .before .before .before .before .before .before .before .before
-                          .before .before .before .before .before .before)
-                          (c .before .before .before .before .before .before .before .before
-                          .before .before .before .before .before .slice-known5 .given)))
-                          (Row.get 13 (T13 .locals) (m12
-                          (c .before .before .before .before .before .before .before .before
-                          .before .before .before .before .before .before)
-                          (c .before .before .before .before .before .before .before .before
-                          .before .before .before .before .before .slice-known5 .given)))
-                          (Row.get 14 (T13 .locals) (m12
-                          (c .before .before .before .before .before .before .before .before
-                          .before .before .before .before .before .before)
-                          (c .before .before .before .before .before .before .before .before
-                          .before .before .before .before .before .slice-known5 .given)))
-                          (Row.get 6 (T13 .locals) (m54 record {
+                          } g'7) .now)
+                          (Row.get 7 (T12 .locals) (m49 record {
                             before = record {
                               before = record {
                                 before = record {
@@ -17394,30 +15755,24 @@ module _ (claims· : Claims) where
                                     before = record {
                                       before = record {
                                         before = record {
-                                          before = record {
-                                            before = record {
-                                              before = c .before;
-                                              turn-line = c .turn-line;
-                                            };
-                                            owner = record { given = g };
-                                          };
-                                          slice-known6 = record { given = g' };
+                                          before = c .before;
+                                          turn-line = c .turn-line;
                                         };
-                                        stack = record { given = g'' };
+                                        owner = record { given = g };
                                       };
-                                      slice-known7 = record { given = g'3 };
+                                      slice-known5 = record { given = g' };
                                     };
-                                    cur = record { given = g'4 };
+                                    stack = record { given = g'' };
                                   };
-                                  slice-known8 = record { given = g'5 };
+                                  slice-known6 = record { given = g'3 };
                                 };
-                                next = record { given = g'6 };
+                                cur = record { given = g'4 };
                               };
-                              slice-known9 = record { given = g'7 };
+                              slice-known7 = record { given = g'5 };
                             };
-                            clean = record { given = g'8 };
-                          } g'9) .now)
-                          (Row.get 7 (T13 .locals) (m54 record {
+                            next = record { given = g'6 };
+                          } g'7) .now)
+                          (Row.get 8 (T12 .locals) (m49 record {
                             before = record {
                               before = record {
                                 before = record {
@@ -17425,30 +15780,24 @@ module _ (claims· : Claims) where
                                     before = record {
                                       before = record {
                                         before = record {
-                                          before = record {
-                                            before = record {
-                                              before = c .before;
-                                              turn-line = c .turn-line;
-                                            };
-                                            owner = record { given = g };
-                                          };
-                                          slice-known6 = record { given = g' };
+                                          before = c .before;
+                                          turn-line = c .turn-line;
                                         };
-                                        stack = record { given = g'' };
+                                        owner = record { given = g };
                                       };
-                                      slice-known7 = record { given = g'3 };
+                                      slice-known5 = record { given = g' };
                                     };
-                                    cur = record { given = g'4 };
+                                    stack = record { given = g'' };
                                   };
-                                  slice-known8 = record { given = g'5 };
+                                  slice-known6 = record { given = g'3 };
                                 };
-                                next = record { given = g'6 };
+                                cur = record { given = g'4 };
                               };
-                              slice-known9 = record { given = g'7 };
+                              slice-known7 = record { given = g'5 };
                             };
-                            clean = record { given = g'8 };
-                          } g'9) .now)
-                          (Row.get 8 (T13 .locals) (m54 record {
+                            next = record { given = g'6 };
+                          } g'7) .now)
+                          (Row.get 9 (T12 .locals) (m49 record {
                             before = record {
                               before = record {
                                 before = record {
@@ -17456,30 +15805,24 @@ module _ (claims· : Claims) where
                                     before = record {
                                       before = record {
                                         before = record {
-                                          before = record {
-                                            before = record {
-                                              before = c .before;
-                                              turn-line = c .turn-line;
-                                            };
-                                            owner = record { given = g };
-                                          };
-                                          slice-known6 = record { given = g' };
+                                          before = c .before;
+                                          turn-line = c .turn-line;
                                         };
-                                        stack = record { given = g'' };
+                                        owner = record { given = g };
                                       };
-                                      slice-known7 = record { given = g'3 };
+                                      slice-known5 = record { given = g' };
                                     };
-                                    cur = record { given = g'4 };
+                                    stack = record { given = g'' };
                                   };
-                                  slice-known8 = record { given = g'5 };
+                                  slice-known6 = record { given = g'3 };
                                 };
-                                next = record { given = g'6 };
+                                cur = record { given = g'4 };
                               };
-                              slice-known9 = record { given = g'7 };
+                              slice-known7 = record { given = g'5 };
                             };
-                            clean = record { given = g'8 };
-                          } g'9) .now)
-                          (Row.get 9 (T13 .locals) (m54 record {
+                            next = record { given = g'6 };
+                          } g'7) .now)
+                          (Row.get 10 (T12 .locals) (m49 record {
                             before = record {
                               before = record {
                                 before = record {
@@ -17487,30 +15830,24 @@ module _ (claims· : Claims) where
                                     before = record {
                                       before = record {
                                         before = record {
-                                          before = record {
-                                            before = record {
-                                              before = c .before;
-                                              turn-line = c .turn-line;
-                                            };
-                                            owner = record { given = g };
-                                          };
-                                          slice-known6 = record { given = g' };
+                                          before = c .before;
+                                          turn-line = c .turn-line;
                                         };
-                                        stack = record { given = g'' };
+                                        owner = record { given = g };
                                       };
-                                      slice-known7 = record { given = g'3 };
+                                      slice-known5 = record { given = g' };
                                     };
-                                    cur = record { given = g'4 };
+                                    stack = record { given = g'' };
                                   };
-                                  slice-known8 = record { given = g'5 };
+                                  slice-known6 = record { given = g'3 };
                                 };
-                                next = record { given = g'6 };
+                                cur = record { given = g'4 };
                               };
-                              slice-known9 = record { given = g'7 };
+                              slice-known7 = record { given = g'5 };
                             };
-                            clean = record { given = g'8 };
-                          } g'9) .now)
-                          (Row.get 10 (T13 .locals) (m54 record {
+                            next = record { given = g'6 };
+                          } g'7) .now)
+                          (Row.get 11 (T12 .locals) (m49 record {
                             before = record {
                               before = record {
                                 before = record {
@@ -17518,30 +15855,24 @@ module _ (claims· : Claims) where
                                     before = record {
                                       before = record {
                                         before = record {
-                                          before = record {
-                                            before = record {
-                                              before = c .before;
-                                              turn-line = c .turn-line;
-                                            };
-                                            owner = record { given = g };
-                                          };
-                                          slice-known6 = record { given = g' };
+                                          before = c .before;
+                                          turn-line = c .turn-line;
                                         };
-                                        stack = record { given = g'' };
+                                        owner = record { given = g };
                                       };
-                                      slice-known7 = record { given = g'3 };
+                                      slice-known5 = record { given = g' };
                                     };
-                                    cur = record { given = g'4 };
+                                    stack = record { given = g'' };
                                   };
-                                  slice-known8 = record { given = g'5 };
+                                  slice-known6 = record { given = g'3 };
                                 };
-                                next = record { given = g'6 };
+                                cur = record { given = g'4 };
                               };
-                              slice-known9 = record { given = g'7 };
+                              slice-known7 = record { given = g'5 };
                             };
-                            clean = record { given = g'8 };
-                          } g'9) .now)
-                          (Row.get 11 (T13 .locals) (m54 record {
+                            next = record { given = g'6 };
+                          } g'7))
+                          (Row.get 12 (T12 .locals) (m49 record {
                             before = record {
                               before = record {
                                 before = record {
@@ -17549,30 +15880,24 @@ module _ (claims· : Claims) where
                                     before = record {
                                       before = record {
                                         before = record {
-                                          before = record {
-                                            before = record {
-                                              before = c .before;
-                                              turn-line = c .turn-line;
-                                            };
-                                            owner = record { given = g };
-                                          };
-                                          slice-known6 = record { given = g' };
+                                          before = c .before;
+                                          turn-line = c .turn-line;
                                         };
-                                        stack = record { given = g'' };
+                                        owner = record { given = g };
                                       };
-                                      slice-known7 = record { given = g'3 };
+                                      slice-known5 = record { given = g' };
                                     };
-                                    cur = record { given = g'4 };
+                                    stack = record { given = g'' };
                                   };
-                                  slice-known8 = record { given = g'5 };
+                                  slice-known6 = record { given = g'3 };
                                 };
-                                next = record { given = g'6 };
+                                cur = record { given = g'4 };
                               };
-                              slice-known9 = record { given = g'7 };
+                              slice-known7 = record { given = g'5 };
                             };
-                            clean = record { given = g'8 };
-                          } g'9) .now)
-                          (Row.get 12 (T13 .locals) (m54 record {
+                            next = record { given = g'6 };
+                          } g'7))
+                          (Row.get 13 (T12 .locals) (m49 record {
                             before = record {
                               before = record {
                                 before = record {
@@ -17580,823 +15905,23 @@ module _ (claims· : Claims) where
                                     before = record {
                                       before = record {
                                         before = record {
-                                          before = record {
-                                            before = record {
-                                              before = c .before;
-                                              turn-line = c .turn-line;
-                                            };
-                                            owner = record { given = g };
-                                          };
-                                          slice-known6 = record { given = g' };
+                                          before = c .before;
+                                          turn-line = c .turn-line;
                                         };
-                                        stack = record { given = g'' };
+                                        owner = record { given = g };
                                       };
-                                      slice-known7 = record { given = g'3 };
+                                      slice-known5 = record { given = g' };
                                     };
-                                    cur = record { given = g'4 };
+                                    stack = record { given = g'' };
                                   };
-                                  slice-known8 = record { given = g'5 };
+                                  slice-known6 = record { given = g'3 };
                                 };
-                                next = record { given = g'6 };
+                                cur = record { given = g'4 };
                               };
-                              slice-known9 = record { given = g'7 };
+                              slice-known7 = record { given = g'5 };
                             };
-                            clean = record { given = g'8 };
-                          } g'9))
-                          (Row.get 13 (T13 .locals) (m54 record {
-                            before = record {
-                              before = record {
-                                before = record {
-                                  before = record {
-                                    before = record {
-                                      before = record {
-                                        before = record {
-                                          before = record {
-                                            before = record {
-                                              before = c .before;
-                                              turn-line = c .turn-line;
-                                            };
-                                            owner = record { given = g };
-                                          };
-                                          slice-known6 = record { given = g' };
-                                        };
-                                        stack = record { given = g'' };
-                                      };
-                                      slice-known7 = record { given = g'3 };
-                                    };
-                                    cur = record { given = g'4 };
-                                  };
-                                  slice-known8 = record { given = g'5 };
-                                };
-                                next = record { given = g'6 };
-                              };
-                              slice-known9 = record { given = g'7 };
-                            };
-                            clean = record { given = g'8 };
-                          } g'9))
-                          (Row.get 14 (T13 .locals) (m54 record {
-                            before = record {
-                              before = record {
-                                before = record {
-                                  before = record {
-                                    before = record {
-                                      before = record {
-                                        before = record {
-                                          before = record {
-                                            before = record {
-                                              before = c .before;
-                                              turn-line = c .turn-line;
-                                            };
-                                            owner = record { given = g };
-                                          };
-                                          slice-known6 = record { given = g' };
-                                        };
-                                        stack = record { given = g'' };
-                                      };
-                                      slice-known7 = record { given = g'3 };
-                                    };
-                                    cur = record { given = g'4 };
-                                  };
-                                  slice-known8 = record { given = g'5 };
-                                };
-                                next = record { given = g'6 };
-                              };
-                              slice-known9 = record { given = g'7 };
-                            };
-                            clean = record { given = g'8 };
-                          } g'9)),
-                      loop-less record {
-                        before = record {
-                          before = record {
-                            before = record {
-                              before = record {
-                                before = record {
-                                  before = record {
-                                    before = record {
-                                      before = record {
-                                        before = record {
-                                          before = record {
-                                            before = c .before;
-                                            turn-line = c .turn-line;
-                                          };
-                                          owner = record { given = g };
-                                        };
-                                        slice-known6 = record { given = g' };
-                                      };
-                                      stack = record { given = g'' };
-                                    };
-                                    slice-known7 = record { given = g'3 };
-                                  };
-                                  cur = record { given = g'4 };
-                                };
-                                slice-known8 = record { given = g'5 };
-                              };
-                              next = record { given = g'6 };
-                            };
-                            slice-known9 = record { given = g'7 };
-                          };
-                          clean = record { given = g'8 };
-                        };
-                        slice-known10 = record { given = g'9 };
-                      },
-                      (
-                        (
-                          Row.get 6 (T13 .locals) (m54 record {
-                            before = record {
-                              before = record {
-                                before = record {
-                                  before = record {
-                                    before = record {
-                                      before = record {
-                                        before = record {
-                                          before = record {
-                                            before = record {
-                                              before = c .before;
-                                              turn-line = c .turn-line;
-                                            };
-                                            owner = record { given = g };
-                                          };
-                                          slice-known6 = record { given = g' };
-                                        };
-                                        stack = record { given = g'' };
-                                      };
-                                      slice-known7 = record { given = g'3 };
-                                    };
-                                    cur = record { given = g'4 };
-                                  };
-                                  slice-known8 = record { given = g'5 };
-                                };
-                                next = record { given = g'6 };
-                              };
-                              slice-known9 = record { given = g'7 };
-                            };
-                            clean = record { given = g'8 };
-                          } g'9) .now,
-                          Row.get 7 (T13 .locals) (m54 record {
-                            before = record {
-                              before = record {
-                                before = record {
-                                  before = record {
-                                    before = record {
-                                      before = record {
-                                        before = record {
-                                          before = record {
-                                            before = record {
-                                              before = c .before;
-                                              turn-line = c .turn-line;
-                                            };
-                                            owner = record { given = g };
-                                          };
-                                          slice-known6 = record { given = g' };
-                                        };
-                                        stack = record { given = g'' };
-                                      };
-                                      slice-known7 = record { given = g'3 };
-                                    };
-                                    cur = record { given = g'4 };
-                                  };
-                                  slice-known8 = record { given = g'5 };
-                                };
-                                next = record { given = g'6 };
-                              };
-                              slice-known9 = record { given = g'7 };
-                            };
-                            clean = record { given = g'8 };
-                          } g'9) .now,
-                          Row.get 8 (T13 .locals) (m54 record {
-                            before = record {
-                              before = record {
-                                before = record {
-                                  before = record {
-                                    before = record {
-                                      before = record {
-                                        before = record {
-                                          before = record {
-                                            before = record {
-                                              before = c .before;
-                                              turn-line = c .turn-line;
-                                            };
-                                            owner = record { given = g };
-                                          };
-                                          slice-known6 = record { given = g' };
-                                        };
-                                        stack = record { given = g'' };
-                                      };
-                                      slice-known7 = record { given = g'3 };
-                                    };
-                                    cur = record { given = g'4 };
-                                  };
-                                  slice-known8 = record { given = g'5 };
-                                };
-                                next = record { given = g'6 };
-                              };
-                              slice-known9 = record { given = g'7 };
-                            };
-                            clean = record { given = g'8 };
-                          } g'9) .now,
-                          Row.get 9 (T13 .locals) (m54 record {
-                            before = record {
-                              before = record {
-                                before = record {
-                                  before = record {
-                                    before = record {
-                                      before = record {
-                                        before = record {
-                                          before = record {
-                                            before = record {
-                                              before = c .before;
-                                              turn-line = c .turn-line;
-                                            };
-                                            owner = record { given = g };
-                                          };
-                                          slice-known6 = record { given = g' };
-                                        };
-                                        stack = record { given = g'' };
-                                      };
-                                      slice-known7 = record { given = g'3 };
-                                    };
-                                    cur = record { given = g'4 };
-                                  };
-                                  slice-known8 = record { given = g'5 };
-                                };
-                                next = record { given = g'6 };
-                              };
-                              slice-known9 = record { given = g'7 };
-                            };
-                            clean = record { given = g'8 };
-                          } g'9) .now,
-                          Row.get 10 (T13 .locals) (m54 record {
-                            before = record {
-                              before = record {
-                                before = record {
-                                  before = record {
-                                    before = record {
-                                      before = record {
-                                        before = record {
-                                          before = record {
-                                            before = record {
-                                              before = c .before;
-                                              turn-line = c .turn-line;
-                                            };
-                                            owner = record { given = g };
-                                          };
-                                          slice-known6 = record { given = g' };
-                                        };
-                                        stack = record { given = g'' };
-                                      };
-                                      slice-known7 = record { given = g'3 };
-                                    };
-                                    cur = record { given = g'4 };
-                                  };
-                                  slice-known8 = record { given = g'5 };
-                                };
-                                next = record { given = g'6 };
-                              };
-                              slice-known9 = record { given = g'7 };
-                            };
-                            clean = record { given = g'8 };
-                          } g'9) .now,
-                          Row.get 11 (T13 .locals) (m54 record {
-                            before = record {
-                              before = record {
-                                before = record {
-                                  before = record {
-                                    before = record {
-                                      before = record {
-                                        before = record {
-                                          before = record {
-                                            before = record {
-                                              before = c .before;
-                                              turn-line = c .turn-line;
-                                            };
-                                            owner = record { given = g };
-                                          };
-                                          slice-known6 = record { given = g' };
-                                        };
-                                        stack = record { given = g'' };
-                                      };
-                                      slice-known7 = record { given = g'3 };
-                                    };
-                                    cur = record { given = g'4 };
-                                  };
-                                  slice-known8 = record { given = g'5 };
-                                };
-                                next = record { given = g'6 };
-                              };
-                              slice-known9 = record { given = g'7 };
-                            };
-                            clean = record { given = g'8 };
-                          } g'9) .now,
-                          Row.get 12 (T13 .locals) (m54 record {
-                            before = record {
-                              before = record {
-                                before = record {
-                                  before = record {
-                                    before = record {
-                                      before = record {
-                                        before = record {
-                                          before = record {
-                                            before = record {
-                                              before = c .before;
-                                              turn-line = c .turn-line;
-                                            };
-                                            owner = record { given = g };
-                                          };
-                                          slice-known6 = record { given = g' };
-                                        };
-                                        stack = record { given = g'' };
-                                      };
-                                      slice-known7 = record { given = g'3 };
-                                    };
-                                    cur = record { given = g'4 };
-                                  };
-                                  slice-known8 = record { given = g'5 };
-                                };
-                                next = record { given = g'6 };
-                              };
-                              slice-known9 = record { given = g'7 };
-                            };
-                            clean = record { given = g'8 };
-                          } g'9),
-                          Row.get 13 (T13 .locals) (m54 record {
-                            before = record {
-                              before = record {
-                                before = record {
-                                  before = record {
-                                    before = record {
-                                      before = record {
-                                        before = record {
-                                          before = record {
-                                            before = record {
-                                              before = c .before;
-                                              turn-line = c .turn-line;
-                                            };
-                                            owner = record { given = g };
-                                          };
-                                          slice-known6 = record { given = g' };
-                                        };
-                                        stack = record { given = g'' };
-                                      };
-                                      slice-known7 = record { given = g'3 };
-                                    };
-                                    cur = record { given = g'4 };
-                                  };
-                                  slice-known8 = record { given = g'5 };
-                                };
-                                next = record { given = g'6 };
-                              };
-                              slice-known9 = record { given = g'7 };
-                            };
-                            clean = record { given = g'8 };
-                          } g'9),
-                          Row.get 14 (T13 .locals) (m54 record {
-                            before = record {
-                              before = record {
-                                before = record {
-                                  before = record {
-                                    before = record {
-                                      before = record {
-                                        before = record {
-                                          before = record {
-                                            before = record {
-                                              before = c .before;
-                                              turn-line = c .turn-line;
-                                            };
-                                            owner = record { given = g };
-                                          };
-                                          slice-known6 = record { given = g' };
-                                        };
-                                        stack = record { given = g'' };
-                                      };
-                                      slice-known7 = record { given = g'3 };
-                                    };
-                                    cur = record { given = g'4 };
-                                  };
-                                  slice-known8 = record { given = g'5 };
-                                };
-                                next = record { given = g'6 };
-                              };
-                              slice-known9 = record { given = g'7 };
-                            };
-                            clean = record { given = g'8 };
-                          } g'9),
-                        ),
-                        Path'.refl {a = m54 record {
-                          before = record {
-                            before = record {
-                              before = record {
-                                before = record {
-                                  before = record {
-                                    before = record {
-                                      before = record {
-                                        before = record {
-                                          before = record {
-                                            before = c .before;
-                                            turn-line = c .turn-line;
-                                          };
-                                          owner = record { given = g };
-                                        };
-                                        slice-known6 = record { given = g' };
-                                      };
-                                      stack = record { given = g'' };
-                                    };
-                                    slice-known7 = record { given = g'3 };
-                                  };
-                                  cur = record { given = g'4 };
-                                };
-                                slice-known8 = record { given = g'5 };
-                              };
-                              next = record { given = g'6 };
-                            };
-                            slice-known9 = record { given = g'7 };
-                          };
-                          clean = record { given = g'8 };
-                        } g'9},
-                        loop-again record {
-                          before = record {
-                            before = record {
-                              before = record {
-                                before = record {
-                                  before = record {
-                                    before = record {
-                                      before = record {
-                                        before = record {
-                                          before = record {
-                                            before = record {
-                                              before = c .before;
-                                              turn-line = c .turn-line;
-                                            };
-                                            owner = record { given = g };
-                                          };
-                                          slice-known6 = record { given = g' };
-                                        };
-                                        stack = record { given = g'' };
-                                      };
-                                      slice-known7 = record { given = g'3 };
-                                    };
-                                    cur = record { given = g'4 };
-                                  };
-                                  slice-known8 = record { given = g'5 };
-                                };
-                                next = record { given = g'6 };
-                              };
-                              slice-known9 = record { given = g'7 };
-                            };
-                            clean = record { given = g'8 };
-                          };
-                          slice-known10 = record { given = g'9 };
-                        },
-                        Path'.refl {a = μ·0
-                            (Row.get 1 (T13 .locals) (m12
-                            (c .before .before .before .before .before .before .before .before
-                            .before .before .before .before .before .before)
-                            (c .before .before .before .before .before .before .before .before
-                            .before .before .before .before .before .slice-known5 .given)) .now)
-                            (Row.get 2 (T13 .locals) (m12
-                            (c .before .before .before .before .before .before .before .before
-                            .before .before .before .before .before .before)
-                            (c .before .before .before .before .before .before .before .before
-                            .before .before .before .before .before .slice-known5 .given)) .now)
-                            (Row.get 3 (T13 .locals) (m12
-                            (c .before .before .before .before .before .before .before .before
-                            .before .before .before .before .before .before)
-                            (c .before .before .before .before .before .before .before .before
-                            .before .before .before .before .before .slice-known5 .given)))
-                            (Row.get 4 (T13 .locals) (m12
-                            (c .before .before .before .before .before .before .before .before
-                            .before .before .before .before .before .before)
-                            (c .before .before .before .before .before .before .before .before
-                            .before .before .before .before .before .slice-known5 .given)) .now)
-                            (Row.get 5 (T13 .locals) (m12
-                            (c .before .before .before .before .before .before .before .before
-                            .before .before .before .before .before .before)
-                            (c .before .before .before .before .before .before .before .before
-                            .before .before .before .before .before .slice-known5 .given)) .now)
-                            (Row.get 6 (T13 .locals) (m12
-                            (c .before .before .before .before .before .before .before .before
-                            .before .before .before .before .before .before)
-                            (c .before .before .before .before .before .before .before .before
-                            .before .before .before .before .before .slice-known5 .given)) .now)
-                            (Row.get 7 (T13 .locals) (m12
-                            (c .before .before .before .before .before .before .before .before
-                            .before .before .before .before .before .before)
-                            (c .before .before .before .before .before .before .before .before
-                            .before .before .before .before .before .slice-known5 .given)) .now)
-                            (Row.get 8 (T13 .locals) (m12
-                            (c .before .before .before .before .before .before .before .before
-                            .before .before .before .before .before .before)
-                            (c .before .before .before .before .before .before .before .before
-                            .before .before .before .before .before .slice-known5 .given)) .now)
-                            (Row.get 9 (T13 .locals) (m12
-                            (c .before .before .before .before .before .before .before .before
-                            .before .before .before .before .before .before)
-                            (c .before .before .before .before .before .before .before .before
-                            .before .before .before .before .before .slice-known5 .given)) .now)
-                            (Row.get 10 (T13 .locals) (m12
-                            (c .before .before .before .before .before .before .before .before
-                            .before .before .before .before .before .before)
-                            (c .before .before .before .before .before .before .before .before
-                            .before .before .before .before .before .slice-known5 .given)) .now)
-                            (Row.get 11 (T13 .locals) (m12
-                            (c .before .before .before .before .before .before .before .before
-                            .before .before .before .before .before .before)
-                            (c .before .before .before .before .before .before .before .before
-                            .before .before .before .before .before .slice-known5 .given)) .now)
-                            (Row.get 12 (T13 .locals) (m12
-                            (c .before .before .before .before .before .before .before .before
-                            .before .before .before .before .before .before)
-                            (c .before .before .before .before .before .before .before .before
-                            .before .before .before .before .before .slice-known5 .given)))
-                            (Row.get 13 (T13 .locals) (m12
-                            (c .before .before .before .before .before .before .before .before
-                            .before .before .before .before .before .before)
-                            (c .before .before .before .before .before .before .before .before
-                            .before .before .before .before .before .slice-known5 .given)))
-                            (Row.get 14 (T13 .locals) (m12
-                            (c .before .before .before .before .before .before .before .before
-                            .before .before .before .before .before .before)
-                            (c .before .before .before .before .before .before .before .before
-                            .before .before .before .before .before .slice-known5 .given)))
-                            (Row.get 6 (T13 .locals) (m54 record {
-                              before = record {
-                                before = record {
-                                  before = record {
-                                    before = record {
-                                      before = record {
-                                        before = record {
-                                          before = record {
-                                            before = record {
-                                              before = record {
-                                                before = c .before;
-                                                turn-line = c .turn-line;
-                                              };
-                                              owner = record { given = g };
-                                            };
-                                            slice-known6 = record { given = g' };
-                                          };
-                                          stack = record { given = g'' };
-                                        };
-                                        slice-known7 = record { given = g'3 };
-                                      };
-                                      cur = record { given = g'4 };
-                                    };
-                                    slice-known8 = record { given = g'5 };
-                                  };
-                                  next = record { given = g'6 };
-                                };
-                                slice-known9 = record { given = g'7 };
-                              };
-                              clean = record { given = g'8 };
-                            } g'9) .now)
-                            (Row.get 7 (T13 .locals) (m54 record {
-                              before = record {
-                                before = record {
-                                  before = record {
-                                    before = record {
-                                      before = record {
-                                        before = record {
-                                          before = record {
-                                            before = record {
-                                              before = record {
-                                                before = c .before;
-                                                turn-line = c .turn-line;
-                                              };
-                                              owner = record { given = g };
-                                            };
-                                            slice-known6 = record { given = g' };
-                                          };
-                                          stack = record { given = g'' };
-                                        };
-                                        slice-known7 = record { given = g'3 };
-                                      };
-                                      cur = record { given = g'4 };
-                                    };
-                                    slice-known8 = record { given = g'5 };
-                                  };
-                                  next = record { given = g'6 };
-                                };
-                                slice-known9 = record { given = g'7 };
-                              };
-                              clean = record { given = g'8 };
-                            } g'9) .now)
-                            (Row.get 8 (T13 .locals) (m54 record {
-                              before = record {
-                                before = record {
-                                  before = record {
-                                    before = record {
-                                      before = record {
-                                        before = record {
-                                          before = record {
-                                            before = record {
-                                              before = record {
-                                                before = c .before;
-                                                turn-line = c .turn-line;
-                                              };
-                                              owner = record { given = g };
-                                            };
-                                            slice-known6 = record { given = g' };
-                                          };
-                                          stack = record { given = g'' };
-                                        };
-                                        slice-known7 = record { given = g'3 };
-                                      };
-                                      cur = record { given = g'4 };
-                                    };
-                                    slice-known8 = record { given = g'5 };
-                                  };
-                                  next = record { given = g'6 };
-                                };
-                                slice-known9 = record { given = g'7 };
-                              };
-                              clean = record { given = g'8 };
-                            } g'9) .now)
-                            (Row.get 9 (T13 .locals) (m54 record {
-                              before = record {
-                                before = record {
-                                  before = record {
-                                    before = record {
-                                      before = record {
-                                        before = record {
-                                          before = record {
-                                            before = record {
-                                              before = record {
-                                                before = c .before;
-                                                turn-line = c .turn-line;
-                                              };
-                                              owner = record { given = g };
-                                            };
-                                            slice-known6 = record { given = g' };
-                                          };
-                                          stack = record { given = g'' };
-                                        };
-                                        slice-known7 = record { given = g'3 };
-                                      };
-                                      cur = record { given = g'4 };
-                                    };
-                                    slice-known8 = record { given = g'5 };
-                                  };
-                                  next = record { given = g'6 };
-                                };
-                                slice-known9 = record { given = g'7 };
-                              };
-                              clean = record { given = g'8 };
-                            } g'9) .now)
-                            (Row.get 10 (T13 .locals) (m54 record {
-                              before = record {
-                                before = record {
-                                  before = record {
-                                    before = record {
-                                      before = record {
-                                        before = record {
-                                          before = record {
-                                            before = record {
-                                              before = record {
-                                                before = c .before;
-                                                turn-line = c .turn-line;
-                                              };
-                                              owner = record { given = g };
-                                            };
-                                            slice-known6 = record { given = g' };
-                                          };
-                                          stack = record { given = g'' };
-                                        };
-                                        slice-known7 = record { given = g'3 };
-                                      };
-                                      cur = record { given = g'4 };
-                                    };
-                                    slice-known8 = record { given = g'5 };
-                                  };
-                                  next = record { given = g'6 };
-                                };
-                                slice-known9 = record { given = g'7 };
-                              };
-                              clean = record { given = g'8 };
-                            } g'9) .now)
-                            (Row.get 11 (T13 .locals) (m54 record {
-                              before = record {
-                                before = record {
-                                  before = record {
-                                    before = record {
-                                      before = record {
-                                        before = record {
-                                          before = record {
-                                            before = record {
-                                              before = record {
-                                                before = c .before;
-                                                turn-line = c .turn-line;
-                                              };
-                                              owner = record { given = g };
-                                            };
-                                            slice-known6 = record { given = g' };
-                                          };
-                                          stack = record { given = g'' };
-                                        };
-                                        slice-known7 = record { given = g'3 };
-                                      };
-                                      cur = record { given = g'4 };
-                                    };
-                                    slice-known8 = record { given = g'5 };
-                                  };
-                                  next = record { given = g'6 };
-                                };
-                                slice-known9 = record { given = g'7 };
-                              };
-                              clean = record { given = g'8 };
-                            } g'9) .now)
-                            (Row.get 12 (T13 .locals) (m54 record {
-                              before = record {
-                                before = record {
-                                  before = record {
-                                    before = record {
-                                      before = record {
-                                        before = record {
-                                          before = record {
-                                            before = record {
-                                              before = record {
-                                                before = c .before;
-                                                turn-line = c .turn-line;
-                                              };
-                                              owner = record { given = g };
-                                            };
-                                            slice-known6 = record { given = g' };
-                                          };
-                                          stack = record { given = g'' };
-                                        };
-                                        slice-known7 = record { given = g'3 };
-                                      };
-                                      cur = record { given = g'4 };
-                                    };
-                                    slice-known8 = record { given = g'5 };
-                                  };
-                                  next = record { given = g'6 };
-                                };
-                                slice-known9 = record { given = g'7 };
-                              };
-                              clean = record { given = g'8 };
-                            } g'9))
-                            (Row.get 13 (T13 .locals) (m54 record {
-                              before = record {
-                                before = record {
-                                  before = record {
-                                    before = record {
-                                      before = record {
-                                        before = record {
-                                          before = record {
-                                            before = record {
-                                              before = record {
-                                                before = c .before;
-                                                turn-line = c .turn-line;
-                                              };
-                                              owner = record { given = g };
-                                            };
-                                            slice-known6 = record { given = g' };
-                                          };
-                                          stack = record { given = g'' };
-                                        };
-                                        slice-known7 = record { given = g'3 };
-                                      };
-                                      cur = record { given = g'4 };
-                                    };
-                                    slice-known8 = record { given = g'5 };
-                                  };
-                                  next = record { given = g'6 };
-                                };
-                                slice-known9 = record { given = g'7 };
-                              };
-                              clean = record { given = g'8 };
-                            } g'9))
-                            (Row.get 14 (T13 .locals) (m54 record {
-                              before = record {
-                                before = record {
-                                  before = record {
-                                    before = record {
-                                      before = record {
-                                        before = record {
-                                          before = record {
-                                            before = record {
-                                              before = record {
-                                                before = c .before;
-                                                turn-line = c .turn-line;
-                                              };
-                                              owner = record { given = g };
-                                            };
-                                            slice-known6 = record { given = g' };
-                                          };
-                                          stack = record { given = g'' };
-                                        };
-                                        slice-known7 = record { given = g'3 };
-                                      };
-                                      cur = record { given = g'4 };
-                                    };
-                                    slice-known8 = record { given = g'5 };
-                                  };
-                                  next = record { given = g'6 };
-                                };
-                                slice-known9 = record { given = g'7 };
-                              };
-                              clean = record { given = g'8 };
-                            } g'9))},
-                      ),
+                            next = record { given = g'6 };
+                          } g'7))},
                     ),
                   ),
                 ),
@@ -18407,19 +15932,18 @@ module _ (claims· : Claims) where
 
         lay5 :
             (c : After-get) →
-            at47
+            at40
             (W3
             (c .before .before .before .before .before .before .before)
             (c .before .before .before .before .before .before .loop .owner)
             (c .before .before .before .before .before .before .loop .stack)
             (c .before .before .before .before .before .before .loop .cur)
             (c .before .before .before .before .before .before .loop .next)
-            (c .before .before .before .before .before .before .loop .clean)
             (c .before .before .before .before .before .before .loop .recs)
             (c .before .before .before .before .before .before .loop .past)
             (c .before .before .before .before .before .before .loop .n)
             (c .before .before .before .before .before .before .loop .o))
-            (m28 (c .before) (After-get·gave c))
+            (m27 (c .before) (After-get·gave c))
         lay5 = λ c. λ g. (
           Path'.refl,
           λ g'. (
@@ -18428,132 +15952,113 @@ module _ (claims· : Claims) where
               Path'.refl,
               λ g'3. (
                 Path'.refl,
-                λ g'4. (
-                  Path'.refl,
-                  (
-                    turn-line-requires record {
+                (
+                  turn-line-requires record {
+                    before = record {
+                      before = record {
+                        before = record {
+                          before = record { before = c .before; get = c .get };
+                          turn-line-arg = record { given = g };
+                        };
+                        turn-line-arg2 = record { given = g' };
+                      };
+                      turn-line-arg3 = record { given = g'' };
+                    };
+                    turn-line-arg4 = record { given = g'3 };
+                  },
+                  λ g'4. lay6 record {
+                    before = record {
                       before = record {
                         before = record {
                           before = record {
-                            before = record {
-                              before = record { before = c .before; get = c .get };
-                              turn-line-arg = record { given = g };
-                            };
-                            turn-line-arg2 = record { given = g' };
+                            before = record { before = c .before; get = c .get };
+                            turn-line-arg = record { given = g };
                           };
-                          turn-line-arg3 = record { given = g'' };
+                          turn-line-arg2 = record { given = g' };
                         };
-                        turn-line-arg4 = record { given = g'3 };
+                        turn-line-arg3 = record { given = g'' };
                       };
-                      turn-line-arg5 = record { given = g'4 };
-                    },
-                    λ g'5. lay6 record {
-                      before = record {
-                        before = record {
-                          before = record {
-                            before = record {
-                              before = record {
-                                before = record { before = c .before; get = c .get };
-                                turn-line-arg = record { given = g };
-                              };
-                              turn-line-arg2 = record { given = g' };
-                            };
-                            turn-line-arg3 = record { given = g'' };
-                          };
-                          turn-line-arg4 = record { given = g'3 };
-                        };
-                        turn-line-arg5 = record { given = g'4 };
-                      };
-                      turn-line = Called.called ps·2 r·2 (claims· .5) T54 (
-                        record {
-                          pos = 1;
-                          ty = Syntax.tyRef (Syntax.named 0) Syntax.imm (Syntax.tyInt Syntax.w8);
-                          ref = λ x. x;
-                        },
+                      turn-line-arg4 = record { given = g'3 };
+                    };
+                    turn-line = Called.called ps·2 r·2 (claims· .5) T50 (
+                      record {
+                        pos = 1;
+                        ty = Syntax.tyRef (Syntax.named 0) Syntax.imm (Syntax.tyInt Syntax.w8);
+                        ref = λ x. x;
+                      },
+                      (
+                        Num.vFld
+                            14
+                            (List._∷_ (Syntax.field 0) List.[])
+                            0
+                            λ x. LineRec.struct .as-values
+                            x .0,
                         (
                           Num.vFld
-                              15
-                              (List._∷_ (Syntax.field 0) List.[])
-                              0
+                              14
+                              (List._∷_ (Syntax.field 1) List.[])
+                              8
                               λ x. LineRec.struct .as-values
-                              x .0,
+                              x .1 .0,
                           (
-                            Num.vFld
-                                15
-                                (List._∷_ (Syntax.field 1) List.[])
-                                8
-                                λ x. LineRec.struct .as-values
-                                x .1 .0,
+                            Num.vAt 12 λ x. x,
                             (
-                              Num.vAt 13 λ x. x,
+                              record {
+                                pos = 4;
+                                ty = Syntax.tyRef
+                                    (Syntax.named 2)
+                                    Syntax.imm
+                                    (Syntax.tyInt Syntax.w64);
+                                ref = λ x. x;
+                              },
                               (
                                 record {
-                                  pos = 4;
+                                  pos = 5;
                                   ty = Syntax.tyRef
-                                      (Syntax.named 2)
+                                      (Syntax.named 3)
                                       Syntax.imm
-                                      (Syntax.tyInt Syntax.w64);
+                                      (Syntax.tyInt Syntax.w8);
                                   ref = λ x. x;
                                 },
                                 (
                                   record {
-                                    pos = 5;
+                                    pos = 24;
                                     ty = Syntax.tyRef
-                                        (Syntax.named 3)
-                                        Syntax.imm
-                                        (Syntax.tyInt Syntax.w8);
+                                        Syntax.erased
+                                        Syntax.mut
+                                        (Syntax.tyInt Syntax.w64);
                                     ref = λ x. x;
                                   },
                                   (
                                     record {
-                                      pos = 25;
+                                      pos = 26;
                                       ty = Syntax.tyRef
                                           Syntax.erased
                                           Syntax.mut
-                                          (Syntax.tyInt Syntax.w64);
+                                          (Syntax.tyInt Syntax.w8);
                                       ref = λ x. x;
                                     },
                                     (
-                                      record {
-                                        pos = 27;
-                                        ty = Syntax.tyRef
-                                            Syntax.erased
-                                            Syntax.mut
-                                            (Syntax.tyInt Syntax.w8);
-                                        ref = λ x. x;
-                                      },
+                                      Num.vAt 13 λ x. x,
                                       (
-                                        Num.vAt 14 λ x. x,
+                                        record {
+                                          pos = 28;
+                                          ty = Syntax.tyRef
+                                              Syntax.erased
+                                              Syntax.mut
+                                              (Syntax.tyInt Syntax.w8);
+                                          ref = λ x. x;
+                                        },
                                         (
                                           record {
-                                            pos = 29;
+                                            pos = 30;
                                             ty = Syntax.tyRef
                                                 Syntax.erased
                                                 Syntax.mut
                                                 (Syntax.tyInt Syntax.w8);
                                             ref = λ x. x;
                                           },
-                                          (
-                                            record {
-                                              pos = 31;
-                                              ty = Syntax.tyRef
-                                                  Syntax.erased
-                                                  Syntax.mut
-                                                  (Syntax.tyInt Syntax.w8);
-                                              ref = λ x. x;
-                                            },
-                                            (
-                                              record {
-                                                pos = 33;
-                                                ty = Syntax.tyRef
-                                                    Syntax.erased
-                                                    Syntax.mut
-                                                    (Syntax.tyInt Syntax.w8);
-                                                ref = λ x. x;
-                                              },
-                                              tt,
-                                            ),
-                                          ),
+                                          tt,
                                         ),
                                       ),
                                     ),
@@ -18563,21 +16068,18 @@ module _ (claims· : Claims) where
                             ),
                           ),
                         ),
-                      ) (m41 record {
+                      ),
+                    ) (m38 record {
+                      before = record {
                         before = record {
-                          before = record {
-                            before = record {
-                              before = record { before = c .before; get = c .get };
-                              turn-line-arg = record { given = g };
-                            };
-                            turn-line-arg2 = record { given = g' };
-                          };
-                          turn-line-arg3 = record { given = g'' };
+                          before = record { before = c .before; get = c .get };
+                          turn-line-arg = record { given = g };
                         };
-                        turn-line-arg4 = record { given = g'3 };
-                      } g'4) g'5;
-                    },
-                  ),
+                        turn-line-arg2 = record { given = g' };
+                      };
+                      turn-line-arg3 = record { given = g'' };
+                    } g'3) g'4;
+                  },
                 ),
               ),
             ),
@@ -18586,19 +16088,18 @@ module _ (claims· : Claims) where
 
         lay4 :
             (c : After-refill) →
-            at59
+            at52
             (W3
             (c .before .before .before .before)
             (c .before .before .before .loop .owner)
             (c .before .before .before .loop .stack)
             (c .before .before .before .loop .cur)
             (c .before .before .before .loop .next)
-            (c .before .before .before .loop .clean)
             (c .before .before .before .loop .recs)
             (c .before .before .before .loop .past)
             (c .before .before .before .loop .n)
             (c .before .before .before .loop .o))
-            (m19 (c .before) (After-refill·gave c))
+            (m18 (c .before) (After-refill·gave c))
         lay4 = λ c. (
           Path'.refl,
           λ g. λ g'. (
@@ -18635,17 +16136,17 @@ module _ (claims· : Claims) where
                       };
                       get-arg = record { given = g' };
                     };
-                    get = Called.called ps·1 r·1 (claims· .3) T33 (
+                    get = Called.called ps·1 r·1 (claims· .3) T32 (
                       record {
-                        pos = 20;
+                        pos = 19;
                         ty = Syntax.tyRef
                             Syntax.erased
                             Syntax.imm
                             Elem.ty;
                         ref = λ x. x;
                       },
-                      (Num.vAt 23 λ x. x, tt),
-                    ) (m27 record {
+                      (Num.vAt 22 λ x. x, tt),
+                    ) (m26 record {
                       before = record { before = c .before; refill = c .refill };
                       recs = record { given = g };
                     } g') g'';
@@ -18658,19 +16159,18 @@ module _ (claims· : Claims) where
 
         lay3 :
             (c : In-loop) →
-            at63
+            at56
             (W3
             (c .before .before)
             (c .before .loop .owner)
             (c .before .loop .stack)
             (c .before .loop .cur)
             (c .before .loop .next)
-            (c .before .loop .clean)
             (c .before .loop .recs)
             (c .before .loop .past)
             (c .before .loop .n)
             (c .before .loop .o))
-            (m15 (c .before))
+            (m14 (c .before))
         lay3 = λ c. λ g. (
           Path'.refl,
           (
@@ -18683,7 +16183,7 @@ module _ (claims· : Claims) where
                 before = record { before = c .before; loop-test = c .loop-test };
                 refill-arg = record { given = g };
               };
-              refill = Called.called ps·0 r·0 (claims· .1) T21 (
+              refill = Called.called ps·0 r·0 (claims· .1) T20 (
                 record {
                   pos = 2;
                   ty = Syntax.tyRef (Syntax.named 1) Syntax.imm (Syntax.tyInt Syntax.w64);
@@ -18698,12 +16198,12 @@ module _ (claims· : Claims) where
                   (
                     Num.vAt 3 λ x. x,
                     (
-                      Num.vAt 13 λ x. x,
+                      Num.vAt 12 λ x. x,
                       (
-                        Num.vAt 12 λ x. x,
+                        Num.vAt 11 λ x. x,
                         (
                           record {
-                            pos = 18;
+                            pos = 17;
                             ty = Syntax.tyRef
                                 Syntax.erased
                                 Syntax.mut
@@ -18716,7 +16216,7 @@ module _ (claims· : Claims) where
                     ),
                   ),
                 ),
-              ) (m18 record { before = c .before; loop-test = c .loop-test } g) g';
+              ) (m17 record { before = c .before; loop-test = c .loop-test } g) g';
             },
           ),
         )
@@ -18730,18 +16230,16 @@ module _ (claims· : Claims) where
             (c .before .loop .stack)
             (c .before .loop .cur)
             (c .before .loop .next)
-            (c .before .loop .clean)
             (c .before .loop .recs)
             (c .before .loop .past)
             (c .before .loop .n)
             (c .before .loop .o))
-            (m14
+            (m13
             (c .before .before)
             (c .before .loop .owner)
             (c .before .loop .stack)
             (c .before .loop .cur)
             (c .before .loop .next)
-            (c .before .loop .clean)
             (c .before .loop .recs)
             (c .before .loop .past)
             (c .before .loop .n)
@@ -18757,255 +16255,226 @@ module _ (claims· : Claims) where
             (c .before .loop .stack)
             (c .before .loop .cur)
             (c .before .loop .next)
-            (c .before .loop .clean)
             (c .before .loop .recs)
             (c .before .loop .past)
             (c .before .loop .n)
             (c .before .loop .o))
-            (m14
+            (m13
             (c .before .before)
             (c .before .loop .owner)
             (c .before .loop .stack)
             (c .before .loop .cur)
             (c .before .loop .next)
-            (c .before .loop .clean)
             (c .before .loop .recs)
             (c .before .loop .past)
             (c .before .loop .n)
             (c .before .loop .o))
         lay1 = λ c. lay3 record { before = c .before; loop-test = c .loop-test }
 
-        pub laid : (c : Start) → at86 (W0 (c .κs) (c .args)) (m0 (c .κs) (c .args))
-        laid = λ c. λ g. λ g'. λ g''. λ g'3. λ g'4. λ g'5. λ g'6. λ g'7. λ g'8. (
+        pub laid : (c : Start) → at78 (W0 (c .κs) (c .args)) (m0 (c .κs) (c .args))
+        laid = λ c. λ g. λ g'. λ g''. λ g'3. λ g'4. λ g'5. λ g'6. λ g'7. (
           (
             (
-              Row.get 6 (T13 .locals) (m12 record {
+              Row.get 6 (T12 .locals) (m11 record {
                 before = record {
                   before = record {
                     before = record {
                       before = record {
                         before = record {
                           before = record {
-                            before = record {
-                              before = c;
-                              shared-slice-known = record { given = g };
-                            };
-                            shared-slice-known2 = record { given = g' };
+                            before = c;
+                            shared-slice-known = record { given = g };
                           };
-                          shared-slice-known3 = record { given = g'' };
+                          shared-slice-known2 = record { given = g' };
                         };
-                        shared-slice-known4 = record { given = g'3 };
+                        shared-slice-known3 = record { given = g'' };
                       };
-                      slice-known = record { given = g'4 };
+                      shared-slice-known4 = record { given = g'3 };
                     };
-                    slice-known2 = record { given = g'5 };
+                    slice-known = record { given = g'4 };
                   };
-                  slice-known3 = record { given = g'6 };
+                  slice-known2 = record { given = g'5 };
                 };
-                slice-known4 = record { given = g'7 };
-              } g'8) .now,
-              Row.get 7 (T13 .locals) (m12 record {
+                slice-known3 = record { given = g'6 };
+              } g'7) .now,
+              Row.get 7 (T12 .locals) (m11 record {
                 before = record {
                   before = record {
                     before = record {
                       before = record {
                         before = record {
                           before = record {
-                            before = record {
-                              before = c;
-                              shared-slice-known = record { given = g };
-                            };
-                            shared-slice-known2 = record { given = g' };
+                            before = c;
+                            shared-slice-known = record { given = g };
                           };
-                          shared-slice-known3 = record { given = g'' };
+                          shared-slice-known2 = record { given = g' };
                         };
-                        shared-slice-known4 = record { given = g'3 };
+                        shared-slice-known3 = record { given = g'' };
                       };
-                      slice-known = record { given = g'4 };
+                      shared-slice-known4 = record { given = g'3 };
                     };
-                    slice-known2 = record { given = g'5 };
+                    slice-known = record { given = g'4 };
                   };
-                  slice-known3 = record { given = g'6 };
+                  slice-known2 = record { given = g'5 };
                 };
-                slice-known4 = record { given = g'7 };
-              } g'8) .now,
-              Row.get 8 (T13 .locals) (m12 record {
+                slice-known3 = record { given = g'6 };
+              } g'7) .now,
+              Row.get 8 (T12 .locals) (m11 record {
                 before = record {
                   before = record {
                     before = record {
                       before = record {
                         before = record {
                           before = record {
-                            before = record {
-                              before = c;
-                              shared-slice-known = record { given = g };
-                            };
-                            shared-slice-known2 = record { given = g' };
+                            before = c;
+                            shared-slice-known = record { given = g };
                           };
-                          shared-slice-known3 = record { given = g'' };
+                          shared-slice-known2 = record { given = g' };
                         };
-                        shared-slice-known4 = record { given = g'3 };
+                        shared-slice-known3 = record { given = g'' };
                       };
-                      slice-known = record { given = g'4 };
+                      shared-slice-known4 = record { given = g'3 };
                     };
-                    slice-known2 = record { given = g'5 };
+                    slice-known = record { given = g'4 };
                   };
-                  slice-known3 = record { given = g'6 };
+                  slice-known2 = record { given = g'5 };
                 };
-                slice-known4 = record { given = g'7 };
-              } g'8) .now,
-              Row.get 9 (T13 .locals) (m12 record {
+                slice-known3 = record { given = g'6 };
+              } g'7) .now,
+              Row.get 9 (T12 .locals) (m11 record {
                 before = record {
                   before = record {
                     before = record {
                       before = record {
                         before = record {
                           before = record {
-                            before = record {
-                              before = c;
-                              shared-slice-known = record { given = g };
-                            };
-                            shared-slice-known2 = record { given = g' };
+                            before = c;
+                            shared-slice-known = record { given = g };
                           };
-                          shared-slice-known3 = record { given = g'' };
+                          shared-slice-known2 = record { given = g' };
                         };
-                        shared-slice-known4 = record { given = g'3 };
+                        shared-slice-known3 = record { given = g'' };
                       };
-                      slice-known = record { given = g'4 };
+                      shared-slice-known4 = record { given = g'3 };
                     };
-                    slice-known2 = record { given = g'5 };
+                    slice-known = record { given = g'4 };
                   };
-                  slice-known3 = record { given = g'6 };
+                  slice-known2 = record { given = g'5 };
                 };
-                slice-known4 = record { given = g'7 };
-              } g'8) .now,
-              Row.get 10 (T13 .locals) (m12 record {
+                slice-known3 = record { given = g'6 };
+              } g'7) .now,
+              Row.get 10 (T12 .locals) (m11 record {
                 before = record {
                   before = record {
                     before = record {
                       before = record {
                         before = record {
                           before = record {
-                            before = record {
-                              before = c;
-                              shared-slice-known = record { given = g };
-                            };
-                            shared-slice-known2 = record { given = g' };
+                            before = c;
+                            shared-slice-known = record { given = g };
                           };
-                          shared-slice-known3 = record { given = g'' };
+                          shared-slice-known2 = record { given = g' };
                         };
-                        shared-slice-known4 = record { given = g'3 };
+                        shared-slice-known3 = record { given = g'' };
                       };
-                      slice-known = record { given = g'4 };
+                      shared-slice-known4 = record { given = g'3 };
                     };
-                    slice-known2 = record { given = g'5 };
+                    slice-known = record { given = g'4 };
                   };
-                  slice-known3 = record { given = g'6 };
+                  slice-known2 = record { given = g'5 };
                 };
-                slice-known4 = record { given = g'7 };
-              } g'8) .now,
-              Row.get 11 (T13 .locals) (m12 record {
+                slice-known3 = record { given = g'6 };
+              } g'7) .now,
+              Row.get 11 (T12 .locals) (m11 record {
                 before = record {
                   before = record {
                     before = record {
                       before = record {
                         before = record {
                           before = record {
-                            before = record {
-                              before = c;
-                              shared-slice-known = record { given = g };
-                            };
-                            shared-slice-known2 = record { given = g' };
+                            before = c;
+                            shared-slice-known = record { given = g };
                           };
-                          shared-slice-known3 = record { given = g'' };
+                          shared-slice-known2 = record { given = g' };
                         };
-                        shared-slice-known4 = record { given = g'3 };
+                        shared-slice-known3 = record { given = g'' };
                       };
-                      slice-known = record { given = g'4 };
+                      shared-slice-known4 = record { given = g'3 };
                     };
-                    slice-known2 = record { given = g'5 };
+                    slice-known = record { given = g'4 };
                   };
-                  slice-known3 = record { given = g'6 };
+                  slice-known2 = record { given = g'5 };
                 };
-                slice-known4 = record { given = g'7 };
-              } g'8) .now,
-              Row.get 12 (T13 .locals) (m12 record {
+                slice-known3 = record { given = g'6 };
+              } g'7),
+              Row.get 12 (T12 .locals) (m11 record {
                 before = record {
                   before = record {
                     before = record {
                       before = record {
                         before = record {
                           before = record {
-                            before = record {
-                              before = c;
-                              shared-slice-known = record { given = g };
-                            };
-                            shared-slice-known2 = record { given = g' };
+                            before = c;
+                            shared-slice-known = record { given = g };
                           };
-                          shared-slice-known3 = record { given = g'' };
+                          shared-slice-known2 = record { given = g' };
                         };
-                        shared-slice-known4 = record { given = g'3 };
+                        shared-slice-known3 = record { given = g'' };
                       };
-                      slice-known = record { given = g'4 };
+                      shared-slice-known4 = record { given = g'3 };
                     };
-                    slice-known2 = record { given = g'5 };
+                    slice-known = record { given = g'4 };
                   };
-                  slice-known3 = record { given = g'6 };
+                  slice-known2 = record { given = g'5 };
                 };
-                slice-known4 = record { given = g'7 };
-              } g'8),
-              Row.get 13 (T13 .locals) (m12 record {
+                slice-known3 = record { given = g'6 };
+              } g'7),
+              Row.get 13 (T12 .locals) (m11 record {
                 before = record {
                   before = record {
                     before = record {
                       before = record {
                         before = record {
                           before = record {
-                            before = record {
-                              before = c;
-                              shared-slice-known = record { given = g };
-                            };
-                            shared-slice-known2 = record { given = g' };
+                            before = c;
+                            shared-slice-known = record { given = g };
                           };
-                          shared-slice-known3 = record { given = g'' };
+                          shared-slice-known2 = record { given = g' };
                         };
-                        shared-slice-known4 = record { given = g'3 };
+                        shared-slice-known3 = record { given = g'' };
                       };
-                      slice-known = record { given = g'4 };
+                      shared-slice-known4 = record { given = g'3 };
                     };
-                    slice-known2 = record { given = g'5 };
+                    slice-known = record { given = g'4 };
                   };
-                  slice-known3 = record { given = g'6 };
+                  slice-known2 = record { given = g'5 };
                 };
-                slice-known4 = record { given = g'7 };
-              } g'8),
-              Row.get 14 (T13 .locals) (m12 record {
-                before = record {
-                  before = record {
-                    before = record {
-                      before = record {
-                        before = record {
-                          before = record {
-                            before = record {
-                              before = c;
-                              shared-slice-known = record { given = g };
-                            };
-                            shared-slice-known2 = record { given = g' };
-                          };
-                          shared-slice-known3 = record { given = g'' };
-                        };
-                        shared-slice-known4 = record { given = g'3 };
-                      };
-                      slice-known = record { given = g'4 };
-                    };
-                    slice-known2 = record { given = g'5 };
-                  };
-                  slice-known3 = record { given = g'6 };
-                };
-                slice-known4 = record { given = g'7 };
-              } g'8),
+                slice-known3 = record { given = g'6 };
+              } g'7),
             ),
-            Path'.refl {a = m12 record {
+            Path'.refl {a = m11 record {
+              before = record {
+                before = record {
+                  before = record {
+                    before = record {
+                      before = record {
+                        before = record {
+                          before = c;
+                          shared-slice-known = record { given = g };
+                        };
+                        shared-slice-known2 = record { given = g' };
+                      };
+                      shared-slice-known3 = record { given = g'' };
+                    };
+                    shared-slice-known4 = record { given = g'3 };
+                  };
+                  slice-known = record { given = g'4 };
+                };
+                slice-known2 = record { given = g'5 };
+              };
+              slice-known3 = record { given = g'6 };
+            } g'7},
+            loop-holds record {
               before = record {
                 before = record {
                   before = record {
@@ -19029,34 +16498,6 @@ module _ (claims· : Claims) where
                 slice-known3 = record { given = g'6 };
               };
               slice-known4 = record { given = g'7 };
-            } g'8},
-            loop-holds record {
-              before = record {
-                before = record {
-                  before = record {
-                    before = record {
-                      before = record {
-                        before = record {
-                          before = record {
-                            before = record {
-                              before = c;
-                              shared-slice-known = record { given = g };
-                            };
-                            shared-slice-known2 = record { given = g' };
-                          };
-                          shared-slice-known3 = record { given = g'' };
-                        };
-                        shared-slice-known4 = record { given = g'3 };
-                      };
-                      slice-known = record { given = g'4 };
-                    };
-                    slice-known2 = record { given = g'5 };
-                  };
-                  slice-known3 = record { given = g'6 };
-                };
-                slice-known4 = record { given = g'7 };
-              };
-              slice-known5 = record { given = g'8 };
             },
           ),
           λ vs inv. (
@@ -19072,41 +16513,37 @@ module _ (claims· : Claims) where
                             before = record {
                               before = record {
                                 before = record {
-                                  before = record {
-                                    before = c;
-                                    shared-slice-known = record { given = g };
-                                  };
-                                  shared-slice-known2 = record { given = g' };
+                                  before = c;
+                                  shared-slice-known = record { given = g };
                                 };
-                                shared-slice-known3 = record { given = g'' };
+                                shared-slice-known2 = record { given = g' };
                               };
-                              shared-slice-known4 = record { given = g'3 };
+                              shared-slice-known3 = record { given = g'' };
                             };
-                            slice-known = record { given = g'4 };
+                            shared-slice-known4 = record { given = g'3 };
                           };
-                          slice-known2 = record { given = g'5 };
+                          slice-known = record { given = g'4 };
                         };
-                        slice-known3 = record { given = g'6 };
+                        slice-known2 = record { given = g'5 };
                       };
-                      slice-known4 = record { given = g'7 };
+                      slice-known3 = record { given = g'6 };
                     };
-                    slice-known5 = record { given = g'8 };
+                    slice-known4 = record { given = g'7 };
                   };
                   loop = record {
                     owner = vs .0;
                     stack = vs .1;
                     cur = vs .2;
                     next = vs .3;
-                    clean = vs .4;
-                    recs = vs .5;
-                    past = vs .6;
-                    n = vs .7;
-                    o = vs .8;
+                    recs = vs .4;
+                    past = vs .5;
+                    n = vs .6;
+                    o = vs .7;
                     inv = inv;
                   };
                 };
                 loop-test = record {
-                  taken = Tests.ltb-true (Row.get 13 (T13 .locals) (m13 record {
+                  taken = Tests.ltb-true (Row.get 12 (T12 .locals) (m12 record {
                     before = record {
                       before = record {
                         before = record {
@@ -19114,27 +16551,24 @@ module _ (claims· : Claims) where
                             before = record {
                               before = record {
                                 before = record {
-                                  before = record {
-                                    before = c;
-                                    shared-slice-known = record { given = g };
-                                  };
-                                  shared-slice-known2 = record { given = g' };
+                                  before = c;
+                                  shared-slice-known = record { given = g };
                                 };
-                                shared-slice-known3 = record { given = g'' };
+                                shared-slice-known2 = record { given = g' };
                               };
-                              shared-slice-known4 = record { given = g'3 };
+                              shared-slice-known3 = record { given = g'' };
                             };
-                            slice-known = record { given = g'4 };
+                            shared-slice-known4 = record { given = g'3 };
                           };
-                          slice-known2 = record { given = g'5 };
+                          slice-known = record { given = g'4 };
                         };
-                        slice-known3 = record { given = g'6 };
+                        slice-known2 = record { given = g'5 };
                       };
-                      slice-known4 = record { given = g'7 };
+                      slice-known3 = record { given = g'6 };
                     };
-                    slice-known5 = record { given = g'8 };
-                  } (vs .0) (vs .1) (vs .2) (vs .3) (vs .4) (vs .5) (vs .6) (vs .7) (vs .8)))
-                      (Row.get 3 (T13 .locals) (m13 record {
+                    slice-known4 = record { given = g'7 };
+                  } (vs .0) (vs .1) (vs .2) (vs .3) (vs .4) (vs .5) (vs .6) (vs .7)))
+                      (Row.get 3 (T12 .locals) (m12 record {
                         before = record {
                           before = record {
                             before = record {
@@ -19142,26 +16576,23 @@ module _ (claims· : Claims) where
                                 before = record {
                                   before = record {
                                     before = record {
-                                      before = record {
-                                        before = c;
-                                        shared-slice-known = record { given = g };
-                                      };
-                                      shared-slice-known2 = record { given = g' };
+                                      before = c;
+                                      shared-slice-known = record { given = g };
                                     };
-                                    shared-slice-known3 = record { given = g'' };
+                                    shared-slice-known2 = record { given = g' };
                                   };
-                                  shared-slice-known4 = record { given = g'3 };
+                                  shared-slice-known3 = record { given = g'' };
                                 };
-                                slice-known = record { given = g'4 };
+                                shared-slice-known4 = record { given = g'3 };
                               };
-                              slice-known2 = record { given = g'5 };
+                              slice-known = record { given = g'4 };
                             };
-                            slice-known3 = record { given = g'6 };
+                            slice-known2 = record { given = g'5 };
                           };
-                          slice-known4 = record { given = g'7 };
+                          slice-known3 = record { given = g'6 };
                         };
-                        slice-known5 = record { given = g'8 };
-                      } (vs .0) (vs .1) (vs .2) (vs .3) (vs .4) (vs .5) (vs .6) (vs .7) (vs .8)))
+                        slice-known4 = record { given = g'7 };
+                      } (vs .0) (vs .1) (vs .2) (vs .3) (vs .4) (vs .5) (vs .6) (vs .7)))
                       taken;
                 };
               },
@@ -19175,41 +16606,37 @@ module _ (claims· : Claims) where
                             before = record {
                               before = record {
                                 before = record {
-                                  before = record {
-                                    before = c;
-                                    shared-slice-known = record { given = g };
-                                  };
-                                  shared-slice-known2 = record { given = g' };
+                                  before = c;
+                                  shared-slice-known = record { given = g };
                                 };
-                                shared-slice-known3 = record { given = g'' };
+                                shared-slice-known2 = record { given = g' };
                               };
-                              shared-slice-known4 = record { given = g'3 };
+                              shared-slice-known3 = record { given = g'' };
                             };
-                            slice-known = record { given = g'4 };
+                            shared-slice-known4 = record { given = g'3 };
                           };
-                          slice-known2 = record { given = g'5 };
+                          slice-known = record { given = g'4 };
                         };
-                        slice-known3 = record { given = g'6 };
+                        slice-known2 = record { given = g'5 };
                       };
-                      slice-known4 = record { given = g'7 };
+                      slice-known3 = record { given = g'6 };
                     };
-                    slice-known5 = record { given = g'8 };
+                    slice-known4 = record { given = g'7 };
                   };
                   loop = record {
                     owner = vs .0;
                     stack = vs .1;
                     cur = vs .2;
                     next = vs .3;
-                    clean = vs .4;
-                    recs = vs .5;
-                    past = vs .6;
-                    n = vs .7;
-                    o = vs .8;
+                    recs = vs .4;
+                    past = vs .5;
+                    n = vs .6;
+                    o = vs .7;
                     inv = inv;
                   };
                 };
                 loop-test = record {
-                  left = Tests.ltb-false (Row.get 13 (T13 .locals) (m13 record {
+                  left = Tests.ltb-false (Row.get 12 (T12 .locals) (m12 record {
                     before = record {
                       before = record {
                         before = record {
@@ -19217,27 +16644,24 @@ module _ (claims· : Claims) where
                             before = record {
                               before = record {
                                 before = record {
-                                  before = record {
-                                    before = c;
-                                    shared-slice-known = record { given = g };
-                                  };
-                                  shared-slice-known2 = record { given = g' };
+                                  before = c;
+                                  shared-slice-known = record { given = g };
                                 };
-                                shared-slice-known3 = record { given = g'' };
+                                shared-slice-known2 = record { given = g' };
                               };
-                              shared-slice-known4 = record { given = g'3 };
+                              shared-slice-known3 = record { given = g'' };
                             };
-                            slice-known = record { given = g'4 };
+                            shared-slice-known4 = record { given = g'3 };
                           };
-                          slice-known2 = record { given = g'5 };
+                          slice-known = record { given = g'4 };
                         };
-                        slice-known3 = record { given = g'6 };
+                        slice-known2 = record { given = g'5 };
                       };
-                      slice-known4 = record { given = g'7 };
+                      slice-known3 = record { given = g'6 };
                     };
-                    slice-known5 = record { given = g'8 };
-                  } (vs .0) (vs .1) (vs .2) (vs .3) (vs .4) (vs .5) (vs .6) (vs .7) (vs .8)))
-                      (Row.get 3 (T13 .locals) (m13 record {
+                    slice-known4 = record { given = g'7 };
+                  } (vs .0) (vs .1) (vs .2) (vs .3) (vs .4) (vs .5) (vs .6) (vs .7)))
+                      (Row.get 3 (T12 .locals) (m12 record {
                         before = record {
                           before = record {
                             before = record {
@@ -19245,26 +16669,23 @@ module _ (claims· : Claims) where
                                 before = record {
                                   before = record {
                                     before = record {
-                                      before = record {
-                                        before = c;
-                                        shared-slice-known = record { given = g };
-                                      };
-                                      shared-slice-known2 = record { given = g' };
+                                      before = c;
+                                      shared-slice-known = record { given = g };
                                     };
-                                    shared-slice-known3 = record { given = g'' };
+                                    shared-slice-known2 = record { given = g' };
                                   };
-                                  shared-slice-known4 = record { given = g'3 };
+                                  shared-slice-known3 = record { given = g'' };
                                 };
-                                slice-known = record { given = g'4 };
+                                shared-slice-known4 = record { given = g'3 };
                               };
-                              slice-known2 = record { given = g'5 };
+                              slice-known = record { given = g'4 };
                             };
-                            slice-known3 = record { given = g'6 };
+                            slice-known2 = record { given = g'5 };
                           };
-                          slice-known4 = record { given = g'7 };
+                          slice-known3 = record { given = g'6 };
                         };
-                        slice-known5 = record { given = g'8 };
-                      } (vs .0) (vs .1) (vs .2) (vs .3) (vs .4) (vs .5) (vs .6) (vs .7) (vs .8)))
+                        slice-known4 = record { given = g'7 };
+                      } (vs .0) (vs .1) (vs .2) (vs .3) (vs .4) (vs .5) (vs .6) (vs .7)))
                       left;
                 };
               },
@@ -19272,13 +16693,13 @@ module _ (claims· : Claims) where
           ),
         )
 
-        module _ (κs : Lifetimes.Lfts 10) (qs : Lifetimes.Shares 10) where
+        module _ (κs : Lifetimes.Lfts 9) (qs : Lifetimes.Shares 9) where
           pub asked :
               (a : Kinds.Dens κs ps) →
               (good : Kinds.GoodsP κs ps a) →
               (pre : Pre· κs a) →
               (bs : List.List Nat.ℕ) →
-              Φ (Any.wantQ 10 ps r xs m κs qs a (Post· κs a)) (Function.init 10 ps r xs m κs qs a)
+              Φ (Any.wantQ 9 ps r xs m κs qs a (Post· κs a)) (Function.init 9 ps r xs m κs qs a)
           asked = λ a good pre bs. laid record {
             κs = κs;
             args = record {
@@ -19291,8 +16712,7 @@ module _ (claims· : Claims) where
               stack = a .1 .1 .1 .1 .1 .1 .0;
               cur = a .1 .1 .1 .1 .1 .1 .1 .0;
               next = a .1 .1 .1 .1 .1 .1 .1 .1 .0;
-              clean = a .1 .1 .1 .1 .1 .1 .1 .1 .1 .0;
-              recs = a .1 .1 .1 .1 .1 .1 .1 .1 .1 .1 .0;
+              recs = a .1 .1 .1 .1 .1 .1 .1 .1 .1 .0;
             };
             good = good;
             fits = record { m = record { fits = good .1 .1 .0 .1 } };
@@ -19309,7 +16729,7 @@ module _ (claims· : Claims) where
             A
             W
             𝓣
-            8
+            7
             ps·2
             r·2
             (claims· .4)
@@ -19318,8 +16738,8 @@ module _ (claims· : Claims) where
           pub spec :
               Statement.Triple
               𝓤
-              (Wp.WpFn 𝓤 H (𝓣 .C) (𝓣 .Λ) (Function.fnOf 10 ps r xs m hs body))
-              (Function.plainOf 𝓤 H A 10 ps r Pre· Post·)
+              (Wp.WpFn 𝓤 H (𝓣 .C) (𝓣 .Λ) (Function.fnOf 9 ps r xs m hs body))
+              (Function.plainOf 𝓤 H A 9 ps r Pre· Post·)
           spec =
               Plain.t-fn-plain
               𝓤
@@ -19327,7 +16747,7 @@ module _ (claims· : Claims) where
               A
               W
               𝓣
-              10
+              9
               ps
               r
               xs

@@ -115,16 +115,6 @@ After-slice-known4 = λ Inv μ. Lts.After-slice-known4 (
   Reads'.Learnt,
 ) Reads.Pre Reads.Post Inv μ
 
-abbrev pub After-slice-known5 : (Inv : InvT-loop) → (μ : MeasureT-loop) → Type 0
-After-slice-known5 = λ Inv μ. Lts.After-slice-known5 (
-  Reads'3.Asked,
-  Reads'3.Learnt,
-  Reads''.Asked,
-  Reads''.Learnt,
-  Reads'.Asked,
-  Reads'.Learnt,
-) Reads.Pre Reads.Post Inv μ
-
 abbrev pub At-loop : (Inv : InvT-loop) → (μ : MeasureT-loop) → Type 0
 At-loop = λ Inv μ. Lts.At-loop (
   Reads'3.Asked,
@@ -245,16 +235,6 @@ After-turn-line-arg4 = λ Inv μ. Lts.After-turn-line-arg4 (
   Reads'.Learnt,
 ) Reads.Pre Reads.Post Inv μ
 
-abbrev pub After-turn-line-arg5 : (Inv : InvT-loop) → (μ : MeasureT-loop) → Type 0
-After-turn-line-arg5 = λ Inv μ. Lts.After-turn-line-arg5 (
-  Reads'3.Asked,
-  Reads'3.Learnt,
-  Reads''.Asked,
-  Reads''.Learnt,
-  Reads'.Asked,
-  Reads'.Learnt,
-) Reads.Pre Reads.Post Inv μ
-
 abbrev pub After-turn-line : (Inv : InvT-loop) → (μ : MeasureT-loop) → Type 0
 After-turn-line = λ Inv μ. Lts.After-turn-line (
   Reads'3.Asked,
@@ -275,8 +255,8 @@ After-owner = λ Inv μ. Lts.After-owner (
   Reads'.Learnt,
 ) Reads.Pre Reads.Post Inv μ
 
-abbrev pub After-slice-known6 : (Inv : InvT-loop) → (μ : MeasureT-loop) → Type 0
-After-slice-known6 = λ Inv μ. Lts.After-slice-known6 (
+abbrev pub After-slice-known5 : (Inv : InvT-loop) → (μ : MeasureT-loop) → Type 0
+After-slice-known5 = λ Inv μ. Lts.After-slice-known5 (
   Reads'3.Asked,
   Reads'3.Learnt,
   Reads''.Asked,
@@ -295,8 +275,8 @@ After-stack = λ Inv μ. Lts.After-stack (
   Reads'.Learnt,
 ) Reads.Pre Reads.Post Inv μ
 
-abbrev pub After-slice-known7 : (Inv : InvT-loop) → (μ : MeasureT-loop) → Type 0
-After-slice-known7 = λ Inv μ. Lts.After-slice-known7 (
+abbrev pub After-slice-known6 : (Inv : InvT-loop) → (μ : MeasureT-loop) → Type 0
+After-slice-known6 = λ Inv μ. Lts.After-slice-known6 (
   Reads'3.Asked,
   Reads'3.Learnt,
   Reads''.Asked,
@@ -315,8 +295,8 @@ After-cur = λ Inv μ. Lts.After-cur (
   Reads'.Learnt,
 ) Reads.Pre Reads.Post Inv μ
 
-abbrev pub After-slice-known8 : (Inv : InvT-loop) → (μ : MeasureT-loop) → Type 0
-After-slice-known8 = λ Inv μ. Lts.After-slice-known8 (
+abbrev pub After-slice-known7 : (Inv : InvT-loop) → (μ : MeasureT-loop) → Type 0
+After-slice-known7 = λ Inv μ. Lts.After-slice-known7 (
   Reads'3.Asked,
   Reads'3.Learnt,
   Reads''.Asked,
@@ -335,28 +315,8 @@ After-next = λ Inv μ. Lts.After-next (
   Reads'.Learnt,
 ) Reads.Pre Reads.Post Inv μ
 
-abbrev pub After-slice-known9 : (Inv : InvT-loop) → (μ : MeasureT-loop) → Type 0
-After-slice-known9 = λ Inv μ. Lts.After-slice-known9 (
-  Reads'3.Asked,
-  Reads'3.Learnt,
-  Reads''.Asked,
-  Reads''.Learnt,
-  Reads'.Asked,
-  Reads'.Learnt,
-) Reads.Pre Reads.Post Inv μ
-
-abbrev pub After-clean : (Inv : InvT-loop) → (μ : MeasureT-loop) → Type 0
-After-clean = λ Inv μ. Lts.After-clean (
-  Reads'3.Asked,
-  Reads'3.Learnt,
-  Reads''.Asked,
-  Reads''.Learnt,
-  Reads'.Asked,
-  Reads'.Learnt,
-) Reads.Pre Reads.Post Inv μ
-
-abbrev pub After-slice-known10 : (Inv : InvT-loop) → (μ : MeasureT-loop) → Type 0
-After-slice-known10 = λ Inv μ. Lts.After-slice-known10 (
+abbrev pub After-slice-known8 : (Inv : InvT-loop) → (μ : MeasureT-loop) → Type 0
+After-slice-known8 = λ Inv μ. Lts.After-slice-known8 (
   Reads'3.Asked,
   Reads'3.Learnt,
   Reads''.Asked,
@@ -505,16 +465,6 @@ Need-same-length-5 = λ Inv μ. Lts.Need-same-length-5 (
   Reads'.Learnt,
 ) Reads.Pre Reads.Post Inv μ
 
-abbrev pub Need-same-length-6 : (Inv : InvT-loop) → (μ : MeasureT-loop) → Type 0
-Need-same-length-6 = λ Inv μ. Lts.Need-same-length-6 (
-  Reads'3.Asked,
-  Reads'3.Learnt,
-  Reads''.Asked,
-  Reads''.Learnt,
-  Reads'.Asked,
-  Reads'.Learnt,
-) Reads.Pre Reads.Post Inv μ
-
 abbrev pub Need-returns : (Inv : InvT-loop) → (μ : MeasureT-loop) → Type 0
 Need-returns = λ Inv μ. Lts.Need-returns (
   Reads'3.Asked,
@@ -543,7 +493,6 @@ module _ {M : Type 1} where
       (answer : Need-same-length-3 Inv μ) →
       (answer : Need-same-length-4 Inv μ) →
       (answer : Need-same-length-5 Inv μ) →
-      (answer : Need-same-length-6 Inv μ) →
       (answer : Need-returns Inv μ) →
       Lts.Closed (
         Reads'3.Asked,
@@ -555,10 +504,10 @@ module _ {M : Type 1} where
       ) Reads.Pre Reads.Post M
   spec =
       λ Inv μ answer answer' answer'' answer'3 answer'4 answer'5 answer'6 answer'7 answer'8
-      answer'9 answer'10 answer'11 answer'12 answer'13 answer'14 answer'15. Lts.spec
+      answer'9 answer'10 answer'11 answer'12 answer'13 answer'14. Lts.spec
       (Reads'3.Asked, Reads'3.Learnt, Reads''.Asked, Reads''.Learnt, Reads'.Asked, Reads'.Learnt)
       Reads.Pre Reads.Post Inv μ answer answer' answer'' answer'3 answer'4 answer'5 answer'6
-      answer'7 answer'8 answer'9 answer'10 answer'11 answer'12 answer'13 answer'14 answer'15
+      answer'7 answer'8 answer'9 answer'10 answer'11 answer'12 answer'13 answer'14
 
   -- antt refused `close` as it was built: the module's report says why
   pub close : Lts.Closed (
@@ -572,7 +521,7 @@ module _ {M : Type 1} where
   unfolding Code.routine Running.tablesOf
   close =
       λ closed 𝓤 H 𝓜 𝓖 𝓡. Written.close
-      10
+      9
       Kinds.ps
       Kinds.r
       Reads.Ghost

@@ -47,7 +47,7 @@ use mir.Val
 use prog.Wp
 use types.Kit
 
-abbrev pub ps : List.List (Kinds.PK 9)
+abbrev pub ps : List.List (Kinds.PK 8)
 ps =
     List._∷_
     (ShrSlice.pShrS (Referent.rtF (Referent.fInt Syntax.w8)) 0 tt)
@@ -65,11 +65,9 @@ ps =
     (MutSlice.pMutS (Referent.rtF (Referent.fInt Syntax.w8)) 5 tt)
     (List._∷_
     (MutSlice.pMutS (Referent.rtF (Referent.fInt Syntax.w8)) 6 tt)
-    (List._∷_
-    (MutSlice.pMutS (Referent.rtF (Referent.fInt Syntax.w8)) 7 tt)
-    (List._∷_ (MutSlice.pMutS (Referent.rtF (Referent.fInt Syntax.w8)) 8 tt) List.[])))))))))
+    (List._∷_ (MutSlice.pMutS (Referent.rtF (Referent.fInt Syntax.w8)) 7 tt) List.[]))))))))
 
-abbrev pub r : Kinds.RK 9
+abbrev pub r : Kinds.RK 8
 r = Num.rNum Syntax.w64
 
 abbrev pub xs : List.List Syntax.Ty
@@ -111,14 +109,6 @@ xs =
     (Syntax.tyRef Syntax.erased Syntax.mut (Syntax.tyInt Syntax.w8))
     (Syntax.tcons (Syntax.tyInt Syntax.w64) Syntax.tnil)))
     (List._∷_
-    (Syntax.tyRef Syntax.erased Syntax.mut (Syntax.tyInt Syntax.w8))
-    (List._∷_
-    (Syntax.tyStruct
-    (List._∷_ 38 (List._∷_ 91 (List._∷_ 93 List.[])))
-    (Syntax.tcons
-    (Syntax.tyRef Syntax.erased Syntax.mut (Syntax.tyInt Syntax.w8))
-    (Syntax.tcons (Syntax.tyInt Syntax.w64) Syntax.tnil)))
-    (List._∷_
     (Syntax.tyRef
     Syntax.erased
     Syntax.mut
@@ -129,10 +119,10 @@ xs =
     (Syntax.tcons
     (Syntax.tyRef Syntax.erased Syntax.mut Elem.ty)
     (Syntax.tcons (Syntax.tyInt Syntax.w64) Syntax.tnil)))
-    List.[])))))))))))))
+    List.[])))))))))))
 
 abbrev pub m : Nat.ℕ
-m = 6
+m = 5
 
 abbrev pub ps·0 : List.List (Kinds.PK 0)
 ps·0 = List.[]
@@ -144,7 +134,7 @@ r·0 =
     Elem.e-laws
     64
 
-abbrev pub ps·1 : List.List (Kinds.PK 10)
+abbrev pub ps·1 : List.List (Kinds.PK 9)
 ps·1 =
     List._∷_
     (ShrSlice.pShrS (Referent.rtF (Referent.fInt Syntax.w8)) 0 tt)
@@ -165,19 +155,15 @@ ps·1 =
     (List._∷_
     (MutSlice.pMutS (Referent.rtF (Referent.fInt Syntax.w8)) 7 tt)
     (List._∷_
-    (MutSlice.pMutS (Referent.rtF (Referent.fInt Syntax.w8)) 8 tt)
-    (List._∷_
-    (MutSlice.pMutS Elem.R 9 tt)
-    List.[]))))))))))
+    (MutSlice.pMutS Elem.R 8 tt)
+    List.[])))))))))
 
-abbrev pub r·1 : Kinds.RK 10
+abbrev pub r·1 : Kinds.RK 9
 r·1 = Num.rNum Syntax.w64
 
 abbrev pub hs : List.List Syntax.Home
 hs =
     List._∷_
-    Syntax.valueLocal
-    (List._∷_
     Syntax.valueLocal
     (List._∷_
     Syntax.valueLocal
@@ -217,22 +203,18 @@ hs =
     Syntax.valueLocal
     (List._∷_
     Syntax.valueLocal
-    (List._∷_
-    Syntax.valueLocal
-    (List._∷_
-    Syntax.valueLocal
-    (List._∷_ Syntax.valueLocal (List._∷_ Syntax.valueLocal List.[]))))))))))))))))))))))))
+    (List._∷_ Syntax.valueLocal (List._∷_ Syntax.valueLocal List.[])))))))))))))))))))))
 
 abbrev b0 : Syntax.Body
-b0 = Syntax.call "records::window" List.[] (Syntax.place 12 List.[])
+b0 = Syntax.call "records::window" List.[] (Syntax.place 11 List.[])
 
 abbrev b1 : Syntax.Body
-b1 = Syntax.assign (Syntax.place 11 List.[]) (Syntax.rvOpd (Syntax.copy (Syntax.place 12 List.[])))
+b1 = Syntax.assign (Syntax.place 10 List.[]) (Syntax.rvOpd (Syntax.copy (Syntax.place 11 List.[])))
 
 abbrev b2 : Syntax.Body
 b2 =
     Syntax.assign
-    (Syntax.place 13 List.[])
+    (Syntax.place 12 List.[])
     (Syntax.addrOf
     (Syntax.place
     6
@@ -241,16 +223,16 @@ b2 =
 abbrev b3 : Syntax.Body
 b3 =
     Syntax.assign
-    (Syntax.place 14 List.[])
+    (Syntax.place 13 List.[])
     (Syntax.aggregate
     (List._∷_
-    (Syntax.copy (Syntax.place 13 List.[]))
+    (Syntax.copy (Syntax.place 12 List.[]))
     (List._∷_ (Syntax.copy (Syntax.place 6 (List._∷_ (Syntax.field 1) List.[]))) List.[])))
 
 abbrev b4 : Syntax.Body
 b4 =
     Syntax.assign
-    (Syntax.place 15 List.[])
+    (Syntax.place 14 List.[])
     (Syntax.addrOf
     (Syntax.place
     7
@@ -259,16 +241,16 @@ b4 =
 abbrev b5 : Syntax.Body
 b5 =
     Syntax.assign
-    (Syntax.place 16 List.[])
+    (Syntax.place 15 List.[])
     (Syntax.aggregate
     (List._∷_
-    (Syntax.copy (Syntax.place 15 List.[]))
+    (Syntax.copy (Syntax.place 14 List.[]))
     (List._∷_ (Syntax.copy (Syntax.place 7 (List._∷_ (Syntax.field 1) List.[]))) List.[])))
 
 abbrev b6 : Syntax.Body
 b6 =
     Syntax.assign
-    (Syntax.place 17 List.[])
+    (Syntax.place 16 List.[])
     (Syntax.addrOf
     (Syntax.place
     8
@@ -277,16 +259,16 @@ b6 =
 abbrev b7 : Syntax.Body
 b7 =
     Syntax.assign
-    (Syntax.place 18 List.[])
+    (Syntax.place 17 List.[])
     (Syntax.aggregate
     (List._∷_
-    (Syntax.copy (Syntax.place 17 List.[]))
+    (Syntax.copy (Syntax.place 16 List.[]))
     (List._∷_ (Syntax.copy (Syntax.place 8 (List._∷_ (Syntax.field 1) List.[]))) List.[])))
 
 abbrev b8 : Syntax.Body
 b8 =
     Syntax.assign
-    (Syntax.place 19 List.[])
+    (Syntax.place 18 List.[])
     (Syntax.addrOf
     (Syntax.place
     9
@@ -295,44 +277,26 @@ b8 =
 abbrev b9 : Syntax.Body
 b9 =
     Syntax.assign
-    (Syntax.place 20 List.[])
+    (Syntax.place 19 List.[])
     (Syntax.aggregate
     (List._∷_
-    (Syntax.copy (Syntax.place 19 List.[]))
+    (Syntax.copy (Syntax.place 18 List.[]))
     (List._∷_ (Syntax.copy (Syntax.place 9 (List._∷_ (Syntax.field 1) List.[]))) List.[])))
 
 abbrev b10 : Syntax.Body
-b10 =
-    Syntax.assign
-    (Syntax.place 21 List.[])
-    (Syntax.addrOf
-    (Syntax.place
-    10
-    (List._∷_ (Syntax.field 0) (List._∷_ (Syntax.deref (Syntax.tyInt Syntax.w8)) List.[]))))
+b10 = Syntax.assign (Syntax.place 20 List.[]) (Syntax.addrOf (Syntax.place 10 List.[]))
 
 abbrev b11 : Syntax.Body
 b11 =
     Syntax.assign
-    (Syntax.place 22 List.[])
+    (Syntax.place 21 List.[])
     (Syntax.aggregate
     (List._∷_
-    (Syntax.copy (Syntax.place 21 List.[]))
-    (List._∷_ (Syntax.copy (Syntax.place 10 (List._∷_ (Syntax.field 1) List.[]))) List.[])))
-
-abbrev b12 : Syntax.Body
-b12 = Syntax.assign (Syntax.place 23 List.[]) (Syntax.addrOf (Syntax.place 11 List.[]))
-
-abbrev b13 : Syntax.Body
-b13 =
-    Syntax.assign
-    (Syntax.place 24 List.[])
-    (Syntax.aggregate
-    (List._∷_
-    (Syntax.copy (Syntax.place 23 List.[]))
+    (Syntax.copy (Syntax.place 20 List.[]))
     (List._∷_ (Syntax.int Syntax.w64 64) List.[])))
 
-abbrev b14 : Syntax.Body
-b14 =
+abbrev b12 : Syntax.Body
+b12 =
     Syntax.call
     "calls::rebuild_lines"
     (List._∷_
@@ -346,71 +310,63 @@ b14 =
     (List._∷_
     (Syntax.copy (Syntax.place 5 List.[]))
     (List._∷_
-    (Syntax.copy (Syntax.place 14 List.[]))
+    (Syntax.copy (Syntax.place 13 List.[]))
     (List._∷_
-    (Syntax.copy (Syntax.place 16 List.[]))
+    (Syntax.copy (Syntax.place 15 List.[]))
     (List._∷_
-    (Syntax.copy (Syntax.place 18 List.[]))
+    (Syntax.copy (Syntax.place 17 List.[]))
     (List._∷_
-    (Syntax.copy (Syntax.place 20 List.[]))
-    (List._∷_
-    (Syntax.copy (Syntax.place 22 List.[]))
-    (List._∷_ (Syntax.copy (Syntax.place 24 List.[])) List.[])))))))))))
+    (Syntax.copy (Syntax.place 19 List.[]))
+    (List._∷_ (Syntax.copy (Syntax.place 21 List.[])) List.[]))))))))))
     (Syntax.place 0 List.[])
 
+abbrev b13 : Syntax.Body
+b13 = Syntax.return
+
+abbrev b14 : Syntax.Body
+b14 = Syntax.seq b12 b13
+
 abbrev b15 : Syntax.Body
-b15 = Syntax.return
+b15 = Syntax.seq b11 b14
 
 abbrev b16 : Syntax.Body
-b16 = Syntax.seq b14 b15
+b16 = Syntax.seq b10 b15
 
 abbrev b17 : Syntax.Body
-b17 = Syntax.seq b13 b16
+b17 = Syntax.seq b9 b16
 
 abbrev b18 : Syntax.Body
-b18 = Syntax.seq b12 b17
+b18 = Syntax.seq b8 b17
 
 abbrev b19 : Syntax.Body
-b19 = Syntax.seq b11 b18
+b19 = Syntax.seq b7 b18
 
 abbrev b20 : Syntax.Body
-b20 = Syntax.seq b10 b19
+b20 = Syntax.seq b6 b19
 
 abbrev b21 : Syntax.Body
-b21 = Syntax.seq b9 b20
+b21 = Syntax.seq b5 b20
 
 abbrev b22 : Syntax.Body
-b22 = Syntax.seq b8 b21
+b22 = Syntax.seq b4 b21
 
 abbrev b23 : Syntax.Body
-b23 = Syntax.seq b7 b22
+b23 = Syntax.seq b3 b22
 
 abbrev b24 : Syntax.Body
-b24 = Syntax.seq b6 b23
+b24 = Syntax.seq b2 b23
 
 abbrev b25 : Syntax.Body
-b25 = Syntax.seq b5 b24
+b25 = Syntax.seq b1 b24
 
 abbrev b26 : Syntax.Body
-b26 = Syntax.seq b4 b25
-
-abbrev b27 : Syntax.Body
-b27 = Syntax.seq b3 b26
-
-abbrev b28 : Syntax.Body
-b28 = Syntax.seq b2 b27
-
-abbrev b29 : Syntax.Body
-b29 = Syntax.seq b1 b28
-
-abbrev b30 : Syntax.Body
-b30 = Syntax.seq b0 b29
+b26 = Syntax.seq b0 b25
 
 abbrev pub body : Syntax.Body
-body = b30
+body = b26
 
 abbrev pub Claims : Type 1
-Claims = Kinds.In 0 ps·0 × Kinds.Out 0 ps·0 r·0 × Kinds.In 10 ps·1 × Kinds.Out 10 ps·1 r·1
+Claims = Kinds.In 0 ps·0 × Kinds.Out 0 ps·0 r·0 × Kinds.In 9 ps·1 × Kinds.Out 9 ps·1 r·1
 
 abbrev pub t0 : List.List Row.Entry
 t0 = List._∷_ (0, Rows'.any-gone (Syntax.tyInt Syntax.w64)) (List._∷_ (
@@ -463,22 +419,16 @@ t0 = List._∷_ (0, Rows'.any-gone (Syntax.tyInt Syntax.w64)) (List._∷_ (
       7,
 ) (List._∷_ (
   10,
-  Mut.mslice
-      (Referent.rtF (Referent.fInt Syntax.w8))
-      (Syntax.tyRef (Syntax.named 8) Syntax.mut (Syntax.tyInt Syntax.w8))
-      8,
+  Rows'.any-gone (Syntax.tyArray Elem.held 64),
 ) (List._∷_ (
   11,
   Rows'.any-gone (Syntax.tyArray Elem.held 64),
-) (List._∷_ (
-  12,
-  Rows'.any-gone (Syntax.tyArray Elem.held 64),
 )
     (List._∷_ (
-      13,
+      12,
       Rows'.any-gone (Syntax.tyRef Syntax.erased Syntax.mut (Syntax.tyInt Syntax.w64)),
     ) (List._∷_ (
-      14,
+      13,
       Rows'.any-gone
           (Syntax.tyStruct
           (List._∷_ 38 (List._∷_ 91 (List._∷_ 93 List.[])))
@@ -486,13 +436,24 @@ t0 = List._∷_ (0, Rows'.any-gone (Syntax.tyInt Syntax.w64)) (List._∷_ (
           (Syntax.tyRef Syntax.erased Syntax.mut (Syntax.tyInt Syntax.w64))
           (Syntax.tcons (Syntax.tyInt Syntax.w64) Syntax.tnil))),
     ) (List._∷_ (
-      15,
+      14,
       Rows'.any-gone (Syntax.tyRef Syntax.erased Syntax.mut (Syntax.tyInt Syntax.w8)),
+    ) (List._∷_ (
+      15,
+      Rows'.any-gone
+          (Syntax.tyStruct
+          (List._∷_ 38 (List._∷_ 91 (List._∷_ 93 List.[])))
+          (Syntax.tcons
+          (Syntax.tyRef Syntax.erased Syntax.mut (Syntax.tyInt Syntax.w8))
+          (Syntax.tcons (Syntax.tyInt Syntax.w64) Syntax.tnil))),
     ) List.[])))))))))))))))
 
 abbrev pub t1 : List.List Row.Entry
 t1 = List._∷_ (
   16,
+  Rows'.any-gone (Syntax.tyRef Syntax.erased Syntax.mut (Syntax.tyInt Syntax.w8)),
+) (List._∷_ (
+  17,
   Rows'.any-gone
       (Syntax.tyStruct
       (List._∷_ 38 (List._∷_ 91 (List._∷_ 93 List.[])))
@@ -501,54 +462,32 @@ t1 = List._∷_ (
       (Syntax.tcons (Syntax.tyInt Syntax.w64) Syntax.tnil))),
 )
     (List._∷_ (
-      17,
-      Rows'.any-gone (Syntax.tyRef Syntax.erased Syntax.mut (Syntax.tyInt Syntax.w8)),
-    ) (List._∷_ (
       18,
-      Rows'.any-gone
-          (Syntax.tyStruct
-          (List._∷_ 38 (List._∷_ 91 (List._∷_ 93 List.[])))
-          (Syntax.tcons
-          (Syntax.tyRef Syntax.erased Syntax.mut (Syntax.tyInt Syntax.w8))
-          (Syntax.tcons (Syntax.tyInt Syntax.w64) Syntax.tnil))),
+      Rows'.any-gone (Syntax.tyRef Syntax.erased Syntax.mut (Syntax.tyInt Syntax.w8)),
     ) (List._∷_ (
       19,
-      Rows'.any-gone (Syntax.tyRef Syntax.erased Syntax.mut (Syntax.tyInt Syntax.w8)),
+      Rows'.any-gone
+          (Syntax.tyStruct
+          (List._∷_ 38 (List._∷_ 91 (List._∷_ 93 List.[])))
+          (Syntax.tcons
+          (Syntax.tyRef Syntax.erased Syntax.mut (Syntax.tyInt Syntax.w8))
+          (Syntax.tcons (Syntax.tyInt Syntax.w64) Syntax.tnil))),
     ) (List._∷_ (
       20,
-      Rows'.any-gone
-          (Syntax.tyStruct
-          (List._∷_ 38 (List._∷_ 91 (List._∷_ 93 List.[])))
-          (Syntax.tcons
-          (Syntax.tyRef Syntax.erased Syntax.mut (Syntax.tyInt Syntax.w8))
-          (Syntax.tcons (Syntax.tyInt Syntax.w64) Syntax.tnil))),
-    ) (List._∷_ (
-      21,
-      Rows'.any-gone (Syntax.tyRef Syntax.erased Syntax.mut (Syntax.tyInt Syntax.w8)),
-    ) (List._∷_ (
-      22,
-      Rows'.any-gone
-          (Syntax.tyStruct
-          (List._∷_ 38 (List._∷_ 91 (List._∷_ 93 List.[])))
-          (Syntax.tcons
-          (Syntax.tyRef Syntax.erased Syntax.mut (Syntax.tyInt Syntax.w8))
-          (Syntax.tcons (Syntax.tyInt Syntax.w64) Syntax.tnil))),
-    ) (List._∷_ (
-      23,
       Rows'.any-gone
           (Syntax.tyRef
           Syntax.erased
           Syntax.mut
           (Syntax.tyArray Elem.ty 64)),
     ) (List._∷_ (
-      24,
+      21,
       Rows'.any-gone
           (Syntax.tyStruct
           (List._∷_ 38 (List._∷_ 91 (List._∷_ 93 List.[])))
           (Syntax.tcons
           (Syntax.tyRef Syntax.erased Syntax.mut Elem.ty)
           (Syntax.tcons (Syntax.tyInt Syntax.w64) Syntax.tnil))),
-    ) List.[]))))))))
+    ) List.[])))))
 
 abbrev pub t2 : List.List Row.Entry
 t2 = List._∷_ (0, Rows'.sc-here (Row.sInt Syntax.w64)) (List._∷_ (
@@ -601,22 +540,16 @@ t2 = List._∷_ (0, Rows'.sc-here (Row.sInt Syntax.w64)) (List._∷_ (
       7,
 ) (List._∷_ (
   10,
-  Mut.mslice
-      (Referent.rtF (Referent.fInt Syntax.w8))
-      (Syntax.tyRef (Syntax.named 8) Syntax.mut (Syntax.tyInt Syntax.w8))
-      8,
+  Rows'.any-gone (Syntax.tyArray Elem.held 64),
 ) (List._∷_ (
   11,
   Rows'.any-gone (Syntax.tyArray Elem.held 64),
-) (List._∷_ (
-  12,
-  Rows'.any-gone (Syntax.tyArray Elem.held 64),
 )
     (List._∷_ (
-      13,
+      12,
       Rows'.any-gone (Syntax.tyRef Syntax.erased Syntax.mut (Syntax.tyInt Syntax.w64)),
     ) (List._∷_ (
-      14,
+      13,
       Rows'.any-gone
           (Syntax.tyStruct
           (List._∷_ 38 (List._∷_ 91 (List._∷_ 93 List.[])))
@@ -624,8 +557,16 @@ t2 = List._∷_ (0, Rows'.sc-here (Row.sInt Syntax.w64)) (List._∷_ (
           (Syntax.tyRef Syntax.erased Syntax.mut (Syntax.tyInt Syntax.w64))
           (Syntax.tcons (Syntax.tyInt Syntax.w64) Syntax.tnil))),
     ) (List._∷_ (
-      15,
+      14,
       Rows'.any-gone (Syntax.tyRef Syntax.erased Syntax.mut (Syntax.tyInt Syntax.w8)),
+    ) (List._∷_ (
+      15,
+      Rows'.any-gone
+          (Syntax.tyStruct
+          (List._∷_ 38 (List._∷_ 91 (List._∷_ 93 List.[])))
+          (Syntax.tcons
+          (Syntax.tyRef Syntax.erased Syntax.mut (Syntax.tyInt Syntax.w8))
+          (Syntax.tcons (Syntax.tyInt Syntax.w64) Syntax.tnil))),
     ) List.[])))))))))))))))
 
 abbrev pub t3 : List.List Row.Entry
@@ -679,21 +620,15 @@ t3 = List._∷_ (0, Rows'.any-gone (Syntax.tyInt Syntax.w64)) (List._∷_ (
       7,
 ) (List._∷_ (
   10,
-  Mut.mslice
-      (Referent.rtF (Referent.fInt Syntax.w8))
-      (Syntax.tyRef (Syntax.named 8) Syntax.mut (Syntax.tyInt Syntax.w8))
-      8,
-) (List._∷_ (
-  11,
   Rows'.any-gone (Syntax.tyArray Elem.held 64),
 )
     (List._∷_
-    (12, Rows.arrF Elem.R 64 0)
+    (11, Rows.arrF Elem.R 64 0)
     (List._∷_ (
-      13,
+      12,
       Rows'.any-gone (Syntax.tyRef Syntax.erased Syntax.mut (Syntax.tyInt Syntax.w64)),
     ) (List._∷_ (
-      14,
+      13,
       Rows'.any-gone
           (Syntax.tyStruct
           (List._∷_ 38 (List._∷_ 91 (List._∷_ 93 List.[])))
@@ -701,8 +636,16 @@ t3 = List._∷_ (0, Rows'.any-gone (Syntax.tyInt Syntax.w64)) (List._∷_ (
           (Syntax.tyRef Syntax.erased Syntax.mut (Syntax.tyInt Syntax.w64))
           (Syntax.tcons (Syntax.tyInt Syntax.w64) Syntax.tnil))),
     ) (List._∷_ (
-      15,
+      14,
       Rows'.any-gone (Syntax.tyRef Syntax.erased Syntax.mut (Syntax.tyInt Syntax.w8)),
+    ) (List._∷_ (
+      15,
+      Rows'.any-gone
+          (Syntax.tyStruct
+          (List._∷_ 38 (List._∷_ 91 (List._∷_ 93 List.[])))
+          (Syntax.tcons
+          (Syntax.tyRef Syntax.erased Syntax.mut (Syntax.tyInt Syntax.w8))
+          (Syntax.tcons (Syntax.tyInt Syntax.w64) Syntax.tnil))),
     ) List.[])))))))))))))))
 
 abbrev pub t4 : List.List Row.Entry
@@ -754,22 +697,16 @@ t4 = List._∷_ (0, Rows'.any-gone (Syntax.tyInt Syntax.w64)) (List._∷_ (
       (Referent.rtF (Referent.fInt Syntax.w8))
       (Syntax.tyRef (Syntax.named 7) Syntax.mut (Syntax.tyInt Syntax.w8))
       7,
-) (List._∷_ (
-  10,
-  Mut.mslice
-      (Referent.rtF (Referent.fInt Syntax.w8))
-      (Syntax.tyRef (Syntax.named 8) Syntax.mut (Syntax.tyInt Syntax.w8))
-      8,
 )
     (List._∷_
-    (11, Rows.arrF Elem.R 64 0)
+    (10, Rows.arrF Elem.R 64 0)
     (List._∷_
-    (12, Rows.arrF Elem.R 64 0)
+    (11, Rows.arrF Elem.R 64 0)
     (List._∷_ (
-      13,
+      12,
       Rows'.any-gone (Syntax.tyRef Syntax.erased Syntax.mut (Syntax.tyInt Syntax.w64)),
     ) (List._∷_ (
-      14,
+      13,
       Rows'.any-gone
           (Syntax.tyStruct
           (List._∷_ 38 (List._∷_ 91 (List._∷_ 93 List.[])))
@@ -777,8 +714,16 @@ t4 = List._∷_ (0, Rows'.any-gone (Syntax.tyInt Syntax.w64)) (List._∷_ (
           (Syntax.tyRef Syntax.erased Syntax.mut (Syntax.tyInt Syntax.w64))
           (Syntax.tcons (Syntax.tyInt Syntax.w64) Syntax.tnil))),
     ) (List._∷_ (
-      15,
+      14,
       Rows'.any-gone (Syntax.tyRef Syntax.erased Syntax.mut (Syntax.tyInt Syntax.w8)),
+    ) (List._∷_ (
+      15,
+      Rows'.any-gone
+          (Syntax.tyStruct
+          (List._∷_ 38 (List._∷_ 91 (List._∷_ 93 List.[])))
+          (Syntax.tcons
+          (Syntax.tyRef Syntax.erased Syntax.mut (Syntax.tyInt Syntax.w8))
+          (Syntax.tcons (Syntax.tyInt Syntax.w64) Syntax.tnil))),
     ) List.[])))))))))))))))
 
 abbrev pub t5 : List.List Row.Entry
@@ -830,23 +775,17 @@ t5 = List._∷_ (0, Rows'.any-gone (Syntax.tyInt Syntax.w64)) (List._∷_ (
       (Referent.rtF (Referent.fInt Syntax.w8))
       (Syntax.tyRef (Syntax.named 7) Syntax.mut (Syntax.tyInt Syntax.w8))
       7,
-) (List._∷_ (
-  10,
-  Mut.mslice
-      (Referent.rtF (Referent.fInt Syntax.w8))
-      (Syntax.tyRef (Syntax.named 8) Syntax.mut (Syntax.tyInt Syntax.w8))
-      8,
 )
     (List._∷_
-    (11, Rows.arrF Elem.R 64 0)
+    (10, Rows.arrF Elem.R 64 0)
     (List._∷_ (
-      12,
+      11,
       Rows'.any-gone (Syntax.tyArray Elem.held 64),
     ) (List._∷_ (
-      13,
+      12,
       Rows'.any-gone (Syntax.tyRef Syntax.erased Syntax.mut (Syntax.tyInt Syntax.w64)),
     ) (List._∷_ (
-      14,
+      13,
       Rows'.any-gone
           (Syntax.tyStruct
           (List._∷_ 38 (List._∷_ 91 (List._∷_ 93 List.[])))
@@ -854,8 +793,16 @@ t5 = List._∷_ (0, Rows'.any-gone (Syntax.tyInt Syntax.w64)) (List._∷_ (
           (Syntax.tyRef Syntax.erased Syntax.mut (Syntax.tyInt Syntax.w64))
           (Syntax.tcons (Syntax.tyInt Syntax.w64) Syntax.tnil))),
     ) (List._∷_ (
-      15,
+      14,
       Rows'.any-gone (Syntax.tyRef Syntax.erased Syntax.mut (Syntax.tyInt Syntax.w8)),
+    ) (List._∷_ (
+      15,
+      Rows'.any-gone
+          (Syntax.tyStruct
+          (List._∷_ 38 (List._∷_ 91 (List._∷_ 93 List.[])))
+          (Syntax.tcons
+          (Syntax.tyRef Syntax.erased Syntax.mut (Syntax.tyInt Syntax.w8))
+          (Syntax.tcons (Syntax.tyInt Syntax.w64) Syntax.tnil))),
     ) List.[])))))))))))))))
 
 abbrev pub t6 : List.List Row.Entry
@@ -889,7 +836,7 @@ t6 = List._∷_ (0, Rows'.any-gone (Syntax.tyInt Syntax.w64)) (List._∷_ (
       (Referent.rtF (Referent.fInt Syntax.w64))
       (Syntax.tyRef (Syntax.named 4) Syntax.mut (Syntax.tyInt Syntax.w64))
       4
-      9
+      8
       Row.off,
 ) (List._∷_ (
   7,
@@ -909,26 +856,20 @@ t6 = List._∷_ (0, Rows'.any-gone (Syntax.tyInt Syntax.w64)) (List._∷_ (
       (Referent.rtF (Referent.fInt Syntax.w8))
       (Syntax.tyRef (Syntax.named 7) Syntax.mut (Syntax.tyInt Syntax.w8))
       7,
-) (List._∷_ (
-  10,
-  Mut.mslice
-      (Referent.rtF (Referent.fInt Syntax.w8))
-      (Syntax.tyRef (Syntax.named 8) Syntax.mut (Syntax.tyInt Syntax.w8))
-      8,
 )
     (List._∷_
-    (11, Rows.arrF Elem.R 64 0)
+    (10, Rows.arrF Elem.R 64 0)
     (List._∷_ (
-      12,
+      11,
       Rows'.any-gone (Syntax.tyArray Elem.held 64),
     ) (List._∷_ (
-      13,
+      12,
       Relend.msptr
           (Referent.rtF (Referent.fInt Syntax.w64))
           (Syntax.tyRef Syntax.erased Syntax.mut (Syntax.tyInt Syntax.w64))
-          9,
+          8,
     ) (List._∷_ (
-      14,
+      13,
       Rows'.any-gone
           (Syntax.tyStruct
           (List._∷_ 38 (List._∷_ 91 (List._∷_ 93 List.[])))
@@ -936,8 +877,16 @@ t6 = List._∷_ (0, Rows'.any-gone (Syntax.tyInt Syntax.w64)) (List._∷_ (
           (Syntax.tyRef Syntax.erased Syntax.mut (Syntax.tyInt Syntax.w64))
           (Syntax.tcons (Syntax.tyInt Syntax.w64) Syntax.tnil))),
     ) (List._∷_ (
-      15,
+      14,
       Rows'.any-gone (Syntax.tyRef Syntax.erased Syntax.mut (Syntax.tyInt Syntax.w8)),
+    ) (List._∷_ (
+      15,
+      Rows'.any-gone
+          (Syntax.tyStruct
+          (List._∷_ 38 (List._∷_ 91 (List._∷_ 93 List.[])))
+          (Syntax.tcons
+          (Syntax.tyRef Syntax.erased Syntax.mut (Syntax.tyInt Syntax.w8))
+          (Syntax.tcons (Syntax.tyInt Syntax.w64) Syntax.tnil))),
     ) List.[])))))))))))))))
 
 abbrev pub t7 : List.List Row.Entry
@@ -971,7 +920,7 @@ t7 = List._∷_ (0, Rows'.any-gone (Syntax.tyInt Syntax.w64)) (List._∷_ (
       (Referent.rtF (Referent.fInt Syntax.w64))
       (Syntax.tyRef (Syntax.named 4) Syntax.mut (Syntax.tyInt Syntax.w64))
       4
-      9
+      8
       Row.off,
 ) (List._∷_ (
   7,
@@ -991,30 +940,32 @@ t7 = List._∷_ (0, Rows'.any-gone (Syntax.tyInt Syntax.w64)) (List._∷_ (
       (Referent.rtF (Referent.fInt Syntax.w8))
       (Syntax.tyRef (Syntax.named 7) Syntax.mut (Syntax.tyInt Syntax.w8))
       7,
-) (List._∷_ (
-  10,
-  Mut.mslice
-      (Referent.rtF (Referent.fInt Syntax.w8))
-      (Syntax.tyRef (Syntax.named 8) Syntax.mut (Syntax.tyInt Syntax.w8))
-      8,
 )
     (List._∷_
-    (11, Rows.arrF Elem.R 64 0)
+    (10, Rows.arrF Elem.R 64 0)
     (List._∷_ (
-      12,
+      11,
       Rows'.any-gone (Syntax.tyArray Elem.held 64),
     ) (List._∷_ (
-      13,
+      12,
       Rows'.any-gone (Syntax.tyRef Syntax.erased Syntax.mut (Syntax.tyInt Syntax.w64)),
     ) (List._∷_ (
-      14,
+      13,
       Mut.mslice
           (Referent.rtF (Referent.fInt Syntax.w64))
           (Syntax.tyRef Syntax.erased Syntax.mut (Syntax.tyInt Syntax.w64))
-          9,
+          8,
+    ) (List._∷_ (
+      14,
+      Rows'.any-gone (Syntax.tyRef Syntax.erased Syntax.mut (Syntax.tyInt Syntax.w8)),
     ) (List._∷_ (
       15,
-      Rows'.any-gone (Syntax.tyRef Syntax.erased Syntax.mut (Syntax.tyInt Syntax.w8)),
+      Rows'.any-gone
+          (Syntax.tyStruct
+          (List._∷_ 38 (List._∷_ 91 (List._∷_ 93 List.[])))
+          (Syntax.tcons
+          (Syntax.tyRef Syntax.erased Syntax.mut (Syntax.tyInt Syntax.w8))
+          (Syntax.tcons (Syntax.tyInt Syntax.w64) Syntax.tnil))),
     ) List.[])))))))))))))))
 
 abbrev pub t8 : List.List Row.Entry
@@ -1048,7 +999,7 @@ t8 = List._∷_ (0, Rows'.any-gone (Syntax.tyInt Syntax.w64)) (List._∷_ (
       (Referent.rtF (Referent.fInt Syntax.w64))
       (Syntax.tyRef (Syntax.named 4) Syntax.mut (Syntax.tyInt Syntax.w64))
       4
-      9
+      8
       Row.off,
 ) (List._∷_ (
   7,
@@ -1056,7 +1007,7 @@ t8 = List._∷_ (0, Rows'.any-gone (Syntax.tyInt Syntax.w64)) (List._∷_ (
       (Referent.rtF (Referent.fInt Syntax.w8))
       (Syntax.tyRef (Syntax.named 5) Syntax.mut (Syntax.tyInt Syntax.w8))
       5
-      10
+      9
       Row.off,
 ) (List._∷_ (
   8,
@@ -1070,33 +1021,35 @@ t8 = List._∷_ (0, Rows'.any-gone (Syntax.tyInt Syntax.w64)) (List._∷_ (
       (Referent.rtF (Referent.fInt Syntax.w8))
       (Syntax.tyRef (Syntax.named 7) Syntax.mut (Syntax.tyInt Syntax.w8))
       7,
-) (List._∷_ (
-  10,
-  Mut.mslice
-      (Referent.rtF (Referent.fInt Syntax.w8))
-      (Syntax.tyRef (Syntax.named 8) Syntax.mut (Syntax.tyInt Syntax.w8))
-      8,
 )
     (List._∷_
-    (11, Rows.arrF Elem.R 64 0)
+    (10, Rows.arrF Elem.R 64 0)
     (List._∷_ (
-      12,
+      11,
       Rows'.any-gone (Syntax.tyArray Elem.held 64),
     ) (List._∷_ (
-      13,
+      12,
       Rows'.any-gone (Syntax.tyRef Syntax.erased Syntax.mut (Syntax.tyInt Syntax.w64)),
     ) (List._∷_ (
-      14,
+      13,
       Mut.mslice
           (Referent.rtF (Referent.fInt Syntax.w64))
           (Syntax.tyRef Syntax.erased Syntax.mut (Syntax.tyInt Syntax.w64))
-          9,
+          8,
     ) (List._∷_ (
-      15,
+      14,
       Relend.msptr
           (Referent.rtF (Referent.fInt Syntax.w8))
           (Syntax.tyRef Syntax.erased Syntax.mut (Syntax.tyInt Syntax.w8))
-          10,
+          9,
+    ) (List._∷_ (
+      15,
+      Rows'.any-gone
+          (Syntax.tyStruct
+          (List._∷_ 38 (List._∷_ 91 (List._∷_ 93 List.[])))
+          (Syntax.tcons
+          (Syntax.tyRef Syntax.erased Syntax.mut (Syntax.tyInt Syntax.w8))
+          (Syntax.tcons (Syntax.tyInt Syntax.w64) Syntax.tnil))),
     ) List.[])))))))))))))))
 
 abbrev pub t9 : List.List Row.Entry
@@ -1130,7 +1083,7 @@ t9 = List._∷_ (0, Rows'.any-gone (Syntax.tyInt Syntax.w64)) (List._∷_ (
       (Referent.rtF (Referent.fInt Syntax.w64))
       (Syntax.tyRef (Syntax.named 4) Syntax.mut (Syntax.tyInt Syntax.w64))
       4
-      9
+      8
       Row.off,
 ) (List._∷_ (
   7,
@@ -1138,7 +1091,7 @@ t9 = List._∷_ (0, Rows'.any-gone (Syntax.tyInt Syntax.w64)) (List._∷_ (
       (Referent.rtF (Referent.fInt Syntax.w8))
       (Syntax.tyRef (Syntax.named 5) Syntax.mut (Syntax.tyInt Syntax.w8))
       5
-      10
+      9
       Row.off,
 ) (List._∷_ (
   8,
@@ -1152,92 +1105,34 @@ t9 = List._∷_ (0, Rows'.any-gone (Syntax.tyInt Syntax.w64)) (List._∷_ (
       (Referent.rtF (Referent.fInt Syntax.w8))
       (Syntax.tyRef (Syntax.named 7) Syntax.mut (Syntax.tyInt Syntax.w8))
       7,
-) (List._∷_ (
-  10,
-  Mut.mslice
-      (Referent.rtF (Referent.fInt Syntax.w8))
-      (Syntax.tyRef (Syntax.named 8) Syntax.mut (Syntax.tyInt Syntax.w8))
-      8,
 )
     (List._∷_
-    (11, Rows.arrF Elem.R 64 0)
+    (10, Rows.arrF Elem.R 64 0)
     (List._∷_ (
-      12,
+      11,
       Rows'.any-gone (Syntax.tyArray Elem.held 64),
     ) (List._∷_ (
-      13,
+      12,
       Rows'.any-gone (Syntax.tyRef Syntax.erased Syntax.mut (Syntax.tyInt Syntax.w64)),
     ) (List._∷_ (
-      14,
+      13,
       Mut.mslice
           (Referent.rtF (Referent.fInt Syntax.w64))
           (Syntax.tyRef Syntax.erased Syntax.mut (Syntax.tyInt Syntax.w64))
-          9,
+          8,
+    ) (List._∷_ (
+      14,
+      Rows'.any-gone (Syntax.tyRef Syntax.erased Syntax.mut (Syntax.tyInt Syntax.w8)),
     ) (List._∷_ (
       15,
-      Rows'.any-gone (Syntax.tyRef Syntax.erased Syntax.mut (Syntax.tyInt Syntax.w8)),
+      Mut.mslice
+          (Referent.rtF (Referent.fInt Syntax.w8))
+          (Syntax.tyRef Syntax.erased Syntax.mut (Syntax.tyInt Syntax.w8))
+          9,
     ) List.[])))))))))))))))
 
 abbrev pub t10 : List.List Row.Entry
-t10 = List._∷_ (
-  16,
-  Mut.mslice
-      (Referent.rtF (Referent.fInt Syntax.w8))
-      (Syntax.tyRef Syntax.erased Syntax.mut (Syntax.tyInt Syntax.w8))
-      10,
-)
-    (List._∷_ (
-      17,
-      Rows'.any-gone (Syntax.tyRef Syntax.erased Syntax.mut (Syntax.tyInt Syntax.w8)),
-    ) (List._∷_ (
-      18,
-      Rows'.any-gone
-          (Syntax.tyStruct
-          (List._∷_ 38 (List._∷_ 91 (List._∷_ 93 List.[])))
-          (Syntax.tcons
-          (Syntax.tyRef Syntax.erased Syntax.mut (Syntax.tyInt Syntax.w8))
-          (Syntax.tcons (Syntax.tyInt Syntax.w64) Syntax.tnil))),
-    ) (List._∷_ (
-      19,
-      Rows'.any-gone (Syntax.tyRef Syntax.erased Syntax.mut (Syntax.tyInt Syntax.w8)),
-    ) (List._∷_ (
-      20,
-      Rows'.any-gone
-          (Syntax.tyStruct
-          (List._∷_ 38 (List._∷_ 91 (List._∷_ 93 List.[])))
-          (Syntax.tcons
-          (Syntax.tyRef Syntax.erased Syntax.mut (Syntax.tyInt Syntax.w8))
-          (Syntax.tcons (Syntax.tyInt Syntax.w64) Syntax.tnil))),
-    ) (List._∷_ (
-      21,
-      Rows'.any-gone (Syntax.tyRef Syntax.erased Syntax.mut (Syntax.tyInt Syntax.w8)),
-    ) (List._∷_ (
-      22,
-      Rows'.any-gone
-          (Syntax.tyStruct
-          (List._∷_ 38 (List._∷_ 91 (List._∷_ 93 List.[])))
-          (Syntax.tcons
-          (Syntax.tyRef Syntax.erased Syntax.mut (Syntax.tyInt Syntax.w8))
-          (Syntax.tcons (Syntax.tyInt Syntax.w64) Syntax.tnil))),
-    ) (List._∷_ (
-      23,
-      Rows'.any-gone
-          (Syntax.tyRef
-          Syntax.erased
-          Syntax.mut
-          (Syntax.tyArray Elem.ty 64)),
-    ) (List._∷_ (
-      24,
-      Rows'.any-gone
-          (Syntax.tyStruct
-          (List._∷_ 38 (List._∷_ 91 (List._∷_ 93 List.[])))
-          (Syntax.tcons
-          (Syntax.tyRef Syntax.erased Syntax.mut Elem.ty)
-          (Syntax.tcons (Syntax.tyInt Syntax.w64) Syntax.tnil))),
-    ) List.[]))))))))
-
-abbrev pub t11 : List.List Row.Entry
-t11 = List._∷_ (0, Rows'.any-gone (Syntax.tyInt Syntax.w64)) (List._∷_ (
+t10 = List._∷_ (0, Rows'.any-gone (Syntax.tyInt Syntax.w64)) (List._∷_ (
   1,
   Rows'.sslice
       (Referent.rtF (Referent.fInt Syntax.w8))
@@ -1267,7 +1162,7 @@ t11 = List._∷_ (0, Rows'.any-gone (Syntax.tyInt Syntax.w64)) (List._∷_ (
       (Referent.rtF (Referent.fInt Syntax.w64))
       (Syntax.tyRef (Syntax.named 4) Syntax.mut (Syntax.tyInt Syntax.w64))
       4
-      9
+      8
       Row.off,
 ) (List._∷_ (
   7,
@@ -1275,7 +1170,7 @@ t11 = List._∷_ (0, Rows'.any-gone (Syntax.tyInt Syntax.w64)) (List._∷_ (
       (Referent.rtF (Referent.fInt Syntax.w8))
       (Syntax.tyRef (Syntax.named 5) Syntax.mut (Syntax.tyInt Syntax.w8))
       5
-      10
+      9
       Row.off,
 ) (List._∷_ (
   8,
@@ -1283,7 +1178,7 @@ t11 = List._∷_ (0, Rows'.any-gone (Syntax.tyInt Syntax.w64)) (List._∷_ (
       (Referent.rtF (Referent.fInt Syntax.w8))
       (Syntax.tyRef (Syntax.named 6) Syntax.mut (Syntax.tyInt Syntax.w8))
       6
-      11
+      10
       Row.off,
 ) (List._∷_ (
   9,
@@ -1291,47 +1186,41 @@ t11 = List._∷_ (0, Rows'.any-gone (Syntax.tyInt Syntax.w64)) (List._∷_ (
       (Referent.rtF (Referent.fInt Syntax.w8))
       (Syntax.tyRef (Syntax.named 7) Syntax.mut (Syntax.tyInt Syntax.w8))
       7,
-) (List._∷_ (
-  10,
-  Mut.mslice
-      (Referent.rtF (Referent.fInt Syntax.w8))
-      (Syntax.tyRef (Syntax.named 8) Syntax.mut (Syntax.tyInt Syntax.w8))
-      8,
 )
     (List._∷_
-    (11, Rows.arrF Elem.R 64 0)
+    (10, Rows.arrF Elem.R 64 0)
     (List._∷_ (
-      12,
+      11,
       Rows'.any-gone (Syntax.tyArray Elem.held 64),
     ) (List._∷_ (
-      13,
+      12,
       Rows'.any-gone (Syntax.tyRef Syntax.erased Syntax.mut (Syntax.tyInt Syntax.w64)),
     ) (List._∷_ (
-      14,
+      13,
       Mut.mslice
           (Referent.rtF (Referent.fInt Syntax.w64))
           (Syntax.tyRef Syntax.erased Syntax.mut (Syntax.tyInt Syntax.w64))
-          9,
+          8,
+    ) (List._∷_ (
+      14,
+      Rows'.any-gone (Syntax.tyRef Syntax.erased Syntax.mut (Syntax.tyInt Syntax.w8)),
     ) (List._∷_ (
       15,
-      Rows'.any-gone (Syntax.tyRef Syntax.erased Syntax.mut (Syntax.tyInt Syntax.w8)),
+      Mut.mslice
+          (Referent.rtF (Referent.fInt Syntax.w8))
+          (Syntax.tyRef Syntax.erased Syntax.mut (Syntax.tyInt Syntax.w8))
+          9,
     ) List.[])))))))))))))))
 
-abbrev pub t12 : List.List Row.Entry
-t12 = List._∷_ (
+abbrev pub t11 : List.List Row.Entry
+t11 = List._∷_ (
   16,
-  Mut.mslice
+  Relend.msptr
       (Referent.rtF (Referent.fInt Syntax.w8))
       (Syntax.tyRef Syntax.erased Syntax.mut (Syntax.tyInt Syntax.w8))
       10,
 ) (List._∷_ (
   17,
-  Relend.msptr
-      (Referent.rtF (Referent.fInt Syntax.w8))
-      (Syntax.tyRef Syntax.erased Syntax.mut (Syntax.tyInt Syntax.w8))
-      11,
-) (List._∷_ (
-  18,
   Rows'.any-gone
       (Syntax.tyStruct
       (List._∷_ 38 (List._∷_ 91 (List._∷_ 93 List.[])))
@@ -1340,102 +1229,74 @@ t12 = List._∷_ (
       (Syntax.tcons (Syntax.tyInt Syntax.w64) Syntax.tnil))),
 )
     (List._∷_ (
-      19,
+      18,
       Rows'.any-gone (Syntax.tyRef Syntax.erased Syntax.mut (Syntax.tyInt Syntax.w8)),
+    ) (List._∷_ (
+      19,
+      Rows'.any-gone
+          (Syntax.tyStruct
+          (List._∷_ 38 (List._∷_ 91 (List._∷_ 93 List.[])))
+          (Syntax.tcons
+          (Syntax.tyRef Syntax.erased Syntax.mut (Syntax.tyInt Syntax.w8))
+          (Syntax.tcons (Syntax.tyInt Syntax.w64) Syntax.tnil))),
     ) (List._∷_ (
       20,
-      Rows'.any-gone
-          (Syntax.tyStruct
-          (List._∷_ 38 (List._∷_ 91 (List._∷_ 93 List.[])))
-          (Syntax.tcons
-          (Syntax.tyRef Syntax.erased Syntax.mut (Syntax.tyInt Syntax.w8))
-          (Syntax.tcons (Syntax.tyInt Syntax.w64) Syntax.tnil))),
-    ) (List._∷_ (
-      21,
-      Rows'.any-gone (Syntax.tyRef Syntax.erased Syntax.mut (Syntax.tyInt Syntax.w8)),
-    ) (List._∷_ (
-      22,
-      Rows'.any-gone
-          (Syntax.tyStruct
-          (List._∷_ 38 (List._∷_ 91 (List._∷_ 93 List.[])))
-          (Syntax.tcons
-          (Syntax.tyRef Syntax.erased Syntax.mut (Syntax.tyInt Syntax.w8))
-          (Syntax.tcons (Syntax.tyInt Syntax.w64) Syntax.tnil))),
-    ) (List._∷_ (
-      23,
       Rows'.any-gone
           (Syntax.tyRef
           Syntax.erased
           Syntax.mut
           (Syntax.tyArray Elem.ty 64)),
     ) (List._∷_ (
-      24,
+      21,
       Rows'.any-gone
           (Syntax.tyStruct
           (List._∷_ 38 (List._∷_ 91 (List._∷_ 93 List.[])))
           (Syntax.tcons
           (Syntax.tyRef Syntax.erased Syntax.mut Elem.ty)
           (Syntax.tcons (Syntax.tyInt Syntax.w64) Syntax.tnil))),
-    ) List.[]))))))))
+    ) List.[])))))
 
-abbrev pub t13 : List.List Row.Entry
-t13 = List._∷_ (
+abbrev pub t12 : List.List Row.Entry
+t12 = List._∷_ (
   16,
+  Rows'.any-gone (Syntax.tyRef Syntax.erased Syntax.mut (Syntax.tyInt Syntax.w8)),
+) (List._∷_ (
+  17,
   Mut.mslice
       (Referent.rtF (Referent.fInt Syntax.w8))
       (Syntax.tyRef Syntax.erased Syntax.mut (Syntax.tyInt Syntax.w8))
       10,
 )
     (List._∷_ (
-      17,
-      Rows'.any-gone (Syntax.tyRef Syntax.erased Syntax.mut (Syntax.tyInt Syntax.w8)),
-    ) (List._∷_ (
       18,
-      Mut.mslice
-          (Referent.rtF (Referent.fInt Syntax.w8))
-          (Syntax.tyRef Syntax.erased Syntax.mut (Syntax.tyInt Syntax.w8))
-          11,
+      Rows'.any-gone (Syntax.tyRef Syntax.erased Syntax.mut (Syntax.tyInt Syntax.w8)),
     ) (List._∷_ (
       19,
-      Rows'.any-gone (Syntax.tyRef Syntax.erased Syntax.mut (Syntax.tyInt Syntax.w8)),
+      Rows'.any-gone
+          (Syntax.tyStruct
+          (List._∷_ 38 (List._∷_ 91 (List._∷_ 93 List.[])))
+          (Syntax.tcons
+          (Syntax.tyRef Syntax.erased Syntax.mut (Syntax.tyInt Syntax.w8))
+          (Syntax.tcons (Syntax.tyInt Syntax.w64) Syntax.tnil))),
     ) (List._∷_ (
       20,
-      Rows'.any-gone
-          (Syntax.tyStruct
-          (List._∷_ 38 (List._∷_ 91 (List._∷_ 93 List.[])))
-          (Syntax.tcons
-          (Syntax.tyRef Syntax.erased Syntax.mut (Syntax.tyInt Syntax.w8))
-          (Syntax.tcons (Syntax.tyInt Syntax.w64) Syntax.tnil))),
-    ) (List._∷_ (
-      21,
-      Rows'.any-gone (Syntax.tyRef Syntax.erased Syntax.mut (Syntax.tyInt Syntax.w8)),
-    ) (List._∷_ (
-      22,
-      Rows'.any-gone
-          (Syntax.tyStruct
-          (List._∷_ 38 (List._∷_ 91 (List._∷_ 93 List.[])))
-          (Syntax.tcons
-          (Syntax.tyRef Syntax.erased Syntax.mut (Syntax.tyInt Syntax.w8))
-          (Syntax.tcons (Syntax.tyInt Syntax.w64) Syntax.tnil))),
-    ) (List._∷_ (
-      23,
       Rows'.any-gone
           (Syntax.tyRef
           Syntax.erased
           Syntax.mut
           (Syntax.tyArray Elem.ty 64)),
     ) (List._∷_ (
-      24,
+      21,
       Rows'.any-gone
           (Syntax.tyStruct
           (List._∷_ 38 (List._∷_ 91 (List._∷_ 93 List.[])))
           (Syntax.tcons
           (Syntax.tyRef Syntax.erased Syntax.mut Elem.ty)
           (Syntax.tcons (Syntax.tyInt Syntax.w64) Syntax.tnil))),
-    ) List.[]))))))))
+    ) List.[])))))
 
-abbrev pub t14 : List.List Row.Entry
-t14 = List._∷_ (0, Rows'.any-gone (Syntax.tyInt Syntax.w64)) (List._∷_ (
+abbrev pub t13 : List.List Row.Entry
+t13 = List._∷_ (0, Rows'.any-gone (Syntax.tyInt Syntax.w64)) (List._∷_ (
   1,
   Rows'.sslice
       (Referent.rtF (Referent.fInt Syntax.w8))
@@ -1465,7 +1326,7 @@ t14 = List._∷_ (0, Rows'.any-gone (Syntax.tyInt Syntax.w64)) (List._∷_ (
       (Referent.rtF (Referent.fInt Syntax.w64))
       (Syntax.tyRef (Syntax.named 4) Syntax.mut (Syntax.tyInt Syntax.w64))
       4
-      9
+      8
       Row.off,
 ) (List._∷_ (
   7,
@@ -1473,7 +1334,7 @@ t14 = List._∷_ (0, Rows'.any-gone (Syntax.tyInt Syntax.w64)) (List._∷_ (
       (Referent.rtF (Referent.fInt Syntax.w8))
       (Syntax.tyRef (Syntax.named 5) Syntax.mut (Syntax.tyInt Syntax.w8))
       5
-      10
+      9
       Row.off,
 ) (List._∷_ (
   8,
@@ -1481,7 +1342,7 @@ t14 = List._∷_ (0, Rows'.any-gone (Syntax.tyInt Syntax.w64)) (List._∷_ (
       (Referent.rtF (Referent.fInt Syntax.w8))
       (Syntax.tyRef (Syntax.named 6) Syntax.mut (Syntax.tyInt Syntax.w8))
       6
-      11
+      10
       Row.off,
 ) (List._∷_ (
   9,
@@ -1489,530 +1350,550 @@ t14 = List._∷_ (0, Rows'.any-gone (Syntax.tyInt Syntax.w64)) (List._∷_ (
       (Referent.rtF (Referent.fInt Syntax.w8))
       (Syntax.tyRef (Syntax.named 7) Syntax.mut (Syntax.tyInt Syntax.w8))
       7
-      12
+      11
       Row.off,
-) (List._∷_ (
-  10,
-  Mut.mslice
-      (Referent.rtF (Referent.fInt Syntax.w8))
-      (Syntax.tyRef (Syntax.named 8) Syntax.mut (Syntax.tyInt Syntax.w8))
-      8,
 )
     (List._∷_
-    (11, Rows.arrF Elem.R 64 0)
+    (10, Rows.arrF Elem.R 64 0)
     (List._∷_ (
-      12,
+      11,
       Rows'.any-gone (Syntax.tyArray Elem.held 64),
     ) (List._∷_ (
-      13,
+      12,
       Rows'.any-gone (Syntax.tyRef Syntax.erased Syntax.mut (Syntax.tyInt Syntax.w64)),
     ) (List._∷_ (
-      14,
+      13,
       Mut.mslice
           (Referent.rtF (Referent.fInt Syntax.w64))
           (Syntax.tyRef Syntax.erased Syntax.mut (Syntax.tyInt Syntax.w64))
-          9,
+          8,
+    ) (List._∷_ (
+      14,
+      Rows'.any-gone (Syntax.tyRef Syntax.erased Syntax.mut (Syntax.tyInt Syntax.w8)),
     ) (List._∷_ (
       15,
-      Rows'.any-gone (Syntax.tyRef Syntax.erased Syntax.mut (Syntax.tyInt Syntax.w8)),
+      Mut.mslice
+          (Referent.rtF (Referent.fInt Syntax.w8))
+          (Syntax.tyRef Syntax.erased Syntax.mut (Syntax.tyInt Syntax.w8))
+          9,
     ) List.[])))))))))))))))
+
+abbrev pub t14 : List.List Row.Entry
+t14 = List._∷_ (
+  16,
+  Rows'.any-gone (Syntax.tyRef Syntax.erased Syntax.mut (Syntax.tyInt Syntax.w8)),
+) (List._∷_ (
+  17,
+  Mut.mslice
+      (Referent.rtF (Referent.fInt Syntax.w8))
+      (Syntax.tyRef Syntax.erased Syntax.mut (Syntax.tyInt Syntax.w8))
+      10,
+) (List._∷_ (
+  18,
+  Relend.msptr
+      (Referent.rtF (Referent.fInt Syntax.w8))
+      (Syntax.tyRef Syntax.erased Syntax.mut (Syntax.tyInt Syntax.w8))
+      11,
+) (List._∷_ (
+  19,
+  Rows'.any-gone
+      (Syntax.tyStruct
+      (List._∷_ 38 (List._∷_ 91 (List._∷_ 93 List.[])))
+      (Syntax.tcons
+      (Syntax.tyRef Syntax.erased Syntax.mut (Syntax.tyInt Syntax.w8))
+      (Syntax.tcons (Syntax.tyInt Syntax.w64) Syntax.tnil))),
+) (List._∷_ (
+  20,
+  Rows'.any-gone
+      (Syntax.tyRef
+      Syntax.erased
+      Syntax.mut
+      (Syntax.tyArray Elem.ty 64)),
+) (List._∷_ (
+  21,
+  Rows'.any-gone
+      (Syntax.tyStruct
+      (List._∷_ 38 (List._∷_ 91 (List._∷_ 93 List.[])))
+      (Syntax.tcons
+      (Syntax.tyRef Syntax.erased Syntax.mut Elem.ty)
+      (Syntax.tcons (Syntax.tyInt Syntax.w64) Syntax.tnil))),
+) List.[])))))
 
 abbrev pub t15 : List.List Row.Entry
 t15 = List._∷_ (
   16,
+  Rows'.any-gone (Syntax.tyRef Syntax.erased Syntax.mut (Syntax.tyInt Syntax.w8)),
+) (List._∷_ (
+  17,
   Mut.mslice
       (Referent.rtF (Referent.fInt Syntax.w8))
       (Syntax.tyRef Syntax.erased Syntax.mut (Syntax.tyInt Syntax.w8))
       10,
 )
     (List._∷_ (
-      17,
+      18,
       Rows'.any-gone (Syntax.tyRef Syntax.erased Syntax.mut (Syntax.tyInt Syntax.w8)),
     ) (List._∷_ (
-      18,
+      19,
       Mut.mslice
           (Referent.rtF (Referent.fInt Syntax.w8))
           (Syntax.tyRef Syntax.erased Syntax.mut (Syntax.tyInt Syntax.w8))
           11,
     ) (List._∷_ (
-      19,
-      Relend.msptr
-          (Referent.rtF (Referent.fInt Syntax.w8))
-          (Syntax.tyRef Syntax.erased Syntax.mut (Syntax.tyInt Syntax.w8))
-          12,
-    ) (List._∷_ (
       20,
-      Rows'.any-gone
-          (Syntax.tyStruct
-          (List._∷_ 38 (List._∷_ 91 (List._∷_ 93 List.[])))
-          (Syntax.tcons
-          (Syntax.tyRef Syntax.erased Syntax.mut (Syntax.tyInt Syntax.w8))
-          (Syntax.tcons (Syntax.tyInt Syntax.w64) Syntax.tnil))),
-    ) (List._∷_ (
-      21,
-      Rows'.any-gone (Syntax.tyRef Syntax.erased Syntax.mut (Syntax.tyInt Syntax.w8)),
-    ) (List._∷_ (
-      22,
-      Rows'.any-gone
-          (Syntax.tyStruct
-          (List._∷_ 38 (List._∷_ 91 (List._∷_ 93 List.[])))
-          (Syntax.tcons
-          (Syntax.tyRef Syntax.erased Syntax.mut (Syntax.tyInt Syntax.w8))
-          (Syntax.tcons (Syntax.tyInt Syntax.w64) Syntax.tnil))),
-    ) (List._∷_ (
-      23,
       Rows'.any-gone
           (Syntax.tyRef
           Syntax.erased
           Syntax.mut
           (Syntax.tyArray Elem.ty 64)),
     ) (List._∷_ (
-      24,
+      21,
       Rows'.any-gone
           (Syntax.tyStruct
           (List._∷_ 38 (List._∷_ 91 (List._∷_ 93 List.[])))
           (Syntax.tcons
           (Syntax.tyRef Syntax.erased Syntax.mut Elem.ty)
           (Syntax.tcons (Syntax.tyInt Syntax.w64) Syntax.tnil))),
-    ) List.[]))))))))
+    ) List.[])))))
 
 abbrev pub t16 : List.List Row.Entry
-t16 = List._∷_ (
-  16,
-  Mut.mslice
+t16 = List._∷_ (0, Rows'.any-gone (Syntax.tyInt Syntax.w64)) (List._∷_ (
+  1,
+  Rows'.sslice
       (Referent.rtF (Referent.fInt Syntax.w8))
-      (Syntax.tyRef Syntax.erased Syntax.mut (Syntax.tyInt Syntax.w8))
-      10,
+      (Syntax.tyRef (Syntax.named 0) Syntax.imm (Syntax.tyInt Syntax.w8))
+      0,
+) (List._∷_ (
+  2,
+  Rows'.sslice
+      (Referent.rtF (Referent.fInt Syntax.w64))
+      (Syntax.tyRef (Syntax.named 1) Syntax.imm (Syntax.tyInt Syntax.w64))
+      1,
+) (List._∷_ (3, Rows'.sc-here (Row.sInt Syntax.w64)) (List._∷_ (
+  4,
+  Rows'.sslice
+      (Referent.rtF (Referent.fInt Syntax.w64))
+      (Syntax.tyRef (Syntax.named 2) Syntax.imm (Syntax.tyInt Syntax.w64))
+      2,
+) (List._∷_ (
+  5,
+  Rows'.sslice
+      (Referent.rtF (Referent.fInt Syntax.w8))
+      (Syntax.tyRef (Syntax.named 3) Syntax.imm (Syntax.tyInt Syntax.w8))
+      3,
+) (List._∷_ (
+  6,
+  Relend.mslice-owed
+      (Referent.rtF (Referent.fInt Syntax.w64))
+      (Syntax.tyRef (Syntax.named 4) Syntax.mut (Syntax.tyInt Syntax.w64))
+      4
+      8
+      Row.off,
+) (List._∷_ (
+  7,
+  Relend.mslice-owed
+      (Referent.rtF (Referent.fInt Syntax.w8))
+      (Syntax.tyRef (Syntax.named 5) Syntax.mut (Syntax.tyInt Syntax.w8))
+      5
+      9
+      Row.off,
+) (List._∷_ (
+  8,
+  Relend.mslice-owed
+      (Referent.rtF (Referent.fInt Syntax.w8))
+      (Syntax.tyRef (Syntax.named 6) Syntax.mut (Syntax.tyInt Syntax.w8))
+      6
+      10
+      Row.off,
+) (List._∷_ (
+  9,
+  Relend.mslice-owed
+      (Referent.rtF (Referent.fInt Syntax.w8))
+      (Syntax.tyRef (Syntax.named 7) Syntax.mut (Syntax.tyInt Syntax.w8))
+      7
+      11
+      Row.off,
 )
     (List._∷_ (
-      17,
+      10,
+      Rows.arr-owed Elem.R 64 12,
+    ) (List._∷_ (
+      11,
+      Rows'.any-gone (Syntax.tyArray Elem.held 64),
+    ) (List._∷_ (
+      12,
+      Rows'.any-gone (Syntax.tyRef Syntax.erased Syntax.mut (Syntax.tyInt Syntax.w64)),
+    ) (List._∷_ (
+      13,
+      Mut.mslice
+          (Referent.rtF (Referent.fInt Syntax.w64))
+          (Syntax.tyRef Syntax.erased Syntax.mut (Syntax.tyInt Syntax.w64))
+          8,
+    ) (List._∷_ (
+      14,
       Rows'.any-gone (Syntax.tyRef Syntax.erased Syntax.mut (Syntax.tyInt Syntax.w8)),
     ) (List._∷_ (
-      18,
+      15,
       Mut.mslice
           (Referent.rtF (Referent.fInt Syntax.w8))
           (Syntax.tyRef Syntax.erased Syntax.mut (Syntax.tyInt Syntax.w8))
-          11,
-    ) (List._∷_ (
-      19,
-      Rows'.any-gone (Syntax.tyRef Syntax.erased Syntax.mut (Syntax.tyInt Syntax.w8)),
-    ) (List._∷_ (
-      20,
-      Mut.mslice
-          (Referent.rtF (Referent.fInt Syntax.w8))
-          (Syntax.tyRef Syntax.erased Syntax.mut (Syntax.tyInt Syntax.w8))
-          12,
-    ) (List._∷_ (
-      21,
-      Rows'.any-gone (Syntax.tyRef Syntax.erased Syntax.mut (Syntax.tyInt Syntax.w8)),
-    ) (List._∷_ (
-      22,
-      Rows'.any-gone
-          (Syntax.tyStruct
-          (List._∷_ 38 (List._∷_ 91 (List._∷_ 93 List.[])))
-          (Syntax.tcons
-          (Syntax.tyRef Syntax.erased Syntax.mut (Syntax.tyInt Syntax.w8))
-          (Syntax.tcons (Syntax.tyInt Syntax.w64) Syntax.tnil))),
-    ) (List._∷_ (
-      23,
-      Rows'.any-gone
-          (Syntax.tyRef
-          Syntax.erased
-          Syntax.mut
-          (Syntax.tyArray Elem.ty 64)),
-    ) (List._∷_ (
-      24,
-      Rows'.any-gone
-          (Syntax.tyStruct
-          (List._∷_ 38 (List._∷_ 91 (List._∷_ 93 List.[])))
-          (Syntax.tcons
-          (Syntax.tyRef Syntax.erased Syntax.mut Elem.ty)
-          (Syntax.tcons (Syntax.tyInt Syntax.w64) Syntax.tnil))),
-    ) List.[]))))))))
+          9,
+    ) List.[])))))))))))))))
 
 abbrev pub t17 : List.List Row.Entry
-t17 = List._∷_ (0, Rows'.any-gone (Syntax.tyInt Syntax.w64)) (List._∷_ (
-  1,
-  Rows'.sslice
-      (Referent.rtF (Referent.fInt Syntax.w8))
-      (Syntax.tyRef (Syntax.named 0) Syntax.imm (Syntax.tyInt Syntax.w8))
-      0,
-) (List._∷_ (
-  2,
-  Rows'.sslice
-      (Referent.rtF (Referent.fInt Syntax.w64))
-      (Syntax.tyRef (Syntax.named 1) Syntax.imm (Syntax.tyInt Syntax.w64))
-      1,
-) (List._∷_ (3, Rows'.sc-here (Row.sInt Syntax.w64)) (List._∷_ (
-  4,
-  Rows'.sslice
-      (Referent.rtF (Referent.fInt Syntax.w64))
-      (Syntax.tyRef (Syntax.named 2) Syntax.imm (Syntax.tyInt Syntax.w64))
-      2,
-) (List._∷_ (
-  5,
-  Rows'.sslice
-      (Referent.rtF (Referent.fInt Syntax.w8))
-      (Syntax.tyRef (Syntax.named 3) Syntax.imm (Syntax.tyInt Syntax.w8))
-      3,
-) (List._∷_ (
-  6,
-  Relend.mslice-owed
-      (Referent.rtF (Referent.fInt Syntax.w64))
-      (Syntax.tyRef (Syntax.named 4) Syntax.mut (Syntax.tyInt Syntax.w64))
-      4
-      9
-      Row.off,
-) (List._∷_ (
-  7,
-  Relend.mslice-owed
-      (Referent.rtF (Referent.fInt Syntax.w8))
-      (Syntax.tyRef (Syntax.named 5) Syntax.mut (Syntax.tyInt Syntax.w8))
-      5
-      10
-      Row.off,
-) (List._∷_ (
-  8,
-  Relend.mslice-owed
-      (Referent.rtF (Referent.fInt Syntax.w8))
-      (Syntax.tyRef (Syntax.named 6) Syntax.mut (Syntax.tyInt Syntax.w8))
-      6
-      11
-      Row.off,
-) (List._∷_ (
-  9,
-  Relend.mslice-owed
-      (Referent.rtF (Referent.fInt Syntax.w8))
-      (Syntax.tyRef (Syntax.named 7) Syntax.mut (Syntax.tyInt Syntax.w8))
-      7
-      12
-      Row.off,
-) (List._∷_ (
-  10,
-  Relend.mslice-owed
-      (Referent.rtF (Referent.fInt Syntax.w8))
-      (Syntax.tyRef (Syntax.named 8) Syntax.mut (Syntax.tyInt Syntax.w8))
-      8
-      13
-      Row.off,
-)
-    (List._∷_
-    (11, Rows.arrF Elem.R 64 0)
-    (List._∷_ (
-      12,
-      Rows'.any-gone (Syntax.tyArray Elem.held 64),
-    ) (List._∷_ (
-      13,
-      Rows'.any-gone (Syntax.tyRef Syntax.erased Syntax.mut (Syntax.tyInt Syntax.w64)),
-    ) (List._∷_ (
-      14,
-      Mut.mslice
-          (Referent.rtF (Referent.fInt Syntax.w64))
-          (Syntax.tyRef Syntax.erased Syntax.mut (Syntax.tyInt Syntax.w64))
-          9,
-    ) (List._∷_ (
-      15,
-      Rows'.any-gone (Syntax.tyRef Syntax.erased Syntax.mut (Syntax.tyInt Syntax.w8)),
-    ) List.[])))))))))))))))
-
-abbrev pub t18 : List.List Row.Entry
-t18 = List._∷_ (
+t17 = List._∷_ (
   16,
+  Rows'.any-gone (Syntax.tyRef Syntax.erased Syntax.mut (Syntax.tyInt Syntax.w8)),
+) (List._∷_ (
+  17,
   Mut.mslice
       (Referent.rtF (Referent.fInt Syntax.w8))
       (Syntax.tyRef Syntax.erased Syntax.mut (Syntax.tyInt Syntax.w8))
       10,
 )
     (List._∷_ (
-      17,
+      18,
       Rows'.any-gone (Syntax.tyRef Syntax.erased Syntax.mut (Syntax.tyInt Syntax.w8)),
     ) (List._∷_ (
-      18,
+      19,
       Mut.mslice
           (Referent.rtF (Referent.fInt Syntax.w8))
           (Syntax.tyRef Syntax.erased Syntax.mut (Syntax.tyInt Syntax.w8))
           11,
     ) (List._∷_ (
-      19,
-      Rows'.any-gone (Syntax.tyRef Syntax.erased Syntax.mut (Syntax.tyInt Syntax.w8)),
-    ) (List._∷_ (
       20,
-      Mut.mslice
-          (Referent.rtF (Referent.fInt Syntax.w8))
-          (Syntax.tyRef Syntax.erased Syntax.mut (Syntax.tyInt Syntax.w8))
-          12,
-    ) (List._∷_ (
-      21,
-      Relend.msptr
-          (Referent.rtF (Referent.fInt Syntax.w8))
-          (Syntax.tyRef Syntax.erased Syntax.mut (Syntax.tyInt Syntax.w8))
-          13,
-    ) (List._∷_ (
-      22,
-      Rows'.any-gone
-          (Syntax.tyStruct
-          (List._∷_ 38 (List._∷_ 91 (List._∷_ 93 List.[])))
-          (Syntax.tcons
-          (Syntax.tyRef Syntax.erased Syntax.mut (Syntax.tyInt Syntax.w8))
-          (Syntax.tcons (Syntax.tyInt Syntax.w64) Syntax.tnil))),
-    ) (List._∷_ (
-      23,
-      Rows'.any-gone
-          (Syntax.tyRef
-          Syntax.erased
-          Syntax.mut
-          (Syntax.tyArray Elem.ty 64)),
-    ) (List._∷_ (
-      24,
-      Rows'.any-gone
-          (Syntax.tyStruct
-          (List._∷_ 38 (List._∷_ 91 (List._∷_ 93 List.[])))
-          (Syntax.tcons
-          (Syntax.tyRef Syntax.erased Syntax.mut Elem.ty)
-          (Syntax.tcons (Syntax.tyInt Syntax.w64) Syntax.tnil))),
-    ) List.[]))))))))
-
-abbrev pub t19 : List.List Row.Entry
-t19 = List._∷_ (
-  16,
-  Mut.mslice
-      (Referent.rtF (Referent.fInt Syntax.w8))
-      (Syntax.tyRef Syntax.erased Syntax.mut (Syntax.tyInt Syntax.w8))
-      10,
-)
-    (List._∷_ (
-      17,
-      Rows'.any-gone (Syntax.tyRef Syntax.erased Syntax.mut (Syntax.tyInt Syntax.w8)),
-    ) (List._∷_ (
-      18,
-      Mut.mslice
-          (Referent.rtF (Referent.fInt Syntax.w8))
-          (Syntax.tyRef Syntax.erased Syntax.mut (Syntax.tyInt Syntax.w8))
-          11,
-    ) (List._∷_ (
-      19,
-      Rows'.any-gone (Syntax.tyRef Syntax.erased Syntax.mut (Syntax.tyInt Syntax.w8)),
-    ) (List._∷_ (
-      20,
-      Mut.mslice
-          (Referent.rtF (Referent.fInt Syntax.w8))
-          (Syntax.tyRef Syntax.erased Syntax.mut (Syntax.tyInt Syntax.w8))
-          12,
-    ) (List._∷_ (
-      21,
-      Rows'.any-gone (Syntax.tyRef Syntax.erased Syntax.mut (Syntax.tyInt Syntax.w8)),
-    ) (List._∷_ (
-      22,
-      Mut.mslice
-          (Referent.rtF (Referent.fInt Syntax.w8))
-          (Syntax.tyRef Syntax.erased Syntax.mut (Syntax.tyInt Syntax.w8))
-          13,
-    ) (List._∷_ (
-      23,
-      Rows'.any-gone
-          (Syntax.tyRef
-          Syntax.erased
-          Syntax.mut
-          (Syntax.tyArray Elem.ty 64)),
-    ) (List._∷_ (
-      24,
-      Rows'.any-gone
-          (Syntax.tyStruct
-          (List._∷_ 38 (List._∷_ 91 (List._∷_ 93 List.[])))
-          (Syntax.tcons
-          (Syntax.tyRef Syntax.erased Syntax.mut Elem.ty)
-          (Syntax.tcons (Syntax.tyInt Syntax.w64) Syntax.tnil))),
-    ) List.[]))))))))
-
-abbrev pub t20 : List.List Row.Entry
-t20 = List._∷_ (0, Rows'.any-gone (Syntax.tyInt Syntax.w64)) (List._∷_ (
-  1,
-  Rows'.sslice
-      (Referent.rtF (Referent.fInt Syntax.w8))
-      (Syntax.tyRef (Syntax.named 0) Syntax.imm (Syntax.tyInt Syntax.w8))
-      0,
-) (List._∷_ (
-  2,
-  Rows'.sslice
-      (Referent.rtF (Referent.fInt Syntax.w64))
-      (Syntax.tyRef (Syntax.named 1) Syntax.imm (Syntax.tyInt Syntax.w64))
-      1,
-) (List._∷_ (3, Rows'.sc-here (Row.sInt Syntax.w64)) (List._∷_ (
-  4,
-  Rows'.sslice
-      (Referent.rtF (Referent.fInt Syntax.w64))
-      (Syntax.tyRef (Syntax.named 2) Syntax.imm (Syntax.tyInt Syntax.w64))
-      2,
-) (List._∷_ (
-  5,
-  Rows'.sslice
-      (Referent.rtF (Referent.fInt Syntax.w8))
-      (Syntax.tyRef (Syntax.named 3) Syntax.imm (Syntax.tyInt Syntax.w8))
-      3,
-) (List._∷_ (
-  6,
-  Relend.mslice-owed
-      (Referent.rtF (Referent.fInt Syntax.w64))
-      (Syntax.tyRef (Syntax.named 4) Syntax.mut (Syntax.tyInt Syntax.w64))
-      4
-      9
-      Row.off,
-) (List._∷_ (
-  7,
-  Relend.mslice-owed
-      (Referent.rtF (Referent.fInt Syntax.w8))
-      (Syntax.tyRef (Syntax.named 5) Syntax.mut (Syntax.tyInt Syntax.w8))
-      5
-      10
-      Row.off,
-) (List._∷_ (
-  8,
-  Relend.mslice-owed
-      (Referent.rtF (Referent.fInt Syntax.w8))
-      (Syntax.tyRef (Syntax.named 6) Syntax.mut (Syntax.tyInt Syntax.w8))
-      6
-      11
-      Row.off,
-) (List._∷_ (
-  9,
-  Relend.mslice-owed
-      (Referent.rtF (Referent.fInt Syntax.w8))
-      (Syntax.tyRef (Syntax.named 7) Syntax.mut (Syntax.tyInt Syntax.w8))
-      7
-      12
-      Row.off,
-) (List._∷_ (
-  10,
-  Relend.mslice-owed
-      (Referent.rtF (Referent.fInt Syntax.w8))
-      (Syntax.tyRef (Syntax.named 8) Syntax.mut (Syntax.tyInt Syntax.w8))
-      8
-      13
-      Row.off,
-)
-    (List._∷_ (
-      11,
-      Rows.arr-owed Elem.R 64 14,
-    ) (List._∷_ (
-      12,
-      Rows'.any-gone (Syntax.tyArray Elem.held 64),
-    ) (List._∷_ (
-      13,
-      Rows'.any-gone (Syntax.tyRef Syntax.erased Syntax.mut (Syntax.tyInt Syntax.w64)),
-    ) (List._∷_ (
-      14,
-      Mut.mslice
-          (Referent.rtF (Referent.fInt Syntax.w64))
-          (Syntax.tyRef Syntax.erased Syntax.mut (Syntax.tyInt Syntax.w64))
-          9,
-    ) (List._∷_ (
-      15,
-      Rows'.any-gone (Syntax.tyRef Syntax.erased Syntax.mut (Syntax.tyInt Syntax.w8)),
-    ) List.[])))))))))))))))
-
-abbrev pub t21 : List.List Row.Entry
-t21 = List._∷_ (
-  16,
-  Mut.mslice
-      (Referent.rtF (Referent.fInt Syntax.w8))
-      (Syntax.tyRef Syntax.erased Syntax.mut (Syntax.tyInt Syntax.w8))
-      10,
-)
-    (List._∷_ (
-      17,
-      Rows'.any-gone (Syntax.tyRef Syntax.erased Syntax.mut (Syntax.tyInt Syntax.w8)),
-    ) (List._∷_ (
-      18,
-      Mut.mslice
-          (Referent.rtF (Referent.fInt Syntax.w8))
-          (Syntax.tyRef Syntax.erased Syntax.mut (Syntax.tyInt Syntax.w8))
-          11,
-    ) (List._∷_ (
-      19,
-      Rows'.any-gone (Syntax.tyRef Syntax.erased Syntax.mut (Syntax.tyInt Syntax.w8)),
-    ) (List._∷_ (
-      20,
-      Mut.mslice
-          (Referent.rtF (Referent.fInt Syntax.w8))
-          (Syntax.tyRef Syntax.erased Syntax.mut (Syntax.tyInt Syntax.w8))
-          12,
-    ) (List._∷_ (
-      21,
-      Rows'.any-gone (Syntax.tyRef Syntax.erased Syntax.mut (Syntax.tyInt Syntax.w8)),
-    ) (List._∷_ (
-      22,
-      Mut.mslice
-          (Referent.rtF (Referent.fInt Syntax.w8))
-          (Syntax.tyRef Syntax.erased Syntax.mut (Syntax.tyInt Syntax.w8))
-          13,
-    ) (List._∷_ (
-      23,
       Relend.msptr
           Elem.R
           (Syntax.tyRef
           Syntax.erased
           Syntax.mut
           (Syntax.tyArray Elem.ty 64))
-          14,
+          12,
     ) (List._∷_ (
-      24,
+      21,
       Rows'.any-gone
           (Syntax.tyStruct
           (List._∷_ 38 (List._∷_ 91 (List._∷_ 93 List.[])))
           (Syntax.tcons
           (Syntax.tyRef Syntax.erased Syntax.mut Elem.ty)
           (Syntax.tcons (Syntax.tyInt Syntax.w64) Syntax.tnil))),
-    ) List.[]))))))))
+    ) List.[])))))
 
-abbrev pub t22 : List.List Row.Entry
-t22 = List._∷_ (
+abbrev pub t18 : List.List Row.Entry
+t18 = List._∷_ (
   16,
+  Rows'.any-gone (Syntax.tyRef Syntax.erased Syntax.mut (Syntax.tyInt Syntax.w8)),
+) (List._∷_ (
+  17,
   Mut.mslice
       (Referent.rtF (Referent.fInt Syntax.w8))
       (Syntax.tyRef Syntax.erased Syntax.mut (Syntax.tyInt Syntax.w8))
       10,
 )
     (List._∷_ (
-      17,
+      18,
       Rows'.any-gone (Syntax.tyRef Syntax.erased Syntax.mut (Syntax.tyInt Syntax.w8)),
     ) (List._∷_ (
-      18,
+      19,
       Mut.mslice
           (Referent.rtF (Referent.fInt Syntax.w8))
           (Syntax.tyRef Syntax.erased Syntax.mut (Syntax.tyInt Syntax.w8))
           11,
     ) (List._∷_ (
-      19,
-      Rows'.any-gone (Syntax.tyRef Syntax.erased Syntax.mut (Syntax.tyInt Syntax.w8)),
-    ) (List._∷_ (
       20,
-      Mut.mslice
-          (Referent.rtF (Referent.fInt Syntax.w8))
-          (Syntax.tyRef Syntax.erased Syntax.mut (Syntax.tyInt Syntax.w8))
-          12,
-    ) (List._∷_ (
-      21,
-      Rows'.any-gone (Syntax.tyRef Syntax.erased Syntax.mut (Syntax.tyInt Syntax.w8)),
-    ) (List._∷_ (
-      22,
-      Mut.mslice
-          (Referent.rtF (Referent.fInt Syntax.w8))
-          (Syntax.tyRef Syntax.erased Syntax.mut (Syntax.tyInt Syntax.w8))
-          13,
-    ) (List._∷_ (
-      23,
       Rows'.any-gone
           (Syntax.tyRef
           Syntax.erased
           Syntax.mut
           (Syntax.tyArray Elem.ty 64)),
     ) (List._∷_ (
-      24,
+      21,
       Mut.mslice
           Elem.R
           (Syntax.tyRef Syntax.erased Syntax.mut Elem.ty)
-          14,
-    ) List.[]))))))))
+          12,
+    ) List.[])))))
+
+abbrev pub t19 : List.List Row.Entry
+t19 = List._∷_ (0, Rows'.sc-here (Row.sInt Syntax.w64)) (List._∷_ (
+  1,
+  Rows'.sslice
+      (Referent.rtF (Referent.fInt Syntax.w8))
+      (Syntax.tyRef (Syntax.named 0) Syntax.imm (Syntax.tyInt Syntax.w8))
+      0,
+) (List._∷_ (
+  2,
+  Rows'.sslice
+      (Referent.rtF (Referent.fInt Syntax.w64))
+      (Syntax.tyRef (Syntax.named 1) Syntax.imm (Syntax.tyInt Syntax.w64))
+      1,
+) (List._∷_ (3, Rows'.sc-here (Row.sInt Syntax.w64)) (List._∷_ (
+  4,
+  Rows'.sslice
+      (Referent.rtF (Referent.fInt Syntax.w64))
+      (Syntax.tyRef (Syntax.named 2) Syntax.imm (Syntax.tyInt Syntax.w64))
+      2,
+) (List._∷_ (
+  5,
+  Rows'.sslice
+      (Referent.rtF (Referent.fInt Syntax.w8))
+      (Syntax.tyRef (Syntax.named 3) Syntax.imm (Syntax.tyInt Syntax.w8))
+      3,
+) (List._∷_ (
+  6,
+  Relend.mslice-owed
+      (Referent.rtF (Referent.fInt Syntax.w64))
+      (Syntax.tyRef (Syntax.named 4) Syntax.mut (Syntax.tyInt Syntax.w64))
+      4
+      8
+      Row.off,
+) (List._∷_ (
+  7,
+  Relend.mslice-owed
+      (Referent.rtF (Referent.fInt Syntax.w8))
+      (Syntax.tyRef (Syntax.named 5) Syntax.mut (Syntax.tyInt Syntax.w8))
+      5
+      9
+      Row.off,
+) (List._∷_ (
+  8,
+  Relend.mslice-owed
+      (Referent.rtF (Referent.fInt Syntax.w8))
+      (Syntax.tyRef (Syntax.named 6) Syntax.mut (Syntax.tyInt Syntax.w8))
+      6
+      10
+      Row.off,
+) (List._∷_ (
+  9,
+  Relend.mslice-owed
+      (Referent.rtF (Referent.fInt Syntax.w8))
+      (Syntax.tyRef (Syntax.named 7) Syntax.mut (Syntax.tyInt Syntax.w8))
+      7
+      11
+      Row.off,
+)
+    (List._∷_ (
+      10,
+      Rows.arr-owed Elem.R 64 12,
+    ) (List._∷_ (
+      11,
+      Rows'.any-gone (Syntax.tyArray Elem.held 64),
+    ) (List._∷_ (
+      12,
+      Rows'.any-gone (Syntax.tyRef Syntax.erased Syntax.mut (Syntax.tyInt Syntax.w64)),
+    ) (List._∷_ (
+      13,
+      Mut.msleft
+          (Referent.rtF (Referent.fInt Syntax.w64))
+          (Syntax.tyRef Syntax.erased Syntax.mut (Syntax.tyInt Syntax.w64)),
+    ) (List._∷_ (
+      14,
+      Rows'.any-gone (Syntax.tyRef Syntax.erased Syntax.mut (Syntax.tyInt Syntax.w8)),
+    ) (List._∷_ (
+      15,
+      Mut.msleft
+          (Referent.rtF (Referent.fInt Syntax.w8))
+          (Syntax.tyRef Syntax.erased Syntax.mut (Syntax.tyInt Syntax.w8)),
+    ) List.[])))))))))))))))
+
+abbrev pub t20 : List.List Row.Entry
+t20 = List._∷_ (
+  16,
+  Rows'.any-gone (Syntax.tyRef Syntax.erased Syntax.mut (Syntax.tyInt Syntax.w8)),
+) (List._∷_ (
+  17,
+  Mut.msleft
+      (Referent.rtF (Referent.fInt Syntax.w8))
+      (Syntax.tyRef Syntax.erased Syntax.mut (Syntax.tyInt Syntax.w8)),
+)
+    (List._∷_ (
+      18,
+      Rows'.any-gone (Syntax.tyRef Syntax.erased Syntax.mut (Syntax.tyInt Syntax.w8)),
+    ) (List._∷_ (
+      19,
+      Mut.msleft
+          (Referent.rtF (Referent.fInt Syntax.w8))
+          (Syntax.tyRef Syntax.erased Syntax.mut (Syntax.tyInt Syntax.w8)),
+    ) (List._∷_ (
+      20,
+      Rows'.any-gone
+          (Syntax.tyRef
+          Syntax.erased
+          Syntax.mut
+          (Syntax.tyArray Elem.ty 64)),
+    ) (List._∷_ (
+      21,
+      Mut.msleft
+          Elem.R
+          (Syntax.tyRef Syntax.erased Syntax.mut Elem.ty),
+    ) List.[])))))
+
+abbrev pub t21 : List.List Row.Entry
+t21 = List._∷_ (0, Rows'.sc-here (Row.sInt Syntax.w64)) (List._∷_ (
+  1,
+  Rows'.sslice
+      (Referent.rtF (Referent.fInt Syntax.w8))
+      (Syntax.tyRef (Syntax.named 0) Syntax.imm (Syntax.tyInt Syntax.w8))
+      0,
+) (List._∷_ (
+  2,
+  Rows'.sslice
+      (Referent.rtF (Referent.fInt Syntax.w64))
+      (Syntax.tyRef (Syntax.named 1) Syntax.imm (Syntax.tyInt Syntax.w64))
+      1,
+) (List._∷_ (3, Rows'.sc-here (Row.sInt Syntax.w64)) (List._∷_ (
+  4,
+  Rows'.sslice
+      (Referent.rtF (Referent.fInt Syntax.w64))
+      (Syntax.tyRef (Syntax.named 2) Syntax.imm (Syntax.tyInt Syntax.w64))
+      2,
+) (List._∷_ (
+  5,
+  Rows'.sslice
+      (Referent.rtF (Referent.fInt Syntax.w8))
+      (Syntax.tyRef (Syntax.named 3) Syntax.imm (Syntax.tyInt Syntax.w8))
+      3,
+) (List._∷_ (
+  6,
+  Mut.mslice
+      (Referent.rtF (Referent.fInt Syntax.w64))
+      (Syntax.tyRef (Syntax.named 4) Syntax.mut (Syntax.tyInt Syntax.w64))
+      4,
+) (List._∷_ (
+  7,
+  Relend.mslice-owed
+      (Referent.rtF (Referent.fInt Syntax.w8))
+      (Syntax.tyRef (Syntax.named 5) Syntax.mut (Syntax.tyInt Syntax.w8))
+      5
+      9
+      Row.off,
+) (List._∷_ (
+  8,
+  Relend.mslice-owed
+      (Referent.rtF (Referent.fInt Syntax.w8))
+      (Syntax.tyRef (Syntax.named 6) Syntax.mut (Syntax.tyInt Syntax.w8))
+      6
+      10
+      Row.off,
+) (List._∷_ (
+  9,
+  Relend.mslice-owed
+      (Referent.rtF (Referent.fInt Syntax.w8))
+      (Syntax.tyRef (Syntax.named 7) Syntax.mut (Syntax.tyInt Syntax.w8))
+      7
+      11
+      Row.off,
+)
+    (List._∷_ (
+      10,
+      Rows.arr-owed Elem.R 64 12,
+    ) (List._∷_ (
+      11,
+      Rows'.any-gone (Syntax.tyArray Elem.held 64),
+    ) (List._∷_ (
+      12,
+      Rows'.any-gone (Syntax.tyRef Syntax.erased Syntax.mut (Syntax.tyInt Syntax.w64)),
+    ) (List._∷_ (
+      13,
+      Rows'.any-gone
+          (Syntax.tyStruct
+          (List._∷_ 38 (List._∷_ 91 (List._∷_ 93 List.[])))
+          (Syntax.tcons
+          (Syntax.tyRef Syntax.erased Syntax.mut (Syntax.tyInt Syntax.w64))
+          (Syntax.tcons (Syntax.tyInt Syntax.w64) Syntax.tnil))),
+    ) (List._∷_ (
+      14,
+      Rows'.any-gone (Syntax.tyRef Syntax.erased Syntax.mut (Syntax.tyInt Syntax.w8)),
+    ) (List._∷_ (
+      15,
+      Mut.msleft
+          (Referent.rtF (Referent.fInt Syntax.w8))
+          (Syntax.tyRef Syntax.erased Syntax.mut (Syntax.tyInt Syntax.w8)),
+    ) List.[])))))))))))))))
+
+abbrev pub t22 : List.List Row.Entry
+t22 = List._∷_ (0, Rows'.sc-here (Row.sInt Syntax.w64)) (List._∷_ (
+  1,
+  Rows'.sslice
+      (Referent.rtF (Referent.fInt Syntax.w8))
+      (Syntax.tyRef (Syntax.named 0) Syntax.imm (Syntax.tyInt Syntax.w8))
+      0,
+) (List._∷_ (
+  2,
+  Rows'.sslice
+      (Referent.rtF (Referent.fInt Syntax.w64))
+      (Syntax.tyRef (Syntax.named 1) Syntax.imm (Syntax.tyInt Syntax.w64))
+      1,
+) (List._∷_ (3, Rows'.sc-here (Row.sInt Syntax.w64)) (List._∷_ (
+  4,
+  Rows'.sslice
+      (Referent.rtF (Referent.fInt Syntax.w64))
+      (Syntax.tyRef (Syntax.named 2) Syntax.imm (Syntax.tyInt Syntax.w64))
+      2,
+) (List._∷_ (
+  5,
+  Rows'.sslice
+      (Referent.rtF (Referent.fInt Syntax.w8))
+      (Syntax.tyRef (Syntax.named 3) Syntax.imm (Syntax.tyInt Syntax.w8))
+      3,
+) (List._∷_ (
+  6,
+  Mut.mslice
+      (Referent.rtF (Referent.fInt Syntax.w64))
+      (Syntax.tyRef (Syntax.named 4) Syntax.mut (Syntax.tyInt Syntax.w64))
+      4,
+) (List._∷_ (
+  7,
+  Mut.mslice
+      (Referent.rtF (Referent.fInt Syntax.w8))
+      (Syntax.tyRef (Syntax.named 5) Syntax.mut (Syntax.tyInt Syntax.w8))
+      5,
+) (List._∷_ (
+  8,
+  Relend.mslice-owed
+      (Referent.rtF (Referent.fInt Syntax.w8))
+      (Syntax.tyRef (Syntax.named 6) Syntax.mut (Syntax.tyInt Syntax.w8))
+      6
+      10
+      Row.off,
+) (List._∷_ (
+  9,
+  Relend.mslice-owed
+      (Referent.rtF (Referent.fInt Syntax.w8))
+      (Syntax.tyRef (Syntax.named 7) Syntax.mut (Syntax.tyInt Syntax.w8))
+      7
+      11
+      Row.off,
+)
+    (List._∷_ (
+      10,
+      Rows.arr-owed Elem.R 64 12,
+    ) (List._∷_ (
+      11,
+      Rows'.any-gone (Syntax.tyArray Elem.held 64),
+    ) (List._∷_ (
+      12,
+      Rows'.any-gone (Syntax.tyRef Syntax.erased Syntax.mut (Syntax.tyInt Syntax.w64)),
+    ) (List._∷_ (
+      13,
+      Rows'.any-gone
+          (Syntax.tyStruct
+          (List._∷_ 38 (List._∷_ 91 (List._∷_ 93 List.[])))
+          (Syntax.tcons
+          (Syntax.tyRef Syntax.erased Syntax.mut (Syntax.tyInt Syntax.w64))
+          (Syntax.tcons (Syntax.tyInt Syntax.w64) Syntax.tnil))),
+    ) (List._∷_ (
+      14,
+      Rows'.any-gone (Syntax.tyRef Syntax.erased Syntax.mut (Syntax.tyInt Syntax.w8)),
+    ) (List._∷_ (
+      15,
+      Rows'.any-gone
+          (Syntax.tyStruct
+          (List._∷_ 38 (List._∷_ 91 (List._∷_ 93 List.[])))
+          (Syntax.tcons
+          (Syntax.tyRef Syntax.erased Syntax.mut (Syntax.tyInt Syntax.w8))
+          (Syntax.tcons (Syntax.tyInt Syntax.w64) Syntax.tnil))),
+    ) List.[])))))))))))))))
 
 abbrev pub t23 : List.List Row.Entry
 t23 = List._∷_ (0, Rows'.sc-here (Row.sInt Syntax.w64)) (List._∷_ (
@@ -2041,108 +1922,95 @@ t23 = List._∷_ (0, Rows'.sc-here (Row.sInt Syntax.w64)) (List._∷_ (
       3,
 ) (List._∷_ (
   6,
-  Relend.mslice-owed
+  Mut.mslice
       (Referent.rtF (Referent.fInt Syntax.w64))
       (Syntax.tyRef (Syntax.named 4) Syntax.mut (Syntax.tyInt Syntax.w64))
-      4
-      9
-      Row.off,
+      4,
 ) (List._∷_ (
   7,
-  Relend.mslice-owed
+  Mut.mslice
       (Referent.rtF (Referent.fInt Syntax.w8))
       (Syntax.tyRef (Syntax.named 5) Syntax.mut (Syntax.tyInt Syntax.w8))
-      5
-      10
-      Row.off,
+      5,
 ) (List._∷_ (
   8,
-  Relend.mslice-owed
+  Mut.mslice
       (Referent.rtF (Referent.fInt Syntax.w8))
       (Syntax.tyRef (Syntax.named 6) Syntax.mut (Syntax.tyInt Syntax.w8))
-      6
-      11
-      Row.off,
+      6,
 ) (List._∷_ (
   9,
   Relend.mslice-owed
       (Referent.rtF (Referent.fInt Syntax.w8))
       (Syntax.tyRef (Syntax.named 7) Syntax.mut (Syntax.tyInt Syntax.w8))
       7
-      12
-      Row.off,
-) (List._∷_ (
-  10,
-  Relend.mslice-owed
-      (Referent.rtF (Referent.fInt Syntax.w8))
-      (Syntax.tyRef (Syntax.named 8) Syntax.mut (Syntax.tyInt Syntax.w8))
-      8
-      13
+      11
       Row.off,
 )
     (List._∷_ (
-      11,
-      Rows.arr-owed Elem.R 64 14,
+      10,
+      Rows.arr-owed Elem.R 64 12,
     ) (List._∷_ (
-      12,
+      11,
       Rows'.any-gone (Syntax.tyArray Elem.held 64),
     ) (List._∷_ (
-      13,
+      12,
       Rows'.any-gone (Syntax.tyRef Syntax.erased Syntax.mut (Syntax.tyInt Syntax.w64)),
     ) (List._∷_ (
+      13,
+      Rows'.any-gone
+          (Syntax.tyStruct
+          (List._∷_ 38 (List._∷_ 91 (List._∷_ 93 List.[])))
+          (Syntax.tcons
+          (Syntax.tyRef Syntax.erased Syntax.mut (Syntax.tyInt Syntax.w64))
+          (Syntax.tcons (Syntax.tyInt Syntax.w64) Syntax.tnil))),
+    ) (List._∷_ (
       14,
-      Mut.msleft
-          (Referent.rtF (Referent.fInt Syntax.w64))
-          (Syntax.tyRef Syntax.erased Syntax.mut (Syntax.tyInt Syntax.w64)),
+      Rows'.any-gone (Syntax.tyRef Syntax.erased Syntax.mut (Syntax.tyInt Syntax.w8)),
     ) (List._∷_ (
       15,
-      Rows'.any-gone (Syntax.tyRef Syntax.erased Syntax.mut (Syntax.tyInt Syntax.w8)),
+      Rows'.any-gone
+          (Syntax.tyStruct
+          (List._∷_ 38 (List._∷_ 91 (List._∷_ 93 List.[])))
+          (Syntax.tcons
+          (Syntax.tyRef Syntax.erased Syntax.mut (Syntax.tyInt Syntax.w8))
+          (Syntax.tcons (Syntax.tyInt Syntax.w64) Syntax.tnil))),
     ) List.[])))))))))))))))
 
 abbrev pub t24 : List.List Row.Entry
 t24 = List._∷_ (
   16,
-  Mut.msleft
-      (Referent.rtF (Referent.fInt Syntax.w8))
-      (Syntax.tyRef Syntax.erased Syntax.mut (Syntax.tyInt Syntax.w8)),
+  Rows'.any-gone (Syntax.tyRef Syntax.erased Syntax.mut (Syntax.tyInt Syntax.w8)),
+) (List._∷_ (
+  17,
+  Rows'.any-gone
+      (Syntax.tyStruct
+      (List._∷_ 38 (List._∷_ 91 (List._∷_ 93 List.[])))
+      (Syntax.tcons
+      (Syntax.tyRef Syntax.erased Syntax.mut (Syntax.tyInt Syntax.w8))
+      (Syntax.tcons (Syntax.tyInt Syntax.w64) Syntax.tnil))),
 )
     (List._∷_ (
-      17,
-      Rows'.any-gone (Syntax.tyRef Syntax.erased Syntax.mut (Syntax.tyInt Syntax.w8)),
-    ) (List._∷_ (
       18,
-      Mut.msleft
-          (Referent.rtF (Referent.fInt Syntax.w8))
-          (Syntax.tyRef Syntax.erased Syntax.mut (Syntax.tyInt Syntax.w8)),
+      Rows'.any-gone (Syntax.tyRef Syntax.erased Syntax.mut (Syntax.tyInt Syntax.w8)),
     ) (List._∷_ (
       19,
-      Rows'.any-gone (Syntax.tyRef Syntax.erased Syntax.mut (Syntax.tyInt Syntax.w8)),
+      Mut.msleft
+          (Referent.rtF (Referent.fInt Syntax.w8))
+          (Syntax.tyRef Syntax.erased Syntax.mut (Syntax.tyInt Syntax.w8)),
     ) (List._∷_ (
       20,
-      Mut.msleft
-          (Referent.rtF (Referent.fInt Syntax.w8))
-          (Syntax.tyRef Syntax.erased Syntax.mut (Syntax.tyInt Syntax.w8)),
-    ) (List._∷_ (
-      21,
-      Rows'.any-gone (Syntax.tyRef Syntax.erased Syntax.mut (Syntax.tyInt Syntax.w8)),
-    ) (List._∷_ (
-      22,
-      Mut.msleft
-          (Referent.rtF (Referent.fInt Syntax.w8))
-          (Syntax.tyRef Syntax.erased Syntax.mut (Syntax.tyInt Syntax.w8)),
-    ) (List._∷_ (
-      23,
       Rows'.any-gone
           (Syntax.tyRef
           Syntax.erased
           Syntax.mut
           (Syntax.tyArray Elem.ty 64)),
     ) (List._∷_ (
-      24,
+      21,
       Mut.msleft
           Elem.R
           (Syntax.tyRef Syntax.erased Syntax.mut Elem.ty),
-    ) List.[]))))))))
+    ) List.[])))))
 
 abbrev pub t25 : List.List Row.Entry
 t25 = List._∷_ (0, Rows'.sc-here (Row.sInt Syntax.w64)) (List._∷_ (
@@ -2177,48 +2045,34 @@ t25 = List._∷_ (0, Rows'.sc-here (Row.sInt Syntax.w64)) (List._∷_ (
       4,
 ) (List._∷_ (
   7,
-  Relend.mslice-owed
+  Mut.mslice
       (Referent.rtF (Referent.fInt Syntax.w8))
       (Syntax.tyRef (Syntax.named 5) Syntax.mut (Syntax.tyInt Syntax.w8))
-      5
-      10
-      Row.off,
+      5,
 ) (List._∷_ (
   8,
-  Relend.mslice-owed
+  Mut.mslice
       (Referent.rtF (Referent.fInt Syntax.w8))
       (Syntax.tyRef (Syntax.named 6) Syntax.mut (Syntax.tyInt Syntax.w8))
-      6
-      11
-      Row.off,
+      6,
 ) (List._∷_ (
   9,
-  Relend.mslice-owed
+  Mut.mslice
       (Referent.rtF (Referent.fInt Syntax.w8))
       (Syntax.tyRef (Syntax.named 7) Syntax.mut (Syntax.tyInt Syntax.w8))
-      7
-      12
-      Row.off,
-) (List._∷_ (
-  10,
-  Relend.mslice-owed
-      (Referent.rtF (Referent.fInt Syntax.w8))
-      (Syntax.tyRef (Syntax.named 8) Syntax.mut (Syntax.tyInt Syntax.w8))
-      8
-      13
-      Row.off,
+      7,
 )
     (List._∷_ (
-      11,
-      Rows.arr-owed Elem.R 64 14,
+      10,
+      Rows.arr-owed Elem.R 64 12,
     ) (List._∷_ (
-      12,
+      11,
       Rows'.any-gone (Syntax.tyArray Elem.held 64),
     ) (List._∷_ (
-      13,
+      12,
       Rows'.any-gone (Syntax.tyRef Syntax.erased Syntax.mut (Syntax.tyInt Syntax.w64)),
     ) (List._∷_ (
-      14,
+      13,
       Rows'.any-gone
           (Syntax.tyStruct
           (List._∷_ 38 (List._∷_ 91 (List._∷_ 93 List.[])))
@@ -2226,12 +2080,58 @@ t25 = List._∷_ (0, Rows'.sc-here (Row.sInt Syntax.w64)) (List._∷_ (
           (Syntax.tyRef Syntax.erased Syntax.mut (Syntax.tyInt Syntax.w64))
           (Syntax.tcons (Syntax.tyInt Syntax.w64) Syntax.tnil))),
     ) (List._∷_ (
-      15,
+      14,
       Rows'.any-gone (Syntax.tyRef Syntax.erased Syntax.mut (Syntax.tyInt Syntax.w8)),
+    ) (List._∷_ (
+      15,
+      Rows'.any-gone
+          (Syntax.tyStruct
+          (List._∷_ 38 (List._∷_ 91 (List._∷_ 93 List.[])))
+          (Syntax.tcons
+          (Syntax.tyRef Syntax.erased Syntax.mut (Syntax.tyInt Syntax.w8))
+          (Syntax.tcons (Syntax.tyInt Syntax.w64) Syntax.tnil))),
     ) List.[])))))))))))))))
 
 abbrev pub t26 : List.List Row.Entry
-t26 = List._∷_ (0, Rows'.sc-here (Row.sInt Syntax.w64)) (List._∷_ (
+t26 = List._∷_ (
+  16,
+  Rows'.any-gone (Syntax.tyRef Syntax.erased Syntax.mut (Syntax.tyInt Syntax.w8)),
+) (List._∷_ (
+  17,
+  Rows'.any-gone
+      (Syntax.tyStruct
+      (List._∷_ 38 (List._∷_ 91 (List._∷_ 93 List.[])))
+      (Syntax.tcons
+      (Syntax.tyRef Syntax.erased Syntax.mut (Syntax.tyInt Syntax.w8))
+      (Syntax.tcons (Syntax.tyInt Syntax.w64) Syntax.tnil))),
+)
+    (List._∷_ (
+      18,
+      Rows'.any-gone (Syntax.tyRef Syntax.erased Syntax.mut (Syntax.tyInt Syntax.w8)),
+    ) (List._∷_ (
+      19,
+      Rows'.any-gone
+          (Syntax.tyStruct
+          (List._∷_ 38 (List._∷_ 91 (List._∷_ 93 List.[])))
+          (Syntax.tcons
+          (Syntax.tyRef Syntax.erased Syntax.mut (Syntax.tyInt Syntax.w8))
+          (Syntax.tcons (Syntax.tyInt Syntax.w64) Syntax.tnil))),
+    ) (List._∷_ (
+      20,
+      Rows'.any-gone
+          (Syntax.tyRef
+          Syntax.erased
+          Syntax.mut
+          (Syntax.tyArray Elem.ty 64)),
+    ) (List._∷_ (
+      21,
+      Mut.msleft
+          Elem.R
+          (Syntax.tyRef Syntax.erased Syntax.mut Elem.ty),
+    ) List.[])))))
+
+abbrev pub t27 : List.List Row.Entry
+t27 = List._∷_ (0, Rows'.sc-here (Row.sInt Syntax.w64)) (List._∷_ (
   1,
   Rows'.sslice
       (Referent.rtF (Referent.fInt Syntax.w8))
@@ -2269,40 +2169,27 @@ t26 = List._∷_ (0, Rows'.sc-here (Row.sInt Syntax.w64)) (List._∷_ (
       5,
 ) (List._∷_ (
   8,
-  Relend.mslice-owed
+  Mut.mslice
       (Referent.rtF (Referent.fInt Syntax.w8))
       (Syntax.tyRef (Syntax.named 6) Syntax.mut (Syntax.tyInt Syntax.w8))
-      6
-      11
-      Row.off,
+      6,
 ) (List._∷_ (
   9,
-  Relend.mslice-owed
+  Mut.mslice
       (Referent.rtF (Referent.fInt Syntax.w8))
       (Syntax.tyRef (Syntax.named 7) Syntax.mut (Syntax.tyInt Syntax.w8))
-      7
-      12
-      Row.off,
-) (List._∷_ (
-  10,
-  Relend.mslice-owed
-      (Referent.rtF (Referent.fInt Syntax.w8))
-      (Syntax.tyRef (Syntax.named 8) Syntax.mut (Syntax.tyInt Syntax.w8))
-      8
-      13
-      Row.off,
+      7,
 )
+    (List._∷_
+    (10, Rows.arrF Elem.R 64 0)
     (List._∷_ (
       11,
-      Rows.arr-owed Elem.R 64 14,
-    ) (List._∷_ (
-      12,
       Rows'.any-gone (Syntax.tyArray Elem.held 64),
     ) (List._∷_ (
-      13,
+      12,
       Rows'.any-gone (Syntax.tyRef Syntax.erased Syntax.mut (Syntax.tyInt Syntax.w64)),
     ) (List._∷_ (
-      14,
+      13,
       Rows'.any-gone
           (Syntax.tyStruct
           (List._∷_ 38 (List._∷_ 91 (List._∷_ 93 List.[])))
@@ -2310,57 +2197,17 @@ t26 = List._∷_ (0, Rows'.sc-here (Row.sInt Syntax.w64)) (List._∷_ (
           (Syntax.tyRef Syntax.erased Syntax.mut (Syntax.tyInt Syntax.w64))
           (Syntax.tcons (Syntax.tyInt Syntax.w64) Syntax.tnil))),
     ) (List._∷_ (
+      14,
+      Rows'.any-gone (Syntax.tyRef Syntax.erased Syntax.mut (Syntax.tyInt Syntax.w8)),
+    ) (List._∷_ (
       15,
-      Rows'.any-gone (Syntax.tyRef Syntax.erased Syntax.mut (Syntax.tyInt Syntax.w8)),
-    ) List.[])))))))))))))))
-
-abbrev pub t27 : List.List Row.Entry
-t27 = List._∷_ (
-  16,
-  Rows'.any-gone
-      (Syntax.tyStruct
-      (List._∷_ 38 (List._∷_ 91 (List._∷_ 93 List.[])))
-      (Syntax.tcons
-      (Syntax.tyRef Syntax.erased Syntax.mut (Syntax.tyInt Syntax.w8))
-      (Syntax.tcons (Syntax.tyInt Syntax.w64) Syntax.tnil))),
-)
-    (List._∷_ (
-      17,
-      Rows'.any-gone (Syntax.tyRef Syntax.erased Syntax.mut (Syntax.tyInt Syntax.w8)),
-    ) (List._∷_ (
-      18,
-      Mut.msleft
-          (Referent.rtF (Referent.fInt Syntax.w8))
-          (Syntax.tyRef Syntax.erased Syntax.mut (Syntax.tyInt Syntax.w8)),
-    ) (List._∷_ (
-      19,
-      Rows'.any-gone (Syntax.tyRef Syntax.erased Syntax.mut (Syntax.tyInt Syntax.w8)),
-    ) (List._∷_ (
-      20,
-      Mut.msleft
-          (Referent.rtF (Referent.fInt Syntax.w8))
-          (Syntax.tyRef Syntax.erased Syntax.mut (Syntax.tyInt Syntax.w8)),
-    ) (List._∷_ (
-      21,
-      Rows'.any-gone (Syntax.tyRef Syntax.erased Syntax.mut (Syntax.tyInt Syntax.w8)),
-    ) (List._∷_ (
-      22,
-      Mut.msleft
-          (Referent.rtF (Referent.fInt Syntax.w8))
-          (Syntax.tyRef Syntax.erased Syntax.mut (Syntax.tyInt Syntax.w8)),
-    ) (List._∷_ (
-      23,
       Rows'.any-gone
-          (Syntax.tyRef
-          Syntax.erased
-          Syntax.mut
-          (Syntax.tyArray Elem.ty 64)),
-    ) (List._∷_ (
-      24,
-      Mut.msleft
-          Elem.R
-          (Syntax.tyRef Syntax.erased Syntax.mut Elem.ty),
-    ) List.[]))))))))
+          (Syntax.tyStruct
+          (List._∷_ 38 (List._∷_ 91 (List._∷_ 93 List.[])))
+          (Syntax.tcons
+          (Syntax.tyRef Syntax.erased Syntax.mut (Syntax.tyInt Syntax.w8))
+          (Syntax.tcons (Syntax.tyInt Syntax.w64) Syntax.tnil))),
+    ) List.[])))))))))))))))
 
 abbrev pub t28 : List.List Row.Entry
 t28 = List._∷_ (0, Rows'.sc-here (Row.sInt Syntax.w64)) (List._∷_ (
@@ -2407,507 +2254,22 @@ t28 = List._∷_ (0, Rows'.sc-here (Row.sInt Syntax.w64)) (List._∷_ (
       6,
 ) (List._∷_ (
   9,
-  Relend.mslice-owed
-      (Referent.rtF (Referent.fInt Syntax.w8))
-      (Syntax.tyRef (Syntax.named 7) Syntax.mut (Syntax.tyInt Syntax.w8))
-      7
-      12
-      Row.off,
-) (List._∷_ (
-  10,
-  Relend.mslice-owed
-      (Referent.rtF (Referent.fInt Syntax.w8))
-      (Syntax.tyRef (Syntax.named 8) Syntax.mut (Syntax.tyInt Syntax.w8))
-      8
-      13
-      Row.off,
-)
-    (List._∷_ (
-      11,
-      Rows.arr-owed Elem.R 64 14,
-    ) (List._∷_ (
-      12,
-      Rows'.any-gone (Syntax.tyArray Elem.held 64),
-    ) (List._∷_ (
-      13,
-      Rows'.any-gone (Syntax.tyRef Syntax.erased Syntax.mut (Syntax.tyInt Syntax.w64)),
-    ) (List._∷_ (
-      14,
-      Rows'.any-gone
-          (Syntax.tyStruct
-          (List._∷_ 38 (List._∷_ 91 (List._∷_ 93 List.[])))
-          (Syntax.tcons
-          (Syntax.tyRef Syntax.erased Syntax.mut (Syntax.tyInt Syntax.w64))
-          (Syntax.tcons (Syntax.tyInt Syntax.w64) Syntax.tnil))),
-    ) (List._∷_ (
-      15,
-      Rows'.any-gone (Syntax.tyRef Syntax.erased Syntax.mut (Syntax.tyInt Syntax.w8)),
-    ) List.[])))))))))))))))
-
-abbrev pub t29 : List.List Row.Entry
-t29 = List._∷_ (
-  16,
-  Rows'.any-gone
-      (Syntax.tyStruct
-      (List._∷_ 38 (List._∷_ 91 (List._∷_ 93 List.[])))
-      (Syntax.tcons
-      (Syntax.tyRef Syntax.erased Syntax.mut (Syntax.tyInt Syntax.w8))
-      (Syntax.tcons (Syntax.tyInt Syntax.w64) Syntax.tnil))),
-)
-    (List._∷_ (
-      17,
-      Rows'.any-gone (Syntax.tyRef Syntax.erased Syntax.mut (Syntax.tyInt Syntax.w8)),
-    ) (List._∷_ (
-      18,
-      Rows'.any-gone
-          (Syntax.tyStruct
-          (List._∷_ 38 (List._∷_ 91 (List._∷_ 93 List.[])))
-          (Syntax.tcons
-          (Syntax.tyRef Syntax.erased Syntax.mut (Syntax.tyInt Syntax.w8))
-          (Syntax.tcons (Syntax.tyInt Syntax.w64) Syntax.tnil))),
-    ) (List._∷_ (
-      19,
-      Rows'.any-gone (Syntax.tyRef Syntax.erased Syntax.mut (Syntax.tyInt Syntax.w8)),
-    ) (List._∷_ (
-      20,
-      Mut.msleft
-          (Referent.rtF (Referent.fInt Syntax.w8))
-          (Syntax.tyRef Syntax.erased Syntax.mut (Syntax.tyInt Syntax.w8)),
-    ) (List._∷_ (
-      21,
-      Rows'.any-gone (Syntax.tyRef Syntax.erased Syntax.mut (Syntax.tyInt Syntax.w8)),
-    ) (List._∷_ (
-      22,
-      Mut.msleft
-          (Referent.rtF (Referent.fInt Syntax.w8))
-          (Syntax.tyRef Syntax.erased Syntax.mut (Syntax.tyInt Syntax.w8)),
-    ) (List._∷_ (
-      23,
-      Rows'.any-gone
-          (Syntax.tyRef
-          Syntax.erased
-          Syntax.mut
-          (Syntax.tyArray Elem.ty 64)),
-    ) (List._∷_ (
-      24,
-      Mut.msleft
-          Elem.R
-          (Syntax.tyRef Syntax.erased Syntax.mut Elem.ty),
-    ) List.[]))))))))
-
-abbrev pub t30 : List.List Row.Entry
-t30 = List._∷_ (0, Rows'.sc-here (Row.sInt Syntax.w64)) (List._∷_ (
-  1,
-  Rows'.sslice
-      (Referent.rtF (Referent.fInt Syntax.w8))
-      (Syntax.tyRef (Syntax.named 0) Syntax.imm (Syntax.tyInt Syntax.w8))
-      0,
-) (List._∷_ (
-  2,
-  Rows'.sslice
-      (Referent.rtF (Referent.fInt Syntax.w64))
-      (Syntax.tyRef (Syntax.named 1) Syntax.imm (Syntax.tyInt Syntax.w64))
-      1,
-) (List._∷_ (3, Rows'.sc-here (Row.sInt Syntax.w64)) (List._∷_ (
-  4,
-  Rows'.sslice
-      (Referent.rtF (Referent.fInt Syntax.w64))
-      (Syntax.tyRef (Syntax.named 2) Syntax.imm (Syntax.tyInt Syntax.w64))
-      2,
-) (List._∷_ (
-  5,
-  Rows'.sslice
-      (Referent.rtF (Referent.fInt Syntax.w8))
-      (Syntax.tyRef (Syntax.named 3) Syntax.imm (Syntax.tyInt Syntax.w8))
-      3,
-) (List._∷_ (
-  6,
-  Mut.mslice
-      (Referent.rtF (Referent.fInt Syntax.w64))
-      (Syntax.tyRef (Syntax.named 4) Syntax.mut (Syntax.tyInt Syntax.w64))
-      4,
-) (List._∷_ (
-  7,
-  Mut.mslice
-      (Referent.rtF (Referent.fInt Syntax.w8))
-      (Syntax.tyRef (Syntax.named 5) Syntax.mut (Syntax.tyInt Syntax.w8))
-      5,
-) (List._∷_ (
-  8,
-  Mut.mslice
-      (Referent.rtF (Referent.fInt Syntax.w8))
-      (Syntax.tyRef (Syntax.named 6) Syntax.mut (Syntax.tyInt Syntax.w8))
-      6,
-) (List._∷_ (
-  9,
   Mut.mslice
       (Referent.rtF (Referent.fInt Syntax.w8))
       (Syntax.tyRef (Syntax.named 7) Syntax.mut (Syntax.tyInt Syntax.w8))
       7,
 ) (List._∷_ (
   10,
-  Relend.mslice-owed
-      (Referent.rtF (Referent.fInt Syntax.w8))
-      (Syntax.tyRef (Syntax.named 8) Syntax.mut (Syntax.tyInt Syntax.w8))
-      8
-      13
-      Row.off,
-)
-    (List._∷_ (
-      11,
-      Rows.arr-owed Elem.R 64 14,
-    ) (List._∷_ (
-      12,
-      Rows'.any-gone (Syntax.tyArray Elem.held 64),
-    ) (List._∷_ (
-      13,
-      Rows'.any-gone (Syntax.tyRef Syntax.erased Syntax.mut (Syntax.tyInt Syntax.w64)),
-    ) (List._∷_ (
-      14,
-      Rows'.any-gone
-          (Syntax.tyStruct
-          (List._∷_ 38 (List._∷_ 91 (List._∷_ 93 List.[])))
-          (Syntax.tcons
-          (Syntax.tyRef Syntax.erased Syntax.mut (Syntax.tyInt Syntax.w64))
-          (Syntax.tcons (Syntax.tyInt Syntax.w64) Syntax.tnil))),
-    ) (List._∷_ (
-      15,
-      Rows'.any-gone (Syntax.tyRef Syntax.erased Syntax.mut (Syntax.tyInt Syntax.w8)),
-    ) List.[])))))))))))))))
-
-abbrev pub t31 : List.List Row.Entry
-t31 = List._∷_ (
-  16,
-  Rows'.any-gone
-      (Syntax.tyStruct
-      (List._∷_ 38 (List._∷_ 91 (List._∷_ 93 List.[])))
-      (Syntax.tcons
-      (Syntax.tyRef Syntax.erased Syntax.mut (Syntax.tyInt Syntax.w8))
-      (Syntax.tcons (Syntax.tyInt Syntax.w64) Syntax.tnil))),
-)
-    (List._∷_ (
-      17,
-      Rows'.any-gone (Syntax.tyRef Syntax.erased Syntax.mut (Syntax.tyInt Syntax.w8)),
-    ) (List._∷_ (
-      18,
-      Rows'.any-gone
-          (Syntax.tyStruct
-          (List._∷_ 38 (List._∷_ 91 (List._∷_ 93 List.[])))
-          (Syntax.tcons
-          (Syntax.tyRef Syntax.erased Syntax.mut (Syntax.tyInt Syntax.w8))
-          (Syntax.tcons (Syntax.tyInt Syntax.w64) Syntax.tnil))),
-    ) (List._∷_ (
-      19,
-      Rows'.any-gone (Syntax.tyRef Syntax.erased Syntax.mut (Syntax.tyInt Syntax.w8)),
-    ) (List._∷_ (
-      20,
-      Rows'.any-gone
-          (Syntax.tyStruct
-          (List._∷_ 38 (List._∷_ 91 (List._∷_ 93 List.[])))
-          (Syntax.tcons
-          (Syntax.tyRef Syntax.erased Syntax.mut (Syntax.tyInt Syntax.w8))
-          (Syntax.tcons (Syntax.tyInt Syntax.w64) Syntax.tnil))),
-    ) (List._∷_ (
-      21,
-      Rows'.any-gone (Syntax.tyRef Syntax.erased Syntax.mut (Syntax.tyInt Syntax.w8)),
-    ) (List._∷_ (
-      22,
-      Mut.msleft
-          (Referent.rtF (Referent.fInt Syntax.w8))
-          (Syntax.tyRef Syntax.erased Syntax.mut (Syntax.tyInt Syntax.w8)),
-    ) (List._∷_ (
-      23,
-      Rows'.any-gone
-          (Syntax.tyRef
-          Syntax.erased
-          Syntax.mut
-          (Syntax.tyArray Elem.ty 64)),
-    ) (List._∷_ (
-      24,
-      Mut.msleft
-          Elem.R
-          (Syntax.tyRef Syntax.erased Syntax.mut Elem.ty),
-    ) List.[]))))))))
-
-abbrev pub t32 : List.List Row.Entry
-t32 = List._∷_ (0, Rows'.sc-here (Row.sInt Syntax.w64)) (List._∷_ (
-  1,
-  Rows'.sslice
-      (Referent.rtF (Referent.fInt Syntax.w8))
-      (Syntax.tyRef (Syntax.named 0) Syntax.imm (Syntax.tyInt Syntax.w8))
-      0,
-) (List._∷_ (
-  2,
-  Rows'.sslice
-      (Referent.rtF (Referent.fInt Syntax.w64))
-      (Syntax.tyRef (Syntax.named 1) Syntax.imm (Syntax.tyInt Syntax.w64))
-      1,
-) (List._∷_ (3, Rows'.sc-here (Row.sInt Syntax.w64)) (List._∷_ (
-  4,
-  Rows'.sslice
-      (Referent.rtF (Referent.fInt Syntax.w64))
-      (Syntax.tyRef (Syntax.named 2) Syntax.imm (Syntax.tyInt Syntax.w64))
-      2,
-) (List._∷_ (
-  5,
-  Rows'.sslice
-      (Referent.rtF (Referent.fInt Syntax.w8))
-      (Syntax.tyRef (Syntax.named 3) Syntax.imm (Syntax.tyInt Syntax.w8))
-      3,
-) (List._∷_ (
-  6,
-  Mut.mslice
-      (Referent.rtF (Referent.fInt Syntax.w64))
-      (Syntax.tyRef (Syntax.named 4) Syntax.mut (Syntax.tyInt Syntax.w64))
-      4,
-) (List._∷_ (
-  7,
-  Mut.mslice
-      (Referent.rtF (Referent.fInt Syntax.w8))
-      (Syntax.tyRef (Syntax.named 5) Syntax.mut (Syntax.tyInt Syntax.w8))
-      5,
-) (List._∷_ (
-  8,
-  Mut.mslice
-      (Referent.rtF (Referent.fInt Syntax.w8))
-      (Syntax.tyRef (Syntax.named 6) Syntax.mut (Syntax.tyInt Syntax.w8))
-      6,
-) (List._∷_ (
-  9,
-  Mut.mslice
-      (Referent.rtF (Referent.fInt Syntax.w8))
-      (Syntax.tyRef (Syntax.named 7) Syntax.mut (Syntax.tyInt Syntax.w8))
-      7,
-) (List._∷_ (
-  10,
-  Mut.mslice
-      (Referent.rtF (Referent.fInt Syntax.w8))
-      (Syntax.tyRef (Syntax.named 8) Syntax.mut (Syntax.tyInt Syntax.w8))
-      8,
-)
-    (List._∷_ (
-      11,
-      Rows.arr-owed Elem.R 64 14,
-    ) (List._∷_ (
-      12,
-      Rows'.any-gone (Syntax.tyArray Elem.held 64),
-    ) (List._∷_ (
-      13,
-      Rows'.any-gone (Syntax.tyRef Syntax.erased Syntax.mut (Syntax.tyInt Syntax.w64)),
-    ) (List._∷_ (
-      14,
-      Rows'.any-gone
-          (Syntax.tyStruct
-          (List._∷_ 38 (List._∷_ 91 (List._∷_ 93 List.[])))
-          (Syntax.tcons
-          (Syntax.tyRef Syntax.erased Syntax.mut (Syntax.tyInt Syntax.w64))
-          (Syntax.tcons (Syntax.tyInt Syntax.w64) Syntax.tnil))),
-    ) (List._∷_ (
-      15,
-      Rows'.any-gone (Syntax.tyRef Syntax.erased Syntax.mut (Syntax.tyInt Syntax.w8)),
-    ) List.[])))))))))))))))
-
-abbrev pub t33 : List.List Row.Entry
-t33 = List._∷_ (
-  16,
-  Rows'.any-gone
-      (Syntax.tyStruct
-      (List._∷_ 38 (List._∷_ 91 (List._∷_ 93 List.[])))
-      (Syntax.tcons
-      (Syntax.tyRef Syntax.erased Syntax.mut (Syntax.tyInt Syntax.w8))
-      (Syntax.tcons (Syntax.tyInt Syntax.w64) Syntax.tnil))),
-)
-    (List._∷_ (
-      17,
-      Rows'.any-gone (Syntax.tyRef Syntax.erased Syntax.mut (Syntax.tyInt Syntax.w8)),
-    ) (List._∷_ (
-      18,
-      Rows'.any-gone
-          (Syntax.tyStruct
-          (List._∷_ 38 (List._∷_ 91 (List._∷_ 93 List.[])))
-          (Syntax.tcons
-          (Syntax.tyRef Syntax.erased Syntax.mut (Syntax.tyInt Syntax.w8))
-          (Syntax.tcons (Syntax.tyInt Syntax.w64) Syntax.tnil))),
-    ) (List._∷_ (
-      19,
-      Rows'.any-gone (Syntax.tyRef Syntax.erased Syntax.mut (Syntax.tyInt Syntax.w8)),
-    ) (List._∷_ (
-      20,
-      Rows'.any-gone
-          (Syntax.tyStruct
-          (List._∷_ 38 (List._∷_ 91 (List._∷_ 93 List.[])))
-          (Syntax.tcons
-          (Syntax.tyRef Syntax.erased Syntax.mut (Syntax.tyInt Syntax.w8))
-          (Syntax.tcons (Syntax.tyInt Syntax.w64) Syntax.tnil))),
-    ) (List._∷_ (
-      21,
-      Rows'.any-gone (Syntax.tyRef Syntax.erased Syntax.mut (Syntax.tyInt Syntax.w8)),
-    ) (List._∷_ (
-      22,
-      Rows'.any-gone
-          (Syntax.tyStruct
-          (List._∷_ 38 (List._∷_ 91 (List._∷_ 93 List.[])))
-          (Syntax.tcons
-          (Syntax.tyRef Syntax.erased Syntax.mut (Syntax.tyInt Syntax.w8))
-          (Syntax.tcons (Syntax.tyInt Syntax.w64) Syntax.tnil))),
-    ) (List._∷_ (
-      23,
-      Rows'.any-gone
-          (Syntax.tyRef
-          Syntax.erased
-          Syntax.mut
-          (Syntax.tyArray Elem.ty 64)),
-    ) (List._∷_ (
-      24,
-      Mut.msleft
-          Elem.R
-          (Syntax.tyRef Syntax.erased Syntax.mut Elem.ty),
-    ) List.[]))))))))
-
-abbrev pub t34 : List.List Row.Entry
-t34 = List._∷_ (0, Rows'.sc-here (Row.sInt Syntax.w64)) (List._∷_ (
-  1,
-  Rows'.sslice
-      (Referent.rtF (Referent.fInt Syntax.w8))
-      (Syntax.tyRef (Syntax.named 0) Syntax.imm (Syntax.tyInt Syntax.w8))
-      0,
-) (List._∷_ (
-  2,
-  Rows'.sslice
-      (Referent.rtF (Referent.fInt Syntax.w64))
-      (Syntax.tyRef (Syntax.named 1) Syntax.imm (Syntax.tyInt Syntax.w64))
-      1,
-) (List._∷_ (3, Rows'.sc-here (Row.sInt Syntax.w64)) (List._∷_ (
-  4,
-  Rows'.sslice
-      (Referent.rtF (Referent.fInt Syntax.w64))
-      (Syntax.tyRef (Syntax.named 2) Syntax.imm (Syntax.tyInt Syntax.w64))
-      2,
-) (List._∷_ (
-  5,
-  Rows'.sslice
-      (Referent.rtF (Referent.fInt Syntax.w8))
-      (Syntax.tyRef (Syntax.named 3) Syntax.imm (Syntax.tyInt Syntax.w8))
-      3,
-) (List._∷_ (
-  6,
-  Mut.mslice
-      (Referent.rtF (Referent.fInt Syntax.w64))
-      (Syntax.tyRef (Syntax.named 4) Syntax.mut (Syntax.tyInt Syntax.w64))
-      4,
-) (List._∷_ (
-  7,
-  Mut.mslice
-      (Referent.rtF (Referent.fInt Syntax.w8))
-      (Syntax.tyRef (Syntax.named 5) Syntax.mut (Syntax.tyInt Syntax.w8))
-      5,
-) (List._∷_ (
-  8,
-  Mut.mslice
-      (Referent.rtF (Referent.fInt Syntax.w8))
-      (Syntax.tyRef (Syntax.named 6) Syntax.mut (Syntax.tyInt Syntax.w8))
-      6,
-) (List._∷_ (
-  9,
-  Mut.mslice
-      (Referent.rtF (Referent.fInt Syntax.w8))
-      (Syntax.tyRef (Syntax.named 7) Syntax.mut (Syntax.tyInt Syntax.w8))
-      7,
-) (List._∷_ (
-  10,
-  Mut.mslice
-      (Referent.rtF (Referent.fInt Syntax.w8))
-      (Syntax.tyRef (Syntax.named 8) Syntax.mut (Syntax.tyInt Syntax.w8))
-      8,
-)
-    (List._∷_
-    (11, Rows.arrF Elem.R 64 0)
-    (List._∷_ (
-      12,
-      Rows'.any-gone (Syntax.tyArray Elem.held 64),
-    ) (List._∷_ (
-      13,
-      Rows'.any-gone (Syntax.tyRef Syntax.erased Syntax.mut (Syntax.tyInt Syntax.w64)),
-    ) (List._∷_ (
-      14,
-      Rows'.any-gone
-          (Syntax.tyStruct
-          (List._∷_ 38 (List._∷_ 91 (List._∷_ 93 List.[])))
-          (Syntax.tcons
-          (Syntax.tyRef Syntax.erased Syntax.mut (Syntax.tyInt Syntax.w64))
-          (Syntax.tcons (Syntax.tyInt Syntax.w64) Syntax.tnil))),
-    ) (List._∷_ (
-      15,
-      Rows'.any-gone (Syntax.tyRef Syntax.erased Syntax.mut (Syntax.tyInt Syntax.w8)),
-    ) List.[])))))))))))))))
-
-abbrev pub t35 : List.List Row.Entry
-t35 = List._∷_ (0, Rows'.sc-here (Row.sInt Syntax.w64)) (List._∷_ (
-  1,
-  Rows'.sslice
-      (Referent.rtF (Referent.fInt Syntax.w8))
-      (Syntax.tyRef (Syntax.named 0) Syntax.imm (Syntax.tyInt Syntax.w8))
-      0,
-) (List._∷_ (
-  2,
-  Rows'.sslice
-      (Referent.rtF (Referent.fInt Syntax.w64))
-      (Syntax.tyRef (Syntax.named 1) Syntax.imm (Syntax.tyInt Syntax.w64))
-      1,
-) (List._∷_ (3, Rows'.sc-here (Row.sInt Syntax.w64)) (List._∷_ (
-  4,
-  Rows'.sslice
-      (Referent.rtF (Referent.fInt Syntax.w64))
-      (Syntax.tyRef (Syntax.named 2) Syntax.imm (Syntax.tyInt Syntax.w64))
-      2,
-) (List._∷_ (
-  5,
-  Rows'.sslice
-      (Referent.rtF (Referent.fInt Syntax.w8))
-      (Syntax.tyRef (Syntax.named 3) Syntax.imm (Syntax.tyInt Syntax.w8))
-      3,
-) (List._∷_ (
-  6,
-  Mut.mslice
-      (Referent.rtF (Referent.fInt Syntax.w64))
-      (Syntax.tyRef (Syntax.named 4) Syntax.mut (Syntax.tyInt Syntax.w64))
-      4,
-) (List._∷_ (
-  7,
-  Mut.mslice
-      (Referent.rtF (Referent.fInt Syntax.w8))
-      (Syntax.tyRef (Syntax.named 5) Syntax.mut (Syntax.tyInt Syntax.w8))
-      5,
-) (List._∷_ (
-  8,
-  Mut.mslice
-      (Referent.rtF (Referent.fInt Syntax.w8))
-      (Syntax.tyRef (Syntax.named 6) Syntax.mut (Syntax.tyInt Syntax.w8))
-      6,
-) (List._∷_ (
-  9,
-  Mut.mslice
-      (Referent.rtF (Referent.fInt Syntax.w8))
-      (Syntax.tyRef (Syntax.named 7) Syntax.mut (Syntax.tyInt Syntax.w8))
-      7,
-) (List._∷_ (
-  10,
-  Mut.mslice
-      (Referent.rtF (Referent.fInt Syntax.w8))
-      (Syntax.tyRef (Syntax.named 8) Syntax.mut (Syntax.tyInt Syntax.w8))
-      8,
+  Rows'.any-gone (Syntax.tyArray Elem.held 64),
 ) (List._∷_ (
   11,
   Rows'.any-gone (Syntax.tyArray Elem.held 64),
-) (List._∷_ (
-  12,
-  Rows'.any-gone (Syntax.tyArray Elem.held 64),
 )
     (List._∷_ (
-      13,
+      12,
       Rows'.any-gone (Syntax.tyRef Syntax.erased Syntax.mut (Syntax.tyInt Syntax.w64)),
     ) (List._∷_ (
-      14,
+      13,
       Rows'.any-gone
           (Syntax.tyStruct
           (List._∷_ 38 (List._∷_ 91 (List._∷_ 93 List.[])))
@@ -2915,8 +2277,16 @@ t35 = List._∷_ (0, Rows'.sc-here (Row.sInt Syntax.w64)) (List._∷_ (
           (Syntax.tyRef Syntax.erased Syntax.mut (Syntax.tyInt Syntax.w64))
           (Syntax.tcons (Syntax.tyInt Syntax.w64) Syntax.tnil))),
     ) (List._∷_ (
-      15,
+      14,
       Rows'.any-gone (Syntax.tyRef Syntax.erased Syntax.mut (Syntax.tyInt Syntax.w8)),
+    ) (List._∷_ (
+      15,
+      Rows'.any-gone
+          (Syntax.tyStruct
+          (List._∷_ 38 (List._∷_ 91 (List._∷_ 93 List.[])))
+          (Syntax.tcons
+          (Syntax.tyRef Syntax.erased Syntax.mut (Syntax.tyInt Syntax.w8))
+          (Syntax.tcons (Syntax.tyInt Syntax.w64) Syntax.tnil))),
     ) List.[])))))))))))))))
 
 abbrev pub T0 : Row.Cx
@@ -2950,94 +2320,79 @@ abbrev pub T9 : Row.Cx
 T9 = record { locals = List._++_ t0 t1; slots = List.[] }
 
 abbrev pub T10 : Row.Cx
-T10 = record { locals = List._++_ t0 t1; slots = List.[] }
+T10 = record { locals = List._++_ t3 t1; slots = List.[] }
 
 abbrev pub T11 : Row.Cx
-T11 = record { locals = List._++_ t3 t1; slots = List.[] }
+T11 = record { locals = List._++_ t4 t1; slots = List.[] }
 
 abbrev pub T12 : Row.Cx
-T12 = record { locals = List._++_ t4 t1; slots = List.[] }
+T12 = record { locals = List._++_ t5 t1; slots = List.[] }
 
-abbrev pub T13 : Row.Cx
-T13 = record { locals = List._++_ t5 t1; slots = List.[] }
+abbrev pub T14 : Row.Cx
+T14 = record { locals = List._++_ t6 t1; slots = List.[] }
 
 abbrev pub T15 : Row.Cx
-T15 = record { locals = List._++_ t6 t1; slots = List.[] }
+T15 = record { locals = List._++_ t7 t1; slots = List.[] }
 
-abbrev pub T16 : Row.Cx
-T16 = record { locals = List._++_ t7 t1; slots = List.[] }
+abbrev pub T17 : Row.Cx
+T17 = record { locals = List._++_ t8 t1; slots = List.[] }
 
 abbrev pub T18 : Row.Cx
-T18 = record { locals = List._++_ t8 t1; slots = List.[] }
+T18 = record { locals = List._++_ t9 t1; slots = List.[] }
 
-abbrev pub T19 : Row.Cx
-T19 = record { locals = List._++_ t9 t10; slots = List.[] }
+abbrev pub T20 : Row.Cx
+T20 = record { locals = List._++_ t10 t11; slots = List.[] }
 
 abbrev pub T21 : Row.Cx
-T21 = record { locals = List._++_ t11 t12; slots = List.[] }
+T21 = record { locals = List._++_ t10 t12; slots = List.[] }
 
-abbrev pub T22 : Row.Cx
-T22 = record { locals = List._++_ t11 t13; slots = List.[] }
+abbrev pub T23 : Row.Cx
+T23 = record { locals = List._++_ t13 t14; slots = List.[] }
 
 abbrev pub T24 : Row.Cx
-T24 = record { locals = List._++_ t14 t15; slots = List.[] }
+T24 = record { locals = List._++_ t13 t15; slots = List.[] }
 
-abbrev pub T25 : Row.Cx
-T25 = record { locals = List._++_ t14 t16; slots = List.[] }
+abbrev pub T26 : Row.Cx
+T26 = record { locals = List._++_ t16 t17; slots = List.[] }
 
 abbrev pub T27 : Row.Cx
-T27 = record { locals = List._++_ t17 t18; slots = List.[] }
+T27 = record { locals = List._++_ t16 t18; slots = List.[] }
 
 abbrev pub T28 : Row.Cx
-T28 = record { locals = List._++_ t17 t19; slots = List.[] }
+T28 = record { locals = List._++_ t19 t20; slots = List.[] }
 
 abbrev pub T30 : Row.Cx
-T30 = record { locals = List._++_ t20 t21; slots = List.[] }
+T30 = record { locals = List._++_ t21 t20; slots = List.[] }
 
 abbrev pub T31 : Row.Cx
-T31 = record { locals = List._++_ t20 t22; slots = List.[] }
-
-abbrev pub T32 : Row.Cx
-T32 = record { locals = List._++_ t23 t24; slots = List.[] }
+T31 = record { locals = List._++_ t21 t20; slots = List.[] }
 
 abbrev pub T34 : Row.Cx
-T34 = record { locals = List._++_ t25 t24; slots = List.[] }
+T34 = record { locals = List._++_ t22 t20; slots = List.[] }
 
 abbrev pub T35 : Row.Cx
-T35 = record { locals = List._++_ t25 t24; slots = List.[] }
+T35 = record { locals = List._++_ t22 t20; slots = List.[] }
 
 abbrev pub T38 : Row.Cx
-T38 = record { locals = List._++_ t26 t27; slots = List.[] }
+T38 = record { locals = List._++_ t23 t24; slots = List.[] }
 
 abbrev pub T39 : Row.Cx
-T39 = record { locals = List._++_ t26 t27; slots = List.[] }
+T39 = record { locals = List._++_ t23 t24; slots = List.[] }
 
 abbrev pub T42 : Row.Cx
-T42 = record { locals = List._++_ t28 t29; slots = List.[] }
+T42 = record { locals = List._++_ t25 t26; slots = List.[] }
 
 abbrev pub T43 : Row.Cx
-T43 = record { locals = List._++_ t28 t29; slots = List.[] }
+T43 = record { locals = List._++_ t25 t26; slots = List.[] }
 
 abbrev pub T46 : Row.Cx
-T46 = record { locals = List._++_ t30 t31; slots = List.[] }
+T46 = record { locals = List._++_ t27 t1; slots = List.[] }
 
-abbrev pub T47 : Row.Cx
-T47 = record { locals = List._++_ t30 t31; slots = List.[] }
+abbrev pub T48 : Row.Cx
+T48 = record { locals = List._++_ t28 t1; slots = List.[] }
 
-abbrev pub T50 : Row.Cx
-T50 = record { locals = List._++_ t32 t33; slots = List.[] }
-
-abbrev pub T51 : Row.Cx
-T51 = record { locals = List._++_ t32 t33; slots = List.[] }
-
-abbrev pub T54 : Row.Cx
-T54 = record { locals = List._++_ t34 t1; slots = List.[] }
-
-abbrev pub T56 : Row.Cx
-T56 = record { locals = List._++_ t35 t1; slots = List.[] }
-
-abbrev pub T57 : Row.Cx
-T57 = record { locals = List._++_ t2 t1; slots = List.[] }
+abbrev pub T49 : Row.Cx
+T49 = record { locals = List._++_ t2 t1; slots = List.[] }
 
 abbrev pub O0 : Typed.Outs
 O0 = record { next = Option.none; exits = List.[]; returns = Option.some T1 }
@@ -3139,37 +2494,25 @@ module _ (claims· : Claims) where
       0
       λ x. x
 
-  abbrev s8 : (bs : List.List Nat.ℕ) → Typed.Gives T9 T10
+  abbrev s8 : (bs : List.List Nat.ℕ) → Typed.Both T9 T10
   s8 =
-      λ bs. Know.k-sl-known
-      (Referent.fInt Syntax.w8)
-      T9
-      10
-      8
-      (Syntax.tyRef (Syntax.named 8) Syntax.mut (Syntax.tyInt Syntax.w8))
-      Row.off
-      0
-      λ x. x
-
-  abbrev s9 : (bs : List.List Nat.ℕ) → Typed.Both T10 T11
-  s9 =
       λ bs. Call.callB
       ps·0
       r·0
       (claims· .0)
       (claims· .1)
-      T10
+      T9
       tt
-      12
+      11
       List.[]
       (Syntax.tyArray Elem.held 64)
 
-  abbrev s10 : (bs : List.List Nat.ℕ) → Typed.Mo T11 → Typed.Mo T12
-  s10 =
+  abbrev s9 : (bs : List.List Nat.ℕ) → Typed.Mo T10 → Typed.Mo T11
+  s9 =
       λ bs. LocalCopy.n-val-copy
-      T11
-      12
+      T10
       11
+      10
       (Array'.Array Elem.R 64)
       (Rows.arrF Elem.R 64 0)
       (Rows.arrF Elem.R 64 0)
@@ -3177,33 +2520,33 @@ module _ (claims· : Claims) where
       (λ x. x)
       λ x. x
 
-  abbrev s11 : (bs : List.List Nat.ℕ) → Typed.Mo T12 → Typed.Mo T13
-  s11 =
-      λ bs. Scalar.n-room T12 12 (Syntax.tyArray Elem.held 64)
+  abbrev s10 : (bs : List.List Nat.ℕ) → Typed.Mo T11 → Typed.Mo T12
+  s10 =
+      λ bs. Scalar.n-room T11 11 (Syntax.tyArray Elem.held 64)
 
-  abbrev s13 : (bs : List.List Nat.ℕ) → Typed.Gives T13 T15
-  s13 =
+  abbrev s12 : (bs : List.List Nat.ℕ) → Typed.Gives T12 T14
+  s12 =
       λ bs. Relend.k-sl-relend
       (Referent.rtF (Referent.fInt Syntax.w64))
-      T13
+      T12
       6
-      13
+      12
       4
-      9
+      8
       (Syntax.tyRef (Syntax.named 4) Syntax.mut (Syntax.tyInt Syntax.w64))
       (Syntax.tyRef Syntax.erased Syntax.mut (Syntax.tyInt Syntax.w64))
       Row.off
       λ x. x
 
-  abbrev s14 : (bs : List.List Nat.ℕ) → Typed.Asks T15 T16
-  s14 =
+  abbrev s13 : (bs : List.List Nat.ℕ) → Typed.Asks T14 T15
+  s13 =
       λ bs. Relend.k-sl-aggregate
       (Referent.rtF (Referent.fInt Syntax.w64))
       (Relend.asMut (Referent.rtF (Referent.fInt Syntax.w64)))
-      T15
+      T14
+      12
       13
-      14
-      9
+      8
       (Syntax.tyRef Syntax.erased Syntax.mut (Syntax.tyInt Syntax.w64))
       (Syntax.tyRef Syntax.erased Syntax.mut (Syntax.tyInt Syntax.w64))
       (λ x. x)
@@ -3215,29 +2558,29 @@ module _ (claims· : Claims) where
       λ v. Shared.lenV
       (v .0))
 
-  abbrev s16 : (bs : List.List Nat.ℕ) → Typed.Gives T16 T18
-  s16 =
+  abbrev s15 : (bs : List.List Nat.ℕ) → Typed.Gives T15 T17
+  s15 =
       λ bs. Relend.k-sl-relend
       (Referent.rtF (Referent.fInt Syntax.w8))
-      T16
+      T15
       7
-      15
+      14
       5
-      10
+      9
       (Syntax.tyRef (Syntax.named 5) Syntax.mut (Syntax.tyInt Syntax.w8))
       (Syntax.tyRef Syntax.erased Syntax.mut (Syntax.tyInt Syntax.w8))
       Row.off
       λ x. x
 
-  abbrev s17 : (bs : List.List Nat.ℕ) → Typed.Asks T18 T19
-  s17 =
+  abbrev s16 : (bs : List.List Nat.ℕ) → Typed.Asks T17 T18
+  s16 =
       λ bs. Relend.k-sl-aggregate
       (Referent.rtF (Referent.fInt Syntax.w8))
       (Relend.asMut (Referent.rtF (Referent.fInt Syntax.w8)))
-      T18
+      T17
+      14
       15
-      16
-      10
+      9
       (Syntax.tyRef Syntax.erased Syntax.mut (Syntax.tyInt Syntax.w8))
       (Syntax.tyRef Syntax.erased Syntax.mut (Syntax.tyInt Syntax.w8))
       (λ x. x)
@@ -3249,29 +2592,29 @@ module _ (claims· : Claims) where
       λ v. Shared.lenV
       (v .0))
 
-  abbrev s19 : (bs : List.List Nat.ℕ) → Typed.Gives T19 T21
-  s19 =
+  abbrev s18 : (bs : List.List Nat.ℕ) → Typed.Gives T18 T20
+  s18 =
       λ bs. Relend.k-sl-relend
       (Referent.rtF (Referent.fInt Syntax.w8))
-      T19
+      T18
       8
-      17
+      16
       6
-      11
+      10
       (Syntax.tyRef (Syntax.named 6) Syntax.mut (Syntax.tyInt Syntax.w8))
       (Syntax.tyRef Syntax.erased Syntax.mut (Syntax.tyInt Syntax.w8))
       Row.off
       λ x. x
 
-  abbrev s20 : (bs : List.List Nat.ℕ) → Typed.Asks T21 T22
-  s20 =
+  abbrev s19 : (bs : List.List Nat.ℕ) → Typed.Asks T20 T21
+  s19 =
       λ bs. Relend.k-sl-aggregate
       (Referent.rtF (Referent.fInt Syntax.w8))
       (Relend.asMut (Referent.rtF (Referent.fInt Syntax.w8)))
-      T21
+      T20
+      16
       17
-      18
-      11
+      10
       (Syntax.tyRef Syntax.erased Syntax.mut (Syntax.tyInt Syntax.w8))
       (Syntax.tyRef Syntax.erased Syntax.mut (Syntax.tyInt Syntax.w8))
       (λ x. x)
@@ -3283,29 +2626,29 @@ module _ (claims· : Claims) where
       λ v. Shared.lenV
       (v .0))
 
-  abbrev s22 : (bs : List.List Nat.ℕ) → Typed.Gives T22 T24
-  s22 =
+  abbrev s21 : (bs : List.List Nat.ℕ) → Typed.Gives T21 T23
+  s21 =
       λ bs. Relend.k-sl-relend
       (Referent.rtF (Referent.fInt Syntax.w8))
-      T22
+      T21
       9
-      19
+      18
       7
-      12
+      11
       (Syntax.tyRef (Syntax.named 7) Syntax.mut (Syntax.tyInt Syntax.w8))
       (Syntax.tyRef Syntax.erased Syntax.mut (Syntax.tyInt Syntax.w8))
       Row.off
       λ x. x
 
-  abbrev s23 : (bs : List.List Nat.ℕ) → Typed.Asks T24 T25
-  s23 =
+  abbrev s22 : (bs : List.List Nat.ℕ) → Typed.Asks T23 T24
+  s22 =
       λ bs. Relend.k-sl-aggregate
       (Referent.rtF (Referent.fInt Syntax.w8))
       (Relend.asMut (Referent.rtF (Referent.fInt Syntax.w8)))
-      T24
+      T23
+      18
       19
-      20
-      12
+      11
       (Syntax.tyRef Syntax.erased Syntax.mut (Syntax.tyInt Syntax.w8))
       (Syntax.tyRef Syntax.erased Syntax.mut (Syntax.tyInt Syntax.w8))
       (λ x. x)
@@ -3317,69 +2660,33 @@ module _ (claims· : Claims) where
       λ v. Shared.lenV
       (v .0))
 
-  abbrev s25 : (bs : List.List Nat.ℕ) → Typed.Gives T25 T27
-  s25 =
-      λ bs. Relend.k-sl-relend
-      (Referent.rtF (Referent.fInt Syntax.w8))
-      T25
-      10
-      21
-      8
-      13
-      (Syntax.tyRef (Syntax.named 8) Syntax.mut (Syntax.tyInt Syntax.w8))
-      (Syntax.tyRef Syntax.erased Syntax.mut (Syntax.tyInt Syntax.w8))
-      Row.off
-      λ x. x
-
-  abbrev s26 : (bs : List.List Nat.ℕ) → Typed.Asks T27 T28
-  s26 =
-      λ bs. Relend.k-sl-aggregate
-      (Referent.rtF (Referent.fInt Syntax.w8))
-      (Relend.asMut (Referent.rtF (Referent.fInt Syntax.w8)))
-      T27
-      21
-      22
-      13
-      (Syntax.tyRef Syntax.erased Syntax.mut (Syntax.tyInt Syntax.w8))
-      (Syntax.tyRef Syntax.erased Syntax.mut (Syntax.tyInt Syntax.w8))
-      (λ x. x)
-      (Scalar.oFld
-      10
-      (List._∷_ (Syntax.field 1) List.[])
-      (Syntax.tyInt Syntax.w64)
-      8
-      λ v. Shared.lenV
-      (v .0))
-
-  abbrev s28 : (bs : List.List Nat.ℕ) → Typed.Gives T28 T30
-  s28 =
+  abbrev s24 : (bs : List.List Nat.ℕ) → Typed.Gives T24 T26
+  s24 =
       λ bs. Borrow.k-arr-borrow
       Elem.R
-      T28
+      T24
       (Row.hd
       0
-      (Row.tl
-      (Row.tl
-      (Row.tl (Row.tl (Row.tl (Row.tl (Row.tl (Row.tl (Row.tl (Row.tl (Row.tl bs))))))))))))
-      11
-      23
+      (Row.tl (Row.tl (Row.tl (Row.tl (Row.tl (Row.tl (Row.tl (Row.tl (Row.tl (Row.tl bs)))))))))))
+      10
+      20
       64
-      14
+      12
       (Syntax.tyRef
       Syntax.erased
       Syntax.mut
       (Syntax.tyArray Elem.ty 64))
       λ x. x
 
-  abbrev s29 : (bs : List.List Nat.ℕ) → Typed.Asks T30 T31
-  s29 =
+  abbrev s25 : (bs : List.List Nat.ℕ) → Typed.Asks T26 T27
+  s25 =
       λ bs. Relend.k-sl-aggregate
       Elem.R
       (Relend.asMut Elem.R)
-      T30
-      23
-      24
-      14
+      T26
+      20
+      21
+      12
       (Syntax.tyRef
       Syntax.erased
       Syntax.mut
@@ -3388,8 +2695,8 @@ module _ (claims· : Claims) where
       (λ x. x)
       (Scalar.oInt Syntax.w64 64)
 
-  abbrev s30 : (bs : List.List Nat.ℕ) → Typed.Both T31 T32
-  s30 = λ bs. Call.callB ps·1 r·1 (claims· .2) (claims· .3) T31 (
+  abbrev s26 : (bs : List.List Nat.ℕ) → Typed.Both T27 T28
+  s26 = λ bs. Call.callB ps·1 r·1 (claims· .2) (claims· .3) T27 (
     record {
       pos = 1;
       ty = Syntax.tyRef (Syntax.named 0) Syntax.imm (Syntax.tyInt Syntax.w8);
@@ -3417,45 +2724,38 @@ module _ (claims· : Claims) where
             },
             (
               record {
-                pos = 14;
+                pos = 13;
                 ty = Syntax.tyRef Syntax.erased Syntax.mut (Syntax.tyInt Syntax.w64);
                 ref = λ x. x;
               },
               (
                 record {
-                  pos = 16;
+                  pos = 15;
                   ty = Syntax.tyRef Syntax.erased Syntax.mut (Syntax.tyInt Syntax.w8);
                   ref = λ x. x;
                 },
                 (
                   record {
-                    pos = 18;
+                    pos = 17;
                     ty = Syntax.tyRef Syntax.erased Syntax.mut (Syntax.tyInt Syntax.w8);
                     ref = λ x. x;
                   },
                   (
                     record {
-                      pos = 20;
+                      pos = 19;
                       ty = Syntax.tyRef Syntax.erased Syntax.mut (Syntax.tyInt Syntax.w8);
                       ref = λ x. x;
                     },
                     (
                       record {
-                        pos = 22;
-                        ty = Syntax.tyRef Syntax.erased Syntax.mut (Syntax.tyInt Syntax.w8);
+                        pos = 21;
+                        ty = Syntax.tyRef
+                            Syntax.erased
+                            Syntax.mut
+                            Elem.ty;
                         ref = λ x. x;
                       },
-                      (
-                        record {
-                          pos = 24;
-                          ty = Syntax.tyRef
-                              Syntax.erased
-                              Syntax.mut
-                              Elem.ty;
-                          ref = λ x. x;
-                        },
-                        tt,
-                      ),
+                      tt,
                     ),
                   ),
                 ),
@@ -3473,24 +2773,47 @@ module _ (claims· : Claims) where
       1
       (List._∷_
       2
-      (List._∷_
-      3
-      (List._∷_
-      9
-      (List._∷_ 10 (List._∷_ 11 (List._∷_ 12 (List._∷_ 13 (List._∷_ 14 List.[]))))))))))
+      (List._∷_ 3 (List._∷_ 8 (List._∷_ 9 (List._∷_ 10 (List._∷_ 11 (List._∷_ 12 List.[])))))))))
       (Syntax.tyInt Syntax.w64)
 
-  abbrev s32 : (bs : List.List Nat.ℕ) → Typed.Both T32 T34
-  s32 =
+  abbrev s28 : (bs : List.List Nat.ℕ) → Typed.Both T28 T30
+  s28 =
       λ bs. Relend.k-back-sl
       (Referent.rtF (Referent.fInt Syntax.w64))
-      T32
-      14
+      T28
+      13
       6
       4
-      9
+      8
       (Syntax.tyRef (Syntax.named 4) Syntax.mut (Syntax.tyInt Syntax.w64))
       (Syntax.tyRef Syntax.erased Syntax.mut (Syntax.tyInt Syntax.w64))
+      Row.off
+      (λ x. x)
+      λ x. x
+
+  abbrev s29 : (bs : List.List Nat.ℕ) → Typed.Gives T30 T31
+  s29 =
+      λ bs. Know.k-sl-known
+      (Referent.fInt Syntax.w64)
+      T30
+      6
+      4
+      (Syntax.tyRef (Syntax.named 4) Syntax.mut (Syntax.tyInt Syntax.w64))
+      Row.off
+      0
+      λ x. x
+
+  abbrev s32 : (bs : List.List Nat.ℕ) → Typed.Both T31 T34
+  s32 =
+      λ bs. Relend.k-back-sl
+      (Referent.rtF (Referent.fInt Syntax.w8))
+      T31
+      15
+      7
+      5
+      9
+      (Syntax.tyRef (Syntax.named 5) Syntax.mut (Syntax.tyInt Syntax.w8))
+      (Syntax.tyRef Syntax.erased Syntax.mut (Syntax.tyInt Syntax.w8))
       Row.off
       (λ x. x)
       λ x. x
@@ -3498,11 +2821,11 @@ module _ (claims· : Claims) where
   abbrev s33 : (bs : List.List Nat.ℕ) → Typed.Gives T34 T35
   s33 =
       λ bs. Know.k-sl-known
-      (Referent.fInt Syntax.w64)
+      (Referent.fInt Syntax.w8)
       T34
-      6
-      4
-      (Syntax.tyRef (Syntax.named 4) Syntax.mut (Syntax.tyInt Syntax.w64))
+      7
+      5
+      (Syntax.tyRef (Syntax.named 5) Syntax.mut (Syntax.tyInt Syntax.w8))
       Row.off
       0
       λ x. x
@@ -3512,11 +2835,11 @@ module _ (claims· : Claims) where
       λ bs. Relend.k-back-sl
       (Referent.rtF (Referent.fInt Syntax.w8))
       T35
-      16
-      7
-      5
+      17
+      8
+      6
       10
-      (Syntax.tyRef (Syntax.named 5) Syntax.mut (Syntax.tyInt Syntax.w8))
+      (Syntax.tyRef (Syntax.named 6) Syntax.mut (Syntax.tyInt Syntax.w8))
       (Syntax.tyRef Syntax.erased Syntax.mut (Syntax.tyInt Syntax.w8))
       Row.off
       (λ x. x)
@@ -3527,9 +2850,9 @@ module _ (claims· : Claims) where
       λ bs. Know.k-sl-known
       (Referent.fInt Syntax.w8)
       T38
-      7
-      5
-      (Syntax.tyRef (Syntax.named 5) Syntax.mut (Syntax.tyInt Syntax.w8))
+      8
+      6
+      (Syntax.tyRef (Syntax.named 6) Syntax.mut (Syntax.tyInt Syntax.w8))
       Row.off
       0
       λ x. x
@@ -3539,11 +2862,11 @@ module _ (claims· : Claims) where
       λ bs. Relend.k-back-sl
       (Referent.rtF (Referent.fInt Syntax.w8))
       T39
-      18
-      8
-      6
+      19
+      9
+      7
       11
-      (Syntax.tyRef (Syntax.named 6) Syntax.mut (Syntax.tyInt Syntax.w8))
+      (Syntax.tyRef (Syntax.named 7) Syntax.mut (Syntax.tyInt Syntax.w8))
       (Syntax.tyRef Syntax.erased Syntax.mut (Syntax.tyInt Syntax.w8))
       Row.off
       (λ x. x)
@@ -3554,281 +2877,203 @@ module _ (claims· : Claims) where
       λ bs. Know.k-sl-known
       (Referent.fInt Syntax.w8)
       T42
-      8
-      6
-      (Syntax.tyRef (Syntax.named 6) Syntax.mut (Syntax.tyInt Syntax.w8))
+      9
+      7
+      (Syntax.tyRef (Syntax.named 7) Syntax.mut (Syntax.tyInt Syntax.w8))
       Row.off
       0
       λ x. x
 
   abbrev s44 : (bs : List.List Nat.ℕ) → Typed.Both T43 T46
   s44 =
-      λ bs. Relend.k-back-sl
-      (Referent.rtF (Referent.fInt Syntax.w8))
-      T43
-      20
-      9
-      7
-      12
-      (Syntax.tyRef (Syntax.named 7) Syntax.mut (Syntax.tyInt Syntax.w8))
-      (Syntax.tyRef Syntax.erased Syntax.mut (Syntax.tyInt Syntax.w8))
-      Row.off
-      (λ x. x)
-      λ x. x
-
-  abbrev s45 : (bs : List.List Nat.ℕ) → Typed.Gives T46 T47
-  s45 =
-      λ bs. Know.k-sl-known
-      (Referent.fInt Syntax.w8)
-      T46
-      9
-      7
-      (Syntax.tyRef (Syntax.named 7) Syntax.mut (Syntax.tyInt Syntax.w8))
-      Row.off
-      0
-      λ x. x
-
-  abbrev s48 : (bs : List.List Nat.ℕ) → Typed.Both T47 T50
-  s48 =
-      λ bs. Relend.k-back-sl
-      (Referent.rtF (Referent.fInt Syntax.w8))
-      T47
-      22
-      10
-      8
-      13
-      (Syntax.tyRef (Syntax.named 8) Syntax.mut (Syntax.tyInt Syntax.w8))
-      (Syntax.tyRef Syntax.erased Syntax.mut (Syntax.tyInt Syntax.w8))
-      Row.off
-      (λ x. x)
-      λ x. x
-
-  abbrev s49 : (bs : List.List Nat.ℕ) → Typed.Gives T50 T51
-  s49 =
-      λ bs. Know.k-sl-known
-      (Referent.fInt Syntax.w8)
-      T50
-      10
-      8
-      (Syntax.tyRef (Syntax.named 8) Syntax.mut (Syntax.tyInt Syntax.w8))
-      Row.off
-      0
-      λ x. x
-
-  abbrev s52 : (bs : List.List Nat.ℕ) → Typed.Both T51 T54
-  s52 =
       λ bs. Borrow.k-back-arr
       Elem.R
-      T51
-      24
-      11
-      14
+      T43
+      21
+      10
+      12
       64
       (Syntax.tyRef Syntax.erased Syntax.mut Elem.ty)
       (λ x. x)
       λ x. x
 
-  abbrev s54 : (bs : List.List Nat.ℕ) → Typed.Mo T54 → Typed.Mo T56
-  s54 =
-      λ bs. Scalar.n-room T54 11 (Syntax.tyArray Elem.held 64)
+  abbrev s46 : (bs : List.List Nat.ℕ) → Typed.Mo T46 → Typed.Mo T48
+  s46 =
+      λ bs. Scalar.n-room T46 10 (Syntax.tyArray Elem.held 64)
 
-  abbrev s55 : (bs : List.List Nat.ℕ) → Typed.Mo T56 → Typed.Mo T57
-  s55 = λ bs. Scalar.n-room T56 3 (Syntax.tyInt Syntax.w64)
+  abbrev s47 : (bs : List.List Nat.ℕ) → Typed.Mo T48 → Typed.Mo T49
+  s47 = λ bs. Scalar.n-room T48 3 (Syntax.tyInt Syntax.w64)
 
-  module _ (Pre· : (κs : Lifetimes.Lfts 9) → Kinds.Dens κs ps → Type 0)
-      (Post· : (κs : Lifetimes.Lfts 9) → (a : Kinds.Dens κs ps) → Kinds.Plain 9 ps r κs) where
+  module _ (Pre· : (κs : Lifetimes.Lfts 8) → Kinds.Dens κs ps → Type 0)
+      (Post· : (κs : Lifetimes.Lfts 8) → (a : Kinds.Dens κs ps) → Kinds.Plain 8 ps r κs) where
     module _ (M : Type 1) where
       abbrev pub Closed : Type 2
       Closed =
           (𝓤 : URA.URA M) (H : Wp.Heap 𝓤) (A : Atoms.Atoms 𝓤) (W : Kit.Given 𝓤 H A) (𝓣 : Wp.Tables
           𝓤 H) (known0 : Plain.Known 𝓤 H A W 𝓣 0 ps·0 r·0 (claims· .0) (claims· .1)
-          "records::window") (known1 : Plain.Known 𝓤 H A W 𝓣 10 ps·1 r·1 (claims· .2) (claims· .3)
-          "calls::rebuild_lines") → Statement.Triple 𝓤 (Wp.WpFn 𝓤 H (𝓣 .C) (𝓣 .Λ) (Function.fnOf 9
-          ps r xs m hs body)) (Function.plainOf 𝓤 H A 9 ps r Pre· Post·)
+          "records::window") (known1 : Plain.Known 𝓤 H A W 𝓣 9 ps·1 r·1 (claims· .2) (claims· .3)
+          "calls::rebuild_lines") → Statement.Triple 𝓤 (Wp.WpFn 𝓤 H (𝓣 .C) (𝓣 .Λ) (Function.fnOf 8
+          ps r xs m hs body)) (Function.plainOf 𝓤 H A 8 ps r Pre· Post·)
 
     module _ where
-      abbrev at0 : (bs : List.List Nat.ℕ) → Typed.TF T57 O0
+      abbrev at0 : (bs : List.List Nat.ℕ) → Typed.TF T49 O0
       at0 = λ bs. Typed.atRet O0
 
-      abbrev at1 : (bs : List.List Nat.ℕ) → Typed.TF T56 O0
-      at1 = λ bs. λ Ψ. Typed.pass T56 T57 (s55 bs) (at0 bs Ψ)
+      abbrev at1 : (bs : List.List Nat.ℕ) → Typed.TF T48 O0
+      at1 = λ bs. λ Ψ. Typed.pass T48 T49 (s47 bs) (at0 bs Ψ)
 
-      abbrev at2 : (bs : List.List Nat.ℕ) → Typed.TF T54 O0
-      at2 = λ bs. λ Ψ. Typed.pass T54 T56 (s54 bs) (at1 bs Ψ)
+      abbrev at2 : (bs : List.List Nat.ℕ) → Typed.TF T46 O0
+      at2 = λ bs. λ Ψ. Typed.pass T46 T48 (s46 bs) (at1 bs Ψ)
 
-      abbrev at3 : (bs : List.List Nat.ℕ) → Typed.TF T54 O0
+      abbrev at3 : (bs : List.List Nat.ℕ) → Typed.TF T46 O0
       at3 = λ bs. λ Ψ. at2 bs Ψ
 
-      abbrev at4 : (bs : List.List Nat.ℕ) → Typed.TF T51 O0
-      at4 = λ bs. λ Ψ. Typed.both (s52 bs) (at3 bs Ψ)
+      abbrev at4 : (bs : List.List Nat.ℕ) → Typed.TF T43 O0
+      at4 = λ bs. λ Ψ. Typed.both (s44 bs) (at3 bs Ψ)
 
-      abbrev at5 : (bs : List.List Nat.ℕ) → Typed.TF T51 O0
+      abbrev at5 : (bs : List.List Nat.ℕ) → Typed.TF T43 O0
       at5 = λ bs. λ Ψ. at4 bs Ψ
 
-      abbrev at6 : (bs : List.List Nat.ℕ) → Typed.TF T51 O0
+      abbrev at6 : (bs : List.List Nat.ℕ) → Typed.TF T43 O0
       at6 = λ bs. λ Ψ. at5 bs Ψ
 
-      abbrev at7 : (bs : List.List Nat.ℕ) → Typed.TF T50 O0
-      at7 = λ bs. λ Ψ. Typed.give (s49 bs) (at6 bs Ψ)
+      abbrev at7 : (bs : List.List Nat.ℕ) → Typed.TF T42 O0
+      at7 = λ bs. λ Ψ. Typed.give (s41 bs) (at6 bs Ψ)
 
-      abbrev at8 : (bs : List.List Nat.ℕ) → Typed.TF T47 O0
-      at8 = λ bs. λ Ψ. Typed.both (s48 bs) (at7 bs Ψ)
+      abbrev at8 : (bs : List.List Nat.ℕ) → Typed.TF T39 O0
+      at8 = λ bs. λ Ψ. Typed.both (s40 bs) (at7 bs Ψ)
 
-      abbrev at9 : (bs : List.List Nat.ℕ) → Typed.TF T47 O0
+      abbrev at9 : (bs : List.List Nat.ℕ) → Typed.TF T39 O0
       at9 = λ bs. λ Ψ. at8 bs Ψ
 
-      abbrev at10 : (bs : List.List Nat.ℕ) → Typed.TF T47 O0
+      abbrev at10 : (bs : List.List Nat.ℕ) → Typed.TF T39 O0
       at10 = λ bs. λ Ψ. at9 bs Ψ
 
-      abbrev at11 : (bs : List.List Nat.ℕ) → Typed.TF T46 O0
-      at11 = λ bs. λ Ψ. Typed.give (s45 bs) (at10 bs Ψ)
+      abbrev at11 : (bs : List.List Nat.ℕ) → Typed.TF T38 O0
+      at11 = λ bs. λ Ψ. Typed.give (s37 bs) (at10 bs Ψ)
 
-      abbrev at12 : (bs : List.List Nat.ℕ) → Typed.TF T43 O0
-      at12 = λ bs. λ Ψ. Typed.both (s44 bs) (at11 bs Ψ)
+      abbrev at12 : (bs : List.List Nat.ℕ) → Typed.TF T35 O0
+      at12 = λ bs. λ Ψ. Typed.both (s36 bs) (at11 bs Ψ)
 
-      abbrev at13 : (bs : List.List Nat.ℕ) → Typed.TF T43 O0
+      abbrev at13 : (bs : List.List Nat.ℕ) → Typed.TF T35 O0
       at13 = λ bs. λ Ψ. at12 bs Ψ
 
-      abbrev at14 : (bs : List.List Nat.ℕ) → Typed.TF T43 O0
+      abbrev at14 : (bs : List.List Nat.ℕ) → Typed.TF T35 O0
       at14 = λ bs. λ Ψ. at13 bs Ψ
 
-      abbrev at15 : (bs : List.List Nat.ℕ) → Typed.TF T42 O0
-      at15 = λ bs. λ Ψ. Typed.give (s41 bs) (at14 bs Ψ)
+      abbrev at15 : (bs : List.List Nat.ℕ) → Typed.TF T34 O0
+      at15 = λ bs. λ Ψ. Typed.give (s33 bs) (at14 bs Ψ)
 
-      abbrev at16 : (bs : List.List Nat.ℕ) → Typed.TF T39 O0
-      at16 = λ bs. λ Ψ. Typed.both (s40 bs) (at15 bs Ψ)
+      abbrev at16 : (bs : List.List Nat.ℕ) → Typed.TF T31 O0
+      at16 = λ bs. λ Ψ. Typed.both (s32 bs) (at15 bs Ψ)
 
-      abbrev at17 : (bs : List.List Nat.ℕ) → Typed.TF T39 O0
+      abbrev at17 : (bs : List.List Nat.ℕ) → Typed.TF T31 O0
       at17 = λ bs. λ Ψ. at16 bs Ψ
 
-      abbrev at18 : (bs : List.List Nat.ℕ) → Typed.TF T39 O0
+      abbrev at18 : (bs : List.List Nat.ℕ) → Typed.TF T31 O0
       at18 = λ bs. λ Ψ. at17 bs Ψ
 
-      abbrev at19 : (bs : List.List Nat.ℕ) → Typed.TF T38 O0
-      at19 = λ bs. λ Ψ. Typed.give (s37 bs) (at18 bs Ψ)
+      abbrev at19 : (bs : List.List Nat.ℕ) → Typed.TF T30 O0
+      at19 = λ bs. λ Ψ. Typed.give (s29 bs) (at18 bs Ψ)
 
-      abbrev at20 : (bs : List.List Nat.ℕ) → Typed.TF T35 O0
-      at20 = λ bs. λ Ψ. Typed.both (s36 bs) (at19 bs Ψ)
+      abbrev at20 : (bs : List.List Nat.ℕ) → Typed.TF T28 O0
+      at20 = λ bs. λ Ψ. Typed.both (s28 bs) (at19 bs Ψ)
 
-      abbrev at21 : (bs : List.List Nat.ℕ) → Typed.TF T35 O0
+      abbrev at21 : (bs : List.List Nat.ℕ) → Typed.TF T28 O0
       at21 = λ bs. λ Ψ. at20 bs Ψ
 
-      abbrev at22 : (bs : List.List Nat.ℕ) → Typed.TF T35 O0
-      at22 = λ bs. λ Ψ. at21 bs Ψ
+      abbrev at22 : (bs : List.List Nat.ℕ) → Typed.TF T27 O0
+      at22 = λ bs. λ Ψ. Typed.both (s26 bs) (at21 bs Ψ)
 
-      abbrev at23 : (bs : List.List Nat.ℕ) → Typed.TF T34 O0
-      at23 = λ bs. λ Ψ. Typed.give (s33 bs) (at22 bs Ψ)
+      abbrev at23 : (bs : List.List Nat.ℕ) → Typed.TF T26 O0
+      at23 = λ bs. λ Ψ. Typed.ask (s25 bs) (at22 bs Ψ)
 
-      abbrev at24 : (bs : List.List Nat.ℕ) → Typed.TF T32 O0
-      at24 = λ bs. λ Ψ. Typed.both (s32 bs) (at23 bs Ψ)
+      abbrev at24 : (bs : List.List Nat.ℕ) → Typed.TF T24 O0
+      at24 = λ bs. λ Ψ. Typed.give (s24 bs) (at23 bs Ψ)
 
-      abbrev at25 : (bs : List.List Nat.ℕ) → Typed.TF T32 O0
+      abbrev at25 : (bs : List.List Nat.ℕ) → Typed.TF T24 O0
       at25 = λ bs. λ Ψ. at24 bs Ψ
 
-      abbrev at26 : (bs : List.List Nat.ℕ) → Typed.TF T31 O0
-      at26 = λ bs. λ Ψ. Typed.both (s30 bs) (at25 bs Ψ)
+      abbrev at26 : (bs : List.List Nat.ℕ) → Typed.TF T23 O0
+      at26 = λ bs. λ Ψ. Typed.ask (s22 bs) (at25 bs Ψ)
 
-      abbrev at27 : (bs : List.List Nat.ℕ) → Typed.TF T30 O0
-      at27 = λ bs. λ Ψ. Typed.ask (s29 bs) (at26 bs Ψ)
+      abbrev at27 : (bs : List.List Nat.ℕ) → Typed.TF T21 O0
+      at27 = λ bs. λ Ψ. Typed.give (s21 bs) (at26 bs Ψ)
 
-      abbrev at28 : (bs : List.List Nat.ℕ) → Typed.TF T28 O0
-      at28 = λ bs. λ Ψ. Typed.give (s28 bs) (at27 bs Ψ)
+      abbrev at28 : (bs : List.List Nat.ℕ) → Typed.TF T21 O0
+      at28 = λ bs. λ Ψ. at27 bs Ψ
 
-      abbrev at29 : (bs : List.List Nat.ℕ) → Typed.TF T28 O0
-      at29 = λ bs. λ Ψ. at28 bs Ψ
+      abbrev at29 : (bs : List.List Nat.ℕ) → Typed.TF T20 O0
+      at29 = λ bs. λ Ψ. Typed.ask (s19 bs) (at28 bs Ψ)
 
-      abbrev at30 : (bs : List.List Nat.ℕ) → Typed.TF T27 O0
-      at30 = λ bs. λ Ψ. Typed.ask (s26 bs) (at29 bs Ψ)
+      abbrev at30 : (bs : List.List Nat.ℕ) → Typed.TF T18 O0
+      at30 = λ bs. λ Ψ. Typed.give (s18 bs) (at29 bs Ψ)
 
-      abbrev at31 : (bs : List.List Nat.ℕ) → Typed.TF T25 O0
-      at31 = λ bs. λ Ψ. Typed.give (s25 bs) (at30 bs Ψ)
+      abbrev at31 : (bs : List.List Nat.ℕ) → Typed.TF T18 O0
+      at31 = λ bs. λ Ψ. at30 bs Ψ
 
-      abbrev at32 : (bs : List.List Nat.ℕ) → Typed.TF T25 O0
-      at32 = λ bs. λ Ψ. at31 bs Ψ
+      abbrev at32 : (bs : List.List Nat.ℕ) → Typed.TF T17 O0
+      at32 = λ bs. λ Ψ. Typed.ask (s16 bs) (at31 bs Ψ)
 
-      abbrev at33 : (bs : List.List Nat.ℕ) → Typed.TF T24 O0
-      at33 = λ bs. λ Ψ. Typed.ask (s23 bs) (at32 bs Ψ)
+      abbrev at33 : (bs : List.List Nat.ℕ) → Typed.TF T15 O0
+      at33 = λ bs. λ Ψ. Typed.give (s15 bs) (at32 bs Ψ)
 
-      abbrev at34 : (bs : List.List Nat.ℕ) → Typed.TF T22 O0
-      at34 = λ bs. λ Ψ. Typed.give (s22 bs) (at33 bs Ψ)
+      abbrev at34 : (bs : List.List Nat.ℕ) → Typed.TF T15 O0
+      at34 = λ bs. λ Ψ. at33 bs Ψ
 
-      abbrev at35 : (bs : List.List Nat.ℕ) → Typed.TF T22 O0
-      at35 = λ bs. λ Ψ. at34 bs Ψ
+      abbrev at35 : (bs : List.List Nat.ℕ) → Typed.TF T14 O0
+      at35 = λ bs. λ Ψ. Typed.ask (s13 bs) (at34 bs Ψ)
 
-      abbrev at36 : (bs : List.List Nat.ℕ) → Typed.TF T21 O0
-      at36 = λ bs. λ Ψ. Typed.ask (s20 bs) (at35 bs Ψ)
+      abbrev at36 : (bs : List.List Nat.ℕ) → Typed.TF T12 O0
+      at36 = λ bs. λ Ψ. Typed.give (s12 bs) (at35 bs Ψ)
 
-      abbrev at37 : (bs : List.List Nat.ℕ) → Typed.TF T19 O0
-      at37 = λ bs. λ Ψ. Typed.give (s19 bs) (at36 bs Ψ)
+      abbrev at37 : (bs : List.List Nat.ℕ) → Typed.TF T12 O0
+      at37 = λ bs. λ Ψ. at36 bs Ψ
 
-      abbrev at38 : (bs : List.List Nat.ℕ) → Typed.TF T19 O0
-      at38 = λ bs. λ Ψ. at37 bs Ψ
+      abbrev at38 : (bs : List.List Nat.ℕ) → Typed.TF T11 O0
+      at38 = λ bs. λ Ψ. Typed.pass T11 T12 (s10 bs) (at37 bs Ψ)
 
-      abbrev at39 : (bs : List.List Nat.ℕ) → Typed.TF T18 O0
-      at39 = λ bs. λ Ψ. Typed.ask (s17 bs) (at38 bs Ψ)
+      abbrev at39 : (bs : List.List Nat.ℕ) → Typed.TF T10 O0
+      at39 = λ bs. λ Ψ. Typed.pass T10 T11 (s9 bs) (at38 bs Ψ)
 
-      abbrev at40 : (bs : List.List Nat.ℕ) → Typed.TF T16 O0
-      at40 = λ bs. λ Ψ. Typed.give (s16 bs) (at39 bs Ψ)
+      abbrev at40 : (bs : List.List Nat.ℕ) → Typed.TF T9 O0
+      at40 = λ bs. λ Ψ. Typed.both (s8 bs) (at39 bs Ψ)
 
-      abbrev at41 : (bs : List.List Nat.ℕ) → Typed.TF T16 O0
-      at41 = λ bs. λ Ψ. at40 bs Ψ
+      abbrev at41 : (bs : List.List Nat.ℕ) → Typed.TF T8 O0
+      at41 = λ bs. λ Ψ. Typed.give (s7 bs) (at40 bs Ψ)
 
-      abbrev at42 : (bs : List.List Nat.ℕ) → Typed.TF T15 O0
-      at42 = λ bs. λ Ψ. Typed.ask (s14 bs) (at41 bs Ψ)
+      abbrev at42 : (bs : List.List Nat.ℕ) → Typed.TF T7 O0
+      at42 = λ bs. λ Ψ. Typed.give (s6 bs) (at41 bs Ψ)
 
-      abbrev at43 : (bs : List.List Nat.ℕ) → Typed.TF T13 O0
-      at43 = λ bs. λ Ψ. Typed.give (s13 bs) (at42 bs Ψ)
+      abbrev at43 : (bs : List.List Nat.ℕ) → Typed.TF T6 O0
+      at43 = λ bs. λ Ψ. Typed.give (s5 bs) (at42 bs Ψ)
 
-      abbrev at44 : (bs : List.List Nat.ℕ) → Typed.TF T13 O0
-      at44 = λ bs. λ Ψ. at43 bs Ψ
+      abbrev at44 : (bs : List.List Nat.ℕ) → Typed.TF T5 O0
+      at44 = λ bs. λ Ψ. Typed.give (s4 bs) (at43 bs Ψ)
 
-      abbrev at45 : (bs : List.List Nat.ℕ) → Typed.TF T12 O0
-      at45 = λ bs. λ Ψ. Typed.pass T12 T13 (s11 bs) (at44 bs Ψ)
+      abbrev at45 : (bs : List.List Nat.ℕ) → Typed.TF T4 O0
+      at45 = λ bs. λ Ψ. Typed.give (s3 bs) (at44 bs Ψ)
 
-      abbrev at46 : (bs : List.List Nat.ℕ) → Typed.TF T11 O0
-      at46 = λ bs. λ Ψ. Typed.pass T11 T12 (s10 bs) (at45 bs Ψ)
+      abbrev at46 : (bs : List.List Nat.ℕ) → Typed.TF T3 O0
+      at46 = λ bs. λ Ψ. Typed.give (s2 bs) (at45 bs Ψ)
 
-      abbrev at47 : (bs : List.List Nat.ℕ) → Typed.TF T10 O0
-      at47 = λ bs. λ Ψ. Typed.both (s9 bs) (at46 bs Ψ)
+      abbrev at47 : (bs : List.List Nat.ℕ) → Typed.TF T2 O0
+      at47 = λ bs. λ Ψ. Typed.give (s1 bs) (at46 bs Ψ)
 
-      abbrev at48 : (bs : List.List Nat.ℕ) → Typed.TF T9 O0
-      at48 = λ bs. λ Ψ. Typed.give (s8 bs) (at47 bs Ψ)
-
-      abbrev at49 : (bs : List.List Nat.ℕ) → Typed.TF T8 O0
-      at49 = λ bs. λ Ψ. Typed.give (s7 bs) (at48 bs Ψ)
-
-      abbrev at50 : (bs : List.List Nat.ℕ) → Typed.TF T7 O0
-      at50 = λ bs. λ Ψ. Typed.give (s6 bs) (at49 bs Ψ)
-
-      abbrev at51 : (bs : List.List Nat.ℕ) → Typed.TF T6 O0
-      at51 = λ bs. λ Ψ. Typed.give (s5 bs) (at50 bs Ψ)
-
-      abbrev at52 : (bs : List.List Nat.ℕ) → Typed.TF T5 O0
-      at52 = λ bs. λ Ψ. Typed.give (s4 bs) (at51 bs Ψ)
-
-      abbrev at53 : (bs : List.List Nat.ℕ) → Typed.TF T4 O0
-      at53 = λ bs. λ Ψ. Typed.give (s3 bs) (at52 bs Ψ)
-
-      abbrev at54 : (bs : List.List Nat.ℕ) → Typed.TF T3 O0
-      at54 = λ bs. λ Ψ. Typed.give (s2 bs) (at53 bs Ψ)
-
-      abbrev at55 : (bs : List.List Nat.ℕ) → Typed.TF T2 O0
-      at55 = λ bs. λ Ψ. Typed.give (s1 bs) (at54 bs Ψ)
-
-      abbrev at56 : (bs : List.List Nat.ℕ) → Typed.TF T0 O0
-      at56 = λ bs. λ Ψ. Typed.give (s0 bs) (at55 bs Ψ)
+      abbrev at48 : (bs : List.List Nat.ℕ) → Typed.TF T0 O0
+      at48 = λ bs. λ Ψ. Typed.give (s0 bs) (at47 bs Ψ)
 
       abbrev pub Φ : (bs : List.List Nat.ℕ) → Typed.TF T0 O0
-      Φ = λ bs. at56 bs
+      Φ = λ bs. at48 bs
 
       module _ {M : Type 1} (𝓤 : URA.URA M) (H : Wp.Heap 𝓤) (A : Atoms.Atoms 𝓤)
           (W : Kit.Given 𝓤 H A) (𝓣 : Wp.Tables 𝓤 H) where
         abbrev Knowns : Type 1
         Knowns =
             Plain.Known 𝓤 H A W 𝓣 0 ps·0 r·0 (claims· .0) (claims· .1) "records::window" ×
-            Plain.Known 𝓤 H A W 𝓣 10 ps·1 r·1 (claims· .2) (claims· .3) "calls::rebuild_lines"
+            Plain.Known 𝓤 H A W 𝓣 9 ps·1 r·1 (claims· .2) (claims· .3) "calls::rebuild_lines"
 
-      module _ (κs : Lifetimes.Lfts 9) (qs : Lifetimes.Shares 9) where
+      module _ (κs : Lifetimes.Lfts 8) (qs : Lifetimes.Shares 8) where
         abbrev g6 : List.List Row.Entry
         g6 = List._∷_ (0, Rows'.any-gone (Syntax.tyInt Syntax.w64)) (List._∷_ (
           1,
@@ -3860,7 +3105,7 @@ module _ (claims· : Claims) where
               (Referent.rtF (Referent.fInt Syntax.w64))
               (Syntax.tyRef (Syntax.named 4) Syntax.mut (Syntax.tyInt Syntax.w64))
               4
-              9
+              8
               (Row.lease (κs .1 .1 .1 .1 .0) (qs .1 .1 .1 .1 .0)),
         ) (List._∷_ (
           7,
@@ -3882,24 +3127,18 @@ module _ (claims· : Claims) where
               7,
         ) (List._∷_ (
           10,
-          Mut.mslice
-              (Referent.rtF (Referent.fInt Syntax.w8))
-              (Syntax.tyRef (Syntax.named 8) Syntax.mut (Syntax.tyInt Syntax.w8))
-              8,
-        ) (List._∷_ (
-          11,
           Rows.arrF Elem.R 64 0,
         ) (List._∷_ (
-          12,
+          11,
           Rows'.any-gone (Syntax.tyArray Elem.held 64),
         ) (List._∷_ (
-          13,
+          12,
           Relend.msptr
               (Referent.rtF (Referent.fInt Syntax.w64))
               (Syntax.tyRef Syntax.erased Syntax.mut (Syntax.tyInt Syntax.w64))
-              9,
+              8,
         ) (List._∷_ (
-          14,
+          13,
           Rows'.any-gone
               (Syntax.tyStruct
               (List._∷_ 38 (List._∷_ 91 (List._∷_ 93 List.[])))
@@ -3907,8 +3146,16 @@ module _ (claims· : Claims) where
               (Syntax.tyRef Syntax.erased Syntax.mut (Syntax.tyInt Syntax.w64))
               (Syntax.tcons (Syntax.tyInt Syntax.w64) Syntax.tnil))),
         ) (List._∷_ (
-          15,
+          14,
           Rows'.any-gone (Syntax.tyRef Syntax.erased Syntax.mut (Syntax.tyInt Syntax.w8)),
+        ) (List._∷_ (
+          15,
+          Rows'.any-gone
+              (Syntax.tyStruct
+              (List._∷_ 38 (List._∷_ 91 (List._∷_ 93 List.[])))
+              (Syntax.tcons
+              (Syntax.tyRef Syntax.erased Syntax.mut (Syntax.tyInt Syntax.w8))
+              (Syntax.tcons (Syntax.tyInt Syntax.w64) Syntax.tnil))),
         ) List.[])))))))))))))))
 
         abbrev g7 : List.List Row.Entry
@@ -3942,7 +3189,7 @@ module _ (claims· : Claims) where
               (Referent.rtF (Referent.fInt Syntax.w64))
               (Syntax.tyRef (Syntax.named 4) Syntax.mut (Syntax.tyInt Syntax.w64))
               4
-              9
+              8
               (Row.lease (κs .1 .1 .1 .1 .0) (qs .1 .1 .1 .1 .0)),
         ) (List._∷_ (
           7,
@@ -3964,28 +3211,30 @@ module _ (claims· : Claims) where
               7,
         ) (List._∷_ (
           10,
-          Mut.mslice
-              (Referent.rtF (Referent.fInt Syntax.w8))
-              (Syntax.tyRef (Syntax.named 8) Syntax.mut (Syntax.tyInt Syntax.w8))
-              8,
-        ) (List._∷_ (
-          11,
           Rows.arrF Elem.R 64 0,
         ) (List._∷_ (
-          12,
+          11,
           Rows'.any-gone (Syntax.tyArray Elem.held 64),
         ) (List._∷_ (
-          13,
+          12,
           Rows'.any-gone (Syntax.tyRef Syntax.erased Syntax.mut (Syntax.tyInt Syntax.w64)),
         ) (List._∷_ (
-          14,
+          13,
           Mut.mslice
               (Referent.rtF (Referent.fInt Syntax.w64))
               (Syntax.tyRef Syntax.erased Syntax.mut (Syntax.tyInt Syntax.w64))
-              9,
+              8,
+        ) (List._∷_ (
+          14,
+          Rows'.any-gone (Syntax.tyRef Syntax.erased Syntax.mut (Syntax.tyInt Syntax.w8)),
         ) (List._∷_ (
           15,
-          Rows'.any-gone (Syntax.tyRef Syntax.erased Syntax.mut (Syntax.tyInt Syntax.w8)),
+          Rows'.any-gone
+              (Syntax.tyStruct
+              (List._∷_ 38 (List._∷_ 91 (List._∷_ 93 List.[])))
+              (Syntax.tcons
+              (Syntax.tyRef Syntax.erased Syntax.mut (Syntax.tyInt Syntax.w8))
+              (Syntax.tcons (Syntax.tyInt Syntax.w64) Syntax.tnil))),
         ) List.[])))))))))))))))
 
         abbrev g8 : List.List Row.Entry
@@ -4019,7 +3268,7 @@ module _ (claims· : Claims) where
               (Referent.rtF (Referent.fInt Syntax.w64))
               (Syntax.tyRef (Syntax.named 4) Syntax.mut (Syntax.tyInt Syntax.w64))
               4
-              9
+              8
               (Row.lease (κs .1 .1 .1 .1 .0) (qs .1 .1 .1 .1 .0)),
         ) (List._∷_ (
           7,
@@ -4027,7 +3276,7 @@ module _ (claims· : Claims) where
               (Referent.rtF (Referent.fInt Syntax.w8))
               (Syntax.tyRef (Syntax.named 5) Syntax.mut (Syntax.tyInt Syntax.w8))
               5
-              10
+              9
               (Row.lease (κs .1 .1 .1 .1 .1 .0) (qs .1 .1 .1 .1 .1 .0)),
         ) (List._∷_ (
           8,
@@ -4043,31 +3292,33 @@ module _ (claims· : Claims) where
               7,
         ) (List._∷_ (
           10,
-          Mut.mslice
-              (Referent.rtF (Referent.fInt Syntax.w8))
-              (Syntax.tyRef (Syntax.named 8) Syntax.mut (Syntax.tyInt Syntax.w8))
-              8,
-        ) (List._∷_ (
-          11,
           Rows.arrF Elem.R 64 0,
         ) (List._∷_ (
-          12,
+          11,
           Rows'.any-gone (Syntax.tyArray Elem.held 64),
         ) (List._∷_ (
-          13,
+          12,
           Rows'.any-gone (Syntax.tyRef Syntax.erased Syntax.mut (Syntax.tyInt Syntax.w64)),
         ) (List._∷_ (
-          14,
+          13,
           Mut.mslice
               (Referent.rtF (Referent.fInt Syntax.w64))
               (Syntax.tyRef Syntax.erased Syntax.mut (Syntax.tyInt Syntax.w64))
-              9,
+              8,
         ) (List._∷_ (
-          15,
+          14,
           Relend.msptr
               (Referent.rtF (Referent.fInt Syntax.w8))
               (Syntax.tyRef Syntax.erased Syntax.mut (Syntax.tyInt Syntax.w8))
-              10,
+              9,
+        ) (List._∷_ (
+          15,
+          Rows'.any-gone
+              (Syntax.tyStruct
+              (List._∷_ 38 (List._∷_ 91 (List._∷_ 93 List.[])))
+              (Syntax.tcons
+              (Syntax.tyRef Syntax.erased Syntax.mut (Syntax.tyInt Syntax.w8))
+              (Syntax.tcons (Syntax.tyInt Syntax.w64) Syntax.tnil))),
         ) List.[])))))))))))))))
 
         abbrev g9 : List.List Row.Entry
@@ -4101,7 +3352,7 @@ module _ (claims· : Claims) where
               (Referent.rtF (Referent.fInt Syntax.w64))
               (Syntax.tyRef (Syntax.named 4) Syntax.mut (Syntax.tyInt Syntax.w64))
               4
-              9
+              8
               (Row.lease (κs .1 .1 .1 .1 .0) (qs .1 .1 .1 .1 .0)),
         ) (List._∷_ (
           7,
@@ -4109,7 +3360,7 @@ module _ (claims· : Claims) where
               (Referent.rtF (Referent.fInt Syntax.w8))
               (Syntax.tyRef (Syntax.named 5) Syntax.mut (Syntax.tyInt Syntax.w8))
               5
-              10
+              9
               (Row.lease (κs .1 .1 .1 .1 .1 .0) (qs .1 .1 .1 .1 .1 .0)),
         ) (List._∷_ (
           8,
@@ -4125,32 +3376,32 @@ module _ (claims· : Claims) where
               7,
         ) (List._∷_ (
           10,
-          Mut.mslice
-              (Referent.rtF (Referent.fInt Syntax.w8))
-              (Syntax.tyRef (Syntax.named 8) Syntax.mut (Syntax.tyInt Syntax.w8))
-              8,
-        ) (List._∷_ (
-          11,
           Rows.arrF Elem.R 64 0,
         ) (List._∷_ (
-          12,
+          11,
           Rows'.any-gone (Syntax.tyArray Elem.held 64),
         ) (List._∷_ (
-          13,
+          12,
           Rows'.any-gone (Syntax.tyRef Syntax.erased Syntax.mut (Syntax.tyInt Syntax.w64)),
         ) (List._∷_ (
-          14,
+          13,
           Mut.mslice
               (Referent.rtF (Referent.fInt Syntax.w64))
               (Syntax.tyRef Syntax.erased Syntax.mut (Syntax.tyInt Syntax.w64))
-              9,
+              8,
+        ) (List._∷_ (
+          14,
+          Rows'.any-gone (Syntax.tyRef Syntax.erased Syntax.mut (Syntax.tyInt Syntax.w8)),
         ) (List._∷_ (
           15,
-          Rows'.any-gone (Syntax.tyRef Syntax.erased Syntax.mut (Syntax.tyInt Syntax.w8)),
+          Mut.mslice
+              (Referent.rtF (Referent.fInt Syntax.w8))
+              (Syntax.tyRef Syntax.erased Syntax.mut (Syntax.tyInt Syntax.w8))
+              9,
         ) List.[])))))))))))))))
 
-        abbrev g11 : List.List Row.Entry
-        g11 = List._∷_ (0, Rows'.any-gone (Syntax.tyInt Syntax.w64)) (List._∷_ (
+        abbrev g10 : List.List Row.Entry
+        g10 = List._∷_ (0, Rows'.any-gone (Syntax.tyInt Syntax.w64)) (List._∷_ (
           1,
           Rows'.sslice
               (Referent.rtF (Referent.fInt Syntax.w8))
@@ -4180,7 +3431,7 @@ module _ (claims· : Claims) where
               (Referent.rtF (Referent.fInt Syntax.w64))
               (Syntax.tyRef (Syntax.named 4) Syntax.mut (Syntax.tyInt Syntax.w64))
               4
-              9
+              8
               (Row.lease (κs .1 .1 .1 .1 .0) (qs .1 .1 .1 .1 .0)),
         ) (List._∷_ (
           7,
@@ -4188,7 +3439,7 @@ module _ (claims· : Claims) where
               (Referent.rtF (Referent.fInt Syntax.w8))
               (Syntax.tyRef (Syntax.named 5) Syntax.mut (Syntax.tyInt Syntax.w8))
               5
-              10
+              9
               (Row.lease (κs .1 .1 .1 .1 .1 .0) (qs .1 .1 .1 .1 .1 .0)),
         ) (List._∷_ (
           8,
@@ -4196,7 +3447,7 @@ module _ (claims· : Claims) where
               (Referent.rtF (Referent.fInt Syntax.w8))
               (Syntax.tyRef (Syntax.named 6) Syntax.mut (Syntax.tyInt Syntax.w8))
               6
-              11
+              10
               (Row.lease (κs .1 .1 .1 .1 .1 .1 .0) (qs .1 .1 .1 .1 .1 .1 .0)),
         ) (List._∷_ (
           9,
@@ -4206,32 +3457,32 @@ module _ (claims· : Claims) where
               7,
         ) (List._∷_ (
           10,
+          Rows.arrF Elem.R 64 0,
+        ) (List._∷_ (
+          11,
+          Rows'.any-gone (Syntax.tyArray Elem.held 64),
+        ) (List._∷_ (
+          12,
+          Rows'.any-gone (Syntax.tyRef Syntax.erased Syntax.mut (Syntax.tyInt Syntax.w64)),
+        ) (List._∷_ (
+          13,
           Mut.mslice
-              (Referent.rtF (Referent.fInt Syntax.w8))
-              (Syntax.tyRef (Syntax.named 8) Syntax.mut (Syntax.tyInt Syntax.w8))
+              (Referent.rtF (Referent.fInt Syntax.w64))
+              (Syntax.tyRef Syntax.erased Syntax.mut (Syntax.tyInt Syntax.w64))
               8,
         ) (List._∷_ (
-          11,
-          Rows.arrF Elem.R 64 0,
-        ) (List._∷_ (
-          12,
-          Rows'.any-gone (Syntax.tyArray Elem.held 64),
-        ) (List._∷_ (
-          13,
-          Rows'.any-gone (Syntax.tyRef Syntax.erased Syntax.mut (Syntax.tyInt Syntax.w64)),
-        ) (List._∷_ (
           14,
-          Mut.mslice
-              (Referent.rtF (Referent.fInt Syntax.w64))
-              (Syntax.tyRef Syntax.erased Syntax.mut (Syntax.tyInt Syntax.w64))
-              9,
+          Rows'.any-gone (Syntax.tyRef Syntax.erased Syntax.mut (Syntax.tyInt Syntax.w8)),
         ) (List._∷_ (
           15,
-          Rows'.any-gone (Syntax.tyRef Syntax.erased Syntax.mut (Syntax.tyInt Syntax.w8)),
+          Mut.mslice
+              (Referent.rtF (Referent.fInt Syntax.w8))
+              (Syntax.tyRef Syntax.erased Syntax.mut (Syntax.tyInt Syntax.w8))
+              9,
         ) List.[])))))))))))))))
 
-        abbrev g14 : List.List Row.Entry
-        g14 = List._∷_ (0, Rows'.any-gone (Syntax.tyInt Syntax.w64)) (List._∷_ (
+        abbrev g13 : List.List Row.Entry
+        g13 = List._∷_ (0, Rows'.any-gone (Syntax.tyInt Syntax.w64)) (List._∷_ (
           1,
           Rows'.sslice
               (Referent.rtF (Referent.fInt Syntax.w8))
@@ -4261,7 +3512,7 @@ module _ (claims· : Claims) where
               (Referent.rtF (Referent.fInt Syntax.w64))
               (Syntax.tyRef (Syntax.named 4) Syntax.mut (Syntax.tyInt Syntax.w64))
               4
-              9
+              8
               (Row.lease (κs .1 .1 .1 .1 .0) (qs .1 .1 .1 .1 .0)),
         ) (List._∷_ (
           7,
@@ -4269,7 +3520,7 @@ module _ (claims· : Claims) where
               (Referent.rtF (Referent.fInt Syntax.w8))
               (Syntax.tyRef (Syntax.named 5) Syntax.mut (Syntax.tyInt Syntax.w8))
               5
-              10
+              9
               (Row.lease (κs .1 .1 .1 .1 .1 .0) (qs .1 .1 .1 .1 .1 .0)),
         ) (List._∷_ (
           8,
@@ -4277,7 +3528,7 @@ module _ (claims· : Claims) where
               (Referent.rtF (Referent.fInt Syntax.w8))
               (Syntax.tyRef (Syntax.named 6) Syntax.mut (Syntax.tyInt Syntax.w8))
               6
-              11
+              10
               (Row.lease (κs .1 .1 .1 .1 .1 .1 .0) (qs .1 .1 .1 .1 .1 .1 .0)),
         ) (List._∷_ (
           9,
@@ -4285,36 +3536,36 @@ module _ (claims· : Claims) where
               (Referent.rtF (Referent.fInt Syntax.w8))
               (Syntax.tyRef (Syntax.named 7) Syntax.mut (Syntax.tyInt Syntax.w8))
               7
-              12
+              11
               (Row.lease (κs .1 .1 .1 .1 .1 .1 .1 .0) (qs .1 .1 .1 .1 .1 .1 .1 .0)),
         ) (List._∷_ (
           10,
+          Rows.arrF Elem.R 64 0,
+        ) (List._∷_ (
+          11,
+          Rows'.any-gone (Syntax.tyArray Elem.held 64),
+        ) (List._∷_ (
+          12,
+          Rows'.any-gone (Syntax.tyRef Syntax.erased Syntax.mut (Syntax.tyInt Syntax.w64)),
+        ) (List._∷_ (
+          13,
           Mut.mslice
-              (Referent.rtF (Referent.fInt Syntax.w8))
-              (Syntax.tyRef (Syntax.named 8) Syntax.mut (Syntax.tyInt Syntax.w8))
+              (Referent.rtF (Referent.fInt Syntax.w64))
+              (Syntax.tyRef Syntax.erased Syntax.mut (Syntax.tyInt Syntax.w64))
               8,
         ) (List._∷_ (
-          11,
-          Rows.arrF Elem.R 64 0,
-        ) (List._∷_ (
-          12,
-          Rows'.any-gone (Syntax.tyArray Elem.held 64),
-        ) (List._∷_ (
-          13,
-          Rows'.any-gone (Syntax.tyRef Syntax.erased Syntax.mut (Syntax.tyInt Syntax.w64)),
-        ) (List._∷_ (
           14,
-          Mut.mslice
-              (Referent.rtF (Referent.fInt Syntax.w64))
-              (Syntax.tyRef Syntax.erased Syntax.mut (Syntax.tyInt Syntax.w64))
-              9,
+          Rows'.any-gone (Syntax.tyRef Syntax.erased Syntax.mut (Syntax.tyInt Syntax.w8)),
         ) (List._∷_ (
           15,
-          Rows'.any-gone (Syntax.tyRef Syntax.erased Syntax.mut (Syntax.tyInt Syntax.w8)),
+          Mut.mslice
+              (Referent.rtF (Referent.fInt Syntax.w8))
+              (Syntax.tyRef Syntax.erased Syntax.mut (Syntax.tyInt Syntax.w8))
+              9,
         ) List.[])))))))))))))))
 
-        abbrev g17 : List.List Row.Entry
-        g17 = List._∷_ (0, Rows'.any-gone (Syntax.tyInt Syntax.w64)) (List._∷_ (
+        abbrev g16 : List.List Row.Entry
+        g16 = List._∷_ (0, Rows'.any-gone (Syntax.tyInt Syntax.w64)) (List._∷_ (
           1,
           Rows'.sslice
               (Referent.rtF (Referent.fInt Syntax.w8))
@@ -4344,7 +3595,7 @@ module _ (claims· : Claims) where
               (Referent.rtF (Referent.fInt Syntax.w64))
               (Syntax.tyRef (Syntax.named 4) Syntax.mut (Syntax.tyInt Syntax.w64))
               4
-              9
+              8
               (Row.lease (κs .1 .1 .1 .1 .0) (qs .1 .1 .1 .1 .0)),
         ) (List._∷_ (
           7,
@@ -4352,7 +3603,7 @@ module _ (claims· : Claims) where
               (Referent.rtF (Referent.fInt Syntax.w8))
               (Syntax.tyRef (Syntax.named 5) Syntax.mut (Syntax.tyInt Syntax.w8))
               5
-              10
+              9
               (Row.lease (κs .1 .1 .1 .1 .1 .0) (qs .1 .1 .1 .1 .1 .0)),
         ) (List._∷_ (
           8,
@@ -4360,7 +3611,7 @@ module _ (claims· : Claims) where
               (Referent.rtF (Referent.fInt Syntax.w8))
               (Syntax.tyRef (Syntax.named 6) Syntax.mut (Syntax.tyInt Syntax.w8))
               6
-              11
+              10
               (Row.lease (κs .1 .1 .1 .1 .1 .1 .0) (qs .1 .1 .1 .1 .1 .1 .0)),
         ) (List._∷_ (
           9,
@@ -4368,38 +3619,36 @@ module _ (claims· : Claims) where
               (Referent.rtF (Referent.fInt Syntax.w8))
               (Syntax.tyRef (Syntax.named 7) Syntax.mut (Syntax.tyInt Syntax.w8))
               7
-              12
+              11
               (Row.lease (κs .1 .1 .1 .1 .1 .1 .1 .0) (qs .1 .1 .1 .1 .1 .1 .1 .0)),
         ) (List._∷_ (
           10,
-          Relend.mslice-owed
-              (Referent.rtF (Referent.fInt Syntax.w8))
-              (Syntax.tyRef (Syntax.named 8) Syntax.mut (Syntax.tyInt Syntax.w8))
-              8
-              13
-              (Row.lease (κs .1 .1 .1 .1 .1 .1 .1 .1 .0) (qs .1 .1 .1 .1 .1 .1 .1 .1 .0)),
+          Rows.arr-owed Elem.R 64 12,
         ) (List._∷_ (
           11,
-          Rows.arrF Elem.R 64 0,
-        ) (List._∷_ (
-          12,
           Rows'.any-gone (Syntax.tyArray Elem.held 64),
         ) (List._∷_ (
-          13,
+          12,
           Rows'.any-gone (Syntax.tyRef Syntax.erased Syntax.mut (Syntax.tyInt Syntax.w64)),
         ) (List._∷_ (
-          14,
+          13,
           Mut.mslice
               (Referent.rtF (Referent.fInt Syntax.w64))
               (Syntax.tyRef Syntax.erased Syntax.mut (Syntax.tyInt Syntax.w64))
-              9,
+              8,
+        ) (List._∷_ (
+          14,
+          Rows'.any-gone (Syntax.tyRef Syntax.erased Syntax.mut (Syntax.tyInt Syntax.w8)),
         ) (List._∷_ (
           15,
-          Rows'.any-gone (Syntax.tyRef Syntax.erased Syntax.mut (Syntax.tyInt Syntax.w8)),
+          Mut.mslice
+              (Referent.rtF (Referent.fInt Syntax.w8))
+              (Syntax.tyRef Syntax.erased Syntax.mut (Syntax.tyInt Syntax.w8))
+              9,
         ) List.[])))))))))))))))
 
-        abbrev g20 : List.List Row.Entry
-        g20 = List._∷_ (0, Rows'.any-gone (Syntax.tyInt Syntax.w64)) (List._∷_ (
+        abbrev g19 : List.List Row.Entry
+        g19 = List._∷_ (0, Rows'.sc-here (Row.sInt Syntax.w64)) (List._∷_ (
           1,
           Rows'.sslice
               (Referent.rtF (Referent.fInt Syntax.w8))
@@ -4429,7 +3678,7 @@ module _ (claims· : Claims) where
               (Referent.rtF (Referent.fInt Syntax.w64))
               (Syntax.tyRef (Syntax.named 4) Syntax.mut (Syntax.tyInt Syntax.w64))
               4
-              9
+              8
               (Row.lease (κs .1 .1 .1 .1 .0) (qs .1 .1 .1 .1 .0)),
         ) (List._∷_ (
           7,
@@ -4437,7 +3686,7 @@ module _ (claims· : Claims) where
               (Referent.rtF (Referent.fInt Syntax.w8))
               (Syntax.tyRef (Syntax.named 5) Syntax.mut (Syntax.tyInt Syntax.w8))
               5
-              10
+              9
               (Row.lease (κs .1 .1 .1 .1 .1 .0) (qs .1 .1 .1 .1 .1 .0)),
         ) (List._∷_ (
           8,
@@ -4445,7 +3694,7 @@ module _ (claims· : Claims) where
               (Referent.rtF (Referent.fInt Syntax.w8))
               (Syntax.tyRef (Syntax.named 6) Syntax.mut (Syntax.tyInt Syntax.w8))
               6
-              11
+              10
               (Row.lease (κs .1 .1 .1 .1 .1 .1 .0) (qs .1 .1 .1 .1 .1 .1 .0)),
         ) (List._∷_ (
           9,
@@ -4453,34 +3702,195 @@ module _ (claims· : Claims) where
               (Referent.rtF (Referent.fInt Syntax.w8))
               (Syntax.tyRef (Syntax.named 7) Syntax.mut (Syntax.tyInt Syntax.w8))
               7
-              12
+              11
               (Row.lease (κs .1 .1 .1 .1 .1 .1 .1 .0) (qs .1 .1 .1 .1 .1 .1 .1 .0)),
         ) (List._∷_ (
           10,
-          Relend.mslice-owed
-              (Referent.rtF (Referent.fInt Syntax.w8))
-              (Syntax.tyRef (Syntax.named 8) Syntax.mut (Syntax.tyInt Syntax.w8))
-              8
-              13
-              (Row.lease (κs .1 .1 .1 .1 .1 .1 .1 .1 .0) (qs .1 .1 .1 .1 .1 .1 .1 .1 .0)),
+          Rows.arr-owed Elem.R 64 12,
         ) (List._∷_ (
           11,
-          Rows.arr-owed Elem.R 64 14,
-        ) (List._∷_ (
-          12,
           Rows'.any-gone (Syntax.tyArray Elem.held 64),
         ) (List._∷_ (
-          13,
+          12,
           Rows'.any-gone (Syntax.tyRef Syntax.erased Syntax.mut (Syntax.tyInt Syntax.w64)),
         ) (List._∷_ (
-          14,
-          Mut.mslice
+          13,
+          Mut.msleft
               (Referent.rtF (Referent.fInt Syntax.w64))
-              (Syntax.tyRef Syntax.erased Syntax.mut (Syntax.tyInt Syntax.w64))
-              9,
+              (Syntax.tyRef Syntax.erased Syntax.mut (Syntax.tyInt Syntax.w64)),
+        ) (List._∷_ (
+          14,
+          Rows'.any-gone (Syntax.tyRef Syntax.erased Syntax.mut (Syntax.tyInt Syntax.w8)),
         ) (List._∷_ (
           15,
+          Mut.msleft
+              (Referent.rtF (Referent.fInt Syntax.w8))
+              (Syntax.tyRef Syntax.erased Syntax.mut (Syntax.tyInt Syntax.w8)),
+        ) List.[])))))))))))))))
+
+        abbrev g21 : List.List Row.Entry
+        g21 = List._∷_ (0, Rows'.sc-here (Row.sInt Syntax.w64)) (List._∷_ (
+          1,
+          Rows'.sslice
+              (Referent.rtF (Referent.fInt Syntax.w8))
+              (Syntax.tyRef (Syntax.named 0) Syntax.imm (Syntax.tyInt Syntax.w8))
+              0,
+        ) (List._∷_ (
+          2,
+          Rows'.sslice
+              (Referent.rtF (Referent.fInt Syntax.w64))
+              (Syntax.tyRef (Syntax.named 1) Syntax.imm (Syntax.tyInt Syntax.w64))
+              1,
+        ) (List._∷_ (3, Rows'.sc-here (Row.sInt Syntax.w64)) (List._∷_ (
+          4,
+          Rows'.sslice
+              (Referent.rtF (Referent.fInt Syntax.w64))
+              (Syntax.tyRef (Syntax.named 2) Syntax.imm (Syntax.tyInt Syntax.w64))
+              2,
+        ) (List._∷_ (
+          5,
+          Rows'.sslice
+              (Referent.rtF (Referent.fInt Syntax.w8))
+              (Syntax.tyRef (Syntax.named 3) Syntax.imm (Syntax.tyInt Syntax.w8))
+              3,
+        ) (List._∷_ (
+          6,
+          Mut.mslice
+              (Referent.rtF (Referent.fInt Syntax.w64))
+              (Syntax.tyRef (Syntax.named 4) Syntax.mut (Syntax.tyInt Syntax.w64))
+              4,
+        ) (List._∷_ (
+          7,
+          Relend.mslice-owed
+              (Referent.rtF (Referent.fInt Syntax.w8))
+              (Syntax.tyRef (Syntax.named 5) Syntax.mut (Syntax.tyInt Syntax.w8))
+              5
+              9
+              (Row.lease (κs .1 .1 .1 .1 .1 .0) (qs .1 .1 .1 .1 .1 .0)),
+        ) (List._∷_ (
+          8,
+          Relend.mslice-owed
+              (Referent.rtF (Referent.fInt Syntax.w8))
+              (Syntax.tyRef (Syntax.named 6) Syntax.mut (Syntax.tyInt Syntax.w8))
+              6
+              10
+              (Row.lease (κs .1 .1 .1 .1 .1 .1 .0) (qs .1 .1 .1 .1 .1 .1 .0)),
+        ) (List._∷_ (
+          9,
+          Relend.mslice-owed
+              (Referent.rtF (Referent.fInt Syntax.w8))
+              (Syntax.tyRef (Syntax.named 7) Syntax.mut (Syntax.tyInt Syntax.w8))
+              7
+              11
+              (Row.lease (κs .1 .1 .1 .1 .1 .1 .1 .0) (qs .1 .1 .1 .1 .1 .1 .1 .0)),
+        ) (List._∷_ (
+          10,
+          Rows.arr-owed Elem.R 64 12,
+        ) (List._∷_ (
+          11,
+          Rows'.any-gone (Syntax.tyArray Elem.held 64),
+        ) (List._∷_ (
+          12,
+          Rows'.any-gone (Syntax.tyRef Syntax.erased Syntax.mut (Syntax.tyInt Syntax.w64)),
+        ) (List._∷_ (
+          13,
+          Rows'.any-gone
+              (Syntax.tyStruct
+              (List._∷_ 38 (List._∷_ 91 (List._∷_ 93 List.[])))
+              (Syntax.tcons
+              (Syntax.tyRef Syntax.erased Syntax.mut (Syntax.tyInt Syntax.w64))
+              (Syntax.tcons (Syntax.tyInt Syntax.w64) Syntax.tnil))),
+        ) (List._∷_ (
+          14,
           Rows'.any-gone (Syntax.tyRef Syntax.erased Syntax.mut (Syntax.tyInt Syntax.w8)),
+        ) (List._∷_ (
+          15,
+          Mut.msleft
+              (Referent.rtF (Referent.fInt Syntax.w8))
+              (Syntax.tyRef Syntax.erased Syntax.mut (Syntax.tyInt Syntax.w8)),
+        ) List.[])))))))))))))))
+
+        abbrev g22 : List.List Row.Entry
+        g22 = List._∷_ (0, Rows'.sc-here (Row.sInt Syntax.w64)) (List._∷_ (
+          1,
+          Rows'.sslice
+              (Referent.rtF (Referent.fInt Syntax.w8))
+              (Syntax.tyRef (Syntax.named 0) Syntax.imm (Syntax.tyInt Syntax.w8))
+              0,
+        ) (List._∷_ (
+          2,
+          Rows'.sslice
+              (Referent.rtF (Referent.fInt Syntax.w64))
+              (Syntax.tyRef (Syntax.named 1) Syntax.imm (Syntax.tyInt Syntax.w64))
+              1,
+        ) (List._∷_ (3, Rows'.sc-here (Row.sInt Syntax.w64)) (List._∷_ (
+          4,
+          Rows'.sslice
+              (Referent.rtF (Referent.fInt Syntax.w64))
+              (Syntax.tyRef (Syntax.named 2) Syntax.imm (Syntax.tyInt Syntax.w64))
+              2,
+        ) (List._∷_ (
+          5,
+          Rows'.sslice
+              (Referent.rtF (Referent.fInt Syntax.w8))
+              (Syntax.tyRef (Syntax.named 3) Syntax.imm (Syntax.tyInt Syntax.w8))
+              3,
+        ) (List._∷_ (
+          6,
+          Mut.mslice
+              (Referent.rtF (Referent.fInt Syntax.w64))
+              (Syntax.tyRef (Syntax.named 4) Syntax.mut (Syntax.tyInt Syntax.w64))
+              4,
+        ) (List._∷_ (
+          7,
+          Mut.mslice
+              (Referent.rtF (Referent.fInt Syntax.w8))
+              (Syntax.tyRef (Syntax.named 5) Syntax.mut (Syntax.tyInt Syntax.w8))
+              5,
+        ) (List._∷_ (
+          8,
+          Relend.mslice-owed
+              (Referent.rtF (Referent.fInt Syntax.w8))
+              (Syntax.tyRef (Syntax.named 6) Syntax.mut (Syntax.tyInt Syntax.w8))
+              6
+              10
+              (Row.lease (κs .1 .1 .1 .1 .1 .1 .0) (qs .1 .1 .1 .1 .1 .1 .0)),
+        ) (List._∷_ (
+          9,
+          Relend.mslice-owed
+              (Referent.rtF (Referent.fInt Syntax.w8))
+              (Syntax.tyRef (Syntax.named 7) Syntax.mut (Syntax.tyInt Syntax.w8))
+              7
+              11
+              (Row.lease (κs .1 .1 .1 .1 .1 .1 .1 .0) (qs .1 .1 .1 .1 .1 .1 .1 .0)),
+        ) (List._∷_ (
+          10,
+          Rows.arr-owed Elem.R 64 12,
+        ) (List._∷_ (
+          11,
+          Rows'.any-gone (Syntax.tyArray Elem.held 64),
+        ) (List._∷_ (
+          12,
+          Rows'.any-gone (Syntax.tyRef Syntax.erased Syntax.mut (Syntax.tyInt Syntax.w64)),
+        ) (List._∷_ (
+          13,
+          Rows'.any-gone
+              (Syntax.tyStruct
+              (List._∷_ 38 (List._∷_ 91 (List._∷_ 93 List.[])))
+              (Syntax.tcons
+              (Syntax.tyRef Syntax.erased Syntax.mut (Syntax.tyInt Syntax.w64))
+              (Syntax.tcons (Syntax.tyInt Syntax.w64) Syntax.tnil))),
+        ) (List._∷_ (
+          14,
+          Rows'.any-gone (Syntax.tyRef Syntax.erased Syntax.mut (Syntax.tyInt Syntax.w8)),
+        ) (List._∷_ (
+          15,
+          Rows'.any-gone
+              (Syntax.tyStruct
+              (List._∷_ 38 (List._∷_ 91 (List._∷_ 93 List.[])))
+              (Syntax.tcons
+              (Syntax.tyRef Syntax.erased Syntax.mut (Syntax.tyInt Syntax.w8))
+              (Syntax.tcons (Syntax.tyInt Syntax.w64) Syntax.tnil))),
         ) List.[])))))))))))))))
 
         abbrev g23 : List.List Row.Entry
@@ -4510,258 +3920,6 @@ module _ (claims· : Claims) where
               3,
         ) (List._∷_ (
           6,
-          Relend.mslice-owed
-              (Referent.rtF (Referent.fInt Syntax.w64))
-              (Syntax.tyRef (Syntax.named 4) Syntax.mut (Syntax.tyInt Syntax.w64))
-              4
-              9
-              (Row.lease (κs .1 .1 .1 .1 .0) (qs .1 .1 .1 .1 .0)),
-        ) (List._∷_ (
-          7,
-          Relend.mslice-owed
-              (Referent.rtF (Referent.fInt Syntax.w8))
-              (Syntax.tyRef (Syntax.named 5) Syntax.mut (Syntax.tyInt Syntax.w8))
-              5
-              10
-              (Row.lease (κs .1 .1 .1 .1 .1 .0) (qs .1 .1 .1 .1 .1 .0)),
-        ) (List._∷_ (
-          8,
-          Relend.mslice-owed
-              (Referent.rtF (Referent.fInt Syntax.w8))
-              (Syntax.tyRef (Syntax.named 6) Syntax.mut (Syntax.tyInt Syntax.w8))
-              6
-              11
-              (Row.lease (κs .1 .1 .1 .1 .1 .1 .0) (qs .1 .1 .1 .1 .1 .1 .0)),
-        ) (List._∷_ (
-          9,
-          Relend.mslice-owed
-              (Referent.rtF (Referent.fInt Syntax.w8))
-              (Syntax.tyRef (Syntax.named 7) Syntax.mut (Syntax.tyInt Syntax.w8))
-              7
-              12
-              (Row.lease (κs .1 .1 .1 .1 .1 .1 .1 .0) (qs .1 .1 .1 .1 .1 .1 .1 .0)),
-        ) (List._∷_ (
-          10,
-          Relend.mslice-owed
-              (Referent.rtF (Referent.fInt Syntax.w8))
-              (Syntax.tyRef (Syntax.named 8) Syntax.mut (Syntax.tyInt Syntax.w8))
-              8
-              13
-              (Row.lease (κs .1 .1 .1 .1 .1 .1 .1 .1 .0) (qs .1 .1 .1 .1 .1 .1 .1 .1 .0)),
-        ) (List._∷_ (
-          11,
-          Rows.arr-owed Elem.R 64 14,
-        ) (List._∷_ (
-          12,
-          Rows'.any-gone (Syntax.tyArray Elem.held 64),
-        ) (List._∷_ (
-          13,
-          Rows'.any-gone (Syntax.tyRef Syntax.erased Syntax.mut (Syntax.tyInt Syntax.w64)),
-        ) (List._∷_ (
-          14,
-          Mut.msleft
-              (Referent.rtF (Referent.fInt Syntax.w64))
-              (Syntax.tyRef Syntax.erased Syntax.mut (Syntax.tyInt Syntax.w64)),
-        ) (List._∷_ (
-          15,
-          Rows'.any-gone (Syntax.tyRef Syntax.erased Syntax.mut (Syntax.tyInt Syntax.w8)),
-        ) List.[])))))))))))))))
-
-        abbrev g25 : List.List Row.Entry
-        g25 = List._∷_ (0, Rows'.sc-here (Row.sInt Syntax.w64)) (List._∷_ (
-          1,
-          Rows'.sslice
-              (Referent.rtF (Referent.fInt Syntax.w8))
-              (Syntax.tyRef (Syntax.named 0) Syntax.imm (Syntax.tyInt Syntax.w8))
-              0,
-        ) (List._∷_ (
-          2,
-          Rows'.sslice
-              (Referent.rtF (Referent.fInt Syntax.w64))
-              (Syntax.tyRef (Syntax.named 1) Syntax.imm (Syntax.tyInt Syntax.w64))
-              1,
-        ) (List._∷_ (3, Rows'.sc-here (Row.sInt Syntax.w64)) (List._∷_ (
-          4,
-          Rows'.sslice
-              (Referent.rtF (Referent.fInt Syntax.w64))
-              (Syntax.tyRef (Syntax.named 2) Syntax.imm (Syntax.tyInt Syntax.w64))
-              2,
-        ) (List._∷_ (
-          5,
-          Rows'.sslice
-              (Referent.rtF (Referent.fInt Syntax.w8))
-              (Syntax.tyRef (Syntax.named 3) Syntax.imm (Syntax.tyInt Syntax.w8))
-              3,
-        ) (List._∷_ (
-          6,
-          Mut.mslice
-              (Referent.rtF (Referent.fInt Syntax.w64))
-              (Syntax.tyRef (Syntax.named 4) Syntax.mut (Syntax.tyInt Syntax.w64))
-              4,
-        ) (List._∷_ (
-          7,
-          Relend.mslice-owed
-              (Referent.rtF (Referent.fInt Syntax.w8))
-              (Syntax.tyRef (Syntax.named 5) Syntax.mut (Syntax.tyInt Syntax.w8))
-              5
-              10
-              (Row.lease (κs .1 .1 .1 .1 .1 .0) (qs .1 .1 .1 .1 .1 .0)),
-        ) (List._∷_ (
-          8,
-          Relend.mslice-owed
-              (Referent.rtF (Referent.fInt Syntax.w8))
-              (Syntax.tyRef (Syntax.named 6) Syntax.mut (Syntax.tyInt Syntax.w8))
-              6
-              11
-              (Row.lease (κs .1 .1 .1 .1 .1 .1 .0) (qs .1 .1 .1 .1 .1 .1 .0)),
-        ) (List._∷_ (
-          9,
-          Relend.mslice-owed
-              (Referent.rtF (Referent.fInt Syntax.w8))
-              (Syntax.tyRef (Syntax.named 7) Syntax.mut (Syntax.tyInt Syntax.w8))
-              7
-              12
-              (Row.lease (κs .1 .1 .1 .1 .1 .1 .1 .0) (qs .1 .1 .1 .1 .1 .1 .1 .0)),
-        ) (List._∷_ (
-          10,
-          Relend.mslice-owed
-              (Referent.rtF (Referent.fInt Syntax.w8))
-              (Syntax.tyRef (Syntax.named 8) Syntax.mut (Syntax.tyInt Syntax.w8))
-              8
-              13
-              (Row.lease (κs .1 .1 .1 .1 .1 .1 .1 .1 .0) (qs .1 .1 .1 .1 .1 .1 .1 .1 .0)),
-        ) (List._∷_ (
-          11,
-          Rows.arr-owed Elem.R 64 14,
-        ) (List._∷_ (
-          12,
-          Rows'.any-gone (Syntax.tyArray Elem.held 64),
-        ) (List._∷_ (
-          13,
-          Rows'.any-gone (Syntax.tyRef Syntax.erased Syntax.mut (Syntax.tyInt Syntax.w64)),
-        ) (List._∷_ (
-          14,
-          Rows'.any-gone
-              (Syntax.tyStruct
-              (List._∷_ 38 (List._∷_ 91 (List._∷_ 93 List.[])))
-              (Syntax.tcons
-              (Syntax.tyRef Syntax.erased Syntax.mut (Syntax.tyInt Syntax.w64))
-              (Syntax.tcons (Syntax.tyInt Syntax.w64) Syntax.tnil))),
-        ) (List._∷_ (
-          15,
-          Rows'.any-gone (Syntax.tyRef Syntax.erased Syntax.mut (Syntax.tyInt Syntax.w8)),
-        ) List.[])))))))))))))))
-
-        abbrev g26 : List.List Row.Entry
-        g26 = List._∷_ (0, Rows'.sc-here (Row.sInt Syntax.w64)) (List._∷_ (
-          1,
-          Rows'.sslice
-              (Referent.rtF (Referent.fInt Syntax.w8))
-              (Syntax.tyRef (Syntax.named 0) Syntax.imm (Syntax.tyInt Syntax.w8))
-              0,
-        ) (List._∷_ (
-          2,
-          Rows'.sslice
-              (Referent.rtF (Referent.fInt Syntax.w64))
-              (Syntax.tyRef (Syntax.named 1) Syntax.imm (Syntax.tyInt Syntax.w64))
-              1,
-        ) (List._∷_ (3, Rows'.sc-here (Row.sInt Syntax.w64)) (List._∷_ (
-          4,
-          Rows'.sslice
-              (Referent.rtF (Referent.fInt Syntax.w64))
-              (Syntax.tyRef (Syntax.named 2) Syntax.imm (Syntax.tyInt Syntax.w64))
-              2,
-        ) (List._∷_ (
-          5,
-          Rows'.sslice
-              (Referent.rtF (Referent.fInt Syntax.w8))
-              (Syntax.tyRef (Syntax.named 3) Syntax.imm (Syntax.tyInt Syntax.w8))
-              3,
-        ) (List._∷_ (
-          6,
-          Mut.mslice
-              (Referent.rtF (Referent.fInt Syntax.w64))
-              (Syntax.tyRef (Syntax.named 4) Syntax.mut (Syntax.tyInt Syntax.w64))
-              4,
-        ) (List._∷_ (
-          7,
-          Mut.mslice
-              (Referent.rtF (Referent.fInt Syntax.w8))
-              (Syntax.tyRef (Syntax.named 5) Syntax.mut (Syntax.tyInt Syntax.w8))
-              5,
-        ) (List._∷_ (
-          8,
-          Relend.mslice-owed
-              (Referent.rtF (Referent.fInt Syntax.w8))
-              (Syntax.tyRef (Syntax.named 6) Syntax.mut (Syntax.tyInt Syntax.w8))
-              6
-              11
-              (Row.lease (κs .1 .1 .1 .1 .1 .1 .0) (qs .1 .1 .1 .1 .1 .1 .0)),
-        ) (List._∷_ (
-          9,
-          Relend.mslice-owed
-              (Referent.rtF (Referent.fInt Syntax.w8))
-              (Syntax.tyRef (Syntax.named 7) Syntax.mut (Syntax.tyInt Syntax.w8))
-              7
-              12
-              (Row.lease (κs .1 .1 .1 .1 .1 .1 .1 .0) (qs .1 .1 .1 .1 .1 .1 .1 .0)),
-        ) (List._∷_ (
-          10,
-          Relend.mslice-owed
-              (Referent.rtF (Referent.fInt Syntax.w8))
-              (Syntax.tyRef (Syntax.named 8) Syntax.mut (Syntax.tyInt Syntax.w8))
-              8
-              13
-              (Row.lease (κs .1 .1 .1 .1 .1 .1 .1 .1 .0) (qs .1 .1 .1 .1 .1 .1 .1 .1 .0)),
-        ) (List._∷_ (
-          11,
-          Rows.arr-owed Elem.R 64 14,
-        ) (List._∷_ (
-          12,
-          Rows'.any-gone (Syntax.tyArray Elem.held 64),
-        ) (List._∷_ (
-          13,
-          Rows'.any-gone (Syntax.tyRef Syntax.erased Syntax.mut (Syntax.tyInt Syntax.w64)),
-        ) (List._∷_ (
-          14,
-          Rows'.any-gone
-              (Syntax.tyStruct
-              (List._∷_ 38 (List._∷_ 91 (List._∷_ 93 List.[])))
-              (Syntax.tcons
-              (Syntax.tyRef Syntax.erased Syntax.mut (Syntax.tyInt Syntax.w64))
-              (Syntax.tcons (Syntax.tyInt Syntax.w64) Syntax.tnil))),
-        ) (List._∷_ (
-          15,
-          Rows'.any-gone (Syntax.tyRef Syntax.erased Syntax.mut (Syntax.tyInt Syntax.w8)),
-        ) List.[])))))))))))))))
-
-        abbrev g28 : List.List Row.Entry
-        g28 = List._∷_ (0, Rows'.sc-here (Row.sInt Syntax.w64)) (List._∷_ (
-          1,
-          Rows'.sslice
-              (Referent.rtF (Referent.fInt Syntax.w8))
-              (Syntax.tyRef (Syntax.named 0) Syntax.imm (Syntax.tyInt Syntax.w8))
-              0,
-        ) (List._∷_ (
-          2,
-          Rows'.sslice
-              (Referent.rtF (Referent.fInt Syntax.w64))
-              (Syntax.tyRef (Syntax.named 1) Syntax.imm (Syntax.tyInt Syntax.w64))
-              1,
-        ) (List._∷_ (3, Rows'.sc-here (Row.sInt Syntax.w64)) (List._∷_ (
-          4,
-          Rows'.sslice
-              (Referent.rtF (Referent.fInt Syntax.w64))
-              (Syntax.tyRef (Syntax.named 2) Syntax.imm (Syntax.tyInt Syntax.w64))
-              2,
-        ) (List._∷_ (
-          5,
-          Rows'.sslice
-              (Referent.rtF (Referent.fInt Syntax.w8))
-              (Syntax.tyRef (Syntax.named 3) Syntax.imm (Syntax.tyInt Syntax.w8))
-              3,
-        ) (List._∷_ (
-          6,
           Mut.mslice
               (Referent.rtF (Referent.fInt Syntax.w64))
               (Syntax.tyRef (Syntax.named 4) Syntax.mut (Syntax.tyInt Syntax.w64))
@@ -4784,27 +3942,19 @@ module _ (claims· : Claims) where
               (Referent.rtF (Referent.fInt Syntax.w8))
               (Syntax.tyRef (Syntax.named 7) Syntax.mut (Syntax.tyInt Syntax.w8))
               7
-              12
+              11
               (Row.lease (κs .1 .1 .1 .1 .1 .1 .1 .0) (qs .1 .1 .1 .1 .1 .1 .1 .0)),
         ) (List._∷_ (
           10,
-          Relend.mslice-owed
-              (Referent.rtF (Referent.fInt Syntax.w8))
-              (Syntax.tyRef (Syntax.named 8) Syntax.mut (Syntax.tyInt Syntax.w8))
-              8
-              13
-              (Row.lease (κs .1 .1 .1 .1 .1 .1 .1 .1 .0) (qs .1 .1 .1 .1 .1 .1 .1 .1 .0)),
+          Rows.arr-owed Elem.R 64 12,
         ) (List._∷_ (
           11,
-          Rows.arr-owed Elem.R 64 14,
-        ) (List._∷_ (
-          12,
           Rows'.any-gone (Syntax.tyArray Elem.held 64),
         ) (List._∷_ (
-          13,
+          12,
           Rows'.any-gone (Syntax.tyRef Syntax.erased Syntax.mut (Syntax.tyInt Syntax.w64)),
         ) (List._∷_ (
-          14,
+          13,
           Rows'.any-gone
               (Syntax.tyStruct
               (List._∷_ 38 (List._∷_ 91 (List._∷_ 93 List.[])))
@@ -4812,87 +3962,16 @@ module _ (claims· : Claims) where
               (Syntax.tyRef Syntax.erased Syntax.mut (Syntax.tyInt Syntax.w64))
               (Syntax.tcons (Syntax.tyInt Syntax.w64) Syntax.tnil))),
         ) (List._∷_ (
-          15,
-          Rows'.any-gone (Syntax.tyRef Syntax.erased Syntax.mut (Syntax.tyInt Syntax.w8)),
-        ) List.[])))))))))))))))
-
-        abbrev g30 : List.List Row.Entry
-        g30 = List._∷_ (0, Rows'.sc-here (Row.sInt Syntax.w64)) (List._∷_ (
-          1,
-          Rows'.sslice
-              (Referent.rtF (Referent.fInt Syntax.w8))
-              (Syntax.tyRef (Syntax.named 0) Syntax.imm (Syntax.tyInt Syntax.w8))
-              0,
-        ) (List._∷_ (
-          2,
-          Rows'.sslice
-              (Referent.rtF (Referent.fInt Syntax.w64))
-              (Syntax.tyRef (Syntax.named 1) Syntax.imm (Syntax.tyInt Syntax.w64))
-              1,
-        ) (List._∷_ (3, Rows'.sc-here (Row.sInt Syntax.w64)) (List._∷_ (
-          4,
-          Rows'.sslice
-              (Referent.rtF (Referent.fInt Syntax.w64))
-              (Syntax.tyRef (Syntax.named 2) Syntax.imm (Syntax.tyInt Syntax.w64))
-              2,
-        ) (List._∷_ (
-          5,
-          Rows'.sslice
-              (Referent.rtF (Referent.fInt Syntax.w8))
-              (Syntax.tyRef (Syntax.named 3) Syntax.imm (Syntax.tyInt Syntax.w8))
-              3,
-        ) (List._∷_ (
-          6,
-          Mut.mslice
-              (Referent.rtF (Referent.fInt Syntax.w64))
-              (Syntax.tyRef (Syntax.named 4) Syntax.mut (Syntax.tyInt Syntax.w64))
-              4,
-        ) (List._∷_ (
-          7,
-          Mut.mslice
-              (Referent.rtF (Referent.fInt Syntax.w8))
-              (Syntax.tyRef (Syntax.named 5) Syntax.mut (Syntax.tyInt Syntax.w8))
-              5,
-        ) (List._∷_ (
-          8,
-          Mut.mslice
-              (Referent.rtF (Referent.fInt Syntax.w8))
-              (Syntax.tyRef (Syntax.named 6) Syntax.mut (Syntax.tyInt Syntax.w8))
-              6,
-        ) (List._∷_ (
-          9,
-          Mut.mslice
-              (Referent.rtF (Referent.fInt Syntax.w8))
-              (Syntax.tyRef (Syntax.named 7) Syntax.mut (Syntax.tyInt Syntax.w8))
-              7,
-        ) (List._∷_ (
-          10,
-          Relend.mslice-owed
-              (Referent.rtF (Referent.fInt Syntax.w8))
-              (Syntax.tyRef (Syntax.named 8) Syntax.mut (Syntax.tyInt Syntax.w8))
-              8
-              13
-              (Row.lease (κs .1 .1 .1 .1 .1 .1 .1 .1 .0) (qs .1 .1 .1 .1 .1 .1 .1 .1 .0)),
-        ) (List._∷_ (
-          11,
-          Rows.arr-owed Elem.R 64 14,
-        ) (List._∷_ (
-          12,
-          Rows'.any-gone (Syntax.tyArray Elem.held 64),
-        ) (List._∷_ (
-          13,
-          Rows'.any-gone (Syntax.tyRef Syntax.erased Syntax.mut (Syntax.tyInt Syntax.w64)),
-        ) (List._∷_ (
           14,
+          Rows'.any-gone (Syntax.tyRef Syntax.erased Syntax.mut (Syntax.tyInt Syntax.w8)),
+        ) (List._∷_ (
+          15,
           Rows'.any-gone
               (Syntax.tyStruct
               (List._∷_ 38 (List._∷_ 91 (List._∷_ 93 List.[])))
               (Syntax.tcons
-              (Syntax.tyRef Syntax.erased Syntax.mut (Syntax.tyInt Syntax.w64))
+              (Syntax.tyRef Syntax.erased Syntax.mut (Syntax.tyInt Syntax.w8))
               (Syntax.tcons (Syntax.tyInt Syntax.w64) Syntax.tnil))),
-        ) (List._∷_ (
-          15,
-          Rows'.any-gone (Syntax.tyRef Syntax.erased Syntax.mut (Syntax.tyInt Syntax.w8)),
         ) List.[])))))))))))))))
 
         abbrev G0 : Row.Cx
@@ -4915,14 +3994,10 @@ module _ (claims· : Claims) where
               (List._∷_
               (Row.lease (κs .1 .1 .1 .1 .1 .1 .1 .0) (qs .1 .1 .1 .1 .1 .1 .1 .0))
               (List._∷_
-              (Row.lease (κs .1 .1 .1 .1 .1 .1 .1 .1 .0) (qs .1 .1 .1 .1 .1 .1 .1 .1 .0))
-              (List._∷_
               Row.off
               (List._∷_
               Row.off
-              (List._∷_
-              Row.off
-              (List._∷_ Row.off (List._∷_ Row.off (List._∷_ Row.off List.[]))))))))))))));
+              (List._∷_ Row.off (List._∷_ Row.off (List._∷_ Row.off List.[]))))))))))));
         }
 
         abbrev G1 : Row.Cx
@@ -4945,14 +4020,10 @@ module _ (claims· : Claims) where
               (List._∷_
               (Row.lease (κs .1 .1 .1 .1 .1 .1 .1 .0) (qs .1 .1 .1 .1 .1 .1 .1 .0))
               (List._∷_
-              (Row.lease (κs .1 .1 .1 .1 .1 .1 .1 .1 .0) (qs .1 .1 .1 .1 .1 .1 .1 .1 .0))
-              (List._∷_
               Row.off
               (List._∷_
               Row.off
-              (List._∷_
-              Row.off
-              (List._∷_ Row.off (List._∷_ Row.off (List._∷_ Row.off List.[]))))))))))))));
+              (List._∷_ Row.off (List._∷_ Row.off (List._∷_ Row.off List.[]))))))))))));
         }
 
         abbrev G2 : Row.Cx
@@ -4975,14 +4046,10 @@ module _ (claims· : Claims) where
               (List._∷_
               (Row.lease (κs .1 .1 .1 .1 .1 .1 .1 .0) (qs .1 .1 .1 .1 .1 .1 .1 .0))
               (List._∷_
-              (Row.lease (κs .1 .1 .1 .1 .1 .1 .1 .1 .0) (qs .1 .1 .1 .1 .1 .1 .1 .1 .0))
-              (List._∷_
               Row.off
               (List._∷_
               Row.off
-              (List._∷_
-              Row.off
-              (List._∷_ Row.off (List._∷_ Row.off (List._∷_ Row.off List.[]))))))))))))));
+              (List._∷_ Row.off (List._∷_ Row.off (List._∷_ Row.off List.[]))))))))))));
         }
 
         abbrev G3 : Row.Cx
@@ -5005,14 +4072,10 @@ module _ (claims· : Claims) where
               (List._∷_
               (Row.lease (κs .1 .1 .1 .1 .1 .1 .1 .0) (qs .1 .1 .1 .1 .1 .1 .1 .0))
               (List._∷_
-              (Row.lease (κs .1 .1 .1 .1 .1 .1 .1 .1 .0) (qs .1 .1 .1 .1 .1 .1 .1 .1 .0))
-              (List._∷_
               Row.off
               (List._∷_
               Row.off
-              (List._∷_
-              Row.off
-              (List._∷_ Row.off (List._∷_ Row.off (List._∷_ Row.off List.[]))))))))))))));
+              (List._∷_ Row.off (List._∷_ Row.off (List._∷_ Row.off List.[]))))))))))));
         }
 
         abbrev G4 : Row.Cx
@@ -5035,14 +4098,10 @@ module _ (claims· : Claims) where
               (List._∷_
               (Row.lease (κs .1 .1 .1 .1 .1 .1 .1 .0) (qs .1 .1 .1 .1 .1 .1 .1 .0))
               (List._∷_
-              (Row.lease (κs .1 .1 .1 .1 .1 .1 .1 .1 .0) (qs .1 .1 .1 .1 .1 .1 .1 .1 .0))
-              (List._∷_
               Row.off
               (List._∷_
               Row.off
-              (List._∷_
-              Row.off
-              (List._∷_ Row.off (List._∷_ Row.off (List._∷_ Row.off List.[]))))))))))))));
+              (List._∷_ Row.off (List._∷_ Row.off (List._∷_ Row.off List.[]))))))))))));
         }
 
         abbrev G5 : Row.Cx
@@ -5065,14 +4124,10 @@ module _ (claims· : Claims) where
               (List._∷_
               (Row.lease (κs .1 .1 .1 .1 .1 .1 .1 .0) (qs .1 .1 .1 .1 .1 .1 .1 .0))
               (List._∷_
-              (Row.lease (κs .1 .1 .1 .1 .1 .1 .1 .1 .0) (qs .1 .1 .1 .1 .1 .1 .1 .1 .0))
-              (List._∷_
               Row.off
               (List._∷_
               Row.off
-              (List._∷_
-              Row.off
-              (List._∷_ Row.off (List._∷_ Row.off (List._∷_ Row.off List.[]))))))))))))));
+              (List._∷_ Row.off (List._∷_ Row.off (List._∷_ Row.off List.[]))))))))))));
         }
 
         abbrev G6 : Row.Cx
@@ -5095,14 +4150,10 @@ module _ (claims· : Claims) where
               (List._∷_
               (Row.lease (κs .1 .1 .1 .1 .1 .1 .1 .0) (qs .1 .1 .1 .1 .1 .1 .1 .0))
               (List._∷_
-              (Row.lease (κs .1 .1 .1 .1 .1 .1 .1 .1 .0) (qs .1 .1 .1 .1 .1 .1 .1 .1 .0))
-              (List._∷_
               Row.off
               (List._∷_
               Row.off
-              (List._∷_
-              Row.off
-              (List._∷_ Row.off (List._∷_ Row.off (List._∷_ Row.off List.[]))))))))))))));
+              (List._∷_ Row.off (List._∷_ Row.off (List._∷_ Row.off List.[]))))))))))));
         }
 
         abbrev G7 : Row.Cx
@@ -5125,14 +4176,10 @@ module _ (claims· : Claims) where
               (List._∷_
               (Row.lease (κs .1 .1 .1 .1 .1 .1 .1 .0) (qs .1 .1 .1 .1 .1 .1 .1 .0))
               (List._∷_
-              (Row.lease (κs .1 .1 .1 .1 .1 .1 .1 .1 .0) (qs .1 .1 .1 .1 .1 .1 .1 .1 .0))
-              (List._∷_
               Row.off
               (List._∷_
               Row.off
-              (List._∷_
-              Row.off
-              (List._∷_ Row.off (List._∷_ Row.off (List._∷_ Row.off List.[]))))))))))))));
+              (List._∷_ Row.off (List._∷_ Row.off (List._∷_ Row.off List.[]))))))))))));
         }
 
         abbrev G8 : Row.Cx
@@ -5155,14 +4202,10 @@ module _ (claims· : Claims) where
               (List._∷_
               (Row.lease (κs .1 .1 .1 .1 .1 .1 .1 .0) (qs .1 .1 .1 .1 .1 .1 .1 .0))
               (List._∷_
-              (Row.lease (κs .1 .1 .1 .1 .1 .1 .1 .1 .0) (qs .1 .1 .1 .1 .1 .1 .1 .1 .0))
-              (List._∷_
               Row.off
               (List._∷_
               Row.off
-              (List._∷_
-              Row.off
-              (List._∷_ Row.off (List._∷_ Row.off (List._∷_ Row.off List.[]))))))))))))));
+              (List._∷_ Row.off (List._∷_ Row.off (List._∷_ Row.off List.[]))))))))))));
         }
 
         abbrev G9 : Row.Cx
@@ -5185,48 +4228,14 @@ module _ (claims· : Claims) where
               (List._∷_
               (Row.lease (κs .1 .1 .1 .1 .1 .1 .1 .0) (qs .1 .1 .1 .1 .1 .1 .1 .0))
               (List._∷_
-              (Row.lease (κs .1 .1 .1 .1 .1 .1 .1 .1 .0) (qs .1 .1 .1 .1 .1 .1 .1 .1 .0))
-              (List._∷_
               Row.off
               (List._∷_
               Row.off
-              (List._∷_
-              Row.off
-              (List._∷_ Row.off (List._∷_ Row.off (List._∷_ Row.off List.[]))))))))))))));
+              (List._∷_ Row.off (List._∷_ Row.off (List._∷_ Row.off List.[]))))))))))));
         }
 
         abbrev G10 : Row.Cx
         G10 = record {
-          locals = List._++_ t0 t1;
-          slots = List._∷_
-              (Row.lease (κs .0) (qs .0))
-              (List._∷_
-              (Row.lease (κs .1 .0) (qs .1 .0))
-              (List._∷_
-              (Row.lease (κs .1 .1 .0) (qs .1 .1 .0))
-              (List._∷_
-              (Row.lease (κs .1 .1 .1 .0) (qs .1 .1 .1 .0))
-              (List._∷_
-              (Row.lease (κs .1 .1 .1 .1 .0) (qs .1 .1 .1 .1 .0))
-              (List._∷_
-              (Row.lease (κs .1 .1 .1 .1 .1 .0) (qs .1 .1 .1 .1 .1 .0))
-              (List._∷_
-              (Row.lease (κs .1 .1 .1 .1 .1 .1 .0) (qs .1 .1 .1 .1 .1 .1 .0))
-              (List._∷_
-              (Row.lease (κs .1 .1 .1 .1 .1 .1 .1 .0) (qs .1 .1 .1 .1 .1 .1 .1 .0))
-              (List._∷_
-              (Row.lease (κs .1 .1 .1 .1 .1 .1 .1 .1 .0) (qs .1 .1 .1 .1 .1 .1 .1 .1 .0))
-              (List._∷_
-              Row.off
-              (List._∷_
-              Row.off
-              (List._∷_
-              Row.off
-              (List._∷_ Row.off (List._∷_ Row.off (List._∷_ Row.off List.[]))))))))))))));
-        }
-
-        abbrev G11 : Row.Cx
-        G11 = record {
           locals = List._++_ t3 t1;
           slots = List._∷_
               (Row.lease (κs .0) (qs .0))
@@ -5245,18 +4254,14 @@ module _ (claims· : Claims) where
               (List._∷_
               (Row.lease (κs .1 .1 .1 .1 .1 .1 .1 .0) (qs .1 .1 .1 .1 .1 .1 .1 .0))
               (List._∷_
-              (Row.lease (κs .1 .1 .1 .1 .1 .1 .1 .1 .0) (qs .1 .1 .1 .1 .1 .1 .1 .1 .0))
-              (List._∷_
               Row.off
               (List._∷_
               Row.off
-              (List._∷_
-              Row.off
-              (List._∷_ Row.off (List._∷_ Row.off (List._∷_ Row.off List.[]))))))))))))));
+              (List._∷_ Row.off (List._∷_ Row.off (List._∷_ Row.off List.[]))))))))))));
         }
 
-        abbrev G12 : Row.Cx
-        G12 = record {
+        abbrev G11 : Row.Cx
+        G11 = record {
           locals = List._++_ t4 t1;
           slots = List._∷_
               (Row.lease (κs .0) (qs .0))
@@ -5275,14 +4280,36 @@ module _ (claims· : Claims) where
               (List._∷_
               (Row.lease (κs .1 .1 .1 .1 .1 .1 .1 .0) (qs .1 .1 .1 .1 .1 .1 .1 .0))
               (List._∷_
-              (Row.lease (κs .1 .1 .1 .1 .1 .1 .1 .1 .0) (qs .1 .1 .1 .1 .1 .1 .1 .1 .0))
+              Row.off
+              (List._∷_
+              Row.off
+              (List._∷_ Row.off (List._∷_ Row.off (List._∷_ Row.off List.[]))))))))))));
+        }
+
+        abbrev G12 : Row.Cx
+        G12 = record {
+          locals = List._++_ t5 t1;
+          slots = List._∷_
+              (Row.lease (κs .0) (qs .0))
+              (List._∷_
+              (Row.lease (κs .1 .0) (qs .1 .0))
+              (List._∷_
+              (Row.lease (κs .1 .1 .0) (qs .1 .1 .0))
+              (List._∷_
+              (Row.lease (κs .1 .1 .1 .0) (qs .1 .1 .1 .0))
+              (List._∷_
+              (Row.lease (κs .1 .1 .1 .1 .0) (qs .1 .1 .1 .1 .0))
+              (List._∷_
+              (Row.lease (κs .1 .1 .1 .1 .1 .0) (qs .1 .1 .1 .1 .1 .0))
+              (List._∷_
+              (Row.lease (κs .1 .1 .1 .1 .1 .1 .0) (qs .1 .1 .1 .1 .1 .1 .0))
+              (List._∷_
+              (Row.lease (κs .1 .1 .1 .1 .1 .1 .1 .0) (qs .1 .1 .1 .1 .1 .1 .1 .0))
               (List._∷_
               Row.off
               (List._∷_
               Row.off
-              (List._∷_
-              Row.off
-              (List._∷_ Row.off (List._∷_ Row.off (List._∷_ Row.off List.[]))))))))))))));
+              (List._∷_ Row.off (List._∷_ Row.off (List._∷_ Row.off List.[]))))))))))));
         }
 
         abbrev G13 : Row.Cx
@@ -5305,48 +4332,14 @@ module _ (claims· : Claims) where
               (List._∷_
               (Row.lease (κs .1 .1 .1 .1 .1 .1 .1 .0) (qs .1 .1 .1 .1 .1 .1 .1 .0))
               (List._∷_
-              (Row.lease (κs .1 .1 .1 .1 .1 .1 .1 .1 .0) (qs .1 .1 .1 .1 .1 .1 .1 .1 .0))
+              Row.alive
               (List._∷_
               Row.off
-              (List._∷_
-              Row.off
-              (List._∷_
-              Row.off
-              (List._∷_ Row.off (List._∷_ Row.off (List._∷_ Row.off List.[]))))))))))))));
+              (List._∷_ Row.off (List._∷_ Row.off (List._∷_ Row.off List.[]))))))))))));
         }
 
         abbrev G14 : Row.Cx
         G14 = record {
-          locals = List._++_ t5 t1;
-          slots = List._∷_
-              (Row.lease (κs .0) (qs .0))
-              (List._∷_
-              (Row.lease (κs .1 .0) (qs .1 .0))
-              (List._∷_
-              (Row.lease (κs .1 .1 .0) (qs .1 .1 .0))
-              (List._∷_
-              (Row.lease (κs .1 .1 .1 .0) (qs .1 .1 .1 .0))
-              (List._∷_
-              (Row.lease (κs .1 .1 .1 .1 .0) (qs .1 .1 .1 .1 .0))
-              (List._∷_
-              (Row.lease (κs .1 .1 .1 .1 .1 .0) (qs .1 .1 .1 .1 .1 .0))
-              (List._∷_
-              (Row.lease (κs .1 .1 .1 .1 .1 .1 .0) (qs .1 .1 .1 .1 .1 .1 .0))
-              (List._∷_
-              (Row.lease (κs .1 .1 .1 .1 .1 .1 .1 .0) (qs .1 .1 .1 .1 .1 .1 .1 .0))
-              (List._∷_
-              (Row.lease (κs .1 .1 .1 .1 .1 .1 .1 .1 .0) (qs .1 .1 .1 .1 .1 .1 .1 .1 .0))
-              (List._∷_
-              Row.alive
-              (List._∷_
-              Row.off
-              (List._∷_
-              Row.off
-              (List._∷_ Row.off (List._∷_ Row.off (List._∷_ Row.off List.[]))))))))))))));
-        }
-
-        abbrev G15 : Row.Cx
-        G15 = record {
           locals = List._++_ g6 t1;
           slots = List._∷_
               (Row.lease (κs .0) (qs .0))
@@ -5365,14 +4358,36 @@ module _ (claims· : Claims) where
               (List._∷_
               (Row.lease (κs .1 .1 .1 .1 .1 .1 .1 .0) (qs .1 .1 .1 .1 .1 .1 .1 .0))
               (List._∷_
-              (Row.lease (κs .1 .1 .1 .1 .1 .1 .1 .1 .0) (qs .1 .1 .1 .1 .1 .1 .1 .1 .0))
+              Row.alive
+              (List._∷_
+              Row.off
+              (List._∷_ Row.off (List._∷_ Row.off (List._∷_ Row.off List.[]))))))))))));
+        }
+
+        abbrev G15 : Row.Cx
+        G15 = record {
+          locals = List._++_ g7 t1;
+          slots = List._∷_
+              (Row.lease (κs .0) (qs .0))
+              (List._∷_
+              (Row.lease (κs .1 .0) (qs .1 .0))
+              (List._∷_
+              (Row.lease (κs .1 .1 .0) (qs .1 .1 .0))
+              (List._∷_
+              (Row.lease (κs .1 .1 .1 .0) (qs .1 .1 .1 .0))
+              (List._∷_
+              Row.off
+              (List._∷_
+              (Row.lease (κs .1 .1 .1 .1 .1 .0) (qs .1 .1 .1 .1 .1 .0))
+              (List._∷_
+              (Row.lease (κs .1 .1 .1 .1 .1 .1 .0) (qs .1 .1 .1 .1 .1 .1 .0))
+              (List._∷_
+              (Row.lease (κs .1 .1 .1 .1 .1 .1 .1 .0) (qs .1 .1 .1 .1 .1 .1 .1 .0))
               (List._∷_
               Row.alive
               (List._∷_
               Row.off
-              (List._∷_
-              Row.off
-              (List._∷_ Row.off (List._∷_ Row.off (List._∷_ Row.off List.[]))))))))))))));
+              (List._∷_ Row.off (List._∷_ Row.off (List._∷_ Row.off List.[]))))))))))));
         }
 
         abbrev G16 : Row.Cx
@@ -5395,48 +4410,14 @@ module _ (claims· : Claims) where
               (List._∷_
               (Row.lease (κs .1 .1 .1 .1 .1 .1 .1 .0) (qs .1 .1 .1 .1 .1 .1 .1 .0))
               (List._∷_
-              (Row.lease (κs .1 .1 .1 .1 .1 .1 .1 .1 .0) (qs .1 .1 .1 .1 .1 .1 .1 .1 .0))
-              (List._∷_
               Row.alive
               (List._∷_
-              Row.off
-              (List._∷_
-              Row.off
-              (List._∷_ Row.off (List._∷_ Row.off (List._∷_ Row.off List.[]))))))))))))));
+              Row.alive
+              (List._∷_ Row.off (List._∷_ Row.off (List._∷_ Row.off List.[]))))))))))));
         }
 
         abbrev G17 : Row.Cx
         G17 = record {
-          locals = List._++_ g7 t1;
-          slots = List._∷_
-              (Row.lease (κs .0) (qs .0))
-              (List._∷_
-              (Row.lease (κs .1 .0) (qs .1 .0))
-              (List._∷_
-              (Row.lease (κs .1 .1 .0) (qs .1 .1 .0))
-              (List._∷_
-              (Row.lease (κs .1 .1 .1 .0) (qs .1 .1 .1 .0))
-              (List._∷_
-              Row.off
-              (List._∷_
-              (Row.lease (κs .1 .1 .1 .1 .1 .0) (qs .1 .1 .1 .1 .1 .0))
-              (List._∷_
-              (Row.lease (κs .1 .1 .1 .1 .1 .1 .0) (qs .1 .1 .1 .1 .1 .1 .0))
-              (List._∷_
-              (Row.lease (κs .1 .1 .1 .1 .1 .1 .1 .0) (qs .1 .1 .1 .1 .1 .1 .1 .0))
-              (List._∷_
-              (Row.lease (κs .1 .1 .1 .1 .1 .1 .1 .1 .0) (qs .1 .1 .1 .1 .1 .1 .1 .1 .0))
-              (List._∷_
-              Row.alive
-              (List._∷_
-              Row.alive
-              (List._∷_
-              Row.off
-              (List._∷_ Row.off (List._∷_ Row.off (List._∷_ Row.off List.[]))))))))))))));
-        }
-
-        abbrev G18 : Row.Cx
-        G18 = record {
           locals = List._++_ g8 t1;
           slots = List._∷_
               (Row.lease (κs .0) (qs .0))
@@ -5455,19 +4436,41 @@ module _ (claims· : Claims) where
               (List._∷_
               (Row.lease (κs .1 .1 .1 .1 .1 .1 .1 .0) (qs .1 .1 .1 .1 .1 .1 .1 .0))
               (List._∷_
-              (Row.lease (κs .1 .1 .1 .1 .1 .1 .1 .1 .0) (qs .1 .1 .1 .1 .1 .1 .1 .1 .0))
-              (List._∷_
               Row.alive
               (List._∷_
               Row.alive
+              (List._∷_ Row.off (List._∷_ Row.off (List._∷_ Row.off List.[]))))))))))));
+        }
+
+        abbrev G18 : Row.Cx
+        G18 = record {
+          locals = List._++_ g9 t1;
+          slots = List._∷_
+              (Row.lease (κs .0) (qs .0))
+              (List._∷_
+              (Row.lease (κs .1 .0) (qs .1 .0))
+              (List._∷_
+              (Row.lease (κs .1 .1 .0) (qs .1 .1 .0))
+              (List._∷_
+              (Row.lease (κs .1 .1 .1 .0) (qs .1 .1 .1 .0))
               (List._∷_
               Row.off
-              (List._∷_ Row.off (List._∷_ Row.off (List._∷_ Row.off List.[]))))))))))))));
+              (List._∷_
+              Row.off
+              (List._∷_
+              (Row.lease (κs .1 .1 .1 .1 .1 .1 .0) (qs .1 .1 .1 .1 .1 .1 .0))
+              (List._∷_
+              (Row.lease (κs .1 .1 .1 .1 .1 .1 .1 .0) (qs .1 .1 .1 .1 .1 .1 .1 .0))
+              (List._∷_
+              Row.alive
+              (List._∷_
+              Row.alive
+              (List._∷_ Row.off (List._∷_ Row.off (List._∷_ Row.off List.[]))))))))))));
         }
 
         abbrev G19 : Row.Cx
         G19 = record {
-          locals = List._++_ g9 t10;
+          locals = List._++_ g9 t1;
           slots = List._∷_
               (Row.lease (κs .0) (qs .0))
               (List._∷_
@@ -5485,19 +4488,15 @@ module _ (claims· : Claims) where
               (List._∷_
               (Row.lease (κs .1 .1 .1 .1 .1 .1 .1 .0) (qs .1 .1 .1 .1 .1 .1 .1 .0))
               (List._∷_
-              (Row.lease (κs .1 .1 .1 .1 .1 .1 .1 .1 .0) (qs .1 .1 .1 .1 .1 .1 .1 .1 .0))
-              (List._∷_
               Row.alive
               (List._∷_
               Row.alive
-              (List._∷_
-              Row.off
-              (List._∷_ Row.off (List._∷_ Row.off (List._∷_ Row.off List.[]))))))))))))));
+              (List._∷_ Row.alive (List._∷_ Row.off (List._∷_ Row.off List.[]))))))))))));
         }
 
         abbrev G20 : Row.Cx
         G20 = record {
-          locals = List._++_ g9 t10;
+          locals = List._++_ g10 t11;
           slots = List._∷_
               (Row.lease (κs .0) (qs .0))
               (List._∷_
@@ -5511,23 +4510,19 @@ module _ (claims· : Claims) where
               (List._∷_
               Row.off
               (List._∷_
-              (Row.lease (κs .1 .1 .1 .1 .1 .1 .0) (qs .1 .1 .1 .1 .1 .1 .0))
+              Row.off
               (List._∷_
               (Row.lease (κs .1 .1 .1 .1 .1 .1 .1 .0) (qs .1 .1 .1 .1 .1 .1 .1 .0))
               (List._∷_
-              (Row.lease (κs .1 .1 .1 .1 .1 .1 .1 .1 .0) (qs .1 .1 .1 .1 .1 .1 .1 .1 .0))
-              (List._∷_
               Row.alive
               (List._∷_
               Row.alive
-              (List._∷_
-              Row.alive
-              (List._∷_ Row.off (List._∷_ Row.off (List._∷_ Row.off List.[]))))))))))))));
+              (List._∷_ Row.alive (List._∷_ Row.off (List._∷_ Row.off List.[]))))))))))));
         }
 
         abbrev G21 : Row.Cx
         G21 = record {
-          locals = List._++_ g11 t12;
+          locals = List._++_ g10 t12;
           slots = List._∷_
               (Row.lease (κs .0) (qs .0))
               (List._∷_
@@ -5545,19 +4540,15 @@ module _ (claims· : Claims) where
               (List._∷_
               (Row.lease (κs .1 .1 .1 .1 .1 .1 .1 .0) (qs .1 .1 .1 .1 .1 .1 .1 .0))
               (List._∷_
-              (Row.lease (κs .1 .1 .1 .1 .1 .1 .1 .1 .0) (qs .1 .1 .1 .1 .1 .1 .1 .1 .0))
-              (List._∷_
               Row.alive
               (List._∷_
               Row.alive
-              (List._∷_
-              Row.alive
-              (List._∷_ Row.off (List._∷_ Row.off (List._∷_ Row.off List.[]))))))))))))));
+              (List._∷_ Row.alive (List._∷_ Row.off (List._∷_ Row.off List.[]))))))))))));
         }
 
         abbrev G22 : Row.Cx
         G22 = record {
-          locals = List._++_ g11 t13;
+          locals = List._++_ g10 t12;
           slots = List._∷_
               (Row.lease (κs .0) (qs .0))
               (List._∷_
@@ -5575,19 +4566,15 @@ module _ (claims· : Claims) where
               (List._∷_
               (Row.lease (κs .1 .1 .1 .1 .1 .1 .1 .0) (qs .1 .1 .1 .1 .1 .1 .1 .0))
               (List._∷_
-              (Row.lease (κs .1 .1 .1 .1 .1 .1 .1 .1 .0) (qs .1 .1 .1 .1 .1 .1 .1 .1 .0))
-              (List._∷_
               Row.alive
               (List._∷_
               Row.alive
-              (List._∷_
-              Row.alive
-              (List._∷_ Row.off (List._∷_ Row.off (List._∷_ Row.off List.[]))))))))))))));
+              (List._∷_ Row.alive (List._∷_ Row.alive (List._∷_ Row.off List.[]))))))))))));
         }
 
         abbrev G23 : Row.Cx
         G23 = record {
-          locals = List._++_ g11 t13;
+          locals = List._++_ g13 t14;
           slots = List._∷_
               (Row.lease (κs .0) (qs .0))
               (List._∷_
@@ -5603,21 +4590,17 @@ module _ (claims· : Claims) where
               (List._∷_
               Row.off
               (List._∷_
-              (Row.lease (κs .1 .1 .1 .1 .1 .1 .1 .0) (qs .1 .1 .1 .1 .1 .1 .1 .0))
-              (List._∷_
-              (Row.lease (κs .1 .1 .1 .1 .1 .1 .1 .1 .0) (qs .1 .1 .1 .1 .1 .1 .1 .1 .0))
+              Row.off
               (List._∷_
               Row.alive
               (List._∷_
               Row.alive
-              (List._∷_
-              Row.alive
-              (List._∷_ Row.alive (List._∷_ Row.off (List._∷_ Row.off List.[]))))))))))))));
+              (List._∷_ Row.alive (List._∷_ Row.alive (List._∷_ Row.off List.[]))))))))))));
         }
 
         abbrev G24 : Row.Cx
         G24 = record {
-          locals = List._++_ g14 t15;
+          locals = List._++_ g13 t15;
           slots = List._∷_
               (Row.lease (κs .0) (qs .0))
               (List._∷_
@@ -5635,19 +4618,15 @@ module _ (claims· : Claims) where
               (List._∷_
               Row.off
               (List._∷_
-              (Row.lease (κs .1 .1 .1 .1 .1 .1 .1 .1 .0) (qs .1 .1 .1 .1 .1 .1 .1 .1 .0))
-              (List._∷_
               Row.alive
               (List._∷_
               Row.alive
-              (List._∷_
-              Row.alive
-              (List._∷_ Row.alive (List._∷_ Row.off (List._∷_ Row.off List.[]))))))))))))));
+              (List._∷_ Row.alive (List._∷_ Row.alive (List._∷_ Row.off List.[]))))))))))));
         }
 
         abbrev G25 : Row.Cx
         G25 = record {
-          locals = List._++_ g14 t16;
+          locals = List._++_ g13 t15;
           slots = List._∷_
               (Row.lease (κs .0) (qs .0))
               (List._∷_
@@ -5665,19 +4644,15 @@ module _ (claims· : Claims) where
               (List._∷_
               Row.off
               (List._∷_
-              (Row.lease (κs .1 .1 .1 .1 .1 .1 .1 .1 .0) (qs .1 .1 .1 .1 .1 .1 .1 .1 .0))
-              (List._∷_
               Row.alive
               (List._∷_
               Row.alive
-              (List._∷_
-              Row.alive
-              (List._∷_ Row.alive (List._∷_ Row.off (List._∷_ Row.off List.[]))))))))))))));
+              (List._∷_ Row.alive (List._∷_ Row.alive (List._∷_ Row.alive List.[]))))))))))));
         }
 
         abbrev G26 : Row.Cx
         G26 = record {
-          locals = List._++_ g14 t16;
+          locals = List._++_ g16 t17;
           slots = List._∷_
               (Row.lease (κs .0) (qs .0))
               (List._∷_
@@ -5695,19 +4670,15 @@ module _ (claims· : Claims) where
               (List._∷_
               Row.off
               (List._∷_
-              (Row.lease (κs .1 .1 .1 .1 .1 .1 .1 .1 .0) (qs .1 .1 .1 .1 .1 .1 .1 .1 .0))
-              (List._∷_
               Row.alive
               (List._∷_
               Row.alive
-              (List._∷_
-              Row.alive
-              (List._∷_ Row.alive (List._∷_ Row.alive (List._∷_ Row.off List.[]))))))))))))));
+              (List._∷_ Row.alive (List._∷_ Row.alive (List._∷_ Row.alive List.[]))))))))))));
         }
 
         abbrev G27 : Row.Cx
         G27 = record {
-          locals = List._++_ g17 t18;
+          locals = List._++_ g16 t18;
           slots = List._∷_
               (Row.lease (κs .0) (qs .0))
               (List._∷_
@@ -5725,19 +4696,15 @@ module _ (claims· : Claims) where
               (List._∷_
               Row.off
               (List._∷_
-              Row.off
-              (List._∷_
               Row.alive
               (List._∷_
               Row.alive
-              (List._∷_
-              Row.alive
-              (List._∷_ Row.alive (List._∷_ Row.alive (List._∷_ Row.off List.[]))))))))))))));
+              (List._∷_ Row.alive (List._∷_ Row.alive (List._∷_ Row.alive List.[]))))))))))));
         }
 
         abbrev G28 : Row.Cx
         G28 = record {
-          locals = List._++_ g17 t19;
+          locals = List._++_ g19 t20;
           slots = List._∷_
               (Row.lease (κs .0) (qs .0))
               (List._∷_
@@ -5755,19 +4722,15 @@ module _ (claims· : Claims) where
               (List._∷_
               Row.off
               (List._∷_
-              Row.off
-              (List._∷_
               Row.alive
               (List._∷_
               Row.alive
-              (List._∷_
-              Row.alive
-              (List._∷_ Row.alive (List._∷_ Row.alive (List._∷_ Row.off List.[]))))))))))))));
+              (List._∷_ Row.alive (List._∷_ Row.alive (List._∷_ Row.alive List.[]))))))))))));
         }
 
         abbrev G29 : Row.Cx
         G29 = record {
-          locals = List._++_ g17 t19;
+          locals = List._++_ g19 t20;
           slots = List._∷_
               (Row.lease (κs .0) (qs .0))
               (List._∷_
@@ -5785,19 +4748,15 @@ module _ (claims· : Claims) where
               (List._∷_
               Row.off
               (List._∷_
-              Row.off
+              Row.dead
               (List._∷_
               Row.alive
-              (List._∷_
-              Row.alive
-              (List._∷_
-              Row.alive
-              (List._∷_ Row.alive (List._∷_ Row.alive (List._∷_ Row.alive List.[]))))))))))))));
+              (List._∷_ Row.alive (List._∷_ Row.alive (List._∷_ Row.alive List.[]))))))))))));
         }
 
         abbrev G30 : Row.Cx
         G30 = record {
-          locals = List._++_ g20 t21;
+          locals = List._++_ g21 t20;
           slots = List._∷_
               (Row.lease (κs .0) (qs .0))
               (List._∷_
@@ -5807,7 +4766,7 @@ module _ (claims· : Claims) where
               (List._∷_
               (Row.lease (κs .1 .1 .1 .0) (qs .1 .1 .1 .0))
               (List._∷_
-              Row.off
+              (Row.lease (κs .1 .1 .1 .1 .0) (qs .1 .1 .1 .1 .0))
               (List._∷_
               Row.off
               (List._∷_
@@ -5815,19 +4774,15 @@ module _ (claims· : Claims) where
               (List._∷_
               Row.off
               (List._∷_
-              Row.off
+              Row.dead
               (List._∷_
               Row.alive
-              (List._∷_
-              Row.alive
-              (List._∷_
-              Row.alive
-              (List._∷_ Row.alive (List._∷_ Row.alive (List._∷_ Row.alive List.[]))))))))))))));
+              (List._∷_ Row.alive (List._∷_ Row.alive (List._∷_ Row.alive List.[]))))))))))));
         }
 
         abbrev G31 : Row.Cx
         G31 = record {
-          locals = List._++_ g20 t22;
+          locals = List._++_ g21 t20;
           slots = List._∷_
               (Row.lease (κs .0) (qs .0))
               (List._∷_
@@ -5837,7 +4792,7 @@ module _ (claims· : Claims) where
               (List._∷_
               (Row.lease (κs .1 .1 .1 .0) (qs .1 .1 .1 .0))
               (List._∷_
-              Row.off
+              (Row.lease (κs .1 .1 .1 .1 .0) (qs .1 .1 .1 .1 .0))
               (List._∷_
               Row.off
               (List._∷_
@@ -5845,19 +4800,15 @@ module _ (claims· : Claims) where
               (List._∷_
               Row.off
               (List._∷_
-              Row.off
+              Row.dead
               (List._∷_
               Row.alive
-              (List._∷_
-              Row.alive
-              (List._∷_
-              Row.alive
-              (List._∷_ Row.alive (List._∷_ Row.alive (List._∷_ Row.alive List.[]))))))))))))));
+              (List._∷_ Row.alive (List._∷_ Row.alive (List._∷_ Row.alive List.[]))))))))))));
         }
 
         abbrev G32 : Row.Cx
         G32 = record {
-          locals = List._++_ g23 t24;
+          locals = List._++_ g21 t20;
           slots = List._∷_
               (Row.lease (κs .0) (qs .0))
               (List._∷_
@@ -5867,7 +4818,7 @@ module _ (claims· : Claims) where
               (List._∷_
               (Row.lease (κs .1 .1 .1 .0) (qs .1 .1 .1 .0))
               (List._∷_
-              Row.off
+              (Row.lease (κs .1 .1 .1 .1 .0) (qs .1 .1 .1 .1 .0))
               (List._∷_
               Row.off
               (List._∷_
@@ -5878,15 +4829,141 @@ module _ (claims· : Claims) where
               Row.off
               (List._∷_
               Row.alive
-              (List._∷_
-              Row.alive
-              (List._∷_
-              Row.alive
-              (List._∷_ Row.alive (List._∷_ Row.alive (List._∷_ Row.alive List.[]))))))))))))));
+              (List._∷_ Row.alive (List._∷_ Row.alive (List._∷_ Row.alive List.[]))))))))))));
         }
 
         abbrev G33 : Row.Cx
         G33 = record {
+          locals = List._++_ g21 t20;
+          slots = List._∷_
+              (Row.lease (κs .0) (qs .0))
+              (List._∷_
+              (Row.lease (κs .1 .0) (qs .1 .0))
+              (List._∷_
+              (Row.lease (κs .1 .1 .0) (qs .1 .1 .0))
+              (List._∷_
+              (Row.lease (κs .1 .1 .1 .0) (qs .1 .1 .1 .0))
+              (List._∷_
+              (Row.lease (κs .1 .1 .1 .1 .0) (qs .1 .1 .1 .1 .0))
+              (List._∷_
+              Row.off
+              (List._∷_
+              Row.off
+              (List._∷_
+              Row.off
+              (List._∷_
+              Row.off
+              (List._∷_
+              Row.dead
+              (List._∷_ Row.alive (List._∷_ Row.alive (List._∷_ Row.alive List.[]))))))))))));
+        }
+
+        abbrev G34 : Row.Cx
+        G34 = record {
+          locals = List._++_ g22 t20;
+          slots = List._∷_
+              (Row.lease (κs .0) (qs .0))
+              (List._∷_
+              (Row.lease (κs .1 .0) (qs .1 .0))
+              (List._∷_
+              (Row.lease (κs .1 .1 .0) (qs .1 .1 .0))
+              (List._∷_
+              (Row.lease (κs .1 .1 .1 .0) (qs .1 .1 .1 .0))
+              (List._∷_
+              (Row.lease (κs .1 .1 .1 .1 .0) (qs .1 .1 .1 .1 .0))
+              (List._∷_
+              (Row.lease (κs .1 .1 .1 .1 .1 .0) (qs .1 .1 .1 .1 .1 .0))
+              (List._∷_
+              Row.off
+              (List._∷_
+              Row.off
+              (List._∷_
+              Row.off
+              (List._∷_
+              Row.dead
+              (List._∷_ Row.alive (List._∷_ Row.alive (List._∷_ Row.alive List.[]))))))))))));
+        }
+
+        abbrev G35 : Row.Cx
+        G35 = record {
+          locals = List._++_ g22 t20;
+          slots = List._∷_
+              (Row.lease (κs .0) (qs .0))
+              (List._∷_
+              (Row.lease (κs .1 .0) (qs .1 .0))
+              (List._∷_
+              (Row.lease (κs .1 .1 .0) (qs .1 .1 .0))
+              (List._∷_
+              (Row.lease (κs .1 .1 .1 .0) (qs .1 .1 .1 .0))
+              (List._∷_
+              (Row.lease (κs .1 .1 .1 .1 .0) (qs .1 .1 .1 .1 .0))
+              (List._∷_
+              (Row.lease (κs .1 .1 .1 .1 .1 .0) (qs .1 .1 .1 .1 .1 .0))
+              (List._∷_
+              Row.off
+              (List._∷_
+              Row.off
+              (List._∷_
+              Row.off
+              (List._∷_
+              Row.dead
+              (List._∷_ Row.alive (List._∷_ Row.alive (List._∷_ Row.alive List.[]))))))))))));
+        }
+
+        abbrev G36 : Row.Cx
+        G36 = record {
+          locals = List._++_ g22 t20;
+          slots = List._∷_
+              (Row.lease (κs .0) (qs .0))
+              (List._∷_
+              (Row.lease (κs .1 .0) (qs .1 .0))
+              (List._∷_
+              (Row.lease (κs .1 .1 .0) (qs .1 .1 .0))
+              (List._∷_
+              (Row.lease (κs .1 .1 .1 .0) (qs .1 .1 .1 .0))
+              (List._∷_
+              (Row.lease (κs .1 .1 .1 .1 .0) (qs .1 .1 .1 .1 .0))
+              (List._∷_
+              (Row.lease (κs .1 .1 .1 .1 .1 .0) (qs .1 .1 .1 .1 .1 .0))
+              (List._∷_
+              Row.off
+              (List._∷_
+              Row.off
+              (List._∷_
+              Row.off
+              (List._∷_
+              Row.off
+              (List._∷_ Row.alive (List._∷_ Row.alive (List._∷_ Row.alive List.[]))))))))))));
+        }
+
+        abbrev G37 : Row.Cx
+        G37 = record {
+          locals = List._++_ g22 t20;
+          slots = List._∷_
+              (Row.lease (κs .0) (qs .0))
+              (List._∷_
+              (Row.lease (κs .1 .0) (qs .1 .0))
+              (List._∷_
+              (Row.lease (κs .1 .1 .0) (qs .1 .1 .0))
+              (List._∷_
+              (Row.lease (κs .1 .1 .1 .0) (qs .1 .1 .1 .0))
+              (List._∷_
+              (Row.lease (κs .1 .1 .1 .1 .0) (qs .1 .1 .1 .1 .0))
+              (List._∷_
+              (Row.lease (κs .1 .1 .1 .1 .1 .0) (qs .1 .1 .1 .1 .1 .0))
+              (List._∷_
+              Row.off
+              (List._∷_
+              Row.off
+              (List._∷_
+              Row.off
+              (List._∷_
+              Row.off
+              (List._∷_ Row.dead (List._∷_ Row.alive (List._∷_ Row.alive List.[]))))))))))));
+        }
+
+        abbrev G38 : Row.Cx
+        G38 = record {
           locals = List._++_ g23 t24;
           slots = List._∷_
               (Row.lease (κs .0) (qs .0))
@@ -5897,177 +4974,23 @@ module _ (claims· : Claims) where
               (List._∷_
               (Row.lease (κs .1 .1 .1 .0) (qs .1 .1 .1 .0))
               (List._∷_
-              Row.off
-              (List._∷_
-              Row.off
-              (List._∷_
-              Row.off
-              (List._∷_
-              Row.off
-              (List._∷_
-              Row.off
-              (List._∷_
-              Row.dead
-              (List._∷_
-              Row.alive
-              (List._∷_
-              Row.alive
-              (List._∷_ Row.alive (List._∷_ Row.alive (List._∷_ Row.alive List.[]))))))))))))));
-        }
-
-        abbrev G34 : Row.Cx
-        G34 = record {
-          locals = List._++_ g25 t24;
-          slots = List._∷_
-              (Row.lease (κs .0) (qs .0))
-              (List._∷_
-              (Row.lease (κs .1 .0) (qs .1 .0))
-              (List._∷_
-              (Row.lease (κs .1 .1 .0) (qs .1 .1 .0))
-              (List._∷_
-              (Row.lease (κs .1 .1 .1 .0) (qs .1 .1 .1 .0))
-              (List._∷_
-              (Row.lease (κs .1 .1 .1 .1 .0) (qs .1 .1 .1 .1 .0))
-              (List._∷_
-              Row.off
-              (List._∷_
-              Row.off
-              (List._∷_
-              Row.off
-              (List._∷_
-              Row.off
-              (List._∷_
-              Row.dead
-              (List._∷_
-              Row.alive
-              (List._∷_
-              Row.alive
-              (List._∷_ Row.alive (List._∷_ Row.alive (List._∷_ Row.alive List.[]))))))))))))));
-        }
-
-        abbrev G35 : Row.Cx
-        G35 = record {
-          locals = List._++_ g25 t24;
-          slots = List._∷_
-              (Row.lease (κs .0) (qs .0))
-              (List._∷_
-              (Row.lease (κs .1 .0) (qs .1 .0))
-              (List._∷_
-              (Row.lease (κs .1 .1 .0) (qs .1 .1 .0))
-              (List._∷_
-              (Row.lease (κs .1 .1 .1 .0) (qs .1 .1 .1 .0))
-              (List._∷_
-              (Row.lease (κs .1 .1 .1 .1 .0) (qs .1 .1 .1 .1 .0))
-              (List._∷_
-              Row.off
-              (List._∷_
-              Row.off
-              (List._∷_
-              Row.off
-              (List._∷_
-              Row.off
-              (List._∷_
-              Row.dead
-              (List._∷_
-              Row.alive
-              (List._∷_
-              Row.alive
-              (List._∷_ Row.alive (List._∷_ Row.alive (List._∷_ Row.alive List.[]))))))))))))));
-        }
-
-        abbrev G36 : Row.Cx
-        G36 = record {
-          locals = List._++_ g25 t24;
-          slots = List._∷_
-              (Row.lease (κs .0) (qs .0))
-              (List._∷_
-              (Row.lease (κs .1 .0) (qs .1 .0))
-              (List._∷_
-              (Row.lease (κs .1 .1 .0) (qs .1 .1 .0))
-              (List._∷_
-              (Row.lease (κs .1 .1 .1 .0) (qs .1 .1 .1 .0))
-              (List._∷_
-              (Row.lease (κs .1 .1 .1 .1 .0) (qs .1 .1 .1 .1 .0))
-              (List._∷_
-              Row.off
-              (List._∷_
-              Row.off
-              (List._∷_
-              Row.off
-              (List._∷_
-              Row.off
-              (List._∷_
-              Row.off
-              (List._∷_
-              Row.alive
-              (List._∷_
-              Row.alive
-              (List._∷_ Row.alive (List._∷_ Row.alive (List._∷_ Row.alive List.[]))))))))))))));
-        }
-
-        abbrev G37 : Row.Cx
-        G37 = record {
-          locals = List._++_ g25 t24;
-          slots = List._∷_
-              (Row.lease (κs .0) (qs .0))
-              (List._∷_
-              (Row.lease (κs .1 .0) (qs .1 .0))
-              (List._∷_
-              (Row.lease (κs .1 .1 .0) (qs .1 .1 .0))
-              (List._∷_
-              (Row.lease (κs .1 .1 .1 .0) (qs .1 .1 .1 .0))
-              (List._∷_
-              (Row.lease (κs .1 .1 .1 .1 .0) (qs .1 .1 .1 .1 .0))
-              (List._∷_
-              Row.off
-              (List._∷_
-              Row.off
-              (List._∷_
-              Row.off
-              (List._∷_
-              Row.off
-              (List._∷_
-              Row.off
-              (List._∷_
-              Row.dead
-              (List._∷_
-              Row.alive
-              (List._∷_ Row.alive (List._∷_ Row.alive (List._∷_ Row.alive List.[]))))))))))))));
-        }
-
-        abbrev G38 : Row.Cx
-        G38 = record {
-          locals = List._++_ g26 t27;
-          slots = List._∷_
-              (Row.lease (κs .0) (qs .0))
-              (List._∷_
-              (Row.lease (κs .1 .0) (qs .1 .0))
-              (List._∷_
-              (Row.lease (κs .1 .1 .0) (qs .1 .1 .0))
-              (List._∷_
-              (Row.lease (κs .1 .1 .1 .0) (qs .1 .1 .1 .0))
-              (List._∷_
               (Row.lease (κs .1 .1 .1 .1 .0) (qs .1 .1 .1 .1 .0))
               (List._∷_
               (Row.lease (κs .1 .1 .1 .1 .1 .0) (qs .1 .1 .1 .1 .1 .0))
               (List._∷_
-              Row.off
+              (Row.lease (κs .1 .1 .1 .1 .1 .1 .0) (qs .1 .1 .1 .1 .1 .1 .0))
               (List._∷_
               Row.off
               (List._∷_
               Row.off
               (List._∷_
               Row.off
-              (List._∷_
-              Row.dead
-              (List._∷_
-              Row.alive
-              (List._∷_ Row.alive (List._∷_ Row.alive (List._∷_ Row.alive List.[]))))))))))))));
+              (List._∷_ Row.dead (List._∷_ Row.alive (List._∷_ Row.alive List.[]))))))))))));
         }
 
         abbrev G39 : Row.Cx
         G39 = record {
-          locals = List._++_ g26 t27;
+          locals = List._++_ g23 t24;
           slots = List._∷_
               (Row.lease (κs .0) (qs .0))
               (List._∷_
@@ -6081,23 +5004,19 @@ module _ (claims· : Claims) where
               (List._∷_
               (Row.lease (κs .1 .1 .1 .1 .1 .0) (qs .1 .1 .1 .1 .1 .0))
               (List._∷_
-              Row.off
+              (Row.lease (κs .1 .1 .1 .1 .1 .1 .0) (qs .1 .1 .1 .1 .1 .1 .0))
               (List._∷_
               Row.off
               (List._∷_
               Row.off
               (List._∷_
               Row.off
-              (List._∷_
-              Row.dead
-              (List._∷_
-              Row.alive
-              (List._∷_ Row.alive (List._∷_ Row.alive (List._∷_ Row.alive List.[]))))))))))))));
+              (List._∷_ Row.dead (List._∷_ Row.alive (List._∷_ Row.alive List.[]))))))))))));
         }
 
         abbrev G40 : Row.Cx
         G40 = record {
-          locals = List._++_ g26 t27;
+          locals = List._++_ g23 t24;
           slots = List._∷_
               (Row.lease (κs .0) (qs .0))
               (List._∷_
@@ -6111,23 +5030,19 @@ module _ (claims· : Claims) where
               (List._∷_
               (Row.lease (κs .1 .1 .1 .1 .1 .0) (qs .1 .1 .1 .1 .1 .0))
               (List._∷_
-              Row.off
+              (Row.lease (κs .1 .1 .1 .1 .1 .1 .0) (qs .1 .1 .1 .1 .1 .1 .0))
               (List._∷_
               Row.off
               (List._∷_
               Row.off
               (List._∷_
               Row.off
-              (List._∷_
-              Row.off
-              (List._∷_
-              Row.alive
-              (List._∷_ Row.alive (List._∷_ Row.alive (List._∷_ Row.alive List.[]))))))))))))));
+              (List._∷_ Row.off (List._∷_ Row.alive (List._∷_ Row.alive List.[]))))))))))));
         }
 
         abbrev G41 : Row.Cx
         G41 = record {
-          locals = List._++_ g26 t27;
+          locals = List._++_ g23 t24;
           slots = List._∷_
               (Row.lease (κs .0) (qs .0))
               (List._∷_
@@ -6141,23 +5056,19 @@ module _ (claims· : Claims) where
               (List._∷_
               (Row.lease (κs .1 .1 .1 .1 .1 .0) (qs .1 .1 .1 .1 .1 .0))
               (List._∷_
-              Row.off
+              (Row.lease (κs .1 .1 .1 .1 .1 .1 .0) (qs .1 .1 .1 .1 .1 .1 .0))
               (List._∷_
               Row.off
               (List._∷_
               Row.off
               (List._∷_
               Row.off
-              (List._∷_
-              Row.off
-              (List._∷_
-              Row.dead
-              (List._∷_ Row.alive (List._∷_ Row.alive (List._∷_ Row.alive List.[]))))))))))))));
+              (List._∷_ Row.off (List._∷_ Row.dead (List._∷_ Row.alive List.[]))))))))))));
         }
 
         abbrev G42 : Row.Cx
         G42 = record {
-          locals = List._++_ g28 t29;
+          locals = List._++_ t25 t26;
           slots = List._∷_
               (Row.lease (κs .0) (qs .0))
               (List._∷_
@@ -6173,21 +5084,17 @@ module _ (claims· : Claims) where
               (List._∷_
               (Row.lease (κs .1 .1 .1 .1 .1 .1 .0) (qs .1 .1 .1 .1 .1 .1 .0))
               (List._∷_
-              Row.off
+              (Row.lease (κs .1 .1 .1 .1 .1 .1 .1 .0) (qs .1 .1 .1 .1 .1 .1 .1 .0))
               (List._∷_
               Row.off
               (List._∷_
               Row.off
-              (List._∷_
-              Row.off
-              (List._∷_
-              Row.dead
-              (List._∷_ Row.alive (List._∷_ Row.alive (List._∷_ Row.alive List.[]))))))))))))));
+              (List._∷_ Row.off (List._∷_ Row.dead (List._∷_ Row.alive List.[]))))))))))));
         }
 
         abbrev G43 : Row.Cx
         G43 = record {
-          locals = List._++_ g28 t29;
+          locals = List._++_ t25 t26;
           slots = List._∷_
               (Row.lease (κs .0) (qs .0))
               (List._∷_
@@ -6203,21 +5110,17 @@ module _ (claims· : Claims) where
               (List._∷_
               (Row.lease (κs .1 .1 .1 .1 .1 .1 .0) (qs .1 .1 .1 .1 .1 .1 .0))
               (List._∷_
-              Row.off
+              (Row.lease (κs .1 .1 .1 .1 .1 .1 .1 .0) (qs .1 .1 .1 .1 .1 .1 .1 .0))
               (List._∷_
               Row.off
               (List._∷_
               Row.off
-              (List._∷_
-              Row.off
-              (List._∷_
-              Row.dead
-              (List._∷_ Row.alive (List._∷_ Row.alive (List._∷_ Row.alive List.[]))))))))))))));
+              (List._∷_ Row.off (List._∷_ Row.dead (List._∷_ Row.alive List.[]))))))))))));
         }
 
         abbrev G44 : Row.Cx
         G44 = record {
-          locals = List._++_ g28 t29;
+          locals = List._++_ t25 t26;
           slots = List._∷_
               (Row.lease (κs .0) (qs .0))
               (List._∷_
@@ -6233,21 +5136,17 @@ module _ (claims· : Claims) where
               (List._∷_
               (Row.lease (κs .1 .1 .1 .1 .1 .1 .0) (qs .1 .1 .1 .1 .1 .1 .0))
               (List._∷_
-              Row.off
+              (Row.lease (κs .1 .1 .1 .1 .1 .1 .1 .0) (qs .1 .1 .1 .1 .1 .1 .1 .0))
               (List._∷_
               Row.off
               (List._∷_
               Row.off
-              (List._∷_
-              Row.off
-              (List._∷_
-              Row.off
-              (List._∷_ Row.alive (List._∷_ Row.alive (List._∷_ Row.alive List.[]))))))))))))));
+              (List._∷_ Row.off (List._∷_ Row.off (List._∷_ Row.alive List.[]))))))))))));
         }
 
         abbrev G45 : Row.Cx
         G45 = record {
-          locals = List._++_ g28 t29;
+          locals = List._++_ t25 t26;
           slots = List._∷_
               (Row.lease (κs .0) (qs .0))
               (List._∷_
@@ -6263,21 +5162,17 @@ module _ (claims· : Claims) where
               (List._∷_
               (Row.lease (κs .1 .1 .1 .1 .1 .1 .0) (qs .1 .1 .1 .1 .1 .1 .0))
               (List._∷_
-              Row.off
+              (Row.lease (κs .1 .1 .1 .1 .1 .1 .1 .0) (qs .1 .1 .1 .1 .1 .1 .1 .0))
               (List._∷_
               Row.off
               (List._∷_
               Row.off
-              (List._∷_
-              Row.off
-              (List._∷_
-              Row.off
-              (List._∷_ Row.dead (List._∷_ Row.alive (List._∷_ Row.alive List.[]))))))))))))));
+              (List._∷_ Row.off (List._∷_ Row.off (List._∷_ Row.dead List.[]))))))))))));
         }
 
         abbrev G46 : Row.Cx
         G46 = record {
-          locals = List._++_ g30 t31;
+          locals = List._++_ t27 t1;
           slots = List._∷_
               (Row.lease (κs .0) (qs .0))
               (List._∷_
@@ -6298,16 +5193,12 @@ module _ (claims· : Claims) where
               Row.off
               (List._∷_
               Row.off
-              (List._∷_
-              Row.off
-              (List._∷_
-              Row.off
-              (List._∷_ Row.dead (List._∷_ Row.alive (List._∷_ Row.alive List.[]))))))))))))));
+              (List._∷_ Row.off (List._∷_ Row.off (List._∷_ Row.dead List.[]))))))))))));
         }
 
         abbrev G47 : Row.Cx
         G47 = record {
-          locals = List._++_ g30 t31;
+          locals = List._++_ t27 t1;
           slots = List._∷_
               (Row.lease (κs .0) (qs .0))
               (List._∷_
@@ -6328,16 +5219,12 @@ module _ (claims· : Claims) where
               Row.off
               (List._∷_
               Row.off
-              (List._∷_
-              Row.off
-              (List._∷_
-              Row.off
-              (List._∷_ Row.dead (List._∷_ Row.alive (List._∷_ Row.alive List.[]))))))))))))));
+              (List._∷_ Row.off (List._∷_ Row.off (List._∷_ Row.off List.[]))))))))))));
         }
 
         abbrev G48 : Row.Cx
         G48 = record {
-          locals = List._++_ g30 t31;
+          locals = List._++_ t28 t1;
           slots = List._∷_
               (Row.lease (κs .0) (qs .0))
               (List._∷_
@@ -6358,255 +5245,11 @@ module _ (claims· : Claims) where
               Row.off
               (List._∷_
               Row.off
-              (List._∷_
-              Row.off
-              (List._∷_
-              Row.off
-              (List._∷_ Row.off (List._∷_ Row.alive (List._∷_ Row.alive List.[]))))))))))))));
+              (List._∷_ Row.off (List._∷_ Row.off (List._∷_ Row.off List.[]))))))))))));
         }
 
         abbrev G49 : Row.Cx
         G49 = record {
-          locals = List._++_ g30 t31;
-          slots = List._∷_
-              (Row.lease (κs .0) (qs .0))
-              (List._∷_
-              (Row.lease (κs .1 .0) (qs .1 .0))
-              (List._∷_
-              (Row.lease (κs .1 .1 .0) (qs .1 .1 .0))
-              (List._∷_
-              (Row.lease (κs .1 .1 .1 .0) (qs .1 .1 .1 .0))
-              (List._∷_
-              (Row.lease (κs .1 .1 .1 .1 .0) (qs .1 .1 .1 .1 .0))
-              (List._∷_
-              (Row.lease (κs .1 .1 .1 .1 .1 .0) (qs .1 .1 .1 .1 .1 .0))
-              (List._∷_
-              (Row.lease (κs .1 .1 .1 .1 .1 .1 .0) (qs .1 .1 .1 .1 .1 .1 .0))
-              (List._∷_
-              (Row.lease (κs .1 .1 .1 .1 .1 .1 .1 .0) (qs .1 .1 .1 .1 .1 .1 .1 .0))
-              (List._∷_
-              Row.off
-              (List._∷_
-              Row.off
-              (List._∷_
-              Row.off
-              (List._∷_
-              Row.off
-              (List._∷_ Row.off (List._∷_ Row.dead (List._∷_ Row.alive List.[]))))))))))))));
-        }
-
-        abbrev G50 : Row.Cx
-        G50 = record {
-          locals = List._++_ t32 t33;
-          slots = List._∷_
-              (Row.lease (κs .0) (qs .0))
-              (List._∷_
-              (Row.lease (κs .1 .0) (qs .1 .0))
-              (List._∷_
-              (Row.lease (κs .1 .1 .0) (qs .1 .1 .0))
-              (List._∷_
-              (Row.lease (κs .1 .1 .1 .0) (qs .1 .1 .1 .0))
-              (List._∷_
-              (Row.lease (κs .1 .1 .1 .1 .0) (qs .1 .1 .1 .1 .0))
-              (List._∷_
-              (Row.lease (κs .1 .1 .1 .1 .1 .0) (qs .1 .1 .1 .1 .1 .0))
-              (List._∷_
-              (Row.lease (κs .1 .1 .1 .1 .1 .1 .0) (qs .1 .1 .1 .1 .1 .1 .0))
-              (List._∷_
-              (Row.lease (κs .1 .1 .1 .1 .1 .1 .1 .0) (qs .1 .1 .1 .1 .1 .1 .1 .0))
-              (List._∷_
-              (Row.lease (κs .1 .1 .1 .1 .1 .1 .1 .1 .0) (qs .1 .1 .1 .1 .1 .1 .1 .1 .0))
-              (List._∷_
-              Row.off
-              (List._∷_
-              Row.off
-              (List._∷_
-              Row.off
-              (List._∷_ Row.off (List._∷_ Row.dead (List._∷_ Row.alive List.[]))))))))))))));
-        }
-
-        abbrev G51 : Row.Cx
-        G51 = record {
-          locals = List._++_ t32 t33;
-          slots = List._∷_
-              (Row.lease (κs .0) (qs .0))
-              (List._∷_
-              (Row.lease (κs .1 .0) (qs .1 .0))
-              (List._∷_
-              (Row.lease (κs .1 .1 .0) (qs .1 .1 .0))
-              (List._∷_
-              (Row.lease (κs .1 .1 .1 .0) (qs .1 .1 .1 .0))
-              (List._∷_
-              (Row.lease (κs .1 .1 .1 .1 .0) (qs .1 .1 .1 .1 .0))
-              (List._∷_
-              (Row.lease (κs .1 .1 .1 .1 .1 .0) (qs .1 .1 .1 .1 .1 .0))
-              (List._∷_
-              (Row.lease (κs .1 .1 .1 .1 .1 .1 .0) (qs .1 .1 .1 .1 .1 .1 .0))
-              (List._∷_
-              (Row.lease (κs .1 .1 .1 .1 .1 .1 .1 .0) (qs .1 .1 .1 .1 .1 .1 .1 .0))
-              (List._∷_
-              (Row.lease (κs .1 .1 .1 .1 .1 .1 .1 .1 .0) (qs .1 .1 .1 .1 .1 .1 .1 .1 .0))
-              (List._∷_
-              Row.off
-              (List._∷_
-              Row.off
-              (List._∷_
-              Row.off
-              (List._∷_ Row.off (List._∷_ Row.dead (List._∷_ Row.alive List.[]))))))))))))));
-        }
-
-        abbrev G52 : Row.Cx
-        G52 = record {
-          locals = List._++_ t32 t33;
-          slots = List._∷_
-              (Row.lease (κs .0) (qs .0))
-              (List._∷_
-              (Row.lease (κs .1 .0) (qs .1 .0))
-              (List._∷_
-              (Row.lease (κs .1 .1 .0) (qs .1 .1 .0))
-              (List._∷_
-              (Row.lease (κs .1 .1 .1 .0) (qs .1 .1 .1 .0))
-              (List._∷_
-              (Row.lease (κs .1 .1 .1 .1 .0) (qs .1 .1 .1 .1 .0))
-              (List._∷_
-              (Row.lease (κs .1 .1 .1 .1 .1 .0) (qs .1 .1 .1 .1 .1 .0))
-              (List._∷_
-              (Row.lease (κs .1 .1 .1 .1 .1 .1 .0) (qs .1 .1 .1 .1 .1 .1 .0))
-              (List._∷_
-              (Row.lease (κs .1 .1 .1 .1 .1 .1 .1 .0) (qs .1 .1 .1 .1 .1 .1 .1 .0))
-              (List._∷_
-              (Row.lease (κs .1 .1 .1 .1 .1 .1 .1 .1 .0) (qs .1 .1 .1 .1 .1 .1 .1 .1 .0))
-              (List._∷_
-              Row.off
-              (List._∷_
-              Row.off
-              (List._∷_
-              Row.off
-              (List._∷_ Row.off (List._∷_ Row.off (List._∷_ Row.alive List.[]))))))))))))));
-        }
-
-        abbrev G53 : Row.Cx
-        G53 = record {
-          locals = List._++_ t32 t33;
-          slots = List._∷_
-              (Row.lease (κs .0) (qs .0))
-              (List._∷_
-              (Row.lease (κs .1 .0) (qs .1 .0))
-              (List._∷_
-              (Row.lease (κs .1 .1 .0) (qs .1 .1 .0))
-              (List._∷_
-              (Row.lease (κs .1 .1 .1 .0) (qs .1 .1 .1 .0))
-              (List._∷_
-              (Row.lease (κs .1 .1 .1 .1 .0) (qs .1 .1 .1 .1 .0))
-              (List._∷_
-              (Row.lease (κs .1 .1 .1 .1 .1 .0) (qs .1 .1 .1 .1 .1 .0))
-              (List._∷_
-              (Row.lease (κs .1 .1 .1 .1 .1 .1 .0) (qs .1 .1 .1 .1 .1 .1 .0))
-              (List._∷_
-              (Row.lease (κs .1 .1 .1 .1 .1 .1 .1 .0) (qs .1 .1 .1 .1 .1 .1 .1 .0))
-              (List._∷_
-              (Row.lease (κs .1 .1 .1 .1 .1 .1 .1 .1 .0) (qs .1 .1 .1 .1 .1 .1 .1 .1 .0))
-              (List._∷_
-              Row.off
-              (List._∷_
-              Row.off
-              (List._∷_
-              Row.off
-              (List._∷_ Row.off (List._∷_ Row.off (List._∷_ Row.dead List.[]))))))))))))));
-        }
-
-        abbrev G54 : Row.Cx
-        G54 = record {
-          locals = List._++_ t34 t1;
-          slots = List._∷_
-              (Row.lease (κs .0) (qs .0))
-              (List._∷_
-              (Row.lease (κs .1 .0) (qs .1 .0))
-              (List._∷_
-              (Row.lease (κs .1 .1 .0) (qs .1 .1 .0))
-              (List._∷_
-              (Row.lease (κs .1 .1 .1 .0) (qs .1 .1 .1 .0))
-              (List._∷_
-              (Row.lease (κs .1 .1 .1 .1 .0) (qs .1 .1 .1 .1 .0))
-              (List._∷_
-              (Row.lease (κs .1 .1 .1 .1 .1 .0) (qs .1 .1 .1 .1 .1 .0))
-              (List._∷_
-              (Row.lease (κs .1 .1 .1 .1 .1 .1 .0) (qs .1 .1 .1 .1 .1 .1 .0))
-              (List._∷_
-              (Row.lease (κs .1 .1 .1 .1 .1 .1 .1 .0) (qs .1 .1 .1 .1 .1 .1 .1 .0))
-              (List._∷_
-              (Row.lease (κs .1 .1 .1 .1 .1 .1 .1 .1 .0) (qs .1 .1 .1 .1 .1 .1 .1 .1 .0))
-              (List._∷_
-              Row.off
-              (List._∷_
-              Row.off
-              (List._∷_
-              Row.off
-              (List._∷_ Row.off (List._∷_ Row.off (List._∷_ Row.dead List.[]))))))))))))));
-        }
-
-        abbrev G55 : Row.Cx
-        G55 = record {
-          locals = List._++_ t34 t1;
-          slots = List._∷_
-              (Row.lease (κs .0) (qs .0))
-              (List._∷_
-              (Row.lease (κs .1 .0) (qs .1 .0))
-              (List._∷_
-              (Row.lease (κs .1 .1 .0) (qs .1 .1 .0))
-              (List._∷_
-              (Row.lease (κs .1 .1 .1 .0) (qs .1 .1 .1 .0))
-              (List._∷_
-              (Row.lease (κs .1 .1 .1 .1 .0) (qs .1 .1 .1 .1 .0))
-              (List._∷_
-              (Row.lease (κs .1 .1 .1 .1 .1 .0) (qs .1 .1 .1 .1 .1 .0))
-              (List._∷_
-              (Row.lease (κs .1 .1 .1 .1 .1 .1 .0) (qs .1 .1 .1 .1 .1 .1 .0))
-              (List._∷_
-              (Row.lease (κs .1 .1 .1 .1 .1 .1 .1 .0) (qs .1 .1 .1 .1 .1 .1 .1 .0))
-              (List._∷_
-              (Row.lease (κs .1 .1 .1 .1 .1 .1 .1 .1 .0) (qs .1 .1 .1 .1 .1 .1 .1 .1 .0))
-              (List._∷_
-              Row.off
-              (List._∷_
-              Row.off
-              (List._∷_
-              Row.off
-              (List._∷_ Row.off (List._∷_ Row.off (List._∷_ Row.off List.[]))))))))))))));
-        }
-
-        abbrev G56 : Row.Cx
-        G56 = record {
-          locals = List._++_ t35 t1;
-          slots = List._∷_
-              (Row.lease (κs .0) (qs .0))
-              (List._∷_
-              (Row.lease (κs .1 .0) (qs .1 .0))
-              (List._∷_
-              (Row.lease (κs .1 .1 .0) (qs .1 .1 .0))
-              (List._∷_
-              (Row.lease (κs .1 .1 .1 .0) (qs .1 .1 .1 .0))
-              (List._∷_
-              (Row.lease (κs .1 .1 .1 .1 .0) (qs .1 .1 .1 .1 .0))
-              (List._∷_
-              (Row.lease (κs .1 .1 .1 .1 .1 .0) (qs .1 .1 .1 .1 .1 .0))
-              (List._∷_
-              (Row.lease (κs .1 .1 .1 .1 .1 .1 .0) (qs .1 .1 .1 .1 .1 .1 .0))
-              (List._∷_
-              (Row.lease (κs .1 .1 .1 .1 .1 .1 .1 .0) (qs .1 .1 .1 .1 .1 .1 .1 .0))
-              (List._∷_
-              (Row.lease (κs .1 .1 .1 .1 .1 .1 .1 .1 .0) (qs .1 .1 .1 .1 .1 .1 .1 .1 .0))
-              (List._∷_
-              Row.off
-              (List._∷_
-              Row.off
-              (List._∷_
-              Row.off
-              (List._∷_ Row.off (List._∷_ Row.off (List._∷_ Row.off List.[]))))))))))))));
-        }
-
-        abbrev G57 : Row.Cx
-        G57 = record {
           locals = List._++_ t2 t1;
           slots = List._∷_
               (Row.lease (κs .0) (qs .0))
@@ -6625,14 +5268,10 @@ module _ (claims· : Claims) where
               (List._∷_
               (Row.lease (κs .1 .1 .1 .1 .1 .1 .1 .0) (qs .1 .1 .1 .1 .1 .1 .1 .0))
               (List._∷_
-              (Row.lease (κs .1 .1 .1 .1 .1 .1 .1 .1 .0) (qs .1 .1 .1 .1 .1 .1 .1 .1 .0))
-              (List._∷_
               Row.off
               (List._∷_
               Row.off
-              (List._∷_
-              Row.off
-              (List._∷_ Row.off (List._∷_ Row.off (List._∷_ Row.off List.[]))))))))))))));
+              (List._∷_ Row.off (List._∷_ Row.off (List._∷_ Row.off List.[]))))))))))));
         }
 
         abbrev Δ0 : Typed.Outs
@@ -6640,14 +5279,14 @@ module _ (claims· : Claims) where
 
         module _ {M : Type 1} (𝓤 : URA.URA M) (H : Wp.Heap 𝓤) (A : Atoms.Atoms 𝓤)
             (W : Kit.Given 𝓤 H A) (𝓣 : Wp.Tables 𝓤 H) (known : Knowns 𝓤 H A W 𝓣)
-            (bs : List.List Nat.ℕ) (bd : Lifetimes.AllOutlive 9 (Kinds.osR r) κs) where
+            (bs : List.List Nat.ℕ) (bd : Lifetimes.AllOutlive 8 (Kinds.osR r) κs) where
           abbrev E : Wp.Env 𝓤 H
           E = Frame.EnvOf 𝓤 H (List._∷_ (Kinds.tyR r) (Enter.tysP ps xs)) bs
 
-          d0 : Typed.Typed 𝓤 H A 𝓣 E G57 b15 Δ0 (at0 bs)
+          d0 : Typed.Typed 𝓤 H A 𝓣 E G49 b13 Δ0 (at0 bs)
           d0 = Typed.t-return 𝓤 H A W 𝓣 E Δ0 tt
 
-          d1 : Typed.Typed 𝓤 H A 𝓣 E G56 b15 Δ0 (at1 bs)
+          d1 : Typed.Typed 𝓤 H A 𝓣 E G48 b13 Δ0 (at1 bs)
           d1 =
               Typed.g-pre
               𝓤
@@ -6656,11 +5295,11 @@ module _ (claims· : Claims) where
               W
               𝓣
               E
-              G56
-              G57
-              b15
+              G48
+              G49
+              b13
               Δ0
-              (Typed.pass T56 T57 (s55 bs))
+              (Typed.pass T48 T49 (s47 bs))
               (at0 bs)
               (Scalar.g-room
               𝓤
@@ -6668,13 +5307,13 @@ module _ (claims· : Claims) where
               A
               W
               E
-              G56
+              G48
               3
               (Syntax.tyInt Syntax.w64)
               (Scalar.room-sc 𝓤 H A W (Row.sInt Syntax.w64)))
               d0
 
-          d2 : Typed.Typed 𝓤 H A 𝓣 E G55 b15 Δ0 (at2 bs)
+          d2 : Typed.Typed 𝓤 H A 𝓣 E G47 b13 Δ0 (at2 bs)
           d2 =
               Typed.g-pre
               𝓤
@@ -6683,11 +5322,11 @@ module _ (claims· : Claims) where
               W
               𝓣
               E
-              G55
-              G56
-              b15
+              G47
+              G48
+              b13
               Δ0
-              (Typed.pass T54 T56 (s54 bs))
+              (Typed.pass T46 T48 (s46 bs))
               (at1 bs)
               (Scalar.g-room
               𝓤
@@ -6695,8 +5334,8 @@ module _ (claims· : Claims) where
               A
               W
               E
-              G55
-              11
+              G47
+              10
               (Syntax.tyArray Elem.held 64)
               (Init.room-arr
               𝓤
@@ -6710,7 +5349,7 @@ module _ (claims· : Claims) where
               Path'.refl))
               d1
 
-          d3 : Typed.Typed 𝓤 H A 𝓣 E G54 b15 Δ0 (at3 bs)
+          d3 : Typed.Typed 𝓤 H A 𝓣 E G46 b13 Δ0 (at3 bs)
           d3 =
               Typed.g-pre
               𝓤
@@ -6719,16 +5358,16 @@ module _ (claims· : Claims) where
               W
               𝓣
               E
-              G54
-              G55
-              b15
+              G46
+              G47
+              b13
               Δ0
               (λ Ψ. Ψ)
               (at2 bs)
-              (Lifetime.g-forget 𝓤 H A W E G54 14 Row.dead Path'.refl)
+              (Lifetime.g-forget 𝓤 H A W E G46 12 Row.dead Path'.refl)
               d2
 
-          d4 : Typed.Typed 𝓤 H A 𝓣 E G53 b15 Δ0 (at4 bs)
+          d4 : Typed.Typed 𝓤 H A 𝓣 E G45 b13 Δ0 (at4 bs)
           d4 =
               Typed.g-pre
               𝓤
@@ -6737,11 +5376,11 @@ module _ (claims· : Claims) where
               W
               𝓣
               E
-              G53
-              G54
-              b15
+              G45
+              G46
+              b13
               Δ0
-              (Typed.both (s52 bs))
+              (Typed.both (s44 bs))
               (at3 bs)
               (Borrow.g-back-arr
               𝓤
@@ -6750,10 +5389,10 @@ module _ (claims· : Claims) where
               W
               E
               Elem.R
-              G53
-              24
-              11
-              14
+              G45
+              21
+              10
+              12
               64
               (Syntax.tyRef
               Syntax.erased
@@ -6775,11 +5414,11 @@ module _ (claims· : Claims) where
               𝓤
               H
               A
-              (Rows.arr-owed Elem.R 64 14))
+              (Rows.arr-owed Elem.R 64 12))
               Path'.refl)
               d3
 
-          d5 : Typed.Typed 𝓤 H A 𝓣 E G52 b15 Δ0 (at5 bs)
+          d5 : Typed.Typed 𝓤 H A 𝓣 E G44 b13 Δ0 (at5 bs)
           d5 =
               Typed.g-pre
               𝓤
@@ -6788,16 +5427,16 @@ module _ (claims· : Claims) where
               W
               𝓣
               E
-              G52
-              G53
-              b15
+              G44
+              G45
+              b13
               Δ0
               (λ Ψ. Ψ)
               (at4 bs)
-              (Lifetime.g-end 𝓤 H A W E G52 14 Path'.refl)
+              (Lifetime.g-end 𝓤 H A W E G44 12 Path'.refl)
               d4
 
-          d6 : Typed.Typed 𝓤 H A 𝓣 E G51 b15 Δ0 (at6 bs)
+          d6 : Typed.Typed 𝓤 H A 𝓣 E G43 b13 Δ0 (at6 bs)
           d6 =
               Typed.g-pre
               𝓤
@@ -6806,16 +5445,16 @@ module _ (claims· : Claims) where
               W
               𝓣
               E
-              G51
-              G52
-              b15
+              G43
+              G44
+              b13
               Δ0
               (λ Ψ. Ψ)
               (at5 bs)
-              (Lifetime.g-forget 𝓤 H A W E G51 13 Row.dead Path'.refl)
+              (Lifetime.g-forget 𝓤 H A W E G43 11 Row.dead Path'.refl)
               d5
 
-          d7 : Typed.Typed 𝓤 H A 𝓣 E G50 b15 Δ0 (at7 bs)
+          d7 : Typed.Typed 𝓤 H A 𝓣 E G42 b13 Δ0 (at7 bs)
           d7 =
               Typed.g-pre
               𝓤
@@ -6824,11 +5463,11 @@ module _ (claims· : Claims) where
               W
               𝓣
               E
-              G50
-              G51
-              b15
+              G42
+              G43
+              b13
               Δ0
-              (Typed.give (s49 bs))
+              (Typed.give (s41 bs))
               (at6 bs)
               (Know.g-sl-known
               𝓤
@@ -6837,138 +5476,7 @@ module _ (claims· : Claims) where
               W
               (Referent.fInt Syntax.w8)
               E
-              G50
-              10
-              8
-              (Syntax.tyRef (Syntax.named 8) Syntax.mut (Syntax.tyInt Syntax.w8))
-              (Row.lease (κs .1 .1 .1 .1 .1 .1 .1 .1 .0) (qs .1 .1 .1 .1 .1 .1 .1 .1 .0))
-              0
-              (λ x. x)
-              record { fits = Dec'.lit< tt }
-              (Reads.as-is
-              𝓤
-              H
-              A
-              (Mut.mslice
-              (Referent.rtF (Referent.fInt Syntax.w8))
-              (Syntax.tyRef (Syntax.named 8) Syntax.mut (Syntax.tyInt Syntax.w8))
-              8))
-              Path'.refl
-              tt)
-              d6
-
-          d8 : Typed.Typed 𝓤 H A 𝓣 E G49 b15 Δ0 (at8 bs)
-          d8 =
-              Typed.g-pre
-              𝓤
-              H
-              A
-              W
-              𝓣
-              E
-              G49
-              G50
-              b15
-              Δ0
-              (Typed.both (s48 bs))
-              (at7 bs)
-              (Relend.g-back-sl
-              𝓤
-              H
-              A
-              W
-              E
-              (Referent.rtF (Referent.fInt Syntax.w8))
-              G49
-              22
-              10
-              8
-              13
-              (Syntax.tyRef (Syntax.named 8) Syntax.mut (Syntax.tyInt Syntax.w8))
-              (Syntax.tyRef Syntax.erased Syntax.mut (Syntax.tyInt Syntax.w8))
-              (Row.lease (κs .1 .1 .1 .1 .1 .1 .1 .1 .0) (qs .1 .1 .1 .1 .1 .1 .1 .1 .0))
-              (λ x. x)
-              (λ x. x)
-              (Reads.as-is
-              𝓤
-              H
-              A
-              (Mut.msleft
-              (Referent.rtF (Referent.fInt Syntax.w8))
-              (Syntax.tyRef Syntax.erased Syntax.mut (Syntax.tyInt Syntax.w8))))
-              (Reads.as-is
-              𝓤
-              H
-              A
-              (Relend.mslice-owed
-              (Referent.rtF (Referent.fInt Syntax.w8))
-              (Syntax.tyRef (Syntax.named 8) Syntax.mut (Syntax.tyInt Syntax.w8))
-              8
-              13
-              (Row.lease (κs .1 .1 .1 .1 .1 .1 .1 .1 .0) (qs .1 .1 .1 .1 .1 .1 .1 .1 .0))))
-              Path'.refl
-              Path'.refl)
-              d7
-
-          d9 : Typed.Typed 𝓤 H A 𝓣 E G48 b15 Δ0 (at9 bs)
-          d9 =
-              Typed.g-pre
-              𝓤
-              H
-              A
-              W
-              𝓣
-              E
-              G48
-              G49
-              b15
-              Δ0
-              (λ Ψ. Ψ)
-              (at8 bs)
-              (Lifetime.g-end 𝓤 H A W E G48 13 Path'.refl)
-              d8
-
-          d10 : Typed.Typed 𝓤 H A 𝓣 E G47 b15 Δ0 (at10 bs)
-          d10 =
-              Typed.g-pre
-              𝓤
-              H
-              A
-              W
-              𝓣
-              E
-              G47
-              G48
-              b15
-              Δ0
-              (λ Ψ. Ψ)
-              (at9 bs)
-              (Lifetime.g-forget 𝓤 H A W E G47 12 Row.dead Path'.refl)
-              d9
-
-          d11 : Typed.Typed 𝓤 H A 𝓣 E G46 b15 Δ0 (at11 bs)
-          d11 =
-              Typed.g-pre
-              𝓤
-              H
-              A
-              W
-              𝓣
-              E
-              G46
-              G47
-              b15
-              Δ0
-              (Typed.give (s45 bs))
-              (at10 bs)
-              (Know.g-sl-known
-              𝓤
-              H
-              A
-              W
-              (Referent.fInt Syntax.w8)
-              E
-              G46
+              G42
               9
               7
               (Syntax.tyRef (Syntax.named 7) Syntax.mut (Syntax.tyInt Syntax.w8))
@@ -6986,10 +5494,10 @@ module _ (claims· : Claims) where
               7))
               Path'.refl
               tt)
-              d10
+              d6
 
-          d12 : Typed.Typed 𝓤 H A 𝓣 E G45 b15 Δ0 (at12 bs)
-          d12 =
+          d8 : Typed.Typed 𝓤 H A 𝓣 E G41 b13 Δ0 (at8 bs)
+          d8 =
               Typed.g-pre
               𝓤
               H
@@ -6997,12 +5505,12 @@ module _ (claims· : Claims) where
               W
               𝓣
               E
-              G45
-              G46
-              b15
+              G41
+              G42
+              b13
               Δ0
-              (Typed.both (s44 bs))
-              (at11 bs)
+              (Typed.both (s40 bs))
+              (at7 bs)
               (Relend.g-back-sl
               𝓤
               H
@@ -7010,11 +5518,11 @@ module _ (claims· : Claims) where
               W
               E
               (Referent.rtF (Referent.fInt Syntax.w8))
-              G45
-              20
+              G41
+              19
               9
               7
-              12
+              11
               (Syntax.tyRef (Syntax.named 7) Syntax.mut (Syntax.tyInt Syntax.w8))
               (Syntax.tyRef Syntax.erased Syntax.mut (Syntax.tyInt Syntax.w8))
               (Row.lease (κs .1 .1 .1 .1 .1 .1 .1 .0) (qs .1 .1 .1 .1 .1 .1 .1 .0))
@@ -7035,14 +5543,14 @@ module _ (claims· : Claims) where
               (Referent.rtF (Referent.fInt Syntax.w8))
               (Syntax.tyRef (Syntax.named 7) Syntax.mut (Syntax.tyInt Syntax.w8))
               7
-              12
+              11
               (Row.lease (κs .1 .1 .1 .1 .1 .1 .1 .0) (qs .1 .1 .1 .1 .1 .1 .1 .0))))
               Path'.refl
               Path'.refl)
-              d11
+              d7
 
-          d13 : Typed.Typed 𝓤 H A 𝓣 E G44 b15 Δ0 (at13 bs)
-          d13 =
+          d9 : Typed.Typed 𝓤 H A 𝓣 E G40 b13 Δ0 (at9 bs)
+          d9 =
               Typed.g-pre
               𝓤
               H
@@ -7050,17 +5558,17 @@ module _ (claims· : Claims) where
               W
               𝓣
               E
-              G44
-              G45
-              b15
+              G40
+              G41
+              b13
               Δ0
               (λ Ψ. Ψ)
-              (at12 bs)
-              (Lifetime.g-end 𝓤 H A W E G44 12 Path'.refl)
-              d12
+              (at8 bs)
+              (Lifetime.g-end 𝓤 H A W E G40 11 Path'.refl)
+              d8
 
-          d14 : Typed.Typed 𝓤 H A 𝓣 E G43 b15 Δ0 (at14 bs)
-          d14 =
+          d10 : Typed.Typed 𝓤 H A 𝓣 E G39 b13 Δ0 (at10 bs)
+          d10 =
               Typed.g-pre
               𝓤
               H
@@ -7068,17 +5576,17 @@ module _ (claims· : Claims) where
               W
               𝓣
               E
-              G43
-              G44
-              b15
+              G39
+              G40
+              b13
               Δ0
               (λ Ψ. Ψ)
-              (at13 bs)
-              (Lifetime.g-forget 𝓤 H A W E G43 11 Row.dead Path'.refl)
-              d13
+              (at9 bs)
+              (Lifetime.g-forget 𝓤 H A W E G39 10 Row.dead Path'.refl)
+              d9
 
-          d15 : Typed.Typed 𝓤 H A 𝓣 E G42 b15 Δ0 (at15 bs)
-          d15 =
+          d11 : Typed.Typed 𝓤 H A 𝓣 E G38 b13 Δ0 (at11 bs)
+          d11 =
               Typed.g-pre
               𝓤
               H
@@ -7086,12 +5594,12 @@ module _ (claims· : Claims) where
               W
               𝓣
               E
-              G42
-              G43
-              b15
+              G38
+              G39
+              b13
               Δ0
-              (Typed.give (s41 bs))
-              (at14 bs)
+              (Typed.give (s37 bs))
+              (at10 bs)
               (Know.g-sl-known
               𝓤
               H
@@ -7099,7 +5607,7 @@ module _ (claims· : Claims) where
               W
               (Referent.fInt Syntax.w8)
               E
-              G42
+              G38
               8
               6
               (Syntax.tyRef (Syntax.named 6) Syntax.mut (Syntax.tyInt Syntax.w8))
@@ -7117,10 +5625,10 @@ module _ (claims· : Claims) where
               6))
               Path'.refl
               tt)
-              d14
+              d10
 
-          d16 : Typed.Typed 𝓤 H A 𝓣 E G41 b15 Δ0 (at16 bs)
-          d16 =
+          d12 : Typed.Typed 𝓤 H A 𝓣 E G37 b13 Δ0 (at12 bs)
+          d12 =
               Typed.g-pre
               𝓤
               H
@@ -7128,12 +5636,12 @@ module _ (claims· : Claims) where
               W
               𝓣
               E
-              G41
-              G42
-              b15
+              G37
+              G38
+              b13
               Δ0
-              (Typed.both (s40 bs))
-              (at15 bs)
+              (Typed.both (s36 bs))
+              (at11 bs)
               (Relend.g-back-sl
               𝓤
               H
@@ -7141,11 +5649,11 @@ module _ (claims· : Claims) where
               W
               E
               (Referent.rtF (Referent.fInt Syntax.w8))
-              G41
-              18
+              G37
+              17
               8
               6
-              11
+              10
               (Syntax.tyRef (Syntax.named 6) Syntax.mut (Syntax.tyInt Syntax.w8))
               (Syntax.tyRef Syntax.erased Syntax.mut (Syntax.tyInt Syntax.w8))
               (Row.lease (κs .1 .1 .1 .1 .1 .1 .0) (qs .1 .1 .1 .1 .1 .1 .0))
@@ -7166,14 +5674,14 @@ module _ (claims· : Claims) where
               (Referent.rtF (Referent.fInt Syntax.w8))
               (Syntax.tyRef (Syntax.named 6) Syntax.mut (Syntax.tyInt Syntax.w8))
               6
-              11
+              10
               (Row.lease (κs .1 .1 .1 .1 .1 .1 .0) (qs .1 .1 .1 .1 .1 .1 .0))))
               Path'.refl
               Path'.refl)
-              d15
+              d11
 
-          d17 : Typed.Typed 𝓤 H A 𝓣 E G40 b15 Δ0 (at17 bs)
-          d17 =
+          d13 : Typed.Typed 𝓤 H A 𝓣 E G36 b13 Δ0 (at13 bs)
+          d13 =
               Typed.g-pre
               𝓤
               H
@@ -7181,17 +5689,17 @@ module _ (claims· : Claims) where
               W
               𝓣
               E
-              G40
-              G41
-              b15
+              G36
+              G37
+              b13
               Δ0
               (λ Ψ. Ψ)
-              (at16 bs)
-              (Lifetime.g-end 𝓤 H A W E G40 11 Path'.refl)
-              d16
+              (at12 bs)
+              (Lifetime.g-end 𝓤 H A W E G36 10 Path'.refl)
+              d12
 
-          d18 : Typed.Typed 𝓤 H A 𝓣 E G39 b15 Δ0 (at18 bs)
-          d18 =
+          d14 : Typed.Typed 𝓤 H A 𝓣 E G35 b13 Δ0 (at14 bs)
+          d14 =
               Typed.g-pre
               𝓤
               H
@@ -7199,17 +5707,17 @@ module _ (claims· : Claims) where
               W
               𝓣
               E
-              G39
-              G40
-              b15
+              G35
+              G36
+              b13
               Δ0
               (λ Ψ. Ψ)
-              (at17 bs)
-              (Lifetime.g-forget 𝓤 H A W E G39 10 Row.dead Path'.refl)
-              d17
+              (at13 bs)
+              (Lifetime.g-forget 𝓤 H A W E G35 9 Row.dead Path'.refl)
+              d13
 
-          d19 : Typed.Typed 𝓤 H A 𝓣 E G38 b15 Δ0 (at19 bs)
-          d19 =
+          d15 : Typed.Typed 𝓤 H A 𝓣 E G34 b13 Δ0 (at15 bs)
+          d15 =
               Typed.g-pre
               𝓤
               H
@@ -7217,12 +5725,12 @@ module _ (claims· : Claims) where
               W
               𝓣
               E
-              G38
-              G39
-              b15
+              G34
+              G35
+              b13
               Δ0
-              (Typed.give (s37 bs))
-              (at18 bs)
+              (Typed.give (s33 bs))
+              (at14 bs)
               (Know.g-sl-known
               𝓤
               H
@@ -7230,7 +5738,7 @@ module _ (claims· : Claims) where
               W
               (Referent.fInt Syntax.w8)
               E
-              G38
+              G34
               7
               5
               (Syntax.tyRef (Syntax.named 5) Syntax.mut (Syntax.tyInt Syntax.w8))
@@ -7248,10 +5756,10 @@ module _ (claims· : Claims) where
               5))
               Path'.refl
               tt)
-              d18
+              d14
 
-          d20 : Typed.Typed 𝓤 H A 𝓣 E G37 b15 Δ0 (at20 bs)
-          d20 =
+          d16 : Typed.Typed 𝓤 H A 𝓣 E G33 b13 Δ0 (at16 bs)
+          d16 =
               Typed.g-pre
               𝓤
               H
@@ -7259,12 +5767,12 @@ module _ (claims· : Claims) where
               W
               𝓣
               E
-              G37
-              G38
-              b15
+              G33
+              G34
+              b13
               Δ0
-              (Typed.both (s36 bs))
-              (at19 bs)
+              (Typed.both (s32 bs))
+              (at15 bs)
               (Relend.g-back-sl
               𝓤
               H
@@ -7272,11 +5780,11 @@ module _ (claims· : Claims) where
               W
               E
               (Referent.rtF (Referent.fInt Syntax.w8))
-              G37
-              16
+              G33
+              15
               7
               5
-              10
+              9
               (Syntax.tyRef (Syntax.named 5) Syntax.mut (Syntax.tyInt Syntax.w8))
               (Syntax.tyRef Syntax.erased Syntax.mut (Syntax.tyInt Syntax.w8))
               (Row.lease (κs .1 .1 .1 .1 .1 .0) (qs .1 .1 .1 .1 .1 .0))
@@ -7297,14 +5805,14 @@ module _ (claims· : Claims) where
               (Referent.rtF (Referent.fInt Syntax.w8))
               (Syntax.tyRef (Syntax.named 5) Syntax.mut (Syntax.tyInt Syntax.w8))
               5
-              10
+              9
               (Row.lease (κs .1 .1 .1 .1 .1 .0) (qs .1 .1 .1 .1 .1 .0))))
               Path'.refl
               Path'.refl)
-              d19
+              d15
 
-          d21 : Typed.Typed 𝓤 H A 𝓣 E G36 b15 Δ0 (at21 bs)
-          d21 =
+          d17 : Typed.Typed 𝓤 H A 𝓣 E G32 b13 Δ0 (at17 bs)
+          d17 =
               Typed.g-pre
               𝓤
               H
@@ -7312,17 +5820,17 @@ module _ (claims· : Claims) where
               W
               𝓣
               E
-              G36
-              G37
-              b15
+              G32
+              G33
+              b13
               Δ0
               (λ Ψ. Ψ)
-              (at20 bs)
-              (Lifetime.g-end 𝓤 H A W E G36 10 Path'.refl)
-              d20
+              (at16 bs)
+              (Lifetime.g-end 𝓤 H A W E G32 9 Path'.refl)
+              d16
 
-          d22 : Typed.Typed 𝓤 H A 𝓣 E G35 b15 Δ0 (at22 bs)
-          d22 =
+          d18 : Typed.Typed 𝓤 H A 𝓣 E G31 b13 Δ0 (at18 bs)
+          d18 =
               Typed.g-pre
               𝓤
               H
@@ -7330,17 +5838,17 @@ module _ (claims· : Claims) where
               W
               𝓣
               E
-              G35
-              G36
-              b15
+              G31
+              G32
+              b13
               Δ0
               (λ Ψ. Ψ)
-              (at21 bs)
-              (Lifetime.g-forget 𝓤 H A W E G35 9 Row.dead Path'.refl)
-              d21
+              (at17 bs)
+              (Lifetime.g-forget 𝓤 H A W E G31 8 Row.dead Path'.refl)
+              d17
 
-          d23 : Typed.Typed 𝓤 H A 𝓣 E G34 b15 Δ0 (at23 bs)
-          d23 =
+          d19 : Typed.Typed 𝓤 H A 𝓣 E G30 b13 Δ0 (at19 bs)
+          d19 =
               Typed.g-pre
               𝓤
               H
@@ -7348,12 +5856,12 @@ module _ (claims· : Claims) where
               W
               𝓣
               E
-              G34
-              G35
-              b15
+              G30
+              G31
+              b13
               Δ0
-              (Typed.give (s33 bs))
-              (at22 bs)
+              (Typed.give (s29 bs))
+              (at18 bs)
               (Know.g-sl-known
               𝓤
               H
@@ -7361,7 +5869,7 @@ module _ (claims· : Claims) where
               W
               (Referent.fInt Syntax.w64)
               E
-              G34
+              G30
               6
               4
               (Syntax.tyRef (Syntax.named 4) Syntax.mut (Syntax.tyInt Syntax.w64))
@@ -7379,10 +5887,10 @@ module _ (claims· : Claims) where
               4))
               Path'.refl
               tt)
-              d22
+              d18
 
-          d24 : Typed.Typed 𝓤 H A 𝓣 E G33 b15 Δ0 (at24 bs)
-          d24 =
+          d20 : Typed.Typed 𝓤 H A 𝓣 E G29 b13 Δ0 (at20 bs)
+          d20 =
               Typed.g-pre
               𝓤
               H
@@ -7390,12 +5898,12 @@ module _ (claims· : Claims) where
               W
               𝓣
               E
-              G33
-              G34
-              b15
+              G29
+              G30
+              b13
               Δ0
-              (Typed.both (s32 bs))
-              (at23 bs)
+              (Typed.both (s28 bs))
+              (at19 bs)
               (Relend.g-back-sl
               𝓤
               H
@@ -7403,11 +5911,11 @@ module _ (claims· : Claims) where
               W
               E
               (Referent.rtF (Referent.fInt Syntax.w64))
-              G33
-              14
+              G29
+              13
               6
               4
-              9
+              8
               (Syntax.tyRef (Syntax.named 4) Syntax.mut (Syntax.tyInt Syntax.w64))
               (Syntax.tyRef Syntax.erased Syntax.mut (Syntax.tyInt Syntax.w64))
               (Row.lease (κs .1 .1 .1 .1 .0) (qs .1 .1 .1 .1 .0))
@@ -7428,14 +5936,14 @@ module _ (claims· : Claims) where
               (Referent.rtF (Referent.fInt Syntax.w64))
               (Syntax.tyRef (Syntax.named 4) Syntax.mut (Syntax.tyInt Syntax.w64))
               4
-              9
+              8
               (Row.lease (κs .1 .1 .1 .1 .0) (qs .1 .1 .1 .1 .0))))
               Path'.refl
               Path'.refl)
-              d23
+              d19
 
-          d25 : Typed.Typed 𝓤 H A 𝓣 E G32 b15 Δ0 (at25 bs)
-          d25 =
+          d21 : Typed.Typed 𝓤 H A 𝓣 E G28 b13 Δ0 (at21 bs)
+          d21 =
               Typed.g-pre
               𝓤
               H
@@ -7443,17 +5951,17 @@ module _ (claims· : Claims) where
               W
               𝓣
               E
-              G32
-              G33
-              b15
+              G28
+              G29
+              b13
               Δ0
               (λ Ψ. Ψ)
-              (at24 bs)
-              (Lifetime.g-end 𝓤 H A W E G32 9 Path'.refl)
-              d24
+              (at20 bs)
+              (Lifetime.g-end 𝓤 H A W E G28 8 Path'.refl)
+              d20
 
-          d26 : Typed.Typed 𝓤 H A 𝓣 E G31 b16 Δ0 (at26 bs)
-          d26 =
+          d22 : Typed.Typed 𝓤 H A 𝓣 E G27 b14 Δ0 (at22 bs)
+          d22 =
               Typed.s-seq
               𝓤
               H
@@ -7461,20 +5969,20 @@ module _ (claims· : Claims) where
               W
               𝓣
               E
-              G31
-              G32
-              b14
-              b15
+              G27
+              G28
+              b12
+              b13
               Δ0
-              (Typed.both (s30 bs))
-              (at25 bs)
+              (Typed.both (s26 bs))
+              (at21 bs)
               (Plain.t-call-plain
               𝓤
               H
               A
               W
               𝓣
-              10
+              9
               ps·1
               r·1
               (claims· .2)
@@ -7483,7 +5991,7 @@ module _ (claims· : Claims) where
               (known .1)
               E
               (λ pos β. β)
-              G31 (
+              G27 (
                 record {
                   pos = 1;
                   ty = Syntax.tyRef (Syntax.named 0) Syntax.imm (Syntax.tyInt Syntax.w8);
@@ -7511,19 +6019,19 @@ module _ (claims· : Claims) where
                         },
                         (
                           record {
-                            pos = 14;
+                            pos = 13;
                             ty = Syntax.tyRef Syntax.erased Syntax.mut (Syntax.tyInt Syntax.w64);
                             ref = λ x. x;
                           },
                           (
                             record {
-                              pos = 16;
+                              pos = 15;
                               ty = Syntax.tyRef Syntax.erased Syntax.mut (Syntax.tyInt Syntax.w8);
                               ref = λ x. x;
                             },
                             (
                               record {
-                                pos = 18;
+                                pos = 17;
                                 ty = Syntax.tyRef
                                     Syntax.erased
                                     Syntax.mut
@@ -7532,7 +6040,7 @@ module _ (claims· : Claims) where
                               },
                               (
                                 record {
-                                  pos = 20;
+                                  pos = 19;
                                   ty = Syntax.tyRef
                                       Syntax.erased
                                       Syntax.mut
@@ -7541,24 +6049,14 @@ module _ (claims· : Claims) where
                                 },
                                 (
                                   record {
-                                    pos = 22;
+                                    pos = 21;
                                     ty = Syntax.tyRef
                                         Syntax.erased
                                         Syntax.mut
-                                        (Syntax.tyInt Syntax.w8);
+                                        Elem.ty;
                                     ref = λ x. x;
                                   },
-                                  (
-                                    record {
-                                      pos = 24;
-                                      ty = Syntax.tyRef
-                                          Syntax.erased
-                                          Syntax.mut
-                                          Elem.ty;
-                                      ref = λ x. x;
-                                    },
-                                    tt,
-                                  ),
+                                  tt,
                                 ),
                               ),
                             ),
@@ -7578,10 +6076,8 @@ module _ (claims· : Claims) where
               2
               (List._∷_
               3
-              (List._∷_
-              9
-              (List._∷_ 10 (List._∷_ 11 (List._∷_ 12 (List._∷_ 13 (List._∷_ 14 List.[]))))))))))
-              (Call.sub-id 𝓤 H A W (G31 .slots)) (
+              (List._∷_ 8 (List._∷_ 9 (List._∷_ 10 (List._∷_ 11 (List._∷_ 12 List.[])))))))))
+              (Call.sub-id 𝓤 H A W (G27 .slots)) (
                 ShrSlice.spares-sslice
                     𝓤
                     H
@@ -7663,7 +6159,7 @@ module _ (claims· : Claims) where
                               (Mut.mslice
                               (Referent.rtF (Referent.fInt Syntax.w64))
                               (Syntax.tyRef Syntax.erased Syntax.mut (Syntax.tyInt Syntax.w64))
-                              9),
+                              8),
                           Mut.reads-mslice
                               𝓤
                               H
@@ -7671,7 +6167,7 @@ module _ (claims· : Claims) where
                               W
                               (Referent.rtF (Referent.fInt Syntax.w64))
                               (Syntax.tyRef Syntax.erased Syntax.mut (Syntax.tyInt Syntax.w64))
-                              9,
+                              8,
                           Path'.refl,
                           (
                             Reads.as-is
@@ -7681,7 +6177,7 @@ module _ (claims· : Claims) where
                                 (Mut.mslice
                                 (Referent.rtF (Referent.fInt Syntax.w8))
                                 (Syntax.tyRef Syntax.erased Syntax.mut (Syntax.tyInt Syntax.w8))
-                                10),
+                                9),
                             Mut.reads-mslice
                                 𝓤
                                 H
@@ -7689,7 +6185,7 @@ module _ (claims· : Claims) where
                                 W
                                 (Referent.rtF (Referent.fInt Syntax.w8))
                                 (Syntax.tyRef Syntax.erased Syntax.mut (Syntax.tyInt Syntax.w8))
-                                10,
+                                9,
                             Path'.refl,
                             (
                               Reads.as-is
@@ -7699,7 +6195,7 @@ module _ (claims· : Claims) where
                                   (Mut.mslice
                                   (Referent.rtF (Referent.fInt Syntax.w8))
                                   (Syntax.tyRef Syntax.erased Syntax.mut (Syntax.tyInt Syntax.w8))
-                                  11),
+                                  10),
                               Mut.reads-mslice
                                   𝓤
                                   H
@@ -7707,7 +6203,7 @@ module _ (claims· : Claims) where
                                   W
                                   (Referent.rtF (Referent.fInt Syntax.w8))
                                   (Syntax.tyRef Syntax.erased Syntax.mut (Syntax.tyInt Syntax.w8))
-                                  11,
+                                  10,
                               Path'.refl,
                               (
                                 Reads.as-is
@@ -7720,7 +6216,7 @@ module _ (claims· : Claims) where
                                     Syntax.erased
                                     Syntax.mut
                                     (Syntax.tyInt Syntax.w8))
-                                    12),
+                                    11),
                                 Mut.reads-mslice
                                     𝓤
                                     H
@@ -7731,7 +6227,7 @@ module _ (claims· : Claims) where
                                     Syntax.erased
                                     Syntax.mut
                                     (Syntax.tyInt Syntax.w8))
-                                    12,
+                                    11,
                                 Path'.refl,
                                 (
                                   Reads.as-is
@@ -7739,50 +6235,25 @@ module _ (claims· : Claims) where
                                       H
                                       A
                                       (Mut.mslice
-                                      (Referent.rtF (Referent.fInt Syntax.w8))
+                                      Elem.R
                                       (Syntax.tyRef
                                       Syntax.erased
                                       Syntax.mut
-                                      (Syntax.tyInt Syntax.w8))
-                                      13),
+                                      Elem.ty)
+                                      12),
                                   Mut.reads-mslice
                                       𝓤
                                       H
                                       A
                                       W
-                                      (Referent.rtF (Referent.fInt Syntax.w8))
+                                      Elem.R
                                       (Syntax.tyRef
                                       Syntax.erased
                                       Syntax.mut
-                                      (Syntax.tyInt Syntax.w8))
-                                      13,
+                                      Elem.ty)
+                                      12,
                                   Path'.refl,
-                                  (
-                                    Reads.as-is
-                                        𝓤
-                                        H
-                                        A
-                                        (Mut.mslice
-                                        Elem.R
-                                        (Syntax.tyRef
-                                        Syntax.erased
-                                        Syntax.mut
-                                        Elem.ty)
-                                        14),
-                                    Mut.reads-mslice
-                                        𝓤
-                                        H
-                                        A
-                                        W
-                                        Elem.R
-                                        (Syntax.tyRef
-                                        Syntax.erased
-                                        Syntax.mut
-                                        Elem.ty)
-                                        14,
-                                    Path'.refl,
-                                    tt,
-                                  ),
+                                  tt,
                                 ),
                               ),
                             ),
@@ -7794,12 +6265,12 @@ module _ (claims· : Claims) where
                 ),
               )
               (Reads.room-gone 𝓤 H A (Syntax.tyInt Syntax.w64))
-              (tt, (tt, (tt, (tt, (tt, (tt, (tt, (tt, (tt, (tt, tt))))))))))
+              (tt, (tt, (tt, (tt, (tt, (tt, (tt, (tt, (tt, tt)))))))))
               Path'.refl)
-              d25
+              d21
 
-          d27 : Typed.Typed 𝓤 H A 𝓣 E G30 b17 Δ0 (at27 bs)
-          d27 =
+          d23 : Typed.Typed 𝓤 H A 𝓣 E G26 b15 Δ0 (at23 bs)
+          d23 =
               Typed.s-seq
               𝓤
               H
@@ -7807,13 +6278,13 @@ module _ (claims· : Claims) where
               W
               𝓣
               E
-              G30
-              G31
-              b13
-              b16
+              G26
+              G27
+              b11
+              b14
               Δ0
-              (Typed.ask (s29 bs))
-              (at26 bs)
+              (Typed.ask (s25 bs))
+              (at22 bs)
               (Relend.t-sl-aggregate
               𝓤
               H
@@ -7823,10 +6294,10 @@ module _ (claims· : Claims) where
               Elem.R
               𝓣
               (Relend.asMut Elem.R)
-              G30
-              23
-              24
-              14
+              G26
+              20
+              21
+              12
               (Syntax.tyRef
               Syntax.erased
               Syntax.mut
@@ -7847,7 +6318,7 @@ module _ (claims· : Claims) where
               Syntax.erased
               Syntax.mut
               (Syntax.tyArray Elem.ty 64))
-              14))
+              12))
               (Reads.room-gone
               𝓤
               H
@@ -7864,10 +6335,10 @@ module _ (claims· : Claims) where
               Path'.refl
               Path'.refl
               λ b o k. tt)
-              d26
+              d22
 
-          d28 : Typed.Typed 𝓤 H A 𝓣 E G29 b18 Δ0 (at28 bs)
-          d28 =
+          d24 : Typed.Typed 𝓤 H A 𝓣 E G25 b16 Δ0 (at24 bs)
+          d24 =
               Typed.s-seq
               𝓤
               H
@@ -7875,13 +6346,13 @@ module _ (claims· : Claims) where
               W
               𝓣
               E
-              G29
-              G30
-              b12
-              b17
+              G25
+              G26
+              b10
+              b15
               Δ0
-              (Typed.give (s28 bs))
-              (at27 bs)
+              (Typed.give (s24 bs))
+              (at23 bs)
               (Borrow.t-arr-borrow
               𝓤
               H
@@ -7890,11 +6361,11 @@ module _ (claims· : Claims) where
               E
               𝓣
               Elem.R
-              G29
-              11
-              23
+              G25
+              10
+              20
               64
-              14
+              12
               (Syntax.tyRef
               Syntax.erased
               Syntax.mut
@@ -7916,10 +6387,10 @@ module _ (claims· : Claims) where
               Path'.refl
               (λ b o. tt)
               (Dec'.lit< tt, Dec'.lit< tt))
-              d27
+              d23
 
-          d29 : Typed.Typed 𝓤 H A 𝓣 E G28 b18 Δ0 (at29 bs)
-          d29 =
+          d25 : Typed.Typed 𝓤 H A 𝓣 E G24 b16 Δ0 (at25 bs)
+          d25 =
               Typed.g-pre
               𝓤
               H
@@ -7927,218 +6398,13 @@ module _ (claims· : Claims) where
               W
               𝓣
               E
-              G28
-              G29
-              b18
-              Δ0
-              (λ Ψ. Ψ)
-              (at28 bs)
-              (Lifetime.g-begin 𝓤 H A W E G28 14 (
-                tt,
-                (
-                  tt,
-                  (
-                    tt,
-                    (
-                      tt,
-                      (
-                        tt,
-                        (
-                          tt,
-                          (
-                            (tt, tt),
-                            (
-                              (tt, tt),
-                              (
-                                (tt, tt),
-                                (
-                                  (tt, tt),
-                                  (
-                                    (tt, tt),
-                                    (
-                                      tt,
-                                      (
-                                        tt,
-                                        (
-                                          tt,
-                                          (
-                                            tt,
-                                            (
-                                              tt,
-                                              (
-                                                tt,
-                                                (
-                                                  tt,
-                                                  (
-                                                    tt,
-                                                    (tt, (tt, (tt, (tt, (tt, (tt, tt)))))),
-                                                  ),
-                                                ),
-                                              ),
-                                            ),
-                                          ),
-                                        ),
-                                      ),
-                                    ),
-                                  ),
-                                ),
-                              ),
-                            ),
-                          ),
-                        ),
-                      ),
-                    ),
-                  ),
-                ),
-              ))
-              d28
-
-          d30 : Typed.Typed 𝓤 H A 𝓣 E G27 b19 Δ0 (at30 bs)
-          d30 =
-              Typed.s-seq
-              𝓤
-              H
-              A
-              W
-              𝓣
-              E
-              G27
-              G28
-              b11
-              b18
-              Δ0
-              (Typed.ask (s26 bs))
-              (at29 bs)
-              (Relend.t-sl-aggregate
-              𝓤
-              H
-              A
-              W
-              E
-              (Referent.rtF (Referent.fInt Syntax.w8))
-              𝓣
-              (Relend.asMut (Referent.rtF (Referent.fInt Syntax.w8)))
-              G27
-              21
-              22
-              13
-              (Syntax.tyRef Syntax.erased Syntax.mut (Syntax.tyInt Syntax.w8))
-              (Syntax.tyRef Syntax.erased Syntax.mut (Syntax.tyInt Syntax.w8))
-              (λ x. x)
-              (Scalar.oFld
-              10
-              (List._∷_ (Syntax.field 1) List.[])
-              (Syntax.tyInt Syntax.w64)
-              8
-              λ v. Shared.lenV
-              (v .0))
-              (Reads.as-is
-              𝓤
-              H
-              A
-              (Relend.msptr
-              (Referent.rtF (Referent.fInt Syntax.w8))
-              (Syntax.tyRef Syntax.erased Syntax.mut (Syntax.tyInt Syntax.w8))
-              13))
-              (Reads.room-gone
-              𝓤
-              H
-              A
-              (Syntax.tyStruct
-              (List._∷_ 38 (List._∷_ 91 (List._∷_ 93 List.[])))
-              (Syntax.tcons
-              (Syntax.tyRef Syntax.erased Syntax.mut (Syntax.tyInt Syntax.w8))
-              (Syntax.tcons (Syntax.tyInt Syntax.w64) Syntax.tnil)))) (
-                Relend.reads-owed-len
-                    𝓤
-                    H
-                    A
-                    W
-                    (Referent.rtF (Referent.fInt Syntax.w8))
-                    (Syntax.tyRef (Syntax.named 8) Syntax.mut (Syntax.tyInt Syntax.w8))
-                    8
-                    13
-                    (Row.lease (κs .1 .1 .1 .1 .1 .1 .1 .1 .0) (qs .1 .1 .1 .1 .1 .1 .1 .1 .0))
-                    8
-                    Path'.refl,
-                Path'.refl,
-              )
-              Path'.refl
-              Path'.refl
-              λ b o k. tt)
-              d29
-
-          d31 : Typed.Typed 𝓤 H A 𝓣 E G26 b20 Δ0 (at31 bs)
-          d31 =
-              Typed.s-seq
-              𝓤
-              H
-              A
-              W
-              𝓣
-              E
-              G26
-              G27
-              b10
-              b19
-              Δ0
-              (Typed.give (s25 bs))
-              (at30 bs)
-              (Relend.t-sl-relend
-              𝓤
-              H
-              A
-              W
-              E
-              (Referent.rtF (Referent.fInt Syntax.w8))
-              𝓣
-              G26
-              10
-              21
-              8
-              13
-              (Syntax.tyRef (Syntax.named 8) Syntax.mut (Syntax.tyInt Syntax.w8))
-              (Syntax.tyRef Syntax.erased Syntax.mut (Syntax.tyInt Syntax.w8))
-              (Row.lease (κs .1 .1 .1 .1 .1 .1 .1 .1 .0) (qs .1 .1 .1 .1 .1 .1 .1 .1 .0))
-              0
-              (λ x. x)
-              (Reads.as-is
-              𝓤
-              H
-              A
-              (Mut.mslice
-              (Referent.rtF (Referent.fInt Syntax.w8))
-              (Syntax.tyRef (Syntax.named 8) Syntax.mut (Syntax.tyInt Syntax.w8))
-              8))
-              (Reads.room-gone
-              𝓤
-              H
-              A
-              (Syntax.tyRef Syntax.erased Syntax.mut (Syntax.tyInt Syntax.w8)))
-              Path'.refl
-              tt
-              Path'.refl
-              Path'.refl
-              Path'.refl
-              λ b o. tt)
-              d30
-
-          d32 : Typed.Typed 𝓤 H A 𝓣 E G25 b20 Δ0 (at32 bs)
-          d32 =
-              Typed.g-pre
-              𝓤
-              H
-              A
-              W
-              𝓣
-              E
+              G24
               G25
-              G26
-              b20
+              b16
               Δ0
               (λ Ψ. Ψ)
-              (at31 bs)
-              (Lifetime.g-begin 𝓤 H A W E G25 13 (
+              (at24 bs)
+              (Lifetime.g-begin 𝓤 H A W E G24 12 (
                 tt,
                 (
                   tt,
@@ -8168,19 +6434,7 @@ module _ (claims· : Claims) where
                                           tt,
                                           (
                                             tt,
-                                            (
-                                              tt,
-                                              (
-                                                tt,
-                                                (
-                                                  tt,
-                                                  (
-                                                    tt,
-                                                    (tt, (tt, (tt, (tt, (tt, (tt, tt)))))),
-                                                  ),
-                                                ),
-                                              ),
-                                            ),
+                                            (tt, (tt, (tt, (tt, (tt, (tt, (tt, tt))))))),
                                           ),
                                         ),
                                       ),
@@ -8196,10 +6450,10 @@ module _ (claims· : Claims) where
                   ),
                 ),
               ))
-              d31
+              d24
 
-          d33 : Typed.Typed 𝓤 H A 𝓣 E G24 b21 Δ0 (at33 bs)
-          d33 =
+          d26 : Typed.Typed 𝓤 H A 𝓣 E G23 b17 Δ0 (at26 bs)
+          d26 =
               Typed.s-seq
               𝓤
               H
@@ -8207,13 +6461,13 @@ module _ (claims· : Claims) where
               W
               𝓣
               E
+              G23
               G24
-              G25
               b9
-              b20
+              b16
               Δ0
-              (Typed.ask (s23 bs))
-              (at32 bs)
+              (Typed.ask (s22 bs))
+              (at25 bs)
               (Relend.t-sl-aggregate
               𝓤
               H
@@ -8223,10 +6477,10 @@ module _ (claims· : Claims) where
               (Referent.rtF (Referent.fInt Syntax.w8))
               𝓣
               (Relend.asMut (Referent.rtF (Referent.fInt Syntax.w8)))
-              G24
+              G23
+              18
               19
-              20
-              12
+              11
               (Syntax.tyRef Syntax.erased Syntax.mut (Syntax.tyInt Syntax.w8))
               (Syntax.tyRef Syntax.erased Syntax.mut (Syntax.tyInt Syntax.w8))
               (λ x. x)
@@ -8244,7 +6498,7 @@ module _ (claims· : Claims) where
               (Relend.msptr
               (Referent.rtF (Referent.fInt Syntax.w8))
               (Syntax.tyRef Syntax.erased Syntax.mut (Syntax.tyInt Syntax.w8))
-              12))
+              11))
               (Reads.room-gone
               𝓤
               H
@@ -8262,7 +6516,7 @@ module _ (claims· : Claims) where
                     (Referent.rtF (Referent.fInt Syntax.w8))
                     (Syntax.tyRef (Syntax.named 7) Syntax.mut (Syntax.tyInt Syntax.w8))
                     7
-                    12
+                    11
                     (Row.lease (κs .1 .1 .1 .1 .1 .1 .1 .0) (qs .1 .1 .1 .1 .1 .1 .1 .0))
                     8
                     Path'.refl,
@@ -8271,10 +6525,10 @@ module _ (claims· : Claims) where
               Path'.refl
               Path'.refl
               λ b o k. tt)
-              d32
+              d25
 
-          d34 : Typed.Typed 𝓤 H A 𝓣 E G23 b22 Δ0 (at34 bs)
-          d34 =
+          d27 : Typed.Typed 𝓤 H A 𝓣 E G22 b18 Δ0 (at27 bs)
+          d27 =
               Typed.s-seq
               𝓤
               H
@@ -8282,13 +6536,13 @@ module _ (claims· : Claims) where
               W
               𝓣
               E
+              G22
               G23
-              G24
               b8
-              b21
+              b17
               Δ0
-              (Typed.give (s22 bs))
-              (at33 bs)
+              (Typed.give (s21 bs))
+              (at26 bs)
               (Relend.t-sl-relend
               𝓤
               H
@@ -8297,11 +6551,11 @@ module _ (claims· : Claims) where
               E
               (Referent.rtF (Referent.fInt Syntax.w8))
               𝓣
-              G23
+              G22
               9
-              19
+              18
               7
-              12
+              11
               (Syntax.tyRef (Syntax.named 7) Syntax.mut (Syntax.tyInt Syntax.w8))
               (Syntax.tyRef Syntax.erased Syntax.mut (Syntax.tyInt Syntax.w8))
               (Row.lease (κs .1 .1 .1 .1 .1 .1 .1 .0) (qs .1 .1 .1 .1 .1 .1 .1 .0))
@@ -8326,10 +6580,10 @@ module _ (claims· : Claims) where
               Path'.refl
               Path'.refl
               λ b o. tt)
-              d33
+              d26
 
-          d35 : Typed.Typed 𝓤 H A 𝓣 E G22 b22 Δ0 (at35 bs)
-          d35 =
+          d28 : Typed.Typed 𝓤 H A 𝓣 E G21 b18 Δ0 (at28 bs)
+          d28 =
               Typed.g-pre
               𝓤
               H
@@ -8337,13 +6591,13 @@ module _ (claims· : Claims) where
               W
               𝓣
               E
+              G21
               G22
-              G23
-              b22
+              b18
               Δ0
               (λ Ψ. Ψ)
-              (at34 bs)
-              (Lifetime.g-begin 𝓤 H A W E G22 12 (
+              (at27 bs)
+              (Lifetime.g-begin 𝓤 H A W E G21 11 (
                 tt,
                 (
                   tt,
@@ -8373,19 +6627,7 @@ module _ (claims· : Claims) where
                                           tt,
                                           (
                                             tt,
-                                            (
-                                              tt,
-                                              (
-                                                tt,
-                                                (
-                                                  tt,
-                                                  (
-                                                    tt,
-                                                    (tt, (tt, (tt, (tt, (tt, (tt, tt)))))),
-                                                  ),
-                                                ),
-                                              ),
-                                            ),
+                                            (tt, (tt, (tt, (tt, (tt, (tt, (tt, tt))))))),
                                           ),
                                         ),
                                       ),
@@ -8401,10 +6643,10 @@ module _ (claims· : Claims) where
                   ),
                 ),
               ))
-              d34
+              d27
 
-          d36 : Typed.Typed 𝓤 H A 𝓣 E G21 b23 Δ0 (at36 bs)
-          d36 =
+          d29 : Typed.Typed 𝓤 H A 𝓣 E G20 b19 Δ0 (at29 bs)
+          d29 =
               Typed.s-seq
               𝓤
               H
@@ -8412,13 +6654,13 @@ module _ (claims· : Claims) where
               W
               𝓣
               E
+              G20
               G21
-              G22
               b7
-              b22
+              b18
               Δ0
-              (Typed.ask (s20 bs))
-              (at35 bs)
+              (Typed.ask (s19 bs))
+              (at28 bs)
               (Relend.t-sl-aggregate
               𝓤
               H
@@ -8428,10 +6670,10 @@ module _ (claims· : Claims) where
               (Referent.rtF (Referent.fInt Syntax.w8))
               𝓣
               (Relend.asMut (Referent.rtF (Referent.fInt Syntax.w8)))
-              G21
+              G20
+              16
               17
-              18
-              11
+              10
               (Syntax.tyRef Syntax.erased Syntax.mut (Syntax.tyInt Syntax.w8))
               (Syntax.tyRef Syntax.erased Syntax.mut (Syntax.tyInt Syntax.w8))
               (λ x. x)
@@ -8449,7 +6691,7 @@ module _ (claims· : Claims) where
               (Relend.msptr
               (Referent.rtF (Referent.fInt Syntax.w8))
               (Syntax.tyRef Syntax.erased Syntax.mut (Syntax.tyInt Syntax.w8))
-              11))
+              10))
               (Reads.room-gone
               𝓤
               H
@@ -8467,7 +6709,7 @@ module _ (claims· : Claims) where
                     (Referent.rtF (Referent.fInt Syntax.w8))
                     (Syntax.tyRef (Syntax.named 6) Syntax.mut (Syntax.tyInt Syntax.w8))
                     6
-                    11
+                    10
                     (Row.lease (κs .1 .1 .1 .1 .1 .1 .0) (qs .1 .1 .1 .1 .1 .1 .0))
                     8
                     Path'.refl,
@@ -8476,10 +6718,10 @@ module _ (claims· : Claims) where
               Path'.refl
               Path'.refl
               λ b o k. tt)
-              d35
+              d28
 
-          d37 : Typed.Typed 𝓤 H A 𝓣 E G20 b24 Δ0 (at37 bs)
-          d37 =
+          d30 : Typed.Typed 𝓤 H A 𝓣 E G19 b20 Δ0 (at30 bs)
+          d30 =
               Typed.s-seq
               𝓤
               H
@@ -8487,13 +6729,13 @@ module _ (claims· : Claims) where
               W
               𝓣
               E
+              G19
               G20
-              G21
               b6
-              b23
+              b19
               Δ0
-              (Typed.give (s19 bs))
-              (at36 bs)
+              (Typed.give (s18 bs))
+              (at29 bs)
               (Relend.t-sl-relend
               𝓤
               H
@@ -8502,11 +6744,11 @@ module _ (claims· : Claims) where
               E
               (Referent.rtF (Referent.fInt Syntax.w8))
               𝓣
-              G20
+              G19
               8
-              17
+              16
               6
-              11
+              10
               (Syntax.tyRef (Syntax.named 6) Syntax.mut (Syntax.tyInt Syntax.w8))
               (Syntax.tyRef Syntax.erased Syntax.mut (Syntax.tyInt Syntax.w8))
               (Row.lease (κs .1 .1 .1 .1 .1 .1 .0) (qs .1 .1 .1 .1 .1 .1 .0))
@@ -8531,10 +6773,10 @@ module _ (claims· : Claims) where
               Path'.refl
               Path'.refl
               λ b o. tt)
-              d36
+              d29
 
-          d38 : Typed.Typed 𝓤 H A 𝓣 E G19 b24 Δ0 (at38 bs)
-          d38 =
+          d31 : Typed.Typed 𝓤 H A 𝓣 E G18 b20 Δ0 (at31 bs)
+          d31 =
               Typed.g-pre
               𝓤
               H
@@ -8542,13 +6784,13 @@ module _ (claims· : Claims) where
               W
               𝓣
               E
+              G18
               G19
-              G20
-              b24
+              b20
               Δ0
               (λ Ψ. Ψ)
-              (at37 bs)
-              (Lifetime.g-begin 𝓤 H A W E G19 11 (
+              (at30 bs)
+              (Lifetime.g-begin 𝓤 H A W E G18 10 (
                 tt,
                 (
                   tt,
@@ -8578,19 +6820,7 @@ module _ (claims· : Claims) where
                                           tt,
                                           (
                                             tt,
-                                            (
-                                              tt,
-                                              (
-                                                tt,
-                                                (
-                                                  tt,
-                                                  (
-                                                    tt,
-                                                    (tt, (tt, (tt, (tt, (tt, (tt, tt)))))),
-                                                  ),
-                                                ),
-                                              ),
-                                            ),
+                                            (tt, (tt, (tt, (tt, (tt, (tt, (tt, tt))))))),
                                           ),
                                         ),
                                       ),
@@ -8606,10 +6836,10 @@ module _ (claims· : Claims) where
                   ),
                 ),
               ))
-              d37
+              d30
 
-          d39 : Typed.Typed 𝓤 H A 𝓣 E G18 b25 Δ0 (at39 bs)
-          d39 =
+          d32 : Typed.Typed 𝓤 H A 𝓣 E G17 b21 Δ0 (at32 bs)
+          d32 =
               Typed.s-seq
               𝓤
               H
@@ -8617,13 +6847,13 @@ module _ (claims· : Claims) where
               W
               𝓣
               E
+              G17
               G18
-              G19
               b5
-              b24
+              b20
               Δ0
-              (Typed.ask (s17 bs))
-              (at38 bs)
+              (Typed.ask (s16 bs))
+              (at31 bs)
               (Relend.t-sl-aggregate
               𝓤
               H
@@ -8633,10 +6863,10 @@ module _ (claims· : Claims) where
               (Referent.rtF (Referent.fInt Syntax.w8))
               𝓣
               (Relend.asMut (Referent.rtF (Referent.fInt Syntax.w8)))
-              G18
+              G17
+              14
               15
-              16
-              10
+              9
               (Syntax.tyRef Syntax.erased Syntax.mut (Syntax.tyInt Syntax.w8))
               (Syntax.tyRef Syntax.erased Syntax.mut (Syntax.tyInt Syntax.w8))
               (λ x. x)
@@ -8654,7 +6884,7 @@ module _ (claims· : Claims) where
               (Relend.msptr
               (Referent.rtF (Referent.fInt Syntax.w8))
               (Syntax.tyRef Syntax.erased Syntax.mut (Syntax.tyInt Syntax.w8))
-              10))
+              9))
               (Reads.room-gone
               𝓤
               H
@@ -8672,7 +6902,7 @@ module _ (claims· : Claims) where
                     (Referent.rtF (Referent.fInt Syntax.w8))
                     (Syntax.tyRef (Syntax.named 5) Syntax.mut (Syntax.tyInt Syntax.w8))
                     5
-                    10
+                    9
                     (Row.lease (κs .1 .1 .1 .1 .1 .0) (qs .1 .1 .1 .1 .1 .0))
                     8
                     Path'.refl,
@@ -8681,10 +6911,10 @@ module _ (claims· : Claims) where
               Path'.refl
               Path'.refl
               λ b o k. tt)
-              d38
+              d31
 
-          d40 : Typed.Typed 𝓤 H A 𝓣 E G17 b26 Δ0 (at40 bs)
-          d40 =
+          d33 : Typed.Typed 𝓤 H A 𝓣 E G16 b22 Δ0 (at33 bs)
+          d33 =
               Typed.s-seq
               𝓤
               H
@@ -8692,13 +6922,13 @@ module _ (claims· : Claims) where
               W
               𝓣
               E
+              G16
               G17
-              G18
               b4
-              b25
+              b21
               Δ0
-              (Typed.give (s16 bs))
-              (at39 bs)
+              (Typed.give (s15 bs))
+              (at32 bs)
               (Relend.t-sl-relend
               𝓤
               H
@@ -8707,11 +6937,11 @@ module _ (claims· : Claims) where
               E
               (Referent.rtF (Referent.fInt Syntax.w8))
               𝓣
-              G17
+              G16
               7
-              15
+              14
               5
-              10
+              9
               (Syntax.tyRef (Syntax.named 5) Syntax.mut (Syntax.tyInt Syntax.w8))
               (Syntax.tyRef Syntax.erased Syntax.mut (Syntax.tyInt Syntax.w8))
               (Row.lease (κs .1 .1 .1 .1 .1 .0) (qs .1 .1 .1 .1 .1 .0))
@@ -8736,10 +6966,10 @@ module _ (claims· : Claims) where
               Path'.refl
               Path'.refl
               λ b o. tt)
-              d39
+              d32
 
-          d41 : Typed.Typed 𝓤 H A 𝓣 E G16 b26 Δ0 (at41 bs)
-          d41 =
+          d34 : Typed.Typed 𝓤 H A 𝓣 E G15 b22 Δ0 (at34 bs)
+          d34 =
               Typed.g-pre
               𝓤
               H
@@ -8747,13 +6977,13 @@ module _ (claims· : Claims) where
               W
               𝓣
               E
+              G15
               G16
-              G17
-              b26
+              b22
               Δ0
               (λ Ψ. Ψ)
-              (at40 bs)
-              (Lifetime.g-begin 𝓤 H A W E G16 10 (
+              (at33 bs)
+              (Lifetime.g-begin 𝓤 H A W E G15 9 (
                 tt,
                 (
                   tt,
@@ -8783,19 +7013,7 @@ module _ (claims· : Claims) where
                                           tt,
                                           (
                                             tt,
-                                            (
-                                              tt,
-                                              (
-                                                tt,
-                                                (
-                                                  tt,
-                                                  (
-                                                    tt,
-                                                    (tt, (tt, (tt, (tt, (tt, (tt, tt)))))),
-                                                  ),
-                                                ),
-                                              ),
-                                            ),
+                                            (tt, (tt, (tt, (tt, (tt, (tt, (tt, tt))))))),
                                           ),
                                         ),
                                       ),
@@ -8811,10 +7029,10 @@ module _ (claims· : Claims) where
                   ),
                 ),
               ))
-              d40
+              d33
 
-          d42 : Typed.Typed 𝓤 H A 𝓣 E G15 b27 Δ0 (at42 bs)
-          d42 =
+          d35 : Typed.Typed 𝓤 H A 𝓣 E G14 b23 Δ0 (at35 bs)
+          d35 =
               Typed.s-seq
               𝓤
               H
@@ -8822,13 +7040,13 @@ module _ (claims· : Claims) where
               W
               𝓣
               E
+              G14
               G15
-              G16
               b3
-              b26
+              b22
               Δ0
-              (Typed.ask (s14 bs))
-              (at41 bs)
+              (Typed.ask (s13 bs))
+              (at34 bs)
               (Relend.t-sl-aggregate
               𝓤
               H
@@ -8838,10 +7056,10 @@ module _ (claims· : Claims) where
               (Referent.rtF (Referent.fInt Syntax.w64))
               𝓣
               (Relend.asMut (Referent.rtF (Referent.fInt Syntax.w64)))
-              G15
+              G14
+              12
               13
-              14
-              9
+              8
               (Syntax.tyRef Syntax.erased Syntax.mut (Syntax.tyInt Syntax.w64))
               (Syntax.tyRef Syntax.erased Syntax.mut (Syntax.tyInt Syntax.w64))
               (λ x. x)
@@ -8859,7 +7077,7 @@ module _ (claims· : Claims) where
               (Relend.msptr
               (Referent.rtF (Referent.fInt Syntax.w64))
               (Syntax.tyRef Syntax.erased Syntax.mut (Syntax.tyInt Syntax.w64))
-              9))
+              8))
               (Reads.room-gone
               𝓤
               H
@@ -8877,7 +7095,7 @@ module _ (claims· : Claims) where
                     (Referent.rtF (Referent.fInt Syntax.w64))
                     (Syntax.tyRef (Syntax.named 4) Syntax.mut (Syntax.tyInt Syntax.w64))
                     4
-                    9
+                    8
                     (Row.lease (κs .1 .1 .1 .1 .0) (qs .1 .1 .1 .1 .0))
                     8
                     Path'.refl,
@@ -8886,10 +7104,10 @@ module _ (claims· : Claims) where
               Path'.refl
               Path'.refl
               λ b o k. tt)
-              d41
+              d34
 
-          d43 : Typed.Typed 𝓤 H A 𝓣 E G14 b28 Δ0 (at43 bs)
-          d43 =
+          d36 : Typed.Typed 𝓤 H A 𝓣 E G13 b24 Δ0 (at36 bs)
+          d36 =
               Typed.s-seq
               𝓤
               H
@@ -8897,13 +7115,13 @@ module _ (claims· : Claims) where
               W
               𝓣
               E
+              G13
               G14
-              G15
               b2
-              b27
+              b23
               Δ0
-              (Typed.give (s13 bs))
-              (at42 bs)
+              (Typed.give (s12 bs))
+              (at35 bs)
               (Relend.t-sl-relend
               𝓤
               H
@@ -8912,11 +7130,11 @@ module _ (claims· : Claims) where
               E
               (Referent.rtF (Referent.fInt Syntax.w64))
               𝓣
-              G14
+              G13
               6
-              13
+              12
               4
-              9
+              8
               (Syntax.tyRef (Syntax.named 4) Syntax.mut (Syntax.tyInt Syntax.w64))
               (Syntax.tyRef Syntax.erased Syntax.mut (Syntax.tyInt Syntax.w64))
               (Row.lease (κs .1 .1 .1 .1 .0) (qs .1 .1 .1 .1 .0))
@@ -8941,10 +7159,10 @@ module _ (claims· : Claims) where
               Path'.refl
               Path'.refl
               λ b o. tt)
-              d42
+              d35
 
-          d44 : Typed.Typed 𝓤 H A 𝓣 E G13 b28 Δ0 (at44 bs)
-          d44 =
+          d37 : Typed.Typed 𝓤 H A 𝓣 E G12 b24 Δ0 (at37 bs)
+          d37 =
               Typed.g-pre
               𝓤
               H
@@ -8952,13 +7170,13 @@ module _ (claims· : Claims) where
               W
               𝓣
               E
+              G12
               G13
-              G14
-              b28
+              b24
               Δ0
               (λ Ψ. Ψ)
-              (at43 bs)
-              (Lifetime.g-begin 𝓤 H A W E G13 9 (
+              (at36 bs)
+              (Lifetime.g-begin 𝓤 H A W E G12 8 (
                 tt,
                 (
                   tt,
@@ -8988,19 +7206,7 @@ module _ (claims· : Claims) where
                                           tt,
                                           (
                                             tt,
-                                            (
-                                              tt,
-                                              (
-                                                tt,
-                                                (
-                                                  tt,
-                                                  (
-                                                    tt,
-                                                    (tt, (tt, (tt, (tt, (tt, (tt, tt)))))),
-                                                  ),
-                                                ),
-                                              ),
-                                            ),
+                                            (tt, (tt, (tt, (tt, (tt, (tt, (tt, tt))))))),
                                           ),
                                         ),
                                       ),
@@ -9016,10 +7222,10 @@ module _ (claims· : Claims) where
                   ),
                 ),
               ))
-              d43
+              d36
 
-          d45 : Typed.Typed 𝓤 H A 𝓣 E G12 b28 Δ0 (at45 bs)
-          d45 =
+          d38 : Typed.Typed 𝓤 H A 𝓣 E G11 b24 Δ0 (at38 bs)
+          d38 =
               Typed.g-pre
               𝓤
               H
@@ -9027,20 +7233,20 @@ module _ (claims· : Claims) where
               W
               𝓣
               E
+              G11
               G12
-              G13
-              b28
+              b24
               Δ0
-              (Typed.pass T12 T13 (s11 bs))
-              (at44 bs)
+              (Typed.pass T11 T12 (s10 bs))
+              (at37 bs)
               (Scalar.g-room
               𝓤
               H
               A
               W
               E
-              G12
-              12
+              G11
+              11
               (Syntax.tyArray Elem.held 64)
               (Init.room-arr
               𝓤
@@ -9052,10 +7258,10 @@ module _ (claims· : Claims) where
               0
               64
               Path'.refl))
-              d44
+              d37
 
-          d46 : Typed.Typed 𝓤 H A 𝓣 E G11 b29 Δ0 (at46 bs)
-          d46 =
+          d39 : Typed.Typed 𝓤 H A 𝓣 E G10 b25 Δ0 (at39 bs)
+          d39 =
               Typed.s-seq
               𝓤
               H
@@ -9063,13 +7269,13 @@ module _ (claims· : Claims) where
               W
               𝓣
               E
+              G10
               G11
-              G12
               b1
-              b28
+              b24
               Δ0
-              (Typed.pass T11 T12 (s10 bs))
-              (at45 bs)
+              (Typed.pass T10 T11 (s9 bs))
+              (at38 bs)
               (LocalCopy.t-val-copy
               𝓤
               H
@@ -9078,9 +7284,9 @@ module _ (claims· : Claims) where
               E
               𝓣
               (λ ρ. Unit)
-              G11
-              12
+              G10
               11
+              10
               (Array'.Array Elem.R 64)
               (Syntax.tyArray Elem.held 64)
               (Syntax.tyArray Elem.held 64)
@@ -9090,7 +7296,7 @@ module _ (claims· : Claims) where
               (λ x. x)
               (λ x. x)
               Path'.refl
-              (Own.told-none 𝓤 H A (G11 .slots))
+              (Own.told-none 𝓤 H A (G10 .slots))
               (Yields.yields-copy
               𝓤
               H
@@ -9153,10 +7359,10 @@ module _ (claims· : Claims) where
               ρ)
               Path'.refl
               Path'.refl)
-              d45
+              d38
 
-          d47 : Typed.Typed 𝓤 H A 𝓣 E G10 b30 Δ0 (at47 bs)
-          d47 =
+          d40 : Typed.Typed 𝓤 H A 𝓣 E G9 b26 Δ0 (at40 bs)
+          d40 =
               Typed.s-seq
               𝓤
               H
@@ -9164,13 +7370,13 @@ module _ (claims· : Claims) where
               W
               𝓣
               E
+              G9
               G10
-              G11
               b0
-              b29
+              b25
               Δ0
-              (Typed.both (s9 bs))
-              (at46 bs)
+              (Typed.both (s8 bs))
+              (at39 bs)
               (Plain.t-call-plain
               𝓤
               H
@@ -9186,11 +7392,11 @@ module _ (claims· : Claims) where
               (known .0)
               E
               (λ pos β. β)
-              G10
+              G9
               tt
-              12
+              11
               List.[]
-              (Call.sub-id 𝓤 H A W (G10 .slots))
+              (Call.sub-id 𝓤 H A W (G9 .slots))
               tt
               (Reads.room-gone
               𝓤
@@ -9199,52 +7405,10 @@ module _ (claims· : Claims) where
               (Syntax.tyArray Elem.held 64))
               tt
               Path'.refl)
-              d46
+              d39
 
-          d48 : Typed.Typed 𝓤 H A 𝓣 E G9 b30 Δ0 (at48 bs)
-          d48 =
-              Typed.g-pre
-              𝓤
-              H
-              A
-              W
-              𝓣
-              E
-              G9
-              G10
-              b30
-              Δ0
-              (Typed.give (s8 bs))
-              (at47 bs)
-              (Know.g-sl-known
-              𝓤
-              H
-              A
-              W
-              (Referent.fInt Syntax.w8)
-              E
-              G9
-              10
-              8
-              (Syntax.tyRef (Syntax.named 8) Syntax.mut (Syntax.tyInt Syntax.w8))
-              (Row.lease (κs .1 .1 .1 .1 .1 .1 .1 .1 .0) (qs .1 .1 .1 .1 .1 .1 .1 .1 .0))
-              0
-              (λ x. x)
-              record { fits = Dec'.lit< tt }
-              (Reads.as-is
-              𝓤
-              H
-              A
-              (Mut.mslice
-              (Referent.rtF (Referent.fInt Syntax.w8))
-              (Syntax.tyRef (Syntax.named 8) Syntax.mut (Syntax.tyInt Syntax.w8))
-              8))
-              Path'.refl
-              tt)
-              d47
-
-          d49 : Typed.Typed 𝓤 H A 𝓣 E G8 b30 Δ0 (at49 bs)
-          d49 =
+          d41 : Typed.Typed 𝓤 H A 𝓣 E G8 b26 Δ0 (at41 bs)
+          d41 =
               Typed.g-pre
               𝓤
               H
@@ -9254,10 +7418,10 @@ module _ (claims· : Claims) where
               E
               G8
               G9
-              b30
+              b26
               Δ0
               (Typed.give (s7 bs))
-              (at48 bs)
+              (at40 bs)
               (Know.g-sl-known
               𝓤
               H
@@ -9283,10 +7447,10 @@ module _ (claims· : Claims) where
               7))
               Path'.refl
               tt)
-              d48
+              d40
 
-          d50 : Typed.Typed 𝓤 H A 𝓣 E G7 b30 Δ0 (at50 bs)
-          d50 =
+          d42 : Typed.Typed 𝓤 H A 𝓣 E G7 b26 Δ0 (at42 bs)
+          d42 =
               Typed.g-pre
               𝓤
               H
@@ -9296,10 +7460,10 @@ module _ (claims· : Claims) where
               E
               G7
               G8
-              b30
+              b26
               Δ0
               (Typed.give (s6 bs))
-              (at49 bs)
+              (at41 bs)
               (Know.g-sl-known
               𝓤
               H
@@ -9325,10 +7489,10 @@ module _ (claims· : Claims) where
               6))
               Path'.refl
               tt)
-              d49
+              d41
 
-          d51 : Typed.Typed 𝓤 H A 𝓣 E G6 b30 Δ0 (at51 bs)
-          d51 =
+          d43 : Typed.Typed 𝓤 H A 𝓣 E G6 b26 Δ0 (at43 bs)
+          d43 =
               Typed.g-pre
               𝓤
               H
@@ -9338,10 +7502,10 @@ module _ (claims· : Claims) where
               E
               G6
               G7
-              b30
+              b26
               Δ0
               (Typed.give (s5 bs))
-              (at50 bs)
+              (at42 bs)
               (Know.g-sl-known
               𝓤
               H
@@ -9367,10 +7531,10 @@ module _ (claims· : Claims) where
               5))
               Path'.refl
               tt)
-              d50
+              d42
 
-          d52 : Typed.Typed 𝓤 H A 𝓣 E G5 b30 Δ0 (at52 bs)
-          d52 =
+          d44 : Typed.Typed 𝓤 H A 𝓣 E G5 b26 Δ0 (at44 bs)
+          d44 =
               Typed.g-pre
               𝓤
               H
@@ -9380,10 +7544,10 @@ module _ (claims· : Claims) where
               E
               G5
               G6
-              b30
+              b26
               Δ0
               (Typed.give (s4 bs))
-              (at51 bs)
+              (at43 bs)
               (Know.g-sl-known
               𝓤
               H
@@ -9409,10 +7573,10 @@ module _ (claims· : Claims) where
               4))
               Path'.refl
               tt)
-              d51
+              d43
 
-          d53 : Typed.Typed 𝓤 H A 𝓣 E G4 b30 Δ0 (at53 bs)
-          d53 =
+          d45 : Typed.Typed 𝓤 H A 𝓣 E G4 b26 Δ0 (at45 bs)
+          d45 =
               Typed.g-pre
               𝓤
               H
@@ -9422,10 +7586,10 @@ module _ (claims· : Claims) where
               E
               G4
               G5
-              b30
+              b26
               Δ0
               (Typed.give (s3 bs))
-              (at52 bs)
+              (at44 bs)
               (Know.g-shs-known
               𝓤
               H
@@ -9451,10 +7615,10 @@ module _ (claims· : Claims) where
               3))
               Path'.refl
               tt)
-              d52
+              d44
 
-          d54 : Typed.Typed 𝓤 H A 𝓣 E G3 b30 Δ0 (at54 bs)
-          d54 =
+          d46 : Typed.Typed 𝓤 H A 𝓣 E G3 b26 Δ0 (at46 bs)
+          d46 =
               Typed.g-pre
               𝓤
               H
@@ -9464,10 +7628,10 @@ module _ (claims· : Claims) where
               E
               G3
               G4
-              b30
+              b26
               Δ0
               (Typed.give (s2 bs))
-              (at53 bs)
+              (at45 bs)
               (Know.g-shs-known
               𝓤
               H
@@ -9493,10 +7657,10 @@ module _ (claims· : Claims) where
               2))
               Path'.refl
               tt)
-              d53
+              d45
 
-          d55 : Typed.Typed 𝓤 H A 𝓣 E G2 b30 Δ0 (at55 bs)
-          d55 =
+          d47 : Typed.Typed 𝓤 H A 𝓣 E G2 b26 Δ0 (at47 bs)
+          d47 =
               Typed.g-pre
               𝓤
               H
@@ -9506,10 +7670,10 @@ module _ (claims· : Claims) where
               E
               G2
               G3
-              b30
+              b26
               Δ0
               (Typed.give (s1 bs))
-              (at54 bs)
+              (at46 bs)
               (Know.g-shs-known
               𝓤
               H
@@ -9535,10 +7699,10 @@ module _ (claims· : Claims) where
               1))
               Path'.refl
               tt)
-              d54
+              d46
 
-          d56 : Typed.Typed 𝓤 H A 𝓣 E G0 b30 Δ0 (at56 bs)
-          d56 =
+          d48 : Typed.Typed 𝓤 H A 𝓣 E G0 b26 Δ0 (at48 bs)
+          d48 =
               Typed.g-pre
               𝓤
               H
@@ -9548,10 +7712,10 @@ module _ (claims· : Claims) where
               E
               G0
               G2
-              b30
+              b26
               Δ0
               (Typed.give (s0 bs))
-              (at55 bs)
+              (at47 bs)
               (Know.g-shs-known
               𝓤
               H
@@ -9577,7 +7741,7 @@ module _ (claims· : Claims) where
               0))
               Path'.refl
               tt)
-              d55
+              d47
 
           pub typed :
               Typed.Typed
@@ -9586,42 +7750,39 @@ module _ (claims· : Claims) where
               A
               𝓣
               E
-              (Function.Γin 9 ps r xs m κs qs)
-              b30
-              (Function.Δret 9 ps r xs m κs qs)
+              (Function.Γin 8 ps r xs m κs qs)
+              b26
+              (Function.Δret 8 ps r xs m κs qs)
               (Φ bs)
-          typed = d56
+          typed = d48
 
-      module _ (κs : Lifetimes.Lfts 9) where
+      module _ (κs : Lifetimes.Lfts 8) where
         pub record Args : Type 0 where
-          pub text : Kinds.Den {n = 9}
+          pub text : Kinds.Den {n = 8}
               κs
               (ShrSlice.pShrS (Referent.rtF (Referent.fInt Syntax.w8)) 0 tt)
-          pub ends : Kinds.Den {n = 9}
+          pub ends : Kinds.Den {n = 8}
               κs
               (ShrSlice.pShrS (Referent.rtF (Referent.fInt Syntax.w64)) 1 tt)
-          pub m : Kinds.Den {n = 9} κs (Num.pNum Syntax.w64)
-          pub blocks : Kinds.Den {n = 9}
+          pub m : Kinds.Den {n = 8} κs (Num.pNum Syntax.w64)
+          pub blocks : Kinds.Den {n = 8}
               κs
               (ShrSlice.pShrS (Referent.rtF (Referent.fInt Syntax.w64)) 2 tt)
-          pub starts : Kinds.Den {n = 9}
+          pub starts : Kinds.Den {n = 8}
               κs
               (ShrSlice.pShrS (Referent.rtF (Referent.fInt Syntax.w8)) 3 tt)
-          pub owner : Kinds.Den {n = 9}
+          pub owner : Kinds.Den {n = 8}
               κs
               (MutSlice.pMutS (Referent.rtF (Referent.fInt Syntax.w64)) 4 tt)
-          pub stack : Kinds.Den {n = 9}
+          pub stack : Kinds.Den {n = 8}
               κs
               (MutSlice.pMutS (Referent.rtF (Referent.fInt Syntax.w8)) 5 tt)
-          pub cur : Kinds.Den {n = 9}
+          pub cur : Kinds.Den {n = 8}
               κs
               (MutSlice.pMutS (Referent.rtF (Referent.fInt Syntax.w8)) 6 tt)
-          pub next : Kinds.Den {n = 9}
+          pub next : Kinds.Den {n = 8}
               κs
               (MutSlice.pMutS (Referent.rtF (Referent.fInt Syntax.w8)) 7 tt)
-          pub clean : Kinds.Den {n = 9}
-              κs
-              (MutSlice.pMutS (Referent.rtF (Referent.fInt Syntax.w8)) 8 tt)
 
         abbrev pub dens : (a : Args) → Kinds.Dens κs ps
         dens = λ a. (
@@ -9630,10 +7791,7 @@ module _ (claims· : Claims) where
             a .ends,
             (
               a .m,
-              (
-                a .blocks,
-                (a .starts, (a .owner, (a .stack, (a .cur, (a .next, (a .clean, tt)))))),
-              ),
+              (a .blocks, (a .starts, (a .owner, (a .stack, (a .cur, (a .next, tt)))))),
             ),
           ),
         )
@@ -9643,11 +7801,11 @@ module _ (claims· : Claims) where
             pub m : Val.Fits Syntax.w64 (args· .m)
 
       abbrev pub m0 :
-          (κs : Lifetimes.Lfts 9) → (args : Args κs) → (blocks : List.List Nat.ℕ) → Typed.Mo T0
+          (κs : Lifetimes.Lfts 8) → (args : Args κs) → (blocks : List.List Nat.ℕ) → Typed.Mo T0
       m0 = λ κs args blocks. (tt, Enter.partsP κs 1 ps xs (dens κs args))
 
       abbrev W0 :
-          (κs : Lifetimes.Lfts 9) → (args : Args κs) → (blocks : List.List Nat.ℕ) → Typed.Want O0
+          (κs : Lifetimes.Lfts 8) → (args : Args κs) → (blocks : List.List Nat.ℕ) → Typed.Want O0
       W0 = λ κs args blocks. (
         λ u. ⊥,
         tt,
@@ -9657,14 +7815,14 @@ module _ (claims· : Claims) where
             (dens κs args)
             (Function.resV r κs (u .0))
             (Clauses.atExit
-            (Kinds.endedOf 9 ps r)
+            (Kinds.endedOf 8 ps r)
             κs
             (dens κs args)
             (Enter.lastsP κs 1 ps xs (dens κs args) (u .1))),
       )
 
       pub record Start : Type 0 where
-        pub κs : Lifetimes.Lfts 9
+        pub κs : Lifetimes.Lfts 8
         pub args : Args κs
         pub blocks : List.List Nat.ℕ
         pub good : Kinds.GoodsP κs ps (dens κs args)
@@ -9845,6 +8003,13 @@ module _ (claims· : Claims) where
         pub before : After-slice-known3
         pub slice-known4 : After-slice-known4·own before
 
+      abbrev pub Need-window-requires : Type 0
+      Need-window-requires =
+          (c : After-slice-known4) →
+          s8
+          (c .before .before .before .before .before .before .before .before .blocks) .asks
+          (m8 (c .before) (c .slice-known4 .given))
+
       abbrev pub m9 :
           (before : After-slice-known4) →
           (given : s8
@@ -9858,293 +8023,234 @@ module _ (claims· : Claims) where
           given
 
       module _ (before· : After-slice-known4) where
-        pub record After-slice-known5·own : Type 0 where
-          pub given : s8
-              (before· .before .before .before .before .before .before .before .before .blocks)
-              .gives
-              (m8 (before· .before) (before· .slice-known4 .given))
-
-      pub record After-slice-known5 : Type 0 where
-        pub before : After-slice-known4
-        pub slice-known5 : After-slice-known5·own before
-
-      abbrev pub Need-window-requires : Type 0
-      Need-window-requires =
-          (c : After-slice-known5) →
-          s9
-          (c .before .before .before .before .before .before .before .before .before .blocks) .asks
-          (m9 (c .before) (c .slice-known5 .given))
-
-      abbrev pub m10 :
-          (before : After-slice-known5) → (given : s9
-          (before .before .before .before .before .before .before .before .before .before .blocks)
-          .gives (m9 (before .before) (before .slice-known5 .given))) → Typed.Mo T11
-      m10 =
-          λ before given. s9
-          (before .before .before .before .before .before .before .before .before .before .blocks)
-          .next (m9 (before .before) (before .slice-known5 .given)) given
-
-      module _ (before· : After-slice-known5) where
         abbrev pub After-window·own : Type 0
         After-window·own =
             Called.Called
             ps·0
             r·0
             (claims· .1)
-            T10
+            T9
             tt
-            (m9 (before· .before) (before· .slice-known5 .given))
+            (m8 (before· .before) (before· .slice-known4 .given))
 
       pub record After-window : Type 0 where
-        pub before : After-slice-known5
+        pub before : After-slice-known4
         pub window : After-window·own before
 
       abbrev pub After-window·gave :
-          (c : After-window) → s9
-          (c .before .before .before .before .before .before .before .before .before .before
-          .blocks) .gives (m9 (c .before .before) (c .before .slice-known5 .given))
+          (c : After-window) → s8
+          (c .before .before .before .before .before .before .before .before .before .blocks)
+          .gives (m8 (c .before .before) (c .before .slice-known4 .given))
       After-window·gave =
           λ c. Called.given
           ps·0
           r·0
           (claims· .1)
-          T10
+          T9
           tt
-          (m9 (c .before .before) (c .before .slice-known5 .given))
+          (m8 (c .before .before) (c .before .slice-known4 .given))
           (c .window)
 
+      abbrev pub m10 :
+          (before : After-slice-known4) →
+          (given : s8
+          (before .before .before .before .before .before .before .before .before .blocks) .gives
+          (m8 (before .before) (before .slice-known4 .given))) →
+          Typed.Mo T11
+      m10 =
+          λ before given. s9
+          (before .before .before .before .before .before .before .before .before .blocks)
+          (m9 before given)
+
       abbrev pub m11 :
-          (before : After-slice-known5) → (given : s9
-          (before .before .before .before .before .before .before .before .before .before .blocks)
-          .gives (m9 (before .before) (before .slice-known5 .given))) → Typed.Mo T12
+          (before : After-slice-known4) →
+          (given : s8
+          (before .before .before .before .before .before .before .before .before .blocks) .gives
+          (m8 (before .before) (before .slice-known4 .given))) →
+          Typed.Mo T12
       m11 =
           λ before given. s10
-          (before .before .before .before .before .before .before .before .before .before .blocks)
+          (before .before .before .before .before .before .before .before .before .blocks)
           (m10 before given)
 
       abbrev pub m12 :
-          (before : After-slice-known5) → (given : s9
+          (before : After-window) → (given : s12
           (before .before .before .before .before .before .before .before .before .before .blocks)
-          .gives (m9 (before .before) (before .slice-known5 .given))) → Typed.Mo T13
+          .gives (m11 (before .before) (After-window·gave before))) → Typed.Mo T14
       m12 =
-          λ before given. s11
+          λ before given. s12
           (before .before .before .before .before .before .before .before .before .before .blocks)
-          (m11 before given)
+          .next (m11 (before .before) (After-window·gave before)) given
 
       abbrev pub m13 :
-          (before : After-window) → (given : s13
-          (before .before .before .before .before .before .before .before .before .before .before
-          .blocks) .gives (m12 (before .before) (After-window·gave before))) → Typed.Mo T15
+          (before : After-window) → (given : s12
+          (before .before .before .before .before .before .before .before .before .before .blocks)
+          .gives (m11 (before .before) (After-window·gave before))) → Typed.Mo T15
       m13 =
           λ before given. s13
-          (before .before .before .before .before .before .before .before .before .before .before
-          .blocks) .next (m12 (before .before) (After-window·gave before)) given
-
-      abbrev pub m14 :
-          (before : After-window) → (given : s13
-          (before .before .before .before .before .before .before .before .before .before .before
-          .blocks) .gives (m12 (before .before) (After-window·gave before))) → Typed.Mo T16
-      m14 =
-          λ before given. s14
-          (before .before .before .before .before .before .before .before .before .before .before
-          .blocks) .next (m13 before given)
+          (before .before .before .before .before .before .before .before .before .before .blocks)
+          .next (m12 before given)
 
       module _ (before· : After-window) where
         pub record After-rebuild-lines-arg·own : Type 0 where
-          pub given : s13
+          pub given : s12
               (before· .before .before .before .before .before .before .before .before .before
-              .before .blocks) .gives
-              (m12 (before· .before) (After-window·gave before·))
+              .blocks) .gives
+              (m11 (before· .before) (After-window·gave before·))
 
       pub record After-rebuild-lines-arg : Type 0 where
         pub before : After-window
         pub rebuild-lines-arg : After-rebuild-lines-arg·own before
 
-      abbrev pub m15 :
-          (before : After-rebuild-lines-arg) → (given : s16
+      abbrev pub m14 :
+          (before : After-rebuild-lines-arg) → (given : s15
           (before .before .before .before .before .before .before .before .before .before .before
-          .before .blocks) .gives (m14 (before .before) (before .rebuild-lines-arg .given))) →
-          Typed.Mo T18
+          .blocks) .gives (m13 (before .before) (before .rebuild-lines-arg .given))) → Typed.Mo T17
+      m14 =
+          λ before given. s15
+          (before .before .before .before .before .before .before .before .before .before .before
+          .blocks) .next (m13 (before .before) (before .rebuild-lines-arg .given)) given
+
+      abbrev pub m15 :
+          (before : After-rebuild-lines-arg) → (given : s15
+          (before .before .before .before .before .before .before .before .before .before .before
+          .blocks) .gives (m13 (before .before) (before .rebuild-lines-arg .given))) → Typed.Mo T18
       m15 =
           λ before given. s16
           (before .before .before .before .before .before .before .before .before .before .before
-          .before .blocks) .next (m14 (before .before) (before .rebuild-lines-arg .given)) given
-
-      abbrev pub m16 :
-          (before : After-rebuild-lines-arg) → (given : s16
-          (before .before .before .before .before .before .before .before .before .before .before
-          .before .blocks) .gives (m14 (before .before) (before .rebuild-lines-arg .given))) →
-          Typed.Mo T19
-      m16 =
-          λ before given. s17
-          (before .before .before .before .before .before .before .before .before .before .before
-          .before .blocks) .next (m15 before given)
+          .blocks) .next (m14 before given)
 
       module _ (before· : After-rebuild-lines-arg) where
         pub record After-rebuild-lines-arg2·own : Type 0 where
-          pub given : s16
+          pub given : s15
               (before· .before .before .before .before .before .before .before .before .before
-              .before .before .blocks) .gives
-              (m14 (before· .before) (before· .rebuild-lines-arg .given))
+              .before .blocks) .gives
+              (m13 (before· .before) (before· .rebuild-lines-arg .given))
 
       pub record After-rebuild-lines-arg2 : Type 0 where
         pub before : After-rebuild-lines-arg
         pub rebuild-lines-arg2 : After-rebuild-lines-arg2·own before
 
-      abbrev pub m17 :
-          (before : After-rebuild-lines-arg2) → (given : s19
+      abbrev pub m16 :
+          (before : After-rebuild-lines-arg2) → (given : s18
           (before .before .before .before .before .before .before .before .before .before .before
-          .before .before .blocks) .gives (m16 (before .before)
-          (before .rebuild-lines-arg2 .given))) → Typed.Mo T21
+          .before .blocks) .gives (m15 (before .before) (before .rebuild-lines-arg2 .given))) →
+          Typed.Mo T20
+      m16 =
+          λ before given. s18
+          (before .before .before .before .before .before .before .before .before .before .before
+          .before .blocks) .next (m15 (before .before) (before .rebuild-lines-arg2 .given)) given
+
+      abbrev pub m17 :
+          (before : After-rebuild-lines-arg2) → (given : s18
+          (before .before .before .before .before .before .before .before .before .before .before
+          .before .blocks) .gives (m15 (before .before) (before .rebuild-lines-arg2 .given))) →
+          Typed.Mo T21
       m17 =
           λ before given. s19
           (before .before .before .before .before .before .before .before .before .before .before
-          .before .before .blocks) .next (m16 (before .before) (before .rebuild-lines-arg2 .given))
-          given
-
-      abbrev pub m18 :
-          (before : After-rebuild-lines-arg2) → (given : s19
-          (before .before .before .before .before .before .before .before .before .before .before
-          .before .before .blocks) .gives (m16 (before .before)
-          (before .rebuild-lines-arg2 .given))) → Typed.Mo T22
-      m18 =
-          λ before given. s20
-          (before .before .before .before .before .before .before .before .before .before .before
-          .before .before .blocks) .next (m17 before given)
+          .before .blocks) .next (m16 before given)
 
       module _ (before· : After-rebuild-lines-arg2) where
         pub record After-rebuild-lines-arg3·own : Type 0 where
-          pub given : s19
+          pub given : s18
               (before· .before .before .before .before .before .before .before .before .before
-              .before .before .before .blocks) .gives
-              (m16 (before· .before) (before· .rebuild-lines-arg2 .given))
+              .before .before .blocks) .gives
+              (m15 (before· .before) (before· .rebuild-lines-arg2 .given))
 
       pub record After-rebuild-lines-arg3 : Type 0 where
         pub before : After-rebuild-lines-arg2
         pub rebuild-lines-arg3 : After-rebuild-lines-arg3·own before
 
-      abbrev pub m19 :
-          (before : After-rebuild-lines-arg3) → (given : s22
+      abbrev pub m18 :
+          (before : After-rebuild-lines-arg3) → (given : s21
           (before .before .before .before .before .before .before .before .before .before .before
-          .before .before .before .blocks) .gives (m18 (before .before)
+          .before .before .blocks) .gives (m17 (before .before)
+          (before .rebuild-lines-arg3 .given))) → Typed.Mo T23
+      m18 =
+          λ before given. s21
+          (before .before .before .before .before .before .before .before .before .before .before
+          .before .before .blocks) .next (m17 (before .before) (before .rebuild-lines-arg3 .given))
+          given
+
+      abbrev pub m19 :
+          (before : After-rebuild-lines-arg3) → (given : s21
+          (before .before .before .before .before .before .before .before .before .before .before
+          .before .before .blocks) .gives (m17 (before .before)
           (before .rebuild-lines-arg3 .given))) → Typed.Mo T24
       m19 =
           λ before given. s22
           (before .before .before .before .before .before .before .before .before .before .before
-          .before .before .before .blocks) .next (m18 (before .before)
-          (before .rebuild-lines-arg3 .given)) given
-
-      abbrev pub m20 :
-          (before : After-rebuild-lines-arg3) → (given : s22
-          (before .before .before .before .before .before .before .before .before .before .before
-          .before .before .before .blocks) .gives (m18 (before .before)
-          (before .rebuild-lines-arg3 .given))) → Typed.Mo T25
-      m20 =
-          λ before given. s23
-          (before .before .before .before .before .before .before .before .before .before .before
-          .before .before .before .blocks) .next (m19 before given)
+          .before .before .blocks) .next (m18 before given)
 
       module _ (before· : After-rebuild-lines-arg3) where
         pub record After-rebuild-lines-arg4·own : Type 0 where
-          pub given : s22
+          pub given : s21
               (before· .before .before .before .before .before .before .before .before .before
-              .before .before .before .before .blocks) .gives
-              (m18 (before· .before) (before· .rebuild-lines-arg3 .given))
+              .before .before .before .blocks) .gives
+              (m17 (before· .before) (before· .rebuild-lines-arg3 .given))
 
       pub record After-rebuild-lines-arg4 : Type 0 where
         pub before : After-rebuild-lines-arg3
         pub rebuild-lines-arg4 : After-rebuild-lines-arg4·own before
 
-      abbrev pub m21 :
-          (before : After-rebuild-lines-arg4) → (given : s25
+      abbrev pub m20 :
+          (before : After-rebuild-lines-arg4) → (given : s24
           (before .before .before .before .before .before .before .before .before .before .before
-          .before .before .before .before .blocks) .gives (m20 (before .before)
-          (before .rebuild-lines-arg4 .given))) → Typed.Mo T27
-      m21 =
-          λ before given. s25
+          .before .before .before .blocks) .gives (m19 (before .before)
+          (before .rebuild-lines-arg4 .given))) → Typed.Mo T26
+      m20 =
+          λ before given. s24
           (before .before .before .before .before .before .before .before .before .before .before
-          .before .before .before .before .blocks) .next (m20 (before .before)
+          .before .before .before .blocks) .next (m19 (before .before)
           (before .rebuild-lines-arg4 .given)) given
 
-      abbrev pub m22 :
-          (before : After-rebuild-lines-arg4) → (given : s25
-          (before .before .before .before .before .before .before .before .before .before .before
-          .before .before .before .before .blocks) .gives (m20 (before .before)
-          (before .rebuild-lines-arg4 .given))) → Typed.Mo T28
-      m22 =
-          λ before given. s26
-          (before .before .before .before .before .before .before .before .before .before .before
-          .before .before .before .before .blocks) .next (m21 before given)
-
       module _ (before· : After-rebuild-lines-arg4) where
-        pub record After-rebuild-lines-arg5·own : Type 0 where
-          pub given : s25
-              (before· .before .before .before .before .before .before .before .before .before
-              .before .before .before .before .before .blocks) .gives
-              (m20 (before· .before) (before· .rebuild-lines-arg4 .given))
-
-      pub record After-rebuild-lines-arg5 : Type 0 where
-        pub before : After-rebuild-lines-arg4
-        pub rebuild-lines-arg5 : After-rebuild-lines-arg5·own before
-
-      abbrev pub m23 :
-          (before : After-rebuild-lines-arg5) → (given : s28
-          (before .before .before .before .before .before .before .before .before .before .before
-          .before .before .before .before .before .blocks) .gives (m22 (before .before)
-          (before .rebuild-lines-arg5 .given))) → Typed.Mo T30
-      m23 =
-          λ before given. s28
-          (before .before .before .before .before .before .before .before .before .before .before
-          .before .before .before .before .before .blocks) .next (m22 (before .before)
-          (before .rebuild-lines-arg5 .given)) given
-
-      module _ (before· : After-rebuild-lines-arg5) where
         pub record After-recs·own : Type 0 where
-          pub given : s28
+          pub given : s24
               (before· .before .before .before .before .before .before .before .before .before
-              .before .before .before .before .before .before .blocks) .gives
-              (m22 (before· .before) (before· .rebuild-lines-arg5 .given))
+              .before .before .before .before .blocks) .gives
+              (m19 (before· .before) (before· .rebuild-lines-arg4 .given))
 
       pub record After-recs : Type 0 where
-        pub before : After-rebuild-lines-arg5
+        pub before : After-rebuild-lines-arg4
         pub recs : After-recs·own before
 
       abbrev pub Need-slice-aggregate-rebuild-lines : Type 0
       Need-slice-aggregate-rebuild-lines =
           (c : After-recs) →
-          Relend.CountIs T30 23 24 (λ x. x) (λ u. 64) (m23 (c .before) (c .recs .given))
+          Relend.CountIs T26 20 21 (λ x. x) (λ u. 64) (m20 (c .before) (c .recs .given))
 
-      abbrev pub m24 :
-          (before : After-rebuild-lines-arg5) → (given : s28
+      abbrev pub m21 :
+          (before : After-rebuild-lines-arg4) → (given : s24
           (before .before .before .before .before .before .before .before .before .before .before
-          .before .before .before .before .before .blocks) .gives (m22 (before .before)
-          (before .rebuild-lines-arg5 .given))) → Typed.Mo T31
-      m24 =
-          λ before given. s29
+          .before .before .before .blocks) .gives (m19 (before .before)
+          (before .rebuild-lines-arg4 .given))) → Typed.Mo T27
+      m21 =
+          λ before given. s25
           (before .before .before .before .before .before .before .before .before .before .before
-          .before .before .before .before .before .blocks) .next (m23 before given)
+          .before .before .before .blocks) .next (m20 before given)
 
       abbrev pub Need-rebuild-lines-requires : Type 0
       Need-rebuild-lines-requires =
-          (c : After-recs) → s30
+          (c : After-recs) → s26
           (c .before .before .before .before .before .before .before .before .before .before
-          .before .before .before .before .before .before .blocks) .asks (m24 (c .before)
-          (c .recs .given))
+          .before .before .before .before .blocks) .asks (m21 (c .before) (c .recs .given))
 
-      abbrev pub m25 :
-          (before : After-recs) → (given : s30
+      abbrev pub m22 :
+          (before : After-recs) → (given : s26
           (before .before .before .before .before .before .before .before .before .before .before
-          .before .before .before .before .before .before .blocks) .gives (m24 (before .before)
-          (before .recs .given))) → Typed.Mo T32
-      m25 =
-          λ before given. s30
+          .before .before .before .before .blocks) .gives (m21 (before .before)
+          (before .recs .given))) → Typed.Mo T28
+      m22 =
+          λ before given. s26
           (before .before .before .before .before .before .before .before .before .before .before
-          .before .before .before .before .before .before .blocks) .next (m24 (before .before)
+          .before .before .before .before .blocks) .next (m21 (before .before)
           (before .recs .given)) given
 
       module _ (before· : After-recs) where
         abbrev pub After-rebuild-lines·own : Type 0
-        After-rebuild-lines·own = Called.Called ps·1 r·1 (claims· .3) T31 (
+        After-rebuild-lines·own = Called.Called ps·1 r·1 (claims· .3) T27 (
           record {
             pos = 1;
             ty = Syntax.tyRef (Syntax.named 0) Syntax.imm (Syntax.tyInt Syntax.w8);
@@ -10172,45 +8278,38 @@ module _ (claims· : Claims) where
                   },
                   (
                     record {
-                      pos = 14;
+                      pos = 13;
                       ty = Syntax.tyRef Syntax.erased Syntax.mut (Syntax.tyInt Syntax.w64);
                       ref = λ x. x;
                     },
                     (
                       record {
-                        pos = 16;
+                        pos = 15;
                         ty = Syntax.tyRef Syntax.erased Syntax.mut (Syntax.tyInt Syntax.w8);
                         ref = λ x. x;
                       },
                       (
                         record {
-                          pos = 18;
+                          pos = 17;
                           ty = Syntax.tyRef Syntax.erased Syntax.mut (Syntax.tyInt Syntax.w8);
                           ref = λ x. x;
                         },
                         (
                           record {
-                            pos = 20;
+                            pos = 19;
                             ty = Syntax.tyRef Syntax.erased Syntax.mut (Syntax.tyInt Syntax.w8);
                             ref = λ x. x;
                           },
                           (
                             record {
-                              pos = 22;
-                              ty = Syntax.tyRef Syntax.erased Syntax.mut (Syntax.tyInt Syntax.w8);
+                              pos = 21;
+                              ty = Syntax.tyRef
+                                  Syntax.erased
+                                  Syntax.mut
+                                  Elem.ty;
                               ref = λ x. x;
                             },
-                            (
-                              record {
-                                pos = 24;
-                                ty = Syntax.tyRef
-                                    Syntax.erased
-                                    Syntax.mut
-                                    Elem.ty;
-                                ref = λ x. x;
-                              },
-                              tt,
-                            ),
+                            tt,
                           ),
                         ),
                       ),
@@ -10220,18 +8319,18 @@ module _ (claims· : Claims) where
               ),
             ),
           ),
-        ) (m24 (before· .before) (before· .recs .given))
+        ) (m21 (before· .before) (before· .recs .given))
 
       pub record After-rebuild-lines : Type 0 where
         pub before : After-recs
         pub rebuild-lines : After-rebuild-lines·own before
 
       abbrev pub After-rebuild-lines·gave :
-          (c : After-rebuild-lines) → s30
+          (c : After-rebuild-lines) → s26
           (c .before .before .before .before .before .before .before .before .before .before
-          .before .before .before .before .before .before .before .blocks) .gives (m24
-          (c .before .before) (c .before .recs .given))
-      After-rebuild-lines·gave = λ c. Called.given ps·1 r·1 (claims· .3) T31 (
+          .before .before .before .before .before .blocks) .gives (m21 (c .before .before)
+          (c .before .recs .given))
+      After-rebuild-lines·gave = λ c. Called.given ps·1 r·1 (claims· .3) T27 (
         record {
           pos = 1;
           ty = Syntax.tyRef (Syntax.named 0) Syntax.imm (Syntax.tyInt Syntax.w8);
@@ -10259,45 +8358,38 @@ module _ (claims· : Claims) where
                 },
                 (
                   record {
-                    pos = 14;
+                    pos = 13;
                     ty = Syntax.tyRef Syntax.erased Syntax.mut (Syntax.tyInt Syntax.w64);
                     ref = λ x. x;
                   },
                   (
                     record {
-                      pos = 16;
+                      pos = 15;
                       ty = Syntax.tyRef Syntax.erased Syntax.mut (Syntax.tyInt Syntax.w8);
                       ref = λ x. x;
                     },
                     (
                       record {
-                        pos = 18;
+                        pos = 17;
                         ty = Syntax.tyRef Syntax.erased Syntax.mut (Syntax.tyInt Syntax.w8);
                         ref = λ x. x;
                       },
                       (
                         record {
-                          pos = 20;
+                          pos = 19;
                           ty = Syntax.tyRef Syntax.erased Syntax.mut (Syntax.tyInt Syntax.w8);
                           ref = λ x. x;
                         },
                         (
                           record {
-                            pos = 22;
-                            ty = Syntax.tyRef Syntax.erased Syntax.mut (Syntax.tyInt Syntax.w8);
+                            pos = 21;
+                            ty = Syntax.tyRef
+                                Syntax.erased
+                                Syntax.mut
+                                Elem.ty;
                             ref = λ x. x;
                           },
-                          (
-                            record {
-                              pos = 24;
-                              ty = Syntax.tyRef
-                                  Syntax.erased
-                                  Syntax.mut
-                                  Elem.ty;
-                              ref = λ x. x;
-                            },
-                            tt,
-                          ),
+                          tt,
                         ),
                       ),
                     ),
@@ -10307,401 +8399,331 @@ module _ (claims· : Claims) where
             ),
           ),
         ),
-      ) (m24 (c .before .before) (c .before .recs .given)) (c .rebuild-lines)
+      ) (m21 (c .before .before) (c .before .recs .given)) (c .rebuild-lines)
 
-      abbrev pub m26 :
-          (before : After-rebuild-lines) → (given : s32
+      abbrev pub m23 :
+          (before : After-rebuild-lines) → (given : s28
           (before .before .before .before .before .before .before .before .before .before .before
-          .before .before .before .before .before .before .before .blocks) .gives (m25
-          (before .before) (After-rebuild-lines·gave before))) → Typed.Mo T34
-      m26 =
-          λ before given. s32
+          .before .before .before .before .before .blocks) .gives (m22 (before .before)
+          (After-rebuild-lines·gave before))) → Typed.Mo T30
+      m23 =
+          λ before given. s28
           (before .before .before .before .before .before .before .before .before .before .before
-          .before .before .before .before .before .before .before .blocks) .next (m25
-          (before .before) (After-rebuild-lines·gave before)) given
+          .before .before .before .before .before .blocks) .next (m22 (before .before)
+          (After-rebuild-lines·gave before)) given
 
       module _ (before· : After-rebuild-lines) where
         pub record After-owner·own : Type 0 where
-          pub given : s32
+          pub given : s28
               (before· .before .before .before .before .before .before .before .before .before
-              .before .before .before .before .before .before .before .before .blocks) .gives
-              (m25 (before· .before) (After-rebuild-lines·gave before·))
+              .before .before .before .before .before .before .blocks) .gives
+              (m22 (before· .before) (After-rebuild-lines·gave before·))
 
       pub record After-owner : Type 0 where
         pub before : After-rebuild-lines
         pub owner : After-owner·own before
 
-      abbrev pub m27 :
-          (before : After-owner) → (given : s33
+      abbrev pub m24 :
+          (before : After-owner) → (given : s29
           (before .before .before .before .before .before .before .before .before .before .before
-          .before .before .before .before .before .before .before .before .blocks) .gives (m26
-          (before .before) (before .owner .given))) → Typed.Mo T35
-      m27 =
-          λ before given. s33
+          .before .before .before .before .before .before .blocks) .gives (m23 (before .before)
+          (before .owner .given))) → Typed.Mo T31
+      m24 =
+          λ before given. s29
           (before .before .before .before .before .before .before .before .before .before .before
-          .before .before .before .before .before .before .before .before .blocks) .next (m26
-          (before .before) (before .owner .given)) given
+          .before .before .before .before .before .before .blocks) .next (m23 (before .before)
+          (before .owner .given)) given
 
       module _ (before· : After-owner) where
+        pub record After-slice-known5·own : Type 0 where
+          pub given : s29
+              (before· .before .before .before .before .before .before .before .before .before
+              .before .before .before .before .before .before .before .blocks) .gives
+              (m23 (before· .before) (before· .owner .given))
+
+      pub record After-slice-known5 : Type 0 where
+        pub before : After-owner
+        pub slice-known5 : After-slice-known5·own before
+
+      abbrev pub m25 :
+          (before : After-slice-known5) → (given : s32
+          (before .before .before .before .before .before .before .before .before .before .before
+          .before .before .before .before .before .before .before .blocks) .gives (m24
+          (before .before) (before .slice-known5 .given))) → Typed.Mo T34
+      m25 =
+          λ before given. s32
+          (before .before .before .before .before .before .before .before .before .before .before
+          .before .before .before .before .before .before .before .blocks) .next (m24
+          (before .before) (before .slice-known5 .given)) given
+
+      module _ (before· : After-slice-known5) where
+        pub record After-stack·own : Type 0 where
+          pub given : s32
+              (before· .before .before .before .before .before .before .before .before .before
+              .before .before .before .before .before .before .before .before .blocks) .gives
+              (m24 (before· .before) (before· .slice-known5 .given))
+
+      pub record After-stack : Type 0 where
+        pub before : After-slice-known5
+        pub stack : After-stack·own before
+
+      abbrev pub m26 :
+          (before : After-stack) → (given : s33
+          (before .before .before .before .before .before .before .before .before .before .before
+          .before .before .before .before .before .before .before .before .blocks) .gives (m25
+          (before .before) (before .stack .given))) → Typed.Mo T35
+      m26 =
+          λ before given. s33
+          (before .before .before .before .before .before .before .before .before .before .before
+          .before .before .before .before .before .before .before .before .blocks) .next (m25
+          (before .before) (before .stack .given)) given
+
+      module _ (before· : After-stack) where
         pub record After-slice-known6·own : Type 0 where
           pub given : s33
               (before· .before .before .before .before .before .before .before .before .before
               .before .before .before .before .before .before .before .before .before .blocks)
               .gives
-              (m26 (before· .before) (before· .owner .given))
+              (m25 (before· .before) (before· .stack .given))
 
       pub record After-slice-known6 : Type 0 where
-        pub before : After-owner
+        pub before : After-stack
         pub slice-known6 : After-slice-known6·own before
 
-      abbrev pub m28 :
+      abbrev pub m27 :
           (before : After-slice-known6) → (given : s36
           (before .before .before .before .before .before .before .before .before .before .before
           .before .before .before .before .before .before .before .before .before .blocks) .gives
-          (m27 (before .before) (before .slice-known6 .given))) → Typed.Mo T38
-      m28 =
+          (m26 (before .before) (before .slice-known6 .given))) → Typed.Mo T38
+      m27 =
           λ before given. s36
           (before .before .before .before .before .before .before .before .before .before .before
           .before .before .before .before .before .before .before .before .before .blocks) .next
-          (m27 (before .before) (before .slice-known6 .given)) given
+          (m26 (before .before) (before .slice-known6 .given)) given
 
       module _ (before· : After-slice-known6) where
-        pub record After-stack·own : Type 0 where
+        pub record After-cur·own : Type 0 where
           pub given : s36
               (before· .before .before .before .before .before .before .before .before .before
               .before .before .before .before .before .before .before .before .before .before
               .blocks) .gives
-              (m27 (before· .before) (before· .slice-known6 .given))
+              (m26 (before· .before) (before· .slice-known6 .given))
 
-      pub record After-stack : Type 0 where
+      pub record After-cur : Type 0 where
         pub before : After-slice-known6
-        pub stack : After-stack·own before
+        pub cur : After-cur·own before
 
-      abbrev pub m29 :
-          (before : After-stack) → (given : s37
+      abbrev pub m28 :
+          (before : After-cur) → (given : s37
           (before .before .before .before .before .before .before .before .before .before .before
           .before .before .before .before .before .before .before .before .before .before .blocks)
-          .gives (m28 (before .before) (before .stack .given))) → Typed.Mo T39
-      m29 =
+          .gives (m27 (before .before) (before .cur .given))) → Typed.Mo T39
+      m28 =
           λ before given. s37
           (before .before .before .before .before .before .before .before .before .before .before
           .before .before .before .before .before .before .before .before .before .before .blocks)
-          .next (m28 (before .before) (before .stack .given)) given
+          .next (m27 (before .before) (before .cur .given)) given
 
-      module _ (before· : After-stack) where
+      module _ (before· : After-cur) where
         pub record After-slice-known7·own : Type 0 where
           pub given : s37
               (before· .before .before .before .before .before .before .before .before .before
               .before .before .before .before .before .before .before .before .before .before
               .before .blocks) .gives
-              (m28 (before· .before) (before· .stack .given))
+              (m27 (before· .before) (before· .cur .given))
 
       pub record After-slice-known7 : Type 0 where
-        pub before : After-stack
+        pub before : After-cur
         pub slice-known7 : After-slice-known7·own before
 
-      abbrev pub m30 :
+      abbrev pub m29 :
           (before : After-slice-known7) → (given : s40
           (before .before .before .before .before .before .before .before .before .before .before
           .before .before .before .before .before .before .before .before .before .before .before
-          .blocks) .gives (m29 (before .before) (before .slice-known7 .given))) → Typed.Mo T42
-      m30 =
+          .blocks) .gives (m28 (before .before) (before .slice-known7 .given))) → Typed.Mo T42
+      m29 =
           λ before given. s40
           (before .before .before .before .before .before .before .before .before .before .before
           .before .before .before .before .before .before .before .before .before .before .before
-          .blocks) .next (m29 (before .before) (before .slice-known7 .given)) given
+          .blocks) .next (m28 (before .before) (before .slice-known7 .given)) given
 
       module _ (before· : After-slice-known7) where
-        pub record After-cur·own : Type 0 where
+        pub record After-next·own : Type 0 where
           pub given : s40
               (before· .before .before .before .before .before .before .before .before .before
               .before .before .before .before .before .before .before .before .before .before
               .before .before .blocks) .gives
-              (m29 (before· .before) (before· .slice-known7 .given))
+              (m28 (before· .before) (before· .slice-known7 .given))
 
-      pub record After-cur : Type 0 where
+      pub record After-next : Type 0 where
         pub before : After-slice-known7
-        pub cur : After-cur·own before
+        pub next : After-next·own before
 
-      abbrev pub m31 :
-          (before : After-cur) → (given : s41
+      abbrev pub m30 :
+          (before : After-next) → (given : s41
           (before .before .before .before .before .before .before .before .before .before .before
           .before .before .before .before .before .before .before .before .before .before .before
-          .before .blocks) .gives (m30 (before .before) (before .cur .given))) → Typed.Mo T43
-      m31 =
+          .before .blocks) .gives (m29 (before .before) (before .next .given))) → Typed.Mo T43
+      m30 =
           λ before given. s41
           (before .before .before .before .before .before .before .before .before .before .before
           .before .before .before .before .before .before .before .before .before .before .before
-          .before .blocks) .next (m30 (before .before) (before .cur .given)) given
+          .before .blocks) .next (m29 (before .before) (before .next .given)) given
 
-      module _ (before· : After-cur) where
+      module _ (before· : After-next) where
         pub record After-slice-known8·own : Type 0 where
           pub given : s41
               (before· .before .before .before .before .before .before .before .before .before
               .before .before .before .before .before .before .before .before .before .before
               .before .before .before .blocks) .gives
-              (m30 (before· .before) (before· .cur .given))
+              (m29 (before· .before) (before· .next .given))
 
       pub record After-slice-known8 : Type 0 where
-        pub before : After-cur
+        pub before : After-next
         pub slice-known8 : After-slice-known8·own before
+
+      abbrev pub m31 :
+          (before : After-slice-known8) → (given : s44
+          (before .before .before .before .before .before .before .before .before .before .before
+          .before .before .before .before .before .before .before .before .before .before .before
+          .before .before .blocks) .gives (m30 (before .before) (before .slice-known8 .given))) →
+          Typed.Mo T46
+      m31 =
+          λ before given. s44
+          (before .before .before .before .before .before .before .before .before .before .before
+          .before .before .before .before .before .before .before .before .before .before .before
+          .before .before .blocks) .next (m30 (before .before) (before .slice-known8 .given)) given
 
       abbrev pub m32 :
           (before : After-slice-known8) → (given : s44
           (before .before .before .before .before .before .before .before .before .before .before
           .before .before .before .before .before .before .before .before .before .before .before
-          .before .before .blocks) .gives (m31 (before .before) (before .slice-known8 .given))) →
-          Typed.Mo T46
+          .before .before .blocks) .gives (m30 (before .before) (before .slice-known8 .given))) →
+          Typed.Mo T48
       m32 =
-          λ before given. s44
+          λ before given. s46
           (before .before .before .before .before .before .before .before .before .before .before
           .before .before .before .before .before .before .before .before .before .before .before
-          .before .before .blocks) .next (m31 (before .before) (before .slice-known8 .given)) given
+          .before .before .blocks) (m31 before given)
+
+      abbrev pub m33 :
+          (before : After-slice-known8) → (given : s44
+          (before .before .before .before .before .before .before .before .before .before .before
+          .before .before .before .before .before .before .before .before .before .before .before
+          .before .before .blocks) .gives (m30 (before .before) (before .slice-known8 .given))) →
+          Typed.Mo T49
+      m33 =
+          λ before given. s47
+          (before .before .before .before .before .before .before .before .before .before .before
+          .before .before .before .before .before .before .before .before .before .before .before
+          .before .before .blocks) (m32 before given)
 
       module _ (before· : After-slice-known8) where
-        pub record After-next·own : Type 0 where
+        pub record After-recs2·own : Type 0 where
           pub given : s44
               (before· .before .before .before .before .before .before .before .before .before
               .before .before .before .before .before .before .before .before .before .before
               .before .before .before .before .blocks) .gives
-              (m31 (before· .before) (before· .slice-known8 .given))
-
-      pub record After-next : Type 0 where
-        pub before : After-slice-known8
-        pub next : After-next·own before
-
-      abbrev pub m33 :
-          (before : After-next) → (given : s45
-          (before .before .before .before .before .before .before .before .before .before .before
-          .before .before .before .before .before .before .before .before .before .before .before
-          .before .before .before .blocks) .gives (m32 (before .before) (before .next .given))) →
-          Typed.Mo T47
-      m33 =
-          λ before given. s45
-          (before .before .before .before .before .before .before .before .before .before .before
-          .before .before .before .before .before .before .before .before .before .before .before
-          .before .before .before .blocks) .next (m32 (before .before) (before .next .given)) given
-
-      module _ (before· : After-next) where
-        pub record After-slice-known9·own : Type 0 where
-          pub given : s45
-              (before· .before .before .before .before .before .before .before .before .before
-              .before .before .before .before .before .before .before .before .before .before
-              .before .before .before .before .before .blocks) .gives
-              (m32 (before· .before) (before· .next .given))
-
-      pub record After-slice-known9 : Type 0 where
-        pub before : After-next
-        pub slice-known9 : After-slice-known9·own before
-
-      abbrev pub m34 :
-          (before : After-slice-known9) → (given : s48
-          (before .before .before .before .before .before .before .before .before .before .before
-          .before .before .before .before .before .before .before .before .before .before .before
-          .before .before .before .before .blocks) .gives (m33 (before .before)
-          (before .slice-known9 .given))) → Typed.Mo T50
-      m34 =
-          λ before given. s48
-          (before .before .before .before .before .before .before .before .before .before .before
-          .before .before .before .before .before .before .before .before .before .before .before
-          .before .before .before .before .blocks) .next (m33 (before .before)
-          (before .slice-known9 .given)) given
-
-      module _ (before· : After-slice-known9) where
-        pub record After-clean·own : Type 0 where
-          pub given : s48
-              (before· .before .before .before .before .before .before .before .before .before
-              .before .before .before .before .before .before .before .before .before .before
-              .before .before .before .before .before .before .blocks) .gives
-              (m33 (before· .before) (before· .slice-known9 .given))
-
-      pub record After-clean : Type 0 where
-        pub before : After-slice-known9
-        pub clean : After-clean·own before
-
-      abbrev pub m35 :
-          (before : After-clean) → (given : s49
-          (before .before .before .before .before .before .before .before .before .before .before
-          .before .before .before .before .before .before .before .before .before .before .before
-          .before .before .before .before .before .blocks) .gives (m34 (before .before)
-          (before .clean .given))) → Typed.Mo T51
-      m35 =
-          λ before given. s49
-          (before .before .before .before .before .before .before .before .before .before .before
-          .before .before .before .before .before .before .before .before .before .before .before
-          .before .before .before .before .before .blocks) .next (m34 (before .before)
-          (before .clean .given)) given
-
-      module _ (before· : After-clean) where
-        pub record After-slice-known10·own : Type 0 where
-          pub given : s49
-              (before· .before .before .before .before .before .before .before .before .before
-              .before .before .before .before .before .before .before .before .before .before
-              .before .before .before .before .before .before .before .blocks) .gives
-              (m34 (before· .before) (before· .clean .given))
-
-      pub record After-slice-known10 : Type 0 where
-        pub before : After-clean
-        pub slice-known10 : After-slice-known10·own before
-
-      abbrev pub m36 :
-          (before : After-slice-known10) → (given : s52
-          (before .before .before .before .before .before .before .before .before .before .before
-          .before .before .before .before .before .before .before .before .before .before .before
-          .before .before .before .before .before .before .blocks) .gives (m35 (before .before)
-          (before .slice-known10 .given))) → Typed.Mo T54
-      m36 =
-          λ before given. s52
-          (before .before .before .before .before .before .before .before .before .before .before
-          .before .before .before .before .before .before .before .before .before .before .before
-          .before .before .before .before .before .before .blocks) .next (m35 (before .before)
-          (before .slice-known10 .given)) given
-
-      abbrev pub m37 :
-          (before : After-slice-known10) → (given : s52
-          (before .before .before .before .before .before .before .before .before .before .before
-          .before .before .before .before .before .before .before .before .before .before .before
-          .before .before .before .before .before .before .blocks) .gives (m35 (before .before)
-          (before .slice-known10 .given))) → Typed.Mo T56
-      m37 =
-          λ before given. s54
-          (before .before .before .before .before .before .before .before .before .before .before
-          .before .before .before .before .before .before .before .before .before .before .before
-          .before .before .before .before .before .before .blocks) (m36 before given)
-
-      abbrev pub m38 :
-          (before : After-slice-known10) → (given : s52
-          (before .before .before .before .before .before .before .before .before .before .before
-          .before .before .before .before .before .before .before .before .before .before .before
-          .before .before .before .before .before .before .blocks) .gives (m35 (before .before)
-          (before .slice-known10 .given))) → Typed.Mo T57
-      m38 =
-          λ before given. s55
-          (before .before .before .before .before .before .before .before .before .before .before
-          .before .before .before .before .before .before .before .before .before .before .before
-          .before .before .before .before .before .before .blocks) (m37 before given)
-
-      module _ (before· : After-slice-known10) where
-        pub record After-recs2·own : Type 0 where
-          pub given : s52
-              (before· .before .before .before .before .before .before .before .before .before
-              .before .before .before .before .before .before .before .before .before .before
-              .before .before .before .before .before .before .before .before .blocks) .gives
-              (m35 (before· .before) (before· .slice-known10 .given))
+              (m30 (before· .before) (before· .slice-known8 .given))
 
       pub record After-recs2 : Type 0 where
-        pub before : After-slice-known10
+        pub before : After-slice-known8
         pub recs2 : After-recs2·own before
 
       abbrev pub Need-same-length : Type 0
       Need-same-length =
-          (c : After-recs2) → MutSlice.SameLen (Row.get 6 (T57 .locals) (m38 (c .before)
+          (c : After-recs2) → MutSlice.SameLen (Row.get 6 (T49 .locals) (m33 (c .before)
           (c .recs2 .given))) (dens
           (c .before .before .before .before .before .before .before .before .before .before
           .before .before .before .before .before .before .before .before .before .before .before
-          .before .before .before .before .before .before .before .κs)
+          .before .before .before .κs)
           (c .before .before .before .before .before .before .before .before .before .before
           .before .before .before .before .before .before .before .before .before .before .before
-          .before .before .before .before .before .before .before .args) .1 .1 .1 .1 .1 .0)
+          .before .before .before .args) .1 .1 .1 .1 .1 .0)
 
       abbrev pub Need-same-length-2 : Type 0
       Need-same-length-2 =
-          (c : After-recs2) → MutSlice.SameLen (Row.get 7 (T57 .locals) (m38 (c .before)
+          (c : After-recs2) → MutSlice.SameLen (Row.get 7 (T49 .locals) (m33 (c .before)
           (c .recs2 .given))) (dens
           (c .before .before .before .before .before .before .before .before .before .before
           .before .before .before .before .before .before .before .before .before .before .before
-          .before .before .before .before .before .before .before .κs)
+          .before .before .before .κs)
           (c .before .before .before .before .before .before .before .before .before .before
           .before .before .before .before .before .before .before .before .before .before .before
-          .before .before .before .before .before .before .before .args) .1 .1 .1 .1 .1 .1 .0)
+          .before .before .before .args) .1 .1 .1 .1 .1 .1 .0)
 
       abbrev pub Need-same-length-3 : Type 0
       Need-same-length-3 =
-          (c : After-recs2) → MutSlice.SameLen (Row.get 8 (T57 .locals) (m38 (c .before)
+          (c : After-recs2) → MutSlice.SameLen (Row.get 8 (T49 .locals) (m33 (c .before)
           (c .recs2 .given))) (dens
           (c .before .before .before .before .before .before .before .before .before .before
           .before .before .before .before .before .before .before .before .before .before .before
-          .before .before .before .before .before .before .before .κs)
+          .before .before .before .κs)
           (c .before .before .before .before .before .before .before .before .before .before
           .before .before .before .before .before .before .before .before .before .before .before
-          .before .before .before .before .before .before .before .args) .1 .1 .1 .1 .1 .1 .1 .0)
+          .before .before .before .args) .1 .1 .1 .1 .1 .1 .1 .0)
 
       abbrev pub Need-same-length-4 : Type 0
       Need-same-length-4 =
-          (c : After-recs2) → MutSlice.SameLen (Row.get 9 (T57 .locals) (m38 (c .before)
+          (c : After-recs2) → MutSlice.SameLen (Row.get 9 (T49 .locals) (m33 (c .before)
           (c .recs2 .given))) (dens
           (c .before .before .before .before .before .before .before .before .before .before
           .before .before .before .before .before .before .before .before .before .before .before
-          .before .before .before .before .before .before .before .κs)
+          .before .before .before .κs)
           (c .before .before .before .before .before .before .before .before .before .before
           .before .before .before .before .before .before .before .before .before .before .before
-          .before .before .before .before .before .before .before .args) .1 .1 .1 .1 .1 .1 .1 .1
-          .0)
-
-      abbrev pub Need-same-length-5 : Type 0
-      Need-same-length-5 =
-          (c : After-recs2) → MutSlice.SameLen (Row.get 10 (T57 .locals) (m38 (c .before)
-          (c .recs2 .given))) (dens
-          (c .before .before .before .before .before .before .before .before .before .before
-          .before .before .before .before .before .before .before .before .before .before .before
-          .before .before .before .before .before .before .before .κs)
-          (c .before .before .before .before .before .before .before .before .before .before
-          .before .before .before .before .before .before .before .before .before .before .before
-          .before .before .before .before .before .before .before .args) .1 .1 .1 .1 .1 .1 .1 .1 .1
-          .0)
+          .before .before .before .args) .1 .1 .1 .1 .1 .1 .1 .1 .0)
 
       abbrev pub Need-returns : Type 0
       Need-returns =
           (c : After-recs2) → Post·
           (c .before .before .before .before .before .before .before .before .before .before
           .before .before .before .before .before .before .before .before .before .before .before
-          .before .before .before .before .before .before .before .κs) (dens
+          .before .before .before .κs) (dens
           (c .before .before .before .before .before .before .before .before .before .before
           .before .before .before .before .before .before .before .before .before .before .before
-          .before .before .before .before .before .before .before .κs)
+          .before .before .before .κs)
           (c .before .before .before .before .before .before .before .before .before .before
           .before .before .before .before .before .before .before .before .before .before .before
-          .before .before .before .before .before .before .before .args)) (Function.resV r
+          .before .before .before .args)) (Function.resV r
           (c .before .before .before .before .before .before .before .before .before .before
           .before .before .before .before .before .before .before .before .before .before .before
-          .before .before .before .before .before .before .before .κs) (m38 (c .before)
-          (c .recs2 .given) .0)) (Clauses.atExit (Kinds.endedOf 9 ps r)
+          .before .before .before .κs) (m33 (c .before) (c .recs2 .given) .0)) (Clauses.atExit
+          (Kinds.endedOf 8 ps r)
           (c .before .before .before .before .before .before .before .before .before .before
           .before .before .before .before .before .before .before .before .before .before .before
-          .before .before .before .before .before .before .before .κs) (dens
+          .before .before .before .κs) (dens
           (c .before .before .before .before .before .before .before .before .before .before
           .before .before .before .before .before .before .before .before .before .before .before
-          .before .before .before .before .before .before .before .κs)
+          .before .before .before .κs)
           (c .before .before .before .before .before .before .before .before .before .before
           .before .before .before .before .before .before .before .before .before .before .before
-          .before .before .before .before .before .before .before .args)) (Enter.lastsP
+          .before .before .before .args)) (Enter.lastsP
           (c .before .before .before .before .before .before .before .before .before .before
           .before .before .before .before .before .before .before .before .before .before .before
-          .before .before .before .before .before .before .before .κs) 1 ps xs (dens
+          .before .before .before .κs) 1 ps xs (dens
           (c .before .before .before .before .before .before .before .before .before .before
           .before .before .before .before .before .before .before .before .before .before .before
-          .before .before .before .before .before .before .before .κs)
+          .before .before .before .κs)
           (c .before .before .before .before .before .before .before .before .before .before
           .before .before .before .before .before .before .before .before .before .before .before
-          .before .before .before .before .before .before .before .args)) (m38 (c .before)
-          (c .recs2 .given) .1)))
+          .before .before .before .args)) (m33 (c .before) (c .recs2 .given) .1)))
 
       module _ (window-requires : Need-window-requires)
           (slice-aggregate-rebuild-lines : Need-slice-aggregate-rebuild-lines)
           (rebuild-lines-requires : Need-rebuild-lines-requires) (same-length : Need-same-length)
           (same-length-2 : Need-same-length-2) (same-length-3 : Need-same-length-3)
-          (same-length-4 : Need-same-length-4) (same-length-5 : Need-same-length-5)
-          (returns : Need-returns) where
+          (same-length-4 : Need-same-length-4) (returns : Need-returns) where
         lay2 :
-            (c : After-rebuild-lines) → at25
+            (c : After-rebuild-lines) → at21
             (c .before .before .before .before .before .before .before .before .before .before
-            .before .before .before .before .before .before .before .blocks) (W0
+            .before .before .before .before .before .blocks) (W0
             (c .before .before .before .before .before .before .before .before .before .before
-            .before .before .before .before .before .before .before .κs)
+            .before .before .before .before .before .κs)
             (c .before .before .before .before .before .before .before .before .before .before
-            .before .before .before .before .before .before .before .args)
+            .before .before .before .before .before .args)
             (c .before .before .before .before .before .before .before .before .before .before
-            .before .before .before .before .before .before .before .blocks)) (m25 (c .before)
+            .before .before .before .before .before .blocks)) (m22 (c .before)
             (After-rebuild-lines·gave c))
         lay2 = λ c. (
           Path'.refl,
@@ -10713,21 +8735,140 @@ module _ (claims· : Claims) where
                 Path'.refl,
                 λ g'6. λ g'7. (
                   Path'.refl,
-                  λ g'8. λ g'9. (
-                    Path'.refl,
-                    λ g'10. (
+                  λ g'8. (
+                    (
+                      Path'.refl,
                       (
                         Path'.refl,
                         (
-                          Path'.refl,
+                          tt,
                           (
-                            tt,
+                            Path'.refl,
                             (
                               Path'.refl,
                               (
-                                Path'.refl,
+                                MutSlice.fix-len (Row.get 6 (T49 .locals) (m33 record {
+                                  before = record {
+                                    before = record {
+                                      before = record {
+                                        before = record {
+                                          before = record {
+                                            before = record {
+                                              before = record {
+                                                before = record {
+                                                  before = c .before;
+                                                  rebuild-lines = c .rebuild-lines;
+                                                };
+                                                owner = record { given = g };
+                                              };
+                                              slice-known5 = record { given = g' };
+                                            };
+                                            stack = record { given = g'' };
+                                          };
+                                          slice-known6 = record { given = g'3 };
+                                        };
+                                        cur = record { given = g'4 };
+                                      };
+                                      slice-known7 = record { given = g'5 };
+                                    };
+                                    next = record { given = g'6 };
+                                  };
+                                  slice-known8 = record { given = g'7 };
+                                } g'8) .ptr) (Row.get 6 (T49 .locals) (m33 record {
+                                  before = record {
+                                    before = record {
+                                      before = record {
+                                        before = record {
+                                          before = record {
+                                            before = record {
+                                              before = record {
+                                                before = record {
+                                                  before = c .before;
+                                                  rebuild-lines = c .rebuild-lines;
+                                                };
+                                                owner = record { given = g };
+                                              };
+                                              slice-known5 = record { given = g' };
+                                            };
+                                            stack = record { given = g'' };
+                                          };
+                                          slice-known6 = record { given = g'3 };
+                                        };
+                                        cur = record { given = g'4 };
+                                      };
+                                      slice-known7 = record { given = g'5 };
+                                    };
+                                    next = record { given = g'6 };
+                                  };
+                                  slice-known8 = record { given = g'7 };
+                                } g'8) .name) (Row.get 6 (T49 .locals) (m33 record {
+                                  before = record {
+                                    before = record {
+                                      before = record {
+                                        before = record {
+                                          before = record {
+                                            before = record {
+                                              before = record {
+                                                before = record {
+                                                  before = c .before;
+                                                  rebuild-lines = c .rebuild-lines;
+                                                };
+                                                owner = record { given = g };
+                                              };
+                                              slice-known5 = record { given = g' };
+                                            };
+                                            stack = record { given = g'' };
+                                          };
+                                          slice-known6 = record { given = g'3 };
+                                        };
+                                        cur = record { given = g'4 };
+                                      };
+                                      slice-known7 = record { given = g'5 };
+                                    };
+                                    next = record { given = g'6 };
+                                  };
+                                  slice-known8 = record { given = g'7 };
+                                } g'8) .now)
+                                    (dens
+                                    (c .before .before .before .before .before .before .before
+                                    .before .before .before .before .before .before .before .before
+                                    .κs)
+                                    (c .before .before .before .before .before .before .before
+                                    .before .before .before .before .before .before .before .before
+                                    .args) .1 .1 .1 .1 .1 .0 .now)
+                                    (same-length record {
+                                      before = record {
+                                        before = record {
+                                          before = record {
+                                            before = record {
+                                              before = record {
+                                                before = record {
+                                                  before = record {
+                                                    before = record {
+                                                      before = record {
+                                                        before = c .before;
+                                                        rebuild-lines = c .rebuild-lines;
+                                                      };
+                                                      owner = record { given = g };
+                                                    };
+                                                    slice-known5 = record { given = g' };
+                                                  };
+                                                  stack = record { given = g'' };
+                                                };
+                                                slice-known6 = record { given = g'3 };
+                                              };
+                                              cur = record { given = g'4 };
+                                            };
+                                            slice-known7 = record { given = g'5 };
+                                          };
+                                          next = record { given = g'6 };
+                                        };
+                                        slice-known8 = record { given = g'7 };
+                                      };
+                                      recs2 = record { given = g'8 };
+                                    }),
                                 (
-                                  MutSlice.fix-len (Row.get 6 (T57 .locals) (m38 record {
+                                  MutSlice.fix-len (Row.get 7 (T49 .locals) (m33 record {
                                     before = record {
                                       before = record {
                                         before = record {
@@ -10736,31 +8877,25 @@ module _ (claims· : Claims) where
                                               before = record {
                                                 before = record {
                                                   before = record {
-                                                    before = record {
-                                                      before = record {
-                                                        before = c .before;
-                                                        rebuild-lines = c .rebuild-lines;
-                                                      };
-                                                      owner = record { given = g };
-                                                    };
-                                                    slice-known6 = record { given = g' };
+                                                    before = c .before;
+                                                    rebuild-lines = c .rebuild-lines;
                                                   };
-                                                  stack = record { given = g'' };
+                                                  owner = record { given = g };
                                                 };
-                                                slice-known7 = record { given = g'3 };
+                                                slice-known5 = record { given = g' };
                                               };
-                                              cur = record { given = g'4 };
+                                              stack = record { given = g'' };
                                             };
-                                            slice-known8 = record { given = g'5 };
+                                            slice-known6 = record { given = g'3 };
                                           };
-                                          next = record { given = g'6 };
+                                          cur = record { given = g'4 };
                                         };
-                                        slice-known9 = record { given = g'7 };
+                                        slice-known7 = record { given = g'5 };
                                       };
-                                      clean = record { given = g'8 };
+                                      next = record { given = g'6 };
                                     };
-                                    slice-known10 = record { given = g'9 };
-                                  } g'10) .ptr) (Row.get 6 (T57 .locals) (m38 record {
+                                    slice-known8 = record { given = g'7 };
+                                  } g'8) .ptr) (Row.get 7 (T49 .locals) (m33 record {
                                     before = record {
                                       before = record {
                                         before = record {
@@ -10769,31 +8904,25 @@ module _ (claims· : Claims) where
                                               before = record {
                                                 before = record {
                                                   before = record {
-                                                    before = record {
-                                                      before = record {
-                                                        before = c .before;
-                                                        rebuild-lines = c .rebuild-lines;
-                                                      };
-                                                      owner = record { given = g };
-                                                    };
-                                                    slice-known6 = record { given = g' };
+                                                    before = c .before;
+                                                    rebuild-lines = c .rebuild-lines;
                                                   };
-                                                  stack = record { given = g'' };
+                                                  owner = record { given = g };
                                                 };
-                                                slice-known7 = record { given = g'3 };
+                                                slice-known5 = record { given = g' };
                                               };
-                                              cur = record { given = g'4 };
+                                              stack = record { given = g'' };
                                             };
-                                            slice-known8 = record { given = g'5 };
+                                            slice-known6 = record { given = g'3 };
                                           };
-                                          next = record { given = g'6 };
+                                          cur = record { given = g'4 };
                                         };
-                                        slice-known9 = record { given = g'7 };
+                                        slice-known7 = record { given = g'5 };
                                       };
-                                      clean = record { given = g'8 };
+                                      next = record { given = g'6 };
                                     };
-                                    slice-known10 = record { given = g'9 };
-                                  } g'10) .name) (Row.get 6 (T57 .locals) (m38 record {
+                                    slice-known8 = record { given = g'7 };
+                                  } g'8) .name) (Row.get 7 (T49 .locals) (m33 record {
                                     before = record {
                                       before = record {
                                         before = record {
@@ -10802,39 +8931,33 @@ module _ (claims· : Claims) where
                                               before = record {
                                                 before = record {
                                                   before = record {
-                                                    before = record {
-                                                      before = record {
-                                                        before = c .before;
-                                                        rebuild-lines = c .rebuild-lines;
-                                                      };
-                                                      owner = record { given = g };
-                                                    };
-                                                    slice-known6 = record { given = g' };
+                                                    before = c .before;
+                                                    rebuild-lines = c .rebuild-lines;
                                                   };
-                                                  stack = record { given = g'' };
+                                                  owner = record { given = g };
                                                 };
-                                                slice-known7 = record { given = g'3 };
+                                                slice-known5 = record { given = g' };
                                               };
-                                              cur = record { given = g'4 };
+                                              stack = record { given = g'' };
                                             };
-                                            slice-known8 = record { given = g'5 };
+                                            slice-known6 = record { given = g'3 };
                                           };
-                                          next = record { given = g'6 };
+                                          cur = record { given = g'4 };
                                         };
-                                        slice-known9 = record { given = g'7 };
+                                        slice-known7 = record { given = g'5 };
                                       };
-                                      clean = record { given = g'8 };
+                                      next = record { given = g'6 };
                                     };
-                                    slice-known10 = record { given = g'9 };
-                                  } g'10) .now)
+                                    slice-known8 = record { given = g'7 };
+                                  } g'8) .now)
                                       (dens
                                       (c .before .before .before .before .before .before .before
                                       .before .before .before .before .before .before .before
-                                      .before .before .before .κs)
+                                      .before .κs)
                                       (c .before .before .before .before .before .before .before
                                       .before .before .before .before .before .before .before
-                                      .before .before .before .args) .1 .1 .1 .1 .1 .0 .now)
-                                      (same-length record {
+                                      .before .args) .1 .1 .1 .1 .1 .1 .0 .now)
+                                      (same-length-2 record {
                                         before = record {
                                           before = record {
                                             before = record {
@@ -10844,35 +8967,29 @@ module _ (claims· : Claims) where
                                                     before = record {
                                                       before = record {
                                                         before = record {
-                                                          before = record {
-                                                            before = record {
-                                                              before = c .before;
-                                                              rebuild-lines = c .rebuild-lines;
-                                                            };
-                                                            owner = record { given = g };
-                                                          };
-                                                          slice-known6 = record { given = g' };
+                                                          before = c .before;
+                                                          rebuild-lines = c .rebuild-lines;
                                                         };
-                                                        stack = record { given = g'' };
+                                                        owner = record { given = g };
                                                       };
-                                                      slice-known7 = record { given = g'3 };
+                                                      slice-known5 = record { given = g' };
                                                     };
-                                                    cur = record { given = g'4 };
+                                                    stack = record { given = g'' };
                                                   };
-                                                  slice-known8 = record { given = g'5 };
+                                                  slice-known6 = record { given = g'3 };
                                                 };
-                                                next = record { given = g'6 };
+                                                cur = record { given = g'4 };
                                               };
-                                              slice-known9 = record { given = g'7 };
+                                              slice-known7 = record { given = g'5 };
                                             };
-                                            clean = record { given = g'8 };
+                                            next = record { given = g'6 };
                                           };
-                                          slice-known10 = record { given = g'9 };
+                                          slice-known8 = record { given = g'7 };
                                         };
-                                        recs2 = record { given = g'10 };
+                                        recs2 = record { given = g'8 };
                                       }),
                                   (
-                                    MutSlice.fix-len (Row.get 7 (T57 .locals) (m38 record {
+                                    MutSlice.fix-len (Row.get 8 (T49 .locals) (m33 record {
                                       before = record {
                                         before = record {
                                           before = record {
@@ -10881,31 +8998,25 @@ module _ (claims· : Claims) where
                                                 before = record {
                                                   before = record {
                                                     before = record {
-                                                      before = record {
-                                                        before = record {
-                                                          before = c .before;
-                                                          rebuild-lines = c .rebuild-lines;
-                                                        };
-                                                        owner = record { given = g };
-                                                      };
-                                                      slice-known6 = record { given = g' };
+                                                      before = c .before;
+                                                      rebuild-lines = c .rebuild-lines;
                                                     };
-                                                    stack = record { given = g'' };
+                                                    owner = record { given = g };
                                                   };
-                                                  slice-known7 = record { given = g'3 };
+                                                  slice-known5 = record { given = g' };
                                                 };
-                                                cur = record { given = g'4 };
+                                                stack = record { given = g'' };
                                               };
-                                              slice-known8 = record { given = g'5 };
+                                              slice-known6 = record { given = g'3 };
                                             };
-                                            next = record { given = g'6 };
+                                            cur = record { given = g'4 };
                                           };
-                                          slice-known9 = record { given = g'7 };
+                                          slice-known7 = record { given = g'5 };
                                         };
-                                        clean = record { given = g'8 };
+                                        next = record { given = g'6 };
                                       };
-                                      slice-known10 = record { given = g'9 };
-                                    } g'10) .ptr) (Row.get 7 (T57 .locals) (m38 record {
+                                      slice-known8 = record { given = g'7 };
+                                    } g'8) .ptr) (Row.get 8 (T49 .locals) (m33 record {
                                       before = record {
                                         before = record {
                                           before = record {
@@ -10914,31 +9025,25 @@ module _ (claims· : Claims) where
                                                 before = record {
                                                   before = record {
                                                     before = record {
-                                                      before = record {
-                                                        before = record {
-                                                          before = c .before;
-                                                          rebuild-lines = c .rebuild-lines;
-                                                        };
-                                                        owner = record { given = g };
-                                                      };
-                                                      slice-known6 = record { given = g' };
+                                                      before = c .before;
+                                                      rebuild-lines = c .rebuild-lines;
                                                     };
-                                                    stack = record { given = g'' };
+                                                    owner = record { given = g };
                                                   };
-                                                  slice-known7 = record { given = g'3 };
+                                                  slice-known5 = record { given = g' };
                                                 };
-                                                cur = record { given = g'4 };
+                                                stack = record { given = g'' };
                                               };
-                                              slice-known8 = record { given = g'5 };
+                                              slice-known6 = record { given = g'3 };
                                             };
-                                            next = record { given = g'6 };
+                                            cur = record { given = g'4 };
                                           };
-                                          slice-known9 = record { given = g'7 };
+                                          slice-known7 = record { given = g'5 };
                                         };
-                                        clean = record { given = g'8 };
+                                        next = record { given = g'6 };
                                       };
-                                      slice-known10 = record { given = g'9 };
-                                    } g'10) .name) (Row.get 7 (T57 .locals) (m38 record {
+                                      slice-known8 = record { given = g'7 };
+                                    } g'8) .name) (Row.get 8 (T49 .locals) (m33 record {
                                       before = record {
                                         before = record {
                                           before = record {
@@ -10947,39 +9052,33 @@ module _ (claims· : Claims) where
                                                 before = record {
                                                   before = record {
                                                     before = record {
-                                                      before = record {
-                                                        before = record {
-                                                          before = c .before;
-                                                          rebuild-lines = c .rebuild-lines;
-                                                        };
-                                                        owner = record { given = g };
-                                                      };
-                                                      slice-known6 = record { given = g' };
+                                                      before = c .before;
+                                                      rebuild-lines = c .rebuild-lines;
                                                     };
-                                                    stack = record { given = g'' };
+                                                    owner = record { given = g };
                                                   };
-                                                  slice-known7 = record { given = g'3 };
+                                                  slice-known5 = record { given = g' };
                                                 };
-                                                cur = record { given = g'4 };
+                                                stack = record { given = g'' };
                                               };
-                                              slice-known8 = record { given = g'5 };
+                                              slice-known6 = record { given = g'3 };
                                             };
-                                            next = record { given = g'6 };
+                                            cur = record { given = g'4 };
                                           };
-                                          slice-known9 = record { given = g'7 };
+                                          slice-known7 = record { given = g'5 };
                                         };
-                                        clean = record { given = g'8 };
+                                        next = record { given = g'6 };
                                       };
-                                      slice-known10 = record { given = g'9 };
-                                    } g'10) .now)
+                                      slice-known8 = record { given = g'7 };
+                                    } g'8) .now)
                                         (dens
                                         (c .before .before .before .before .before .before .before
                                         .before .before .before .before .before .before .before
-                                        .before .before .before .κs)
+                                        .before .κs)
                                         (c .before .before .before .before .before .before .before
                                         .before .before .before .before .before .before .before
-                                        .before .before .before .args) .1 .1 .1 .1 .1 .1 .0 .now)
-                                        (same-length-2 record {
+                                        .before .args) .1 .1 .1 .1 .1 .1 .1 .0 .now)
+                                        (same-length-3 record {
                                           before = record {
                                             before = record {
                                               before = record {
@@ -10989,35 +9088,29 @@ module _ (claims· : Claims) where
                                                       before = record {
                                                         before = record {
                                                           before = record {
-                                                            before = record {
-                                                              before = record {
-                                                                before = c .before;
-                                                                rebuild-lines = c .rebuild-lines;
-                                                              };
-                                                              owner = record { given = g };
-                                                            };
-                                                            slice-known6 = record { given = g' };
+                                                            before = c .before;
+                                                            rebuild-lines = c .rebuild-lines;
                                                           };
-                                                          stack = record { given = g'' };
+                                                          owner = record { given = g };
                                                         };
-                                                        slice-known7 = record { given = g'3 };
+                                                        slice-known5 = record { given = g' };
                                                       };
-                                                      cur = record { given = g'4 };
+                                                      stack = record { given = g'' };
                                                     };
-                                                    slice-known8 = record { given = g'5 };
+                                                    slice-known6 = record { given = g'3 };
                                                   };
-                                                  next = record { given = g'6 };
+                                                  cur = record { given = g'4 };
                                                 };
-                                                slice-known9 = record { given = g'7 };
+                                                slice-known7 = record { given = g'5 };
                                               };
-                                              clean = record { given = g'8 };
+                                              next = record { given = g'6 };
                                             };
-                                            slice-known10 = record { given = g'9 };
+                                            slice-known8 = record { given = g'7 };
                                           };
-                                          recs2 = record { given = g'10 };
+                                          recs2 = record { given = g'8 };
                                         }),
                                     (
-                                      MutSlice.fix-len (Row.get 8 (T57 .locals) (m38 record {
+                                      MutSlice.fix-len (Row.get 9 (T49 .locals) (m33 record {
                                         before = record {
                                           before = record {
                                             before = record {
@@ -11026,31 +9119,25 @@ module _ (claims· : Claims) where
                                                   before = record {
                                                     before = record {
                                                       before = record {
-                                                        before = record {
-                                                          before = record {
-                                                            before = c .before;
-                                                            rebuild-lines = c .rebuild-lines;
-                                                          };
-                                                          owner = record { given = g };
-                                                        };
-                                                        slice-known6 = record { given = g' };
+                                                        before = c .before;
+                                                        rebuild-lines = c .rebuild-lines;
                                                       };
-                                                      stack = record { given = g'' };
+                                                      owner = record { given = g };
                                                     };
-                                                    slice-known7 = record { given = g'3 };
+                                                    slice-known5 = record { given = g' };
                                                   };
-                                                  cur = record { given = g'4 };
+                                                  stack = record { given = g'' };
                                                 };
-                                                slice-known8 = record { given = g'5 };
+                                                slice-known6 = record { given = g'3 };
                                               };
-                                              next = record { given = g'6 };
+                                              cur = record { given = g'4 };
                                             };
-                                            slice-known9 = record { given = g'7 };
+                                            slice-known7 = record { given = g'5 };
                                           };
-                                          clean = record { given = g'8 };
+                                          next = record { given = g'6 };
                                         };
-                                        slice-known10 = record { given = g'9 };
-                                      } g'10) .ptr) (Row.get 8 (T57 .locals) (m38 record {
+                                        slice-known8 = record { given = g'7 };
+                                      } g'8) .ptr) (Row.get 9 (T49 .locals) (m33 record {
                                         before = record {
                                           before = record {
                                             before = record {
@@ -11059,31 +9146,25 @@ module _ (claims· : Claims) where
                                                   before = record {
                                                     before = record {
                                                       before = record {
-                                                        before = record {
-                                                          before = record {
-                                                            before = c .before;
-                                                            rebuild-lines = c .rebuild-lines;
-                                                          };
-                                                          owner = record { given = g };
-                                                        };
-                                                        slice-known6 = record { given = g' };
+                                                        before = c .before;
+                                                        rebuild-lines = c .rebuild-lines;
                                                       };
-                                                      stack = record { given = g'' };
+                                                      owner = record { given = g };
                                                     };
-                                                    slice-known7 = record { given = g'3 };
+                                                    slice-known5 = record { given = g' };
                                                   };
-                                                  cur = record { given = g'4 };
+                                                  stack = record { given = g'' };
                                                 };
-                                                slice-known8 = record { given = g'5 };
+                                                slice-known6 = record { given = g'3 };
                                               };
-                                              next = record { given = g'6 };
+                                              cur = record { given = g'4 };
                                             };
-                                            slice-known9 = record { given = g'7 };
+                                            slice-known7 = record { given = g'5 };
                                           };
-                                          clean = record { given = g'8 };
+                                          next = record { given = g'6 };
                                         };
-                                        slice-known10 = record { given = g'9 };
-                                      } g'10) .name) (Row.get 8 (T57 .locals) (m38 record {
+                                        slice-known8 = record { given = g'7 };
+                                      } g'8) .name) (Row.get 9 (T49 .locals) (m33 record {
                                         before = record {
                                           before = record {
                                             before = record {
@@ -11092,40 +9173,33 @@ module _ (claims· : Claims) where
                                                   before = record {
                                                     before = record {
                                                       before = record {
-                                                        before = record {
-                                                          before = record {
-                                                            before = c .before;
-                                                            rebuild-lines = c .rebuild-lines;
-                                                          };
-                                                          owner = record { given = g };
-                                                        };
-                                                        slice-known6 = record { given = g' };
+                                                        before = c .before;
+                                                        rebuild-lines = c .rebuild-lines;
                                                       };
-                                                      stack = record { given = g'' };
+                                                      owner = record { given = g };
                                                     };
-                                                    slice-known7 = record { given = g'3 };
+                                                    slice-known5 = record { given = g' };
                                                   };
-                                                  cur = record { given = g'4 };
+                                                  stack = record { given = g'' };
                                                 };
-                                                slice-known8 = record { given = g'5 };
+                                                slice-known6 = record { given = g'3 };
                                               };
-                                              next = record { given = g'6 };
+                                              cur = record { given = g'4 };
                                             };
-                                            slice-known9 = record { given = g'7 };
+                                            slice-known7 = record { given = g'5 };
                                           };
-                                          clean = record { given = g'8 };
+                                          next = record { given = g'6 };
                                         };
-                                        slice-known10 = record { given = g'9 };
-                                      } g'10) .now)
+                                        slice-known8 = record { given = g'7 };
+                                      } g'8) .now)
                                           (dens
                                           (c .before .before .before .before .before .before
                                           .before .before .before .before .before .before .before
-                                          .before .before .before .before .κs)
+                                          .before .before .κs)
                                           (c .before .before .before .before .before .before
                                           .before .before .before .before .before .before .before
-                                          .before .before .before .before .args) .1 .1 .1 .1 .1 .1
-                                          .1 .0 .now)
-                                          (same-length-3 record {
+                                          .before .before .args) .1 .1 .1 .1 .1 .1 .1 .1 .0 .now)
+                                          (same-length-4 record {
                                             before = record {
                                               before = record {
                                                 before = record {
@@ -11135,338 +9209,28 @@ module _ (claims· : Claims) where
                                                         before = record {
                                                           before = record {
                                                             before = record {
-                                                              before = record {
-                                                                before = record {
-                                                                  before = c .before;
-                                                                  rebuild-lines = c .rebuild-lines;
-                                                                };
-                                                                owner = record { given = g };
-                                                              };
-                                                              slice-known6 = record {
-                                                                given = g';
-                                                              };
+                                                              before = c .before;
+                                                              rebuild-lines = c .rebuild-lines;
                                                             };
-                                                            stack = record { given = g'' };
+                                                            owner = record { given = g };
                                                           };
-                                                          slice-known7 = record { given = g'3 };
+                                                          slice-known5 = record { given = g' };
                                                         };
-                                                        cur = record { given = g'4 };
+                                                        stack = record { given = g'' };
                                                       };
-                                                      slice-known8 = record { given = g'5 };
+                                                      slice-known6 = record { given = g'3 };
                                                     };
-                                                    next = record { given = g'6 };
+                                                    cur = record { given = g'4 };
                                                   };
-                                                  slice-known9 = record { given = g'7 };
+                                                  slice-known7 = record { given = g'5 };
                                                 };
-                                                clean = record { given = g'8 };
+                                                next = record { given = g'6 };
                                               };
-                                              slice-known10 = record { given = g'9 };
+                                              slice-known8 = record { given = g'7 };
                                             };
-                                            recs2 = record { given = g'10 };
+                                            recs2 = record { given = g'8 };
                                           }),
-                                      (
-                                        MutSlice.fix-len (Row.get 9 (T57 .locals) (m38 record {
-                                          before = record {
-                                            before = record {
-                                              before = record {
-                                                before = record {
-                                                  before = record {
-                                                    before = record {
-                                                      before = record {
-                                                        before = record {
-                                                          before = record {
-                                                            before = record {
-                                                              before = c .before;
-                                                              rebuild-lines = c .rebuild-lines;
-                                                            };
-                                                            owner = record { given = g };
-                                                          };
-                                                          slice-known6 = record { given = g' };
-                                                        };
-                                                        stack = record { given = g'' };
-                                                      };
-                                                      slice-known7 = record { given = g'3 };
-                                                    };
-                                                    cur = record { given = g'4 };
-                                                  };
-                                                  slice-known8 = record { given = g'5 };
-                                                };
-                                                next = record { given = g'6 };
-                                              };
-                                              slice-known9 = record { given = g'7 };
-                                            };
-                                            clean = record { given = g'8 };
-                                          };
-                                          slice-known10 = record { given = g'9 };
-                                        } g'10) .ptr) (Row.get 9 (T57 .locals) (m38 record {
-                                          before = record {
-                                            before = record {
-                                              before = record {
-                                                before = record {
-                                                  before = record {
-                                                    before = record {
-                                                      before = record {
-                                                        before = record {
-                                                          before = record {
-                                                            before = record {
-                                                              before = c .before;
-                                                              rebuild-lines = c .rebuild-lines;
-                                                            };
-                                                            owner = record { given = g };
-                                                          };
-                                                          slice-known6 = record { given = g' };
-                                                        };
-                                                        stack = record { given = g'' };
-                                                      };
-                                                      slice-known7 = record { given = g'3 };
-                                                    };
-                                                    cur = record { given = g'4 };
-                                                  };
-                                                  slice-known8 = record { given = g'5 };
-                                                };
-                                                next = record { given = g'6 };
-                                              };
-                                              slice-known9 = record { given = g'7 };
-                                            };
-                                            clean = record { given = g'8 };
-                                          };
-                                          slice-known10 = record { given = g'9 };
-                                        } g'10) .name) (Row.get 9 (T57 .locals) (m38 record {
-                                          before = record {
-                                            before = record {
-                                              before = record {
-                                                before = record {
-                                                  before = record {
-                                                    before = record {
-                                                      before = record {
-                                                        before = record {
-                                                          before = record {
-                                                            before = record {
-                                                              before = c .before;
-                                                              rebuild-lines = c .rebuild-lines;
-                                                            };
-                                                            owner = record { given = g };
-                                                          };
-                                                          slice-known6 = record { given = g' };
-                                                        };
-                                                        stack = record { given = g'' };
-                                                      };
-                                                      slice-known7 = record { given = g'3 };
-                                                    };
-                                                    cur = record { given = g'4 };
-                                                  };
-                                                  slice-known8 = record { given = g'5 };
-                                                };
-                                                next = record { given = g'6 };
-                                              };
-                                              slice-known9 = record { given = g'7 };
-                                            };
-                                            clean = record { given = g'8 };
-                                          };
-                                          slice-known10 = record { given = g'9 };
-                                        } g'10) .now)
-                                            (dens
-                                            (c .before .before .before .before .before .before
-                                            .before .before .before .before .before .before .before
-                                            .before .before .before .before .κs)
-                                            (c .before .before .before .before .before .before
-                                            .before .before .before .before .before .before .before
-                                            .before .before .before .before .args) .1 .1 .1 .1 .1
-                                            .1 .1 .1 .0 .now)
-                                            (same-length-4 record {
-                                              before = record {
-                                                before = record {
-                                                  before = record {
-                                                    before = record {
-                                                      before = record {
-                                                        before = record {
-                                                          before = record {
-                                                            before = record {
-                                                              before = record {
-                                                                before = record {
-                                                                  before = record {
-                                                                    before = c .before;
-                                                                    rebuild-lines = c
-                                                                        .rebuild-lines;
-                                                                  };
-                                                                  owner = record { given = g };
-                                                                };
-                                                                slice-known6 = record {
-                                                                  given = g';
-                                                                };
-                                                              };
-                                                              stack = record { given = g'' };
-                                                            };
-                                                            slice-known7 = record { given = g'3 };
-                                                          };
-                                                          cur = record { given = g'4 };
-                                                        };
-                                                        slice-known8 = record { given = g'5 };
-                                                      };
-                                                      next = record { given = g'6 };
-                                                    };
-                                                    slice-known9 = record { given = g'7 };
-                                                  };
-                                                  clean = record { given = g'8 };
-                                                };
-                                                slice-known10 = record { given = g'9 };
-                                              };
-                                              recs2 = record { given = g'10 };
-                                            }),
-                                        (
-                                          MutSlice.fix-len (Row.get 10 (T57 .locals) (m38 record {
-                                            before = record {
-                                              before = record {
-                                                before = record {
-                                                  before = record {
-                                                    before = record {
-                                                      before = record {
-                                                        before = record {
-                                                          before = record {
-                                                            before = record {
-                                                              before = record {
-                                                                before = c .before;
-                                                                rebuild-lines = c .rebuild-lines;
-                                                              };
-                                                              owner = record { given = g };
-                                                            };
-                                                            slice-known6 = record { given = g' };
-                                                          };
-                                                          stack = record { given = g'' };
-                                                        };
-                                                        slice-known7 = record { given = g'3 };
-                                                      };
-                                                      cur = record { given = g'4 };
-                                                    };
-                                                    slice-known8 = record { given = g'5 };
-                                                  };
-                                                  next = record { given = g'6 };
-                                                };
-                                                slice-known9 = record { given = g'7 };
-                                              };
-                                              clean = record { given = g'8 };
-                                            };
-                                            slice-known10 = record { given = g'9 };
-                                          } g'10) .ptr) (Row.get 10 (T57 .locals) (m38 record {
-                                            before = record {
-                                              before = record {
-                                                before = record {
-                                                  before = record {
-                                                    before = record {
-                                                      before = record {
-                                                        before = record {
-                                                          before = record {
-                                                            before = record {
-                                                              before = record {
-                                                                before = c .before;
-                                                                rebuild-lines = c .rebuild-lines;
-                                                              };
-                                                              owner = record { given = g };
-                                                            };
-                                                            slice-known6 = record { given = g' };
-                                                          };
-                                                          stack = record { given = g'' };
-                                                        };
-                                                        slice-known7 = record { given = g'3 };
-                                                      };
-                                                      cur = record { given = g'4 };
-                                                    };
-                                                    slice-known8 = record { given = g'5 };
-                                                  };
-                                                  next = record { given = g'6 };
-                                                };
-                                                slice-known9 = record { given = g'7 };
-                                              };
-                                              clean = record { given = g'8 };
-                                            };
-                                            slice-known10 = record { given = g'9 };
-                                          } g'10) .name) (Row.get 10 (T57 .locals) (m38 record {
-                                            before = record {
-                                              before = record {
-                                                before = record {
-                                                  before = record {
-                                                    before = record {
-                                                      before = record {
-                                                        before = record {
-                                                          before = record {
-                                                            before = record {
-                                                              before = record {
-                                                                before = c .before;
-                                                                rebuild-lines = c .rebuild-lines;
-                                                              };
-                                                              owner = record { given = g };
-                                                            };
-                                                            slice-known6 = record { given = g' };
-                                                          };
-                                                          stack = record { given = g'' };
-                                                        };
-                                                        slice-known7 = record { given = g'3 };
-                                                      };
-                                                      cur = record { given = g'4 };
-                                                    };
-                                                    slice-known8 = record { given = g'5 };
-                                                  };
-                                                  next = record { given = g'6 };
-                                                };
-                                                slice-known9 = record { given = g'7 };
-                                              };
-                                              clean = record { given = g'8 };
-                                            };
-                                            slice-known10 = record { given = g'9 };
-                                          } g'10) .now)
-                                              (dens
-                                              (c .before .before .before .before .before .before
-                                              .before .before .before .before .before .before
-                                              .before .before .before .before .before .κs)
-                                              (c .before .before .before .before .before .before
-                                              .before .before .before .before .before .before
-                                              .before .before .before .before .before .args) .1 .1
-                                              .1 .1 .1 .1 .1 .1 .1 .0 .now)
-                                              (same-length-5 record {
-                                                before = record {
-                                                  before = record {
-                                                    before = record {
-                                                      before = record {
-                                                        before = record {
-                                                          before = record {
-                                                            before = record {
-                                                              before = record {
-                                                                before = record {
-                                                                  before = record {
-                                                                    before = record {
-                                                                      before = c .before;
-                                                                      rebuild-lines = c
-                                                                          .rebuild-lines;
-                                                                    };
-                                                                    owner = record { given = g };
-                                                                  };
-                                                                  slice-known6 = record {
-                                                                    given = g';
-                                                                  };
-                                                                };
-                                                                stack = record { given = g'' };
-                                                              };
-                                                              slice-known7 = record {
-                                                                given = g'3;
-                                                              };
-                                                            };
-                                                            cur = record { given = g'4 };
-                                                          };
-                                                          slice-known8 = record { given = g'5 };
-                                                        };
-                                                        next = record { given = g'6 };
-                                                      };
-                                                      slice-known9 = record { given = g'7 };
-                                                    };
-                                                    clean = record { given = g'8 };
-                                                  };
-                                                  slice-known10 = record { given = g'9 };
-                                                };
-                                                recs2 = record { given = g'10 };
-                                              }),
-                                          tt,
-                                        ),
-                                      ),
+                                      tt,
                                     ),
                                   ),
                                 ),
@@ -11475,7 +9239,9 @@ module _ (claims· : Claims) where
                           ),
                         ),
                       ),
-                      returns record {
+                    ),
+                    returns record {
+                      before = record {
                         before = record {
                           before = record {
                             before = record {
@@ -11484,35 +9250,27 @@ module _ (claims· : Claims) where
                                   before = record {
                                     before = record {
                                       before = record {
-                                        before = record {
-                                          before = record {
-                                            before = record {
-                                              before = c .before;
-                                              rebuild-lines = c .rebuild-lines;
-                                            };
-                                            owner = record { given = g };
-                                          };
-                                          slice-known6 = record { given = g' };
-                                        };
-                                        stack = record { given = g'' };
+                                        before = c .before;
+                                        rebuild-lines = c .rebuild-lines;
                                       };
-                                      slice-known7 = record { given = g'3 };
+                                      owner = record { given = g };
                                     };
-                                    cur = record { given = g'4 };
+                                    slice-known5 = record { given = g' };
                                   };
-                                  slice-known8 = record { given = g'5 };
+                                  stack = record { given = g'' };
                                 };
-                                next = record { given = g'6 };
+                                slice-known6 = record { given = g'3 };
                               };
-                              slice-known9 = record { given = g'7 };
+                              cur = record { given = g'4 };
                             };
-                            clean = record { given = g'8 };
+                            slice-known7 = record { given = g'5 };
                           };
-                          slice-known10 = record { given = g'9 };
+                          next = record { given = g'6 };
                         };
-                        recs2 = record { given = g'10 };
-                      },
-                    ),
+                        slice-known8 = record { given = g'7 };
+                      };
+                      recs2 = record { given = g'8 };
+                    },
                   ),
                 ),
               ),
@@ -11521,14 +9279,14 @@ module _ (claims· : Claims) where
         )
 
         lay1 :
-            (c : After-window) → at46
-            (c .before .before .before .before .before .before .before .before .before .before
-            .blocks) (W0
-            (c .before .before .before .before .before .before .before .before .before .before .κs)
-            (c .before .before .before .before .before .before .before .before .before .before
-            .args)
-            (c .before .before .before .before .before .before .before .before .before .before
-            .blocks)) (m10 (c .before) (After-window·gave c))
+            (c : After-window) →
+            at39
+            (c .before .before .before .before .before .before .before .before .before .blocks)
+            (W0
+            (c .before .before .before .before .before .before .before .before .before .κs)
+            (c .before .before .before .before .before .before .before .before .before .args)
+            (c .before .before .before .before .before .before .before .before .before .blocks))
+            (m9 (c .before) (After-window·gave c))
         lay1 = λ c. λ g. (
           Path'.refl,
           λ g'. (
@@ -11538,9 +9296,36 @@ module _ (claims· : Claims) where
               λ g'3. (
                 Path'.refl,
                 λ g'4. (
-                  Path'.refl,
-                  λ g'5. (
-                    Relend.count-is T30 23 24 (λ x. x) (λ u. 64) (m23 record {
+                  Relend.count-is T26 20 21 (λ x. x) (λ u. 64) (m20 record {
+                    before = record {
+                      before = record {
+                        before = record {
+                          before = record { before = c .before; window = c .window };
+                          rebuild-lines-arg = record { given = g };
+                        };
+                        rebuild-lines-arg2 = record { given = g' };
+                      };
+                      rebuild-lines-arg3 = record { given = g'' };
+                    };
+                    rebuild-lines-arg4 = record { given = g'3 };
+                  } g'4) (slice-aggregate-rebuild-lines record {
+                    before = record {
+                      before = record {
+                        before = record {
+                          before = record {
+                            before = record { before = c .before; window = c .window };
+                            rebuild-lines-arg = record { given = g };
+                          };
+                          rebuild-lines-arg2 = record { given = g' };
+                        };
+                        rebuild-lines-arg3 = record { given = g'' };
+                      };
+                      rebuild-lines-arg4 = record { given = g'3 };
+                    };
+                    recs = record { given = g'4 };
+                  }),
+                  (
+                    rebuild-lines-requires record {
                       before = record {
                         before = record {
                           before = record {
@@ -11554,8 +9339,9 @@ module _ (claims· : Claims) where
                         };
                         rebuild-lines-arg4 = record { given = g'3 };
                       };
-                      rebuild-lines-arg5 = record { given = g'4 };
-                    } g'5) (slice-aggregate-rebuild-lines record {
+                      recs = record { given = g'4 };
+                    },
+                    λ g'5. lay2 record {
                       before = record {
                         before = record {
                           before = record {
@@ -11570,97 +9356,64 @@ module _ (claims· : Claims) where
                           };
                           rebuild-lines-arg4 = record { given = g'3 };
                         };
-                        rebuild-lines-arg5 = record { given = g'4 };
+                        recs = record { given = g'4 };
                       };
-                      recs = record { given = g'5 };
-                    }),
-                    (
-                      rebuild-lines-requires record {
-                        before = record {
-                          before = record {
-                            before = record {
-                              before = record {
-                                before = record {
-                                  before = record { before = c .before; window = c .window };
-                                  rebuild-lines-arg = record { given = g };
-                                };
-                                rebuild-lines-arg2 = record { given = g' };
-                              };
-                              rebuild-lines-arg3 = record { given = g'' };
-                            };
-                            rebuild-lines-arg4 = record { given = g'3 };
-                          };
-                          rebuild-lines-arg5 = record { given = g'4 };
-                        };
-                        recs = record { given = g'5 };
-                      },
-                      λ g'6. lay2 record {
-                        before = record {
-                          before = record {
-                            before = record {
-                              before = record {
-                                before = record {
-                                  before = record {
-                                    before = record { before = c .before; window = c .window };
-                                    rebuild-lines-arg = record { given = g };
-                                  };
-                                  rebuild-lines-arg2 = record { given = g' };
-                                };
-                                rebuild-lines-arg3 = record { given = g'' };
-                              };
-                              rebuild-lines-arg4 = record { given = g'3 };
-                            };
-                            rebuild-lines-arg5 = record { given = g'4 };
-                          };
-                          recs = record { given = g'5 };
-                        };
-                        rebuild-lines = Called.called ps·1 r·1 (claims· .3) T31 (
+                      rebuild-lines = Called.called ps·1 r·1 (claims· .3) T27 (
+                        record {
+                          pos = 1;
+                          ty = Syntax.tyRef (Syntax.named 0) Syntax.imm (Syntax.tyInt Syntax.w8);
+                          ref = λ x. x;
+                        },
+                        (
                           record {
-                            pos = 1;
-                            ty = Syntax.tyRef (Syntax.named 0) Syntax.imm (Syntax.tyInt Syntax.w8);
+                            pos = 2;
+                            ty = Syntax.tyRef
+                                (Syntax.named 1)
+                                Syntax.imm
+                                (Syntax.tyInt Syntax.w64);
                             ref = λ x. x;
                           },
                           (
-                            record {
-                              pos = 2;
-                              ty = Syntax.tyRef
-                                  (Syntax.named 1)
-                                  Syntax.imm
-                                  (Syntax.tyInt Syntax.w64);
-                              ref = λ x. x;
-                            },
+                            Num.vAt 3 λ x. x,
                             (
-                              Num.vAt 3 λ x. x,
+                              record {
+                                pos = 4;
+                                ty = Syntax.tyRef
+                                    (Syntax.named 2)
+                                    Syntax.imm
+                                    (Syntax.tyInt Syntax.w64);
+                                ref = λ x. x;
+                              },
                               (
                                 record {
-                                  pos = 4;
+                                  pos = 5;
                                   ty = Syntax.tyRef
-                                      (Syntax.named 2)
+                                      (Syntax.named 3)
                                       Syntax.imm
-                                      (Syntax.tyInt Syntax.w64);
+                                      (Syntax.tyInt Syntax.w8);
                                   ref = λ x. x;
                                 },
                                 (
                                   record {
-                                    pos = 5;
+                                    pos = 13;
                                     ty = Syntax.tyRef
-                                        (Syntax.named 3)
-                                        Syntax.imm
-                                        (Syntax.tyInt Syntax.w8);
+                                        Syntax.erased
+                                        Syntax.mut
+                                        (Syntax.tyInt Syntax.w64);
                                     ref = λ x. x;
                                   },
                                   (
                                     record {
-                                      pos = 14;
+                                      pos = 15;
                                       ty = Syntax.tyRef
                                           Syntax.erased
                                           Syntax.mut
-                                          (Syntax.tyInt Syntax.w64);
+                                          (Syntax.tyInt Syntax.w8);
                                       ref = λ x. x;
                                     },
                                     (
                                       record {
-                                        pos = 16;
+                                        pos = 17;
                                         ty = Syntax.tyRef
                                             Syntax.erased
                                             Syntax.mut
@@ -11669,7 +9422,7 @@ module _ (claims· : Claims) where
                                       },
                                       (
                                         record {
-                                          pos = 18;
+                                          pos = 19;
                                           ty = Syntax.tyRef
                                               Syntax.erased
                                               Syntax.mut
@@ -11678,34 +9431,14 @@ module _ (claims· : Claims) where
                                         },
                                         (
                                           record {
-                                            pos = 20;
+                                            pos = 21;
                                             ty = Syntax.tyRef
                                                 Syntax.erased
                                                 Syntax.mut
-                                                (Syntax.tyInt Syntax.w8);
+                                                Elem.ty;
                                             ref = λ x. x;
                                           },
-                                          (
-                                            record {
-                                              pos = 22;
-                                              ty = Syntax.tyRef
-                                                  Syntax.erased
-                                                  Syntax.mut
-                                                  (Syntax.tyInt Syntax.w8);
-                                              ref = λ x. x;
-                                            },
-                                            (
-                                              record {
-                                                pos = 24;
-                                                ty = Syntax.tyRef
-                                                    Syntax.erased
-                                                    Syntax.mut
-                                                    Elem.ty;
-                                                ref = λ x. x;
-                                              },
-                                              tt,
-                                            ),
-                                          ),
+                                          tt,
                                         ),
                                       ),
                                     ),
@@ -11714,24 +9447,21 @@ module _ (claims· : Claims) where
                               ),
                             ),
                           ),
-                        ) (m24 record {
+                        ),
+                      ) (m21 record {
+                        before = record {
                           before = record {
                             before = record {
-                              before = record {
-                                before = record {
-                                  before = record { before = c .before; window = c .window };
-                                  rebuild-lines-arg = record { given = g };
-                                };
-                                rebuild-lines-arg2 = record { given = g' };
-                              };
-                              rebuild-lines-arg3 = record { given = g'' };
+                              before = record { before = c .before; window = c .window };
+                              rebuild-lines-arg = record { given = g };
                             };
-                            rebuild-lines-arg4 = record { given = g'3 };
+                            rebuild-lines-arg2 = record { given = g' };
                           };
-                          rebuild-lines-arg5 = record { given = g'4 };
-                        } g'5) g'6;
-                      },
-                    ),
+                          rebuild-lines-arg3 = record { given = g'' };
+                        };
+                        rebuild-lines-arg4 = record { given = g'3 };
+                      } g'4) g'5;
+                    },
                   ),
                 ),
               ),
@@ -11741,8 +9471,8 @@ module _ (claims· : Claims) where
 
         pub laid :
             (c : Start) →
-            at56 (c .blocks) (W0 (c .κs) (c .args) (c .blocks)) (m0 (c .κs) (c .args) (c .blocks))
-        laid = λ c. λ g. λ g'. λ g''. λ g'3. λ g'4. λ g'5. λ g'6. λ g'7. λ g'8. (
+            at48 (c .blocks) (W0 (c .κs) (c .args) (c .blocks)) (m0 (c .κs) (c .args) (c .blocks))
+        laid = λ c. λ g. λ g'. λ g''. λ g'3. λ g'4. λ g'5. λ g'6. λ g'7. (
           window-requires record {
             before = record {
               before = record {
@@ -11751,27 +9481,24 @@ module _ (claims· : Claims) where
                     before = record {
                       before = record {
                         before = record {
-                          before = record {
-                            before = c;
-                            shared-slice-known = record { given = g };
-                          };
-                          shared-slice-known2 = record { given = g' };
+                          before = c;
+                          shared-slice-known = record { given = g };
                         };
-                        shared-slice-known3 = record { given = g'' };
+                        shared-slice-known2 = record { given = g' };
                       };
-                      shared-slice-known4 = record { given = g'3 };
+                      shared-slice-known3 = record { given = g'' };
                     };
-                    slice-known = record { given = g'4 };
+                    shared-slice-known4 = record { given = g'3 };
                   };
-                  slice-known2 = record { given = g'5 };
+                  slice-known = record { given = g'4 };
                 };
-                slice-known3 = record { given = g'6 };
+                slice-known2 = record { given = g'5 };
               };
-              slice-known4 = record { given = g'7 };
+              slice-known3 = record { given = g'6 };
             };
-            slice-known5 = record { given = g'8 };
+            slice-known4 = record { given = g'7 };
           },
-          λ g'9. lay1 record {
+          λ g'8. lay1 record {
             before = record {
               before = record {
                 before = record {
@@ -11780,34 +9507,6 @@ module _ (claims· : Claims) where
                       before = record {
                         before = record {
                           before = record {
-                            before = record {
-                              before = c;
-                              shared-slice-known = record { given = g };
-                            };
-                            shared-slice-known2 = record { given = g' };
-                          };
-                          shared-slice-known3 = record { given = g'' };
-                        };
-                        shared-slice-known4 = record { given = g'3 };
-                      };
-                      slice-known = record { given = g'4 };
-                    };
-                    slice-known2 = record { given = g'5 };
-                  };
-                  slice-known3 = record { given = g'6 };
-                };
-                slice-known4 = record { given = g'7 };
-              };
-              slice-known5 = record { given = g'8 };
-            };
-            window = Called.called ps·0 r·0 (claims· .1) T10 tt (m9 record {
-              before = record {
-                before = record {
-                  before = record {
-                    before = record {
-                      before = record {
-                        before = record {
-                          before = record {
                             before = c;
                             shared-slice-known = record { given = g };
                           };
@@ -11824,17 +9523,39 @@ module _ (claims· : Claims) where
                 slice-known3 = record { given = g'6 };
               };
               slice-known4 = record { given = g'7 };
-            } g'8) g'9;
+            };
+            window = Called.called ps·0 r·0 (claims· .1) T9 tt (m8 record {
+              before = record {
+                before = record {
+                  before = record {
+                    before = record {
+                      before = record {
+                        before = record {
+                          before = c;
+                          shared-slice-known = record { given = g };
+                        };
+                        shared-slice-known2 = record { given = g' };
+                      };
+                      shared-slice-known3 = record { given = g'' };
+                    };
+                    shared-slice-known4 = record { given = g'3 };
+                  };
+                  slice-known = record { given = g'4 };
+                };
+                slice-known2 = record { given = g'5 };
+              };
+              slice-known3 = record { given = g'6 };
+            } g'7) g'8;
           },
         )
 
-        module _ (κs : Lifetimes.Lfts 9) (qs : Lifetimes.Shares 9) where
+        module _ (κs : Lifetimes.Lfts 8) (qs : Lifetimes.Shares 8) where
           pub asked :
               (a : Kinds.Dens κs ps) →
               (good : Kinds.GoodsP κs ps a) →
               (pre : Pre· κs a) →
               (bs : List.List Nat.ℕ) →
-              Φ bs (Any.wantQ 9 ps r xs m κs qs a (Post· κs a)) (Function.init 9 ps r xs m κs qs a)
+              Φ bs (Any.wantQ 8 ps r xs m κs qs a (Post· κs a)) (Function.init 8 ps r xs m κs qs a)
           asked = λ a good pre bs. laid record {
             κs = κs;
             args = record {
@@ -11847,7 +9568,6 @@ module _ (claims· : Claims) where
               stack = a .1 .1 .1 .1 .1 .1 .0;
               cur = a .1 .1 .1 .1 .1 .1 .1 .0;
               next = a .1 .1 .1 .1 .1 .1 .1 .1 .0;
-              clean = a .1 .1 .1 .1 .1 .1 .1 .1 .1 .0;
             };
             blocks = bs;
             good = good;
@@ -11864,7 +9584,7 @@ module _ (claims· : Claims) where
             A
             W
             𝓣
-            10
+            9
             ps·1
             r·1
             (claims· .2)
@@ -11873,8 +9593,8 @@ module _ (claims· : Claims) where
           pub spec :
               Statement.Triple
               𝓤
-              (Wp.WpFn 𝓤 H (𝓣 .C) (𝓣 .Λ) (Function.fnOf 9 ps r xs m hs body))
-              (Function.plainOf 𝓤 H A 9 ps r Pre· Post·)
+              (Wp.WpFn 𝓤 H (𝓣 .C) (𝓣 .Λ) (Function.fnOf 8 ps r xs m hs body))
+              (Function.plainOf 𝓤 H A 8 ps r Pre· Post·)
           spec =
               Plain.t-fn-plain
               𝓤
@@ -11882,7 +9602,7 @@ module _ (claims· : Claims) where
               A
               W
               𝓣
-              9
+              8
               ps
               r
               xs

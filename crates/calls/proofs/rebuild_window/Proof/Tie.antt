@@ -84,14 +84,6 @@ After-slice-known4 = Lts.After-slice-known4 (
   Reads.Learnt,
 ) Reads'.Pre Reads'.Post
 
-abbrev pub After-slice-known5 : Type 0
-After-slice-known5 = Lts.After-slice-known5 (
-  Reads''.Asked,
-  Reads''.Learnt,
-  Reads.Asked,
-  Reads.Learnt,
-) Reads'.Pre Reads'.Post
-
 abbrev pub After-window : Type 0
 After-window =
     Lts.After-window
@@ -131,14 +123,6 @@ After-rebuild-lines-arg4 = Lts.After-rebuild-lines-arg4 (
   Reads.Learnt,
 ) Reads'.Pre Reads'.Post
 
-abbrev pub After-rebuild-lines-arg5 : Type 0
-After-rebuild-lines-arg5 = Lts.After-rebuild-lines-arg5 (
-  Reads''.Asked,
-  Reads''.Learnt,
-  Reads.Asked,
-  Reads.Learnt,
-) Reads'.Pre Reads'.Post
-
 abbrev pub After-recs : Type 0
 After-recs =
     Lts.After-recs
@@ -161,8 +145,8 @@ After-owner =
     Reads'.Pre
     Reads'.Post
 
-abbrev pub After-slice-known6 : Type 0
-After-slice-known6 = Lts.After-slice-known6 (
+abbrev pub After-slice-known5 : Type 0
+After-slice-known5 = Lts.After-slice-known5 (
   Reads''.Asked,
   Reads''.Learnt,
   Reads.Asked,
@@ -176,8 +160,8 @@ After-stack =
     Reads'.Pre
     Reads'.Post
 
-abbrev pub After-slice-known7 : Type 0
-After-slice-known7 = Lts.After-slice-known7 (
+abbrev pub After-slice-known6 : Type 0
+After-slice-known6 = Lts.After-slice-known6 (
   Reads''.Asked,
   Reads''.Learnt,
   Reads.Asked,
@@ -191,8 +175,8 @@ After-cur =
     Reads'.Pre
     Reads'.Post
 
-abbrev pub After-slice-known8 : Type 0
-After-slice-known8 = Lts.After-slice-known8 (
+abbrev pub After-slice-known7 : Type 0
+After-slice-known7 = Lts.After-slice-known7 (
   Reads''.Asked,
   Reads''.Learnt,
   Reads.Asked,
@@ -206,23 +190,8 @@ After-next =
     Reads'.Pre
     Reads'.Post
 
-abbrev pub After-slice-known9 : Type 0
-After-slice-known9 = Lts.After-slice-known9 (
-  Reads''.Asked,
-  Reads''.Learnt,
-  Reads.Asked,
-  Reads.Learnt,
-) Reads'.Pre Reads'.Post
-
-abbrev pub After-clean : Type 0
-After-clean =
-    Lts.After-clean
-    (Reads''.Asked, Reads''.Learnt, Reads.Asked, Reads.Learnt)
-    Reads'.Pre
-    Reads'.Post
-
-abbrev pub After-slice-known10 : Type 0
-After-slice-known10 = Lts.After-slice-known10 (
+abbrev pub After-slice-known8 : Type 0
+After-slice-known8 = Lts.After-slice-known8 (
   Reads''.Asked,
   Reads''.Learnt,
   Reads.Asked,
@@ -291,14 +260,6 @@ Need-same-length-4 = Lts.Need-same-length-4 (
   Reads.Learnt,
 ) Reads'.Pre Reads'.Post
 
-abbrev pub Need-same-length-5 : Type 0
-Need-same-length-5 = Lts.Need-same-length-5 (
-  Reads''.Asked,
-  Reads''.Learnt,
-  Reads.Asked,
-  Reads.Learnt,
-) Reads'.Pre Reads'.Post
-
 abbrev pub Need-returns : Type 0
 Need-returns =
     Lts.Need-returns
@@ -315,30 +276,18 @@ module _ {M : Type 1} where
       (answer : Need-same-length-2) →
       (answer : Need-same-length-3) →
       (answer : Need-same-length-4) →
-      (answer : Need-same-length-5) →
       (answer : Need-returns) →
       Lts.Closed
       (Reads''.Asked, Reads''.Learnt, Reads.Asked, Reads.Learnt)
       Reads'.Pre
       Reads'.Post
       M
-  spec = λ answer answer' answer'' answer'3 answer'4 answer'5 answer'6 answer'7 answer'8. Lts.spec (
+  spec = λ answer answer' answer'' answer'3 answer'4 answer'5 answer'6 answer'7. Lts.spec (
     Reads''.Asked,
     Reads''.Learnt,
     Reads.Asked,
     Reads.Learnt,
-  )
-      Reads'.Pre
-      Reads'.Post
-      answer
-      answer'
-      answer''
-      answer'3
-      answer'4
-      answer'5
-      answer'6
-      answer'7
-      answer'8
+  ) Reads'.Pre Reads'.Post answer answer' answer'' answer'3 answer'4 answer'5 answer'6 answer'7
 
   -- antt refused `close` as it was built: the module's report says why
   pub close :
@@ -351,7 +300,7 @@ module _ {M : Type 1} where
   unfolding Code.routine Running.tablesOf
   close =
       λ closed 𝓤 H 𝓜 𝓖 𝓡. Written.close
-      9
+      8
       Kinds.ps
       Kinds.r
       Reads'.Ghost
