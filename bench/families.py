@@ -127,6 +127,21 @@ def comments_and_strings():
         n += 1
 
 
+def long_lines():
+    """Long lines of code, comments and strings: to tell where a statement starts, each is cleaned to its end."""
+    n = 0
+    while True:
+        yield "function l%d(a) {" % n
+        yield "  let r0, r1, r2;"
+        yield "  r0 = a.join(" + ", ".join("\"part %d; of { many\" + a.p%d" % (k, k) for k in range(14)) + ");"
+        yield "  // " + "r0 = 1; { and so on } " * 20
+        yield "  r1 = " + " + ".join("/* %d; { */ b%d * %d" % (k, k, n) for k in range(18)) + ";"
+        yield "  r2 = f(r0, r1, " + ", ".join("'it\\'s %d' + c%d / 2" % (k, k) for k in range(16)) + ");"
+        yield "  use(r2);"
+        yield "}"
+        n += 1
+
+
 def spread(n):
     """A number below 2 to the 63, another for each n."""
     return n * 0x9E3779B97F4A7C15 % 2**64 >> 1
@@ -237,6 +252,7 @@ FAMILIES = {
     "phis": phis,
     "member loads": member_loads,
     "comments and strings": comments_and_strings,
+    "long lines": long_lines,
     "high registers": high_registers,
     "random registers": random_registers,
     "high dead stores": high_dead_stores,
