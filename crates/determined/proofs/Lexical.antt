@@ -16,9 +16,6 @@ step-at-fixed = fixed lexical.step_at.Reads.Learnt (λ κs a x y l m. l ∙ sym 
 pub strip-lexical-fixed : Determined lexical.strip_lexical.ended (λ κs z. z) lexical.strip_lexical.Reads.ensures
 strip-lexical-fixed = fixed lexical.strip_lexical.Reads.Learnt (λ κs a x y l m. wrote-once l m)
 
-pub last-char-fixed : Determined lexical.last_char.ended (λ κs z. z) lexical.last_char.Reads.ensures
-last-char-fixed = fixed lexical.last_char.Reads.Learnt (λ κs a x y l m. l ∙ sym m)
-
 pub phi-rhs-pure-fixed : Determined lexical.phi_rhs_pure.ended (λ κs z. z) lexical.phi_rhs_pure.Reads.ensures
 phi-rhs-pure-fixed = fixed lexical.phi_rhs_pure.Reads.Learnt (λ κs a x y l m. l ∙ sym m)
 

@@ -125,22 +125,6 @@ module _ {s out : List ℕ} {i : ℕ} {t : Tail} (h : LexAt s i t out) where
   pub lex-room : length out ≤ length (stripLexical s)
   lex-room = let k = lex-grows (drop i s) 0 out in let e = ap length (h .so-far) in omega arith
 
--- the loop of `last_char`
-pub record LastInv (s : List ℕ) (i : ℕ) (t : Tail) : Type 0 where
-  pub done : List ℕ
-  pub lex : LexAt s i t done
-
-pub last-start : (s : List ℕ) (t : Tail) → t ≡ tailOf [] → LastInv s 0 t
-last-start s t e = record { done = []; lex = lex-start s t e }
-
-module _ {s : List ℕ} {i : ℕ} {t : Tail} (h : LastInv s i t) where
-  pub last-next : (r : Step) → r ≡ cleanStep i t (drop i s) → i < length s → LastInv s (r .next) (r .tail)
-  last-next r q l = record { done = h .done ++ leaves (r .kind) (getD s i 0); lex = lex-next (h .lex) r q l }
-
-  pub last-end : length s ≤ i → t .last ≡ lastOf (stripLexical s)
-  unfolding tailOf
-  last-end l = ap (λ (u : Tail). u .last) (h .lex .tail) ∙ ap lastOf (lex-end (h .lex) l)
-
 -- the loop of `strip_lexical`
 pub record StripInv (s d₀ : List ℕ) (o : ℕ) (d : List ℕ) (p i : ℕ) (t : Tail) : Type 0 where
   pub room : o + length (stripLexical s) ≤ length d₀

@@ -9,7 +9,7 @@ ghost use Rattle.lines.specs.Inner.Lf.{lacks};
 ghost use Rattle.lines.specs.Inner.Out.{Wrote};
 ghost use Rattle.text.specs.White.{isWhite};
 ghost use Rattle.text.specs.Trim.{point, whiteChar};
-ghost use Rattle.lexical.specs.Lex.{quoteLen, patternLen, commentLen, patternAfter, token, leaves, lastOf, stripLexical};
+ghost use Rattle.lexical.specs.Lex.{quoteLen, patternLen, commentLen, patternAfter, token, leaves, stripLexical};
 ghost use Rattle.lexical.specs.Inner.Lex.{tokenAt, tailOf, lastAfter, pushed, grown, cleanStep};
 ghost use Rattle.lexical.specs.Inner.Plain.{isPlain, plainLen, isMild, allMild, lowLast, lowTail};
 ghost use Rattle.lexical.specs.Phi.{phiRhsPure};
@@ -535,20 +535,6 @@ pub fn strip_lexical(s: &[u8], out: &mut [u8], o: usize) -> usize
         }
     }
     p
-}
-
-// The last character of the cleaned line that is no white space, or 256 where there is none; of several bytes the last.
-pub fn last_char(s: &[u8]) -> u16
-    ensures { λ r. ⌜ r ≡ lastOf (stripLexical (now (s .entry))) ⌝ }
-{
-    let mut i = 0;
-    let mut tail = no_tail();
-    while i < s.len() {
-        let step = step_at(s, i, tail);
-        tail = step.tail;
-        i = step.next;
-    }
-    tail.last
 }
 
 // What of the bytes seen decides whether a value is pure: the last, whether it is an `=` that may still become `==`, and whether
