@@ -22,4 +22,4 @@ pub shorter-fixed : Determined slots.shorter.ended (λ κs z. z) slots.shorter.R
 shorter-fixed = fixed slots.shorter.Reads.Learnt (λ κs a x y l m. l ∙ sym m)
 
 pub gather-fixed : Determined slots.gather.gather.ended (λ κs z. z) slots.gather.gather.Reads.ensures
-gather-fixed = fixed-by slots.gather.gather.Reads.Learnt (λ w κs a x. one w) (λ κs a x y l m. (l .1 ∙ sym (m .1), l .0 ∙ sym (m .0)))
+gather-fixed = fixed-by slots.gather.gather.Reads.Learnt (λ w κs a x. more w (one w)) (λ κs a x y l m. (l .1 ∙ sym (m .1), l .0 ∙ sym (m .0)))
