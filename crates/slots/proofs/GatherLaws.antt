@@ -1,62 +1,98 @@
 -- Laws of the numbers of a text. Assumes nothing.
-use Prim.Native.Nat.{ℕ, zero, suc, _+_, _-_, _*_, _≤_, _<_}
+use Prim.Native.Nat.{ℕ, _+_, _-_, _*_, _%_, _^_, _≤_, _<_, max}
 use mathlib.Core.Path.{_≡_, refl, sym, ap, _∙_}
 use mathlib.Core.Bool.{Bool, true, false, cond, _&&_, _||_}
 use mathlib.Core.List.{List, [], _∷_}
 use native.Mathlib.Numerals.{add-one}
 use native.Mathlib.Omega.{arith}
-use borrow.Author.Tests.{lt-ltb, le-ltb}
+use borrow.Author.Tests.{lt-ltb, le-ltb, ltb-true, ltb-false}
 use lib.Dec.{ltb}
-use lib.ListN.{length, take, drop, getD, set, length-drop, length-set, drop-of-length-le}
-use lib.Seq.{drop-cons, drop-drop, take-all}
-use Rattle.lines.proofs.Tests.{and-true}
+use lib.ListN.{length, drop, getD, length-drop, length-set, drop-of-length-le}
+use lib.Seq.{drop-cons, getD-drop}
+use Rattle.lines.proofs.Tests.{or-false, and-false, is-in, is-below, is-above}
 use Rattle.names.specs.Names.{isDigit}
 use Rattle.slots.specs.Inner.Slots.{spot, claimed}
-use Rattle.slots.specs.Inner.Gather.{fourNear, longGo, hasLong, grown, entered, enteredAll}
+use Rattle.slots.specs.Inner.Gather.{fourDigits, hasLong, grown, entered, enteredAll}
 
 -- ---- looking for four digits
 
--- nothing is found in nothing
-pub long-none : (k : ℕ) → longGo k [] ≡ false
-unfolding longGo
-long-none zero = refl
-long-none (suc k) = long-none k
-
--- more places than the text has change nothing
-pub long-enough : (k m : ℕ) (t : List ℕ) → length t ≤ k → length t ≤ m → longGo k t ≡ longGo m t
-unfolding longGo
-long-enough zero m [] h g = sym (long-none m)
-long-enough zero m (x ∷ t) h g = absurd (omega arith)
-long-enough (suc k) m t h g = by m t h g (long-enough k)
+-- how far a byte stands above `0`, by a difference that wraps
+pub above-digit : (r b : ℕ) → r < 256 → (r + 48) % 2 ^ 8 ≡ b → ltb r 10 ≡ isDigit b
+above-digit r b h e = go (ltb r 208) refl
   where
-    by : (m : ℕ) (t : List ℕ) → length t ≤ suc k → length t ≤ m → ((m : ℕ) (t : List ℕ) → length t ≤ k → length t ≤ m → longGo k t ≡ longGo m t) → longGo (suc k) t ≡ longGo m t
-    by zero [] h g on = long-none k
-    by zero (x ∷ t) h g on = absurd (omega arith)
-    by (suc m) t h g on = let l = length-drop 4 t in ap (λ (b : Bool). fourNear t || b) (on m (drop 4 t) (omega (arith, l, h)) (omega (arith, l, g)))
+    low : r < 208 → b ≡ r + 48
+    low g = omega (arith, e, g)
 
-module _ (t : List ℕ) (i : ℕ) where
-  pub long-here : i < length t → fourNear (drop i t) ≡ true → longGo (length t - i) (drop i t) ≡ true
-  unfolding longGo
-  long-here h e = let z : length t - i ≡ suc (length t - i - 1) = omega arith in ap (λ (k : ℕ). longGo k (drop i t)) z ∙ rw e
+    high : 208 ≤ r → b < 48
+    high g = omega (arith, e, g, h)
 
-  long-step : i < length t → fourNear (drop i t) ≡ false → longGo (length t - i) (drop i t) ≡ longGo (length t - i - 1) (drop 4 (drop i t))
-  unfolding longGo
-  long-step h e = let z : length t - i ≡ suc (length t - i - 1) = omega arith in ap (λ (k : ℕ). longGo k (drop i t)) z ∙ rw e
+    digit : r < 208 → (t : Bool) → ltb r 10 ≡ t → t ≡ isDigit b
+    digit g true k = sym (is-in 48 57 b (omega (arith, low g)) (let l = ltb-true r 10 k in omega (arith, low g, l)))
+    digit g false k = sym (is-above 48 57 b (let l = ltb-false r 10 k in omega (arith, low g, l)))
 
-  pub long-last : i < length t → length t - i ≤ 4 → fourNear (drop i t) ≡ false → longGo (length t - i) (drop i t) ≡ false
-  long-last h l e = let m = length-drop i t in long-step h e ∙ ap (λ (s : List ℕ). longGo (length t - i - 1) s) (drop-of-length-le (drop i t) {i = 4} (omega (arith, m, l))) ∙ long-none (length t - i - 1)
+    go : (t : Bool) → ltb r 208 ≡ t → ltb r 10 ≡ isDigit b
+    go true k = digit (ltb-true r 208 k) (ltb r 10) refl
+    go false k = let l = ltb-false r 208 k in le-ltb r 10 (omega (arith, l)) ∙ sym (is-below 48 57 b (high l))
 
-  pub long-on : i < length t → 4 < length t - i → fourNear (drop i t) ≡ false → longGo (length t - i) (drop i t) ≡ longGo (length t - (i + 4)) (drop (i + 4) t)
-  long-on h l e =
-      let m = length-drop (i + 4) t in
-      long-step h e ∙ ap (λ (s : List ℕ). longGo (length t - i - 1) s) (drop-drop 4 i t) ∙ long-enough (length t - i - 1) (length t - (i + 4)) (drop (i + 4) t) (omega (arith, m)) (omega (arith, m))
+-- the greater of two is below a bound where both are
+pub max-below : (a b n : ℕ) → ltb (max a b) n ≡ ltb a n && ltb b n
+max-below a b n = go (ltb a n) refl (ltb b n) refl
+  where
+    go : (s : Bool) → ltb a n ≡ s → (t : Bool) → ltb b n ≡ t → ltb (max a b) n ≡ s && t
+    go true e true f = let p = ltb-true a n e in let q = ltb-true b n f in lt-ltb (max a b) n (omega (arith, p, q))
+    go true e false f = let q = ltb-false b n f in le-ltb (max a b) n (omega (arith, q))
+    go false e t f = let p = ltb-false a n e in le-ltb (max a b) n (omega (arith, p))
 
-  pub long-end : length t ≤ i → longGo (length t - i) (drop i t) ≡ false
-  long-end h = ap (λ (s : List ℕ). longGo (length t - i) s) (drop-of-length-le t h) ∙ long-none (length t - i)
+-- the greatest of four
+pub four-below : (t : List ℕ) (i a b c d : ℕ) {f g r : ℕ} → ltb a 10 ≡ isDigit (getD t i 0) → ltb b 10 ≡ isDigit (getD t (i + 1) 0) → ltb c 10 ≡ isDigit (getD t (i + 2) 0) → ltb d 10 ≡ isDigit (getD t (i + 3) 0)
+    → f ≡ max a b → g ≡ max c d → r ≡ max f g → ltb r 10 ≡ fourDigits (drop i t)
+four-below t i a b c d {f} {g} {r} p q u v x y z =
+    let o : i + 0 ≡ i = omega arith in
+    ap (λ (m : ℕ). ltb m 10) z ∙ max-below f g 10
+    ∙ rw (x, y, max-below a b 10, max-below c d 10, p, q, u, v, getD-drop i t 0 0, getD-drop i t 1 0, getD-drop i t 2 0, getD-drop i t 3 0, o)
 
-  -- the rest of a text as a part of it
-  pub rest-is : i ≤ length t → take (length t - i) (drop i t) ≡ drop i t
-  rest-is h = let m = length-drop i t in take-all (length t - i) (drop i t) (omega (arith, m))
+-- the least of what was seen is x or what it was
+pub least-new : (x m : ℕ) (b : Bool) → x < m → ltb m 10 || (ltb x 10 || b) ≡ ltb x 10 || b
+least-new x m b h = go (ltb m 10) refl
+  where
+    go : (t : Bool) → ltb m 10 ≡ t → t || (ltb x 10 || b) ≡ ltb x 10 || b
+    go true e = let l = ltb-true m 10 e in sym (ap (λ (s : Bool). s || b) (lt-ltb x 10 (omega (arith, h, l))))
+    go false e = refl
+
+pub least-old : (x m : ℕ) (b : Bool) → m ≤ x → ltb m 10 || (ltb x 10 || b) ≡ ltb m 10 || b
+least-old x m b h = go (ltb m 10) refl
+  where
+    go : (t : Bool) → ltb m 10 ≡ t → t || (ltb x 10 || b) ≡ t || b
+    go true e = refl
+    go false e = let l = ltb-false m 10 e in ap (λ (s : Bool). s || b) (le-ltb x 10 (omega (arith, h, l)))
+
+-- m is the least of what was seen of a text, and x what is seen at its place i
+module _ (t : List ℕ) (i m : ℕ) where
+  module _ (x : ℕ) (h : i < length t) (e : ltb x 10 ≡ fourDigits (drop i t)) where
+    long-here : hasLong (drop i t) ≡ ltb x 10 || hasLong (drop (i + 1) t)
+    unfolding hasLong
+    long-here = rw (e, add-one i, drop-cons t i 0 h)
+
+    pub long-new : x < m → ltb x 10 || hasLong (drop (i + 1) t) ≡ ltb m 10 || hasLong (drop i t)
+    long-new l = sym (ap (λ (b : Bool). ltb m 10 || b) long-here ∙ least-new x m (hasLong (drop (i + 1) t)) l)
+
+    pub long-old : m ≤ x → ltb m 10 || hasLong (drop (i + 1) t) ≡ ltb m 10 || hasLong (drop i t)
+    long-old l = sym (ap (λ (b : Bool). ltb m 10 || b) long-here ∙ least-old x m (hasLong (drop (i + 1) t)) l)
+
+  -- three bytes are too few
+  pub long-none : length t ≤ i + 3 → hasLong (drop i t) ≡ false
+  unfolding hasLong
+  long-none h = let l = length-drop i t in go (drop i t) (omega (arith, l, h))
+    where
+      go : (s : List ℕ) → length s ≤ 3 → hasLong s ≡ false
+      go [] k = refl
+      go (a ∷ []) k = simp (and-false)
+      go (a ∷ b ∷ []) k = simp (and-false)
+      go (a ∷ b ∷ c ∷ []) k = simp (and-false)
+      go (a ∷ b ∷ c ∷ d ∷ s) k = absurd (omega (arith, k))
+
+  pub long-end : length t ≤ i + 3 → ltb m 10 ≡ ltb m 10 || hasLong (drop i t)
+  long-end h = sym (ap (λ (b : Bool). ltb m 10 || b) (long-none h) ∙ or-false (ltb m 10))
 
 -- ---- entering numbers
 

@@ -1,9 +1,11 @@
 // The owners of a text: its numbers of four digits and more take places, in their order.
 ghost use mathlib.Core.Path.{_≡_};
 ghost use mathlib.Core.Bool.{true};
-ghost use lib.ListN.{getD};
+ghost use Prim.Native.Nat.{_+_, _≤_, max};
+ghost use lib.Dec.{ltb};
+ghost use lib.ListN.{length, drop};
 ghost use Rattle.names.specs.Names.{isDigit};
-ghost use Rattle.slots.specs.Inner.Gather.{fourNear, hasLong, grown, entered, enteredAll, gathered, gatheredLen};
+ghost use Rattle.slots.specs.Inner.Gather.{fourDigits, hasLong, grown, entered, enteredAll, gathered, gatheredLen};
 
 // Numbers of more digits than this grow no more.
 const LARGE: usize = 1000000000000000000;
@@ -14,44 +16,54 @@ fn is_digit(b: u8) -> bool
     (b'0' <= b) & (b <= b'9')
 }
 
-// Whether a digit stands at a place.
-fn digit_at(w: &[u8], k: usize) -> bool
-    ensures { λ r. ⌜ r ≡ isDigit (getD (now (w .entry)) k 0) ⌝ }
+// The greater of two bytes.
+fn higher(a: u8, b: u8) -> u8
+    ensures { λ r. ⌜ r ≡ max a b ⌝ }
 {
-    is_digit(lines::byte_at(w, k))
+    if a <= b {
+        return b;
+    }
+    a
 }
 
-// Whether the fourth byte is a digit, and one of four.
-fn four_near(w: &[u8]) -> bool
-    ensures { λ r. ⌜ r ≡ fourNear (now (w .entry)) ⌝ }
+// How far a byte stands above `0`: a digit less than ten, and no other byte.
+fn above_zero(b: u8) -> u8
+    ensures { λ r. ⌜ ltb r 10 ≡ isDigit b ⌝ }
 {
-    if !digit_at(w, 3) {
-        return false;
-    }
-    if digit_at(w, 2) {
-        if digit_at(w, 1) {
-            return digit_at(w, 0) | digit_at(w, 4);
-        }
-        return digit_at(w, 4) & digit_at(w, 5);
-    }
-    digit_at(w, 4) & (digit_at(w, 5) & digit_at(w, 6))
+    std::num::wrapping_sub_u8(b, b'0')
 }
 
-// Whether a text has a number of four digits: every fourth byte is looked at.
+// How far the four bytes at a place stand above `0` at most.
+fn four_above(s: &[u8], i: usize) -> u8
+    requires { ⌜ i + 4 ≤ length (now s) ⌝ }
+    ensures { λ r. ⌜ ltb r 10 ≡ fourDigits (drop i (now (s .entry))) ⌝ }
+{
+    let front = higher(above_zero(s[i]), above_zero(s[i + 1]));
+    let back = higher(above_zero(s[i + 2]), above_zero(s[i + 3]));
+    higher(front, back)
+}
+
+// Whether a text has a number of four digits: the least of what `four_above` says of its places tells. It goes on to the end, so that the
+// compiler compares many bytes at a time.
 fn has_long(text: &[u8]) -> bool
     ensures { λ r. ⌜ r ≡ hasLong (now (text .entry)) ⌝ }
 {
-    let mut i = 0;
-    while i < text.len() {
-        if four_near(&text[i..]) {
-            return true;
-        }
-        if text.len() - i <= 4 {
-            return false;
-        }
-        i += 4;
+    if text.len() < 4 {
+        return false;
     }
-    false
+    let end = text.len() - 3;
+    let mut least = 255;
+    let mut i = 0;
+    while i < end {
+        let x = four_above(text, i);
+        if x < least {
+            least = x;
+            i += 1;
+        } else {
+            i += 1;
+        }
+    }
+    least < 10
 }
 
 // Enters a number, where it is not low.

@@ -1,10 +1,10 @@
 -- The owners of a text: its numbers of four digits and more take places, in their order. Assumes nothing.
-use Prim.Native.Nat.{ℕ, zero, suc, _+_, _-_, _*_}
+use Prim.Native.Nat.{ℕ, _+_, _-_, _*_}
 use Prim.Native.Char.{code}
 use mathlib.Core.Bool.{Bool, false, cond, _&&_, _||_}
 use mathlib.Core.List.{List, [], _∷_}
 use lib.Dec.{ltb}
-use lib.ListN.{length, drop, getD}
+use lib.ListN.{length, getD}
 use Rattle.names.specs.Names.{isDigit}
 use Rattle.slots.specs.Inner.Slots.{claimed}
 
@@ -14,18 +14,14 @@ use Rattle.slots.specs.Inner.Slots.{claimed}
 abbrev pub digitAt : List ℕ → ℕ → Bool
 digitAt t k = isDigit (getD t k 0)
 
--- the fourth byte is a digit, and one of four
-abbrev pub fourNear : List ℕ → Bool
-fourNear t =
-    digitAt t 3 && cond (digitAt t 2) (cond (digitAt t 1) (digitAt t 0 || digitAt t 4) (digitAt t 4 && digitAt t 5)) (digitAt t 4 && (digitAt t 5 && digitAt t 6))
+-- four digits stand at the front
+abbrev pub fourDigits : List ℕ → Bool
+fourDigits t = (digitAt t 0 && digitAt t 1) && (digitAt t 2 && digitAt t 3)
 
--- so it is here, or four bytes further, of k places that are looked at
-unfoldable pub longGo : ℕ → List ℕ → Bool
-longGo zero t = false
-longGo (suc k) t = fourNear t || longGo k (drop 4 t)
-
-abbrev pub hasLong : List ℕ → Bool
-hasLong t = longGo (length t) t
+-- four digits stand next to each other somewhere
+unfoldable pub hasLong : List ℕ → Bool
+hasLong [] = false
+hasLong (b ∷ t) = fourDigits (b ∷ t) || hasLong t
 
 -- ---- the numbers
 
