@@ -50,6 +50,6 @@ unfolding rows upTo prefixed same cutOn partsOf isWhite seqLen whiteChar whiteHe
 examples = refl
 
 -- the key of `t7` is its number, `t07` and `t007` have others, and `t` and `r7` have none
-pub keys : map keyOf (ascii "t7" ∷ ascii "t07" ∷ ascii "t007" ∷ ascii "t" ∷ ascii "r7" ∷ []) ≡ number.Of 7 ∷ number.Of (2 ^ 63 + 449) ∷ number.Of (2 ^ 63 + 450) ∷ number.None ∷ number.None ∷ []
+pub keys : map keyOf (ascii "t7" ∷ ascii "t07" ∷ ascii "t007" ∷ ascii "t" ∷ ascii "r7" ∷ []) ≡ number.Of 7 ∷ number.Of (2 ^ 63 + 2 ^ 57 + 640) ∷ number.Of (2 ^ 63 + 2 ^ 58 + 1273) ∷ number.None ∷ number.None ∷ []
 unfolding keyOf prefixed zeros numbered readNumber
 keys = refl

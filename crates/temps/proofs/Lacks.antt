@@ -1,21 +1,23 @@
 -- Laws of texts in which no digit stands after a `t`: they store no temp, and stay as they are. Assumes nothing.
-use Prim.Native.Nat.{ℕ, zero, suc, _+_, _-_, _≤_, min}
+use Prim.Native.Nat.{ℕ, zero, suc, _+_, _-_, _≤_, _<_}
 use mathlib.Core.Path.{_≡_, refl, sym, ap, _∙_}
 use mathlib.Core.Bool.{Bool, true, false, cond, not, _&&_, _||_}
 use mathlib.Core.List.{List, [], _∷_, _++_}
+use native.Mathlib.Numerals.{add-one}
+use native.Mathlib.Omega.{arith}
 use borrow.Author.Tests.{not-true}
 use lib.Dec.{eqb, ltb}
-use lib.ListN.{length, take, drop, getD, drop-of-length-le}
-use lib.Seq.{drop-drop}
-use Rattle.lines.specs.Lf.{part, upTo, linesOf, unlines, prefixed, all}
+use lib.ListN.{length, take, drop, getD, length-drop}
+use lib.Seq.{drop-cons, getD-drop}
+use Rattle.lines.specs.Lf.{upTo, linesOf, unlines, prefixed, all}
 use Rattle.lines.specs.Acts.{act, apply}
-use Rattle.lines.proofs.Tests.{no, and-false, and-left, and-right, eqb-sym}
-use Rattle.lines.proofs.LfLaws.{rest-of, drop-min}
+use Rattle.lines.proofs.Tests.{no, or-false, and-false, and-left, and-right}
 use Rattle.text.specs.Trim.{fromOf, toOf, trimStart, trimOf}
 use Rattle.names.specs.Names.{isDigit, allDigits, isTemp}
 use Rattle.reading.specs.Reading.{Reading, plain}
 use Rattle.reading.specs.Assign.{unended, isAssign, leftOf}
 use Rattle.lines.proofs.Lacking.{lines-lack}
+use Rattle.slots.proofs.GatherLaws.{least-new, least-old}
 use Rattle.temps.specs.Temps.{tempAct, tempActs, pruneDeadTempsActs, pruneDeadTemps}
 use Rattle.temps.specs.Inner.Scratch.{tempIn, scratchLine, tempScratch}
 
@@ -98,42 +100,29 @@ module _ (t : List ℕ) (h : tempIn t ≡ false) where
   pub lack-scratch : (d : List ℕ) → d ≡ tempScratch (linesOf t) d
   lack-scratch d = sym (keep-scratch (linesOf t) d (lines-lack tempIn lack-rest lack-take t h))
 
--- ---- the search
+-- ---- the search: m is the least of what was seen of a text, and x what is seen at its place i
 
--- a digit after a `t` at the front of a text
-abbrev pub tempFront : List ℕ → Bool
-tempFront l = eqb 116 (getD l 0 0) && isDigit (getD l 1 0)
+module _ (s : List ℕ) (i m : ℕ) where
+  module _ (x : ℕ) (h : i < length s) (e : ltb x 10 ≡ eqb 116 (getD s i 0) && isDigit (getD s (i + 1) 0)) where
+    temp-here : tempIn (drop i s) ≡ ltb x 10 || tempIn (drop (i + 1) s)
+    unfolding tempIn
+    temp-here = let o : suc i + 0 ≡ suc i = omega arith in rw (e, add-one i, drop-cons s i 0 h, getD-drop (suc i) s 0 0, o)
 
-in-here : (l : List ℕ) → tempFront l ≡ true → tempIn l ≡ true
-unfolding tempIn
-in-here [] e = no e
-in-here (x ∷ l) e = rw e
+    pub temp-new : x < m → ltb x 10 || tempIn (drop (i + 1) s) ≡ ltb m 10 || tempIn (drop i s)
+    temp-new l = sym (ap (λ (b : Bool). ltb m 10 || b) temp-here ∙ least-new x m (tempIn (drop (i + 1) s)) l)
 
-in-on : (l : List ℕ) → tempFront l ≡ false → tempIn l ≡ tempIn (drop 1 l)
-unfolding tempIn
-in-on [] e = refl
-in-on (x ∷ l) e = rw e
+    pub temp-old : m ≤ x → ltb m 10 || tempIn (drop (i + 1) s) ≡ ltb m 10 || tempIn (drop i s)
+    temp-old l = sym (ap (λ (b : Bool). ltb m 10 || b) temp-here ∙ least-old x m (tempIn (drop (i + 1) s)) l)
 
-up-in : (l : List ℕ) → tempIn (drop (upTo 116 l) l) ≡ tempIn l
-unfolding upTo tempIn
-up-in [] = refl
-up-in (x ∷ l) = go (eqb x 116) refl (up-in l)
-  where
-    go : (b : Bool) → eqb x 116 ≡ b → tempIn (drop (upTo 116 l) l) ≡ tempIn l → tempIn (drop (cond b 0 (suc (upTo 116 l))) (x ∷ l)) ≡ (eqb 116 x && isDigit (getD l 0 0)) || tempIn l
-    go true e on = refl
-    go false e on = rw (eqb-sym 116 x, e) on
+  -- one byte is too few
+  pub temp-none : length s ≤ i + 1 → tempIn (drop i s) ≡ false
+  unfolding tempIn
+  temp-none h = let l = length-drop i s in go (drop i s) (omega (arith, l, h))
+    where
+      go : (s : List ℕ) → length s ≤ 1 → tempIn s ≡ false
+      go [] k = refl
+      go (a ∷ []) k = simp (and-false)
+      go (a ∷ b ∷ s) k = absurd (omega (arith, k))
 
--- j is the place of the next `t`, and t the text from there on
-module _ (s : List ℕ) (i j : ℕ) (q : j ≡ i + upTo 116 (drop i s)) (t : List ℕ) (z : t ≡ part j (length s) s) where
-  in-find : tempIn t ≡ tempIn (drop i s)
-  in-find = ap tempIn (z ∙ rest-of s j ∙ ap (λ (n : ℕ). drop n s) q ∙ sym (drop-drop (upTo 116 (drop i s)) i s)) ∙ up-in (drop i s)
-
-  pub find-hit : tempFront t ≡ true → tempIn (drop i s) ≡ true
-  find-hit e = sym in-find ∙ in-here t e
-
-  pub find-on : (k : ℕ) → k ≡ min (j + 1) (length s) → tempFront t ≡ false → tempIn (drop i s) ≡ tempIn (drop k s)
-  find-on k y e = sym in-find ∙ in-on t e ∙ ap tempIn (ap (drop 1) (z ∙ rest-of s j) ∙ drop-drop 1 j s ∙ sym (drop-min (j + 1) s) ∙ ap (λ (n : ℕ). drop n s) (sym y))
-
-pub find-none : (s : List ℕ) (i : ℕ) → length s ≤ i → tempIn (drop i s) ≡ false
-unfolding tempIn
-find-none s i h = ap tempIn (drop-of-length-le s h)
+  pub temp-end : length s ≤ i + 1 → ltb m 10 ≡ ltb m 10 || tempIn (drop i s)
+  temp-end h = sym (ap (λ (b : Bool). ltb m 10 || b) (temp-none h) ∙ or-false (ltb m 10))

@@ -63,14 +63,14 @@ module _ (n : ℕ) where
   key-high h = rw (le-ltb n (2 ^ 63) h)
 
   module _ (z : ℕ) (p : z ≡ 0 → ⊥) where
-    pub key-led : z < 64 → n < 2 ^ 57 → keyBy z (number.Of n) ≡ number.Of (2 ^ 63 + (64 * n + z))
-    key-led g h = rw (ne-eqb z 0 p, lt-ltb z 64 g, lt-ltb n (2 ^ 57) h)
+    pub key-led : z < 63 → n < 2 ^ 57 → keyBy z (number.Of n) ≡ number.Of (2 ^ 63 + ((2 ^ 57 + 633) * z + n))
+    key-led g h = rw (ne-eqb z 0 p, lt-ltb z 63 g, lt-ltb n (2 ^ 57) h)
 
-    pub key-long : 64 ≤ z → keyBy z (number.Of n) ≡ number.None
-    key-long g = rw (ne-eqb z 0 p, le-ltb z 64 g)
+    pub key-long : 63 ≤ z → keyBy z (number.Of n) ≡ number.None
+    key-long g = rw (ne-eqb z 0 p, le-ltb z 63 g)
 
     pub key-great : 2 ^ 57 ≤ n → keyBy z (number.Of n) ≡ number.None
-    key-great h = rw (ne-eqb z 0 p, le-ltb n (2 ^ 57) h, and-false (ltb z 64))
+    key-great h = rw (ne-eqb z 0 p, le-ltb n (2 ^ 57) h, and-false (ltb z 63))
 
 -- a number is not none, and is one
 none-of : {A : Type 0} (n : ℕ) → number.None ≡ number.Of n → A
@@ -89,20 +89,20 @@ of-one m n h = ap worth h
 
 -- what a key is of: z zeros and the number n
 pub record Led (z n k : ℕ) : Type 0 where
-  pub few : z < 64
-  pub low : (z ≡ 0 → ⊥) → k ≡ 2 ^ 63 + (64 * n + z)
+  pub low : (z ≡ 0 → ⊥) → k ≡ 2 ^ 63 + ((2 ^ 57 + 633) * z + n)
   pub bare : z ≡ 0 → k ≡ n
   pub fits : z ≡ 0 → n < 2 ^ 63
+  pub small : (z ≡ 0 → ⊥) → n < 2 ^ 57
 
 key-by : (z n k : ℕ) → keyBy z (number.Of n) ≡ number.Of k → Led z n k
-key-by z n k h = go (eqb z 0) refl (ltb n (2 ^ 63)) refl (ltb z 64) refl (ltb n (2 ^ 57)) h
+key-by z n k h = go (eqb z 0) refl (ltb n (2 ^ 63)) refl (ltb z 63) refl (ltb n (2 ^ 57)) refl h
   where
-    go : (a : Bool) → eqb z 0 ≡ a → (b : Bool) → ltb n (2 ^ 63) ≡ b → (c : Bool) → ltb z 64 ≡ c → (d : Bool) → cond a (cond b (number.Of n) number.None) (cond (c && d) (number.Of (2 ^ 63 + (64 * n + z))) number.None) ≡ number.Of k → Led z n k
-    go true e true f c g d h = record { few = omega (arith, eqb-true z 0 e); low = λ p. absurd (p (eqb-true z 0 e)); bare = λ p. sym (of-one n k h); fits = λ p. ltb-true n (2 ^ 63) f }
-    go true e false f c g d h = none-of k h
-    go false e b f true g true h = record { few = ltb-true z 64 g; low = λ p. sym (of-one (2 ^ 63 + (64 * n + z)) k h); bare = λ p. absurd (eqb-false z 0 e p); fits = λ p. absurd (eqb-false z 0 e p) }
-    go false e b f true g false h = none-of k h
-    go false e b f false g d h = none-of k h
+    go : (a : Bool) → eqb z 0 ≡ a → (b : Bool) → ltb n (2 ^ 63) ≡ b → (c : Bool) → ltb z 63 ≡ c → (d : Bool) → ltb n (2 ^ 57) ≡ d → cond a (cond b (number.Of n) number.None) (cond (c && d) (number.Of (2 ^ 63 + ((2 ^ 57 + 633) * z + n))) number.None) ≡ number.Of k → Led z n k
+    go true e true f c g d i h = record { low = λ p. absurd (p (eqb-true z 0 e)); bare = λ p. sym (of-one n k h); fits = λ p. ltb-true n (2 ^ 63) f; small = λ p. absurd (p (eqb-true z 0 e)) }
+    go true e false f c g d i h = none-of k h
+    go false e b f true g true i h = record { low = λ p. sym (of-one (2 ^ 63 + ((2 ^ 57 + 633) * z + n)) k h); bare = λ p. absurd (eqb-false z 0 e p); fits = λ p. absurd (eqb-false z 0 e p); small = λ p. ltb-true n (2 ^ 57) i }
+    go false e b f true g false i h = none-of k h
+    go false e b f false g d i h = none-of k h
 
 -- two texts of one key have as many zeros, and one number
 led-one : (z n y m k : ℕ) → Led z n k → Led y m k → (z ≡ y) × (n ≡ m)
@@ -115,9 +115,9 @@ led-one z n y m k p q = go (eqb z 0) refl (eqb y 0) refl
     go false e false f =
         let e₁ = p .low (eqb-false z 0 e) in
         let f₁ = q .low (eqb-false y 0 f) in
-        let a = p .few in
-        let b = q .few in
-        let s : 64 * n + z ≡ 64 * m + y = omega (arith, e₁, f₁) in
+        let a = p .small (eqb-false z 0 e) in
+        let b = q .small (eqb-false y 0 f) in
+        let s : (2 ^ 57 + 633) * z + n ≡ (2 ^ 57 + 633) * y + m = omega (arith, e₁, f₁) in
         (omega (arith, a, b, s), omega (arith, a, b, s))
 
 -- the zeros that lead are zeros

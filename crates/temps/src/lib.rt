@@ -5,8 +5,8 @@ ghost use mathlib.Core.Path.{_≡_};
 ghost use mathlib.Core.Bool.{true, not, _&&_, _||_};
 ghost use mathlib.Core.List.{List};
 ghost use Prim.Native.Nat.{ℕ, _≤_, _+_};
-ghost use lib.Dec.{eqb};
-ghost use lib.ListN.{length, getD, replicate};
+ghost use lib.Dec.{eqb, ltb};
+ghost use lib.ListN.{length, replicate};
 ghost use Rattle.lines.specs.Lf.{partsOf, linesOf, unlines, prefixed, same};
 ghost use Rattle.lines.specs.Inner.Out.{Wrote};
 ghost use Rattle.names.specs.Names.{isDigit, isTemp};
@@ -258,27 +258,37 @@ fn prune_tables(
     prune_with(text, own, declared, read, scratch, out)
 }
 
-// Whether a text begins with a `t` and a digit.
-fn temp_front(t: &[u8]) -> bool
-    ensures { λ r. ⌜ r ≡ eqb 116 (getD (now (t .entry)) 0 0) && isDigit (getD (now (t .entry)) 1 0) ⌝ }
+// How far the second of two bytes stands above `0`, where the first is a `t`: a digit less than ten, and no other byte.
+fn after_t(a: u8, b: u8) -> u8
+    ensures { λ r. ⌜ ltb r 10 ≡ eqb 116 a && isDigit b ⌝ }
 {
-    let d = lines::byte_at(t, 1);
-    (b't' == lines::byte_at(t, 0)) & ((b'0' <= d) & (d <= b'9'))
+    if a == b't' {
+        return std::num::wrapping_sub_u8(b, b'0');
+    }
+    255
 }
 
-// Whether a digit stands after a `t` somewhere.
+// Whether a digit stands after a `t` somewhere: the least of what `after_t` says tells. It goes on to the end, so that the compiler
+// compares many bytes at a time.
 fn has_temp(s: &[u8]) -> bool
     ensures { λ r. ⌜ r ≡ tempIn (now (s .entry)) ⌝ }
 {
-    let mut i = 0;
-    while i < s.len() {
-        let j = lines::find_byte(s, i, b't');
-        if temp_front(lines::cut(s, j, s.len())) {
-            return true;
-        }
-        i = lines::after(s, j);
+    if s.len() == 0 {
+        return false;
     }
-    false
+    let end = s.len() - 1;
+    let mut least = 255;
+    let mut i = 0;
+    while i < end {
+        let x = after_t(s[i], s[i + 1]);
+        if x < least {
+            least = x;
+            i += 1;
+        } else {
+            i += 1;
+        }
+    }
+    least < 10
 }
 
 // A store of a declared temp that nothing reads goes, where its value is pure. Each line is followed by one LF; the values of the stores

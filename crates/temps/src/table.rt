@@ -14,8 +14,15 @@ pub enum Flag {
     Past,
 }
 
-// Keys from here on are those of temps with zeros in front: less than 64 of them, and a number below a 64th of this.
+// Keys from here on are those of temps with zeros in front: less than `MANY` of them, and a number below `GREAT`.
 const LED: u64 = 9223372036854775808;
+
+const MANY: usize = 63;
+
+const GREAT: u64 = 144115188075855872;
+
+// The keys for one more zero begin so much higher: more than there are numbers, and not at the same places of a table of owners.
+const STRIDE: u64 = GREAT + 633;
 
 // The key of the number n behind z zeros.
 fn key_by(z: usize, n: u64) -> names::Number
@@ -27,13 +34,13 @@ fn key_by(z: usize, n: u64) -> names::Number
         }
         return names::Number::None;
     }
-    if 64 <= z {
+    if MANY <= z {
         return names::Number::None;
     }
-    if LED / 64 <= n {
+    if GREAT <= n {
         return names::Number::None;
     }
-    names::Number::Of(LED + (64 * n + z as u64))
+    names::Number::Of(LED + (STRIDE * z as u64 + n))
 }
 
 // The key of a temp: of `t7` it is 7, and of `t07` another.

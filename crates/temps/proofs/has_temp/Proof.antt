@@ -1,52 +1,63 @@
+-- `temps::has_temp` meets its contract. Assumes nothing.
+use borrow.Author.Needs.{needs}
+use native.Mathlib.Omega.{arith}
 use Prim.Native.Nat.{_-_}
 use mathlib.Core.Path.{_≡_, refl, sym, _∙_}
-use native.Mathlib.Omega.{arith}
-use lib.ListN.{length, drop}
-use borrow.Author.Needs.{needs}
-use Rattle.lines.proofs.Tests.{so}
+use mathlib.Core.Bool.{_||_}
+use lib.Dec.{ltb}
+use lib.ListN.{drop}
 use Rattle.temps.specs.Inner.Scratch.{tempIn}
-use Rattle.temps.proofs.Lacks.{find-hit, find-on, find-none}
+use Rattle.temps.proofs.Lacks.{temp-new, temp-old, temp-none, temp-end}
 use Rattle.temps.proofs.has_temp.Statement.{statement}
 use Rattle.temps.proofs.has_temp.Tie as tie
-use Rattle.temps.proofs.has_temp.Reads as reads
-use Rattle.temps.proofs.has_temp.Lts as lts
-use Rattle.lines.proofs.after.Reads as after-reads
-use Rattle.lines.proofs.cut.Reads as cut-reads
-use Rattle.lines.proofs.find_byte.Reads as find-byte-reads
-use Rattle.temps.proofs.temp_front.Reads as temp-front-reads
 
 abbrev Inv-loop : tie.InvT-loop
-Inv-loop s i₀ i = tempIn (drop i s) ≡ tempIn s
+Inv-loop s end least₀ i₀ least i = ltb least 10 || tempIn (drop i s) ≡ tempIn s
 
 abbrev μ-loop : tie.MeasureT-loop
-μ-loop s i₀ i = length s - i
+μ-loop s end least₀ i₀ least i = end - i
+
+returns : tie.Need-returns Inv-loop μ-loop
+returns c = sym (temp-none (c .before .before .args .s .now) 0 0 (omega (arith, c .if1 .taken)))
+
+sub-end : tie.Need-sub-end Inv-loop μ-loop
+sub-end c = omega arith
 
 loop-holds : tie.Need-loop-holds Inv-loop μ-loop
 loop-holds c = refl
 
-find-byte-requires : tie.Need-find-byte-requires Inv-loop μ-loop
-find-byte-requires c κs = search needs
+shared-slice-read-after-t : tie.Need-shared-slice-read-after-t Inv-loop μ-loop
+shared-slice-read-after-t c = omega arith
 
-cut-requires : tie.Need-cut-requires Inv-loop μ-loop
-cut-requires c κs = search needs
+add-after-t : tie.Need-add-after-t Inv-loop μ-loop
+add-after-t c = omega arith
 
-temp-front-requires : tie.Need-temp-front-requires Inv-loop μ-loop
-temp-front-requires c κs = search needs
+shared-slice-read-after-t-2 : tie.Need-shared-slice-read-after-t-2 Inv-loop μ-loop
+shared-slice-read-after-t-2 c = omega arith
 
-returns : tie.Need-returns Inv-loop μ-loop
-returns c = sym (find-hit (c .before .before .before .before .before .before .before .args .s .now) (c .before .before .before .before .before .loop .i) (c .before .before .before .find-byte .result) (c .before .before .before .find-byte .ensures) (c .before .before .cut .result .now) (c .before .before .cut .ensures) (so (c .before .temp-front .ensures) (c .if1 .taken))) ∙ c .before .before .before .before .before .loop .inv
+after-t-requires : tie.Need-after-t-requires Inv-loop μ-loop
+after-t-requires c κs = search needs
 
-after-requires : tie.Need-after-requires Inv-loop μ-loop
-after-requires c κs = search needs
+add-i : tie.Need-add-i Inv-loop μ-loop
+add-i c = omega arith
 
 loop-less : tie.Need-loop-less Inv-loop μ-loop
-loop-less c = omega (arith, c .after .ensures, c .before .before .before .before .find-byte .ensures, c .before .before .before .before .before .loop-test .taken)
+loop-less c = omega arith
 
 loop-again : tie.Need-loop-again Inv-loop μ-loop
-loop-again c = sym (find-on (c .before .before .before .before .before .before .before .before .args .s .now) (c .before .before .before .before .before .before .loop .i) (c .before .before .before .before .find-byte .result) (c .before .before .before .before .find-byte .ensures) (c .before .before .before .cut .result .now) (c .before .before .before .cut .ensures) (c .after .result) (c .after .ensures) (so (c .before .before .temp-front .ensures) (c .before .if1 .left))) ∙ c .before .before .before .before .before .before .loop .inv
+loop-again c = temp-new (c .before .before .before .before .before .before .before .before .args .s .now) (c .before .before .before .before .before .loop .i) (c .before .before .before .before .before .loop .least) (c .before .after-t .result) (omega arith) (c .before .after-t .ensures) (c .if2 .taken) ∙ c .before .before .before .before .before .loop .inv
+
+add-i-2 : tie.Need-add-i-2 Inv-loop μ-loop
+add-i-2 c = omega arith
+
+loop-less-2 : tie.Need-loop-less-2 Inv-loop μ-loop
+loop-less-2 c = omega arith
+
+loop-again-2 : tie.Need-loop-again-2 Inv-loop μ-loop
+loop-again-2 c = temp-old (c .before .before .before .before .before .before .before .before .args .s .now) (c .before .before .before .before .before .loop .i) (c .before .before .before .before .before .loop .least) (c .before .after-t .result) (omega arith) (c .before .after-t .ensures) (c .if2 .left) ∙ c .before .before .before .before .before .loop .inv
 
 returns-2 : tie.Need-returns-2 Inv-loop μ-loop
-returns-2 c = sym (find-none (c .before .before .before .args .s .now) (c .before .loop .i) (c .loop-test .left)) ∙ c .before .loop .inv
+returns-2 c = temp-end (c .before .before .before .before .args .s .now) (c .before .loop .i) (c .before .loop .least) (omega arith) ∙ c .before .loop .inv
 
 pub has-temp-spec : {M : Type 1} → statement M
 has-temp-spec =
@@ -54,12 +65,17 @@ has-temp-spec =
     (tie.spec
     Inv-loop
     μ-loop
-    loop-holds
-    find-byte-requires
-    cut-requires
-    temp-front-requires
     returns
-    after-requires
+    sub-end
+    loop-holds
+    shared-slice-read-after-t
+    add-after-t
+    shared-slice-read-after-t-2
+    after-t-requires
+    add-i
     loop-less
     loop-again
+    add-i-2
+    loop-less-2
+    loop-again-2
     returns-2)

@@ -21,11 +21,12 @@ use Rattle.slots.specs.Inner.Slots.{slotOf, entryOf, withEntry}
 use Rattle.temps.specs.declared.table.Flag.{Flag}
 use Rattle.temps.specs.declared.table.Flag.the-variants as flag
 
--- the key of the number n behind z zeros, another for each text: the number itself where no zero leads; none where it would be too high
+-- the key of the number n behind z zeros, another for each text: the number itself where no zero leads; none where it would be too high. The keys
+-- of one number behind more and more zeros fall on places of the owners that are far from each other.
 abbrev pub keyBy : ℕ → Number → Number
 keyBy z number.None = number.None
 keyBy z (number.Of n) =
-    cond (eqb z 0) (cond (ltb n (2 ^ 63)) (number.Of n) number.None) (cond (ltb z 64 && ltb n (2 ^ 57)) (number.Of (2 ^ 63 + (64 * n + z))) number.None)
+    cond (eqb z 0) (cond (ltb n (2 ^ 63)) (number.Of n) number.None) (cond (ltb z 63 && ltb n (2 ^ 57)) (number.Of (2 ^ 63 + ((2 ^ 57 + 633) * z + n))) number.None)
 
 -- the key of a temp: of `t7` it is 7, and of `t07` another
 unfoldable pub keyOf : List ℕ → Number

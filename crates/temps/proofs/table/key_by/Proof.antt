@@ -27,8 +27,8 @@ returns-4 : tie.Need-returns-4
 returns-4 c = sym (key-great (c .before .before .before .args .n) (c .before .before .before .args .z) (c .before .before .if1 .left) (omega (arith, c .if4 .taken)))
 
 -- src/table.rt:36:30
-mul-t5 : tie.Need-mul-t5
-mul-t5 c = omega (arith, c .if4 .left)
+mul-t6 : tie.Need-mul-t6
+mul-t6 c = omega (arith, c .before .if3 .left)
 
 -- src/table.rt:36:30
 add-t7 : tie.Need-add-t7
@@ -44,4 +44,4 @@ returns-5 c = sym (key-led (c .before .before .before .args .n) (c .before .befo
 
 pub key-by-spec : {M : Type 1} → statement M
 key-by-spec =
-    tie.close (tie.spec returns returns-2 returns-3 returns-4 mul-t5 add-t7 add-t8 returns-5)
+    tie.close (tie.spec returns returns-2 returns-3 returns-4 mul-t6 add-t7 add-t8 returns-5)
