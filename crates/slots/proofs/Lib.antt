@@ -1,2 +1,3 @@
 pub mod SlotLaws
 pub mod GatherLaws
+pub mod Examples
