@@ -26,7 +26,7 @@ fn purity(a: &[u8], coded: bool, out: &mut [u8]) -> usize {
     if out.len() < a.len() {
         return nothing();
     }
-    let p = expr::purity(a, out);
+    let p = expr::purity(a, false, out);
     if coded {
         return say_byte(out, 0, code(p));
     }

@@ -7,6 +7,12 @@ use Rattle.determined.proofs.Outcomes.{Determined, fixed}
 pub token-at-fixed : Determined lexical.token_at.ended (λ κs z. z) lexical.token_at.Reads.ensures
 token-at-fixed = fixed lexical.token_at.Reads.Learnt (λ κs a x y l m. l ∙ sym m)
 
+pub quote-end-fixed : Determined lexical.quote_end.ended (λ κs z. z) lexical.quote_end.Reads.ensures
+quote-end-fixed = fixed lexical.quote_end.Reads.Learnt (λ κs a x y l m. l ∙ sym m)
+
+pub quote-shut-fixed : Determined lexical.quote_shut.ended (λ κs z. z) lexical.quote_shut.Reads.ensures
+quote-shut-fixed = fixed lexical.quote_shut.Reads.Learnt (λ κs a x y l m. l ∙ sym m)
+
 pub push-fixed : Determined lexical.push.ended (λ κs z. z) lexical.push.Reads.ensures
 push-fixed = fixed lexical.push.Reads.Learnt (λ κs a x y l m. l ∙ sym m)
 

@@ -165,16 +165,16 @@ bare-split a s h =
     (not-true _ (and-left t u k), (not-true _ (and-right t u k), and-right (t && u) (noComment s) h))
 
 -- no pair begins with another byte
-other : (a : ℕ) (p l : List ℕ) → eqb 47 a ≡ false → prefixed (47 ∷ p) (a ∷ l) ≡ false
+pub other : (a : ℕ) (p l : List ℕ) → eqb 47 a ≡ false → prefixed (47 ∷ p) (a ∷ l) ≡ false
 unfolding prefixed
 other a p l e = rw e
 
 -- a pair of which the first byte is there has another second byte
-second : (y a b : ℕ) (s : List ℕ) → eqb 47 a ≡ true → prefixed (47 ∷ y ∷ []) (a ∷ b ∷ s) ≡ false → eqb y b ≡ false
+pub second : (y a b : ℕ) (s : List ℕ) → eqb 47 a ≡ true → prefixed (47 ∷ y ∷ []) (a ∷ b ∷ s) ≡ false → eqb y b ≡ false
 unfolding prefixed
 second y a b s e h = sym (and-true (eqb y b)) ∙ (rw e at h)
 
-pair : (y a b : ℕ) (r s : List ℕ) → prefixed (47 ∷ y ∷ []) (a ∷ b ∷ r) ≡ prefixed (47 ∷ y ∷ []) (a ∷ b ∷ s)
+pub pair : (y a b : ℕ) (r s : List ℕ) → prefixed (47 ∷ y ∷ []) (a ∷ b ∷ r) ≡ prefixed (47 ∷ y ∷ []) (a ∷ b ∷ s)
 unfolding prefixed
 pair y a b r s = refl
 
@@ -232,7 +232,7 @@ cut-once s = bare-strip (stripComments s) (cut-bare s)
 
 -- ---- parts of a text without comments have none
 
-prefix-less : (p x y : List ℕ) → prefixed p (x ++ y) ≡ false → prefixed p x ≡ false
+pub prefix-less : (p x y : List ℕ) → prefixed p (x ++ y) ≡ false → prefixed p x ≡ false
 unfolding prefixed
 prefix-less [] x y h = h
 prefix-less (c ∷ p) [] y h = refl

@@ -1,12 +1,16 @@
 -- Worked examples of purity, as one table: document 01's rows, and more of each shape. Assumes nothing.
 use Prim.Native.Nat.{ℕ}
 use mathlib.Core.Path.{_≡_, refl}
+use mathlib.Core.Bool.{true}
 use mathlib.Core.List.{List, [], _∷_, map}
+use Rattle.lines.specs.Ascii.{ascii}
 use Rattle.lines.specs.Lf.{prefixed, same}
 use Rattle.names.specs.Names.{numbered, readNumber, regOf, isIdent}
 use Rattle.expr.specs.Fix.{deep, fix}
+use Rattle.lexical.specs.Lex.{quoteLen, quoteShut}
 use Rattle.expr.specs.Comments.{strip, stripComments}
-use Rattle.expr.specs.Pure.{spaceStart, spaceEnd, spaceTrim, wrapped, shapeOf, openings, closings, elements, pureBy, judge, purityOf}
+use Rattle.expr.specs.Quotes.{cutGo, stripQuoted, isClosed}
+use Rattle.expr.specs.Pure.{spaceStart, spaceEnd, spaceTrim, wrapped, shapeOf, openings, closings, elements, pureBy, judge, purityIn, purityOf}
 use Rattle.expr.specs.declared.kinds.Purity.{Purity}
 use Rattle.expr.specs.declared.kinds.Purity.the-variants.{Stable, Ident, Effectful}
 
@@ -47,5 +51,36 @@ rows =
 
 -- the purity of each text by the definitions is the one that the table says
 pub examples : map (λ (r : Row). purityOf (r .text)) rows ≡ map (λ (r : Row). r .kind) rows
-unfolding rows prefixed same numbered readNumber regOf isIdent deep fix strip stripComments spaceStart spaceEnd spaceTrim wrapped shapeOf openings closings elements pureBy judge purityOf
+unfolding rows prefixed same numbered readNumber regOf isIdent deep fix strip stripComments spaceStart spaceEnd spaceTrim wrapped shapeOf openings closings elements pureBy judge purityIn
 examples = refl
+
+-- in strict mode: what is no single literal is no string, and a comment mark inside quotes is none
+unfoldable pub strictRows : List Row
+strictRows =
+    row (ascii "\"a\" + f() + \"b\"") Effectful
+    ∷ row (ascii "\"http://x\"") Stable
+    ∷ row (ascii "'a' + 'b'") Effectful
+    ∷ row (ascii "[\"http://x\", 'a//b']") Stable
+    ∷ row (ascii "[[\"a\", [b, \"/*\"]], 1]") Stable
+    ∷ row (ascii "[\"a,b\"]") Effectful
+    ∷ row (ascii "\"a\\\"\"") Stable
+    ∷ row (ascii "\"a\\\"") Effectful
+    ∷ row (ascii "\"a\\\\\"") Stable
+    ∷ row (ascii "\"a\" /* c */") Stable
+    ∷ row (ascii "/* \"x\" */ \"y\"") Stable
+    ∷ row (ascii "\"") Effectful
+    ∷ row (ascii "\"\"") Stable
+    ∷ row (ascii "\"a'b\"") Stable
+    ∷ row (ascii "'a\" + f() + \"b'") Stable
+    ∷ row (ascii "`a`") Effectful
+    ∷ row (ascii "r1 // \"") Stable
+    ∷ row (ascii "[`,`]") Effectful
+    ∷ row (ascii "\"a\" + `/*` + f() /* */ + \"b\"") Effectful
+    ∷ row (ascii "0xff") Effectful
+    ∷ row (ascii "[,1]") Effectful
+    ∷ row (ascii "[1,]") Stable
+    ∷ []
+
+pub strict-examples : map (λ (r : Row). purityIn true (r .text)) strictRows ≡ map (λ (r : Row). r .kind) strictRows
+unfolding strictRows prefixed same numbered readNumber regOf isIdent deep fix quoteLen quoteShut cutGo stripQuoted isClosed spaceStart spaceEnd spaceTrim wrapped shapeOf openings closings elements pureBy judge purityIn
+strict-examples = refl

@@ -1,6 +1,9 @@
 pub mod FixLaws
 pub mod CommentLaws
+pub mod QuoteLaws
 pub mod SpaceLaws
 pub mod PureLaws
+pub mod TidyLaws
+pub mod OnceLaws
 pub mod WalkLaws
 pub mod Examples

@@ -1,6 +1,6 @@
 -- Laws of purity: it is its rule with itself inside it, and cutting once is cutting at each level. Assumes nothing.
-use Prim.Native.Nat.{ℕ, zero, suc, _+_, _-_, _≤_, _<_}
-use mathlib.Core.Path.{_≡_, refl, sym, ap, _∙_}
+use Prim.Native.Nat.{ℕ, suc, _+_, _-_, _≤_, _<_}
+use mathlib.Core.Path.{_≡_, refl, ap, _∙_}
 use mathlib.Core.Bool.{Bool, true, false, cond, _&&_}
 use mathlib.Core.List.{List, [], _∷_, _++_}
 use native.Mathlib.Omega.{arith}
@@ -11,17 +11,17 @@ use lib.Seq.{append-snoc}
 use Rattle.lines.specs.Lf.{all, isEmpty}
 use Rattle.lines.proofs.Tests.{and-left}
 use Rattle.names.specs.Names.{regOf, isIdent, isReg}
-use Rattle.expr.specs.Fix.{deep, fix}
-use Rattle.expr.specs.Comments.{stripComments}
+use Rattle.expr.specs.Fix.{fix}
 use Rattle.expr.specs.Inner.Comments.{noComment}
-use Rattle.expr.specs.Pure.{isSpace, spaceStart, spaceEnd, spaceTrim, isWord, startsNumber, isNumberByte, wrapped, isQuoted, shapeOf, inner, openings, closings, elements, isPure, pureBy, judge, cutRule, purityRule, purityOf}
+use Rattle.expr.specs.Pure.{isSpace, spaceStart, spaceEnd, spaceTrim, isWord, startsNumber, isNumberByte, wrapped, quotedIn, shapeOf, inner, openings, closings, elements, isPure, pureBy, judge, cutIn, cutRule, purityRule, purityIn}
 use Rattle.expr.specs.Inner.Pure.{purityCut}
 use Rattle.expr.specs.declared.kinds.Shape.{Shape}
 use Rattle.expr.specs.declared.kinds.Shape.the-variants.{Plain, Array}
 use Rattle.expr.specs.declared.kinds.Purity.{Purity}
 use Rattle.expr.specs.declared.kinds.Purity.the-variants.{Stable, Ident, Effectful}
 use Rattle.expr.proofs.FixLaws.{fix-rule}
-use Rattle.expr.proofs.CommentLaws.{strip-length, cut-bare, bare-strip, cut-once, bare-left, bare-right}
+use Rattle.expr.proofs.CommentLaws.{bare-left, bare-right}
+use Rattle.expr.proofs.QuoteLaws.{cut-length}
 use Rattle.expr.proofs.SpaceLaws.{end-rest}
 
 -- ---- what holds of each part of a text of which it holds
@@ -110,11 +110,12 @@ array-by false false false false m false true i h = refl
 array-by false false false false m false false true h = cc
 array-by false false false false m false false false h = cc
 
-pub array-long : (t : List ℕ) → shapeOf t ≡ Array → 2 ≤ length t
+pub array-wrapped : (q : List ℕ → Bool) (t : List ℕ) → shapeOf q t ≡ Array → wrapped 91 93 t ≡ true
 unfolding shapeOf
-array-long t h =
-    wrapped-long 91 93 t
-    (array-by (isEmpty t) (isReg (regOf t)) (isWord t) (startsNumber t) (all isNumberByte t) (isQuoted t) (wrapped 91 93 t) (isIdent t) h)
+array-wrapped q t h = array-by (isEmpty t) (isReg (regOf t)) (isWord t) (startsNumber t) (all isNumberByte t) (q t) (wrapped 91 93 t) (isIdent t) h
+
+pub array-long : (q : List ℕ → Bool) (t : List ℕ) → shapeOf q t ≡ Array → 2 ≤ length t
+array-long q t h = wrapped-long 91 93 t (array-wrapped q t h)
 
 pub empty : (t : List ℕ) → length t ≡ 0 → isEmpty t ≡ true
 empty [] h = refl
@@ -126,45 +127,24 @@ full (a ∷ t) h = refl
 
 -- ---- the rule asks for shorter texts alone, so purity is the rule with itself inside it
 
-judge-same : (f g : List ℕ → Purity) (t : List ℕ) (k : Shape) → (k ≡ Array → pureBy f (inner t) ≡ pureBy g (inner t)) → judge f t k ≡ judge g t k
+pub judge-same : (f g : List ℕ → Purity) (t : List ℕ) (k : Shape) → (k ≡ Array → pureBy f (inner t) ≡ pureBy g (inner t)) → judge f t k ≡ judge g t k
 unfolding judge
 judge-same f g t (Plain p) h = refl
 judge-same f g t Array h = rw (h refl)
 
-shorter : (f g : List ℕ → Purity) (s : List ℕ) → ((e : List ℕ) → length e < length s → f e ≡ g e) → cutRule f s ≡ cutRule g s
-shorter f g s same =
+shorter : (q : List ℕ → Bool) (f g : List ℕ → Purity) (s : List ℕ) → ((e : List ℕ) → length e < length s → f e ≡ g e) → cutRule q f s ≡ cutRule q g s
+shorter q f g s same =
     let t = spaceTrim s in
-    judge-same f g t (shapeOf t) (λ k.
+    judge-same f g t (shapeOf q t) (λ k.
     pure-same (long-parts (length (inner t))) f g
-    (λ e h. same e (omega (arith, inner-le t, array-long t k, trim-le s)))
+    (λ e h. same e (omega (arith, inner-le t, array-long q t k, trim-le s)))
     (inner t) (omega arith))
 
-pub purity-eq : (s : List ℕ) → purityOf s ≡ judge purityOf (spaceTrim (stripComments s)) (shapeOf (spaceTrim (stripComments s)))
-unfolding purityOf
-purity-eq s = fix-rule purityRule Effectful length (λ f g t same. shorter f g (stripComments t) (λ e h. same e (omega (arith, strip-length t)))) s
+pub purity-eq : (strict : Bool) (s : List ℕ) → purityIn strict s ≡ judge (purityIn strict) (spaceTrim (cutIn strict s)) (shapeOf (quotedIn strict) (spaceTrim (cutIn strict s)))
+unfolding purityIn
+purity-eq strict s =
+    fix-rule (purityRule strict) Effectful length (λ f g t same. shorter (quotedIn strict) f g (cutIn strict t) (λ e h. same e (omega (arith, cut-length strict t)))) s
 
-pub cut-eq : (s : List ℕ) → purityCut s ≡ judge purityCut (spaceTrim s) (shapeOf (spaceTrim s))
+pub cut-eq : (q : List ℕ → Bool) (s : List ℕ) → purityCut q s ≡ judge (purityCut q) (spaceTrim s) (shapeOf q (spaceTrim s))
 unfolding purityCut
-cut-eq s = fix-rule cutRule Effectful length shorter s
-
--- ---- cut once, or at each level
-
-deep-same : (n : ℕ) (s : List ℕ) → noComment s ≡ true → deep purityRule Effectful n s ≡ deep cutRule Effectful n s
-unfolding deep
-deep-same zero s h = refl
-deep-same (suc n) s h =
-    let t = spaceTrim s in
-    ap (cutRule (deep purityRule Effectful n)) (bare-strip s h)
-    ∙ judge-same (deep purityRule Effectful n) (deep cutRule Effectful n) t (shapeOf t) (λ k.
-    pure-same bare-parts (deep purityRule Effectful n) (deep cutRule Effectful n) (λ e b. deep-same n e b) (inner t)
-    (part-inner bare-parts t (part-trim bare-parts s h)))
-
-pub bare-purity : (s : List ℕ) → noComment s ≡ true → purityOf s ≡ purityCut s
-unfolding purityOf purityCut fix
-bare-purity s h = deep-same (suc (length s)) s h
-
--- the purity by the rules, which cut at each level, is that of the text cut once
-pub purity-once : (s : List ℕ) → purityOf s ≡ purityCut (stripComments s)
-purity-once s =
-    purity-eq s ∙ sym (purity-eq (stripComments s) ∙ ap (cutRule purityOf) (cut-once s))
-    ∙ bare-purity (stripComments s) (cut-bare s)
+cut-eq q s = fix-rule (cutRule q) Effectful length (shorter q) s

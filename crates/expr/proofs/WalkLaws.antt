@@ -67,11 +67,11 @@ part-falls s a e t m = let k : length (part a e s) ≤ length s = simp (length-t
 
 -- ---- the purity of a text whose trimmed form has that shape
 
-module _ (s r : List ℕ) (k : Shape) (e : r ≡ spaceTrim s) (h : k ≡ shapeOf r) where
-  pub cut-plain : (p : Purity) → k ≡ Plain p → p ≡ purityCut s
+module _ (q : List ℕ → Bool) (s r : List ℕ) (k : Shape) (e : r ≡ spaceTrim s) (h : k ≡ shapeOf q r) where
+  pub cut-plain : (p : Purity) → k ≡ Plain p → p ≡ purityCut q s
   unfolding judge
-  cut-plain p g = sym (cut-eq s ∙ rw (← e, ← h, g))
+  cut-plain p g = sym (cut-eq q s ∙ rw (← e, ← h, g))
 
-  pub cut-array : (b : Bool) → k ≡ Array → b ≡ pureBy purityCut (part 1 (length r - 1) r) → cond b Stable Effectful ≡ purityCut s
+  pub cut-array : (b : Bool) → k ≡ Array → b ≡ pureBy (purityCut q) (part 1 (length r - 1) r) → cond b Stable Effectful ≡ purityCut q s
   unfolding judge
-  cut-array b g q = sym (cut-eq s ∙ rw (← e, ← h, g, ← q))
+  cut-array b g p = sym (cut-eq q s ∙ rw (← e, ← h, g, ← p))

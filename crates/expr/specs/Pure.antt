@@ -12,6 +12,7 @@ use Rattle.names.specs.declared.RegName.{RegName}
 use Rattle.names.specs.declared.RegName.the-variants as name
 use Rattle.expr.specs.Fix.{fix}
 use Rattle.expr.specs.Comments.{stripComments}
+use Rattle.expr.specs.Quotes.{stripQuoted, isClosed}
 use Rattle.expr.specs.declared.kinds.Shape.{Shape}
 use Rattle.expr.specs.declared.kinds.Shape.the-variants.{Plain, Array}
 use Rattle.expr.specs.declared.kinds.Purity.{Purity}
@@ -70,14 +71,19 @@ wrapped x y t = leb 2 (length t) && (eqb (getD t 0 0) x && eqb (getD t (length t
 abbrev pub isQuoted : List ℕ → Bool
 isQuoted t = wrapped (code "\"") (code "\"") t || wrapped (code "'") (code "'") t
 
--- what a trimmed text is: an array, or something whose purity does not hang on its parts
-unfoldable pub shapeOf : List ℕ → Shape
-shapeOf t =
+-- a string, in strict mode or plain: one literal, or in `"` or in `'`
+abbrev pub quotedIn : Bool → List ℕ → Bool
+quotedIn true t = isClosed t
+quotedIn false t = isQuoted t
+
+-- what a trimmed text is, where `quoted` tells a string: an array, or something whose purity does not hang on its parts
+unfoldable pub shapeOf : (List ℕ → Bool) → List ℕ → Shape
+shapeOf quoted t =
     cond (isEmpty t) (Plain Effectful)
     (cond (isReg (regOf t)) (Plain Stable)
     (cond (isWord t) (Plain Stable)
     (cond (startsNumber t) (cond (all isNumberByte t) (Plain Stable) (Plain Effectful))
-    (cond (isQuoted t) (Plain Stable)
+    (cond (quoted t) (Plain Stable)
     (cond (wrapped (code "[") (code "]") t) Array
     (cond (isIdent t) (Plain Ident)
     (Plain Effectful)))))))
@@ -124,14 +130,23 @@ judge f t Array = cond (pureBy f (inner t)) Stable Effectful
 
 -- ---- the whole
 
+-- a text without its comments, in strict mode or plain: cut outside quotes, or without regard to quotes
+abbrev pub cutIn : Bool → List ℕ → List ℕ
+cutIn true s = stripQuoted s
+cutIn false s = stripComments s
+
 -- white space is trimmed; the purity of an array asks for its elements, and each element asks for purity again
-abbrev pub cutRule : (List ℕ → Purity) → List ℕ → Purity
-cutRule f s = judge f (spaceTrim s) (shapeOf (spaceTrim s))
+abbrev pub cutRule : (List ℕ → Bool) → (List ℕ → Purity) → List ℕ → Purity
+cutRule quoted f s = judge f (spaceTrim s) (shapeOf quoted (spaceTrim s))
 
 -- the same, where comments are cut before: at each level anew, as in the Rust
-abbrev pub purityRule : (List ℕ → Purity) → List ℕ → Purity
-purityRule f s = cutRule f (stripComments s)
+abbrev pub purityRule : Bool → (List ℕ → Purity) → List ℕ → Purity
+purityRule strict f s = cutRule (quotedIn strict) f (cutIn strict s)
 
--- `purity`
-unfoldable pub purityOf : List ℕ → Purity
-purityOf = fix purityRule Effectful length
+-- `purity`, in strict mode or plain
+unfoldable pub purityIn : Bool → List ℕ → Purity
+purityIn strict = fix (purityRule strict) Effectful length
+
+-- `purity`, as the Rust has it
+abbrev pub purityOf : List ℕ → Purity
+purityOf = purityIn false

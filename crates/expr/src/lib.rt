@@ -11,7 +11,8 @@ ghost use Rattle.lines.specs.Lf.{prefixed, all};
 ghost use Rattle.lines.specs.Inner.Out.{putAt, Wrote};
 ghost use Rattle.names.specs.Names.{isDigit, regOf, isReg};
 ghost use Rattle.expr.specs.Comments.{stripComments};
-ghost use Rattle.expr.specs.Pure.{isSpace, spaceStart, spaceEnd, spaceTrim, isWord, startsNumber, isNumberByte, wrapped, isQuoted, shapeOf, openings, closings, isPure, pureBy, purityOf};
+ghost use Rattle.expr.specs.Quotes.{stripQuoted, isClosed};
+ghost use Rattle.expr.specs.Pure.{isSpace, spaceStart, spaceEnd, spaceTrim, isWord, startsNumber, isNumberByte, wrapped, quotedIn, shapeOf, openings, closings, isPure, pureBy, cutIn, purityIn};
 ghost use Rattle.expr.specs.Inner.Pure.{purityCut};
 
 // Whether the bytes `x` and `y` stand at `i` and just after it.
@@ -70,6 +71,54 @@ pub fn strip_comments(s: &[u8], out: &mut [u8], o: usize) -> usize
         return lines::put(out, o, s);
     }
     strip_each(s, out, o)
+}
+
+// Writes `s` at `o` without the comments that stand outside quotes, and returns the place after it.
+fn strip_quoted(s: &[u8], out: &mut [u8], o: usize) -> usize
+    requires { ⌜ o + length (stripQuoted (now s)) ≤ length (now out) ⌝ }
+    ensures { λ r. ⌜ Wrote (now (out .entry)) o (stripQuoted (now (s .entry))) (now (out .exit)) r ⌝ }
+{
+    let mut i = 0;
+    let mut n = o;
+    let mut inside = false;
+    while i < s.len() {
+        let b = s[i];
+        if inside {
+            if two_at(s, i, b'*', b'/') {
+                out[n] = b' ';
+                n += 1;
+                i += 2;
+                inside = false;
+            } else {
+                i += 1;
+            }
+        } else if text::is_quote(b) {
+            let e = lexical::quote_end(s, i + 1, b);
+            n = lines::put(out, n, &s[i..e]);
+            i = e;
+        } else if two_at(s, i, b'/', b'*') {
+            i += 2;
+            inside = true;
+        } else if two_at(s, i, b'/', b'/') {
+            return n;
+        } else {
+            out[n] = b;
+            n += 1;
+            i += 1;
+        }
+    }
+    n
+}
+
+// Writes `s` at `o` without its comments, as the mode takes them.
+fn cut_in(s: &[u8], strict: bool, out: &mut [u8], o: usize) -> usize
+    requires { ⌜ o + length (cutIn strict (now s)) ≤ length (now out) ⌝ }
+    ensures { λ r. ⌜ Wrote (now (out .entry)) o (cutIn strict (now (s .entry))) (now (out .exit)) r ⌝ }
+{
+    if strict {
+        return strip_quoted(s, out, o);
+    }
+    strip_comments(s, out, o)
 }
 
 // Whether a byte is white space of ASCII.
@@ -197,16 +246,34 @@ fn wrapped(t: &[u8], x: u8, y: u8) -> bool
     (t[0] == x) & (t[n - 1] == y)
 }
 
-// Whether a text begins and ends with one quote. What stands between is not looked at.
-fn is_quoted(t: &[u8]) -> bool
-    ensures { λ r. ⌜ r ≡ isQuoted (now (t .entry)) ⌝ }
+// Whether the quote that a text begins with is closed by its last byte, escapes counted.
+fn is_closed(t: &[u8]) -> bool
+    ensures { λ r. ⌜ r ≡ isClosed (now (t .entry)) ⌝ }
 {
+    let q = lines::byte_at(t, 0);
+    if !((q == b'"') | (q == b'\'')) {
+        return false;
+    }
+    if lexical::quote_end(t, 1, q) != t.len() {
+        return false;
+    }
+    lexical::quote_shut(t, 1, q)
+}
+
+// Whether a text is a string: in strict mode one literal; else it begins and ends with one quote,
+// and what stands between is not looked at.
+fn is_quoted(t: &[u8], strict: bool) -> bool
+    ensures { λ r. ⌜ r ≡ quotedIn strict (now (t .entry)) ⌝ }
+{
+    if strict {
+        return is_closed(t);
+    }
     wrapped(t, b'"', b'"') | wrapped(t, b'\'', b'\'')
 }
 
 // What a trimmed text is: an array, or something whose purity does not hang on its parts.
-fn shape(t: &[u8]) -> Shape
-    ensures { λ r. ⌜ r ≡ shapeOf (now (t .entry)) ⌝ }
+fn shape(t: &[u8], strict: bool) -> Shape
+    ensures { λ r. ⌜ r ≡ shapeOf (quotedIn strict) (now (t .entry)) ⌝ }
 {
     if t.len() == 0 {
         return Shape::Plain(Purity::Effectful);
@@ -223,7 +290,7 @@ fn shape(t: &[u8]) -> Shape
         }
         return Shape::Plain(Purity::Effectful);
     }
-    if is_quoted(t) {
+    if is_quoted(t, strict) {
         return Shape::Plain(Purity::Stable);
     }
     if wrapped(t, b'[', b']') {
@@ -267,8 +334,8 @@ pub fn is_pure(p: Purity) -> bool
 }
 
 // Whether each element of an array is pure, `s` being what stands between its brackets.
-fn elements(s: &[u8]) -> bool
-    ensures { λ r. ⌜ r ≡ pureBy purityCut (now (s .entry)) ⌝ }
+fn elements(s: &[u8], strict: bool) -> bool
+    ensures { λ r. ⌜ r ≡ pureBy (purityCut (quotedIn strict)) (now (s .entry)) ⌝ }
 {
     let mut start = 0;
     let mut i = 0;
@@ -277,7 +344,7 @@ fn elements(s: &[u8]) -> bool
     while i < s.len() {
         let b = s[i];
         if (b == b',') & (opened == closed) {
-            if !is_pure(purity_cut(&s[start..i])) {
+            if !is_pure(purity_cut(&s[start..i], strict)) {
                 return false;
             }
             i += 1;
@@ -292,20 +359,20 @@ fn elements(s: &[u8]) -> bool
     if is_blank(last) {
         return true;
     }
-    is_pure(purity_cut(last))
+    is_pure(purity_cut(last, strict))
 }
 
 // The purity of a text whose comments are cut.
-fn purity_cut(s: &[u8]) -> Purity
-    ensures { λ r. ⌜ r ≡ purityCut (now (s .entry)) ⌝ }
+fn purity_cut(s: &[u8], strict: bool) -> Purity
+    ensures { λ r. ⌜ r ≡ purityCut (quotedIn strict) (now (s .entry)) ⌝ }
 {
     let t = space_trim(s);
-    let k = shape(t);
+    let k = shape(t, strict);
     match k {
         Shape::Plain(p) => p,
         Shape::Array => {
             let m = t.len() - 1;
-            if elements(&t[1..m]) {
+            if elements(&t[1..m], strict) {
                 Purity::Stable
             } else {
                 Purity::Effectful
@@ -314,12 +381,12 @@ fn purity_cut(s: &[u8]) -> Purity
     }
 }
 
-// The purity of a value. The text without its comments is left in `scratch`.
-pub fn purity(s: &[u8], scratch: &mut [u8]) -> Purity
-    requires { ⌜ length (stripComments (now s)) ≤ length (now scratch) ⌝ }
-    ensures answer { λ r. ⌜ r ≡ purityOf (now (s .entry)) ⌝ }
-    ensures memory { λ _. ⌜ now (scratch .exit) ≡ putAt (now (scratch .entry)) 0 (stripComments (now (s .entry))) ⌝ }
+// The purity of a value, in strict mode or plain. The text without its comments is left in `scratch`.
+pub fn purity(s: &[u8], strict: bool, scratch: &mut [u8]) -> Purity
+    requires { ⌜ length (cutIn strict (now s)) ≤ length (now scratch) ⌝ }
+    ensures answer { λ r. ⌜ r ≡ purityIn strict (now (s .entry)) ⌝ }
+    ensures memory { λ _. ⌜ now (scratch .exit) ≡ putAt (now (scratch .entry)) 0 (cutIn strict (now (s .entry))) ⌝ }
 {
-    let n = strip_comments(s, scratch, 0);
-    purity_cut(&scratch[..n])
+    let n = cut_in(s, strict, scratch, 0);
+    purity_cut(&scratch[..n], strict)
 }

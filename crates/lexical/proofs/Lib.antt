@@ -1,5 +1,6 @@
 pub mod ByteLaws
 pub mod EndLaws
+pub mod ShutLaws
 pub mod TokenLaws
 pub mod TailLaws
 pub mod LexLaws

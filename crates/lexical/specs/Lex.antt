@@ -25,6 +25,15 @@ quoteLen (x ∷ y ∷ l) q =
     let on = suc (quoteLen (y ∷ l) q) in
     cond (eqb x (code "\\")) escaped (cond (eqb x q) 1 on)
 
+-- whether that quote is closed at all
+unfoldable pub quoteShut : List ℕ → ℕ → Bool
+quoteShut [] q = false
+quoteShut (x ∷ []) q = not (eqb x (code "\\")) && eqb x q
+quoteShut (x ∷ y ∷ l) q =
+    let escaped = quoteShut l q in
+    let on = quoteShut (y ∷ l) q in
+    cond (eqb x (code "\\")) escaped (cond (eqb x q) true on)
+
 -- a pattern: a `/` inside a class `[..]` does not close it
 unfoldable pub patternLen : List ℕ → Bool → ℕ
 patternLen [] inside = 0

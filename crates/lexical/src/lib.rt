@@ -9,7 +9,7 @@ ghost use Rattle.lines.specs.Inner.Lf.{lacks};
 ghost use Rattle.lines.specs.Inner.Out.{Wrote};
 ghost use Rattle.text.specs.White.{isWhite};
 ghost use Rattle.text.specs.Trim.{point, whiteChar};
-ghost use Rattle.lexical.specs.Lex.{quoteLen, patternLen, commentLen, patternAfter, token, leaves, stripLexical};
+ghost use Rattle.lexical.specs.Lex.{quoteLen, quoteShut, patternLen, commentLen, patternAfter, token, leaves, stripLexical};
 ghost use Rattle.lexical.specs.Inner.Lex.{tokenAt, tailOf, lastAfter, pushed, grown, cleanStep};
 ghost use Rattle.lexical.specs.Inner.Plain.{isPlain, plainLen, isMild, allMild, lowLast, lowTail};
 ghost use Rattle.lexical.specs.Phi.{phiRhsPure};
@@ -31,7 +31,7 @@ pub struct Token {
 }
 
 // Where the quote `q` ends that was opened just before `i`: past what closes it, or at the end.
-fn quote_end(s: &[u8], i: usize, q: u8) -> usize
+pub fn quote_end(s: &[u8], i: usize, q: u8) -> usize
     ensures { λ r. ⌜ r ≡ i + quoteLen (drop i (now (s .entry))) q ⌝ }
 {
     let mut j = i;
@@ -47,6 +47,25 @@ fn quote_end(s: &[u8], i: usize, q: u8) -> usize
         }
     }
     j
+}
+
+// Whether the quote `q` that was opened just before `i` is closed.
+pub fn quote_shut(s: &[u8], i: usize, q: u8) -> bool
+    ensures { λ r. ⌜ r ≡ quoteShut (drop i (now (s .entry))) q ⌝ }
+{
+    let mut j = i;
+    while j < s.len() {
+        let b = s[j];
+        let next = j + 1;
+        if b == b'\\' {
+            j = lines::after(s, next);
+        } else if b == q {
+            return true;
+        } else {
+            j = next;
+        }
+    }
+    false
 }
 
 // Where the pattern ends that was opened just before `i`. A `/` inside a class does not close it.

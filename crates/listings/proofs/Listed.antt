@@ -10,7 +10,7 @@ use Rattle.names.specs.Names.{numbered, readNumber, decimalBy, decimal, regOf, 
 use Rattle.parse.specs.Parse.{allRegs, isDecl, storeIn, parseOf, textOf}
 use Rattle.expr.specs.Fix.{deep, fix}
 use Rattle.expr.specs.Comments.{strip, stripComments}
-use Rattle.expr.specs.Pure.{spaceStart, spaceEnd, spaceTrim, wrapped, shapeOf, openings, closings, elements, pureBy, judge, purityOf}
+use Rattle.expr.specs.Pure.{spaceStart, spaceEnd, spaceTrim, wrapped, shapeOf, openings, closings, elements, pureBy, judge, purityIn, purityOf}
 use Rattle.words.specs.Hits.{hitsGo, hits, oneHit, regHit, glueLeft, glueRight, glued, replacedAt, replaceReg}
 use Rattle.lexical.specs.Lex.{quoteLen, patternLen, commentLen, lastOf, tokenOf, lexGo, stripLexical}
 use Rattle.names.specs.declared.RegName.{RegName}
@@ -89,5 +89,5 @@ rows =
 
 -- the definitions answer as the table says
 pub listed : map (λ (r : Row). said (r .asked)) rows ≡ map (λ (r : Row). r .answer) rows
-unfolding rows said upTo prefixed suffixed same cutOn partsOf isWhite seqLen whiteChar whiteHead whiteTail lead fromOf endWhite toOf trimOf numbered readNumber decimalBy decimal regOf isIdent allRegs isDecl storeIn parseOf textOf deep fix strip stripComments spaceStart spaceEnd spaceTrim wrapped shapeOf openings closings elements pureBy judge purityOf hitsGo hits oneHit regHit glueLeft glueRight glued replacedAt replaceReg quoteLen patternLen commentLen lastOf tokenOf lexGo stripLexical
+unfolding rows said upTo prefixed suffixed same cutOn partsOf isWhite seqLen whiteChar whiteHead whiteTail lead fromOf endWhite toOf trimOf numbered readNumber decimalBy decimal regOf isIdent allRegs isDecl storeIn parseOf textOf deep fix strip stripComments spaceStart spaceEnd spaceTrim wrapped shapeOf openings closings elements pureBy judge purityIn hitsGo hits oneHit regHit glueLeft glueRight glued replacedAt replaceReg quoteLen patternLen commentLen lastOf tokenOf lexGo stripLexical
 listed = refl

@@ -262,7 +262,7 @@ fn pure_value(x: &[u8], scratch: &mut [u8]) -> bool
     ensures answer { λ r. ⌜ r ≡ pureIn plain (now (x .entry)) ⌝ }
     ensures memory { λ _. ⌜ now (scratch .exit) ≡ now (scratch .entry) ⌝ }
 {
-    let p = expr::purity(x, scratch);
+    let p = expr::purity(x, false, scratch);
     lines::wipe(scratch, x.len());
     expr::is_pure(p)
 }

@@ -31,7 +31,7 @@ use Rattle.lexical.specs.Inner.Phi.{sees, seesAll}
 use Rattle.expr.specs.Fix.{deep, fix}
 use Rattle.expr.specs.Comments.{strip, stripComments}
 use Rattle.expr.specs.Inner.Comments.{noComment}
-use Rattle.expr.specs.Pure.{spaceStart, spaceEnd, spaceTrim, wrapped, shapeOf, openings, closings, elements, pureBy, judge, purityOf}
+use Rattle.expr.specs.Pure.{spaceStart, spaceEnd, spaceTrim, wrapped, shapeOf, openings, closings, elements, pureBy, judge, purityIn}
 use Rattle.expr.specs.Inner.Pure.{purityCut}
 use Rattle.phis.specs.Phis.{isLet, allPhis, phiDecl, anyPhi, phiStore, phiOwn, phiReads, phiRead, phiStored, anyDead, livePhis, phiAct, phiActs, keeps, roundActs, round, pruneDeadPhis}
 use Rattle.reading.specs.Reading.{plain}
@@ -76,5 +76,5 @@ rows =
     ∷ []
 
 pub examples : map (λ (r : Row). pruneDeadPhis plain (r .lines)) rows ≡ map (λ (r : Row). r .result) rows
-unfolding rows upTo countOf prefixed suffixed same holds cutOn linesOf partsOf unlines lacks noLf act apply isWhite seqLen scan utf8Of whiteChar whiteHead whiteTail lead fromOf endWhite toOf trimOf numbered readNumber zeros decimalBy decimal numberAfter regOf phiOf isTemp isIdent allRegs isDecl storeIn parseOf textOf runsGo runs countBy upBy walkRuns runHits hitsGo hits oneHit regHit afterNew asTarget glueLeft glueRight glued replacedAt replaceReg quoteLen patternLen commentLen lastOf tokenOf tokenAt lexGo stripLexical tailOf pushed grown cleanStep isHeader headed regionsGo regions regionNext untilHeader region regionAt upHeader braceOf push count top stackAfter nextAfter blocksGo blocks cleaned mayAt depthAt depthAfter ownLine ownGo own startsAfter startsByLast startsAbove startsGo isAssign leftOf rightOf assignOf lineReads lineStores lineUses usedIn commas declAct keepNames actOf actsGo pruneDeclsActs pruneDecls anyOf assigns phiPure phiRhsPure sees seesAll deep fix strip stripComments noComment spaceStart spaceEnd spaceTrim wrapped shapeOf openings closings elements pureBy judge purityOf purityCut isLet allPhis phiDecl anyPhi phiStore phiOwn phiReads phiRead phiStored anyDead livePhis phiAct phiActs keeps roundActs round pruneDeadPhis
+unfolding rows upTo countOf prefixed suffixed same holds cutOn linesOf partsOf unlines lacks noLf act apply isWhite seqLen scan utf8Of whiteChar whiteHead whiteTail lead fromOf endWhite toOf trimOf numbered readNumber zeros decimalBy decimal numberAfter regOf phiOf isTemp isIdent allRegs isDecl storeIn parseOf textOf runsGo runs countBy upBy walkRuns runHits hitsGo hits oneHit regHit afterNew asTarget glueLeft glueRight glued replacedAt replaceReg quoteLen patternLen commentLen lastOf tokenOf tokenAt lexGo stripLexical tailOf pushed grown cleanStep isHeader headed regionsGo regions regionNext untilHeader region regionAt upHeader braceOf push count top stackAfter nextAfter blocksGo blocks cleaned mayAt depthAt depthAfter ownLine ownGo own startsAfter startsByLast startsAbove startsGo isAssign leftOf rightOf assignOf lineReads lineStores lineUses usedIn commas declAct keepNames actOf actsGo pruneDeclsActs pruneDecls anyOf assigns phiPure phiRhsPure sees seesAll deep fix strip stripComments noComment spaceStart spaceEnd spaceTrim wrapped shapeOf openings closings elements pureBy judge purityIn purityCut isLet allPhis phiDecl anyPhi phiStore phiOwn phiReads phiRead phiStored anyDead livePhis phiAct phiActs keeps roundActs round pruneDeadPhis
 examples = refl

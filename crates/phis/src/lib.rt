@@ -268,7 +268,7 @@ fn no_effect(x: &[u8], scratch: &mut [u8]) -> bool
     if lexical::phi_rhs_pure(x) {
         return true;
     }
-    expr::is_pure(expr::purity(x, scratch))
+    expr::is_pure(expr::purity(x, false, scratch))
 }
 
 // Writes a value as a statement.

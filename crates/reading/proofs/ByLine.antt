@@ -8,7 +8,7 @@ use Rattle.place.specs.Region.{isHeader}
 use Rattle.place.specs.Blocks.{cleaned}
 use Rattle.place.specs.Starts.{isBlank}
 use Rattle.place.proofs.Starts.{header-shown}
-use Rattle.reading.specs.Reading.{Reading, plain}
+use Rattle.reading.specs.Reading.{Reading, plain, readingOf}
 
 -- a reading that cleans each line by itself, and leaves of a header something that is not blank
 pub record ByLine (R : Reading) : Type 0 where
@@ -21,6 +21,12 @@ unfolding cleaned
 cleaned-map [] = refl
 cleaned-map (l ∷ ls) = ap (λ (r : List (List ℕ)). stripLexical l ∷ r) (cleaned-map ls)
 
--- the Rust's is one
+-- each mode's is one, and mode 0 is the Rust's
+pub mode-by-line : (k : ℕ) → ByLine (readingOf k)
+mode-by-line k = record { one = stripLexical; is = cleaned-map; shown = header-shown }
+
+pub plain-is : readingOf 0 ≡ plain
+plain-is = refl
+
 pub plain-by-line : ByLine plain
-plain-by-line = record { one = stripLexical; is = cleaned-map; shown = header-shown }
+plain-by-line = mode-by-line 0

@@ -1,8 +1,9 @@
 -- What the passes ask of values and of lines, as a parameter: what counts as pure, and how lines are cleaned. Assumes nothing.
-use Prim.Native.Nat.{ℕ}
+use Prim.Native.Nat.{ℕ, _%_}
 use mathlib.Core.Bool.{Bool}
 use mathlib.Core.List.{List}
-use Rattle.expr.specs.Pure.{isPure, purityOf}
+use lib.Dec.{eqb}
+use Rattle.expr.specs.Pure.{isPure, purityIn, purityOf}
 use Rattle.expr.specs.declared.kinds.Purity.{Purity}
 use Rattle.place.specs.Blocks.{cleaned}
 
@@ -14,6 +15,14 @@ pub record Reading : Type 0 where
 -- as the Rust reads
 abbrev pub plain : Reading
 plain = record { purity = purityOf; clean = cleaned }
+
+-- mode 1 is strict
+abbrev pub strictAt : ℕ → Bool
+strictAt k = eqb (k % 2) 1
+
+-- as mode k reads: 0 plain, 1 strict
+abbrev pub readingOf : ℕ → Reading
+readingOf k = record { purity = purityIn (strictAt k); clean = cleaned }
 
 -- `pure_expr`
 abbrev pub pureIn : Reading → List ℕ → Bool

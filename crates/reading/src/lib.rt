@@ -2,8 +2,19 @@
 ghost use mathlib.Core.Path.{_≡_};
 ghost use Prim.Native.Nat.{_+_, _%_};
 ghost use Rattle.lines.specs.Lf.{part, linesOf};
+ghost use Rattle.reading.specs.Reading.{strictAt};
 ghost use Rattle.reading.specs.Uses.{lineReads, storesBy, lineStores, lineUses, usedIn};
 ghost use Rattle.reading.specs.Inner.Assign.{sidesOf, assignOf};
+
+// How values and lines are read: 0 plain, 1 strict.
+pub struct Mode(pub usize);
+
+// Whether a mode is strict.
+pub fn is_strict(mode: Mode) -> bool
+    ensures { λ r. ⌜ r ≡ strictAt (mode .0) ⌝ }
+{
+    mode.0 % 2 == 1
+}
 
 // What a line does with a register: how often it reads it, and whether it stores it.
 pub struct Use {

@@ -14,7 +14,7 @@ use Rattle.names.specs.declared.Number.the-variants as number
 use Rattle.words.specs.Hits.{hitsGo, hits}
 use Rattle.expr.specs.Fix.{deep, fix}
 use Rattle.expr.specs.Comments.{strip, stripComments}
-use Rattle.expr.specs.Pure.{spaceStart, spaceEnd, spaceTrim, wrapped, shapeOf, openings, closings, elements, pureBy, judge, purityOf}
+use Rattle.expr.specs.Pure.{spaceStart, spaceEnd, spaceTrim, wrapped, shapeOf, openings, closings, elements, pureBy, judge, purityIn}
 use Rattle.reading.specs.Reading.{plain}
 use Rattle.reading.specs.Assign.{isAssign, leftOf, rightOf}
 use Rattle.temps.specs.Temps.{anyPiece, declares, tempReads, declaredIn, tempRead}
@@ -46,7 +46,7 @@ rows =
 
 -- by the definitions the lines go that the table says
 pub examples : map (tempGoes plain (map (λ (r : Row). r .line) rows)) (map (λ (r : Row). r .line) rows) ≡ map (λ (r : Row). r .goes) rows
-unfolding rows upTo prefixed same cutOn partsOf isWhite seqLen whiteChar whiteHead whiteTail lead fromOf endWhite toOf trimOf numbered readNumber regOf isTemp isIdent hitsGo hits deep fix strip stripComments spaceStart spaceEnd spaceTrim wrapped shapeOf openings closings elements pureBy judge purityOf isAssign leftOf rightOf anyPiece declares tempReads declaredIn tempRead tempGoes
+unfolding rows upTo prefixed same cutOn partsOf isWhite seqLen whiteChar whiteHead whiteTail lead fromOf endWhite toOf trimOf numbered readNumber regOf isTemp isIdent hitsGo hits deep fix strip stripComments spaceStart spaceEnd spaceTrim wrapped shapeOf openings closings elements pureBy judge purityIn isAssign leftOf rightOf anyPiece declares tempReads declaredIn tempRead tempGoes
 examples = refl
 
 -- the key of `t7` is its number, `t07` and `t007` have others, and `t` and `r7` have none

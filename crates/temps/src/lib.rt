@@ -180,7 +180,7 @@ fn goes(
             if !names::is_temp_name(name) {
                 return false;
             }
-            if !expr::is_pure(expr::purity(reading::right_of(t, s), scratch)) {
+            if !expr::is_pure(expr::purity(reading::right_of(t, s), false, scratch)) {
                 return false;
             }
             is_dead(text, own, name, declared, read)

@@ -10,7 +10,7 @@ use mathlib.Core.Bool.{cond}
 use lib.ListN.{length, getD, length-take, length-drop}
 use Rattle.lines.specs.Lf.{part}
 use Rattle.expr.specs.declared.kinds.Purity.the-variants.{Stable, Effectful}
-use Rattle.expr.specs.Pure.{isPure, pureBy}
+use Rattle.expr.specs.Pure.{isPure, pureBy, quotedIn}
 use Rattle.expr.specs.Inner.Pure.{purityCut}
 use Rattle.expr.proofs.PureLaws.{array-long, trim-le}
 use Rattle.expr.proofs.WalkLaws.{walk, walk-comma, walk-stop, walk-byte, walk-end, part-falls, opens-le, closes-le, cut-plain, cut-array}
@@ -58,11 +58,11 @@ abbrev purity-cut-calls : ℕ → purity-cut-lts.Claims
 purity-cut-calls t = (space-trim-reads.Asked, space-trim-reads.Learnt, shape-reads.Asked, shape-reads.Learnt, elements-below t, elements.Post)
 
 abbrev elements-Inv-loop : elements-lts.InvT-loop
-elements-Inv-loop s start₀ i₀ opened₀ closed₀ start i opened closed =
-    (start ≤ i) × ((i ≤ length s) × ((opened ≤ i) × ((closed ≤ i) × (pureBy purityCut s ≡ walk (λ e. isPure (purityCut e)) s start i opened closed))))
+elements-Inv-loop s strict start₀ i₀ opened₀ closed₀ start i opened closed =
+    (start ≤ i) × ((i ≤ length s) × ((opened ≤ i) × ((closed ≤ i) × (pureBy (purityCut (quotedIn strict)) s ≡ walk (λ e. isPure (purityCut (quotedIn strict) e)) s start i opened closed))))
 
 abbrev elements-μ-loop : elements-lts.MeasureT-loop
-elements-μ-loop s start₀ i₀ opened₀ closed₀ start i opened closed = length s - i
+elements-μ-loop s strict start₀ i₀ opened₀ closed₀ start i opened closed = length s - i
 
 elements-loop-holds : (t : ℕ) → elements-lts.Need-loop-holds (elements-calls t) (elements-at t) elements.Post elements-Inv-loop elements-μ-loop
 unfolding pureBy
@@ -192,7 +192,7 @@ purity-cut-enum-told t c = search needs
 
 -- an array has two bytes or more
 is-long : (t : ℕ) (c : purity-cut-lts.After-enum-told (purity-cut-calls t) (purity-cut-at t) purity-cut.Post) → 2 ≤ length (c .before .before .before .space-trim .result .now)
-is-long t c = array-long (c .before .before .before .space-trim .result .now) (sym (c .before .before .shape .ensures) ∙ c .enum-told .given .1)
+is-long t c = array-long (quotedIn (c .before .before .before .before .before .args .strict)) (c .before .before .before .space-trim .result .now) (sym (c .before .before .shape .ensures) ∙ c .enum-told .given .1)
 
 purity-cut-sub-m : (t : ℕ) → purity-cut-lts.Need-sub-m (purity-cut-calls t) (purity-cut-at t) purity-cut.Post
 purity-cut-sub-m t c = omega (arith, is-long t c)
@@ -218,11 +218,11 @@ purity-cut-elements-requires t c κs =
     (omega (arith, is-long t (c .before)), tt)
 
 purity-cut-returns : (t : ℕ) → purity-cut-lts.Need-returns (purity-cut-calls t) (purity-cut-at t) purity-cut.Post
-purity-cut-returns t c = cut-plain (c .before .before .before .before .before .before .args .s .now) _ _ (c .before .before .before .before .space-trim .ensures) (c .before .before .before .shape .ensures) _ (c .before .k .given .1)
+purity-cut-returns t c = cut-plain (quotedIn (c .before .before .before .before .before .before .args .strict)) (c .before .before .before .before .before .before .args .s .now) _ _ (c .before .before .before .before .space-trim .ensures) (c .before .before .before .shape .ensures) _ (c .before .k .given .1)
 
 -- the answer of an array is that of its elements
-array-is : (t : ℕ) (c : purity-cut-lts.After-elements (purity-cut-calls t) (purity-cut-at t) purity-cut.Post) → cond (c .elements .result) Stable Effectful ≡ purityCut (c .before .before .before .before .before .before .before .args .s .now)
-array-is t c = cut-array (c .before .before .before .before .before .before .before .args .s .now) _ _ (c .before .before .before .before .before .space-trim .ensures) (c .before .before .before .before .shape .ensures) _ (c .before .before .enum-told .given .1) (c .elements .ensures)
+array-is : (t : ℕ) (c : purity-cut-lts.After-elements (purity-cut-calls t) (purity-cut-at t) purity-cut.Post) → cond (c .elements .result) Stable Effectful ≡ purityCut (quotedIn (c .before .before .before .before .before .before .before .args .strict)) (c .before .before .before .before .before .before .before .args .s .now)
+array-is t c = cut-array (quotedIn (c .before .before .before .before .before .before .before .args .strict)) (c .before .before .before .before .before .before .before .args .s .now) _ _ (c .before .before .before .before .before .space-trim .ensures) (c .before .before .before .before .shape .ensures) _ (c .before .before .enum-told .given .1) (c .elements .ensures)
 
 purity-cut-returns-2 : (t : ℕ) → purity-cut-lts.Need-returns-2 (purity-cut-calls t) (purity-cut-at t) purity-cut.Post
 purity-cut-returns-2 t c = let e = array-is t (c .before) in rw (c .if1 .taken) at e

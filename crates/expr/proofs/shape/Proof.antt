@@ -3,10 +3,10 @@ use borrow.Author.Needs.{needs}
 use mathlib.Core.Path.{_≡_, sym, _∙_}
 use mathlib.Core.List.{List}
 use Prim.Native.Nat.{ℕ}
-use mathlib.Core.Bool.{cond}
+use mathlib.Core.Bool.{Bool, cond}
 use Rattle.lines.specs.Lf.{all}
 use Rattle.names.specs.Names.{regOf, isIdent, isReg}
-use Rattle.expr.specs.Pure.{isWord, startsNumber, isNumberByte, wrapped, isQuoted, shapeOf}
+use Rattle.expr.specs.Pure.{isWord, startsNumber, isNumberByte, wrapped, quotedIn, shapeOf}
 use Rattle.expr.specs.declared.kinds.Shape.{Shape}
 use Rattle.expr.specs.declared.kinds.Shape.the-variants.{Plain, Array}
 use Rattle.expr.specs.declared.kinds.Purity.the-variants.{Stable, Ident, Effectful}
@@ -21,42 +21,42 @@ from-ident t = cond (isIdent t) (Plain Ident) (Plain Effectful)
 abbrev from-array : List ℕ → Shape
 from-array t = cond (wrapped 91 93 t) Array (from-ident t)
 
-abbrev from-quote : List ℕ → Shape
-from-quote t = cond (isQuoted t) (Plain Stable) (from-array t)
+abbrev from-quote : Bool → List ℕ → Shape
+from-quote strict t = cond (quotedIn strict t) (Plain Stable) (from-array t)
 
 abbrev in-number : List ℕ → Shape
 in-number t = cond (all isNumberByte t) (Plain Stable) (Plain Effectful)
 
-abbrev from-number : List ℕ → Shape
-from-number t = cond (startsNumber t) (in-number t) (from-quote t)
+abbrev from-number : Bool → List ℕ → Shape
+from-number strict t = cond (startsNumber t) (in-number t) (from-quote strict t)
 
-abbrev from-word : List ℕ → Shape
-from-word t = cond (isWord t) (Plain Stable) (from-number t)
+abbrev from-word : Bool → List ℕ → Shape
+from-word strict t = cond (isWord t) (Plain Stable) (from-number strict t)
 
-abbrev from-reg : List ℕ → Shape
-from-reg t = cond (isReg (regOf t)) (Plain Stable) (from-word t)
+abbrev from-reg : Bool → List ℕ → Shape
+from-reg strict t = cond (isReg (regOf t)) (Plain Stable) (from-word strict t)
 
 -- what is known past each test
-no-empty : (c : tie.Else1) → shapeOf (c .before .before .args .t .now) ≡ from-reg (c .before .before .args .t .now)
+no-empty : (c : tie.Else1) → shapeOf (quotedIn (c .before .before .args .strict)) (c .before .before .args .t .now) ≡ from-reg (c .before .before .args .strict) (c .before .before .args .t .now)
 unfolding shapeOf
 no-empty c = rw (full (c .before .before .args .t .now) (c .if1 .left))
 
-no-reg : (c : tie.Else2) → shapeOf (c .before .before .before .before .args .t .now) ≡ from-word (c .before .before .before .before .args .t .now)
+no-reg : (c : tie.Else2) → shapeOf (quotedIn (c .before .before .before .before .args .strict)) (c .before .before .before .before .args .t .now) ≡ from-word (c .before .before .before .before .args .strict) (c .before .before .before .before .args .t .now)
 no-reg c = no-empty (c .before .before) ∙ rw (sym (c .before .is-register .ensures) ∙ c .if2 .left)
 
-no-word : (c : tie.Else3) → shapeOf (c .before .before .before .before .before .before .args .t .now) ≡ from-number (c .before .before .before .before .before .before .args .t .now)
+no-word : (c : tie.Else3) → shapeOf (quotedIn (c .before .before .before .before .before .before .args .strict)) (c .before .before .before .before .before .before .args .t .now) ≡ from-number (c .before .before .before .before .before .before .args .strict) (c .before .before .before .before .before .before .args .t .now)
 no-word c = no-reg (c .before .before) ∙ rw (sym (c .before .is-word .ensures) ∙ c .if3 .left)
 
-number : (c : tie.Then4) → shapeOf (c .before .before .before .before .before .before .before .before .args .t .now) ≡ in-number (c .before .before .before .before .before .before .before .before .args .t .now)
+number : (c : tie.Then4) → shapeOf (quotedIn (c .before .before .before .before .before .before .before .before .args .strict)) (c .before .before .before .before .before .before .before .before .args .t .now) ≡ in-number (c .before .before .before .before .before .before .before .before .args .t .now)
 number c = no-word (c .before .before) ∙ rw (sym (c .before .starts-number .ensures) ∙ c .if4 .taken)
 
-no-number : (c : tie.Else4) → shapeOf (c .before .before .before .before .before .before .before .before .args .t .now) ≡ from-quote (c .before .before .before .before .before .before .before .before .args .t .now)
+no-number : (c : tie.Else4) → shapeOf (quotedIn (c .before .before .before .before .before .before .before .before .args .strict)) (c .before .before .before .before .before .before .before .before .args .t .now) ≡ from-quote (c .before .before .before .before .before .before .before .before .args .strict) (c .before .before .before .before .before .before .before .before .args .t .now)
 no-number c = no-word (c .before .before) ∙ rw (sym (c .before .starts-number .ensures) ∙ c .if4 .left)
 
-no-quote : (c : tie.Else6) → shapeOf (c .before .before .before .before .before .before .before .before .before .before .args .t .now) ≡ from-array (c .before .before .before .before .before .before .before .before .before .before .args .t .now)
+no-quote : (c : tie.Else6) → shapeOf (quotedIn (c .before .before .before .before .before .before .before .before .before .before .args .strict)) (c .before .before .before .before .before .before .before .before .before .before .args .t .now) ≡ from-array (c .before .before .before .before .before .before .before .before .before .before .args .t .now)
 no-quote c = no-number (c .before .before) ∙ rw (sym (c .before .is-quoted .ensures) ∙ c .if6 .left)
 
-no-array : (c : tie.Else7) → shapeOf (c .before .before .before .before .before .before .before .before .before .before .before .before .args .t .now) ≡ from-ident (c .before .before .before .before .before .before .before .before .before .before .before .before .args .t .now)
+no-array : (c : tie.Else7) → shapeOf (quotedIn (c .before .before .before .before .before .before .before .before .before .before .before .before .args .strict)) (c .before .before .before .before .before .before .before .before .before .before .before .before .args .t .now) ≡ from-ident (c .before .before .before .before .before .before .before .before .before .before .before .before .args .t .now)
 no-array c = no-quote (c .before .before) ∙ rw (sym (c .before .wrapped .ensures) ∙ c .if7 .left)
 
 returns : tie.Need-returns
