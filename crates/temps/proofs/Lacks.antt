@@ -14,7 +14,7 @@ use Rattle.lines.specs.Acts.{act, apply}
 use Rattle.lines.proofs.Tests.{no, or-false, and-false, and-left, and-right}
 use Rattle.text.specs.Trim.{fromOf, toOf, trimStart, trimOf}
 use Rattle.names.specs.Names.{isDigit, allDigits, isTemp}
-use Rattle.reading.specs.Reading.{Reading, plain}
+use Rattle.reading.specs.Reading.{Reading}
 use Rattle.reading.specs.Assign.{unended, isAssign, leftOf}
 use Rattle.lines.proofs.Lacking.{lines-lack}
 use Rattle.slots.proofs.GatherLaws.{least-new, least-old}
@@ -86,43 +86,43 @@ keep-lines R ls [] h = refl
 keep-lines R ls (m ∷ ms) h =
     rw (left-lack m (not-true _ (and-left (not (tempIn m)) _ h)), and-false (isAssign (trimOf m))) (ap (λ (r : List (List ℕ)). m ∷ r) (keep-lines R ls ms (and-right (not (tempIn m)) _ h)))
 
-keep-scratch : (ms : List (List ℕ)) (d : List ℕ) → all (λ (l : List ℕ). not (tempIn l)) ms ≡ true → tempScratch ms d ≡ d
+keep-scratch : (k : Bool) (ms : List (List ℕ)) (d : List ℕ) → all (λ (l : List ℕ). not (tempIn l)) ms ≡ true → tempScratch k ms d ≡ d
 unfolding tempScratch scratchLine
-keep-scratch [] d h = refl
-keep-scratch (m ∷ ms) d h =
-    rw (left-lack m (not-true _ (and-left (not (tempIn m)) _ h)), and-false (isAssign (trimOf m))) (keep-scratch ms d (and-right (not (tempIn m)) _ h))
+keep-scratch k [] d h = refl
+keep-scratch k (m ∷ ms) d h =
+    rw (left-lack m (not-true _ (and-left (not (tempIn m)) _ h)), and-false (isAssign (trimOf m))) (keep-scratch k ms d (and-right (not (tempIn m)) _ h))
 
 module _ (t : List ℕ) (h : tempIn t ≡ false) where
-  pub lack-text : unlines (linesOf t) ≡ unlines (pruneDeadTemps plain (linesOf t))
+  pub lack-text : (R : Reading) → unlines (linesOf t) ≡ unlines (pruneDeadTemps R (linesOf t))
   unfolding pruneDeadTemps pruneDeadTempsActs
-  lack-text = sym (ap unlines (keep-lines plain (linesOf t) (linesOf t) (lines-lack tempIn lack-rest lack-take t h)))
+  lack-text R = sym (ap unlines (keep-lines R (linesOf t) (linesOf t) (lines-lack tempIn lack-rest lack-take t h)))
 
-  pub lack-scratch : (d : List ℕ) → d ≡ tempScratch (linesOf t) d
-  lack-scratch d = sym (keep-scratch (linesOf t) d (lines-lack tempIn lack-rest lack-take t h))
+  pub lack-scratch : (k : Bool) (d : List ℕ) → d ≡ tempScratch k (linesOf t) d
+  lack-scratch k d = sym (keep-scratch k (linesOf t) d (lines-lack tempIn lack-rest lack-take t h))
 
 -- ---- the search: m is the least of what was seen of a text, and x what is seen at its place i
 
 module _ (s : List ℕ) (i m : ℕ) where
   module _ (x : ℕ) (h : i < length s) (e : ltb x 10 ≡ eqb 116 (getD s i 0) && isDigit (getD s (i + 1) 0)) where
-    temp-here : tempIn (drop i s) ≡ ltb x 10 || tempIn (drop (i + 1) s)
+    seen-here : tempIn (drop i s) ≡ ltb x 10 || tempIn (drop (i + 1) s)
     unfolding tempIn
-    temp-here = let o : suc i + 0 ≡ suc i = omega arith in rw (e, add-one i, drop-cons s i 0 h, getD-drop (suc i) s 0 0, o)
+    seen-here = let o : suc i + 0 ≡ suc i = omega arith in rw (e, add-one i, drop-cons s i 0 h, getD-drop (suc i) s 0 0, o)
 
-    pub temp-new : x < m → ltb x 10 || tempIn (drop (i + 1) s) ≡ ltb m 10 || tempIn (drop i s)
-    temp-new l = sym (ap (λ (b : Bool). ltb m 10 || b) temp-here ∙ least-new x m (tempIn (drop (i + 1) s)) l)
+    pub seen-new : x < m → ltb x 10 || tempIn (drop (i + 1) s) ≡ ltb m 10 || tempIn (drop i s)
+    seen-new l = sym (ap (λ (b : Bool). ltb m 10 || b) seen-here ∙ least-new x m (tempIn (drop (i + 1) s)) l)
 
-    pub temp-old : m ≤ x → ltb m 10 || tempIn (drop (i + 1) s) ≡ ltb m 10 || tempIn (drop i s)
-    temp-old l = sym (ap (λ (b : Bool). ltb m 10 || b) temp-here ∙ least-old x m (tempIn (drop (i + 1) s)) l)
+    pub seen-old : m ≤ x → ltb m 10 || tempIn (drop (i + 1) s) ≡ ltb m 10 || tempIn (drop i s)
+    seen-old l = sym (ap (λ (b : Bool). ltb m 10 || b) seen-here ∙ least-old x m (tempIn (drop (i + 1) s)) l)
 
   -- one byte is too few
-  pub temp-none : length s ≤ i + 1 → tempIn (drop i s) ≡ false
+  pub seen-none : length s ≤ i + 1 → tempIn (drop i s) ≡ false
   unfolding tempIn
-  temp-none h = let l = length-drop i s in go (drop i s) (omega (arith, l, h))
+  seen-none h = let l = length-drop i s in go (drop i s) (omega (arith, l, h))
     where
       go : (s : List ℕ) → length s ≤ 1 → tempIn s ≡ false
       go [] k = refl
       go (a ∷ []) k = simp (and-false)
       go (a ∷ b ∷ s) k = absurd (omega (arith, k))
 
-  pub temp-end : length s ≤ i + 1 → ltb m 10 ≡ ltb m 10 || tempIn (drop i s)
-  temp-end h = sym (ap (λ (b : Bool). ltb m 10 || b) (temp-none h) ∙ or-false (ltb m 10))
+  pub seen-end : length s ≤ i + 1 → ltb m 10 ≡ ltb m 10 || tempIn (drop i s)
+  seen-end h = sym (ap (λ (b : Bool). ltb m 10 || b) (seen-none h) ∙ or-false (ltb m 10))

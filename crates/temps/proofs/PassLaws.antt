@@ -15,9 +15,9 @@ use Rattle.lines.proofs.OutLaws.{Writing, writing-start, writing-as, writing-ro
 use Rattle.text.specs.Trim.{fromOf, toEnd, trimOf}
 use Rattle.text.proofs.Trims.{trim-part}
 use Rattle.names.specs.Names.{isTemp}
-use Rattle.expr.specs.Comments.{stripComments}
-use Rattle.expr.proofs.CommentLaws.{strip-length}
-use Rattle.reading.specs.Reading.{Reading, plain, pureIn}
+use Rattle.expr.specs.Pure.{cutIn}
+use Rattle.expr.proofs.QuoteLaws.{cut-length}
+use Rattle.reading.specs.Reading.{Reading, pureIn}
 use Rattle.reading.specs.Assign.{isAssign, leftOf, rightOf}
 use Rattle.reading.proofs.AssignLaws.{part-le, trim-le, right-le}
 use Rattle.temps.specs.Temps.{declaredIn, tempRead, deadTemp, tempAct, tempActs, pruneDeadTempsActs, pruneDeadTemps}
@@ -48,12 +48,12 @@ module _ (R : Reading) (ls : List (List ℕ)) (l t : List ℕ) (p : t ≡ trimOf
     goes-pure f = rw (← p, e, ← q, d, ← z, f) (and-true (declaredIn x ls && not (tempRead x ls)))
 
 -- what it leaves in the scratch d
-module _ (d l t : List ℕ) (p : t ≡ trimOf l) where
-  pub scratch-other : isAssign t ≡ false → scratchLine l d ≡ d
+module _ (k : Bool) (d l t : List ℕ) (p : t ≡ trimOf l) where
+  pub scratch-other : isAssign t ≡ false → scratchLine k l d ≡ d
   unfolding scratchLine
   scratch-other e = rw (← p, e)
 
-  pub scratch-store : (b : Bool) (x : List ℕ) → isAssign t ≡ true → x ≡ leftOf t → isTemp x ≡ b → scratchLine l d ≡ cond b (putAt d 0 (stripComments (rightOf t))) d
+  pub scratch-store : (b : Bool) (x : List ℕ) → isAssign t ≡ true → x ≡ leftOf t → isTemp x ≡ b → scratchLine k l d ≡ cond b (putAt d 0 (cutIn k (rightOf t))) d
   unfolding scratchLine
   scratch-store b x e q g = rw (← p, e, ← q, g)
 
@@ -62,8 +62,8 @@ unfolding tempText
 text-by R ls l b e = rw e
 
 -- a value without its comments fits where its line does
-pub value-room : (l t v : List ℕ) → t ≡ trimOf l → v ≡ rightOf t → length (stripComments v) ≤ length l
-value-room l t v p q = omega (arith, strip-length v, ap length q, right-le t, ap length p, trim-le l)
+pub value-room : (k : Bool) (l t v : List ℕ) → t ≡ trimOf l → v ≡ rightOf t → length (cutIn k v) ≤ length l
+value-room k l t v p q = omega (arith, cut-length k v, ap length q, right-le t, ap length p, trim-le l)
 
 -- ---- the lines that are still to come, as bytes
 
@@ -91,60 +91,60 @@ go-all : (R : Reading) (ls : List (List ℕ)) → unlines (pruneDeadTemps R ls) 
 unfolding pruneDeadTemps pruneDeadTempsActs
 go-all R ls = refl
 
-scratch-line : (m : List ℕ) (ms : List (List ℕ)) (d : List ℕ) → tempScratch (m ∷ ms) d ≡ tempScratch ms (scratchLine m d)
+scratch-line : (k : Bool) (m : List ℕ) (ms : List (List ℕ)) (d : List ℕ) → tempScratch k (m ∷ ms) d ≡ tempScratch k ms (scratchLine k m d)
 unfolding tempScratch
-scratch-line m ms d = refl
+scratch-line k m ms d = refl
 
-scratch-none : (d : List ℕ) → tempScratch [] d ≡ d
+scratch-none : (k : Bool) (d : List ℕ) → tempScratch k [] d ≡ d
 unfolding tempScratch
-scratch-none d = refl
+scratch-none k d = refl
 
 -- ---- the loop of `prune_dead_temps`
 
-pub record TempInv (t c₀ d₀ c d : List ℕ) (i o : ℕ) : Type 0 where
+pub record TempInv (R : Reading) (s : Bool) (t c₀ d₀ c d : List ℕ) (i o : ℕ) : Type 0 where
   pub room : length t ≤ length c
   pub i≤ : i ≤ length t
   pub same-scratch : length c ≡ length c₀
-  pub writing : Writing 0 (unlines (pruneDeadTemps plain (linesOf t))) (toGo plain (linesOf t) (linesOf (drop i t))) d₀ d o
-  pub memory : tempScratch (linesOf (drop i t)) c ≡ tempScratch (linesOf t) c₀
+  pub writing : Writing 0 (unlines (pruneDeadTemps R (linesOf t))) (toGo R (linesOf t) (linesOf (drop i t))) d₀ d o
+  pub memory : tempScratch s (linesOf (drop i t)) c ≡ tempScratch s (linesOf t) c₀
 
-pub temp-start : (t c d : List ℕ) → length t ≤ length c → length (unlines (pruneDeadTemps plain (linesOf t))) ≤ length d → TempInv t c d c d 0 0
-temp-start t c d h k = record {
+pub temp-start : (R : Reading) (s : Bool) (t c d : List ℕ) → length t ≤ length c → length (unlines (pruneDeadTemps R (linesOf t))) ≤ length d → TempInv R s t c d c d 0 0
+temp-start R s t c d h k = record {
   room = h;
   i≤ = omega arith;
   same-scratch = refl;
-  writing = writing-as (go-all plain (linesOf t)) (writing-start 0 (unlines (pruneDeadTemps plain (linesOf t))) d (omega arith));
+  writing = writing-as (go-all R (linesOf t)) (writing-start 0 (unlines (pruneDeadTemps R (linesOf t))) d (omega arith));
   memory = refl;
 }
 
-module _ {t c₀ d₀ c d : List ℕ} {i o : ℕ} (h : TempInv t c₀ d₀ c d i o) where
+module _ {R : Reading} {s : Bool} {t c₀ d₀ c d : List ℕ} {i o : ℕ} (h : TempInv R s t c₀ d₀ c d i o) where
   module _ (e : ℕ) (k : i < length t) (q : e ≡ i + upTo 10 (drop i t)) where
     -- the next line and what follows it
-    next : Writing 0 (unlines (pruneDeadTemps plain (linesOf t))) (tempText plain (linesOf t) (part i e t) ++ toGo plain (linesOf t) (linesOf (drop (min (e + 1) (length t)) t))) d₀ d o
-    next = writing-as (ap (λ (ms : List (List ℕ)). toGo plain (linesOf t) ms) (lines-at t i e k q) ∙ go-line plain (linesOf t) _ _) (h .writing)
+    next : Writing 0 (unlines (pruneDeadTemps R (linesOf t))) (tempText R (linesOf t) (part i e t) ++ toGo R (linesOf t) (linesOf (drop (min (e + 1) (length t)) t))) d₀ d o
+    next = writing-as (ap (λ (ms : List (List ℕ)). toGo R (linesOf t) ms) (lines-at t i e k q) ∙ go-line R (linesOf t) _ _) (h .writing)
 
-    pub temp-room : (length (part i e t) ≤ length c) × (o + length (tempText plain (linesOf t) (part i e t)) ≤ length d)
+    pub temp-room : (length (part i e t) ≤ length c) × (o + length (tempText R (linesOf t) (part i e t)) ≤ length d)
     temp-room = (
       omega (arith, part-le i e t, h .room),
-      omega (arith, writing-room next, length-append (tempText plain (linesOf t) (part i e t)) (toGo plain (linesOf t) (linesOf (drop (min (e + 1) (length t)) t)))),
+      omega (arith, writing-room next, length-append (tempText R (linesOf t) (part i e t)) (toGo R (linesOf t) (linesOf (drop (min (e + 1) (length t)) t)))),
     )
 
-    pub temp-on : (c′ d′ : List ℕ) (r j : ℕ) → Wrote d o (tempText plain (linesOf t) (part i e t)) d′ r → c′ ≡ scratchLine (part i e t) c → length c′ ≡ length c → j ≡ min (e + 1) (length t) →
-        TempInv t c₀ d₀ c′ d′ j r
-    temp-on c′ d′ r j w m s z = record {
+    pub temp-on : (c′ d′ : List ℕ) (r j : ℕ) → Wrote d o (tempText R (linesOf t) (part i e t)) d′ r → c′ ≡ scratchLine s (part i e t) c → length c′ ≡ length c → j ≡ min (e + 1) (length t) →
+        TempInv R s t c₀ d₀ c′ d′ j r
+    temp-on c′ d′ r j w m g z = record {
       room = omega (arith, h .room);
       i≤ = omega arith;
-      same-scratch = s ∙ h .same-scratch;
+      same-scratch = g ∙ h .same-scratch;
       writing = rw z (writing-put next w);
       memory =
           rw (z, m)
-          (sym (scratch-line (part i e t) (linesOf (drop (min (e + 1) (length t)) t)) c)
-          ∙ ap (λ (ms : List (List ℕ)). tempScratch ms c) (sym (lines-at t i e k q))
+          (sym (scratch-line s (part i e t) (linesOf (drop (min (e + 1) (length t)) t)) c)
+          ∙ ap (λ (ms : List (List ℕ)). tempScratch s ms c) (sym (lines-at t i e k q))
           ∙ h .memory);
     }
 
-  pub temp-end : length t ≤ i → Wrote d₀ 0 (unlines (pruneDeadTemps plain (linesOf t))) d o
-  temp-end k = writing-end (writing-as (ap (λ (ms : List (List ℕ)). toGo plain (linesOf t) ms) (lines-end t i k) ∙ go-none plain (linesOf t)) (h .writing))
+  pub temp-end : length t ≤ i → Wrote d₀ 0 (unlines (pruneDeadTemps R (linesOf t))) d o
+  temp-end k = writing-end (writing-as (ap (λ (ms : List (List ℕ)). toGo R (linesOf t) ms) (lines-end t i k) ∙ go-none R (linesOf t)) (h .writing))
 
-  pub temp-memory : length t ≤ i → c ≡ tempScratch (linesOf t) c₀
-  temp-memory k = sym (ap (λ (ms : List (List ℕ)). tempScratch ms c) (lines-end t i k) ∙ scratch-none c) ∙ h .memory
+  pub temp-memory : length t ≤ i → c ≡ tempScratch s (linesOf t) c₀
+  temp-memory k = sym (ap (λ (ms : List (List ℕ)). tempScratch s ms c) (lines-end t i k) ∙ scratch-none s c) ∙ h .memory

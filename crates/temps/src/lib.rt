@@ -12,7 +12,7 @@ ghost use Rattle.lines.specs.Inner.Out.{Wrote};
 ghost use Rattle.names.specs.Names.{isDigit, isTemp};
 ghost use Rattle.parse.specs.Parse.{letWord};
 ghost use Rattle.place.specs.Region.{varWord, constWord};
-ghost use Rattle.reading.specs.Reading.{plain};
+ghost use Rattle.reading.specs.Reading.{strictAt, readingOf};
 ghost use Rattle.reading.specs.Assign.{isAssign, leftOf};
 ghost use Rattle.temps.specs.Temps.{anyPiece, declares, tempReads, declaredIn, tempRead, pruneDeadTemps};
 ghost use Rattle.temps.specs.Inner.Scratch.{tempIn, tempGoes, tempText, scratchLine, tempScratch};
@@ -161,6 +161,7 @@ fn is_dead(text: &[u8], own: &[usize], name: &[u8], declared: &[u8], read: &[u8]
 
 // Whether a line of a text goes. The value of a store of a temp is judged first, and left in `scratch` without its comments.
 fn goes(
+    mode: reading::Mode,
     line: &[u8],
     text: &[u8],
     own: &[usize],
@@ -170,8 +171,8 @@ fn goes(
 ) -> bool
     requires { ⌜ (length (now line) ≤ length (now scratch))
         × ((Tells (now own) (λ (x : List ℕ). declaredIn x (linesOf (now text))) (now declared)) × (TellsOf (now own) (λ (x : List ℕ). declaredIn x (linesOf (now text))) (λ (x : List ℕ). tempRead x (linesOf (now text))) (now read))) ⌝ }
-    ensures answer { λ r. ⌜ r ≡ tempGoes plain (linesOf (now (text .entry))) (now (line .entry)) ⌝ }
-    ensures memory { λ _. ⌜ now (scratch .exit) ≡ scratchLine (now (line .entry)) (now (scratch .entry)) ⌝ }
+    ensures answer { λ r. ⌜ r ≡ tempGoes (readingOf (mode .0)) (linesOf (now (text .entry))) (now (line .entry)) ⌝ }
+    ensures memory { λ _. ⌜ now (scratch .exit) ≡ scratchLine (strictAt (mode .0)) (now (line .entry)) (now (scratch .entry)) ⌝ }
 {
     let t = text::trim(line);
     match reading::assign_of(t) {
@@ -180,7 +181,11 @@ fn goes(
             if !names::is_temp_name(name) {
                 return false;
             }
-            if !expr::is_pure(expr::purity(reading::right_of(t, s), false, scratch)) {
+            if !expr::is_pure(expr::purity(
+                reading::right_of(t, s),
+                reading::is_strict(mode),
+                scratch,
+            )) {
                 return false;
             }
             is_dead(text, own, name, declared, read)
@@ -191,6 +196,7 @@ fn goes(
 
 // Writes what a line of a text becomes, and returns the place after it.
 fn put_line(
+    mode: reading::Mode,
     line: &[u8],
     text: &[u8],
     own: &[usize],
@@ -202,11 +208,11 @@ fn put_line(
 ) -> usize
     requires { ⌜ ((length (now line) ≤ length (now scratch))
         × ((Tells (now own) (λ (x : List ℕ). declaredIn x (linesOf (now text))) (now declared)) × (TellsOf (now own) (λ (x : List ℕ). declaredIn x (linesOf (now text))) (λ (x : List ℕ). tempRead x (linesOf (now text))) (now read))))
-        × (o + length (tempText plain (linesOf (now text)) (now line)) ≤ length (now out)) ⌝ }
-    ensures answer { λ r. ⌜ Wrote (now (out .entry)) o (tempText plain (linesOf (now (text .entry))) (now (line .entry))) (now (out .exit)) r ⌝ }
-    ensures memory { λ _. ⌜ now (scratch .exit) ≡ scratchLine (now (line .entry)) (now (scratch .entry)) ⌝ }
+        × (o + length (tempText (readingOf (mode .0)) (linesOf (now text)) (now line)) ≤ length (now out)) ⌝ }
+    ensures answer { λ r. ⌜ Wrote (now (out .entry)) o (tempText (readingOf (mode .0)) (linesOf (now (text .entry))) (now (line .entry))) (now (out .exit)) r ⌝ }
+    ensures memory { λ _. ⌜ now (scratch .exit) ≡ scratchLine (strictAt (mode .0)) (now (line .entry)) (now (scratch .entry)) ⌝ }
 {
-    if goes(line, text, own, declared, read, scratch) {
+    if goes(mode, line, text, own, declared, read, scratch) {
         return o;
     }
     let p = lines::put(out, o, line);
@@ -215,6 +221,7 @@ fn put_line(
 
 // The same as prune_dead_temps, with tables of the temps that the text declares and reads.
 fn prune_with(
+    mode: reading::Mode,
     text: &[u8],
     own: &[usize],
     declared: &[u8],
@@ -224,15 +231,25 @@ fn prune_with(
 ) -> usize
     requires { ⌜ ((length (now text) ≤ length (now scratch))
         × ((Tells (now own) (λ (x : List ℕ). declaredIn x (linesOf (now text))) (now declared)) × (TellsOf (now own) (λ (x : List ℕ). declaredIn x (linesOf (now text))) (λ (x : List ℕ). tempRead x (linesOf (now text))) (now read))))
-        × (length (unlines (pruneDeadTemps plain (linesOf (now text)))) ≤ length (now out)) ⌝ }
-    ensures answer { λ r. ⌜ Wrote (now (out .entry)) 0 (unlines (pruneDeadTemps plain (linesOf (now (text .entry))))) (now (out .exit)) r ⌝ }
-    ensures memory { λ _. ⌜ now (scratch .exit) ≡ tempScratch (linesOf (now (text .entry))) (now (scratch .entry)) ⌝ }
+        × (length (unlines (pruneDeadTemps (readingOf (mode .0)) (linesOf (now text)))) ≤ length (now out)) ⌝ }
+    ensures answer { λ r. ⌜ Wrote (now (out .entry)) 0 (unlines (pruneDeadTemps (readingOf (mode .0)) (linesOf (now (text .entry))))) (now (out .exit)) r ⌝ }
+    ensures memory { λ _. ⌜ now (scratch .exit) ≡ tempScratch (strictAt (mode .0)) (linesOf (now (text .entry))) (now (scratch .entry)) ⌝ }
 {
     let mut i = 0;
     let mut o = 0;
     while i < text.len() {
         let e = lines::find_byte(text, i, 10);
-        o = put_line(&text[i..e], text, own, declared, read, scratch, out, o);
+        o = put_line(
+            mode,
+            &text[i..e],
+            text,
+            own,
+            declared,
+            read,
+            scratch,
+            out,
+            o,
+        );
         i = lines::after(text, e);
     }
     o
@@ -240,6 +257,7 @@ fn prune_with(
 
 // The same as prune_dead_temps, with tables of zeros, as long as each other, for the temps that the text declares and reads.
 fn prune_tables(
+    mode: reading::Mode,
     text: &[u8],
     own: &mut [usize],
     declared: &mut [u8],
@@ -248,14 +266,14 @@ fn prune_tables(
     out: &mut [u8],
 ) -> usize
     requires { ⌜ ((now declared ≡ replicate (length (now read)) 0) × (now read ≡ replicate (length (now read)) 0))
-        × ((length (now text) ≤ length (now scratch)) × (length (unlines (pruneDeadTemps plain (linesOf (now text)))) ≤ length (now out))) ⌝ }
-    ensures answer { λ r. ⌜ Wrote (now (out .entry)) 0 (unlines (pruneDeadTemps plain (linesOf (now (text .entry))))) (now (out .exit)) r ⌝ }
-    ensures memory { λ _. ⌜ now (scratch .exit) ≡ tempScratch (linesOf (now (text .entry))) (now (scratch .entry)) ⌝ }
+        × ((length (now text) ≤ length (now scratch)) × (length (unlines (pruneDeadTemps (readingOf (mode .0)) (linesOf (now text)))) ≤ length (now out))) ⌝ }
+    ensures answer { λ r. ⌜ Wrote (now (out .entry)) 0 (unlines (pruneDeadTemps (readingOf (mode .0)) (linesOf (now (text .entry))))) (now (out .exit)) r ⌝ }
+    ensures memory { λ _. ⌜ now (scratch .exit) ≡ tempScratch (strictAt (mode .0)) (linesOf (now (text .entry))) (now (scratch .entry)) ⌝ }
 {
     table::claim_decls(text, declared.len(), own);
     table::flag_decls(text, own, declared);
     table::flag_used(text, own, declared, read);
-    prune_with(text, own, declared, read, scratch, out)
+    prune_with(mode, text, own, declared, read, scratch, out)
 }
 
 // How far the second of two bytes stands above `0`, where the first is a `t`: a digit less than ten, and no other byte.
@@ -291,10 +309,11 @@ fn has_temp(s: &[u8]) -> bool
     least < 10
 }
 
-// A store of a declared temp that nothing reads goes, where its value is pure. Each line is followed by one LF; the values of the stores
+// A store of a declared temp that nothing reads goes, where its value is pure in the given mode. Each line is followed by one LF; the values of the stores
 // of temps are left in `scratch`, one over the other, without their comments. A text that names no temp stays as it is. `declared` and `read`
 // are room for the flags of temps, and `own` for the owners of those with high keys; they are left with zeros.
 pub fn prune_dead_temps(
+    mode: reading::Mode,
     text: &[u8],
     own: &mut [usize],
     declared: &mut [u8],
@@ -302,9 +321,9 @@ pub fn prune_dead_temps(
     scratch: &mut [u8],
     out: &mut [u8],
 ) -> usize
-    requires { ⌜ (length (now text) ≤ length (now scratch)) × (length (unlines (pruneDeadTemps plain (linesOf (now text)))) ≤ length (now out)) ⌝ }
-    ensures answer { λ r. ⌜ Wrote (now (out .entry)) 0 (unlines (pruneDeadTemps plain (linesOf (now (text .entry))))) (now (out .exit)) r ⌝ }
-    ensures memory { λ _. ⌜ now (scratch .exit) ≡ tempScratch (linesOf (now (text .entry))) (now (scratch .entry)) ⌝ }
+    requires { ⌜ (length (now text) ≤ length (now scratch)) × (length (unlines (pruneDeadTemps (readingOf (mode .0)) (linesOf (now text)))) ≤ length (now out)) ⌝ }
+    ensures answer { λ r. ⌜ Wrote (now (out .entry)) 0 (unlines (pruneDeadTemps (readingOf (mode .0)) (linesOf (now (text .entry))))) (now (out .exit)) r ⌝ }
+    ensures memory { λ _. ⌜ now (scratch .exit) ≡ tempScratch (strictAt (mode .0)) (linesOf (now (text .entry))) (now (scratch .entry)) ⌝ }
     ensures tables { λ _. ⌜ (now (own .exit) ≡ replicate (length (now (own .entry))) 0)
         × ((now (declared .exit) ≡ replicate (length (now (declared .entry))) 0) × (now (read .exit) ≡ replicate (length (now (read .entry))) 0)) ⌝ }
 {
@@ -313,7 +332,15 @@ pub fn prune_dead_temps(
         return lines::put_lines(text, out, 0);
     }
     let n = slots::shorter(declared.len(), read.len());
-    let o = prune_tables(text, own, &mut declared[..n], &mut read[..n], scratch, out);
+    let o = prune_tables(
+        mode,
+        text,
+        own,
+        &mut declared[..n],
+        &mut read[..n],
+        scratch,
+        out,
+    );
     table::wipe(own, declared, read);
     o
 }

@@ -7,7 +7,7 @@ use mathlib.Core.Bool.{_||_}
 use lib.Dec.{ltb}
 use lib.ListN.{drop}
 use Rattle.temps.specs.Inner.Scratch.{tempIn}
-use Rattle.temps.proofs.Lacks.{temp-new, temp-old, temp-none, temp-end}
+use Rattle.temps.proofs.Lacks.{seen-new, seen-old, seen-none, seen-end}
 use Rattle.temps.proofs.has_temp.Statement.{statement}
 use Rattle.temps.proofs.has_temp.Tie as tie
 
@@ -18,7 +18,7 @@ abbrev μ-loop : tie.MeasureT-loop
 μ-loop s end least₀ i₀ least i = end - i
 
 returns : tie.Need-returns Inv-loop μ-loop
-returns c = sym (temp-none (c .before .before .args .s .now) 0 0 (omega (arith, c .if1 .taken)))
+returns c = sym (seen-none (c .before .before .args .s .now) 0 0 (omega (arith, c .if1 .taken)))
 
 sub-end : tie.Need-sub-end Inv-loop μ-loop
 sub-end c = omega arith
@@ -45,7 +45,7 @@ loop-less : tie.Need-loop-less Inv-loop μ-loop
 loop-less c = omega arith
 
 loop-again : tie.Need-loop-again Inv-loop μ-loop
-loop-again c = temp-new (c .before .before .before .before .before .before .before .before .args .s .now) (c .before .before .before .before .before .loop .i) (c .before .before .before .before .before .loop .least) (c .before .after-t .result) (omega arith) (c .before .after-t .ensures) (c .if2 .taken) ∙ c .before .before .before .before .before .loop .inv
+loop-again c = seen-new (c .before .before .before .before .before .before .before .before .args .s .now) (c .before .before .before .before .before .loop .i) (c .before .before .before .before .before .loop .least) (c .before .after-t .result) (omega arith) (c .before .after-t .ensures) (c .if2 .taken) ∙ c .before .before .before .before .before .loop .inv
 
 add-i-2 : tie.Need-add-i-2 Inv-loop μ-loop
 add-i-2 c = omega arith
@@ -54,10 +54,10 @@ loop-less-2 : tie.Need-loop-less-2 Inv-loop μ-loop
 loop-less-2 c = omega arith
 
 loop-again-2 : tie.Need-loop-again-2 Inv-loop μ-loop
-loop-again-2 c = temp-old (c .before .before .before .before .before .before .before .before .args .s .now) (c .before .before .before .before .before .loop .i) (c .before .before .before .before .before .loop .least) (c .before .after-t .result) (omega arith) (c .before .after-t .ensures) (c .if2 .left) ∙ c .before .before .before .before .before .loop .inv
+loop-again-2 c = seen-old (c .before .before .before .before .before .before .before .before .args .s .now) (c .before .before .before .before .before .loop .i) (c .before .before .before .before .before .loop .least) (c .before .after-t .result) (omega arith) (c .before .after-t .ensures) (c .if2 .left) ∙ c .before .before .before .before .before .loop .inv
 
 returns-2 : tie.Need-returns-2 Inv-loop μ-loop
-returns-2 c = temp-end (c .before .before .before .before .args .s .now) (c .before .loop .i) (c .before .loop .least) (omega arith) ∙ c .before .loop .inv
+returns-2 c = seen-end (c .before .before .before .before .args .s .now) (c .before .loop .i) (c .before .loop .least) (omega arith) ∙ c .before .loop .inv
 
 pub has-temp-spec : {M : Type 1} → statement M
 has-temp-spec =

@@ -9,6 +9,7 @@ use borrow.Author.Tests.{not-true}
 use Rattle.lines.proofs.Tests.{so}
 use Rattle.lines.proofs.OutLaws.{wrote-as}
 use Rattle.slots.proofs.SlotLaws.{zeros-long, zeros-take, zeros-again}
+use Rattle.reading.specs.Reading.{strictAt, readingOf}
 use Rattle.temps.proofs.Lacks.{lack-text, lack-scratch}
 use Rattle.temps.proofs.prune_dead_temps.Statement.{statement}
 use Rattle.temps.proofs.prune_dead_temps.Tie as tie
@@ -20,7 +21,7 @@ has-temp-requires : tie.Need-has-temp-requires
 has-temp-requires c κs = search needs
 
 put-lines-requires : tie.Need-put-lines-requires
-put-lines-requires c κs = omega (arith, c .before .before .before .before .before .before .before .before .before .before .before .before .before .before .before .before .before .before .before .pre .1, ap length (lack-text (c .before .before .before .before .before .before .before .before .before .before .before .before .before .before .before .before .before .before .before .args .text .now) (so (c .before .before .has-temp .ensures) (not-true _ (c .before .if1 .taken)))))
+put-lines-requires c κs = omega (arith, c .before .before .before .before .before .before .before .before .before .before .before .before .before .before .before .before .before .before .before .pre .1, ap length (lack-text (c .before .before .before .before .before .before .before .before .before .before .before .before .before .before .before .before .before .before .before .args .text .now) (so (c .before .before .has-temp .ensures) (not-true _ (c .before .if1 .taken))) (readingOf (c .before .before .before .before .before .before .before .before .before .before .before .before .before .before .before .before .before .before .before .args .mode .0))))
 
 same-length : tie.Need-same-length
 same-length c = search needs
@@ -35,7 +36,7 @@ same-length-4 : tie.Need-same-length-4
 same-length-4 c = search needs
 
 returns : tie.Need-returns
-returns c = let k = so (c .before .before .before .before .before .has-temp .ensures) (not-true _ (c .before .before .before .before .if1 .taken)) in (wrote-as (lack-text (c .before .before .before .before .before .before .before .before .before .before .before .before .before .before .before .before .before .before .before .before .before .before .args .text .now) k) (c .before .before .put-lines .ensures), (lack-scratch (c .before .before .before .before .before .before .before .before .before .before .before .before .before .before .before .before .before .before .before .before .before .before .args .text .now) k (c .before .before .before .before .before .before .before .before .before .before .before .before .before .before .before .before .before .before .before .before .before .before .args .scratch .now), c .before .before .before .before .before .before .before .before .before .before .before .before .wipe .ensures))
+returns c = let k = so (c .before .before .before .before .before .has-temp .ensures) (not-true _ (c .before .before .before .before .if1 .taken)) in (wrote-as (lack-text (c .before .before .before .before .before .before .before .before .before .before .before .before .before .before .before .before .before .before .before .before .before .before .args .text .now) k (readingOf (c .before .before .before .before .before .before .before .before .before .before .before .before .before .before .before .before .before .before .before .before .before .before .args .mode .0))) (c .before .before .put-lines .ensures), (lack-scratch (c .before .before .before .before .before .before .before .before .before .before .before .before .before .before .before .before .before .before .before .before .before .before .args .text .now) k (strictAt (c .before .before .before .before .before .before .before .before .before .before .before .before .before .before .before .before .before .before .before .before .before .before .args .mode .0)) (c .before .before .before .before .before .before .before .before .before .before .before .before .before .before .before .before .before .before .before .before .before .before .args .scratch .now), c .before .before .before .before .before .before .before .before .before .before .before .before .wipe .ensures))
 
 shorter-requires : tie.Need-shorter-requires
 shorter-requires c κs = search needs
@@ -89,10 +90,10 @@ returns-2 c =
       (
         w .ensures .1,
         (
-          c .before .before .before .before .before .before .wipe2 .ensures .0 ∙ ap (λ (m : ℕ). replicate m 0) (w .kept .1 .0 ∙ zeros-long (length (c .before .before .before .before .before .before .before .before .before .before .before .before .before .before .before .before .before .before .before .before .before .before .before .before .before .before .before .before .before .before .before .before .before .before .before .before .before .before .before .before .before .before .before .before .before .args .own .now)) (c .before .before .before .before .before .before .before .before .before .before .before .before .before .before .before .before .before .before .before .before .before .before .before .before .before .before .before .before .before .before .before .before .before .before .before .wipe .ensures .0)),
+          c .before .before .before .before .before .before .wipe2 .ensures .0 ∙ ap (λ (m : ℕ). replicate m 0) (w .kept .1 .1 .0 ∙ zeros-long (length (c .before .before .before .before .before .before .before .before .before .before .before .before .before .before .before .before .before .before .before .before .before .before .before .before .before .before .before .before .before .before .before .before .before .before .before .before .before .before .before .before .before .before .before .before .before .args .own .now)) (c .before .before .before .before .before .before .before .before .before .before .before .before .before .before .before .before .before .before .before .before .before .before .before .before .before .before .before .before .before .before .before .before .before .before .before .wipe .ensures .0)),
           (
-            zeros-again n (length (c .before .before .before .before .before .before .before .before .before .before .before .before .before .before .before .before .before .before .before .before .before .before .before .before .before .before .before .before .before .before .before .before .before .before .before .before .before .before .before .before .before .before .before .before .before .args .declared .now)) (w .last .1 .1 .0) (c .before .before .before .before .before .before .before .before .before .before .before .before .before .before .before .before .before .before .before .before .before .before .before .before .before .before .before .before .before .before .before .before .before .before .before .wipe .ensures .1 .0) (length-front _ (w .last .1 .1 .0) n (w .kept .1 .1 .0)) (c .before .before .before .before .before .before .wipe2 .ensures .1 .0),
-            zeros-again n (length (c .before .before .before .before .before .before .before .before .before .before .before .before .before .before .before .before .before .before .before .before .before .before .before .before .before .before .before .before .before .before .before .before .before .before .before .before .before .before .before .before .before .before .before .before .before .args .read .now)) (w .last .1 .1 .1 .0) (c .before .before .before .before .before .before .before .before .before .before .before .before .before .before .before .before .before .before .before .before .before .before .before .before .before .before .before .before .before .before .before .before .before .before .before .wipe .ensures .1 .1) (length-front _ (w .last .1 .1 .1 .0) n (w .kept .1 .1 .1 .0)) (c .before .before .before .before .before .before .wipe2 .ensures .1 .1),
+            zeros-again n (length (c .before .before .before .before .before .before .before .before .before .before .before .before .before .before .before .before .before .before .before .before .before .before .before .before .before .before .before .before .before .before .before .before .before .before .before .before .before .before .before .before .before .before .before .before .before .args .declared .now)) (w .last .1 .1 .1 .0) (c .before .before .before .before .before .before .before .before .before .before .before .before .before .before .before .before .before .before .before .before .before .before .before .before .before .before .before .before .before .before .before .before .before .before .before .wipe .ensures .1 .0) (length-front _ (w .last .1 .1 .1 .0) n (w .kept .1 .1 .1 .0)) (c .before .before .before .before .before .before .wipe2 .ensures .1 .0),
+            zeros-again n (length (c .before .before .before .before .before .before .before .before .before .before .before .before .before .before .before .before .before .before .before .before .before .before .before .before .before .before .before .before .before .before .before .before .before .before .before .before .before .before .before .before .before .before .before .before .before .args .read .now)) (w .last .1 .1 .1 .1 .0) (c .before .before .before .before .before .before .before .before .before .before .before .before .before .before .before .before .before .before .before .before .before .before .before .before .before .before .before .before .before .before .before .before .before .before .before .wipe .ensures .1 .1) (length-front _ (w .last .1 .1 .1 .1 .0) n (w .kept .1 .1 .1 .1 .0)) (c .before .before .before .before .before .before .wipe2 .ensures .1 .1),
           ),
         ),
       ),

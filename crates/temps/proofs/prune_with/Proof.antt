@@ -5,18 +5,19 @@ use native.Mathlib.Omega.{arith}
 use lib.ListN.{length}
 use Rattle.lines.proofs.LfLaws.{find-le}
 use Rattle.lines.proofs.OutLaws.{writing-length}
+use Rattle.reading.specs.Reading.{strictAt, readingOf}
 use Rattle.temps.proofs.PassLaws.{TempInv, temp-start, temp-room, temp-on, temp-end, temp-memory}
 use Rattle.temps.proofs.prune_with.Statement.{statement}
 use Rattle.temps.proofs.prune_with.Tie as tie
 
 abbrev Inv-loop : tie.InvT-loop
-Inv-loop text own declared read scratch₀ out₀ i₀ o₀ scratch out i o = TempInv text scratch₀ out₀ scratch out i o
+Inv-loop mode text own declared read scratch₀ out₀ i₀ o₀ scratch out i o = TempInv (readingOf (mode .0)) (strictAt (mode .0)) text scratch₀ out₀ scratch out i o
 
 abbrev μ-loop : tie.MeasureT-loop
-μ-loop text own declared read scratch₀ out₀ i₀ o₀ scratch out i o = length text - i
+μ-loop mode text own declared read scratch₀ out₀ i₀ o₀ scratch out i o = length text - i
 
 loop-holds : tie.Need-loop-holds Inv-loop μ-loop
-loop-holds c = temp-start _ _ _ (c .before .before .before .before .before .before .pre .0 .0) (c .before .before .before .before .before .before .pre .1)
+loop-holds c = temp-start _ _ _ _ _ (c .before .before .before .before .before .before .pre .0 .0) (c .before .before .before .before .before .before .pre .1)
 
 find-byte-requires : tie.Need-find-byte-requires Inv-loop μ-loop
 find-byte-requires c κs = search needs
@@ -44,7 +45,7 @@ loop-less c = omega (arith, c .after .ensures, c .before .before .before .before
 loop-again : tie.Need-loop-again Inv-loop μ-loop
 loop-again c =
     let p = c .before .before .before .before .before .put-line in
-    temp-on (c .before .before .before .before .before .before .before .before .before .before .before .loop .inv) (c .before .before .before .before .before .before .before .before .before .find-byte .result) (c .before .before .before .before .before .before .before .before .before .before .loop-test .taken) (c .before .before .before .before .before .before .before .before .before .find-byte .ensures) _ _ _ _ (p .ensures .0) (p .ensures .1) (p .kept .1 .1 .1 .1 .1 .0) (c .after .ensures)
+    temp-on (c .before .before .before .before .before .before .before .before .before .before .before .loop .inv) (c .before .before .before .before .before .before .before .before .before .find-byte .result) (c .before .before .before .before .before .before .before .before .before .before .loop-test .taken) (c .before .before .before .before .before .before .before .before .before .find-byte .ensures) _ _ _ _ (p .ensures .0) (p .ensures .1) (p .kept .1 .1 .1 .1 .1 .1 .0) (c .after .ensures)
 
 same-length : tie.Need-same-length Inv-loop μ-loop
 same-length c = c .before .loop .inv .same-scratch

@@ -9,7 +9,7 @@ use Rattle.lines.specs.Ascii.{ascii}
 use Rattle.lines.specs.Inner.Out.{putAt}
 use Rattle.text.specs.Trim.{trimOf}
 use Rattle.names.specs.Names.{isDigit, isTemp}
-use Rattle.expr.specs.Comments.{stripComments}
+use Rattle.expr.specs.Pure.{cutIn}
 use Rattle.reading.specs.Reading.{Reading, pureIn}
 use Rattle.reading.specs.Assign.{isAssign, leftOf, rightOf}
 use Rattle.temps.specs.Temps.{deadTemp}
@@ -32,13 +32,13 @@ unfoldable pub tempText : Reading → List (List ℕ) → List ℕ → List ℕ
 unfolding tempGoes
 tempText R ls l = cond (tempGoes R ls l) [] (l ++ ascii "\n")
 
--- the scratch d after a line: a value that is judged stands at its front, without its comments
-unfoldable pub scratchLine : List ℕ → List ℕ → List ℕ
+-- the scratch d after a line, in strict mode or plain: a value that is judged stands at its front, without its comments
+unfoldable pub scratchLine : Bool → List ℕ → List ℕ → List ℕ
 unfolding tempStore
-scratchLine l d = cond (tempStore l) (putAt d 0 (stripComments (rightOf (trimOf l)))) d
+scratchLine strict l d = cond (tempStore l) (putAt d 0 (cutIn strict (rightOf (trimOf l)))) d
 
 -- the scratch d after some lines
-unfoldable pub tempScratch : List (List ℕ) → List ℕ → List ℕ
+unfoldable pub tempScratch : Bool → List (List ℕ) → List ℕ → List ℕ
 unfolding scratchLine
-tempScratch [] d = d
-tempScratch (l ∷ ls) d = tempScratch ls (scratchLine l d)
+tempScratch strict [] d = d
+tempScratch strict (l ∷ ls) d = tempScratch strict ls (scratchLine strict l d)
