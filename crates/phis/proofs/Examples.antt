@@ -2,6 +2,7 @@
 use Prim.Native.Nat.{ℕ}
 use mathlib.Core.Path.{_≡_, refl}
 use mathlib.Core.List.{List, [], _∷_, map}
+use Rattle.lines.specs.Ascii.{ascii}
 use Rattle.lines.specs.Lf.{upTo, countOf, prefixed, suffixed, same, holds, cutOn, linesOf, partsOf, unlines}
 use Rattle.lines.specs.Inner.Lf.{lacks, noLf}
 use Rattle.lines.specs.Acts.{act, apply}
@@ -14,7 +15,7 @@ use Rattle.parse.specs.Parse.{allRegs, isDecl, storeIn, parseOf, textOf}
 use Rattle.words.specs.Runs.{runsGo, runs, countBy}
 use Rattle.words.specs.Inner.Runs.{upBy, walkRuns, runHits}
 use Rattle.words.specs.Hits.{hitsGo, hits, oneHit, regHit, afterNew, asTarget, glueLeft, glueRight, glued, replacedAt, replaceReg}
-use Rattle.lexical.specs.Lex.{quoteLen, patternLen, commentLen, lastOf, tokenOf, lexGo, stripLexical}
+use Rattle.lexical.specs.Lex.{quoteLen, quoteShut, patternLen, commentLen, lastOf, tokenOf, lexGo, stripLexical}
 use Rattle.lexical.specs.Inner.Lex.{tokenAt, tailOf, pushed, grown, cleanStep}
 use Rattle.place.specs.Region.{isHeader, untilHeader, region, regionAt}
 use Rattle.place.specs.Inner.Region.{headed, regionsGo, regions, regionNext, upHeader}
@@ -30,11 +31,12 @@ use Rattle.lexical.specs.Phi.{anyOf, assigns, phiPure, phiRhsPure}
 use Rattle.lexical.specs.Inner.Phi.{sees, seesAll}
 use Rattle.expr.specs.Fix.{deep, fix}
 use Rattle.expr.specs.Comments.{strip, stripComments}
+use Rattle.expr.specs.Quotes.{cutGo, stripQuoted, isClosed}
 use Rattle.expr.specs.Inner.Comments.{noComment}
 use Rattle.expr.specs.Pure.{spaceStart, spaceEnd, spaceTrim, wrapped, shapeOf, openings, closings, elements, pureBy, judge, purityIn}
 use Rattle.expr.specs.Inner.Pure.{purityCut}
 use Rattle.phis.specs.Phis.{isLet, allPhis, phiDecl, anyPhi, phiStore, phiOwn, phiReads, phiRead, phiStored, anyDead, livePhis, phiAct, phiActs, keeps, roundActs, round, pruneDeadPhis}
-use Rattle.reading.specs.Reading.{plain}
+use Rattle.reading.specs.Reading.{plain, readingOf}
 
 -- the lines of a listing, and what they become
 pub record Row : Type 0 where
@@ -78,3 +80,11 @@ rows =
 pub examples : map (λ (r : Row). pruneDeadPhis plain (r .lines)) rows ≡ map (λ (r : Row). r .result) rows
 unfolding rows upTo countOf prefixed suffixed same holds cutOn linesOf partsOf unlines lacks noLf act apply isWhite seqLen scan utf8Of whiteChar whiteHead whiteTail lead fromOf endWhite toOf trimOf numbered readNumber zeros decimalBy decimal numberAfter regOf phiOf isTemp isIdent allRegs isDecl storeIn parseOf textOf runsGo runs countBy upBy walkRuns runHits hitsGo hits oneHit regHit afterNew asTarget glueLeft glueRight glued replacedAt replaceReg quoteLen patternLen commentLen lastOf tokenOf tokenAt lexGo stripLexical tailOf pushed grown cleanStep isHeader headed regionsGo regions regionNext untilHeader region regionAt upHeader braceOf push count top stackAfter nextAfter blocksGo blocks cleaned mayAt depthAt depthAfter ownLine ownGo own startsAfter startsByLast startsAbove startsGo isAssign leftOf rightOf assignOf lineReads lineStores lineUses usedIn commas declAct keepNames actOf actsGo pruneDeclsActs pruneDecls anyOf assigns phiPure phiRhsPure sees seesAll deep fix strip stripComments noComment spaceStart spaceEnd spaceTrim wrapped shapeOf openings closings elements pureBy judge purityIn purityCut isLet allPhis phiDecl anyPhi phiStore phiOwn phiReads phiRead phiStored anyDead livePhis phiAct phiActs keeps roundActs round pruneDeadPhis
 examples = refl
+
+-- by mode 0, as the original, and by mode 1: a value between two quotes has no effect in plain mode, and in strict mode only where it is one literal
+unfoldable pub quoted : List (List ℕ)
+quoted = ascii "let phi1;" ∷ ascii "phi1 = 'a' + f() + 'b';" ∷ ascii "use(r1);" ∷ []
+
+pub by-modes : map (λ (k : ℕ). pruneDeadPhis (readingOf k) quoted) (0 ∷ 1 ∷ []) ≡ (ascii "use(r1);" ∷ []) ∷ (ascii "'a' + f() + 'b';" ∷ ascii "use(r1);" ∷ []) ∷ []
+unfolding quoted upTo countOf prefixed suffixed same holds cutOn linesOf partsOf unlines lacks noLf act apply isWhite seqLen scan utf8Of whiteChar whiteHead whiteTail lead fromOf endWhite toOf trimOf numbered readNumber zeros decimalBy decimal numberAfter regOf phiOf isTemp isIdent allRegs isDecl storeIn parseOf textOf runsGo runs countBy upBy walkRuns runHits hitsGo hits oneHit regHit afterNew asTarget glueLeft glueRight glued replacedAt replaceReg quoteLen patternLen commentLen lastOf tokenOf tokenAt lexGo stripLexical tailOf pushed grown cleanStep isHeader headed regionsGo regions regionNext untilHeader region regionAt upHeader braceOf push count top stackAfter nextAfter blocksGo blocks cleaned mayAt depthAt depthAfter ownLine ownGo own startsAfter startsByLast startsAbove startsGo isAssign leftOf rightOf assignOf lineReads lineStores lineUses usedIn commas declAct keepNames actOf actsGo pruneDeclsActs pruneDecls anyOf assigns phiPure phiRhsPure sees seesAll deep fix strip stripComments quoteShut cutGo stripQuoted isClosed noComment spaceStart spaceEnd spaceTrim wrapped shapeOf openings closings elements pureBy judge purityIn purityCut isLet allPhis phiDecl anyPhi phiStore phiOwn phiReads phiRead phiStored anyDead livePhis phiAct phiActs keeps roundActs round pruneDeadPhis
+by-modes = refl

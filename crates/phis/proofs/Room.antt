@@ -24,7 +24,7 @@ use Rattle.weight.proofs.Moves.{from-clean}
 use Rattle.decls.specs.Decls.{declAct}
 use Rattle.decls.specs.Inner.Print.{kept}
 use Rattle.decls.proofs.Decl.{longPiece, leftOut, trim-le, decl-pays, declares-by, picks-kept}
-use Rattle.reading.specs.Reading.{Reading, plain, pureIn}
+use Rattle.reading.specs.Reading.{Reading, pureIn}
 use Rattle.reading.specs.Assign.{unended, isAssign, rightOf}
 use Rattle.phis.specs.Phis.{isLet, isPhi, allPhis, phiDecl, phiStore, phiDead, anyDead, livePhis, storeAct, phiAct, phiActs, keeps, roundActs, round, pruneDeadPhis}
 use Rattle.phis.specs.Inner.Rounds.{live, longest}
@@ -141,17 +141,17 @@ module _ (H : ℕ) where
   phis-weight R ls = omega (arith, round-weight R ls, round-weight R (round R ls), round-weight R (round R (round R ls)))
 
   -- the scratch that the rounds use
-  pub longest-weight : (t : List ℕ) → longest plain t ≤ weight H (unlines (linesOf t))
+  pub longest-weight : (R : Reading) (t : List ℕ) → longest R t ≤ weight H (unlines (linesOf t))
   unfolding longest
-  longest-weight t =
+  longest-weight R t =
       let ls : List (List ℕ) = linesOf t in
       omega (
         arith,
         ap length (lines-text t),
         length-append t (missingLf t),
         length-weight H (unlines ls),
-        round-weight plain ls,
-        length-weight H (unlines (round plain ls)),
-        round-weight plain (round plain ls),
-        length-weight H (unlines (round plain (round plain ls))),
+        round-weight R ls,
+        length-weight H (unlines (round R ls)),
+        round-weight R (round R ls),
+        length-weight H (unlines (round R (round R ls))),
       )

@@ -24,7 +24,7 @@ use Rattle.parse.specs.Parse.{bodyOf}
 use Rattle.lexical.specs.Phi.{phiRhsPure}
 use Rattle.decls.specs.Inner.Print.{bareName, one, kept, declText}
 use Rattle.decls.proofs.PrintLaws.{after-bare, act-text}
-use Rattle.reading.specs.Reading.{Reading, plain, pureIn}
+use Rattle.reading.specs.Reading.{Reading, pureIn}
 use Rattle.reading.specs.Assign.{isAssign, leftOf, rightOf}
 use Rattle.reading.proofs.AssignLaws.{part-le, right-le}
 use Rattle.phis.specs.Phis.{isLet, phiDecl, phiStore, deadPhi, phiDead, anyDead, livePhi, livePhis, storeAct, phiAct, phiActs, roundActs, round}
@@ -109,13 +109,13 @@ pub start-le : (l t : List ℕ) → t ≡ trimStart l → length t ≤ length l
 start-le l t z = omega (arith, ap length z, length-drop (fromOf l) l)
 
 -- what is left of a store of a dead phi; x is its value, and r says whether that has no effect
-module _ (indent t x : List ℕ) (z : x ≡ rightOf t) (r : Bool) (e : r ≡ pureIn plain x || phiRhsPure x) where
-  pub store-goes : r ≡ true → storeText plain indent (rightOf t) ≡ []
-  store-goes k = store-by plain indent (rightOf t) true (ap (λ (v : List ℕ). pureIn plain v || phiRhsPure v) (sym z) ∙ so e k)
+module _ (R : Reading) (indent t x : List ℕ) (z : x ≡ rightOf t) (r : Bool) (e : r ≡ pureIn R x || phiRhsPure x) where
+  pub store-goes : r ≡ true → storeText R indent (rightOf t) ≡ []
+  store-goes k = store-by R indent (rightOf t) true (ap (λ (v : List ℕ). pureIn R v || phiRhsPure v) (sym z) ∙ so e k)
 
-  pub store-stays : r ≡ false → storeText plain indent (rightOf t) ≡ indent ++ x ++ 59 ∷ 10 ∷ []
+  pub store-stays : r ≡ false → storeText R indent (rightOf t) ≡ indent ++ x ++ 59 ∷ 10 ∷ []
   store-stays k =
-      store-by plain indent (rightOf t) false (ap (λ (v : List ℕ). pureIn plain v || phiRhsPure v) (sym z) ∙ so e k)
+      store-by R indent (rightOf t) false (ap (λ (v : List ℕ). pureIn R v || phiRhsPure v) (sym z) ∙ so e k)
       ∙ ap (λ (v : List ℕ). indent ++ v ++ 59 ∷ 10 ∷ []) (sym z)
 
   pub value-le : length x ≤ length t
@@ -166,44 +166,44 @@ go-none R ls = refl
 
 -- ---- the loop of a round over a text that has a dead phi
 
-pub record RoundInv (t : List ℕ) (c₀ d₀ c d : List ℕ) (i o : ℕ) : Type 0 where
+pub record RoundInv (R : Reading) (t : List ℕ) (c₀ d₀ c d : List ℕ) (i o : ℕ) : Type 0 where
   pub room : length t ≤ length c
   pub i≤ : i ≤ length t
   pub same-scratch : length c ≡ length c₀
-  pub writing : Writing 0 (unlines (round plain (linesOf t))) (toGo plain (linesOf t) (linesOf (drop i t))) d₀ d o
+  pub writing : Writing 0 (unlines (round R (linesOf t))) (toGo R (linesOf t) (linesOf (drop i t))) d₀ d o
   pub memory : drop (length t) c ≡ drop (length t) c₀
 
-pub round-start : (t : List ℕ) (c d : List ℕ) → length t ≤ length c → length (unlines (round plain (linesOf t))) ≤ length d → anyDead (linesOf t) (linesOf t) ≡ true → RoundInv t c d c d 0 0
-round-start t c d h k e = record {
+pub round-start : (R : Reading) (t : List ℕ) (c d : List ℕ) → length t ≤ length c → length (unlines (round R (linesOf t))) ≤ length d → anyDead (linesOf t) (linesOf t) ≡ true → RoundInv R t c d c d 0 0
+round-start R t c d h k e = record {
   room = h;
   i≤ = omega arith;
   same-scratch = refl;
-  writing = writing-as (go-all plain (linesOf t) e) (writing-start 0 (unlines (round plain (linesOf t))) d (omega arith));
+  writing = writing-as (go-all R (linesOf t) e) (writing-start 0 (unlines (round R (linesOf t))) d (omega arith));
   memory = refl;
 }
 
-module _ {t : List ℕ} {c₀ d₀ c d : List ℕ} {i o : ℕ} (h : RoundInv t c₀ d₀ c d i o) where
+module _ {R : Reading} {t : List ℕ} {c₀ d₀ c d : List ℕ} {i o : ℕ} (h : RoundInv R t c₀ d₀ c d i o) where
   module _ (e : ℕ) (k : i < length t) (q : e ≡ i + upTo 10 (drop i t)) (l : List ℕ) (z : l ≡ part i e t) where
     -- the next line and what follows it
-    next : Writing 0 (unlines (round plain (linesOf t))) (changeText plain (linesOf t) l ++ toGo plain (linesOf t) (linesOf (drop (min (e + 1) (length t)) t))) d₀ d o
+    next : Writing 0 (unlines (round R (linesOf t))) (changeText R (linesOf t) l ++ toGo R (linesOf t) (linesOf (drop (min (e + 1) (length t)) t))) d₀ d o
     next =
         writing-as
-        (ap (λ (ms : List (List ℕ)). toGo plain (linesOf t) ms) (lines-at t i e k q)
-        ∙ go-line plain (linesOf t) _ _
-        ∙ ap (λ (m : List ℕ). changeText plain (linesOf t) m ++ toGo plain (linesOf t) (linesOf (drop (min (e + 1) (length t)) t))) (sym z))
+        (ap (λ (ms : List (List ℕ)). toGo R (linesOf t) ms) (lines-at t i e k q)
+        ∙ go-line R (linesOf t) _ _
+        ∙ ap (λ (m : List ℕ). changeText R (linesOf t) m ++ toGo R (linesOf t) (linesOf (drop (min (e + 1) (length t)) t))) (sym z))
         (h .writing)
 
     line-le : length l ≤ length t
     line-le = omega (arith, ap length z, part-le i e t)
 
-    pub round-room : (length l ≤ length c) × (o + length (changeText plain (linesOf t) l) ≤ length d)
+    pub round-room : (length l ≤ length c) × (o + length (changeText R (linesOf t) l) ≤ length d)
     round-room = (
       omega (arith, line-le, h .room),
-      omega (arith, writing-room next, length-append (changeText plain (linesOf t) l) (toGo plain (linesOf t) (linesOf (drop (min (e + 1) (length t)) t)))),
+      omega (arith, writing-room next, length-append (changeText R (linesOf t) l) (toGo R (linesOf t) (linesOf (drop (min (e + 1) (length t)) t)))),
     )
 
-    pub round-on : (c′ d′ : List ℕ) (r j : ℕ) → Wrote d o (changeText plain (linesOf t) l) d′ r → drop (length l) c′ ≡ drop (length l) c → length c′ ≡ length c → j ≡ min (e + 1) (length t) →
-        RoundInv t c₀ d₀ c′ d′ j r
+    pub round-on : (c′ d′ : List ℕ) (r j : ℕ) → Wrote d o (changeText R (linesOf t) l) d′ r → drop (length l) c′ ≡ drop (length l) c → length c′ ≡ length c → j ≡ min (e + 1) (length t) →
+        RoundInv R t c₀ d₀ c′ d′ j r
     round-on c′ d′ r j w m s x = record {
       room = omega (arith, h .room);
       i≤ = omega arith;
@@ -212,5 +212,5 @@ module _ {t : List ℕ} {c₀ d₀ c d : List ℕ} {i o : ℕ} (h : RoundInv t c
       memory = drop-more (length l) (length t) c′ c line-le m ∙ h .memory;
     }
 
-  pub round-end : length t ≤ i → Wrote d₀ 0 (unlines (round plain (linesOf t))) d o
-  round-end k = writing-end (writing-as (ap (λ (ms : List (List ℕ)). toGo plain (linesOf t) ms) (lines-end t i k) ∙ go-none plain (linesOf t)) (h .writing))
+  pub round-end : length t ≤ i → Wrote d₀ 0 (unlines (round R (linesOf t))) d o
+  round-end k = writing-end (writing-as (ap (λ (ms : List (List ℕ)). toGo R (linesOf t) ms) (lines-end t i k) ∙ go-none R (linesOf t)) (h .writing))

@@ -12,7 +12,7 @@ ghost use Rattle.text.specs.Trim.{trimStart};
 ghost use Rattle.names.specs.Names.{phiWord, phiOf, phiIs};
 ghost use Rattle.lexical.specs.Phi.{phiRhsPure};
 ghost use Rattle.decls.specs.Inner.Print.{kept, declText};
-ghost use Rattle.reading.specs.Reading.{plain, pureIn};
+ghost use Rattle.reading.specs.Reading.{readingOf, pureIn};
 ghost use Rattle.reading.specs.Assign.{isAssign, rightOf};
 ghost use Rattle.phis.specs.Phis.{isLet, isPhi, allPhis, phiDecl, anyPhi, phiStore, phiOwn, phiReads, phiRead, phiStored, deadPhi, phiDead, anyDead, round, pruneDeadPhis};
 ghost use Rattle.phis.specs.Inner.Table.{Tells};
@@ -259,16 +259,16 @@ fn put_decl(
     }
 }
 
-// Whether a value has no effect, by either test. Of the scratch only as much is used as the value is long.
-fn no_effect(x: &[u8], scratch: &mut [u8]) -> bool
+// Whether a value has no effect in a mode, by either test. Of the scratch only as much is used as the value is long.
+fn no_effect(mode: reading::Mode, x: &[u8], scratch: &mut [u8]) -> bool
     requires { ⌜ length (now x) ≤ length (now scratch) ⌝ }
-    ensures answer { λ r. ⌜ r ≡ pureIn plain (now (x .entry)) || phiRhsPure (now (x .entry)) ⌝ }
+    ensures answer { λ r. ⌜ r ≡ pureIn (readingOf (mode .0)) (now (x .entry)) || phiRhsPure (now (x .entry)) ⌝ }
     ensures memory { λ _. ⌜ drop (length (now (x .entry))) (now (scratch .exit)) ≡ drop (length (now (x .entry))) (now (scratch .entry)) ⌝ }
 {
     if lexical::phi_rhs_pure(x) {
         return true;
     }
-    expr::is_pure(expr::purity(x, false, scratch))
+    expr::is_pure(expr::purity(x, reading::is_strict(mode), scratch))
 }
 
 // Writes a value as a statement.
@@ -282,15 +282,22 @@ fn put_value(indent: &[u8], x: &[u8], out: &mut [u8], o: usize) -> usize
 }
 
 // Writes what is left of a store of a dead phi: nothing, or its value where it has an effect.
-fn put_store(t: &[u8], indent: &[u8], scratch: &mut [u8], out: &mut [u8], o: usize) -> usize
-    requires { ⌜ (isAssign (now t) ≡ true) × ((length (now t) ≤ length (now scratch)) × (o + length (storeText plain (now indent) (rightOf (now t))) ≤ length (now out))) ⌝ }
-    ensures answer { λ r. ⌜ Wrote (now (out .entry)) o (storeText plain (now (indent .entry)) (rightOf (now (t .entry)))) (now (out .exit)) r ⌝ }
+fn put_store(
+    mode: reading::Mode,
+    t: &[u8],
+    indent: &[u8],
+    scratch: &mut [u8],
+    out: &mut [u8],
+    o: usize,
+) -> usize
+    requires { ⌜ (isAssign (now t) ≡ true) × ((length (now t) ≤ length (now scratch)) × (o + length (storeText (readingOf (mode .0)) (now indent) (rightOf (now t))) ≤ length (now out))) ⌝ }
+    ensures answer { λ r. ⌜ Wrote (now (out .entry)) o (storeText (readingOf (mode .0)) (now (indent .entry)) (rightOf (now (t .entry)))) (now (out .exit)) r ⌝ }
     ensures memory { λ _. ⌜ drop (length (now (t .entry))) (now (scratch .exit)) ≡ drop (length (now (t .entry))) (now (scratch .entry)) ⌝ }
 {
     match reading::assign_of(t) {
         reading::Assign::Split(s) => {
             let x = reading::right_of(t, s);
-            if no_effect(x, scratch) {
+            if no_effect(mode, x, scratch) {
                 return o;
             }
             put_value(indent, x, out, o)
@@ -301,6 +308,7 @@ fn put_store(t: &[u8], indent: &[u8], scratch: &mut [u8], out: &mut [u8], o: usi
 
 // Writes what a line becomes, in a text that has a dead phi.
 fn put_change(
+    mode: reading::Mode,
     line: &[u8],
     text: &[u8],
     own: &[usize],
@@ -309,14 +317,14 @@ fn put_change(
     out: &mut [u8],
     o: usize,
 ) -> usize
-    requires { ⌜ (Tells (now own) (linesOf (now text)) (now table)) × ((length (now line) ≤ length (now scratch)) × (o + length (changeText plain (linesOf (now text)) (now line)) ≤ length (now out))) ⌝ }
-    ensures answer { λ r. ⌜ Wrote (now (out .entry)) o (changeText plain (linesOf (now (text .entry))) (now (line .entry))) (now (out .exit)) r ⌝ }
+    requires { ⌜ (Tells (now own) (linesOf (now text)) (now table)) × ((length (now line) ≤ length (now scratch)) × (o + length (changeText (readingOf (mode .0)) (linesOf (now text)) (now line)) ≤ length (now out))) ⌝ }
+    ensures answer { λ r. ⌜ Wrote (now (out .entry)) o (changeText (readingOf (mode .0)) (linesOf (now (text .entry))) (now (line .entry))) (now (out .exit)) r ⌝ }
     ensures memory { λ _. ⌜ drop (length (now (line .entry))) (now (scratch .exit)) ≡ drop (length (now (line .entry))) (now (scratch .entry)) ⌝ }
 {
     let t = text::trim_start(line);
     let indent = lines::cut(line, 0, text::trim_from(line));
     if dead_by(phi_store(t), text, own, table) {
-        return put_store(t, indent, scratch, out, o);
+        return put_store(mode, t, indent, scratch, out, o);
     }
     if phi_decl(t) {
         return put_decl(
@@ -334,6 +342,7 @@ fn put_change(
 
 // Writes what a line becomes, in a text that has a dead phi: a line without the letters `phi` stays.
 fn put_line(
+    mode: reading::Mode,
     line: &[u8],
     text: &[u8],
     own: &[usize],
@@ -342,12 +351,12 @@ fn put_line(
     out: &mut [u8],
     o: usize,
 ) -> usize
-    requires { ⌜ (Tells (now own) (linesOf (now text)) (now table)) × ((length (now line) ≤ length (now scratch)) × (o + length (changeText plain (linesOf (now text)) (now line)) ≤ length (now out))) ⌝ }
-    ensures answer { λ r. ⌜ Wrote (now (out .entry)) o (changeText plain (linesOf (now (text .entry))) (now (line .entry))) (now (out .exit)) r ⌝ }
+    requires { ⌜ (Tells (now own) (linesOf (now text)) (now table)) × ((length (now line) ≤ length (now scratch)) × (o + length (changeText (readingOf (mode .0)) (linesOf (now text)) (now line)) ≤ length (now out))) ⌝ }
+    ensures answer { λ r. ⌜ Wrote (now (out .entry)) o (changeText (readingOf (mode .0)) (linesOf (now (text .entry))) (now (line .entry))) (now (out .exit)) r ⌝ }
     ensures memory { λ _. ⌜ drop (length (now (line .entry))) (now (scratch .exit)) ≡ drop (length (now (line .entry))) (now (scratch .entry)) ⌝ }
 {
     if table::has_phi(line) {
-        return put_change(line, text, own, table, scratch, out, o);
+        return put_change(mode, line, text, own, table, scratch, out, o);
     }
     lines::put_line(out, o, line)
 }
@@ -359,9 +368,16 @@ struct Round {
 }
 
 // Writes one round, with its table. Of the scratch only as much is used as the text is long.
-fn put_with(text: &[u8], own: &[usize], table: &[u8], scratch: &mut [u8], out: &mut [u8]) -> Round
-    requires { ⌜ (Tells (now own) (linesOf (now text)) (now table)) × ((length (now text) ≤ length (now scratch)) × (length (unlines (round plain (linesOf (now text)))) ≤ length (now out))) ⌝ }
-    ensures answer { λ r. ⌜ Wrote (now (out .entry)) 0 (unlines (round plain (linesOf (now (text .entry))))) (now (out .exit)) (r .end) ⌝ }
+fn put_with(
+    mode: reading::Mode,
+    text: &[u8],
+    own: &[usize],
+    table: &[u8],
+    scratch: &mut [u8],
+    out: &mut [u8],
+) -> Round
+    requires { ⌜ (Tells (now own) (linesOf (now text)) (now table)) × ((length (now text) ≤ length (now scratch)) × (length (unlines (round (readingOf (mode .0)) (linesOf (now text)))) ≤ length (now out))) ⌝ }
+    ensures answer { λ r. ⌜ Wrote (now (out .entry)) 0 (unlines (round (readingOf (mode .0)) (linesOf (now (text .entry))))) (now (out .exit)) (r .end) ⌝ }
     ensures found { λ r. ⌜ r .dead ≡ anyDead (linesOf (now (text .entry))) (linesOf (now (text .entry))) ⌝ }
     ensures memory { λ _. ⌜ drop (length (now (text .entry))) (now (scratch .exit)) ≡ drop (length (now (text .entry))) (now (scratch .entry)) ⌝ }
 {
@@ -376,7 +392,16 @@ fn put_with(text: &[u8], own: &[usize], table: &[u8], scratch: &mut [u8], out: &
     let mut o = 0;
     while i < text.len() {
         let e = lines::find_byte(text, i, 10);
-        o = put_line(lines::cut(text, i, e), text, own, table, scratch, out, o);
+        o = put_line(
+            mode,
+            lines::cut(text, i, e),
+            text,
+            own,
+            table,
+            scratch,
+            out,
+            o,
+        );
         i = lines::after(text, e);
     }
     Round { end: o, dead: true }
@@ -394,6 +419,7 @@ fn may_change(text: &[u8], dead: bool) -> bool
 
 // Writes one round; `dead` is false where it is known that no phi is dead. Of the scratch only as much is used as the text is long.
 fn put_round(
+    mode: reading::Mode,
     text: &[u8],
     own: &[usize],
     dead: bool,
@@ -402,8 +428,8 @@ fn put_round(
     out: &mut [u8],
 ) -> Round
     requires { ⌜ (dead ≡ false → anyDead (linesOf (now text)) (linesOf (now text)) ≡ false)
-        × ((length (now text) ≤ length (now scratch)) × (length (unlines (round plain (linesOf (now text)))) ≤ length (now out))) ⌝ }
-    ensures answer { λ r. ⌜ Wrote (now (out .entry)) 0 (unlines (round plain (linesOf (now (text .entry))))) (now (out .exit)) (r .end) ⌝ }
+        × ((length (now text) ≤ length (now scratch)) × (length (unlines (round (readingOf (mode .0)) (linesOf (now text)))) ≤ length (now out))) ⌝ }
+    ensures answer { λ r. ⌜ Wrote (now (out .entry)) 0 (unlines (round (readingOf (mode .0)) (linesOf (now (text .entry))))) (now (out .exit)) (r .end) ⌝ }
     ensures found { λ r. ⌜ r .dead ≡ anyDead (linesOf (now (text .entry))) (linesOf (now (text .entry))) ⌝ }
     ensures memory { λ _. ⌜ drop (length (now (text .entry))) (now (scratch .exit)) ≡ drop (length (now (text .entry))) (now (scratch .entry)) ⌝ }
 {
@@ -416,7 +442,7 @@ fn put_round(
     }
     lines::wipe(table, table.len());
     table::note_lines(text, own, table);
-    put_with(text, own, table, scratch, out)
+    put_with(mode, text, own, table, scratch, out)
 }
 
 // The larger of two numbers.
@@ -433,6 +459,7 @@ fn larger(a: usize, b: usize) -> usize
 // `second`, from there to `out`. `own` has the owners of places in the table of phis, which is 0 afterwards. The scratch is left with zeros, as far
 // as it was of use.
 pub fn prune_dead_phis(
+    mode: reading::Mode,
     text: &[u8],
     own: &[usize],
     table: &mut [u8],
@@ -441,15 +468,16 @@ pub fn prune_dead_phis(
     second: &mut [u8],
     out: &mut [u8],
 ) -> usize
-    requires { ⌜ (longest plain (now text) ≤ length (now scratch)) × ((length (unlines (round plain (linesOf (now text)))) ≤ length (now first)) × ((length (unlines (round plain (round plain (linesOf (now text))))) ≤ length (now second)) × (length (unlines (pruneDeadPhis plain (linesOf (now text)))) ≤ length (now out)))) ⌝ }
-    ensures answer { λ r. ⌜ Wrote (now (out .entry)) 0 (unlines (pruneDeadPhis plain (linesOf (now (text .entry))))) (now (out .exit)) r ⌝ }
-    ensures one { λ _. ⌜ Wrote (now (first .entry)) 0 (unlines (round plain (linesOf (now (text .entry))))) (now (first .exit)) (length (unlines (round plain (linesOf (now (text .entry)))))) ⌝ }
-    ensures two { λ _. ⌜ Wrote (now (second .entry)) 0 (unlines (round plain (round plain (linesOf (now (text .entry)))))) (now (second .exit)) (length (unlines (round plain (round plain (linesOf (now (text .entry))))))) ⌝ }
-    ensures memory { λ _. ⌜ Wrote (now (scratch .entry)) 0 (replicate (longest plain (now (text .entry))) 0) (now (scratch .exit)) (longest plain (now (text .entry))) ⌝ }
+    requires { ⌜ (longest (readingOf (mode .0)) (now text) ≤ length (now scratch)) × ((length (unlines (round (readingOf (mode .0)) (linesOf (now text)))) ≤ length (now first)) × ((length (unlines (round (readingOf (mode .0)) (round (readingOf (mode .0)) (linesOf (now text))))) ≤ length (now second)) × (length (unlines (pruneDeadPhis (readingOf (mode .0)) (linesOf (now text)))) ≤ length (now out)))) ⌝ }
+    ensures answer { λ r. ⌜ Wrote (now (out .entry)) 0 (unlines (pruneDeadPhis (readingOf (mode .0)) (linesOf (now (text .entry))))) (now (out .exit)) r ⌝ }
+    ensures one { λ _. ⌜ Wrote (now (first .entry)) 0 (unlines (round (readingOf (mode .0)) (linesOf (now (text .entry))))) (now (first .exit)) (length (unlines (round (readingOf (mode .0)) (linesOf (now (text .entry)))))) ⌝ }
+    ensures two { λ _. ⌜ Wrote (now (second .entry)) 0 (unlines (round (readingOf (mode .0)) (round (readingOf (mode .0)) (linesOf (now (text .entry)))))) (now (second .exit)) (length (unlines (round (readingOf (mode .0)) (round (readingOf (mode .0)) (linesOf (now (text .entry))))))) ⌝ }
+    ensures memory { λ _. ⌜ Wrote (now (scratch .entry)) 0 (replicate (longest (readingOf (mode .0)) (now (text .entry))) 0) (now (scratch .exit)) (longest (readingOf (mode .0)) (now (text .entry))) ⌝ }
     ensures noted { λ _. ⌜ now (table .exit) ≡ replicate (length (now (table .entry))) 0 ⌝ }
 {
-    let a = put_round(text, own, true, table, scratch, first);
+    let a = put_round(mode, text, own, true, table, scratch, first);
     let b = put_round(
+        mode,
         lines::cut(first, 0, a.end),
         own,
         a.dead,
@@ -458,6 +486,7 @@ pub fn prune_dead_phis(
         second,
     );
     let c = put_round(
+        mode,
         lines::cut(second, 0, b.end),
         own,
         b.dead,

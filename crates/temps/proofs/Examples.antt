@@ -13,9 +13,11 @@ use Rattle.names.specs.Inner.Names.{zeros}
 use Rattle.names.specs.declared.Number.the-variants as number
 use Rattle.words.specs.Hits.{hitsGo, hits}
 use Rattle.expr.specs.Fix.{deep, fix}
+use Rattle.lexical.specs.Lex.{quoteLen, quoteShut}
 use Rattle.expr.specs.Comments.{strip, stripComments}
+use Rattle.expr.specs.Quotes.{cutGo, stripQuoted, isClosed}
 use Rattle.expr.specs.Pure.{spaceStart, spaceEnd, spaceTrim, wrapped, shapeOf, openings, closings, elements, pureBy, judge, purityIn}
-use Rattle.reading.specs.Reading.{plain}
+use Rattle.reading.specs.Reading.{plain, readingOf}
 use Rattle.reading.specs.Assign.{isAssign, leftOf, rightOf}
 use Rattle.temps.specs.Temps.{anyPiece, declares, tempReads, declaredIn, tempRead}
 use Rattle.temps.specs.Inner.Scratch.{tempGoes}
@@ -48,6 +50,15 @@ rows =
 pub examples : map (tempGoes plain (map (λ (r : Row). r .line) rows)) (map (λ (r : Row). r .line) rows) ≡ map (λ (r : Row). r .goes) rows
 unfolding rows upTo prefixed same cutOn partsOf isWhite seqLen whiteChar whiteHead whiteTail lead fromOf endWhite toOf trimOf numbered readNumber regOf isTemp isIdent hitsGo hits deep fix strip stripComments spaceStart spaceEnd spaceTrim wrapped shapeOf openings closings elements pureBy judge purityIn isAssign leftOf rightOf anyPiece declares tempReads declaredIn tempRead tempGoes
 examples = refl
+
+-- by mode 0 and by mode 1: a value between two quotes is a string in plain mode, and in strict mode only where it is one literal; a comment mark
+-- inside quotes is one in plain mode alone
+unfoldable pub quoted : List (List ℕ)
+quoted = ascii "let t0, t1;" ∷ ascii "t0 = 'a' + f() + 'b';" ∷ ascii "t1 = 'http://x';" ∷ []
+
+pub by-modes : map (λ (k : ℕ). map (tempGoes (readingOf k) quoted) quoted) (0 ∷ 1 ∷ []) ≡ (false ∷ true ∷ false ∷ []) ∷ (false ∷ false ∷ true ∷ []) ∷ []
+unfolding quoted upTo prefixed same cutOn partsOf isWhite seqLen whiteChar whiteHead whiteTail lead fromOf endWhite toOf trimOf numbered readNumber regOf isTemp isIdent hitsGo hits deep fix strip stripComments quoteLen quoteShut cutGo stripQuoted isClosed spaceStart spaceEnd spaceTrim wrapped shapeOf openings closings elements pureBy judge purityIn isAssign leftOf rightOf anyPiece declares tempReads declaredIn tempRead tempGoes
+by-modes = refl
 
 -- the key of `t7` is its number, `t07` and `t007` have others, and `t` and `r7` have none
 pub keys : map keyOf (ascii "t7" ∷ ascii "t07" ∷ ascii "t007" ∷ ascii "t" ∷ ascii "r7" ∷ []) ≡ number.Of 7 ∷ number.Of (2 ^ 63 + 2 ^ 57 + 640) ∷ number.Of (2 ^ 63 + 2 ^ 58 + 1273) ∷ number.None ∷ number.None ∷ []

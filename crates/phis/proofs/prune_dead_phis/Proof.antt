@@ -8,14 +8,14 @@ use lib.ListN.{length, replicate, length-replicate}
 use Rattle.lines.specs.Lf.{unlines}
 use Rattle.lines.proofs.Tests.{no}
 use Rattle.lines.proofs.OutLaws.{wrote-as, wrote-whole, wipe-end}
-use Rattle.reading.specs.Reading.{plain}
+use Rattle.reading.specs.Reading.{readingOf}
 use Rattle.phis.specs.Phis.{round}
 use Rattle.phis.proofs.Rounds.{passed, next-calm, next-lines, next-length, longest-first, longest-fits, third-text, first-wrote, second-wrote, wiped-length, scratch-end}
 use Rattle.phis.proofs.prune_dead_phis.Statement.{statement}
 use Rattle.phis.proofs.prune_dead_phis.Tie as tie
 
 put-round-requires : tie.Need-put-round-requires
-put-round-requires c κs = (λ e. no (sym e), (omega (arith, longest-first (c .before .before .before .before .before .before .before .before .before .before .args .text .now) .0, c .before .before .before .before .before .before .before .before .before .before .pre .0), c .before .before .before .before .before .before .before .before .before .before .pre .1 .0))
+put-round-requires c κs = (λ e. no (sym e), (omega (arith, longest-first (readingOf (c .before .before .before .before .before .before .before .before .before .before .args .mode .0)) (c .before .before .before .before .before .before .before .before .before .before .args .text .now) .0, c .before .before .before .before .before .before .before .before .before .before .pre .0), c .before .before .before .before .before .before .before .before .before .before .pre .1 .0))
 
 cut-requires : tie.Need-cut-requires
 cut-requires c κs = search needs
@@ -26,8 +26,8 @@ put-round-requires-2 c κs =
     let pre = c .before .before .before .before .before .before .before .before .before .before .before .before .before .before .before .before .before .before .before .before .before .before .pre in
     let put-round = c .before .before .before .before .before .before .before .before .before .before .before .put-round in
     let cut = c .before .before .before .cut in (
-      next-calm (a .text .now) (cut .result .now) _ _ _ (put-round .ensures .0) (cut .ensures) (put-round .result .dead) (put-round .ensures .1 .0),
-      (omega (arith, next-length (a .text .now) (cut .result .now) _ _ _ (put-round .ensures .0) (cut .ensures), longest-first (a .text .now) .1, pre .0), omega (arith, ap (λ (ls : List (List ℕ)). length (unlines (round plain ls))) (next-lines (a .text .now) (cut .result .now) _ _ _ (put-round .ensures .0) (cut .ensures)), pre .1 .1 .0)),
+      next-calm (readingOf (a .mode .0)) (a .text .now) (cut .result .now) _ _ _ (put-round .ensures .0) (cut .ensures) (put-round .result .dead) (put-round .ensures .1 .0),
+      (omega (arith, next-length (readingOf (a .mode .0)) (a .text .now) (cut .result .now) _ _ _ (put-round .ensures .0) (cut .ensures), longest-first (readingOf (a .mode .0)) (a .text .now) .1, pre .0), omega (arith, ap (λ (ls : List (List ℕ)). length (unlines (round (readingOf (a .mode .0)) ls))) (next-lines (readingOf (a .mode .0)) (a .text .now) (cut .result .now) _ _ _ (put-round .ensures .0) (cut .ensures)), pre .1 .1 .0)),
     )
 
 cut-requires-2 : tie.Need-cut-requires-2
@@ -41,8 +41,8 @@ put-round-requires-3 c κs =
     let cut = c .before .before .before .before .before .before .before .before .before .before .before .before .before .before .before .cut in
     let put-round2 = c .before .before .before .before .before .before .before .before .before .before .before .put-round2 in
     let cut2 = c .before .before .before .cut2 in
-    let h = passed (a .text .now) (cut .result .now) (cut2 .result .now) (put-round .ensures .0) (cut .ensures) (put-round2 .ensures .0) (cut2 .ensures) in (
-      next-calm (cut .result .now) (cut2 .result .now) _ _ _ (put-round2 .ensures .0) (cut2 .ensures) (put-round2 .result .dead) (put-round2 .ensures .1 .0),
+    let h = passed (readingOf (a .mode .0)) (a .text .now) (cut .result .now) (cut2 .result .now) (put-round .ensures .0) (cut .ensures) (put-round2 .ensures .0) (cut2 .ensures) in (
+      next-calm (readingOf (a .mode .0)) (cut .result .now) (cut2 .result .now) _ _ _ (put-round2 .ensures .0) (cut2 .ensures) (put-round2 .result .dead) (put-round2 .ensures .1 .0),
       (omega (arith, longest-fits h .1 .1, pre .0), omega (arith, ap length (third-text h), pre .1 .1 .1)),
     )
 
@@ -61,17 +61,17 @@ wipe-requires-2 c κs =
     let cut = c .before .before .before .before .before .before .before .before .before .before .before .before .before .before .before .before .before .before .before .before .before .before .before .before .before .before .before .before .before .cut in
     let put-round2 = c .before .before .before .before .before .before .before .before .before .before .before .before .before .before .before .before .before .before .before .before .before .before .before .before .before .put-round2 in
     let cut2 = c .before .before .before .before .before .before .before .before .before .before .before .before .before .before .before .before .before .cut2 in
-    let h = passed (c .before .before .before .before .before .before .before .before .before .before .before .before .before .before .before .before .before .before .before .before .before .before .before .before .before .before .before .before .before .before .before .before .before .before .before .before .before .before .before .before .before .before .before .before .before .before .before .before .args .text .now) (cut .result .now) (cut2 .result .now) (put-round .ensures .0) (cut .ensures) (put-round2 .ensures .0) (cut2 .ensures) in
+    let h = passed (readingOf (c .before .before .before .before .before .before .before .before .before .before .before .before .before .before .before .before .before .before .before .before .before .before .before .before .before .before .before .before .before .before .before .before .before .before .before .before .before .before .before .before .before .before .before .before .before .before .before .before .args .mode .0)) (c .before .before .before .before .before .before .before .before .before .before .before .before .before .before .before .before .before .before .before .before .before .before .before .before .before .before .before .before .before .before .before .before .before .before .before .before .before .before .before .before .before .before .before .before .before .before .before .before .args .text .now) (cut .result .now) (cut2 .result .now) (put-round .ensures .0) (cut .ensures) (put-round2 .ensures .0) (cut2 .ensures) in
     omega (arith, wiped-length h _ _ (c .before .larger .ensures) (c .larger2 .ensures), c .before .before .before .before .before .before .before .before .before .before .before .before .before .before .before .before .before .before .before .before .before .before .before .before .before .before .before .before .before .before .before .before .before .before .before .before .before .before .before .before .before .before .before .before .before .before .before .before .pre .0)
 
 same-length : tie.Need-same-length
-same-length c = c .before .before .before .before .before .before .before .before .wipe .kept .0 ∙ c .before .before .before .before .before .before .before .before .before .before .before .before .before .before .before .before .put-round3 .kept .1 .1 .1 .0 ∙ c .before .before .before .before .before .before .before .before .before .before .before .before .before .before .before .before .before .before .before .before .before .before .before .before .before .before .before .before .put-round2 .kept .1 .1 .1 .0 ∙ c .before .before .before .before .before .before .before .before .before .before .before .before .before .before .before .before .before .before .before .before .before .before .before .before .before .before .before .before .before .before .before .before .before .before .before .before .before .before .before .before .put-round .kept .1 .1 .1 .0
+same-length c = c .before .before .before .before .before .before .before .before .wipe .kept .0 ∙ c .before .before .before .before .before .before .before .before .before .before .before .before .before .before .before .before .put-round3 .kept .1 .1 .1 .1 .0 ∙ c .before .before .before .before .before .before .before .before .before .before .before .before .before .before .before .before .before .before .before .before .before .before .before .before .before .before .before .before .put-round2 .kept .1 .1 .1 .1 .0 ∙ c .before .before .before .before .before .before .before .before .before .before .before .before .before .before .before .before .before .before .before .before .before .before .before .before .before .before .before .before .before .before .before .before .before .before .before .before .before .before .before .before .put-round .kept .1 .1 .1 .1 .0
 
 same-length-2 : tie.Need-same-length-2
-same-length-2 c = c .before .before .wipe2 .kept .0 ∙ c .before .before .before .before .before .before .before .before .before .before .before .before .before .before .before .before .put-round3 .kept .1 .1 .1 .1 .0 ∙ c .before .before .before .before .before .before .before .before .before .before .before .before .before .before .before .before .before .before .before .before .before .before .before .before .before .before .before .before .put-round2 .kept .1 .1 .1 .1 .0 ∙ c .before .before .before .before .before .before .before .before .before .before .before .before .before .before .before .before .before .before .before .before .before .before .before .before .before .before .before .before .before .before .before .before .before .before .before .before .before .before .before .before .put-round .kept .1 .1 .1 .1 .0
+same-length-2 c = c .before .before .wipe2 .kept .0 ∙ c .before .before .before .before .before .before .before .before .before .before .before .before .before .before .before .before .put-round3 .kept .1 .1 .1 .1 .1 .0 ∙ c .before .before .before .before .before .before .before .before .before .before .before .before .before .before .before .before .before .before .before .before .before .before .before .before .before .before .before .before .put-round2 .kept .1 .1 .1 .1 .1 .0 ∙ c .before .before .before .before .before .before .before .before .before .before .before .before .before .before .before .before .before .before .before .before .before .before .before .before .before .before .before .before .before .before .before .before .before .before .before .before .before .before .before .before .put-round .kept .1 .1 .1 .1 .1 .0
 
 same-length-3 : tie.Need-same-length-3
-same-length-3 c = c .before .before .before .before .before .before .before .before .before .before .before .before .before .before .before .before .before .before .before .before .before .before .before .before .before .before .before .before .before .before .before .before .before .before .before .before .before .before .before .before .put-round .kept .1 .1 .1 .1 .1 .0
+same-length-3 c = c .before .before .before .before .before .before .before .before .before .before .before .before .before .before .before .before .before .before .before .before .before .before .before .before .before .before .before .before .before .before .before .before .before .before .before .before .before .before .before .before .put-round .kept .1 .1 .1 .1 .1 .1 .0
 
 same-length-4 : tie.Need-same-length-4
 same-length-4 c = search needs
@@ -87,7 +87,7 @@ returns c =
     let put-round2 = c .before .before .before .before .before .before .before .before .before .before .before .before .before .before .before .before .before .before .before .before .before .before .before .before .before .before .before .before .put-round2 in
     let cut2 = c .before .before .before .before .before .before .before .before .before .before .before .before .before .before .before .before .before .before .before .before .cut2 in
     let put-round3 = c .before .before .before .before .before .before .before .before .before .before .before .before .before .before .before .before .put-round3 in
-    let h = passed (a .text .now) (cut .result .now) (cut2 .result .now) (put-round .ensures .0) (cut .ensures) (put-round2 .ensures .0) (cut2 .ensures) in
+    let h = passed (readingOf (a .mode .0)) (a .text .now) (cut .result .now) (cut2 .result .now) (put-round .ensures .0) (cut .ensures) (put-round2 .ensures .0) (cut2 .ensures) in
     let q = wiped-length h _ _ (c .before .before .before .before .larger .ensures) (c .before .before .before .larger2 .ensures) in (
       wrote-as (third-text h) (put-round3 .ensures .0),
       (
@@ -95,8 +95,8 @@ returns c =
         (
           second-wrote h,
           (
-            scratch-end _ _ _ _ _ _ _ _ _ (put-round .ensures .1 .1) (put-round2 .ensures .1 .1) (put-round3 .ensures .1 .1) (put-round3 .kept .1 .1 .1 .1 .0 ∙ put-round2 .kept .1 .1 .1 .1 .0 ∙ put-round .kept .1 .1 .1 .1 .0) (longest-fits h) (wipe-end q (c .before .before .wipe2 .ensures)),
-            wrote-whole (c .before .before .before .before .before .before .before .before .wipe .ensures) (length-replicate {A = ℕ} (length (put-round3 .last .1 .1 .1 .0)) 0) ∙ ap (λ (n : ℕ). replicate n 0) (put-round3 .kept .1 .1 .1 .0 ∙ put-round2 .kept .1 .1 .1 .0 ∙ put-round .kept .1 .1 .1 .0),
+            scratch-end _ _ _ _ _ _ _ _ _ (put-round .ensures .1 .1) (put-round2 .ensures .1 .1) (put-round3 .ensures .1 .1) (put-round3 .kept .1 .1 .1 .1 .1 .0 ∙ put-round2 .kept .1 .1 .1 .1 .1 .0 ∙ put-round .kept .1 .1 .1 .1 .1 .0) (longest-fits h) (wipe-end q (c .before .before .wipe2 .ensures)),
+            wrote-whole (c .before .before .before .before .before .before .before .before .wipe .ensures) (length-replicate {A = ℕ} (length (put-round3 .last .1 .1 .1 .1 .0)) 0) ∙ ap (λ (n : ℕ). replicate n 0) (put-round3 .kept .1 .1 .1 .1 .0 ∙ put-round2 .kept .1 .1 .1 .1 .0 ∙ put-round .kept .1 .1 .1 .1 .0),
           ),
         ),
       ),

@@ -6,7 +6,7 @@ use lib.ListN.{length}
 use Rattle.lines.specs.Lf.{linesOf}
 use Rattle.lines.proofs.Tests.{so}
 use Rattle.lines.proofs.OutLaws.{wrote-as}
-use Rattle.reading.specs.Reading.{plain}
+use Rattle.reading.specs.Reading.{readingOf}
 use Rattle.names.specs.declared.PhiName.{PhiName}
 use Rattle.phis.specs.Phis.{phiDead}
 use Rattle.phis.proofs.Lines.{decl-long}
@@ -40,7 +40,7 @@ put-store-requires c κs =
     let dead-by = c .before .before .before .dead-by in
     let if1 = c .before .before .if1 in (
       dead-assign (linesOf (a .text .now)) (trim-start .result .now) (ap (λ (n : PhiName). phiDead n (linesOf (a .text .now))) (sym (phi-store .ensures)) ∙ so (dead-by .ensures) (if1 .taken)),
-      (omega (arith, start-le (a .line .now) (trim-start .result .now) (trim-start .ensures), pre .0), omega (arith, pre .1, ap length (change-store plain (linesOf (a .text .now)) (a .line .now) (trim-start .result .now) (cut .result .now) (trim-from .result) (trim-start .ensures) (trim-from .ensures) (cut .ensures) (phi-store .result) (phi-store .ensures) (so (dead-by .ensures) (if1 .taken))))),
+      (omega (arith, start-le (a .line .now) (trim-start .result .now) (trim-start .ensures), pre .0), omega (arith, pre .1, ap length (change-store (readingOf (a .mode .0)) (linesOf (a .text .now)) (a .line .now) (trim-start .result .now) (cut .result .now) (trim-from .result) (trim-start .ensures) (trim-from .ensures) (cut .ensures) (phi-store .result) (phi-store .ensures) (so (dead-by .ensures) (if1 .taken))))),
     )
 
 same-length : tie.Need-same-length
@@ -57,7 +57,7 @@ returns c =
     let cut = c .before .before .before .before .before .before .before .before .before .before .cut in
     let phi-store = c .before .before .before .before .before .before .before .before .before .phi-store in
     let put-store = c .before .before .before .before .put-store in
-    (wrote-as (sym (change-store plain (linesOf (a .text .now)) (a .line .now) (trim-start .result .now) (cut .result .now) (trim-from .result) (trim-start .ensures) (trim-from .ensures) (cut .ensures) (phi-store .result) (phi-store .ensures) (so (c .before .before .before .before .before .before .before .before .dead-by .ensures) (c .before .before .before .before .before .before .before .if1 .taken)))) (put-store .ensures .0), drop-more (length (trim-start .result .now)) (length (a .line .now)) _ _ (start-le (a .line .now) (trim-start .result .now) (trim-start .ensures)) (put-store .ensures .1))
+    (wrote-as (sym (change-store (readingOf (a .mode .0)) (linesOf (a .text .now)) (a .line .now) (trim-start .result .now) (cut .result .now) (trim-from .result) (trim-start .ensures) (trim-from .ensures) (cut .ensures) (phi-store .result) (phi-store .ensures) (so (c .before .before .before .before .before .before .before .before .dead-by .ensures) (c .before .before .before .before .before .before .before .if1 .taken)))) (put-store .ensures .0), drop-more (length (trim-start .result .now)) (length (a .line .now)) _ _ (start-le (a .line .now) (trim-start .result .now) (trim-start .ensures)) (put-store .ensures .1))
 
 phi-decl-requires : tie.Need-phi-decl-requires
 phi-decl-requires c κs = search needs
@@ -75,7 +75,7 @@ put-decl-requires c κs =
     let trim-from = c .before .before .before .before .before .before .before .before .trim-from in
     let cut = c .before .before .before .before .before .before .before .cut in
     let phi-store = c .before .before .before .before .before .before .phi-store in
-    (c .before .before .before .before .before .before .before .before .before .before .before .before .before .before .before .before .pre .0, omega (arith, c .before .before .before .before .before .before .before .before .before .before .before .before .before .before .before .before .pre .1 .1, ap length (change-decl plain (linesOf (a .text .now)) (a .line .now) (trim-start .result .now) (cut .result .now) (trim-from .result) (trim-start .ensures) (trim-from .ensures) (cut .ensures) (phi-store .result) (phi-store .ensures) (so (c .before .before .before .before .before .dead-by .ensures) (c .before .before .before .before .if1 .left)) (so (c .before .before .before .phi-decl .ensures) (c .before .before .if2 .taken)) (c .before .cut2 .result .now) (c .before .cut2 .ensures))))
+    (c .before .before .before .before .before .before .before .before .before .before .before .before .before .before .before .before .pre .0, omega (arith, c .before .before .before .before .before .before .before .before .before .before .before .before .before .before .before .before .pre .1 .1, ap length (change-decl (readingOf (a .mode .0)) (linesOf (a .text .now)) (a .line .now) (trim-start .result .now) (cut .result .now) (trim-from .result) (trim-start .ensures) (trim-from .ensures) (cut .ensures) (phi-store .result) (phi-store .ensures) (so (c .before .before .before .before .before .dead-by .ensures) (c .before .before .before .before .if1 .left)) (so (c .before .before .before .phi-decl .ensures) (c .before .before .if2 .taken)) (c .before .cut2 .result .now) (c .before .cut2 .ensures))))
 
 same-length-3 : tie.Need-same-length-3
 same-length-3 c = search needs
@@ -88,7 +88,7 @@ returns-2 c =
     let cut = c .before .before .before .before .before .before .before .before .before .before .cut in
     let phi-store = c .before .before .before .before .before .before .before .before .before .phi-store in
     let cut2 = c .before .before .before .before .cut2 in
-    (wrote-as (sym (change-decl plain (linesOf (a .text .now)) (a .line .now) (trim-start .result .now) (cut .result .now) (trim-from .result) (trim-start .ensures) (trim-from .ensures) (cut .ensures) (phi-store .result) (phi-store .ensures) (so (c .before .before .before .before .before .before .before .before .dead-by .ensures) (c .before .before .before .before .before .before .before .if1 .left)) (so (c .before .before .before .before .before .before .phi-decl .ensures) (c .before .before .before .before .before .if2 .taken)) (cut2 .result .now) (cut2 .ensures))) (c .before .before .put-decl .ensures), refl)
+    (wrote-as (sym (change-decl (readingOf (a .mode .0)) (linesOf (a .text .now)) (a .line .now) (trim-start .result .now) (cut .result .now) (trim-from .result) (trim-start .ensures) (trim-from .ensures) (cut .ensures) (phi-store .result) (phi-store .ensures) (so (c .before .before .before .before .before .before .before .before .dead-by .ensures) (c .before .before .before .before .before .before .before .if1 .left)) (so (c .before .before .before .before .before .before .phi-decl .ensures) (c .before .before .before .before .before .if2 .taken)) (cut2 .result .now) (cut2 .ensures))) (c .before .before .put-decl .ensures), refl)
 
 put-line-requires : tie.Need-put-line-requires
 put-line-requires c κs =
@@ -97,7 +97,7 @@ put-line-requires c κs =
     let trim-from = c .before .before .before .before .before .before .before .trim-from in
     let cut = c .before .before .before .before .before .before .cut in
     let phi-store = c .before .before .before .before .before .phi-store in
-    omega (arith, c .before .before .before .before .before .before .before .before .before .before .before .before .before .before .before .pre .1 .1, ap length (change-keep plain (linesOf (a .text .now)) (a .line .now) (trim-start .result .now) (cut .result .now) (trim-from .result) (trim-start .ensures) (trim-from .ensures) (cut .ensures) (phi-store .result) (phi-store .ensures) (so (c .before .before .before .before .dead-by .ensures) (c .before .before .before .if1 .left)) (so (c .before .before .phi-decl .ensures) (c .before .if2 .left))))
+    omega (arith, c .before .before .before .before .before .before .before .before .before .before .before .before .before .before .before .pre .1 .1, ap length (change-keep (readingOf (a .mode .0)) (linesOf (a .text .now)) (a .line .now) (trim-start .result .now) (cut .result .now) (trim-from .result) (trim-start .ensures) (trim-from .ensures) (cut .ensures) (phi-store .result) (phi-store .ensures) (so (c .before .before .before .before .dead-by .ensures) (c .before .before .before .if1 .left)) (so (c .before .before .phi-decl .ensures) (c .before .if2 .left))))
 
 same-length-4 : tie.Need-same-length-4
 same-length-4 c = search needs
@@ -109,7 +109,7 @@ returns-3 c =
     let trim-from = c .before .before .before .before .before .before .before .before .before .before .trim-from in
     let cut = c .before .before .before .before .before .before .before .before .before .cut in
     let phi-store = c .before .before .before .before .before .before .before .before .phi-store in
-    (wrote-as (sym (change-keep plain (linesOf (a .text .now)) (a .line .now) (trim-start .result .now) (cut .result .now) (trim-from .result) (trim-start .ensures) (trim-from .ensures) (cut .ensures) (phi-store .result) (phi-store .ensures) (so (c .before .before .before .before .before .before .before .dead-by .ensures) (c .before .before .before .before .before .before .if1 .left)) (so (c .before .before .before .before .before .phi-decl .ensures) (c .before .before .before .before .if2 .left)))) (c .before .before .put-line .ensures), refl)
+    (wrote-as (sym (change-keep (readingOf (a .mode .0)) (linesOf (a .text .now)) (a .line .now) (trim-start .result .now) (cut .result .now) (trim-from .result) (trim-start .ensures) (trim-from .ensures) (cut .ensures) (phi-store .result) (phi-store .ensures) (so (c .before .before .before .before .before .before .before .dead-by .ensures) (c .before .before .before .before .before .before .if1 .left)) (so (c .before .before .before .before .before .phi-decl .ensures) (c .before .before .before .before .if2 .left)))) (c .before .before .put-line .ensures), refl)
 
 pub put-change-spec : {M : Type 1} → statement M
 put-change-spec =

@@ -10,6 +10,7 @@ use Rattle.lines.proofs.Tests.{so}
 use Rattle.lines.proofs.OutLaws.{wrote-as, wrote-whole}
 use Rattle.phis.specs.Inner.Table.{noteLines}
 use Rattle.phis.proofs.TableLaws.{table-tells}
+use Rattle.reading.specs.Reading.{readingOf}
 use Rattle.phis.proofs.Whole.{none-round, calm-dead}
 use Rattle.phis.proofs.put_round.Statement.{statement}
 use Rattle.phis.proofs.put_round.Tie as tie
@@ -20,7 +21,7 @@ may-change-requires c κs = search needs
 put-lines-requires : tie.Need-put-lines-requires
 put-lines-requires c κs =
     let a = c .before .before .before .before .before .before .before .before in
-    omega (arith, a .pre .1 .1, ap length (none-round (a .args .text .now) (calm-dead (a .args .text .now) (a .args .dead) (a .pre .0) (so (c .before .before .may-change .ensures) (not-true _ (c .before .if1 .taken))))))
+    omega (arith, a .pre .1 .1, ap length (none-round (readingOf (a .args .mode .0)) (a .args .text .now) (calm-dead (a .args .text .now) (a .args .dead) (a .pre .0) (so (c .before .before .may-change .ensures) (not-true _ (c .before .if1 .taken))))))
 
 same-length : tie.Need-same-length
 same-length c = search needs
@@ -29,7 +30,7 @@ returns : tie.Need-returns
 returns c =
     let a = c .before .before .before .before .before .before .before .before .before .before .before in
     let k = calm-dead (a .args .text .now) (a .args .dead) (a .pre .0) (so (c .before .before .before .before .before .may-change .ensures) (not-true _ (c .before .before .before .before .if1 .taken))) in
-    (wrote-as (none-round (a .args .text .now) k) (c .before .before .put-lines .ensures), (sym k, refl))
+    (wrote-as (none-round (readingOf (a .args .mode .0)) (a .args .text .now) k) (c .before .before .put-lines .ensures), (sym k, refl))
 
 wipe-requires : tie.Need-wipe-requires
 wipe-requires c κs = search needs

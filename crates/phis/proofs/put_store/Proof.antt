@@ -6,6 +6,7 @@ use lib.ListN.{length}
 use Rattle.lines.proofs.Tests.{no}
 use Rattle.lines.proofs.OutLaws.{wrote-as, wrote-nil}
 use Rattle.reading.proofs.AssignLaws.{assign-split, assign-not}
+use Rattle.reading.specs.Reading.{readingOf}
 use Rattle.phis.proofs.Writes.{store-goes, store-stays, value-le, drop-more}
 use Rattle.phis.proofs.put_store.Statement.{statement}
 use Rattle.phis.proofs.put_store.Tie as tie
@@ -22,7 +23,7 @@ right-of-requires c κs = search needs
 no-effect-requires : tie.Need-no-effect-requires
 no-effect-requires c κs =
     let a = c .before .before .before .before .before .before .before .before .before .before .args in
-    omega (arith, value-le (a .indent .now) (a .t .now) (c .before .right-of .result .now) (c .before .right-of .ensures ∙ assign-split (a .t .now) _ (sym (c .before .before .before .before .before .assign-of .ensures) ∙ c .before .before .before .s .given .1) .is-right) _ refl, c .before .before .before .before .before .before .before .before .before .before .pre .1 .0)
+    omega (arith, value-le (readingOf (a .mode .0)) (a .indent .now) (a .t .now) (c .before .right-of .result .now) (c .before .right-of .ensures ∙ assign-split (a .t .now) _ (sym (c .before .before .before .before .before .assign-of .ensures) ∙ c .before .before .before .s .given .1) .is-right) _ refl, c .before .before .before .before .before .before .before .before .before .before .pre .1 .0)
 
 same-length : tie.Need-same-length
 same-length c = search needs
@@ -34,14 +35,14 @@ returns c =
     let s = c .before .before .before .before .before .before .before .s in
     let right-of = c .before .before .before .before .before .right-of in
     let no-effect = c .before .before .before .no-effect in
-    (wrote-as (sym (store-goes (a .indent .now) (a .t .now) (right-of .result .now) (right-of .ensures ∙ assign-split (a .t .now) _ (sym (assign-of .ensures) ∙ s .given .1) .is-right) (no-effect .result) (no-effect .ensures .0) (c .if1 .taken))) (wrote-nil (a .out .now) (a .o) (omega (arith, c .before .before .before .before .before .before .before .before .before .before .before .before .before .before .pre .1 .1))), drop-more (length (right-of .result .now)) (length (a .t .now)) _ _ (value-le (a .indent .now) (a .t .now) (right-of .result .now) (right-of .ensures ∙ assign-split (a .t .now) _ (sym (assign-of .ensures) ∙ s .given .1) .is-right) (no-effect .result) (no-effect .ensures .0)) (no-effect .ensures .1))
+    (wrote-as (sym (store-goes (readingOf (a .mode .0)) (a .indent .now) (a .t .now) (right-of .result .now) (right-of .ensures ∙ assign-split (a .t .now) _ (sym (assign-of .ensures) ∙ s .given .1) .is-right) (no-effect .result) (no-effect .ensures .0) (c .if1 .taken))) (wrote-nil (a .out .now) (a .o) (omega (arith, c .before .before .before .before .before .before .before .before .before .before .before .before .before .before .pre .1 .1))), drop-more (length (right-of .result .now)) (length (a .t .now)) _ _ (value-le (readingOf (a .mode .0)) (a .indent .now) (a .t .now) (right-of .result .now) (right-of .ensures ∙ assign-split (a .t .now) _ (sym (assign-of .ensures) ∙ s .given .1) .is-right) (no-effect .result) (no-effect .ensures .0)) (no-effect .ensures .1))
 
 put-value-requires : tie.Need-put-value-requires
 put-value-requires c κs =
     let a = c .before .before .before .before .before .before .before .before .before .before .before .before .before .before .before .args in
     let right-of = c .before .before .before .before .before .before .right-of in
     let no-effect = c .before .before .before .before .no-effect in
-    omega (arith, c .before .before .before .before .before .before .before .before .before .before .before .before .before .before .before .pre .1 .1, ap length (store-stays (a .indent .now) (a .t .now) (right-of .result .now) (right-of .ensures ∙ assign-split (a .t .now) _ (sym (c .before .before .before .before .before .before .before .before .before .before .assign-of .ensures) ∙ c .before .before .before .before .before .before .before .before .s .given .1) .is-right) (no-effect .result) (no-effect .ensures .0) (c .before .if1 .left)))
+    omega (arith, c .before .before .before .before .before .before .before .before .before .before .before .before .before .before .before .pre .1 .1, ap length (store-stays (readingOf (a .mode .0)) (a .indent .now) (a .t .now) (right-of .result .now) (right-of .ensures ∙ assign-split (a .t .now) _ (sym (c .before .before .before .before .before .before .before .before .before .before .assign-of .ensures) ∙ c .before .before .before .before .before .before .before .before .s .given .1) .is-right) (no-effect .result) (no-effect .ensures .0) (c .before .if1 .left)))
 
 enum-told : tie.Need-enum-told
 enum-told c = search needs
@@ -59,7 +60,7 @@ returns-2 c =
     let s = c .before .before .before .before .before .before .before .before .before .before .before .s in
     let right-of = c .before .before .before .before .before .before .before .before .before .right-of in
     let no-effect = c .before .before .before .before .before .before .before .no-effect in
-    (wrote-as (sym (store-stays (a .indent .now) (a .t .now) (right-of .result .now) (right-of .ensures ∙ assign-split (a .t .now) _ (sym (assign-of .ensures) ∙ s .given .1) .is-right) (no-effect .result) (no-effect .ensures .0) (c .before .before .before .before .if1 .left))) (c .before .before .put-value .ensures), drop-more (length (right-of .result .now)) (length (a .t .now)) _ _ (value-le (a .indent .now) (a .t .now) (right-of .result .now) (right-of .ensures ∙ assign-split (a .t .now) _ (sym (assign-of .ensures) ∙ s .given .1) .is-right) (no-effect .result) (no-effect .ensures .0)) (no-effect .ensures .1))
+    (wrote-as (sym (store-stays (readingOf (a .mode .0)) (a .indent .now) (a .t .now) (right-of .result .now) (right-of .ensures ∙ assign-split (a .t .now) _ (sym (assign-of .ensures) ∙ s .given .1) .is-right) (no-effect .result) (no-effect .ensures .0) (c .before .before .before .before .if1 .left))) (c .before .before .put-value .ensures), drop-more (length (right-of .result .now)) (length (a .t .now)) _ _ (value-le (readingOf (a .mode .0)) (a .indent .now) (a .t .now) (right-of .result .now) (right-of .ensures ∙ assign-split (a .t .now) _ (sym (assign-of .ensures) ∙ s .given .1) .is-right) (no-effect .result) (no-effect .ensures .0)) (no-effect .ensures .1))
 
 returns-3 : tie.Need-returns-3
 returns-3 c = no (sym (assign-not (c .before .before .before .before .before .before .before .args .t .now) (sym (c .before .before .assign-of .ensures) ∙ c .enum-told .given .1)) ∙ c .before .before .before .before .before .before .before .pre .0)

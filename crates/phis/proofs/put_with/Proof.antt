@@ -6,6 +6,7 @@ use lib.ListN.{length}
 use borrow.Author.Tests.{not-true, not-false}
 use Rattle.lines.proofs.Tests.{so}
 use Rattle.lines.proofs.OutLaws.{wrote-as, writing-length}
+use Rattle.reading.specs.Reading.{readingOf}
 use Rattle.phis.proofs.Writes.{RoundInv, round-start, round-room, round-on, round-end}
 use Rattle.phis.proofs.Whole.{none-round}
 use borrow.Author.Needs.{needs}
@@ -13,25 +14,25 @@ use Rattle.phis.proofs.put_with.Statement.{statement}
 use Rattle.phis.proofs.put_with.Tie as tie
 
 abbrev Inv-loop : tie.InvT-loop
-Inv-loop text own table scratch₀ out₀ i₀ o₀ scratch out i o = RoundInv text scratch₀ out₀ scratch out i o
+Inv-loop mode text own table scratch₀ out₀ i₀ o₀ scratch out i o = RoundInv (readingOf (mode .0)) text scratch₀ out₀ scratch out i o
 
 abbrev μ-loop : tie.MeasureT-loop
-μ-loop text own table scratch₀ out₀ i₀ o₀ scratch out i o = length text - i
+μ-loop mode text own table scratch₀ out₀ i₀ o₀ scratch out i o = length text - i
 
 any-dead-requires : tie.Need-any-dead-requires Inv-loop μ-loop
 any-dead-requires c κs = c .before .before .before .before .before .pre .0
 
 put-lines-requires : tie.Need-put-lines-requires Inv-loop μ-loop
-put-lines-requires c κs = omega (arith, c .before .before .before .before .before .before .before .before .pre .1 .1, ap length (none-round (c .before .before .before .before .before .before .before .before .args .text .now) (so (c .before .before .any-dead .ensures) (not-true _ (c .before .if1 .taken)))))
+put-lines-requires c κs = omega (arith, c .before .before .before .before .before .before .before .before .pre .1 .1, ap length (none-round (readingOf (c .before .before .before .before .before .before .before .before .args .mode .0)) (c .before .before .before .before .before .before .before .before .args .text .now) (so (c .before .before .any-dead .ensures) (not-true _ (c .before .if1 .taken)))))
 
 same-length : tie.Need-same-length Inv-loop μ-loop
 same-length c = search needs
 
 returns : tie.Need-returns Inv-loop μ-loop
-returns c = (wrote-as (none-round (c .before .before .before .before .before .before .before .before .before .before .before .args .text .now) (so (c .before .before .before .before .before .any-dead .ensures) (not-true _ (c .before .before .before .before .if1 .taken)))) (c .before .before .put-lines .ensures), (sym (so (c .before .before .before .before .before .any-dead .ensures) (not-true _ (c .before .before .before .before .if1 .taken))), refl))
+returns c = (wrote-as (none-round (readingOf (c .before .before .before .before .before .before .before .before .before .before .before .args .mode .0)) (c .before .before .before .before .before .before .before .before .before .before .before .args .text .now) (so (c .before .before .before .before .before .any-dead .ensures) (not-true _ (c .before .before .before .before .if1 .taken)))) (c .before .before .put-lines .ensures), (sym (so (c .before .before .before .before .before .any-dead .ensures) (not-true _ (c .before .before .before .before .if1 .taken))), refl))
 
 loop-holds : tie.Need-loop-holds Inv-loop μ-loop
-loop-holds c = let pre = c .before .before .before .before .before .before .before .pre in round-start _ _ _ (pre .1 .0) (pre .1 .1) (so (c .before .any-dead .ensures) (not-false _ (c .if1 .left)))
+loop-holds c = let pre = c .before .before .before .before .before .before .before .pre in round-start _ _ _ _ (pre .1 .0) (pre .1 .1) (so (c .before .any-dead .ensures) (not-false _ (c .if1 .left)))
 
 find-byte-requires : tie.Need-find-byte-requires Inv-loop μ-loop
 find-byte-requires c κs = search needs
@@ -49,7 +50,7 @@ loop-less : tie.Need-loop-less Inv-loop μ-loop
 loop-less c = omega (arith, c .after .ensures, c .before .before .before .before .before .before .before .before .before .find-byte .ensures, c .before .before .before .before .before .before .before .before .before .before .loop-test .taken)
 
 loop-again : tie.Need-loop-again Inv-loop μ-loop
-loop-again c = let find-byte = c .before .before .before .before .before .before .before .before .before .find-byte in let cut = c .before .before .before .before .before .before .before .before .cut in let put-line = c .before .before .before .before .before .put-line in round-on (c .before .before .before .before .before .before .before .before .before .before .before .loop .inv) (find-byte .result) (c .before .before .before .before .before .before .before .before .before .before .loop-test .taken) (find-byte .ensures) (cut .result .now) (cut .ensures) _ _ _ _ (put-line .ensures .0) (put-line .ensures .1) (put-line .kept .1 .1 .1 .1 .0) (c .after .ensures)
+loop-again c = let find-byte = c .before .before .before .before .before .before .before .before .before .find-byte in let cut = c .before .before .before .before .before .before .before .before .cut in let put-line = c .before .before .before .before .before .put-line in round-on (c .before .before .before .before .before .before .before .before .before .before .before .loop .inv) (find-byte .result) (c .before .before .before .before .before .before .before .before .before .before .loop-test .taken) (find-byte .ensures) (cut .result .now) (cut .ensures) _ _ _ _ (put-line .ensures .0) (put-line .ensures .1) (put-line .kept .1 .1 .1 .1 .1 .0) (c .after .ensures)
 
 same-length-2 : tie.Need-same-length-2 Inv-loop μ-loop
 same-length-2 c = c .before .loop .inv .same-scratch
