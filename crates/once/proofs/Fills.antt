@@ -19,7 +19,7 @@ use Rattle.place.specs.Loops.{insideLoop}
 use Rattle.place.proofs.Fills.{entry-on, entry-end, filled-as}
 use Rattle.place.proofs.Paths.{length-tops}
 use Rattle.place.proofs.Nests.{length-loops}
-use Rattle.reading.specs.Reading.{Reading, plain}
+use Rattle.reading.specs.Reading.{Reading}
 use Rattle.once.specs.Once.{Spot, spotsOf, spots, linesIn, dropped, forwards, nextRun, onceGo, onceActs}
 use Rattle.once.specs.Inner.Tables.{Blank, lineDrops, lineForwards, markOf, marksGo, onceMarks, actsBy, isSet, firstDrops, firstTakes, markBy, firstMark, marksIn, marksOf, areaAt}
 use Rattle.once.specs.Inner.Noted.{RowAt}
@@ -186,24 +186,24 @@ module _ (t : List ℕ) (i e above : ℕ) (l : List ℕ) (q : l ≡ part i e t) 
 -- ---- the loop
 
 -- whether the first of the lines from i on goes, with the entries from k on
-abbrev goesAt : List ℕ → List ℕ → List ℕ → ℕ → ℕ → Bool
-goesAt t ps fs i k = firstDrops plain (linesOf (drop i t)) (drop k ps) (isSet (top (drop k fs)))
+abbrev goesAt : Reading → List ℕ → List ℕ → List ℕ → ℕ → ℕ → Bool
+goesAt R t ps fs i k = firstDrops R (linesOf (drop i t)) (drop k ps) (isSet (top (drop k fs)))
 
 -- the marks that are still to come: of these lines
-abbrev pub toMark : List ℕ → List ℕ → List ℕ → ℕ → ℕ → ℕ → List ℕ
-toMark t ps fs i k w = marksIn plain (linesOf (drop i t)) (drop k ps) (drop k fs) (goesAt t ps fs i k) (linesAt t w)
+abbrev pub toMark : Reading → List ℕ → List ℕ → List ℕ → ℕ → ℕ → ℕ → List ℕ
+toMark R t ps fs i k w = marksIn R (linesOf (drop i t)) (drop k ps) (drop k fs) (goesAt R t ps fs i k) (linesAt t w)
 
-pub record MarksInv (t ps fs d₀ d : List ℕ) (i k w : ℕ) : Type 0 where
+pub record MarksInv (R : Reading) (t ps fs d₀ d : List ℕ) (i k w : ℕ) : Type 0 where
   pub i≤ : i ≤ length t
   pub k≤ : k ≤ i
-  pub writing : Writing 0 (marksOf plain (linesOf t) ps fs) (toMark t ps fs i k w) d₀ d k
+  pub writing : Writing 0 (marksOf R (linesOf t) ps fs) (toMark R t ps fs i k w) d₀ d k
 
-pub fill-start : (t ps fs d : List ℕ) → length (linesOf t) ≤ length d → MarksInv t ps fs d d 0 0 0
+pub fill-start : (R : Reading) (t ps fs d : List ℕ) → length (linesOf t) ≤ length d → MarksInv R t ps fs d d 0 0 0
 unfolding marksOf
-fill-start t ps fs d h = record {
+fill-start R t ps fs d h = record {
   i≤ = omega arith;
   k≤ = omega arith;
-  writing = writing-start 0 (marksOf plain (linesOf t) ps fs) d (omega (arith, marks-length plain (linesOf t) ps fs));
+  writing = writing-start 0 (marksOf R (linesOf t) ps fs) d (omega (arith, marks-length R (linesOf t) ps fs));
 }
 
 marks-cons : (R : Reading) (l : List ℕ) (ls : List (List ℕ)) (ps fs : List ℕ) (run : List (List ℕ)) →
@@ -212,36 +212,36 @@ marks-cons : (R : Reading) (l : List ℕ) (ls : List (List ℕ)) (ps fs : List �
 unfolding marksIn firstMark
 marks-cons R l ls ps fs run = refl
 
-module _ {t ps fs d₀ d : List ℕ} {i k w : ℕ} (v : MarksInv t ps fs d₀ d i k w) (h : i < length t)
+module _ {R : Reading} {t ps fs d₀ d : List ℕ} {i k w : ℕ} (v : MarksInv R t ps fs d₀ d i k w) (h : i < length t)
     (e w′ : ℕ) (q : e ≡ i + upTo 10 (drop i t)) (a : w′ ≡ areaAt t i e w) where
-  mark-on : toMark t ps fs i k w ≡ firstMark plain (linesOf (drop i t)) (drop k ps) (drop k fs) (linesAt t w′) ∷ toMark t ps fs (min (e + 1) (length t)) (k + 1) w′
+  mark-on : toMark R t ps fs i k w ≡ firstMark R (linesOf (drop i t)) (drop k ps) (drop k fs) (linesAt t w′) ∷ toMark R t ps fs (min (e + 1) (length t)) (k + 1) w′
   mark-on =
       let l : List ℕ = part i e t in
       let below : List (List ℕ) = linesOf (drop (min (e + 1) (length t)) t) in
       let r : linesAt t w′ ≡ regionAt l below (linesAt t w) = ap (linesAt t) a ∙ area-run t i e w h q in
-      ap (λ (ls : List (List ℕ)). marksIn plain ls (drop k ps) (drop k fs) (firstDrops plain ls (drop k ps) (isSet (top (drop k fs)))) (linesAt t w)) (lines-at t i e h q)
-      ∙ marks-cons plain l below (drop k ps) (drop k fs) (linesAt t w)
-      ∙ ap (λ (s : List (List ℕ)). firstMark plain (l ∷ below) (drop k ps) (drop k fs) s ∷ marksIn plain below (drop 1 (drop k ps)) (drop 1 (drop k fs)) (firstDrops plain below (drop 1 (drop k ps)) (isSet (top (drop 1 (drop k fs))))) s) (sym r)
-      ∙ ap (λ (s : List ℕ). firstMark plain (l ∷ below) (drop k ps) (drop k fs) (linesAt t w′) ∷ marksIn plain below s (drop 1 (drop k fs)) (firstDrops plain below s (isSet (top (drop 1 (drop k fs))))) (linesAt t w′)) (drop-drop 1 k ps)
-      ∙ ap (λ (s : List ℕ). firstMark plain (l ∷ below) (drop k ps) (drop k fs) (linesAt t w′) ∷ marksIn plain below (drop (k + 1) ps) s (firstDrops plain below (drop (k + 1) ps) (isSet (top s))) (linesAt t w′)) (drop-drop 1 k fs)
-      ∙ ap (λ (ls : List (List ℕ)). firstMark plain ls (drop k ps) (drop k fs) (linesAt t w′) ∷ toMark t ps fs (min (e + 1) (length t)) (k + 1) w′) (sym (lines-at t i e h q))
+      ap (λ (ls : List (List ℕ)). marksIn R ls (drop k ps) (drop k fs) (firstDrops R ls (drop k ps) (isSet (top (drop k fs)))) (linesAt t w)) (lines-at t i e h q)
+      ∙ marks-cons R l below (drop k ps) (drop k fs) (linesAt t w)
+      ∙ ap (λ (s : List (List ℕ)). firstMark R (l ∷ below) (drop k ps) (drop k fs) s ∷ marksIn R below (drop 1 (drop k ps)) (drop 1 (drop k fs)) (firstDrops R below (drop 1 (drop k ps)) (isSet (top (drop 1 (drop k fs))))) s) (sym r)
+      ∙ ap (λ (s : List ℕ). firstMark R (l ∷ below) (drop k ps) (drop k fs) (linesAt t w′) ∷ marksIn R below s (drop 1 (drop k fs)) (firstDrops R below s (isSet (top (drop 1 (drop k fs))))) (linesAt t w′)) (drop-drop 1 k ps)
+      ∙ ap (λ (s : List ℕ). firstMark R (l ∷ below) (drop k ps) (drop k fs) (linesAt t w′) ∷ marksIn R below (drop (k + 1) ps) s (firstDrops R below (drop (k + 1) ps) (isSet (top s))) (linesAt t w′)) (drop-drop 1 k fs)
+      ∙ ap (λ (ls : List (List ℕ)). firstMark R ls (drop k ps) (drop k fs) (linesAt t w′) ∷ toMark R t ps fs (min (e + 1) (length t)) (k + 1) w′) (sym (lines-at t i e h q))
 
   -- the entry is there
   pub fill-place : k < length d
   fill-place = let r = writing-room (writing-as mark-on (v .writing)) in omega arith
 
-  pub fill-on : (j m : ℕ) → j ≡ min (e + 1) (length t) → m ≡ firstMark plain (linesOf (drop i t)) (drop k ps) (drop k fs) (linesAt t w′) → MarksInv t ps fs d₀ (set d k m) j (k + 1) w′
+  pub fill-on : (j m : ℕ) → j ≡ min (e + 1) (length t) → m ≡ firstMark R (linesOf (drop i t)) (drop k ps) (drop k fs) (linesAt t w′) → MarksInv R t ps fs d₀ (set d k m) j (k + 1) w′
   fill-on j m z o = record {
     i≤ = omega arith;
     k≤ = omega (arith, v .k≤);
-    writing = entry-on m (writing-as (mark-on ∙ ap (λ (u : ℕ). u ∷ toMark t ps fs (min (e + 1) (length t)) (k + 1) w′) (sym o) ∙ ap (λ (u : ℕ). m ∷ toMark t ps fs u (k + 1) w′) (sym z)) (v .writing));
+    writing = entry-on m (writing-as (mark-on ∙ ap (λ (u : ℕ). u ∷ toMark R t ps fs (min (e + 1) (length t)) (k + 1) w′) (sym o) ∙ ap (λ (u : ℕ). m ∷ toMark R t ps fs u (k + 1) w′) (sym z)) (v .writing));
   }
 
-pub fill-end : {t ps fs d₀ d : List ℕ} {i k w : ℕ} → MarksInv t ps fs d₀ d i k w → length t ≤ i → Filled d₀ (marksOf plain (linesOf t) ps fs) d k
+pub fill-end : {R : Reading} {t ps fs d₀ d : List ℕ} {i k w : ℕ} → MarksInv R t ps fs d₀ d i k w → length t ≤ i → Filled d₀ (marksOf R (linesOf t) ps fs) d k
 unfolding marksIn
-fill-end {t} {ps} {fs} {d₀} {d} {i} {k} {w} v h = entry-end (none (linesOf (drop i t)) (lines-end t i h) (goesAt t ps fs i k)) (v .writing)
+fill-end {R} {t} {ps} {fs} {d₀} {d} {i} {k} {w} v h = entry-end (none (linesOf (drop i t)) (lines-end t i h) (goesAt R t ps fs i k)) (v .writing)
   where
-    none : (ls : List (List ℕ)) → ls ≡ [] → (goes : Bool) → marksIn plain ls (drop k ps) (drop k fs) goes (linesAt t w) ≡ []
+    none : (ls : List (List ℕ)) → ls ≡ [] → (goes : Bool) → marksIn R ls (drop k ps) (drop k fs) goes (linesAt t w) ≡ []
     none ls e goes = rw e
 
 -- ---- the mark of one line
@@ -252,24 +252,24 @@ unfolding firstMark
 first-cons R l ls ps fs run f g us y z w = rw (y, z, w)
 
 -- f is the entry of the line, which is l and whose region begins r, and `next` says whether the line below goes, which begins at j
-module _ (t ps fs : List ℕ) (i e k w : ℕ) (a : RowAt t i e k) (f : ℕ) (y : f ≡ getD fs k 0) where
-  first-mark : (j : ℕ) → j ≡ min (e + 1) (length t) → firstMark plain (linesOf (drop i t)) (drop k ps) (drop k fs) (linesAt t w)
-      ≡ markBy (firstDrops plain (linesOf (drop i t)) (drop k ps) (isSet f))
-      (firstTakes plain (part i e t) (linesAt t w) (isSet f) (firstDrops plain (linesOf (drop j t)) (drop (k + 1) ps) (isSet (getD fs (k + 1) 0))) (linesOf (drop j t)))
+module _ (R : Reading) (t ps fs : List ℕ) (i e k w : ℕ) (a : RowAt t i e k) (f : ℕ) (y : f ≡ getD fs k 0) where
+  first-mark : (j : ℕ) → j ≡ min (e + 1) (length t) → firstMark R (linesOf (drop i t)) (drop k ps) (drop k fs) (linesAt t w)
+      ≡ markBy (firstDrops R (linesOf (drop i t)) (drop k ps) (isSet f))
+      (firstTakes R (part i e t) (linesAt t w) (isSet f) (firstDrops R (linesOf (drop j t)) (drop (k + 1) ps) (isSet (getD fs (k + 1) 0))) (linesOf (drop j t)))
   first-mark j z =
       let below : List (List ℕ) = linesOf (drop (min (e + 1) (length t)) t) in
       let q = lines-at t i e (a .here) (a .end) in
-      ap (λ (ls : List (List ℕ)). firstMark plain ls (drop k ps) (drop k fs) (linesAt t w)) q
-      ∙ first-cons plain (part i e t) below (drop k ps) (drop k fs) (linesAt t w) f (getD fs (k + 1) 0) (drop (k + 1) ps) (top-drop fs k ∙ sym y) (ap top (drop-drop 1 k fs) ∙ top-drop fs (k + 1)) (drop-drop 1 k ps)
-      ∙ ap (λ (ls : List (List ℕ)). markBy (firstDrops plain ls (drop k ps) (isSet f)) (firstTakes plain (part i e t) (linesAt t w) (isSet f) (firstDrops plain below (drop (k + 1) ps) (isSet (getD fs (k + 1) 0))) below)) (sym q)
-      ∙ ap (λ (n : ℕ). markBy (firstDrops plain (linesOf (drop i t)) (drop k ps) (isSet f)) (firstTakes plain (part i e t) (linesAt t w) (isSet f) (firstDrops plain (linesOf (drop n t)) (drop (k + 1) ps) (isSet (getD fs (k + 1) 0))) (linesOf (drop n t)))) (sym z)
+      ap (λ (ls : List (List ℕ)). firstMark R ls (drop k ps) (drop k fs) (linesAt t w)) q
+      ∙ first-cons R (part i e t) below (drop k ps) (drop k fs) (linesAt t w) f (getD fs (k + 1) 0) (drop (k + 1) ps) (top-drop fs k ∙ sym y) (ap top (drop-drop 1 k fs) ∙ top-drop fs (k + 1)) (drop-drop 1 k ps)
+      ∙ ap (λ (ls : List (List ℕ)). markBy (firstDrops R ls (drop k ps) (isSet f)) (firstTakes R (part i e t) (linesAt t w) (isSet f) (firstDrops R below (drop (k + 1) ps) (isSet (getD fs (k + 1) 0))) below)) (sym q)
+      ∙ ap (λ (n : ℕ). markBy (firstDrops R (linesOf (drop i t)) (drop k ps) (isSet f)) (firstTakes R (part i e t) (linesAt t w) (isSet f) (firstDrops R (linesOf (drop n t)) (drop (k + 1) ps) (isSet (getD fs (k + 1) 0))) (linesOf (drop n t)))) (sym z)
 
   -- it goes
-  pub first-goes : firstDrops plain (linesOf (drop i t)) (drop k ps) (isSet f) ≡ true → 1 ≡ firstMark plain (linesOf (drop i t)) (drop k ps) (drop k fs) (linesAt t w)
+  pub first-goes : firstDrops R (linesOf (drop i t)) (drop k ps) (isSet f) ≡ true → 1 ≡ firstMark R (linesOf (drop i t)) (drop k ps) (drop k fs) (linesAt t w)
   first-goes g = sym (first-mark (min (e + 1) (length t)) refl ∙ rw g)
 
   -- it stays
-  pub first-stays : (j : ℕ) (l r : List ℕ) (next : Bool) (m : ℕ) → firstDrops plain (linesOf (drop i t)) (drop k ps) (isSet f) ≡ false → j ≡ min (e + 1) (length t) → l ≡ part i e t → r ≡ part w (length t) t →
-      next ≡ firstDrops plain (linesOf (drop j t)) (drop (k + 1) ps) (isSet (getD fs (k + 1) 0)) →
-      m ≡ markBy false (firstTakes plain l (region (linesOf r)) (isSet f) next (linesOf (drop j t))) → m ≡ firstMark plain (linesOf (drop i t)) (drop k ps) (drop k fs) (linesAt t w)
+  pub first-stays : (j : ℕ) (l r : List ℕ) (next : Bool) (m : ℕ) → firstDrops R (linesOf (drop i t)) (drop k ps) (isSet f) ≡ false → j ≡ min (e + 1) (length t) → l ≡ part i e t → r ≡ part w (length t) t →
+      next ≡ firstDrops R (linesOf (drop j t)) (drop (k + 1) ps) (isSet (getD fs (k + 1) 0)) →
+      m ≡ markBy false (firstTakes R l (region (linesOf r)) (isSet f) next (linesOf (drop j t))) → m ≡ firstMark R (linesOf (drop i t)) (drop k ps) (drop k fs) (linesAt t w)
   first-stays j l r next m g z b c n o = o ∙ rw (b, c, rest-of t w, n) (sym (first-mark j z ∙ rw g))

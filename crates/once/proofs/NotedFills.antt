@@ -11,7 +11,7 @@ use lib.Seq.{drop-drop}
 use Rattle.lines.specs.Lf.{part, upTo, linesOf}
 use Rattle.lines.proofs.LfLaws.{lines-at, lines-end, find-end, part-none, rest-of}
 use Rattle.place.specs.Region.{region, regionAt}
-use Rattle.reading.specs.Reading.{plain}
+use Rattle.reading.specs.Reading.{Reading}
 use Rattle.once.specs.Inner.Tables.{isSet, firstDrops, firstMark, areaAt}
 use Rattle.once.specs.Inner.Noted.{RowAt, areaOf, told, KindIs, DropBy, SendBy, firstLine, NotesOf, OneBy, OneOf}
 use Rattle.once.proofs.Fills.{linesAt, area-run, mark-stays, first-stays}
@@ -86,17 +86,17 @@ pub one-line : (t d : List ℕ) (i e k w : ℕ) (l r : List ℕ) (x : ℕ) → l
 one-line t d i e k w l r x b c y o = rw (b, c, rest-of t w, y) o
 
 -- the mark of a line whose note says at once that it stays as it is
-pub first-told : (t ps fs d : List ℕ) (i e k w x : ℕ) → RowAt t i e k → NotesOf (linesOf t) ps d → x ≡ getD d k 0 → told x ≡ true →
-    0 ≡ firstMark plain (linesOf (drop i t)) (drop k ps) (drop k fs) (linesAt t w)
-first-told t ps fs d i e k w x a n z h =
+pub first-told : (R : Reading) (t ps fs d : List ℕ) (i e k w x : ℕ) → RowAt t i e k → NotesOf (linesOf t) ps d → x ≡ getD d k 0 → told x ≡ true →
+    0 ≡ firstMark R (linesOf (drop i t)) (drop k ps) (drop k fs) (linesAt t w)
+first-told R t ps fs d i e k w x a n z h =
     let j : ℕ = min (e + 1) (length t) in
     let r : List ℕ = part w (length t) t in
     let b : Bool = isSet (getD fs k 0) in
-    let next : Bool = firstDrops plain (linesOf (drop j t)) (drop (k + 1) ps) (isSet (getD fs (k + 1) 0)) in
-    let stays = settled-first plain (linesOf (drop i t)) ps k b x (kind-first t ps d n i k x (a .rows) z) (told-settled x h) (drop-at t ps d n i k x (a .rows) z) in
-    let sent = told-takes plain (part i e t) x (kind-at t ps d n i k x (a .rows) z e (part i e t) (a .end) refl) h (region (linesOf r)) b next (linesOf (drop j t))
+    let next : Bool = firstDrops R (linesOf (drop j t)) (drop (k + 1) ps) (isSet (getD fs (k + 1) 0)) in
+    let stays = settled-first R (linesOf (drop i t)) ps k b x (kind-first t ps d n i k x (a .rows) z) (told-settled x h) (drop-at t ps d n i k x (a .rows) z) in
+    let sent = told-takes R (part i e t) x (kind-at t ps d n i k x (a .rows) z e (part i e t) (a .end) refl) h (region (linesOf r)) b next (linesOf (drop j t))
     (send-at t ps d n i k x (a .rows) z e j (part i e t) (a .here) (a .end) refl refl) in
-    first-stays t ps fs i e k w a (getD fs k 0) refl j (part i e t) r next 0 (sym stays) refl refl refl refl (mark-stays sent)
+    first-stays R t ps fs i e k w a (getD fs k 0) refl j (part i e t) r next 0 (sym stays) refl refl refl refl (mark-stays sent)
 
 -- what follows a line
 pub drop-rest : (t ps : List ℕ) (i e j k n m : ℕ) → i < length t → e ≡ i + upTo 10 (drop i t) → j ≡ min (e + 1) (length t) → n ≡ k + 1 →

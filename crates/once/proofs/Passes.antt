@@ -18,7 +18,7 @@ use Rattle.place.specs.Loops.{insideLoop}
 use Rattle.place.proofs.Fills.{filled-as, filled-take}
 use Rattle.decls.specs.Decls.{pruneDecls, pruneDeclsActs}
 use Rattle.decls.proofs.Keeps as decls
-use Rattle.reading.specs.Reading.{Reading, plain}
+use Rattle.reading.specs.Reading.{Reading}
 use Rattle.once.specs.Once.{onceActs, optimizeOnce}
 use Rattle.once.specs.Inner.Tables.{actsBy, marksOf, onceMarks}
 use Rattle.once.proofs.Fills.{marks-of, acts-of, marks-length}
@@ -47,17 +47,17 @@ wrote-to {d} {xs} {d′} {r} w = record { fits = w .fits; place = omega arith; h
 
 -- ---- the marks, from the tables as they were filled
 
-pub marks-filled : (ls : List (List ℕ)) {ps fs d d′ : List ℕ} {r : ℕ} → ps ≡ tops (blockPaths ls) → fs ≡ flagsOf (insideLoop ls) →
-    Filled d (marksOf plain ls ps fs) d′ r → Filled d (onceMarks plain ls) d′ r
-marks-filled ls {ps} {fs} p q f = filled-as (ap (λ (x : List ℕ). marksOf plain ls x fs) p ∙ ap (marksOf plain ls (tops (blockPaths ls))) q ∙ marks-of plain ls) f
+pub marks-filled : (R : Reading) (ls : List (List ℕ)) {ps fs d d′ : List ℕ} {r : ℕ} → ps ≡ tops (blockPaths ls) → fs ≡ flagsOf (insideLoop ls) →
+    Filled d (marksOf R ls ps fs) d′ r → Filled d (onceMarks R ls) d′ r
+marks-filled R ls {ps} {fs} p q f = filled-as (ap (λ (x : List ℕ). marksOf R ls x fs) p ∙ ap (marksOf R ls (tops (blockPaths ls))) q ∙ marks-of R ls) f
 
-pub marks-many : (ls : List (List ℕ)) {d d′ : List ℕ} {r : ℕ} → Filled d (onceMarks plain ls) d′ r → r ≡ length ls
-marks-many ls f = f .place ∙ ap length (sym (marks-of plain ls)) ∙ marks-length plain ls (tops (blockPaths ls)) (flagsOf (insideLoop ls))
+pub marks-many : (R : Reading) (ls : List (List ℕ)) {d d′ : List ℕ} {r : ℕ} → Filled d (onceMarks R ls) d′ r → r ≡ length ls
+marks-many R ls f = f .place ∙ ap length (sym (marks-of R ls)) ∙ marks-length R ls (tops (blockPaths ls)) (flagsOf (insideLoop ls))
 
 -- ---- the acts, from the marks
 
-pub acts-text : (ls : List (List ℕ)) {ms : List ℕ} → ms ≡ onceMarks plain ls → unlines (apply (actsBy ls ms false []) ls) ≡ unlines (apply (onceActs plain ls) ls)
-acts-text ls {ms} e = ap (λ (x : List ℕ). unlines (apply (actsBy ls x false []) ls)) e ∙ ap (λ (xs : List Act). unlines (apply xs ls)) (acts-of plain ls)
+pub acts-text : (R : Reading) (ls : List (List ℕ)) {ms : List ℕ} → ms ≡ onceMarks R ls → unlines (apply (actsBy ls ms false []) ls) ≡ unlines (apply (onceActs R ls) ls)
+acts-text R ls {ms} e = ap (λ (x : List ℕ). unlines (apply (actsBy ls x false []) ls)) e ∙ ap (λ (xs : List Act). unlines (apply xs ls)) (acts-of R ls)
 
 -- ---- the whole
 
@@ -67,16 +67,16 @@ unfolding optimizeOnce
 once-noLf R ls h = decls.keeps-noLf (apply (onceActs R ls) ls) (acts-noLf R ls h)
 
 -- what is written, read again, is the lines of the definition
-pub once-reads : (t : List ℕ) → linesOf (unlines (optimizeOnce plain (linesOf t))) ≡ optimizeOnce plain (linesOf t)
-once-reads t = lines-unlines (optimizeOnce plain (linesOf t)) (once-noLf plain (linesOf t) (lines-noLf t))
+pub once-reads : (R : Reading) (t : List ℕ) → linesOf (unlines (optimizeOnce R (linesOf t))) ≡ optimizeOnce R (linesOf t)
+once-reads R t = lines-unlines (optimizeOnce R (linesOf t)) (once-noLf R (linesOf t) (lines-noLf t))
 
-pub mid-reads : (t : List ℕ) → linesOf (unlines (apply (onceActs plain (linesOf t)) (linesOf t))) ≡ apply (onceActs plain (linesOf t)) (linesOf t)
-mid-reads t = lines-unlines (apply (onceActs plain (linesOf t)) (linesOf t)) (acts-noLf plain (linesOf t) (lines-noLf t))
+pub mid-reads : (R : Reading) (t : List ℕ) → linesOf (unlines (apply (onceActs R (linesOf t)) (linesOf t))) ≡ apply (onceActs R (linesOf t)) (linesOf t)
+mid-reads R t = lines-unlines (apply (onceActs R (linesOf t)) (linesOf t)) (acts-noLf R (linesOf t) (lines-noLf t))
 
 -- the last step gives the pass
-pub once-text : (t x : List ℕ) → x ≡ unlines (apply (onceActs plain (linesOf t)) (linesOf t)) → unlines (pruneDecls (linesOf x)) ≡ unlines (optimizeOnce plain (linesOf t))
+pub once-text : (R : Reading) (t x : List ℕ) → x ≡ unlines (apply (onceActs R (linesOf t)) (linesOf t)) → unlines (pruneDecls (linesOf x)) ≡ unlines (optimizeOnce R (linesOf t))
 unfolding optimizeOnce
-once-text t x e = ap (λ (s : List ℕ). unlines (pruneDecls (linesOf s))) e ∙ ap (λ (ls : List (List ℕ)). unlines (pruneDecls ls)) (mid-reads t)
+once-text R t x e = ap (λ (s : List ℕ). unlines (pruneDecls (linesOf s))) e ∙ ap (λ (ls : List (List ℕ)). unlines (pruneDecls ls)) (mid-reads R t)
 
 -- there are never more lines
 pub once-lines : (R : Reading) (ls : List (List ℕ)) → length (optimizeOnce R ls) ≤ length ls

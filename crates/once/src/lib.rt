@@ -15,7 +15,7 @@ ghost use Rattle.names.specs.Names.{regOf, isIdent};
 ghost use Rattle.once.specs.Scratch.{objectOf, isMember, liveBelow, changesBy, calledBelow, scratchAt};
 ghost use Rattle.once.specs.Once.{deadBy, readCount, firstOf, takenBy, onceActs, optimizeOnce};
 ghost use Rattle.words.specs.Hits.{regHit, replaceReg};
-ghost use Rattle.reading.specs.Reading.{plain, pureIn};
+ghost use Rattle.reading.specs.Reading.{readingOf, pureIn};
 ghost use Rattle.once.specs.Inner.Tables.{readBelow, anyCall, nextIn, Blank, hasHit, storeDrops, lineDrops, storeForwards, lineForwards, onceMarks, actBy, actsBy, isSet, firstDrops, firstTakes, markBy, firstMark, marksOf, areaAt};
 ghost use Rattle.once.specs.Inner.Noted.{noteStored, noteDead, CalmIn, Calm, LineAt, RowAt, DropIs, DropBy, sentTo, SendIs, SendBy, OneIs, OneBy, OneOf, firstLine, NotesOf, EndsOf};
 ghost use Rattle.place.specs.Inner.Fill.{Filled, flagsOf};
@@ -257,12 +257,12 @@ fn read_once(text: &[u8], reg: names::Register) -> bool
 }
 
 // Whether a value is pure. Scratch that held zeros holds zeros again.
-fn pure_value(x: &[u8], scratch: &mut [u8]) -> bool
+fn pure_value(mode: reading::Mode, x: &[u8], scratch: &mut [u8]) -> bool
     requires { ⌜ Blank (length (now x)) (now scratch) ⌝ }
-    ensures answer { λ r. ⌜ r ≡ pureIn plain (now (x .entry)) ⌝ }
+    ensures answer { λ r. ⌜ r ≡ pureIn (readingOf (mode .0)) (now (x .entry)) ⌝ }
     ensures memory { λ _. ⌜ now (scratch .exit) ≡ now (scratch .entry) ⌝ }
 {
-    let p = expr::purity(x, false, scratch);
+    let p = expr::purity(x, reading::is_strict(mode), scratch);
     lines::wipe(scratch, x.len());
     expr::is_pure(p)
 }
@@ -270,6 +270,7 @@ fn pure_value(x: &[u8], scratch: &mut [u8]) -> bool
 // Whether a store of a register with the value x, above `below`, goes: its block path is p, and those of the lines below are `paths`;
 // its note is `note`.
 fn store_drops(
+    mode: reading::Mode,
     x: &[u8],
     reg: names::Register,
     below: &[u8],
@@ -281,7 +282,7 @@ fn store_drops(
     scratch: &mut [u8],
 ) -> bool
     requires { ⌜ (Blank (length (now x)) (now scratch)) × ((DropIs (reg .0) p (linesOf (now below)) (now paths) note) × (CalmIn (now below) calm)) ⌝ }
-    ensures answer { λ r. ⌜ r ≡ storeDrops plain (reg .0) (now (x .entry)) p in_loop (linesOf (now (below .entry))) (now (paths .entry)) ⌝ }
+    ensures answer { λ r. ⌜ r ≡ storeDrops (readingOf (mode .0)) (reg .0) (now (x .entry)) p in_loop (linesOf (now (below .entry))) (now (paths .entry)) ⌝ }
     ensures memory { λ _. ⌜ now (scratch .exit) ≡ now (scratch .entry) ⌝ }
 {
     if (note == noted::NOTE_READ) | ((note == noted::NOTE_SENT) | (note == noted::NOTE_ALONE)) {
@@ -299,7 +300,7 @@ fn store_drops(
     if words::count_reg(x, reg) != 0 {
         return false;
     }
-    if !pure_value(x, scratch) {
+    if !pure_value(mode, x, scratch) {
         return false;
     }
     if note == noted::NOTE_DEAD {
@@ -310,6 +311,7 @@ fn store_drops(
 
 // Whether a line with a note, read as q, goes.
 fn line_drops(
+    mode: reading::Mode,
     line: &[u8],
     q: parse::Line,
     below: &[u8],
@@ -321,14 +323,25 @@ fn line_drops(
     scratch: &mut [u8],
 ) -> bool
     requires { ⌜ (q ≡ parseOf (now line)) × ((Blank (length (now line)) (now scratch)) × ((DropBy (now line) p (linesOf (now below)) (now paths) note) × (CalmIn (now below) calm))) ⌝ }
-    ensures answer { λ r. ⌜ r ≡ lineDrops plain (now (line .entry)) p in_loop (linesOf (now (below .entry))) (now (paths .entry)) ⌝ }
+    ensures answer { λ r. ⌜ r ≡ lineDrops (readingOf (mode .0)) (now (line .entry)) p in_loop (linesOf (now (below .entry))) (now (paths .entry)) ⌝ }
     ensures memory { λ _. ⌜ now (scratch .exit) ≡ now (scratch .entry) ⌝ }
 {
     match q {
         parse::Line::Decl => false,
         parse::Line::Store(s) => {
             let x = parse::value_of(line, s);
-            store_drops(x, s.reg, below, paths, p, in_loop, note, calm, scratch)
+            store_drops(
+                mode,
+                x,
+                s.reg,
+                below,
+                paths,
+                p,
+                in_loop,
+                note,
+                calm,
+                scratch,
+            )
         }
         parse::Line::Other => false,
     }
@@ -384,6 +397,7 @@ fn sent_to(reg: names::Register, next: &[u8], below: &[u8], note: u8) -> bool
 // Whether a store of a register with the value x and a note, in the region that `run` begins with, goes into the next line, which goes itself
 // where `gone` says so.
 fn store_forwards(
+    mode: reading::Mode,
     x: &[u8],
     reg: names::Register,
     next: &[u8],
@@ -395,7 +409,7 @@ fn store_forwards(
     scratch: &mut [u8],
 ) -> bool
     requires { ⌜ (Blank (length (now x)) (now scratch)) × ((SendIs (reg .0) (now next ∷ linesOf (now below)) note) × (OneIs (reg .0) (region (linesOf (now run))) note)) ⌝ }
-    ensures answer { λ r. ⌜ r ≡ storeForwards plain (reg .0) (now (x .entry)) (region (linesOf (now (run .entry)))) in_loop gone (now (next .entry)) (linesOf (now (below .entry))) ⌝ }
+    ensures answer { λ r. ⌜ r ≡ storeForwards (readingOf (mode .0)) (reg .0) (now (x .entry)) (region (linesOf (now (run .entry)))) in_loop gone (now (next .entry)) (linesOf (now (below .entry))) ⌝ }
     ensures memory { λ _. ⌜ now (scratch .exit) ≡ now (scratch .entry) ⌝ }
 {
     if in_loop {
@@ -407,7 +421,7 @@ fn store_forwards(
     if !sent_to(reg, next, below, note) {
         return false;
     }
-    if !pure_value(x, scratch) {
+    if !pure_value(mode, x, scratch) {
         return false;
     }
     if !takes(next, reg) {
@@ -418,6 +432,7 @@ fn store_forwards(
 
 // Whether a line with a note that stays, read as p, goes into the next line.
 fn line_forwards(
+    mode: reading::Mode,
     line: &[u8],
     p: parse::Line,
     next: &[u8],
@@ -430,14 +445,25 @@ fn line_forwards(
 ) -> bool
     requires { ⌜ (p ≡ parseOf (now line))
         × ((Blank (length (now line)) (now scratch)) × ((SendBy (now line) (now next ∷ linesOf (now below)) note) × (OneBy (now line) (region (linesOf (now run))) note))) ⌝ }
-    ensures answer { λ r. ⌜ r ≡ lineForwards plain (now (line .entry)) (region (linesOf (now (run .entry)))) in_loop gone (now (next .entry)) (linesOf (now (below .entry))) ⌝ }
+    ensures answer { λ r. ⌜ r ≡ lineForwards (readingOf (mode .0)) (now (line .entry)) (region (linesOf (now (run .entry)))) in_loop gone (now (next .entry)) (linesOf (now (below .entry))) ⌝ }
     ensures memory { λ _. ⌜ now (scratch .exit) ≡ now (scratch .entry) ⌝ }
 {
     match p {
         parse::Line::Decl => false,
         parse::Line::Store(s) => {
             let x = parse::value_of(line, s);
-            store_forwards(x, s.reg, next, below, run, in_loop, gone, note, scratch)
+            store_forwards(
+                mode,
+                x,
+                s.reg,
+                next,
+                below,
+                run,
+                in_loop,
+                gone,
+                note,
+                scratch,
+            )
         }
         parse::Line::Other => false,
     }
@@ -445,6 +471,7 @@ fn line_forwards(
 
 // Whether the line from i to e, read as p, with a note, goes; its block path stands in `paths` at k, and those of the lines below after it.
 fn drops_at(
+    mode: reading::Mode,
     text: &[u8],
     i: usize,
     e: usize,
@@ -459,7 +486,7 @@ fn drops_at(
     requires { ⌜ (LineAt (now text) i e p)
         × ((Blank (length (now text)) (now scratch))
         × ((DropBy (firstLine (linesOf (drop i (now text)))) (getD (now paths) k 0) (drop 1 (linesOf (drop i (now text)))) (drop (k + 1) (now paths)) note) × (Calm (now text) calm))) ⌝ }
-    ensures answer { λ r. ⌜ r ≡ firstDrops plain (linesOf (drop i (now (text .entry)))) (drop k (now (paths .entry))) in_loop ⌝ }
+    ensures answer { λ r. ⌜ r ≡ firstDrops (readingOf (mode .0)) (linesOf (drop i (now (text .entry)))) (drop k (now (paths .entry))) in_loop ⌝ }
     ensures memory { λ _. ⌜ now (scratch .exit) ≡ now (scratch .entry) ⌝ }
 {
     if i >= text.len() {
@@ -471,6 +498,7 @@ fn drops_at(
     let j = lines::after(text, e);
     let n = k + 1;
     line_drops(
+        mode,
         &text[i..e],
         p,
         &text[j..],
@@ -485,6 +513,7 @@ fn drops_at(
 
 // Whether the line at j, with k lines above it, goes: its note may say at once that it does not.
 fn next_drops(
+    mode: reading::Mode,
     text: &[u8],
     j: usize,
     k: usize,
@@ -497,7 +526,7 @@ fn next_drops(
 ) -> bool
     requires { ⌜ (linesOf (drop j (now text)) ≡ drop k (linesOf (now text)))
         × ((Blank (length (now text)) (now scratch)) × ((Calm (now text) calm) × ((NotesOf (linesOf (now text)) (now paths) (now notes)) × (EndsOf (now text) (now ends))))) ⌝ }
-    ensures answer { λ r. ⌜ r ≡ firstDrops plain (linesOf (drop j (now (text .entry)))) (drop k (now (paths .entry))) (isSet (getD (now (loops .entry)) k 0)) ⌝ }
+    ensures answer { λ r. ⌜ r ≡ firstDrops (readingOf (mode .0)) (linesOf (drop j (now (text .entry)))) (drop k (now (paths .entry))) (isSet (getD (now (loops .entry)) k 0)) ⌝ }
     ensures memory { λ _. ⌜ now (scratch .exit) ≡ now (scratch .entry) ⌝ }
 {
     let c = lines::byte_at(notes, k);
@@ -507,11 +536,12 @@ fn next_drops(
     let n = noted::end_at(text, j, k, ends);
     let q = parse::parse(lines::cut(text, j, n));
     let h = lines::byte_at(loops, k);
-    drops_at(text, j, n, q, paths, k, h != 0, c, calm, scratch)
+    drops_at(mode, text, j, n, q, paths, k, h != 0, c, calm, scratch)
 }
 
 // The mark of a line that does not go, read as p, in the region that `run` begins with, above the line from j to e; `next` says whether that one goes, and `note` is that of the line.
 fn mark_at(
+    mode: reading::Mode,
     line: &[u8],
     p: parse::Line,
     text: &[u8],
@@ -527,7 +557,7 @@ fn mark_at(
         × ((e ≡ j + upTo 10 (drop j (now text)))
         × ((Blank (length (now line)) (now scratch))
         × ((SendBy (now line) (linesOf (drop j (now text))) note) × (OneBy (now line) (region (linesOf (now run))) note)))) ⌝ }
-    ensures answer { λ r. ⌜ r ≡ markBy false (firstTakes plain (now (line .entry)) (region (linesOf (now (run .entry)))) in_loop next (linesOf (drop j (now (text .entry))))) ⌝ }
+    ensures answer { λ r. ⌜ r ≡ markBy false (firstTakes (readingOf (mode .0)) (now (line .entry)) (region (linesOf (now (run .entry)))) in_loop next (linesOf (drop j (now (text .entry))))) ⌝ }
     ensures memory { λ _. ⌜ now (scratch .exit) ≡ now (scratch .entry) ⌝ }
 {
     if j >= text.len() {
@@ -535,6 +565,7 @@ fn mark_at(
     }
     let n = lines::after(text, e);
     if line_forwards(
+        mode,
         line,
         p,
         &text[j..e],
@@ -552,6 +583,7 @@ fn mark_at(
 
 // The mark of the line from i to e, with k lines above it, in the region that begins at `run`: it stays, as most notes say at once.
 fn mark_line(
+    mode: reading::Mode,
     text: &[u8],
     i: usize,
     e: usize,
@@ -568,7 +600,7 @@ fn mark_line(
         × ((Blank (length (now text)) (now scratch))
         × ((OneBy (part i e (now text)) (region (linesOf (drop run (now text)))) (getD (now notes) k 0))
         × ((Calm (now text) calm) × ((NotesOf (linesOf (now text)) (now paths) (now notes)) × (EndsOf (now text) (now ends)))))) ⌝ }
-    ensures answer { λ r. ⌜ r ≡ firstMark plain (linesOf (drop i (now (text .entry)))) (drop k (now (paths .entry))) (drop k (now (loops .entry))) (region (linesOf (drop run (now (text .entry))))) ⌝ }
+    ensures answer { λ r. ⌜ r ≡ firstMark (readingOf (mode .0)) (linesOf (drop i (now (text .entry)))) (drop k (now (paths .entry))) (drop k (now (loops .entry))) (region (linesOf (drop run (now (text .entry))))) ⌝ }
     ensures memory { λ _. ⌜ now (scratch .exit) ≡ now (scratch .entry) ⌝ }
 {
     let note = lines::byte_at(notes, k);
@@ -578,14 +610,25 @@ fn mark_line(
     let line = lines::cut(text, i, e);
     let p = parse::parse(line);
     let h = lines::byte_at(loops, k);
-    if drops_at(text, i, e, p, paths, k, h != 0, note, calm, scratch) {
+    if drops_at(mode, text, i, e, p, paths, k, h != 0, note, calm, scratch) {
         return MARK_GOES;
     }
     let j = lines::after(text, e);
-    let next = next_drops(text, j, k + 1, paths, loops, calm, notes, ends, scratch);
+    let next = next_drops(
+        mode,
+        text,
+        j,
+        k + 1,
+        paths,
+        loops,
+        calm,
+        notes,
+        ends,
+        scratch,
+    );
     let n = noted::end_at(text, j, k + 1, ends);
     let area = lines::cut(text, run, text.len());
-    mark_at(line, p, text, j, n, area, h != 0, next, note, scratch)
+    mark_at(mode, line, p, text, j, n, area, h != 0, next, note, scratch)
 }
 
 // Where the region of the line from i to e begins, where `above` is that of the line above.
@@ -601,6 +644,7 @@ fn area_at(text: &[u8], i: usize, e: usize, above: usize) -> usize
 
 // Writes the mark of each line, by tables of what the lines do with each register and of what they are.
 fn mark_with(
+    mode: reading::Mode,
     text: &[u8],
     paths: &[usize],
     loops: &[u8],
@@ -612,7 +656,7 @@ fn mark_with(
 ) -> usize
     requires { ⌜ (Blank (length (now text)) (now scratch))
         × ((length (linesOf (now text)) ≤ length (now marks)) × ((OneOf (linesOf (now text)) (now notes)) × ((Calm (now text) calm) × ((NotesOf (linesOf (now text)) (now paths) (now notes)) × (EndsOf (now text) (now ends)))))) ⌝ }
-    ensures answer { λ r. ⌜ Filled (now (marks .entry)) (marksOf plain (linesOf (now (text .entry))) (now (paths .entry)) (now (loops .entry))) (now (marks .exit)) r ⌝ }
+    ensures answer { λ r. ⌜ Filled (now (marks .entry)) (marksOf (readingOf (mode .0)) (linesOf (now (text .entry))) (now (paths .entry)) (now (loops .entry))) (now (marks .exit)) r ⌝ }
     ensures memory { λ _. ⌜ now (scratch .exit) ≡ now (scratch .entry) ⌝ }
 {
     let mut run = 0;
@@ -621,7 +665,20 @@ fn mark_with(
     while i < text.len() {
         let e = noted::end_at(text, i, k, ends);
         run = area_at(text, i, e, run);
-        marks[k] = mark_line(text, i, e, k, paths, loops, calm, notes, ends, run, scratch);
+        marks[k] = mark_line(
+            mode,
+            text,
+            i,
+            e,
+            k,
+            paths,
+            loops,
+            calm,
+            notes,
+            ends,
+            run,
+            scratch,
+        );
         k += 1;
         i = lines::after(text, e);
     }
@@ -631,6 +688,7 @@ fn mark_with(
 // Writes the mark of each line; `paths` has the block paths of the lines, `loops` whether each stands in a loop, and `ends` where each ends. The
 // tables over registers and of notes are zeros afterwards.
 fn fill_marks(
+    mode: reading::Mode,
     text: &[u8],
     own: &[usize],
     paths: &[usize],
@@ -647,7 +705,7 @@ fn fill_marks(
         × ((length (linesOf (now text)) ≤ length (now marks))
         × ((length (now paths) ≡ length (linesOf (now text)))
         × (((length (now far) ≡ length (now near)) × (length (now far) ≡ length (now stores))) × (EndsOf (now text) (now ends))))) ⌝ }
-    ensures answer { λ r. ⌜ Filled (now (marks .entry)) (marksOf plain (linesOf (now (text .entry))) (now (paths .entry)) (now (loops .entry))) (now (marks .exit)) r ⌝ }
+    ensures answer { λ r. ⌜ Filled (now (marks .entry)) (marksOf (readingOf (mode .0)) (linesOf (now (text .entry))) (now (paths .entry)) (now (loops .entry))) (now (marks .exit)) r ⌝ }
     ensures memory { λ _. ⌜ now (scratch .exit) ≡ now (scratch .entry) ⌝ }
     ensures tables { λ _. ⌜ (now (near .exit) ≡ replicate (length (now (near .entry))) 0)
         × ((now (far .exit) ≡ replicate (length (now (far .entry))) 0)
@@ -655,7 +713,7 @@ fn fill_marks(
 {
     noted::note_lines(text, own, paths, near, far, stores, notes, ends);
     let calm = calm_len(text);
-    let n = mark_with(text, paths, loops, calm, notes, ends, scratch, marks);
+    let n = mark_with(mode, text, paths, loops, calm, notes, ends, scratch, marks);
     lines::wipe(notes, notes.len());
     n
 }
@@ -757,6 +815,7 @@ fn fill_loops(text: &[u8], some: bool, rows: usize, loops: &mut [u8]) -> usize
 // Fills the tables of a text: which lines stand in a loop, their block paths, what becomes of them, and where they end. The tables over registers
 // and of notes are zeros afterwards.
 fn decide(
+    mode: reading::Mode,
     text: &[u8],
     own: &[usize],
     scratch: &mut [u8],
@@ -776,7 +835,7 @@ fn decide(
         × ((length (pathParents (linesOf (now text))) ≤ length (now up))
         × ((length (now up) < 2 ^ 32)
         × ((length (now text) ≤ length (now scratch)) × ((length (now far) ≡ length (now near)) × (length (now far) ≡ length (now stores)))))))) ⌝ }
-    ensures answer { λ r. ⌜ Filled (now (marks .entry)) (onceMarks plain (linesOf (now (text .entry)))) (now (marks .exit)) r ⌝ }
+    ensures answer { λ r. ⌜ Filled (now (marks .entry)) (onceMarks (readingOf (mode .0)) (linesOf (now (text .entry)))) (now (marks .exit)) r ⌝ }
     ensures memory { λ _. ⌜ (Wrote (now (scratch .entry)) 0 (replicate (length (now (text .entry))) 0) (now (scratch .exit)) (length (now (text .entry))))
         × ((Filled (now (loops .entry)) (flagsOf (insideLoop (linesOf (now (text .entry))))) (now (loops .exit)) (length (flagsOf (insideLoop (linesOf (now (text .entry)))))))
         × ((Filled (now (paths .entry)) (tops (blockPaths (linesOf (now (text .entry))))) (now (paths .exit)) (length (tops (blockPaths (linesOf (now (text .entry)))))))
@@ -792,6 +851,7 @@ fn decide(
     let k = x.rows;
     let n = fill_loops(text, x.loops, k, loops);
     fill_marks(
+        mode,
         text,
         own,
         &paths[0..k],
@@ -811,6 +871,7 @@ fn decide(
 // of places in the tables over registers: `near`, `far` and `stores`, of one length, and `seen`. These, `notes` and `ends`, of one entry a line as
 // far as they reach, are zeros afterwards.
 pub fn optimize_once(
+    mode: reading::Mode,
     text: &[u8],
     own: &[usize],
     scratch: &mut [u8],
@@ -833,14 +894,14 @@ pub fn optimize_once(
         × ((length (pathParents (linesOf (now text))) ≤ length (now up))
         × ((length (now up) < 2 ^ 32)
         × ((length (now text) ≤ length (now scratch))
-        × ((length (unlines (apply (onceActs plain (linesOf (now text))) (linesOf (now text)))) ≤ length (now mid))
-        × ((length (unlines (optimizeOnce plain (linesOf (now text)))) ≤ length (now out))
+        × ((length (unlines (apply (onceActs (readingOf (mode .0)) (linesOf (now text))) (linesOf (now text)))) ≤ length (now mid))
+        × ((length (unlines (optimizeOnce (readingOf (mode .0)) (linesOf (now text)))) ≤ length (now out))
         × ((length (now far) ≡ length (now near)) × (length (now far) ≡ length (now stores)))))))))) ⌝ }
-    ensures answer { λ r. ⌜ Wrote (now (out .entry)) 0 (unlines (optimizeOnce plain (linesOf (now (text .entry))))) (now (out .exit)) r ⌝ }
+    ensures answer { λ r. ⌜ Wrote (now (out .entry)) 0 (unlines (optimizeOnce (readingOf (mode .0)) (linesOf (now (text .entry))))) (now (out .exit)) r ⌝ }
     ensures memory { λ _. ⌜ (Wrote (now (scratch .entry)) 0 (replicate (length (now (text .entry))) 0) (now (scratch .exit)) (length (now (text .entry))))
-        × ((Wrote (now (mid .entry)) 0 (unlines (apply (onceActs plain (linesOf (now (text .entry)))) (linesOf (now (text .entry))))) (now (mid .exit)) (length (unlines (apply (onceActs plain (linesOf (now (text .entry)))) (linesOf (now (text .entry)))))))
+        × ((Wrote (now (mid .entry)) 0 (unlines (apply (onceActs (readingOf (mode .0)) (linesOf (now (text .entry)))) (linesOf (now (text .entry))))) (now (mid .exit)) (length (unlines (apply (onceActs (readingOf (mode .0)) (linesOf (now (text .entry)))) (linesOf (now (text .entry)))))))
         × ((Filled (now (loops .entry)) (flagsOf (insideLoop (linesOf (now (text .entry))))) (now (loops .exit)) (length (flagsOf (insideLoop (linesOf (now (text .entry)))))))
-        × ((Filled (now (marks .entry)) (onceMarks plain (linesOf (now (text .entry)))) (now (marks .exit)) (length (onceMarks plain (linesOf (now (text .entry))))))
+        × ((Filled (now (marks .entry)) (onceMarks (readingOf (mode .0)) (linesOf (now (text .entry)))) (now (marks .exit)) (length (onceMarks (readingOf (mode .0)) (linesOf (now (text .entry))))))
         × ((Filled (now (paths .entry)) (tops (blockPaths (linesOf (now (text .entry))))) (now (paths .exit)) (length (tops (blockPaths (linesOf (now (text .entry)))))))
         × (Filled (now (up .entry)) (pathParents (linesOf (now (text .entry)))) (now (up .exit)) (length (pathParents (linesOf (now (text .entry)))))))))) ⌝ }
     ensures tables { λ _. ⌜ (now (near .exit) ≡ replicate (length (now (near .entry))) 0)
@@ -850,6 +911,7 @@ pub fn optimize_once(
         × ((now (ends .exit) ≡ replicate (length (now (ends .entry))) 0) × (now (seen .exit) ≡ replicate (length (now (seen .entry))) 0))))) ⌝ }
 {
     let n = decide(
+        mode,
         text,
         own,
         scratch,

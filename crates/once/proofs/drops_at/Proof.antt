@@ -2,7 +2,7 @@ use borrow.Author.Needs.{needs}
 use mathlib.Core.Path.{refl, _∙_}
 use native.Mathlib.Omega.{arith}
 use Rattle.lines.proofs.LfLaws.{find-le}
-use Rattle.reading.specs.Reading.{plain}
+use Rattle.reading.specs.Reading.{readingOf}
 use Rattle.once.proofs.Blanks.{blank-less}
 use Rattle.once.proofs.CalmLaws.{calm-rest}
 use Rattle.once.proofs.Decides.{value-room}
@@ -16,10 +16,10 @@ use Rattle.lines.proofs.after.Reads as after-reads
 use Rattle.once.proofs.line_drops.Reads as line-drops-reads
 
 returns : tie.Need-returns
-returns c = let a = c .before .before .before .before .args in (first-end plain (a .text .now) (a .paths .now) (a .i) (a .k) (a .in-loop) (c .if1 .taken), refl)
+returns c = let a = c .before .before .before .before .args in (first-end (readingOf (a .mode .0)) (a .text .now) (a .paths .now) (a .i) (a .k) (a .in-loop) (c .if1 .taken), refl)
 
 returns-2 : tie.Need-returns-2
-returns-2 c = let a = c .before .before .before .before .before .args in (first-short plain (a .text .now) (a .paths .now) (a .i) (a .k) (a .in-loop) (c .if2 .taken), refl)
+returns-2 c = let a = c .before .before .before .before .before .args in (first-short (readingOf (a .mode .0)) (a .text .now) (a .paths .now) (a .i) (a .k) (a .in-loop) (c .if2 .taken), refl)
 
 after-requires : tie.Need-after-requires
 after-requires c κs = search needs
@@ -77,7 +77,7 @@ returns-3 c =
     let a = c .before .before .before .before .before .before .before .before .before .before .before .before .before .before .args in
     let e = c .before .before .line-drops .ensures in
     let j = c .before .before .before .before .before .before .before .before .after in
-    (e .0 ∙ first-line plain (a .text .now) (a .paths .now) (a .i) (a .k) (a .in-loop) (a .e) (j .result) _ (omega (arith, c .before .before .before .before .before .before .before .before .before .before .if1 .left)) (c .before .before .before .before .before .before .before .before .before .before .before .before .before .before .pre .0 .0) (j .ensures) (omega (arith, c .before .before .before .before .before .before .before .before .before .if2 .left)) refl, e .1)
+    (e .0 ∙ first-line (readingOf (a .mode .0)) (a .text .now) (a .paths .now) (a .i) (a .k) (a .in-loop) (a .e) (j .result) _ (omega (arith, c .before .before .before .before .before .before .before .before .before .before .if1 .left)) (c .before .before .before .before .before .before .before .before .before .before .before .before .before .before .pre .0 .0) (j .ensures) (omega (arith, c .before .before .before .before .before .before .before .before .before .if2 .left)) refl, e .1)
 
 pub drops-at-spec : {M : Type 1} → statement M
 drops-at-spec =

@@ -5,7 +5,7 @@ use mathlib.Core.List.{List}
 use mathlib.Core.Path.{refl, sym, ap, _∙_}
 use native.Mathlib.Omega.{arith}
 use lib.ListN.{length}
-use Rattle.reading.specs.Reading.{plain}
+use Rattle.reading.specs.Reading.{readingOf}
 use Rattle.lines.specs.Lf.{linesOf}
 use Rattle.once.specs.Inner.Tables.{dropsBy, storeDrops}
 use Rattle.once.proofs.Blanks.{blank-less}
@@ -36,7 +36,7 @@ enum-told-2 : tie.Need-enum-told-2
 enum-told-2 c = search needs
 
 returns : tie.Need-returns
-returns c = let a = c .before .before .before .before .before .before .args in (ap (dropsBy plain (a .line .now) (a .p) (a .in-loop) (linesOf (a .below .now)) (a .paths .now)) (sym (c .enum-told .given .1)) ∙ drops-at plain (a .line .now) (a .p) (a .in-loop) (linesOf (a .below .now)) (a .paths .now) _ (c .before .before .before .before .before .before .pre .0), refl)
+returns c = let a = c .before .before .before .before .before .before .args in (ap (dropsBy (readingOf (a .mode .0)) (a .line .now) (a .p) (a .in-loop) (linesOf (a .below .now)) (a .paths .now)) (sym (c .enum-told .given .1)) ∙ drops-at (readingOf (a .mode .0)) (a .line .now) (a .p) (a .in-loop) (linesOf (a .below .now)) (a .paths .now) _ (c .before .before .before .before .before .before .pre .0), refl)
 
 same-length : tie.Need-same-length
 same-length c = search needs
@@ -47,10 +47,10 @@ returns-2 c =
     let a = c .before .before .before .before .before .before .before .before .before .before .before .before .args in
     let e = c .before .before .store-drops .ensures in
     let s = c .before .before .before .before .before .before .q .given in
-    (e .0 ∙ ap (λ (x : List ℕ). storeDrops plain (s .0 .0 .reg .0) x (a .p) (a .in-loop) (linesOf (a .below .now)) (a .paths .now)) (c .before .before .before .before .value-of .ensures) ∙ ap (dropsBy plain (a .line .now) (a .p) (a .in-loop) (linesOf (a .below .now)) (a .paths .now)) (sym (s .1)) ∙ drops-at plain (a .line .now) (a .p) (a .in-loop) (linesOf (a .below .now)) (a .paths .now) _ (c .before .before .before .before .before .before .before .before .before .before .before .before .pre .0), e .1)
+    (e .0 ∙ ap (λ (x : List ℕ). storeDrops (readingOf (a .mode .0)) (s .0 .0 .reg .0) x (a .p) (a .in-loop) (linesOf (a .below .now)) (a .paths .now)) (c .before .before .before .before .value-of .ensures) ∙ ap (dropsBy (readingOf (a .mode .0)) (a .line .now) (a .p) (a .in-loop) (linesOf (a .below .now)) (a .paths .now)) (sym (s .1)) ∙ drops-at (readingOf (a .mode .0)) (a .line .now) (a .p) (a .in-loop) (linesOf (a .below .now)) (a .paths .now) _ (c .before .before .before .before .before .before .before .before .before .before .before .before .pre .0), e .1)
 
 returns-3 : tie.Need-returns-3
-returns-3 c = let a = c .before .before .before .before .before .before .args in (ap (dropsBy plain (a .line .now) (a .p) (a .in-loop) (linesOf (a .below .now)) (a .paths .now)) (sym (c .enum-told2 .given .1)) ∙ drops-at plain (a .line .now) (a .p) (a .in-loop) (linesOf (a .below .now)) (a .paths .now) _ (c .before .before .before .before .before .before .pre .0), refl)
+returns-3 c = let a = c .before .before .before .before .before .before .args in (ap (dropsBy (readingOf (a .mode .0)) (a .line .now) (a .p) (a .in-loop) (linesOf (a .below .now)) (a .paths .now)) (sym (c .enum-told2 .given .1)) ∙ drops-at (readingOf (a .mode .0)) (a .line .now) (a .p) (a .in-loop) (linesOf (a .below .now)) (a .paths .now) _ (c .before .before .before .before .before .before .pre .0), refl)
 
 pub line-drops-spec : {M : Type 1} → statement M
 line-drops-spec =

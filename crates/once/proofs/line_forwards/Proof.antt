@@ -5,7 +5,7 @@ use mathlib.Core.List.{List}
 use mathlib.Core.Path.{refl, sym, ap, _∙_}
 use native.Mathlib.Omega.{arith}
 use lib.ListN.{length}
-use Rattle.reading.specs.Reading.{plain}
+use Rattle.reading.specs.Reading.{readingOf}
 use Rattle.lines.specs.Lf.{linesOf}
 use Rattle.place.specs.Region.{region}
 use Rattle.once.specs.Inner.Tables.{forwardsBy, storeForwards}
@@ -37,7 +37,7 @@ enum-told-2 : tie.Need-enum-told-2
 enum-told-2 c = search needs
 
 returns : tie.Need-returns
-returns c = let a = c .before .before .before .before .before .before .before .args in (ap (forwardsBy plain (a .line .now) (region (linesOf (a .run .now))) (a .in-loop) (a .gone) (a .next .now) (linesOf (a .below .now))) (sym (c .enum-told .given .1)) ∙ forwards-at plain (a .line .now) (region (linesOf (a .run .now))) (a .in-loop) (a .gone) (a .next .now) (linesOf (a .below .now)) _ (c .before .before .before .before .before .before .before .pre .0), refl)
+returns c = let a = c .before .before .before .before .before .before .before .args in (ap (forwardsBy (readingOf (a .mode .0)) (a .line .now) (region (linesOf (a .run .now))) (a .in-loop) (a .gone) (a .next .now) (linesOf (a .below .now))) (sym (c .enum-told .given .1)) ∙ forwards-at (readingOf (a .mode .0)) (a .line .now) (region (linesOf (a .run .now))) (a .in-loop) (a .gone) (a .next .now) (linesOf (a .below .now)) _ (c .before .before .before .before .before .before .before .pre .0), refl)
 
 same-length : tie.Need-same-length
 same-length c = search needs
@@ -48,10 +48,10 @@ returns-2 c =
     let a = c .before .before .before .before .before .before .before .before .before .before .before .before .before .args in
     let e = c .before .before .store-forwards .ensures in
     let s = c .before .before .before .before .before .before .p .given in
-    (e .0 ∙ ap (λ (x : List ℕ). storeForwards plain (s .0 .0 .reg .0) x (region (linesOf (a .run .now))) (a .in-loop) (a .gone) (a .next .now) (linesOf (a .below .now))) (c .before .before .before .before .value-of .ensures) ∙ ap (forwardsBy plain (a .line .now) (region (linesOf (a .run .now))) (a .in-loop) (a .gone) (a .next .now) (linesOf (a .below .now))) (sym (s .1)) ∙ forwards-at plain (a .line .now) (region (linesOf (a .run .now))) (a .in-loop) (a .gone) (a .next .now) (linesOf (a .below .now)) _ (c .before .before .before .before .before .before .before .before .before .before .before .before .before .pre .0), e .1)
+    (e .0 ∙ ap (λ (x : List ℕ). storeForwards (readingOf (a .mode .0)) (s .0 .0 .reg .0) x (region (linesOf (a .run .now))) (a .in-loop) (a .gone) (a .next .now) (linesOf (a .below .now))) (c .before .before .before .before .value-of .ensures) ∙ ap (forwardsBy (readingOf (a .mode .0)) (a .line .now) (region (linesOf (a .run .now))) (a .in-loop) (a .gone) (a .next .now) (linesOf (a .below .now))) (sym (s .1)) ∙ forwards-at (readingOf (a .mode .0)) (a .line .now) (region (linesOf (a .run .now))) (a .in-loop) (a .gone) (a .next .now) (linesOf (a .below .now)) _ (c .before .before .before .before .before .before .before .before .before .before .before .before .before .pre .0), e .1)
 
 returns-3 : tie.Need-returns-3
-returns-3 c = let a = c .before .before .before .before .before .before .before .args in (ap (forwardsBy plain (a .line .now) (region (linesOf (a .run .now))) (a .in-loop) (a .gone) (a .next .now) (linesOf (a .below .now))) (sym (c .enum-told2 .given .1)) ∙ forwards-at plain (a .line .now) (region (linesOf (a .run .now))) (a .in-loop) (a .gone) (a .next .now) (linesOf (a .below .now)) _ (c .before .before .before .before .before .before .before .pre .0), refl)
+returns-3 c = let a = c .before .before .before .before .before .before .before .args in (ap (forwardsBy (readingOf (a .mode .0)) (a .line .now) (region (linesOf (a .run .now))) (a .in-loop) (a .gone) (a .next .now) (linesOf (a .below .now))) (sym (c .enum-told2 .given .1)) ∙ forwards-at (readingOf (a .mode .0)) (a .line .now) (region (linesOf (a .run .now))) (a .in-loop) (a .gone) (a .next .now) (linesOf (a .below .now)) _ (c .before .before .before .before .before .before .before .pre .0), refl)
 
 pub line-forwards-spec : {M : Type 1} → statement M
 line-forwards-spec =

@@ -6,7 +6,7 @@ use lib.ListN.{length}
 use Rattle.lines.specs.Lf.{linesOf}
 use Rattle.place.specs.Region.{region}
 use Rattle.lines.proofs.LfLaws.{find-le}
-use Rattle.reading.specs.Reading.{plain}
+use Rattle.reading.specs.Reading.{readingOf}
 use Rattle.once.proofs.NotedFills.{send-rest}
 use Rattle.once.proofs.Fills.{takes-end, takes-line, mark-stays}
 use Rattle.once.proofs.mark_at.Statement.{statement}
@@ -17,7 +17,7 @@ use Rattle.lines.proofs.after.Reads as after-reads
 use Rattle.once.proofs.line_forwards.Reads as line-forwards-reads
 
 returns : tie.Need-returns
-returns c = let a = c .before .before .before .before .before .args in (mark-stays (takes-end plain (a .line .now) (region (linesOf (a .run .now))) (a .in-loop) (a .next) (a .text .now) (a .j) (c .if1 .taken)), refl)
+returns c = let a = c .before .before .before .before .before .args in (mark-stays (takes-end (readingOf (a .mode .0)) (a .line .now) (region (linesOf (a .run .now))) (a .in-loop) (a .next) (a .text .now) (a .j) (c .if1 .taken)), refl)
 
 after-requires : tie.Need-after-requires
 after-requires c κs = search needs
@@ -55,7 +55,7 @@ returns-2 c =
     let a = c .before .before .before .before .before .before .before .before .before .before .before .before .before .args in
     let e = c .before .before .before .line-forwards .ensures in
     let n = c .before .before .before .before .before .before .before .after in
-    (mark-stays (sym (takes-line plain (a .line .now) (region (linesOf (a .run .now))) (a .in-loop) (a .next) (a .text .now) (a .j) (a .e) (n .result) (omega (arith, c .before .before .before .before .before .before .before .before .if1 .left)) (c .before .before .before .before .before .before .before .before .before .before .before .before .before .pre .1 .0) (n .ensures)) ∙ sym (e .0) ∙ c .if2 .taken), e .1)
+    (mark-stays (sym (takes-line (readingOf (a .mode .0)) (a .line .now) (region (linesOf (a .run .now))) (a .in-loop) (a .next) (a .text .now) (a .j) (a .e) (n .result) (omega (arith, c .before .before .before .before .before .before .before .before .if1 .left)) (c .before .before .before .before .before .before .before .before .before .before .before .before .before .pre .1 .0) (n .ensures)) ∙ sym (e .0) ∙ c .if2 .taken), e .1)
 
 same-length-2 : tie.Need-same-length-2
 same-length-2 c = search needs
@@ -65,7 +65,7 @@ returns-3 c =
     let a = c .before .before .before .before .before .before .before .before .before .before .before .before .before .args in
     let e = c .before .before .before .line-forwards .ensures in
     let n = c .before .before .before .before .before .before .before .after in
-    (mark-stays (sym (takes-line plain (a .line .now) (region (linesOf (a .run .now))) (a .in-loop) (a .next) (a .text .now) (a .j) (a .e) (n .result) (omega (arith, c .before .before .before .before .before .before .before .before .if1 .left)) (c .before .before .before .before .before .before .before .before .before .before .before .before .before .pre .1 .0) (n .ensures)) ∙ sym (e .0) ∙ c .if2 .left), e .1)
+    (mark-stays (sym (takes-line (readingOf (a .mode .0)) (a .line .now) (region (linesOf (a .run .now))) (a .in-loop) (a .next) (a .text .now) (a .j) (a .e) (n .result) (omega (arith, c .before .before .before .before .before .before .before .before .if1 .left)) (c .before .before .before .before .before .before .before .before .before .before .before .before .before .pre .1 .0) (n .ensures)) ∙ sym (e .0) ∙ c .if2 .left), e .1)
 
 pub mark-at-spec : {M : Type 1} → statement M
 mark-at-spec =

@@ -4,6 +4,7 @@ use mathlib.Core.Path.{refl, sym, ap, _∙_}
 use native.Mathlib.Omega.{arith}
 use lib.ListN.{length}
 use Rattle.parse.specs.Parse.{parseOf}
+use Rattle.reading.specs.Reading.{readingOf}
 use Rattle.once.proofs.Blanks.{blank-less, blank-as}
 use Rattle.once.proofs.Decides.{value-room}
 use Rattle.once.proofs.Fills.{first-goes, first-stays}
@@ -29,7 +30,7 @@ returns c =
     let a = c .before .before .before .before .before .before .before .before .args in
     let p = c .before .before .before .before .before .before .before .before .pre in
     let b = c .before .byte-at in
-    (first-told (a .text .now) (a .paths .now) (a .loops .now) (a .notes .now) (a .i) (a .e) (a .k) (a .run) (b .result) (p .0) (p .1 .1 .1 .1 .0) (b .ensures) (c .if1 .taken), refl)
+    (first-told (readingOf (a .mode .0)) (a .text .now) (a .paths .now) (a .loops .now) (a .notes .now) (a .i) (a .e) (a .k) (a .run) (b .result) (p .0) (p .1 .1 .1 .1 .0) (b .ensures) (c .if1 .taken), refl)
 
 cut-requires : tie.Need-cut-requires
 cut-requires c κs = search needs
@@ -56,7 +57,7 @@ returns-2 c =
     let p = c .before .before .before .before .before .before .before .before .before .before .before .before .before .before .before .before .pre in
     let d = c .before .before .before .drops-at in
     let f = c .before .before .before .before .before .byte-at2 in
-    (first-goes (a .text .now) (a .paths .now) (a .loops .now) (a .i) (a .e) (a .k) (a .run) (p .0) (f .result) (f .ensures) (sym (d .ensures .0) ∙ c .if2 .taken), d .ensures .1)
+    (first-goes (readingOf (a .mode .0)) (a .text .now) (a .paths .now) (a .loops .now) (a .i) (a .e) (a .k) (a .run) (p .0) (f .result) (f .ensures) (sym (d .ensures .0) ∙ c .if2 .taken), d .ensures .1)
 
 after-requires : tie.Need-after-requires
 after-requires c κs = search needs
@@ -108,7 +109,7 @@ returns-3 c =
     let d = c .before .before .before .before .before .before .before .before .before .before .before .before .before .before .drops-at in
     let f = c .before .before .before .before .before .before .before .before .before .before .before .before .before .before .before .before .byte-at2 in
     let l = c .before .before .before .before .before .before .before .before .before .before .before .before .before .before .before .before .before .before .cut in
-    (first-stays (a .text .now) (a .paths .now) (a .loops .now) (a .i) (a .e) (a .k) (a .run) (p .0) (f .result) (f .ensures) (n .result) (l .result .now) (r .result .now) (x .result) (m .result) (sym (d .ensures .0) ∙ c .before .before .before .before .before .before .before .before .before .before .before .if2 .left) (n .ensures) (l .ensures) (r .ensures) (x .ensures .0) (m .ensures .0), m .ensures .1 ∙ x .ensures .1 ∙ d .ensures .1)
+    (first-stays (readingOf (a .mode .0)) (a .text .now) (a .paths .now) (a .loops .now) (a .i) (a .e) (a .k) (a .run) (p .0) (f .result) (f .ensures) (n .result) (l .result .now) (r .result .now) (x .result) (m .result) (sym (d .ensures .0) ∙ c .before .before .before .before .before .before .before .before .before .before .before .if2 .left) (n .ensures) (l .ensures) (r .ensures) (x .ensures .0) (m .ensures .0), m .ensures .1 ∙ x .ensures .1 ∙ d .ensures .1)
 
 pub mark-line-spec : {M : Type 1} → statement M
 mark-line-spec =

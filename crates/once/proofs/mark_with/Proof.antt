@@ -6,6 +6,7 @@ use lib.ListN.{length, drop}
 use Rattle.lines.specs.Lf.{linesOf}
 use Rattle.lines.proofs.LfLaws.{find-le}
 use Rattle.lines.proofs.OutLaws.{writing-length}
+use Rattle.reading.specs.Reading.{readingOf}
 use Rattle.once.specs.Inner.Tables.{Blank}
 use Rattle.once.proofs.Blanks.{blank-as}
 use Rattle.once.proofs.AreaLaws.{AreaInv}
@@ -21,18 +22,18 @@ use Rattle.once.proofs.mark_line.Reads as mark-line-reads
 use Rattle.once.proofs.noted.end_at.Reads as end-at-reads
 
 abbrev Inv-loop : tie.InvT-loop
-Inv-loop text paths loops calm notes ends scratch₀ marks₀ run₀ i₀ k₀ scratch marks run i k =
+Inv-loop mode text paths loops calm notes ends scratch₀ marks₀ run₀ i₀ k₀ scratch marks run i k =
     (scratch ≡ scratch₀)
-    × (Blank (length text) scratch × (MarksInv text paths loops marks₀ marks i k run × ((linesOf (drop i text) ≡ drop k (linesOf text)) × AreaInv (linesOf text) k (linesAt text run))))
+    × (Blank (length text) scratch × (MarksInv (readingOf (mode .0)) text paths loops marks₀ marks i k run × ((linesOf (drop i text) ≡ drop k (linesOf text)) × AreaInv (linesOf text) k (linesAt text run))))
 
 abbrev μ-loop : tie.MeasureT-loop
-μ-loop text paths loops calm notes ends scratch₀ marks₀ run₀ i₀ k₀ scratch marks run i k = length text - i
+μ-loop mode text paths loops calm notes ends scratch₀ marks₀ run₀ i₀ k₀ scratch marks run i k = length text - i
 
 loop-holds : tie.Need-loop-holds Inv-loop μ-loop
 loop-holds c =
     let a = c .before .before .before .before .before .before .before .args in
     let p = c .before .before .before .before .before .before .before .pre in
-    (refl, (p .0, (fill-start (a .text .now) (a .paths .now) (a .loops .now) (a .marks .now) (p .1 .0), (rows-start (a .text .now), area-begin (a .text .now)))))
+    (refl, (p .0, (fill-start (readingOf (a .mode .0)) (a .text .now) (a .paths .now) (a .loops .now) (a .marks .now) (p .1 .0), (rows-start (a .text .now), area-begin (a .text .now)))))
 
 end-at-requires : tie.Need-end-at-requires Inv-loop μ-loop
 end-at-requires c κs = let l = c .before .loop in c .before .before .before .before .before .before .before .before .before .pre .1 .1 .1 .1 .1 (l .k) (l .i) (l .inv .1 .1 .1 .0)

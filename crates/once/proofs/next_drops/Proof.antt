@@ -4,7 +4,7 @@ use mathlib.Core.Path.{refl, ap, _∙_}
 use lib.ListN.{drop, getD}
 use Rattle.lines.specs.Lf.{linesOf}
 use Rattle.parse.specs.Parse.{parseOf}
-use Rattle.reading.specs.Reading.{plain}
+use Rattle.reading.specs.Reading.{readingOf}
 use Rattle.once.specs.Inner.Tables.{isSet, firstDrops}
 use Rattle.once.proofs.Told.{settled-first}
 use Rattle.once.proofs.NotedFills.{kind-first, drop-at}
@@ -26,7 +26,7 @@ returns c =
     let a = c .before .before .before .before .before .before .before .before .args in
     let p = c .before .before .before .before .before .before .before .before .pre in
     let b = c .before .byte-at in
-    (settled-first plain (linesOf (drop (a .j) (a .text .now))) (a .paths .now) (a .k) (isSet (getD (a .loops .now) (a .k) 0)) (b .result) (kind-first (a .text .now) (a .paths .now) (a .notes .now) (p .1 .1 .1 .0) (a .j) (a .k) (b .result) (p .0) (b .ensures)) (c .if1 .taken) (drop-at (a .text .now) (a .paths .now) (a .notes .now) (p .1 .1 .1 .0) (a .j) (a .k) (b .result) (p .0) (b .ensures)), refl)
+    (settled-first (readingOf (a .mode .0)) (linesOf (drop (a .j) (a .text .now))) (a .paths .now) (a .k) (isSet (getD (a .loops .now) (a .k) 0)) (b .result) (kind-first (a .text .now) (a .paths .now) (a .notes .now) (p .1 .1 .1 .0) (a .j) (a .k) (b .result) (p .0) (b .ensures)) (c .if1 .taken) (drop-at (a .text .now) (a .paths .now) (a .notes .now) (p .1 .1 .1 .0) (a .j) (a .k) (b .result) (p .0) (b .ensures)), refl)
 
 end-at-requires : tie.Need-end-at-requires
 end-at-requires c κs =
@@ -57,7 +57,7 @@ returns-2 : tie.Need-returns-2
 returns-2 c =
     let a = c .before .before .before .before .before .before .before .before .before .before .before .before .before .before .before .before .args in
     let e = c .before .before .drops-at .ensures in
-    (e .0 ∙ ap (λ (f : ℕ). firstDrops plain (linesOf (drop (a .j) (a .text .now))) (drop (a .k) (a .paths .now)) (isSet f)) (c .before .before .before .before .byte-at2 .ensures), e .1)
+    (e .0 ∙ ap (λ (f : ℕ). firstDrops (readingOf (a .mode .0)) (linesOf (drop (a .j) (a .text .now))) (drop (a .k) (a .paths .now)) (isSet f)) (c .before .before .before .before .byte-at2 .ensures), e .1)
 
 pub next-drops-spec : {M : Type 1} → statement M
 next-drops-spec =

@@ -1,9 +1,9 @@
 use borrow.Author.Needs.{needs}
 use mathlib.Core.Path.{_≡_, sym, ap, _∙_}
 use native.Mathlib.Omega.{arith}
-use Rattle.expr.specs.Pure.{isPure}
-use Rattle.expr.specs.Comments.{stripComments}
-use Rattle.expr.proofs.CommentLaws.{strip-length}
+use mathlib.Core.Bool.{Bool}
+use Rattle.expr.specs.Pure.{isPure, cutIn, purityIn}
+use Rattle.expr.proofs.QuoteLaws.{cut-length}
 use Rattle.once.proofs.Blanks.{wiped}
 use Rattle.once.proofs.pure_value.Statement.{statement}
 use Rattle.once.proofs.pure_value.Tie as tie
@@ -12,9 +12,15 @@ use Rattle.once.proofs.pure_value.Lts as lts
 use Rattle.expr.proofs.is_pure.Reads as is-pure-reads
 use Rattle.expr.proofs.purity.Reads as purity-reads
 use Rattle.lines.proofs.wipe.Reads as wipe-reads
+use Rattle.reading.proofs.is_strict.Reads as is-strict-reads
+
+is-strict-requires : tie.Need-is-strict-requires
+is-strict-requires c κs = search needs
 
 purity-requires : tie.Need-purity-requires
-purity-requires c κs = omega (arith, strip-length (c .before .before .before .args .x .now), c .before .before .before .pre .room)
+purity-requires c κs =
+    let a = c .before .before .before .before in
+    omega (arith, cut-length (c .before .is-strict .result) (a .args .x .now), a .pre .room)
 
 wipe-requires : tie.Need-wipe-requires
 wipe-requires c κs = search needs
@@ -27,10 +33,12 @@ same-length c = search needs
 
 returns : tie.Need-returns
 returns c =
-    let a = c .before .before .before .before .before .before .before .before .before .before .before .args in
+    let a = c .before .before .before .before .before .before .before .before .before .before .before .before in
+    let g = c .before .before .before .before .before .before .before .before .before .is-strict in
     let e = c .before .before .before .before .before .before .before .purity .ensures in
-    (c .is-pure .ensures ∙ ap isPure (e .0), wiped (stripComments (a .x .now)) (c .before .before .before .before .before .before .before .before .before .before .before .pre) (strip-length (a .x .now)) (e .1) (c .before .before .before .wipe .ensures))
+    (c .is-pure .ensures ∙ ap isPure (e .0 ∙ ap (λ (b : Bool). purityIn b (a .args .x .now)) (g .ensures)), wiped (cutIn (g .result) (a .args .x .now)) (a .pre) (cut-length (g .result) (a .args .x .now)) (e .1) (c .before .before .before .wipe .ensures))
 
 pub pure-value-spec : {M : Type 1} → statement M
 pure-value-spec =
-    tie.close (tie.spec purity-requires wipe-requires is-pure-requires same-length returns)
+    tie.close
+    (tie.spec is-strict-requires purity-requires wipe-requires is-pure-requires same-length returns)
