@@ -15,7 +15,7 @@ pub fn answer(function: u8, number: u64, a: &[u8], b: &[u8], out: &mut [u8]) -> 
         1..=8 => texts::answer(function, number, a, out),
         9..=12 | 18..=19 => named::answer(function, a, out),
         13..=17 => worded::answer(function, number, a, b, out),
-        20..=21 | 36 => values::answer(function, a, out),
+        20..=21 | 36..=37 => values::answer(function, a, out),
         22..=24 => lexed::answer(function, a, out),
         25..=29 => placed::answer(function, number, a, out),
         30..=34 => formed::answer(function, number, a, b, out),

@@ -21,7 +21,15 @@ fn prune_dead_temps(a: &[u8], out: &mut [u8]) -> usize {
     let mut own = [0usize; OWNERS];
     let mut declared = [0u8; PLACES];
     let mut read = [0u8; PLACES];
-    temps::prune_dead_temps(a, &mut own, &mut declared, &mut read, scratch, out)
+    temps::prune_dead_temps(
+        reading::Mode(0),
+        a,
+        &mut own,
+        &mut declared,
+        &mut read,
+        scratch,
+        out,
+    )
 }
 
 // The fifth.

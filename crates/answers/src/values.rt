@@ -21,12 +21,12 @@ fn code(p: Purity) -> u8 {
     }
 }
 
-// The purity of a value, as its number, or as whether it is pure.
-fn purity(a: &[u8], coded: bool, out: &mut [u8]) -> usize {
+// The purity of a value in strict mode or plain, as its number, or as whether it is pure.
+fn purity(a: &[u8], strict: bool, coded: bool, out: &mut [u8]) -> usize {
     if out.len() < a.len() {
         return nothing();
     }
-    let p = expr::purity(a, false, out);
+    let p = expr::purity(a, strict, out);
     if coded {
         return say_byte(out, 0, code(p));
     }
@@ -37,8 +37,9 @@ fn purity(a: &[u8], coded: bool, out: &mut [u8]) -> usize {
 pub fn answer(function: u8, a: &[u8], out: &mut [u8]) -> usize {
     match function {
         20 => strip_comments(a, out),
-        21 => purity(a, true, out),
-        36 => purity(a, false, out),
+        21 => purity(a, false, true, out),
+        36 => purity(a, false, false, out),
+        37 => purity(a, true, true, out),
         _ => nothing(),
     }
 }

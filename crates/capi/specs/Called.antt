@@ -2,23 +2,23 @@
 use Prim.Native.Nat.{ℕ}
 use mathlib.Core.List.{List}
 use lib.ListN.{length}
-use Rattle.reading.specs.Reading.{plain}
+use Rattle.reading.specs.Reading.{readingOf}
 use Rattle.limits.specs.declared.Answer.{Answer}
 use Rattle.steps.specs.Step.{stepOf}
 use Rattle.passes.specs.Passes.{resultOf}
 use Rattle.opt.specs.Whole.{whole}
-use Rattle.limits.specs.Entry.{small, isShort, answerOf, passAnswer}
+use Rattle.limits.specs.Entry.{small, isShort, wholeAnswer, passAnswer}
 
--- what a text becomes by all passes, and by one of them
-abbrev pub tidied : List ℕ → List ℕ
-tidied t = resultOf (whole plain) t
+-- what a text becomes in a mode by all passes, and by one of them
+abbrev pub tidied : (mode : ℕ) → List ℕ → List ℕ
+tidied mode t = resultOf (whole (readingOf mode)) t
 
-abbrev pub passed : ℕ → List ℕ → List ℕ
-passed k t = resultOf (stepOf plain k) t
+abbrev pub passed : (k mode : ℕ) → List ℕ → List ℕ
+passed k mode t = resultOf (stepOf (readingOf mode) k) t
 
 -- the answer for all passes, and for one of them: t the text, a to u the work buffers, o the result buffer
-abbrev pub tidyAnswer : (t a b c d e u o : List ℕ) → Answer
-tidyAnswer t a b c d e u o = answerOf small (isShort small (length a) (length b) (length c) (length d) (length e) (length u)) t (tidied t) (length o)
+abbrev pub tidyAnswer : (mode : ℕ) (t a b c d e u o : List ℕ) → Answer
+tidyAnswer mode t a b c d e u o = wholeAnswer small mode (isShort small (length a) (length b) (length c) (length d) (length e) (length u)) t (tidied mode t) (length o)
 
-abbrev pub onePassAnswer : ℕ → (t a b c d e u o : List ℕ) → Answer
-onePassAnswer k t a b c d e u o = passAnswer small k (isShort small (length a) (length b) (length c) (length d) (length e) (length u)) t (passed k t) (length o)
+abbrev pub onePassAnswer : (k mode : ℕ) (t a b c d e u o : List ℕ) → Answer
+onePassAnswer k mode t a b c d e u o = passAnswer small k mode (isShort small (length a) (length b) (length c) (length d) (length e) (length u)) t (passed k mode t) (length o)

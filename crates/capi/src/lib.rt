@@ -5,9 +5,10 @@ ghost use Rattle.limits.specs.Entry.{small, outAfter};
 ghost use Rattle.opt.specs.Room.{After};
 ghost use Rattle.capi.specs.Called.{tidied, passed, tidyAnswer, onePassAnswer};
 
-// Runs all passes over a text. Returns the number of the answer, and stores its length and its place.
+// Runs all passes over a text, in mode 0 (plain) or 1 (strict). Returns the number of the answer, and stores its length and its place.
 #[no_mangle]
 pub extern "C" fn optlines_optimize(
+    mode: usize,
     text: &[u8],
     a: &mut [u8],
     b: &mut [u8],
@@ -19,22 +20,23 @@ pub extern "C" fn optlines_optimize(
     size: &mut usize,
     place: &mut usize,
 ) -> u8
-    ensures number { λ r. ⌜ r ≡ numberOf (tidyAnswer (now (text .entry)) (now (a .entry)) (now (b .entry)) (now (c .entry)) (now (d .entry)) (now (e .entry)) (now (u .entry)) (now (out .entry))) ⌝ }
-    ensures size { λ _. ⌜ now (size .exit) ≡ lengthOf (tidyAnswer (now (text .entry)) (now (a .entry)) (now (b .entry)) (now (c .entry)) (now (d .entry)) (now (e .entry)) (now (u .entry)) (now (out .entry))) ⌝ }
-    ensures place { λ _. ⌜ now (place .exit) ≡ placeOf (tidyAnswer (now (text .entry)) (now (a .entry)) (now (b .entry)) (now (c .entry)) (now (d .entry)) (now (e .entry)) (now (u .entry)) (now (out .entry))) ⌝ }
-    ensures result { λ _. ⌜ now (out .exit) ≡ outAfter (tidyAnswer (now (text .entry)) (now (a .entry)) (now (b .entry)) (now (c .entry)) (now (d .entry)) (now (e .entry)) (now (u .entry)) (now (out .entry))) (tidied (now (text .entry))) (now (out .entry)) ⌝ }
-    ensures work { λ _. ⌜ After small (tidyAnswer (now (text .entry)) (now (a .entry)) (now (b .entry)) (now (c .entry)) (now (d .entry)) (now (e .entry)) (now (u .entry)) (now (out .entry))) (now (a .entry)) (now (b .entry)) (now (c .entry)) (now (d .entry)) (now (e .entry)) (now (u .entry)) (now (a .exit)) (now (b .exit)) (now (c .exit)) (now (d .exit)) (now (e .exit)) (now (u .exit)) ⌝ }
+    ensures number { λ r. ⌜ r ≡ numberOf (tidyAnswer mode (now (text .entry)) (now (a .entry)) (now (b .entry)) (now (c .entry)) (now (d .entry)) (now (e .entry)) (now (u .entry)) (now (out .entry))) ⌝ }
+    ensures size { λ _. ⌜ now (size .exit) ≡ lengthOf (tidyAnswer mode (now (text .entry)) (now (a .entry)) (now (b .entry)) (now (c .entry)) (now (d .entry)) (now (e .entry)) (now (u .entry)) (now (out .entry))) ⌝ }
+    ensures place { λ _. ⌜ now (place .exit) ≡ placeOf (tidyAnswer mode (now (text .entry)) (now (a .entry)) (now (b .entry)) (now (c .entry)) (now (d .entry)) (now (e .entry)) (now (u .entry)) (now (out .entry))) ⌝ }
+    ensures result { λ _. ⌜ now (out .exit) ≡ outAfter (tidyAnswer mode (now (text .entry)) (now (a .entry)) (now (b .entry)) (now (c .entry)) (now (d .entry)) (now (e .entry)) (now (u .entry)) (now (out .entry))) (tidied mode (now (text .entry))) (now (out .entry)) ⌝ }
+    ensures work { λ _. ⌜ After small (tidyAnswer mode (now (text .entry)) (now (a .entry)) (now (b .entry)) (now (c .entry)) (now (d .entry)) (now (e .entry)) (now (u .entry)) (now (out .entry))) (now (a .entry)) (now (b .entry)) (now (c .entry)) (now (d .entry)) (now (e .entry)) (now (u .entry)) (now (a .exit)) (now (b .exit)) (now (c .exit)) (now (d .exit)) (now (e .exit)) (now (u .exit)) ⌝ }
 {
-    let answer = opt::optimize(text, a, b, c, d, e, u, out);
+    let answer = opt::optimize(mode, text, a, b, c, d, e, u, out);
     *size = limits::length_of(answer);
     *place = limits::place_of(answer);
     limits::number_of(answer)
 }
 
-// Runs one pass, 1 to 6, over a text. Returns the number of the answer, and stores its length and its place.
+// Runs one pass, 1 to 6, over a text, in mode 0 (plain) or 1 (strict). Returns the number of the answer, and stores its length and its place.
 #[no_mangle]
 pub extern "C" fn optlines_run_pass(
     pass: usize,
+    mode: usize,
     text: &[u8],
     a: &mut [u8],
     b: &mut [u8],
@@ -46,13 +48,13 @@ pub extern "C" fn optlines_run_pass(
     size: &mut usize,
     place: &mut usize,
 ) -> u8
-    ensures number { λ r. ⌜ r ≡ numberOf (onePassAnswer pass (now (text .entry)) (now (a .entry)) (now (b .entry)) (now (c .entry)) (now (d .entry)) (now (e .entry)) (now (u .entry)) (now (out .entry))) ⌝ }
-    ensures size { λ _. ⌜ now (size .exit) ≡ lengthOf (onePassAnswer pass (now (text .entry)) (now (a .entry)) (now (b .entry)) (now (c .entry)) (now (d .entry)) (now (e .entry)) (now (u .entry)) (now (out .entry))) ⌝ }
-    ensures place { λ _. ⌜ now (place .exit) ≡ placeOf (onePassAnswer pass (now (text .entry)) (now (a .entry)) (now (b .entry)) (now (c .entry)) (now (d .entry)) (now (e .entry)) (now (u .entry)) (now (out .entry))) ⌝ }
-    ensures result { λ _. ⌜ now (out .exit) ≡ outAfter (onePassAnswer pass (now (text .entry)) (now (a .entry)) (now (b .entry)) (now (c .entry)) (now (d .entry)) (now (e .entry)) (now (u .entry)) (now (out .entry))) (passed pass (now (text .entry))) (now (out .entry)) ⌝ }
-    ensures work { λ _. ⌜ After small (onePassAnswer pass (now (text .entry)) (now (a .entry)) (now (b .entry)) (now (c .entry)) (now (d .entry)) (now (e .entry)) (now (u .entry)) (now (out .entry))) (now (a .entry)) (now (b .entry)) (now (c .entry)) (now (d .entry)) (now (e .entry)) (now (u .entry)) (now (a .exit)) (now (b .exit)) (now (c .exit)) (now (d .exit)) (now (e .exit)) (now (u .exit)) ⌝ }
+    ensures number { λ r. ⌜ r ≡ numberOf (onePassAnswer pass mode (now (text .entry)) (now (a .entry)) (now (b .entry)) (now (c .entry)) (now (d .entry)) (now (e .entry)) (now (u .entry)) (now (out .entry))) ⌝ }
+    ensures size { λ _. ⌜ now (size .exit) ≡ lengthOf (onePassAnswer pass mode (now (text .entry)) (now (a .entry)) (now (b .entry)) (now (c .entry)) (now (d .entry)) (now (e .entry)) (now (u .entry)) (now (out .entry))) ⌝ }
+    ensures place { λ _. ⌜ now (place .exit) ≡ placeOf (onePassAnswer pass mode (now (text .entry)) (now (a .entry)) (now (b .entry)) (now (c .entry)) (now (d .entry)) (now (e .entry)) (now (u .entry)) (now (out .entry))) ⌝ }
+    ensures result { λ _. ⌜ now (out .exit) ≡ outAfter (onePassAnswer pass mode (now (text .entry)) (now (a .entry)) (now (b .entry)) (now (c .entry)) (now (d .entry)) (now (e .entry)) (now (u .entry)) (now (out .entry))) (passed pass mode (now (text .entry))) (now (out .entry)) ⌝ }
+    ensures work { λ _. ⌜ After small (onePassAnswer pass mode (now (text .entry)) (now (a .entry)) (now (b .entry)) (now (c .entry)) (now (d .entry)) (now (e .entry)) (now (u .entry)) (now (out .entry))) (now (a .entry)) (now (b .entry)) (now (c .entry)) (now (d .entry)) (now (e .entry)) (now (u .entry)) (now (a .exit)) (now (b .exit)) (now (c .exit)) (now (d .exit)) (now (e .exit)) (now (u .exit)) ⌝ }
 {
-    let answer = opt::run_pass(pass, text, a, b, c, d, e, u, out);
+    let answer = opt::run_pass(pass, mode, text, a, b, c, d, e, u, out);
     *size = limits::length_of(answer);
     *place = limits::place_of(answer);
     limits::number_of(answer)

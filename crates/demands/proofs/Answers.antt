@@ -1,4 +1,4 @@
--- The entries promise an answer by its cases: the three numbers that a caller gets of the two that name a limit. Assumes nothing.
+-- The entries promise an answer by its cases: the three numbers that a caller gets of the two that name a limit, and of a mode that there is not. Assumes nothing.
 use Prim.Native.Nat.{ℕ, _≤_, _<_}
 use mathlib.Core.Path.{_≡_, refl, sym, ap, _∙_}
 use mathlib.Core.Bool.{Bool, true, false}
@@ -11,8 +11,8 @@ use Rattle.text.specs.Utf8Form.{utf8Of}
 use Rattle.limits.specs.declared.Limits.{Limits}
 use Rattle.limits.specs.declared.Answer.{Answer}
 use Rattle.limits.specs.Answer.{numberOf, lengthOf, placeOf}
-use Rattle.limits.specs.Entry.{small, roomed, answerOf, passAnswer}
-use Rattle.limits.proofs.AnswerLaws.{lines-many, text-long, text-read}
+use Rattle.limits.specs.Entry.{small, roomed, answerOf, modes, wholeAnswer, passAnswer}
+use Rattle.limits.proofs.AnswerLaws.{mode-bad, mode-good, lines-many, text-long, text-read}
 
 -- the number, the length and the place of an answer
 abbrev pub numbersOf : Answer → ℕ × (ℕ × ℕ)
@@ -31,10 +31,20 @@ module _ (L : Limits) (t xs : List ℕ) (room : ℕ) where
   many-numbers h v k =
       ap numbersOf (sym (lines-many L t (roomed (length xs) room) k ∙ text-read L t (roomed (length xs) room) false h refl {x = utf8-is.Valid} v))
 
-  -- the pass entry answers so too, of a pass that there is
-  pub pass-numbers : (k : ℕ) (short : Bool) → within 1 6 k ≡ true → passAnswer L k short t xs room ≡ answerOf L short t xs room
+  -- the entry for all passes answers so, in a mode that there is
+  pub whole-numbers : (mode : ℕ) (short : Bool) → mode < modes → wholeAnswer L mode short t xs room ≡ answerOf L short t xs room
+  unfolding wholeAnswer
+  whole-numbers mode short h = sym (mode-good mode h refl)
+
+  -- in another: 12, whatever the text is
+  pub mode-numbers : (mode : ℕ) (short : Bool) → modes ≤ mode → numbersOf (wholeAnswer L mode short t xs room) ≡ (12, (0, 0))
+  unfolding wholeAnswer numberOf lengthOf placeOf
+  mode-numbers mode short h = ap numbersOf (sym (mode-bad mode (answerOf L short t xs room) h))
+
+  -- the pass entry answers as that for all, of a pass that there is
+  pub pass-numbers : (k mode : ℕ) (short : Bool) → within 1 6 k ≡ true → passAnswer L k mode short t xs room ≡ wholeAnswer L mode short t xs room
   unfolding passAnswer
-  pass-numbers k short h = rw h
+  pass-numbers k mode short h = rw h
 
 -- the numbers of `optimize` and `run_pass`
 module _ (t xs : List ℕ) (room : ℕ) where

@@ -7,12 +7,12 @@ use Rattle.lines.specs.Steps.{splitLines}
 use Rattle.place.specs.Inner.Region.{headed}
 use Rattle.place.specs.Blocks.{cleaned}
 use Rattle.place.specs.Inner.Blocks.{own}
-use Rattle.reading.specs.Reading.{plain}
+use Rattle.reading.specs.Reading.{readingOf}
 use Rattle.steps.specs.Step.{stepOf}
 use Rattle.demands.proofs.Cuts.{Cuts, cut-pass}
 use Rattle.demands.proofs.Split.{closed, split-cut}
 
--- the lines that the pass makes of the two texts, one after the other
-pub cut-text : {k : ℕ} → Cuts k → (u t : List ℕ) → closed u ≡ true → headed (splitLines t) ≡ true → own (cleaned (splitLines t)) ≡ true →
-    stepOf plain k (splitLines (u ++ t)) ≡ stepOf plain k (splitLines u) ++ stepOf plain k (splitLines t)
-cut-text {k} c u t e h o = ap (stepOf plain k) (split-cut u t e) ∙ cut-pass c (splitLines u) (splitLines t) h o
+-- the lines that the pass makes of the two texts in a mode, one after the other
+pub cut-text : {k : ℕ} → Cuts k → (mode : ℕ) (u t : List ℕ) → closed u ≡ true → headed (splitLines t) ≡ true → own (cleaned (splitLines t)) ≡ true →
+    stepOf (readingOf mode) k (splitLines (u ++ t)) ≡ stepOf (readingOf mode) k (splitLines u) ++ stepOf (readingOf mode) k (splitLines t)
+cut-text {k} c mode u t e h o = ap (stepOf (readingOf mode) k) (split-cut u t e) ∙ cut-pass c mode (splitLines u) (splitLines t) h o

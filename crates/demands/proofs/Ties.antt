@@ -10,12 +10,12 @@ use Rattle.lexical.specs.Inner.Idents.{identWords}
 use Rattle.place.specs.Blocks.{blocks}
 use Rattle.place.specs.Inner.Blocks.{blockIds}
 use Rattle.place.specs.Starts.{startsAfter, startsAbove, startsGo}
-use Rattle.reading.specs.Reading.{plain}
+use Rattle.reading.specs.Reading.{readingOf}
 use Rattle.forms.specs.Breaks.{breaksWith, breaks}
 
--- `block_ids`: the block numbers that passes 4 and 6 ask are those of the lines, cleaned
-pub block-ids-are : (ls : List (List ℕ)) → blockIds ls ≡ blocks (plain .clean ls)
-block-ids-are ls = refl
+-- `block_ids`: the block numbers that passes 4 and 6 ask in each mode are those of the lines, cleaned
+pub block-ids-are : (mode : ℕ) (ls : List (List ℕ)) → blockIds ls ≡ blocks (readingOf mode .clean ls)
+block-ids-are mode ls = refl
 
 -- `ident_words`: the words that a value needs are those of the value
 pub ident-words-are : (rhs l : List ℕ) → breaks rhs l ≡ breaksWith rhs (identWords rhs) l

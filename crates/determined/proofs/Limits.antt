@@ -35,6 +35,9 @@ too-short-fixed = fixed limits.too_short.Reads.Learnt (λ κs a x y l m. l ∙ s
 pub refused-fixed : Determined limits.refused.ended (λ κs z. z) limits.refused.Reads.ensures
 refused-fixed = fixed limits.refused.Reads.Learnt (λ κs a x y l m. l ∙ sym m)
 
+pub refused-task-fixed : Determined limits.refused_task.ended (λ κs z. z) limits.refused_task.Reads.ensures
+refused-task-fixed = fixed limits.refused_task.Reads.Learnt (λ κs a x y l m. l ∙ sym m)
+
 pub finish-fixed : Determined limits.finish.ended (λ κs z. z) limits.finish.Reads.ensures
 finish-fixed = fixed-by limits.finish.Reads.Learnt (λ w κs a x. more w (one w)) (λ κs a x y l m.
     let p = l .0 ∙ sym (m .0) in

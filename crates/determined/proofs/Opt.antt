@@ -3,7 +3,7 @@ use Prim.Native.Nat.{ℕ}
 use mathlib.Core.Path.{_≡_, ap, sym, _∙_}
 use mathlib.Core.List.{List}
 use denote.Ref.{now}
-use Rattle.reading.specs.Reading.{plain}
+use Rattle.reading.specs.Reading.{readingOf}
 use Rattle.limits.specs.declared.Limits.{Limits}
 use Rattle.limits.specs.declared.Answer.{Answer}
 use Rattle.steps.specs.Step.{stepOf}
@@ -38,9 +38,9 @@ after-once {L} {r₁} {r₂} {a} {b} {c} {d} {e} {u} p f g rest = (
 pub optimize-fixed : Determined opt.optimize.ended (λ κs z. z) opt.optimize.Reads.ensures
 optimize-fixed = fixed-by opt.optimize.Reads.Learnt (λ w κs a x. more w (one w)) (λ κs a x y l m.
     let p = l .0 ∙ sym (m .0) in
-    after-once p (l .1 .1) (m .1 .1) (out-once (resultOf (whole plain) (now (a .0))) (now (a .1 .1 .1 .1 .1 .1 .1 .0)) p (l .1 .0) (m .1 .0), p))
+    after-once p (l .1 .1) (m .1 .1) (out-once (resultOf (whole (readingOf (a .0))) (now (a .1 .0))) (now (a .1 .1 .1 .1 .1 .1 .1 .1 .0)) p (l .1 .0) (m .1 .0), p))
 
 pub run-pass-fixed : Determined opt.run_pass.ended (λ κs z. z) opt.run_pass.Reads.ensures
 run-pass-fixed = fixed-by opt.run_pass.Reads.Learnt (λ w κs a x. more w (one w)) (λ κs a x y l m.
     let p = l .0 ∙ sym (m .0) in
-    after-once p (l .1 .1) (m .1 .1) (out-once (resultOf (stepOf plain (a .0)) (now (a .1 .0))) (now (a .1 .1 .1 .1 .1 .1 .1 .1 .0)) p (l .1 .0) (m .1 .0), p))
+    after-once p (l .1 .1) (m .1 .1) (out-once (resultOf (stepOf (readingOf (a .1 .0)) (a .0)) (now (a .1 .1 .0))) (now (a .1 .1 .1 .1 .1 .1 .1 .1 .1 .0)) p (l .1 .0) (m .1 .0), p))

@@ -3,7 +3,7 @@ use Prim.Native.Nat.{ℕ, _-_}
 use mathlib.Core.Path.{_≡_, sym, _∙_}
 use mathlib.Core.List.{List}
 use denote.Ref.{now}
-use Rattle.reading.specs.Reading.{plain}
+use Rattle.reading.specs.Reading.{readingOf}
 use Rattle.passes.specs.Passes.{resultOf}
 use Rattle.passes.specs.Inner.Passes.{stepsOf}
 use Rattle.passes.specs.Inner.Buffers.{Blank}
@@ -28,4 +28,4 @@ blank-once f g rest = (
 pub work-fixed : Determined passes.work.ended (λ κs z. z) passes.work.Reads.ensures
 work-fixed = fixed-by passes.work.Reads.Learnt (λ w κs a x. more w (one w)) (λ κs a x y l m.
     let p = l .0 ∙ sym (m .0) in
-    blank-once (l .1 .1) (m .1 .1) (out-once (resultOf (stepsOf plain (a .0 .from) (a .0 .to - a .0 .from)) (now (a .1 .0))) (now (a .1 .1 .1 .1 .1 .1 .1 .1 .0)) p (l .1 .0) (m .1 .0), p))
+    blank-once (l .1 .1) (m .1 .1) (out-once (resultOf (stepsOf (readingOf (a .0 .mode .0)) (a .0 .from) (a .0 .to - a .0 .from)) (now (a .1 .0))) (now (a .1 .1 .1 .1 .1 .1 .1 .1 .0)) p (l .1 .0) (m .1 .0), p))

@@ -8,7 +8,7 @@ use Rattle.steps.proofs as steps
 use Rattle.determined.proofs.Outcomes.{Determined, fixed-by, one, more}
 
 -- the scratch after one step is the same, and then what is said of the rest
-left-once : {k : ℕ} {s c d e u c₁ d₁ e₁ u₁ c₂ d₂ e₂ u₂ : List ℕ} {rest : Type 0} → Left k s c d e u c₁ d₁ e₁ u₁ → Left k s c d e u c₂ d₂ e₂ u₂ → rest →
+left-once : {mode k : ℕ} {s c d e u c₁ d₁ e₁ u₁ c₂ d₂ e₂ u₂ : List ℕ} {rest : Type 0} → Left mode k s c d e u c₁ d₁ e₁ u₁ → Left mode k s c d e u c₂ d₂ e₂ u₂ → rest →
     (c₁ ≡ c₂) × ((d₁ ≡ d₂) × ((e₁ ≡ e₂) × ((u₁ ≡ u₂) × rest)))
 left-once f g rest = (f .c-left ∙ sym (g .c-left), (f .d-left ∙ sym (g .d-left), (f .e-left ∙ sym (g .e-left), (f .u-left ∙ sym (g .u-left), rest))))
 

@@ -22,9 +22,9 @@ use Rattle.flaws.specs.declared.Flaw.the-variants as flaw-is
 use Rattle.flaws.specs.Flaws.{flawOf}
 use Rattle.limits.specs.declared.Limits.{Limits}
 use Rattle.limits.specs.declared.Answer.{Answer}
-use Rattle.limits.specs.declared.Answer.the-variants.{Done, BadPass, TooLong, ShortWork, TooManyLines, Crowded, ShortResult}
+use Rattle.limits.specs.declared.Answer.the-variants.{Done, BadPass, TooLong, ShortWork, TooManyLines, Crowded, ShortResult, BadMode}
 use Rattle.limits.specs.Answer.{numberOf, lengthOf, placeOf, passesRan, isDone}
-use Rattle.limits.specs.Entry.{small, byFlaw, byUtf8, byCrowd, checkedLines, checked, roomed, answerOf, passAnswer, blank, workAfter, outAfter}
+use Rattle.limits.specs.Entry.{small, byFlaw, byUtf8, byCrowd, checkedLines, checked, roomed, answerOf, modes, inMode, wholeAnswer, passAnswer, blank, workAfter, outAfter}
 use Rattle.limits.specs.Inner.Sane.{Sane, Within}
 
 -- ---- one check after the other
@@ -163,20 +163,45 @@ pub done-not : (r : Answer) {n : ℕ} → n ≡ numberOf r → (n ≡ 0 → ⊥)
 unfolding isDone
 done-not r {n} e h = ne-eqb (numberOf r) 0 (λ z. h (e ∙ z))
 
-pub answer-refused : (r : Answer) (L : Limits) (short : Bool) (t xs : List ℕ) (room : ℕ) → r ≡ checked L short t (Done 0) → isDone r ≡ false → (r ≡ answerOf L short t xs room) × (passesRan r ≡ false)
-unfolding answerOf
-answer-refused r L short t xs room e h = let p = refused-by L short t (ap isDone (sym e) ∙ h) (roomed (length xs) room) in (e ∙ sym (p .0), ap passesRan e ∙ p .1)
+-- ---- the mode
 
-pub answer-accepted : {r : Answer} (L : Limits) (short : Bool) (t xs : List ℕ) (room : ℕ) → Accepted L short t → r ≡ roomed (length xs) room → r ≡ answerOf L short t xs room
-unfolding answerOf
-answer-accepted L short t xs room p e = e ∙ sym (p .same (roomed (length xs) room))
+pub mode-bad : (mode : ℕ) (x : Answer) → modes ≤ mode → BadMode ≡ inMode mode x
+mode-bad mode x h = rw (le-ltb mode modes h)
 
-module _ (L : Limits) (k : ℕ) (short : Bool) (t xs : List ℕ) (room : ℕ) where
-  pub pass-bad : within 1 6 k ≡ false → BadPass ≡ passAnswer L k short t xs room
+pub mode-good : (mode : ℕ) {r x : Answer} → mode < modes → r ≡ x → r ≡ inMode mode x
+mode-good mode h e = rw (lt-ltb mode modes h) e
+
+-- a task that no check refuses has a mode that there is
+pub mode-done : (mode : ℕ) (x : Answer) → isDone (inMode mode x) ≡ true → ((y : Answer) → inMode mode y ≡ y) × (isDone x ≡ true)
+unfolding isDone
+mode-done mode x h = go (ltb mode modes) h
+  where
+    go : (b : Bool) → isDone (cond b x BadMode) ≡ true → ((y : Answer) → cond b y BadMode ≡ y) × (isDone x ≡ true)
+    go true q = (λ y. refl, q)
+    go false q = no q
+
+mode-stops : (b : Bool) (L : Limits) (short : Bool) (t : List ℕ) → isDone (cond b (checked L short t (Done 0)) BadMode) ≡ false → (x : Answer) →
+    (cond b (checked L short t x) BadMode ≡ cond b (checked L short t (Done 0)) BadMode) × (passesRan (cond b (checked L short t (Done 0)) BadMode) ≡ false)
+unfolding passesRan
+mode-stops true L short t h x = refused-by L short t h x
+mode-stops false L short t h x = (refl, refl)
+
+pub answer-refused : (r : Answer) (L : Limits) (mode : ℕ) (short : Bool) (t xs : List ℕ) (room : ℕ) → r ≡ inMode mode (checked L short t (Done 0)) → isDone r ≡ false → (r ≡ wholeAnswer L mode short t xs room) × (passesRan r ≡ false)
+unfolding wholeAnswer answerOf
+answer-refused r L mode short t xs room e h = let p = mode-stops (ltb mode modes) L short t (ap isDone (sym e) ∙ h) (roomed (length xs) room) in (e ∙ sym (p .0), ap passesRan e ∙ p .1)
+
+pub answer-accepted : {r : Answer} (L : Limits) (mode : ℕ) (short : Bool) (t xs : List ℕ) (room : ℕ) → ((y : Answer) → inMode mode y ≡ y) → Accepted L short t → r ≡ roomed (length xs) room → r ≡ wholeAnswer L mode short t xs room
+unfolding wholeAnswer answerOf
+answer-accepted L mode short t xs room m p e = e ∙ sym (p .same (roomed (length xs) room)) ∙ sym (m (checked L short t (roomed (length xs) room)))
+
+-- ---- the number of a pass
+
+module _ (L : Limits) (k mode : ℕ) (short : Bool) (t xs : List ℕ) (room : ℕ) where
+  pub pass-bad : within 1 6 k ≡ false → BadPass ≡ passAnswer L k mode short t xs room
   unfolding passAnswer
   pass-bad h = rw h
 
-  pub pass-good : within 1 6 k ≡ true → answerOf L short t xs room ≡ passAnswer L k short t xs room
+  pub pass-good : within 1 6 k ≡ true → wholeAnswer L mode short t xs room ≡ passAnswer L k mode short t xs room
   unfolding passAnswer
   pass-good h = rw h
 

@@ -3,7 +3,7 @@ use Prim.Native.Nat.{ℕ}
 use mathlib.Core.Bool.{Bool, _||_}
 use lib.Dec.{eqb}
 use Rattle.limits.specs.declared.Answer.{Answer}
-use Rattle.limits.specs.declared.Answer.the-variants.{Done, BadPass, TooLong, ShortWork, NotUtf8, TooManyLines, Crowded, ShortResult, Cut, Overlong, Outside}
+use Rattle.limits.specs.declared.Answer.the-variants.{Done, BadPass, TooLong, ShortWork, NotUtf8, TooManyLines, Crowded, ShortResult, Cut, Overlong, Outside, BadMode}
 
 unfoldable pub numberOf : Answer → ℕ
 numberOf (Done n) = 0
@@ -17,6 +17,7 @@ numberOf (ShortResult n) = 7
 numberOf (Cut i) = 9
 numberOf (Overlong i) = 10
 numberOf (Outside i) = 11
+numberOf BadMode = 12
 
 -- a refusal has length 0
 unfoldable pub lengthOf : Answer → ℕ
@@ -31,6 +32,7 @@ lengthOf (ShortResult n) = 0
 lengthOf (Cut i) = 0
 lengthOf (Overlong i) = 0
 lengthOf (Outside i) = 0
+lengthOf BadMode = 0
 
 unfoldable pub placeOf : Answer → ℕ
 placeOf (Done n) = 0
@@ -44,6 +46,7 @@ placeOf (ShortResult n) = n
 placeOf (Cut i) = i
 placeOf (Overlong i) = i
 placeOf (Outside i) = i
+placeOf BadMode = 0
 
 -- the result was written: number 0
 unfoldable pub isDone : Answer → Bool

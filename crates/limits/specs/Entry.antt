@@ -17,7 +17,7 @@ use Rattle.flaws.specs.declared.Flaw.the-variants as flaw-is
 use Rattle.flaws.specs.Flaws.{flawOf}
 use Rattle.limits.specs.declared.Limits.{Limits}
 use Rattle.limits.specs.declared.Answer.{Answer}
-use Rattle.limits.specs.declared.Answer.the-variants.{Done, BadPass, TooLong, ShortWork, NotUtf8, TooManyLines, Crowded, ShortResult, Cut, Overlong, Outside}
+use Rattle.limits.specs.declared.Answer.the-variants.{Done, BadPass, TooLong, ShortWork, NotUtf8, TooManyLines, Crowded, ShortResult, Cut, Overlong, Outside, BadMode}
 use Rattle.limits.specs.Answer.{passesRan, isDone}
 
 -- the most bytes and the most lines of a text that `optimize` and `run_pass` take
@@ -30,6 +30,10 @@ byteSize L = 2 * L .bytes + 1
 
 abbrev pub blockSize : Limits → ℕ
 blockSize L = L .bytes
+
+-- there are so many modes, with the numbers from 0 on: plain and strict
+abbrev pub modes : ℕ
+modes = 2
 
 -- a lent work buffer is shorter than its stated size: the lengths of the six
 abbrev pub isShort : Limits → ℕ → ℕ → ℕ → ℕ → ℕ → ℕ → Bool
@@ -73,10 +77,19 @@ unfoldable pub answerOf : Limits → Bool → List ℕ → List ℕ → ℕ → 
 unfolding checked
 answerOf L short t result room = checked L short t (roomed (length result) room)
 
--- and of the pass entry
-unfoldable pub passAnswer : Limits → ℕ → Bool → List ℕ → List ℕ → ℕ → Answer
+-- by its mode: what follows where there is such a one
+abbrev pub inMode : ℕ → Answer → Answer
+inMode mode follows = cond (ltb mode modes) follows BadMode
+
+-- of the entry for all passes
+unfoldable pub wholeAnswer : Limits → ℕ → Bool → List ℕ → List ℕ → ℕ → Answer
 unfolding answerOf
-passAnswer L k short t result room = cond (within 1 6 k) (answerOf L short t result room) BadPass
+wholeAnswer L mode short t result room = inMode mode (answerOf L short t result room)
+
+-- and of the one for one pass
+unfoldable pub passAnswer : Limits → ℕ → ℕ → Bool → List ℕ → List ℕ → ℕ → Answer
+unfolding wholeAnswer
+passAnswer L k mode short t result room = cond (within 1 6 k) (wholeAnswer L mode short t result room) BadPass
 
 -- ---- memory
 

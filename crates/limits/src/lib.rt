@@ -5,7 +5,7 @@ ghost use Rattle.lines.specs.Lf.{linesOf};
 ghost use Rattle.lines.specs.Steps.{joined};
 ghost use Rattle.limits.specs.declared.Answer.the-variants.{Done};
 ghost use Rattle.limits.specs.Answer.{numberOf, lengthOf, placeOf};
-ghost use Rattle.limits.specs.Entry.{small, byteSize, isShort, byFlaw, checkedLines, checked, roomed, outAfter};
+ghost use Rattle.limits.specs.Entry.{small, byteSize, isShort, byFlaw, checkedLines, checked, inMode, roomed, outAfter};
 ghost use Rattle.limits.specs.Inner.Sane.{Sane};
 
 // How much an entry takes: the most bytes and the most lines of a text.
@@ -14,12 +14,16 @@ pub struct Limits {
     pub lines: usize,
 }
 
-// What is asked of a run: the passes from `from` up to `to`, over a text within limits.
+// What is asked of a run: the passes from `from` up to `to`, in a mode, over a text within limits.
 pub struct Task {
     pub from: usize,
     pub to: usize,
+    pub mode: reading::Mode,
     pub limits: Limits,
 }
+
+// There are so many modes, with the numbers from 0 on.
+pub const MODES: usize = 2;
 
 // The limits of `optimize` and `run_pass`.
 pub const SMALL_BYTES: usize = 16384;
@@ -56,6 +60,7 @@ pub enum Answer {
     Cut(usize),
     Overlong(usize),
     Outside(usize),
+    BadMode,
 }
 
 // The number of an answer: 0, or that of the check that refused.
@@ -74,6 +79,7 @@ pub fn number_of(r: Answer) -> u8
         Answer::Cut(i) => 9,
         Answer::Overlong(i) => 10,
         Answer::Outside(i) => 11,
+        Answer::BadMode => 12,
     }
 }
 
@@ -93,6 +99,7 @@ pub fn length_of(r: Answer) -> usize
         Answer::Cut(i) => 0,
         Answer::Overlong(i) => 0,
         Answer::Outside(i) => 0,
+        Answer::BadMode => 0,
     }
 }
 
@@ -112,6 +119,7 @@ pub fn place_of(r: Answer) -> usize
         Answer::Cut(i) => i,
         Answer::Overlong(i) => i,
         Answer::Outside(i) => i,
+        Answer::BadMode => 0,
     }
 }
 
@@ -178,6 +186,16 @@ pub fn refused(m: Limits, text: &[u8], short: bool) -> Answer
         text::Utf8::Bad(i) => by_flaw(flaws::flaw_at(text, i), i),
         text::Utf8::Valid => refused_lines(m, text),
     }
+}
+
+// Why a task is refused over a text, or `Done` where it is not: its mode is looked at first.
+pub fn refused_task(m: Task, text: &[u8], short: bool) -> Answer
+    ensures { λ r. ⌜ r ≡ inMode (m .mode .0) (checked (m .limits) short (now (text .entry)) (Done 0)) ⌝ }
+{
+    if m.mode.0 >= MODES {
+        return Answer::BadMode;
+    }
+    refused(m.limits, text, short)
 }
 
 // Joins the lines of `lf` into the result buffer, where it is long enough.

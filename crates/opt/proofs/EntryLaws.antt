@@ -11,7 +11,7 @@ use lib.Seq.{length-take-le}
 use Rattle.lines.specs.Lf.{endsIn}
 use Rattle.lines.specs.Steps.{splitLines, joined}
 use Rattle.lines.proofs.Tests.{no}
-use Rattle.reading.specs.Reading.{Reading, plain}
+use Rattle.reading.specs.Reading.{Reading, readingOf}
 use Rattle.limits.specs.declared.Limits.{Limits}
 use Rattle.limits.specs.declared.Task.{Task}
 use Rattle.limits.specs.declared.Answer.{Answer}
@@ -21,7 +21,7 @@ use Rattle.steps.specs.Step.{stepOf}
 use Rattle.passes.specs.Passes.{resultOf}
 use Rattle.passes.specs.Inner.Passes.{stepsOf}
 use Rattle.opt.specs.Whole.{whole}
-use Rattle.limits.specs.Entry.{byteSize, blockSize, isShort, roomed, answerOf, outAfter, blank}
+use Rattle.limits.specs.Entry.{byteSize, blockSize, isShort, roomed, wholeAnswer, outAfter, blank}
 use Rattle.opt.specs.Room.{After}
 use Rattle.opt.specs.Inner.Room.{Long, Wiped}
 
@@ -113,8 +113,8 @@ result-one R k t =
 -- what `tidy` promises: r the answer, t the text, o the result buffer, a to u the work buffers
 abbrev Tidied : Task → Answer → (t o a b c d e u o′ a′ b′ c′ d′ e′ u′ : List ℕ) → Type 0
 Tidied m r t o a b c d e u o′ a′ b′ c′ d′ e′ u′ =
-    (r ≡ answerOf (m .limits) (isShort (m .limits) (length a) (length b) (length c) (length d) (length e) (length u)) t (resultOf (stepsOf plain (m .from) (m .to - m .from)) t) (length o))
-    × ((o′ ≡ outAfter r (resultOf (stepsOf plain (m .from) (m .to - m .from)) t) o) × After (m .limits) r a b c d e u a′ b′ c′ d′ e′ u′)
+    (r ≡ wholeAnswer (m .limits) (m .mode .0) (isShort (m .limits) (length a) (length b) (length c) (length d) (length e) (length u)) t (resultOf (stepsOf (readingOf (m .mode .0)) (m .from) (m .to - m .from)) t) (length o))
+    × ((o′ ≡ outAfter r (resultOf (stepsOf (readingOf (m .mode .0)) (m .from) (m .to - m .from)) t) o) × After (m .limits) r a b c d e u a′ b′ c′ d′ e′ u′)
 
 -- it is promised of the task that the entry made
 pub tidied-as : {m n : Task} {r : Answer} (t o a b c d e u : List ℕ) {o′ a′ b′ c′ d′ e′ u′ : List ℕ} → m ≡ n → Tidied m r t o a b c d e u o′ a′ b′ c′ d′ e′ u′ → Tidied n r t o a b c d e u o′ a′ b′ c′ d′ e′ u′

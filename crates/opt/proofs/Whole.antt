@@ -1,5 +1,5 @@
 -- Theorems over the entries: what `optimize` makes of a text, that no result is longer than twice its text, and the edges of the checks. Assumes nothing.
-use Prim.Native.Nat.{ℕ, suc, _+_, _-_, _*_, _≤_}
+use Prim.Native.Nat.{ℕ, suc, _+_, _-_, _*_, _≤_, _<_}
 use mathlib.Core.Path.{_≡_, refl, sym, ap, _∙_}
 use mathlib.Core.Bool.{Bool, true, false, cond}
 use mathlib.Core.List.{List, [], _∷_, _++_, append-nil}
@@ -8,7 +8,7 @@ use borrow.Author.Tests.{eqb-true, eqb-false, lt-ltb, le-ltb}
 use lib.Dec.{eqb}
 use lib.ListN.{length, take, drop, replicate, length-append}
 use Rattle.lines.specs.declared.Crowded.the-variants as crowd-is
-use Rattle.lines.specs.Lf.{endsIn, unlines, countOf}
+use Rattle.lines.specs.Lf.{endsIn, unlines, countOf, within}
 use Rattle.lines.specs.Inner.Lf.{noLf}
 use Rattle.lines.specs.Steps.{dropCr, splitLines, joined, overFrom}
 use Rattle.lines.proofs.LfLaws.{lines-unlines}
@@ -19,7 +19,7 @@ use Rattle.weight.proofs.Weigh.{length-weight, weight-twice}
 use Rattle.weight.proofs.Moves.{split-weight}
 use Rattle.text.specs.Utf8Form.{utf8Of}
 use Rattle.globals.specs.Globals.{removeGlobals}
-use Rattle.reading.specs.Reading.{Reading, plain}
+use Rattle.reading.specs.Reading.{Reading, readingOf}
 use Rattle.temps.specs.Temps.{pruneDeadTemps}
 use Rattle.once.specs.Once.{optimizeOnce}
 use Rattle.phis.specs.Phis.{pruneDeadPhis}
@@ -30,16 +30,16 @@ use Rattle.bind.specs.Bind.{bindDeclarators}
 use Rattle.reading.proofs.ByLine.{ByLine}
 use Rattle.limits.specs.declared.Limits.{Limits}
 use Rattle.limits.specs.declared.Answer.{Answer}
-use Rattle.limits.specs.declared.Answer.the-variants.{Done, TooLong, ShortWork, TooManyLines, ShortResult}
+use Rattle.limits.specs.declared.Answer.the-variants.{Done, BadPass, BadMode, TooLong, ShortWork, TooManyLines, ShortResult}
 use Rattle.limits.specs.Answer.{numberOf, isDone}
 use Rattle.steps.specs.Step.{stepOf}
 use Rattle.passes.specs.Passes.{resultOf}
 use Rattle.passes.specs.Inner.Passes.{stepsOf}
 use Rattle.opt.specs.Whole.{whole}
-use Rattle.limits.specs.Entry.{byUtf8, byCrowd, checkedLines, checked, roomed, answerOf, outAfter}
+use Rattle.limits.specs.Entry.{byUtf8, byCrowd, checkedLines, checked, roomed, answerOf, modes, wholeAnswer, passAnswer, outAfter}
 use Rattle.steps.proofs.Tame.{Tame, tame-step}
 use Rattle.passes.proofs.Between.{tame-steps}
-use Rattle.limits.proofs.AnswerLaws.{Accepted, answer-accepted, text-long, lines-many}
+use Rattle.limits.proofs.AnswerLaws.{Accepted, mode-bad, mode-good, answer-accepted, pass-bad, pass-good, text-long, lines-many}
 use Rattle.opt.proofs.EntryLaws.{result-whole}
 
 -- ---- what comes out
@@ -50,15 +50,15 @@ pub result-composed : (R : Reading) (t : List ℕ) →
 unfolding resultOf whole
 result-composed R t = refl
 
--- where no check refuses a text and the result buffer d is long enough, the answer is the result's length, and the result stands at the front of d
-pub optimize-whole : (L : Limits) (short : Bool) (t d : List ℕ) → Accepted L short t → length (resultOf (whole plain) t) ≤ length d →
-    (answerOf L short t (resultOf (whole plain) t) (length d) ≡ Done (length (resultOf (whole plain) t)))
-    × (outAfter (Done (length (resultOf (whole plain) t))) (resultOf (whole plain) t) d ≡ resultOf (whole plain) t ++ drop (length (resultOf (whole plain) t)) d)
+-- where there is such a mode, no check refuses a text and the result buffer d is long enough, the answer is the result's length, and the result stands at the front of d
+pub optimize-whole : (L : Limits) (mode : ℕ) (short : Bool) (t d : List ℕ) → mode < modes → Accepted L short t → length (resultOf (whole (readingOf mode)) t) ≤ length d →
+    (wholeAnswer L mode short t (resultOf (whole (readingOf mode)) t) (length d) ≡ Done (length (resultOf (whole (readingOf mode)) t)))
+    × (outAfter (Done (length (resultOf (whole (readingOf mode)) t))) (resultOf (whole (readingOf mode)) t) d ≡ resultOf (whole (readingOf mode)) t ++ drop (length (resultOf (whole (readingOf mode)) t)) d)
 unfolding outAfter isDone numberOf
-optimize-whole L short t d p h =
-    let n : ℕ = length (resultOf (whole plain) t) in
+optimize-whole L mode short t d m p h =
+    let n : ℕ = length (resultOf (whole (readingOf mode)) t) in
     let q : Done n ≡ roomed n (length d) = rw (le-ltb (length d) n h) in
-    (sym (answer-accepted L short t (resultOf (whole plain) t) (length d) p q), refl)
+    (sym (answer-accepted L mode short t (resultOf (whole (readingOf mode)) t) (length d) (λ y. sym (mode-good mode m refl)) p q), refl)
 
 -- ---- no result is longer than twice its text
 
@@ -133,6 +133,18 @@ module _ (L : Limits) (short : Bool) (t xs : List ℕ) (room : ℕ) where
   pub bytes-edge : length t ≡ L .bytes → answerOf L short t xs room ≡ cond short ShortWork (byUtf8 (utf8Of t) t (checkedLines L t (roomed (length xs) room)))
   unfolding answerOf checked
   bytes-edge e = rw (le-ltb (L .bytes) (length t) (omega arith))
+
+-- the mode is looked at first of all by the entry for all passes, and just after the pass by the one for a pass
+module _ (L : Limits) (mode : ℕ) (short : Bool) (t xs : List ℕ) (room : ℕ) (h : modes ≤ mode) where
+  pub mode-first : wholeAnswer L mode short t xs room ≡ BadMode
+  unfolding wholeAnswer
+  mode-first = sym (mode-bad mode (answerOf L short t xs room) h)
+
+  pub mode-second : (k : ℕ) → within 1 6 k ≡ true → passAnswer L k mode short t xs room ≡ BadMode
+  mode-second k p = sym (pass-good L k mode short t xs room p) ∙ mode-first
+
+pub pass-first : (L : Limits) (k mode : ℕ) (short : Bool) (t xs : List ℕ) (room : ℕ) → within 1 6 k ≡ false → passAnswer L k mode short t xs room ≡ BadPass
+pass-first L k mode short t xs room h = sym (pass-bad L k mode short t xs room h)
 
 module _ (L : Limits) (t : List ℕ) (x : Answer) where
   pub lines-over : length (splitLines t) ≡ suc (L .lines) → checkedLines L t x ≡ TooManyLines (L .lines)

@@ -64,6 +64,7 @@ fn room_of(there: usize, room: usize) -> usize
 // Runs the whole or one pass.
 fn run(
     pass: u8,
+    mode: u8,
     text: &[u8],
     a: &mut [u8],
     b: &mut [u8],
@@ -74,9 +75,9 @@ fn run(
     out: &mut [u8],
 ) -> Answer {
     if pass == 0 {
-        return opt::optimize(text, a, b, c, d, e, u, out);
+        return opt::optimize(mode as usize, text, a, b, c, d, e, u, out);
     }
-    opt::run_pass(pass as usize, text, a, b, c, d, e, u, out)
+    opt::run_pass(pass as usize, mode as usize, text, a, b, c, d, e, u, out)
 }
 
 // Lends as much of each buffer as the request says.
@@ -100,6 +101,7 @@ fn ask(
     let room = room_of(out.len(), q.room);
     run(
         q.pass,
+        q.mode,
         text,
         &mut a[..ka],
         &mut b[..kb],

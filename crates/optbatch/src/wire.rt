@@ -3,9 +3,10 @@ use input::wire::byte_at;
 use input::wire::four;
 use input::wire::read_bytes;
 
-// A request: the pass, which work buffer is short, the room for the result, and how much of the text there is.
+// A request: the pass, the mode, which work buffer is short, the room for the result, and how much of the text there is.
 pub struct Request {
     pub pass: u8,
+    pub mode: u8,
     pub short: u8,
     pub room: usize,
     pub length: usize,
@@ -19,16 +20,17 @@ pub enum Asked {
 
 // Reads a request; a cut one is the end of the input.
 pub fn read_request(fd: i32, text: &mut [u8]) -> Asked {
-    let mut h = [0u8; 10];
-    if io::read_full(fd, &mut h) != 10 {
+    let mut h = [0u8; 11];
+    if io::read_full(fd, &mut h) != 11 {
         return Asked::Ended;
     }
-    let n = four(h[6], h[7], h[8], h[9]);
+    let n = four(h[7], h[8], h[9], h[10]);
     if read_bytes(fd, n, text) {
         return Asked::Whole(Request {
             pass: h[0],
-            short: h[1],
-            room: four(h[2], h[3], h[4], h[5]),
+            mode: h[1],
+            short: h[2],
+            room: four(h[3], h[4], h[5], h[6]),
             length: n,
         });
     }

@@ -1,9 +1,25 @@
 // The arguments of the program.
 
-// What is asked: all passes, or the one of a number.
-pub enum Task {
+// Which passes are asked for: all, or the one of a number.
+pub enum Passes {
     All,
     One(usize),
+}
+
+// What is asked: passes, in the mode of a number.
+pub struct Task {
+    pub passes: Passes,
+    pub mode: usize,
+}
+
+// The modes.
+const PLAIN: usize = 0;
+
+const STRICT: usize = 1;
+
+// The mode that a word asks for.
+pub fn mode_of(strict: bool) -> usize {
+    if strict { STRICT } else { PLAIN }
 }
 
 // What a word is as a number.

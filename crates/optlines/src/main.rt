@@ -1,4 +1,4 @@
-// Tidies a listing: `optlines [--pass N] [--] [FILE]`. It reads FILE, or standard input, and writes the tidy listing, or `refused`, the number
+// Tidies a listing: `optlines [--strict] [--pass N] [--] [FILE]`, where `--strict` may also stand behind `--pass N`. It reads FILE, or standard input, and writes the tidy listing, or `refused`, the number
 // and the place, to standard output. On standard error it says nothing where it tidied, `optlines: refused ..` first where it refused, and
 // anything else where it could not read or write: a program in Rattle sets no exit status, so tools/front.sh makes one of that.
 mod asked;
@@ -7,6 +7,7 @@ mod tell;
 ghost use mathlib.Core.Path.{_≡_};
 ghost use Prim.Native.Nat.{_≤_};
 ghost use lib.ListN.{length};
+use asked::Passes;
 use asked::Task;
 use libc::STDERR_FILENO;
 use libc::STDIN_FILENO;
@@ -35,18 +36,28 @@ fn block_room() -> [u32; 16384]
 }
 
 // Tidies a text, with the work buffers that it needs.
-fn tidy(text: &[u8], out: &mut [u8]) -> Answer {
+fn tidy(mode: usize, text: &[u8], out: &mut [u8]) -> Answer {
     let mut a = work_room();
     let mut b = work_room();
     let mut c = work_room();
     let mut d = work_room();
     let mut e = work_room();
     let mut u = block_room();
-    opt::optimize(text, &mut a, &mut b, &mut c, &mut d, &mut e, &mut u, out)
+    opt::optimize(
+        mode,
+        text,
+        &mut a,
+        &mut b,
+        &mut c,
+        &mut d,
+        &mut e,
+        &mut u,
+        out,
+    )
 }
 
 // Runs one pass over a text, with the same work buffers.
-fn run_one(pass: usize, text: &[u8], out: &mut [u8]) -> Answer {
+fn run_one(pass: usize, mode: usize, text: &[u8], out: &mut [u8]) -> Answer {
     let mut a = work_room();
     let mut b = work_room();
     let mut c = work_room();
@@ -55,6 +66,7 @@ fn run_one(pass: usize, text: &[u8], out: &mut [u8]) -> Answer {
     let mut u = block_room();
     opt::run_pass(
         pass,
+        mode,
         text,
         &mut a,
         &mut b,
@@ -68,9 +80,9 @@ fn run_one(pass: usize, text: &[u8], out: &mut [u8]) -> Answer {
 
 // Does to a text what is asked.
 fn answer_to(task: Task, text: &[u8], out: &mut [u8]) -> Answer {
-    match task {
-        Task::All => tidy(text, out),
-        Task::One(pass) => run_one(pass, text, out),
+    match task.passes {
+        Passes::All => tidy(task.mode, text, out),
+        Passes::One(pass) => run_one(pass, task.mode, text, out),
     }
 }
 
@@ -149,7 +161,7 @@ fn tidy_named(task: Task, at: usize) {
 
 // Takes the arguments from `at` on: a file's name, or none.
 fn take_file(task: Task, at: usize)
-    requires { ⌜ at ≤ 4 ⌝ }
+    requires { ⌜ at ≤ 6 ⌝ }
 {
     if os::arg_count() > at + 1 {
         io::write_all(STDERR_FILENO, b"optlines: more than one file is named\n");
@@ -160,7 +172,7 @@ fn take_file(task: Task, at: usize)
 
 // Takes the arguments from `at` on: `--` or nothing, then a file's name or none.
 fn take_rest(task: Task, at: usize)
-    requires { ⌜ at ≤ 3 ⌝ }
+    requires { ⌜ at ≤ 5 ⌝ }
 {
     if asked::is_word(at, b"--") {
         take_file(task, at + 1);
@@ -173,16 +185,47 @@ fn take_rest(task: Task, at: usize)
     take_file(task, at);
 }
 
-fn main() {
-    if !asked::is_word(1, b"--pass") {
-        take_rest(Task::All, 1);
+// Takes the arguments from `at` on, behind `--pass N`: `--strict` or nothing, then the rest.
+fn take_one(pass: usize, strict: bool, at: usize)
+    requires { ⌜ at ≤ 4 ⌝ }
+{
+    let again = asked::is_word(at, b"--strict");
+    let task = Task {
+        passes: Passes::One(pass),
+        mode: asked::mode_of(strict | again),
+    };
+    if again {
+        take_rest(task, at + 1);
         return;
     }
-    match asked::number_of(2) {
-        asked::Number::Is(pass) => take_rest(Task::One(pass), 3),
+    take_rest(task, at);
+}
+
+// Takes the arguments from `at` on: `--pass N` or nothing, then the rest.
+fn take_passes(strict: bool, at: usize)
+    requires { ⌜ at ≤ 2 ⌝ }
+{
+    if !asked::is_word(at, b"--pass") {
+        let task = Task {
+            passes: Passes::All,
+            mode: asked::mode_of(strict),
+        };
+        take_rest(task, at);
+        return;
+    }
+    match asked::number_of(at + 1) {
+        asked::Number::Is(pass) => take_one(pass, strict, at + 2),
         asked::Number::Missing => tell::say_word(
             b"optlines: --pass wants a number from 1 to 6, not: ",
-            2,
+            at + 1,
         ),
     }
+}
+
+fn main() {
+    if asked::is_word(1, b"--strict") {
+        take_passes(true, 2);
+        return;
+    }
+    take_passes(false, 1);
 }

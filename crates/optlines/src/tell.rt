@@ -74,6 +74,11 @@ fn explain_pass() {
     say(b"optlines: the passes have the numbers 1 to 6\n");
 }
 
+fn explain_mode() {
+    say(b"there is no mode of that number\n");
+    say(b"optlines: the modes have the numbers 0, plain, and 1, strict\n");
+}
+
 fn explain_long(text: &[u8], place: usize) {
     say(b"it is longer than 16384 bytes\n");
     say_where(b"the first byte too many", text, place);
@@ -136,6 +141,7 @@ pub fn explain(number: u8, place: usize, text: &[u8], name: &[u8]) {
             text,
             place,
         ),
+        12 => explain_mode(),
         _ => explain_other(),
     }
 }

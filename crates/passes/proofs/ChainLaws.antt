@@ -11,8 +11,8 @@ use Rattle.lines.specs.Steps.{splitLines}
 use Rattle.lines.proofs.LfLaws.{lines-unlines}
 use Rattle.lines.proofs.StepLaws.{split-room}
 use Rattle.lines.proofs.OutLaws.{wrote-length, wrote-part}
-use Rattle.reading.specs.Reading.{Reading, plain}
-use Rattle.reading.proofs.ByLine.{plain-by-line}
+use Rattle.reading.specs.Reading.{Reading, readingOf}
+use Rattle.reading.proofs.ByLine.{mode-by-line}
 use Rattle.steps.specs.Step.{stepOf}
 use Rattle.steps.specs.Inner.Bounds.{Bounded, Sized}
 use Rattle.steps.proofs.Tame.{tame-step}
@@ -34,21 +34,21 @@ front-copied {a} {b} {a′} {xs} {n} {r} f w = let g = wrote-front w in record {
 
 -- ---- the loop of `chain`
 
-pub record ChainInv (L : Limits) (k to : ℕ) (t a b c d e u : List ℕ) (n j : ℕ) : Type 0 where
+pub record ChainInv (L : Limits) (mode k to : ℕ) (t a b c d e u : List ℕ) (n j : ℕ) : Type 0 where
   pub taken : Within L t
   pub a-size : length a ≡ byteSize L
   pub sized : Sized L b c d e u
   pub now-lines : List (List ℕ)
   pub between : Between L t now-lines
   pub front : Front a n (unlines now-lines)
-  pub so-far : stepsOf plain j (to - j) now-lines ≡ stepsOf plain k (to - k) (splitLines t)
+  pub so-far : stepsOf (readingOf mode) j (to - j) now-lines ≡ stepsOf (readingOf mode) k (to - k) (splitLines t)
 
 pub split-fits : {L : Limits} (t a : List ℕ) → Within L t → length a ≡ byteSize L → length (unlines (splitLines t)) ≤ length a
 split-fits t a h q = omega (arith, split-room t, h .bytes)
 
-pub chain-start : {L : Limits} (k to : ℕ) {t a a′ b c d e u : List ℕ} {n : ℕ} → Within L t → length a ≡ byteSize L → Sized L b c d e u →
-    Wrote a 0 (unlines (splitLines t)) a′ n → ChainInv L k to t a′ b c d e u n k
-chain-start k to {t} h q s w = record {
+pub chain-start : {L : Limits} (mode k to : ℕ) {t a a′ b c d e u : List ℕ} {n : ℕ} → Within L t → length a ≡ byteSize L → Sized L b c d e u →
+    Wrote a 0 (unlines (splitLines t)) a′ n → ChainInv L mode k to t a′ b c d e u n k
+chain-start mode k to {t} h q s w = record {
   taken = h;
   a-size = wrote-length w ∙ q;
   sized = s;
@@ -66,13 +66,13 @@ steps-none : (R : Reading) (j : ℕ) (ls : List (List ℕ)) → stepsOf R j 0 ls
 unfolding stepsOf
 steps-none R j ls = refl
 
-module _ {L : Limits} {k to : ℕ} {t a b c d e u : List ℕ} {n j : ℕ} (h : ChainInv L k to t a b c d e u n j) where
+module _ {L : Limits} {mode k to : ℕ} {t a b c d e u : List ℕ} {n j : ℕ} (h : ChainInv L mode k to t a b c d e u n j) where
   pub chain-room : Bounded L (take n a)
   chain-room = rw (h .front .is) (between-room (h .taken) (h .between))
 
   -- a pass from the front of a into b, and what it wrote back to the front of a
-  pub chain-on : {a′ b′ c′ d′ e′ u′ : List ℕ} {r m : ℕ} → j < to → Wrote b 0 (unlines (stepOf plain j (linesOf (take n a)))) b′ r → length c′ ≡ length c → length d′ ≡ length d → length e′ ≡ length e → length u′ ≡ length u →
-      Wrote a 0 (take r b′) a′ m → ChainInv L k to t a′ b′ c′ d′ e′ u′ m (j + 1)
+  pub chain-on : {a′ b′ c′ d′ e′ u′ : List ℕ} {r m : ℕ} → j < to → Wrote b 0 (unlines (stepOf (readingOf mode) j (linesOf (take n a)))) b′ r → length c′ ≡ length c → length d′ ≡ length d → length e′ ≡ length e → length u′ ≡ length u →
+      Wrote a 0 (take r b′) a′ m → ChainInv L mode k to t a′ b′ c′ d′ e′ u′ m (j + 1)
   chain-on l w qc qd qe qu v =
       let f = front-copied (wrote-front w) v in
       let ls : List (List ℕ) = h .now-lines in
@@ -88,18 +88,18 @@ module _ {L : Limits} {k to : ℕ} {t a b c d e u : List ℕ} {n j : ℕ} (h : C
           e-size = qe ∙ h .sized .e-size;
           u-size = qu ∙ h .sized .u-size;
         };
-        now-lines = stepOf plain j ls;
-        between = between-on (tame-step plain-by-line j) (h .between);
-        front = record { fits = f .fits; is = f .is ∙ ap (λ (ms : List (List ℕ)). unlines (stepOf plain j ms)) g };
+        now-lines = stepOf (readingOf mode) j ls;
+        between = between-on (tame-step (mode-by-line mode) j) (h .between);
+        front = record { fits = f .fits; is = f .is ∙ ap (λ (ms : List (List ℕ)). unlines (stepOf (readingOf mode) j ms)) g };
         so-far =
-            ap (λ (i : ℕ). stepsOf plain i (to - (j + 1)) (stepOf plain j ls)) (add-one j)
-            ∙ sym (steps-more plain j (to - (j + 1)) ls)
-            ∙ ap (λ (m : ℕ). stepsOf plain j m ls) (sym z)
+            ap (λ (i : ℕ). stepsOf (readingOf mode) i (to - (j + 1)) (stepOf (readingOf mode) j ls)) (add-one j)
+            ∙ sym (steps-more (readingOf mode) j (to - (j + 1)) ls)
+            ∙ ap (λ (m : ℕ). stepsOf (readingOf mode) j m ls) (sym z)
             ∙ h .so-far;
       }
 
-  pub chain-end : to ≤ j → Front a n (unlines (stepsOf plain k (to - k) (splitLines t)))
+  pub chain-end : to ≤ j → Front a n (unlines (stepsOf (readingOf mode) k (to - k) (splitLines t)))
   chain-end l =
       let z : to - j ≡ 0 = omega arith in
-      let g : h .now-lines ≡ stepsOf plain k (to - k) (splitLines t) = sym (ap (λ (m : ℕ). stepsOf plain j m (h .now-lines)) z ∙ steps-none plain j (h .now-lines)) ∙ h .so-far in
+      let g : h .now-lines ≡ stepsOf (readingOf mode) k (to - k) (splitLines t) = sym (ap (λ (m : ℕ). stepsOf (readingOf mode) j m (h .now-lines)) z ∙ steps-none (readingOf mode) j (h .now-lines)) ∙ h .so-far in
       record { fits = h .front .fits; is = h .front .is ∙ ap unlines g }

@@ -4,7 +4,7 @@ ghost use Prim.Native.Nat.{_≤_, _-_};
 ghost use lib.ListN.{length, take};
 ghost use Rattle.lines.specs.Lf.{endsIn, linesOf, unlines};
 ghost use Rattle.lines.specs.Steps.{splitLines, joined};
-ghost use Rattle.reading.specs.Reading.{plain};
+ghost use Rattle.reading.specs.Reading.{readingOf};
 ghost use Rattle.limits.specs.Entry.{byteSize, roomed, outAfter};
 ghost use Rattle.limits.specs.Inner.Sane.{Within};
 ghost use Rattle.steps.specs.Inner.Bounds.{Sized};
@@ -33,7 +33,7 @@ fn chain(
     u: &mut [u32],
 ) -> usize
     requires { ⌜ Within (m .limits) (now text) × ((length (now a) ≡ byteSize (m .limits)) × Sized (m .limits) (now b) (now c) (now d) (now e) (now u)) ⌝ }
-    ensures { λ r. ⌜ Front (now (a .exit)) r (unlines (stepsOf plain (m .from) (m .to - m .from) (splitLines (now (text .entry))))) ⌝ }
+    ensures { λ r. ⌜ Front (now (a .exit)) r (unlines (stepsOf (readingOf (m .mode .0)) (m .from) (m .to - m .from) (splitLines (now (text .entry))))) ⌝ }
 {
     let mut own = [0usize; steps::OWNERS];
     let mut n = lines::split_lines(text, a);
@@ -97,8 +97,8 @@ pub fn work(
     out: &mut [u8],
 ) -> limits::Answer
     requires { ⌜ Within (m .limits) (now text) × ((length (now a) ≡ byteSize (m .limits)) × Sized (m .limits) (now b) (now c) (now d) (now e) (now u)) ⌝ }
-    ensures answer { λ r. ⌜ r ≡ roomed (length (resultOf (stepsOf plain (m .from) (m .to - m .from)) (now (text .entry)))) (length (now (out .entry))) ⌝ }
-    ensures memory { λ r. ⌜ (now (out .exit) ≡ outAfter r (resultOf (stepsOf plain (m .from) (m .to - m .from)) (now (text .entry))) (now (out .entry)))
+    ensures answer { λ r. ⌜ r ≡ roomed (length (resultOf (stepsOf (readingOf (m .mode .0)) (m .from) (m .to - m .from)) (now (text .entry)))) (length (now (out .entry))) ⌝ }
+    ensures memory { λ r. ⌜ (now (out .exit) ≡ outAfter r (resultOf (stepsOf (readingOf (m .mode .0)) (m .from) (m .to - m .from)) (now (text .entry))) (now (out .entry)))
         × Blank (now (a .entry)) (now (b .entry)) (now (c .entry)) (now (d .entry)) (now (e .entry)) (now (u .entry)) (now (a .exit)) (now (b .exit)) (now (c .exit)) (now (d .exit)) (now (e .exit)) (now (u .exit)) ⌝ }
 {
     let n = chain(m, text, a, b, c, d, e, u);

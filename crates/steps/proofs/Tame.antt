@@ -131,10 +131,10 @@ room-length {s = s} r = omega (arith, room-lines r, ap length (lines-text s), le
 pub table : (n : ℕ) → n ≤ length {A = ℕ} (replicate n 0)
 table n = omega (arith, length-replicate {A = ℕ} n 0)
 
-pub once-room : {L : Limits} {s : List ℕ} {loops marks paths up scratch mid out near far stores : ℕ} → Bounded L s → scratch ≡ byteSize L → mid ≡ byteSize L → up ≡ blockSize L → out ≡ byteSize L → small .lines ≤ loops → small .lines ≤ marks → small .lines ≤ paths → (far ≡ near) × (far ≡ stores) →
+pub once-room : (R : Reading) {L : Limits} {s : List ℕ} {loops marks paths up scratch mid out near far stores : ℕ} → Bounded L s → scratch ≡ byteSize L → mid ≡ byteSize L → up ≡ blockSize L → out ≡ byteSize L → small .lines ≤ loops → small .lines ≤ marks → small .lines ≤ paths → (far ≡ near) × (far ≡ stores) →
     (length (linesOf s) ≤ loops) × ((length (linesOf s) ≤ marks) × ((length (linesOf s) ≤ paths) × ((length (pathParents (linesOf s)) ≤ up) × ((up < 2 ^ 32)
-    × ((length s ≤ scratch) × ((length (unlines (apply (onceActs plain (linesOf s)) (linesOf s))) ≤ mid) × ((length (unlines (optimizeOnce plain (linesOf s))) ≤ out) × ((far ≡ near) × (far ≡ stores)))))))))
-once-room {s = s} r qs qm qu qo ql qk qp w = (
+    × ((length s ≤ scratch) × ((length (unlines (apply (onceActs R (linesOf s)) (linesOf s))) ≤ mid) × ((length (unlines (optimizeOnce R (linesOf s))) ≤ out) × ((far ≡ near) × (far ≡ stores)))))))))
+once-room R {s = s} r qs qm qu qo ql qk qp w = (
   omega (arith, r .lines, r .sane .lines-reach),
   (
     omega (arith, r .lines, r .sane .lines-reach),
@@ -147,8 +147,8 @@ once-room {s = s} r qs qm qu qo ql qk qp w = (
           (
             omega (arith, room-length r),
             (
-              omega (arith, room-fits (once-acts plain) r),
-              (omega (arith, room-fits (tame-once plain) r), w),
+              omega (arith, room-fits (once-acts R) r),
+              (omega (arith, room-fits (tame-once R) r), w),
             ),
           ),
         ),
@@ -157,17 +157,17 @@ once-room {s = s} r qs qm qu qo ql qk qp w = (
   ),
 )
 
-pub phis-room : {L : Limits} {s : List ℕ} → Bounded L s →
-    (longest plain s ≤ byteSize L) × ((length (unlines (round plain (linesOf s))) ≤ byteSize L) × ((length (unlines (round plain (round plain (linesOf s)))) ≤ byteSize L) × (length (unlines (pruneDeadPhis plain (linesOf s))) ≤ byteSize L)))
-phis-room {s = s} r =
-    let one : List (List ℕ) = round plain (linesOf s) in
-    let v = round-weight 0 plain (linesOf s) in (
-      omega (arith, longest-weight 0 s, r .heavy),
+pub phis-room : (R : Reading) {L : Limits} {s : List ℕ} → Bounded L s →
+    (longest R s ≤ byteSize L) × ((length (unlines (round R (linesOf s))) ≤ byteSize L) × ((length (unlines (round R (round R (linesOf s)))) ≤ byteSize L) × (length (unlines (pruneDeadPhis R (linesOf s))) ≤ byteSize L)))
+phis-room R {s = s} r =
+    let one : List (List ℕ) = round R (linesOf s) in
+    let v = round-weight 0 R (linesOf s) in (
+      omega (arith, longest-weight 0 R s, r .heavy),
       (
         omega (arith, length-weight 0 (unlines one), v, r .heavy),
         (
-          omega (arith, length-weight 0 (unlines (round plain one)), round-weight 0 plain one, v, r .heavy),
-          omega (arith, room-fits (tame-phis plain) r),
+          omega (arith, length-weight 0 (unlines (round R one)), round-weight 0 R one, v, r .heavy),
+          omega (arith, room-fits (tame-phis R) r),
         ),
       ),
     )

@@ -4,7 +4,7 @@ ghost use Prim.Native.Nat.{_≤_};
 ghost use lib.ListN.{length};
 ghost use Rattle.lines.specs.Lf.{linesOf, unlines};
 ghost use Rattle.lines.specs.Inner.Out.{Wrote};
-ghost use Rattle.reading.specs.Reading.{plain};
+ghost use Rattle.reading.specs.Reading.{readingOf};
 ghost use Rattle.temps.specs.Temps.{pruneDeadTemps};
 ghost use Rattle.once.specs.Once.{optimizeOnce};
 ghost use Rattle.phis.specs.Phis.{pruneDeadPhis};
@@ -41,8 +41,8 @@ fn once_step(
     dst: &mut [u8],
 ) -> usize
     requires { ⌜ Bounded (m .limits) (now src) × ((length (now scratch) ≡ byteSize (m .limits)) × ((length (now mid) ≡ byteSize (m .limits)) × ((length (now u) ≡ blockSize (m .limits)) × (length (now dst) ≡ byteSize (m .limits))))) ⌝ }
-    ensures { λ r. ⌜ Wrote (now (dst .entry)) 0 (unlines (optimizeOnce plain (linesOf (now (src .entry))))) (now (dst .exit)) r ⌝ }
-    ensures memory { λ _. ⌜ (now (scratch .exit) ≡ leftC 2 (now (src .entry)) (now (scratch .entry))) × ((now (mid .exit) ≡ leftD 2 (now (src .entry)) (now (mid .entry)))
+    ensures { λ r. ⌜ Wrote (now (dst .entry)) 0 (unlines (optimizeOnce (readingOf (m .mode .0)) (linesOf (now (src .entry))))) (now (dst .exit)) r ⌝ }
+    ensures memory { λ _. ⌜ (now (scratch .exit) ≡ leftC (m .mode .0) 2 (now (src .entry)) (now (scratch .entry))) × ((now (mid .exit) ≡ leftD (m .mode .0) 2 (now (src .entry)) (now (mid .entry)))
         × (now (u .exit) ≡ leftU 2 (now (src .entry)) (now (u .entry)))) ⌝ }
 {
     let mut loops = [0u8; LINES];
@@ -55,6 +55,7 @@ fn once_step(
     let mut ends = [0usize; LINES];
     let mut seen = [0usize; PLACES];
     once::optimize_once(
+        m.mode,
         src,
         own,
         scratch,
@@ -83,8 +84,8 @@ fn calls_step(
     dst: &mut [u8],
 ) -> usize
     requires { ⌜ Bounded (m .limits) (now src) × ((length (now cur) ≡ byteSize (m .limits)) × ((length (now next) ≡ byteSize (m .limits)) × ((length (now u) ≡ blockSize (m .limits)) × (length (now dst) ≡ byteSize (m .limits))))) ⌝ }
-    ensures { λ r. ⌜ Wrote (now (dst .entry)) 0 (unlines (rebuildCalls (leavesOf plain) (linesOf (now (src .entry))))) (now (dst .exit)) r ⌝ }
-    ensures memory { λ _. ⌜ (now (cur .exit) ≡ leftC 4 (now (src .entry)) (now (cur .entry))) × ((now (next .exit) ≡ leftD 4 (now (src .entry)) (now (next .entry)))
+    ensures { λ r. ⌜ Wrote (now (dst .entry)) 0 (unlines (rebuildCalls (leavesOf (readingOf (m .mode .0))) (linesOf (now (src .entry))))) (now (dst .exit)) r ⌝ }
+    ensures memory { λ _. ⌜ (now (cur .exit) ≡ leftC (m .mode .0) 4 (now (src .entry)) (now (cur .entry))) × ((now (next .exit) ≡ leftD (m .mode .0) 4 (now (src .entry)) (now (next .entry)))
         × (now (u .exit) ≡ leftU 4 (now (src .entry)) (now (u .entry)))) ⌝ }
 {
     let mut ends = [0usize; LINES];
@@ -109,7 +110,7 @@ fn calls_step(
 // Runs bind_declarators, with its tables over lines and registers.
 fn bind_step(m: Task, src: &[u8], own: &[usize], u: &mut [u32], dst: &mut [u8]) -> usize
     requires { ⌜ Bounded (m .limits) (now src) × ((length (now u) ≡ blockSize (m .limits)) × (length (now dst) ≡ byteSize (m .limits))) ⌝ }
-    ensures { λ r. ⌜ Wrote (now (dst .entry)) 0 (unlines (bindDeclarators plain (linesOf (now (src .entry))))) (now (dst .exit)) r ⌝ }
+    ensures { λ r. ⌜ Wrote (now (dst .entry)) 0 (unlines (bindDeclarators (readingOf (m .mode .0)) (linesOf (now (src .entry))))) (now (dst .exit)) r ⌝ }
     ensures memory { λ _. ⌜ now (u .exit) ≡ leftU 6 (now (src .entry)) (now (u .entry)) ⌝ }
 {
     let mut ends = [0usize; LINES];
@@ -144,12 +145,12 @@ fn phis_step(
 ) -> usize
     requires { ⌜ Bounded (m .limits) (now src)
         × ((length (now scratch) ≡ byteSize (m .limits)) × ((length (now first) ≡ byteSize (m .limits)) × ((length (now second) ≡ byteSize (m .limits)) × (length (now dst) ≡ byteSize (m .limits))))) ⌝ }
-    ensures { λ r. ⌜ Wrote (now (dst .entry)) 0 (unlines (pruneDeadPhis plain (linesOf (now (src .entry))))) (now (dst .exit)) r ⌝ }
-    ensures memory { λ _. ⌜ (now (scratch .exit) ≡ leftC 3 (now (src .entry)) (now (scratch .entry))) × ((now (first .exit) ≡ leftD 3 (now (src .entry)) (now (first .entry)))
-        × (now (second .exit) ≡ leftE 3 (now (src .entry)) (now (second .entry)))) ⌝ }
+    ensures { λ r. ⌜ Wrote (now (dst .entry)) 0 (unlines (pruneDeadPhis (readingOf (m .mode .0)) (linesOf (now (src .entry))))) (now (dst .exit)) r ⌝ }
+    ensures memory { λ _. ⌜ (now (scratch .exit) ≡ leftC (m .mode .0) 3 (now (src .entry)) (now (scratch .entry))) × ((now (first .exit) ≡ leftD (m .mode .0) 3 (now (src .entry)) (now (first .entry)))
+        × (now (second .exit) ≡ leftE (m .mode .0) 3 (now (src .entry)) (now (second .entry)))) ⌝ }
 {
     let mut table = [0u8; PLACES];
-    phis::prune_dead_phis(src, own, &mut table, scratch, first, second, dst)
+    phis::prune_dead_phis(m.mode, src, own, &mut table, scratch, first, second, dst)
 }
 
 // Runs prune_decls, with its table of registers.
@@ -164,13 +165,21 @@ fn decls_step(m: Task, src: &[u8], own: &[usize], dst: &mut [u8]) -> usize
 // Runs prune_dead_temps, with its tables of temps.
 fn temps_step(m: Task, src: &[u8], scratch: &mut [u8], dst: &mut [u8]) -> usize
     requires { ⌜ Bounded (m .limits) (now src) × ((length (now scratch) ≡ byteSize (m .limits)) × (length (now dst) ≡ byteSize (m .limits))) ⌝ }
-    ensures { λ r. ⌜ Wrote (now (dst .entry)) 0 (unlines (pruneDeadTemps plain (linesOf (now (src .entry))))) (now (dst .exit)) r ⌝ }
-    ensures memory { λ _. ⌜ now (scratch .exit) ≡ leftC 1 (now (src .entry)) (now (scratch .entry)) ⌝ }
+    ensures { λ r. ⌜ Wrote (now (dst .entry)) 0 (unlines (pruneDeadTemps (readingOf (m .mode .0)) (linesOf (now (src .entry))))) (now (dst .exit)) r ⌝ }
+    ensures memory { λ _. ⌜ now (scratch .exit) ≡ leftC (m .mode .0) 1 (now (src .entry)) (now (scratch .entry)) ⌝ }
 {
     let mut own = [0usize; OWNERS];
     let mut declared = [0u8; PLACES];
     let mut read = [0u8; PLACES];
-    temps::prune_dead_temps(src, &mut own, &mut declared, &mut read, scratch, dst)
+    temps::prune_dead_temps(
+        m.mode,
+        src,
+        &mut own,
+        &mut declared,
+        &mut read,
+        scratch,
+        dst,
+    )
 }
 
 // Runs a pass by its number as `step` does, for a number that is neither 3 nor 6.
@@ -186,8 +195,8 @@ fn other_step(
     u: &mut [u32],
 ) -> usize
     requires { ⌜ ((k ≡ 3 → ⊥) × (k ≡ 6 → ⊥)) × (Bounded (m .limits) (now src) × Sized (m .limits) (now dst) (now c) (now d) (now e) (now u)) ⌝ }
-    ensures { λ r. ⌜ Wrote (now (dst .entry)) 0 (unlines (stepOf plain k (linesOf (now (src .entry))))) (now (dst .exit)) r ⌝ }
-    ensures memory { λ _. ⌜ Left k (now (src .entry)) (now (c .entry)) (now (d .entry)) (now (e .entry)) (now (u .entry)) (now (c .exit)) (now (d .exit)) (now (e .exit)) (now (u .exit)) ⌝ }
+    ensures { λ r. ⌜ Wrote (now (dst .entry)) 0 (unlines (stepOf (readingOf (m .mode .0)) k (linesOf (now (src .entry))))) (now (dst .exit)) r ⌝ }
+    ensures memory { λ _. ⌜ Left (m .mode .0) k (now (src .entry)) (now (c .entry)) (now (d .entry)) (now (e .entry)) (now (u .entry)) (now (c .exit)) (now (d .exit)) (now (e .exit)) (now (u .exit)) ⌝ }
 {
     if k == 0 {
         return globals::remove_globals(src, dst);
@@ -222,8 +231,8 @@ pub fn step(
     u: &mut [u32],
 ) -> usize
     requires { ⌜ Bounded (m .limits) (now src) × Sized (m .limits) (now dst) (now c) (now d) (now e) (now u) ⌝ }
-    ensures { λ r. ⌜ Wrote (now (dst .entry)) 0 (unlines (stepOf plain k (linesOf (now (src .entry))))) (now (dst .exit)) r ⌝ }
-    ensures memory { λ _. ⌜ Left k (now (src .entry)) (now (c .entry)) (now (d .entry)) (now (e .entry)) (now (u .entry)) (now (c .exit)) (now (d .exit)) (now (e .exit)) (now (u .exit)) ⌝ }
+    ensures { λ r. ⌜ Wrote (now (dst .entry)) 0 (unlines (stepOf (readingOf (m .mode .0)) k (linesOf (now (src .entry))))) (now (dst .exit)) r ⌝ }
+    ensures memory { λ _. ⌜ Left (m .mode .0) k (now (src .entry)) (now (c .entry)) (now (d .entry)) (now (e .entry)) (now (u .entry)) (now (c .exit)) (now (d .exit)) (now (e .exit)) (now (u .exit)) ⌝ }
 {
     if k == 3 {
         return phis_step(m, src, own, c, d, e, dst);

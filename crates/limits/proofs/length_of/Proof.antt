@@ -37,6 +37,9 @@ enum-known-r-8 c = search needs
 enum-known-r-9 : tie.Need-enum-known-r-9
 enum-known-r-9 c = search needs
 
+enum-told-3 : tie.Need-enum-told-3
+enum-told-3 c = search needs
+
 returns : tie.Need-returns
 unfolding lengthOf
 returns c = length-as (c .before .before .before .args .r) (c .before .r .given .1)
@@ -81,6 +84,10 @@ returns-11 : tie.Need-returns-11
 unfolding lengthOf
 returns-11 c = length-as (c .before .before .before .args .r) (c .before .r9 .given .1)
 
+returns-12 : tie.Need-returns-12
+unfolding lengthOf
+returns-12 c = length-as (c .before .before .args .r) (c .enum-told3 .given .1)
+
 pub length-of-spec : {M : Type 1} → statement M
 length-of-spec =
     tie.close
@@ -96,6 +103,7 @@ length-of-spec =
     enum-known-r-7
     enum-known-r-8
     enum-known-r-9
+    enum-told-3
     returns
     returns-2
     returns-3
@@ -106,4 +114,5 @@ length-of-spec =
     returns-8
     returns-9
     returns-10
-    returns-11)
+    returns-11
+    returns-12)

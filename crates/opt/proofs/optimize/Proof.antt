@@ -1,6 +1,6 @@
 -- `opt::optimize` meets its contract. Assumes nothing.
 use borrow.Author.Needs.{needs}
-use Rattle.reading.specs.Reading.{plain}
+use Rattle.reading.specs.Reading.{readingOf}
 use Rattle.limits.proofs.AnswerLaws.{sane-small}
 use Rattle.opt.proofs.EntryLaws.{result-whole, tidied-as}
 use Rattle.opt.proofs.optimize.Statement.{statement}
@@ -34,7 +34,7 @@ same-length-7 : tie.Need-same-length-7
 same-length-7 c = c .before .before .before .before .before .before .before .before .before .before .before .before .before .before .tidy .kept .1 .1 .1 .1 .1 .1 .1 .1 .0
 
 returns : tie.Need-returns
-returns c = let g = c .before .before .before .before .before .before .before .before .before .before .before .before .before .before .before .before .before .before .before .before .before .before .before .before .before .before .before .before .before .before .before .args in rw (result-whole plain (g .text .now)) (tidied-as (g .text .now) (g .out .now) (g .a .now) (g .b .now) (g .c .now) (g .d .now) (g .e .now) (g .u .now) (c .before .before .before .before .before .before .before .before .before .before .before .before .before .before .before .before .before .before .before .before .before .before .task .ensures) (c .before .before .before .before .before .before .before .before .before .before .before .before .before .before .tidy .ensures))
+returns c = let g = c .before .before .before .before .before .before .before .before .before .before .before .before .before .before .before .before .before .before .before .before .before .before .before .before .before .before .before .before .before .before .before .args in rw (result-whole (readingOf (g .mode)) (g .text .now)) (tidied-as (g .text .now) (g .out .now) (g .a .now) (g .b .now) (g .c .now) (g .d .now) (g .e .now) (g .u .now) (c .before .before .before .before .before .before .before .before .before .before .before .before .before .before .before .before .before .before .before .before .before .before .task .ensures) (c .before .before .before .before .before .before .before .before .before .before .before .before .before .before .tidy .ensures))
 
 pub optimize-spec : {M : Type 1} → statement M
 optimize-spec =

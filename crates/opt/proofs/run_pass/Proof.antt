@@ -6,7 +6,7 @@ use mathlib.Core.Path.{_∙_}
 use lib.Dec.{leb}
 use lib.ListN.{length}
 use Rattle.lines.proofs.Tests.{so, and-right}
-use Rattle.reading.specs.Reading.{plain}
+use Rattle.reading.specs.Reading.{readingOf}
 use Rattle.limits.specs.declared.Answer.the-variants.{BadPass}
 use Rattle.steps.specs.Step.{stepOf}
 use Rattle.passes.specs.Passes.{resultOf}
@@ -20,7 +20,7 @@ is-pass-requires : tie.Need-is-pass-requires
 is-pass-requires c κs = search needs
 
 returns : tie.Need-returns
-returns c = let g = c .before .before .before .before .before .before .before .before .before .before .args in let t = g .text .now in let xs = resultOf (stepOf plain (g .pass)) t in let s = isShort small (length (g .a .now)) (length (g .b .now)) (length (g .c .now)) (length (g .d .now)) (length (g .e .now)) (length (g .u .now)) in (pass-bad small (g .pass) s t xs (length (g .out .now)) (so (c .before .is-pass .ensures) (not-true _ (c .if1 .taken))), (out-kept BadPass xs (g .out .now) bad-done, all-kept small BadPass (g .a .now) (g .b .now) (g .c .now) (g .d .now) (g .e .now) (g .u .now) bad-runs))
+returns c = let g = c .before .before .before .before .before .before .before .before .before .before .args in let t = g .text .now in let xs = resultOf (stepOf (readingOf (g .mode)) (g .pass)) t in let s = isShort small (length (g .a .now)) (length (g .b .now)) (length (g .c .now)) (length (g .d .now)) (length (g .e .now)) (length (g .u .now)) in (pass-bad small (g .pass) (g .mode) s t xs (length (g .out .now)) (so (c .before .is-pass .ensures) (not-true _ (c .if1 .taken))), (out-kept BadPass xs (g .out .now) bad-done, all-kept small BadPass (g .a .now) (g .b .now) (g .c .now) (g .d .now) (g .e .now) (g .u .now) bad-runs))
 
 add-task : tie.Need-add-task
 add-task c = let k = c .before .before .before .before .before .before .before .before .before .before .args .pass in omega (arith, leb-true k 6 (and-right (leb 1 k) (leb k 6) (so (c .before .is-pass .ensures) (not-false _ (c .if1 .left)))))
@@ -53,7 +53,7 @@ same-length-7 : tie.Need-same-length-7
 same-length-7 c = c .before .before .before .before .before .before .before .before .before .before .before .before .before .before .tidy .kept .1 .1 .1 .1 .1 .1 .1 .1 .0
 
 returns-2 : tie.Need-returns-2
-returns-2 c = let g = c .before .before .before .before .before .before .before .before .before .before .before .before .before .before .before .before .before .before .before .before .before .before .before .before .before .before .before .before .before .before .before .before .before .args in let t = g .text .now in let xs = resultOf (stepOf plain (g .pass)) t in let s = isShort small (length (g .a .now)) (length (g .b .now)) (length (g .c .now)) (length (g .d .now)) (length (g .e .now)) (length (g .u .now)) in let w = tidied-as (g .text .now) (g .out .now) (g .a .now) (g .b .now) (g .c .now) (g .d .now) (g .e .now) (g .u .now) (c .before .before .before .before .before .before .before .before .before .before .before .before .before .before .before .before .before .before .before .before .before .before .task .ensures) (c .before .before .before .before .before .before .before .before .before .before .before .before .before .before .tidy .ensures) in let q = result-one plain (g .pass) t in ((rw q (w .0)) ∙ pass-good small (g .pass) s t xs (length (g .out .now)) (so (c .before .before .before .before .before .before .before .before .before .before .before .before .before .before .before .before .before .before .before .before .before .before .before .before .is-pass .ensures) (not-false _ (c .before .before .before .before .before .before .before .before .before .before .before .before .before .before .before .before .before .before .before .before .before .before .before .if1 .left))), rw q (w .1))
+returns-2 c = let g = c .before .before .before .before .before .before .before .before .before .before .before .before .before .before .before .before .before .before .before .before .before .before .before .before .before .before .before .before .before .before .before .before .before .args in let t = g .text .now in let xs = resultOf (stepOf (readingOf (g .mode)) (g .pass)) t in let s = isShort small (length (g .a .now)) (length (g .b .now)) (length (g .c .now)) (length (g .d .now)) (length (g .e .now)) (length (g .u .now)) in let w = tidied-as (g .text .now) (g .out .now) (g .a .now) (g .b .now) (g .c .now) (g .d .now) (g .e .now) (g .u .now) (c .before .before .before .before .before .before .before .before .before .before .before .before .before .before .before .before .before .before .before .before .before .before .task .ensures) (c .before .before .before .before .before .before .before .before .before .before .before .before .before .before .tidy .ensures) in let q = result-one (readingOf (g .mode)) (g .pass) t in ((rw q (w .0)) ∙ pass-good small (g .pass) (g .mode) s t xs (length (g .out .now)) (so (c .before .before .before .before .before .before .before .before .before .before .before .before .before .before .before .before .before .before .before .before .before .before .before .before .is-pass .ensures) (not-false _ (c .before .before .before .before .before .before .before .before .before .before .before .before .before .before .before .before .before .before .before .before .before .before .before .if1 .left))), rw q (w .1))
 
 pub run-pass-spec : {M : Type 1} → statement M
 run-pass-spec =

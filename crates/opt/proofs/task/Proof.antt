@@ -11,7 +11,7 @@ small-requires : tie.Need-small-requires
 small-requires c κs = search needs
 
 returns : tie.Need-returns
-returns c = ap (λ (L : Limits). taskOf L (c .before .args .from) (c .before .args .to)) (c .small .ensures)
+returns c = ap (λ (L : Limits). taskOf L (c .before .args .from) (c .before .args .to) (c .before .args .mode)) (c .small .ensures)
 
 pub task-spec : {M : Type 1} → statement M
 task-spec =

@@ -7,9 +7,9 @@ use Rattle.limits.specs.declared.Limits.{Limits}
 use Rattle.limits.specs.declared.Task.{Task}
 use Rattle.limits.specs.Entry.{byteSize, blockSize, blank}
 
--- the passes from a number up to another, within limits
-abbrev pub taskOf : Limits → ℕ → ℕ → Task
-taskOf L from to = record { from = from; to = to; limits = L }
+-- the passes from a number up to another, in a mode, within limits
+abbrev pub taskOf : Limits → ℕ → ℕ → ℕ → Task
+taskOf L from to mode = record { from = from; to = to; mode = record { 0 = mode }; limits = L }
 
 -- the work buffers are no shorter than their stated sizes
 pub record Long (L : Limits) (a b c d e u : List ℕ) : Type 0 where

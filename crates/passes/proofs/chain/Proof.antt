@@ -10,7 +10,7 @@ use Rattle.passes.proofs.chain.Statement.{statement}
 use Rattle.passes.proofs.chain.Tie as tie
 
 abbrev Inv-loop : tie.InvT-loop
-Inv-loop m text a₀ b₀ c₀ d₀ e₀ u₀ own n₀ h to j₀ a b c d e u n j = ChainInv (m .limits) (m .from) to text a b c d e u n j
+Inv-loop m text a₀ b₀ c₀ d₀ e₀ u₀ own n₀ h to j₀ a b c d e u n j = ChainInv (m .limits) (m .mode .0) (m .from) to text a b c d e u n j
 
 abbrev μ-loop : tie.MeasureT-loop
 μ-loop m text a₀ b₀ c₀ d₀ e₀ u₀ own n₀ h to j₀ a b c d e u n j = to - j
@@ -31,7 +31,7 @@ gather-requires : tie.Need-gather-requires Inv-loop μ-loop
 gather-requires c κs = search needs
 
 loop-holds : tie.Need-loop-holds Inv-loop μ-loop
-loop-holds c = let p = c .before .before .before .before .before .before .before .before .before .before .before .before .before .before .before .pre in chain-start _ _ (p .0) (p .1 .0) (p .1 .1) (c .before .before .before .before .before .before .split-lines .ensures)
+loop-holds c = let p = c .before .before .before .before .before .before .before .before .before .before .before .before .before .before .before .pre in chain-start _ _ _ (p .0) (p .1 .0) (p .1 .1) (c .before .before .before .before .before .before .split-lines .ensures)
 
 slice-reshare-prefix-step : tie.Need-slice-reshare-prefix-step Inv-loop μ-loop
 slice-reshare-prefix-step c = c .before .loop .inv .front .fits

@@ -1,7 +1,10 @@
 -- `steps::bind_step` meets its contract. Assumes nothing.
 use borrow.Author.Needs.{needs}
+use mathlib.Core.Path.{ap}
+use Rattle.lines.specs.Lf.{unlines}
+use Rattle.lines.proofs.OutLaws.{wrote-as}
 use Rattle.steps.proofs.Tame.{table, bind-room}
-use Rattle.steps.proofs.StepLaws.{bind-left}
+use Rattle.steps.proofs.StepLaws.{bind-mode, bind-left}
 use Rattle.steps.proofs.bind_step.Statement.{statement}
 use Rattle.steps.proofs.bind_step.Tie as tie
 
@@ -33,7 +36,7 @@ same-length-2 : tie.Need-same-length-2
 same-length-2 c = search needs
 
 returns : tie.Need-returns
-returns c = let p = c .before .before .before .before .before .before .before .before .before .before .bind-declarators .ensures in (p .0, bind-left _ (p .1 .0 .1 .1))
+returns c = let p = c .before .before .before .before .before .before .before .before .before .before .bind-declarators .ensures in (wrote-as (ap unlines (bind-mode (c .before .before .before .before .before .before .before .before .before .before .before .before .before .before .before .before .before .before .before .before .before .before .before .args .m .mode .0) _)) (p .0), bind-left _ (p .1 .0 .1 .1))
 
 pub bind-step-spec : {M : Type 1} → statement M
 bind-step-spec =

@@ -1,6 +1,9 @@
 use borrow.Author.Needs.{needs}
+use mathlib.Core.Path.{ap}
+use Rattle.lines.specs.Lf.{unlines}
+use Rattle.lines.proofs.OutLaws.{wrote-as}
 use Rattle.steps.proofs.Tame.{table, calls-room}
-use Rattle.steps.proofs.StepLaws.{calls-left}
+use Rattle.steps.proofs.StepLaws.{calls-mode, calls-left}
 use Rattle.steps.proofs.calls_step.Statement.{statement}
 use Rattle.steps.proofs.calls_step.Tie as tie
 
@@ -37,7 +40,7 @@ same-length-4 : tie.Need-same-length-4
 same-length-4 c = search needs
 
 returns : tie.Need-returns
-returns c = let p = c .before .before .before .before .before .before .before .before .before .before .before .before .before .rebuild-calls .ensures in (p .0, calls-left _ (p .1 .1 .1 .0 .1 .0) (p .1 .1 .1 .0 .1 .1) (p .1 .1 .0 .1 .1))
+returns c = let p = c .before .before .before .before .before .before .before .before .before .before .before .before .before .rebuild-calls .ensures in (wrote-as (ap unlines (calls-mode (c .before .before .before .before .before .before .before .before .before .before .before .before .before .before .before .before .before .before .before .before .before .before .before .before .before .before .before .before .args .m .mode .0) _)) (p .0), calls-left _ _ (p .1 .1 .1 .0 .1 .0) (p .1 .1 .1 .0 .1 .1) (p .1 .1 .0 .1 .1))
 
 pub calls-step-spec : {M : Type 1} → statement M
 calls-step-spec =

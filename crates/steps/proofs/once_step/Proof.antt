@@ -1,6 +1,7 @@
 -- `steps::once_step` meets its contract. Assumes nothing.
 use borrow.Author.Needs.{needs}
 use mathlib.Core.Path.{refl}
+use Rattle.reading.specs.Reading.{readingOf}
 use Rattle.steps.proofs.Tame.{table, once-room}
 use Rattle.steps.proofs.StepLaws.{once-left}
 use Rattle.steps.proofs.once_step.Statement.{statement}
@@ -34,7 +35,7 @@ slice-aggregate-optimize-once-9 : tie.Need-slice-aggregate-optimize-once-9
 slice-aggregate-optimize-once-9 c = search needs
 
 optimize-once-requires : tie.Need-optimize-once-requires
-optimize-once-requires c κs = let p = c .before .before .before .before .before .before .before .before .before .before .before .before .before .before .before .before .before .before .before .pre in once-room (p .0) (p .1 .0) (p .1 .1 .0) (p .1 .1 .1 .0) (p .1 .1 .1 .1) (table 1024) (table 1024) (table 1024) (refl, refl)
+optimize-once-requires c κs = let p = c .before .before .before .before .before .before .before .before .before .before .before .before .before .before .before .before .before .before .before .pre in once-room (readingOf (c .before .before .before .before .before .before .before .before .before .before .before .before .before .before .before .before .before .before .before .args .m .mode .0)) (p .0) (p .1 .0) (p .1 .1 .0) (p .1 .1 .1 .0) (p .1 .1 .1 .1) (table 1024) (table 1024) (table 1024) (refl, refl)
 
 same-length : tie.Need-same-length
 same-length c = search needs
@@ -49,7 +50,7 @@ same-length-4 : tie.Need-same-length-4
 same-length-4 c = search needs
 
 returns : tie.Need-returns
-returns c = let p = c .before .before .before .before .before .before .before .before .before .before .before .before .before .before .before .before .before .optimize-once .ensures in let q = p .1 .0 in (p .0, once-left _ (q .0) (q .1 .0) (q .1 .1 .1 .1 .1))
+returns c = let p = c .before .before .before .before .before .before .before .before .before .before .before .before .before .before .before .before .before .optimize-once .ensures in let q = p .1 .0 in (p .0, once-left _ _ (q .0) (q .1 .0) (q .1 .1 .1 .1 .1))
 
 pub once-step-spec : {M : Type 1} → statement M
 once-step-spec =

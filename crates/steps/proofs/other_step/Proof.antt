@@ -4,7 +4,7 @@ use mathlib.Core.Path.{sym, ap}
 use native.Mathlib.Omega.{arith}
 use Rattle.lines.specs.Lf.{linesOf, unlines}
 use Rattle.lines.proofs.OutLaws.{wrote-as}
-use Rattle.reading.specs.Reading.{plain}
+use Rattle.reading.specs.Reading.{readingOf}
 use Rattle.steps.proofs.Tame.{tame-removal, room-fits, room-lines}
 use Rattle.steps.proofs.StepLaws.{step-0, step-1, step-2, step-4, step-5, step-else, left-0, left-1, left-2, left-4, left-5, left-else, left-as}
 use Rattle.steps.proofs.other_step.Statement.{statement}
@@ -17,7 +17,7 @@ same-length : tie.Need-same-length
 same-length c = search needs
 
 returns : tie.Need-returns
-returns c = let p = c .before .before .remove-globals .ensures in (wrote-as (ap unlines (sym (step-0 plain (c .before .before .before .before .before .before .before .before .before .before .before .before .args .k) (linesOf (c .before .before .before .before .before .before .before .before .before .before .before .before .args .src .now)) (c .before .before .before .before .if1 .taken)))) (p), left-as (c .before .before .before .before .if1 .taken) left-0)
+returns c = let p = c .before .before .remove-globals .ensures in (wrote-as (ap unlines (sym (step-0 (readingOf (c .before .before .before .before .before .before .before .before .before .before .before .before .args .m .mode .0)) (c .before .before .before .before .before .before .before .before .before .before .before .before .args .k) (linesOf (c .before .before .before .before .before .before .before .before .before .before .before .before .args .src .now)) (c .before .before .before .before .if1 .taken)))) (p), left-as (c .before .before .before .before .if1 .taken) left-0)
 
 temps-step-requires : tie.Need-temps-step-requires
 temps-step-requires c κs = let p = c .before .before .before .before .before .before .before .before .before .before .before .pre .1 in (p .0, (p .1 .c-size, p .1 .b-size))
@@ -29,7 +29,7 @@ same-length-3 : tie.Need-same-length-3
 same-length-3 c = search needs
 
 returns-2 : tie.Need-returns-2
-returns-2 c = let p = c .before .before .before .before .temps-step .ensures in (wrote-as (ap unlines (sym (step-1 plain (c .before .before .before .before .before .before .before .before .before .before .before .before .before .before .before .before .args .k) (linesOf (c .before .before .before .before .before .before .before .before .before .before .before .before .before .before .before .before .args .src .now)) (c .before .before .before .before .before .before .before .if2 .taken)))) (p .0), left-as (c .before .before .before .before .before .before .before .if2 .taken) (left-1 (p .1)))
+returns-2 c = let p = c .before .before .before .before .temps-step .ensures in (wrote-as (ap unlines (sym (step-1 (readingOf (c .before .before .before .before .before .before .before .before .before .before .before .before .before .before .before .before .args .m .mode .0)) (c .before .before .before .before .before .before .before .before .before .before .before .before .before .before .before .before .args .k) (linesOf (c .before .before .before .before .before .before .before .before .before .before .before .before .before .before .before .before .args .src .now)) (c .before .before .before .before .before .before .before .if2 .taken)))) (p .0), left-as (c .before .before .before .before .before .before .before .if2 .taken) (left-1 (p .1)))
 
 once-step-requires : tie.Need-once-step-requires
 once-step-requires c κs = let p = c .before .before .before .before .before .before .before .before .before .before .before .before .before .before .pre .1 in (p .0, (p .1 .c-size, (p .1 .d-size, (p .1 .u-size, p .1 .b-size))))
@@ -47,7 +47,7 @@ same-length-7 : tie.Need-same-length-7
 same-length-7 c = search needs
 
 returns-3 : tie.Need-returns-3
-returns-3 c = let p = c .before .before .before .before .before .before .before .before .once-step .ensures in (wrote-as (ap unlines (sym (step-2 plain (c .before .before .before .before .before .before .before .before .before .before .before .before .before .before .before .before .before .before .before .before .before .before .before .args .k) (linesOf (c .before .before .before .before .before .before .before .before .before .before .before .before .before .before .before .before .before .before .before .before .before .before .before .args .src .now)) (c .before .before .before .before .before .before .before .before .before .before .before .before .before .if3 .taken)))) (p .0), left-as (c .before .before .before .before .before .before .before .before .before .before .before .before .before .if3 .taken) (left-2 (p .1)))
+returns-3 c = let p = c .before .before .before .before .before .before .before .before .once-step .ensures in (wrote-as (ap unlines (sym (step-2 (readingOf (c .before .before .before .before .before .before .before .before .before .before .before .before .before .before .before .before .before .before .before .before .before .before .before .args .m .mode .0)) (c .before .before .before .before .before .before .before .before .before .before .before .before .before .before .before .before .before .before .before .before .before .before .before .args .k) (linesOf (c .before .before .before .before .before .before .before .before .before .before .before .before .before .before .before .before .before .before .before .before .before .before .before .args .src .now)) (c .before .before .before .before .before .before .before .before .before .before .before .before .before .if3 .taken)))) (p .0), left-as (c .before .before .before .before .before .before .before .before .before .before .before .before .before .if3 .taken) (left-2 (p .1)))
 
 calls-step-requires : tie.Need-calls-step-requires
 calls-step-requires c κs = let p = c .before .before .before .before .before .before .before .before .before .before .before .before .before .before .before .pre .1 in (p .0, (p .1 .c-size, (p .1 .d-size, (p .1 .u-size, p .1 .b-size))))
@@ -65,7 +65,7 @@ same-length-11 : tie.Need-same-length-11
 same-length-11 c = search needs
 
 returns-4 : tie.Need-returns-4
-returns-4 c = let p = c .before .before .before .before .before .before .before .before .calls-step .ensures in (wrote-as (ap unlines (sym (step-4 plain (c .before .before .before .before .before .before .before .before .before .before .before .before .before .before .before .before .before .before .before .before .before .before .before .before .args .k) (linesOf (c .before .before .before .before .before .before .before .before .before .before .before .before .before .before .before .before .before .before .before .before .before .before .before .before .args .src .now)) (c .before .before .before .before .before .before .before .before .before .before .before .before .before .if4 .taken)))) (p .0), left-as (c .before .before .before .before .before .before .before .before .before .before .before .before .before .if4 .taken) (left-4 (p .1)))
+returns-4 c = let p = c .before .before .before .before .before .before .before .before .calls-step .ensures in (wrote-as (ap unlines (sym (step-4 (readingOf (c .before .before .before .before .before .before .before .before .before .before .before .before .before .before .before .before .before .before .before .before .before .before .before .before .args .m .mode .0)) (c .before .before .before .before .before .before .before .before .before .before .before .before .before .before .before .before .before .before .before .before .before .before .before .before .args .k) (linesOf (c .before .before .before .before .before .before .before .before .before .before .before .before .before .before .before .before .before .before .before .before .before .before .before .before .args .src .now)) (c .before .before .before .before .before .before .before .before .before .before .before .before .before .if4 .taken)))) (p .0), left-as (c .before .before .before .before .before .before .before .before .before .before .before .before .before .if4 .taken) (left-4 (p .1)))
 
 decls-step-requires : tie.Need-decls-step-requires
 decls-step-requires c κs = let p = c .before .before .before .before .before .before .before .before .before .before .before .before .before .pre .1 in (p .0, p .1 .b-size)
@@ -74,7 +74,7 @@ same-length-12 : tie.Need-same-length-12
 same-length-12 c = search needs
 
 returns-5 : tie.Need-returns-5
-returns-5 c = let p = c .before .before .decls-step .ensures in (wrote-as (ap unlines (sym (step-5 plain (c .before .before .before .before .before .before .before .before .before .before .before .before .before .before .before .before .args .k) (linesOf (c .before .before .before .before .before .before .before .before .before .before .before .before .before .before .before .before .args .src .now)) (c .before .before .before .before .if5 .taken)))) (p), left-as (c .before .before .before .before .if5 .taken) left-5)
+returns-5 c = let p = c .before .before .decls-step .ensures in (wrote-as (ap unlines (sym (step-5 (readingOf (c .before .before .before .before .before .before .before .before .before .before .before .before .before .before .before .before .args .m .mode .0)) (c .before .before .before .before .before .before .before .before .before .before .before .before .before .before .before .before .args .k) (linesOf (c .before .before .before .before .before .before .before .before .before .before .before .before .before .before .before .before .args .src .now)) (c .before .before .before .before .if5 .taken)))) (p), left-as (c .before .before .before .before .if5 .taken) left-5)
 
 put-lines-requires : tie.Need-put-lines-requires
 put-lines-requires c κs = let p = c .before .before .before .before .before .before .before .before .before .before .before .before .before .pre .1 in omega (arith, room-lines (p .0), p .1 .b-size)
@@ -83,7 +83,7 @@ same-length-13 : tie.Need-same-length-13
 same-length-13 c = search needs
 
 returns-6 : tie.Need-returns-6
-returns-6 c = (wrote-as (ap unlines (sym (step-else plain (c .before .before .before .before .before .before .before .before .before .before .before .before .before .before .before .before .args .k) (linesOf (c .before .before .before .before .before .before .before .before .before .before .before .before .before .before .before .before .args .src .now)) (c .before .before .before .before .before .before .before .before .if1 .left) (c .before .before .before .before .before .before .before .if2 .left) (c .before .before .before .before .before .before .if3 .left) (c .before .before .before .before .before .before .before .before .before .before .before .before .before .before .before .before .pre .0 .0) (c .before .before .before .before .before .if4 .left) (c .before .before .before .before .if5 .left) (c .before .before .before .before .before .before .before .before .before .before .before .before .before .before .before .before .pre .0 .1)))) (c .before .before .put-lines .ensures), left-else (c .before .before .before .before .before .before .before .if2 .left) (c .before .before .before .before .before .before .if3 .left) (c .before .before .before .before .before .before .before .before .before .before .before .before .before .before .before .before .pre .0 .0) (c .before .before .before .before .before .if4 .left) (c .before .before .before .before .before .before .before .before .before .before .before .before .before .before .before .before .pre .0 .1))
+returns-6 c = (wrote-as (ap unlines (sym (step-else (readingOf (c .before .before .before .before .before .before .before .before .before .before .before .before .before .before .before .before .args .m .mode .0)) (c .before .before .before .before .before .before .before .before .before .before .before .before .before .before .before .before .args .k) (linesOf (c .before .before .before .before .before .before .before .before .before .before .before .before .before .before .before .before .args .src .now)) (c .before .before .before .before .before .before .before .before .if1 .left) (c .before .before .before .before .before .before .before .if2 .left) (c .before .before .before .before .before .before .if3 .left) (c .before .before .before .before .before .before .before .before .before .before .before .before .before .before .before .before .pre .0 .0) (c .before .before .before .before .before .if4 .left) (c .before .before .before .before .if5 .left) (c .before .before .before .before .before .before .before .before .before .before .before .before .before .before .before .before .pre .0 .1)))) (c .before .before .put-lines .ensures), left-else (c .before .before .before .before .before .before .before .if2 .left) (c .before .before .before .before .before .before .if3 .left) (c .before .before .before .before .before .before .before .before .before .before .before .before .before .before .before .before .pre .0 .0) (c .before .before .before .before .before .if4 .left) (c .before .before .before .before .before .before .before .before .before .before .before .before .before .before .before .before .pre .0 .1))
 
 pub other-step-spec : {M : Type 1} → statement M
 other-step-spec =

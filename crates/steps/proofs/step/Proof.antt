@@ -3,7 +3,7 @@ use borrow.Author.Needs.{needs}
 use mathlib.Core.Path.{sym, ap}
 use Rattle.lines.specs.Lf.{linesOf, unlines}
 use Rattle.lines.proofs.OutLaws.{wrote-as}
-use Rattle.reading.specs.Reading.{plain}
+use Rattle.reading.specs.Reading.{readingOf}
 use Rattle.steps.proofs.StepLaws.{step-3, step-6, left-3, left-6, left-as}
 use Rattle.steps.proofs.step.Statement.{statement}
 use Rattle.steps.proofs.step.Tie as tie
@@ -24,7 +24,7 @@ same-length-4 : tie.Need-same-length-4
 same-length-4 c = search needs
 
 returns : tie.Need-returns
-returns c = let p = c .before .before .before .before .before .before .before .before .phis-step .ensures in (wrote-as (ap unlines (sym (step-3 plain (c .before .before .before .before .before .before .before .before .before .before .before .before .before .before .before .before .before .before .before .before .before .args .k) (linesOf (c .before .before .before .before .before .before .before .before .before .before .before .before .before .before .before .before .before .before .before .before .before .args .src .now)) (c .before .before .before .before .before .before .before .before .before .before .before .before .before .if1 .taken)))) (p .0), left-as (c .before .before .before .before .before .before .before .before .before .before .before .before .before .if1 .taken) (left-3 (p .1)))
+returns c = let p = c .before .before .before .before .before .before .before .before .phis-step .ensures in (wrote-as (ap unlines (sym (step-3 (readingOf (c .before .before .before .before .before .before .before .before .before .before .before .before .before .before .before .before .before .before .before .before .before .args .m .mode .0)) (c .before .before .before .before .before .before .before .before .before .before .before .before .before .before .before .before .before .before .before .before .before .args .k) (linesOf (c .before .before .before .before .before .before .before .before .before .before .before .before .before .before .before .before .before .before .before .before .before .args .src .now)) (c .before .before .before .before .before .before .before .before .before .before .before .before .before .if1 .taken)))) (p .0), left-as (c .before .before .before .before .before .before .before .before .before .before .before .before .before .if1 .taken) (left-3 (p .1)))
 
 bind-step-requires : tie.Need-bind-step-requires
 bind-step-requires c κs = let p = c .before .before .before .before .before .before .before .before .before .before .before .pre in (p .0, (p .1 .u-size, p .1 .b-size))
@@ -36,7 +36,7 @@ same-length-6 : tie.Need-same-length-6
 same-length-6 c = search needs
 
 returns-2 : tie.Need-returns-2
-returns-2 c = let p = c .before .before .before .before .bind-step .ensures in (wrote-as (ap unlines (sym (step-6 plain (c .before .before .before .before .before .before .before .before .before .before .before .before .before .before .before .before .args .k) (linesOf (c .before .before .before .before .before .before .before .before .before .before .before .before .before .before .before .before .args .src .now)) (c .before .before .before .before .before .before .before .if2 .taken)))) (p .0), left-as (c .before .before .before .before .before .before .before .if2 .taken) (left-6 (p .1)))
+returns-2 c = let p = c .before .before .before .before .bind-step .ensures in (wrote-as (ap unlines (sym (step-6 (readingOf (c .before .before .before .before .before .before .before .before .before .before .before .before .before .before .before .before .args .m .mode .0)) (c .before .before .before .before .before .before .before .before .before .before .before .before .before .before .before .before .args .k) (linesOf (c .before .before .before .before .before .before .before .before .before .before .before .before .before .before .before .before .args .src .now)) (c .before .before .before .before .before .before .before .if2 .taken)))) (p .0), left-as (c .before .before .before .before .before .before .before .if2 .taken) (left-6 (p .1)))
 
 other-step-requires : tie.Need-other-step-requires
 other-step-requires c κs = ((c .before .before .before .before .before .before .if1 .left, c .before .before .before .before .before .if2 .left), c .before .before .before .before .before .before .before .before .before .before .before .before .before .before .pre)

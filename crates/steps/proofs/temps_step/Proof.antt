@@ -1,7 +1,7 @@
 -- `steps::temps_step` meets its contract. Assumes nothing.
 use borrow.Author.Needs.{needs}
 use native.Mathlib.Omega.{arith}
-use Rattle.reading.specs.Reading.{plain}
+use Rattle.reading.specs.Reading.{readingOf}
 use Rattle.steps.proofs.Tame.{tame-temps, room-fits, room-length}
 use Rattle.steps.proofs.StepLaws.{temps-left}
 use Rattle.steps.proofs.temps_step.Statement.{statement}
@@ -17,7 +17,7 @@ slice-aggregate-prune-dead-temps-3 : tie.Need-slice-aggregate-prune-dead-temps-3
 slice-aggregate-prune-dead-temps-3 c = search needs
 
 prune-dead-temps-requires : tie.Need-prune-dead-temps-requires
-prune-dead-temps-requires c κs = let p = c .before .before .before .before .before .before .before .before .pre in (omega (arith, room-length (p .0), p .1 .0), omega (arith, room-fits (tame-temps plain) (p .0), p .1 .1))
+prune-dead-temps-requires c κs = let p = c .before .before .before .before .before .before .before .before .pre in (omega (arith, room-length (p .0), p .1 .0), omega (arith, room-fits (tame-temps (readingOf (c .before .before .before .before .before .before .before .before .args .m .mode .0))) (p .0), p .1 .1))
 
 same-length : tie.Need-same-length
 same-length c = search needs
@@ -26,7 +26,7 @@ same-length-2 : tie.Need-same-length-2
 same-length-2 c = search needs
 
 returns : tie.Need-returns
-returns c = let p = c .before .before .before .before .before .before .before .prune-dead-temps .ensures in (p .0, temps-left _ _ (p .1 .0))
+returns c = let p = c .before .before .before .before .before .before .before .prune-dead-temps .ensures in (p .0, temps-left _ _ _ (p .1 .0))
 
 pub temps-step-spec : {M : Type 1} → statement M
 temps-step-spec =

@@ -9,32 +9,32 @@ use Rattle.lines.specs.Lf.{linesOf, unlines}
 use Rattle.lines.specs.Inner.Out.{putAt}
 use Rattle.lines.specs.Acts.{apply}
 use Rattle.place.specs.Inner.Parents.{idsParents, pathParents}
-use Rattle.reading.specs.Reading.{plain}
+use Rattle.reading.specs.Reading.{strictAt, readingOf}
 use Rattle.temps.specs.Inner.Scratch.{tempScratch}
 use Rattle.once.specs.Once.{onceActs}
 use Rattle.phis.specs.Phis.{round}
 use Rattle.phis.specs.Inner.Rounds.{longest}
 
 -- the buffer c after step k over the text s: what pass 1 left, or zeros over as many bytes as passes 2, 3 and 4 used
-unfoldable pub leftC : ℕ → List ℕ → List ℕ → List ℕ
-leftC k s c =
-    cond (eqb k 1) (tempScratch (linesOf s) c)
+unfoldable pub leftC : (mode k : ℕ) → List ℕ → List ℕ → List ℕ
+leftC mode k s c =
+    cond (eqb k 1) (tempScratch (strictAt mode) (linesOf s) c)
     (cond (eqb k 2) (putAt c 0 (replicate (length s) 0))
-    (cond (eqb k 3) (putAt c 0 (replicate (longest plain s) 0))
+    (cond (eqb k 3) (putAt c 0 (replicate (longest (readingOf mode) s) 0))
     (cond (eqb k 4) (putAt c 0 (replicate (length s) 0))
     c)))
 
 -- the buffer d: the lines of pass 2 before declarations go, those of the first round of pass 3, or zeros
-unfoldable pub leftD : ℕ → List ℕ → List ℕ → List ℕ
-leftD k s d =
-    cond (eqb k 2) (putAt d 0 (unlines (apply (onceActs plain (linesOf s)) (linesOf s))))
-    (cond (eqb k 3) (putAt d 0 (unlines (round plain (linesOf s))))
+unfoldable pub leftD : (mode k : ℕ) → List ℕ → List ℕ → List ℕ
+leftD mode k s d =
+    cond (eqb k 2) (putAt d 0 (unlines (apply (onceActs (readingOf mode) (linesOf s)) (linesOf s))))
+    (cond (eqb k 3) (putAt d 0 (unlines (round (readingOf mode) (linesOf s))))
     (cond (eqb k 4) (putAt d 0 (replicate (length s) 0))
     d))
 
 -- the buffer e: the lines of the second round of pass 3
-unfoldable pub leftE : ℕ → List ℕ → List ℕ → List ℕ
-leftE k s e = cond (eqb k 3) (putAt e 0 (unlines (round plain (round plain (linesOf s))))) e
+unfoldable pub leftE : (mode k : ℕ) → List ℕ → List ℕ → List ℕ
+leftE mode k s e = cond (eqb k 3) (putAt e 0 (unlines (round (readingOf mode) (round (readingOf mode) (linesOf s))))) e
 
 -- the block numbers u: the parents of the blocks that passes 2, 4 and 6 go by
 unfoldable pub leftU : ℕ → List ℕ → List ℕ → List ℕ
@@ -45,8 +45,8 @@ leftU k s u =
     u))
 
 -- the four after step k over the text s
-pub record Left (k : ℕ) (s c d e u c′ d′ e′ u′ : List ℕ) : Type 0 where
-  pub c-left : c′ ≡ leftC k s c
-  pub d-left : d′ ≡ leftD k s d
-  pub e-left : e′ ≡ leftE k s e
+pub record Left (mode k : ℕ) (s c d e u c′ d′ e′ u′ : List ℕ) : Type 0 where
+  pub c-left : c′ ≡ leftC mode k s c
+  pub d-left : d′ ≡ leftD mode k s d
+  pub e-left : e′ ≡ leftE mode k s e
   pub u-left : u′ ≡ leftU k s u

@@ -1,7 +1,7 @@
 -- `answers::values::purity` is safe and ends. There is room, since a text without comments is no longer. Assumes nothing.
 use borrow.Author.Needs.{needs}
 use native.Mathlib.Omega.{arith}
-use Rattle.expr.proofs.CommentLaws.{strip-length}
+use Rattle.expr.proofs.QuoteLaws.{cut-length}
 use Rattle.answers.proofs.values.purity.Statement.{statement}
 use Rattle.answers.proofs.values.purity.Tie as tie
 
@@ -12,7 +12,7 @@ returns : tie.Need-returns
 returns c = search needs
 
 purity-requires : tie.Need-purity-requires
-purity-requires c κs = omega (arith, strip-length (c .before .before .before .before .args .a .now))
+purity-requires c κs = omega (arith, cut-length (c .before .before .before .before .args .strict) (c .before .before .before .before .args .a .now))
 
 code-requires : tie.Need-code-requires
 code-requires c κs = search needs
