@@ -21,5 +21,8 @@ claim-fixed = fixed slots.claim.Reads.Learnt (λ κs a x y l m. (l ∙ sym m, re
 pub shorter-fixed : Determined slots.shorter.ended (λ κs z. z) slots.shorter.Reads.ensures
 shorter-fixed = fixed slots.shorter.Reads.Learnt (λ κs a x y l m. l ∙ sym m)
 
+pub has-long-fixed : Determined slots.gather.has_long.ended (λ κs z. z) slots.gather.has_long.Reads.ensures
+has-long-fixed = fixed slots.gather.has_long.Reads.Learnt (λ κs a x y l m. l ∙ sym m)
+
 pub gather-fixed : Determined slots.gather.gather.ended (λ κs z. z) slots.gather.gather.Reads.ensures
 gather-fixed = fixed-by slots.gather.gather.Reads.Learnt (λ w κs a x. more w (one w)) (λ κs a x y l m. (l .1 ∙ sym (m .1), l .0 ∙ sym (m .0)))

@@ -45,7 +45,7 @@ fn four_above(s: &[u8], i: usize) -> u8
 
 // Whether a text has a number of four digits: the least of what `four_above` says of its places tells. It goes on to the end, so that the
 // compiler compares many bytes at a time.
-fn has_long(text: &[u8]) -> bool
+pub fn has_long(text: &[u8]) -> bool
     ensures { λ r. ⌜ r ≡ hasLong (now (text .entry)) ⌝ }
 {
     if text.len() < 4 {

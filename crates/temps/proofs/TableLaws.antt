@@ -482,8 +482,8 @@ module _ (own : List ℕ) where
       some flag.Past = false
       some (flag.Is b) = true
 
-  pub told : (f : List ℕ → Bool) (x d : List ℕ) (b : Bool) → ((n : ℕ) → keyOf x ≡ number.Of n → Placed own n d → eqb (entryOf own n d) 1 ≡ f x) → flagBy own (keyOf x) d ≡ flag.Is b → b ≡ f x
-  told f x d b t h = go (keyOf x) refl h
+  pub told : (f : List ℕ → Bool) (x d : List ℕ) (b : Bool) → ((n : ℕ) → keyOf x ≡ number.Of n → Placed own n d → eqb (entryOf own n d) 1 ≡ f x) → (s : Number) → s ≡ keyOf x → flagBy own s d ≡ flag.Is b → b ≡ f x
+  told f x d b t s q h = go s (sym q) h
     where
       at : (n : ℕ) → keyOf x ≡ number.Of n → (s : Bool) → ltb (slotOf (length d) own n) (length d) ≡ s → cond s (flag.Is (eqb (entryOf own n d) 1)) flag.Past ≡ flag.Is b → b ≡ f x
       at n q true e h = sym (flag-is _ b h) ∙ t n q (ltb-true (slotOf (length d) own n) (length d) e)
@@ -697,13 +697,13 @@ module _ (own : List ℕ) where
 
   -- ---- what a table says of a name that has a key, at its place i
 
-  module _ (x d : List ℕ) (n : ℕ) (q : keyOf x ≡ number.Of n) {i : ℕ} (p : i ≡ slotOf (length d) own n) where
-    pub by-here : i < length d → flag.Is (eqb (getD d i 0) 1) ≡ flagBy own (keyOf x) d
+  module _ (s : Number) (d : List ℕ) (n : ℕ) (q : s ≡ number.Of n) {i : ℕ} (p : i ≡ slotOf (length d) own n) where
+    pub by-here : i < length d → flag.Is (eqb (getD d i 0) 1) ≡ flagBy own s d
     by-here h =
         let g : slotOf (length d) own n < length d = omega (arith, p, h) in
         ap (λ (v : ℕ). flag.Is (eqb (getD d v 0) 1)) p ∙ sym (rw (q, lt-ltb (slotOf (length d) own n) (length d) g))
 
-    pub by-past : length d ≤ i → flag.Past ≡ flagBy own (keyOf x) d
+    pub by-past : length d ≤ i → flag.Past ≡ flagBy own s d
     by-past h = let g : length d ≤ slotOf (length d) own n = omega (arith, p, h) in sym (rw (q, le-ltb (slotOf (length d) own n) (length d) g))
 
   -- and what setting its flag leaves there

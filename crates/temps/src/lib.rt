@@ -16,7 +16,7 @@ ghost use Rattle.reading.specs.Reading.{strictAt, readingOf};
 ghost use Rattle.reading.specs.Assign.{isAssign, leftOf};
 ghost use Rattle.temps.specs.Temps.{anyPiece, declares, tempReads, declaredIn, tempRead, pruneDeadTemps};
 ghost use Rattle.temps.specs.Inner.Scratch.{tempIn, tempGoes, tempText, scratchLine, tempScratch};
-ghost use Rattle.temps.specs.Inner.Table.{Tells, TellsOf};
+ghost use Rattle.temps.specs.Inner.Table.{keyOf, Tells, TellsOf};
 
 // Whether one of the pieces between the commas, trimmed, is a name.
 fn any_piece(s: &[u8], name: &[u8]) -> bool
@@ -125,23 +125,23 @@ fn temp_read(text: &[u8], name: &[u8]) -> bool
 }
 
 // Whether some line of a text declares a temp: the table says so, where it reaches to it.
-fn is_declared(text: &[u8], own: &[usize], name: &[u8], declared: &[u8]) -> bool
-    requires { ⌜ (isTemp (now name) ≡ true) × (Tells (now own) (λ (x : List ℕ). declaredIn x (linesOf (now text))) (now declared)) ⌝ }
+fn is_declared(text: &[u8], own: &[usize], name: &[u8], key: names::Number, declared: &[u8]) -> bool
+    requires { ⌜ ((isTemp (now name) ≡ true) × (key ≡ keyOf (now name))) × (Tells (now own) (λ (x : List ℕ). declaredIn x (linesOf (now text))) (now declared)) ⌝ }
     ensures { λ r. ⌜ r ≡ declaredIn (now (name .entry)) (linesOf (now (text .entry))) ⌝ }
 {
-    match table::flag_of(name, own, declared) {
+    match table::flag_of(key, own, declared) {
         table::Flag::Is(b) => b,
         table::Flag::Past => declared_in(text, name),
     }
 }
 
 // Whether some line of a text reads a temp that is declared: the table says so, where it reaches to it.
-fn is_read(text: &[u8], own: &[usize], name: &[u8], read: &[u8]) -> bool
-    requires { ⌜ ((isTemp (now name) ≡ true) × (declaredIn (now name) (linesOf (now text)) ≡ true))
+fn is_read(text: &[u8], own: &[usize], name: &[u8], key: names::Number, read: &[u8]) -> bool
+    requires { ⌜ ((isTemp (now name) ≡ true) × ((key ≡ keyOf (now name)) × (declaredIn (now name) (linesOf (now text)) ≡ true)))
         × (TellsOf (now own) (λ (x : List ℕ). declaredIn x (linesOf (now text))) (λ (x : List ℕ). tempRead x (linesOf (now text))) (now read)) ⌝ }
     ensures { λ r. ⌜ r ≡ tempRead (now (name .entry)) (linesOf (now (text .entry))) ⌝ }
 {
-    match table::flag_of(name, own, read) {
+    match table::flag_of(key, own, read) {
         table::Flag::Is(b) => b,
         table::Flag::Past => temp_read(text, name),
     }
@@ -153,10 +153,11 @@ fn is_dead(text: &[u8], own: &[usize], name: &[u8], declared: &[u8], read: &[u8]
         × ((Tells (now own) (λ (x : List ℕ). declaredIn x (linesOf (now text))) (now declared)) × (TellsOf (now own) (λ (x : List ℕ). declaredIn x (linesOf (now text))) (λ (x : List ℕ). tempRead x (linesOf (now text))) (now read))) ⌝ }
     ensures { λ r. ⌜ r ≡ declaredIn (now (name .entry)) (linesOf (now (text .entry))) && not (tempRead (now (name .entry)) (linesOf (now (text .entry)))) ⌝ }
 {
-    if !is_declared(text, own, name, declared) {
+    let key = table::key_of(name);
+    if !is_declared(text, own, name, key, declared) {
         return false;
     }
-    !is_read(text, own, name, read)
+    !is_read(text, own, name, key, read)
 }
 
 // Whether a line of a text goes. The value of a store of a temp is judged first, and left in `scratch` without its comments.

@@ -8,7 +8,7 @@ ghost use Rattle.names.specs.declared.Number.the-variants.{Of};
 ghost use Rattle.slots.specs.Inner.Slots.{withEntry};
 ghost use Rattle.temps.specs.Inner.Table.{keyBy, keyOf, isLet, flagAt, flagPieces, flagDecl, flagDecls, skipAfter, flagRun, flagRuns, flagReads, flagLines, anyFlag, readsIf, flagBy};
 
-// What a table says of a name: whether its flag is set, or that it has no place there.
+// What a table says of a key: whether its flag is set, or that it has no place there.
 pub enum Flag {
     Is(bool),
     Past,
@@ -44,7 +44,7 @@ fn key_by(z: usize, n: u64) -> names::Number
 }
 
 // The key of a temp: of `t7` it is 7, and of `t07` another.
-fn key_of(s: &[u8]) -> names::Number
+pub fn key_of(s: &[u8]) -> names::Number
     ensures { λ r. ⌜ r ≡ keyOf (now (s .entry)) ⌝ }
 {
     if !lines::starts_with(s, b"t") {
@@ -122,10 +122,43 @@ fn claim_lines(text: &[u8], low: usize, own: &mut [usize]) {
     }
 }
 
-// The same for tables of n flags and more: a key that is low there needs none.
+// How far the third of three bytes stands above `0`, where the first two are `t0`: a digit less than ten, and no other byte.
+fn after_zero(a: u8, b: u8, c: u8) -> u8 {
+    if (a == b't') & (b == b'0') {
+        return std::num::wrapping_sub_u8(c, b'0');
+    }
+    255
+}
+
+// Whether a temp with a zero in front may stand somewhere. It goes on to the end, so that the compiler compares many bytes at a time.
+fn may_lead(s: &[u8]) -> bool {
+    if s.len() < 3 {
+        return false;
+    }
+    let end = s.len() - 2;
+    let mut least = 255;
+    let mut i = 0;
+    while i < end {
+        let x = after_zero(s[i], s[i + 1], s[i + 2]);
+        if x < least {
+            least = x;
+            i += 1;
+        } else {
+            i += 1;
+        }
+    }
+    least < 10
+}
+
+// The same for tables of n flags and more: a key that is low there needs none. Such a key has four digits, or a zero in front.
 pub fn claim_decls(text: &[u8], n: usize, own: &mut [usize]) {
     if own.len() == 0 {
         return;
+    }
+    if !slots::gather::has_long(text) {
+        if !may_lead(text) {
+            return;
+        }
     }
     claim_lines(text, slots::low_of(n, own.len()), own);
 }
@@ -275,11 +308,11 @@ pub fn flag_used(text: &[u8], own: &[usize], declared: &[u8], table: &mut [u8])
     flag_lines(text, own, table);
 }
 
-// What a table says of a name.
-pub fn flag_of(name: &[u8], own: &[usize], table: &[u8]) -> Flag
-    ensures { λ r. ⌜ r ≡ flagBy (now (own .entry)) (keyOf (now (name .entry))) (now (table .entry)) ⌝ }
+// What a table says of a key.
+pub fn flag_of(key: names::Number, own: &[usize], table: &[u8]) -> Flag
+    ensures { λ r. ⌜ r ≡ flagBy (now (own .entry)) key (now (table .entry)) ⌝ }
 {
-    match key_of(name) {
+    match key {
         names::Number::Of(n) => {
             let v = slots::slot(n as usize, table.len(), own);
             if v < table.len() {

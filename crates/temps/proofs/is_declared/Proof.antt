@@ -22,7 +22,7 @@ declared-in-requires : tie.Need-declared-in-requires
 declared-in-requires c κs = search needs
 
 returns : tie.Need-returns
-returns c = let a = c .before .before .before .before .before .before .before .before .args in told (a .own .now) (λ (x : List ℕ). declaredIn x (linesOf (a .text .now))) (a .name .now) (a .declared .now) _ (λ n q h. c .before .before .before .before .before .before .before .before .pre .1 (a .name .now) n (c .before .before .before .before .before .before .before .before .pre .0) q h) (sym (c .before .before .before .flag-of .ensures) ∙ c .before .b .given .1)
+returns c = let a = c .before .before .before .before .before .before .before .before .args in told (a .own .now) (λ (x : List ℕ). declaredIn x (linesOf (a .text .now))) (a .name .now) (a .declared .now) _ (λ n q h. c .before .before .before .before .before .before .before .before .pre .1 (a .name .now) n (c .before .before .before .before .before .before .before .before .pre .0 .0) q h) _ (c .before .before .before .before .before .before .before .before .pre .0 .1) (sym (c .before .before .before .flag-of .ensures) ∙ c .before .b .given .1)
 
 returns-2 : tie.Need-returns-2
 returns-2 c = search needs

@@ -22,7 +22,7 @@ temp-read-requires : tie.Need-temp-read-requires
 temp-read-requires c κs = c .before .before .before .before .before .before .before .pre .0 .0
 
 returns : tie.Need-returns
-returns c = let a = c .before .before .before .before .before .before .before .before .args in told (a .own .now) (λ (x : List ℕ). tempRead x (linesOf (a .text .now))) (a .name .now) (a .read .now) _ (λ n q h. c .before .before .before .before .before .before .before .before .pre .1 (a .name .now) n (c .before .before .before .before .before .before .before .before .pre .0 .0) (c .before .before .before .before .before .before .before .before .pre .0 .1) q h) (sym (c .before .before .before .flag-of .ensures) ∙ c .before .b .given .1)
+returns c = let a = c .before .before .before .before .before .before .before .before .args in told (a .own .now) (λ (x : List ℕ). tempRead x (linesOf (a .text .now))) (a .name .now) (a .read .now) _ (λ n q h. c .before .before .before .before .before .before .before .before .pre .1 (a .name .now) n (c .before .before .before .before .before .before .before .before .pre .0 .0) (c .before .before .before .before .before .before .before .before .pre .0 .1 .1) q h) _ (c .before .before .before .before .before .before .before .before .pre .0 .1 .0) (sym (c .before .before .before .flag-of .ensures) ∙ c .before .b .given .1)
 
 returns-2 : tie.Need-returns-2
 returns-2 c = search needs
