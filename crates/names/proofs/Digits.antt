@@ -3,7 +3,7 @@ use Prim.Native.Nat.{ℕ, suc, _+_, _-_, _*_, _^_, _≤_, _<_}
 use mathlib.Core.Path.{_≡_, refl, sym, ap, _∙_}
 use mathlib.Core.Bool.{Bool, true, false, cond, _&&_}
 use mathlib.Core.List.{List, [], _∷_, _++_}
-use native.Mathlib.Nat.{le-refl, le-trans}
+use native.Mathlib.Nat.{le-refl, le-trans, pow-le-pow-right, pow-suc}
 use native.Mathlib.Numerals.{add-one}
 use native.Mathlib.Omega.{arith}
 use borrow.Author.Tests.{le-ltb, lt-ltb, ltb-true, eq-eqb, ne-eqb, eqb-true}
@@ -69,6 +69,13 @@ module _ (s : List ℕ) (i v : ℕ) (h : i < length s) where
 
   pub number-digit : isDigit (getD s i 0) ≡ true → numbered v (drop i s) ≡ numbered (v * 10 + (getD s i 0 - 48)) (drop (i + 1) s)
   number-digit e = rw (add-one i, drop-cons s i 0 h) (on v (getD s i 0) (drop (suc i) s) e)
+
+-- after at most nine digits a number is far below 64 bits, and after one digit more it is below ten times as much
+pub few-below : (i v : ℕ) → i ≤ 9 → v < 10 ^ i → v < 10 ^ 9
+few-below i v h l = let p : 10 ^ i ≤ 10 ^ 9 = pow-le-pow-right (omega arith) h in omega arith
+
+pub few-more : (i v x : ℕ) → x ≤ 9 → v < 10 ^ i → v * 10 + x < 10 ^ (i + 1)
+few-more i v x h l = rw (add-one i, pow-suc 10 i) (omega arith)
 
 pub number-none : (s : List ℕ) → length s ≡ 0 → readNumber s ≡ None
 unfolding readNumber

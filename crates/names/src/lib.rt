@@ -1,6 +1,8 @@
 // The names of registers, phis and temps.
 ghost use mathlib.Core.Path.{_≡_};
 ghost use mathlib.Core.List.{[], _∷_, _++_};
+ghost use Prim.Native.Nat.{_≤_};
+ghost use lib.ListN.{length};
 ghost use Rattle.lines.specs.Lf.{same};
 ghost use Rattle.names.specs.Names.{allDigits, readNumber, decimal, regBy, regOf, phiOf, isTemp, regText, phiText, regIs, isIdent};
 ghost use Rattle.names.specs.Inner.Names.{zeros, numberAfter};
@@ -27,8 +29,36 @@ pub enum PhiName {
 
 const MOST: u64 = 18446744073709551615;
 
+// The number that at most so many digits are fits 64 bits, whatever they are.
+const FEW: usize = 9;
+
+// The number that few digits are.
+fn read_few(s: &[u8]) -> Number
+    requires { ⌜ length (now s) ≤ 9 ⌝ }
+    ensures { λ r. ⌜ r ≡ readNumber (now (s .entry)) ⌝ }
+{
+    if s.len() == 0 {
+        return Number::None;
+    }
+    let mut v: u64 = 0;
+    let mut i = 0;
+    while i < s.len() {
+        let d = s[i];
+        if d < b'0' {
+            return Number::None;
+        }
+        if b'9' < d {
+            return Number::None;
+        }
+        let x = (d - b'0') as u64;
+        v = v * 10 + x;
+        i += 1;
+    }
+    Number::Of(v)
+}
+
 // The number that digits are, where it fits 64 bits.
-pub fn read_number(s: &[u8]) -> Number
+fn read_many(s: &[u8]) -> Number
     ensures { λ r. ⌜ r ≡ readNumber (now (s .entry)) ⌝ }
 {
     if s.len() == 0 {
@@ -56,6 +86,16 @@ pub fn read_number(s: &[u8]) -> Number
         i += 1;
     }
     Number::Of(v)
+}
+
+// The same; of few digits the number is not asked whether it fits.
+pub fn read_number(s: &[u8]) -> Number
+    ensures { λ r. ⌜ r ≡ readNumber (now (s .entry)) ⌝ }
+{
+    if s.len() <= FEW {
+        return read_few(s);
+    }
+    read_many(s)
 }
 
 // How many zeros lead, of digits; the last digit is not counted.

@@ -6,8 +6,8 @@ use lib.ListN.{length, drop, drop-of-length-le}
 use Rattle.lines.proofs.Tests.{is-in, is-below, is-above}
 use Rattle.names.specs.Names.{numbered, readNumber}
 use Rattle.names.proofs.Digits.{number-none, number-some, number-other, number-digit, number-end, too-large}
-use Rattle.names.proofs.read_number.Statement.{statement}
-use Rattle.names.proofs.read_number.Tie as tie
+use Rattle.names.proofs.read_many.Statement.{statement}
+use Rattle.names.proofs.read_many.Tie as tie
 
 abbrev Inv-loop : tie.InvT-loop
 Inv-loop s v₀ i₀ v i = (v < 2 ^ 64) × (numbered v (drop i s) ≡ readNumber s)
@@ -60,8 +60,8 @@ loop-again c = let s = c .before .before .before .before .before .before .before
 returns-6 : tie.Need-returns-6 Inv-loop μ-loop
 returns-6 c = let s = c .before .before .before .args .s .now in let l = c .before .loop in sym (number-end (l .v) (l .inv .0)) ∙ sym (ap (numbered (l .v)) (drop-of-length-le s (c .loop-test .left))) ∙ l .inv .1
 
-pub read-number-spec : {M : Type 1} → statement M
-read-number-spec =
+pub read-many-spec : {M : Type 1} → statement M
+read-many-spec =
     tie.close
     (tie.spec
     Inv-loop
