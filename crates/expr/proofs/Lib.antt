@@ -1,4 +1,5 @@
 pub mod FixLaws
+pub mod CallLaws
 pub mod CommentLaws
 pub mod QuoteLaws
 pub mod SpaceLaws

@@ -36,7 +36,7 @@ pub data At : Type 0 where
   escaped : ℕ → At
 
 -- where the byte after x stands
-abbrev next : At → ℕ → At
+abbrev pub next : At → ℕ → At
 next outside x = cond (isQuote x) (quoted x) outside
 next (quoted q) x = cond (eqb x 92) (escaped q) (cond (eqb x q) outside (quoted q))
 next (escaped q) x = quoted q
@@ -46,7 +46,7 @@ abbrev pub ends : At → List ℕ → At
 ends p [] = p
 ends p (x ∷ s) = ends (next p x) s
 
-abbrev isOut : At → Bool
+abbrev pub isOut : At → Bool
 isOut outside = true
 isOut (quoted q) = false
 isOut (escaped q) = false
@@ -69,12 +69,12 @@ abbrev pub tidy : At → List ℕ → Bool
 tidy p [] = true
 tidy p (x ∷ s) = here p (x ∷ s) && tidy (next p x) s
 
-out-is : (p : At) → isOut p ≡ true → p ≡ outside
+pub out-is : (p : At) → isOut p ≡ true → p ≡ outside
 out-is outside h = refl
 out-is (quoted q) h = no h
 out-is (escaped q) h = no h
 
-ends-append : (p : At) (x y : List ℕ) → ends p (x ++ y) ≡ ends (ends p x) y
+pub ends-append : (p : At) (x y : List ℕ) → ends p (x ++ y) ≡ ends (ends p x) y
 ends-append p [] y = refl
 ends-append p (a ∷ x) y = ends-append (next p a) x y
 
@@ -204,7 +204,7 @@ strip-tidy s = cut-tidy s .0 outside
 
 -- ---- bytes that are no quotes
 
-quote-not : (f : ℕ → Bool) → f 34 ≡ false → f 39 ≡ false → f 96 ≡ false → (a : ℕ) → f a ≡ true → isQuote a ≡ false
+pub quote-not : (f : ℕ → Bool) → f 34 ≡ false → f 39 ≡ false → f 96 ≡ false → (a : ℕ) → f a ≡ true → isQuote a ≡ false
 quote-not f p q r a h = go (eqb a 34) refl (eqb a 39) refl (eqb a 96) refl
   where
     go : (x : Bool) → eqb a 34 ≡ x → (y : Bool) → eqb a 39 ≡ y → (z : Bool) → eqb a 96 ≡ z → isQuote a ≡ false
@@ -214,14 +214,14 @@ quote-not f p q r a h = go (eqb a 34) refl (eqb a 39) refl (eqb a 96) refl
     go false e false k false l = rw (e, k, l)
 
 -- a text of them ends where it begins, outside quotes
-plain-ends : (f : ℕ → Bool) → f 34 ≡ false → f 39 ≡ false → f 96 ≡ false → (s : List ℕ) → all f s ≡ true → ends outside s ≡ outside
+pub plain-ends : (f : ℕ → Bool) → f 34 ≡ false → f 39 ≡ false → f 96 ≡ false → (s : List ℕ) → all f s ≡ true → ends outside s ≡ outside
 plain-ends f p q r [] h = refl
 plain-ends f p q r (a ∷ s) h = rw (quote-not f p q r a (and-left (f a) (all f s) h)) (plain-ends f p q r s (and-right (f a) (all f s) h))
 
 space-ends : (s : List ℕ) → all isSpace s ≡ true → ends outside s ≡ outside
 space-ends s h = plain-ends isSpace refl refl refl s h
 
-space-next : (a : ℕ) → isSpace a ≡ true → next outside a ≡ outside
+pub space-next : (a : ℕ) → isSpace a ≡ true → next outside a ≡ outside
 space-next a h = rw (quote-not isSpace refl refl refl a h)
 
 -- ---- trimming
@@ -235,7 +235,7 @@ start-tidy (a ∷ s) h = go (start-tidy s) (isSpace a) refl
     go on true e = on (ap (λ (p : At). tidy p s) (sym (space-next a e)) ∙ and-right (bare (a ∷ s)) _ h)
     go on false e = h
 
-start-ends : (s : List ℕ) → ends outside (spaceStart s) ≡ ends outside s
+pub start-ends : (s : List ℕ) → ends outside (spaceStart s) ≡ ends outside s
 unfolding spaceStart
 start-ends [] = refl
 start-ends (a ∷ s) = go (start-ends s) (isSpace a) refl
@@ -244,7 +244,7 @@ start-ends (a ∷ s) = go (start-ends s) (isSpace a) refl
     go on true e = on ∙ ap (λ (p : At). ends p s) (sym (space-next a e))
     go on false e = refl
 
-end-out : (s : List ℕ) (p : At) → ends p (spaceEnd s) ≡ outside → ends p s ≡ outside
+pub end-out : (s : List ℕ) (p : At) → ends p (spaceEnd s) ≡ outside → ends p s ≡ outside
 unfolding spaceEnd
 end-out [] p h = h
 end-out (a ∷ s) p h = go (end-out s) (spaceEnd s) refl (isSpace a) refl h
@@ -269,7 +269,7 @@ trim-open s h = go (whole (spaceTrim s)) refl
 -- ---- an array
 
 -- its brackets, and what stands between them
-between : (t : List ℕ) → wrapped 91 93 t ≡ true → t ≡ 91 ∷ (inner t ++ (93 ∷ []))
+pub between : (t : List ℕ) → wrapped 91 93 t ≡ true → t ≡ 91 ∷ (inner t ++ (93 ∷ []))
 unfolding wrapped
 between [] h = no h
 between (a ∷ []) h = no h
@@ -370,7 +370,7 @@ shut-ends q (x ∷ y ∷ s) n h = go (shut-ends q s) (shut-ends q (y ∷ s)) (eq
     go far on false e true d m k = absurd (omega arith)
     go far on false e false d m k = rw (e, d) (on (omega arith) k)
 
-either-quote : (q : ℕ) → among (34 ∷ 39 ∷ []) q ≡ true → isQuote q ≡ true
+pub either-quote : (q : ℕ) → among (34 ∷ 39 ∷ []) q ≡ true → isQuote q ≡ true
 either-quote q e = go (eqb q 34) (eqb q 39) e
   where
     go : (a b : Bool) → (a || (b || false)) ≡ true → (a || (b || (eqb q 96 || false))) ≡ true
@@ -378,7 +378,7 @@ either-quote q e = go (eqb q 34) (eqb q 39) e
     go false true e = refl
     go false false e = no e
 
-closed-ends : (t : List ℕ) → isClosed t ≡ true → ends outside t ≡ outside
+pub closed-ends : (t : List ℕ) → isClosed t ≡ true → ends outside t ≡ outside
 unfolding isClosed
 closed-ends [] h = no h
 closed-ends (x ∷ s) h =

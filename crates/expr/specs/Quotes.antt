@@ -1,7 +1,7 @@
 -- Strict mode: comments are cut outside quotes alone, and a quoted text is one literal. Assumes nothing.
 use Prim.Native.Nat.{ℕ, zero, suc}
 use Prim.Native.Char.{code}
-use mathlib.Core.Bool.{Bool, true, false, cond, _&&_}
+use mathlib.Core.Bool.{Bool, true, false, cond, _&&_, _||_}
 use mathlib.Core.List.{List, [], _∷_}
 use lib.Dec.{eqb}
 use lib.ListN.{length, drop, getD}
@@ -40,3 +40,19 @@ closedBy q t = eqb (suc (quoteLen (drop 1 t) q)) (length t) && quoteShut (drop 1
 -- a `"` or a `'` begins a text and is closed by its last byte
 unfoldable pub isClosed : List ℕ → Bool
 isClosed t = among (ascii "\"'") (getD t 0 0) && closedBy (getD t 0 0) t
+
+-- ---- calls
+
+-- a `(` stands outside the literals of a text, of which the first k bytes belong to one
+unfoldable pub callGo : List ℕ → ℕ → Bool
+callGo [] k = false
+callGo (a ∷ s) (suc k) = callGo s k
+callGo (a ∷ s) zero =
+    let literal = callGo s (quoteLen s a) in
+    let on = callGo s 0 in
+    cond (isQuote a) literal (eqb a (code "(") || on)
+
+-- a value holds a call: a `(` outside comments and quotes
+unfoldable pub holdsCall : List ℕ → Bool
+unfolding callGo stripQuoted
+holdsCall v = callGo (stripQuoted v) 0
