@@ -10,6 +10,7 @@ use wire::Wire;
 fn read(wire: &mut Wire) -> Option<Asked> {
     Some(Asked {
         pass: wire.one()?,
+        mode: wire.one()?,
         short: wire.one()?,
         room: wire.four()?,
         text: wire.text(MOST_BYTES as u64 + 1)?,

@@ -1,6 +1,7 @@
 //! Says beforehand where the original would not end: `purity` copies each byte as a character, so
 //! text beyond ASCII doubles at each nested bracket.
 
+use crate::judge::PLAIN;
 use opt::exports::strip_comments;
 
 /// Copied characters that are still done in well under a second.
@@ -30,21 +31,23 @@ fn rise(text: &str) -> u64 {
     most as u64
 }
 
-fn cost(value: &str) -> u64 {
+fn brackets(line: &str) -> u64 {
+    line.bytes().filter(|b| *b == b'[').count() as u64
+}
+
+/// In strict mode, where quotes decide which brackets are cut with a comment, all of them count.
+fn cost(mode: u8, value: &str) -> u64 {
     // nearly all values: nothing doubles, or nothing is nested
     if value.is_ascii() || !value.contains('[') {
         return 0;
     }
-    doubled(beyond_ascii(value), 1 + rise(&strip_comments(value)))
+    let nested = if mode == PLAIN { rise(&strip_comments(value)) } else { brackets(value) };
+    doubled(beyond_ascii(value), 1 + nested)
 }
 
 /// Whether `purity` of this value ends soon.
-pub fn value_ends(value: &str) -> bool {
-    cost(value) <= MOST
-}
-
-fn brackets(line: &str) -> u64 {
-    line.bytes().filter(|b| *b == b'[').count() as u64
+pub fn value_ends(mode: u8, value: &str) -> bool {
+    cost(mode, value) <= MOST
 }
 
 /// The whole entry can put the value of a store into the line below before a phi is judged, and so
@@ -58,11 +61,11 @@ fn joined_cost(text: &str) -> u64 {
 }
 
 /// Whether the given pass (0: all of them) ends soon on this text.
-pub fn pass_ends(pass: u8, text: &str) -> bool {
+pub fn pass_ends(pass: u8, mode: u8, text: &str) -> bool {
     if pass > 3 || text.is_ascii() {
         return true;
     }
-    let values = text.lines().filter_map(|l| l.split_once('=')).map(|(_, v)| cost(v));
+    let values = text.lines().filter_map(|l| l.split_once('=')).map(|(_, v)| cost(mode, v));
     let joined = if pass == 0 { joined_cost(text) } else { 0 };
     values.fold(joined, u64::saturating_add) <= MOST
 }

@@ -1,7 +1,6 @@
-//! What the original answers to one request: document 01's table "Numbers a caller gets".
+//! What the original answers to one request: document 01's table "Numbers a caller gets", with the numbers of document 02.
 
 use crate::ends;
-use opt::exports;
 use std::panic::{catch_unwind, AssertUnwindSafe};
 
 pub const MOST_BYTES: usize = 16_384;
@@ -11,12 +10,17 @@ pub const MOST_ROOM: u32 = 32_768;
 /// The number of lent work buffers.
 pub const WORK: u8 = 6;
 
+/// The modes: the original as it is, and its copy in strict mode.
+pub const PLAIN: u8 = 0;
+pub const STRICT: u8 = 1;
+
 /// Not numbers of the table: the original would not end, and the original panicked.
 pub const SKIPPED: u8 = 255;
 pub const PANICKED: u8 = 254;
 
 pub struct Asked {
     pub pass: u8,
+    pub mode: u8,
     pub short: u8,
     pub room: u32,
     pub text: Vec<u8>,
@@ -60,6 +64,9 @@ fn accepted(asked: &Asked, work: u8) -> Result<&str, Answer> {
     if asked.pass > 6 {
         return Err(refused(1, 0));
     }
+    if asked.mode > STRICT {
+        return Err(refused(12, 0));
+    }
     if asked.text.len() > MOST_BYTES {
         return Err(refused(2, MOST_BYTES));
     }
@@ -73,8 +80,13 @@ fn accepted(asked: &Asked, work: u8) -> Result<&str, Answer> {
     crowded_line(text).map_or(Ok(text), |line| Err(refused(6, line)))
 }
 
-fn run(pass: u8, text: &str) -> Option<String> {
-    let work = || if pass == 0 { opt::optimize(text) } else { exports::one_pass(pass, text) };
+fn run(pass: u8, mode: u8, text: &str) -> Option<String> {
+    let work = || match (mode, pass) {
+        (PLAIN, 0) => opt::optimize(text),
+        (PLAIN, _) => opt::exports::one_pass(pass, text),
+        (_, 0) => strict::optimize(text),
+        _ => strict::exports::one_pass(pass, text),
+    };
     catch_unwind(AssertUnwindSafe(work)).ok()
 }
 
@@ -83,10 +95,10 @@ pub fn answer(asked: &Asked, work: u8) -> Answer {
         Ok(text) => text,
         Err(answer) => return answer,
     };
-    if !ends::pass_ends(asked.pass, text) {
+    if !ends::pass_ends(asked.pass, asked.mode, text) {
         return refused(SKIPPED, 0);
     }
-    let Some(result) = run(asked.pass, text) else { return refused(PANICKED, 0) };
+    let Some(result) = run(asked.pass, asked.mode, text) else { return refused(PANICKED, 0) };
     if result.len() > asked.room.min(MOST_ROOM) as usize {
         return refused(7, result.len());
     }

@@ -4,6 +4,7 @@ mod ends;
 mod judge;
 mod wire;
 
+use judge::{PLAIN, STRICT};
 use opt::exports::{self, Parsed};
 use wire::Wire;
 
@@ -92,7 +93,7 @@ fn breaks(q: &Asked) -> Bytes {
 }
 
 fn pass(pass: u8, q: &Asked) -> Bytes {
-    if !ends::pass_ends(pass, q.a) {
+    if !ends::pass_ends(pass, PLAIN, q.a) {
         return None;
     }
     let mut lines = list(q.a);
@@ -100,7 +101,7 @@ fn pass(pass: u8, q: &Asked) -> Bytes {
     ended(lines)
 }
 
-/// The functions 1 to 36 and 41 to 46, 4 apart: it alone takes bytes that are no text.
+/// The functions 1 to 37 and 41 to 46, 4 apart: it alone takes bytes that are no text.
 fn ask(function: u8, q: &Asked) -> Bytes {
     match function {
         1 => trim(q),
@@ -128,7 +129,7 @@ fn ask_further(function: u8, q: &Asked) -> Bytes {
     match function {
         19 => flags(q.a.bytes().map(exports::is_ident_byte)),
         20 => Some(exports::strip_comments(q.a).chars().map(|c| c as u8).collect()),
-        21 => ends::value_ends(q.a).then(|| vec![exports::purity(q.a)]),
+        21 => ends::value_ends(PLAIN, q.a).then(|| vec![exports::purity(q.a)]),
         22 => Some(exports::strip_lexical(q.a).into_bytes()),
         23 => flag(exports::phi_rhs_pure(q.a)),
         24 => ended(exports::ident_words(q.a)),
@@ -143,7 +144,8 @@ fn ask_further(function: u8, q: &Asked) -> Bytes {
         33 => flag(exports::is_primary_expr(q.a)),
         34 => breaks(q),
         35 => flags(exports::call_scratch_lines(&list(q.a))),
-        36 => ends::value_ends(q.a).then(|| vec![exports::pure_expr(q.a) as u8]),
+        36 => ends::value_ends(PLAIN, q.a).then(|| vec![exports::pure_expr(q.a) as u8]),
+        37 => ends::value_ends(STRICT, q.a).then(|| vec![strict::exports::purity(q.a)]),
         41..=46 => pass(function - 40, q),
         _ => None,
     }

@@ -10,15 +10,16 @@ mod rules;
 mod texts;
 mod wire;
 
-use judge::{Asked, MOST_ROOM, WORK};
+use judge::{Asked, MOST_ROOM, PLAIN, STRICT, WORK};
 use random::Random;
-use texts::Texts;
+use texts::{Alphabet, Texts};
 use wire::Wire;
 
 enum Kind {
     Listing,
     LongListing,
     Special,
+    Quotes,
     Soup,
     Damaged,
     Short,
@@ -33,9 +34,10 @@ enum Kind {
 
 /// How many of each hundred requests are of which kind.
 const MIX: &[(u64, Kind)] = &[
-    (33, Kind::Listing),
+    (25, Kind::Listing),
     (2, Kind::LongListing),
     (5, Kind::Special),
+    (8, Kind::Quotes),
     (12, Kind::Soup),
     (14, Kind::Damaged),
     (16, Kind::Short),
@@ -75,6 +77,7 @@ impl Maker {
         match kind {
             Kind::LongListing => t.long_listing(r),
             Kind::Special => t.special(r),
+            Kind::Quotes => texts::quoted(r).into_bytes(),
             Kind::Soup => texts::soup(r, 40).into_bytes(),
             Kind::Damaged => {
                 let whole = t.listing(r, pass);
@@ -95,8 +98,12 @@ impl Maker {
     fn request(&self, index: u64) -> Asked {
         let r = &mut Random::new(self.seed, index);
         let (kind, before) = kind_of(index);
-        let pass = r.below(10).saturating_sub(3) as u8;
-        let mut asked = Asked { pass, short: 0, room: MOST_ROOM, text: self.text(kind, before, pass, r) };
+        let pass = match kind {
+            Kind::Quotes => r.below(4) as u8, // no other pass judges values
+            _ => r.below(10).saturating_sub(3) as u8,
+        };
+        let mode = r.below(2) as u8;
+        let mut asked = Asked { pass, mode, short: 0, room: MOST_ROOM, text: self.text(kind, before, pass, r) };
         match kind {
             Kind::Room => asked.room = near_room(r, &asked),
             Kind::Work => asked.short = r.between(1, WORK as usize + 1) as u8,
@@ -109,13 +116,14 @@ impl Maker {
     /// Several reasons to refuse at once, to see which comes first.
     fn spoil(&self, r: &mut Random, asked: &mut Asked) {
         for _ in 0..r.between(1, 3) {
-            match r.below(7) {
+            match r.below(8) {
                 0 => asked.pass = *r.pick(&[&7, &8, &255]),
                 1 => asked.text = self.texts.at_most_bytes(r),
                 2 => asked.short = r.below(256) as u8,
                 3 => asked.text = texts::with_sequence(r, std::mem::take(&mut asked.text)),
                 4 => asked.text.extend_from_slice(&self.texts.at_most_lines(r)),
                 5 => asked.text.extend_from_slice(&self.texts.at_most_brackets(r)),
+                6 => asked.mode = *r.pick(&[&2, &3, &4, &255]),
                 _ => asked.room = *r.pick(&[&0, &1, &32_769, &u32::MAX]),
             }
         }
@@ -135,7 +143,7 @@ fn near_room(r: &mut Random, asked: &Asked) -> u32 {
 }
 
 fn write(wire: &mut Wire, asked: &Asked) -> Option<()> {
-    wire.put(&[asked.pass, asked.short])?;
+    wire.put(&[asked.pass, asked.mode, asked.short])?;
     wire.put(&asked.room.to_le_bytes())?;
     wire.put_text(&asked.text)
 }
@@ -145,18 +153,19 @@ fn requests(wire: &mut Wire, seed: u64, count: u64) -> Option<()> {
     (0..count).try_for_each(|index| write(wire, &maker.request(index)))
 }
 
-/// Each text of up to that many tokens of an alphabet, for each of the passes.
-fn all_texts(wire: &mut Wire, alphabet: &[&str], tokens: u64, passes: &[u8]) -> Option<()> {
-    let count = (0..=tokens as u32).map(|n| (alphabet.len() as u64).pow(n)).sum();
+/// Each text of up to that many tokens of an alphabet, for each of the passes, in each mode.
+fn all_texts(wire: &mut Wire, alphabet: &Alphabet, tokens: u64, passes: &[u8]) -> Option<()> {
+    let count = (0..=tokens as u32).map(|n| (alphabet.tokens.len() as u64).pow(n)).sum();
     (0..count).try_for_each(|index| {
-        let text = texts::counted(alphabet, index).into_bytes();
-        passes.iter().try_for_each(|&pass| write(wire, &Asked { pass, short: 0, room: MOST_ROOM, text: text.clone() }))
+        let text = alphabet.text(index).into_bytes();
+        let asked = passes.iter().flat_map(|&pass| [(pass, PLAIN), (pass, STRICT)]);
+        asked.into_iter().try_for_each(|(pass, mode)| write(wire, &Asked { pass, mode, short: 0, room: MOST_ROOM, text: text.clone() }))
     })
 }
 
 /// Requests for the whole of texts about the rules of UTF-8.
 fn flaws(wire: &mut Wire, mut texts: impl Iterator<Item = Vec<u8>>) -> Option<()> {
-    texts.try_for_each(|text| write(wire, &Asked { pass: 0, short: 0, room: MOST_ROOM, text }))
+    texts.try_for_each(|text| write(wire, &Asked { pass: 0, mode: PLAIN, short: 0, room: MOST_ROOM, text }))
 }
 
 fn number(word: Option<&String>) -> u64 {
@@ -184,8 +193,9 @@ fn main() {
         }
         Some("all") => {
             let passes = if words.len() > 3 { numbers(&words) } else { (0..=6).collect() };
-            let name = words.get(1).map_or("", String::as_str);
-            all_texts(&mut wire, texts::alphabet(name).unwrap_or_else(|| wire::usage("alphabets: characters, words, lines")), number(words.get(2)), &passes)
+            let named = words.get(1).and_then(|name| Alphabet::of(name));
+            let alphabet = named.unwrap_or_else(|| wire::usage("alphabets: characters, words, lines, quotes"));
+            all_texts(&mut wire, alphabet, number(words.get(2)), &passes)
         }
         _ => requests(&mut wire, number(words.first()), number(words.get(1))),
     };

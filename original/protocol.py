@@ -17,7 +17,7 @@ NAMES = {
     20: "strip_comments", 21: "purity", 22: "strip_lexical", 23: "phi_rhs_pure", 24: "ident_words", 25: "regions",
     26: "block_ids", 27: "block_paths", 28: "inside_loop", 29: "starts_statement", 30: "is_control_header",
     31: "paren_if_needed", 32: "is_plain_ref", 33: "is_primary_expr", 34: "breaks_dependency",
-    35: "call_scratch_lines", 36: "pure_expr",
+    35: "call_scratch_lines", 36: "pure_expr", 37: "purity in strict mode",
     41: "prune_dead_temps", 42: "optimize_once", 43: "prune_dead_phis", 44: "rebuild_calls", 45: "prune_decls", 46: "bind_declarators",
 }
 
@@ -52,9 +52,19 @@ def shown(text):
 class Texts:
     """Requests for whole texts, and their answers."""
 
+    HEAD = struct.Struct("<BBBII")  # pass, mode, short, room, length; the text follows
+
+    @staticmethod
+    def request(which, mode, room, text, short=0):
+        return Texts.HEAD.pack(which, mode, short, room, len(text)) + text
+
+    @staticmethod
+    def text(request):
+        return request[Texts.HEAD.size :]
+
     @staticmethod
     def request_end(data, at):
-        return at + 10 + struct.unpack_from("<I", data, at + 6)[0]
+        return at + Texts.HEAD.size + Texts.HEAD.unpack_from(data, at)[4]
 
     @staticmethod
     def answer_end(data, at):
@@ -71,8 +81,8 @@ class Texts:
 
     @staticmethod
     def show_request(request):
-        which, short, room, length = struct.unpack_from("<BBII", request)
-        return f"pass {which}, short {short}, room {room}, {length} bytes:\n{shown(request[10:])}"
+        which, mode, short, room, length = Texts.HEAD.unpack_from(request)
+        return f"pass {which}, mode {mode}, short {short}, room {room}, {length} bytes:\n{shown(Texts.text(request))}"
 
     @staticmethod
     def show_answer(answer):

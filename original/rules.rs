@@ -313,7 +313,8 @@ pub const TOKENS: &[&str] = &[
     "r0 = ", "r1 = r0;", "use(r0);", "let r0, r1;", "phi0 = r0;", "let t0;", "t0 = 1;",
 ];
 
-/// Three small alphabets, of which all short texts are made in turn.
+/// Four small alphabets, of which all short texts are made in turn. Those of QUOTES are values: quotes, escapes, comment marks, brackets
+/// and calls, by which the modes part.
 pub const CHARACTERS: &[&str] = &[
     "a", "r", "0", "=", ";", " ", "\n", "\r", "/", "*", "\"", "[", "]", ",", "{", "}", "(", ".", "-", "\\", "\u{3000}",
 ];
@@ -326,4 +327,21 @@ pub const LINES: &[&str] = &[
     "r1 = r0.m;\n", "r0.m(r1);\n", "while (x) {\n", "}\n", "} else {\n", "if (r0)\n", "phi0 = r0;\n", "phi0 = phi1 = f();\n",
     "let phi0;\n", "let t0;\n", "t0 = r0;\n", "var x;\n", "\n", "// c\n", "x = -r0;\n", "r0 = -1;\n", "use(phi1, t0);\n",
     "r1 = g(r0);\n", "a = {\n",
+];
+pub const QUOTES: &[&str] = &["\"", "'", "`", "\\", "/", "//", "/*", "*/", "[", "]", ",", "f()", "1"];
+/// A listing in which passes 1, 2 and 3 judge a value, `#`.
+pub const JUDGED: &str = "let t0;\nt0 = #;\nr0 = #;\nphi0 = #;\nr1 = #;\nuse(r1);\n";
+
+/// Pieces of values about quotes; shapes of such values, `#` being some of these pieces; lines of such values, each in the place of an `@`.
+pub const LITERALS: &[&str] = &[
+    "\"", "\"", "'", "'", "`", "\\", "\\", "//", "/*", "*/", "/", "*", "[", "]", ",", ", ", "f()", "1", "a", " ", " + ", "\\\"", "\\'", "\\\\",
+    "\"a\"", "'b'", "`c`", "http://x", "/* c */", "[1]", "é", "\u{3000}", "(", ")", "r3",
+];
+pub const LITERAL_VALUES: &[&str] = &[
+    "#", "\"#\"", "\"#\"", "'#'", "'#'", "`#`", "[#]", "[\"#\"]", "[\"#\", '#']", "[[\"#\", [#]], 1]", "\"#\" + f() + \"#\"", "'#' + f()", "\"#\" /* # */",
+    "\"#\" // #", "/* # */ '#'",
+];
+pub const LITERAL_LINES: &[&str] = &[
+    "r0 = @;", "r0 = @;\nuse(r0);", "r0 = @;\nuse(r0);", "r0 = @;\nr0 = @;\nuse(r0);", "r0 = @;\nphi0 = [r0, @];", "r0 = @;\nr1 = r0;\nuse(r1);", "let t0;\nt0 = @;",
+    "let t0, t1;\nt0 = @;\nt1 = @;", "phi0 = @;", "let phi0;\nphi0 = @;",
 ];

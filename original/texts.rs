@@ -4,7 +4,7 @@ use crate::grammar::Grammar;
 use crate::judge::{MOST_BRACKETS, MOST_BYTES, MOST_LINES};
 use crate::numbers;
 use crate::random::Random;
-use crate::rules::{CHARACTERS, LINES, TOKENS, WORDS};
+use crate::rules::{CHARACTERS, JUDGED, LINES, LITERALS, LITERAL_LINES, LITERAL_VALUES, QUOTES, TOKENS, WORDS};
 
 /// Each class of bytes that RFC 3629 forbids, with what is allowed next to it.
 const SEQUENCES: &[&[u8]] = &[
@@ -99,19 +99,62 @@ pub fn soup(random: &mut Random, tokens: usize) -> String {
     (0..random.between(1, tokens)).map(|_| random.pick(TOKENS)).collect()
 }
 
-/// The text of that number over three alphabets in turn.
-pub fn short(number: u64) -> String {
-    counted([CHARACTERS, WORDS, LINES][(number % 3) as usize], number / 3)
+/// A small alphabet, by its name: its texts are listings, or the values of one.
+pub struct Alphabet {
+    name: &'static str,
+    pub tokens: &'static [&'static str],
+    are_values: bool,
 }
 
-/// An alphabet by its name.
-pub fn alphabet(name: &str) -> Option<&'static [&'static str]> {
-    match name {
-        "characters" => Some(CHARACTERS),
-        "words" => Some(WORDS),
-        "lines" => Some(LINES),
-        _ => None,
+const ALPHABETS: [Alphabet; 4] = [
+    Alphabet { name: "characters", tokens: CHARACTERS, are_values: false },
+    Alphabet { name: "words", tokens: WORDS, are_values: false },
+    Alphabet { name: "lines", tokens: LINES, are_values: false },
+    Alphabet { name: "quotes", tokens: QUOTES, are_values: true },
+];
+
+impl Alphabet {
+    pub fn of(name: &str) -> Option<&'static Alphabet> {
+        ALPHABETS.iter().find(|a| a.name == name)
     }
+
+    /// The text of that number: the shortest first, none left out.
+    pub fn text(&self, number: u64) -> String {
+        let text = counted(self.tokens, number);
+        if self.are_values { JUDGED.replace('#', &text) } else { text }
+    }
+}
+
+/// The text of that number over the alphabets in turn.
+pub fn short(number: u64) -> String {
+    let count = ALPHABETS.len() as u64;
+    ALPHABETS[(number % count) as usize].text(number / count)
+}
+
+/// A shape with a text of its own in the place of each mark.
+fn filled(random: &mut Random, shape: &str, mark: char, text: fn(&mut Random) -> String) -> String {
+    let mut pieces = shape.split(mark);
+    let first = pieces.next().unwrap_or("").to_string();
+    pieces.fold(first, |out, piece| out + &text(random) + piece)
+}
+
+fn literals(random: &mut Random) -> String {
+    (0..random.below(9)).map(|_| random.pick(LITERALS)).collect()
+}
+
+/// A value of quotes, escapes, comment marks, brackets and calls.
+pub fn quoted_value(random: &mut Random) -> String {
+    let shape = random.pick(LITERAL_VALUES);
+    filled(random, shape, '#', literals)
+}
+
+/// A listing of such values.
+pub fn quoted(random: &mut Random) -> String {
+    let line = |r: &mut Random| {
+        let shape = r.pick(LITERAL_LINES);
+        filled(r, shape, '@', quoted_value) + "\n"
+    };
+    (0..random.between(1, 4)).map(|_| line(random)).collect()
 }
 
 /// The text of that number over an alphabet: the shortest first, none left out.
