@@ -27,6 +27,13 @@
  *     optlines_work, which has every buffer in it. optlines_optimize() runs all passes and
  *     optlines_run_pass() one, in buffers of the caller's own.
  *
+ *     The mode says how passes 1, 2 and 3 judge a value; the others do the same in each.
+ *
+ *         0 OPTLINES_PLAIN   as the original: "a" + f() + "b" counts as one string, and a store of
+ *                            it goes, with its call, where nothing reads it
+ *         1 OPTLINES_STRICT  a value in quotes is a string only where its opening quote is closed
+ *                            by its last character; what stands in quotes is no comment
+ *
  *     None of them allocates, keeps anything between calls, or reads or writes memory other than
  *     what is lent to it and its stack.
  *
@@ -76,6 +83,7 @@
  *         0 OPTLINES_DONE            the result is written                 0
  *         1 OPTLINES_BAD_PASS        pass is not 1 to 6 (optlines_tidy:    0
  *                                    not 0 to 6; optlines_optimize: never)
+ *        12 OPTLINES_BAD_MODE        mode is not 0 or 1                    0
  *         2 OPTLINES_TOO_LONG        text is longer than 16,384 bytes      16384
  *         3 OPTLINES_SHORT_WORK      a to e or u is shorter than stated    0
  *         4 OPTLINES_NOT_UTF8        text is not UTF-8 (RFC 3629), and     first byte of the first
@@ -123,7 +131,7 @@
  *         if (ferror(stdin))
  *             return 2;
  *
- *         uint8_t number = optlines_tidy(&work, 0, text, length);
+ *         uint8_t number = optlines_tidy(&work, 0, OPTLINES_PLAIN, text, length);
  *         if (number != OPTLINES_DONE) {
  *             fprintf(stderr, "refused %d %zu\n", number, work.place);
  *             return 1;
@@ -145,7 +153,7 @@
  *         if (ferror(stdin))
  *             return 2;
  *
- *         uint8_t number = optlines_optimize(text, text_length,
+ *         uint8_t number = optlines_optimize(OPTLINES_PLAIN, text, text_length,
  *             bytes[0], OPTLINES_BYTES, bytes[1], OPTLINES_BYTES, bytes[2], OPTLINES_BYTES,
  *             bytes[3], OPTLINES_BYTES, bytes[4], OPTLINES_BYTES, blocks, OPTLINES_BLOCKS,
  *             out, sizeof out, &length, &place);
@@ -175,6 +183,10 @@ extern "C" {
 #define OPTLINES_LINES 1024
 #define OPTLINES_BRACKETS 64
 
+/* The modes. */
+#define OPTLINES_PLAIN 0
+#define OPTLINES_STRICT 1
+
 /* Bytes of stack that are enough for a call. */
 #define OPTLINES_STACK 163840
 
@@ -191,10 +203,12 @@ enum {
     OPTLINES_CUT = 9,
     OPTLINES_OVERLONG = 10,
     OPTLINES_OUTSIDE = 11,
+    OPTLINES_BAD_MODE = 12,
     OPTLINES_OVERLAP = 255
 };
 
 uint8_t optlines_optimize(
+    size_t mode,
     const uint8_t *text, size_t text_length,
     uint8_t *a, size_t a_length,
     uint8_t *b, size_t b_length,
@@ -206,7 +220,7 @@ uint8_t optlines_optimize(
     size_t *length, size_t *place);
 
 uint8_t optlines_run_pass(
-    size_t pass,
+    size_t pass, size_t mode,
     const uint8_t *text, size_t text_length,
     uint8_t *a, size_t a_length,
     uint8_t *b, size_t b_length,
@@ -237,7 +251,7 @@ static inline int optlines_overlap(
 }
 
 static inline uint8_t optlines_tidy(
-    struct optlines_work *work, size_t pass, const uint8_t *text, size_t text_length)
+    struct optlines_work *work, size_t pass, size_t mode, const uint8_t *text, size_t text_length)
 {
     uint8_t (*w)[OPTLINES_BYTES] = work->bytes;
     size_t n = OPTLINES_BYTES;
@@ -246,11 +260,12 @@ static inline uint8_t optlines_tidy(
         return OPTLINES_OVERLAP;
     }
     if (pass == 0)
-        return optlines_optimize(text, text_length, w[0], n, w[1], n, w[2], n, w[3], n, w[4], n,
-            work->blocks, OPTLINES_BLOCKS, work->out, sizeof work->out,
-            &work->length, &work->place);
-    return optlines_run_pass(pass, text, text_length, w[0], n, w[1], n, w[2], n, w[3], n, w[4], n,
-        work->blocks, OPTLINES_BLOCKS, work->out, sizeof work->out, &work->length, &work->place);
+        return optlines_optimize(mode, text, text_length,
+            w[0], n, w[1], n, w[2], n, w[3], n, w[4], n, work->blocks, OPTLINES_BLOCKS,
+            work->out, sizeof work->out, &work->length, &work->place);
+    return optlines_run_pass(pass, mode, text, text_length,
+        w[0], n, w[1], n, w[2], n, w[3], n, w[4], n, work->blocks, OPTLINES_BLOCKS,
+        work->out, sizeof work->out, &work->length, &work->place);
 }
 
 #ifdef __cplusplus

@@ -1,8 +1,8 @@
 # shellcheck shell=sh disable=SC2154
 # The front of the project's programs: finds a program, builds it where it is missing, runs it, and makes an exit status of what it says.
 # A script sources this file after it has set `here`, the folder that it stands in with its links followed; then it calls
-# `front NAME WORDS..`. It may set `valued`, the options that take a value and go to the program, and `operands`, how many files the
-# program takes (where it is not set: one or none, and -o for many), and has to define `usage`.
+# `front NAME WORDS..`. It may set `valued`, the options that take a value and go to the program, `bare`, those that go to it without one,
+# and `operands`, how many files the program takes (where it is not set: one or none, and -o for many), and has to define `usage`.
 #
 #   in the repository   here/tools/front.sh, here/tools/run-built, here/VERSION, here/TOOLCHAIN, here/target/bin/NAME
 #   installed           PREFIX/bin/NAME (the script; here is PREFIX/bin), and in PREFIX/libexec/optlines/ the files front.sh, run-built,
@@ -249,6 +249,8 @@ quoted() { printf "'"; printf '%s' "$1" | LC_ALL=C sed "s/'/'\\\\''/g"; printf "
 
 takes_value() { case " ${valued-} " in *" $1 "*) return 0 ;; *) return 1 ;; esac }
 
+stands_bare() { case " ${bare-} " in *" $1 "*) return 0 ;; *) return 1 ;; esac }
+
 front() { # NAME WORDS..
     name=$1
     shift
@@ -273,6 +275,7 @@ front() { # NAME WORDS..
             passed="$passed$(quoted "${word%%=*}")$(quoted "${word#*=}")"
             ;;
         -?*)
+            if stands_bare "$word"; then passed="$passed$(quoted "$word")"; continue; fi
             takes_value "$word" || die "no such option: $word (see --help; a file that begins with - stands behind --)"
             [ "$left" -gt 0 ] || die "$word wants a value (see --help)"
             passed="$passed$(quoted "$word")$(quoted "$1")" left=$((left - 1))

@@ -3,6 +3,7 @@
     import optlines
     tidy = optlines.optimize(text)      # all passes over bytes
     text = optlines.run_pass(5, text)   # one pass, 1 to 6
+    tidy = optlines.optimize(text, optlines.STRICT)     # in strict mode
 
 Both raise Refused where the library refuses. `call` works in lent buffers, a Work and a result
 buffer, and answers with numbers. Threads may call at once, each with buffers of its own (optimize
@@ -22,9 +23,12 @@ LINES = 1024  # the most lines of a text
 BRACKETS = 64  # the most bytes '[' of a line
 STACK = 163840  # bytes of stack that are enough for a call, as far as it was measured
 
+# The modes: how passes 1, 2 and 3 judge a value.
+(PLAIN, STRICT) = range(2)
+
 # The numbers of include/optlines.h.
 (DONE, BAD_PASS, TOO_LONG, SHORT_WORK, NOT_UTF8, TOO_MANY_LINES, CROWDED, SHORT_RESULT) = range(8)
-(CUT, OVERLONG, OUTSIDE) = range(9, 12)
+(CUT, OVERLONG, OUTSIDE, BAD_MODE) = range(9, 13)
 
 _WORDS = {
     BAD_PASS: "there is no such pass: they are 1 to 6",
@@ -37,6 +41,7 @@ _WORDS = {
     CUT: "the text was cut: it ends within the character at byte {place}, counted from 0",
     OVERLONG: "the text has an overlong form: see byte {place}, counted from 0",
     OUTSIDE: "the text has a surrogate or a value above U+10FFFF: see byte {place}, counted from 0",
+    BAD_MODE: "there is no such mode: they are 0 and 1",
 }
 _UNKNOWN = "refused with number {number} and place {place}, unknown to this module"
 _SONAME = "liboptlines.so.1"
@@ -85,9 +90,9 @@ def _load():
                           "OPTLINES_LIBRARY to the file" % (path, why)) from why
     buffer = [ctypes.c_void_p, ctypes.c_size_t]
     places = [ctypes.POINTER(ctypes.c_size_t)] * 2
-    for entry, first in zip(entries, ([], [ctypes.c_size_t])):
-        # text, a to e, u, out; then where length and place are stored
-        entry.argtypes = first + [ctypes.c_char_p, ctypes.c_size_t] + 7 * buffer + places
+    for entry, numbers in zip(entries, (1, 2)):
+        # the pass and the mode, or the mode; text, a to e, u, out; where length and place are stored
+        entry.argtypes = [ctypes.c_size_t] * numbers + [ctypes.c_char_p, ctypes.c_size_t] + 7 * buffer + places
         entry.restype = ctypes.c_uint8
     return entries
 
@@ -110,7 +115,12 @@ class Work:
         return [part for each in (*self.bytes, self.blocks) for part in (each, len(each))]
 
 
-def call(number, text, work, out):
+def _size(number):
+    """A number as the library takes it: none wraps into a pass or a mode."""
+    return number if 0 <= number <= _LARGEST else _LARGEST
+
+
+def call(number, text, work, out, mode=PLAIN):
     """Runs all passes (number 0) or one, 1 to 6, over bytes in lent buffers.
 
     `work` is a Work, `out` a ctypes array of c_uint8. The answer is a tuple: the number of the
@@ -121,27 +131,27 @@ def call(number, text, work, out):
     length, place = ctypes.c_size_t(), ctypes.c_size_t()
     lent = [text, len(text), *work.lent(), out, len(out), ctypes.byref(length), ctypes.byref(place)]
     if number == 0:
-        answer = _optimize(*lent)
+        answer = _optimize(_size(mode), *lent)
     else:
-        answer = _run_pass(min(max(number, 0), _LARGEST), *lent)  # no number wraps into a pass
+        answer = _run_pass(_size(number), _size(mode), *lent)
     return answer, length.value, place.value
 
 
-def _result(number, text):
+def _result(number, text, mode):
     out = (ctypes.c_uint8 * (2 * min(len(text), TEXT)))()
-    answer, length, place = call(number, text, Work(), out)
+    answer, length, place = call(number, text, Work(), out, mode)
     if answer != DONE:
         raise Refused(answer, place)
     return ctypes.string_at(out, length)
 
 
-def optimize(text):
+def optimize(text, mode=PLAIN):
     """Runs all passes: the tidy text of a listing. Text and result are bytes."""
-    return _result(0, text)
+    return _result(0, text, mode)
 
 
-def run_pass(number, text):
+def run_pass(number, text, mode=PLAIN):
     """Runs one pass, 1 to 6: the text that it gives. Text and result are bytes."""
     if number == 0:
         raise Refused(BAD_PASS, 0)
-    return _result(number, text)
+    return _result(number, text, mode)

@@ -76,9 +76,9 @@ class Lent:
 
 
 class Calls(unittest.TestCase):
-    def expect(self, number, text, wanted, result=b"", shorter=0, room=ROOM):
+    def expect(self, number, text, wanted, result=b"", shorter=0, room=ROOM, mode=o.PLAIN):
         lent = Lent(shorter, room)
-        answer = o.call(number, text, lent, lent.result)
+        answer = o.call(number, text, lent, lent.result, mode)
         self.assertEqual(answer, wanted)
         after = ctypes.string_at(lent.out, ROOM + SPARE)
         self.assertEqual(after, result + bytes([FILLED]) * (ROOM + SPARE - len(result)))
@@ -102,6 +102,18 @@ class Calls(unittest.TestCase):
         self.becomes(5, b"let r007, r1, r2;\nuse(r7, r1);\n", b"let r7, r1;\nuse(r7, r1);\n")
         self.becomes(6, b"var x;\n  let r0;\n}\n  r0 = 1;\n", b"var x;\n}\n  let r0 = 1;\n")
 
+    def test_modes(self):
+        call, link = b'= "a" + f() + "b";\n', b'= "http://x";\n'
+        for number, names, head in ((1, (b"t0 ", b"t1 "), b"let t0, t1;\n"),
+                                    (2, (b"r0 ", b"r1 "), b""), (0, (b"r0 ", b"r1 "), b"")):
+            text = head + names[0] + call + names[1] + link
+            self.becomes(number, text, head + names[1] + link, mode=o.PLAIN)
+            self.becomes(number, text, head + names[0] + call, mode=o.STRICT)
+        phis = b'phi0 = "a" + f() + "b";\nphi1 = ["http://x"];\n'
+        self.becomes(3, phis, b'["http://x"];\n', mode=o.PLAIN)
+        self.becomes(3, phis, b'"a" + f() + "b";\n', mode=o.STRICT)
+        self.becomes(0, SAMPLE, TIDY, mode=o.STRICT)
+
     def test_limits(self):
         self.becomes(0, b"x" * o.TEXT, b"x" * o.TEXT)
         self.refused(0, b"x" * (o.TEXT + 1), o.TOO_LONG, o.TEXT)
@@ -119,7 +131,11 @@ class Calls(unittest.TestCase):
         bad = b"\xff" * (o.TEXT + 1)
         self.refused(7, SAMPLE, o.BAD_PASS, 0)
         self.refused(2**64 - 1, SAMPLE, o.BAD_PASS, 0)
-        self.refused(7, bad, o.BAD_PASS, 0, shorter=1, room=0)
+        self.refused(7, bad, o.BAD_PASS, 0, shorter=1, room=0, mode=2)
+        for mode in (2, 2**64 - 1, 2**64, -1):
+            self.refused(0, SAMPLE, o.BAD_MODE, 0, mode=mode)
+            self.refused(0, bad, o.BAD_MODE, 0, shorter=1, room=0, mode=mode)
+            self.refused(6, bad, o.BAD_MODE, 0, shorter=1, room=0, mode=mode)
         self.refused(0, bad, o.TOO_LONG, o.TEXT, shorter=1, room=0)
         self.refused(6, bad, o.TOO_LONG, o.TEXT, shorter=1, room=0)
         for shorter in range(1, 7):
@@ -141,7 +157,7 @@ class Calls(unittest.TestCase):
         nothing = [None, 0] * 8 + [ctypes.byref(length), ctypes.byref(place)]
         for entry, number in ((o._optimize, o.SHORT_WORK), (o._run_pass, o.BAD_PASS)):
             length.value = place.value = 1
-            first = [0] if entry is o._run_pass else []
+            first = [0, o.PLAIN] if entry is o._run_pass else [o.PLAIN]
             self.assertEqual(entry(*first, *nothing), number)
             self.assertEqual((length.value, place.value), (0, 0))
 
@@ -153,6 +169,9 @@ class Module(unittest.TestCase):
         self.assertEqual(o.optimize(SAMPLE), TIDY)
         self.assertEqual(o.optimize(b""), b"")
         self.assertEqual(o.run_pass(6, b"let r0;\nr0 = 1;\n"), b"let r0 = 1;\n")
+        link = b'r0 = "http://x";\nkeep();\n'
+        self.assertEqual((o.optimize(link), o.optimize(link, o.STRICT)), (link, b"keep();\n"))
+        self.assertEqual((o.run_pass(2, link), o.run_pass(2, link, o.STRICT)), (link, b"keep();\n"))
 
     def raises(self, number, place, words, run, *given):
         with self.assertRaises(o.Refused) as caught:
@@ -165,6 +184,10 @@ class Module(unittest.TestCase):
         no_pass = "there is no such pass: they are 1 to 6"
         for number in (0, 7, -1, 2**64 - 1, 2**64 + 1):
             self.raises(o.BAD_PASS, 0, no_pass, o.run_pass, number, SAMPLE)
+        no_mode = "there is no such mode: they are 0 and 1"
+        for mode in (2, -1, 2**64):
+            self.raises(o.BAD_MODE, 0, no_mode, o.optimize, SAMPLE, mode)
+            self.raises(o.BAD_MODE, 0, no_mode, o.run_pass, 6, SAMPLE, mode)
         long, many = b"x" * (o.TEXT + 1), b"\n" * (o.LINES + 1)
         self.raises(o.TOO_LONG, o.TEXT, "the text is longer than 16384 bytes", o.optimize, long)
         self.raises(o.NOT_UTF8, 2, "the text is not UTF-8: see byte 2, counted from 0",
@@ -234,13 +257,13 @@ class Header(unittest.TestCase):
     def test_defines(self):
         found = re.findall(r"^#define OPTLINES_(\w+) (.+)$", self.text, re.M)
         self.assertEqual(sorted(name for name, _ in found),
-                         ["BLOCKS", "BRACKETS", "BYTES", "LINES", "STACK", "TEXT"])
+                         ["BLOCKS", "BRACKETS", "BYTES", "LINES", "PLAIN", "STACK", "STRICT", "TEXT"])
         for name, value in found:
             self.assertEqual(getattr(o, name), int(value), name)
 
     def test_numbers(self):
         found = re.findall(r"^    OPTLINES_(\w+) = (\d+)", self.text, re.M)
-        self.assertEqual(len(found), 12)
+        self.assertEqual(len(found), 13)
         for name, value in found:
             if name != "OVERLAP":  # of the inline function for C alone
                 self.assertEqual(getattr(o, name), int(value), name)

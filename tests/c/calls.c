@@ -1,6 +1,6 @@
 /*
  * Calls the library from C: every number with its place, the order of the checks, the limits from
- * both sides, the passes, and every lent byte after each call. Says what fails; status 1 where
+ * both sides, the passes, the modes, and every lent byte after each call. Says what fails; status 1 where
  * something does.
  */
 #include "optlines.h"
@@ -20,6 +20,7 @@ struct call {
     size_t text_length;
     int shorter; /* 0, or which work buffer, from 1, is one element short; ALL_EXACT: each is just as long as stated */
     size_t room;
+    size_t mode;
 };
 
 struct answer {
@@ -56,10 +57,10 @@ static struct answer ask(struct call q)
     for (int i = 1; i < 7; i++)
         n[i] = lent(i, q.shorter);
     if (q.pass == 0)
-        r.number = optlines_optimize(q.text, q.text_length, work[0], n[1], work[1], n[2], work[2], n[3],
+        r.number = optlines_optimize(q.mode, q.text, q.text_length, work[0], n[1], work[1], n[2], work[2], n[3],
             work[3], n[4], work[4], n[5], blocks, n[6], out, q.room, &r.length, &r.place);
     else
-        r.number = optlines_run_pass(q.pass, q.text, q.text_length, work[0], n[1], work[1], n[2], work[2], n[3],
+        r.number = optlines_run_pass(q.pass, q.mode, q.text, q.text_length, work[0], n[1], work[1], n[2], work[2], n[3],
             work[3], n[4], work[4], n[5], blocks, n[6], out, q.room, &r.length, &r.place);
     calls++;
     return r;
@@ -103,14 +104,24 @@ static void expect(const char *name, struct call q, struct answer want, const ch
         fail(name, "a work buffer is not as it should be");
 }
 
+static struct call text_in(size_t mode, size_t pass, const char *text)
+{
+    return (struct call) { pass, (const uint8_t *)text, strlen(text), 0, ROOM, mode };
+}
+
 static struct call text_of(size_t pass, const char *text)
 {
-    return (struct call) { pass, (const uint8_t *)text, strlen(text), 0, ROOM };
+    return text_in(OPTLINES_PLAIN, pass, text);
+}
+
+static void becomes_in(const char *name, size_t mode, size_t pass, const char *text, const char *result)
+{
+    expect(name, text_in(mode, pass, text), (struct answer) { OPTLINES_DONE, strlen(result), 0 }, result);
 }
 
 static void becomes(const char *name, size_t pass, const char *text, const char *result)
 {
-    expect(name, text_of(pass, text), (struct answer) { OPTLINES_DONE, strlen(result), 0 }, result);
+    becomes_in(name, OPTLINES_PLAIN, pass, text, result);
 }
 
 static void refused(const char *name, struct call q, uint8_t number, size_t place)
@@ -137,16 +148,36 @@ static void results(void)
     becomes("pass 6", 6, "var x;\n  let r0;\n}\n  r0 = 1;\n", "var x;\n}\n  let r0 = 1;\n");
 }
 
+/* Stores of nothing that is read: a sum of strings with a call in it, and a string with // in it. */
+static const char temps[] = "let t0, t1;\nt0 = \"a\" + f() + \"b\";\nt1 = \"http://x\";\n";
+static const char registers[] = "r0 = \"a\" + f() + \"b\";\nr1 = \"http://x\";\n";
+static const char phis[] = "phi0 = \"a\" + f() + \"b\";\nphi1 = [\"http://x\"];\n";
+
+static void modes(void)
+{
+    becomes_in("pass 1, plain", OPTLINES_PLAIN, 1, temps, "let t0, t1;\nt1 = \"http://x\";\n");
+    becomes_in("pass 1, strict", OPTLINES_STRICT, 1, temps, "let t0, t1;\nt0 = \"a\" + f() + \"b\";\n");
+    becomes_in("pass 2, plain", OPTLINES_PLAIN, 2, registers, "r1 = \"http://x\";\n");
+    becomes_in("pass 2, strict", OPTLINES_STRICT, 2, registers, "r0 = \"a\" + f() + \"b\";\n");
+    becomes_in("pass 3, plain", OPTLINES_PLAIN, 3, phis, "[\"http://x\"];\n");
+    becomes_in("pass 3, strict", OPTLINES_STRICT, 3, phis, "\"a\" + f() + \"b\";\n");
+    becomes_in("all passes, plain", OPTLINES_PLAIN, 0, registers, "r1 = \"http://x\";\n");
+    becomes_in("all passes, strict", OPTLINES_STRICT, 0, registers, "r0 = \"a\" + f() + \"b\";\n");
+    becomes_in("the sample, strict", OPTLINES_STRICT, 0, sample, tidy);
+    for (size_t pass = 4; pass <= 6; pass++)
+        becomes_in("a pass that judges no value", OPTLINES_STRICT, pass, registers, registers);
+}
+
 static void limits(void)
 {
-    struct call q = { 0, (const uint8_t *)full, OPTLINES_TEXT, 0, ROOM };
+    struct call q = { 0, (const uint8_t *)full, OPTLINES_TEXT, 0, ROOM, OPTLINES_PLAIN };
     memset(full, 'x', sizeof full);
     expect("16,384 bytes", q, (struct answer) { OPTLINES_DONE, OPTLINES_TEXT, 0 }, full);
     q.text_length = OPTLINES_TEXT + 1;
     refused("16,385 bytes", q, OPTLINES_TOO_LONG, OPTLINES_TEXT);
 
     memset(many, '\n', sizeof many);
-    q = (struct call) { 0, (const uint8_t *)many, OPTLINES_LINES, 0, ROOM };
+    q = (struct call) { 0, (const uint8_t *)many, OPTLINES_LINES, 0, ROOM, OPTLINES_PLAIN };
     expect("1,024 lines", q, (struct answer) { OPTLINES_DONE, OPTLINES_LINES - 1, 0 }, many);
     q.shorter = ALL_EXACT;
     expect("1,024 lines, buffers of just the stated sizes", q, (struct answer) { OPTLINES_DONE, OPTLINES_LINES - 1, 0 }, many);
@@ -155,7 +186,7 @@ static void limits(void)
 
     memset(crowd, '[', sizeof crowd);
     memcpy(crowd, "a\n", 2);
-    q = (struct call) { 0, (const uint8_t *)crowd, 2 + OPTLINES_BRACKETS, 0, ROOM };
+    q = (struct call) { 0, (const uint8_t *)crowd, 2 + OPTLINES_BRACKETS, 0, ROOM, OPTLINES_PLAIN };
     expect("64 brackets", q, (struct answer) { OPTLINES_DONE, 2 + OPTLINES_BRACKETS, 0 }, crowd);
     q.text_length++;
     refused("65 brackets", q, OPTLINES_CROWDED, 1);
@@ -169,11 +200,19 @@ static void limits(void)
 
 static void order(void)
 {
-    struct call q = { 7, (const uint8_t *)full, OPTLINES_TEXT + 1, 1, 0 };
+    struct call q = { 7, (const uint8_t *)full, OPTLINES_TEXT + 1, 1, 0, 2 };
     refused("pass 7", text_of(7, sample), OPTLINES_BAD_PASS, 0);
     refused("the largest number as a pass", text_of((size_t)-1, sample), OPTLINES_BAD_PASS, 0);
+    refused("mode 2", text_in(2, 0, sample), OPTLINES_BAD_MODE, 0);
+    refused("mode 2 of one pass", text_in(2, 1, sample), OPTLINES_BAD_MODE, 0);
+    refused("the largest number as a mode", text_in((size_t)-1, 6, sample), OPTLINES_BAD_MODE, 0);
     memset(full, 0xFF, sizeof full);
-    refused("1 before 2 and 3", q, OPTLINES_BAD_PASS, 0);
+    refused("1 before 12, 2 and 3", q, OPTLINES_BAD_PASS, 0);
+    q.pass = 0;
+    refused("12 first of all", q, OPTLINES_BAD_MODE, 0);
+    q.pass = 6;
+    refused("12 before 2 and 3", q, OPTLINES_BAD_MODE, 0);
+    q.mode = OPTLINES_STRICT;
     q.pass = 0;
     refused("2 before 3 and 4", q, OPTLINES_TOO_LONG, OPTLINES_TEXT);
     q.pass = 6;
@@ -183,7 +222,7 @@ static void order(void)
         refused("3 before 4", q, OPTLINES_SHORT_WORK, 0);
     memset(full, '\n', OPTLINES_LINES + 1);
     memset(full + OPTLINES_LINES + 1, '[', OPTLINES_BRACKETS + 1);
-    q = (struct call) { 0, (const uint8_t *)full, OPTLINES_LINES + OPTLINES_BRACKETS + 3, 0, 0 };
+    q = (struct call) { 0, (const uint8_t *)full, OPTLINES_LINES + OPTLINES_BRACKETS + 3, 0, 0, OPTLINES_PLAIN };
     refused("4 before 5", q, OPTLINES_NOT_UTF8, OPTLINES_LINES + OPTLINES_BRACKETS + 2);
     q.text_length--;
     refused("5 before 6", q, OPTLINES_TOO_MANY_LINES, OPTLINES_LINES);
@@ -196,25 +235,33 @@ static void order(void)
     refused("a surrogate", text_of(0, "ab\xED\xA0\x80"), OPTLINES_OUTSIDE, 2);
 }
 
+static void answered(const char *name, struct answer r, uint8_t number)
+{
+    calls++;
+    if (r.number != number || r.length != 0 || r.place != 0)
+        fail(name, "another answer");
+}
+
 /* Null pointers where the length is 0. */
 static void nulls(void)
 {
     struct answer r = { 255, 1, 1 };
-    refused("no result buffer", (struct call) { 0, (const uint8_t *)sample, strlen(sample), 0, 0 }, OPTLINES_SHORT_RESULT, strlen(tidy));
-    expect("no text", (struct call) { 0, NULL, 0, 0, 0 }, (struct answer) { OPTLINES_DONE, 0, 0 }, "");
-    r.number = optlines_optimize(NULL, 0, NULL, 0, NULL, 0, NULL, 0, NULL, 0, NULL, 0, NULL, 0, NULL, 0, &r.length, &r.place);
-    calls++;
-    if (r.number != OPTLINES_SHORT_WORK || r.length != 0 || r.place != 0)
-        fail("nothing lent", "another answer");
-    r.number = optlines_run_pass(0, NULL, 0, NULL, 0, NULL, 0, NULL, 0, NULL, 0, NULL, 0, NULL, 0, NULL, 0, &r.length, &r.place);
-    calls++;
-    if (r.number != OPTLINES_BAD_PASS || r.length != 0 || r.place != 0)
-        fail("pass 0", "another answer");
+    refused("no result buffer", (struct call) { 0, (const uint8_t *)sample, strlen(sample), 0, 0, OPTLINES_PLAIN }, OPTLINES_SHORT_RESULT, strlen(tidy));
+    expect("no text", (struct call) { 0, NULL, 0, 0, 0, OPTLINES_PLAIN }, (struct answer) { OPTLINES_DONE, 0, 0 }, "");
+#define NOTHING NULL, 0, NULL, 0, NULL, 0, NULL, 0, NULL, 0, NULL, 0, NULL, 0, NULL, 0, &r.length, &r.place
+    r.number = optlines_optimize(OPTLINES_PLAIN, NOTHING);
+    answered("nothing lent", r, OPTLINES_SHORT_WORK);
+    r.number = optlines_optimize(2, NOTHING);
+    answered("nothing lent, mode 2", r, OPTLINES_BAD_MODE);
+    r.number = optlines_run_pass(0, 2, NOTHING);
+    answered("pass 0", r, OPTLINES_BAD_PASS);
+#undef NOTHING
 }
 
 int main(void)
 {
     results();
+    modes();
     limits();
     order();
     nulls();

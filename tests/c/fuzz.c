@@ -1,7 +1,7 @@
 /*
  * Calls the library with whatever libFuzzer makes, and looks at the answer and at every lent byte (include/optlines.h).
  *
- * Of an input the first four bytes choose the entry and the lengths, the others are the text. Every buffer that is lent ends at a page that
+ * Of an input the first five bytes choose the entry, the mode and the lengths, the others are the text. Every buffer that is lent ends at a page that
  * cannot be read or written, so that a step beyond its end ends the run; the text's pages cannot be written.
  */
 #define _GNU_SOURCE
@@ -13,6 +13,10 @@
 #include <unistd.h>
 
 enum { WORK = 6, MORE = 3, ROOM = 2 * OPTLINES_TEXT, LONGEST = OPTLINES_TEXT + 64 };
+/* The bytes of an input before the text. */
+enum { PASS, MODE, SHORTER, ROOM_OF, ROOM_TIMES, HEAD };
+/* Passes and modes that are asked for: those that there are, and some that there are not. */
+enum { PASSES = 9, MODES = 4 };
 
 /* A lent buffer: as many bytes, at the end of its pages. */
 struct lent {
@@ -57,12 +61,12 @@ static size_t stated(int k)
     return k == 5 ? OPTLINES_BLOCKS * sizeof(uint32_t) : OPTLINES_BYTES;
 }
 
-static uint8_t call(uint8_t pass, size_t *length, size_t *place)
+static uint8_t call(uint8_t pass, uint8_t mode, size_t *length, size_t *place)
 {
 #define BUFFERS text.from, text.size, work[0].from, work[0].size, work[1].from, work[1].size, work[2].from, work[2].size, \
     work[3].from, work[3].size, work[4].from, work[4].size, (uint32_t *)work[5].from, work[5].size / sizeof(uint32_t), \
     out.from, out.size, length, place
-    return pass == 0 ? optlines_optimize(BUFFERS) : optlines_run_pass(pass, BUFFERS);
+    return pass == 0 ? optlines_optimize(mode, BUFFERS) : optlines_run_pass(pass, mode, BUFFERS);
 }
 
 /* Every lent byte after an answer. */
@@ -80,18 +84,20 @@ static void look(uint8_t number, size_t length, uint8_t fill)
 }
 
 /* The answer is one of the table. */
-static void judge(uint8_t pass, uint8_t number, size_t length, size_t place)
+static void judge(uint8_t pass, uint8_t mode, uint8_t number, size_t length, size_t place)
 {
     enum { LAST = OPTLINES_TEXT - 1, NONE = 8 };
-    static const size_t least[12] = {0, 0, OPTLINES_TEXT, 0, 0, OPTLINES_LINES, 0, 1, 0, 0, 0, 0};
-    static const size_t most[12] = {0, 0, OPTLINES_TEXT, 0, LAST, OPTLINES_LINES, OPTLINES_LINES - 1, ROOM, 0, LAST, LAST, LAST};
-    if (number > OPTLINES_OUTSIDE || number == NONE || place < least[number] || place > most[number])
+    static const size_t least[13] = {0, 0, OPTLINES_TEXT, 0, 0, OPTLINES_LINES, 0, 1, 0, 0, 0, 0, 0};
+    static const size_t most[13] = {0, 0, OPTLINES_TEXT, 0, LAST, OPTLINES_LINES, OPTLINES_LINES - 1, ROOM, 0, LAST, LAST, LAST, 0};
+    if (number > OPTLINES_BAD_MODE || number == NONE || place < least[number] || place > most[number])
         fail("no answer of the table");
     if (length > out.size || length > 2 * text.size || (number != OPTLINES_DONE && length != 0))
         fail("a length that cannot be");
     if ((number == OPTLINES_BAD_PASS) != (pass > 6))
         fail("the pass is misjudged");
-    if (number != OPTLINES_BAD_PASS && (number == OPTLINES_TOO_LONG) != (text.size > OPTLINES_TEXT))
+    if (pass <= 6 && (number == OPTLINES_BAD_MODE) != (mode > OPTLINES_STRICT))
+        fail("the mode is misjudged");
+    if (pass <= 6 && mode <= OPTLINES_STRICT && (number == OPTLINES_TOO_LONG) != (text.size > OPTLINES_TEXT))
         fail("the length of the text is misjudged");
 }
 
@@ -100,12 +106,13 @@ static uint8_t turn(const uint8_t *head, uint8_t fill, size_t *length, size_t *p
 {
     for (int k = 0; k < WORK; k++) {
         size_t unit = k == 5 ? sizeof(uint32_t) : 1;
-        lend(&work[k], stated(k) + (head[1] == k + 1 ? -unit : unit * (head[1] % (MORE + 1))), fill);
+        lend(&work[k], stated(k) + (head[SHORTER] == k + 1 ? -unit : unit * (head[SHORTER] % (MORE + 1))), fill);
     }
-    lend(&out, head[2] == 255 ? ROOM : (size_t)head[2] * head[3] % (ROOM + 1), fill);
+    lend(&out, head[ROOM_OF] == 255 ? ROOM : (size_t)head[ROOM_OF] * head[ROOM_TIMES] % (ROOM + 1), fill);
     *length = *place = 12345;
-    uint8_t number = call(head[0] % 9, length, place);
-    judge(head[0] % 9, number, *length, *place);
+    uint8_t pass = head[PASS] % PASSES, mode = head[MODE] % MODES;
+    uint8_t number = call(pass, mode, length, place);
+    judge(pass, mode, number, *length, *place);
     look(number, *length, fill);
     return number;
 }
@@ -114,7 +121,7 @@ int LLVMFuzzerTestOneInput(const uint8_t *data, size_t size)
 {
     static uint8_t first[ROOM];
     size_t length, place, length2, place2;
-    if (size < 4)
+    if (size < HEAD)
         return 0;
     if (text.pages == NULL) {
         for (int k = 0; k < WORK; k++)
@@ -123,8 +130,8 @@ int LLVMFuzzerTestOneInput(const uint8_t *data, size_t size)
         map(&text, LONGEST);
     }
     mprotect(text.pages, text.pages_size, PROT_READ | PROT_WRITE);
-    lend(&text, size - 4 < LONGEST ? size - 4 : LONGEST, 0);
-    memcpy(text.from, data + 4, text.size);
+    lend(&text, size - HEAD < LONGEST ? size - HEAD : LONGEST, 0);
+    memcpy(text.from, data + HEAD, text.size);
     mprotect(text.pages, text.pages_size, PROT_READ);
     uint8_t number = turn(data, 0xA5, &length, &place);
     memcpy(first, out.from, length);

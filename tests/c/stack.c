@@ -1,10 +1,10 @@
 /*
  * Measures what a call takes of the stack. Reads texts from standard input, each as its length
  * (4 bytes, low byte first) and its bytes, and calls optlines_tidy() with each number of a pass
- * over each text, in a thread whose stack is painted: full of one byte. How far down the paint is
- * gone is what the call took, with its arguments. A function that writes a known number of bytes is
- * measured first. Writes the header's figure, that measure, how many texts there were, and for
- * each pass the most bytes and the text that took them, counted from 0:
+ * and in each mode over each text, in a thread whose stack is painted: full of one byte. How far
+ * down the paint is gone is what the call took, with its arguments. A function that writes a known
+ * number of bytes is measured first. Writes the header's figure, that measure, how many texts there
+ * were, and for each pass the most bytes and the text that took them, counted from 0:
  *
  *     figure BYTES
  *     known BYTES MEASURED
@@ -23,14 +23,14 @@
 #include <unistd.h>
 
 enum { STACK = 1 << 20, STRIDE = 4096, PAINT = 0x5A, KNOWN = 65536 };
-enum { PASSES = 7, PROBE = PASSES, LONGEST = OPTLINES_TEXT + 1 };
+enum { PASSES = 7, MODES = 2, PROBE = PASSES, LONGEST = OPTLINES_TEXT + 1 };
 
 static uint8_t *stack; /* its lowest byte */
 static uint8_t paint[STRIDE];
 static struct optlines_work work;
 
 struct call {
-    size_t pass;
+    size_t pass, mode;
     const uint8_t *text;
     size_t length;
     uint8_t *low; /* the lowest byte that was written */
@@ -59,7 +59,7 @@ static void *measure(void *given)
     if (c->pass == PROBE)
         probe();
     else
-        optlines_tidy(&work, c->pass, c->text, c->length);
+        optlines_tidy(&work, c->pass, c->mode, c->text, c->length);
     while (low + STRIDE < top && memcmp(low, paint, STRIDE) == 0)
         low += STRIDE;
     while (low < top && *low == PAINT)
@@ -114,10 +114,11 @@ int main(void)
     size_t most[PASSES] = { 0 }, where[PASSES] = { 0 }, count = 0;
     map();
     printf("figure %d\n", OPTLINES_STACK);
-    printf("known %d %zu\n", KNOWN, taken((struct call) { PROBE, NULL, 0, NULL, 0 }));
+    printf("known %d %zu\n", KNOWN, taken((struct call) { PROBE, 0, NULL, 0, NULL, 0 }));
     for (long length = next(text); length >= 0; length = next(text), count++)
-        for (size_t pass = 0; pass < PASSES; pass++) {
-            size_t used = taken((struct call) { pass, text, (size_t)length, NULL, 0 });
+        for (size_t call = 0; call < PASSES * MODES; call++) {
+            size_t pass = call / MODES;
+            size_t used = taken((struct call) { pass, call % MODES, text, (size_t)length, NULL, 0 });
             if (used > most[pass]) {
                 most[pass] = used;
                 where[pass] = count;

@@ -1,7 +1,7 @@
 /*
- * Calls optlines_tidy(), from C and from C++: this file is both. Each pass, every number that it
- * answers, texts that overlap its buffers, every byte of the struct after each call, and two
- * threads at once. Says what fails; status 1 where something does.
+ * Calls optlines_tidy(), from C and from C++: this file is both. Each pass, each mode, every number
+ * that it answers, texts that overlap its buffers, every byte of the struct after each call, and
+ * two threads at once. Says what fails; status 1 where something does.
  */
 #include "optlines.h"
 #include <pthread.h>
@@ -40,13 +40,13 @@ static int work_is(int ran)
         && all(work.blocks, sizeof work.blocks, ran ? 0 : FILLED);
 }
 
-static void expect(const char *name, size_t pass, const void *text, size_t text_length,
-    uint8_t number, size_t place, const char *result)
+static void expect_in(const char *name, size_t mode, size_t pass, const void *text,
+    size_t text_length, uint8_t number, size_t place, const char *result)
 {
     size_t length = strlen(result);
     memset(&work, FILLED, sizeof work);
     calls++;
-    if (optlines_tidy(&work, pass, (const uint8_t *)text, text_length) != number)
+    if (optlines_tidy(&work, pass, mode, (const uint8_t *)text, text_length) != number)
         fail(name, "another number");
     if (work.length != length || work.place != place)
         fail(name, "another length or place");
@@ -56,6 +56,12 @@ static void expect(const char *name, size_t pass, const void *text, size_t text_
         fail(name, "the result buffer is changed beyond the length");
     if (!work_is(number == OPTLINES_DONE))
         fail(name, "a work buffer is not as it should be");
+}
+
+static void expect(const char *name, size_t pass, const void *text, size_t text_length,
+    uint8_t number, size_t place, const char *result)
+{
+    expect_in(name, OPTLINES_PLAIN, pass, text, text_length, number, place, result);
 }
 
 static void becomes(const char *name, size_t pass, const char *text, const char *result)
@@ -78,6 +84,22 @@ static void results(void)
     becomes("pass 4", 4, "r3 = greet;\nr4 = 1;\nr3 = r3(r4);\nuse(r3);\n", "use(greet(1));\n");
     becomes("pass 5", 5, "let r007, r1, r2;\nuse(r7, r1);\n", "let r7, r1;\nuse(r7, r1);\n");
     becomes("pass 6", 6, "var x;\n  let r0;\n}\n  r0 = 1;\n", "var x;\n}\n  let r0 = 1;\n");
+}
+
+static void modes(void)
+{
+    static const char text[] = "r0 = \"a\" + f() + \"b\";\nr1 = \"http://x\";\n";
+    static const char plain[] = "r1 = \"http://x\";\n", strict[] = "r0 = \"a\" + f() + \"b\";\n";
+    size_t length = strlen(text);
+    expect_in("plain", OPTLINES_PLAIN, 0, text, length, OPTLINES_DONE, 0, plain);
+    expect_in("strict", OPTLINES_STRICT, 0, text, length, OPTLINES_DONE, 0, strict);
+    expect_in("pass 2, plain", OPTLINES_PLAIN, 2, text, length, OPTLINES_DONE, 0, plain);
+    expect_in("pass 2, strict", OPTLINES_STRICT, 2, text, length, OPTLINES_DONE, 0, strict);
+    expect_in("mode 2", 2, 0, text, length, OPTLINES_BAD_MODE, 0, "");
+    expect_in("mode 2 of a pass", 2, 2, text, length, OPTLINES_BAD_MODE, 0, "");
+    expect_in("the largest mode", (size_t)-1, 0, text, length, OPTLINES_BAD_MODE, 0, "");
+    expect_in("pass 7 in mode 2", 2, 7, text, length, OPTLINES_BAD_PASS, 0, "");
+    expect_in("a byte that is not UTF-8, in mode 2", 2, 0, "\xFF", 1, OPTLINES_BAD_MODE, 0, "");
 }
 
 static void refusals(void)
@@ -104,7 +126,7 @@ static void longest(void)
     memset(text, 'x', sizeof text);
     memset(&work, FILLED, sizeof work);
     calls++;
-    if (optlines_tidy(&work, 0, (const uint8_t *)text, sizeof text) != OPTLINES_DONE
+    if (optlines_tidy(&work, 0, OPTLINES_PLAIN, (const uint8_t *)text, sizeof text) != OPTLINES_DONE
         || work.length != sizeof text || work.place != 0 || !all(work.out, sizeof text, 'x'))
         fail("16,384 bytes", "another answer");
 }
@@ -117,7 +139,7 @@ static void at(const char *name, uintptr_t address, size_t text_length, int over
     memcpy(&before, &work, sizeof work);
     before.length = before.place = 0;
     calls++;
-    number = optlines_tidy(&work, 7, (const uint8_t *)address, text_length);
+    number = optlines_tidy(&work, 7, 2, (const uint8_t *)address, text_length);
     if (number != (overlaps ? OPTLINES_OVERLAP : OPTLINES_BAD_PASS))
         fail(name, "another number");
     if (memcmp(&before, &work, sizeof work) != 0)
@@ -150,7 +172,8 @@ static void *repeat(void *given)
 {
     struct thread *t = (struct thread *)given;
     for (int i = 0; i < ROUNDS; i++) {
-        uint8_t number = optlines_tidy(&t->work, 0, (const uint8_t *)t->text, strlen(t->text));
+        uint8_t number = optlines_tidy(
+            &t->work, 0, OPTLINES_PLAIN, (const uint8_t *)t->text, strlen(t->text));
         if (number != OPTLINES_DONE || t->work.length != strlen(t->result)
             || memcmp(t->work.out, t->result, t->work.length) != 0)
             t->others++;
@@ -183,6 +206,7 @@ static void threads(void)
 int main(void)
 {
     results();
+    modes();
     refusals();
     longest();
     overlaps();

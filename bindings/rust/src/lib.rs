@@ -6,7 +6,8 @@
 //! bytes of stack.
 //!
 //! ```
-//! let tidy = optlines::optimize(b"r3 = greet;\nr4 = 1;\nr3 = r3(r4);\nuse(r3);\n")?;
+//! use optlines::{optimize, Mode};
+//! let tidy = optimize(Mode::Plain, b"r3 = greet;\nr4 = 1;\nr3 = r3(r4);\nuse(r3);\n")?;
 //! assert_eq!(tidy, b"use(greet(1));\n");
 //! # Ok::<(), optlines::Refusal>(())
 //! ```
@@ -27,6 +28,18 @@ pub const LINES: usize = 1_024;
 pub const BRACKETS: usize = 64;
 /// Bytes of stack that are enough for a call, as far as it was measured.
 pub const STACK: usize = 163_840;
+
+/// How passes 1, 2 and 3 judge a value; the others do the same in each mode.
+#[derive(Clone, Copy, Debug, Default, PartialEq, Eq)]
+#[non_exhaustive]
+pub enum Mode {
+    /// As the original: `"a" + f() + "b"` counts as one string.
+    #[default]
+    Plain = 0,
+    /// A value in quotes is a string only where its opening quote is closed by its last character;
+    /// what stands in quotes is no comment.
+    Strict = 1,
+}
 
 /// Why there is no result.
 #[derive(Clone, Copy, Debug, PartialEq, Eq)]
@@ -53,6 +66,8 @@ pub enum Refusal {
     Overlong(usize),
     /// The text has a surrogate or a value above U+10FFFF: its first byte, from 0.
     Outside(usize),
+    /// The library does not know the mode: it is an earlier one.
+    BadMode,
     /// A number that this wrapper does not know: the library is a later one.
     Other {
         /// What the library answered.
@@ -77,6 +92,7 @@ impl Refusal {
             9 => Refusal::Cut(place),
             10 => Refusal::Overlong(place),
             11 => Refusal::Outside(place),
+            12 => Refusal::BadMode,
             _ => Refusal::Other { number, place },
         })
     }
@@ -94,6 +110,7 @@ impl Refusal {
             Refusal::Cut(_) => 9,
             Refusal::Overlong(_) => 10,
             Refusal::Outside(_) => 11,
+            Refusal::BadMode => 12,
             Refusal::Other { number, .. } => number,
         }
     }
@@ -101,7 +118,7 @@ impl Refusal {
     /// The place that the library stores beside that number.
     pub fn place(self) -> usize {
         match self {
-            Refusal::BadPass | Refusal::ShortWork => 0,
+            Refusal::BadPass | Refusal::ShortWork | Refusal::BadMode => 0,
             Refusal::TooLong => TEXT,
             Refusal::TooManyLines => LINES,
             Refusal::NotUtf8(place)
@@ -151,6 +168,7 @@ impl fmt::Display for Refusal {
                     "the text has a surrogate or a value above U+10FFFF: see byte {at}, counted from 0"
                 )
             }
+            Refusal::BadMode => write!(f, "there is no such mode: they are 0 and 1"),
             Refusal::Other { number, place } => {
                 write!(
                     f,
@@ -182,10 +200,10 @@ pub struct Work<'a> {
 /// The declarations of include/optlines.h.
 mod raw {
     macro_rules! declared {
-        ($($name:ident($($first:ident: $kind:ty)?);)*) => {
+        ($($name:ident($($first:ident: usize),*);)*) => {
             extern "C" {
                 $(pub fn $name(
-                    $($first: $kind,)?
+                    $($first: usize,)*
                     text: *const u8, text_length: usize,
                     a: *mut u8, a_length: usize,
                     b: *mut u8, b_length: usize,
@@ -201,19 +219,19 @@ mod raw {
     }
 
     declared! {
-        optlines_optimize();
-        optlines_run_pass(pass: usize);
+        optlines_optimize(mode: usize);
+        optlines_run_pass(pass: usize, mode: usize);
     }
 }
 
 /// Calls one of the two. The slices are alive and apart from one another, which is all that the
 /// library asks.
 macro_rules! call {
-    ($name:ident($($first:expr)?), $text:ident, $work:ident, $out:ident) => {{
+    ($name:ident($($first:expr),*), $text:ident, $work:ident, $out:ident) => {{
         let (mut length, mut place) = (0, 0);
         let number = unsafe {
             raw::$name(
-                $($first,)?
+                $($first,)*
                 $text.as_ptr(), $text.len(),
                 $work.a.as_mut_ptr(), $work.a.len(),
                 $work.b.as_mut_ptr(), $work.b.len(),
@@ -233,18 +251,24 @@ macro_rules! call {
 }
 
 /// Runs all passes in lent buffers: how many bytes of `out` are the result.
-pub fn optimize_in(text: &[u8], work: &mut Work, out: &mut [u8]) -> Result<usize, Refusal> {
-    call!(optlines_optimize(), text, work, out)
+pub fn optimize_in(
+    mode: Mode,
+    text: &[u8],
+    work: &mut Work,
+    out: &mut [u8],
+) -> Result<usize, Refusal> {
+    call!(optlines_optimize(mode as usize), text, work, out)
 }
 
 /// Runs one pass, 1 to 6, in lent buffers: how many bytes of `out` are the result.
 pub fn run_pass_in(
     pass: usize,
+    mode: Mode,
     text: &[u8],
     work: &mut Work,
     out: &mut [u8],
 ) -> Result<usize, Refusal> {
-    call!(optlines_run_pass(pass), text, work, out)
+    call!(optlines_run_pass(pass, mode as usize), text, work, out)
 }
 
 /// Lends fresh buffers to `run`. No result is longer than twice its text, so none is refused for
@@ -270,18 +294,18 @@ fn with_room(
 }
 
 /// Runs all passes: the tidy text.
-pub fn optimize(text: &[u8]) -> Result<Vec<u8>, Refusal> {
-    with_room(text, |work, out| optimize_in(text, work, out))
+pub fn optimize(mode: Mode, text: &[u8]) -> Result<Vec<u8>, Refusal> {
+    with_room(text, |work, out| optimize_in(mode, text, work, out))
 }
 
 /// Runs one pass, 1 to 6: the text that it gives.
-pub fn run_pass(pass: usize, text: &[u8]) -> Result<Vec<u8>, Refusal> {
-    with_room(text, |work, out| run_pass_in(pass, text, work, out))
+pub fn run_pass(pass: usize, mode: Mode, text: &[u8]) -> Result<Vec<u8>, Refusal> {
+    with_room(text, |work, out| run_pass_in(pass, mode, text, work, out))
 }
 
 #[cfg(test)]
 mod tests {
-    use super::Refusal;
+    use super::{raw, with_room, Refusal};
 
     /// Every number and place comes back as it was answered, a number of a later library too.
     #[test]
@@ -295,12 +319,35 @@ mod tests {
             (6, 3),
             (7, 40),
         ];
-        for (number, place) in answers.into_iter().chain((8..=255).map(|n| (n, 5))) {
+        let later = (8..=255).map(|n| (n, if n == 12 { 0 } else { 5 }));
+        for (number, place) in answers.into_iter().chain(later) {
             let refusal = Refusal::of(number, place).expect("a refusal");
             assert_eq!((refusal.number(), refusal.place()), (number, place));
-            let known = matches!(number, 1..=7 | 9..=11);
+            let known = matches!(number, 1..=7 | 9..=12);
             assert_eq!(!known, refusal == Refusal::Other { number, place });
         }
         assert_eq!(Refusal::of(0, 0), None);
+    }
+
+    /// Numbers that no [`super::Mode`] has: 12 comes just after 1.
+    #[test]
+    fn modes_that_are_not_there() {
+        let bad: &[u8] = b"\xFF";
+        for mode in [2, 3, usize::MAX] {
+            let whole = with_room(bad, |work, out| {
+                call!(optlines_optimize(mode), bad, work, out)
+            });
+            assert_eq!(whole, Err(Refusal::BadMode));
+            for (pass, refusal) in [(6, Refusal::BadMode), (7, Refusal::BadPass)] {
+                let one = with_room(bad, |work, out| {
+                    call!(optlines_run_pass(pass, mode), bad, work, out)
+                });
+                assert_eq!(one, Err(refusal));
+            }
+        }
+        assert_eq!(
+            Refusal::BadMode.to_string(),
+            "there is no such mode: they are 0 and 1"
+        );
     }
 }

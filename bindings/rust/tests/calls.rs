@@ -1,8 +1,8 @@
-//! Calls the library through the wrapper: the sample, each pass, every refusal, its words, and the
-//! lent bytes after each call.
+//! Calls the library through the wrapper: the sample, each pass, each mode, every refusal, its
+//! words, and the lent bytes after each call.
 
 use optlines::{optimize, optimize_in, run_pass, run_pass_in};
-use optlines::{Refusal, Work, BLOCKS, BRACKETS, BYTES, LINES, STACK, TEXT};
+use optlines::{Mode, Refusal, Work, BLOCKS, BRACKETS, BYTES, LINES, STACK, TEXT};
 use std::error::Error;
 use std::thread;
 
@@ -35,6 +35,7 @@ impl Room {
     fn ask(
         &mut self,
         pass: usize,
+        mode: Mode,
         text: &[u8],
         short: usize,
         room: usize,
@@ -57,9 +58,9 @@ impl Room {
         };
         let out = &mut self.out[..room];
         if pass == 0 {
-            optimize_in(text, &mut work, out)
+            optimize_in(mode, text, &mut work, out)
         } else {
-            run_pass_in(pass, text, &mut work, out)
+            run_pass_in(pass, mode, text, &mut work, out)
         }
     }
 
@@ -78,10 +79,25 @@ impl Room {
     }
 }
 
-/// One call in fresh lent buffers: what it answers, its result, and that memory is as said.
+/// One call in each mode in fresh lent buffers: what it answers, its result, and that memory is as
+/// said.
 fn expect(pass: usize, text: &[u8], short: usize, room: usize, want: Result<&[u8], Refusal>) {
+    for mode in [Mode::Plain, Mode::Strict] {
+        expect_in(mode, pass, text, short, room, want);
+    }
+}
+
+/// The same in one mode.
+fn expect_in(
+    mode: Mode,
+    pass: usize,
+    text: &[u8],
+    short: usize,
+    room: usize,
+    want: Result<&[u8], Refusal>,
+) {
     let mut buffers = Room::new();
-    let got = buffers.ask(pass, text, short, room);
+    let got = buffers.ask(pass, mode, text, short, room);
     assert_eq!(got.map(|n| &buffers.out[..n]), want);
     assert!(
         buffers.is_as_said(got),
@@ -91,9 +107,9 @@ fn expect(pass: usize, text: &[u8], short: usize, room: usize, want: Result<&[u8
 
 #[test]
 fn the_sample() {
-    assert_eq!(optimize(SAMPLE).as_deref(), Ok(TIDY));
+    assert_eq!(optimize(Mode::Plain, SAMPLE).as_deref(), Ok(TIDY));
     expect(0, SAMPLE, 0, TIDY.len(), Ok(TIDY));
-    assert_eq!(optimize(b"").as_deref(), Ok(&b""[..]));
+    assert_eq!(optimize(Mode::Plain, b"").as_deref(), Ok(&b""[..]));
 }
 
 #[test]
@@ -122,9 +138,30 @@ fn one_pass() {
         ),
     ];
     for (pass, (text, result)) in (1..).zip(listings) {
-        assert_eq!(run_pass(pass, text).as_deref(), Ok(result), "pass {pass}");
+        assert_eq!(
+            run_pass(pass, Mode::Plain, text).as_deref(),
+            Ok(result),
+            "pass {pass}"
+        );
         expect(pass, text, 0, 2 * TEXT, Ok(result));
     }
+}
+
+/// A sum of strings with a call in it is no string in strict mode; a string with `//` in it is one.
+#[test]
+fn modes() {
+    let (sum, string) = (
+        &b"r0 = \"a\" + f() + \"b\";\n"[..],
+        &b"r1 = \"http://x\";\n"[..],
+    );
+    let text = [sum, string].concat();
+    for (mode, left) in [(Mode::Plain, string), (Mode::Strict, sum)] {
+        assert_eq!(optimize(mode, &text).as_deref(), Ok(left), "{mode:?}");
+        assert_eq!(run_pass(2, mode, &text).as_deref(), Ok(left), "{mode:?}");
+        expect_in(mode, 0, &text, 0, 2 * TEXT, Ok(left));
+        expect_in(mode, 2, &text, 0, 2 * TEXT, Ok(left));
+    }
+    assert_eq!(Mode::default(), Mode::Plain);
 }
 
 fn lines(n: usize) -> Vec<u8> {
@@ -142,7 +179,7 @@ fn refusals() {
     for pass in [7, usize::MAX] {
         expect(pass, &long, 1, 0, Err(Refusal::BadPass));
     }
-    assert_eq!(run_pass(0, SAMPLE), Err(Refusal::BadPass));
+    assert_eq!(run_pass(0, Mode::Plain, SAMPLE), Err(Refusal::BadPass));
     expect(0, &long, 1, 0, Err(Refusal::TooLong));
     for short in 1..=6 {
         expect(0, b"\xFF", short, 0, Err(Refusal::ShortWork));
@@ -165,16 +202,16 @@ fn refusals() {
 #[test]
 fn limits() {
     let long = b"x".repeat(TEXT);
-    assert_eq!(optimize(&long).as_deref(), Ok(&long[..]));
-    assert_eq!(optimize(&lines(LINES)), Ok(lines(LINES - 1)));
+    assert_eq!(optimize(Mode::Plain, &long).as_deref(), Ok(&long[..]));
+    assert_eq!(optimize(Mode::Plain, &lines(LINES)), Ok(lines(LINES - 1)));
     let crowd = brackets(BRACKETS);
-    assert_eq!(optimize(&crowd).as_deref(), Ok(&crowd[..]));
+    assert_eq!(optimize(Mode::Plain, &crowd).as_deref(), Ok(&crowd[..]));
 }
 
 #[test]
 fn words() {
     let said = |text: &[u8]| {
-        let why: Box<dyn Error> = optimize(text).unwrap_err().into();
+        let why: Box<dyn Error> = optimize(Mode::Plain, text).unwrap_err().into();
         why.to_string()
     };
     assert_eq!(
@@ -221,7 +258,7 @@ fn threads_with_the_stated_stack() {
     let text = format!("r1 = {};\nphi1 = {};\nuse(2);\n", nested("1"), nested("r1"));
     let begin = |text: String| {
         let builder = thread::Builder::new().stack_size(STACK + OWN);
-        let begun = builder.spawn(move || optimize(text.as_bytes()));
+        let begun = builder.spawn(move || optimize(Mode::Strict, text.as_bytes()));
         begun.expect("a thread")
     };
     let begun: Vec<_> = (0..4).map(|_| begin(text.clone())).collect();

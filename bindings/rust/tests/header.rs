@@ -1,6 +1,6 @@
 //! The constants of the wrapper are those of include/optlines.h, which is read as text.
 
-use optlines::{Refusal, BLOCKS, BRACKETS, BYTES, LINES, STACK, TEXT};
+use optlines::{Mode, Refusal, BLOCKS, BRACKETS, BYTES, LINES, STACK, TEXT};
 use std::fs;
 
 fn header() -> String {
@@ -34,7 +34,9 @@ fn every_define() {
         ("BRACKETS", BRACKETS),
         ("BYTES", BYTES),
         ("LINES", LINES),
+        ("PLAIN", Mode::Plain as usize),
         ("STACK", STACK),
+        ("STRICT", Mode::Strict as usize),
         ("TEXT", TEXT),
     ];
     assert_eq!(found, wanted);
@@ -63,6 +65,7 @@ fn every_number() {
         ("CUT", of(Refusal::Cut(0))),
         ("OVERLONG", of(Refusal::Overlong(0))),
         ("OUTSIDE", of(Refusal::Outside(0))),
+        ("BAD_MODE", of(Refusal::BadMode)),
         ("OVERLAP", 255), // of the inline function for C alone
     ];
     assert_eq!(found, wanted);
