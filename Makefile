@@ -8,7 +8,7 @@ DESTDIR =
 # What is installed, and where it stands.
 PROGRAM = target/bin/optlines
 ARCHIVE = target/staticlib/libcapi.a
-SHARED = target/lib/liboptlines.so.1
+SHARED = target/lib/liboptlines.so.2
 SCRIPT = optlines
 FRONT = tools/front.sh
 RUN_BUILT = tools/run-built
@@ -19,7 +19,7 @@ to = $(DESTDIR)$(PREFIX)
 own = libexec/optlines
 installed = bin/optlines $(own)/optlines $(own)/front.sh $(own)/run-built $(own)/VERSION \
 	$(own)/TOOLCHAIN share/man/man1/optlines.1 include/optlines.h lib/liboptlines.a \
-	lib/liboptlines.so.1 lib/liboptlines.so lib/pkgconfig/optlines.pc
+	lib/liboptlines.so.2 lib/liboptlines.so lib/pkgconfig/optlines.pc
 exported = optlines_optimize optlines_run_pass
 
 # The linker for x86-64, on either kind of machine.
@@ -61,7 +61,7 @@ shared:
 	@command -v $(link) >/dev/null || { echo "make: no $(link): run tools/setup" >&2; exit 1; }
 	@mkdir -p "$$(dirname "$(SHARED)")"
 	{ echo '{ global:'; printf '%s;\n' $(exported); echo 'local: *; };'; } >"$(SHARED).map"
-	$(link) -shared -o "$(SHARED).new" -Wl,-soname,liboptlines.so.1 -Wl,-z,defs -Wl,-z,now \
+	$(link) -shared -o "$(SHARED).new" -Wl,-soname,liboptlines.so.2 -Wl,-z,defs -Wl,-z,now \
 	    -Wl,--version-script="$(SHARED).map" -Wl,--whole-archive "$(ARCHIVE)" -Wl,--no-whole-archive
 	mv -f "$(SHARED).new" "$(SHARED)"
 
@@ -76,8 +76,8 @@ install: all
 	install -m 644 man/optlines.1 "$(to)/share/man/man1/optlines.1"
 	install -m 644 include/optlines.h "$(to)/include/optlines.h"
 	install -m 644 "$(ARCHIVE)" "$(to)/lib/liboptlines.a"
-	install -m 755 "$(SHARED)" "$(to)/lib/liboptlines.so.1"
-	ln -sf liboptlines.so.1 "$(to)/lib/liboptlines.so"
+	install -m 755 "$(SHARED)" "$(to)/lib/liboptlines.so.2"
+	ln -sf liboptlines.so.2 "$(to)/lib/liboptlines.so"
 	printf '%s\n' 'prefix=$(PREFIX)' 'libdir=$${prefix}/lib' 'includedir=$${prefix}/include' '' \
 	    'Name: optlines' 'Description: Tidies register listings' "Version: $$(cat "$(VERSION)")" \
 	    'Cflags: -I$${includedir}' 'Libs: -L$${libdir} -loptlines' \
