@@ -1,6 +1,6 @@
 
-/// Strict mode, from document 02's request 4 alone. `build` puts these functions into a copy of the original in the place of
-/// its `strip_comments`, and lets `purity` ask `closed_by_last` where it asked for a string's last character.
+// Strict mode, from document 02's request 4 alone. `build` puts these functions into a copy of the original in the place of
+// its `strip_comments`, and lets `purity` ask `closed_by_last` where it asked for a string's last character.
 
 /// The place behind the literal that opens at `from`, escapes counted; none where it is not closed.
 fn literal_end(bytes: &[u8], from: usize) -> Option<usize> {
