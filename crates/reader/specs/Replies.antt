@@ -1,0 +1,72 @@
+-- Requests 7 and 9: what is answered, as the cases of a reply, and what stands in lent memory afterwards. Assumes nothing.
+use Prim.Native.Nat.{ℕ, zero, suc, _+_}
+use mathlib.Core.Bool.{Bool, true, false, cond}
+use mathlib.Core.List.{List, [], _∷_, _++_}
+use lib.ListN.{length, drop}
+use lib.Dec.{eqb, ltb}
+use Rattle.origins.specs.declared.Went.{Went}
+use Rattle.origins.specs.Form.{Shape, sizeOf}
+use Rattle.origins.specs.Read.{wentIn, Said, says, wrong}
+use Rattle.origins.specs.Answers.{Lines, found, refused, Turned, turned, denied}
+use Rattle.reader.specs.declared.Reply.{Reply}
+use Rattle.reader.specs.declared.Reply.the-variants.{Fine, Cut, WrongMark, OutOfOrder, UnknownFate, Disagree, Unfit, Short, NoRoom}
+
+-- the number of an answer, and its place: the record, or how much room is needed
+abbrev pub numberOf : Reply → ℕ
+numberOf (Fine i) = 0
+numberOf (Cut i) = 1
+numberOf (WrongMark i) = 2
+numberOf (OutOfOrder i) = 3
+numberOf (UnknownFate i) = 4
+numberOf (Disagree i) = 5
+numberOf (Unfit i) = 6
+numberOf (Short i) = 7
+numberOf (NoRoom i) = 6
+
+abbrev pub placeOf : Reply → ℕ
+placeOf (Fine i) = 0
+placeOf (Cut i) = i
+placeOf (WrongMark i) = i
+placeOf (OutOfOrder i) = i
+placeOf (UnknownFate i) = i
+placeOf (Disagree i) = i
+placeOf (Unfit i) = i
+placeOf (Short i) = i
+placeOf (NoRoom i) = i
+
+-- a refusal by its number: 1 to 5 of the file, 6 a record that the other form cannot write, 7 too little room
+abbrev pub refusal : ℕ → ℕ → Reply
+refusal c i = cond (eqb c 1) (Cut i) (cond (eqb c 2) (WrongMark i) (cond (eqb c 3) (OutOfOrder i) (cond (eqb c 4) (UnknownFate i) (cond (eqb c 5) (Disagree i) (cond (eqb c 6) (Unfit i) (Short i))))))
+
+-- the check, where i records above were right
+abbrev pub checkedFrom : ℕ → Said → Reply
+checkedFrom i (says ws) = Fine (i + length ws)
+checkedFrom i (wrong c j) = refusal c j
+
+-- the lines behind an output line: how many; 6 is too little room
+abbrev pub linesReply : Lines → Reply
+linesReply (found ls) = Fine (length ls)
+linesReply (refused c i) = cond (eqb c 6) (NoRoom i) (refusal c i)
+
+abbrev pub linesAfter : Lines → List ℕ → List ℕ
+linesAfter (found ls) d = ls ++ drop (length ls) d
+linesAfter (refused c i) d = d
+
+-- the other form: how many bytes
+abbrev pub turnedReply : Turned → Reply
+turnedReply (turned t) = Fine (length t)
+turnedReply (denied c i) = refusal c i
+
+abbrev pub turnedAfter : Turned → List ℕ → List ℕ
+turnedAfter (turned t) d = t ++ drop (length t) d
+turnedAfter (denied c i) d = d
+
+-- what the whole records of a file say, one after another; n bounds their number
+unfoldable pub wentsFrom : Shape → ℕ → List ℕ → List Went
+unfolding wentIn
+wentsFrom F zero s = []
+wentsFrom F (suc n) s = cond (ltb (length s) (sizeOf F)) [] (wentIn F s ∷ wentsFrom F n (drop (sizeOf F) s))
+
+unfoldable pub wentsIn : Shape → List ℕ → List Went
+unfolding wentsFrom
+wentsIn F s = wentsFrom F (length s) s
