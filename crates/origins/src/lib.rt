@@ -72,7 +72,7 @@ pub fn size_of(f: Form) -> usize
 }
 
 // The byte of fate.
-fn fate_byte(w: Went) -> u8
+pub fn fate_byte(w: Went) -> u8
     ensures { λ r. ⌜ r ≡ fateByte w ⌝ }
 {
     match w {
@@ -83,8 +83,8 @@ fn fate_byte(w: Went) -> u8
     }
 }
 
-// The output line of a record, where `gone` stands for a line that is gone.
-fn out_line(f: Form, w: Went) -> usize
+// The output line of a record: for a line that is gone the number that stands for it.
+pub fn out_line(f: Form, w: Went) -> usize
     ensures { λ r. ⌜ r ≡ outLine (shapeOf f) w ⌝ }
 {
     match w {

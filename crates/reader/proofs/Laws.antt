@@ -22,7 +22,7 @@ use Rattle.origins.specs.Answers.{isIn, behindFrom, behind, Lines, roomed, line
 use Rattle.origins.proofs.RoundTrip.{Good, good-of, record-length, file-length}
 use Rattle.reader.specs.declared.Reply.{Reply}
 use Rattle.reader.specs.declared.Reply.the-variants.{Fine, Cut, WrongMark, OutOfOrder, UnknownFate, Disagree, Unfit, Short, NoRoom}
-use Rattle.reader.specs.Replies.{numberOf, placeOf, refusal, checkedFrom, linesReply, linesAfter, turnedReply, turnedAfter, wentsFrom, wentsIn}
+use Rattle.reader.specs.Replies.{numberOf, placeOf, formIn, refusal, checkedFrom, linesReply, linesAfter, turnedReply, turnedAfter, wentsFrom, wentsIn}
 use Rattle.reader.specs.Inner.Walk.{oneIn}
 
 -- ---- numbers
@@ -77,6 +77,14 @@ pub fate-is : (F : Shape) (s : List ℕ) (o w : ℕ) → w ≡ F .width → getD
 fate-is F s o w e =
     let q : o + 2 + w ≡ o + (2 + F .width) = omega arith in
     ap (λ (k : ℕ). getD s k 0) q ∙ sym (getD-drop o s (2 + F .width) 0)
+
+-- ---- the form
+
+pub form-large : (s : List ℕ) (b : ℕ) → b ≡ getD s 1 0 → b ≡ 77 → form.Om ≡ formIn s
+form-large s b e h = rw (eq-eqb (getD s 1 0) 77 (sym e ∙ h))
+
+pub form-small : (s : List ℕ) (b : ℕ) → b ≡ getD s 1 0 → (b ≡ 77 → ⊥) → form.Ol ≡ formIn s
+form-small s b e h = rw (ne-eqb (getD s 1 0) 77 (λ q. h (e ∙ q)))
 
 -- ---- one record
 

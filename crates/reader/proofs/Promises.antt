@@ -8,14 +8,16 @@ use borrow.Author.Tests.{le-ltb}
 use lib.Dec.{ltb}
 use lib.ListN.{length}
 use Rattle.origins.specs.declared.Went.{Went}
-use Rattle.origins.specs.Form.{Shape, goneOf, fileOf}
+use Rattle.origins.specs.declared.Form.{Form}
+use Rattle.origins.specs.declared.Form.the-variants.{Ol, Om}
+use Rattle.origins.specs.Form.{Shape, shapeOf, goneOf, fileOf}
 use Rattle.origins.specs.Read.{says, readFile}
 use Rattle.origins.specs.Answers.{behindFrom, behind, linesBy, linesFor, found, refused, denied, fitsFrom}
 use Rattle.origins.proofs.RoundTrip.{bytes, read-file, write-file}
 use Rattle.origins.proofs.Behind.{behind-gone}
 use Rattle.reader.specs.declared.Reply.{Reply}
 use Rattle.reader.specs.declared.Reply.the-variants.{Fine}
-use Rattle.reader.specs.Replies.{numberOf, placeOf, linesReply, checkedFrom, wentsIn, turnedReply}
+use Rattle.reader.specs.Replies.{numberOf, placeOf, formIn, linesReply, checkedFrom, wentsIn, turnedReply}
 use Rattle.reader.proofs.Laws.{said-wents, fine-says}
 
 -- What was written is read: as many records, and the same
@@ -53,3 +55,9 @@ turn-number (suc (suc (suc (suc (suc zero))))) i a b = (refl, refl)
 turn-number (suc (suc (suc (suc (suc (suc zero)))))) i a b = (refl, refl)
 turn-number (suc (suc (suc (suc (suc (suc (suc zero))))))) i a b = (refl, refl)
 turn-number (suc (suc (suc (suc (suc (suc (suc (suc c)))))))) i a b = absurd (omega arith)
+
+-- A file that was written shows its form, where it has a record
+pub form-shown : (f : Form) (w : Went) (ws : List Went) → formIn (fileOf (shapeOf f) (w ∷ ws)) ≡ f
+unfolding fileOf
+form-shown Ol w ws = refl
+form-shown Om w ws = refl

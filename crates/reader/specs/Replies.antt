@@ -1,10 +1,13 @@
 -- Requests 7 and 9: what is answered, as the cases of a reply, and what stands in lent memory afterwards. Assumes nothing.
 use Prim.Native.Nat.{ℕ, zero, suc, _+_}
+use Prim.Native.Char.{code}
 use mathlib.Core.Bool.{Bool, true, false, cond}
 use mathlib.Core.List.{List, [], _∷_, _++_}
-use lib.ListN.{length, drop}
+use lib.ListN.{length, drop, getD}
 use lib.Dec.{eqb, ltb}
 use Rattle.origins.specs.declared.Went.{Went}
+use Rattle.origins.specs.declared.Form.{Form}
+use Rattle.origins.specs.declared.Form.the-variants.{Ol, Om}
 use Rattle.origins.specs.Form.{Shape, sizeOf}
 use Rattle.origins.specs.Read.{wentIn, Said, says, wrong}
 use Rattle.origins.specs.Answers.{Lines, found, refused, Turned, turned, denied}
@@ -34,6 +37,18 @@ placeOf (Unfit i) = i
 placeOf (Short i) = i
 placeOf (NoRoom i) = i
 
+-- how much there is: records, lines or bytes
+abbrev pub countOf : Reply → ℕ
+countOf (Fine i) = i
+countOf (Cut i) = 0
+countOf (WrongMark i) = 0
+countOf (OutOfOrder i) = 0
+countOf (UnknownFate i) = 0
+countOf (Disagree i) = 0
+countOf (Unfit i) = 0
+countOf (Short i) = 0
+countOf (NoRoom i) = 0
+
 -- a refusal by its number: 1 to 5 of the file, 6 a record that the other form cannot write, 7 too little room
 abbrev pub refusal : ℕ → ℕ → Reply
 refusal c i = cond (eqb c 1) (Cut i) (cond (eqb c 2) (WrongMark i) (cond (eqb c 3) (OutOfOrder i) (cond (eqb c 4) (UnknownFate i) (cond (eqb c 5) (Disagree i) (cond (eqb c 6) (Unfit i) (Short i))))))
@@ -60,6 +75,10 @@ turnedReply (denied c i) = refusal c i
 abbrev pub turnedAfter : Turned → List ℕ → List ℕ
 turnedAfter (turned t) d = t ++ drop (length t) d
 turnedAfter (denied c i) d = d
+
+-- the form that a file shows by the second byte of its first mark; `OL` where it shows none
+abbrev pub formIn : List ℕ → Form
+formIn s = cond (eqb (getD s 1 0) (code "M")) Om Ol
 
 -- what the whole records of a file say, one after another; n bounds their number
 unfoldable pub wentsFrom : Shape → ℕ → List ℕ → List Went

@@ -9,7 +9,7 @@ ghost use Rattle.origins.specs.declared.Went.the-variants.{Away};
 ghost use Rattle.origins.specs.Form.{shapeOf, sizeOf, fileOf};
 ghost use Rattle.origins.specs.Read.{fromLow, lineIn, fateIn, outIn, faultIn, wentBy, wentIn, says, readFile};
 ghost use Rattle.origins.specs.Answers.{isIn, behind, roomed, linesFor, fits, unfit, turnBy, turn};
-ghost use Rattle.reader.specs.Replies.{numberOf, placeOf, refusal, checkedFrom, linesReply, linesAfter, turnedReply, turnedAfter, wentsIn};
+ghost use Rattle.reader.specs.Replies.{numberOf, placeOf, countOf, formIn, refusal, checkedFrom, linesReply, linesAfter, turnedReply, turnedAfter, wentsIn};
 ghost use Rattle.reader.specs.Inner.Walk.{oneIn};
 
 // What is answered: how much there is, or why there is nothing, with the record, or the room that is needed.
@@ -57,6 +57,33 @@ pub fn place_of(r: Reply) -> usize
         Reply::Short(i) => i,
         Reply::NoRoom(i) => i,
     }
+}
+
+// How much there is: records, lines or bytes; 0 for a refusal.
+pub fn count_of(r: Reply) -> usize
+    ensures { λ x. ⌜ x ≡ countOf r ⌝ }
+{
+    match r {
+        Reply::Fine(i) => i,
+        Reply::Cut(i) => 0,
+        Reply::WrongMark(i) => 0,
+        Reply::OutOfOrder(i) => 0,
+        Reply::UnknownFate(i) => 0,
+        Reply::Disagree(i) => 0,
+        Reply::Unfit(i) => 0,
+        Reply::Short(i) => 0,
+        Reply::NoRoom(i) => 0,
+    }
+}
+
+// The form that a file shows by the second byte of its first mark; `OL` where it shows none.
+pub fn form_of(file: &[u8]) -> origins::Form
+    ensures { λ r. ⌜ r ≡ formIn (now (file .entry)) ⌝ }
+{
+    if lines::byte_at(file, 1) == b'M' {
+        return origins::Form::Om;
+    }
+    origins::Form::Ol
 }
 
 // The number in two bytes, the low byte first.

@@ -1,0 +1,31 @@
+-- What a call from C, Rust or Python answers: the answers of `reader`, where the form of a file is the one that it shows. Assumes nothing.
+use Prim.Native.Nat.{ℕ}
+use mathlib.Core.List.{List}
+use lib.ListN.{length, getD}
+use Rattle.origins.specs.declared.Went.{Went}
+use Rattle.origins.specs.declared.Went.the-variants.{Away}
+use Rattle.origins.specs.declared.Form.{Form}
+use Rattle.origins.specs.Form.{Shape, shapeOf}
+use Rattle.origins.specs.Read.{readFile}
+use Rattle.origins.specs.Answers.{Lines, linesFor, Turned, turn}
+use Rattle.reader.specs.declared.Reply.{Reply}
+use Rattle.reader.specs.Replies.{formIn, checkedFrom, wentsIn}
+
+abbrev pub shown : List ℕ → Shape
+shown s = shapeOf (formIn s)
+
+-- the check of a file s
+abbrev pub checked : List ℕ → Reply
+checked s = checkedFrom 0 (readFile (shown s) s)
+
+-- what record i of it says
+abbrev pub recordIn : List ℕ → ℕ → Went
+recordIn s i = getD (wentsIn (shown s) s) i Away
+
+-- the lines behind its output line n, for the room d
+abbrev pub linesIn : List ℕ → ℕ → List ℕ → Lines
+linesIn s n d = linesFor (shown s) s n (length d)
+
+-- the same records in the form g, for the output d
+abbrev pub turnedTo : Form → List ℕ → List ℕ → Turned
+turnedTo g s d = turn (shown s) (shapeOf g) s (length d)
