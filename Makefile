@@ -15,12 +15,20 @@ RUN_BUILT = tools/run-built
 VERSION = VERSION
 TOOLCHAIN = TOOLCHAIN
 
+# The library for record files.
+RECORDS_ARCHIVE = target/staticlib/librecordcapi.a
+RECORDS_SHARED = target/lib/liboptrecords.so.1
+
 to = $(DESTDIR)$(PREFIX)
 own = libexec/optlines
 installed = bin/optlines $(own)/optlines $(own)/front.sh $(own)/run-built $(own)/VERSION \
 	$(own)/TOOLCHAIN share/man/man1/optlines.1 include/optlines.h lib/liboptlines.a \
 	lib/liboptlines.so.2 lib/liboptlines.so lib/pkgconfig/optlines.pc
 exported = optlines_optimize optlines_run_pass
+soname = liboptlines.so.2
+
+records_exported = optrecords_check optrecords_record optrecords_lines optrecords_to_ol \
+	optrecords_to_om
 
 # The linker for x86-64, on either kind of machine.
 link = $$([ "$$(uname -m)" = x86_64 ] && echo cc || echo x86_64-linux-gnu-gcc)
@@ -44,6 +52,8 @@ help:
 	echo "make lib        proves the library (rt staticlib capi, minutes the first time) and writes"; \
 	echo "                $(ARCHIVE) and $(SHARED)"; \
 	echo "make shared     writes $(SHARED) from $(ARCHIVE), as it is"; \
+	echo "make records    proves the library for record files (rt staticlib recordcapi) and writes"; \
+	echo "                $(RECORDS_ARCHIVE) and $(RECORDS_SHARED)"; \
 	echo "make install    installs the program, its man page, the header, both libraries and"; \
 	echo "                optlines.pc under PREFIX ($(PREFIX)); DESTDIR goes before it"; \
 	echo "make uninstall  removes them, with the same PREFIX and DESTDIR"; \
@@ -55,15 +65,24 @@ lib:
 	rt staticlib capi
 	$(MAKE) shared
 
-# The shared library: the archive whole, and of its names the two of the header alone.
+# A shared library: the archive whole, and of its names those of the header alone.
 shared:
 	@[ -f "$(ARCHIVE)" ] || { echo "make: $(ARCHIVE) is missing: run make lib" >&2; exit 1; }
 	@command -v $(link) >/dev/null || { echo "make: no $(link): run tools/setup" >&2; exit 1; }
 	@mkdir -p "$$(dirname "$(SHARED)")"
 	{ echo '{ global:'; printf '%s;\n' $(exported); echo 'local: *; };'; } >"$(SHARED).map"
-	$(link) -shared -o "$(SHARED).new" -Wl,-soname,liboptlines.so.2 -Wl,-z,defs -Wl,-z,now \
+	$(link) -shared -o "$(SHARED).new" -Wl,-soname,$(soname) -Wl,-z,defs -Wl,-z,now \
 	    -Wl,--version-script="$(SHARED).map" -Wl,--whole-archive "$(ARCHIVE)" -Wl,--no-whole-archive
 	mv -f "$(SHARED).new" "$(SHARED)"
+
+# The library for record files, proved, and its shared library with the names of its header alone.
+records:
+	rt staticlib recordcapi
+	$(MAKE) records-shared
+
+records-shared:
+	@$(MAKE) -s shared ARCHIVE="$(RECORDS_ARCHIVE)" SHARED="$(RECORDS_SHARED)" \
+	    soname=liboptrecords.so.1 exported="$(records_exported)"
 
 install: all
 	install -d "$(to)/bin" "$(to)/$(own)" "$(to)/share/man/man1" "$(to)/include" "$(to)/lib/pkgconfig"
@@ -87,4 +106,4 @@ uninstall:
 	for each in $(installed); do rm -f "$(to)/$$each" || exit 1; done
 	[ ! -d "$(to)/$(own)" ] || rmdir "$(to)/$(own)"
 
-.PHONY: all help lib shared install uninstall
+.PHONY: all help lib shared records records-shared install uninstall
