@@ -26,3 +26,6 @@ pub mod Passes
 pub mod Opt
 pub mod Capi
 pub mod Po
+pub mod Origins
+pub mod Reader
+pub mod Recordcapi
