@@ -15,7 +15,8 @@
  *
  * DESCRIPTION
  *     A record file has one record for each line of a raw listing, in order: the mark, the raw line
- *     from 0, a byte of fate, the tidy line from 0. Numbers are low byte first. A file has one form:
+ *     from 0, a byte of fate, the tidy line from 0. Numbers are low byte first. A file has one of
+ *     two forms:
  *
  *         form  mark  bytes for a line  bytes for a record  tidy line of a gone line
  *         OL    OL    2                 7                   65,535

@@ -14,6 +14,9 @@
 
 #![deny(unsafe_op_in_unsafe_fn, missing_docs)]
 
+#[cfg(feature = "records")]
+pub mod records;
+
 use std::fmt;
 
 /// The stated size of each of the work buffers `a` to `e`.

@@ -1,11 +1,11 @@
 -- Laws of writing a record. Assumes nothing.
 use Prim.Native.Nat.{ℕ, zero, suc, _+_, _-_, _/_, _%_, _≤_, _<_}
-use mathlib.Core.Path.{_≡_, refl, sym, ap, _∙_}
+use mathlib.Core.Path.{_≡_, refl, sym, ap}
 use mathlib.Core.List.{List, [], _∷_, _++_}
 use native.Mathlib.Omega.{arith}
-use lib.ListN.{length, set, length-append}
+use lib.ListN.{length, set}
 use Rattle.lines.specs.Inner.Out.{Wrote}
-use Rattle.lines.proofs.OutLaws.{Writing, writing-start, writing-as, writing-room, writing-put, writing-end, wrote-byte, wrote-then, wrote-as}
+use Rattle.lines.proofs.OutLaws.{Writing, writing-start, writing-as, writing-room, writing-put, writing-end, wrote-byte, wrote-then}
 use Rattle.origins.specs.declared.Went.{Went}
 use Rattle.origins.specs.declared.Form.{Form}
 use Rattle.origins.specs.Form.{Shape, shapeOf, goneOf, sizeOf, lowBytes, fateByte, outLine, recordBytes}

@@ -1,5 +1,5 @@
 -- Origin records as bytes: request 1's form, and that of request 8, by one statement over the width of a line number. Assumes nothing.
-use Prim.Native.Nat.{ℕ, zero, suc, _+_, _-_, _*_, _/_, _%_, _^_}
+use Prim.Native.Nat.{ℕ, zero, suc, _+_, _-_, _/_, _%_, _^_}
 use Prim.Native.Char.{code}
 use mathlib.Core.List.{List, [], _∷_, _++_}
 use Rattle.origins.specs.declared.Went.{Went}

@@ -5,25 +5,25 @@ use mathlib.Core.Bool.{Bool, true, false, cond, not, _&&_}
 use mathlib.Core.List.{List, [], _∷_, _++_}
 use native.Mathlib.Omega.{arith}
 use native.Mathlib.Nat.{mul-suc}
-use borrow.Author.Tests.{eq-eqb, ne-eqb, eqb-true, eqb-false, lt-ltb, le-ltb, ltb-true, ltb-false, le-leb, lt-leb, leb-true}
+use borrow.Author.Tests.{eq-eqb, ne-eqb, eqb-true, lt-ltb, le-ltb, ltb-false, le-leb, lt-leb}
 use lib.Dec.{eqb, leb, ltb}
 use lib.ListN.{length, take, drop, getD, length-drop, length-append, drop-of-length-le}
 use lib.Seq.{getD-drop, drop-drop, drop-cons}
 use Rattle.lines.specs.Inner.Out.{Wrote, putAt}
 use Rattle.lines.proofs.Tests.{no, and-left, and-right}
-use Rattle.lines.proofs.OutLaws.{Writing, writing-start, writing-as, writing-room, writing-put, writing-end, wrote-byte, wrote-nil}
+use Rattle.lines.proofs.OutLaws.{Writing, writing-start, writing-as, writing-room, writing-put, writing-end, wrote-nil}
 use Rattle.origins.specs.declared.Went.{Went}
-use Rattle.origins.specs.declared.Went.the-variants.{Equal, Changed, Inside, Away}
+use Rattle.origins.specs.declared.Went.the-variants.{Away}
 use Rattle.origins.specs.declared.Form.{Form}
 use Rattle.origins.specs.declared.Form.the-variants as form
 use Rattle.origins.specs.Form.{Shape, shapeOf, goneOf, sizeOf, recordBytes, recordsFrom, fileOf}
-use Rattle.origins.specs.Read.{fromLow, lineIn, fateIn, outIn, faultIn, wentBy, wentIn, Said, says, wrong, saidBy, readFrom, readFile}
-use Rattle.origins.specs.Answers.{isIn, behindFrom, behind, Lines, roomed, linesBy, linesFor, fitsOut, fits, fitsFrom, unfit, Turned, roomedFile, turnBy, turn}
+use Rattle.origins.specs.Read.{fromLow, lineIn, fateIn, outIn, faultIn, wentIn, Said, says, wrong, saidBy, readFrom, readFile}
+use Rattle.origins.specs.Answers.{isIn, behindFrom, behind, roomed, linesBy, linesFor, fitsOut, fits, fitsFrom, unfit, turnBy, turn}
 use Rattle.origins.proofs.RoundTrip.{Good, good-of, record-length, file-length}
 use Rattle.reader.specs.declared.Reply.{Reply}
 use Rattle.reader.specs.declared.Reply.the-variants.{Fine, Cut, WrongMark, OutOfOrder, UnknownFate, Disagree, Unfit, Short, NoRoom}
-use Rattle.reader.specs.Replies.{numberOf, placeOf, formIn, refusal, checkedFrom, linesReply, linesAfter, turnedReply, turnedAfter, wentsFrom, wentsIn}
-use Rattle.reader.specs.Inner.Walk.{oneIn}
+use Rattle.reader.specs.Replies.{numberOf, placeOf, formIn, refusal, checkReply, linesReply, linesAfter, turnedReply, turnedAfter, wentsFrom, wentsIn}
+use Rattle.reader.specs.Inner.Walk.{checkedFrom, oneIn}
 
 -- ---- numbers
 
@@ -140,13 +140,17 @@ module _ (F : Shape) (i : ℕ) (s : List ℕ) (o : ℕ) where
 pub record CheckInv (F : Shape) (s : List ℕ) (i o : ℕ) : Type 0 where
   pub i≤ : i ≤ o
   pub o≤ : o ≤ length s
-  pub same : checkedFrom 0 (readFile F s) ≡ checkedFrom i (readFrom F (length s - i) i (drop o s))
+  pub same : checkReply (readFile F s) ≡ checkedFrom i (readFrom F (length s - i) i (drop o s))
+
+checked-start : (r : Said) → checkReply r ≡ checkedFrom 0 r
+checked-start (says ws) = let q : length ws ≡ 0 + length ws = omega arith in ap Fine q
+checked-start (wrong c j) = refl
 
 pub check-start : (F : Shape) (s : List ℕ) → CheckInv F s 0 0
 unfolding readFile
 check-start F s =
     let q : length s ≡ length s - 0 = omega arith in
-    record { i≤ = omega arith; o≤ = omega arith; same = ap (λ (n : ℕ). checkedFrom 0 (readFrom F n 0 s)) q }
+    record { i≤ = omega arith; o≤ = omega arith; same = ap (λ (n : ℕ). checkReply (readFrom F n 0 s)) q ∙ checked-start (readFrom F (length s - 0) 0 s) }
 
 read-none : (F : Shape) (n i : ℕ) → readFrom F n i [] ≡ says []
 unfolding readFrom
@@ -168,13 +172,13 @@ checked-bad zero i w r h = absurd (h refl)
 checked-bad (suc c) i w r h = refl
 
 module _ {F : Shape} {s : List ℕ} {i o : ℕ} (h : CheckInv F s i o) where
-  pub check-end : length s ≤ o → Fine i ≡ checkedFrom 0 (readFile F s)
+  pub check-end : length s ≤ o → Fine i ≡ checkReply (readFile F s)
   check-end k =
       let q : i ≡ i + 0 = omega arith in
       ap Fine q ∙ sym (h .same ∙ ap (λ (t : List ℕ). checkedFrom i (readFrom F (length s - i) i t)) (drop-of-length-le s k) ∙ ap (checkedFrom i) (read-none F (length s - i) i))
 
   module _ (a : o < length s) (c : ℕ) (e : c ≡ faultIn F i (drop o s)) where
-    now : checkedFrom 0 (readFile F s) ≡ checkedFrom i (saidBy c i (wentIn F (drop o s)) (readFrom F (length s - (i + 1)) (i + 1) (drop (o + sizeOf F) s)))
+    now : checkReply (readFile F s) ≡ checkedFrom i (saidBy c i (wentIn F (drop o s)) (readFrom F (length s - (i + 1)) (i + 1) (drop (o + sizeOf F) s)))
     now =
         let q : length s - i ≡ suc (length s - (i + 1)) = omega (arith, h .i≤) in
         h .same
@@ -184,7 +188,7 @@ module _ {F : Shape} {s : List ℕ} {i o : ℕ} (h : CheckInv F s i o) where
         ∙ ap (λ (t : List ℕ). checkedFrom i (saidBy c i (wentIn F (drop o s)) (readFrom F (length s - (i + 1)) (suc i) t))) (drop-drop (sizeOf F) o s)
         ∙ ap (λ (j : ℕ). checkedFrom i (saidBy c i (wentIn F (drop o s)) (readFrom F (length s - (i + 1)) j (drop (o + sizeOf F) s)))) (next i)
 
-    pub check-bad : (c ≡ 0 → ⊥) → refusal c i ≡ checkedFrom 0 (readFile F s)
+    pub check-bad : (c ≡ 0 → ⊥) → refusal c i ≡ checkReply (readFile F s)
     check-bad z = sym (now ∙ checked-bad c i _ _ z)
 
     pub check-long : c ≡ 0 → o + sizeOf F ≤ length s
@@ -452,11 +456,11 @@ unfine h = ap out h
     out (NoRoom i) = 0
 
 -- a file that is right says what its whole records say
-pub fine-says : (F : Shape) (s : List ℕ) (m : ℕ) → Fine m ≡ checkedFrom 0 (readFile F s) → (readFile F s ≡ says (wentsIn F s)) × (m ≡ length (wentsIn F s))
+pub fine-says : (F : Shape) (s : List ℕ) (m : ℕ) → Fine m ≡ checkReply (readFile F s) → (readFile F s ≡ says (wentsIn F s)) × (m ≡ length (wentsIn F s))
 unfolding readFile wentsIn
 fine-says F s m h = go (readFile F s) refl h
   where
-    go : (r : Said) → readFile F s ≡ r → Fine m ≡ checkedFrom 0 r → (readFile F s ≡ says (wentsIn F s)) × (m ≡ length (wentsIn F s))
+    go : (r : Said) → readFile F s ≡ r → Fine m ≡ checkReply r → (readFile F s ≡ says (wentsIn F s)) × (m ≡ length (wentsIn F s))
     go (says ws) e z =
         let q : wentsIn F s ≡ ws = wents-said F (length s) 0 s ws e in
         (e ∙ ap says (sym q), omega (arith, unfine z, ap length q))
@@ -483,12 +487,12 @@ pass-is (suc (suc (suc (suc (suc zero))))) j = refl
 pass-is (suc (suc (suc (suc (suc (suc zero)))))) j = refl
 pass-is (suc (suc (suc (suc (suc (suc (suc c))))))) j = rw (ne-eqb (suc (suc (suc (suc (suc (suc (suc c))))))) 1 (omega arith), ne-eqb (suc (suc (suc (suc (suc (suc (suc c))))))) 2 (omega arith), ne-eqb (suc (suc (suc (suc (suc (suc (suc c))))))) 3 (omega arith), ne-eqb (suc (suc (suc (suc (suc (suc (suc c))))))) 4 (omega arith), ne-eqb (suc (suc (suc (suc (suc (suc (suc c))))))) 5 (omega arith), ne-eqb (suc (suc (suc (suc (suc (suc (suc c))))))) 6 (omega arith))
 
-module _ (F : Shape) (s d : List ℕ) (x y : Reply) (h : x ≡ checkedFrom 0 (readFile F s)) (e : x ≡ y) where
+module _ (F : Shape) (s d : List ℕ) (x y : Reply) (h : x ≡ checkReply (readFile F s)) (e : x ≡ y) where
   pub lines-refused : (n : ℕ) → isFine y ≡ false → (passOn y ≡ linesReply (linesFor F s n (length d))) × (d ≡ linesAfter (linesFor F s n (length d)) d)
   unfolding linesFor
   lines-refused n f = go (readFile F s) (sym e ∙ h)
     where
-      go : (r : Said) → y ≡ checkedFrom 0 r → (passOn y ≡ linesReply (linesBy n (length d) r)) × (d ≡ linesAfter (linesBy n (length d) r) d)
+      go : (r : Said) → y ≡ checkReply r → (passOn y ≡ linesReply (linesBy n (length d) r)) × (d ≡ linesAfter (linesBy n (length d) r) d)
       go (says ws) z = no (sym f ∙ ap isFine z)
       go (wrong c j) z = (ap passOn z ∙ pass-is c j, refl)
 
@@ -496,11 +500,11 @@ module _ (F : Shape) (s d : List ℕ) (x y : Reply) (h : x ≡ checkedFrom 0 (re
   unfolding turn
   turn-refused G f = go (readFile F s) (sym e ∙ h)
     where
-      go : (r : Said) → y ≡ checkedFrom 0 r → (y ≡ turnedReply (turnBy G (length d) r)) × (d ≡ turnedAfter (turnBy G (length d) r) d)
+      go : (r : Said) → y ≡ checkReply r → (y ≡ turnedReply (turnBy G (length d) r)) × (d ≡ turnedAfter (turnBy G (length d) r) d)
       go (says ws) z = no (sym f ∙ ap isFine z)
       go (wrong c j) z = (z, refl)
 
-pub lines-for : (F : Shape) (s : List ℕ) (x : Reply) (m n room : ℕ) → x ≡ checkedFrom 0 (readFile F s) → x ≡ Fine m → roomed (behind n (wentsIn F s)) room ≡ linesFor F s n room
+pub lines-for : (F : Shape) (s : List ℕ) (x : Reply) (m n room : ℕ) → x ≡ checkReply (readFile F s) → x ≡ Fine m → roomed (behind n (wentsIn F s)) room ≡ linesFor F s n room
 unfolding linesFor
 lines-for F s x m n room h e = rw (fine-says F s m (sym e ∙ h) .0)
 
@@ -652,7 +656,7 @@ count-small f g s m z e q = by f g (wents-length (shapeOf f) (length s) s) q
     by form.Om form.Ol h r = let t : z ≡ 7 = r in rw t (omega arith)
     by form.Om form.Om h r = let t : z ≡ 11 = r in rw t (omega arith)
 
-pub turn-for : (F G : Shape) (s : List ℕ) (x : Reply) (m room : ℕ) → x ≡ checkedFrom 0 (readFile F s) → x ≡ Fine m → turnBy G room (says (wentsIn F s)) ≡ turn F G s room
+pub turn-for : (F G : Shape) (s : List ℕ) (x : Reply) (m room : ℕ) → x ≡ checkReply (readFile F s) → x ≡ Fine m → turnBy G room (says (wentsIn F s)) ≡ turn F G s room
 unfolding turn
 turn-for F G s x m room h e = rw (fine-says F s m (sym e ∙ h) .0)
 

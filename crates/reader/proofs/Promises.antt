@@ -1,11 +1,10 @@
 -- What the answers promise, by the laws of origins. Assumes nothing.
-use Prim.Native.Nat.{ℕ, zero, suc, _+_, _*_, _≤_}
-use mathlib.Core.Path.{_≡_, refl, sym, ap, _∙_}
-use mathlib.Core.Bool.{Bool, true, false, cond}
-use mathlib.Core.List.{List, [], _∷_, _++_}
+use Prim.Native.Nat.{ℕ, zero, suc, _≤_}
+use mathlib.Core.Path.{_≡_, refl, ap, _∙_}
+use mathlib.Core.Bool.{true}
+use mathlib.Core.List.{List, [], _∷_}
 use native.Mathlib.Omega.{arith}
 use borrow.Author.Tests.{le-ltb}
-use lib.Dec.{ltb}
 use lib.ListN.{length}
 use Rattle.origins.specs.declared.Went.{Went}
 use Rattle.origins.specs.declared.Form.{Form}
@@ -15,19 +14,17 @@ use Rattle.origins.specs.Read.{says, readFile}
 use Rattle.origins.specs.Answers.{behindFrom, behind, linesBy, linesFor, found, refused, denied, fitsFrom}
 use Rattle.origins.proofs.RoundTrip.{bytes, read-file, write-file}
 use Rattle.origins.proofs.Behind.{behind-gone}
-use Rattle.reader.specs.declared.Reply.{Reply}
 use Rattle.reader.specs.declared.Reply.the-variants.{Fine}
-use Rattle.reader.specs.Replies.{numberOf, placeOf, formIn, linesReply, checkedFrom, wentsIn, turnedReply}
+use Rattle.reader.specs.Replies.{numberOf, placeOf, formIn, linesReply, checkReply, wentsIn, turnedReply}
 use Rattle.reader.proofs.Laws.{said-wents, fine-says}
 
 -- What was written is read: as many records, and the same
-pub read-back : (F : Shape) (ws : List Went) → fitsFrom F 0 ws ≡ true → (checkedFrom 0 (readFile F (fileOf F ws)) ≡ Fine (length ws)) × (wentsIn F (fileOf F ws) ≡ ws)
+pub read-back : (F : Shape) (ws : List Went) → fitsFrom F 0 ws ≡ true → (checkReply (readFile F (fileOf F ws)) ≡ Fine (length ws)) × (wentsIn F (fileOf F ws) ≡ ws)
 read-back F ws h =
-    let q : 0 + length ws ≡ length ws = omega arith in
-    (ap (checkedFrom 0) (read-file F ws h) ∙ ap Fine q, said-wents F (fileOf F ws) ws (read-file F ws h))
+    (ap checkReply (read-file F ws h), said-wents F (fileOf F ws) ws (read-file F ws h))
 
 -- The number that stands for gone gets no lines
-pub gone-lines : (F : Shape) (s : List ℕ) (m room : ℕ) → bytes s ≡ true → Fine m ≡ checkedFrom 0 (readFile F s) → linesFor F s (goneOf F) room ≡ found []
+pub gone-lines : (F : Shape) (s : List ℕ) (m room : ℕ) → bytes s ≡ true → Fine m ≡ checkReply (readFile F s) → linesFor F s (goneOf F) room ≡ found []
 unfolding linesFor behind
 gone-lines F s m room b h =
     let q = fine-says F s m h .0 in

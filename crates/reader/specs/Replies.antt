@@ -1,7 +1,7 @@
 -- Requests 7 and 9: what is answered, as the cases of a reply, and what stands in lent memory afterwards. Assumes nothing.
-use Prim.Native.Nat.{ℕ, zero, suc, _+_}
+use Prim.Native.Nat.{ℕ, zero, suc}
 use Prim.Native.Char.{code}
-use mathlib.Core.Bool.{Bool, true, false, cond}
+use mathlib.Core.Bool.{cond}
 use mathlib.Core.List.{List, [], _∷_, _++_}
 use lib.ListN.{length, drop, getD}
 use lib.Dec.{eqb, ltb}
@@ -51,12 +51,23 @@ countOf (NoRoom i) = 0
 
 -- a refusal by its number: 1 to 5 of the file, 6 a record that the other form cannot write, 7 too little room
 abbrev pub refusal : ℕ → ℕ → Reply
-refusal c i = cond (eqb c 1) (Cut i) (cond (eqb c 2) (WrongMark i) (cond (eqb c 3) (OutOfOrder i) (cond (eqb c 4) (UnknownFate i) (cond (eqb c 5) (Disagree i) (cond (eqb c 6) (Unfit i) (Short i))))))
+refusal c i =
+    cond (eqb c 1) (Cut i)
+    (cond (eqb c 2) (WrongMark i)
+    (cond (eqb c 3) (OutOfOrder i)
+    (cond (eqb c 4) (UnknownFate i)
+    (cond (eqb c 5) (Disagree i)
+    (cond (eqb c 6) (Unfit i)
+    (Short i))))))
 
--- the check, where i records above were right
-abbrev pub checkedFrom : ℕ → Said → Reply
-checkedFrom i (says ws) = Fine (i + length ws)
-checkedFrom i (wrong c j) = refusal c j
+-- lent memory d with xs at its front, the rest as it was
+abbrev pub atFront : List ℕ → List ℕ → List ℕ
+atFront xs d = xs ++ drop (length xs) d
+
+-- the check: how many records
+abbrev pub checkReply : Said → Reply
+checkReply (says ws) = Fine (length ws)
+checkReply (wrong c i) = refusal c i
 
 -- the lines behind an output line: how many; 6 is too little room
 abbrev pub linesReply : Lines → Reply
@@ -64,7 +75,7 @@ linesReply (found ls) = Fine (length ls)
 linesReply (refused c i) = cond (eqb c 6) (NoRoom i) (refusal c i)
 
 abbrev pub linesAfter : Lines → List ℕ → List ℕ
-linesAfter (found ls) d = ls ++ drop (length ls) d
+linesAfter (found ls) d = atFront ls d
 linesAfter (refused c i) d = d
 
 -- the other form: how many bytes
@@ -73,7 +84,7 @@ turnedReply (turned t) = Fine (length t)
 turnedReply (denied c i) = refusal c i
 
 abbrev pub turnedAfter : Turned → List ℕ → List ℕ
-turnedAfter (turned t) d = t ++ drop (length t) d
+turnedAfter (turned t) d = atFront t d
 turnedAfter (denied c i) d = d
 
 -- the form that a file shows by the second byte of its first mark; `OL` where it shows none

@@ -9,7 +9,7 @@ ghost use Rattle.origins.specs.declared.Went.the-variants.{Away};
 ghost use Rattle.origins.specs.Form.{shapeOf, sizeOf, fileOf};
 ghost use Rattle.origins.specs.Read.{fromLow, lineIn, fateIn, outIn, faultIn, wentBy, wentIn, says, readFile};
 ghost use Rattle.origins.specs.Answers.{isIn, behind, roomed, linesFor, fits, unfit, turnBy, turn};
-ghost use Rattle.reader.specs.Replies.{numberOf, placeOf, countOf, formIn, refusal, checkedFrom, linesReply, linesAfter, turnedReply, turnedAfter, wentsIn};
+ghost use Rattle.reader.specs.Replies.{numberOf, placeOf, countOf, formIn, refusal, checkReply, linesReply, linesAfter, turnedReply, turnedAfter, wentsIn};
 ghost use Rattle.reader.specs.Inner.Walk.{oneIn};
 
 // What is answered: how much there is, or why there is nothing, with the record, or the room that is needed.
@@ -201,7 +201,7 @@ fn refusal_of(c: u8, i: usize) -> Reply
 
 // Checks a file: how many records it has, or what is wrong with the first that is wrong.
 pub fn check(f: origins::Form, file: &[u8]) -> Reply
-    ensures { λ r. ⌜ r ≡ checkedFrom 0 (readFile (shapeOf f) (now (file .entry))) ⌝ }
+    ensures { λ r. ⌜ r ≡ checkReply (readFile (shapeOf f) (now (file .entry))) ⌝ }
 {
     let z = origins::size_of(f);
     let mut i = 0;

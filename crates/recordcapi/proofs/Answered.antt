@@ -10,7 +10,7 @@ use Rattle.origins.specs.Form.{shapeOf, fateByte, outLine}
 use Rattle.origins.specs.Read.{readFile}
 use Rattle.origins.specs.Answers.{Lines, linesFor, Turned, turn}
 use Rattle.reader.specs.declared.Reply.{Reply}
-use Rattle.reader.specs.Replies.{numberOf, placeOf, countOf, formIn, checkedFrom, linesReply, linesAfter, turnedReply, turnedAfter, wentsIn}
+use Rattle.reader.specs.Replies.{numberOf, placeOf, countOf, formIn, checkReply, linesReply, linesAfter, turnedReply, turnedAfter, wentsIn}
 use Rattle.recordcapi.specs.Called.{shown, checked, recordIn, linesIn, turnedTo}
 
 -- the number, the count and the place of the answer r, which is x
@@ -20,9 +20,9 @@ Handed x n k p = (n ≡ numberOf x) × ((k ≡ countOf x) × (p ≡ placeOf x))
 handed : {r x : Reply} {n k p : ℕ} → r ≡ x → n ≡ numberOf r → k ≡ countOf r → p ≡ placeOf r → Handed x n k p
 handed is number count place = (number ∙ ap numberOf is, (count ∙ ap countOf is, place ∙ ap placeOf is))
 
-pub checked-by : (s : List ℕ) (f : Form) {r : Reply} {n k p : ℕ} → f ≡ formIn s → r ≡ checkedFrom 0 (readFile (shapeOf f) s) → n ≡ numberOf r → k ≡ countOf r → p ≡ placeOf r →
+pub checked-by : (s : List ℕ) (f : Form) {r : Reply} {n k p : ℕ} → f ≡ formIn s → r ≡ checkReply (readFile (shapeOf f) s) → n ≡ numberOf r → k ≡ countOf r → p ≡ placeOf r →
     (n ≡ numberOf (checked s)) × ((k ≡ countOf (checked s)) × (p ≡ placeOf (checked s)))
-checked-by s f form is number count place = handed (is ∙ ap (λ (g : Form). checkedFrom 0 (readFile (shapeOf g) s)) form) number count place
+checked-by s f form is number count place = handed (is ∙ ap (λ (g : Form). checkReply (readFile (shapeOf g) s)) form) number count place
 
 pub recorded-by : (s : List ℕ) (i : ℕ) (f : Form) {w : Went} {n l : ℕ} → f ≡ formIn s → w ≡ getD (wentsIn (shapeOf f) s) i Away → n ≡ fateByte w → l ≡ outLine (shapeOf f) w →
     (n ≡ fateByte (recordIn s i)) × (l ≡ outLine (shown s) (recordIn s i))

@@ -9,14 +9,14 @@ use Rattle.origins.specs.Form.{Shape, shapeOf}
 use Rattle.origins.specs.Read.{readFile}
 use Rattle.origins.specs.Answers.{Lines, linesFor, Turned, turn}
 use Rattle.reader.specs.declared.Reply.{Reply}
-use Rattle.reader.specs.Replies.{formIn, checkedFrom, wentsIn}
+use Rattle.reader.specs.Replies.{formIn, checkReply, wentsIn}
 
 abbrev pub shown : List ℕ → Shape
 shown s = shapeOf (formIn s)
 
 -- the check of a file s
 abbrev pub checked : List ℕ → Reply
-checked s = checkedFrom 0 (readFile (shown s) s)
+checked s = checkReply (readFile (shown s) s)
 
 -- what record i of it says
 abbrev pub recordIn : List ℕ → ℕ → Went
