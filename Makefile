@@ -26,6 +26,7 @@ installed = bin/optlines $(own)/optlines $(own)/front.sh $(own)/run-built $(own)
 	lib/liboptlines.so.2 lib/liboptlines.so lib/pkgconfig/optlines.pc
 exported = optlines_optimize optlines_run_pass
 soname = liboptlines.so.2
+maker = lib
 
 records_exported = optrecords_check optrecords_record optrecords_lines optrecords_to_ol \
 	optrecords_to_om
@@ -67,7 +68,7 @@ lib:
 
 # A shared library: the archive whole, and of its names those of the header alone.
 shared:
-	@[ -f "$(ARCHIVE)" ] || { echo "make: $(ARCHIVE) is missing: run make lib" >&2; exit 1; }
+	@[ -f "$(ARCHIVE)" ] || { echo "make: $(ARCHIVE) is missing: run make $(maker)" >&2; exit 1; }
 	@command -v $(link) >/dev/null || { echo "make: no $(link): run tools/setup" >&2; exit 1; }
 	@mkdir -p "$$(dirname "$(SHARED)")"
 	{ echo '{ global:'; printf '%s;\n' $(exported); echo 'local: *; };'; } >"$(SHARED).map"
@@ -82,7 +83,7 @@ records:
 
 records-shared:
 	@$(MAKE) -s shared ARCHIVE="$(RECORDS_ARCHIVE)" SHARED="$(RECORDS_SHARED)" \
-	    soname=liboptrecords.so.1 exported="$(records_exported)"
+	    soname=liboptrecords.so.1 maker=records exported="$(records_exported)"
 
 install: all
 	install -d "$(to)/bin" "$(to)/$(own)" "$(to)/share/man/man1" "$(to)/include" "$(to)/lib/pkgconfig"
