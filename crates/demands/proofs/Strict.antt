@@ -74,7 +74,7 @@ unfolding isMember
 member-calls x h =
     let k = and-right (ltb (upTo 46 x) (length x)) _ h in
     let name : (t : List ℕ) → isIdent t ≡ true → all (λ (b : ℕ). not (eqb b 40)) t ≡ true =
-        λ t e. all-more (λ (b : ℕ). isName b) (λ (b : ℕ). not (eqb b 40)) name-other t (ident-names t e) in
+    λ t e. all-more (λ (b : ℕ). isName b) (λ (b : ℕ). not (eqb b 40)) name-other t (ident-names t e) in
     bare-no-call x (around (λ (b : ℕ). not (eqb b 40)) refl x (name (objectOf x) (and-left (isIdent (objectOf x)) _ k)) (name (drop (suc (upTo 46 x)) x) (and-right (isIdent (objectOf x)) _ k)))
 
 reason-calls : (d : Spot) (below : List Spot) → Reason strict d below → holdsCall (textOf (d .line) (parseOf (d .line))) ≡ false

@@ -48,9 +48,9 @@ unfoldable pub callGo : List ℕ → ℕ → Bool
 callGo [] k = false
 callGo (a ∷ s) (suc k) = callGo s k
 callGo (a ∷ s) zero =
-    let literal = callGo s (quoteLen s a) in
+    let behind = callGo s (quoteLen s a) in
     let on = callGo s 0 in
-    cond (isQuote a) literal (eqb a (code "(") || on)
+    cond (isQuote a) behind (eqb a (code "(") || on)
 
 -- a value holds a call: a `(` outside comments and quotes
 unfoldable pub holdsCall : List ℕ → Bool
