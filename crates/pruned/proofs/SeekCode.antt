@@ -6,11 +6,10 @@ use mathlib.Core.List.{List, [], _∷_, _++_, append-assoc}
 use native.Mathlib.Omega.{arith}
 use native.Mathlib.Numerals.{add-one}
 use lib.Dec.{ltb}
-use lib.ListN.{length, take, drop, getD, set, length-set, length-append, length-drop}
-use lib.Seq.{drop-cons, drop-append-seam, length-take-le, getD-set-same, getD-set-other, getD-drop, drop-set-lt, take-suc-set, append-snoc, drop-at}
-use borrow.Author.Tests.{ltb-true, ltb-false, eq-eqb}
-use Rattle.lines.specs.Lf.{part, upTo, linesOf}
-use Rattle.lines.proofs.Tests.{no}
+use lib.ListN.{length, take, drop, getD, set, length-set, length-drop}
+use lib.Seq.{length-take-le, getD-set-other, getD-drop, drop-set-lt, take-suc-set, drop-at}
+use borrow.Author.Tests.{ltb-true, ltb-false}
+use Rattle.lines.specs.Lf.{part, linesOf}
 use Rattle.pruned.specs.Inner.Fit.{mayBeBy, mayGoBy}
 use Rattle.pruned.specs.Inner.Walk.{isOn, bit, nextFlag, moveGo, movedFrom, OffFrom, endOf, nextOf, goesAt, Going, going-none, going-more, AllOn, Steady, Known}
 use Rattle.pruned.proofs.WalkCode.{WalkAt, at-on, at-kept, at-jump, move-line, past-end, flag-yes}

@@ -1,13 +1,11 @@
 -- `pruned::walk::seek` meets its contract. Assumes nothing.
 use borrow.Author.Needs.{needs}
 use Rattle.lines.proofs.LfLaws.{find-le}
-use lib.ListN.{length}
 use native.Mathlib.Omega.{arith}
 use Prim.Native.Nat.{suc, _-_}
 use mathlib.Core.Bool.{true, false}
 use mathlib.Core.Path.{_∙_}
 use Rattle.pruned.specs.Inner.Walk.{movedFrom}
-use Rattle.pruned.proofs.WalkCode.{WalkAt}
 use Rattle.pruned.proofs.SeekCode.{SeekInv, seek-start, seek-found, seek-on, seek-end, seek-done}
 use Rattle.pruned.proofs.walk.seek.Statement.{statement}
 use Rattle.pruned.proofs.walk.seek.Tie as tie
