@@ -29,7 +29,7 @@ use Rattle.once.proofs.Writes.{top-drop}
 
 -- ---- the marks by tables are those of the definition
 
-flag-set : (b : Bool) → isSet (cond b 1 0) ≡ b
+pub flag-set : (b : Bool) → isSet (cond b 1 0) ≡ b
 flag-set true = refl
 flag-set false = refl
 

@@ -18,3 +18,5 @@ pub mod NextLaws
 pub mod Told
 pub mod BackLaws
 pub mod NoteFills
+pub mod Engines
+pub mod EngineLaws

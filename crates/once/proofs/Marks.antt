@@ -34,7 +34,7 @@ pub drops-is : (R : Reading) (d : Spot) (ls : List (List ℕ)) (ps : List ℕ) (
 unfolding lineDrops dropped storeDrops
 drops-is R d ls ps bs g h = go (parseOf (d .line)) refl
   where
-    go : (k : Line) → k ≡ parseOf (d .line) → dropsBy R (d .line) (d .path) (d .loop) ls ps k ≡ droppedBy R d (spotsOf ls ps bs) k
+    go : (k : Line) → k ≡ parseOf (d .line) → dropsBy R (d .line) (d .path) (d .loop) ls ps k ≡ droppedBy R (λ (v : ℕ). nextUse v (spotsOf ls ps bs)) d (spotsOf ls ps bs) k
     go line.Decl q = refl
     go (line.Store s) q = rw (next-in (s .reg .0) ls ps bs h, lines-in ls ps bs g h, reads-value (d .line) (line.Store s) (s .reg .0) q)
     go line.Other q = refl
@@ -73,7 +73,7 @@ forwards-stays R run d (e ∷ ss) h = go (parseOf (d .line))
     go (line.Store s) = rw h
     go line.Other = refl
 
-mark-goes : (R : Reading) (run : List (List ℕ)) (d : Spot) (ss : List Spot) → eqb (markOf R run d ss) 1 ≡ dropped R d ss
+pub mark-goes : (R : Reading) (run : List (List ℕ)) (d : Spot) (ss : List Spot) → eqb (markOf R run d ss) 1 ≡ dropped R d ss
 unfolding markOf
 mark-goes R run d ss = go (dropped R d ss) (forwards R run (d ∷ ss))
   where

@@ -53,7 +53,7 @@ pub dropped-reason : (R : Reading) (d : Spot) (below : List Spot) → dropped R 
 unfolding dropped
 dropped-reason R d below h = go (parseOf (d .line)) refl h
   where
-    go : (k : Line) → parseOf (d .line) ≡ k → droppedBy R d below k ≡ true → Reason R d below
+    go : (k : Line) → parseOf (d .line) ≡ k → droppedBy R (λ (v : ℕ). nextUse v below) d below k ≡ true → Reason R d below
     go line.Decl q e = no e
     go (line.Store s) q e =
         let v : ℕ = s .reg .0 in

@@ -1,3 +1,4 @@
 pub mod Scratch
 pub mod Once
+pub mod Engines
 pub mod Inner

@@ -57,19 +57,20 @@ deadBy p none = true
 deadBy p read = false
 deadBy p (write q) = eqb p q
 
-abbrev pub droppedBy : Reading → Spot → List Spot → Line → Bool
-droppedBy R d below line.Decl = false
-droppedBy R d below (line.Store s) =
+-- a line, as it was read, goes, where `next` says what is done next below with each register: a scratch load, or a dead store
+abbrev pub droppedBy : Reading → (ℕ → Next) → Spot → List Spot → Line → Bool
+droppedBy R next d below line.Decl = false
+droppedBy R next d below (line.Store s) =
     let v : ℕ = s .reg .0 in
     let x : List ℕ = textOf (d .line) (line.Store s) in
     scratchAt v x (linesIn below)
-    || (deadBy (d .path) (nextUse v below) && (pureIn R x && (not (d .loop) && eqb (lineReads v (d .line)) 0)))
-droppedBy R d below line.Other = false
+    || (deadBy (d .path) (next v) && (pureIn R x && (not (d .loop) && eqb (lineReads v (d .line)) 0)))
+droppedBy R next d below line.Other = false
 
--- a line goes: a scratch load, or a dead store
+-- a line goes, by what is found below it
 unfoldable pub dropped : Reading → Spot → List Spot → Bool
 unfolding nextUse
-dropped R d below = droppedBy R d below (parseOf (d .line))
+dropped R d below = droppedBy R (λ (v : ℕ). nextUse v below) d below (parseOf (d .line))
 
 -- ---- forwarding, one line down
 

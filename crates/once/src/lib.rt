@@ -1,12 +1,13 @@
 // `optimize_once`: dead stores and scratch loads go, and a value that is read once on the next line goes there.
 mod noted;
+pub mod plain;
 
 ghost use mathlib.Core.Path.{_≡_};
 ghost use mathlib.Core.Bool.{true, false};
 ghost use mathlib.Core.List.{[], _∷_, _++_};
 ghost use Prim.Native.Nat.{_≤_, _<_, _+_, _^_};
 ghost use lib.Dec.{eqb};
-ghost use lib.ListN.{length, drop, getD, replicate};
+ghost use lib.ListN.{length, take, drop, getD, replicate};
 ghost use Rattle.lines.specs.Inner.Out.{Wrote};
 ghost use Rattle.lines.specs.Acts.{act, apply};
 ghost use Rattle.parse.specs.Parse.{parseOf};
@@ -14,9 +15,10 @@ ghost use Rattle.lines.specs.Lf.{part, upTo, linesOf, unlines, prefixed, holds}
 ghost use Rattle.names.specs.Names.{regOf, isIdent};
 ghost use Rattle.once.specs.Scratch.{objectOf, isMember, liveBelow, changesBy, calledBelow, scratchAt};
 ghost use Rattle.once.specs.Once.{deadBy, readCount, firstOf, takenBy, onceActs, optimizeOnce};
+ghost use Rattle.once.specs.Engines.{sweepEngine};
 ghost use Rattle.words.specs.Hits.{regHit, replaceReg};
 ghost use Rattle.reading.specs.Reading.{readingOf, pureIn};
-ghost use Rattle.once.specs.Inner.Tables.{readBelow, anyCall, nextIn, Blank, hasHit, storeDrops, lineDrops, storeForwards, lineForwards, onceMarks, actBy, actsBy, isSet, firstDrops, firstTakes, markBy, firstMark, marksOf, areaAt};
+ghost use Rattle.once.specs.Inner.Tables.{readBelow, anyCall, nextIn, Blank, hasHit, storeDrops, lineDrops, storeForwards, lineForwards, onceMarks, goesIn, actBy, actsBy, isSet, firstDrops, firstTakes, markBy, firstMark, marksOf, areaAt};
 ghost use Rattle.once.specs.Inner.Noted.{noteStored, noteDead, CalmIn, Calm, LineAt, RowAt, DropIs, DropBy, sentTo, SendIs, SendBy, OneIs, OneBy, OneOf, firstLine, NotesOf, EndsOf};
 ghost use Rattle.place.specs.Inner.Fill.{Filled, flagsOf};
 ghost use Rattle.place.specs.Loops.{insideLoop};
@@ -208,33 +210,6 @@ fn scratch_at(x: &[u8], reg: names::Register, below: &[u8], note: u8, calm: usiz
     called_below(below, x, lines::cut(x, 0, k))
 }
 
-// Whether the value of a store in the block path p is wanted by nothing below in its region; `paths` has the block paths of the lines.
-fn dead_below(text: &[u8], paths: &[usize], p: usize, reg: names::Register) -> bool
-    ensures { λ r. ⌜ r ≡ deadBy p (nextIn (reg .0) (linesOf (now (text .entry))) (now (paths .entry))) ⌝ }
-{
-    let mut i = 0;
-    let mut k = 0;
-    while i < text.len() {
-        let e = lines::find_byte(text, i, 10);
-        if k >= paths.len() {
-            return true;
-        }
-        if place::is_header(&text[i..e]) {
-            return true;
-        }
-        let u = reading::use_of(&text[i..e], reg);
-        if 0 < u.reads {
-            return false;
-        }
-        if u.stores {
-            return p == paths[k];
-        }
-        k += 1;
-        i = lines::after(text, e);
-    }
-    true
-}
-
 // Whether lines read a register once in all.
 fn read_once(text: &[u8], reg: names::Register) -> bool
     ensures { λ r. ⌜ r ≡ eqb (readCount (reg .0) (linesOf (now (text .entry)))) 1 ⌝ }
@@ -306,7 +281,7 @@ fn store_drops(
     if note == noted::NOTE_DEAD {
         return true;
     }
-    dead_below(below, paths, p, reg)
+    plain::dead_below(below, paths, p, reg)
 }
 
 // Whether a line with a note, read as q, goes.
@@ -928,4 +903,70 @@ pub fn optimize_once(
     let m = put_acts(text, &marks[0..n], ends, mid);
     slots::wipe(ends);
     decls::prune_decls(&mid[0..m], own, seen, out)
+}
+
+// Turns the first n marks into whether each line goes.
+fn keep_goes(marks: &mut [u8], n: usize)
+    requires { ⌜ n ≤ length (now marks) ⌝ }
+    ensures { λ _. ⌜ Filled (now (marks .entry)) (flagsOf (goesIn (take n (now (marks .entry))))) (now (marks .exit)) n ⌝ }
+{
+    let mut k = 0;
+    while k < n {
+        marks[k] = place::flag(marks[k] == MARK_GOES);
+        k += 1;
+    }
+}
+
+// Writes for each line whether `optimize_once` drops it, and returns how many lines there are: the sweep that the pass itself makes, from the last
+// line up. `own` has the owners of places in the tables over registers: `near`, `far` and `stores`, of one length. These, `notes` and `ends`, of
+// one entry a line as far as they reach, are zeros afterwards.
+pub fn sweep_drops(
+    mode: reading::Mode,
+    text: &[u8],
+    own: &[usize],
+    scratch: &mut [u8],
+    loops: &mut [u8],
+    paths: &mut [usize],
+    up: &mut [u32],
+    near: &mut [u32],
+    far: &mut [u32],
+    stores: &mut [u32],
+    notes: &mut [u8],
+    ends: &mut [usize],
+    flags: &mut [u8],
+) -> usize
+    requires { ⌜ (length (linesOf (now text)) ≤ length (now loops))
+        × ((length (linesOf (now text)) ≤ length (now flags))
+        × ((length (linesOf (now text)) ≤ length (now paths))
+        × ((length (pathParents (linesOf (now text))) ≤ length (now up))
+        × ((length (now up) < 2 ^ 32)
+        × ((length (now text) ≤ length (now scratch)) × ((length (now far) ≡ length (now near)) × (length (now far) ≡ length (now stores)))))))) ⌝ }
+    ensures answer { λ r. ⌜ Filled (now (flags .entry)) (flagsOf (sweepEngine (readingOf (mode .0)) (linesOf (now (text .entry))))) (now (flags .exit)) r ⌝ }
+    ensures memory { λ _. ⌜ (Wrote (now (scratch .entry)) 0 (replicate (length (now (text .entry))) 0) (now (scratch .exit)) (length (now (text .entry))))
+        × ((Filled (now (loops .entry)) (flagsOf (insideLoop (linesOf (now (text .entry))))) (now (loops .exit)) (length (flagsOf (insideLoop (linesOf (now (text .entry)))))))
+        × ((Filled (now (paths .entry)) (tops (blockPaths (linesOf (now (text .entry))))) (now (paths .exit)) (length (tops (blockPaths (linesOf (now (text .entry)))))))
+        × (Filled (now (up .entry)) (pathParents (linesOf (now (text .entry)))) (now (up .exit)) (length (pathParents (linesOf (now (text .entry)))))))) ⌝ }
+    ensures tables { λ _. ⌜ (now (near .exit) ≡ replicate (length (now (near .entry))) 0)
+        × ((now (far .exit) ≡ replicate (length (now (far .entry))) 0)
+        × ((now (stores .exit) ≡ replicate (length (now (stores .entry))) 0)
+        × ((now (notes .exit) ≡ replicate (length (now (notes .entry))) 0) × (now (ends .exit) ≡ replicate (length (now (ends .entry))) 0)))) ⌝ }
+{
+    let n = decide(
+        mode,
+        text,
+        own,
+        scratch,
+        loops,
+        flags,
+        paths,
+        up,
+        near,
+        far,
+        stores,
+        notes,
+        ends,
+    );
+    slots::wipe(ends);
+    keep_goes(flags, n);
+    n
 }

@@ -8,7 +8,7 @@ use Rattle.once.proofs.store_drops.Statement.{statement}
 use Rattle.once.proofs.store_drops.Tie as tie
 use Rattle.once.proofs.store_drops.Reads as reads
 use Rattle.once.proofs.store_drops.Lts as lts
-use Rattle.once.proofs.dead_below.Reads as dead-below-reads
+use Rattle.once.proofs.plain.dead_below.Reads as dead-below-reads
 use Rattle.once.proofs.pure_value.Reads as pure-value-reads
 use Rattle.once.proofs.scratch_at.Reads as scratch-at-reads
 use Rattle.words.proofs.count_reg.Reads as count-reg-reads

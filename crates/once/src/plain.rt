@@ -1,0 +1,167 @@
+// The plain engine: a second, simple way to find the lines that `optimize_once` drops. From each store the lines below are read, down to the end of
+// its region, until one reads or stores the register; then it is decided. docs/RULES.md goes through a listing with it.
+use crate::pure_value;
+use crate::scratch_at;
+
+ghost use mathlib.Core.Path.{_≡_};
+ghost use Prim.Native.Nat.{_≤_, _<_, _^_};
+ghost use lib.ListN.{length, replicate};
+ghost use Rattle.lines.specs.Inner.Out.{Wrote};
+ghost use Rattle.lines.specs.Lf.{linesOf};
+ghost use Rattle.reading.specs.Reading.{readingOf};
+ghost use Rattle.place.specs.Inner.Fill.{Filled, flagsOf};
+ghost use Rattle.place.specs.Loops.{insideLoop};
+ghost use Rattle.place.specs.Paths.{blockPaths, tops};
+ghost use Rattle.place.specs.Inner.Parents.{pathParents};
+ghost use Rattle.once.specs.Once.{deadBy};
+ghost use Rattle.once.specs.Engines.{plainEngine};
+ghost use Rattle.once.specs.Inner.Tables.{Blank, nextIn, storeDrops, lineDrops, dropsIn};
+
+// Whether the value of a store in the block path p is wanted by nothing below in its region; `paths` has the block paths of the lines.
+pub fn dead_below(text: &[u8], paths: &[usize], p: usize, reg: names::Register) -> bool
+    ensures { λ r. ⌜ r ≡ deadBy p (nextIn (reg .0) (linesOf (now (text .entry))) (now (paths .entry))) ⌝ }
+{
+    let mut i = 0;
+    let mut k = 0;
+    while i < text.len() {
+        let e = lines::find_byte(text, i, 10);
+        if k >= paths.len() {
+            return true;
+        }
+        if place::is_header(&text[i..e]) {
+            return true;
+        }
+        let u = reading::use_of(&text[i..e], reg);
+        if 0 < u.reads {
+            return false;
+        }
+        if u.stores {
+            return p == paths[k];
+        }
+        k += 1;
+        i = lines::after(text, e);
+    }
+    true
+}
+
+// Whether a store of a register with the value x goes: it is a load for a call, or outside loops, without its own register and pure, and wanted by
+// nothing below. Its block path is p; `below` are the lines below, and `paths` has their block paths.
+fn store_goes(
+    mode: reading::Mode,
+    x: &[u8],
+    reg: names::Register,
+    p: usize,
+    in_loop: bool,
+    below: &[u8],
+    paths: &[usize],
+    scratch: &mut [u8],
+) -> bool
+    requires { ⌜ Blank (length (now x)) (now scratch) ⌝ }
+    ensures answer { λ r. ⌜ r ≡ storeDrops (readingOf (mode .0)) (reg .0) (now (x .entry)) p in_loop (linesOf (now (below .entry))) (now (paths .entry)) ⌝ }
+    ensures memory { λ _. ⌜ now (scratch .exit) ≡ now (scratch .entry) ⌝ }
+{
+    if scratch_at(x, reg, below, crate::noted::NOTE_NONE, 0) {
+        return true;
+    }
+    if in_loop {
+        return false;
+    }
+    if words::count_reg(x, reg) != 0 {
+        return false;
+    }
+    if !pure_value(mode, x, scratch) {
+        return false;
+    }
+    dead_below(below, paths, p, reg)
+}
+
+// Whether a line goes: no declaration and no other line does, a store may.
+fn line_goes(
+    mode: reading::Mode,
+    line: &[u8],
+    p: usize,
+    in_loop: bool,
+    below: &[u8],
+    paths: &[usize],
+    scratch: &mut [u8],
+) -> bool
+    requires { ⌜ Blank (length (now line)) (now scratch) ⌝ }
+    ensures answer { λ r. ⌜ r ≡ lineDrops (readingOf (mode .0)) (now (line .entry)) p in_loop (linesOf (now (below .entry))) (now (paths .entry)) ⌝ }
+    ensures memory { λ _. ⌜ now (scratch .exit) ≡ now (scratch .entry) ⌝ }
+{
+    match parse::parse(line) {
+        parse::Line::Decl => false,
+        parse::Line::Store(s) => {
+            let x = parse::value_of(line, s);
+            store_goes(mode, x, s.reg, p, in_loop, below, paths, scratch)
+        }
+        parse::Line::Other => false,
+    }
+}
+
+// Writes for each line whether it goes; `paths` has the block paths of the lines, and `loops` whether each stands in a loop.
+fn flag_lines(
+    mode: reading::Mode,
+    text: &[u8],
+    paths: &[usize],
+    loops: &[u8],
+    scratch: &mut [u8],
+    flags: &mut [u8],
+) -> usize
+    requires { ⌜ (Blank (length (now text)) (now scratch))
+        × ((length (linesOf (now text)) ≤ length (now flags))
+        × ((length (linesOf (now text)) ≤ length (now paths)) × (length (linesOf (now text)) ≤ length (now loops)))) ⌝ }
+    ensures answer { λ r. ⌜ Filled (now (flags .entry)) (flagsOf (dropsIn (readingOf (mode .0)) (linesOf (now (text .entry))) (now (paths .entry)) (now (loops .entry)))) (now (flags .exit)) r ⌝ }
+    ensures memory { λ _. ⌜ now (scratch .exit) ≡ now (scratch .entry) ⌝ }
+{
+    let mut i = 0;
+    let mut k = 0;
+    while i < text.len() {
+        let e = lines::find_byte(text, i, 10);
+        let j = lines::after(text, e);
+        let n = k + 1;
+        let goes = line_goes(
+            mode,
+            &text[i..e],
+            paths[k],
+            loops[k] != 0,
+            &text[j..],
+            &paths[n..],
+            scratch,
+        );
+        flags[k] = place::flag(goes);
+        k = n;
+        i = j;
+    }
+    k
+}
+
+// Writes for each line whether `optimize_once` drops it, and returns how many lines there are: the plain way. `loops`, `paths` and `up` are filled
+// with what the lines' places are, and `scratch` is zeros as far as the text is long.
+pub fn plain_drops(
+    mode: reading::Mode,
+    text: &[u8],
+    scratch: &mut [u8],
+    loops: &mut [u8],
+    paths: &mut [usize],
+    up: &mut [u32],
+    flags: &mut [u8],
+) -> usize
+    requires { ⌜ (length (linesOf (now text)) ≤ length (now loops))
+        × ((length (linesOf (now text)) ≤ length (now flags))
+        × ((length (linesOf (now text)) ≤ length (now paths))
+        × ((length (pathParents (linesOf (now text))) ≤ length (now up))
+        × ((length (now up) < 2 ^ 32) × (length (now text) ≤ length (now scratch)))))) ⌝ }
+    ensures answer { λ r. ⌜ Filled (now (flags .entry)) (flagsOf (plainEngine (readingOf (mode .0)) (linesOf (now (text .entry))))) (now (flags .exit)) r ⌝ }
+    ensures memory { λ _. ⌜ (Wrote (now (scratch .entry)) 0 (replicate (length (now (text .entry))) 0) (now (scratch .exit)) (length (now (text .entry))))
+        × ((Filled (now (loops .entry)) (flagsOf (insideLoop (linesOf (now (text .entry))))) (now (loops .exit)) (length (flagsOf (insideLoop (linesOf (now (text .entry)))))))
+        × ((Filled (now (paths .entry)) (tops (blockPaths (linesOf (now (text .entry))))) (now (paths .exit)) (length (tops (blockPaths (linesOf (now (text .entry)))))))
+        × (Filled (now (up .entry)) (pathParents (linesOf (now (text .entry)))) (now (up .exit)) (length (pathParents (linesOf (now (text .entry)))))))) ⌝ }
+{
+    lines::wipe(scratch, text.len());
+    let mut ends = [0usize; 1];
+    let x = place::block_paths(text, paths, up, &mut ends);
+    let k = x.rows;
+    let n = place::inside_loop(text, loops);
+    flag_lines(mode, text, &paths[0..k], &loops[0..n], scratch, flags)
+}
