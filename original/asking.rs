@@ -43,6 +43,8 @@ const DRAWN: &[(u8, &[&str])] = &[
     (35, &["LISTING", "scratch", "scratch"]),
     (36, &["VALUE", "val", "array", "str", "num", "expr"]),
     (37, &["LITERAL", "LITERAL", "VALUE", "val", "array", "str", "num", "expr"]),
+    (38, &["LISTING", "LISTING", "scratch", "QUOTED"]),
+    (39, &["LISTING", "LISTING", "scratch", "QUOTED"]),
     (41, &["LISTING"]),
     (42, &["LISTING", "scratch"]),
     (43, &["LISTING"]),
@@ -72,6 +74,7 @@ fn drawn(t: &Texts, r: &mut Random, from: &[&str]) -> Vec<u8> {
         "BRACKETS" => t.at_most_brackets(r),
         "SOUP" => texts::soup(r, 12).into_bytes(),
         "LITERAL" => texts::quoted_value(r).into_bytes(),
+        "QUOTED" => texts::quoted(r).into_bytes(),
         "VALUE" => run_of(t, r, &["val", "expr", "comment", "ws", "str", "array"]),
         "LEXICAL" => run_of(t, r, &["str", "tpl", "pattern", "comment", "op", "ws", "odd", "name", "before", "before"]),
         "CHANGED" => {

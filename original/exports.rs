@@ -2,7 +2,8 @@
 /// Appended to a build-time copy of the original: lets other crates call its private functions.
 pub mod exports {
     use super::Line;
-    use std::collections::HashMap;
+    use std::cell::RefCell;
+    use std::collections::{HashMap, HashSet};
 
     /// Each name becomes a public function that only hands on its arguments.
     macro_rules! hand_on {
@@ -70,6 +71,21 @@ pub mod exports {
         let parsed: Vec<Line> = lines.iter().map(|l| super::parse(l)).collect();
         let found = super::call_scratch_lines(&parsed, lines, &super::regions(lines));
         (0..lines.len()).map(|i| found.contains(&i)).collect()
+    }
+
+    thread_local! {
+        static DROPPED: RefCell<HashSet<usize>> = RefCell::new(HashSet::new());
+    }
+
+    /// What `optimize_once` calls in the copy, with its own list of lines to drop.
+    pub(super) fn keep_drops(dropped: &HashSet<usize>) {
+        DROPPED.with(|kept| kept.borrow_mut().clone_from(dropped));
+    }
+
+    /// For each line whether `optimize_once` drops it.
+    pub fn drops(lines: &[String]) -> Vec<bool> {
+        super::optimize_once(&mut lines.to_vec());
+        DROPPED.with(|kept| (0..lines.len()).map(|i| kept.borrow().contains(&i)).collect())
     }
 
     /// The last step of `optimize`, which has no name there.

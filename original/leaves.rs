@@ -101,7 +101,16 @@ fn pass(pass: u8, q: &Asked) -> Bytes {
     ended(lines)
 }
 
-/// The functions 1 to 37 and 41 to 46, 4 apart: it alone takes bytes that are no text.
+/// The lines that the original drops, in the mode that the number is.
+fn drops(q: &Asked) -> Bytes {
+    match q.number {
+        0 if ends::pass_ends(2, PLAIN, q.a) => flags(exports::drops(&list(q.a))),
+        1 if ends::pass_ends(2, STRICT, q.a) => flags(strict::exports::drops(&list(q.a))),
+        _ => None,
+    }
+}
+
+/// The functions 1 to 39 and 41 to 46, 4 apart: it alone takes bytes that are no text.
 fn ask(function: u8, q: &Asked) -> Bytes {
     match function {
         1 => trim(q),
@@ -146,6 +155,7 @@ fn ask_further(function: u8, q: &Asked) -> Bytes {
         35 => flags(exports::call_scratch_lines(&list(q.a))),
         36 => ends::value_ends(PLAIN, q.a).then(|| vec![exports::pure_expr(q.a) as u8]),
         37 => ends::value_ends(STRICT, q.a).then(|| vec![strict::exports::purity(q.a)]),
+        38 | 39 => drops(q),
         41..=46 => pass(function - 40, q),
         _ => None,
     }

@@ -17,7 +17,7 @@ NAMES = {
     20: "strip_comments", 21: "purity", 22: "strip_lexical", 23: "phi_rhs_pure", 24: "ident_words", 25: "regions",
     26: "block_ids", 27: "block_paths", 28: "inside_loop", 29: "starts_statement", 30: "is_control_header",
     31: "paren_if_needed", 32: "is_plain_ref", 33: "is_primary_expr", 34: "breaks_dependency",
-    35: "call_scratch_lines", 36: "pure_expr", 37: "purity in strict mode",
+    35: "call_scratch_lines", 36: "pure_expr", 37: "purity in strict mode", 38: "plain_drops", 39: "sweep_drops",
     41: "prune_dead_temps", 42: "optimize_once", 43: "prune_dead_phis", 44: "rebuild_calls", 45: "prune_decls", 46: "bind_declarators",
 }
 

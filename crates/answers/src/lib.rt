@@ -1,4 +1,5 @@
 // Answers of single functions, as bytes: what the program `vectors` writes, to be held against the original's.
+mod dropped;
 mod formed;
 mod lexed;
 mod named;
@@ -19,6 +20,7 @@ pub fn answer(function: u8, number: u64, a: &[u8], b: &[u8], out: &mut [u8]) -> 
         22..=24 => lexed::answer(function, a, out),
         25..=29 => placed::answer(function, number, a, out),
         30..=34 => formed::answer(function, number, a, b, out),
+        38..=39 => dropped::answer(function, number, a, out),
         41 | 45 => passed::answer(function, a, out),
         _ => say::nothing(),
     }
