@@ -2,7 +2,6 @@
 // its region, until one reads or stores the register; then it is decided. docs/RULES.md goes through a listing with it.
 use crate::pure_value;
 use crate::scratch_at;
-
 ghost use mathlib.Core.Path.{_≡_};
 ghost use Prim.Native.Nat.{_≤_, _<_, _^_};
 ghost use lib.ListN.{length, replicate};
