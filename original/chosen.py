@@ -67,6 +67,13 @@ let phi1;
 var x
 class C {
 """
+# a store that is dead, read, stored in another block, in a loop, by its own value, below a header; loads for a call
+DROPS = [
+    "", "r0 = 1;\n", "r0 = 1;\nr0 = 2;\nuse(r0);\n", "r0 = 1;\nr0 = r0;\n", "r0 = 1;\nif (a) {\nr0 = 2;\n}\nuse(r0);\n",
+    "r0 = 1;\nvar x = r0;\n", "var x;\nr0 = 1;\nlet r0;\nuse(r0);\n", "while (a) {\nr0 = 1;\n}\n", "r0 = r0;\n", "r0 = f();\n",
+    "r007 = 1;\nr7 = 2;\n", "r0 = 1;\n// r0\n", "r1 = a.b;\na.b();\n", "r1 = a.b;\nuse(r1);\na.b();\n", 'r0 = "a" + f() + "b";\n',
+    "r18446744073709551615 = 1;\nr18446744073709551616 = 2;\n", "{\nr0 = 1;\n}\n{\nr0 = 2;\n}\n", "r0 = 1;\n}\nr0 = 2;\n{\nr0 = 3;\n",
+]
 INLINED = ["a", "a.b", "f(x)", "-1", "a + b", '"a + b"', "", "{}", "new C", "a, b", "(a + b)", "typeof a", " a "]
 
 BY_HAND = {
@@ -164,6 +171,7 @@ BY_HAND = {
     ],
     36: VALUES[:12],
     37: VALUES + QUOTED,
+    **{f: DROPS for f in (38, 39)},
 }
 
 

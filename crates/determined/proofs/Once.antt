@@ -13,7 +13,7 @@ use Rattle.reading.specs.Reading.{readingOf}
 use Rattle.once.specs.Engines.{plainEngine}
 use Rattle.once.proofs.Engines.{engines-same}
 use Rattle.once.proofs as once
-use Rattle.determined.proofs.Outcomes.{Lives, Outcome, Met, Determined, fixed-by, one, more}
+use Rattle.determined.proofs.Outcomes.{Lives, Outcome, Met, Determined, fixed, fixed-by, one, more}
 
 pub optimize-once-fixed : Determined once.optimize_once.ended (λ κs z. z) once.optimize_once.Reads.ensures
 optimize-once-fixed = fixed-by once.optimize_once.Reads.Learnt (λ w κs a x. more w (more w (one w))) (λ κs a x y l m.
@@ -24,6 +24,9 @@ optimize-once-fixed = fixed-by once.optimize_once.Reads.Learnt (λ w κs a x. mo
     (wrote-once (p .0) (q .0) .0, (wrote-once (p .1 .0) (q .1 .0) .0, (filled-once (p .1 .1 .0) (q .1 .1 .0) .0, (filled-once (p .1 .1 .1 .0) (q .1 .1 .1 .0) .0, (filled-once (p .1 .1 .1 .1 .0) (q .1 .1 .1 .1 .0) .0, (filled-once (p .1 .1 .1 .1 .1) (q .1 .1 .1 .1 .1) .0, (t .0 ∙ sym (s .0), (t .1 .0 ∙ sym (s .1 .0), (t .1 .1 .0 ∙ sym (s .1 .1 .0), (t .1 .1 .1 .0 ∙ sym (s .1 .1 .1 .0), (t .1 .1 .1 .1 .0 ∙ sym (s .1 .1 .1 .1 .0), (t .1 .1 .1 .1 .1 ∙ sym (s .1 .1 .1 .1 .1), wrote-once (l .0) (m .0))))))))))))))
 
 -- ---- the two engines
+
+pub dead-below-fixed : Determined once.plain.dead_below.ended (λ κs z. z) once.plain.dead_below.Reads.ensures
+dead-below-fixed = fixed once.plain.dead_below.Reads.Learnt (λ κs a x y l m. l ∙ sym m)
 
 pub plain-drops-fixed : Determined once.plain.plain_drops.ended (λ κs z. z) once.plain.plain_drops.Reads.ensures
 plain-drops-fixed = fixed-by once.plain.plain_drops.Reads.Learnt (λ w κs a x. more w (one w)) (λ κs a x y l m.
