@@ -1,13 +1,13 @@
 -- Reading a file line by line: what is awaited, what stands above, what is given. Assumes nothing.
 use Prim.Native.Nat.{ℕ, zero, suc, _+_, _-_, _/_, _%_, _≤_, _<_}
-use mathlib.Core.Path.{_≡_, refl, sym, ap, _∙_}
+use mathlib.Core.Path.{_≡_, refl, sym, ap, _∙_, subst}
 use mathlib.Core.Bool.{Bool, true, false, cond, not, _&&_, _||_}
 use mathlib.Core.List.{List, [], _∷_, _++_, append-assoc, append-nil}
 use native.Mathlib.Omega.{arith}
 use native.Mathlib.Numerals.{add-one}
 use borrow.Author.Tests.{eq-eqb, ne-eqb, eqb-true, eqb-false, lt-ltb, le-ltb, ltb-true, ltb-false}
 use lib.Dec.{eqb, leb, ltb}
-use lib.ListN.{length, take, drop, getD, length-append, length-take, length-drop}
+use lib.ListN.{length, take, drop, getD, replicate, length-append, length-take, length-drop}
 use lib.Seq.{take-at, drop-drop, take-take}
 use Rattle.lines.specs.Lf.{part, same, upTo, partsOf, cutOn}
 use Rattle.lines.specs.Inner.Out.{Wrote, putAt}
@@ -31,6 +31,8 @@ use Rattle.po.specs.Inner.ReadWalk.{isReference, follows, nextOf, after,
 use Rattle.names.specs.Names.{readNumber}
 use Rattle.po.specs.declared.Unit.{Unit}
 use Rattle.po.specs.Inner.Walk.{unitOf}
+use Rattle.po.specs.Inner.Index.{Tells}
+use Rattle.po.proofs.IndexLaws.{tells-none}
 use Rattle.po.proofs.UnitLaws.{text-stop, text-on}
 use Rattle.po.proofs.LineLaws.{empty-yes, empty-no, colon-le, name-at, line-at}
 
@@ -197,7 +199,7 @@ module _ {file : List ℕ} {r : Line} (v : At file r) where
     above-on : take (r .number + 1) (partsOf 10 file) ≡ v .done ++ part (r .at) (r .end) file ∷ []
     above-on = ap (take (r .number + 1)) split-on ∙ take-at (v .done ++ part (r .at) (r .end) file ∷ []) (partsOf 10 (drop (r .end + 1) file)) (r .number + 1) size-on
 
-    state-on : stateAt file (r .number + 1) ≡ onward (stateAt file (r .number)) (part (r .at) (r .end) file)
+    pub state-on : stateAt file (r .number + 1) ≡ onward (stateAt file (r .number)) (part (r .at) (r .end) file)
     unfolding stateAt after
     state-on =
         ap (λ (ls : List (List ℕ)). after ls start) above-on
@@ -745,3 +747,27 @@ module _ {file d₀ d : List ℕ} {o i w e : ℕ} (v : GivenInv file d₀ d o i 
 
     pub given-end : (d′ : List ℕ) (p : ℕ) → Wrote d o (givesOne w l) d′ p → Wrote d₀ 0 (gives 0 (partsOf 10 file)) d′ p
     given-end d′ p y = writing-end (writing-put given-last y)
+
+-- ---- what the table tells of the msgids
+
+-- before the first line
+pub ids-none : (file : List ℕ) (n : ℕ) (own : List ℕ) (k : ℕ) → own ≡ replicate n 0 → k ≡ 0 → Tells file own (stateAt file k .ids)
+unfolding stateAt after
+ids-none file n own k e z = rw z (tells-none file n own e)
+
+module _ {file own : List ℕ} (s : State) (l : List ℕ) where
+  -- after a line that is no msgid
+  pub ids-kept : (k : ℕ) → s .awaits ≡ k → eqb k 5 ≡ false → Tells file own (s .ids) → Tells file own (onward s l .ids)
+  ids-kept k e n w = subst (λ (ids : List (List ℕ)). Tells file own ids) (sym (on-ids s l ∙ ap (λ (b : Bool). cond b (quotedText idWord l ∷ s .ids) (s .ids)) (ap (λ (m : ℕ). eqb m 5) e ∙ n))) w
+
+  -- after a msgid
+  pub ids-more : (m : List ℕ) → m ≡ l → s .awaits ≡ 5 → Tells file own (quotedText idWord m ∷ s .ids) → Tells file own (onward s l .ids)
+  ids-more m q e w = subst (λ (ids : List (List ℕ)). Tells file own ids) (ap (λ (x : List ℕ). quotedText idWord x ∷ s .ids) q ∙ sym (on-ids s l ∙ ap (λ (b : Bool). cond b (quotedText idWord l ∷ s .ids) (s .ids)) (eq-eqb (s .awaits) 5 e))) w
+
+  -- a msgid's text, as the code cuts it
+  pub ids-text : (m : List ℕ) → m ≡ part 7 (length l) l → Tells file own (textOf m 34 ∷ s .ids) → Tells file own (quotedText idWord l ∷ s .ids)
+  ids-text m q w = subst (λ (x : List ℕ). Tells file own (textOf x 34 ∷ s .ids)) (q ∙ rest-of l 7) w
+
+-- at the next line
+pub ids-on : {file own : List ℕ} {r : Line} → At file r → r .end < length file → (n : ℕ) → n ≡ r .number + 1 → Tells file own (onward (stateAt file (r .number)) (part (r .at) (r .end) file) .ids) → Tells file own (stateAt file n .ids)
+ids-on {file} {own} v h n e w = subst (λ (s : State). Tells file own (s .ids)) (sym (ap (stateAt file) e ∙ state-on v h)) w

@@ -1,7 +1,9 @@
 // Reading a PO file: line by line, what is awaited, and what it gives.
 use crate::Line;
+use crate::Seek;
 use crate::Strings;
 use crate::file_name;
+use crate::index;
 use crate::same_text;
 use crate::unit_at;
 use names::Number;
@@ -16,14 +18,17 @@ ghost use Rattle.lines.specs.Inner.Out.{Wrote};
 ghost use Rattle.text.specs.Utf8Form.{utf8Of};
 ghost use Rattle.names.specs.Names.{decimal, readNumber};
 ghost use Rattle.po.specs.Found.{textOf, known, empty};
-ghost use Rattle.po.specs.Form.{escape};
+ghost use Rattle.po.specs.Form.{idWord, escape};
 ghost use Rattle.po.specs.Name.{isFileName};
-ghost use Rattle.po.specs.Reader.{isValid, isQuoted, colon, valueOf, nameIn, lineIn, isId, awaited, lowBytes, packed, readOf};
+ghost use Rattle.po.specs.Reader.{isValid, isQuoted, quotedText, colon, valueOf, nameIn, lineIn, isId, awaited, onward, lowBytes, packed, readOf};
+ghost use Rattle.po.specs.Inner.Index.{Tells};
 ghost use Rattle.po.specs.Inner.ReadWalk.{formed, isReference, follows, nextOf, stateAt, givesOne, gives, sameId, At, verdict};
 
 const QUOTE: u8 = 34;
 
 const ID_WORD: usize = 7;
+
+const ID_QUOTE: usize = 6;
 
 const STR_WORD: usize = 8;
 
@@ -195,7 +200,7 @@ fn next_awaited(w: usize) -> usize
 }
 
 // Whether a text is that of a msgid among the first `k` lines of a file.
-fn is_met(file: &[u8], k: usize, s: &[u8]) -> bool
+fn is_above(file: &[u8], k: usize, s: &[u8]) -> bool
     ensures { λ r. ⌜ r ≡ known (stateAt (now (file .entry)) k .ids) (textOf (now (s .entry)) 34) ⌝ }
 {
     let mut i = 0;
@@ -226,9 +231,25 @@ fn is_same_id(w: usize, l: &[u8], s: &[u8]) -> bool
     false
 }
 
-// Whether a line, with `k` lines above it, is a msgid of a text that is not empty and was not met.
-fn is_id(file: &[u8], k: usize, l: &[u8]) -> bool
+// Whether a text, whose literal's quote stands at a place, is that of a msgid among the first `k` lines; the table tells then of this one too.
+fn is_met(file: &[u8], k: usize, p: usize, s: &[u8], own: &mut [usize]) -> bool
+    requires { ⌜ Tells (now file) (now own) (stateAt (now file) k .ids) ⌝ }
+    ensures { λ r. ⌜ r ≡ known (stateAt (now (file .entry)) k .ids) (textOf (now (s .entry)) 34) ⌝ }
+    ensures { λ _. ⌜ Tells (now (file .entry)) (now (own .exit)) (textOf (now (s .entry)) 34 ∷ stateAt (now (file .entry)) k .ids) ⌝ }
+{
+    match index::meet(file, p, s, QUOTE, own) {
+        Seek::Held => true,
+        Seek::Free(_) => false,
+        Seek::Unsure => is_above(file, k, s),
+    }
+}
+
+// Whether a line, with `k` lines above it and its first quote at a place, is a msgid of a text that is not empty and was not met; the table
+// tells then of this one too.
+fn is_id(file: &[u8], k: usize, p: usize, l: &[u8], own: &mut [usize]) -> bool
+    requires { ⌜ Tells (now file) (now own) (stateAt (now file) k .ids) ⌝ }
     ensures { λ r. ⌜ r ≡ isId (stateAt (now (file .entry)) k) (now (l .entry)) ⌝ }
+    ensures { λ r. ⌜ (r ≡ true → Tells (now (file .entry)) (now (own .exit)) (quotedText idWord (now (l .entry)) ∷ stateAt (now (file .entry)) k .ids)) ⌝ }
 {
     if !is_quoted(b"msgid \"", l) {
         return false;
@@ -238,13 +259,15 @@ fn is_id(file: &[u8], k: usize, l: &[u8]) -> bool
     if x.size == 0 {
         return false;
     }
-    !is_met(file, k, text)
+    !is_met(file, k, p, text, own)
 }
 
-// Whether a line is what is awaited.
-fn is_awaited(file: &[u8], r: Line) -> bool
+// Whether a line is what is awaited; the table tells then of the msgids up to this line.
+fn is_awaited(file: &[u8], r: Line, own: &mut [usize]) -> bool
     requires { ⌜ At (now file) r ⌝ }
+    requires { ⌜ Tells (now file) (now own) (stateAt (now file) (r .number) .ids) ⌝ }
     ensures { λ b. ⌜ b ≡ awaited (stateAt (now (file .entry)) (r .number)) (part (r .at) (r .end) (now (file .entry))) ⌝ }
+    ensures { λ b. ⌜ (b ≡ true → Tells (now (file .entry)) (now (own .exit)) (onward (stateAt (now (file .entry)) (r .number)) (part (r .at) (r .end) (now (file .entry))) .ids)) ⌝ }
 {
     let l = lines::cut(file, r.at, r.end);
     let w = r.awaits;
@@ -254,7 +277,7 @@ fn is_awaited(file: &[u8], r: Line) -> bool
         2 => lines::same(l, b"\"Content-Type: text/plain; charset=UTF-8\\n\""),
         3 => l.len() == 0,
         4 => is_ref(lines::cut(file, r.from, r.to), r.least, l),
-        5 => is_id(file, r.number, l),
+        5 => is_id(file, r.number, r.at + ID_QUOTE, l, own),
         _ => is_quoted(b"msgstr \"", l),
     }
 }
@@ -345,13 +368,14 @@ fn given_len(w: usize, l: &[u8]) -> usize
 }
 
 // How much a file gives, or its first line that is missing or not of our form.
-pub fn check_file(file: &[u8]) -> Strings
+pub fn check_file(file: &[u8], own: &mut [usize]) -> Strings
     ensures { λ r. ⌜ r ≡ verdict (readOf (now (file .entry))) ⌝ }
 {
+    slots::wipe(own);
     let mut r = first_line(file);
     let mut n = 0;
     while r.end < file.len() {
-        if !is_awaited(file, r) {
+        if !is_awaited(file, r, own) {
             return Strings::BadLine(r.number);
         }
         n += given_len(r.awaits, lines::cut(file, r.at, r.end));

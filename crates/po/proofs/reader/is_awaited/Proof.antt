@@ -1,19 +1,13 @@
+-- `po::reader::is_awaited` meets its contract. Assumes nothing.
+use borrow.Author.Needs.{needs}
 use native.Mathlib.Omega.{arith}
-use mathlib.Core.Path.{_≡_, sym, ap, _∙_}
+use mathlib.Core.Path.{_≡_, refl, sym, ap, _∙_}
 use Rattle.po.specs.Reader.{awaited}
 use Rattle.po.specs.Inner.ReadWalk.{stateAt}
 use Rattle.po.proofs.LineLaws.{empty-is}
-use Rattle.po.proofs.StateLaws.{ref-awaited, await-0, await-1, await-2, await-3, await-4, await-5, await-6}
-use borrow.Author.Needs.{needs}
+use Rattle.po.proofs.StateLaws.{ref-awaited, await-0, await-1, await-2, await-3, await-4, await-5, await-6, ids-kept, ids-more}
 use Rattle.po.proofs.reader.is_awaited.Statement.{statement}
 use Rattle.po.proofs.reader.is_awaited.Tie as tie
-use Rattle.po.proofs.reader.is_awaited.Reads as reads
-use Rattle.po.proofs.reader.is_awaited.Lts as lts
-use Rattle.lines.proofs.cut.Reads as cut-reads
-use Rattle.lines.proofs.same.Reads as same-reads
-use Rattle.po.proofs.reader.is_id.Reads as is-id-reads
-use Rattle.po.proofs.reader.is_quoted.Reads as is-quoted-reads
-use Rattle.po.proofs.reader.is_ref.Reads as is-ref-reads
 
 cut-requires : tie.Need-cut-requires
 cut-requires c κs = search needs
@@ -42,8 +36,11 @@ cut-requires-2 c κs = search needs
 is-ref-requires : tie.Need-is-ref-requires
 is-ref-requires c κs = search needs
 
+add-is-id : tie.Need-add-is-id
+add-is-id c = omega (arith, c .before .before .before .before .before .good .0 .1, c .before .before .before .before .before .pre .0 .inside)
+
 is-id-requires : tie.Need-is-id-requires
-is-id-requires c κs = search needs
+is-id-requires c κs = c .before .before .before .before .before .before .pre .1
 
 slice-aggregate-is-quoted : tie.Need-slice-aggregate-is-quoted
 slice-aggregate-is-quoted c = search needs
@@ -52,25 +49,28 @@ is-quoted-requires : tie.Need-is-quoted-requires
 is-quoted-requires c κs = search needs
 
 returns : tie.Need-returns
-returns c = let a = c .before .before .before .before .before .args in let s = stateAt (a .file .now) (a .r .number) in c .same .ensures ∙ await-0 s _ (sym (c .before .before .before .before .before .pre .awaits) ∙ c .before .before .match .keys1) ∙ ap (awaited s) (c .before .before .before .cut .ensures)
+returns c = let a = c .before .before .before .before .before .before .args in let s = stateAt (a .file .now) (a .r .number) in let w = sym (c .before .before .before .before .before .before .pre .0 .awaits) ∙ c .before .before .match .keys1 in (c .same .ensures ∙ await-0 s _ w ∙ ap (awaited s) (c .before .before .before .cut .ensures), λ e. ids-kept s _ 0 w refl (c .before .before .before .before .before .before .pre .1))
 
 returns-2 : tie.Need-returns-2
-returns-2 c = let a = c .before .before .before .before .before .args in let s = stateAt (a .file .now) (a .r .number) in c .same2 .ensures ∙ await-1 s _ (sym (c .before .before .before .before .before .pre .awaits) ∙ c .before .before .match .keys2) ∙ ap (awaited s) (c .before .before .before .cut .ensures)
+returns-2 c = let a = c .before .before .before .before .before .before .args in let s = stateAt (a .file .now) (a .r .number) in let w = sym (c .before .before .before .before .before .before .pre .0 .awaits) ∙ c .before .before .match .keys2 in (c .same2 .ensures ∙ await-1 s _ w ∙ ap (awaited s) (c .before .before .before .cut .ensures), λ e. ids-kept s _ 1 w refl (c .before .before .before .before .before .before .pre .1))
 
 returns-3 : tie.Need-returns-3
-returns-3 c = let a = c .before .before .before .before .before .args in let s = stateAt (a .file .now) (a .r .number) in c .same3 .ensures ∙ await-2 s _ (sym (c .before .before .before .before .before .pre .awaits) ∙ c .before .before .match .keys3) ∙ ap (awaited s) (c .before .before .before .cut .ensures)
+returns-3 c = let a = c .before .before .before .before .before .before .args in let s = stateAt (a .file .now) (a .r .number) in let w = sym (c .before .before .before .before .before .before .pre .0 .awaits) ∙ c .before .before .match .keys3 in (c .same3 .ensures ∙ await-2 s _ w ∙ ap (awaited s) (c .before .before .before .cut .ensures), λ e. ids-kept s _ 2 w refl (c .before .before .before .before .before .before .pre .1))
 
 returns-4 : tie.Need-returns-4
-returns-4 c = let a = c .before .before .before .args in let s = stateAt (a .file .now) (a .r .number) in empty-is (c .before .cut .result .now) ∙ await-3 s _ (sym (c .before .before .before .pre .awaits) ∙ c .match .keys4) ∙ ap (awaited s) (c .before .cut .ensures)
+returns-4 c = let a = c .before .before .before .before .args in let s = stateAt (a .file .now) (a .r .number) in let w = sym (c .before .before .before .before .pre .0 .awaits) ∙ c .match .keys4 in (empty-is (c .before .cut .result .now) ∙ await-3 s _ w ∙ ap (awaited s) (c .before .cut .ensures), λ e. ids-kept s _ 3 w refl (c .before .before .before .before .pre .1))
 
 returns-5 : tie.Need-returns-5
-returns-5 c = let a = c .before .before .before .before .before .args in let s = stateAt (a .file .now) (a .r .number) in c .is-ref .ensures ∙ ref-awaited s _ _ _ (c .before .cut2 .ensures ∙ c .before .before .before .before .before .pre .name) (c .before .before .before .before .before .pre .least) ∙ await-4 s _ (sym (c .before .before .before .before .before .pre .awaits) ∙ c .before .before .match .keys5) ∙ ap (awaited s) (c .before .before .before .cut .ensures)
+returns-5 c = let a = c .before .before .before .before .before .before .args in let s = stateAt (a .file .now) (a .r .number) in let w = sym (c .before .before .before .before .before .before .pre .0 .awaits) ∙ c .before .before .match .keys5 in (c .is-ref .ensures ∙ ref-awaited s _ _ _ (c .before .cut2 .ensures ∙ c .before .before .before .before .before .before .pre .0 .name) (c .before .before .before .before .before .before .pre .0 .least) ∙ await-4 s _ w ∙ ap (awaited s) (c .before .before .before .cut .ensures), λ e. ids-kept s _ 4 w refl (c .before .before .before .before .before .before .pre .1))
+
+same-length : tie.Need-same-length
+same-length c = search needs
 
 returns-6 : tie.Need-returns-6
-returns-6 c = let a = c .before .before .before .before .args in let s = stateAt (a .file .now) (a .r .number) in c .is-id .ensures ∙ await-5 s _ (sym (c .before .before .before .before .pre .awaits) ∙ c .before .match .keys6) ∙ ap (awaited s) (c .before .before .cut .ensures)
+returns-6 c = let a = c .before .before .before .before .before .before .before .before .before .args in let s = stateAt (a .file .now) (a .r .number) in let w = sym (c .before .before .before .before .before .before .before .before .before .pre .0 .awaits) ∙ c .before .before .before .before .before .match .keys6 in (c .before .before .is-id .ensures .0 ∙ await-5 s _ w ∙ ap (awaited s) (c .before .before .before .before .before .before .cut .ensures), λ e. ids-more s _ _ (c .before .before .before .before .before .before .cut .ensures) w (c .before .before .is-id .ensures .1 e))
 
 returns-7 : tie.Need-returns-7
-returns-7 c = let a = c .before .before .before .before .before .args in let s = stateAt (a .file .now) (a .r .number) in let k = c .before .before .before .before .before .pre .low in let w : a .r .awaits ≡ 6 = omega arith in c .is-quoted .ensures ∙ await-6 s _ (sym (c .before .before .before .before .before .pre .awaits) ∙ w) ∙ ap (awaited s) (c .before .before .before .cut .ensures)
+returns-7 c = let a = c .before .before .before .before .before .before .args in let s = stateAt (a .file .now) (a .r .number) in let k = c .before .before .before .before .before .before .pre .0 .low in let n : a .r .awaits ≡ 6 = omega arith in let w = sym (c .before .before .before .before .before .before .pre .0 .awaits) ∙ n in (c .is-quoted .ensures ∙ await-6 s _ w ∙ ap (awaited s) (c .before .before .before .cut .ensures), λ e. ids-kept s _ 6 w refl (c .before .before .before .before .before .before .pre .1))
 
 pub is-awaited-spec : {M : Type 1} → statement M
 is-awaited-spec =
@@ -85,6 +85,7 @@ is-awaited-spec =
     same-requires-3
     cut-requires-2
     is-ref-requires
+    add-is-id
     is-id-requires
     slice-aggregate-is-quoted
     is-quoted-requires
@@ -93,5 +94,6 @@ is-awaited-spec =
     returns-3
     returns-4
     returns-5
+    same-length
     returns-6
     returns-7)
