@@ -25,8 +25,7 @@ use Rattle.text.specs.Utf8Form.{utf8Of}
 use Rattle.po.specs.Form.{idWord, strWord, typeLine, escape, escaped, quoted, refLine}
 use Rattle.po.specs.Name.{isFileName}
 use Rattle.po.specs.Reader.{State, start, Read, bad, good, isValid, colon, valueOf, quotedText, isQuoted, nameIn, lineIn, isRef, isId, awaited, onward, readGo, readOf, packed, lowBytes, given}
-use Rattle.po.specs.Answers.{readText, byRead, readAnswer}
-use Rattle.po.specs.Inner.Answers.{stringsNumber}
+use Rattle.po.specs.Answers.{readText, byRead, readAnswer, stringsNumber}
 use Rattle.po.specs.Inner.ReadWalk.{isReference, follows, nextOf, after, stateAt, sameId, met, givesOne, gives, At, isGood, verdict}
 use Rattle.names.specs.Names.{readNumber}
 use Rattle.po.specs.declared.Unit.{Unit}

@@ -1,4 +1,3 @@
-pub mod Answers
 pub mod Walk
 pub mod ReadWalk
 pub mod Index

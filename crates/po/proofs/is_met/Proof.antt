@@ -1,6 +1,6 @@
 -- `po::is_met` meets its contract. Assumes nothing.
 use borrow.Author.Needs.{needs}
-use mathlib.Core.Path.{_≡_, refl, sym, ap, _∙_}
+use mathlib.Core.Path.{ap, _∙_}
 use lib.ListN.{take}
 use Rattle.po.specs.Found.{spots, known}
 use Rattle.po.specs.Inner.Walk.{texts}

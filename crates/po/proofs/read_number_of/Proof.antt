@@ -1,5 +1,5 @@
 use mathlib.Core.Path.{sym, ap}
-use Rattle.po.specs.Inner.Answers.{stringsNumber}
+use Rattle.po.specs.Answers.{stringsNumber}
 use borrow.Author.Needs.{needs}
 use Rattle.po.proofs.read_number_of.Statement.{statement}
 use Rattle.po.proofs.read_number_of.Tie as tie

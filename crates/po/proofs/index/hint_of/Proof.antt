@@ -1,7 +1,6 @@
 -- `po::index::hint_of` meets its contract. Assumes nothing.
-use borrow.Author.Needs.{needs}
 use native.Mathlib.Omega.{arith}
-use mathlib.Core.Path.{_≡_, sym, _∙_}
+use mathlib.Core.Path.{sym, _∙_}
 use Rattle.po.specs.Found.{textOf}
 use Rattle.po.proofs.IndexLaws.{hint-past, hint-yes, hint-no}
 use Rattle.po.proofs.index.hint_of.Statement.{statement}

@@ -1,10 +1,9 @@
 -- `po::index::is_at` meets its contract. Assumes nothing.
 use borrow.Author.Needs.{needs}
 use Prim.Native.Nat.{ℕ, _+_}
-use native.Mathlib.Omega.{arith}
-use mathlib.Core.Path.{_≡_, refl, sym, ap, _∙_}
+use mathlib.Core.Path.{ap, _∙_}
 use mathlib.Core.List.{List}
-use lib.ListN.{drop, getD}
+use lib.ListN.{drop}
 use Rattle.lines.specs.Lf.{same}
 use Rattle.lines.proofs.LfLaws.{rest-of}
 use Rattle.po.specs.Found.{textOf}

@@ -1,9 +1,5 @@
 -- `po::index::meet` meets its contract. Assumes nothing.
 use borrow.Author.Needs.{needs}
-use Prim.Native.Nat.{ℕ}
-use mathlib.Core.Path.{_≡_, sym, ap, _∙_}
-use lib.ListN.{length, set}
-use Rattle.po.specs.declared.Seek.{Seek}
 use Rattle.po.specs.Found.{textOf}
 use Rattle.po.proofs.IndexLaws.{entered-by}
 use Rattle.po.proofs.index.meet.Statement.{statement}

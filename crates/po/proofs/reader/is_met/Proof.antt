@@ -1,6 +1,6 @@
 -- `po::reader::is_met` meets its contract. Assumes nothing.
 use borrow.Author.Needs.{needs}
-use mathlib.Core.Path.{_≡_, refl, sym, ap, _∙_}
+use mathlib.Core.Path.{refl}
 use Rattle.po.proofs.IndexLaws.{met-yes, met-no, met-on, known-first}
 use Rattle.po.proofs.reader.is_met.Statement.{statement}
 use Rattle.po.proofs.reader.is_met.Tie as tie
