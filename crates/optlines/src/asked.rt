@@ -17,7 +17,7 @@ const PLAIN: usize = 0;
 
 const STRICT: usize = 1;
 
-// The mode that a word asks for.
+// The mode that is asked for, by whether it is to be strict.
 pub fn mode_of(strict: bool) -> usize {
     if strict { STRICT } else { PLAIN }
 }

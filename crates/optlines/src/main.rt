@@ -1,5 +1,5 @@
-// Tidies a listing: `optlines [--strict] [--pass N] [--] [FILE]`, where `--strict` may also stand behind `--pass N`. It reads FILE, or standard input, and writes the tidy listing, or `refused`, the number
-// and the place, to standard output. On standard error it says nothing where it tidied, `optlines: refused ..` first where it refused, and
+// Tidies a listing: `optlines [--strict] [--pass N] [--] [FILE]`, where `--strict` may also stand behind `--pass N`. It reads FILE, or
+// standard input, and writes the tidy listing, or `refused`, the number and the place, to standard output. On standard error it says nothing where it tidied, `optlines: refused ..` first where it refused, and
 // anything else where it could not read or write: a program in Rattle sets no exit status, so tools/front.sh makes one of that.
 mod asked;
 mod tell;
@@ -80,9 +80,11 @@ fn run_one(pass: usize, mode: usize, text: &[u8], out: &mut [u8]) -> Answer {
 
 // Does to a text what is asked.
 fn answer_to(task: Task, text: &[u8], out: &mut [u8]) -> Answer {
-    match task.passes {
-        Passes::All => tidy(task.mode, text, out),
-        Passes::One(pass) => run_one(pass, task.mode, text, out),
+    let passes = task.passes;
+    let mode = task.mode;
+    match passes {
+        Passes::All => tidy(mode, text, out),
+        Passes::One(pass) => run_one(pass, mode, text, out),
     }
 }
 
@@ -190,10 +192,9 @@ fn take_one(pass: usize, strict: bool, at: usize)
     requires { ⌜ at ≤ 4 ⌝ }
 {
     let again = asked::is_word(at, b"--strict");
-    let task = Task {
-        passes: Passes::One(pass),
-        mode: asked::mode_of(strict | again),
-    };
+    let passes = Passes::One(pass);
+    let mode = asked::mode_of(strict | again);
+    let task = Task { passes, mode };
     if again {
         take_rest(task, at + 1);
         return;
@@ -206,11 +207,9 @@ fn take_passes(strict: bool, at: usize)
     requires { ⌜ at ≤ 2 ⌝ }
 {
     if !asked::is_word(at, b"--pass") {
-        let task = Task {
-            passes: Passes::All,
-            mode: asked::mode_of(strict),
-        };
-        take_rest(task, at);
+        let passes = Passes::All;
+        let mode = asked::mode_of(strict);
+        take_rest(Task { passes, mode }, at);
         return;
     }
     match asked::number_of(at + 1) {
