@@ -43,8 +43,9 @@ pub fn dead_below(text: &[u8], paths: &[usize], p: usize, reg: names::Register) 
     true
 }
 
-// Whether a store of a register with the value x goes: it is a load for a call, or outside loops, without its own register and pure, and wanted by
-// nothing below. Its block path is p; `below` are the lines below, and `paths` has their block paths.
+// Whether a store of a register with the value x goes: it is a load for a call, or it stands outside loops, its value does not read the register and
+// is pure, and nothing below wants it. Its block path is p; `below` are the lines below, and `paths` has their block paths. For a load the lines below
+// are read as well: nothing is noted of them (`NOTE_NONE`), and no rest of them is known to be without `(` (0).
 fn store_goes(
     mode: reading::Mode,
     x: &[u8],
@@ -135,8 +136,9 @@ fn flag_lines(
     k
 }
 
-// Writes for each line whether `optimize_once` drops it, and returns how many lines there are: the plain way. `loops`, `paths` and `up` are filled
-// with what the lines' places are, and `scratch` is zeros as far as the text is long.
+// Writes for each line whether `optimize_once` drops it, and returns how many lines there are: the plain way. First `paths` and `up` get the block
+// paths of the lines, and `loops` whether each stands in a loop; where lines end is not asked for. `scratch` is zeros afterwards, as far as the text
+// is long.
 pub fn plain_drops(
     mode: reading::Mode,
     text: &[u8],
