@@ -46,7 +46,8 @@ sweep-drops-fixed = fixed-by once.sweep_drops.Reads.Learnt (λ w κs a x. more w
 filled-same : {d e xs ys d′ e′ : List ℕ} {r s : ℕ} → d ≡ e → xs ≡ ys → Filled d xs d′ r → Filled e ys e′ s → (d′ ≡ e′) × (r ≡ s)
 filled-same p q f g = (f .holds ∙ ((λ i. q i ++ drop (length (q i)) (p i)) ∙ sym (g .holds)), f .place ∙ (ap length q ∙ sym (g .place)))
 
--- what the two contracts say of one text in one mode, over flags that were equal: the flags are equal afterwards, and the answers
+-- What the two contracts say of one text in one mode, over flags that were equal: the flags are equal afterwards, and the answers. The mode is the first argument of each, the text the
+-- second, and the flags are the last.
 pub drops-same-outcome :
     (κs : Lives once.plain.plain_drops.ended) (a : Args (once.plain.plain_drops.ended .signature) κs) (x : Outcome once.plain.plain_drops.ended κs a)
     (κt : Lives once.sweep_drops.ended) (b : Args (once.sweep_drops.ended .signature) κt) (y : Outcome once.sweep_drops.ended κt b) →
