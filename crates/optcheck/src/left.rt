@@ -30,26 +30,35 @@ fn body_of(line: &[u8]) -> &[u8] {
     lines::cut(t, 4, t.len() - 1)
 }
 
-// Whether a line declares a register.
-fn declares_reg(line: &[u8], reg: Register) -> bool {
+// One more where it is so, up to the most.
+fn one_more(n: usize, so: bool) -> usize {
+    if so {
+        if n < MOST {
+            return n + 1;
+        }
+    }
+    n
+}
+
+// How often a line declares a register.
+fn times_declared(line: &[u8], reg: Register) -> usize {
     if !parse::declares(line) {
-        return false;
+        return 0;
     }
     let body = body_of(line);
     let mut i = 0;
+    let mut n = 0;
     let mut turns = MOST;
     while turns > 0 {
         let e = lines::find_byte(body, i, b',');
-        if names::names_reg(text::trim(lines::cut(body, i, e)), reg) {
-            return true;
-        }
+        n = one_more(n, names::names_reg(text::trim(lines::cut(body, i, e)), reg));
         if e >= body.len() {
-            return false;
+            return n;
         }
         i = lines::after(body, e);
         turns -= 1;
     }
-    false
+    n
 }
 
 // A register that is left out, or none.
@@ -58,11 +67,11 @@ pub enum Missing {
     None,
 }
 
-// Whether a name is that of a register that the region uses and the line `p` does not declare.
-fn is_missing(name: &[u8], region: &[u8], p: &[u8]) -> Missing {
+// Whether a name of a line is that of a register that the region uses and the line `p` declares less often.
+fn is_missing(name: &[u8], line: &[u8], region: &[u8], p: &[u8]) -> Missing {
     match names::reg_name(name) {
         names::RegName::Reg(q) => {
-            if reading::uses(region, q) & !declares_reg(p, q) {
+            if reading::uses(region, q) & (times_declared(p, q) < times_declared(line, q)) {
                 Missing::Reg(q)
             } else {
                 Missing::None
@@ -81,12 +90,13 @@ fn is_some(m: Missing) -> bool {
 }
 
 // The first name of a declaration that its region uses and that the line `p` leaves out.
-fn first_missing(body: &[u8], region: &[u8], p: &[u8]) -> Missing {
+fn first_missing(line: &[u8], region: &[u8], p: &[u8]) -> Missing {
+    let body = body_of(line);
     let mut i = 0;
     let mut turns = MOST;
     while turns > 0 {
         let e = lines::find_byte(body, i, b',');
-        let m = is_missing(text::trim(lines::cut(body, i, e)), region, p);
+        let m = is_missing(text::trim(lines::cut(body, i, e)), line, region, p);
         if is_some(m) {
             return m;
         }
@@ -107,7 +117,7 @@ pub fn left_out(raw: &[u8], at: usize, p: &[u8]) -> Missing {
     }
     let start = region_start(raw, at);
     let region = lines::cut(raw, start, place::region_end(raw, start));
-    first_missing(body_of(line), region, p)
+    first_missing(line, region, p)
 }
 
 // Where the first line stands of the region around a place that uses a register.

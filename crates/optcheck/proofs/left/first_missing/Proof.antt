@@ -4,10 +4,13 @@ use Rattle.optcheck.proofs.left.first_missing.Statement.{statement}
 use Rattle.optcheck.proofs.left.first_missing.Tie as tie
 
 abbrev Inv-loop : tie.InvT-loop
-Inv-loop body region p i₀ turns₀ i turns = Unit {0}
+Inv-loop line region p body i₀ turns₀ i turns = Unit {0}
 
 abbrev μ-loop : tie.MeasureT-loop
-μ-loop body region p i₀ turns₀ i turns = turns
+μ-loop line region p body i₀ turns₀ i turns = turns
+
+body-of-requires : tie.Need-body-of-requires Inv-loop μ-loop
+body-of-requires c κs = search needs
 
 loop-holds : tie.Need-loop-holds Inv-loop μ-loop
 loop-holds c = search needs
@@ -54,6 +57,7 @@ first-missing-spec =
     (tie.spec
     Inv-loop
     μ-loop
+    body-of-requires
     loop-holds
     find-byte-requires
     cut-requires

@@ -1,13 +1,13 @@
--- `left::declares_reg` is safe and ends: what is left of its turns falls. Assumes nothing.
+-- `left::times_declared` is safe and ends: what is left of its turns falls. Assumes nothing.
 use borrow.Author.Needs.{needs}
-use Rattle.optcheck.proofs.left.declares_reg.Statement.{statement}
-use Rattle.optcheck.proofs.left.declares_reg.Tie as tie
+use Rattle.optcheck.proofs.left.times_declared.Statement.{statement}
+use Rattle.optcheck.proofs.left.times_declared.Tie as tie
 
 abbrev Inv-loop : tie.InvT-loop
-Inv-loop line reg body i₀ turns₀ i turns = Unit {0}
+Inv-loop line reg body i₀ n₀ turns₀ i n turns = Unit {0}
 
 abbrev μ-loop : tie.MeasureT-loop
-μ-loop line reg body i₀ turns₀ i turns = turns
+μ-loop line reg body i₀ n₀ turns₀ i n turns = turns
 
 declares-requires : tie.Need-declares-requires Inv-loop μ-loop
 declares-requires c κs = search needs
@@ -33,11 +33,11 @@ trim-requires c κs = search needs
 names-reg-requires : tie.Need-names-reg-requires Inv-loop μ-loop
 names-reg-requires c κs = search needs
 
+one-more-requires : tie.Need-one-more-requires Inv-loop μ-loop
+one-more-requires c κs = search needs
+
 returns-2 : tie.Need-returns-2 Inv-loop μ-loop
 returns-2 c = search needs
-
-returns-3 : tie.Need-returns-3 Inv-loop μ-loop
-returns-3 c = search needs
 
 after-requires : tie.Need-after-requires Inv-loop μ-loop
 after-requires c κs = search needs
@@ -51,11 +51,11 @@ loop-less c = search needs
 loop-again : tie.Need-loop-again Inv-loop μ-loop
 loop-again c = search needs
 
-returns-4 : tie.Need-returns-4 Inv-loop μ-loop
-returns-4 c = search needs
+returns-3 : tie.Need-returns-3 Inv-loop μ-loop
+returns-3 c = search needs
 
-pub declares-reg-spec : {M : Type 1} → statement M
-declares-reg-spec =
+pub times-declared-spec : {M : Type 1} → statement M
+times-declared-spec =
     tie.close
     (tie.spec
     Inv-loop
@@ -68,10 +68,10 @@ declares-reg-spec =
     cut-requires
     trim-requires
     names-reg-requires
+    one-more-requires
     returns-2
-    returns-3
     after-requires
     sub-turns
     loop-less
     loop-again
-    returns-4)
+    returns-3)
