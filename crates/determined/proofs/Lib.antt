@@ -29,3 +29,4 @@ pub mod Po
 pub mod Origins
 pub mod Reader
 pub mod Recordcapi
+pub mod Pocapi
