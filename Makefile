@@ -25,7 +25,6 @@ installed = bin/optlines $(own)/optlines $(own)/front.sh $(own)/run-built $(own)
 	$(own)/TOOLCHAIN share/man/man1/optlines.1 include/optlines.h lib/liboptlines.a \
 	lib/liboptlines.so.2 lib/liboptlines.so lib/pkgconfig/optlines.pc
 exported = optlines_optimize optlines_run_pass
-soname = liboptlines.so.2
 maker = lib
 
 records_exported = optrecords_check optrecords_record optrecords_lines optrecords_to_ol \
@@ -52,6 +51,8 @@ help:
 	@echo "make            says what is missing and how to build it"; \
 	echo "make lib        proves the library (rt staticlib capi, minutes the first time) and writes"; \
 	echo "                $(ARCHIVE) and $(SHARED)"; \
+	echo "make lib-po     the same for include/optpo.h: target/staticlib/libpocapi.a and"; \
+	echo "                target/lib/liboptpo.so.1"; \
 	echo "make shared     writes $(SHARED) from $(ARCHIVE), as it is"; \
 	echo "make records    proves the library for record files (rt staticlib recordcapi) and writes"; \
 	echo "                $(RECORDS_ARCHIVE) and $(RECORDS_SHARED)"; \
@@ -66,13 +67,19 @@ lib:
 	rt staticlib capi
 	$(MAKE) shared
 
+# The same for the strings as a PO file: include/optpo.h.
+lib-po:
+	rt staticlib pocapi
+	$(MAKE) shared ARCHIVE=target/staticlib/libpocapi.a SHARED=target/lib/liboptpo.so.1 \
+	    exported='optpo_write optpo_read' maker=lib-po
+
 # A shared library: the archive whole, and of its names those of the header alone.
 shared:
 	@[ -f "$(ARCHIVE)" ] || { echo "make: $(ARCHIVE) is missing: run make $(maker)" >&2; exit 1; }
 	@command -v $(link) >/dev/null || { echo "make: no $(link): run tools/setup" >&2; exit 1; }
 	@mkdir -p "$$(dirname "$(SHARED)")"
 	{ echo '{ global:'; printf '%s;\n' $(exported); echo 'local: *; };'; } >"$(SHARED).map"
-	$(link) -shared -o "$(SHARED).new" -Wl,-soname,$(soname) -Wl,-z,defs -Wl,-z,now \
+	$(link) -shared -o "$(SHARED).new" -Wl,-soname,"$$(basename "$(SHARED)")" -Wl,-z,defs -Wl,-z,now \
 	    -Wl,--version-script="$(SHARED).map" -Wl,--whole-archive "$(ARCHIVE)" -Wl,--no-whole-archive
 	mv -f "$(SHARED).new" "$(SHARED)"
 
@@ -83,7 +90,7 @@ records:
 
 records-shared:
 	@$(MAKE) -s shared ARCHIVE="$(RECORDS_ARCHIVE)" SHARED="$(RECORDS_SHARED)" \
-	    soname=liboptrecords.so.1 maker=records exported="$(records_exported)"
+	    maker=records exported="$(records_exported)"
 
 install: all
 	install -d "$(to)/bin" "$(to)/$(own)" "$(to)/share/man/man1" "$(to)/include" "$(to)/lib/pkgconfig"
@@ -107,4 +114,4 @@ uninstall:
 	for each in $(installed); do rm -f "$(to)/$$each" || exit 1; done
 	[ ! -d "$(to)/$(own)" ] || rmdir "$(to)/$(own)"
 
-.PHONY: all help lib shared records records-shared install uninstall
+.PHONY: all help lib lib-po shared records records-shared install uninstall
