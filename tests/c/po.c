@@ -113,7 +113,9 @@ static void reads(size_t index)
 static void agrees(unsigned seed)
 {
     static uint8_t plain[ROOM];
-    static const char *const some[] = { "\"a\"", "'a'", "\"b\\n\"", "\"\"", "'\"'", "\"\\\"\"", "/a\"b/", "`\"`", "\n", " " };
+    static const char *const some[] = {
+        "\"a\"", "'a'", "\"b\\n\"", "\"\"", "'\"'", "\"\\\"\"", "/a\"b/", "`\"`", "\n", " "
+    };
     char text[512] = "";
     size_t k, m, n, index;
     uint8_t number;
