@@ -161,6 +161,33 @@ def one_function(number):
         n += 8
 
 
+def low_registers():
+    """One function over registers from 0 on, declared and stored once."""
+    return one_function(lambda n: n)
+
+
+def taken_twice(second):
+    """One function: each register is stored and taken by the next line, and again by other lines, ever further below."""
+    yield "function main(a) {"
+    n = 0
+    while True:
+        yield "  r%d = a.p%d;" % (n, n % 5)
+        yield "  use(r%d);" % n
+        if n % 2:
+            yield from second("r%d" % (n // 2))
+        n += 1
+
+
+def read_again():
+    """One function: each register is read by the next line, and read again far below."""
+    return taken_twice(lambda name: ["  keep(%s);" % name])
+
+
+def stored_again():
+    """One function: each register is stored and read by the next line, twice, far apart."""
+    return taken_twice(lambda name: ["  %s = a.q;" % name, "  use(%s);" % name])
+
+
 def high_registers():
     """One function over registers from 2000 on, declared and stored once."""
     return one_function(lambda n: 2000 + n)
@@ -253,6 +280,9 @@ FAMILIES = {
     "member loads": member_loads,
     "comments and strings": comments_and_strings,
     "long lines": long_lines,
+    "low registers": low_registers,
+    "read again": read_again,
+    "stored again": stored_again,
     "high registers": high_registers,
     "random registers": random_registers,
     "high dead stores": high_dead_stores,

@@ -1,13 +1,13 @@
 -- The loop that walks up from a line: one law for each way round and each way out. Assumes nothing.
-use Prim.Native.Nat.{ℕ, zero, suc, _+_, _-_, _≤_, _<_}
+use Prim.Native.Nat.{ℕ, zero, suc, _+_, _-_, _*_, _≤_, _<_}
 use mathlib.Core.Path.{_≡_, refl, sym, ap, _∙_, subst}
 use mathlib.Core.Bool.{Bool, true, false, cond, not, _&&_, _||_}
 use mathlib.Core.List.{List, [], _∷_, _++_, append-assoc, append-nil}
 use native.Mathlib.Omega.{arith}
 use borrow.Author.Tests.{ltb-true, ltb-false}
 use lib.Dec.{eqb, ltb}
-use lib.ListN.{length, take, drop, getD, set, length-set, length-append}
-use lib.Seq.{take-add, getD-take, getD-drop, take-set-le, drop-set-lt, length-take-le}
+use lib.ListN.{length, take, drop, getD, set, length-set, length-append, length-drop}
+use lib.Seq.{take-add, getD-take, getD-drop, getD-append-add, take-set-le, drop-set-lt, length-take-le}
 use Rattle.lines.specs.Lf.{part, linesOf, unlines}
 use Rattle.lines.specs.Inner.Lf.{lineStart, lacks, noLf}
 use Rattle.lines.specs.Acts.{Act, keep, become, into, gone, act, apply}
@@ -27,8 +27,9 @@ use Rattle.calls.specs.Leaves.{Leaves, Parsed, store, other}
 use Rattle.calls.specs.LeavesOf.{parsedBy, parsedOf, startsBelow, leavesOf}
 use Rattle.calls.specs.Calls.{Item, Row, Walked, Step, end, skip, absorb, linesIn, climb, made, has, actsUp, readLater, storeStep, stepAt, walk}
 use Rattle.calls.specs.Inner.Steps.{absorbStep, PutAs, ends, puts}
+use Rattle.calls.specs.Inner.Later.{Noted, Spans}
 use Rattle.calls.specs.Inner.Tables.{ownerOf, ownersOf, rowsAt, walkAt, lineAt, Keeps, Stands, Placed, Foot, Peaked}
-use Rattle.calls.proofs.Edges.{standing, given, apply-standing, walk-given, Passed, none-yet, onto, ownerBack, by-table, stands, WalkInv, edge-start, edge-skip, edge-absorb, edge-end, edge-top, edge-spent}
+use Rattle.calls.proofs.Edges.{standing, given, given-length, apply-standing, walk-given, Passed, none-yet, onto, ownerBack, by-table, stands, WalkInv, edge-start, edge-skip, edge-absorb, edge-end, edge-top, edge-spent}
 use Rattle.calls.proofs.Owners.{owned}
 use Rattle.calls.proofs.Room.{valued, put-is, value-length, put-length}
 use Rattle.calls.proofs.Stacks.{LastLine, last-line, part-join, part-cons, part-set, snoc-front, snoc-last, owners-snoc, owners-rows, owner-back, lines-many}
@@ -602,3 +603,42 @@ module _ {t : List ℕ} {n i f : ℕ} {bs fs owner₀ stack : List ℕ} {m : ℕ
                         room = omega (arith, new-less, ap length new-is, c-is, sl .whole, v .at .room);
                       };
                     }
+
+-- ---- the note of the row, and the lines below the one that the walk started from
+
+given-onto : (back rest : List Row) → given (onto back rest) ≡ given rest ++ linesIn back
+unfolding onto given linesIn
+given-onto [] rest = sym (append-nil (given rest))
+given-onto (r ∷ back) rest = given-onto back (r ∷ rest) ∙ append-assoc (given rest) (r .item .line ∷ []) (linesIn back)
+
+module _ {t : List ℕ} {n i f : ℕ} {bs fs owner₀ stack : List ℕ} {m : ℕ} {cur₀ next₀ owner cur next : List ℕ} {k p h c : ℕ} {over : Bool} {steps : ℕ}
+    (v : Turning t n i f bs fs owner₀ stack m cur₀ next₀ owner cur next k p h c over steps) where
+  -- the row is that of its line
+  row-line : v .row .item .line ≡ lineAt t (k - 1)
+  unfolding given
+  row-line =
+      let L = leavesOf plain in
+      let later : ℕ → Bool = λ u. readLater L u (linesOf (drop f t)) in
+      let x : List Row = v .row ∷ v .rest in
+      let a : given (v .rest) ++ (v .row .item .line ∷ linesIn (v .back)) ≡ take n (linesOf t) =
+      sym (append-assoc (given (v .rest)) (v .row .item .line ∷ []) (linesIn (v .back)))
+      ∙ ap (λ (y : List (List ℕ)). y ++ linesIn (v .back)) (sym (walk-given L (getD bs n 0) later (suc (v .left)) x (v .d) over (v .text) (v .took) (v .lines)))
+      ∙ sym (given-onto (v .back) (walk L (getD bs n 0) later (suc (v .left)) x (v .d) over (v .text) (v .took) (v .lines) .rows))
+      ∙ ap (λ (y : Walked). given (y .rows)) (sym (v .at .walks .so-far))
+      ∙ v .ground .given-is in
+      let z : length (given (v .rest)) + 0 ≡ k - 1 = omega (arith, given-length (v .rest), v .at .many) in
+      sym (getD-append-add (given (v .rest)) (v .row .item .line ∷ linesIn (v .back)) 0 [])
+      ∙ ap (λ (y : ℕ). getD (given (v .rest) ++ (v .row .item .line ∷ linesIn (v .back))) y []) z
+      ∙ ap (λ (y : List (List ℕ)). getD y (k - 1) []) a
+      ∙ getD-take n (linesOf t) (k - 1) [] (omega (arith, turn-in v, row-some v))
+
+  pub noted-here : (notes : List ℕ) (u : ℕ) → Spans t notes → linesOf (drop f t) ≡ drop (suc n) (linesOf t) → (q : ℕ) → q ≡ lineStart t (p - 1) → {x : List ℕ} → x ≡ part q (p - 1) t →
+      {ll : List ℕ} → ll ≡ part f (length t) t → Noted u x (getD notes (2 * (k - 1)) 0) (getD notes (2 * (k - 1) + 1) 0) (length (part k n owner) + 1) (linesOf ll)
+  noted-here notes u s b q z {x} e {ll} e₂ =
+      let r : ℕ = getD notes (2 * (k - 1)) 0 in
+      let r₂ : ℕ = getD notes (2 * (k - 1) + 1) 0 in
+      let far : n - (k - 1) ≡ length (part k n owner) + 1 =
+      omega (arith, turn-in v, row-some v, length-take-le (n - k) (drop k owner) (omega (arith, length-drop k owner, v .same-owner, v .ground .n-owner, turn-in v))) in
+      subst (λ (y : List ℕ). Noted u y r r₂ (length (part k n owner) + 1) (linesOf ll)) (sym (e ∙ text-line v q z .line ∙ row-line))
+      (subst (λ (y : ℕ). Noted u (lineAt t (k - 1)) r r₂ y (linesOf ll)) far
+      (subst (λ (y : List (List ℕ)). Noted u (lineAt t (k - 1)) r r₂ (n - (k - 1)) y) (sym (ap linesOf (e₂ ∙ rest-of t f) ∙ b)) (s u (k - 1) n (omega (arith, turn-in v)))))

@@ -18,5 +18,8 @@ pub mod Turns
 pub mod Wipes
 pub mod Kept
 pub mod Downs
+pub mod Lasts
+pub mod Notes
+pub mod Rows
 pub mod Of_rebuild_lines
 pub mod Of_rebuild_window

@@ -1,8 +1,10 @@
 // rebuild_calls: the values of stores go back into the call that follows them.
+mod later;
+
 ghost use mathlib.Core.Path.{_≡_};
 ghost use mathlib.Core.Bool.{true, not, _&&_};
 ghost use mathlib.Core.List.{[], _∷_};
-ghost use Prim.Native.Nat.{_+_, _-_, _≤_, _<_, _^_};
+ghost use Prim.Native.Nat.{_+_, _-_, _*_, _≤_, _<_, _^_};
 ghost use lib.Dec.{eqb};
 ghost use lib.ListN.{length, getD, replicate};
 ghost use Rattle.lines.specs.Lf.{holds, linesOf, unlines};
@@ -24,6 +26,7 @@ ghost use Rattle.records.specs.Inner.Records.{Told};
 ghost use Rattle.calls.specs.LeavesOf.{isCall, isControlLine, contextOf, leavesOf};
 ghost use Rattle.calls.specs.Calls.{readLater, putBy, rebuildCallsActs, rebuildCalls};
 ghost use Rattle.calls.specs.Inner.Steps.{isSecond, mayControl, breaksDown, wrapped, absorbStep, PutAs};
+ghost use Rattle.calls.specs.Inner.Later.{Noted, Spans};
 ghost use Rattle.calls.specs.Inner.Tables.{rowsAt, Keeps, Stands, Placed, Foot, Peaked, Ready, Turned, Rebuilt, ownersOf};
 
 // What putting a value into a line makes: a line of so many bytes, or nothing.
@@ -102,6 +105,45 @@ fn read_later(below: &[u8], reg: names::Register) -> bool
         i = lines::after(below, e);
     }
     false
+}
+
+// Whether a line stores a register.
+fn stores(line: &[u8], reg: names::Register) -> bool
+    ensures { λ r. ⌜ r ≡ lineStores (reg .0) (now (line .entry)) ⌝ }
+{
+    match parse::parse(line) {
+        parse::Line::Decl => false,
+        parse::Line::Store(s) => s.reg.0 == reg.0,
+        parse::Line::Other => false,
+    }
+}
+
+// The same as `read_later` of the lines that are d and more below the line `above`, which has k above it: by its note, where it stores the register and
+// the note says enough.
+fn is_read(
+    below: &[u8],
+    reg: names::Register,
+    above: &[u8],
+    k: usize,
+    d: usize,
+    notes: &[usize],
+) -> bool
+    requires { ⌜ Noted (reg .0) (now above) (getD (now notes) (2 * k) 0) (getD (now notes) (2 * k + 1) 0) d (linesOf (now below)) ⌝ }
+    ensures { λ r. ⌜ r ≡ readLater (leavesOf plain) (reg .0) (linesOf (now (below .entry))) ⌝ }
+{
+    if notes.len() / 2 <= k {
+        return read_later(below, reg);
+    }
+    if !stores(above, reg) {
+        return read_later(below, reg);
+    }
+    if d < notes[2 * k] {
+        return true;
+    }
+    if d < notes[2 * k + 1] {
+        return false;
+    }
+    read_later(below, reg)
 }
 
 // Whether a line that was taken in writes what a value needs; one that was not does not.
@@ -196,24 +238,28 @@ fn put_in(line: &[u8], reg: names::Register, value: &[u8], out: &mut [u8]) -> Ma
 }
 
 // Writes a line with the value of a store above it in the place of the store's register, where the line reads the register once, no line
-// below reads it, and no line taken in between writes what the value needs.
+// below reads it, and no line taken in between writes what the value needs. The store was the line `above`, with k above it.
 fn absorb(
     line: &[u8],
     reg: names::Register,
     value: &[u8],
     below: &[u8],
+    above: &[u8],
+    k: usize,
+    notes: &[usize],
     taken: &[u8],
     owner: &[usize],
     out: &mut [u8],
 ) -> Made
-    requires { ⌜ length (now line) + length (now value) + 2 ≤ length (now out) ⌝ }
+    requires { ⌜ (length (now line) + length (now value) + 2 ≤ length (now out))
+        × (Noted (reg .0) (now above) (getD (now notes) (2 * k) 0) (getD (now notes) (2 * k + 1) 0) (length (now owner) + 1) (linesOf (now below))) ⌝ }
     ensures { λ r. ⌜ PutAs (now (out .entry)) (absorbStep plain (now (line .entry)) (reg .0) (now (value .entry)) (linesOf (now (below .entry))) (linesOf (now (taken .entry))) (now (owner .entry))) (now (out .exit)) r ⌝ }
 {
     let u = reading::use_of(line, reg);
     if u.reads != 1 {
         return Made::Nothing;
     }
-    if read_later(below, reg) {
+    if is_read(below, reg, above, k, owner.len() + 1, notes) {
         return Made::Nothing;
     }
     if breaks_above(value, taken, owner, out) {
@@ -260,6 +306,7 @@ fn walk_up(
     n: usize,
     blocks: &[usize],
     starts: &[u8],
+    notes: &[usize],
     owner: &mut [usize],
     stack: &[u8],
     o: usize,
@@ -272,7 +319,7 @@ fn walk_up(
         × ((Stands (now text) n i below)
         × ((Placed (now text) (now blocks) (now starts))
         × ((Foot (now text) n top (now cur) size)
-        × ((o + size ≤ length (now cur)) × (o + size ≤ length (now next)))))) ⌝ }
+        × ((o + size ≤ length (now cur)) × ((o + size ≤ length (now next)) × (Spans (now text) (now notes))))))) ⌝ }
     ensures { λ r. ⌜ Peaked (now (text .entry)) n (now (owner .entry)) (now (owner .exit)) (now (stack .entry)) (now (cur .exit)) (r .height) (r .size) (o + size) ⌝ }
 {
     let mut k = n;
@@ -302,12 +349,24 @@ fn walk_up(
             let v = parse::value_of(x, s);
             let line = lines::cut(cur, 0, c);
             let under = lines::cut(text, below, text.len());
+            let above = lines::cut(text, q, p - 1);
             let taken = lines::cut(text, p, i);
-            let made = absorb(line, s.reg, v, under, taken, &owner[k..n], next);
+            let made = absorb(
+                line,
+                s.reg,
+                v,
+                under,
+                above,
+                k - 1,
+                notes,
+                taken,
+                &owner[k..n],
+                next,
+            );
             let Made::Line(m) = made else { break };
             c = lines::put(cur, 0, lines::cut(next, 0, m));
             owner[k - 1] = n - k + 1;
-            over = over | place::is_header(lines::cut(text, q, p - 1));
+            over = over | place::is_header(above);
             h = b;
             p = q;
             k -= 1;
@@ -333,13 +392,14 @@ fn turn_line(
     n: usize,
     blocks: &[usize],
     starts: &[u8],
+    notes: &[usize],
     owner: &mut [usize],
     stack: &mut [u8],
     o: usize,
     cur: &mut [u8],
     next: &mut [u8],
 ) -> usize
-    requires { ⌜ Ready (now text) n i e (now blocks) (now starts) (now owner) (now stack) o (now cur) (now next) ⌝ }
+    requires { ⌜ (Ready (now text) n i e (now blocks) (now starts) (now owner) (now stack) o (now cur) (now next)) × (Spans (now text) (now notes)) ⌝ }
     ensures { λ r. ⌜ Turned (now (text .entry)) n (now (owner .entry)) (now (owner .exit)) (now (stack .exit)) o r ⌝ }
 {
     owner[n] = 0;
@@ -356,6 +416,7 @@ fn turn_line(
         n,
         blocks,
         starts,
+        notes,
         owner,
         stack,
         o,
@@ -376,6 +437,7 @@ fn rebuild_lines(
     m: usize,
     blocks: &[usize],
     starts: &[u8],
+    notes: &[usize],
     owner: &mut [usize],
     stack: &mut [u8],
     cur: &mut [u8],
@@ -384,7 +446,7 @@ fn rebuild_lines(
 ) -> usize
     requires { ⌜ (0 < length (now recs)) × ((Placed (now text) (now blocks) (now starts))
         × ((length (linesOf (now text)) ≤ length (now owner)) × ((length (now text) < length (now stack))
-        × ((length (now text) ≤ length (now cur)) × ((length (now text) ≤ length (now next)) × (Told (now text) (now ends) (now blocks) m)))))) ⌝ }
+        × ((length (now text) ≤ length (now cur)) × ((length (now text) ≤ length (now next)) × ((Told (now text) (now ends) (now blocks) m) × (Spans (now text) (now notes)))))))) ⌝ }
     ensures { λ r. ⌜ Rebuilt (now (text .entry)) (now (owner .entry)) (now (owner .exit)) (now (stack .exit)) r ⌝ }
 {
     let mut past = 0;
@@ -400,6 +462,7 @@ fn rebuild_lines(
             n,
             blocks,
             starts,
+            notes,
             owner,
             stack,
             o,
@@ -418,6 +481,7 @@ fn rebuild_window(
     m: usize,
     blocks: &[usize],
     starts: &[u8],
+    notes: &[usize],
     owner: &mut [usize],
     stack: &mut [u8],
     cur: &mut [u8],
@@ -425,7 +489,7 @@ fn rebuild_window(
 ) -> usize
     requires { ⌜ (Placed (now text) (now blocks) (now starts))
         × ((length (linesOf (now text)) ≤ length (now owner)) × ((length (now text) < length (now stack))
-        × ((length (now text) ≤ length (now cur)) × ((length (now text) ≤ length (now next)) × (Told (now text) (now ends) (now blocks) m))))) ⌝ }
+        × ((length (now text) ≤ length (now cur)) × ((length (now text) ≤ length (now next)) × ((Told (now text) (now ends) (now blocks) m) × (Spans (now text) (now notes))))))) ⌝ }
     ensures { λ r. ⌜ Rebuilt (now (text .entry)) (now (owner .entry)) (now (owner .exit)) (now (stack .exit)) r ⌝ }
 {
     let mut recs = records::window();
@@ -435,6 +499,7 @@ fn rebuild_window(
         m,
         blocks,
         starts,
+        notes,
         owner,
         stack,
         cur,
@@ -461,6 +526,7 @@ fn rebuild_with(
     m: usize,
     blocks: &[usize],
     starts: &[u8],
+    notes: &[usize],
     owner: &mut [usize],
     stack: &mut [u8],
     cur: &mut [u8],
@@ -471,13 +537,24 @@ fn rebuild_with(
         × ((length (linesOf (now text)) ≤ length (now owner)) × ((length (now text) < length (now stack))
         × ((length (now text) ≤ length (now cur)) × ((length (now text) ≤ length (now next))
         × (length (unlines (rebuildCalls (leavesOf plain) (linesOf (now text)))) ≤ length (now out)))))))
-        × (Told (now text) (now ends) (now blocks) m) ⌝ }
+        × ((Told (now text) (now ends) (now blocks) m) × (Spans (now text) (now notes))) ⌝ }
     ensures answer { λ r. ⌜ Wrote (now (out .entry)) 0 (unlines (rebuildCalls (leavesOf plain) (linesOf (now (text .entry))))) (now (out .exit)) r ⌝ }
     ensures owners { λ _. ⌜ Filled (now (owner .entry)) (ownersOf (rebuildCallsActs (leavesOf plain) (linesOf (now (text .entry))))) (now (owner .exit)) (length (linesOf (now (text .entry)))) ⌝ }
     ensures scratch { λ _. ⌜ (now (stack .exit) ≡ replicate (length (now (stack .entry))) 0)
         × ((now (cur .exit) ≡ replicate (length (now (cur .entry))) 0) × (now (next .exit) ≡ replicate (length (now (next .entry))) 0)) ⌝ }
 {
-    let o = rebuild_window(text, ends, m, blocks, starts, owner, stack, cur, next);
+    let o = rebuild_window(
+        text,
+        ends,
+        m,
+        blocks,
+        starts,
+        notes,
+        owner,
+        stack,
+        cur,
+        next,
+    );
     let r = lines::put(out, 0, lines::cut(stack, 0, o));
     wipe(stack);
     wipe(cur);
@@ -490,11 +567,15 @@ fn rebuild_with(
 // three buffers before `out` is wiped.
 pub fn rebuild_calls(
     text: &[u8],
+    own: &[usize],
     ends: &mut [usize],
     owner: &mut [usize],
     blocks: &mut [usize],
     starts: &mut [u8],
     up: &mut [u32],
+    near: &mut [usize],
+    stores: &mut [usize],
+    notes: &mut [usize],
     stack: &mut [u8],
     cur: &mut [u8],
     next: &mut [u8],
@@ -512,21 +593,27 @@ pub fn rebuild_calls(
     ensures scratch { λ _. ⌜ (Wrote (now (stack .entry)) 0 (replicate (length (now (text .entry)) + 1) 0) (now (stack .exit)) (length (now (text .entry)) + 1))
         × ((Wrote (now (cur .entry)) 0 (replicate (length (now (text .entry))) 0) (now (cur .exit)) (length (now (text .entry))))
         × (Wrote (now (next .entry)) 0 (replicate (length (now (text .entry))) 0) (now (next .exit)) (length (now (text .entry))))) ⌝ }
+    ensures notes { λ _. ⌜ (now (near .exit) ≡ replicate (length (now (near .entry))) 0)
+        × ((now (stores .exit) ≡ replicate (length (now (stores .entry))) 0) × (now (notes .exit) ≡ replicate (length (now (notes .entry))) 0)) ⌝ }
     ensures ends { λ _. ⌜ Filled (now (ends .entry)) (endMarks 0 (linesOf (now (text .entry)))) (now (ends .exit)) (length (linesOf (now (text .entry)))) ⌝ }
 {
     let m = text.len();
     let h = m + 1;
     let n = place::place_lines(text, blocks, starts, up, ends);
-    rebuild_with(
+    let f = later::note_lines(text, ends, blocks, n, own, near, stores, notes);
+    let r = rebuild_with(
         text,
         ends,
         n,
         blocks,
         starts,
+        &notes[..f],
         owner,
         &mut stack[..h],
         &mut cur[..m],
         &mut next[..m],
         out,
-    )
+    );
+    slots::wipe(notes);
+    r
 }

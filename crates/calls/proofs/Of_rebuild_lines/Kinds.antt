@@ -8,7 +8,7 @@ use denote.Array
 use mathlib.Core.List
 use mir.Syntax
 
-abbrev pub ps : List.List (Kinds.PK 9)
+abbrev pub ps : List.List (Kinds.PK 10)
 ps =
     List._∷_
     (ShrSlice.pShrS (Referent.rtF (Referent.fInt Syntax.w8)) 0 tt)
@@ -21,16 +21,18 @@ ps =
     (List._∷_
     (ShrSlice.pShrS (Referent.rtF (Referent.fInt Syntax.w8)) 3 tt)
     (List._∷_
-    (MutSlice.pMutS (Referent.rtF (Referent.fInt Syntax.w64)) 4 tt)
+    (ShrSlice.pShrS (Referent.rtF (Referent.fInt Syntax.w64)) 4 tt)
     (List._∷_
-    (MutSlice.pMutS (Referent.rtF (Referent.fInt Syntax.w8)) 5 tt)
+    (MutSlice.pMutS (Referent.rtF (Referent.fInt Syntax.w64)) 5 tt)
     (List._∷_
     (MutSlice.pMutS (Referent.rtF (Referent.fInt Syntax.w8)) 6 tt)
     (List._∷_
     (MutSlice.pMutS (Referent.rtF (Referent.fInt Syntax.w8)) 7 tt)
     (List._∷_
-    (MutSlice.pMutS Elem.R 8 tt)
-    List.[])))))))))
+    (MutSlice.pMutS (Referent.rtF (Referent.fInt Syntax.w8)) 8 tt)
+    (List._∷_
+    (MutSlice.pMutS Elem.R 9 tt)
+    List.[]))))))))))
 
-abbrev pub r : Kinds.RK 9
+abbrev pub r : Kinds.RK 10
 r = Kinds.rNum Syntax.w64

@@ -17,19 +17,19 @@ use mathlib.Core.Path as Path'
 abbrev pub Ghost : Type 0
 Ghost = Unit {0}
 
-module _ (κs : Lifetimes.Lfts 9) where
+module _ (κs : Lifetimes.Lfts 10) where
   abbrev pub Pinned : (a : World.ArgsD rebuild_lines.signature κs) → (w : World.World) → Type 1
   Pinned = Learn.no-pin rebuild_lines.signature κs
 
   abbrev pub Owned :
       (r : World.ResD rebuild_lines.signature κs) →
-      (s : Clauses.AtExit (Kinds'.endedOf 9 Kinds.ps Kinds.r) κs) →
+      (s : Clauses.AtExit (Kinds'.endedOf 10 Kinds.ps Kinds.r) κs) →
       (w : World.World) →
       Type 1
-  Owned = Learn.no-own (Kinds'.endedOf 9 Kinds.ps Kinds.r) κs
+  Owned = Learn.no-own (Kinds'.endedOf 10 Kinds.ps Kinds.r) κs
 
   abbrev pub Base : (a : World.ArgsD rebuild_lines.signature κs) → (w : World.World) → World.Pr w
-  Base = Written.Base 9 Kinds.ps Kinds.r (λ κs. Pinned) κs
+  Base = Written.Base 10 Kinds.ps Kinds.r (λ κs. Pinned) κs
 
   abbrev pub pins : (w : World.World) → Learn.PinOf rebuild_lines.signature κs w λ a. Pinned a w
   pins = λ w. Learn.no-pins rebuild_lines.signature κs w
@@ -37,7 +37,7 @@ module _ (κs : Lifetimes.Lfts 9) where
   abbrev pub owns :
       (w : World.World) →
       Learn.OwnOf
-      (Kinds'.endedOf 9 Kinds.ps Kinds.r)
+      (Kinds'.endedOf 10 Kinds.ps Kinds.r)
       (Kinds'.stays Kinds.ps)
       κs
       w
@@ -45,7 +45,7 @@ module _ (κs : Lifetimes.Lfts 9) where
       r
       s
       w
-  owns = λ w. Learn.no-owns (Kinds'.endedOf 9 Kinds.ps Kinds.r) (Kinds'.stays Kinds.ps) κs w
+  owns = λ w. Learn.no-owns (Kinds'.endedOf 10 Kinds.ps Kinds.r) (Kinds'.stays Kinds.ps) κs w
 
   abbrev pub requires :
       (a : World.ArgsD rebuild_lines.signature κs) → (g : Ghost) → (w : World.World) → World.Pr w
@@ -64,7 +64,7 @@ module _ (κs : Lifetimes.Lfts 9) where
       (a : World.ArgsD rebuild_lines.signature κs) →
       (g : Ghost) →
       (r : World.ResD rebuild_lines.signature κs) →
-      (s : Clauses.AtExit (Kinds'.endedOf 9 Kinds.ps Kinds.r) κs) →
+      (s : Clauses.AtExit (Kinds'.endedOf 10 Kinds.ps Kinds.r) κs) →
       (w : World.World) →
       World.Pr w
   ensures =
@@ -103,6 +103,7 @@ module _ (κs : Lifetimes.Lfts 9) where
       (a .1 .1 .1 .1 .1 .1 .1 .0)
       (a .1 .1 .1 .1 .1 .1 .1 .1 .0)
       (a .1 .1 .1 .1 .1 .1 .1 .1 .1 .0)
+      (a .1 .1 .1 .1 .1 .1 .1 .1 .1 .1 .0)
   requires-1·read =
       λ a g. Read.all-models
       (λ w. rebuild_lines.requires-1
@@ -121,7 +122,8 @@ module _ (κs : Lifetimes.Lfts 9) where
       (a .1 .1 .1 .1 .1 .1 .0)
       (a .1 .1 .1 .1 .1 .1 .1 .0)
       (a .1 .1 .1 .1 .1 .1 .1 .1 .0)
-      (a .1 .1 .1 .1 .1 .1 .1 .1 .1 .0))
+      (a .1 .1 .1 .1 .1 .1 .1 .1 .1 .0)
+      (a .1 .1 .1 .1 .1 .1 .1 .1 .1 .1 .0))
       (λ w. search Read.reads)
       (λ w. Path'.refl)
       (λ w. Path'.refl)
@@ -137,7 +139,7 @@ module _ (κs : Lifetimes.Lfts 9) where
       (a : World.ArgsD rebuild_lines.signature κs) →
       (g : Ghost) →
       (r : World.ResD rebuild_lines.signature κs) →
-      (s : Clauses.AtExit (Kinds'.endedOf 9 Kinds.ps Kinds.r) κs) →
+      (s : Clauses.AtExit (Kinds'.endedOf 10 Kinds.ps Kinds.r) κs) →
       Read.Read
       (Base a)
       (Owned r s)
@@ -158,6 +160,7 @@ module _ (κs : Lifetimes.Lfts 9) where
       (a .1 .1 .1 .1 .1 .1 .1 .0)
       (a .1 .1 .1 .1 .1 .1 .1 .1 .0)
       (a .1 .1 .1 .1 .1 .1 .1 .1 .1 .0)
+      (a .1 .1 .1 .1 .1 .1 .1 .1 .1 .1 .0)
       record { entry = a .0; exit = s .0 }
       record { entry = a .1 .0; exit = s .1 .0 }
       record { entry = a .1 .1 .0; exit = s .1 .1 .0 }
@@ -168,6 +171,10 @@ module _ (κs : Lifetimes.Lfts 9) where
       record { entry = a .1 .1 .1 .1 .1 .1 .1 .0; exit = s .1 .1 .1 .1 .1 .1 .1 .0 }
       record { entry = a .1 .1 .1 .1 .1 .1 .1 .1 .0; exit = s .1 .1 .1 .1 .1 .1 .1 .1 .0 }
       record { entry = a .1 .1 .1 .1 .1 .1 .1 .1 .1 .0; exit = s .1 .1 .1 .1 .1 .1 .1 .1 .1 .0 }
+      record {
+        entry = a .1 .1 .1 .1 .1 .1 .1 .1 .1 .1 .0;
+        exit = s .1 .1 .1 .1 .1 .1 .1 .1 .1 .1 .0;
+      }
       r
   ensures-1·read =
       λ a g r s. Read.all-models
@@ -188,6 +195,7 @@ module _ (κs : Lifetimes.Lfts 9) where
       (a .1 .1 .1 .1 .1 .1 .1 .0)
       (a .1 .1 .1 .1 .1 .1 .1 .1 .0)
       (a .1 .1 .1 .1 .1 .1 .1 .1 .1 .0)
+      (a .1 .1 .1 .1 .1 .1 .1 .1 .1 .1 .0)
       record { entry = a .0; exit = s .0 }
       record { entry = a .1 .0; exit = s .1 .0 }
       record { entry = a .1 .1 .0; exit = s .1 .1 .0 }
@@ -198,6 +206,10 @@ module _ (κs : Lifetimes.Lfts 9) where
       record { entry = a .1 .1 .1 .1 .1 .1 .1 .0; exit = s .1 .1 .1 .1 .1 .1 .1 .0 }
       record { entry = a .1 .1 .1 .1 .1 .1 .1 .1 .0; exit = s .1 .1 .1 .1 .1 .1 .1 .1 .0 }
       record { entry = a .1 .1 .1 .1 .1 .1 .1 .1 .1 .0; exit = s .1 .1 .1 .1 .1 .1 .1 .1 .1 .0 }
+      record {
+        entry = a .1 .1 .1 .1 .1 .1 .1 .1 .1 .1 .0;
+        exit = s .1 .1 .1 .1 .1 .1 .1 .1 .1 .1 .0;
+      }
       r)
       (λ w. search Read.reads)
       (λ w. Path'.refl)
@@ -208,39 +220,39 @@ module _ (κs : Lifetimes.Lfts 9) where
       (a : World.ArgsD rebuild_lines.signature κs) →
       (g : Ghost) →
       (r : World.ResD rebuild_lines.signature κs) →
-      (s : Clauses.AtExit (Kinds'.endedOf 9 Kinds.ps Kinds.r) κs) →
+      (s : Clauses.AtExit (Kinds'.endedOf 10 Kinds.ps Kinds.r) κs) →
       Read.Read (Base a) (Owned r s) (ensures a g r s)
   post-read = λ a g r s. ensures-1·read a g r s
 
-abbrev pub Pre : Kinds'.In 9 Kinds.ps
-Pre = Written.Pre 9 Kinds.ps Kinds.r Ghost requires ensures pre-read Pinned Owned post-read tt
+abbrev pub Pre : Kinds'.In 10 Kinds.ps
+Pre = Written.Pre 10 Kinds.ps Kinds.r Ghost requires ensures pre-read Pinned Owned post-read tt
 
-abbrev pub Post : Kinds'.Out 9 Kinds.ps Kinds.r
-Post = Written.Post 9 Kinds.ps Kinds.r Ghost requires ensures pre-read Pinned Owned post-read tt
+abbrev pub Post : Kinds'.Out 10 Kinds.ps Kinds.r
+Post = Written.Post 10 Kinds.ps Kinds.r Ghost requires ensures pre-read Pinned Owned post-read tt
 
-abbrev pub Asked : Kinds'.In 9 Kinds.ps
-Asked = Written.Asked 9 Kinds.ps Kinds.r Ghost requires ensures pre-read Pinned Owned post-read tt
+abbrev pub Asked : Kinds'.In 10 Kinds.ps
+Asked = Written.Asked 10 Kinds.ps Kinds.r Ghost requires ensures pre-read Pinned Owned post-read tt
 
-abbrev pub Learnt : Kinds'.Out 9 Kinds.ps Kinds.r
+abbrev pub Learnt : Kinds'.Out 10 Kinds.ps Kinds.r
 Learnt =
-    Written.Learnt 9 Kinds.ps Kinds.r Ghost requires ensures pre-read Pinned Owned post-read tt
+    Written.Learnt 10 Kinds.ps Kinds.r Ghost requires ensures pre-read Pinned Owned post-read tt
 
 pub passes :
     (w : World.World) →
-    Written.Passes 9 Kinds.ps Kinds.r Ghost requires ensures pre-read Pinned Owned post-read w
+    Written.Passes 10 Kinds.ps Kinds.r Ghost requires ensures pre-read Pinned Owned post-read w
 passes = λ w κs a g r ws ft p q. Monad.top (w .𝓤) (Read.all∗ w (pre-read κs a g .held w))
 
 pub lent :
     (w : World.World) →
-    (κs : Lifetimes.Lfts 9) →
+    (κs : Lifetimes.Lfts 10) →
     (a : World.ArgsD rebuild_lines.signature κs) →
     Logic.ent (w .𝓤) (Logic.emp (w .𝓤)) (Read.all∗ w (pre-read κs a tt .held w))
 lent = λ w κs a. Logic.id⊢ (w .𝓤) (Logic.emp (w .𝓤))
 
-pub known : Picked.KnownAs 9 Kinds.ps Kinds.r Ghost requires ensures Asked Learnt
+pub known : Picked.KnownAs 10 Kinds.ps Kinds.r Ghost requires ensures Asked Learnt
 known =
     λ w γ k ρ same met. Written.cited
-    9
+    10
     Kinds.ps
     Kinds.r
     Ghost

@@ -17,19 +17,19 @@ use mathlib.Core.Path as Path'
 abbrev pub Ghost : Type 0
 Ghost = Unit {0}
 
-module _ (κs : Lifetimes.Lfts 8) where
+module _ (κs : Lifetimes.Lfts 9) where
   abbrev pub Pinned : (a : World.ArgsD rebuild_window.signature κs) → (w : World.World) → Type 1
   Pinned = Learn.no-pin rebuild_window.signature κs
 
   abbrev pub Owned :
       (r : World.ResD rebuild_window.signature κs) →
-      (s : Clauses.AtExit (Kinds'.endedOf 8 Kinds.ps Kinds.r) κs) →
+      (s : Clauses.AtExit (Kinds'.endedOf 9 Kinds.ps Kinds.r) κs) →
       (w : World.World) →
       Type 1
-  Owned = Learn.no-own (Kinds'.endedOf 8 Kinds.ps Kinds.r) κs
+  Owned = Learn.no-own (Kinds'.endedOf 9 Kinds.ps Kinds.r) κs
 
   abbrev pub Base : (a : World.ArgsD rebuild_window.signature κs) → (w : World.World) → World.Pr w
-  Base = Written.Base 8 Kinds.ps Kinds.r (λ κs. Pinned) κs
+  Base = Written.Base 9 Kinds.ps Kinds.r (λ κs. Pinned) κs
 
   abbrev pub pins : (w : World.World) → Learn.PinOf rebuild_window.signature κs w λ a. Pinned a w
   pins = λ w. Learn.no-pins rebuild_window.signature κs w
@@ -37,7 +37,7 @@ module _ (κs : Lifetimes.Lfts 8) where
   abbrev pub owns :
       (w : World.World) →
       Learn.OwnOf
-      (Kinds'.endedOf 8 Kinds.ps Kinds.r)
+      (Kinds'.endedOf 9 Kinds.ps Kinds.r)
       (Kinds'.stays Kinds.ps)
       κs
       w
@@ -45,7 +45,7 @@ module _ (κs : Lifetimes.Lfts 8) where
       r
       s
       w
-  owns = λ w. Learn.no-owns (Kinds'.endedOf 8 Kinds.ps Kinds.r) (Kinds'.stays Kinds.ps) κs w
+  owns = λ w. Learn.no-owns (Kinds'.endedOf 9 Kinds.ps Kinds.r) (Kinds'.stays Kinds.ps) κs w
 
   abbrev pub requires :
       (a : World.ArgsD rebuild_window.signature κs) → (g : Ghost) → (w : World.World) → World.Pr w
@@ -64,7 +64,7 @@ module _ (κs : Lifetimes.Lfts 8) where
       (a : World.ArgsD rebuild_window.signature κs) →
       (g : Ghost) →
       (r : World.ResD rebuild_window.signature κs) →
-      (s : Clauses.AtExit (Kinds'.endedOf 8 Kinds.ps Kinds.r) κs) →
+      (s : Clauses.AtExit (Kinds'.endedOf 9 Kinds.ps Kinds.r) κs) →
       (w : World.World) →
       World.Pr w
   ensures =
@@ -102,6 +102,7 @@ module _ (κs : Lifetimes.Lfts 8) where
       (a .1 .1 .1 .1 .1 .1 .0)
       (a .1 .1 .1 .1 .1 .1 .1 .0)
       (a .1 .1 .1 .1 .1 .1 .1 .1 .0)
+      (a .1 .1 .1 .1 .1 .1 .1 .1 .1 .0)
   requires-1·read =
       λ a g. Read.all-models
       (λ w. rebuild_window.requires-1
@@ -119,7 +120,8 @@ module _ (κs : Lifetimes.Lfts 8) where
       (a .1 .1 .1 .1 .1 .0)
       (a .1 .1 .1 .1 .1 .1 .0)
       (a .1 .1 .1 .1 .1 .1 .1 .0)
-      (a .1 .1 .1 .1 .1 .1 .1 .1 .0))
+      (a .1 .1 .1 .1 .1 .1 .1 .1 .0)
+      (a .1 .1 .1 .1 .1 .1 .1 .1 .1 .0))
       (λ w. search Read.reads)
       (λ w. Path'.refl)
       (λ w. Path'.refl)
@@ -135,7 +137,7 @@ module _ (κs : Lifetimes.Lfts 8) where
       (a : World.ArgsD rebuild_window.signature κs) →
       (g : Ghost) →
       (r : World.ResD rebuild_window.signature κs) →
-      (s : Clauses.AtExit (Kinds'.endedOf 8 Kinds.ps Kinds.r) κs) →
+      (s : Clauses.AtExit (Kinds'.endedOf 9 Kinds.ps Kinds.r) κs) →
       Read.Read
       (Base a)
       (Owned r s)
@@ -155,6 +157,7 @@ module _ (κs : Lifetimes.Lfts 8) where
       (a .1 .1 .1 .1 .1 .1 .0)
       (a .1 .1 .1 .1 .1 .1 .1 .0)
       (a .1 .1 .1 .1 .1 .1 .1 .1 .0)
+      (a .1 .1 .1 .1 .1 .1 .1 .1 .1 .0)
       record { entry = a .0; exit = s .0 }
       record { entry = a .1 .0; exit = s .1 .0 }
       record { entry = a .1 .1 .0; exit = s .1 .1 .0 }
@@ -164,6 +167,7 @@ module _ (κs : Lifetimes.Lfts 8) where
       record { entry = a .1 .1 .1 .1 .1 .1 .0; exit = s .1 .1 .1 .1 .1 .1 .0 }
       record { entry = a .1 .1 .1 .1 .1 .1 .1 .0; exit = s .1 .1 .1 .1 .1 .1 .1 .0 }
       record { entry = a .1 .1 .1 .1 .1 .1 .1 .1 .0; exit = s .1 .1 .1 .1 .1 .1 .1 .1 .0 }
+      record { entry = a .1 .1 .1 .1 .1 .1 .1 .1 .1 .0; exit = s .1 .1 .1 .1 .1 .1 .1 .1 .1 .0 }
       r
   ensures-1·read =
       λ a g r s. Read.all-models
@@ -183,6 +187,7 @@ module _ (κs : Lifetimes.Lfts 8) where
       (a .1 .1 .1 .1 .1 .1 .0)
       (a .1 .1 .1 .1 .1 .1 .1 .0)
       (a .1 .1 .1 .1 .1 .1 .1 .1 .0)
+      (a .1 .1 .1 .1 .1 .1 .1 .1 .1 .0)
       record { entry = a .0; exit = s .0 }
       record { entry = a .1 .0; exit = s .1 .0 }
       record { entry = a .1 .1 .0; exit = s .1 .1 .0 }
@@ -192,6 +197,7 @@ module _ (κs : Lifetimes.Lfts 8) where
       record { entry = a .1 .1 .1 .1 .1 .1 .0; exit = s .1 .1 .1 .1 .1 .1 .0 }
       record { entry = a .1 .1 .1 .1 .1 .1 .1 .0; exit = s .1 .1 .1 .1 .1 .1 .1 .0 }
       record { entry = a .1 .1 .1 .1 .1 .1 .1 .1 .0; exit = s .1 .1 .1 .1 .1 .1 .1 .1 .0 }
+      record { entry = a .1 .1 .1 .1 .1 .1 .1 .1 .1 .0; exit = s .1 .1 .1 .1 .1 .1 .1 .1 .1 .0 }
       r)
       (λ w. search Read.reads)
       (λ w. Path'.refl)
@@ -202,39 +208,39 @@ module _ (κs : Lifetimes.Lfts 8) where
       (a : World.ArgsD rebuild_window.signature κs) →
       (g : Ghost) →
       (r : World.ResD rebuild_window.signature κs) →
-      (s : Clauses.AtExit (Kinds'.endedOf 8 Kinds.ps Kinds.r) κs) →
+      (s : Clauses.AtExit (Kinds'.endedOf 9 Kinds.ps Kinds.r) κs) →
       Read.Read (Base a) (Owned r s) (ensures a g r s)
   post-read = λ a g r s. ensures-1·read a g r s
 
-abbrev pub Pre : Kinds'.In 8 Kinds.ps
-Pre = Written.Pre 8 Kinds.ps Kinds.r Ghost requires ensures pre-read Pinned Owned post-read tt
+abbrev pub Pre : Kinds'.In 9 Kinds.ps
+Pre = Written.Pre 9 Kinds.ps Kinds.r Ghost requires ensures pre-read Pinned Owned post-read tt
 
-abbrev pub Post : Kinds'.Out 8 Kinds.ps Kinds.r
-Post = Written.Post 8 Kinds.ps Kinds.r Ghost requires ensures pre-read Pinned Owned post-read tt
+abbrev pub Post : Kinds'.Out 9 Kinds.ps Kinds.r
+Post = Written.Post 9 Kinds.ps Kinds.r Ghost requires ensures pre-read Pinned Owned post-read tt
 
-abbrev pub Asked : Kinds'.In 8 Kinds.ps
-Asked = Written.Asked 8 Kinds.ps Kinds.r Ghost requires ensures pre-read Pinned Owned post-read tt
+abbrev pub Asked : Kinds'.In 9 Kinds.ps
+Asked = Written.Asked 9 Kinds.ps Kinds.r Ghost requires ensures pre-read Pinned Owned post-read tt
 
-abbrev pub Learnt : Kinds'.Out 8 Kinds.ps Kinds.r
+abbrev pub Learnt : Kinds'.Out 9 Kinds.ps Kinds.r
 Learnt =
-    Written.Learnt 8 Kinds.ps Kinds.r Ghost requires ensures pre-read Pinned Owned post-read tt
+    Written.Learnt 9 Kinds.ps Kinds.r Ghost requires ensures pre-read Pinned Owned post-read tt
 
 pub passes :
     (w : World.World) →
-    Written.Passes 8 Kinds.ps Kinds.r Ghost requires ensures pre-read Pinned Owned post-read w
+    Written.Passes 9 Kinds.ps Kinds.r Ghost requires ensures pre-read Pinned Owned post-read w
 passes = λ w κs a g r ws ft p q. Monad.top (w .𝓤) (Read.all∗ w (pre-read κs a g .held w))
 
 pub lent :
     (w : World.World) →
-    (κs : Lifetimes.Lfts 8) →
+    (κs : Lifetimes.Lfts 9) →
     (a : World.ArgsD rebuild_window.signature κs) →
     Logic.ent (w .𝓤) (Logic.emp (w .𝓤)) (Read.all∗ w (pre-read κs a tt .held w))
 lent = λ w κs a. Logic.id⊢ (w .𝓤) (Logic.emp (w .𝓤))
 
-pub known : Picked.KnownAs 8 Kinds.ps Kinds.r Ghost requires ensures Asked Learnt
+pub known : Picked.KnownAs 9 Kinds.ps Kinds.r Ghost requires ensures Asked Learnt
 known =
     λ w γ k ρ same met. Written.cited
-    8
+    9
     Kinds.ps
     Kinds.r
     Ghost

@@ -9,37 +9,37 @@ use Rattle.calls.proofs.rebuild_lines.Statement.{statement}
 use Rattle.calls.proofs.rebuild_lines.Proof.Tie as tie
 
 abbrev Inv-loop : tie.InvT-loop
-Inv-loop text ends m blocks starts owner₀ stack₀ cur₀ next₀ recs₀ past₀ n₀ o₀ owner stack cur next recs past n o = Viewed text m blocks starts owner₀ stack₀ cur₀ next₀ owner stack cur next recs₀ recs past n o
+Inv-loop text ends m blocks starts notes owner₀ stack₀ cur₀ next₀ recs₀ past₀ n₀ o₀ owner stack cur next recs past n o = Viewed text m blocks starts owner₀ stack₀ cur₀ next₀ owner stack cur next recs₀ recs past n o
 
 abbrev μ-loop : tie.MeasureT-loop
-μ-loop text ends m blocks starts owner₀ stack₀ cur₀ next₀ recs₀ past₀ n₀ o₀ owner stack cur next recs past n o = m - n
+μ-loop text ends m blocks starts notes owner₀ stack₀ cur₀ next₀ recs₀ past₀ n₀ o₀ owner stack cur next recs past n o = m - n
 
 loop-holds : tie.Need-loop-holds Inv-loop μ-loop
-loop-holds c = let p = c .before .before .before .before .before .before .before .before .pre .1 in viewed-start (passes-start (p .0) (p .1 .0) (p .1 .1 .0) (p .1 .1 .1 .0) (p .1 .1 .1 .1 .0)) (p .1 .1 .1 .1 .1) (c .before .before .before .before .before .before .before .before .pre .0)
+loop-holds c = let p = c .before .before .before .before .before .before .before .before .before .pre .1 in viewed-start (passes-start (p .0) (p .1 .0) (p .1 .1 .0) (p .1 .1 .1 .0) (p .1 .1 .1 .1 .0)) (p .1 .1 .1 .1 .1 .0) (c .before .before .before .before .before .before .before .before .before .pre .0)
 
 refill-requires : tie.Need-refill-requires Inv-loop μ-loop
-refill-requires c κs = viewed-asks (c .before .before .loop .inv) (c .before .before .before .before .before .before .before .before .before .before .before .pre .1 .1 .1 .1 .1 .1) (c .before .loop-test .taken) (λ i. omega (arith, c .before .before .before .before .before .before .before .before .before .shared-slice-known2 .given i))
+refill-requires c κs = viewed-asks (c .before .before .loop .inv) (c .before .before .before .before .before .before .before .before .before .before .before .before .pre .1 .1 .1 .1 .1 .1 .0) (c .before .loop-test .taken) (λ i. omega (arith, c .before .before .before .before .before .before .before .before .before .before .shared-slice-known2 .given i))
 
 add-get : tie.Need-add-get Inv-loop μ-loop
-add-get c = omega (arith, c .before .before .before .before .loop-test .taken, c .before .before .before .before .before .before .before .before .before .before .before .before .before .before .fits .m, c .before .before .before .before .before .before .before .before .before .before .before .before .before .before .good)
+add-get c = omega (arith, c .before .before .before .before .loop-test .taken, c .before .before .before .before .before .before .before .before .before .before .before .before .before .before .before .fits .m, c .before .before .before .before .before .before .before .before .before .before .before .before .before .before .before .good)
 
 sub-get : tie.Need-sub-get Inv-loop μ-loop
-sub-get c = viewed-reach (c .before .before .before .before .before .loop .inv) (c .before .before .before .before .before .before .before .before .before .before .before .before .before .before .pre .1 .1 .1 .1 .1 .1) (c .before .before .before .before .loop-test .taken) (c .before .before .refill .ensures .0) (c .before .before .refill .ensures .1) .0
+sub-get c = viewed-reach (c .before .before .before .before .before .loop .inv) (c .before .before .before .before .before .before .before .before .before .before .before .before .before .before .before .pre .1 .1 .1 .1 .1 .1 .0) (c .before .before .before .before .loop-test .taken) (c .before .before .refill .ensures .0) (c .before .before .refill .ensures .1) .0
 
 get-requires : tie.Need-get-requires Inv-loop μ-loop
-get-requires c κs = viewed-reach (c .before .before .before .before .before .loop .inv) (c .before .before .before .before .before .before .before .before .before .before .before .before .before .before .pre .1 .1 .1 .1 .1 .1) (c .before .before .before .before .loop-test .taken) (c .before .before .refill .ensures .0) (c .before .before .refill .ensures .1) .1
+get-requires c κs = viewed-reach (c .before .before .before .before .before .loop .inv) (c .before .before .before .before .before .before .before .before .before .before .before .before .before .before .before .pre .1 .1 .1 .1 .1 .1 .0) (c .before .before .before .before .loop-test .taken) (c .before .before .refill .ensures .0) (c .before .before .refill .ensures .1) .1
 
 turn-line-requires : tie.Need-turn-line-requires Inv-loop μ-loop
-turn-line-requires c κs = viewed-ready (c .before .before .before .before .before .before .before .before .before .before .loop .inv) (c .before .before .before .before .before .before .before .before .before .before .before .before .before .before .before .before .before .before .before .pre .1 .1 .1 .1 .1 .1) (c .before .before .before .before .before .before .before .before .before .loop-test .taken) (c .before .before .before .before .before .before .before .refill .ensures .0) (c .before .before .before .before .before .before .before .refill .ensures .1) (c .before .before .before .before .get .ensures)
+turn-line-requires c κs = (viewed-ready (c .before .before .before .before .before .before .before .before .before .before .loop .inv) (c .before .before .before .before .before .before .before .before .before .before .before .before .before .before .before .before .before .before .before .before .pre .1 .1 .1 .1 .1 .1 .0) (c .before .before .before .before .before .before .before .before .before .loop-test .taken) (c .before .before .before .before .before .before .before .refill .ensures .0) (c .before .before .before .before .before .before .before .refill .ensures .1) (c .before .before .before .before .get .ensures), c .before .before .before .before .before .before .before .before .before .before .before .before .before .before .before .before .before .before .before .before .pre .1 .1 .1 .1 .1 .1 .1)
 
 add-n : tie.Need-add-n Inv-loop μ-loop
-add-n c = omega (arith, c .before .before .before .before .before .before .before .before .before .before .before .before .before .before .before .before .before .before .loop-test .taken, c .before .before .before .before .before .before .before .before .before .before .before .before .before .before .before .before .before .before .before .before .before .before .before .before .before .before .before .before .fits .m)
+add-n c = omega (arith, c .before .before .before .before .before .before .before .before .before .before .before .before .before .before .before .before .before .before .loop-test .taken, c .before .before .before .before .before .before .before .before .before .before .before .before .before .before .before .before .before .before .before .before .before .before .before .before .before .before .before .before .before .fits .m)
 
 loop-less : tie.Need-loop-less Inv-loop μ-loop
 loop-less c = omega (arith, c .before .before .before .before .before .before .before .before .before .before .before .before .before .before .before .before .before .before .loop-test .taken)
 
 loop-again : tie.Need-loop-again Inv-loop μ-loop
-loop-again c = let f = c .before .before .before .before .before .before .before .before .turn-line in viewed-on (c .before .before .before .before .before .before .before .before .before .before .before .before .before .before .before .before .before .before .before .loop .inv) (c .before .before .before .before .before .before .before .before .before .before .before .before .before .before .before .before .before .before .before .before .before .before .before .before .before .before .before .before .pre .1 .1 .1 .1 .1 .1) (c .before .before .before .before .before .before .before .before .before .before .before .before .before .before .before .before .before .before .loop-test .taken) (c .before .before .before .before .before .before .before .before .before .before .before .before .before .before .before .before .refill .ensures .0) (c .before .before .before .before .before .before .before .before .before .before .before .before .before .before .before .before .refill .ensures .1) (c .before .before .before .before .before .before .before .before .before .before .before .before .before .get .ensures) (f .ensures) (f .kept .1 .1 .1 .1 .1 .1 .0) (f .kept .1 .1 .1 .1 .1 .1 .1 .0) (f .kept .1 .1 .1 .1 .1 .1 .1 .1 .1 .0) (f .kept .1 .1 .1 .1 .1 .1 .1 .1 .1 .1 .0)
+loop-again c = let f = c .before .before .before .before .before .before .before .before .turn-line in viewed-on (c .before .before .before .before .before .before .before .before .before .before .before .before .before .before .before .before .before .before .before .loop .inv) (c .before .before .before .before .before .before .before .before .before .before .before .before .before .before .before .before .before .before .before .before .before .before .before .before .before .before .before .before .before .pre .1 .1 .1 .1 .1 .1 .0) (c .before .before .before .before .before .before .before .before .before .before .before .before .before .before .before .before .before .before .loop-test .taken) (c .before .before .before .before .before .before .before .before .before .before .before .before .before .before .before .before .refill .ensures .0) (c .before .before .before .before .before .before .before .before .before .before .before .before .before .before .before .before .refill .ensures .1) (c .before .before .before .before .before .before .before .before .before .before .before .before .before .get .ensures) (f .ensures) (f .kept .1 .1 .1 .1 .1 .1 .1 .0) (f .kept .1 .1 .1 .1 .1 .1 .1 .1 .0) (f .kept .1 .1 .1 .1 .1 .1 .1 .1 .1 .1 .0) (f .kept .1 .1 .1 .1 .1 .1 .1 .1 .1 .1 .1 .0)
 
 same-length : tie.Need-same-length Inv-loop μ-loop
 same-length c = c .before .loop .inv .lined .passes .same-owner

@@ -12,9 +12,16 @@ use mathlib.Core.Path.{_≡_, refl, sym, ap, _∙_}
 use borrow.Author.Tests.{not-true, not-false}
 use Rattle.lines.specs.Lf.{part}
 use Rattle.calls.specs.LeavesOf.{parsedBy}
-use Rattle.calls.proofs.Climbs.{put-out, Climb, climb-start, climb-in, climb-out, row-some, step-some, turn-in, owner-in, blocks-in, text-some, ours-room, drop-end, drop-on, stack-some, other-end, may-end, absorb-room, none-end, new-room, absorb-on}
+use Rattle.calls.proofs.Climbs.{put-out, Climb, climb-start, climb-in, climb-out, row-some, step-some, turn-in, owner-in, blocks-in, text-some, ours-room, drop-end, drop-on, stack-some, other-end, may-end, absorb-room, noted-here, none-end, new-room, absorb-on}
 use Rattle.calls.proofs.walk_up.Statement.{statement}
 use Rattle.calls.proofs.walk_up.Tie as tie
+
+abbrev Inv-loop : tie.InvT-loop
+Inv-loop text i below n blocks starts notes owner₀ stack o top size cur₀ next₀ k₀ p₀ h₀ c₀ over₀ steps₀ owner cur next k p h c over steps =
+    Climb text n i below blocks starts owner₀ stack (o + size) cur₀ next₀ owner cur next k p h c over steps
+
+abbrev μ-loop : tie.MeasureT-loop
+μ-loop text i below n blocks starts notes owner₀ stack o top size cur₀ next₀ k₀ p₀ h₀ c₀ over₀ steps₀ owner cur next k p h c over steps = 64 - steps
 
 -- what was read is no store, by its kind
 no-store : (w : List ℕ) (p : Line) → (tagOf Rattle.parse.proofs.Line.the-type p ≡ 0) ⊎ (tagOf Rattle.parse.proofs.Line.the-type p ≡ 2) → parsedBy w p ≡ other
@@ -22,15 +29,8 @@ no-store w line.Decl e = refl
 no-store w (line.Store s) e = ⊎-elim (λ q. absurd (omega (arith, q))) (λ q. absurd (omega (arith, q))) e
 no-store w line.Other e = refl
 
-abbrev Inv-loop : tie.InvT-loop
-Inv-loop text i below n blocks starts owner₀ stack o top size cur₀ next₀ k₀ p₀ h₀ c₀ over₀ steps₀ owner cur next k p h c over steps =
-    Climb text n i below blocks starts owner₀ stack (o + size) cur₀ next₀ owner cur next k p h c over steps
-
-abbrev μ-loop : tie.MeasureT-loop
-μ-loop text i below n blocks starts owner₀ stack o top size cur₀ next₀ k₀ p₀ h₀ c₀ over₀ steps₀ owner cur next k p h c over steps = 64 - steps
-
 loop-holds : tie.Need-loop-holds Inv-loop μ-loop
-loop-holds c = climb-start (c .before .before .before .before .before .before .before .pre .0) (c .before .before .before .before .before .before .before .pre .1 .0) (c .before .before .before .before .before .before .before .pre .1 .1 .0) (c .before .before .before .before .before .before .before .pre .1 .1 .1 .0) (c .before .before .before .before .before .before .before .pre .1 .1 .1 .1 .0) (c .before .before .before .before .before .before .before .pre .1 .1 .1 .1 .1)
+loop-holds c = climb-start (c .before .before .before .before .before .before .before .before .pre .0) (c .before .before .before .before .before .before .before .before .pre .1 .0) (c .before .before .before .before .before .before .before .before .pre .1 .1 .0) (c .before .before .before .before .before .before .before .before .pre .1 .1 .1 .0) (c .before .before .before .before .before .before .before .before .pre .1 .1 .1 .1 .0) (c .before .before .before .before .before .before .before .before .pre .1 .1 .1 .1 .1 .0)
 
 add-steps : tie.Need-add-steps Inv-loop μ-loop
 add-steps c = omega (arith, step-some (climb-in (c .before .loop .inv) (c .loop-test .taken)))
@@ -45,7 +45,7 @@ sub-if1 : tie.Need-sub-if1 Inv-loop μ-loop
 sub-if1 c = row-some (climb-in (c .before .before .loop .inv) (c .before .loop-test .taken))
 
 mul-if1 : tie.Need-mul-if1 Inv-loop μ-loop
-mul-if1 c = omega (arith, owner-in (climb-in (c .before .before .loop .inv) (c .before .loop-test .taken)), c .before .before .loop .inv .same-owner, c .before .before .loop .inv .ground .n-owner, c .before .before .before .before .before .before .before .before .before .before .good)
+mul-if1 c = omega (arith, owner-in (climb-in (c .before .before .loop .inv) (c .before .loop-test .taken)), c .before .before .loop .inv .same-owner, c .before .before .loop .inv .ground .n-owner, c .before .before .before .before .before .before .before .before .before .before .before .good)
 
 slice-read-if1 : tie.Need-slice-read-if1 Inv-loop μ-loop
 slice-read-if1 c = owner-in (climb-in (c .before .before .before .loop .inv) (c .before .before .loop-test .taken))
@@ -107,23 +107,32 @@ cut-requires-3 c κs = tt
 cut-requires-4 : tie.Need-cut-requires-4 Inv-loop μ-loop
 cut-requires-4 c κs = tt
 
+sub-cut-3 : tie.Need-sub-cut-3 Inv-loop μ-loop
+sub-cut-3 c = text-some (climb-in (c .before .before .before .before .before .before .before .before .before .before .before .before .before .before .before .before .loop .inv) (c .before .before .before .before .before .before .before .before .before .before .before .before .before .before .before .loop-test .taken))
+
 cut-requires-5 : tie.Need-cut-requires-5 Inv-loop μ-loop
 cut-requires-5 c κs = tt
 
-mul-absorb : tie.Need-mul-absorb Inv-loop μ-loop
-mul-absorb c = omega (arith, turn-in (climb-in (c .before .before .before .before .before .before .before .before .before .before .before .before .before .before .before .before .before .loop .inv) (c .before .before .before .before .before .before .before .before .before .before .before .before .before .before .before .before .loop-test .taken)), c .before .before .before .before .before .before .before .before .before .before .before .before .before .before .before .before .before .loop .inv .same-owner, c .before .before .before .before .before .before .before .before .before .before .before .before .before .before .before .before .before .loop .inv .ground .n-owner, c .before .before .before .before .before .before .before .before .before .before .before .before .before .before .before .before .before .before .before .before .before .before .before .before .before .good)
+cut-requires-6 : tie.Need-cut-requires-6 Inv-loop μ-loop
+cut-requires-6 c κs = tt
 
 sub-absorb : tie.Need-sub-absorb Inv-loop μ-loop
-sub-absorb c = turn-in (climb-in (c .before .before .before .before .before .before .before .before .before .before .before .before .before .before .before .before .before .loop .inv) (c .before .before .before .before .before .before .before .before .before .before .before .before .before .before .before .before .loop-test .taken))
+sub-absorb c = row-some (climb-in (c .before .before .before .before .before .before .before .before .before .before .before .before .before .before .before .before .before .before .loop .inv) (c .before .before .before .before .before .before .before .before .before .before .before .before .before .before .before .before .before .loop-test .taken))
+
+mul-absorb : tie.Need-mul-absorb Inv-loop μ-loop
+mul-absorb c = omega (arith, turn-in (climb-in (c .before .before .before .before .before .before .before .before .before .before .before .before .before .before .before .before .before .before .loop .inv) (c .before .before .before .before .before .before .before .before .before .before .before .before .before .before .before .before .before .loop-test .taken)), c .before .before .before .before .before .before .before .before .before .before .before .before .before .before .before .before .before .before .loop .inv .same-owner, c .before .before .before .before .before .before .before .before .before .before .before .before .before .before .before .before .before .before .loop .inv .ground .n-owner, c .before .before .before .before .before .before .before .before .before .before .before .before .before .before .before .before .before .before .before .before .before .before .before .before .before .before .before .good)
+
+sub-absorb-2 : tie.Need-sub-absorb-2 Inv-loop μ-loop
+sub-absorb-2 c = turn-in (climb-in (c .before .before .before .before .before .before .before .before .before .before .before .before .before .before .before .before .before .before .loop .inv) (c .before .before .before .before .before .before .before .before .before .before .before .before .before .before .before .before .before .loop-test .taken))
 
 part-absorb-start : tie.Need-part-absorb-start Inv-loop μ-loop
-part-absorb-start c = turn-in (climb-in (c .before .before .before .before .before .before .before .before .before .before .before .before .before .before .before .before .before .before .loop .inv) (c .before .before .before .before .before .before .before .before .before .before .before .before .before .before .before .before .before .loop-test .taken))
+part-absorb-start c = turn-in (climb-in (c .before .before .before .before .before .before .before .before .before .before .before .before .before .before .before .before .before .before .before .loop .inv) (c .before .before .before .before .before .before .before .before .before .before .before .before .before .before .before .before .before .before .loop-test .taken))
 
 part-absorb-end : tie.Need-part-absorb-end Inv-loop μ-loop
-part-absorb-end c = omega (arith, c .before .before .before .before .before .before .before .before .before .before .before .before .before .before .before .before .before .before .loop .inv .same-owner, c .before .before .before .before .before .before .before .before .before .before .before .before .before .before .before .before .before .before .loop .inv .ground .n-owner)
+part-absorb-end c = omega (arith, c .before .before .before .before .before .before .before .before .before .before .before .before .before .before .before .before .before .before .before .loop .inv .same-owner, c .before .before .before .before .before .before .before .before .before .before .before .before .before .before .before .before .before .before .before .loop .inv .ground .n-owner)
 
 absorb-requires : tie.Need-absorb-requires Inv-loop μ-loop
-absorb-requires c κs = absorb-room (climb-in (c .before .before .before .before .before .before .before .before .before .before .before .before .before .before .before .before .before .before .before .before .loop .inv) (c .before .before .before .before .before .before .before .before .before .before .before .before .before .before .before .before .before .before .before .loop-test .taken)) (c .before .before .before .before .before .before .before .before .before .before .before .before .before .before .before .before .if1 .left) _ (c .before .before .before .before .before .before .before .before .before .before .before .before .before .before .before .line-start2 .ensures) _ (c .before .before .before .before .before .before .before .before .before .before .before .before .before .before .cut2 .ensures) (c .before .before .before .before .before .before .before .before .before .before .before .read .given .0 .0) (sym (c .before .before .before .before .before .before .before .before .before .before .before .before .before .parse .ensures) ∙ c .before .before .before .before .before .before .before .before .before .before .before .read .given .1) _ (c .before .before .before .before .before .before .before .value-of .ensures) _ (c .before .before .before .before .before .before .before .before .before .may-go .ensures) (not-false _ (c .before .before .before .before .before .before .before .before .if3 .left)) _ _ _ (c .before .before .before .before .before .cut3 .ensures) (c .before .before .before .before .cut4 .ensures) (c .before .before .before .cut5 .ensures)
+absorb-requires c κs = (absorb-room (climb-in (c .before .before .before .before .before .before .before .before .before .before .before .before .before .before .before .before .before .before .before .before .before .loop .inv) (c .before .before .before .before .before .before .before .before .before .before .before .before .before .before .before .before .before .before .before .before .loop-test .taken)) (c .before .before .before .before .before .before .before .before .before .before .before .before .before .before .before .before .before .if1 .left) _ (c .before .before .before .before .before .before .before .before .before .before .before .before .before .before .before .before .line-start2 .ensures) _ (c .before .before .before .before .before .before .before .before .before .before .before .before .before .before .before .cut2 .ensures) (c .before .before .before .before .before .before .before .before .before .before .before .before .read .given .0 .0) (sym (c .before .before .before .before .before .before .before .before .before .before .before .before .before .before .parse .ensures) ∙ c .before .before .before .before .before .before .before .before .before .before .before .before .read .given .1) _ (c .before .before .before .before .before .before .before .before .value-of .ensures) _ (c .before .before .before .before .before .before .before .before .before .before .may-go .ensures) (not-false _ (c .before .before .before .before .before .before .before .before .before .if3 .left)) _ _ _ (c .before .before .before .before .before .before .cut3 .ensures) (c .before .before .before .before .before .cut4 .ensures) (c .before .before .before .cut6 .ensures), noted-here (climb-in (c .before .before .before .before .before .before .before .before .before .before .before .before .before .before .before .before .before .before .before .before .before .loop .inv) (c .before .before .before .before .before .before .before .before .before .before .before .before .before .before .before .before .before .before .before .before .loop-test .taken)) (c .before .before .before .before .before .before .before .before .before .before .before .before .before .before .before .before .before .before .before .before .before .before .before .before .before .before .before .before .before .before .args .notes .now) (c .before .before .before .before .before .before .before .before .before .before .before .before .read .given .0 .0 .reg .0) (c .before .before .before .before .before .before .before .before .before .before .before .before .before .before .before .before .before .before .before .before .before .before .before .before .before .before .before .before .before .before .pre .1 .1 .1 .1 .1 .1) (c .before .before .before .before .before .before .before .before .before .before .before .before .before .before .before .before .before .before .before .before .before .before .before .before .before .before .before .before .before .before .pre .1 .0 .below) _ (c .before .before .before .before .before .before .before .before .before .before .before .before .before .before .before .before .before .before .before .line-start .ensures) (c .before .before .before .before .cut5 .ensures) (c .before .before .before .before .before .cut4 .ensures))
 
 enum-known-made : tie.Need-enum-known-made Inv-loop μ-loop
 enum-known-made c = search needs
@@ -131,32 +140,26 @@ enum-known-made c = search needs
 enum-told : tie.Need-enum-told Inv-loop μ-loop
 enum-told c = search needs
 
-cut-requires-6 : tie.Need-cut-requires-6 Inv-loop μ-loop
-cut-requires-6 c κs = tt
-
-put-requires : tie.Need-put-requires Inv-loop μ-loop
-put-requires c κs = new-room (climb-in (c .before .before .before .before .before .before .before .before .before .before .before .before .before .before .before .before .before .before .before .before .before .before .before .before .before .before .before .before .before .loop .inv) (c .before .before .before .before .before .before .before .before .before .before .before .before .before .before .before .before .before .before .before .before .before .before .before .before .before .before .before .before .loop-test .taken)) (c .before .before .before .before .before .before .before .before .before .before .before .before .before .before .before .before .before .before .before .before .before .before .before .before .before .if1 .left) _ (c .before .before .before .before .before .before .before .before .before .before .before .before .before .before .before .before .before .before .before .before .before .before .before .before .line-start2 .ensures) _ (c .before .before .before .before .before .before .before .before .before .before .before .before .before .before .before .before .before .before .before .before .before .before .before .cut2 .ensures) (c .before .before .before .before .before .before .before .before .before .before .before .before .before .before .before .before .before .before .before .before .read .given .0 .0) (sym (c .before .before .before .before .before .before .before .before .before .before .before .before .before .before .before .before .before .before .before .before .before .before .parse .ensures) ∙ c .before .before .before .before .before .before .before .before .before .before .before .before .before .before .before .before .before .before .before .before .read .given .1) _ (c .before .before .before .before .before .before .before .before .before .before .before .before .before .before .before .before .value-of .ensures) _ (c .before .before .before .before .before .before .before .before .before .before .before .before .before .before .before .before .before .before .may-go .ensures) (not-false _ (c .before .before .before .before .before .before .before .before .before .before .before .before .before .before .before .before .before .if3 .left)) _ _ _ (c .before .before .before .before .before .before .before .before .before .before .before .before .before .before .cut3 .ensures) (c .before .before .before .before .before .before .before .before .before .before .before .before .before .cut4 .ensures) (c .before .before .before .before .before .before .before .before .before .before .before .before .cut5 .ensures) (c .before .before .before .before .before .before .before .before .absorb .ensures) (c .before .before .before .before .made .given .1) _ (c .cut6 .ensures)
-
-sub-owner : tie.Need-sub-owner Inv-loop μ-loop
-sub-owner c = turn-in (climb-in (c .before .before .before .before .before .before .before .before .before .before .before .before .before .before .before .before .before .before .before .before .before .before .before .before .before .before .before .before .before .before .before .before .loop .inv) (c .before .before .before .before .before .before .before .before .before .before .before .before .before .before .before .before .before .before .before .before .before .before .before .before .before .before .before .before .before .before .before .loop-test .taken))
-
-add-owner : tie.Need-add-owner Inv-loop μ-loop
-add-owner c = omega (arith, turn-in (climb-in (c .before .before .before .before .before .before .before .before .before .before .before .before .before .before .before .before .before .before .before .before .before .before .before .before .before .before .before .before .before .before .before .before .loop .inv) (c .before .before .before .before .before .before .before .before .before .before .before .before .before .before .before .before .before .before .before .before .before .before .before .before .before .before .before .before .before .before .before .loop-test .taken)), c .before .before .before .before .before .before .before .before .before .before .before .before .before .before .before .before .before .before .before .before .before .before .before .before .before .before .before .before .before .before .before .before .loop .inv .same-owner, c .before .before .before .before .before .before .before .before .before .before .before .before .before .before .before .before .before .before .before .before .before .before .before .before .before .before .before .before .before .before .before .before .loop .inv .ground .n-owner, c .before .before .before .before .before .before .before .before .before .before .before .before .before .before .before .before .before .before .before .before .before .before .before .before .before .before .before .before .before .before .before .before .before .before .before .before .before .before .before .before .good)
-
-sub-owner-2 : tie.Need-sub-owner-2 Inv-loop μ-loop
-sub-owner-2 c = row-some (climb-in (c .before .before .before .before .before .before .before .before .before .before .before .before .before .before .before .before .before .before .before .before .before .before .before .before .before .before .before .before .before .before .before .before .loop .inv) (c .before .before .before .before .before .before .before .before .before .before .before .before .before .before .before .before .before .before .before .before .before .before .before .before .before .before .before .before .before .before .before .loop-test .taken))
-
-mul-owner : tie.Need-mul-owner Inv-loop μ-loop
-mul-owner c = omega (arith, owner-in (climb-in (c .before .before .before .before .before .before .before .before .before .before .before .before .before .before .before .before .before .before .before .before .before .before .before .before .before .before .before .before .before .before .before .before .loop .inv) (c .before .before .before .before .before .before .before .before .before .before .before .before .before .before .before .before .before .before .before .before .before .before .before .before .before .before .before .before .before .before .before .loop-test .taken)), c .before .before .before .before .before .before .before .before .before .before .before .before .before .before .before .before .before .before .before .before .before .before .before .before .before .before .before .before .before .before .before .before .loop .inv .same-owner, c .before .before .before .before .before .before .before .before .before .before .before .before .before .before .before .before .before .before .before .before .before .before .before .before .before .before .before .before .before .before .before .before .loop .inv .ground .n-owner, c .before .before .before .before .before .before .before .before .before .before .before .before .before .before .before .before .before .before .before .before .before .before .before .before .before .before .before .before .before .before .before .before .before .before .before .before .before .before .before .before .good)
-
-slice-write-owner : tie.Need-slice-write-owner Inv-loop μ-loop
-slice-write-owner c = owner-in (climb-in (c .before .before .before .before .before .before .before .before .before .before .before .before .before .before .before .before .before .before .before .before .before .before .before .before .before .before .before .before .before .before .before .before .loop .inv) (c .before .before .before .before .before .before .before .before .before .before .before .before .before .before .before .before .before .before .before .before .before .before .before .before .before .before .before .before .before .before .before .loop-test .taken))
-
-sub-cut-3 : tie.Need-sub-cut-3 Inv-loop μ-loop
-sub-cut-3 c = text-some (climb-in (c .before .before .before .before .before .before .before .before .before .before .before .before .before .before .before .before .before .before .before .before .before .before .before .before .before .before .before .before .before .before .before .before .loop .inv) (c .before .before .before .before .before .before .before .before .before .before .before .before .before .before .before .before .before .before .before .before .before .before .before .before .before .before .before .before .before .before .before .loop-test .taken))
-
 cut-requires-7 : tie.Need-cut-requires-7 Inv-loop μ-loop
 cut-requires-7 c κs = tt
+
+put-requires : tie.Need-put-requires Inv-loop μ-loop
+put-requires c κs = new-room (climb-in (c .before .before .before .before .before .before .before .before .before .before .before .before .before .before .before .before .before .before .before .before .before .before .before .before .before .before .before .before .before .before .loop .inv) (c .before .before .before .before .before .before .before .before .before .before .before .before .before .before .before .before .before .before .before .before .before .before .before .before .before .before .before .before .before .loop-test .taken)) (c .before .before .before .before .before .before .before .before .before .before .before .before .before .before .before .before .before .before .before .before .before .before .before .before .before .before .if1 .left) _ (c .before .before .before .before .before .before .before .before .before .before .before .before .before .before .before .before .before .before .before .before .before .before .before .before .before .line-start2 .ensures) _ (c .before .before .before .before .before .before .before .before .before .before .before .before .before .before .before .before .before .before .before .before .before .before .before .before .cut2 .ensures) (c .before .before .before .before .before .before .before .before .before .before .before .before .before .before .before .before .before .before .before .before .before .read .given .0 .0) (sym (c .before .before .before .before .before .before .before .before .before .before .before .before .before .before .before .before .before .before .before .before .before .before .before .parse .ensures) ∙ c .before .before .before .before .before .before .before .before .before .before .before .before .before .before .before .before .before .before .before .before .before .read .given .1) _ (c .before .before .before .before .before .before .before .before .before .before .before .before .before .before .before .before .before .value-of .ensures) _ (c .before .before .before .before .before .before .before .before .before .before .before .before .before .before .before .before .before .before .before .may-go .ensures) (not-false _ (c .before .before .before .before .before .before .before .before .before .before .before .before .before .before .before .before .before .before .if3 .left)) _ _ _ (c .before .before .before .before .before .before .before .before .before .before .before .before .before .before .before .cut3 .ensures) (c .before .before .before .before .before .before .before .before .before .before .before .before .before .before .cut4 .ensures) (c .before .before .before .before .before .before .before .before .before .before .before .before .cut6 .ensures) (c .before .before .before .before .before .before .before .before .absorb .ensures) (c .before .before .before .before .made .given .1) _ (c .cut7 .ensures)
+
+sub-owner : tie.Need-sub-owner Inv-loop μ-loop
+sub-owner c = turn-in (climb-in (c .before .before .before .before .before .before .before .before .before .before .before .before .before .before .before .before .before .before .before .before .before .before .before .before .before .before .before .before .before .before .before .before .before .loop .inv) (c .before .before .before .before .before .before .before .before .before .before .before .before .before .before .before .before .before .before .before .before .before .before .before .before .before .before .before .before .before .before .before .before .loop-test .taken))
+
+add-owner : tie.Need-add-owner Inv-loop μ-loop
+add-owner c = omega (arith, turn-in (climb-in (c .before .before .before .before .before .before .before .before .before .before .before .before .before .before .before .before .before .before .before .before .before .before .before .before .before .before .before .before .before .before .before .before .before .loop .inv) (c .before .before .before .before .before .before .before .before .before .before .before .before .before .before .before .before .before .before .before .before .before .before .before .before .before .before .before .before .before .before .before .before .loop-test .taken)), c .before .before .before .before .before .before .before .before .before .before .before .before .before .before .before .before .before .before .before .before .before .before .before .before .before .before .before .before .before .before .before .before .before .loop .inv .same-owner, c .before .before .before .before .before .before .before .before .before .before .before .before .before .before .before .before .before .before .before .before .before .before .before .before .before .before .before .before .before .before .before .before .before .loop .inv .ground .n-owner, c .before .before .before .before .before .before .before .before .before .before .before .before .before .before .before .before .before .before .before .before .before .before .before .before .before .before .before .before .before .before .before .before .before .before .before .before .before .before .before .before .before .before .good)
+
+sub-owner-2 : tie.Need-sub-owner-2 Inv-loop μ-loop
+sub-owner-2 c = row-some (climb-in (c .before .before .before .before .before .before .before .before .before .before .before .before .before .before .before .before .before .before .before .before .before .before .before .before .before .before .before .before .before .before .before .before .before .loop .inv) (c .before .before .before .before .before .before .before .before .before .before .before .before .before .before .before .before .before .before .before .before .before .before .before .before .before .before .before .before .before .before .before .before .loop-test .taken))
+
+mul-owner : tie.Need-mul-owner Inv-loop μ-loop
+mul-owner c = omega (arith, owner-in (climb-in (c .before .before .before .before .before .before .before .before .before .before .before .before .before .before .before .before .before .before .before .before .before .before .before .before .before .before .before .before .before .before .before .before .before .loop .inv) (c .before .before .before .before .before .before .before .before .before .before .before .before .before .before .before .before .before .before .before .before .before .before .before .before .before .before .before .before .before .before .before .before .loop-test .taken)), c .before .before .before .before .before .before .before .before .before .before .before .before .before .before .before .before .before .before .before .before .before .before .before .before .before .before .before .before .before .before .before .before .before .loop .inv .same-owner, c .before .before .before .before .before .before .before .before .before .before .before .before .before .before .before .before .before .before .before .before .before .before .before .before .before .before .before .before .before .before .before .before .before .loop .inv .ground .n-owner, c .before .before .before .before .before .before .before .before .before .before .before .before .before .before .before .before .before .before .before .before .before .before .before .before .before .before .before .before .before .before .before .before .before .before .before .before .before .before .before .before .before .before .good)
+
+slice-write-owner : tie.Need-slice-write-owner Inv-loop μ-loop
+slice-write-owner c = owner-in (climb-in (c .before .before .before .before .before .before .before .before .before .before .before .before .before .before .before .before .before .before .before .before .before .before .before .before .before .before .before .before .before .before .before .before .before .loop .inv) (c .before .before .before .before .before .before .before .before .before .before .before .before .before .before .before .before .before .before .before .before .before .before .before .before .before .before .before .before .before .before .before .before .loop-test .taken))
 
 is-header-requires-2 : tie.Need-is-header-requires-2 Inv-loop μ-loop
 is-header-requires-2 c κs = tt
@@ -168,7 +171,7 @@ loop-less-2 : tie.Need-loop-less-2 Inv-loop μ-loop
 loop-less-2 c = omega (arith, step-some (climb-in (c .before .before .before .before .before .before .before .before .before .before .before .before .before .before .before .before .before .before .before .before .before .before .before .before .before .before .before .before .before .before .before .before .before .before .loop .inv) (c .before .before .before .before .before .before .before .before .before .before .before .before .before .before .before .before .before .before .before .before .before .before .before .before .before .before .before .before .before .before .before .before .before .loop-test .taken)))
 
 loop-again-2 : tie.Need-loop-again-2 Inv-loop μ-loop
-loop-again-2 c = absorb-on (climb-in (c .before .before .before .before .before .before .before .before .before .before .before .before .before .before .before .before .before .before .before .before .before .before .before .before .before .before .before .before .before .before .before .before .before .before .loop .inv) (c .before .before .before .before .before .before .before .before .before .before .before .before .before .before .before .before .before .before .before .before .before .before .before .before .before .before .before .before .before .before .before .before .before .loop-test .taken)) (c .before .before .before .before .before .before .before .before .before .before .before .before .before .before .before .before .before .before .before .before .before .before .before .before .before .before .before .before .before .before .if1 .left) _ (c .before .before .before .before .before .before .before .before .before .before .before .before .before .before .before .before .before .before .before .before .before .before .before .before .before .before .before .before .before .line-start2 .ensures) _ (c .before .before .before .before .before .before .before .before .before .before .before .before .before .before .before .before .before .before .before .before .before .before .before .before .before .before .before .before .cut2 .ensures) (c .before .before .before .before .before .before .before .before .before .before .before .before .before .before .before .before .before .before .before .before .before .before .before .before .before .read .given .0 .0) (sym (c .before .before .before .before .before .before .before .before .before .before .before .before .before .before .before .before .before .before .before .before .before .before .before .before .before .before .before .parse .ensures) ∙ c .before .before .before .before .before .before .before .before .before .before .before .before .before .before .before .before .before .before .before .before .before .before .before .before .before .read .given .1) _ (c .before .before .before .before .before .before .before .before .before .before .before .before .before .before .before .before .before .before .before .before .before .value-of .ensures) _ (c .before .before .before .before .before .before .before .before .before .before .before .before .before .before .before .before .before .before .before .before .before .before .before .may-go .ensures) (not-false _ (c .before .before .before .before .before .before .before .before .before .before .before .before .before .before .before .before .before .before .before .before .before .before .if3 .left)) _ _ _ (c .before .before .before .before .before .before .before .before .before .before .before .before .before .before .before .before .before .before .before .cut3 .ensures) (c .before .before .before .before .before .before .before .before .before .before .before .before .before .before .before .before .before .before .cut4 .ensures) (c .before .before .before .before .before .before .before .before .before .before .before .before .before .before .before .before .before .cut5 .ensures) (c .before .before .before .before .before .before .before .before .before .before .before .before .before .absorb .ensures) (c .before .before .before .before .before .before .before .before .before .made .given .1) _ (c .before .before .before .before .before .cut6 .ensures) (c .before .before .before .before .put .ensures) _ (c .before .before .before .before .before .before .before .before .before .before .before .before .before .before .before .before .before .before .before .before .before .before .before .before .before .before .before .before .before .before .before .before .line-start .ensures) _ (c .before .cut7 .ensures) _ (c .is-header2 .ensures)
+loop-again-2 c = absorb-on (climb-in (c .before .before .before .before .before .before .before .before .before .before .before .before .before .before .before .before .before .before .before .before .before .before .before .before .before .before .before .before .before .before .before .before .before .before .loop .inv) (c .before .before .before .before .before .before .before .before .before .before .before .before .before .before .before .before .before .before .before .before .before .before .before .before .before .before .before .before .before .before .before .before .before .loop-test .taken)) (c .before .before .before .before .before .before .before .before .before .before .before .before .before .before .before .before .before .before .before .before .before .before .before .before .before .before .before .before .before .before .if1 .left) _ (c .before .before .before .before .before .before .before .before .before .before .before .before .before .before .before .before .before .before .before .before .before .before .before .before .before .before .before .before .before .line-start2 .ensures) _ (c .before .before .before .before .before .before .before .before .before .before .before .before .before .before .before .before .before .before .before .before .before .before .before .before .before .before .before .before .cut2 .ensures) (c .before .before .before .before .before .before .before .before .before .before .before .before .before .before .before .before .before .before .before .before .before .before .before .before .before .read .given .0 .0) (sym (c .before .before .before .before .before .before .before .before .before .before .before .before .before .before .before .before .before .before .before .before .before .before .before .before .before .before .before .parse .ensures) ∙ c .before .before .before .before .before .before .before .before .before .before .before .before .before .before .before .before .before .before .before .before .before .before .before .before .before .read .given .1) _ (c .before .before .before .before .before .before .before .before .before .before .before .before .before .before .before .before .before .before .before .before .before .value-of .ensures) _ (c .before .before .before .before .before .before .before .before .before .before .before .before .before .before .before .before .before .before .before .before .before .before .before .may-go .ensures) (not-false _ (c .before .before .before .before .before .before .before .before .before .before .before .before .before .before .before .before .before .before .before .before .before .before .if3 .left)) _ _ _ (c .before .before .before .before .before .before .before .before .before .before .before .before .before .before .before .before .before .before .before .cut3 .ensures) (c .before .before .before .before .before .before .before .before .before .before .before .before .before .before .before .before .before .before .cut4 .ensures) (c .before .before .before .before .before .before .before .before .before .before .before .before .before .before .before .before .cut6 .ensures) (c .before .before .before .before .before .before .before .before .before .before .before .before .absorb .ensures) (c .before .before .before .before .before .before .before .before .made .given .1) _ (c .before .before .before .before .cut7 .ensures) (c .before .before .before .put .ensures) _ (c .before .before .before .before .before .before .before .before .before .before .before .before .before .before .before .before .before .before .before .before .before .before .before .before .before .before .before .before .before .before .before .before .line-start .ensures) _ (c .before .before .before .before .before .before .before .before .before .before .before .before .before .before .before .before .before .cut5 .ensures) _ (c .is-header2 .ensures)
 
 same-length : tie.Need-same-length Inv-loop μ-loop
 same-length c = c .before .loop .inv .same-owner
@@ -219,16 +222,16 @@ returns-4 : tie.Need-returns-4 Inv-loop μ-loop
 returns-4 c = may-end (climb-in (c .before .before .before .before .before .before .before .before .before .before .before .before .loop .inv) (c .before .before .before .before .before .before .before .before .before .before .before .loop-test .taken)) (c .before .before .before .before .before .before .before .before .if1 .left) _ (c .before .before .before .before .before .before .before .line-start2 .ensures) _ (c .before .before .before .before .before .before .cut2 .ensures) (c .before .before .before .read .given .0 .0) (sym (c .before .before .before .before .before .parse .ensures) ∙ c .before .before .before .read .given .1) (part (c .before .before .before .read .given .0 .0 .from) (c .before .before .before .read .given .0 .0 .to) (c .before .before .before .before .before .before .cut2 .result .now)) refl _ (c .before .may-go .ensures) (not-true _ (c .if3 .taken))
 
 same-length-13 : tie.Need-same-length-13 Inv-loop μ-loop
-same-length-13 c = c .before .before .before .before .before .before .before .before .before .before .before .before .before .before .before .before .before .before .before .before .before .before .before .before .before .loop .inv .same-owner
+same-length-13 c = c .before .before .before .before .before .before .before .before .before .before .before .before .before .before .before .before .before .before .before .before .before .before .before .before .before .before .loop .inv .same-owner
 
 same-length-14 : tie.Need-same-length-14 Inv-loop μ-loop
-same-length-14 c = c .before .before .before .before .before .before .before .before .before .before .before .before .before .before .before .before .before .before .before .before .before .before .before .before .before .loop .inv .same-cur
+same-length-14 c = c .before .before .before .before .before .before .before .before .before .before .before .before .before .before .before .before .before .before .before .before .before .before .before .before .before .before .loop .inv .same-cur
 
 same-length-15 : tie.Need-same-length-15 Inv-loop μ-loop
-same-length-15 c = put-out (c .before .before .before .before .absorb .ensures) ∙ c .before .before .before .before .before .before .before .before .before .before .before .before .before .before .before .before .before .before .before .before .before .before .before .before .before .loop .inv .same-next
+same-length-15 c = put-out (c .before .before .before .before .absorb .ensures) ∙ c .before .before .before .before .before .before .before .before .before .before .before .before .before .before .before .before .before .before .before .before .before .before .before .before .before .before .loop .inv .same-next
 
 returns-5 : tie.Need-returns-5 Inv-loop μ-loop
-returns-5 c = none-end (climb-in (c .before .before .before .before .before .before .before .before .before .before .before .before .before .before .before .before .before .before .before .before .before .before .before .before .before .loop .inv) (c .before .before .before .before .before .before .before .before .before .before .before .before .before .before .before .before .before .before .before .before .before .before .before .before .loop-test .taken)) (c .before .before .before .before .before .before .before .before .before .before .before .before .before .before .before .before .before .before .before .before .before .if1 .left) _ (c .before .before .before .before .before .before .before .before .before .before .before .before .before .before .before .before .before .before .before .before .line-start2 .ensures) _ (c .before .before .before .before .before .before .before .before .before .before .before .before .before .before .before .before .before .before .before .cut2 .ensures) (c .before .before .before .before .before .before .before .before .before .before .before .before .before .before .before .before .read .given .0 .0) (sym (c .before .before .before .before .before .before .before .before .before .before .before .before .before .before .before .before .before .before .parse .ensures) ∙ c .before .before .before .before .before .before .before .before .before .before .before .before .before .before .before .before .read .given .1) _ (c .before .before .before .before .before .before .before .before .before .before .before .before .value-of .ensures) _ (c .before .before .before .before .before .before .before .before .before .before .before .before .before .before .may-go .ensures) (not-false _ (c .before .before .before .before .before .before .before .before .before .before .before .before .before .if3 .left)) _ _ _ (c .before .before .before .before .before .before .before .before .before .before .cut3 .ensures) (c .before .before .before .before .before .before .before .before .before .cut4 .ensures) (c .before .before .before .before .before .before .before .before .cut5 .ensures) (c .before .before .before .before .absorb .ensures) (c .enum-told .given .1)
+returns-5 c = none-end (climb-in (c .before .before .before .before .before .before .before .before .before .before .before .before .before .before .before .before .before .before .before .before .before .before .before .before .before .before .loop .inv) (c .before .before .before .before .before .before .before .before .before .before .before .before .before .before .before .before .before .before .before .before .before .before .before .before .before .loop-test .taken)) (c .before .before .before .before .before .before .before .before .before .before .before .before .before .before .before .before .before .before .before .before .before .before .if1 .left) _ (c .before .before .before .before .before .before .before .before .before .before .before .before .before .before .before .before .before .before .before .before .before .line-start2 .ensures) _ (c .before .before .before .before .before .before .before .before .before .before .before .before .before .before .before .before .before .before .before .before .cut2 .ensures) (c .before .before .before .before .before .before .before .before .before .before .before .before .before .before .before .before .before .read .given .0 .0) (sym (c .before .before .before .before .before .before .before .before .before .before .before .before .before .before .before .before .before .before .before .parse .ensures) ∙ c .before .before .before .before .before .before .before .before .before .before .before .before .before .before .before .before .before .read .given .1) _ (c .before .before .before .before .before .before .before .before .before .before .before .before .before .value-of .ensures) _ (c .before .before .before .before .before .before .before .before .before .before .before .before .before .before .before .may-go .ensures) (not-false _ (c .before .before .before .before .before .before .before .before .before .before .before .before .before .before .if3 .left)) _ _ _ (c .before .before .before .before .before .before .before .before .before .before .before .cut3 .ensures) (c .before .before .before .before .before .before .before .before .before .before .cut4 .ensures) (c .before .before .before .before .before .before .before .before .cut6 .ensures) (c .before .before .before .before .absorb .ensures) (c .enum-told .given .1)
 
 pub walk-up-spec : {M : Type 1} → statement M
 walk-up-spec =
@@ -262,23 +265,24 @@ walk-up-spec =
     value-of-requires
     cut-requires-3
     cut-requires-4
+    sub-cut-3
     cut-requires-5
-    mul-absorb
+    cut-requires-6
     sub-absorb
+    mul-absorb
+    sub-absorb-2
     part-absorb-start
     part-absorb-end
     absorb-requires
     enum-known-made
     enum-told
-    cut-requires-6
+    cut-requires-7
     put-requires
     sub-owner
     add-owner
     sub-owner-2
     mul-owner
     slice-write-owner
-    sub-cut-3
-    cut-requires-7
     is-header-requires-2
     sub-k-2
     loop-less-2

@@ -48,7 +48,7 @@ use mir.Val
 use prog.Wp
 use types.Kit
 
-abbrev pub ps : List.List (Kinds.PK 9)
+abbrev pub ps : List.List (Kinds.PK 10)
 ps =
     List._∷_
     (ShrSlice.pShrS (Referent.rtF (Referent.fInt Syntax.w8)) 0 tt)
@@ -61,18 +61,20 @@ ps =
     (List._∷_
     (ShrSlice.pShrS (Referent.rtF (Referent.fInt Syntax.w8)) 3 tt)
     (List._∷_
-    (MutSlice.pMutS (Referent.rtF (Referent.fInt Syntax.w64)) 4 tt)
+    (ShrSlice.pShrS (Referent.rtF (Referent.fInt Syntax.w64)) 4 tt)
     (List._∷_
-    (MutSlice.pMutS (Referent.rtF (Referent.fInt Syntax.w8)) 5 tt)
+    (MutSlice.pMutS (Referent.rtF (Referent.fInt Syntax.w64)) 5 tt)
     (List._∷_
     (MutSlice.pMutS (Referent.rtF (Referent.fInt Syntax.w8)) 6 tt)
     (List._∷_
     (MutSlice.pMutS (Referent.rtF (Referent.fInt Syntax.w8)) 7 tt)
     (List._∷_
-    (MutSlice.pMutS Elem.R 8 tt)
-    List.[])))))))))
+    (MutSlice.pMutS (Referent.rtF (Referent.fInt Syntax.w8)) 8 tt)
+    (List._∷_
+    (MutSlice.pMutS Elem.R 9 tt)
+    List.[]))))))))))
 
-abbrev pub r : Kinds.RK 9
+abbrev pub r : Kinds.RK 10
 r = Num.rNum Syntax.w64
 
 abbrev pub xs : List.List Syntax.Ty
@@ -237,7 +239,7 @@ r·1 = Value.rVal record {
   of-mem = Local.whole-mem 𝓤 H A W (Declared.row LineRec.the-type);
 }
 
-abbrev pub ps·2 : List.List (Kinds.PK 7)
+abbrev pub ps·2 : List.List (Kinds.PK 8)
 ps·2 =
     List._∷_
     (ShrSlice.pShrS (Referent.rtF (Referent.fInt Syntax.w8)) 0 tt)
@@ -252,16 +254,18 @@ ps·2 =
     (List._∷_
     (ShrSlice.pShrS (Referent.rtF (Referent.fInt Syntax.w8)) 2 tt)
     (List._∷_
-    (MutSlice.pMutS (Referent.rtF (Referent.fInt Syntax.w64)) 3 tt)
+    (ShrSlice.pShrS (Referent.rtF (Referent.fInt Syntax.w64)) 3 tt)
     (List._∷_
-    (MutSlice.pMutS (Referent.rtF (Referent.fInt Syntax.w8)) 4 tt)
+    (MutSlice.pMutS (Referent.rtF (Referent.fInt Syntax.w64)) 4 tt)
+    (List._∷_
+    (MutSlice.pMutS (Referent.rtF (Referent.fInt Syntax.w8)) 5 tt)
     (List._∷_
     (Num.pNum Syntax.w64)
     (List._∷_
-    (MutSlice.pMutS (Referent.rtF (Referent.fInt Syntax.w8)) 5 tt)
-    (List._∷_ (MutSlice.pMutS (Referent.rtF (Referent.fInt Syntax.w8)) 6 tt) List.[]))))))))))
+    (MutSlice.pMutS (Referent.rtF (Referent.fInt Syntax.w8)) 6 tt)
+    (List._∷_ (MutSlice.pMutS (Referent.rtF (Referent.fInt Syntax.w8)) 7 tt) List.[])))))))))))
 
-abbrev pub r·2 : Kinds.RK 7
+abbrev pub r·2 : Kinds.RK 8
 r·2 = Num.rNum Syntax.w64
 
 abbrev pub hs : List.List Syntax.Home
@@ -324,24 +328,26 @@ hs =
     Syntax.valueLocal
     (List._∷_
     Syntax.valueLocal
-    (List._∷_ Syntax.valueLocal (List._∷_ Syntax.valueLocal List.[]))))))))))))))))))))))))))))))
+    (List._∷_
+    Syntax.valueLocal
+    (List._∷_ Syntax.valueLocal (List._∷_ Syntax.valueLocal List.[])))))))))))))))))))))))))))))))
 
 abbrev b0 : Syntax.Body
-b0 = Syntax.assign (Syntax.place 11 List.[]) (Syntax.rvOpd (Syntax.int Syntax.w64 0))
+b0 = Syntax.assign (Syntax.place 12 List.[]) (Syntax.rvOpd (Syntax.int Syntax.w64 0))
 
 abbrev b1 : Syntax.Body
-b1 = Syntax.assign (Syntax.place 12 List.[]) (Syntax.rvOpd (Syntax.int Syntax.w64 0))
+b1 = Syntax.assign (Syntax.place 13 List.[]) (Syntax.rvOpd (Syntax.int Syntax.w64 0))
 
 abbrev b2 : Syntax.Body
-b2 = Syntax.assign (Syntax.place 13 List.[]) (Syntax.rvOpd (Syntax.int Syntax.w64 0))
+b2 = Syntax.assign (Syntax.place 14 List.[]) (Syntax.rvOpd (Syntax.int Syntax.w64 0))
 
 abbrev b3 : Syntax.Body
 b3 =
     Syntax.assign
-    (Syntax.place 15 List.[])
+    (Syntax.place 16 List.[])
     (Syntax.op2
     (Syntax.lt Syntax.unsigned)
-    (Syntax.copy (Syntax.place 12 List.[]))
+    (Syntax.copy (Syntax.place 13 List.[]))
     (Syntax.copy (Syntax.place 3 List.[])))
 
 abbrev b4 : Syntax.Body
@@ -351,15 +357,15 @@ abbrev b5 : Syntax.Body
 b5 = Syntax.exit 1
 
 abbrev b6 : Syntax.Body
-b6 = Syntax.cond (Syntax.copy (Syntax.place 15 List.[])) b4 b5
+b6 = Syntax.cond (Syntax.copy (Syntax.place 16 List.[])) b4 b5
 
 abbrev b7 : Syntax.Body
 b7 =
     Syntax.assign
-    (Syntax.place 16 List.[])
+    (Syntax.place 17 List.[])
     (Syntax.addrOf
     (Syntax.place
-    10
+    11
     (List._∷_
     (Syntax.field 0)
     (List._∷_ (Syntax.deref Elem.held) List.[]))))
@@ -367,11 +373,11 @@ b7 =
 abbrev b8 : Syntax.Body
 b8 =
     Syntax.assign
-    (Syntax.place 17 List.[])
+    (Syntax.place 18 List.[])
     (Syntax.aggregate
     (List._∷_
-    (Syntax.copy (Syntax.place 16 List.[]))
-    (List._∷_ (Syntax.copy (Syntax.place 10 (List._∷_ (Syntax.field 1) List.[]))) List.[])))
+    (Syntax.copy (Syntax.place 17 List.[]))
+    (List._∷_ (Syntax.copy (Syntax.place 11 (List._∷_ (Syntax.field 1) List.[]))) List.[])))
 
 abbrev b9 : Syntax.Body
 b9 =
@@ -384,19 +390,19 @@ b9 =
     (List._∷_
     (Syntax.copy (Syntax.place 3 List.[]))
     (List._∷_
-    (Syntax.copy (Syntax.place 12 List.[]))
+    (Syntax.copy (Syntax.place 13 List.[]))
     (List._∷_
-    (Syntax.copy (Syntax.place 11 List.[]))
-    (List._∷_ (Syntax.copy (Syntax.place 17 List.[])) List.[]))))))
-    (Syntax.place 11 List.[])
+    (Syntax.copy (Syntax.place 12 List.[]))
+    (List._∷_ (Syntax.copy (Syntax.place 18 List.[])) List.[]))))))
+    (Syntax.place 12 List.[])
 
 abbrev b10 : Syntax.Body
 b10 =
     Syntax.assign
-    (Syntax.place 18 List.[])
+    (Syntax.place 19 List.[])
     (Syntax.addrOf
     (Syntax.place
-    10
+    11
     (List._∷_
     (Syntax.field 0)
     (List._∷_ (Syntax.deref Elem.held) List.[]))))
@@ -404,116 +410,116 @@ b10 =
 abbrev b11 : Syntax.Body
 b11 =
     Syntax.assign
-    (Syntax.place 19 List.[])
+    (Syntax.place 20 List.[])
     (Syntax.aggregate
     (List._∷_
-    (Syntax.copy (Syntax.place 18 List.[]))
-    (List._∷_ (Syntax.copy (Syntax.place 10 (List._∷_ (Syntax.field 1) List.[]))) List.[])))
+    (Syntax.copy (Syntax.place 19 List.[]))
+    (List._∷_ (Syntax.copy (Syntax.place 11 (List._∷_ (Syntax.field 1) List.[]))) List.[])))
 
 abbrev b12 : Syntax.Body
 b12 =
     Syntax.assign
-    (Syntax.place 20 List.[])
-    (Syntax.rvOpd (Syntax.copy (Syntax.place 10 (List._∷_ (Syntax.field 1) List.[]))))
+    (Syntax.place 21 List.[])
+    (Syntax.rvOpd (Syntax.copy (Syntax.place 11 (List._∷_ (Syntax.field 1) List.[]))))
 
 abbrev b13 : Syntax.Body
 b13 =
     Syntax.assign
-    (Syntax.place 21 List.[])
+    (Syntax.place 22 List.[])
     (Syntax.op2
     (Syntax.add Syntax.unsigned)
-    (Syntax.copy (Syntax.place 12 List.[]))
-    (Syntax.copy (Syntax.place 20 List.[])))
+    (Syntax.copy (Syntax.place 13 List.[]))
+    (Syntax.copy (Syntax.place 21 List.[])))
 
 abbrev b14 : Syntax.Body
 b14 =
     Syntax.assign
-    (Syntax.place 22 List.[])
+    (Syntax.place 23 List.[])
     (Syntax.op2
     (Syntax.sub Syntax.unsigned)
-    (Syntax.copy (Syntax.place 21 List.[]))
-    (Syntax.copy (Syntax.place 11 List.[])))
+    (Syntax.copy (Syntax.place 22 List.[]))
+    (Syntax.copy (Syntax.place 12 List.[])))
 
 abbrev b15 : Syntax.Body
 b15 =
     Syntax.call
     "records::get"
     (List._∷_
-    (Syntax.copy (Syntax.place 19 List.[]))
-    (List._∷_ (Syntax.copy (Syntax.place 22 List.[])) List.[]))
-    (Syntax.place 14 List.[])
+    (Syntax.copy (Syntax.place 20 List.[]))
+    (List._∷_ (Syntax.copy (Syntax.place 23 List.[])) List.[]))
+    (Syntax.place 15 List.[])
 
 abbrev b16 : Syntax.Body
 b16 =
     Syntax.assign
-    (Syntax.place 23 List.[])
+    (Syntax.place 24 List.[])
     (Syntax.addrOf
     (Syntax.place
-    6
+    7
     (List._∷_ (Syntax.field 0) (List._∷_ (Syntax.deref (Syntax.tyInt Syntax.w64)) List.[]))))
 
 abbrev b17 : Syntax.Body
 b17 =
     Syntax.assign
-    (Syntax.place 24 List.[])
+    (Syntax.place 25 List.[])
     (Syntax.aggregate
     (List._∷_
-    (Syntax.copy (Syntax.place 23 List.[]))
-    (List._∷_ (Syntax.copy (Syntax.place 6 (List._∷_ (Syntax.field 1) List.[]))) List.[])))
+    (Syntax.copy (Syntax.place 24 List.[]))
+    (List._∷_ (Syntax.copy (Syntax.place 7 (List._∷_ (Syntax.field 1) List.[]))) List.[])))
 
 abbrev b18 : Syntax.Body
 b18 =
     Syntax.assign
-    (Syntax.place 25 List.[])
-    (Syntax.addrOf
-    (Syntax.place
-    7
-    (List._∷_ (Syntax.field 0) (List._∷_ (Syntax.deref (Syntax.tyInt Syntax.w8)) List.[]))))
-
-abbrev b19 : Syntax.Body
-b19 =
-    Syntax.assign
     (Syntax.place 26 List.[])
-    (Syntax.aggregate
-    (List._∷_
-    (Syntax.copy (Syntax.place 25 List.[]))
-    (List._∷_ (Syntax.copy (Syntax.place 7 (List._∷_ (Syntax.field 1) List.[]))) List.[])))
-
-abbrev b20 : Syntax.Body
-b20 =
-    Syntax.assign
-    (Syntax.place 27 List.[])
     (Syntax.addrOf
     (Syntax.place
     8
     (List._∷_ (Syntax.field 0) (List._∷_ (Syntax.deref (Syntax.tyInt Syntax.w8)) List.[]))))
 
-abbrev b21 : Syntax.Body
-b21 =
+abbrev b19 : Syntax.Body
+b19 =
     Syntax.assign
-    (Syntax.place 28 List.[])
+    (Syntax.place 27 List.[])
     (Syntax.aggregate
     (List._∷_
-    (Syntax.copy (Syntax.place 27 List.[]))
+    (Syntax.copy (Syntax.place 26 List.[]))
     (List._∷_ (Syntax.copy (Syntax.place 8 (List._∷_ (Syntax.field 1) List.[]))) List.[])))
 
-abbrev b22 : Syntax.Body
-b22 =
+abbrev b20 : Syntax.Body
+b20 =
     Syntax.assign
-    (Syntax.place 29 List.[])
+    (Syntax.place 28 List.[])
     (Syntax.addrOf
     (Syntax.place
     9
     (List._∷_ (Syntax.field 0) (List._∷_ (Syntax.deref (Syntax.tyInt Syntax.w8)) List.[]))))
 
+abbrev b21 : Syntax.Body
+b21 =
+    Syntax.assign
+    (Syntax.place 29 List.[])
+    (Syntax.aggregate
+    (List._∷_
+    (Syntax.copy (Syntax.place 28 List.[]))
+    (List._∷_ (Syntax.copy (Syntax.place 9 (List._∷_ (Syntax.field 1) List.[]))) List.[])))
+
+abbrev b22 : Syntax.Body
+b22 =
+    Syntax.assign
+    (Syntax.place 30 List.[])
+    (Syntax.addrOf
+    (Syntax.place
+    10
+    (List._∷_ (Syntax.field 0) (List._∷_ (Syntax.deref (Syntax.tyInt Syntax.w8)) List.[]))))
+
 abbrev b23 : Syntax.Body
 b23 =
     Syntax.assign
-    (Syntax.place 30 List.[])
+    (Syntax.place 31 List.[])
     (Syntax.aggregate
     (List._∷_
-    (Syntax.copy (Syntax.place 29 List.[]))
-    (List._∷_ (Syntax.copy (Syntax.place 9 (List._∷_ (Syntax.field 1) List.[]))) List.[])))
+    (Syntax.copy (Syntax.place 30 List.[]))
+    (List._∷_ (Syntax.copy (Syntax.place 10 (List._∷_ (Syntax.field 1) List.[]))) List.[])))
 
 abbrev b24 : Syntax.Body
 b24 =
@@ -522,33 +528,35 @@ b24 =
     (List._∷_
     (Syntax.copy (Syntax.place 1 List.[]))
     (List._∷_
-    (Syntax.copy (Syntax.place 14 (List._∷_ (Syntax.field 0) List.[])))
+    (Syntax.copy (Syntax.place 15 (List._∷_ (Syntax.field 0) List.[])))
     (List._∷_
-    (Syntax.copy (Syntax.place 14 (List._∷_ (Syntax.field 1) List.[])))
+    (Syntax.copy (Syntax.place 15 (List._∷_ (Syntax.field 1) List.[])))
     (List._∷_
-    (Syntax.copy (Syntax.place 12 List.[]))
+    (Syntax.copy (Syntax.place 13 List.[]))
     (List._∷_
     (Syntax.copy (Syntax.place 4 List.[]))
     (List._∷_
     (Syntax.copy (Syntax.place 5 List.[]))
     (List._∷_
-    (Syntax.copy (Syntax.place 24 List.[]))
+    (Syntax.copy (Syntax.place 6 List.[]))
     (List._∷_
-    (Syntax.copy (Syntax.place 26 List.[]))
+    (Syntax.copy (Syntax.place 25 List.[]))
     (List._∷_
-    (Syntax.copy (Syntax.place 13 List.[]))
+    (Syntax.copy (Syntax.place 27 List.[]))
     (List._∷_
-    (Syntax.copy (Syntax.place 28 List.[]))
-    (List._∷_ (Syntax.copy (Syntax.place 30 List.[])) List.[])))))))))))
-    (Syntax.place 13 List.[])
+    (Syntax.copy (Syntax.place 14 List.[]))
+    (List._∷_
+    (Syntax.copy (Syntax.place 29 List.[]))
+    (List._∷_ (Syntax.copy (Syntax.place 31 List.[])) List.[]))))))))))))
+    (Syntax.place 14 List.[])
 
 abbrev b25 : Syntax.Body
 b25 =
     Syntax.assign
-    (Syntax.place 12 List.[])
+    (Syntax.place 13 List.[])
     (Syntax.op2
     (Syntax.add Syntax.unsigned)
-    (Syntax.copy (Syntax.place 12 List.[]))
+    (Syntax.copy (Syntax.place 13 List.[]))
     (Syntax.int Syntax.w64 1))
 
 abbrev b26 : Syntax.Body
@@ -618,7 +626,7 @@ abbrev b47 : Syntax.Body
 b47 = Syntax.block b46
 
 abbrev b48 : Syntax.Body
-b48 = Syntax.assign (Syntax.place 0 List.[]) (Syntax.rvOpd (Syntax.copy (Syntax.place 13 List.[])))
+b48 = Syntax.assign (Syntax.place 0 List.[]) (Syntax.rvOpd (Syntax.copy (Syntax.place 14 List.[])))
 
 abbrev b49 : Syntax.Body
 b49 = Syntax.return
@@ -647,8 +655,8 @@ Claims =
     Kinds.Out 3 ps·0 r·0 ×
     Kinds.In 1 ps·1 ×
     Kinds.Out 1 ps·1 r·1 ×
-    Kinds.In 7 ps·2 ×
-    Kinds.Out 7 ps·2 r·2
+    Kinds.In 8 ps·2 ×
+    Kinds.Out 8 ps·2 r·2
 
 abbrev pub t0 : List.List Row.Entry
 t0 = List._∷_ (0, Rows.any-gone (Syntax.tyInt Syntax.w64)) (List._∷_ (
@@ -677,15 +685,15 @@ t0 = List._∷_ (0, Rows.any-gone (Syntax.tyInt Syntax.w64)) (List._∷_ (
       3,
 ) (List._∷_ (
   6,
-  Mut.mslice
+  Rows.sslice
       (Referent.rtF (Referent.fInt Syntax.w64))
-      (Syntax.tyRef (Syntax.named 4) Syntax.mut (Syntax.tyInt Syntax.w64))
+      (Syntax.tyRef (Syntax.named 4) Syntax.imm (Syntax.tyInt Syntax.w64))
       4,
 ) (List._∷_ (
   7,
   Mut.mslice
-      (Referent.rtF (Referent.fInt Syntax.w8))
-      (Syntax.tyRef (Syntax.named 5) Syntax.mut (Syntax.tyInt Syntax.w8))
+      (Referent.rtF (Referent.fInt Syntax.w64))
+      (Syntax.tyRef (Syntax.named 5) Syntax.mut (Syntax.tyInt Syntax.w64))
       5,
 ) (List._∷_ (
   8,
@@ -702,14 +710,20 @@ t0 = List._∷_ (0, Rows.any-gone (Syntax.tyInt Syntax.w64)) (List._∷_ (
 ) (List._∷_ (
   10,
   Mut.mslice
-      Elem.R
-      (Syntax.tyRef (Syntax.named 8) Syntax.mut Elem.ty)
+      (Referent.rtF (Referent.fInt Syntax.w8))
+      (Syntax.tyRef (Syntax.named 8) Syntax.mut (Syntax.tyInt Syntax.w8))
       8,
-) (List._∷_ (11, Rows.any-gone (Syntax.tyInt Syntax.w64)) (List._∷_ (
-  12,
+) (List._∷_ (
+  11,
+  Mut.mslice
+      Elem.R
+      (Syntax.tyRef (Syntax.named 9) Syntax.mut Elem.ty)
+      9,
+) (List._∷_ (12, Rows.any-gone (Syntax.tyInt Syntax.w64)) (List._∷_ (
+  13,
   Rows.any-gone (Syntax.tyInt Syntax.w64),
-) (List._∷_ (13, Rows.any-gone (Syntax.tyInt Syntax.w64)) (List._∷_ (
-  14,
+) (List._∷_ (14, Rows.any-gone (Syntax.tyInt Syntax.w64)) (List._∷_ (
+  15,
   Rows.any-gone
       (Syntax.tyStruct
       (List._∷_
@@ -760,15 +774,15 @@ t0 = List._∷_ (0, Rows.any-gone (Syntax.tyInt Syntax.w64)) (List._∷_ (
       (List._∷_ 101 (List._∷_ 103 (List._∷_ 105 (List._∷_ 111 (List._∷_ 110 List.[])))))))))))))
       (Syntax.tcons (Syntax.tyInt Syntax.w64) Syntax.tnil))
       (Syntax.tcons (Syntax.tyInt Syntax.w64) Syntax.tnil))))),
-) (List._∷_ (15, Rows.any-gone Syntax.tyBool) List.[])))))))))))))))
+) List.[])))))))))))))))
 
 abbrev pub t1 : List.List Row.Entry
-t1 = List._∷_ (
-  16,
+t1 = List._∷_ (16, Rows.any-gone Syntax.tyBool) (List._∷_ (
+  17,
   Rows.any-gone
       (Syntax.tyRef Syntax.erased Syntax.mut Elem.ty),
 ) (List._∷_ (
-  17,
+  18,
   Rows.any-gone
       (Syntax.tyStruct
       (List._∷_ 38 (List._∷_ 91 (List._∷_ 93 List.[])))
@@ -776,25 +790,25 @@ t1 = List._∷_ (
       (Syntax.tyRef Syntax.erased Syntax.mut Elem.ty)
       (Syntax.tcons (Syntax.tyInt Syntax.w64) Syntax.tnil))),
 ) (List._∷_ (
-  18,
+  19,
   Rows.any-gone
       (Syntax.tyRef Syntax.erased Syntax.imm Elem.ty),
 ) (List._∷_ (
-  19,
+  20,
   Rows.any-gone
       (Syntax.tyStruct
       (List._∷_ 38 (List._∷_ 91 (List._∷_ 93 List.[])))
       (Syntax.tcons
       (Syntax.tyRef Syntax.erased Syntax.imm Elem.ty)
       (Syntax.tcons (Syntax.tyInt Syntax.w64) Syntax.tnil))),
-) (List._∷_ (20, Rows.any-gone (Syntax.tyInt Syntax.w64)) (List._∷_ (
-  21,
+) (List._∷_ (21, Rows.any-gone (Syntax.tyInt Syntax.w64)) (List._∷_ (
+  22,
   Rows.any-gone (Syntax.tyInt Syntax.w64),
-) (List._∷_ (22, Rows.any-gone (Syntax.tyInt Syntax.w64)) (List._∷_ (
-  23,
+) (List._∷_ (23, Rows.any-gone (Syntax.tyInt Syntax.w64)) (List._∷_ (
+  24,
   Rows.any-gone (Syntax.tyRef Syntax.erased Syntax.mut (Syntax.tyInt Syntax.w64)),
 ) (List._∷_ (
-  24,
+  25,
   Rows.any-gone
       (Syntax.tyStruct
       (List._∷_ 38 (List._∷_ 91 (List._∷_ 93 List.[])))
@@ -803,38 +817,38 @@ t1 = List._∷_ (
       (Syntax.tcons (Syntax.tyInt Syntax.w64) Syntax.tnil))),
 )
     (List._∷_
-    (25, Rows.any-gone (Syntax.tyRef Syntax.erased Syntax.mut (Syntax.tyInt Syntax.w8)))
+    (26, Rows.any-gone (Syntax.tyRef Syntax.erased Syntax.mut (Syntax.tyInt Syntax.w8)))
     (List._∷_ (
-      26,
+      27,
       Rows.any-gone
           (Syntax.tyStruct
           (List._∷_ 38 (List._∷_ 91 (List._∷_ 93 List.[])))
           (Syntax.tcons
           (Syntax.tyRef Syntax.erased Syntax.mut (Syntax.tyInt Syntax.w8))
           (Syntax.tcons (Syntax.tyInt Syntax.w64) Syntax.tnil))),
-    ) (List._∷_ (
-      27,
-      Rows.any-gone (Syntax.tyRef Syntax.erased Syntax.mut (Syntax.tyInt Syntax.w8)),
     ) (List._∷_ (
       28,
-      Rows.any-gone
-          (Syntax.tyStruct
-          (List._∷_ 38 (List._∷_ 91 (List._∷_ 93 List.[])))
-          (Syntax.tcons
-          (Syntax.tyRef Syntax.erased Syntax.mut (Syntax.tyInt Syntax.w8))
-          (Syntax.tcons (Syntax.tyInt Syntax.w64) Syntax.tnil))),
-    ) (List._∷_ (
-      29,
       Rows.any-gone (Syntax.tyRef Syntax.erased Syntax.mut (Syntax.tyInt Syntax.w8)),
     ) (List._∷_ (
-      30,
+      29,
       Rows.any-gone
           (Syntax.tyStruct
           (List._∷_ 38 (List._∷_ 91 (List._∷_ 93 List.[])))
           (Syntax.tcons
           (Syntax.tyRef Syntax.erased Syntax.mut (Syntax.tyInt Syntax.w8))
           (Syntax.tcons (Syntax.tyInt Syntax.w64) Syntax.tnil))),
-    ) List.[]))))))))))))))
+    ) (List._∷_ (
+      30,
+      Rows.any-gone (Syntax.tyRef Syntax.erased Syntax.mut (Syntax.tyInt Syntax.w8)),
+    ) (List._∷_ (
+      31,
+      Rows.any-gone
+          (Syntax.tyStruct
+          (List._∷_ 38 (List._∷_ 91 (List._∷_ 93 List.[])))
+          (Syntax.tcons
+          (Syntax.tyRef Syntax.erased Syntax.mut (Syntax.tyInt Syntax.w8))
+          (Syntax.tcons (Syntax.tyInt Syntax.w64) Syntax.tnil))),
+    ) List.[])))))))))))))))
 
 abbrev pub t2 : List.List Row.Entry
 t2 = List._∷_ (0, Rows.sc-here (Row.sInt Syntax.w64)) (List._∷_ (
@@ -863,15 +877,15 @@ t2 = List._∷_ (0, Rows.sc-here (Row.sInt Syntax.w64)) (List._∷_ (
       3,
 ) (List._∷_ (
   6,
-  Mut.mslice
+  Rows.sslice
       (Referent.rtF (Referent.fInt Syntax.w64))
-      (Syntax.tyRef (Syntax.named 4) Syntax.mut (Syntax.tyInt Syntax.w64))
+      (Syntax.tyRef (Syntax.named 4) Syntax.imm (Syntax.tyInt Syntax.w64))
       4,
 ) (List._∷_ (
   7,
   Mut.mslice
-      (Referent.rtF (Referent.fInt Syntax.w8))
-      (Syntax.tyRef (Syntax.named 5) Syntax.mut (Syntax.tyInt Syntax.w8))
+      (Referent.rtF (Referent.fInt Syntax.w64))
+      (Syntax.tyRef (Syntax.named 5) Syntax.mut (Syntax.tyInt Syntax.w64))
       5,
 ) (List._∷_ (
   8,
@@ -888,14 +902,20 @@ t2 = List._∷_ (0, Rows.sc-here (Row.sInt Syntax.w64)) (List._∷_ (
 ) (List._∷_ (
   10,
   Mut.mslice
-      Elem.R
-      (Syntax.tyRef (Syntax.named 8) Syntax.mut Elem.ty)
+      (Referent.rtF (Referent.fInt Syntax.w8))
+      (Syntax.tyRef (Syntax.named 8) Syntax.mut (Syntax.tyInt Syntax.w8))
       8,
-) (List._∷_ (11, Rows.any-gone (Syntax.tyInt Syntax.w64)) (List._∷_ (
-  12,
+) (List._∷_ (
+  11,
+  Mut.mslice
+      Elem.R
+      (Syntax.tyRef (Syntax.named 9) Syntax.mut Elem.ty)
+      9,
+) (List._∷_ (12, Rows.any-gone (Syntax.tyInt Syntax.w64)) (List._∷_ (
+  13,
   Rows.any-gone (Syntax.tyInt Syntax.w64),
-) (List._∷_ (13, Rows.any-gone (Syntax.tyInt Syntax.w64)) (List._∷_ (
-  14,
+) (List._∷_ (14, Rows.any-gone (Syntax.tyInt Syntax.w64)) (List._∷_ (
+  15,
   Rows.any-gone
       (Syntax.tyStruct
       (List._∷_
@@ -946,7 +966,7 @@ t2 = List._∷_ (0, Rows.sc-here (Row.sInt Syntax.w64)) (List._∷_ (
       (List._∷_ 101 (List._∷_ 103 (List._∷_ 105 (List._∷_ 111 (List._∷_ 110 List.[])))))))))))))
       (Syntax.tcons (Syntax.tyInt Syntax.w64) Syntax.tnil))
       (Syntax.tcons (Syntax.tyInt Syntax.w64) Syntax.tnil))))),
-) (List._∷_ (15, Rows.any-gone Syntax.tyBool) List.[])))))))))))))))
+) List.[])))))))))))))))
 
 abbrev pub t3 : List.List Row.Entry
 t3 = List._∷_ (0, Rows.any-gone (Syntax.tyInt Syntax.w64)) (List._∷_ (
@@ -975,15 +995,15 @@ t3 = List._∷_ (0, Rows.any-gone (Syntax.tyInt Syntax.w64)) (List._∷_ (
       3,
 ) (List._∷_ (
   6,
-  Mut.mslice
+  Rows.sslice
       (Referent.rtF (Referent.fInt Syntax.w64))
-      (Syntax.tyRef (Syntax.named 4) Syntax.mut (Syntax.tyInt Syntax.w64))
+      (Syntax.tyRef (Syntax.named 4) Syntax.imm (Syntax.tyInt Syntax.w64))
       4,
 ) (List._∷_ (
   7,
   Mut.mslice
-      (Referent.rtF (Referent.fInt Syntax.w8))
-      (Syntax.tyRef (Syntax.named 5) Syntax.mut (Syntax.tyInt Syntax.w8))
+      (Referent.rtF (Referent.fInt Syntax.w64))
+      (Syntax.tyRef (Syntax.named 5) Syntax.mut (Syntax.tyInt Syntax.w64))
       5,
 ) (List._∷_ (
   8,
@@ -1000,14 +1020,20 @@ t3 = List._∷_ (0, Rows.any-gone (Syntax.tyInt Syntax.w64)) (List._∷_ (
 ) (List._∷_ (
   10,
   Mut.mslice
-      Elem.R
-      (Syntax.tyRef (Syntax.named 8) Syntax.mut Elem.ty)
+      (Referent.rtF (Referent.fInt Syntax.w8))
+      (Syntax.tyRef (Syntax.named 8) Syntax.mut (Syntax.tyInt Syntax.w8))
       8,
-) (List._∷_ (11, Rows.sc-here (Row.sInt Syntax.w64)) (List._∷_ (
-  12,
+) (List._∷_ (
+  11,
+  Mut.mslice
+      Elem.R
+      (Syntax.tyRef (Syntax.named 9) Syntax.mut Elem.ty)
+      9,
+) (List._∷_ (12, Rows.sc-here (Row.sInt Syntax.w64)) (List._∷_ (
+  13,
   Rows.any-gone (Syntax.tyInt Syntax.w64),
-) (List._∷_ (13, Rows.any-gone (Syntax.tyInt Syntax.w64)) (List._∷_ (
-  14,
+) (List._∷_ (14, Rows.any-gone (Syntax.tyInt Syntax.w64)) (List._∷_ (
+  15,
   Rows.any-gone
       (Syntax.tyStruct
       (List._∷_
@@ -1058,7 +1084,7 @@ t3 = List._∷_ (0, Rows.any-gone (Syntax.tyInt Syntax.w64)) (List._∷_ (
       (List._∷_ 101 (List._∷_ 103 (List._∷_ 105 (List._∷_ 111 (List._∷_ 110 List.[])))))))))))))
       (Syntax.tcons (Syntax.tyInt Syntax.w64) Syntax.tnil))
       (Syntax.tcons (Syntax.tyInt Syntax.w64) Syntax.tnil))))),
-) (List._∷_ (15, Rows.any-gone Syntax.tyBool) List.[])))))))))))))))
+) List.[])))))))))))))))
 
 abbrev pub t4 : List.List Row.Entry
 t4 = List._∷_ (0, Rows.any-gone (Syntax.tyInt Syntax.w64)) (List._∷_ (
@@ -1087,15 +1113,15 @@ t4 = List._∷_ (0, Rows.any-gone (Syntax.tyInt Syntax.w64)) (List._∷_ (
       3,
 ) (List._∷_ (
   6,
-  Mut.mslice
+  Rows.sslice
       (Referent.rtF (Referent.fInt Syntax.w64))
-      (Syntax.tyRef (Syntax.named 4) Syntax.mut (Syntax.tyInt Syntax.w64))
+      (Syntax.tyRef (Syntax.named 4) Syntax.imm (Syntax.tyInt Syntax.w64))
       4,
 ) (List._∷_ (
   7,
   Mut.mslice
-      (Referent.rtF (Referent.fInt Syntax.w8))
-      (Syntax.tyRef (Syntax.named 5) Syntax.mut (Syntax.tyInt Syntax.w8))
+      (Referent.rtF (Referent.fInt Syntax.w64))
+      (Syntax.tyRef (Syntax.named 5) Syntax.mut (Syntax.tyInt Syntax.w64))
       5,
 ) (List._∷_ (
   8,
@@ -1112,14 +1138,20 @@ t4 = List._∷_ (0, Rows.any-gone (Syntax.tyInt Syntax.w64)) (List._∷_ (
 ) (List._∷_ (
   10,
   Mut.mslice
-      Elem.R
-      (Syntax.tyRef (Syntax.named 8) Syntax.mut Elem.ty)
+      (Referent.rtF (Referent.fInt Syntax.w8))
+      (Syntax.tyRef (Syntax.named 8) Syntax.mut (Syntax.tyInt Syntax.w8))
       8,
-) (List._∷_ (11, Rows.sc-here (Row.sInt Syntax.w64)) (List._∷_ (
-  12,
+) (List._∷_ (
+  11,
+  Mut.mslice
+      Elem.R
+      (Syntax.tyRef (Syntax.named 9) Syntax.mut Elem.ty)
+      9,
+) (List._∷_ (12, Rows.sc-here (Row.sInt Syntax.w64)) (List._∷_ (
+  13,
   Rows.sc-here (Row.sInt Syntax.w64),
-) (List._∷_ (13, Rows.any-gone (Syntax.tyInt Syntax.w64)) (List._∷_ (
-  14,
+) (List._∷_ (14, Rows.any-gone (Syntax.tyInt Syntax.w64)) (List._∷_ (
+  15,
   Rows.any-gone
       (Syntax.tyStruct
       (List._∷_
@@ -1170,7 +1202,7 @@ t4 = List._∷_ (0, Rows.any-gone (Syntax.tyInt Syntax.w64)) (List._∷_ (
       (List._∷_ 101 (List._∷_ 103 (List._∷_ 105 (List._∷_ 111 (List._∷_ 110 List.[])))))))))))))
       (Syntax.tcons (Syntax.tyInt Syntax.w64) Syntax.tnil))
       (Syntax.tcons (Syntax.tyInt Syntax.w64) Syntax.tnil))))),
-) (List._∷_ (15, Rows.any-gone Syntax.tyBool) List.[])))))))))))))))
+) List.[])))))))))))))))
 
 abbrev pub t5 : List.List Row.Entry
 t5 = List._∷_ (0, Rows.any-gone (Syntax.tyInt Syntax.w64)) (List._∷_ (
@@ -1199,15 +1231,15 @@ t5 = List._∷_ (0, Rows.any-gone (Syntax.tyInt Syntax.w64)) (List._∷_ (
       3,
 ) (List._∷_ (
   6,
-  Mut.mslice
+  Rows.sslice
       (Referent.rtF (Referent.fInt Syntax.w64))
-      (Syntax.tyRef (Syntax.named 4) Syntax.mut (Syntax.tyInt Syntax.w64))
+      (Syntax.tyRef (Syntax.named 4) Syntax.imm (Syntax.tyInt Syntax.w64))
       4,
 ) (List._∷_ (
   7,
   Mut.mslice
-      (Referent.rtF (Referent.fInt Syntax.w8))
-      (Syntax.tyRef (Syntax.named 5) Syntax.mut (Syntax.tyInt Syntax.w8))
+      (Referent.rtF (Referent.fInt Syntax.w64))
+      (Syntax.tyRef (Syntax.named 5) Syntax.mut (Syntax.tyInt Syntax.w64))
       5,
 ) (List._∷_ (
   8,
@@ -1224,14 +1256,20 @@ t5 = List._∷_ (0, Rows.any-gone (Syntax.tyInt Syntax.w64)) (List._∷_ (
 ) (List._∷_ (
   10,
   Mut.mslice
-      Elem.R
-      (Syntax.tyRef (Syntax.named 8) Syntax.mut Elem.ty)
+      (Referent.rtF (Referent.fInt Syntax.w8))
+      (Syntax.tyRef (Syntax.named 8) Syntax.mut (Syntax.tyInt Syntax.w8))
       8,
-) (List._∷_ (11, Rows.sc-here (Row.sInt Syntax.w64)) (List._∷_ (
-  12,
+) (List._∷_ (
+  11,
+  Mut.mslice
+      Elem.R
+      (Syntax.tyRef (Syntax.named 9) Syntax.mut Elem.ty)
+      9,
+) (List._∷_ (12, Rows.sc-here (Row.sInt Syntax.w64)) (List._∷_ (
+  13,
   Rows.sc-here (Row.sInt Syntax.w64),
-) (List._∷_ (13, Rows.sc-here (Row.sInt Syntax.w64)) (List._∷_ (
-  14,
+) (List._∷_ (14, Rows.sc-here (Row.sInt Syntax.w64)) (List._∷_ (
+  15,
   Rows.any-gone
       (Syntax.tyStruct
       (List._∷_
@@ -1282,119 +1320,81 @@ t5 = List._∷_ (0, Rows.any-gone (Syntax.tyInt Syntax.w64)) (List._∷_ (
       (List._∷_ 101 (List._∷_ 103 (List._∷_ 105 (List._∷_ 111 (List._∷_ 110 List.[])))))))))))))
       (Syntax.tcons (Syntax.tyInt Syntax.w64) Syntax.tnil))
       (Syntax.tcons (Syntax.tyInt Syntax.w64) Syntax.tnil))))),
-) (List._∷_ (15, Rows.any-gone Syntax.tyBool) List.[])))))))))))))))
+) List.[])))))))))))))))
 
 abbrev pub t6 : List.List Row.Entry
-t6 = List._∷_ (0, Rows.any-gone (Syntax.tyInt Syntax.w64)) (List._∷_ (
-  1,
-  Rows.sslice
-      (Referent.rtF (Referent.fInt Syntax.w8))
-      (Syntax.tyRef (Syntax.named 0) Syntax.imm (Syntax.tyInt Syntax.w8))
-      0,
+t6 = List._∷_ (16, Rows.sc-here Row.sBool) (List._∷_ (
+  17,
+  Rows.any-gone
+      (Syntax.tyRef Syntax.erased Syntax.mut Elem.ty),
 ) (List._∷_ (
-  2,
-  Rows.sslice
-      (Referent.rtF (Referent.fInt Syntax.w64))
-      (Syntax.tyRef (Syntax.named 1) Syntax.imm (Syntax.tyInt Syntax.w64))
-      1,
-) (List._∷_ (3, Rows.sc-here (Row.sInt Syntax.w64)) (List._∷_ (
-  4,
-  Rows.sslice
-      (Referent.rtF (Referent.fInt Syntax.w64))
-      (Syntax.tyRef (Syntax.named 2) Syntax.imm (Syntax.tyInt Syntax.w64))
-      2,
-) (List._∷_ (
-  5,
-  Rows.sslice
-      (Referent.rtF (Referent.fInt Syntax.w8))
-      (Syntax.tyRef (Syntax.named 3) Syntax.imm (Syntax.tyInt Syntax.w8))
-      3,
-) (List._∷_ (
-  6,
-  Mut.mslice
-      (Referent.rtF (Referent.fInt Syntax.w64))
-      (Syntax.tyRef (Syntax.named 4) Syntax.mut (Syntax.tyInt Syntax.w64))
-      4,
-) (List._∷_ (
-  7,
-  Mut.mslice
-      (Referent.rtF (Referent.fInt Syntax.w8))
-      (Syntax.tyRef (Syntax.named 5) Syntax.mut (Syntax.tyInt Syntax.w8))
-      5,
-) (List._∷_ (
-  8,
-  Mut.mslice
-      (Referent.rtF (Referent.fInt Syntax.w8))
-      (Syntax.tyRef (Syntax.named 6) Syntax.mut (Syntax.tyInt Syntax.w8))
-      6,
-) (List._∷_ (
-  9,
-  Mut.mslice
-      (Referent.rtF (Referent.fInt Syntax.w8))
-      (Syntax.tyRef (Syntax.named 7) Syntax.mut (Syntax.tyInt Syntax.w8))
-      7,
-) (List._∷_ (
-  10,
-  Mut.mslice
-      Elem.R
-      (Syntax.tyRef (Syntax.named 8) Syntax.mut Elem.ty)
-      8,
-) (List._∷_ (11, Rows.sc-here (Row.sInt Syntax.w64)) (List._∷_ (
-  12,
-  Rows.sc-here (Row.sInt Syntax.w64),
-) (List._∷_ (13, Rows.sc-here (Row.sInt Syntax.w64)) (List._∷_ (
-  14,
+  18,
   Rows.any-gone
       (Syntax.tyStruct
-      (List._∷_
-      114
-      (List._∷_
-      101
-      (List._∷_
-      99
-      (List._∷_
-      111
-      (List._∷_
-      114
-      (List._∷_
-      100
-      (List._∷_
-      115
-      (List._∷_
-      58
-      (List._∷_
-      58
-      (List._∷_
-      76
-      (List._∷_
-      105
-      (List._∷_ 110 (List._∷_ 101 (List._∷_ 82 (List._∷_ 101 (List._∷_ 99 List.[]))))))))))))))))
+      (List._∷_ 38 (List._∷_ 91 (List._∷_ 93 List.[])))
       (Syntax.tcons
-      (Syntax.tyInt Syntax.w64)
-      (Syntax.tcons
-      (Syntax.tyInt Syntax.w64)
-      (Syntax.tcons
+      (Syntax.tyRef Syntax.erased Syntax.mut Elem.ty)
+      (Syntax.tcons (Syntax.tyInt Syntax.w64) Syntax.tnil))),
+) (List._∷_ (
+  19,
+  Rows.any-gone
+      (Syntax.tyRef Syntax.erased Syntax.imm Elem.ty),
+) (List._∷_ (
+  20,
+  Rows.any-gone
       (Syntax.tyStruct
-      (List._∷_
-      112
-      (List._∷_
-      108
-      (List._∷_
-      97
-      (List._∷_
-      99
-      (List._∷_
-      101
-      (List._∷_
-      58
-      (List._∷_
-      58
-      (List._∷_
-      82
-      (List._∷_ 101 (List._∷_ 103 (List._∷_ 105 (List._∷_ 111 (List._∷_ 110 List.[])))))))))))))
-      (Syntax.tcons (Syntax.tyInt Syntax.w64) Syntax.tnil))
-      (Syntax.tcons (Syntax.tyInt Syntax.w64) Syntax.tnil))))),
-) (List._∷_ (15, Rows.sc-here Row.sBool) List.[])))))))))))))))
+      (List._∷_ 38 (List._∷_ 91 (List._∷_ 93 List.[])))
+      (Syntax.tcons
+      (Syntax.tyRef Syntax.erased Syntax.imm Elem.ty)
+      (Syntax.tcons (Syntax.tyInt Syntax.w64) Syntax.tnil))),
+) (List._∷_ (21, Rows.any-gone (Syntax.tyInt Syntax.w64)) (List._∷_ (
+  22,
+  Rows.any-gone (Syntax.tyInt Syntax.w64),
+) (List._∷_ (23, Rows.any-gone (Syntax.tyInt Syntax.w64)) (List._∷_ (
+  24,
+  Rows.any-gone (Syntax.tyRef Syntax.erased Syntax.mut (Syntax.tyInt Syntax.w64)),
+) (List._∷_ (
+  25,
+  Rows.any-gone
+      (Syntax.tyStruct
+      (List._∷_ 38 (List._∷_ 91 (List._∷_ 93 List.[])))
+      (Syntax.tcons
+      (Syntax.tyRef Syntax.erased Syntax.mut (Syntax.tyInt Syntax.w64))
+      (Syntax.tcons (Syntax.tyInt Syntax.w64) Syntax.tnil))),
+)
+    (List._∷_
+    (26, Rows.any-gone (Syntax.tyRef Syntax.erased Syntax.mut (Syntax.tyInt Syntax.w8)))
+    (List._∷_ (
+      27,
+      Rows.any-gone
+          (Syntax.tyStruct
+          (List._∷_ 38 (List._∷_ 91 (List._∷_ 93 List.[])))
+          (Syntax.tcons
+          (Syntax.tyRef Syntax.erased Syntax.mut (Syntax.tyInt Syntax.w8))
+          (Syntax.tcons (Syntax.tyInt Syntax.w64) Syntax.tnil))),
+    ) (List._∷_ (
+      28,
+      Rows.any-gone (Syntax.tyRef Syntax.erased Syntax.mut (Syntax.tyInt Syntax.w8)),
+    ) (List._∷_ (
+      29,
+      Rows.any-gone
+          (Syntax.tyStruct
+          (List._∷_ 38 (List._∷_ 91 (List._∷_ 93 List.[])))
+          (Syntax.tcons
+          (Syntax.tyRef Syntax.erased Syntax.mut (Syntax.tyInt Syntax.w8))
+          (Syntax.tcons (Syntax.tyInt Syntax.w64) Syntax.tnil))),
+    ) (List._∷_ (
+      30,
+      Rows.any-gone (Syntax.tyRef Syntax.erased Syntax.mut (Syntax.tyInt Syntax.w8)),
+    ) (List._∷_ (
+      31,
+      Rows.any-gone
+          (Syntax.tyStruct
+          (List._∷_ 38 (List._∷_ 91 (List._∷_ 93 List.[])))
+          (Syntax.tcons
+          (Syntax.tyRef Syntax.erased Syntax.mut (Syntax.tyInt Syntax.w8))
+          (Syntax.tcons (Syntax.tyInt Syntax.w64) Syntax.tnil))),
+    ) List.[])))))))))))))))
 
 abbrev pub t7 : List.List Row.Entry
 t7 = List._∷_ (0, Rows.any-gone (Syntax.tyInt Syntax.w64)) (List._∷_ (
@@ -1423,15 +1423,15 @@ t7 = List._∷_ (0, Rows.any-gone (Syntax.tyInt Syntax.w64)) (List._∷_ (
       3,
 ) (List._∷_ (
   6,
-  Mut.mslice
+  Rows.sslice
       (Referent.rtF (Referent.fInt Syntax.w64))
-      (Syntax.tyRef (Syntax.named 4) Syntax.mut (Syntax.tyInt Syntax.w64))
+      (Syntax.tyRef (Syntax.named 4) Syntax.imm (Syntax.tyInt Syntax.w64))
       4,
 ) (List._∷_ (
   7,
   Mut.mslice
-      (Referent.rtF (Referent.fInt Syntax.w8))
-      (Syntax.tyRef (Syntax.named 5) Syntax.mut (Syntax.tyInt Syntax.w8))
+      (Referent.rtF (Referent.fInt Syntax.w64))
+      (Syntax.tyRef (Syntax.named 5) Syntax.mut (Syntax.tyInt Syntax.w64))
       5,
 ) (List._∷_ (
   8,
@@ -1447,17 +1447,23 @@ t7 = List._∷_ (0, Rows.any-gone (Syntax.tyInt Syntax.w64)) (List._∷_ (
       7,
 ) (List._∷_ (
   10,
+  Mut.mslice
+      (Referent.rtF (Referent.fInt Syntax.w8))
+      (Syntax.tyRef (Syntax.named 8) Syntax.mut (Syntax.tyInt Syntax.w8))
+      8,
+) (List._∷_ (
+  11,
   Relend.mslice-owed
       Elem.R
-      (Syntax.tyRef (Syntax.named 8) Syntax.mut Elem.ty)
-      8
+      (Syntax.tyRef (Syntax.named 9) Syntax.mut Elem.ty)
       9
+      10
       Row.off,
-) (List._∷_ (11, Rows.sc-here (Row.sInt Syntax.w64)) (List._∷_ (
-  12,
+) (List._∷_ (12, Rows.sc-here (Row.sInt Syntax.w64)) (List._∷_ (
+  13,
   Rows.sc-here (Row.sInt Syntax.w64),
-) (List._∷_ (13, Rows.sc-here (Row.sInt Syntax.w64)) (List._∷_ (
-  14,
+) (List._∷_ (14, Rows.sc-here (Row.sInt Syntax.w64)) (List._∷_ (
+  15,
   Rows.any-gone
       (Syntax.tyStruct
       (List._∷_
@@ -1508,17 +1514,17 @@ t7 = List._∷_ (0, Rows.any-gone (Syntax.tyInt Syntax.w64)) (List._∷_ (
       (List._∷_ 101 (List._∷_ 103 (List._∷_ 105 (List._∷_ 111 (List._∷_ 110 List.[])))))))))))))
       (Syntax.tcons (Syntax.tyInt Syntax.w64) Syntax.tnil))
       (Syntax.tcons (Syntax.tyInt Syntax.w64) Syntax.tnil))))),
-) (List._∷_ (15, Rows.any-gone Syntax.tyBool) List.[])))))))))))))))
+) List.[])))))))))))))))
 
 abbrev pub t8 : List.List Row.Entry
-t8 = List._∷_ (
-  16,
+t8 = List._∷_ (16, Rows.any-gone Syntax.tyBool) (List._∷_ (
+  17,
   Relend.msptr
       Elem.R
       (Syntax.tyRef Syntax.erased Syntax.mut Elem.ty)
-      9,
+      10,
 ) (List._∷_ (
-  17,
+  18,
   Rows.any-gone
       (Syntax.tyStruct
       (List._∷_ 38 (List._∷_ 91 (List._∷_ 93 List.[])))
@@ -1526,25 +1532,25 @@ t8 = List._∷_ (
       (Syntax.tyRef Syntax.erased Syntax.mut Elem.ty)
       (Syntax.tcons (Syntax.tyInt Syntax.w64) Syntax.tnil))),
 ) (List._∷_ (
-  18,
+  19,
   Rows.any-gone
       (Syntax.tyRef Syntax.erased Syntax.imm Elem.ty),
 ) (List._∷_ (
-  19,
+  20,
   Rows.any-gone
       (Syntax.tyStruct
       (List._∷_ 38 (List._∷_ 91 (List._∷_ 93 List.[])))
       (Syntax.tcons
       (Syntax.tyRef Syntax.erased Syntax.imm Elem.ty)
       (Syntax.tcons (Syntax.tyInt Syntax.w64) Syntax.tnil))),
-) (List._∷_ (20, Rows.any-gone (Syntax.tyInt Syntax.w64)) (List._∷_ (
-  21,
+) (List._∷_ (21, Rows.any-gone (Syntax.tyInt Syntax.w64)) (List._∷_ (
+  22,
   Rows.any-gone (Syntax.tyInt Syntax.w64),
-) (List._∷_ (22, Rows.any-gone (Syntax.tyInt Syntax.w64)) (List._∷_ (
-  23,
+) (List._∷_ (23, Rows.any-gone (Syntax.tyInt Syntax.w64)) (List._∷_ (
+  24,
   Rows.any-gone (Syntax.tyRef Syntax.erased Syntax.mut (Syntax.tyInt Syntax.w64)),
 ) (List._∷_ (
-  24,
+  25,
   Rows.any-gone
       (Syntax.tyStruct
       (List._∷_ 38 (List._∷_ 91 (List._∷_ 93 List.[])))
@@ -1553,70 +1559,70 @@ t8 = List._∷_ (
       (Syntax.tcons (Syntax.tyInt Syntax.w64) Syntax.tnil))),
 )
     (List._∷_
-    (25, Rows.any-gone (Syntax.tyRef Syntax.erased Syntax.mut (Syntax.tyInt Syntax.w8)))
+    (26, Rows.any-gone (Syntax.tyRef Syntax.erased Syntax.mut (Syntax.tyInt Syntax.w8)))
     (List._∷_ (
-      26,
+      27,
       Rows.any-gone
           (Syntax.tyStruct
           (List._∷_ 38 (List._∷_ 91 (List._∷_ 93 List.[])))
           (Syntax.tcons
           (Syntax.tyRef Syntax.erased Syntax.mut (Syntax.tyInt Syntax.w8))
           (Syntax.tcons (Syntax.tyInt Syntax.w64) Syntax.tnil))),
-    ) (List._∷_ (
-      27,
-      Rows.any-gone (Syntax.tyRef Syntax.erased Syntax.mut (Syntax.tyInt Syntax.w8)),
     ) (List._∷_ (
       28,
-      Rows.any-gone
-          (Syntax.tyStruct
-          (List._∷_ 38 (List._∷_ 91 (List._∷_ 93 List.[])))
-          (Syntax.tcons
-          (Syntax.tyRef Syntax.erased Syntax.mut (Syntax.tyInt Syntax.w8))
-          (Syntax.tcons (Syntax.tyInt Syntax.w64) Syntax.tnil))),
-    ) (List._∷_ (
-      29,
       Rows.any-gone (Syntax.tyRef Syntax.erased Syntax.mut (Syntax.tyInt Syntax.w8)),
     ) (List._∷_ (
-      30,
+      29,
       Rows.any-gone
           (Syntax.tyStruct
           (List._∷_ 38 (List._∷_ 91 (List._∷_ 93 List.[])))
           (Syntax.tcons
           (Syntax.tyRef Syntax.erased Syntax.mut (Syntax.tyInt Syntax.w8))
           (Syntax.tcons (Syntax.tyInt Syntax.w64) Syntax.tnil))),
-    ) List.[]))))))))))))))
+    ) (List._∷_ (
+      30,
+      Rows.any-gone (Syntax.tyRef Syntax.erased Syntax.mut (Syntax.tyInt Syntax.w8)),
+    ) (List._∷_ (
+      31,
+      Rows.any-gone
+          (Syntax.tyStruct
+          (List._∷_ 38 (List._∷_ 91 (List._∷_ 93 List.[])))
+          (Syntax.tcons
+          (Syntax.tyRef Syntax.erased Syntax.mut (Syntax.tyInt Syntax.w8))
+          (Syntax.tcons (Syntax.tyInt Syntax.w64) Syntax.tnil))),
+    ) List.[])))))))))))))))
 
 abbrev pub t9 : List.List Row.Entry
-t9 = List._∷_ (
-  16,
+t9 = List._∷_ (16, Rows.any-gone Syntax.tyBool) (List._∷_ (
+  17,
   Rows.any-gone
       (Syntax.tyRef Syntax.erased Syntax.mut Elem.ty),
 ) (List._∷_ (
-  17,
+  18,
   Mut.mslice
       Elem.R
       (Syntax.tyRef Syntax.erased Syntax.mut Elem.ty)
-      9,
+      10,
 ) (List._∷_ (
-  18,
+  19,
   Rows.any-gone
       (Syntax.tyRef Syntax.erased Syntax.imm Elem.ty),
 ) (List._∷_ (
-  19,
+  20,
   Rows.any-gone
       (Syntax.tyStruct
       (List._∷_ 38 (List._∷_ 91 (List._∷_ 93 List.[])))
       (Syntax.tcons
       (Syntax.tyRef Syntax.erased Syntax.imm Elem.ty)
       (Syntax.tcons (Syntax.tyInt Syntax.w64) Syntax.tnil))),
-) (List._∷_ (20, Rows.any-gone (Syntax.tyInt Syntax.w64)) (List._∷_ (
-  21,
+) (List._∷_ (21, Rows.any-gone (Syntax.tyInt Syntax.w64)) (List._∷_ (
+  22,
   Rows.any-gone (Syntax.tyInt Syntax.w64),
-) (List._∷_ (22, Rows.any-gone (Syntax.tyInt Syntax.w64)) (List._∷_ (
-  23,
+) (List._∷_ (23, Rows.any-gone (Syntax.tyInt Syntax.w64)) (List._∷_ (
+  24,
   Rows.any-gone (Syntax.tyRef Syntax.erased Syntax.mut (Syntax.tyInt Syntax.w64)),
 ) (List._∷_ (
-  24,
+  25,
   Rows.any-gone
       (Syntax.tyStruct
       (List._∷_ 38 (List._∷_ 91 (List._∷_ 93 List.[])))
@@ -1625,69 +1631,69 @@ t9 = List._∷_ (
       (Syntax.tcons (Syntax.tyInt Syntax.w64) Syntax.tnil))),
 )
     (List._∷_
-    (25, Rows.any-gone (Syntax.tyRef Syntax.erased Syntax.mut (Syntax.tyInt Syntax.w8)))
+    (26, Rows.any-gone (Syntax.tyRef Syntax.erased Syntax.mut (Syntax.tyInt Syntax.w8)))
     (List._∷_ (
-      26,
+      27,
       Rows.any-gone
           (Syntax.tyStruct
           (List._∷_ 38 (List._∷_ 91 (List._∷_ 93 List.[])))
           (Syntax.tcons
           (Syntax.tyRef Syntax.erased Syntax.mut (Syntax.tyInt Syntax.w8))
           (Syntax.tcons (Syntax.tyInt Syntax.w64) Syntax.tnil))),
-    ) (List._∷_ (
-      27,
-      Rows.any-gone (Syntax.tyRef Syntax.erased Syntax.mut (Syntax.tyInt Syntax.w8)),
     ) (List._∷_ (
       28,
-      Rows.any-gone
-          (Syntax.tyStruct
-          (List._∷_ 38 (List._∷_ 91 (List._∷_ 93 List.[])))
-          (Syntax.tcons
-          (Syntax.tyRef Syntax.erased Syntax.mut (Syntax.tyInt Syntax.w8))
-          (Syntax.tcons (Syntax.tyInt Syntax.w64) Syntax.tnil))),
-    ) (List._∷_ (
-      29,
       Rows.any-gone (Syntax.tyRef Syntax.erased Syntax.mut (Syntax.tyInt Syntax.w8)),
     ) (List._∷_ (
-      30,
+      29,
       Rows.any-gone
           (Syntax.tyStruct
           (List._∷_ 38 (List._∷_ 91 (List._∷_ 93 List.[])))
           (Syntax.tcons
           (Syntax.tyRef Syntax.erased Syntax.mut (Syntax.tyInt Syntax.w8))
           (Syntax.tcons (Syntax.tyInt Syntax.w64) Syntax.tnil))),
-    ) List.[]))))))))))))))
+    ) (List._∷_ (
+      30,
+      Rows.any-gone (Syntax.tyRef Syntax.erased Syntax.mut (Syntax.tyInt Syntax.w8)),
+    ) (List._∷_ (
+      31,
+      Rows.any-gone
+          (Syntax.tyStruct
+          (List._∷_ 38 (List._∷_ 91 (List._∷_ 93 List.[])))
+          (Syntax.tcons
+          (Syntax.tyRef Syntax.erased Syntax.mut (Syntax.tyInt Syntax.w8))
+          (Syntax.tcons (Syntax.tyInt Syntax.w64) Syntax.tnil))),
+    ) List.[])))))))))))))))
 
 abbrev pub t10 : List.List Row.Entry
-t10 = List._∷_ (
-  16,
+t10 = List._∷_ (16, Rows.any-gone Syntax.tyBool) (List._∷_ (
+  17,
   Rows.any-gone
       (Syntax.tyRef Syntax.erased Syntax.mut Elem.ty),
 ) (List._∷_ (
-  17,
+  18,
   Mut.msleft
       Elem.R
       (Syntax.tyRef Syntax.erased Syntax.mut Elem.ty),
 ) (List._∷_ (
-  18,
+  19,
   Rows.any-gone
       (Syntax.tyRef Syntax.erased Syntax.imm Elem.ty),
 ) (List._∷_ (
-  19,
+  20,
   Rows.any-gone
       (Syntax.tyStruct
       (List._∷_ 38 (List._∷_ 91 (List._∷_ 93 List.[])))
       (Syntax.tcons
       (Syntax.tyRef Syntax.erased Syntax.imm Elem.ty)
       (Syntax.tcons (Syntax.tyInt Syntax.w64) Syntax.tnil))),
-) (List._∷_ (20, Rows.any-gone (Syntax.tyInt Syntax.w64)) (List._∷_ (
-  21,
+) (List._∷_ (21, Rows.any-gone (Syntax.tyInt Syntax.w64)) (List._∷_ (
+  22,
   Rows.any-gone (Syntax.tyInt Syntax.w64),
-) (List._∷_ (22, Rows.any-gone (Syntax.tyInt Syntax.w64)) (List._∷_ (
-  23,
+) (List._∷_ (23, Rows.any-gone (Syntax.tyInt Syntax.w64)) (List._∷_ (
+  24,
   Rows.any-gone (Syntax.tyRef Syntax.erased Syntax.mut (Syntax.tyInt Syntax.w64)),
 ) (List._∷_ (
-  24,
+  25,
   Rows.any-gone
       (Syntax.tyStruct
       (List._∷_ 38 (List._∷_ 91 (List._∷_ 93 List.[])))
@@ -1696,38 +1702,38 @@ t10 = List._∷_ (
       (Syntax.tcons (Syntax.tyInt Syntax.w64) Syntax.tnil))),
 )
     (List._∷_
-    (25, Rows.any-gone (Syntax.tyRef Syntax.erased Syntax.mut (Syntax.tyInt Syntax.w8)))
+    (26, Rows.any-gone (Syntax.tyRef Syntax.erased Syntax.mut (Syntax.tyInt Syntax.w8)))
     (List._∷_ (
-      26,
+      27,
       Rows.any-gone
           (Syntax.tyStruct
           (List._∷_ 38 (List._∷_ 91 (List._∷_ 93 List.[])))
           (Syntax.tcons
           (Syntax.tyRef Syntax.erased Syntax.mut (Syntax.tyInt Syntax.w8))
           (Syntax.tcons (Syntax.tyInt Syntax.w64) Syntax.tnil))),
-    ) (List._∷_ (
-      27,
-      Rows.any-gone (Syntax.tyRef Syntax.erased Syntax.mut (Syntax.tyInt Syntax.w8)),
     ) (List._∷_ (
       28,
-      Rows.any-gone
-          (Syntax.tyStruct
-          (List._∷_ 38 (List._∷_ 91 (List._∷_ 93 List.[])))
-          (Syntax.tcons
-          (Syntax.tyRef Syntax.erased Syntax.mut (Syntax.tyInt Syntax.w8))
-          (Syntax.tcons (Syntax.tyInt Syntax.w64) Syntax.tnil))),
-    ) (List._∷_ (
-      29,
       Rows.any-gone (Syntax.tyRef Syntax.erased Syntax.mut (Syntax.tyInt Syntax.w8)),
     ) (List._∷_ (
-      30,
+      29,
       Rows.any-gone
           (Syntax.tyStruct
           (List._∷_ 38 (List._∷_ 91 (List._∷_ 93 List.[])))
           (Syntax.tcons
           (Syntax.tyRef Syntax.erased Syntax.mut (Syntax.tyInt Syntax.w8))
           (Syntax.tcons (Syntax.tyInt Syntax.w64) Syntax.tnil))),
-    ) List.[]))))))))))))))
+    ) (List._∷_ (
+      30,
+      Rows.any-gone (Syntax.tyRef Syntax.erased Syntax.mut (Syntax.tyInt Syntax.w8)),
+    ) (List._∷_ (
+      31,
+      Rows.any-gone
+          (Syntax.tyStruct
+          (List._∷_ 38 (List._∷_ 91 (List._∷_ 93 List.[])))
+          (Syntax.tcons
+          (Syntax.tyRef Syntax.erased Syntax.mut (Syntax.tyInt Syntax.w8))
+          (Syntax.tcons (Syntax.tyInt Syntax.w64) Syntax.tnil))),
+    ) List.[])))))))))))))))
 
 abbrev pub t11 : List.List Row.Entry
 t11 = List._∷_ (0, Rows.any-gone (Syntax.tyInt Syntax.w64)) (List._∷_ (
@@ -1756,15 +1762,15 @@ t11 = List._∷_ (0, Rows.any-gone (Syntax.tyInt Syntax.w64)) (List._∷_ (
       3,
 ) (List._∷_ (
   6,
-  Mut.mslice
+  Rows.sslice
       (Referent.rtF (Referent.fInt Syntax.w64))
-      (Syntax.tyRef (Syntax.named 4) Syntax.mut (Syntax.tyInt Syntax.w64))
+      (Syntax.tyRef (Syntax.named 4) Syntax.imm (Syntax.tyInt Syntax.w64))
       4,
 ) (List._∷_ (
   7,
   Mut.mslice
-      (Referent.rtF (Referent.fInt Syntax.w8))
-      (Syntax.tyRef (Syntax.named 5) Syntax.mut (Syntax.tyInt Syntax.w8))
+      (Referent.rtF (Referent.fInt Syntax.w64))
+      (Syntax.tyRef (Syntax.named 5) Syntax.mut (Syntax.tyInt Syntax.w64))
       5,
 ) (List._∷_ (
   8,
@@ -1780,17 +1786,23 @@ t11 = List._∷_ (0, Rows.any-gone (Syntax.tyInt Syntax.w64)) (List._∷_ (
       7,
 ) (List._∷_ (
   10,
+  Mut.mslice
+      (Referent.rtF (Referent.fInt Syntax.w8))
+      (Syntax.tyRef (Syntax.named 8) Syntax.mut (Syntax.tyInt Syntax.w8))
+      8,
+) (List._∷_ (
+  11,
   Reshare.mslice-owedS
       Elem.R
-      (Syntax.tyRef (Syntax.named 8) Syntax.mut Elem.ty)
-      8
-      10
+      (Syntax.tyRef (Syntax.named 9) Syntax.mut Elem.ty)
+      9
+      11
       Row.off,
-) (List._∷_ (11, Rows.sc-here (Row.sInt Syntax.w64)) (List._∷_ (
-  12,
+) (List._∷_ (12, Rows.sc-here (Row.sInt Syntax.w64)) (List._∷_ (
+  13,
   Rows.sc-here (Row.sInt Syntax.w64),
-) (List._∷_ (13, Rows.sc-here (Row.sInt Syntax.w64)) (List._∷_ (
-  14,
+) (List._∷_ (14, Rows.sc-here (Row.sInt Syntax.w64)) (List._∷_ (
+  15,
   Rows.any-gone
       (Syntax.tyStruct
       (List._∷_
@@ -1841,15 +1853,15 @@ t11 = List._∷_ (0, Rows.any-gone (Syntax.tyInt Syntax.w64)) (List._∷_ (
       (List._∷_ 101 (List._∷_ 103 (List._∷_ 105 (List._∷_ 111 (List._∷_ 110 List.[])))))))))))))
       (Syntax.tcons (Syntax.tyInt Syntax.w64) Syntax.tnil))
       (Syntax.tcons (Syntax.tyInt Syntax.w64) Syntax.tnil))))),
-) (List._∷_ (15, Rows.any-gone Syntax.tyBool) List.[])))))))))))))))
+) List.[])))))))))))))))
 
 abbrev pub t12 : List.List Row.Entry
-t12 = List._∷_ (
-  16,
+t12 = List._∷_ (16, Rows.any-gone Syntax.tyBool) (List._∷_ (
+  17,
   Rows.any-gone
       (Syntax.tyRef Syntax.erased Syntax.mut Elem.ty),
 ) (List._∷_ (
-  17,
+  18,
   Rows.any-gone
       (Syntax.tyStruct
       (List._∷_ 38 (List._∷_ 91 (List._∷_ 93 List.[])))
@@ -1857,27 +1869,27 @@ t12 = List._∷_ (
       (Syntax.tyRef Syntax.erased Syntax.mut Elem.ty)
       (Syntax.tcons (Syntax.tyInt Syntax.w64) Syntax.tnil))),
 ) (List._∷_ (
-  18,
+  19,
   Relend.ssptr
       Elem.R
       (Syntax.tyRef Syntax.erased Syntax.imm Elem.ty)
-      10,
+      11,
 ) (List._∷_ (
-  19,
+  20,
   Rows.any-gone
       (Syntax.tyStruct
       (List._∷_ 38 (List._∷_ 91 (List._∷_ 93 List.[])))
       (Syntax.tcons
       (Syntax.tyRef Syntax.erased Syntax.imm Elem.ty)
       (Syntax.tcons (Syntax.tyInt Syntax.w64) Syntax.tnil))),
-) (List._∷_ (20, Rows.any-gone (Syntax.tyInt Syntax.w64)) (List._∷_ (
-  21,
+) (List._∷_ (21, Rows.any-gone (Syntax.tyInt Syntax.w64)) (List._∷_ (
+  22,
   Rows.any-gone (Syntax.tyInt Syntax.w64),
-) (List._∷_ (22, Rows.any-gone (Syntax.tyInt Syntax.w64)) (List._∷_ (
-  23,
+) (List._∷_ (23, Rows.any-gone (Syntax.tyInt Syntax.w64)) (List._∷_ (
+  24,
   Rows.any-gone (Syntax.tyRef Syntax.erased Syntax.mut (Syntax.tyInt Syntax.w64)),
 ) (List._∷_ (
-  24,
+  25,
   Rows.any-gone
       (Syntax.tyStruct
       (List._∷_ 38 (List._∷_ 91 (List._∷_ 93 List.[])))
@@ -1886,46 +1898,46 @@ t12 = List._∷_ (
       (Syntax.tcons (Syntax.tyInt Syntax.w64) Syntax.tnil))),
 )
     (List._∷_
-    (25, Rows.any-gone (Syntax.tyRef Syntax.erased Syntax.mut (Syntax.tyInt Syntax.w8)))
+    (26, Rows.any-gone (Syntax.tyRef Syntax.erased Syntax.mut (Syntax.tyInt Syntax.w8)))
     (List._∷_ (
-      26,
+      27,
       Rows.any-gone
           (Syntax.tyStruct
           (List._∷_ 38 (List._∷_ 91 (List._∷_ 93 List.[])))
           (Syntax.tcons
           (Syntax.tyRef Syntax.erased Syntax.mut (Syntax.tyInt Syntax.w8))
           (Syntax.tcons (Syntax.tyInt Syntax.w64) Syntax.tnil))),
-    ) (List._∷_ (
-      27,
-      Rows.any-gone (Syntax.tyRef Syntax.erased Syntax.mut (Syntax.tyInt Syntax.w8)),
     ) (List._∷_ (
       28,
-      Rows.any-gone
-          (Syntax.tyStruct
-          (List._∷_ 38 (List._∷_ 91 (List._∷_ 93 List.[])))
-          (Syntax.tcons
-          (Syntax.tyRef Syntax.erased Syntax.mut (Syntax.tyInt Syntax.w8))
-          (Syntax.tcons (Syntax.tyInt Syntax.w64) Syntax.tnil))),
-    ) (List._∷_ (
-      29,
       Rows.any-gone (Syntax.tyRef Syntax.erased Syntax.mut (Syntax.tyInt Syntax.w8)),
     ) (List._∷_ (
-      30,
+      29,
       Rows.any-gone
           (Syntax.tyStruct
           (List._∷_ 38 (List._∷_ 91 (List._∷_ 93 List.[])))
           (Syntax.tcons
           (Syntax.tyRef Syntax.erased Syntax.mut (Syntax.tyInt Syntax.w8))
           (Syntax.tcons (Syntax.tyInt Syntax.w64) Syntax.tnil))),
-    ) List.[]))))))))))))))
+    ) (List._∷_ (
+      30,
+      Rows.any-gone (Syntax.tyRef Syntax.erased Syntax.mut (Syntax.tyInt Syntax.w8)),
+    ) (List._∷_ (
+      31,
+      Rows.any-gone
+          (Syntax.tyStruct
+          (List._∷_ 38 (List._∷_ 91 (List._∷_ 93 List.[])))
+          (Syntax.tcons
+          (Syntax.tyRef Syntax.erased Syntax.mut (Syntax.tyInt Syntax.w8))
+          (Syntax.tcons (Syntax.tyInt Syntax.w64) Syntax.tnil))),
+    ) List.[])))))))))))))))
 
 abbrev pub t13 : List.List Row.Entry
-t13 = List._∷_ (
-  16,
+t13 = List._∷_ (16, Rows.any-gone Syntax.tyBool) (List._∷_ (
+  17,
   Rows.any-gone
       (Syntax.tyRef Syntax.erased Syntax.mut Elem.ty),
 ) (List._∷_ (
-  17,
+  18,
   Rows.any-gone
       (Syntax.tyStruct
       (List._∷_ 38 (List._∷_ 91 (List._∷_ 93 List.[])))
@@ -1933,23 +1945,23 @@ t13 = List._∷_ (
       (Syntax.tyRef Syntax.erased Syntax.mut Elem.ty)
       (Syntax.tcons (Syntax.tyInt Syntax.w64) Syntax.tnil))),
 ) (List._∷_ (
-  18,
+  19,
   Rows.any-gone
       (Syntax.tyRef Syntax.erased Syntax.imm Elem.ty),
 ) (List._∷_ (
-  19,
+  20,
   Rows.sslice
       Elem.R
       (Syntax.tyRef Syntax.erased Syntax.imm Elem.ty)
-      10,
-) (List._∷_ (20, Rows.any-gone (Syntax.tyInt Syntax.w64)) (List._∷_ (
-  21,
+      11,
+) (List._∷_ (21, Rows.any-gone (Syntax.tyInt Syntax.w64)) (List._∷_ (
+  22,
   Rows.any-gone (Syntax.tyInt Syntax.w64),
-) (List._∷_ (22, Rows.any-gone (Syntax.tyInt Syntax.w64)) (List._∷_ (
-  23,
+) (List._∷_ (23, Rows.any-gone (Syntax.tyInt Syntax.w64)) (List._∷_ (
+  24,
   Rows.any-gone (Syntax.tyRef Syntax.erased Syntax.mut (Syntax.tyInt Syntax.w64)),
 ) (List._∷_ (
-  24,
+  25,
   Rows.any-gone
       (Syntax.tyStruct
       (List._∷_ 38 (List._∷_ 91 (List._∷_ 93 List.[])))
@@ -1958,46 +1970,46 @@ t13 = List._∷_ (
       (Syntax.tcons (Syntax.tyInt Syntax.w64) Syntax.tnil))),
 )
     (List._∷_
-    (25, Rows.any-gone (Syntax.tyRef Syntax.erased Syntax.mut (Syntax.tyInt Syntax.w8)))
+    (26, Rows.any-gone (Syntax.tyRef Syntax.erased Syntax.mut (Syntax.tyInt Syntax.w8)))
     (List._∷_ (
-      26,
+      27,
       Rows.any-gone
           (Syntax.tyStruct
           (List._∷_ 38 (List._∷_ 91 (List._∷_ 93 List.[])))
           (Syntax.tcons
           (Syntax.tyRef Syntax.erased Syntax.mut (Syntax.tyInt Syntax.w8))
           (Syntax.tcons (Syntax.tyInt Syntax.w64) Syntax.tnil))),
-    ) (List._∷_ (
-      27,
-      Rows.any-gone (Syntax.tyRef Syntax.erased Syntax.mut (Syntax.tyInt Syntax.w8)),
     ) (List._∷_ (
       28,
-      Rows.any-gone
-          (Syntax.tyStruct
-          (List._∷_ 38 (List._∷_ 91 (List._∷_ 93 List.[])))
-          (Syntax.tcons
-          (Syntax.tyRef Syntax.erased Syntax.mut (Syntax.tyInt Syntax.w8))
-          (Syntax.tcons (Syntax.tyInt Syntax.w64) Syntax.tnil))),
-    ) (List._∷_ (
-      29,
       Rows.any-gone (Syntax.tyRef Syntax.erased Syntax.mut (Syntax.tyInt Syntax.w8)),
     ) (List._∷_ (
-      30,
+      29,
       Rows.any-gone
           (Syntax.tyStruct
           (List._∷_ 38 (List._∷_ 91 (List._∷_ 93 List.[])))
           (Syntax.tcons
           (Syntax.tyRef Syntax.erased Syntax.mut (Syntax.tyInt Syntax.w8))
           (Syntax.tcons (Syntax.tyInt Syntax.w64) Syntax.tnil))),
-    ) List.[]))))))))))))))
+    ) (List._∷_ (
+      30,
+      Rows.any-gone (Syntax.tyRef Syntax.erased Syntax.mut (Syntax.tyInt Syntax.w8)),
+    ) (List._∷_ (
+      31,
+      Rows.any-gone
+          (Syntax.tyStruct
+          (List._∷_ 38 (List._∷_ 91 (List._∷_ 93 List.[])))
+          (Syntax.tcons
+          (Syntax.tyRef Syntax.erased Syntax.mut (Syntax.tyInt Syntax.w8))
+          (Syntax.tcons (Syntax.tyInt Syntax.w64) Syntax.tnil))),
+    ) List.[])))))))))))))))
 
 abbrev pub t14 : List.List Row.Entry
-t14 = List._∷_ (
-  16,
+t14 = List._∷_ (16, Rows.any-gone Syntax.tyBool) (List._∷_ (
+  17,
   Rows.any-gone
       (Syntax.tyRef Syntax.erased Syntax.mut Elem.ty),
 ) (List._∷_ (
-  17,
+  18,
   Rows.any-gone
       (Syntax.tyStruct
       (List._∷_ 38 (List._∷_ 91 (List._∷_ 93 List.[])))
@@ -2005,23 +2017,23 @@ t14 = List._∷_ (
       (Syntax.tyRef Syntax.erased Syntax.mut Elem.ty)
       (Syntax.tcons (Syntax.tyInt Syntax.w64) Syntax.tnil))),
 ) (List._∷_ (
-  18,
+  19,
   Rows.any-gone
       (Syntax.tyRef Syntax.erased Syntax.imm Elem.ty),
 ) (List._∷_ (
-  19,
+  20,
   Rows.sslice
       Elem.R
       (Syntax.tyRef Syntax.erased Syntax.imm Elem.ty)
-      10,
-) (List._∷_ (20, Rows.sc-here (Row.sInt Syntax.w64)) (List._∷_ (
-  21,
+      11,
+) (List._∷_ (21, Rows.sc-here (Row.sInt Syntax.w64)) (List._∷_ (
+  22,
   Rows.any-gone (Syntax.tyInt Syntax.w64),
-) (List._∷_ (22, Rows.any-gone (Syntax.tyInt Syntax.w64)) (List._∷_ (
-  23,
+) (List._∷_ (23, Rows.any-gone (Syntax.tyInt Syntax.w64)) (List._∷_ (
+  24,
   Rows.any-gone (Syntax.tyRef Syntax.erased Syntax.mut (Syntax.tyInt Syntax.w64)),
 ) (List._∷_ (
-  24,
+  25,
   Rows.any-gone
       (Syntax.tyStruct
       (List._∷_ 38 (List._∷_ 91 (List._∷_ 93 List.[])))
@@ -2030,46 +2042,46 @@ t14 = List._∷_ (
       (Syntax.tcons (Syntax.tyInt Syntax.w64) Syntax.tnil))),
 )
     (List._∷_
-    (25, Rows.any-gone (Syntax.tyRef Syntax.erased Syntax.mut (Syntax.tyInt Syntax.w8)))
+    (26, Rows.any-gone (Syntax.tyRef Syntax.erased Syntax.mut (Syntax.tyInt Syntax.w8)))
     (List._∷_ (
-      26,
+      27,
       Rows.any-gone
           (Syntax.tyStruct
           (List._∷_ 38 (List._∷_ 91 (List._∷_ 93 List.[])))
           (Syntax.tcons
           (Syntax.tyRef Syntax.erased Syntax.mut (Syntax.tyInt Syntax.w8))
           (Syntax.tcons (Syntax.tyInt Syntax.w64) Syntax.tnil))),
-    ) (List._∷_ (
-      27,
-      Rows.any-gone (Syntax.tyRef Syntax.erased Syntax.mut (Syntax.tyInt Syntax.w8)),
     ) (List._∷_ (
       28,
-      Rows.any-gone
-          (Syntax.tyStruct
-          (List._∷_ 38 (List._∷_ 91 (List._∷_ 93 List.[])))
-          (Syntax.tcons
-          (Syntax.tyRef Syntax.erased Syntax.mut (Syntax.tyInt Syntax.w8))
-          (Syntax.tcons (Syntax.tyInt Syntax.w64) Syntax.tnil))),
-    ) (List._∷_ (
-      29,
       Rows.any-gone (Syntax.tyRef Syntax.erased Syntax.mut (Syntax.tyInt Syntax.w8)),
     ) (List._∷_ (
-      30,
+      29,
       Rows.any-gone
           (Syntax.tyStruct
           (List._∷_ 38 (List._∷_ 91 (List._∷_ 93 List.[])))
           (Syntax.tcons
           (Syntax.tyRef Syntax.erased Syntax.mut (Syntax.tyInt Syntax.w8))
           (Syntax.tcons (Syntax.tyInt Syntax.w64) Syntax.tnil))),
-    ) List.[]))))))))))))))
+    ) (List._∷_ (
+      30,
+      Rows.any-gone (Syntax.tyRef Syntax.erased Syntax.mut (Syntax.tyInt Syntax.w8)),
+    ) (List._∷_ (
+      31,
+      Rows.any-gone
+          (Syntax.tyStruct
+          (List._∷_ 38 (List._∷_ 91 (List._∷_ 93 List.[])))
+          (Syntax.tcons
+          (Syntax.tyRef Syntax.erased Syntax.mut (Syntax.tyInt Syntax.w8))
+          (Syntax.tcons (Syntax.tyInt Syntax.w64) Syntax.tnil))),
+    ) List.[])))))))))))))))
 
 abbrev pub t15 : List.List Row.Entry
-t15 = List._∷_ (
-  16,
+t15 = List._∷_ (16, Rows.any-gone Syntax.tyBool) (List._∷_ (
+  17,
   Rows.any-gone
       (Syntax.tyRef Syntax.erased Syntax.mut Elem.ty),
 ) (List._∷_ (
-  17,
+  18,
   Rows.any-gone
       (Syntax.tyStruct
       (List._∷_ 38 (List._∷_ 91 (List._∷_ 93 List.[])))
@@ -2077,23 +2089,23 @@ t15 = List._∷_ (
       (Syntax.tyRef Syntax.erased Syntax.mut Elem.ty)
       (Syntax.tcons (Syntax.tyInt Syntax.w64) Syntax.tnil))),
 ) (List._∷_ (
-  18,
+  19,
   Rows.any-gone
       (Syntax.tyRef Syntax.erased Syntax.imm Elem.ty),
 ) (List._∷_ (
-  19,
+  20,
   Rows.sslice
       Elem.R
       (Syntax.tyRef Syntax.erased Syntax.imm Elem.ty)
-      10,
-) (List._∷_ (20, Rows.sc-here (Row.sInt Syntax.w64)) (List._∷_ (
-  21,
+      11,
+) (List._∷_ (21, Rows.sc-here (Row.sInt Syntax.w64)) (List._∷_ (
+  22,
   Rows.sc-here (Row.sInt Syntax.w64),
-) (List._∷_ (22, Rows.any-gone (Syntax.tyInt Syntax.w64)) (List._∷_ (
-  23,
+) (List._∷_ (23, Rows.any-gone (Syntax.tyInt Syntax.w64)) (List._∷_ (
+  24,
   Rows.any-gone (Syntax.tyRef Syntax.erased Syntax.mut (Syntax.tyInt Syntax.w64)),
 ) (List._∷_ (
-  24,
+  25,
   Rows.any-gone
       (Syntax.tyStruct
       (List._∷_ 38 (List._∷_ 91 (List._∷_ 93 List.[])))
@@ -2102,46 +2114,46 @@ t15 = List._∷_ (
       (Syntax.tcons (Syntax.tyInt Syntax.w64) Syntax.tnil))),
 )
     (List._∷_
-    (25, Rows.any-gone (Syntax.tyRef Syntax.erased Syntax.mut (Syntax.tyInt Syntax.w8)))
+    (26, Rows.any-gone (Syntax.tyRef Syntax.erased Syntax.mut (Syntax.tyInt Syntax.w8)))
     (List._∷_ (
-      26,
+      27,
       Rows.any-gone
           (Syntax.tyStruct
           (List._∷_ 38 (List._∷_ 91 (List._∷_ 93 List.[])))
           (Syntax.tcons
           (Syntax.tyRef Syntax.erased Syntax.mut (Syntax.tyInt Syntax.w8))
           (Syntax.tcons (Syntax.tyInt Syntax.w64) Syntax.tnil))),
-    ) (List._∷_ (
-      27,
-      Rows.any-gone (Syntax.tyRef Syntax.erased Syntax.mut (Syntax.tyInt Syntax.w8)),
     ) (List._∷_ (
       28,
-      Rows.any-gone
-          (Syntax.tyStruct
-          (List._∷_ 38 (List._∷_ 91 (List._∷_ 93 List.[])))
-          (Syntax.tcons
-          (Syntax.tyRef Syntax.erased Syntax.mut (Syntax.tyInt Syntax.w8))
-          (Syntax.tcons (Syntax.tyInt Syntax.w64) Syntax.tnil))),
-    ) (List._∷_ (
-      29,
       Rows.any-gone (Syntax.tyRef Syntax.erased Syntax.mut (Syntax.tyInt Syntax.w8)),
     ) (List._∷_ (
-      30,
+      29,
       Rows.any-gone
           (Syntax.tyStruct
           (List._∷_ 38 (List._∷_ 91 (List._∷_ 93 List.[])))
           (Syntax.tcons
           (Syntax.tyRef Syntax.erased Syntax.mut (Syntax.tyInt Syntax.w8))
           (Syntax.tcons (Syntax.tyInt Syntax.w64) Syntax.tnil))),
-    ) List.[]))))))))))))))
+    ) (List._∷_ (
+      30,
+      Rows.any-gone (Syntax.tyRef Syntax.erased Syntax.mut (Syntax.tyInt Syntax.w8)),
+    ) (List._∷_ (
+      31,
+      Rows.any-gone
+          (Syntax.tyStruct
+          (List._∷_ 38 (List._∷_ 91 (List._∷_ 93 List.[])))
+          (Syntax.tcons
+          (Syntax.tyRef Syntax.erased Syntax.mut (Syntax.tyInt Syntax.w8))
+          (Syntax.tcons (Syntax.tyInt Syntax.w64) Syntax.tnil))),
+    ) List.[])))))))))))))))
 
 abbrev pub t16 : List.List Row.Entry
-t16 = List._∷_ (
-  16,
+t16 = List._∷_ (16, Rows.any-gone Syntax.tyBool) (List._∷_ (
+  17,
   Rows.any-gone
       (Syntax.tyRef Syntax.erased Syntax.mut Elem.ty),
 ) (List._∷_ (
-  17,
+  18,
   Rows.any-gone
       (Syntax.tyStruct
       (List._∷_ 38 (List._∷_ 91 (List._∷_ 93 List.[])))
@@ -2149,23 +2161,23 @@ t16 = List._∷_ (
       (Syntax.tyRef Syntax.erased Syntax.mut Elem.ty)
       (Syntax.tcons (Syntax.tyInt Syntax.w64) Syntax.tnil))),
 ) (List._∷_ (
-  18,
+  19,
   Rows.any-gone
       (Syntax.tyRef Syntax.erased Syntax.imm Elem.ty),
 ) (List._∷_ (
-  19,
+  20,
   Rows.sslice
       Elem.R
       (Syntax.tyRef Syntax.erased Syntax.imm Elem.ty)
-      10,
-) (List._∷_ (20, Rows.any-gone (Syntax.tyInt Syntax.w64)) (List._∷_ (
-  21,
+      11,
+) (List._∷_ (21, Rows.any-gone (Syntax.tyInt Syntax.w64)) (List._∷_ (
+  22,
   Rows.sc-here (Row.sInt Syntax.w64),
-) (List._∷_ (22, Rows.any-gone (Syntax.tyInt Syntax.w64)) (List._∷_ (
-  23,
+) (List._∷_ (23, Rows.any-gone (Syntax.tyInt Syntax.w64)) (List._∷_ (
+  24,
   Rows.any-gone (Syntax.tyRef Syntax.erased Syntax.mut (Syntax.tyInt Syntax.w64)),
 ) (List._∷_ (
-  24,
+  25,
   Rows.any-gone
       (Syntax.tyStruct
       (List._∷_ 38 (List._∷_ 91 (List._∷_ 93 List.[])))
@@ -2174,46 +2186,46 @@ t16 = List._∷_ (
       (Syntax.tcons (Syntax.tyInt Syntax.w64) Syntax.tnil))),
 )
     (List._∷_
-    (25, Rows.any-gone (Syntax.tyRef Syntax.erased Syntax.mut (Syntax.tyInt Syntax.w8)))
+    (26, Rows.any-gone (Syntax.tyRef Syntax.erased Syntax.mut (Syntax.tyInt Syntax.w8)))
     (List._∷_ (
-      26,
+      27,
       Rows.any-gone
           (Syntax.tyStruct
           (List._∷_ 38 (List._∷_ 91 (List._∷_ 93 List.[])))
           (Syntax.tcons
           (Syntax.tyRef Syntax.erased Syntax.mut (Syntax.tyInt Syntax.w8))
           (Syntax.tcons (Syntax.tyInt Syntax.w64) Syntax.tnil))),
-    ) (List._∷_ (
-      27,
-      Rows.any-gone (Syntax.tyRef Syntax.erased Syntax.mut (Syntax.tyInt Syntax.w8)),
     ) (List._∷_ (
       28,
-      Rows.any-gone
-          (Syntax.tyStruct
-          (List._∷_ 38 (List._∷_ 91 (List._∷_ 93 List.[])))
-          (Syntax.tcons
-          (Syntax.tyRef Syntax.erased Syntax.mut (Syntax.tyInt Syntax.w8))
-          (Syntax.tcons (Syntax.tyInt Syntax.w64) Syntax.tnil))),
-    ) (List._∷_ (
-      29,
       Rows.any-gone (Syntax.tyRef Syntax.erased Syntax.mut (Syntax.tyInt Syntax.w8)),
     ) (List._∷_ (
-      30,
+      29,
       Rows.any-gone
           (Syntax.tyStruct
           (List._∷_ 38 (List._∷_ 91 (List._∷_ 93 List.[])))
           (Syntax.tcons
           (Syntax.tyRef Syntax.erased Syntax.mut (Syntax.tyInt Syntax.w8))
           (Syntax.tcons (Syntax.tyInt Syntax.w64) Syntax.tnil))),
-    ) List.[]))))))))))))))
+    ) (List._∷_ (
+      30,
+      Rows.any-gone (Syntax.tyRef Syntax.erased Syntax.mut (Syntax.tyInt Syntax.w8)),
+    ) (List._∷_ (
+      31,
+      Rows.any-gone
+          (Syntax.tyStruct
+          (List._∷_ 38 (List._∷_ 91 (List._∷_ 93 List.[])))
+          (Syntax.tcons
+          (Syntax.tyRef Syntax.erased Syntax.mut (Syntax.tyInt Syntax.w8))
+          (Syntax.tcons (Syntax.tyInt Syntax.w64) Syntax.tnil))),
+    ) List.[])))))))))))))))
 
 abbrev pub t17 : List.List Row.Entry
-t17 = List._∷_ (
-  16,
+t17 = List._∷_ (16, Rows.any-gone Syntax.tyBool) (List._∷_ (
+  17,
   Rows.any-gone
       (Syntax.tyRef Syntax.erased Syntax.mut Elem.ty),
 ) (List._∷_ (
-  17,
+  18,
   Rows.any-gone
       (Syntax.tyStruct
       (List._∷_ 38 (List._∷_ 91 (List._∷_ 93 List.[])))
@@ -2221,23 +2233,23 @@ t17 = List._∷_ (
       (Syntax.tyRef Syntax.erased Syntax.mut Elem.ty)
       (Syntax.tcons (Syntax.tyInt Syntax.w64) Syntax.tnil))),
 ) (List._∷_ (
-  18,
+  19,
   Rows.any-gone
       (Syntax.tyRef Syntax.erased Syntax.imm Elem.ty),
 ) (List._∷_ (
-  19,
+  20,
   Rows.sslice
       Elem.R
       (Syntax.tyRef Syntax.erased Syntax.imm Elem.ty)
-      10,
-) (List._∷_ (20, Rows.any-gone (Syntax.tyInt Syntax.w64)) (List._∷_ (
-  21,
+      11,
+) (List._∷_ (21, Rows.any-gone (Syntax.tyInt Syntax.w64)) (List._∷_ (
+  22,
   Rows.sc-here (Row.sInt Syntax.w64),
-) (List._∷_ (22, Rows.sc-here (Row.sInt Syntax.w64)) (List._∷_ (
-  23,
+) (List._∷_ (23, Rows.sc-here (Row.sInt Syntax.w64)) (List._∷_ (
+  24,
   Rows.any-gone (Syntax.tyRef Syntax.erased Syntax.mut (Syntax.tyInt Syntax.w64)),
 ) (List._∷_ (
-  24,
+  25,
   Rows.any-gone
       (Syntax.tyStruct
       (List._∷_ 38 (List._∷_ 91 (List._∷_ 93 List.[])))
@@ -2246,46 +2258,46 @@ t17 = List._∷_ (
       (Syntax.tcons (Syntax.tyInt Syntax.w64) Syntax.tnil))),
 )
     (List._∷_
-    (25, Rows.any-gone (Syntax.tyRef Syntax.erased Syntax.mut (Syntax.tyInt Syntax.w8)))
+    (26, Rows.any-gone (Syntax.tyRef Syntax.erased Syntax.mut (Syntax.tyInt Syntax.w8)))
     (List._∷_ (
-      26,
+      27,
       Rows.any-gone
           (Syntax.tyStruct
           (List._∷_ 38 (List._∷_ 91 (List._∷_ 93 List.[])))
           (Syntax.tcons
           (Syntax.tyRef Syntax.erased Syntax.mut (Syntax.tyInt Syntax.w8))
           (Syntax.tcons (Syntax.tyInt Syntax.w64) Syntax.tnil))),
-    ) (List._∷_ (
-      27,
-      Rows.any-gone (Syntax.tyRef Syntax.erased Syntax.mut (Syntax.tyInt Syntax.w8)),
     ) (List._∷_ (
       28,
-      Rows.any-gone
-          (Syntax.tyStruct
-          (List._∷_ 38 (List._∷_ 91 (List._∷_ 93 List.[])))
-          (Syntax.tcons
-          (Syntax.tyRef Syntax.erased Syntax.mut (Syntax.tyInt Syntax.w8))
-          (Syntax.tcons (Syntax.tyInt Syntax.w64) Syntax.tnil))),
-    ) (List._∷_ (
-      29,
       Rows.any-gone (Syntax.tyRef Syntax.erased Syntax.mut (Syntax.tyInt Syntax.w8)),
     ) (List._∷_ (
-      30,
+      29,
       Rows.any-gone
           (Syntax.tyStruct
           (List._∷_ 38 (List._∷_ 91 (List._∷_ 93 List.[])))
           (Syntax.tcons
           (Syntax.tyRef Syntax.erased Syntax.mut (Syntax.tyInt Syntax.w8))
           (Syntax.tcons (Syntax.tyInt Syntax.w64) Syntax.tnil))),
-    ) List.[]))))))))))))))
+    ) (List._∷_ (
+      30,
+      Rows.any-gone (Syntax.tyRef Syntax.erased Syntax.mut (Syntax.tyInt Syntax.w8)),
+    ) (List._∷_ (
+      31,
+      Rows.any-gone
+          (Syntax.tyStruct
+          (List._∷_ 38 (List._∷_ 91 (List._∷_ 93 List.[])))
+          (Syntax.tcons
+          (Syntax.tyRef Syntax.erased Syntax.mut (Syntax.tyInt Syntax.w8))
+          (Syntax.tcons (Syntax.tyInt Syntax.w64) Syntax.tnil))),
+    ) List.[])))))))))))))))
 
 abbrev pub t18 : List.List Row.Entry
-t18 = List._∷_ (
-  16,
+t18 = List._∷_ (16, Rows.any-gone Syntax.tyBool) (List._∷_ (
+  17,
   Rows.any-gone
       (Syntax.tyRef Syntax.erased Syntax.mut Elem.ty),
 ) (List._∷_ (
-  17,
+  18,
   Rows.any-gone
       (Syntax.tyStruct
       (List._∷_ 38 (List._∷_ 91 (List._∷_ 93 List.[])))
@@ -2293,23 +2305,23 @@ t18 = List._∷_ (
       (Syntax.tyRef Syntax.erased Syntax.mut Elem.ty)
       (Syntax.tcons (Syntax.tyInt Syntax.w64) Syntax.tnil))),
 ) (List._∷_ (
-  18,
+  19,
   Rows.any-gone
       (Syntax.tyRef Syntax.erased Syntax.imm Elem.ty),
 ) (List._∷_ (
-  19,
+  20,
   Rows.sslice
       Elem.R
       (Syntax.tyRef Syntax.erased Syntax.imm Elem.ty)
-      10,
-) (List._∷_ (20, Rows.any-gone (Syntax.tyInt Syntax.w64)) (List._∷_ (
-  21,
+      11,
+) (List._∷_ (21, Rows.any-gone (Syntax.tyInt Syntax.w64)) (List._∷_ (
+  22,
   Rows.any-gone (Syntax.tyInt Syntax.w64),
-) (List._∷_ (22, Rows.sc-here (Row.sInt Syntax.w64)) (List._∷_ (
-  23,
+) (List._∷_ (23, Rows.sc-here (Row.sInt Syntax.w64)) (List._∷_ (
+  24,
   Rows.any-gone (Syntax.tyRef Syntax.erased Syntax.mut (Syntax.tyInt Syntax.w64)),
 ) (List._∷_ (
-  24,
+  25,
   Rows.any-gone
       (Syntax.tyStruct
       (List._∷_ 38 (List._∷_ 91 (List._∷_ 93 List.[])))
@@ -2318,38 +2330,38 @@ t18 = List._∷_ (
       (Syntax.tcons (Syntax.tyInt Syntax.w64) Syntax.tnil))),
 )
     (List._∷_
-    (25, Rows.any-gone (Syntax.tyRef Syntax.erased Syntax.mut (Syntax.tyInt Syntax.w8)))
+    (26, Rows.any-gone (Syntax.tyRef Syntax.erased Syntax.mut (Syntax.tyInt Syntax.w8)))
     (List._∷_ (
-      26,
+      27,
       Rows.any-gone
           (Syntax.tyStruct
           (List._∷_ 38 (List._∷_ 91 (List._∷_ 93 List.[])))
           (Syntax.tcons
           (Syntax.tyRef Syntax.erased Syntax.mut (Syntax.tyInt Syntax.w8))
           (Syntax.tcons (Syntax.tyInt Syntax.w64) Syntax.tnil))),
-    ) (List._∷_ (
-      27,
-      Rows.any-gone (Syntax.tyRef Syntax.erased Syntax.mut (Syntax.tyInt Syntax.w8)),
     ) (List._∷_ (
       28,
-      Rows.any-gone
-          (Syntax.tyStruct
-          (List._∷_ 38 (List._∷_ 91 (List._∷_ 93 List.[])))
-          (Syntax.tcons
-          (Syntax.tyRef Syntax.erased Syntax.mut (Syntax.tyInt Syntax.w8))
-          (Syntax.tcons (Syntax.tyInt Syntax.w64) Syntax.tnil))),
-    ) (List._∷_ (
-      29,
       Rows.any-gone (Syntax.tyRef Syntax.erased Syntax.mut (Syntax.tyInt Syntax.w8)),
     ) (List._∷_ (
-      30,
+      29,
       Rows.any-gone
           (Syntax.tyStruct
           (List._∷_ 38 (List._∷_ 91 (List._∷_ 93 List.[])))
           (Syntax.tcons
           (Syntax.tyRef Syntax.erased Syntax.mut (Syntax.tyInt Syntax.w8))
           (Syntax.tcons (Syntax.tyInt Syntax.w64) Syntax.tnil))),
-    ) List.[]))))))))))))))
+    ) (List._∷_ (
+      30,
+      Rows.any-gone (Syntax.tyRef Syntax.erased Syntax.mut (Syntax.tyInt Syntax.w8)),
+    ) (List._∷_ (
+      31,
+      Rows.any-gone
+          (Syntax.tyStruct
+          (List._∷_ 38 (List._∷_ 91 (List._∷_ 93 List.[])))
+          (Syntax.tcons
+          (Syntax.tyRef Syntax.erased Syntax.mut (Syntax.tyInt Syntax.w8))
+          (Syntax.tcons (Syntax.tyInt Syntax.w64) Syntax.tnil))),
+    ) List.[])))))))))))))))
 
 abbrev pub t19 : List.List Row.Entry
 t19 = List._∷_ (0, Rows.any-gone (Syntax.tyInt Syntax.w64)) (List._∷_ (
@@ -2378,15 +2390,15 @@ t19 = List._∷_ (0, Rows.any-gone (Syntax.tyInt Syntax.w64)) (List._∷_ (
       3,
 ) (List._∷_ (
   6,
-  Mut.mslice
+  Rows.sslice
       (Referent.rtF (Referent.fInt Syntax.w64))
-      (Syntax.tyRef (Syntax.named 4) Syntax.mut (Syntax.tyInt Syntax.w64))
+      (Syntax.tyRef (Syntax.named 4) Syntax.imm (Syntax.tyInt Syntax.w64))
       4,
 ) (List._∷_ (
   7,
   Mut.mslice
-      (Referent.rtF (Referent.fInt Syntax.w8))
-      (Syntax.tyRef (Syntax.named 5) Syntax.mut (Syntax.tyInt Syntax.w8))
+      (Referent.rtF (Referent.fInt Syntax.w64))
+      (Syntax.tyRef (Syntax.named 5) Syntax.mut (Syntax.tyInt Syntax.w64))
       5,
 ) (List._∷_ (
   8,
@@ -2402,27 +2414,33 @@ t19 = List._∷_ (0, Rows.any-gone (Syntax.tyInt Syntax.w64)) (List._∷_ (
       7,
 ) (List._∷_ (
   10,
+  Mut.mslice
+      (Referent.rtF (Referent.fInt Syntax.w8))
+      (Syntax.tyRef (Syntax.named 8) Syntax.mut (Syntax.tyInt Syntax.w8))
+      8,
+) (List._∷_ (
+  11,
   Reshare.mslice-owedS
       Elem.R
-      (Syntax.tyRef (Syntax.named 8) Syntax.mut Elem.ty)
-      8
-      10
+      (Syntax.tyRef (Syntax.named 9) Syntax.mut Elem.ty)
+      9
+      11
       Row.off,
-) (List._∷_ (11, Rows.sc-here (Row.sInt Syntax.w64)) (List._∷_ (
-  12,
+) (List._∷_ (12, Rows.sc-here (Row.sInt Syntax.w64)) (List._∷_ (
+  13,
   Rows.sc-here (Row.sInt Syntax.w64),
-) (List._∷_ (13, Rows.sc-here (Row.sInt Syntax.w64)) (List._∷_ (
-  14,
+) (List._∷_ (14, Rows.sc-here (Row.sInt Syntax.w64)) (List._∷_ (
+  15,
   Rows.whole (Declared.row LineRec.the-type),
-) (List._∷_ (15, Rows.any-gone Syntax.tyBool) List.[])))))))))))))))
+) List.[])))))))))))))))
 
 abbrev pub t20 : List.List Row.Entry
-t20 = List._∷_ (
-  16,
+t20 = List._∷_ (16, Rows.any-gone Syntax.tyBool) (List._∷_ (
+  17,
   Rows.any-gone
       (Syntax.tyRef Syntax.erased Syntax.mut Elem.ty),
 ) (List._∷_ (
-  17,
+  18,
   Rows.any-gone
       (Syntax.tyStruct
       (List._∷_ 38 (List._∷_ 91 (List._∷_ 93 List.[])))
@@ -2430,25 +2448,25 @@ t20 = List._∷_ (
       (Syntax.tyRef Syntax.erased Syntax.mut Elem.ty)
       (Syntax.tcons (Syntax.tyInt Syntax.w64) Syntax.tnil))),
 ) (List._∷_ (
-  18,
+  19,
   Rows.any-gone
       (Syntax.tyRef Syntax.erased Syntax.imm Elem.ty),
 ) (List._∷_ (
-  19,
+  20,
   Rows.any-gone
       (Syntax.tyStruct
       (List._∷_ 38 (List._∷_ 91 (List._∷_ 93 List.[])))
       (Syntax.tcons
       (Syntax.tyRef Syntax.erased Syntax.imm Elem.ty)
       (Syntax.tcons (Syntax.tyInt Syntax.w64) Syntax.tnil))),
-) (List._∷_ (20, Rows.any-gone (Syntax.tyInt Syntax.w64)) (List._∷_ (
-  21,
+) (List._∷_ (21, Rows.any-gone (Syntax.tyInt Syntax.w64)) (List._∷_ (
+  22,
   Rows.any-gone (Syntax.tyInt Syntax.w64),
-) (List._∷_ (22, Rows.sc-here (Row.sInt Syntax.w64)) (List._∷_ (
-  23,
+) (List._∷_ (23, Rows.sc-here (Row.sInt Syntax.w64)) (List._∷_ (
+  24,
   Rows.any-gone (Syntax.tyRef Syntax.erased Syntax.mut (Syntax.tyInt Syntax.w64)),
 ) (List._∷_ (
-  24,
+  25,
   Rows.any-gone
       (Syntax.tyStruct
       (List._∷_ 38 (List._∷_ 91 (List._∷_ 93 List.[])))
@@ -2457,38 +2475,38 @@ t20 = List._∷_ (
       (Syntax.tcons (Syntax.tyInt Syntax.w64) Syntax.tnil))),
 )
     (List._∷_
-    (25, Rows.any-gone (Syntax.tyRef Syntax.erased Syntax.mut (Syntax.tyInt Syntax.w8)))
+    (26, Rows.any-gone (Syntax.tyRef Syntax.erased Syntax.mut (Syntax.tyInt Syntax.w8)))
     (List._∷_ (
-      26,
+      27,
       Rows.any-gone
           (Syntax.tyStruct
           (List._∷_ 38 (List._∷_ 91 (List._∷_ 93 List.[])))
           (Syntax.tcons
           (Syntax.tyRef Syntax.erased Syntax.mut (Syntax.tyInt Syntax.w8))
           (Syntax.tcons (Syntax.tyInt Syntax.w64) Syntax.tnil))),
-    ) (List._∷_ (
-      27,
-      Rows.any-gone (Syntax.tyRef Syntax.erased Syntax.mut (Syntax.tyInt Syntax.w8)),
     ) (List._∷_ (
       28,
-      Rows.any-gone
-          (Syntax.tyStruct
-          (List._∷_ 38 (List._∷_ 91 (List._∷_ 93 List.[])))
-          (Syntax.tcons
-          (Syntax.tyRef Syntax.erased Syntax.mut (Syntax.tyInt Syntax.w8))
-          (Syntax.tcons (Syntax.tyInt Syntax.w64) Syntax.tnil))),
-    ) (List._∷_ (
-      29,
       Rows.any-gone (Syntax.tyRef Syntax.erased Syntax.mut (Syntax.tyInt Syntax.w8)),
     ) (List._∷_ (
-      30,
+      29,
       Rows.any-gone
           (Syntax.tyStruct
           (List._∷_ 38 (List._∷_ 91 (List._∷_ 93 List.[])))
           (Syntax.tcons
           (Syntax.tyRef Syntax.erased Syntax.mut (Syntax.tyInt Syntax.w8))
           (Syntax.tcons (Syntax.tyInt Syntax.w64) Syntax.tnil))),
-    ) List.[]))))))))))))))
+    ) (List._∷_ (
+      30,
+      Rows.any-gone (Syntax.tyRef Syntax.erased Syntax.mut (Syntax.tyInt Syntax.w8)),
+    ) (List._∷_ (
+      31,
+      Rows.any-gone
+          (Syntax.tyStruct
+          (List._∷_ 38 (List._∷_ 91 (List._∷_ 93 List.[])))
+          (Syntax.tcons
+          (Syntax.tyRef Syntax.erased Syntax.mut (Syntax.tyInt Syntax.w8))
+          (Syntax.tcons (Syntax.tyInt Syntax.w64) Syntax.tnil))),
+    ) List.[])))))))))))))))
 
 abbrev pub t21 : List.List Row.Entry
 t21 = List._∷_ (0, Rows.any-gone (Syntax.tyInt Syntax.w64)) (List._∷_ (
@@ -2517,15 +2535,15 @@ t21 = List._∷_ (0, Rows.any-gone (Syntax.tyInt Syntax.w64)) (List._∷_ (
       3,
 ) (List._∷_ (
   6,
-  Mut.mslice
+  Rows.sslice
       (Referent.rtF (Referent.fInt Syntax.w64))
-      (Syntax.tyRef (Syntax.named 4) Syntax.mut (Syntax.tyInt Syntax.w64))
+      (Syntax.tyRef (Syntax.named 4) Syntax.imm (Syntax.tyInt Syntax.w64))
       4,
 ) (List._∷_ (
   7,
   Mut.mslice
-      (Referent.rtF (Referent.fInt Syntax.w8))
-      (Syntax.tyRef (Syntax.named 5) Syntax.mut (Syntax.tyInt Syntax.w8))
+      (Referent.rtF (Referent.fInt Syntax.w64))
+      (Syntax.tyRef (Syntax.named 5) Syntax.mut (Syntax.tyInt Syntax.w64))
       5,
 ) (List._∷_ (
   8,
@@ -2542,16 +2560,22 @@ t21 = List._∷_ (0, Rows.any-gone (Syntax.tyInt Syntax.w64)) (List._∷_ (
 ) (List._∷_ (
   10,
   Mut.mslice
-      Elem.R
-      (Syntax.tyRef (Syntax.named 8) Syntax.mut Elem.ty)
+      (Referent.rtF (Referent.fInt Syntax.w8))
+      (Syntax.tyRef (Syntax.named 8) Syntax.mut (Syntax.tyInt Syntax.w8))
       8,
-) (List._∷_ (11, Rows.sc-here (Row.sInt Syntax.w64)) (List._∷_ (
-  12,
+) (List._∷_ (
+  11,
+  Mut.mslice
+      Elem.R
+      (Syntax.tyRef (Syntax.named 9) Syntax.mut Elem.ty)
+      9,
+) (List._∷_ (12, Rows.sc-here (Row.sInt Syntax.w64)) (List._∷_ (
+  13,
   Rows.sc-here (Row.sInt Syntax.w64),
-) (List._∷_ (13, Rows.sc-here (Row.sInt Syntax.w64)) (List._∷_ (
-  14,
+) (List._∷_ (14, Rows.sc-here (Row.sInt Syntax.w64)) (List._∷_ (
+  15,
   Rows.whole (Declared.row LineRec.the-type),
-) (List._∷_ (15, Rows.any-gone Syntax.tyBool) List.[])))))))))))))))
+) List.[])))))))))))))))
 
 abbrev pub t22 : List.List Row.Entry
 t22 = List._∷_ (0, Rows.any-gone (Syntax.tyInt Syntax.w64)) (List._∷_ (
@@ -2580,18 +2604,18 @@ t22 = List._∷_ (0, Rows.any-gone (Syntax.tyInt Syntax.w64)) (List._∷_ (
       3,
 ) (List._∷_ (
   6,
-  Relend.mslice-owed
+  Rows.sslice
       (Referent.rtF (Referent.fInt Syntax.w64))
-      (Syntax.tyRef (Syntax.named 4) Syntax.mut (Syntax.tyInt Syntax.w64))
-      4
-      11
-      Row.off,
+      (Syntax.tyRef (Syntax.named 4) Syntax.imm (Syntax.tyInt Syntax.w64))
+      4,
 ) (List._∷_ (
   7,
-  Mut.mslice
-      (Referent.rtF (Referent.fInt Syntax.w8))
-      (Syntax.tyRef (Syntax.named 5) Syntax.mut (Syntax.tyInt Syntax.w8))
-      5,
+  Relend.mslice-owed
+      (Referent.rtF (Referent.fInt Syntax.w64))
+      (Syntax.tyRef (Syntax.named 5) Syntax.mut (Syntax.tyInt Syntax.w64))
+      5
+      12
+      Row.off,
 ) (List._∷_ (
   8,
   Mut.mslice
@@ -2607,24 +2631,30 @@ t22 = List._∷_ (0, Rows.any-gone (Syntax.tyInt Syntax.w64)) (List._∷_ (
 ) (List._∷_ (
   10,
   Mut.mslice
-      Elem.R
-      (Syntax.tyRef (Syntax.named 8) Syntax.mut Elem.ty)
+      (Referent.rtF (Referent.fInt Syntax.w8))
+      (Syntax.tyRef (Syntax.named 8) Syntax.mut (Syntax.tyInt Syntax.w8))
       8,
-) (List._∷_ (11, Rows.sc-here (Row.sInt Syntax.w64)) (List._∷_ (
-  12,
+) (List._∷_ (
+  11,
+  Mut.mslice
+      Elem.R
+      (Syntax.tyRef (Syntax.named 9) Syntax.mut Elem.ty)
+      9,
+) (List._∷_ (12, Rows.sc-here (Row.sInt Syntax.w64)) (List._∷_ (
+  13,
   Rows.sc-here (Row.sInt Syntax.w64),
-) (List._∷_ (13, Rows.sc-here (Row.sInt Syntax.w64)) (List._∷_ (
-  14,
+) (List._∷_ (14, Rows.sc-here (Row.sInt Syntax.w64)) (List._∷_ (
+  15,
   Rows.whole (Declared.row LineRec.the-type),
-) (List._∷_ (15, Rows.any-gone Syntax.tyBool) List.[])))))))))))))))
+) List.[])))))))))))))))
 
 abbrev pub t23 : List.List Row.Entry
-t23 = List._∷_ (
-  16,
+t23 = List._∷_ (16, Rows.any-gone Syntax.tyBool) (List._∷_ (
+  17,
   Rows.any-gone
       (Syntax.tyRef Syntax.erased Syntax.mut Elem.ty),
 ) (List._∷_ (
-  17,
+  18,
   Rows.any-gone
       (Syntax.tyStruct
       (List._∷_ 38 (List._∷_ 91 (List._∷_ 93 List.[])))
@@ -2632,28 +2662,28 @@ t23 = List._∷_ (
       (Syntax.tyRef Syntax.erased Syntax.mut Elem.ty)
       (Syntax.tcons (Syntax.tyInt Syntax.w64) Syntax.tnil))),
 ) (List._∷_ (
-  18,
+  19,
   Rows.any-gone
       (Syntax.tyRef Syntax.erased Syntax.imm Elem.ty),
 ) (List._∷_ (
-  19,
+  20,
   Rows.any-gone
       (Syntax.tyStruct
       (List._∷_ 38 (List._∷_ 91 (List._∷_ 93 List.[])))
       (Syntax.tcons
       (Syntax.tyRef Syntax.erased Syntax.imm Elem.ty)
       (Syntax.tcons (Syntax.tyInt Syntax.w64) Syntax.tnil))),
-) (List._∷_ (20, Rows.any-gone (Syntax.tyInt Syntax.w64)) (List._∷_ (
-  21,
+) (List._∷_ (21, Rows.any-gone (Syntax.tyInt Syntax.w64)) (List._∷_ (
+  22,
   Rows.any-gone (Syntax.tyInt Syntax.w64),
-) (List._∷_ (22, Rows.any-gone (Syntax.tyInt Syntax.w64)) (List._∷_ (
-  23,
+) (List._∷_ (23, Rows.any-gone (Syntax.tyInt Syntax.w64)) (List._∷_ (
+  24,
   Relend.msptr
       (Referent.rtF (Referent.fInt Syntax.w64))
       (Syntax.tyRef Syntax.erased Syntax.mut (Syntax.tyInt Syntax.w64))
-      11,
+      12,
 ) (List._∷_ (
-  24,
+  25,
   Rows.any-gone
       (Syntax.tyStruct
       (List._∷_ 38 (List._∷_ 91 (List._∷_ 93 List.[])))
@@ -2662,46 +2692,46 @@ t23 = List._∷_ (
       (Syntax.tcons (Syntax.tyInt Syntax.w64) Syntax.tnil))),
 )
     (List._∷_
-    (25, Rows.any-gone (Syntax.tyRef Syntax.erased Syntax.mut (Syntax.tyInt Syntax.w8)))
+    (26, Rows.any-gone (Syntax.tyRef Syntax.erased Syntax.mut (Syntax.tyInt Syntax.w8)))
     (List._∷_ (
-      26,
+      27,
       Rows.any-gone
           (Syntax.tyStruct
           (List._∷_ 38 (List._∷_ 91 (List._∷_ 93 List.[])))
           (Syntax.tcons
           (Syntax.tyRef Syntax.erased Syntax.mut (Syntax.tyInt Syntax.w8))
           (Syntax.tcons (Syntax.tyInt Syntax.w64) Syntax.tnil))),
-    ) (List._∷_ (
-      27,
-      Rows.any-gone (Syntax.tyRef Syntax.erased Syntax.mut (Syntax.tyInt Syntax.w8)),
     ) (List._∷_ (
       28,
-      Rows.any-gone
-          (Syntax.tyStruct
-          (List._∷_ 38 (List._∷_ 91 (List._∷_ 93 List.[])))
-          (Syntax.tcons
-          (Syntax.tyRef Syntax.erased Syntax.mut (Syntax.tyInt Syntax.w8))
-          (Syntax.tcons (Syntax.tyInt Syntax.w64) Syntax.tnil))),
-    ) (List._∷_ (
-      29,
       Rows.any-gone (Syntax.tyRef Syntax.erased Syntax.mut (Syntax.tyInt Syntax.w8)),
     ) (List._∷_ (
-      30,
+      29,
       Rows.any-gone
           (Syntax.tyStruct
           (List._∷_ 38 (List._∷_ 91 (List._∷_ 93 List.[])))
           (Syntax.tcons
           (Syntax.tyRef Syntax.erased Syntax.mut (Syntax.tyInt Syntax.w8))
           (Syntax.tcons (Syntax.tyInt Syntax.w64) Syntax.tnil))),
-    ) List.[]))))))))))))))
+    ) (List._∷_ (
+      30,
+      Rows.any-gone (Syntax.tyRef Syntax.erased Syntax.mut (Syntax.tyInt Syntax.w8)),
+    ) (List._∷_ (
+      31,
+      Rows.any-gone
+          (Syntax.tyStruct
+          (List._∷_ 38 (List._∷_ 91 (List._∷_ 93 List.[])))
+          (Syntax.tcons
+          (Syntax.tyRef Syntax.erased Syntax.mut (Syntax.tyInt Syntax.w8))
+          (Syntax.tcons (Syntax.tyInt Syntax.w64) Syntax.tnil))),
+    ) List.[])))))))))))))))
 
 abbrev pub t24 : List.List Row.Entry
-t24 = List._∷_ (
-  16,
+t24 = List._∷_ (16, Rows.any-gone Syntax.tyBool) (List._∷_ (
+  17,
   Rows.any-gone
       (Syntax.tyRef Syntax.erased Syntax.mut Elem.ty),
 ) (List._∷_ (
-  17,
+  18,
   Rows.any-gone
       (Syntax.tyStruct
       (List._∷_ 38 (List._∷_ 91 (List._∷_ 93 List.[])))
@@ -2709,63 +2739,63 @@ t24 = List._∷_ (
       (Syntax.tyRef Syntax.erased Syntax.mut Elem.ty)
       (Syntax.tcons (Syntax.tyInt Syntax.w64) Syntax.tnil))),
 ) (List._∷_ (
-  18,
+  19,
   Rows.any-gone
       (Syntax.tyRef Syntax.erased Syntax.imm Elem.ty),
 ) (List._∷_ (
-  19,
+  20,
   Rows.any-gone
       (Syntax.tyStruct
       (List._∷_ 38 (List._∷_ 91 (List._∷_ 93 List.[])))
       (Syntax.tcons
       (Syntax.tyRef Syntax.erased Syntax.imm Elem.ty)
       (Syntax.tcons (Syntax.tyInt Syntax.w64) Syntax.tnil))),
-) (List._∷_ (20, Rows.any-gone (Syntax.tyInt Syntax.w64)) (List._∷_ (
-  21,
+) (List._∷_ (21, Rows.any-gone (Syntax.tyInt Syntax.w64)) (List._∷_ (
+  22,
   Rows.any-gone (Syntax.tyInt Syntax.w64),
-) (List._∷_ (22, Rows.any-gone (Syntax.tyInt Syntax.w64)) (List._∷_ (
-  23,
+) (List._∷_ (23, Rows.any-gone (Syntax.tyInt Syntax.w64)) (List._∷_ (
+  24,
   Rows.any-gone (Syntax.tyRef Syntax.erased Syntax.mut (Syntax.tyInt Syntax.w64)),
 ) (List._∷_ (
-  24,
+  25,
   Mut.mslice
       (Referent.rtF (Referent.fInt Syntax.w64))
       (Syntax.tyRef Syntax.erased Syntax.mut (Syntax.tyInt Syntax.w64))
-      11,
+      12,
 )
     (List._∷_
-    (25, Rows.any-gone (Syntax.tyRef Syntax.erased Syntax.mut (Syntax.tyInt Syntax.w8)))
+    (26, Rows.any-gone (Syntax.tyRef Syntax.erased Syntax.mut (Syntax.tyInt Syntax.w8)))
     (List._∷_ (
-      26,
+      27,
       Rows.any-gone
           (Syntax.tyStruct
           (List._∷_ 38 (List._∷_ 91 (List._∷_ 93 List.[])))
           (Syntax.tcons
           (Syntax.tyRef Syntax.erased Syntax.mut (Syntax.tyInt Syntax.w8))
           (Syntax.tcons (Syntax.tyInt Syntax.w64) Syntax.tnil))),
-    ) (List._∷_ (
-      27,
-      Rows.any-gone (Syntax.tyRef Syntax.erased Syntax.mut (Syntax.tyInt Syntax.w8)),
     ) (List._∷_ (
       28,
-      Rows.any-gone
-          (Syntax.tyStruct
-          (List._∷_ 38 (List._∷_ 91 (List._∷_ 93 List.[])))
-          (Syntax.tcons
-          (Syntax.tyRef Syntax.erased Syntax.mut (Syntax.tyInt Syntax.w8))
-          (Syntax.tcons (Syntax.tyInt Syntax.w64) Syntax.tnil))),
-    ) (List._∷_ (
-      29,
       Rows.any-gone (Syntax.tyRef Syntax.erased Syntax.mut (Syntax.tyInt Syntax.w8)),
     ) (List._∷_ (
-      30,
+      29,
       Rows.any-gone
           (Syntax.tyStruct
           (List._∷_ 38 (List._∷_ 91 (List._∷_ 93 List.[])))
           (Syntax.tcons
           (Syntax.tyRef Syntax.erased Syntax.mut (Syntax.tyInt Syntax.w8))
           (Syntax.tcons (Syntax.tyInt Syntax.w64) Syntax.tnil))),
-    ) List.[]))))))))))))))
+    ) (List._∷_ (
+      30,
+      Rows.any-gone (Syntax.tyRef Syntax.erased Syntax.mut (Syntax.tyInt Syntax.w8)),
+    ) (List._∷_ (
+      31,
+      Rows.any-gone
+          (Syntax.tyStruct
+          (List._∷_ 38 (List._∷_ 91 (List._∷_ 93 List.[])))
+          (Syntax.tcons
+          (Syntax.tyRef Syntax.erased Syntax.mut (Syntax.tyInt Syntax.w8))
+          (Syntax.tcons (Syntax.tyInt Syntax.w64) Syntax.tnil))),
+    ) List.[])))))))))))))))
 
 abbrev pub t25 : List.List Row.Entry
 t25 = List._∷_ (0, Rows.any-gone (Syntax.tyInt Syntax.w64)) (List._∷_ (
@@ -2794,26 +2824,26 @@ t25 = List._∷_ (0, Rows.any-gone (Syntax.tyInt Syntax.w64)) (List._∷_ (
       3,
 ) (List._∷_ (
   6,
-  Relend.mslice-owed
+  Rows.sslice
       (Referent.rtF (Referent.fInt Syntax.w64))
-      (Syntax.tyRef (Syntax.named 4) Syntax.mut (Syntax.tyInt Syntax.w64))
-      4
-      11
-      Row.off,
+      (Syntax.tyRef (Syntax.named 4) Syntax.imm (Syntax.tyInt Syntax.w64))
+      4,
 ) (List._∷_ (
   7,
   Relend.mslice-owed
-      (Referent.rtF (Referent.fInt Syntax.w8))
-      (Syntax.tyRef (Syntax.named 5) Syntax.mut (Syntax.tyInt Syntax.w8))
+      (Referent.rtF (Referent.fInt Syntax.w64))
+      (Syntax.tyRef (Syntax.named 5) Syntax.mut (Syntax.tyInt Syntax.w64))
       5
       12
       Row.off,
 ) (List._∷_ (
   8,
-  Mut.mslice
+  Relend.mslice-owed
       (Referent.rtF (Referent.fInt Syntax.w8))
       (Syntax.tyRef (Syntax.named 6) Syntax.mut (Syntax.tyInt Syntax.w8))
-      6,
+      6
+      13
+      Row.off,
 ) (List._∷_ (
   9,
   Mut.mslice
@@ -2823,24 +2853,30 @@ t25 = List._∷_ (0, Rows.any-gone (Syntax.tyInt Syntax.w64)) (List._∷_ (
 ) (List._∷_ (
   10,
   Mut.mslice
-      Elem.R
-      (Syntax.tyRef (Syntax.named 8) Syntax.mut Elem.ty)
+      (Referent.rtF (Referent.fInt Syntax.w8))
+      (Syntax.tyRef (Syntax.named 8) Syntax.mut (Syntax.tyInt Syntax.w8))
       8,
-) (List._∷_ (11, Rows.sc-here (Row.sInt Syntax.w64)) (List._∷_ (
-  12,
+) (List._∷_ (
+  11,
+  Mut.mslice
+      Elem.R
+      (Syntax.tyRef (Syntax.named 9) Syntax.mut Elem.ty)
+      9,
+) (List._∷_ (12, Rows.sc-here (Row.sInt Syntax.w64)) (List._∷_ (
+  13,
   Rows.sc-here (Row.sInt Syntax.w64),
-) (List._∷_ (13, Rows.sc-here (Row.sInt Syntax.w64)) (List._∷_ (
-  14,
+) (List._∷_ (14, Rows.sc-here (Row.sInt Syntax.w64)) (List._∷_ (
+  15,
   Rows.whole (Declared.row LineRec.the-type),
-) (List._∷_ (15, Rows.any-gone Syntax.tyBool) List.[])))))))))))))))
+) List.[])))))))))))))))
 
 abbrev pub t26 : List.List Row.Entry
-t26 = List._∷_ (
-  16,
+t26 = List._∷_ (16, Rows.any-gone Syntax.tyBool) (List._∷_ (
+  17,
   Rows.any-gone
       (Syntax.tyRef Syntax.erased Syntax.mut Elem.ty),
 ) (List._∷_ (
-  17,
+  18,
   Rows.any-gone
       (Syntax.tyStruct
       (List._∷_ 38 (List._∷_ 91 (List._∷_ 93 List.[])))
@@ -2848,37 +2884,37 @@ t26 = List._∷_ (
       (Syntax.tyRef Syntax.erased Syntax.mut Elem.ty)
       (Syntax.tcons (Syntax.tyInt Syntax.w64) Syntax.tnil))),
 ) (List._∷_ (
-  18,
+  19,
   Rows.any-gone
       (Syntax.tyRef Syntax.erased Syntax.imm Elem.ty),
 ) (List._∷_ (
-  19,
+  20,
   Rows.any-gone
       (Syntax.tyStruct
       (List._∷_ 38 (List._∷_ 91 (List._∷_ 93 List.[])))
       (Syntax.tcons
       (Syntax.tyRef Syntax.erased Syntax.imm Elem.ty)
       (Syntax.tcons (Syntax.tyInt Syntax.w64) Syntax.tnil))),
-) (List._∷_ (20, Rows.any-gone (Syntax.tyInt Syntax.w64)) (List._∷_ (
-  21,
+) (List._∷_ (21, Rows.any-gone (Syntax.tyInt Syntax.w64)) (List._∷_ (
+  22,
   Rows.any-gone (Syntax.tyInt Syntax.w64),
-) (List._∷_ (22, Rows.any-gone (Syntax.tyInt Syntax.w64)) (List._∷_ (
-  23,
+) (List._∷_ (23, Rows.any-gone (Syntax.tyInt Syntax.w64)) (List._∷_ (
+  24,
   Rows.any-gone (Syntax.tyRef Syntax.erased Syntax.mut (Syntax.tyInt Syntax.w64)),
 ) (List._∷_ (
-  24,
+  25,
   Mut.mslice
       (Referent.rtF (Referent.fInt Syntax.w64))
       (Syntax.tyRef Syntax.erased Syntax.mut (Syntax.tyInt Syntax.w64))
-      11,
-) (List._∷_ (
-  25,
-  Relend.msptr
-      (Referent.rtF (Referent.fInt Syntax.w8))
-      (Syntax.tyRef Syntax.erased Syntax.mut (Syntax.tyInt Syntax.w8))
       12,
 ) (List._∷_ (
   26,
+  Relend.msptr
+      (Referent.rtF (Referent.fInt Syntax.w8))
+      (Syntax.tyRef Syntax.erased Syntax.mut (Syntax.tyInt Syntax.w8))
+      13,
+) (List._∷_ (
+  27,
   Rows.any-gone
       (Syntax.tyStruct
       (List._∷_ 38 (List._∷_ 91 (List._∷_ 93 List.[])))
@@ -2887,35 +2923,35 @@ t26 = List._∷_ (
       (Syntax.tcons (Syntax.tyInt Syntax.w64) Syntax.tnil))),
 )
     (List._∷_
-    (27, Rows.any-gone (Syntax.tyRef Syntax.erased Syntax.mut (Syntax.tyInt Syntax.w8)))
+    (28, Rows.any-gone (Syntax.tyRef Syntax.erased Syntax.mut (Syntax.tyInt Syntax.w8)))
     (List._∷_ (
-      28,
+      29,
       Rows.any-gone
           (Syntax.tyStruct
           (List._∷_ 38 (List._∷_ 91 (List._∷_ 93 List.[])))
           (Syntax.tcons
           (Syntax.tyRef Syntax.erased Syntax.mut (Syntax.tyInt Syntax.w8))
           (Syntax.tcons (Syntax.tyInt Syntax.w64) Syntax.tnil))),
-    ) (List._∷_ (
-      29,
-      Rows.any-gone (Syntax.tyRef Syntax.erased Syntax.mut (Syntax.tyInt Syntax.w8)),
     ) (List._∷_ (
       30,
+      Rows.any-gone (Syntax.tyRef Syntax.erased Syntax.mut (Syntax.tyInt Syntax.w8)),
+    ) (List._∷_ (
+      31,
       Rows.any-gone
           (Syntax.tyStruct
           (List._∷_ 38 (List._∷_ 91 (List._∷_ 93 List.[])))
           (Syntax.tcons
           (Syntax.tyRef Syntax.erased Syntax.mut (Syntax.tyInt Syntax.w8))
           (Syntax.tcons (Syntax.tyInt Syntax.w64) Syntax.tnil))),
-    ) List.[]))))))))))))))
+    ) List.[])))))))))))))))
 
 abbrev pub t27 : List.List Row.Entry
-t27 = List._∷_ (
-  16,
+t27 = List._∷_ (16, Rows.any-gone Syntax.tyBool) (List._∷_ (
+  17,
   Rows.any-gone
       (Syntax.tyRef Syntax.erased Syntax.mut Elem.ty),
 ) (List._∷_ (
-  17,
+  18,
   Rows.any-gone
       (Syntax.tyStruct
       (List._∷_ 38 (List._∷_ 91 (List._∷_ 93 List.[])))
@@ -2923,61 +2959,61 @@ t27 = List._∷_ (
       (Syntax.tyRef Syntax.erased Syntax.mut Elem.ty)
       (Syntax.tcons (Syntax.tyInt Syntax.w64) Syntax.tnil))),
 ) (List._∷_ (
-  18,
+  19,
   Rows.any-gone
       (Syntax.tyRef Syntax.erased Syntax.imm Elem.ty),
 ) (List._∷_ (
-  19,
+  20,
   Rows.any-gone
       (Syntax.tyStruct
       (List._∷_ 38 (List._∷_ 91 (List._∷_ 93 List.[])))
       (Syntax.tcons
       (Syntax.tyRef Syntax.erased Syntax.imm Elem.ty)
       (Syntax.tcons (Syntax.tyInt Syntax.w64) Syntax.tnil))),
-) (List._∷_ (20, Rows.any-gone (Syntax.tyInt Syntax.w64)) (List._∷_ (
-  21,
+) (List._∷_ (21, Rows.any-gone (Syntax.tyInt Syntax.w64)) (List._∷_ (
+  22,
   Rows.any-gone (Syntax.tyInt Syntax.w64),
-) (List._∷_ (22, Rows.any-gone (Syntax.tyInt Syntax.w64)) (List._∷_ (
-  23,
+) (List._∷_ (23, Rows.any-gone (Syntax.tyInt Syntax.w64)) (List._∷_ (
+  24,
   Rows.any-gone (Syntax.tyRef Syntax.erased Syntax.mut (Syntax.tyInt Syntax.w64)),
 ) (List._∷_ (
-  24,
+  25,
   Mut.mslice
       (Referent.rtF (Referent.fInt Syntax.w64))
       (Syntax.tyRef Syntax.erased Syntax.mut (Syntax.tyInt Syntax.w64))
-      11,
+      12,
 )
     (List._∷_
-    (25, Rows.any-gone (Syntax.tyRef Syntax.erased Syntax.mut (Syntax.tyInt Syntax.w8)))
+    (26, Rows.any-gone (Syntax.tyRef Syntax.erased Syntax.mut (Syntax.tyInt Syntax.w8)))
     (List._∷_ (
-      26,
+      27,
       Mut.mslice
           (Referent.rtF (Referent.fInt Syntax.w8))
           (Syntax.tyRef Syntax.erased Syntax.mut (Syntax.tyInt Syntax.w8))
-          12,
-    ) (List._∷_ (
-      27,
-      Rows.any-gone (Syntax.tyRef Syntax.erased Syntax.mut (Syntax.tyInt Syntax.w8)),
+          13,
     ) (List._∷_ (
       28,
-      Rows.any-gone
-          (Syntax.tyStruct
-          (List._∷_ 38 (List._∷_ 91 (List._∷_ 93 List.[])))
-          (Syntax.tcons
-          (Syntax.tyRef Syntax.erased Syntax.mut (Syntax.tyInt Syntax.w8))
-          (Syntax.tcons (Syntax.tyInt Syntax.w64) Syntax.tnil))),
-    ) (List._∷_ (
-      29,
       Rows.any-gone (Syntax.tyRef Syntax.erased Syntax.mut (Syntax.tyInt Syntax.w8)),
     ) (List._∷_ (
-      30,
+      29,
       Rows.any-gone
           (Syntax.tyStruct
           (List._∷_ 38 (List._∷_ 91 (List._∷_ 93 List.[])))
           (Syntax.tcons
           (Syntax.tyRef Syntax.erased Syntax.mut (Syntax.tyInt Syntax.w8))
           (Syntax.tcons (Syntax.tyInt Syntax.w64) Syntax.tnil))),
-    ) List.[]))))))))))))))
+    ) (List._∷_ (
+      30,
+      Rows.any-gone (Syntax.tyRef Syntax.erased Syntax.mut (Syntax.tyInt Syntax.w8)),
+    ) (List._∷_ (
+      31,
+      Rows.any-gone
+          (Syntax.tyStruct
+          (List._∷_ 38 (List._∷_ 91 (List._∷_ 93 List.[])))
+          (Syntax.tcons
+          (Syntax.tyRef Syntax.erased Syntax.mut (Syntax.tyInt Syntax.w8))
+          (Syntax.tcons (Syntax.tyInt Syntax.w64) Syntax.tnil))),
+    ) List.[])))))))))))))))
 
 abbrev pub t28 : List.List Row.Entry
 t28 = List._∷_ (0, Rows.any-gone (Syntax.tyInt Syntax.w64)) (List._∷_ (
@@ -3006,17 +3042,15 @@ t28 = List._∷_ (0, Rows.any-gone (Syntax.tyInt Syntax.w64)) (List._∷_ (
       3,
 ) (List._∷_ (
   6,
-  Relend.mslice-owed
+  Rows.sslice
       (Referent.rtF (Referent.fInt Syntax.w64))
-      (Syntax.tyRef (Syntax.named 4) Syntax.mut (Syntax.tyInt Syntax.w64))
-      4
-      11
-      Row.off,
+      (Syntax.tyRef (Syntax.named 4) Syntax.imm (Syntax.tyInt Syntax.w64))
+      4,
 ) (List._∷_ (
   7,
   Relend.mslice-owed
-      (Referent.rtF (Referent.fInt Syntax.w8))
-      (Syntax.tyRef (Syntax.named 5) Syntax.mut (Syntax.tyInt Syntax.w8))
+      (Referent.rtF (Referent.fInt Syntax.w64))
+      (Syntax.tyRef (Syntax.named 5) Syntax.mut (Syntax.tyInt Syntax.w64))
       5
       12
       Row.off,
@@ -3030,31 +3064,39 @@ t28 = List._∷_ (0, Rows.any-gone (Syntax.tyInt Syntax.w64)) (List._∷_ (
       Row.off,
 ) (List._∷_ (
   9,
-  Mut.mslice
+  Relend.mslice-owed
       (Referent.rtF (Referent.fInt Syntax.w8))
       (Syntax.tyRef (Syntax.named 7) Syntax.mut (Syntax.tyInt Syntax.w8))
-      7,
+      7
+      14
+      Row.off,
 ) (List._∷_ (
   10,
   Mut.mslice
-      Elem.R
-      (Syntax.tyRef (Syntax.named 8) Syntax.mut Elem.ty)
+      (Referent.rtF (Referent.fInt Syntax.w8))
+      (Syntax.tyRef (Syntax.named 8) Syntax.mut (Syntax.tyInt Syntax.w8))
       8,
-) (List._∷_ (11, Rows.sc-here (Row.sInt Syntax.w64)) (List._∷_ (
-  12,
+) (List._∷_ (
+  11,
+  Mut.mslice
+      Elem.R
+      (Syntax.tyRef (Syntax.named 9) Syntax.mut Elem.ty)
+      9,
+) (List._∷_ (12, Rows.sc-here (Row.sInt Syntax.w64)) (List._∷_ (
+  13,
   Rows.sc-here (Row.sInt Syntax.w64),
-) (List._∷_ (13, Rows.sc-here (Row.sInt Syntax.w64)) (List._∷_ (
-  14,
+) (List._∷_ (14, Rows.sc-here (Row.sInt Syntax.w64)) (List._∷_ (
+  15,
   Rows.whole (Declared.row LineRec.the-type),
-) (List._∷_ (15, Rows.any-gone Syntax.tyBool) List.[])))))))))))))))
+) List.[])))))))))))))))
 
 abbrev pub t29 : List.List Row.Entry
-t29 = List._∷_ (
-  16,
+t29 = List._∷_ (16, Rows.any-gone Syntax.tyBool) (List._∷_ (
+  17,
   Rows.any-gone
       (Syntax.tyRef Syntax.erased Syntax.mut Elem.ty),
 ) (List._∷_ (
-  17,
+  18,
   Rows.any-gone
       (Syntax.tyStruct
       (List._∷_ 38 (List._∷_ 91 (List._∷_ 93 List.[])))
@@ -3062,72 +3104,72 @@ t29 = List._∷_ (
       (Syntax.tyRef Syntax.erased Syntax.mut Elem.ty)
       (Syntax.tcons (Syntax.tyInt Syntax.w64) Syntax.tnil))),
 ) (List._∷_ (
-  18,
+  19,
   Rows.any-gone
       (Syntax.tyRef Syntax.erased Syntax.imm Elem.ty),
 ) (List._∷_ (
-  19,
+  20,
   Rows.any-gone
       (Syntax.tyStruct
       (List._∷_ 38 (List._∷_ 91 (List._∷_ 93 List.[])))
       (Syntax.tcons
       (Syntax.tyRef Syntax.erased Syntax.imm Elem.ty)
       (Syntax.tcons (Syntax.tyInt Syntax.w64) Syntax.tnil))),
-) (List._∷_ (20, Rows.any-gone (Syntax.tyInt Syntax.w64)) (List._∷_ (
-  21,
+) (List._∷_ (21, Rows.any-gone (Syntax.tyInt Syntax.w64)) (List._∷_ (
+  22,
   Rows.any-gone (Syntax.tyInt Syntax.w64),
-) (List._∷_ (22, Rows.any-gone (Syntax.tyInt Syntax.w64)) (List._∷_ (
-  23,
+) (List._∷_ (23, Rows.any-gone (Syntax.tyInt Syntax.w64)) (List._∷_ (
+  24,
   Rows.any-gone (Syntax.tyRef Syntax.erased Syntax.mut (Syntax.tyInt Syntax.w64)),
 ) (List._∷_ (
-  24,
+  25,
   Mut.mslice
       (Referent.rtF (Referent.fInt Syntax.w64))
       (Syntax.tyRef Syntax.erased Syntax.mut (Syntax.tyInt Syntax.w64))
-      11,
+      12,
 )
     (List._∷_
-    (25, Rows.any-gone (Syntax.tyRef Syntax.erased Syntax.mut (Syntax.tyInt Syntax.w8)))
+    (26, Rows.any-gone (Syntax.tyRef Syntax.erased Syntax.mut (Syntax.tyInt Syntax.w8)))
     (List._∷_ (
-      26,
+      27,
       Mut.mslice
           (Referent.rtF (Referent.fInt Syntax.w8))
           (Syntax.tyRef Syntax.erased Syntax.mut (Syntax.tyInt Syntax.w8))
-          12,
+          13,
     ) (List._∷_ (
-      27,
+      28,
       Relend.msptr
           (Referent.rtF (Referent.fInt Syntax.w8))
           (Syntax.tyRef Syntax.erased Syntax.mut (Syntax.tyInt Syntax.w8))
-          13,
-    ) (List._∷_ (
-      28,
-      Rows.any-gone
-          (Syntax.tyStruct
-          (List._∷_ 38 (List._∷_ 91 (List._∷_ 93 List.[])))
-          (Syntax.tcons
-          (Syntax.tyRef Syntax.erased Syntax.mut (Syntax.tyInt Syntax.w8))
-          (Syntax.tcons (Syntax.tyInt Syntax.w64) Syntax.tnil))),
+          14,
     ) (List._∷_ (
       29,
-      Rows.any-gone (Syntax.tyRef Syntax.erased Syntax.mut (Syntax.tyInt Syntax.w8)),
-    ) (List._∷_ (
-      30,
       Rows.any-gone
           (Syntax.tyStruct
           (List._∷_ 38 (List._∷_ 91 (List._∷_ 93 List.[])))
           (Syntax.tcons
           (Syntax.tyRef Syntax.erased Syntax.mut (Syntax.tyInt Syntax.w8))
           (Syntax.tcons (Syntax.tyInt Syntax.w64) Syntax.tnil))),
-    ) List.[]))))))))))))))
+    ) (List._∷_ (
+      30,
+      Rows.any-gone (Syntax.tyRef Syntax.erased Syntax.mut (Syntax.tyInt Syntax.w8)),
+    ) (List._∷_ (
+      31,
+      Rows.any-gone
+          (Syntax.tyStruct
+          (List._∷_ 38 (List._∷_ 91 (List._∷_ 93 List.[])))
+          (Syntax.tcons
+          (Syntax.tyRef Syntax.erased Syntax.mut (Syntax.tyInt Syntax.w8))
+          (Syntax.tcons (Syntax.tyInt Syntax.w64) Syntax.tnil))),
+    ) List.[])))))))))))))))
 
 abbrev pub t30 : List.List Row.Entry
-t30 = List._∷_ (
-  16,
+t30 = List._∷_ (16, Rows.any-gone Syntax.tyBool) (List._∷_ (
+  17,
   Rows.any-gone
       (Syntax.tyRef Syntax.erased Syntax.mut Elem.ty),
 ) (List._∷_ (
-  17,
+  18,
   Rows.any-gone
       (Syntax.tyStruct
       (List._∷_ 38 (List._∷_ 91 (List._∷_ 93 List.[])))
@@ -3135,59 +3177,59 @@ t30 = List._∷_ (
       (Syntax.tyRef Syntax.erased Syntax.mut Elem.ty)
       (Syntax.tcons (Syntax.tyInt Syntax.w64) Syntax.tnil))),
 ) (List._∷_ (
-  18,
+  19,
   Rows.any-gone
       (Syntax.tyRef Syntax.erased Syntax.imm Elem.ty),
 ) (List._∷_ (
-  19,
+  20,
   Rows.any-gone
       (Syntax.tyStruct
       (List._∷_ 38 (List._∷_ 91 (List._∷_ 93 List.[])))
       (Syntax.tcons
       (Syntax.tyRef Syntax.erased Syntax.imm Elem.ty)
       (Syntax.tcons (Syntax.tyInt Syntax.w64) Syntax.tnil))),
-) (List._∷_ (20, Rows.any-gone (Syntax.tyInt Syntax.w64)) (List._∷_ (
-  21,
+) (List._∷_ (21, Rows.any-gone (Syntax.tyInt Syntax.w64)) (List._∷_ (
+  22,
   Rows.any-gone (Syntax.tyInt Syntax.w64),
-) (List._∷_ (22, Rows.any-gone (Syntax.tyInt Syntax.w64)) (List._∷_ (
-  23,
+) (List._∷_ (23, Rows.any-gone (Syntax.tyInt Syntax.w64)) (List._∷_ (
+  24,
   Rows.any-gone (Syntax.tyRef Syntax.erased Syntax.mut (Syntax.tyInt Syntax.w64)),
 ) (List._∷_ (
-  24,
+  25,
   Mut.mslice
       (Referent.rtF (Referent.fInt Syntax.w64))
       (Syntax.tyRef Syntax.erased Syntax.mut (Syntax.tyInt Syntax.w64))
-      11,
+      12,
 )
     (List._∷_
-    (25, Rows.any-gone (Syntax.tyRef Syntax.erased Syntax.mut (Syntax.tyInt Syntax.w8)))
+    (26, Rows.any-gone (Syntax.tyRef Syntax.erased Syntax.mut (Syntax.tyInt Syntax.w8)))
     (List._∷_ (
-      26,
-      Mut.mslice
-          (Referent.rtF (Referent.fInt Syntax.w8))
-          (Syntax.tyRef Syntax.erased Syntax.mut (Syntax.tyInt Syntax.w8))
-          12,
-    ) (List._∷_ (
       27,
-      Rows.any-gone (Syntax.tyRef Syntax.erased Syntax.mut (Syntax.tyInt Syntax.w8)),
-    ) (List._∷_ (
-      28,
       Mut.mslice
           (Referent.rtF (Referent.fInt Syntax.w8))
           (Syntax.tyRef Syntax.erased Syntax.mut (Syntax.tyInt Syntax.w8))
           13,
     ) (List._∷_ (
-      29,
+      28,
       Rows.any-gone (Syntax.tyRef Syntax.erased Syntax.mut (Syntax.tyInt Syntax.w8)),
     ) (List._∷_ (
+      29,
+      Mut.mslice
+          (Referent.rtF (Referent.fInt Syntax.w8))
+          (Syntax.tyRef Syntax.erased Syntax.mut (Syntax.tyInt Syntax.w8))
+          14,
+    ) (List._∷_ (
       30,
+      Rows.any-gone (Syntax.tyRef Syntax.erased Syntax.mut (Syntax.tyInt Syntax.w8)),
+    ) (List._∷_ (
+      31,
       Rows.any-gone
           (Syntax.tyStruct
           (List._∷_ 38 (List._∷_ 91 (List._∷_ 93 List.[])))
           (Syntax.tcons
           (Syntax.tyRef Syntax.erased Syntax.mut (Syntax.tyInt Syntax.w8))
           (Syntax.tcons (Syntax.tyInt Syntax.w64) Syntax.tnil))),
-    ) List.[]))))))))))))))
+    ) List.[])))))))))))))))
 
 abbrev pub t31 : List.List Row.Entry
 t31 = List._∷_ (0, Rows.any-gone (Syntax.tyInt Syntax.w64)) (List._∷_ (
@@ -3216,17 +3258,15 @@ t31 = List._∷_ (0, Rows.any-gone (Syntax.tyInt Syntax.w64)) (List._∷_ (
       3,
 ) (List._∷_ (
   6,
-  Relend.mslice-owed
+  Rows.sslice
       (Referent.rtF (Referent.fInt Syntax.w64))
-      (Syntax.tyRef (Syntax.named 4) Syntax.mut (Syntax.tyInt Syntax.w64))
-      4
-      11
-      Row.off,
+      (Syntax.tyRef (Syntax.named 4) Syntax.imm (Syntax.tyInt Syntax.w64))
+      4,
 ) (List._∷_ (
   7,
   Relend.mslice-owed
-      (Referent.rtF (Referent.fInt Syntax.w8))
-      (Syntax.tyRef (Syntax.named 5) Syntax.mut (Syntax.tyInt Syntax.w8))
+      (Referent.rtF (Referent.fInt Syntax.w64))
+      (Syntax.tyRef (Syntax.named 5) Syntax.mut (Syntax.tyInt Syntax.w64))
       5
       12
       Row.off,
@@ -3248,25 +3288,33 @@ t31 = List._∷_ (0, Rows.any-gone (Syntax.tyInt Syntax.w64)) (List._∷_ (
       Row.off,
 ) (List._∷_ (
   10,
+  Relend.mslice-owed
+      (Referent.rtF (Referent.fInt Syntax.w8))
+      (Syntax.tyRef (Syntax.named 8) Syntax.mut (Syntax.tyInt Syntax.w8))
+      8
+      15
+      Row.off,
+) (List._∷_ (
+  11,
   Mut.mslice
       Elem.R
-      (Syntax.tyRef (Syntax.named 8) Syntax.mut Elem.ty)
-      8,
-) (List._∷_ (11, Rows.sc-here (Row.sInt Syntax.w64)) (List._∷_ (
-  12,
+      (Syntax.tyRef (Syntax.named 9) Syntax.mut Elem.ty)
+      9,
+) (List._∷_ (12, Rows.sc-here (Row.sInt Syntax.w64)) (List._∷_ (
+  13,
   Rows.sc-here (Row.sInt Syntax.w64),
-) (List._∷_ (13, Rows.sc-here (Row.sInt Syntax.w64)) (List._∷_ (
-  14,
+) (List._∷_ (14, Rows.sc-here (Row.sInt Syntax.w64)) (List._∷_ (
+  15,
   Rows.whole (Declared.row LineRec.the-type),
-) (List._∷_ (15, Rows.any-gone Syntax.tyBool) List.[])))))))))))))))
+) List.[])))))))))))))))
 
 abbrev pub t32 : List.List Row.Entry
-t32 = List._∷_ (
-  16,
+t32 = List._∷_ (16, Rows.any-gone Syntax.tyBool) (List._∷_ (
+  17,
   Rows.any-gone
       (Syntax.tyRef Syntax.erased Syntax.mut Elem.ty),
 ) (List._∷_ (
-  17,
+  18,
   Rows.any-gone
       (Syntax.tyStruct
       (List._∷_ 38 (List._∷_ 91 (List._∷_ 93 List.[])))
@@ -3274,70 +3322,70 @@ t32 = List._∷_ (
       (Syntax.tyRef Syntax.erased Syntax.mut Elem.ty)
       (Syntax.tcons (Syntax.tyInt Syntax.w64) Syntax.tnil))),
 ) (List._∷_ (
-  18,
+  19,
   Rows.any-gone
       (Syntax.tyRef Syntax.erased Syntax.imm Elem.ty),
 ) (List._∷_ (
-  19,
+  20,
   Rows.any-gone
       (Syntax.tyStruct
       (List._∷_ 38 (List._∷_ 91 (List._∷_ 93 List.[])))
       (Syntax.tcons
       (Syntax.tyRef Syntax.erased Syntax.imm Elem.ty)
       (Syntax.tcons (Syntax.tyInt Syntax.w64) Syntax.tnil))),
-) (List._∷_ (20, Rows.any-gone (Syntax.tyInt Syntax.w64)) (List._∷_ (
-  21,
+) (List._∷_ (21, Rows.any-gone (Syntax.tyInt Syntax.w64)) (List._∷_ (
+  22,
   Rows.any-gone (Syntax.tyInt Syntax.w64),
-) (List._∷_ (22, Rows.any-gone (Syntax.tyInt Syntax.w64)) (List._∷_ (
-  23,
+) (List._∷_ (23, Rows.any-gone (Syntax.tyInt Syntax.w64)) (List._∷_ (
+  24,
   Rows.any-gone (Syntax.tyRef Syntax.erased Syntax.mut (Syntax.tyInt Syntax.w64)),
 ) (List._∷_ (
-  24,
+  25,
   Mut.mslice
       (Referent.rtF (Referent.fInt Syntax.w64))
       (Syntax.tyRef Syntax.erased Syntax.mut (Syntax.tyInt Syntax.w64))
-      11,
+      12,
 )
     (List._∷_
-    (25, Rows.any-gone (Syntax.tyRef Syntax.erased Syntax.mut (Syntax.tyInt Syntax.w8)))
+    (26, Rows.any-gone (Syntax.tyRef Syntax.erased Syntax.mut (Syntax.tyInt Syntax.w8)))
     (List._∷_ (
-      26,
-      Mut.mslice
-          (Referent.rtF (Referent.fInt Syntax.w8))
-          (Syntax.tyRef Syntax.erased Syntax.mut (Syntax.tyInt Syntax.w8))
-          12,
-    ) (List._∷_ (
       27,
-      Rows.any-gone (Syntax.tyRef Syntax.erased Syntax.mut (Syntax.tyInt Syntax.w8)),
-    ) (List._∷_ (
-      28,
       Mut.mslice
           (Referent.rtF (Referent.fInt Syntax.w8))
           (Syntax.tyRef Syntax.erased Syntax.mut (Syntax.tyInt Syntax.w8))
           13,
     ) (List._∷_ (
+      28,
+      Rows.any-gone (Syntax.tyRef Syntax.erased Syntax.mut (Syntax.tyInt Syntax.w8)),
+    ) (List._∷_ (
       29,
-      Relend.msptr
+      Mut.mslice
           (Referent.rtF (Referent.fInt Syntax.w8))
           (Syntax.tyRef Syntax.erased Syntax.mut (Syntax.tyInt Syntax.w8))
           14,
     ) (List._∷_ (
       30,
+      Relend.msptr
+          (Referent.rtF (Referent.fInt Syntax.w8))
+          (Syntax.tyRef Syntax.erased Syntax.mut (Syntax.tyInt Syntax.w8))
+          15,
+    ) (List._∷_ (
+      31,
       Rows.any-gone
           (Syntax.tyStruct
           (List._∷_ 38 (List._∷_ 91 (List._∷_ 93 List.[])))
           (Syntax.tcons
           (Syntax.tyRef Syntax.erased Syntax.mut (Syntax.tyInt Syntax.w8))
           (Syntax.tcons (Syntax.tyInt Syntax.w64) Syntax.tnil))),
-    ) List.[]))))))))))))))
+    ) List.[])))))))))))))))
 
 abbrev pub t33 : List.List Row.Entry
-t33 = List._∷_ (
-  16,
+t33 = List._∷_ (16, Rows.any-gone Syntax.tyBool) (List._∷_ (
+  17,
   Rows.any-gone
       (Syntax.tyRef Syntax.erased Syntax.mut Elem.ty),
 ) (List._∷_ (
-  17,
+  18,
   Rows.any-gone
       (Syntax.tyStruct
       (List._∷_ 38 (List._∷_ 91 (List._∷_ 93 List.[])))
@@ -3345,65 +3393,65 @@ t33 = List._∷_ (
       (Syntax.tyRef Syntax.erased Syntax.mut Elem.ty)
       (Syntax.tcons (Syntax.tyInt Syntax.w64) Syntax.tnil))),
 ) (List._∷_ (
-  18,
+  19,
   Rows.any-gone
       (Syntax.tyRef Syntax.erased Syntax.imm Elem.ty),
 ) (List._∷_ (
-  19,
+  20,
   Rows.any-gone
       (Syntax.tyStruct
       (List._∷_ 38 (List._∷_ 91 (List._∷_ 93 List.[])))
       (Syntax.tcons
       (Syntax.tyRef Syntax.erased Syntax.imm Elem.ty)
       (Syntax.tcons (Syntax.tyInt Syntax.w64) Syntax.tnil))),
-) (List._∷_ (20, Rows.any-gone (Syntax.tyInt Syntax.w64)) (List._∷_ (
-  21,
+) (List._∷_ (21, Rows.any-gone (Syntax.tyInt Syntax.w64)) (List._∷_ (
+  22,
   Rows.any-gone (Syntax.tyInt Syntax.w64),
-) (List._∷_ (22, Rows.any-gone (Syntax.tyInt Syntax.w64)) (List._∷_ (
-  23,
+) (List._∷_ (23, Rows.any-gone (Syntax.tyInt Syntax.w64)) (List._∷_ (
+  24,
   Rows.any-gone (Syntax.tyRef Syntax.erased Syntax.mut (Syntax.tyInt Syntax.w64)),
 ) (List._∷_ (
-  24,
+  25,
   Mut.mslice
       (Referent.rtF (Referent.fInt Syntax.w64))
       (Syntax.tyRef Syntax.erased Syntax.mut (Syntax.tyInt Syntax.w64))
-      11,
+      12,
 )
     (List._∷_
-    (25, Rows.any-gone (Syntax.tyRef Syntax.erased Syntax.mut (Syntax.tyInt Syntax.w8)))
+    (26, Rows.any-gone (Syntax.tyRef Syntax.erased Syntax.mut (Syntax.tyInt Syntax.w8)))
     (List._∷_ (
-      26,
-      Mut.mslice
-          (Referent.rtF (Referent.fInt Syntax.w8))
-          (Syntax.tyRef Syntax.erased Syntax.mut (Syntax.tyInt Syntax.w8))
-          12,
-    ) (List._∷_ (
       27,
-      Rows.any-gone (Syntax.tyRef Syntax.erased Syntax.mut (Syntax.tyInt Syntax.w8)),
-    ) (List._∷_ (
-      28,
       Mut.mslice
           (Referent.rtF (Referent.fInt Syntax.w8))
           (Syntax.tyRef Syntax.erased Syntax.mut (Syntax.tyInt Syntax.w8))
           13,
     ) (List._∷_ (
-      29,
+      28,
       Rows.any-gone (Syntax.tyRef Syntax.erased Syntax.mut (Syntax.tyInt Syntax.w8)),
     ) (List._∷_ (
-      30,
+      29,
       Mut.mslice
           (Referent.rtF (Referent.fInt Syntax.w8))
           (Syntax.tyRef Syntax.erased Syntax.mut (Syntax.tyInt Syntax.w8))
           14,
-    ) List.[]))))))))))))))
+    ) (List._∷_ (
+      30,
+      Rows.any-gone (Syntax.tyRef Syntax.erased Syntax.mut (Syntax.tyInt Syntax.w8)),
+    ) (List._∷_ (
+      31,
+      Mut.mslice
+          (Referent.rtF (Referent.fInt Syntax.w8))
+          (Syntax.tyRef Syntax.erased Syntax.mut (Syntax.tyInt Syntax.w8))
+          15,
+    ) List.[])))))))))))))))
 
 abbrev pub t34 : List.List Row.Entry
-t34 = List._∷_ (
-  16,
+t34 = List._∷_ (16, Rows.any-gone Syntax.tyBool) (List._∷_ (
+  17,
   Rows.any-gone
       (Syntax.tyRef Syntax.erased Syntax.mut Elem.ty),
 ) (List._∷_ (
-  17,
+  18,
   Rows.any-gone
       (Syntax.tyStruct
       (List._∷_ 38 (List._∷_ 91 (List._∷_ 93 List.[])))
@@ -3411,53 +3459,53 @@ t34 = List._∷_ (
       (Syntax.tyRef Syntax.erased Syntax.mut Elem.ty)
       (Syntax.tcons (Syntax.tyInt Syntax.w64) Syntax.tnil))),
 ) (List._∷_ (
-  18,
+  19,
   Rows.any-gone
       (Syntax.tyRef Syntax.erased Syntax.imm Elem.ty),
 ) (List._∷_ (
-  19,
+  20,
   Rows.any-gone
       (Syntax.tyStruct
       (List._∷_ 38 (List._∷_ 91 (List._∷_ 93 List.[])))
       (Syntax.tcons
       (Syntax.tyRef Syntax.erased Syntax.imm Elem.ty)
       (Syntax.tcons (Syntax.tyInt Syntax.w64) Syntax.tnil))),
-) (List._∷_ (20, Rows.any-gone (Syntax.tyInt Syntax.w64)) (List._∷_ (
-  21,
+) (List._∷_ (21, Rows.any-gone (Syntax.tyInt Syntax.w64)) (List._∷_ (
+  22,
   Rows.any-gone (Syntax.tyInt Syntax.w64),
-) (List._∷_ (22, Rows.any-gone (Syntax.tyInt Syntax.w64)) (List._∷_ (
-  23,
+) (List._∷_ (23, Rows.any-gone (Syntax.tyInt Syntax.w64)) (List._∷_ (
+  24,
   Rows.any-gone (Syntax.tyRef Syntax.erased Syntax.mut (Syntax.tyInt Syntax.w64)),
 ) (List._∷_ (
-  24,
+  25,
   Mut.msleft
       (Referent.rtF (Referent.fInt Syntax.w64))
       (Syntax.tyRef Syntax.erased Syntax.mut (Syntax.tyInt Syntax.w64)),
 )
     (List._∷_
-    (25, Rows.any-gone (Syntax.tyRef Syntax.erased Syntax.mut (Syntax.tyInt Syntax.w8)))
+    (26, Rows.any-gone (Syntax.tyRef Syntax.erased Syntax.mut (Syntax.tyInt Syntax.w8)))
     (List._∷_ (
-      26,
+      27,
       Mut.msleft
           (Referent.rtF (Referent.fInt Syntax.w8))
           (Syntax.tyRef Syntax.erased Syntax.mut (Syntax.tyInt Syntax.w8)),
-    ) (List._∷_ (
-      27,
-      Rows.any-gone (Syntax.tyRef Syntax.erased Syntax.mut (Syntax.tyInt Syntax.w8)),
     ) (List._∷_ (
       28,
-      Mut.msleft
-          (Referent.rtF (Referent.fInt Syntax.w8))
-          (Syntax.tyRef Syntax.erased Syntax.mut (Syntax.tyInt Syntax.w8)),
-    ) (List._∷_ (
-      29,
       Rows.any-gone (Syntax.tyRef Syntax.erased Syntax.mut (Syntax.tyInt Syntax.w8)),
     ) (List._∷_ (
-      30,
+      29,
       Mut.msleft
           (Referent.rtF (Referent.fInt Syntax.w8))
           (Syntax.tyRef Syntax.erased Syntax.mut (Syntax.tyInt Syntax.w8)),
-    ) List.[]))))))))))))))
+    ) (List._∷_ (
+      30,
+      Rows.any-gone (Syntax.tyRef Syntax.erased Syntax.mut (Syntax.tyInt Syntax.w8)),
+    ) (List._∷_ (
+      31,
+      Mut.msleft
+          (Referent.rtF (Referent.fInt Syntax.w8))
+          (Syntax.tyRef Syntax.erased Syntax.mut (Syntax.tyInt Syntax.w8)),
+    ) List.[])))))))))))))))
 
 abbrev pub t35 : List.List Row.Entry
 t35 = List._∷_ (0, Rows.any-gone (Syntax.tyInt Syntax.w64)) (List._∷_ (
@@ -3486,17 +3534,15 @@ t35 = List._∷_ (0, Rows.any-gone (Syntax.tyInt Syntax.w64)) (List._∷_ (
       3,
 ) (List._∷_ (
   6,
-  Relend.mslice-owed
+  Rows.sslice
       (Referent.rtF (Referent.fInt Syntax.w64))
-      (Syntax.tyRef (Syntax.named 4) Syntax.mut (Syntax.tyInt Syntax.w64))
-      4
-      11
-      Row.off,
+      (Syntax.tyRef (Syntax.named 4) Syntax.imm (Syntax.tyInt Syntax.w64))
+      4,
 ) (List._∷_ (
   7,
   Relend.mslice-owed
-      (Referent.rtF (Referent.fInt Syntax.w8))
-      (Syntax.tyRef (Syntax.named 5) Syntax.mut (Syntax.tyInt Syntax.w8))
+      (Referent.rtF (Referent.fInt Syntax.w64))
+      (Syntax.tyRef (Syntax.named 5) Syntax.mut (Syntax.tyInt Syntax.w64))
       5
       12
       Row.off,
@@ -3518,15 +3564,23 @@ t35 = List._∷_ (0, Rows.any-gone (Syntax.tyInt Syntax.w64)) (List._∷_ (
       Row.off,
 ) (List._∷_ (
   10,
+  Relend.mslice-owed
+      (Referent.rtF (Referent.fInt Syntax.w8))
+      (Syntax.tyRef (Syntax.named 8) Syntax.mut (Syntax.tyInt Syntax.w8))
+      8
+      15
+      Row.off,
+) (List._∷_ (
+  11,
   Mut.mslice
       Elem.R
-      (Syntax.tyRef (Syntax.named 8) Syntax.mut Elem.ty)
-      8,
-) (List._∷_ (11, Rows.sc-here (Row.sInt Syntax.w64)) (List._∷_ (
-  12,
+      (Syntax.tyRef (Syntax.named 9) Syntax.mut Elem.ty)
+      9,
+) (List._∷_ (12, Rows.sc-here (Row.sInt Syntax.w64)) (List._∷_ (
+  13,
   Rows.sc-here (Row.sInt Syntax.w64),
-) (List._∷_ (13, Rows.sc-here (Row.sInt Syntax.w64)) (List._∷_ (
-  14,
+) (List._∷_ (14, Rows.sc-here (Row.sInt Syntax.w64)) (List._∷_ (
+  15,
   Rows.any-gone
       (Syntax.tyStruct
       (List._∷_
@@ -3577,7 +3631,7 @@ t35 = List._∷_ (0, Rows.any-gone (Syntax.tyInt Syntax.w64)) (List._∷_ (
       (List._∷_ 101 (List._∷_ 103 (List._∷_ 105 (List._∷_ 111 (List._∷_ 110 List.[])))))))))))))
       (Syntax.tcons (Syntax.tyInt Syntax.w64) Syntax.tnil))
       (Syntax.tcons (Syntax.tyInt Syntax.w64) Syntax.tnil))))),
-) (List._∷_ (15, Rows.any-gone Syntax.tyBool) List.[])))))))))))))))
+) List.[])))))))))))))))
 
 abbrev pub t36 : List.List Row.Entry
 t36 = List._∷_ (0, Rows.any-gone (Syntax.tyInt Syntax.w64)) (List._∷_ (
@@ -3606,18 +3660,16 @@ t36 = List._∷_ (0, Rows.any-gone (Syntax.tyInt Syntax.w64)) (List._∷_ (
       3,
 ) (List._∷_ (
   6,
-  Mut.mslice
+  Rows.sslice
       (Referent.rtF (Referent.fInt Syntax.w64))
-      (Syntax.tyRef (Syntax.named 4) Syntax.mut (Syntax.tyInt Syntax.w64))
+      (Syntax.tyRef (Syntax.named 4) Syntax.imm (Syntax.tyInt Syntax.w64))
       4,
 ) (List._∷_ (
   7,
-  Relend.mslice-owed
-      (Referent.rtF (Referent.fInt Syntax.w8))
-      (Syntax.tyRef (Syntax.named 5) Syntax.mut (Syntax.tyInt Syntax.w8))
-      5
-      12
-      Row.off,
+  Mut.mslice
+      (Referent.rtF (Referent.fInt Syntax.w64))
+      (Syntax.tyRef (Syntax.named 5) Syntax.mut (Syntax.tyInt Syntax.w64))
+      5,
 ) (List._∷_ (
   8,
   Relend.mslice-owed
@@ -3636,15 +3688,23 @@ t36 = List._∷_ (0, Rows.any-gone (Syntax.tyInt Syntax.w64)) (List._∷_ (
       Row.off,
 ) (List._∷_ (
   10,
+  Relend.mslice-owed
+      (Referent.rtF (Referent.fInt Syntax.w8))
+      (Syntax.tyRef (Syntax.named 8) Syntax.mut (Syntax.tyInt Syntax.w8))
+      8
+      15
+      Row.off,
+) (List._∷_ (
+  11,
   Mut.mslice
       Elem.R
-      (Syntax.tyRef (Syntax.named 8) Syntax.mut Elem.ty)
-      8,
-) (List._∷_ (11, Rows.sc-here (Row.sInt Syntax.w64)) (List._∷_ (
-  12,
+      (Syntax.tyRef (Syntax.named 9) Syntax.mut Elem.ty)
+      9,
+) (List._∷_ (12, Rows.sc-here (Row.sInt Syntax.w64)) (List._∷_ (
+  13,
   Rows.sc-here (Row.sInt Syntax.w64),
-) (List._∷_ (13, Rows.sc-here (Row.sInt Syntax.w64)) (List._∷_ (
-  14,
+) (List._∷_ (14, Rows.sc-here (Row.sInt Syntax.w64)) (List._∷_ (
+  15,
   Rows.any-gone
       (Syntax.tyStruct
       (List._∷_
@@ -3695,15 +3755,15 @@ t36 = List._∷_ (0, Rows.any-gone (Syntax.tyInt Syntax.w64)) (List._∷_ (
       (List._∷_ 101 (List._∷_ 103 (List._∷_ 105 (List._∷_ 111 (List._∷_ 110 List.[])))))))))))))
       (Syntax.tcons (Syntax.tyInt Syntax.w64) Syntax.tnil))
       (Syntax.tcons (Syntax.tyInt Syntax.w64) Syntax.tnil))))),
-) (List._∷_ (15, Rows.any-gone Syntax.tyBool) List.[])))))))))))))))
+) List.[])))))))))))))))
 
 abbrev pub t37 : List.List Row.Entry
-t37 = List._∷_ (
-  16,
+t37 = List._∷_ (16, Rows.any-gone Syntax.tyBool) (List._∷_ (
+  17,
   Rows.any-gone
       (Syntax.tyRef Syntax.erased Syntax.mut Elem.ty),
 ) (List._∷_ (
-  17,
+  18,
   Rows.any-gone
       (Syntax.tyStruct
       (List._∷_ 38 (List._∷_ 91 (List._∷_ 93 List.[])))
@@ -3711,25 +3771,25 @@ t37 = List._∷_ (
       (Syntax.tyRef Syntax.erased Syntax.mut Elem.ty)
       (Syntax.tcons (Syntax.tyInt Syntax.w64) Syntax.tnil))),
 ) (List._∷_ (
-  18,
+  19,
   Rows.any-gone
       (Syntax.tyRef Syntax.erased Syntax.imm Elem.ty),
 ) (List._∷_ (
-  19,
+  20,
   Rows.any-gone
       (Syntax.tyStruct
       (List._∷_ 38 (List._∷_ 91 (List._∷_ 93 List.[])))
       (Syntax.tcons
       (Syntax.tyRef Syntax.erased Syntax.imm Elem.ty)
       (Syntax.tcons (Syntax.tyInt Syntax.w64) Syntax.tnil))),
-) (List._∷_ (20, Rows.any-gone (Syntax.tyInt Syntax.w64)) (List._∷_ (
-  21,
+) (List._∷_ (21, Rows.any-gone (Syntax.tyInt Syntax.w64)) (List._∷_ (
+  22,
   Rows.any-gone (Syntax.tyInt Syntax.w64),
-) (List._∷_ (22, Rows.any-gone (Syntax.tyInt Syntax.w64)) (List._∷_ (
-  23,
+) (List._∷_ (23, Rows.any-gone (Syntax.tyInt Syntax.w64)) (List._∷_ (
+  24,
   Rows.any-gone (Syntax.tyRef Syntax.erased Syntax.mut (Syntax.tyInt Syntax.w64)),
 ) (List._∷_ (
-  24,
+  25,
   Rows.any-gone
       (Syntax.tyStruct
       (List._∷_ 38 (List._∷_ 91 (List._∷_ 93 List.[])))
@@ -3738,29 +3798,29 @@ t37 = List._∷_ (
       (Syntax.tcons (Syntax.tyInt Syntax.w64) Syntax.tnil))),
 )
     (List._∷_
-    (25, Rows.any-gone (Syntax.tyRef Syntax.erased Syntax.mut (Syntax.tyInt Syntax.w8)))
+    (26, Rows.any-gone (Syntax.tyRef Syntax.erased Syntax.mut (Syntax.tyInt Syntax.w8)))
     (List._∷_ (
-      26,
+      27,
       Mut.msleft
           (Referent.rtF (Referent.fInt Syntax.w8))
           (Syntax.tyRef Syntax.erased Syntax.mut (Syntax.tyInt Syntax.w8)),
-    ) (List._∷_ (
-      27,
-      Rows.any-gone (Syntax.tyRef Syntax.erased Syntax.mut (Syntax.tyInt Syntax.w8)),
     ) (List._∷_ (
       28,
-      Mut.msleft
-          (Referent.rtF (Referent.fInt Syntax.w8))
-          (Syntax.tyRef Syntax.erased Syntax.mut (Syntax.tyInt Syntax.w8)),
-    ) (List._∷_ (
-      29,
       Rows.any-gone (Syntax.tyRef Syntax.erased Syntax.mut (Syntax.tyInt Syntax.w8)),
     ) (List._∷_ (
-      30,
+      29,
       Mut.msleft
           (Referent.rtF (Referent.fInt Syntax.w8))
           (Syntax.tyRef Syntax.erased Syntax.mut (Syntax.tyInt Syntax.w8)),
-    ) List.[]))))))))))))))
+    ) (List._∷_ (
+      30,
+      Rows.any-gone (Syntax.tyRef Syntax.erased Syntax.mut (Syntax.tyInt Syntax.w8)),
+    ) (List._∷_ (
+      31,
+      Mut.msleft
+          (Referent.rtF (Referent.fInt Syntax.w8))
+          (Syntax.tyRef Syntax.erased Syntax.mut (Syntax.tyInt Syntax.w8)),
+    ) List.[])))))))))))))))
 
 abbrev pub t38 : List.List Row.Entry
 t38 = List._∷_ (0, Rows.any-gone (Syntax.tyInt Syntax.w64)) (List._∷_ (
@@ -3789,24 +3849,22 @@ t38 = List._∷_ (0, Rows.any-gone (Syntax.tyInt Syntax.w64)) (List._∷_ (
       3,
 ) (List._∷_ (
   6,
-  Mut.mslice
+  Rows.sslice
       (Referent.rtF (Referent.fInt Syntax.w64))
-      (Syntax.tyRef (Syntax.named 4) Syntax.mut (Syntax.tyInt Syntax.w64))
+      (Syntax.tyRef (Syntax.named 4) Syntax.imm (Syntax.tyInt Syntax.w64))
       4,
 ) (List._∷_ (
   7,
   Mut.mslice
-      (Referent.rtF (Referent.fInt Syntax.w8))
-      (Syntax.tyRef (Syntax.named 5) Syntax.mut (Syntax.tyInt Syntax.w8))
+      (Referent.rtF (Referent.fInt Syntax.w64))
+      (Syntax.tyRef (Syntax.named 5) Syntax.mut (Syntax.tyInt Syntax.w64))
       5,
 ) (List._∷_ (
   8,
-  Relend.mslice-owed
+  Mut.mslice
       (Referent.rtF (Referent.fInt Syntax.w8))
       (Syntax.tyRef (Syntax.named 6) Syntax.mut (Syntax.tyInt Syntax.w8))
-      6
-      13
-      Row.off,
+      6,
 ) (List._∷_ (
   9,
   Relend.mslice-owed
@@ -3817,15 +3875,23 @@ t38 = List._∷_ (0, Rows.any-gone (Syntax.tyInt Syntax.w64)) (List._∷_ (
       Row.off,
 ) (List._∷_ (
   10,
+  Relend.mslice-owed
+      (Referent.rtF (Referent.fInt Syntax.w8))
+      (Syntax.tyRef (Syntax.named 8) Syntax.mut (Syntax.tyInt Syntax.w8))
+      8
+      15
+      Row.off,
+) (List._∷_ (
+  11,
   Mut.mslice
       Elem.R
-      (Syntax.tyRef (Syntax.named 8) Syntax.mut Elem.ty)
-      8,
-) (List._∷_ (11, Rows.sc-here (Row.sInt Syntax.w64)) (List._∷_ (
-  12,
+      (Syntax.tyRef (Syntax.named 9) Syntax.mut Elem.ty)
+      9,
+) (List._∷_ (12, Rows.sc-here (Row.sInt Syntax.w64)) (List._∷_ (
+  13,
   Rows.sc-here (Row.sInt Syntax.w64),
-) (List._∷_ (13, Rows.sc-here (Row.sInt Syntax.w64)) (List._∷_ (
-  14,
+) (List._∷_ (14, Rows.sc-here (Row.sInt Syntax.w64)) (List._∷_ (
+  15,
   Rows.any-gone
       (Syntax.tyStruct
       (List._∷_
@@ -3876,15 +3942,15 @@ t38 = List._∷_ (0, Rows.any-gone (Syntax.tyInt Syntax.w64)) (List._∷_ (
       (List._∷_ 101 (List._∷_ 103 (List._∷_ 105 (List._∷_ 111 (List._∷_ 110 List.[])))))))))))))
       (Syntax.tcons (Syntax.tyInt Syntax.w64) Syntax.tnil))
       (Syntax.tcons (Syntax.tyInt Syntax.w64) Syntax.tnil))))),
-) (List._∷_ (15, Rows.any-gone Syntax.tyBool) List.[])))))))))))))))
+) List.[])))))))))))))))
 
 abbrev pub t39 : List.List Row.Entry
-t39 = List._∷_ (
-  16,
+t39 = List._∷_ (16, Rows.any-gone Syntax.tyBool) (List._∷_ (
+  17,
   Rows.any-gone
       (Syntax.tyRef Syntax.erased Syntax.mut Elem.ty),
 ) (List._∷_ (
-  17,
+  18,
   Rows.any-gone
       (Syntax.tyStruct
       (List._∷_ 38 (List._∷_ 91 (List._∷_ 93 List.[])))
@@ -3892,25 +3958,25 @@ t39 = List._∷_ (
       (Syntax.tyRef Syntax.erased Syntax.mut Elem.ty)
       (Syntax.tcons (Syntax.tyInt Syntax.w64) Syntax.tnil))),
 ) (List._∷_ (
-  18,
+  19,
   Rows.any-gone
       (Syntax.tyRef Syntax.erased Syntax.imm Elem.ty),
 ) (List._∷_ (
-  19,
+  20,
   Rows.any-gone
       (Syntax.tyStruct
       (List._∷_ 38 (List._∷_ 91 (List._∷_ 93 List.[])))
       (Syntax.tcons
       (Syntax.tyRef Syntax.erased Syntax.imm Elem.ty)
       (Syntax.tcons (Syntax.tyInt Syntax.w64) Syntax.tnil))),
-) (List._∷_ (20, Rows.any-gone (Syntax.tyInt Syntax.w64)) (List._∷_ (
-  21,
+) (List._∷_ (21, Rows.any-gone (Syntax.tyInt Syntax.w64)) (List._∷_ (
+  22,
   Rows.any-gone (Syntax.tyInt Syntax.w64),
-) (List._∷_ (22, Rows.any-gone (Syntax.tyInt Syntax.w64)) (List._∷_ (
-  23,
+) (List._∷_ (23, Rows.any-gone (Syntax.tyInt Syntax.w64)) (List._∷_ (
+  24,
   Rows.any-gone (Syntax.tyRef Syntax.erased Syntax.mut (Syntax.tyInt Syntax.w64)),
 ) (List._∷_ (
-  24,
+  25,
   Rows.any-gone
       (Syntax.tyStruct
       (List._∷_ 38 (List._∷_ 91 (List._∷_ 93 List.[])))
@@ -3919,9 +3985,9 @@ t39 = List._∷_ (
       (Syntax.tcons (Syntax.tyInt Syntax.w64) Syntax.tnil))),
 )
     (List._∷_
-    (25, Rows.any-gone (Syntax.tyRef Syntax.erased Syntax.mut (Syntax.tyInt Syntax.w8)))
+    (26, Rows.any-gone (Syntax.tyRef Syntax.erased Syntax.mut (Syntax.tyInt Syntax.w8)))
     (List._∷_ (
-      26,
+      27,
       Rows.any-gone
           (Syntax.tyStruct
           (List._∷_ 38 (List._∷_ 91 (List._∷_ 93 List.[])))
@@ -3929,22 +3995,22 @@ t39 = List._∷_ (
           (Syntax.tyRef Syntax.erased Syntax.mut (Syntax.tyInt Syntax.w8))
           (Syntax.tcons (Syntax.tyInt Syntax.w64) Syntax.tnil))),
     ) (List._∷_ (
-      27,
-      Rows.any-gone (Syntax.tyRef Syntax.erased Syntax.mut (Syntax.tyInt Syntax.w8)),
-    ) (List._∷_ (
       28,
-      Mut.msleft
-          (Referent.rtF (Referent.fInt Syntax.w8))
-          (Syntax.tyRef Syntax.erased Syntax.mut (Syntax.tyInt Syntax.w8)),
+      Rows.any-gone (Syntax.tyRef Syntax.erased Syntax.mut (Syntax.tyInt Syntax.w8)),
     ) (List._∷_ (
       29,
-      Rows.any-gone (Syntax.tyRef Syntax.erased Syntax.mut (Syntax.tyInt Syntax.w8)),
-    ) (List._∷_ (
-      30,
       Mut.msleft
           (Referent.rtF (Referent.fInt Syntax.w8))
           (Syntax.tyRef Syntax.erased Syntax.mut (Syntax.tyInt Syntax.w8)),
-    ) List.[]))))))))))))))
+    ) (List._∷_ (
+      30,
+      Rows.any-gone (Syntax.tyRef Syntax.erased Syntax.mut (Syntax.tyInt Syntax.w8)),
+    ) (List._∷_ (
+      31,
+      Mut.msleft
+          (Referent.rtF (Referent.fInt Syntax.w8))
+          (Syntax.tyRef Syntax.erased Syntax.mut (Syntax.tyInt Syntax.w8)),
+    ) List.[])))))))))))))))
 
 abbrev pub t40 : List.List Row.Entry
 t40 = List._∷_ (0, Rows.any-gone (Syntax.tyInt Syntax.w64)) (List._∷_ (
@@ -3973,15 +4039,15 @@ t40 = List._∷_ (0, Rows.any-gone (Syntax.tyInt Syntax.w64)) (List._∷_ (
       3,
 ) (List._∷_ (
   6,
-  Mut.mslice
+  Rows.sslice
       (Referent.rtF (Referent.fInt Syntax.w64))
-      (Syntax.tyRef (Syntax.named 4) Syntax.mut (Syntax.tyInt Syntax.w64))
+      (Syntax.tyRef (Syntax.named 4) Syntax.imm (Syntax.tyInt Syntax.w64))
       4,
 ) (List._∷_ (
   7,
   Mut.mslice
-      (Referent.rtF (Referent.fInt Syntax.w8))
-      (Syntax.tyRef (Syntax.named 5) Syntax.mut (Syntax.tyInt Syntax.w8))
+      (Referent.rtF (Referent.fInt Syntax.w64))
+      (Syntax.tyRef (Syntax.named 5) Syntax.mut (Syntax.tyInt Syntax.w64))
       5,
 ) (List._∷_ (
   8,
@@ -3991,23 +4057,29 @@ t40 = List._∷_ (0, Rows.any-gone (Syntax.tyInt Syntax.w64)) (List._∷_ (
       6,
 ) (List._∷_ (
   9,
-  Relend.mslice-owed
+  Mut.mslice
       (Referent.rtF (Referent.fInt Syntax.w8))
       (Syntax.tyRef (Syntax.named 7) Syntax.mut (Syntax.tyInt Syntax.w8))
-      7
-      14
-      Row.off,
+      7,
 ) (List._∷_ (
   10,
+  Relend.mslice-owed
+      (Referent.rtF (Referent.fInt Syntax.w8))
+      (Syntax.tyRef (Syntax.named 8) Syntax.mut (Syntax.tyInt Syntax.w8))
+      8
+      15
+      Row.off,
+) (List._∷_ (
+  11,
   Mut.mslice
       Elem.R
-      (Syntax.tyRef (Syntax.named 8) Syntax.mut Elem.ty)
-      8,
-) (List._∷_ (11, Rows.sc-here (Row.sInt Syntax.w64)) (List._∷_ (
-  12,
+      (Syntax.tyRef (Syntax.named 9) Syntax.mut Elem.ty)
+      9,
+) (List._∷_ (12, Rows.sc-here (Row.sInt Syntax.w64)) (List._∷_ (
+  13,
   Rows.sc-here (Row.sInt Syntax.w64),
-) (List._∷_ (13, Rows.sc-here (Row.sInt Syntax.w64)) (List._∷_ (
-  14,
+) (List._∷_ (14, Rows.sc-here (Row.sInt Syntax.w64)) (List._∷_ (
+  15,
   Rows.any-gone
       (Syntax.tyStruct
       (List._∷_
@@ -4058,15 +4130,15 @@ t40 = List._∷_ (0, Rows.any-gone (Syntax.tyInt Syntax.w64)) (List._∷_ (
       (List._∷_ 101 (List._∷_ 103 (List._∷_ 105 (List._∷_ 111 (List._∷_ 110 List.[])))))))))))))
       (Syntax.tcons (Syntax.tyInt Syntax.w64) Syntax.tnil))
       (Syntax.tcons (Syntax.tyInt Syntax.w64) Syntax.tnil))))),
-) (List._∷_ (15, Rows.any-gone Syntax.tyBool) List.[])))))))))))))))
+) List.[])))))))))))))))
 
 abbrev pub t41 : List.List Row.Entry
-t41 = List._∷_ (
-  16,
+t41 = List._∷_ (16, Rows.any-gone Syntax.tyBool) (List._∷_ (
+  17,
   Rows.any-gone
       (Syntax.tyRef Syntax.erased Syntax.mut Elem.ty),
 ) (List._∷_ (
-  17,
+  18,
   Rows.any-gone
       (Syntax.tyStruct
       (List._∷_ 38 (List._∷_ 91 (List._∷_ 93 List.[])))
@@ -4074,25 +4146,25 @@ t41 = List._∷_ (
       (Syntax.tyRef Syntax.erased Syntax.mut Elem.ty)
       (Syntax.tcons (Syntax.tyInt Syntax.w64) Syntax.tnil))),
 ) (List._∷_ (
-  18,
+  19,
   Rows.any-gone
       (Syntax.tyRef Syntax.erased Syntax.imm Elem.ty),
 ) (List._∷_ (
-  19,
+  20,
   Rows.any-gone
       (Syntax.tyStruct
       (List._∷_ 38 (List._∷_ 91 (List._∷_ 93 List.[])))
       (Syntax.tcons
       (Syntax.tyRef Syntax.erased Syntax.imm Elem.ty)
       (Syntax.tcons (Syntax.tyInt Syntax.w64) Syntax.tnil))),
-) (List._∷_ (20, Rows.any-gone (Syntax.tyInt Syntax.w64)) (List._∷_ (
-  21,
+) (List._∷_ (21, Rows.any-gone (Syntax.tyInt Syntax.w64)) (List._∷_ (
+  22,
   Rows.any-gone (Syntax.tyInt Syntax.w64),
-) (List._∷_ (22, Rows.any-gone (Syntax.tyInt Syntax.w64)) (List._∷_ (
-  23,
+) (List._∷_ (23, Rows.any-gone (Syntax.tyInt Syntax.w64)) (List._∷_ (
+  24,
   Rows.any-gone (Syntax.tyRef Syntax.erased Syntax.mut (Syntax.tyInt Syntax.w64)),
 ) (List._∷_ (
-  24,
+  25,
   Rows.any-gone
       (Syntax.tyStruct
       (List._∷_ 38 (List._∷_ 91 (List._∷_ 93 List.[])))
@@ -4101,20 +4173,20 @@ t41 = List._∷_ (
       (Syntax.tcons (Syntax.tyInt Syntax.w64) Syntax.tnil))),
 )
     (List._∷_
-    (25, Rows.any-gone (Syntax.tyRef Syntax.erased Syntax.mut (Syntax.tyInt Syntax.w8)))
+    (26, Rows.any-gone (Syntax.tyRef Syntax.erased Syntax.mut (Syntax.tyInt Syntax.w8)))
     (List._∷_ (
-      26,
+      27,
       Rows.any-gone
           (Syntax.tyStruct
           (List._∷_ 38 (List._∷_ 91 (List._∷_ 93 List.[])))
           (Syntax.tcons
           (Syntax.tyRef Syntax.erased Syntax.mut (Syntax.tyInt Syntax.w8))
           (Syntax.tcons (Syntax.tyInt Syntax.w64) Syntax.tnil))),
-    ) (List._∷_ (
-      27,
-      Rows.any-gone (Syntax.tyRef Syntax.erased Syntax.mut (Syntax.tyInt Syntax.w8)),
     ) (List._∷_ (
       28,
+      Rows.any-gone (Syntax.tyRef Syntax.erased Syntax.mut (Syntax.tyInt Syntax.w8)),
+    ) (List._∷_ (
+      29,
       Rows.any-gone
           (Syntax.tyStruct
           (List._∷_ 38 (List._∷_ 91 (List._∷_ 93 List.[])))
@@ -4122,14 +4194,14 @@ t41 = List._∷_ (
           (Syntax.tyRef Syntax.erased Syntax.mut (Syntax.tyInt Syntax.w8))
           (Syntax.tcons (Syntax.tyInt Syntax.w64) Syntax.tnil))),
     ) (List._∷_ (
-      29,
+      30,
       Rows.any-gone (Syntax.tyRef Syntax.erased Syntax.mut (Syntax.tyInt Syntax.w8)),
     ) (List._∷_ (
-      30,
+      31,
       Mut.msleft
           (Referent.rtF (Referent.fInt Syntax.w8))
           (Syntax.tyRef Syntax.erased Syntax.mut (Syntax.tyInt Syntax.w8)),
-    ) List.[]))))))))))))))
+    ) List.[])))))))))))))))
 
 abbrev pub t42 : List.List Row.Entry
 t42 = List._∷_ (0, Rows.sc-here (Row.sInt Syntax.w64)) (List._∷_ (
@@ -4158,15 +4230,15 @@ t42 = List._∷_ (0, Rows.sc-here (Row.sInt Syntax.w64)) (List._∷_ (
       3,
 ) (List._∷_ (
   6,
-  Mut.mslice
+  Rows.sslice
       (Referent.rtF (Referent.fInt Syntax.w64))
-      (Syntax.tyRef (Syntax.named 4) Syntax.mut (Syntax.tyInt Syntax.w64))
+      (Syntax.tyRef (Syntax.named 4) Syntax.imm (Syntax.tyInt Syntax.w64))
       4,
 ) (List._∷_ (
   7,
   Mut.mslice
-      (Referent.rtF (Referent.fInt Syntax.w8))
-      (Syntax.tyRef (Syntax.named 5) Syntax.mut (Syntax.tyInt Syntax.w8))
+      (Referent.rtF (Referent.fInt Syntax.w64))
+      (Syntax.tyRef (Syntax.named 5) Syntax.mut (Syntax.tyInt Syntax.w64))
       5,
 ) (List._∷_ (
   8,
@@ -4183,14 +4255,20 @@ t42 = List._∷_ (0, Rows.sc-here (Row.sInt Syntax.w64)) (List._∷_ (
 ) (List._∷_ (
   10,
   Mut.mslice
-      Elem.R
-      (Syntax.tyRef (Syntax.named 8) Syntax.mut Elem.ty)
+      (Referent.rtF (Referent.fInt Syntax.w8))
+      (Syntax.tyRef (Syntax.named 8) Syntax.mut (Syntax.tyInt Syntax.w8))
       8,
-) (List._∷_ (11, Rows.sc-here (Row.sInt Syntax.w64)) (List._∷_ (
-  12,
+) (List._∷_ (
+  11,
+  Mut.mslice
+      Elem.R
+      (Syntax.tyRef (Syntax.named 9) Syntax.mut Elem.ty)
+      9,
+) (List._∷_ (12, Rows.sc-here (Row.sInt Syntax.w64)) (List._∷_ (
+  13,
   Rows.sc-here (Row.sInt Syntax.w64),
-) (List._∷_ (13, Rows.sc-here (Row.sInt Syntax.w64)) (List._∷_ (
-  14,
+) (List._∷_ (14, Rows.sc-here (Row.sInt Syntax.w64)) (List._∷_ (
+  15,
   Rows.any-gone
       (Syntax.tyStruct
       (List._∷_
@@ -4241,7 +4319,7 @@ t42 = List._∷_ (0, Rows.sc-here (Row.sInt Syntax.w64)) (List._∷_ (
       (List._∷_ 101 (List._∷_ 103 (List._∷_ 105 (List._∷_ 111 (List._∷_ 110 List.[])))))))))))))
       (Syntax.tcons (Syntax.tyInt Syntax.w64) Syntax.tnil))
       (Syntax.tcons (Syntax.tyInt Syntax.w64) Syntax.tnil))))),
-) (List._∷_ (15, Rows.any-gone Syntax.tyBool) List.[])))))))))))))))
+) List.[])))))))))))))))
 
 abbrev pub t43 : List.List Row.Entry
 t43 = List._∷_ (0, Rows.sc-here (Row.sInt Syntax.w64)) (List._∷_ (
@@ -4270,15 +4348,15 @@ t43 = List._∷_ (0, Rows.sc-here (Row.sInt Syntax.w64)) (List._∷_ (
       3,
 ) (List._∷_ (
   6,
-  Mut.mslice
+  Rows.sslice
       (Referent.rtF (Referent.fInt Syntax.w64))
-      (Syntax.tyRef (Syntax.named 4) Syntax.mut (Syntax.tyInt Syntax.w64))
+      (Syntax.tyRef (Syntax.named 4) Syntax.imm (Syntax.tyInt Syntax.w64))
       4,
 ) (List._∷_ (
   7,
   Mut.mslice
-      (Referent.rtF (Referent.fInt Syntax.w8))
-      (Syntax.tyRef (Syntax.named 5) Syntax.mut (Syntax.tyInt Syntax.w8))
+      (Referent.rtF (Referent.fInt Syntax.w64))
+      (Syntax.tyRef (Syntax.named 5) Syntax.mut (Syntax.tyInt Syntax.w64))
       5,
 ) (List._∷_ (
   8,
@@ -4295,14 +4373,20 @@ t43 = List._∷_ (0, Rows.sc-here (Row.sInt Syntax.w64)) (List._∷_ (
 ) (List._∷_ (
   10,
   Mut.mslice
-      Elem.R
-      (Syntax.tyRef (Syntax.named 8) Syntax.mut Elem.ty)
+      (Referent.rtF (Referent.fInt Syntax.w8))
+      (Syntax.tyRef (Syntax.named 8) Syntax.mut (Syntax.tyInt Syntax.w8))
       8,
-) (List._∷_ (11, Rows.any-gone (Syntax.tyInt Syntax.w64)) (List._∷_ (
-  12,
+) (List._∷_ (
+  11,
+  Mut.mslice
+      Elem.R
+      (Syntax.tyRef (Syntax.named 9) Syntax.mut Elem.ty)
+      9,
+) (List._∷_ (12, Rows.any-gone (Syntax.tyInt Syntax.w64)) (List._∷_ (
+  13,
   Rows.sc-here (Row.sInt Syntax.w64),
-) (List._∷_ (13, Rows.sc-here (Row.sInt Syntax.w64)) (List._∷_ (
-  14,
+) (List._∷_ (14, Rows.sc-here (Row.sInt Syntax.w64)) (List._∷_ (
+  15,
   Rows.any-gone
       (Syntax.tyStruct
       (List._∷_
@@ -4353,7 +4437,7 @@ t43 = List._∷_ (0, Rows.sc-here (Row.sInt Syntax.w64)) (List._∷_ (
       (List._∷_ 101 (List._∷_ 103 (List._∷_ 105 (List._∷_ 111 (List._∷_ 110 List.[])))))))))))))
       (Syntax.tcons (Syntax.tyInt Syntax.w64) Syntax.tnil))
       (Syntax.tcons (Syntax.tyInt Syntax.w64) Syntax.tnil))))),
-) (List._∷_ (15, Rows.any-gone Syntax.tyBool) List.[])))))))))))))))
+) List.[])))))))))))))))
 
 abbrev pub t44 : List.List Row.Entry
 t44 = List._∷_ (0, Rows.sc-here (Row.sInt Syntax.w64)) (List._∷_ (
@@ -4382,15 +4466,15 @@ t44 = List._∷_ (0, Rows.sc-here (Row.sInt Syntax.w64)) (List._∷_ (
       3,
 ) (List._∷_ (
   6,
-  Mut.mslice
+  Rows.sslice
       (Referent.rtF (Referent.fInt Syntax.w64))
-      (Syntax.tyRef (Syntax.named 4) Syntax.mut (Syntax.tyInt Syntax.w64))
+      (Syntax.tyRef (Syntax.named 4) Syntax.imm (Syntax.tyInt Syntax.w64))
       4,
 ) (List._∷_ (
   7,
   Mut.mslice
-      (Referent.rtF (Referent.fInt Syntax.w8))
-      (Syntax.tyRef (Syntax.named 5) Syntax.mut (Syntax.tyInt Syntax.w8))
+      (Referent.rtF (Referent.fInt Syntax.w64))
+      (Syntax.tyRef (Syntax.named 5) Syntax.mut (Syntax.tyInt Syntax.w64))
       5,
 ) (List._∷_ (
   8,
@@ -4407,14 +4491,20 @@ t44 = List._∷_ (0, Rows.sc-here (Row.sInt Syntax.w64)) (List._∷_ (
 ) (List._∷_ (
   10,
   Mut.mslice
-      Elem.R
-      (Syntax.tyRef (Syntax.named 8) Syntax.mut Elem.ty)
+      (Referent.rtF (Referent.fInt Syntax.w8))
+      (Syntax.tyRef (Syntax.named 8) Syntax.mut (Syntax.tyInt Syntax.w8))
       8,
-) (List._∷_ (11, Rows.any-gone (Syntax.tyInt Syntax.w64)) (List._∷_ (
-  12,
+) (List._∷_ (
+  11,
+  Mut.mslice
+      Elem.R
+      (Syntax.tyRef (Syntax.named 9) Syntax.mut Elem.ty)
+      9,
+) (List._∷_ (12, Rows.any-gone (Syntax.tyInt Syntax.w64)) (List._∷_ (
+  13,
   Rows.any-gone (Syntax.tyInt Syntax.w64),
-) (List._∷_ (13, Rows.sc-here (Row.sInt Syntax.w64)) (List._∷_ (
-  14,
+) (List._∷_ (14, Rows.sc-here (Row.sInt Syntax.w64)) (List._∷_ (
+  15,
   Rows.any-gone
       (Syntax.tyStruct
       (List._∷_
@@ -4465,7 +4555,7 @@ t44 = List._∷_ (0, Rows.sc-here (Row.sInt Syntax.w64)) (List._∷_ (
       (List._∷_ 101 (List._∷_ 103 (List._∷_ 105 (List._∷_ 111 (List._∷_ 110 List.[])))))))))))))
       (Syntax.tcons (Syntax.tyInt Syntax.w64) Syntax.tnil))
       (Syntax.tcons (Syntax.tyInt Syntax.w64) Syntax.tnil))))),
-) (List._∷_ (15, Rows.any-gone Syntax.tyBool) List.[])))))))))))))))
+) List.[])))))))))))))))
 
 abbrev pub t45 : List.List Row.Entry
 t45 = List._∷_ (0, Rows.sc-here (Row.sInt Syntax.w64)) (List._∷_ (
@@ -4494,15 +4584,15 @@ t45 = List._∷_ (0, Rows.sc-here (Row.sInt Syntax.w64)) (List._∷_ (
       3,
 ) (List._∷_ (
   6,
-  Mut.mslice
+  Rows.sslice
       (Referent.rtF (Referent.fInt Syntax.w64))
-      (Syntax.tyRef (Syntax.named 4) Syntax.mut (Syntax.tyInt Syntax.w64))
+      (Syntax.tyRef (Syntax.named 4) Syntax.imm (Syntax.tyInt Syntax.w64))
       4,
 ) (List._∷_ (
   7,
   Mut.mslice
-      (Referent.rtF (Referent.fInt Syntax.w8))
-      (Syntax.tyRef (Syntax.named 5) Syntax.mut (Syntax.tyInt Syntax.w8))
+      (Referent.rtF (Referent.fInt Syntax.w64))
+      (Syntax.tyRef (Syntax.named 5) Syntax.mut (Syntax.tyInt Syntax.w64))
       5,
 ) (List._∷_ (
   8,
@@ -4519,14 +4609,20 @@ t45 = List._∷_ (0, Rows.sc-here (Row.sInt Syntax.w64)) (List._∷_ (
 ) (List._∷_ (
   10,
   Mut.mslice
-      Elem.R
-      (Syntax.tyRef (Syntax.named 8) Syntax.mut Elem.ty)
+      (Referent.rtF (Referent.fInt Syntax.w8))
+      (Syntax.tyRef (Syntax.named 8) Syntax.mut (Syntax.tyInt Syntax.w8))
       8,
-) (List._∷_ (11, Rows.any-gone (Syntax.tyInt Syntax.w64)) (List._∷_ (
-  12,
+) (List._∷_ (
+  11,
+  Mut.mslice
+      Elem.R
+      (Syntax.tyRef (Syntax.named 9) Syntax.mut Elem.ty)
+      9,
+) (List._∷_ (12, Rows.any-gone (Syntax.tyInt Syntax.w64)) (List._∷_ (
+  13,
   Rows.any-gone (Syntax.tyInt Syntax.w64),
-) (List._∷_ (13, Rows.any-gone (Syntax.tyInt Syntax.w64)) (List._∷_ (
-  14,
+) (List._∷_ (14, Rows.any-gone (Syntax.tyInt Syntax.w64)) (List._∷_ (
+  15,
   Rows.any-gone
       (Syntax.tyStruct
       (List._∷_
@@ -4577,7 +4673,7 @@ t45 = List._∷_ (0, Rows.sc-here (Row.sInt Syntax.w64)) (List._∷_ (
       (List._∷_ 101 (List._∷_ 103 (List._∷_ 105 (List._∷_ 111 (List._∷_ 110 List.[])))))))))))))
       (Syntax.tcons (Syntax.tyInt Syntax.w64) Syntax.tnil))
       (Syntax.tcons (Syntax.tyInt Syntax.w64) Syntax.tnil))))),
-) (List._∷_ (15, Rows.any-gone Syntax.tyBool) List.[])))))))))))))))
+) List.[])))))))))))))))
 
 abbrev pub T0 : Row.Cx
 T0 = record { locals = List._++_ t0 t1; slots = List.[] }
@@ -4610,22 +4706,22 @@ abbrev pub T9 : Row.Cx
 T9 = record { locals = List._++_ t0 t1; slots = List.[] }
 
 abbrev pub T10 : Row.Cx
-T10 = record { locals = List._++_ t3 t1; slots = List.[] }
+T10 = record { locals = List._++_ t0 t1; slots = List.[] }
 
 abbrev pub T11 : Row.Cx
-T11 = record { locals = List._++_ t4 t1; slots = List.[] }
+T11 = record { locals = List._++_ t3 t1; slots = List.[] }
 
 abbrev pub T12 : Row.Cx
-T12 = record { locals = List._++_ t5 t1; slots = List.[] }
+T12 = record { locals = List._++_ t4 t1; slots = List.[] }
 
 abbrev pub T13 : Row.Cx
 T13 = record { locals = List._++_ t5 t1; slots = List.[] }
 
 abbrev pub T14 : Row.Cx
-T14 = record { locals = List._++_ t6 t1; slots = List.[] }
+T14 = record { locals = List._++_ t5 t1; slots = List.[] }
 
 abbrev pub T15 : Row.Cx
-T15 = record { locals = List._++_ t5 t1; slots = List.[] }
+T15 = record { locals = List._++_ t5 t6; slots = List.[] }
 
 abbrev pub T16 : Row.Cx
 T16 = record { locals = List._++_ t5 t1; slots = List.[] }
@@ -4633,137 +4729,140 @@ T16 = record { locals = List._++_ t5 t1; slots = List.[] }
 abbrev pub T17 : Row.Cx
 T17 = record { locals = List._++_ t5 t1; slots = List.[] }
 
-abbrev pub T19 : Row.Cx
-T19 = record { locals = List._++_ t7 t8; slots = List.[] }
+abbrev pub T18 : Row.Cx
+T18 = record { locals = List._++_ t5 t1; slots = List.[] }
 
 abbrev pub T20 : Row.Cx
-T20 = record { locals = List._++_ t7 t9; slots = List.[] }
+T20 = record { locals = List._++_ t7 t8; slots = List.[] }
 
 abbrev pub T21 : Row.Cx
-T21 = record { locals = List._++_ t7 t10; slots = List.[] }
+T21 = record { locals = List._++_ t7 t9; slots = List.[] }
 
-abbrev pub T23 : Row.Cx
-T23 = record { locals = List._++_ t5 t1; slots = List.[] }
+abbrev pub T22 : Row.Cx
+T22 = record { locals = List._++_ t7 t10; slots = List.[] }
 
-abbrev pub T26 : Row.Cx
-T26 = record { locals = List._++_ t11 t12; slots = List.[] }
+abbrev pub T24 : Row.Cx
+T24 = record { locals = List._++_ t5 t1; slots = List.[] }
 
 abbrev pub T27 : Row.Cx
-T27 = record { locals = List._++_ t11 t13; slots = List.[] }
+T27 = record { locals = List._++_ t11 t12; slots = List.[] }
 
 abbrev pub T28 : Row.Cx
-T28 = record { locals = List._++_ t11 t14; slots = List.[] }
+T28 = record { locals = List._++_ t11 t13; slots = List.[] }
 
 abbrev pub T29 : Row.Cx
-T29 = record { locals = List._++_ t11 t15; slots = List.[] }
+T29 = record { locals = List._++_ t11 t14; slots = List.[] }
 
 abbrev pub T30 : Row.Cx
-T30 = record { locals = List._++_ t11 t16; slots = List.[] }
+T30 = record { locals = List._++_ t11 t15; slots = List.[] }
 
 abbrev pub T31 : Row.Cx
-T31 = record { locals = List._++_ t11 t17; slots = List.[] }
+T31 = record { locals = List._++_ t11 t16; slots = List.[] }
 
 abbrev pub T32 : Row.Cx
-T32 = record { locals = List._++_ t11 t18; slots = List.[] }
+T32 = record { locals = List._++_ t11 t17; slots = List.[] }
 
 abbrev pub T33 : Row.Cx
-T33 = record { locals = List._++_ t19 t18; slots = List.[] }
+T33 = record { locals = List._++_ t11 t18; slots = List.[] }
 
 abbrev pub T34 : Row.Cx
-T34 = record { locals = List._++_ t19 t20; slots = List.[] }
+T34 = record { locals = List._++_ t19 t18; slots = List.[] }
 
 abbrev pub T35 : Row.Cx
-T35 = record { locals = List._++_ t19 t1; slots = List.[] }
+T35 = record { locals = List._++_ t19 t20; slots = List.[] }
 
-abbrev pub T37 : Row.Cx
-T37 = record { locals = List._++_ t21 t1; slots = List.[] }
+abbrev pub T36 : Row.Cx
+T36 = record { locals = List._++_ t19 t1; slots = List.[] }
 
-abbrev pub T40 : Row.Cx
-T40 = record { locals = List._++_ t22 t23; slots = List.[] }
+abbrev pub T38 : Row.Cx
+T38 = record { locals = List._++_ t21 t1; slots = List.[] }
 
 abbrev pub T41 : Row.Cx
-T41 = record { locals = List._++_ t22 t24; slots = List.[] }
+T41 = record { locals = List._++_ t22 t23; slots = List.[] }
 
-abbrev pub T43 : Row.Cx
-T43 = record { locals = List._++_ t25 t26; slots = List.[] }
+abbrev pub T42 : Row.Cx
+T42 = record { locals = List._++_ t22 t24; slots = List.[] }
 
 abbrev pub T44 : Row.Cx
-T44 = record { locals = List._++_ t25 t27; slots = List.[] }
+T44 = record { locals = List._++_ t25 t26; slots = List.[] }
 
-abbrev pub T46 : Row.Cx
-T46 = record { locals = List._++_ t28 t29; slots = List.[] }
+abbrev pub T45 : Row.Cx
+T45 = record { locals = List._++_ t25 t27; slots = List.[] }
 
 abbrev pub T47 : Row.Cx
-T47 = record { locals = List._++_ t28 t30; slots = List.[] }
+T47 = record { locals = List._++_ t28 t29; slots = List.[] }
 
-abbrev pub T49 : Row.Cx
-T49 = record { locals = List._++_ t31 t32; slots = List.[] }
+abbrev pub T48 : Row.Cx
+T48 = record { locals = List._++_ t28 t30; slots = List.[] }
 
 abbrev pub T50 : Row.Cx
-T50 = record { locals = List._++_ t31 t33; slots = List.[] }
+T50 = record { locals = List._++_ t31 t32; slots = List.[] }
 
 abbrev pub T51 : Row.Cx
-T51 = record { locals = List._++_ t31 t34; slots = List.[] }
+T51 = record { locals = List._++_ t31 t33; slots = List.[] }
 
 abbrev pub T52 : Row.Cx
-T52 = record { locals = List._++_ t35 t34; slots = List.[] }
+T52 = record { locals = List._++_ t31 t34; slots = List.[] }
 
-abbrev pub T54 : Row.Cx
-T54 = record { locals = List._++_ t36 t37; slots = List.[] }
+abbrev pub T53 : Row.Cx
+T53 = record { locals = List._++_ t35 t34; slots = List.[] }
 
 abbrev pub T55 : Row.Cx
 T55 = record { locals = List._++_ t36 t37; slots = List.[] }
 
-abbrev pub T58 : Row.Cx
-T58 = record { locals = List._++_ t38 t39; slots = List.[] }
+abbrev pub T56 : Row.Cx
+T56 = record { locals = List._++_ t36 t37; slots = List.[] }
 
 abbrev pub T59 : Row.Cx
 T59 = record { locals = List._++_ t38 t39; slots = List.[] }
 
-abbrev pub T62 : Row.Cx
-T62 = record { locals = List._++_ t40 t41; slots = List.[] }
+abbrev pub T60 : Row.Cx
+T60 = record { locals = List._++_ t38 t39; slots = List.[] }
 
 abbrev pub T63 : Row.Cx
 T63 = record { locals = List._++_ t40 t41; slots = List.[] }
 
-abbrev pub T66 : Row.Cx
-T66 = record { locals = List._++_ t5 t1; slots = List.[] }
+abbrev pub T64 : Row.Cx
+T64 = record { locals = List._++_ t40 t41; slots = List.[] }
 
 abbrev pub T67 : Row.Cx
 T67 = record { locals = List._++_ t5 t1; slots = List.[] }
 
-abbrev pub T69 : Row.Cx
-T69 = record { locals = List._++_ t5 t1; slots = List.[] }
+abbrev pub T68 : Row.Cx
+T68 = record { locals = List._++_ t5 t1; slots = List.[] }
 
 abbrev pub T70 : Row.Cx
-T70 = record { locals = List._++_ t42 t1; slots = List.[] }
+T70 = record { locals = List._++_ t5 t1; slots = List.[] }
 
 abbrev pub T71 : Row.Cx
-T71 = record { locals = List._++_ t43 t1; slots = List.[] }
+T71 = record { locals = List._++_ t42 t1; slots = List.[] }
 
 abbrev pub T72 : Row.Cx
-T72 = record { locals = List._++_ t44 t1; slots = List.[] }
+T72 = record { locals = List._++_ t43 t1; slots = List.[] }
 
 abbrev pub T73 : Row.Cx
-T73 = record { locals = List._++_ t45 t1; slots = List.[] }
+T73 = record { locals = List._++_ t44 t1; slots = List.[] }
 
 abbrev pub T74 : Row.Cx
-T74 = record { locals = List._++_ t2 t1; slots = List.[] }
+T74 = record { locals = List._++_ t45 t1; slots = List.[] }
+
+abbrev pub T75 : Row.Cx
+T75 = record { locals = List._++_ t2 t1; slots = List.[] }
 
 abbrev pub O0 : Typed.Outs
 O0 = record { next = Option.none; exits = List.[]; returns = Option.some T1 }
 
 abbrev pub O1 : Typed.Outs
-O1 = Typed.withNext (Option.some T13) O0
+O1 = Typed.withNext (Option.some T14) O0
 
 abbrev pub O2 : Typed.Outs
 O2 = Typed.inBlock₀ O1
 
 abbrev pub O3 : Typed.Outs
-O3 = Typed.inLoop₀ T12 O2
+O3 = Typed.inLoop₀ T13 O2
 
 abbrev pub O4 : Typed.Outs
-O4 = Typed.withNext (Option.some T15) O3
+O4 = Typed.withNext (Option.some T16) O3
 
 abbrev pub InvT-loop : Type 1
 InvT-loop =
@@ -4772,6 +4871,7 @@ InvT-loop =
     Rows.sc-here (Row.sInt Syntax.w64) .Mod →
     List.List (Referent.rtF (Referent.fInt Syntax.w64) .Denot) →
     List.List (Referent.rtF (Referent.fInt Syntax.w8) .Denot) →
+    List.List (Referent.rtF (Referent.fInt Syntax.w64) .Denot) →
     List.List (Referent.rtF (Referent.fInt Syntax.w64) .Denot) →
     List.List (Referent.rtF (Referent.fInt Syntax.w8) .Denot) →
     List.List (Referent.rtF (Referent.fInt Syntax.w8) .Denot) →
@@ -4797,6 +4897,7 @@ MeasureT-loop =
     Rows.sc-here (Row.sInt Syntax.w64) .Mod →
     List.List (Referent.rtF (Referent.fInt Syntax.w64) .Denot) →
     List.List (Referent.rtF (Referent.fInt Syntax.w8) .Denot) →
+    List.List (Referent.rtF (Referent.fInt Syntax.w64) .Denot) →
     List.List (Referent.rtF (Referent.fInt Syntax.w64) .Denot) →
     List.List (Referent.rtF (Referent.fInt Syntax.w8) .Denot) →
     List.List (Referent.rtF (Referent.fInt Syntax.w8) .Denot) →
@@ -4866,12 +4967,12 @@ module _ (claims· : Claims) where
 
   abbrev s4 : Typed.Gives T5 T6
   s4 =
-      Know.k-sl-known
+      Know.k-shs-known
       (Referent.fInt Syntax.w64)
       T5
       6
       4
-      (Syntax.tyRef (Syntax.named 4) Syntax.mut (Syntax.tyInt Syntax.w64))
+      (Syntax.tyRef (Syntax.named 4) Syntax.imm (Syntax.tyInt Syntax.w64))
       Row.off
       0
       λ x. x
@@ -4879,11 +4980,11 @@ module _ (claims· : Claims) where
   abbrev s5 : Typed.Gives T6 T7
   s5 =
       Know.k-sl-known
-      (Referent.fInt Syntax.w8)
+      (Referent.fInt Syntax.w64)
       T6
       7
       5
-      (Syntax.tyRef (Syntax.named 5) Syntax.mut (Syntax.tyInt Syntax.w8))
+      (Syntax.tyRef (Syntax.named 5) Syntax.mut (Syntax.tyInt Syntax.w64))
       Row.off
       0
       λ x. x
@@ -4912,14 +5013,17 @@ module _ (claims· : Claims) where
       0
       λ x. x
 
-  abbrev s8 : Typed.Mo T9 → Typed.Mo T10
+  abbrev s8 : Typed.Gives T9 T10
   s8 =
-      Scalar.n-use
+      Know.k-sl-known
+      (Referent.fInt Syntax.w8)
       T9
-      (Scalar.oInt Syntax.w64 0)
-      11
-      (Rows.sc-here (Row.sInt Syntax.w64))
-      (Row.sInt Syntax.w64 .of)
+      10
+      8
+      (Syntax.tyRef (Syntax.named 8) Syntax.mut (Syntax.tyInt Syntax.w8))
+      Row.off
+      0
+      λ x. x
 
   abbrev s9 : Typed.Mo T10 → Typed.Mo T11
   s9 =
@@ -4939,59 +5043,68 @@ module _ (claims· : Claims) where
       (Rows.sc-here (Row.sInt Syntax.w64))
       (Row.sInt Syntax.w64 .of)
 
-  abbrev s11 : Typed.Asks T12 T14
+  abbrev s11 : Typed.Mo T12 → Typed.Mo T13
   s11 =
-      Scalar.k-op2
+      Scalar.n-use
       T12
+      (Scalar.oInt Syntax.w64 0)
+      14
+      (Rows.sc-here (Row.sInt Syntax.w64))
+      (Row.sInt Syntax.w64 .of)
+
+  abbrev s12 : Typed.Asks T13 T15
+  s12 =
+      Scalar.k-op2
+      T13
       (Syntax.lt Syntax.unsigned)
-      (Scalar.oAt 12 (Syntax.tyInt Syntax.w64) (Row.valS (Row.sInt Syntax.w64)))
+      (Scalar.oAt 13 (Syntax.tyInt Syntax.w64) (Row.valS (Row.sInt Syntax.w64)))
       (Scalar.oAt 3 (Syntax.tyInt Syntax.w64) (Row.valS (Row.sInt Syntax.w64)))
-      15
+      16
       (Rows.sc-here Row.sBool)
       (Row.sBool .of)
 
-  abbrev s12 : Typed.Mo T14 → Typed.Mo T16
-  s12 = Scalar.n-room T14 15 Syntax.tyBool
+  abbrev s13 : Typed.Mo T15 → Typed.Mo T17
+  s13 = Scalar.n-room T15 16 Syntax.tyBool
 
-  abbrev s13 : Typed.Mo T14 → Typed.Mo T17
-  s13 = Scalar.n-room T14 15 Syntax.tyBool
+  abbrev s14 : Typed.Mo T15 → Typed.Mo T18
+  s14 = Scalar.n-room T15 16 Syntax.tyBool
 
-  abbrev s15 : Typed.Gives T15 T19
-  s15 =
+  abbrev s16 : Typed.Gives T16 T20
+  s16 =
       Relend.k-sl-relend
       Elem.R
-      T15
-      10
-      16
-      8
+      T16
+      11
+      17
       9
-      (Syntax.tyRef (Syntax.named 8) Syntax.mut Elem.ty)
+      10
+      (Syntax.tyRef (Syntax.named 9) Syntax.mut Elem.ty)
       (Syntax.tyRef Syntax.erased Syntax.mut Elem.ty)
       Row.off
       λ x. x
 
-  abbrev s16 : Typed.Asks T19 T20
-  s16 =
+  abbrev s17 : Typed.Asks T20 T21
+  s17 =
       Relend.k-sl-aggregate
       Elem.R
       (Relend.asMut Elem.R)
-      T19
-      16
+      T20
       17
-      9
+      18
+      10
       (Syntax.tyRef Syntax.erased Syntax.mut Elem.ty)
       (Syntax.tyRef Syntax.erased Syntax.mut Elem.ty)
       (λ x. x)
       (Scalar.oFld
-      10
+      11
       (List._∷_ (Syntax.field 1) List.[])
       (Syntax.tyInt Syntax.w64)
       8
       λ v. Shared.lenV
       (v .0))
 
-  abbrev s17 : Typed.Both T20 T21
-  s17 = Call.callB ps·0 r·0 (claims· .0) (claims· .1) T20 (
+  abbrev s18 : Typed.Both T21 T22
+  s18 = Call.callB ps·0 r·0 (claims· .0) (claims· .1) T21 (
     record {
       pos = 2;
       ty = Syntax.tyRef (Syntax.named 1) Syntax.imm (Syntax.tyInt Syntax.w64);
@@ -5006,12 +5119,12 @@ module _ (claims· : Claims) where
       (
         Num.vAt 3 λ x. x,
         (
-          Num.vAt 12 λ x. x,
+          Num.vAt 13 λ x. x,
           (
-            Num.vAt 11 λ x. x,
+            Num.vAt 12 λ x. x,
             (
               record {
-                pos = 17;
+                pos = 18;
                 ty = Syntax.tyRef
                     Syntax.erased
                     Syntax.mut
@@ -5024,111 +5137,111 @@ module _ (claims· : Claims) where
         ),
       ),
     ),
-  ) 11 (List._∷_ 1 (List._∷_ 2 (List._∷_ 9 List.[]))) (Syntax.tyInt Syntax.w64)
+  ) 12 (List._∷_ 1 (List._∷_ 2 (List._∷_ 10 List.[]))) (Syntax.tyInt Syntax.w64)
 
-  abbrev s19 : Typed.Both T21 T23
-  s19 =
+  abbrev s20 : Typed.Both T22 T24
+  s20 =
       Relend.k-back-sl
       Elem.R
-      T21
-      17
-      10
-      8
+      T22
+      18
+      11
       9
-      (Syntax.tyRef (Syntax.named 8) Syntax.mut Elem.ty)
+      10
+      (Syntax.tyRef (Syntax.named 9) Syntax.mut Elem.ty)
       (Syntax.tyRef Syntax.erased Syntax.mut Elem.ty)
       Row.off
       (λ x. x)
       λ x. x
 
-  abbrev s22 : Typed.Gives T23 T26
-  s22 =
+  abbrev s23 : Typed.Gives T24 T27
+  s23 =
       Reshare.k-sl-reshare
       Elem.R
-      T23
-      10
-      18
-      8
-      10
-      (Syntax.tyRef (Syntax.named 8) Syntax.mut Elem.ty)
+      T24
+      11
+      19
+      9
+      11
+      (Syntax.tyRef (Syntax.named 9) Syntax.mut Elem.ty)
       (Syntax.tyRef Syntax.erased Syntax.imm Elem.ty)
       Row.off
       λ x. x
 
-  abbrev s23 : Typed.Asks T26 T27
-  s23 =
+  abbrev s24 : Typed.Asks T27 T28
+  s24 =
       Relend.k-sl-aggregate
       Elem.R
       (Relend.asShr Elem.R)
-      T26
-      18
+      T27
       19
-      10
+      20
+      11
       (Syntax.tyRef Syntax.erased Syntax.imm Elem.ty)
       (Syntax.tyRef Syntax.erased Syntax.imm Elem.ty)
       (λ x. x)
       (Scalar.oFld
-      10
+      11
       (List._∷_ (Syntax.field 1) List.[])
       (Syntax.tyInt Syntax.w64)
       8
       λ v. Shared.lenV
       (v .0))
 
-  abbrev s24 : Typed.Mo T27 → Typed.Mo T28
-  s24 =
-      Scalar.n-use
-      T27
-      (Scalar.oFld
-      10
-      (List._∷_ (Syntax.field 1) List.[])
-      (Syntax.tyInt Syntax.w64)
-      8
-      λ v. Shared.lenV
-      (v .0))
-      20
-      (Rows.sc-here (Row.sInt Syntax.w64))
-      (Row.sInt Syntax.w64 .of)
-
-  abbrev s25 : Typed.Asks T28 T29
+  abbrev s25 : Typed.Mo T28 → Typed.Mo T29
   s25 =
-      Scalar.k-op2
+      Scalar.n-use
       T28
-      (Syntax.add Syntax.unsigned)
-      (Scalar.oAt 12 (Syntax.tyInt Syntax.w64) (Row.valS (Row.sInt Syntax.w64)))
-      (Scalar.oAt 20 (Syntax.tyInt Syntax.w64) (Row.valS (Row.sInt Syntax.w64)))
+      (Scalar.oFld
+      11
+      (List._∷_ (Syntax.field 1) List.[])
+      (Syntax.tyInt Syntax.w64)
+      8
+      λ v. Shared.lenV
+      (v .0))
       21
       (Rows.sc-here (Row.sInt Syntax.w64))
       (Row.sInt Syntax.w64 .of)
 
-  abbrev s26 : Typed.Mo T29 → Typed.Mo T30
-  s26 = Scalar.n-room T29 20 (Syntax.tyInt Syntax.w64)
-
-  abbrev s27 : Typed.Asks T30 T31
-  s27 =
+  abbrev s26 : Typed.Asks T29 T30
+  s26 =
       Scalar.k-op2
-      T30
-      (Syntax.sub Syntax.unsigned)
+      T29
+      (Syntax.add Syntax.unsigned)
+      (Scalar.oAt 13 (Syntax.tyInt Syntax.w64) (Row.valS (Row.sInt Syntax.w64)))
       (Scalar.oAt 21 (Syntax.tyInt Syntax.w64) (Row.valS (Row.sInt Syntax.w64)))
-      (Scalar.oAt 11 (Syntax.tyInt Syntax.w64) (Row.valS (Row.sInt Syntax.w64)))
       22
       (Rows.sc-here (Row.sInt Syntax.w64))
       (Row.sInt Syntax.w64 .of)
 
-  abbrev s28 : Typed.Mo T31 → Typed.Mo T32
-  s28 = Scalar.n-room T31 21 (Syntax.tyInt Syntax.w64)
+  abbrev s27 : Typed.Mo T30 → Typed.Mo T31
+  s27 = Scalar.n-room T30 21 (Syntax.tyInt Syntax.w64)
 
-  abbrev s29 : Typed.Both T32 T33
-  s29 = Call.callB ps·1 r·1 (claims· .2) (claims· .3) T32 (
+  abbrev s28 : Typed.Asks T31 T32
+  s28 =
+      Scalar.k-op2
+      T31
+      (Syntax.sub Syntax.unsigned)
+      (Scalar.oAt 22 (Syntax.tyInt Syntax.w64) (Row.valS (Row.sInt Syntax.w64)))
+      (Scalar.oAt 12 (Syntax.tyInt Syntax.w64) (Row.valS (Row.sInt Syntax.w64)))
+      23
+      (Rows.sc-here (Row.sInt Syntax.w64))
+      (Row.sInt Syntax.w64 .of)
+
+  abbrev s29 : Typed.Mo T32 → Typed.Mo T33
+  s29 = Scalar.n-room T32 22 (Syntax.tyInt Syntax.w64)
+
+  abbrev s30 : Typed.Both T33 T34
+  s30 = Call.callB ps·1 r·1 (claims· .2) (claims· .3) T33 (
     record {
-      pos = 19;
+      pos = 20;
       ty = Syntax.tyRef Syntax.erased Syntax.imm Elem.ty;
       ref = λ x. x;
     },
-    (Num.vAt 22 λ x. x, tt),
+    (Num.vAt 23 λ x. x, tt),
   )
-      14
-      (List._∷_ 10 List.[])
+      15
+      (List._∷_ 11 List.[])
       (Syntax.tyStruct
       (List._∷_
       114
@@ -5179,91 +5292,57 @@ module _ (claims· : Claims) where
       (Syntax.tcons (Syntax.tyInt Syntax.w64) Syntax.tnil))
       (Syntax.tcons (Syntax.tyInt Syntax.w64) Syntax.tnil)))))
 
-  abbrev s30 : Typed.Mo T33 → Typed.Mo T34
-  s30 =
+  abbrev s31 : Typed.Mo T34 → Typed.Mo T35
+  s31 =
       Scalar.n-room
-      T33
-      19
+      T34
+      20
       (Syntax.tyStruct
       (List._∷_ 38 (List._∷_ 91 (List._∷_ 93 List.[])))
       (Syntax.tcons
       (Syntax.tyRef Syntax.erased Syntax.imm Elem.ty)
       (Syntax.tcons (Syntax.tyInt Syntax.w64) Syntax.tnil)))
 
-  abbrev s31 : Typed.Mo T34 → Typed.Mo T35
-  s31 = Scalar.n-room T34 22 (Syntax.tyInt Syntax.w64)
+  abbrev s32 : Typed.Mo T35 → Typed.Mo T36
+  s32 = Scalar.n-room T35 23 (Syntax.tyInt Syntax.w64)
 
-  abbrev s33 : Typed.Mo T35 → Typed.Mo T37
-  s33 =
+  abbrev s34 : Typed.Mo T36 → Typed.Mo T38
+  s34 =
       Reshare.n-back-sl-shr
       Elem.R
-      T35
-      10
-      8
-      10
-      (Syntax.tyRef (Syntax.named 8) Syntax.mut Elem.ty)
+      T36
+      11
+      9
+      11
+      (Syntax.tyRef (Syntax.named 9) Syntax.mut Elem.ty)
       Row.off
       λ x. x
 
-  abbrev s36 : Typed.Gives T37 T40
-  s36 =
+  abbrev s37 : Typed.Gives T38 T41
+  s37 =
       Relend.k-sl-relend
       (Referent.rtF (Referent.fInt Syntax.w64))
-      T37
-      6
-      23
-      4
-      11
-      (Syntax.tyRef (Syntax.named 4) Syntax.mut (Syntax.tyInt Syntax.w64))
+      T38
+      7
+      24
+      5
+      12
+      (Syntax.tyRef (Syntax.named 5) Syntax.mut (Syntax.tyInt Syntax.w64))
       (Syntax.tyRef Syntax.erased Syntax.mut (Syntax.tyInt Syntax.w64))
       Row.off
       λ x. x
 
-  abbrev s37 : Typed.Asks T40 T41
-  s37 =
+  abbrev s38 : Typed.Asks T41 T42
+  s38 =
       Relend.k-sl-aggregate
       (Referent.rtF (Referent.fInt Syntax.w64))
       (Relend.asMut (Referent.rtF (Referent.fInt Syntax.w64)))
-      T40
-      23
-      24
-      11
-      (Syntax.tyRef Syntax.erased Syntax.mut (Syntax.tyInt Syntax.w64))
-      (Syntax.tyRef Syntax.erased Syntax.mut (Syntax.tyInt Syntax.w64))
-      (λ x. x)
-      (Scalar.oFld
-      6
-      (List._∷_ (Syntax.field 1) List.[])
-      (Syntax.tyInt Syntax.w64)
-      8
-      λ v. Shared.lenV
-      (v .0))
-
-  abbrev s39 : Typed.Gives T41 T43
-  s39 =
-      Relend.k-sl-relend
-      (Referent.rtF (Referent.fInt Syntax.w8))
       T41
-      7
+      24
       25
-      5
       12
-      (Syntax.tyRef (Syntax.named 5) Syntax.mut (Syntax.tyInt Syntax.w8))
-      (Syntax.tyRef Syntax.erased Syntax.mut (Syntax.tyInt Syntax.w8))
-      Row.off
-      λ x. x
-
-  abbrev s40 : Typed.Asks T43 T44
-  s40 =
-      Relend.k-sl-aggregate
-      (Referent.rtF (Referent.fInt Syntax.w8))
-      (Relend.asMut (Referent.rtF (Referent.fInt Syntax.w8)))
-      T43
-      25
-      26
-      12
-      (Syntax.tyRef Syntax.erased Syntax.mut (Syntax.tyInt Syntax.w8))
-      (Syntax.tyRef Syntax.erased Syntax.mut (Syntax.tyInt Syntax.w8))
+      (Syntax.tyRef Syntax.erased Syntax.mut (Syntax.tyInt Syntax.w64))
+      (Syntax.tyRef Syntax.erased Syntax.mut (Syntax.tyInt Syntax.w64))
       (λ x. x)
       (Scalar.oFld
       7
@@ -5273,13 +5352,13 @@ module _ (claims· : Claims) where
       λ v. Shared.lenV
       (v .0))
 
-  abbrev s42 : Typed.Gives T44 T46
-  s42 =
+  abbrev s40 : Typed.Gives T42 T44
+  s40 =
       Relend.k-sl-relend
       (Referent.rtF (Referent.fInt Syntax.w8))
-      T44
+      T42
       8
-      27
+      26
       6
       13
       (Syntax.tyRef (Syntax.named 6) Syntax.mut (Syntax.tyInt Syntax.w8))
@@ -5287,14 +5366,14 @@ module _ (claims· : Claims) where
       Row.off
       λ x. x
 
-  abbrev s43 : Typed.Asks T46 T47
-  s43 =
+  abbrev s41 : Typed.Asks T44 T45
+  s41 =
       Relend.k-sl-aggregate
       (Referent.rtF (Referent.fInt Syntax.w8))
       (Relend.asMut (Referent.rtF (Referent.fInt Syntax.w8)))
-      T46
+      T44
+      26
       27
-      28
       13
       (Syntax.tyRef Syntax.erased Syntax.mut (Syntax.tyInt Syntax.w8))
       (Syntax.tyRef Syntax.erased Syntax.mut (Syntax.tyInt Syntax.w8))
@@ -5307,13 +5386,13 @@ module _ (claims· : Claims) where
       λ v. Shared.lenV
       (v .0))
 
-  abbrev s45 : Typed.Gives T47 T49
-  s45 =
+  abbrev s43 : Typed.Gives T45 T47
+  s43 =
       Relend.k-sl-relend
       (Referent.rtF (Referent.fInt Syntax.w8))
-      T47
+      T45
       9
-      29
+      28
       7
       14
       (Syntax.tyRef (Syntax.named 7) Syntax.mut (Syntax.tyInt Syntax.w8))
@@ -5321,14 +5400,14 @@ module _ (claims· : Claims) where
       Row.off
       λ x. x
 
-  abbrev s46 : Typed.Asks T49 T50
-  s46 =
+  abbrev s44 : Typed.Asks T47 T48
+  s44 =
       Relend.k-sl-aggregate
       (Referent.rtF (Referent.fInt Syntax.w8))
       (Relend.asMut (Referent.rtF (Referent.fInt Syntax.w8)))
-      T49
+      T47
+      28
       29
-      30
       14
       (Syntax.tyRef Syntax.erased Syntax.mut (Syntax.tyInt Syntax.w8))
       (Syntax.tyRef Syntax.erased Syntax.mut (Syntax.tyInt Syntax.w8))
@@ -5341,19 +5420,53 @@ module _ (claims· : Claims) where
       λ v. Shared.lenV
       (v .0))
 
-  abbrev s47 : Typed.Both T50 T51
-  s47 = Call.callB ps·2 r·2 (claims· .4) (claims· .5) T50 (
+  abbrev s46 : Typed.Gives T48 T50
+  s46 =
+      Relend.k-sl-relend
+      (Referent.rtF (Referent.fInt Syntax.w8))
+      T48
+      10
+      30
+      8
+      15
+      (Syntax.tyRef (Syntax.named 8) Syntax.mut (Syntax.tyInt Syntax.w8))
+      (Syntax.tyRef Syntax.erased Syntax.mut (Syntax.tyInt Syntax.w8))
+      Row.off
+      λ x. x
+
+  abbrev s47 : Typed.Asks T50 T51
+  s47 =
+      Relend.k-sl-aggregate
+      (Referent.rtF (Referent.fInt Syntax.w8))
+      (Relend.asMut (Referent.rtF (Referent.fInt Syntax.w8)))
+      T50
+      30
+      31
+      15
+      (Syntax.tyRef Syntax.erased Syntax.mut (Syntax.tyInt Syntax.w8))
+      (Syntax.tyRef Syntax.erased Syntax.mut (Syntax.tyInt Syntax.w8))
+      (λ x. x)
+      (Scalar.oFld
+      10
+      (List._∷_ (Syntax.field 1) List.[])
+      (Syntax.tyInt Syntax.w64)
+      8
+      λ v. Shared.lenV
+      (v .0))
+
+  abbrev s48 : Typed.Both T51 T52
+  s48 = Call.callB ps·2 r·2 (claims· .4) (claims· .5) T51 (
     record {
       pos = 1;
       ty = Syntax.tyRef (Syntax.named 0) Syntax.imm (Syntax.tyInt Syntax.w8);
       ref = λ x. x;
     },
     (
-      Num.vFld 14 (List._∷_ (Syntax.field 0) List.[]) 0 λ x. LineRec.struct .as-values x .0,
+      Num.vFld 15 (List._∷_ (Syntax.field 0) List.[]) 0 λ x. LineRec.struct .as-values x .0,
       (
-        Num.vFld 14 (List._∷_ (Syntax.field 1) List.[]) 8 λ x. LineRec.struct .as-values x .1 .0,
+        Num.vFld 15 (List._∷_ (Syntax.field 1) List.[]) 8 λ x. LineRec.struct .as-values x .1 .0,
         (
-          Num.vAt 12 λ x. x,
+          Num.vAt 13 λ x. x,
           (
             record {
               pos = 4;
@@ -5368,31 +5481,38 @@ module _ (claims· : Claims) where
               },
               (
                 record {
-                  pos = 24;
-                  ty = Syntax.tyRef Syntax.erased Syntax.mut (Syntax.tyInt Syntax.w64);
+                  pos = 6;
+                  ty = Syntax.tyRef (Syntax.named 4) Syntax.imm (Syntax.tyInt Syntax.w64);
                   ref = λ x. x;
                 },
                 (
                   record {
-                    pos = 26;
-                    ty = Syntax.tyRef Syntax.erased Syntax.mut (Syntax.tyInt Syntax.w8);
+                    pos = 25;
+                    ty = Syntax.tyRef Syntax.erased Syntax.mut (Syntax.tyInt Syntax.w64);
                     ref = λ x. x;
                   },
                   (
-                    Num.vAt 13 λ x. x,
+                    record {
+                      pos = 27;
+                      ty = Syntax.tyRef Syntax.erased Syntax.mut (Syntax.tyInt Syntax.w8);
+                      ref = λ x. x;
+                    },
                     (
-                      record {
-                        pos = 28;
-                        ty = Syntax.tyRef Syntax.erased Syntax.mut (Syntax.tyInt Syntax.w8);
-                        ref = λ x. x;
-                      },
+                      Num.vAt 14 λ x. x,
                       (
                         record {
-                          pos = 30;
+                          pos = 29;
                           ty = Syntax.tyRef Syntax.erased Syntax.mut (Syntax.tyInt Syntax.w8);
                           ref = λ x. x;
                         },
-                        tt,
+                        (
+                          record {
+                            pos = 31;
+                            ty = Syntax.tyRef Syntax.erased Syntax.mut (Syntax.tyInt Syntax.w8);
+                            ref = λ x. x;
+                          },
+                          tt,
+                        ),
                       ),
                     ),
                   ),
@@ -5404,17 +5524,19 @@ module _ (claims· : Claims) where
       ),
     ),
   )
-      13
+      14
       (List._∷_
       0
-      (List._∷_ 2 (List._∷_ 3 (List._∷_ 11 (List._∷_ 12 (List._∷_ 13 (List._∷_ 14 List.[])))))))
+      (List._∷_
+      2
+      (List._∷_ 3 (List._∷_ 4 (List._∷_ 12 (List._∷_ 13 (List._∷_ 14 (List._∷_ 15 List.[]))))))))
       (Syntax.tyInt Syntax.w64)
 
-  abbrev s48 : Typed.Mo T51 → Typed.Mo T52
-  s48 =
+  abbrev s49 : Typed.Mo T52 → Typed.Mo T53
+  s49 =
       Scalar.n-room
-      T51
-      14
+      T52
+      15
       (Syntax.tyStruct
       (List._∷_
       114
@@ -5465,66 +5587,39 @@ module _ (claims· : Claims) where
       (Syntax.tcons (Syntax.tyInt Syntax.w64) Syntax.tnil))
       (Syntax.tcons (Syntax.tyInt Syntax.w64) Syntax.tnil)))))
 
-  abbrev s50 : Typed.Both T52 T54
-  s50 =
+  abbrev s51 : Typed.Both T53 T55
+  s51 =
       Relend.k-back-sl
       (Referent.rtF (Referent.fInt Syntax.w64))
-      T52
-      24
-      6
-      4
-      11
-      (Syntax.tyRef (Syntax.named 4) Syntax.mut (Syntax.tyInt Syntax.w64))
+      T53
+      25
+      7
+      5
+      12
+      (Syntax.tyRef (Syntax.named 5) Syntax.mut (Syntax.tyInt Syntax.w64))
       (Syntax.tyRef Syntax.erased Syntax.mut (Syntax.tyInt Syntax.w64))
       Row.off
       (λ x. x)
       λ x. x
 
-  abbrev s51 : Typed.Gives T54 T55
-  s51 =
+  abbrev s52 : Typed.Gives T55 T56
+  s52 =
       Know.k-sl-known
       (Referent.fInt Syntax.w64)
-      T54
-      6
-      4
-      (Syntax.tyRef (Syntax.named 4) Syntax.mut (Syntax.tyInt Syntax.w64))
-      Row.off
-      0
-      λ x. x
-
-  abbrev s54 : Typed.Both T55 T58
-  s54 =
-      Relend.k-back-sl
-      (Referent.rtF (Referent.fInt Syntax.w8))
       T55
-      26
       7
       5
-      12
-      (Syntax.tyRef (Syntax.named 5) Syntax.mut (Syntax.tyInt Syntax.w8))
-      (Syntax.tyRef Syntax.erased Syntax.mut (Syntax.tyInt Syntax.w8))
-      Row.off
-      (λ x. x)
-      λ x. x
-
-  abbrev s55 : Typed.Gives T58 T59
-  s55 =
-      Know.k-sl-known
-      (Referent.fInt Syntax.w8)
-      T58
-      7
-      5
-      (Syntax.tyRef (Syntax.named 5) Syntax.mut (Syntax.tyInt Syntax.w8))
+      (Syntax.tyRef (Syntax.named 5) Syntax.mut (Syntax.tyInt Syntax.w64))
       Row.off
       0
       λ x. x
 
-  abbrev s58 : Typed.Both T59 T62
-  s58 =
+  abbrev s55 : Typed.Both T56 T59
+  s55 =
       Relend.k-back-sl
       (Referent.rtF (Referent.fInt Syntax.w8))
-      T59
-      28
+      T56
+      27
       8
       6
       13
@@ -5534,11 +5629,11 @@ module _ (claims· : Claims) where
       (λ x. x)
       λ x. x
 
-  abbrev s59 : Typed.Gives T62 T63
-  s59 =
+  abbrev s56 : Typed.Gives T59 T60
+  s56 =
       Know.k-sl-known
       (Referent.fInt Syntax.w8)
-      T62
+      T59
       8
       6
       (Syntax.tyRef (Syntax.named 6) Syntax.mut (Syntax.tyInt Syntax.w8))
@@ -5546,12 +5641,12 @@ module _ (claims· : Claims) where
       0
       λ x. x
 
-  abbrev s62 : Typed.Both T63 T66
-  s62 =
+  abbrev s59 : Typed.Both T60 T63
+  s59 =
       Relend.k-back-sl
       (Referent.rtF (Referent.fInt Syntax.w8))
-      T63
-      30
+      T60
+      29
       9
       7
       14
@@ -5561,11 +5656,11 @@ module _ (claims· : Claims) where
       (λ x. x)
       λ x. x
 
-  abbrev s63 : Typed.Gives T66 T67
-  s63 =
+  abbrev s60 : Typed.Gives T63 T64
+  s60 =
       Know.k-sl-known
       (Referent.fInt Syntax.w8)
-      T66
+      T63
       9
       7
       (Syntax.tyRef (Syntax.named 7) Syntax.mut (Syntax.tyInt Syntax.w8))
@@ -5573,28 +5668,52 @@ module _ (claims· : Claims) where
       0
       λ x. x
 
-  abbrev s65 : Typed.Asks T67 T69
-  s65 =
-      Scalar.k-op2
+  abbrev s63 : Typed.Both T64 T67
+  s63 =
+      Relend.k-back-sl
+      (Referent.rtF (Referent.fInt Syntax.w8))
+      T64
+      31
+      10
+      8
+      15
+      (Syntax.tyRef (Syntax.named 8) Syntax.mut (Syntax.tyInt Syntax.w8))
+      (Syntax.tyRef Syntax.erased Syntax.mut (Syntax.tyInt Syntax.w8))
+      Row.off
+      (λ x. x)
+      λ x. x
+
+  abbrev s64 : Typed.Gives T67 T68
+  s64 =
+      Know.k-sl-known
+      (Referent.fInt Syntax.w8)
       T67
+      10
+      8
+      (Syntax.tyRef (Syntax.named 8) Syntax.mut (Syntax.tyInt Syntax.w8))
+      Row.off
+      0
+      λ x. x
+
+  abbrev s66 : Typed.Asks T68 T70
+  s66 =
+      Scalar.k-op2
+      T68
       (Syntax.add Syntax.unsigned)
-      (Scalar.oAt 12 (Syntax.tyInt Syntax.w64) (Row.valS (Row.sInt Syntax.w64)))
+      (Scalar.oAt 13 (Syntax.tyInt Syntax.w64) (Row.valS (Row.sInt Syntax.w64)))
       (Scalar.oInt Syntax.w64 1)
-      12
+      13
       (Rows.sc-here (Row.sInt Syntax.w64))
       (Row.sInt Syntax.w64 .of)
 
-  abbrev s66 : Typed.Mo T13 → Typed.Mo T70
-  s66 =
+  abbrev s67 : Typed.Mo T14 → Typed.Mo T71
+  s67 =
       Scalar.n-use
-      T13
-      (Scalar.oAt 13 (Syntax.tyInt Syntax.w64) (Row.valS (Row.sInt Syntax.w64)))
+      T14
+      (Scalar.oAt 14 (Syntax.tyInt Syntax.w64) (Row.valS (Row.sInt Syntax.w64)))
       0
       (Rows.sc-here (Row.sInt Syntax.w64))
       (Row.sInt Syntax.w64 .of)
-
-  abbrev s67 : Typed.Mo T70 → Typed.Mo T71
-  s67 = Scalar.n-room T70 11 (Syntax.tyInt Syntax.w64)
 
   abbrev s68 : Typed.Mo T71 → Typed.Mo T72
   s68 = Scalar.n-room T71 12 (Syntax.tyInt Syntax.w64)
@@ -5603,7 +5722,10 @@ module _ (claims· : Claims) where
   s69 = Scalar.n-room T72 13 (Syntax.tyInt Syntax.w64)
 
   abbrev s70 : Typed.Mo T73 → Typed.Mo T74
-  s70 = Scalar.n-room T73 3 (Syntax.tyInt Syntax.w64)
+  s70 = Scalar.n-room T73 14 (Syntax.tyInt Syntax.w64)
+
+  abbrev s71 : Typed.Mo T74 → Typed.Mo T75
+  s71 = Scalar.n-room T74 3 (Syntax.tyInt Syntax.w64)
 
   abbrev put0 :
       List.List (Referent.rtF (Referent.fInt Syntax.w64) .Denot) ×
@@ -5614,282 +5736,283 @@ module _ (claims· : Claims) where
       Rows.sc-here (Row.sInt Syntax.w64) .Mod ×
       Rows.sc-here (Row.sInt Syntax.w64) .Mod ×
       Rows.sc-here (Row.sInt Syntax.w64) .Mod →
-      Typed.Mo T12 →
-      Typed.Mo T12
+      Typed.Mo T13 →
+      Typed.Mo T13
   put0 =
       λ vs u. Row.set
-      13
-      (13, Rows.sc-here (Row.sInt Syntax.w64))
+      14
+      (14, Rows.sc-here (Row.sInt Syntax.w64))
       (vs .7)
-      (T12 .locals)
-      (Row.set 12 (12, Rows.sc-here (Row.sInt Syntax.w64)) (vs .6) (T12 .locals) (Row.set 11 (
-        11,
+      (T13 .locals)
+      (Row.set 13 (13, Rows.sc-here (Row.sInt Syntax.w64)) (vs .6) (T13 .locals) (Row.set 12 (
+        12,
         Rows.sc-here (Row.sInt Syntax.w64),
-      ) (vs .5) (T12 .locals) (Row.set 10 (
-        10,
+      ) (vs .5) (T13 .locals) (Row.set 11 (
+        11,
         Mut.mslice
             Elem.R
             (Syntax.tyRef
-            (Syntax.named 8)
+            (Syntax.named 9)
             Syntax.mut
             Elem.ty)
+            9,
+      ) record {
+        ptr = Row.get 11 (T13 .locals) u .ptr;
+        name = Row.get 11 (T13 .locals) u .name;
+        now = vs .4;
+      } (T13 .locals) (Row.set 10 (
+        10,
+        Mut.mslice
+            (Referent.rtF (Referent.fInt Syntax.w8))
+            (Syntax.tyRef (Syntax.named 8) Syntax.mut (Syntax.tyInt Syntax.w8))
             8,
       ) record {
-        ptr = Row.get 10 (T12 .locals) u .ptr;
-        name = Row.get 10 (T12 .locals) u .name;
-        now = vs .4;
-      } (T12 .locals) (Row.set 9 (
+        ptr = Row.get 10 (T13 .locals) u .ptr;
+        name = Row.get 10 (T13 .locals) u .name;
+        now = vs .3;
+      } (T13 .locals) (Row.set 9 (
         9,
         Mut.mslice
             (Referent.rtF (Referent.fInt Syntax.w8))
             (Syntax.tyRef (Syntax.named 7) Syntax.mut (Syntax.tyInt Syntax.w8))
             7,
       ) record {
-        ptr = Row.get 9 (T12 .locals) u .ptr;
-        name = Row.get 9 (T12 .locals) u .name;
-        now = vs .3;
-      } (T12 .locals) (Row.set 8 (
+        ptr = Row.get 9 (T13 .locals) u .ptr;
+        name = Row.get 9 (T13 .locals) u .name;
+        now = vs .2;
+      } (T13 .locals) (Row.set 8 (
         8,
         Mut.mslice
             (Referent.rtF (Referent.fInt Syntax.w8))
             (Syntax.tyRef (Syntax.named 6) Syntax.mut (Syntax.tyInt Syntax.w8))
             6,
       ) record {
-        ptr = Row.get 8 (T12 .locals) u .ptr;
-        name = Row.get 8 (T12 .locals) u .name;
-        now = vs .2;
-      } (T12 .locals) (Row.set 7 (
+        ptr = Row.get 8 (T13 .locals) u .ptr;
+        name = Row.get 8 (T13 .locals) u .name;
+        now = vs .1;
+      } (T13 .locals) (Row.set 7 (
         7,
         Mut.mslice
-            (Referent.rtF (Referent.fInt Syntax.w8))
-            (Syntax.tyRef (Syntax.named 5) Syntax.mut (Syntax.tyInt Syntax.w8))
+            (Referent.rtF (Referent.fInt Syntax.w64))
+            (Syntax.tyRef (Syntax.named 5) Syntax.mut (Syntax.tyInt Syntax.w64))
             5,
       ) record {
-        ptr = Row.get 7 (T12 .locals) u .ptr;
-        name = Row.get 7 (T12 .locals) u .name;
-        now = vs .1;
-      } (T12 .locals) (Row.set 6 (
-        6,
-        Mut.mslice
-            (Referent.rtF (Referent.fInt Syntax.w64))
-            (Syntax.tyRef (Syntax.named 4) Syntax.mut (Syntax.tyInt Syntax.w64))
-            4,
-      ) record {
-        ptr = Row.get 6 (T12 .locals) u .ptr;
-        name = Row.get 6 (T12 .locals) u .name;
+        ptr = Row.get 7 (T13 .locals) u .ptr;
+        name = Row.get 7 (T13 .locals) u .name;
         now = vs .0;
-      } (T12 .locals) u)))))))
+      } (T13 .locals) u)))))))
 
-  module _ (Pre· : (κs : Lifetimes.Lfts 9) → Kinds.Dens κs ps → Type 0)
-      (Post· : (κs : Lifetimes.Lfts 9) → (a : Kinds.Dens κs ps) → Kinds.Plain 9 ps r κs) where
+  module _ (Pre· : (κs : Lifetimes.Lfts 10) → Kinds.Dens κs ps → Type 0)
+      (Post· : (κs : Lifetimes.Lfts 10) → (a : Kinds.Dens κs ps) → Kinds.Plain 10 ps r κs) where
     module _ (M : Type 1) where
       abbrev pub Closed : Type 2
       Closed =
           (𝓤 : URA.URA M) (H : Wp.Heap 𝓤) (A : Atoms.Atoms 𝓤) (W : Kit.Given 𝓤 H A) (𝓣 : Wp.Tables
           𝓤 H) (known0 : Plain.Known 𝓤 H A W 𝓣 3 ps·0 r·0 (claims· .0) (claims· .1)
           "records::refill") (known1 : Plain.Known 𝓤 H A W 𝓣 1 ps·1 r·1 (claims· .2) (claims· .3)
-          "records::get") (known2 : Plain.Known 𝓤 H A W 𝓣 7 ps·2 r·2 (claims· .4) (claims· .5)
-          "calls::turn_line") → Statement.Triple 𝓤 (Wp.WpFn 𝓤 H (𝓣 .C) (𝓣 .Λ) (Function.fnOf 9 ps r
-          xs m hs body)) (Function.plainOf 𝓤 H A 9 ps r Pre· Post·)
+          "records::get") (known2 : Plain.Known 𝓤 H A W 𝓣 8 ps·2 r·2 (claims· .4) (claims· .5)
+          "calls::turn_line") → Statement.Triple 𝓤 (Wp.WpFn 𝓤 H (𝓣 .C) (𝓣 .Λ) (Function.fnOf 10 ps
+          r xs m hs body)) (Function.plainOf 𝓤 H A 10 ps r Pre· Post·)
 
     module _ (Inv·0 : InvT-loop) (μ·0 : MeasureT-loop) where
-      abbrev at0 : Typed.TF T16 O4
+      abbrev at0 : Typed.TF T17 O4
       at0 = Typed.atNext O4
 
-      abbrev at1 : Typed.TF T14 O4
-      at1 = λ Ψ. Typed.pass T14 T16 s12 (at0 Ψ)
+      abbrev at1 : Typed.TF T15 O4
+      at1 = λ Ψ. Typed.pass T15 T17 s13 (at0 Ψ)
 
-      abbrev at2 : Typed.TF T17 O4
+      abbrev at2 : Typed.TF T18 O4
       at2 = Typed.atExit 1 O4
 
-      abbrev at3 : Typed.TF T14 O4
-      at3 = λ Ψ. Typed.pass T14 T17 s13 (at2 Ψ)
+      abbrev at3 : Typed.TF T15 O4
+      at3 = λ Ψ. Typed.pass T15 T18 s14 (at2 Ψ)
 
-      abbrev at4 : Typed.TF T14 O4
-      at4 = Scalar.Φcond T14 O4 15 (λ x. x) at1 at3
+      abbrev at4 : Typed.TF T15 O4
+      at4 = Scalar.Φcond T15 O4 16 (λ x. x) at1 at3
 
-      abbrev at5 : Typed.TF T67 O3
-      at5 = λ Ψ. Typed.ask s65 (Typed.atNext O3 Ψ)
+      abbrev at5 : Typed.TF T68 O3
+      at5 = λ Ψ. Typed.ask s66 (Typed.atNext O3 Ψ)
 
-      abbrev at6 : Typed.TF T67 O3
+      abbrev at6 : Typed.TF T68 O3
       at6 = λ Ψ. at5 Ψ
 
-      abbrev at7 : Typed.TF T66 O3
-      at7 = λ Ψ. Typed.give s63 (at6 Ψ)
+      abbrev at7 : Typed.TF T67 O3
+      at7 = λ Ψ. Typed.give s64 (at6 Ψ)
 
-      abbrev at8 : Typed.TF T63 O3
-      at8 = λ Ψ. Typed.both s62 (at7 Ψ)
+      abbrev at8 : Typed.TF T64 O3
+      at8 = λ Ψ. Typed.both s63 (at7 Ψ)
 
-      abbrev at9 : Typed.TF T63 O3
+      abbrev at9 : Typed.TF T64 O3
       at9 = λ Ψ. at8 Ψ
 
-      abbrev at10 : Typed.TF T63 O3
+      abbrev at10 : Typed.TF T64 O3
       at10 = λ Ψ. at9 Ψ
 
-      abbrev at11 : Typed.TF T62 O3
-      at11 = λ Ψ. Typed.give s59 (at10 Ψ)
+      abbrev at11 : Typed.TF T63 O3
+      at11 = λ Ψ. Typed.give s60 (at10 Ψ)
 
-      abbrev at12 : Typed.TF T59 O3
-      at12 = λ Ψ. Typed.both s58 (at11 Ψ)
+      abbrev at12 : Typed.TF T60 O3
+      at12 = λ Ψ. Typed.both s59 (at11 Ψ)
 
-      abbrev at13 : Typed.TF T59 O3
+      abbrev at13 : Typed.TF T60 O3
       at13 = λ Ψ. at12 Ψ
 
-      abbrev at14 : Typed.TF T59 O3
+      abbrev at14 : Typed.TF T60 O3
       at14 = λ Ψ. at13 Ψ
 
-      abbrev at15 : Typed.TF T58 O3
-      at15 = λ Ψ. Typed.give s55 (at14 Ψ)
+      abbrev at15 : Typed.TF T59 O3
+      at15 = λ Ψ. Typed.give s56 (at14 Ψ)
 
-      abbrev at16 : Typed.TF T55 O3
-      at16 = λ Ψ. Typed.both s54 (at15 Ψ)
+      abbrev at16 : Typed.TF T56 O3
+      at16 = λ Ψ. Typed.both s55 (at15 Ψ)
 
-      abbrev at17 : Typed.TF T55 O3
+      abbrev at17 : Typed.TF T56 O3
       at17 = λ Ψ. at16 Ψ
 
-      abbrev at18 : Typed.TF T55 O3
+      abbrev at18 : Typed.TF T56 O3
       at18 = λ Ψ. at17 Ψ
 
-      abbrev at19 : Typed.TF T54 O3
-      at19 = λ Ψ. Typed.give s51 (at18 Ψ)
+      abbrev at19 : Typed.TF T55 O3
+      at19 = λ Ψ. Typed.give s52 (at18 Ψ)
 
-      abbrev at20 : Typed.TF T52 O3
-      at20 = λ Ψ. Typed.both s50 (at19 Ψ)
+      abbrev at20 : Typed.TF T53 O3
+      at20 = λ Ψ. Typed.both s51 (at19 Ψ)
 
-      abbrev at21 : Typed.TF T52 O3
+      abbrev at21 : Typed.TF T53 O3
       at21 = λ Ψ. at20 Ψ
 
-      abbrev at22 : Typed.TF T51 O3
-      at22 = λ Ψ. Typed.pass T51 T52 s48 (at21 Ψ)
+      abbrev at22 : Typed.TF T52 O3
+      at22 = λ Ψ. Typed.pass T52 T53 s49 (at21 Ψ)
 
-      abbrev at23 : Typed.TF T50 O3
-      at23 = λ Ψ. Typed.both s47 (at22 Ψ)
+      abbrev at23 : Typed.TF T51 O3
+      at23 = λ Ψ. Typed.both s48 (at22 Ψ)
 
-      abbrev at24 : Typed.TF T49 O3
-      at24 = λ Ψ. Typed.ask s46 (at23 Ψ)
+      abbrev at24 : Typed.TF T50 O3
+      at24 = λ Ψ. Typed.ask s47 (at23 Ψ)
 
-      abbrev at25 : Typed.TF T47 O3
-      at25 = λ Ψ. Typed.give s45 (at24 Ψ)
+      abbrev at25 : Typed.TF T48 O3
+      at25 = λ Ψ. Typed.give s46 (at24 Ψ)
 
-      abbrev at26 : Typed.TF T47 O3
+      abbrev at26 : Typed.TF T48 O3
       at26 = λ Ψ. at25 Ψ
 
-      abbrev at27 : Typed.TF T46 O3
-      at27 = λ Ψ. Typed.ask s43 (at26 Ψ)
+      abbrev at27 : Typed.TF T47 O3
+      at27 = λ Ψ. Typed.ask s44 (at26 Ψ)
 
-      abbrev at28 : Typed.TF T44 O3
-      at28 = λ Ψ. Typed.give s42 (at27 Ψ)
+      abbrev at28 : Typed.TF T45 O3
+      at28 = λ Ψ. Typed.give s43 (at27 Ψ)
 
-      abbrev at29 : Typed.TF T44 O3
+      abbrev at29 : Typed.TF T45 O3
       at29 = λ Ψ. at28 Ψ
 
-      abbrev at30 : Typed.TF T43 O3
-      at30 = λ Ψ. Typed.ask s40 (at29 Ψ)
+      abbrev at30 : Typed.TF T44 O3
+      at30 = λ Ψ. Typed.ask s41 (at29 Ψ)
 
-      abbrev at31 : Typed.TF T41 O3
-      at31 = λ Ψ. Typed.give s39 (at30 Ψ)
+      abbrev at31 : Typed.TF T42 O3
+      at31 = λ Ψ. Typed.give s40 (at30 Ψ)
 
-      abbrev at32 : Typed.TF T41 O3
+      abbrev at32 : Typed.TF T42 O3
       at32 = λ Ψ. at31 Ψ
 
-      abbrev at33 : Typed.TF T40 O3
-      at33 = λ Ψ. Typed.ask s37 (at32 Ψ)
+      abbrev at33 : Typed.TF T41 O3
+      at33 = λ Ψ. Typed.ask s38 (at32 Ψ)
 
-      abbrev at34 : Typed.TF T37 O3
-      at34 = λ Ψ. Typed.give s36 (at33 Ψ)
+      abbrev at34 : Typed.TF T38 O3
+      at34 = λ Ψ. Typed.give s37 (at33 Ψ)
 
-      abbrev at35 : Typed.TF T37 O3
+      abbrev at35 : Typed.TF T38 O3
       at35 = λ Ψ. at34 Ψ
 
-      abbrev at36 : Typed.TF T37 O3
+      abbrev at36 : Typed.TF T38 O3
       at36 = λ Ψ. at35 Ψ
 
-      abbrev at37 : Typed.TF T35 O3
-      at37 = λ Ψ. Typed.pass T35 T37 s33 (at36 Ψ)
+      abbrev at37 : Typed.TF T36 O3
+      at37 = λ Ψ. Typed.pass T36 T38 s34 (at36 Ψ)
 
-      abbrev at38 : Typed.TF T35 O3
+      abbrev at38 : Typed.TF T36 O3
       at38 = λ Ψ. at37 Ψ
 
-      abbrev at39 : Typed.TF T34 O3
-      at39 = λ Ψ. Typed.pass T34 T35 s31 (at38 Ψ)
+      abbrev at39 : Typed.TF T35 O3
+      at39 = λ Ψ. Typed.pass T35 T36 s32 (at38 Ψ)
 
-      abbrev at40 : Typed.TF T33 O3
-      at40 = λ Ψ. Typed.pass T33 T34 s30 (at39 Ψ)
+      abbrev at40 : Typed.TF T34 O3
+      at40 = λ Ψ. Typed.pass T34 T35 s31 (at39 Ψ)
 
-      abbrev at41 : Typed.TF T32 O3
-      at41 = λ Ψ. Typed.both s29 (at40 Ψ)
+      abbrev at41 : Typed.TF T33 O3
+      at41 = λ Ψ. Typed.both s30 (at40 Ψ)
 
-      abbrev at42 : Typed.TF T31 O3
-      at42 = λ Ψ. Typed.pass T31 T32 s28 (at41 Ψ)
+      abbrev at42 : Typed.TF T32 O3
+      at42 = λ Ψ. Typed.pass T32 T33 s29 (at41 Ψ)
 
-      abbrev at43 : Typed.TF T30 O3
-      at43 = λ Ψ. Typed.ask s27 (at42 Ψ)
+      abbrev at43 : Typed.TF T31 O3
+      at43 = λ Ψ. Typed.ask s28 (at42 Ψ)
 
-      abbrev at44 : Typed.TF T29 O3
-      at44 = λ Ψ. Typed.pass T29 T30 s26 (at43 Ψ)
+      abbrev at44 : Typed.TF T30 O3
+      at44 = λ Ψ. Typed.pass T30 T31 s27 (at43 Ψ)
 
-      abbrev at45 : Typed.TF T28 O3
-      at45 = λ Ψ. Typed.ask s25 (at44 Ψ)
+      abbrev at45 : Typed.TF T29 O3
+      at45 = λ Ψ. Typed.ask s26 (at44 Ψ)
 
-      abbrev at46 : Typed.TF T27 O3
-      at46 = λ Ψ. Typed.pass T27 T28 s24 (at45 Ψ)
+      abbrev at46 : Typed.TF T28 O3
+      at46 = λ Ψ. Typed.pass T28 T29 s25 (at45 Ψ)
 
-      abbrev at47 : Typed.TF T26 O3
-      at47 = λ Ψ. Typed.ask s23 (at46 Ψ)
+      abbrev at47 : Typed.TF T27 O3
+      at47 = λ Ψ. Typed.ask s24 (at46 Ψ)
 
-      abbrev at48 : Typed.TF T23 O3
-      at48 = λ Ψ. Typed.give s22 (at47 Ψ)
+      abbrev at48 : Typed.TF T24 O3
+      at48 = λ Ψ. Typed.give s23 (at47 Ψ)
 
-      abbrev at49 : Typed.TF T23 O3
+      abbrev at49 : Typed.TF T24 O3
       at49 = λ Ψ. at48 Ψ
 
-      abbrev at50 : Typed.TF T23 O3
+      abbrev at50 : Typed.TF T24 O3
       at50 = λ Ψ. at49 Ψ
 
-      abbrev at51 : Typed.TF T21 O3
-      at51 = λ Ψ. Typed.both s19 (at50 Ψ)
+      abbrev at51 : Typed.TF T22 O3
+      at51 = λ Ψ. Typed.both s20 (at50 Ψ)
 
-      abbrev at52 : Typed.TF T21 O3
+      abbrev at52 : Typed.TF T22 O3
       at52 = λ Ψ. at51 Ψ
 
-      abbrev at53 : Typed.TF T20 O3
-      at53 = λ Ψ. Typed.both s17 (at52 Ψ)
+      abbrev at53 : Typed.TF T21 O3
+      at53 = λ Ψ. Typed.both s18 (at52 Ψ)
 
-      abbrev at54 : Typed.TF T19 O3
-      at54 = λ Ψ. Typed.ask s16 (at53 Ψ)
+      abbrev at54 : Typed.TF T20 O3
+      at54 = λ Ψ. Typed.ask s17 (at53 Ψ)
 
-      abbrev at55 : Typed.TF T15 O3
-      at55 = λ Ψ. Typed.give s15 (at54 Ψ)
+      abbrev at55 : Typed.TF T16 O3
+      at55 = λ Ψ. Typed.give s16 (at54 Ψ)
 
-      abbrev at56 : Typed.TF T15 O3
+      abbrev at56 : Typed.TF T16 O3
       at56 = λ Ψ. at55 Ψ
 
-      abbrev at57 : Typed.TF T14 O3
-      at57 = λ Ψ. at4 (Typed.wantNext T15 O3 (at56 Ψ) Ψ)
+      abbrev at57 : Typed.TF T15 O3
+      at57 = λ Ψ. at4 (Typed.wantNext T16 O3 (at56 Ψ) Ψ)
 
-      abbrev at58 : Typed.TF T12 O3
-      at58 = λ Ψ. Typed.ask s11 (at57 Ψ)
+      abbrev at58 : Typed.TF T13 O3
+      at58 = λ Ψ. Typed.ask s12 (at57 Ψ)
 
-      abbrev at59 : Typed.TF T12 O2
+      abbrev at59 : Typed.TF T13 O2
       at59 =
           Typed.LoopBy
-          T12
+          T13
           O2
           put0
           (λ u vs. Inv·0
-          (Row.get 1 (T12 .locals) u .now)
-          (Row.get 2 (T12 .locals) u .now)
-          (Row.get 3 (T12 .locals) u)
-          (Row.get 4 (T12 .locals) u .now)
-          (Row.get 5 (T12 .locals) u .now)
-          (Row.get 6 (T12 .locals) u .now)
-          (Row.get 7 (T12 .locals) u .now)
-          (Row.get 8 (T12 .locals) u .now)
-          (Row.get 9 (T12 .locals) u .now)
-          (Row.get 10 (T12 .locals) u .now)
-          (Row.get 11 (T12 .locals) u)
-          (Row.get 12 (T12 .locals) u)
-          (Row.get 13 (T12 .locals) u)
+          (Row.get 1 (T13 .locals) u .now)
+          (Row.get 2 (T13 .locals) u .now)
+          (Row.get 3 (T13 .locals) u)
+          (Row.get 4 (T13 .locals) u .now)
+          (Row.get 5 (T13 .locals) u .now)
+          (Row.get 6 (T13 .locals) u .now)
+          (Row.get 7 (T13 .locals) u .now)
+          (Row.get 8 (T13 .locals) u .now)
+          (Row.get 9 (T13 .locals) u .now)
+          (Row.get 10 (T13 .locals) u .now)
+          (Row.get 11 (T13 .locals) u .now)
+          (Row.get 12 (T13 .locals) u)
+          (Row.get 13 (T13 .locals) u)
+          (Row.get 14 (T13 .locals) u)
           (vs .0)
           (vs .1)
           (vs .2)
@@ -5899,19 +6022,20 @@ module _ (claims· : Claims) where
           (vs .6)
           (vs .7))
           (λ u vs. μ·0
-          (Row.get 1 (T12 .locals) u .now)
-          (Row.get 2 (T12 .locals) u .now)
-          (Row.get 3 (T12 .locals) u)
-          (Row.get 4 (T12 .locals) u .now)
-          (Row.get 5 (T12 .locals) u .now)
-          (Row.get 6 (T12 .locals) u .now)
-          (Row.get 7 (T12 .locals) u .now)
-          (Row.get 8 (T12 .locals) u .now)
-          (Row.get 9 (T12 .locals) u .now)
-          (Row.get 10 (T12 .locals) u .now)
-          (Row.get 11 (T12 .locals) u)
-          (Row.get 12 (T12 .locals) u)
-          (Row.get 13 (T12 .locals) u)
+          (Row.get 1 (T13 .locals) u .now)
+          (Row.get 2 (T13 .locals) u .now)
+          (Row.get 3 (T13 .locals) u)
+          (Row.get 4 (T13 .locals) u .now)
+          (Row.get 5 (T13 .locals) u .now)
+          (Row.get 6 (T13 .locals) u .now)
+          (Row.get 7 (T13 .locals) u .now)
+          (Row.get 8 (T13 .locals) u .now)
+          (Row.get 9 (T13 .locals) u .now)
+          (Row.get 10 (T13 .locals) u .now)
+          (Row.get 11 (T13 .locals) u .now)
+          (Row.get 12 (T13 .locals) u)
+          (Row.get 13 (T13 .locals) u)
+          (Row.get 14 (T13 .locals) u)
           (vs .0)
           (vs .1)
           (vs .2)
@@ -5922,65 +6046,68 @@ module _ (claims· : Claims) where
           (vs .7))
           at58
 
-      abbrev at60 : Typed.TF T12 O1
+      abbrev at60 : Typed.TF T13 O1
       at60 = λ Ψ. at59 (Typed.inBlock O1 Ψ)
 
-      abbrev at61 : Typed.TF T74 O0
+      abbrev at61 : Typed.TF T75 O0
       at61 = Typed.atRet O0
 
-      abbrev at62 : Typed.TF T73 O0
-      at62 = λ Ψ. Typed.pass T73 T74 s70 (at61 Ψ)
+      abbrev at62 : Typed.TF T74 O0
+      at62 = λ Ψ. Typed.pass T74 T75 s71 (at61 Ψ)
 
-      abbrev at63 : Typed.TF T72 O0
-      at63 = λ Ψ. Typed.pass T72 T73 s69 (at62 Ψ)
+      abbrev at63 : Typed.TF T73 O0
+      at63 = λ Ψ. Typed.pass T73 T74 s70 (at62 Ψ)
 
-      abbrev at64 : Typed.TF T71 O0
-      at64 = λ Ψ. Typed.pass T71 T72 s68 (at63 Ψ)
+      abbrev at64 : Typed.TF T72 O0
+      at64 = λ Ψ. Typed.pass T72 T73 s69 (at63 Ψ)
 
-      abbrev at65 : Typed.TF T70 O0
-      at65 = λ Ψ. Typed.pass T70 T71 s67 (at64 Ψ)
+      abbrev at65 : Typed.TF T71 O0
+      at65 = λ Ψ. Typed.pass T71 T72 s68 (at64 Ψ)
 
-      abbrev at66 : Typed.TF T13 O0
-      at66 = λ Ψ. Typed.pass T13 T70 s66 (at65 Ψ)
+      abbrev at66 : Typed.TF T14 O0
+      at66 = λ Ψ. Typed.pass T14 T71 s67 (at65 Ψ)
 
-      abbrev at67 : Typed.TF T12 O0
-      at67 = λ Ψ. at60 (Typed.wantNext T13 O0 (at66 Ψ) Ψ)
+      abbrev at67 : Typed.TF T13 O0
+      at67 = λ Ψ. at60 (Typed.wantNext T14 O0 (at66 Ψ) Ψ)
 
-      abbrev at68 : Typed.TF T11 O0
-      at68 = λ Ψ. Typed.pass T11 T12 s10 (at67 Ψ)
+      abbrev at68 : Typed.TF T12 O0
+      at68 = λ Ψ. Typed.pass T12 T13 s11 (at67 Ψ)
 
-      abbrev at69 : Typed.TF T10 O0
-      at69 = λ Ψ. Typed.pass T10 T11 s9 (at68 Ψ)
+      abbrev at69 : Typed.TF T11 O0
+      at69 = λ Ψ. Typed.pass T11 T12 s10 (at68 Ψ)
 
-      abbrev at70 : Typed.TF T9 O0
-      at70 = λ Ψ. Typed.pass T9 T10 s8 (at69 Ψ)
+      abbrev at70 : Typed.TF T10 O0
+      at70 = λ Ψ. Typed.pass T10 T11 s9 (at69 Ψ)
 
-      abbrev at71 : Typed.TF T8 O0
-      at71 = λ Ψ. Typed.give s7 (at70 Ψ)
+      abbrev at71 : Typed.TF T9 O0
+      at71 = λ Ψ. Typed.give s8 (at70 Ψ)
 
-      abbrev at72 : Typed.TF T7 O0
-      at72 = λ Ψ. Typed.give s6 (at71 Ψ)
+      abbrev at72 : Typed.TF T8 O0
+      at72 = λ Ψ. Typed.give s7 (at71 Ψ)
 
-      abbrev at73 : Typed.TF T6 O0
-      at73 = λ Ψ. Typed.give s5 (at72 Ψ)
+      abbrev at73 : Typed.TF T7 O0
+      at73 = λ Ψ. Typed.give s6 (at72 Ψ)
 
-      abbrev at74 : Typed.TF T5 O0
-      at74 = λ Ψ. Typed.give s4 (at73 Ψ)
+      abbrev at74 : Typed.TF T6 O0
+      at74 = λ Ψ. Typed.give s5 (at73 Ψ)
 
-      abbrev at75 : Typed.TF T4 O0
-      at75 = λ Ψ. Typed.give s3 (at74 Ψ)
+      abbrev at75 : Typed.TF T5 O0
+      at75 = λ Ψ. Typed.give s4 (at74 Ψ)
 
-      abbrev at76 : Typed.TF T3 O0
-      at76 = λ Ψ. Typed.give s2 (at75 Ψ)
+      abbrev at76 : Typed.TF T4 O0
+      at76 = λ Ψ. Typed.give s3 (at75 Ψ)
 
-      abbrev at77 : Typed.TF T2 O0
-      at77 = λ Ψ. Typed.give s1 (at76 Ψ)
+      abbrev at77 : Typed.TF T3 O0
+      at77 = λ Ψ. Typed.give s2 (at76 Ψ)
 
-      abbrev at78 : Typed.TF T0 O0
-      at78 = λ Ψ. Typed.give s0 (at77 Ψ)
+      abbrev at78 : Typed.TF T2 O0
+      at78 = λ Ψ. Typed.give s1 (at77 Ψ)
+
+      abbrev at79 : Typed.TF T0 O0
+      at79 = λ Ψ. Typed.give s0 (at78 Ψ)
 
       abbrev pub Φ : Typed.TF T0 O0
-      Φ = at78
+      Φ = at79
 
       module _ {M : Type 1} (𝓤 : URA.URA M) (H : Wp.Heap 𝓤) (A : Atoms.Atoms 𝓤)
           (W : Kit.Given 𝓤 H A) (𝓣 : Wp.Tables 𝓤 H) where
@@ -5988,9 +6115,9 @@ module _ (claims· : Claims) where
         Knowns =
             Plain.Known 𝓤 H A W 𝓣 3 ps·0 r·0 (claims· .0) (claims· .1) "records::refill" ×
             Plain.Known 𝓤 H A W 𝓣 1 ps·1 r·1 (claims· .2) (claims· .3) "records::get" ×
-            Plain.Known 𝓤 H A W 𝓣 7 ps·2 r·2 (claims· .4) (claims· .5) "calls::turn_line"
+            Plain.Known 𝓤 H A W 𝓣 8 ps·2 r·2 (claims· .4) (claims· .5) "calls::turn_line"
 
-      module _ (κs : Lifetimes.Lfts 9) (qs : Lifetimes.Shares 9) where
+      module _ (κs : Lifetimes.Lfts 10) (qs : Lifetimes.Shares 10) where
         abbrev g7 : List.List Row.Entry
         g7 = List._∷_ (0, Rows.any-gone (Syntax.tyInt Syntax.w64)) (List._∷_ (
           1,
@@ -6018,15 +6145,15 @@ module _ (claims· : Claims) where
               3,
         ) (List._∷_ (
           6,
-          Mut.mslice
+          Rows.sslice
               (Referent.rtF (Referent.fInt Syntax.w64))
-              (Syntax.tyRef (Syntax.named 4) Syntax.mut (Syntax.tyInt Syntax.w64))
+              (Syntax.tyRef (Syntax.named 4) Syntax.imm (Syntax.tyInt Syntax.w64))
               4,
         ) (List._∷_ (
           7,
           Mut.mslice
-              (Referent.rtF (Referent.fInt Syntax.w8))
-              (Syntax.tyRef (Syntax.named 5) Syntax.mut (Syntax.tyInt Syntax.w8))
+              (Referent.rtF (Referent.fInt Syntax.w64))
+              (Syntax.tyRef (Syntax.named 5) Syntax.mut (Syntax.tyInt Syntax.w64))
               5,
         ) (List._∷_ (
           8,
@@ -6042,20 +6169,26 @@ module _ (claims· : Claims) where
               7,
         ) (List._∷_ (
           10,
+          Mut.mslice
+              (Referent.rtF (Referent.fInt Syntax.w8))
+              (Syntax.tyRef (Syntax.named 8) Syntax.mut (Syntax.tyInt Syntax.w8))
+              8,
+        ) (List._∷_ (
+          11,
           Relend.mslice-owed
               Elem.R
               (Syntax.tyRef
-              (Syntax.named 8)
+              (Syntax.named 9)
               Syntax.mut
               Elem.ty)
-              8
               9
-              (Row.lease (κs .1 .1 .1 .1 .1 .1 .1 .1 .0) (qs .1 .1 .1 .1 .1 .1 .1 .1 .0)),
-        ) (List._∷_ (11, Rows.sc-here (Row.sInt Syntax.w64)) (List._∷_ (
-          12,
+              10
+              (Row.lease (κs .1 .1 .1 .1 .1 .1 .1 .1 .1 .0) (qs .1 .1 .1 .1 .1 .1 .1 .1 .1 .0)),
+        ) (List._∷_ (12, Rows.sc-here (Row.sInt Syntax.w64)) (List._∷_ (
+          13,
           Rows.sc-here (Row.sInt Syntax.w64),
-        ) (List._∷_ (13, Rows.sc-here (Row.sInt Syntax.w64)) (List._∷_ (
-          14,
+        ) (List._∷_ (14, Rows.sc-here (Row.sInt Syntax.w64)) (List._∷_ (
+          15,
           Rows.any-gone
               (Syntax.tyStruct
               (List._∷_
@@ -6110,7 +6243,7 @@ module _ (claims· : Claims) where
               (List._∷_ 103 (List._∷_ 105 (List._∷_ 111 (List._∷_ 110 List.[])))))))))))))
               (Syntax.tcons (Syntax.tyInt Syntax.w64) Syntax.tnil))
               (Syntax.tcons (Syntax.tyInt Syntax.w64) Syntax.tnil))))),
-        ) (List._∷_ (15, Rows.any-gone Syntax.tyBool) List.[])))))))))))))))
+        ) List.[])))))))))))))))
 
         abbrev g11 : List.List Row.Entry
         g11 = List._∷_ (0, Rows.any-gone (Syntax.tyInt Syntax.w64)) (List._∷_ (
@@ -6139,15 +6272,15 @@ module _ (claims· : Claims) where
               3,
         ) (List._∷_ (
           6,
-          Mut.mslice
+          Rows.sslice
               (Referent.rtF (Referent.fInt Syntax.w64))
-              (Syntax.tyRef (Syntax.named 4) Syntax.mut (Syntax.tyInt Syntax.w64))
+              (Syntax.tyRef (Syntax.named 4) Syntax.imm (Syntax.tyInt Syntax.w64))
               4,
         ) (List._∷_ (
           7,
           Mut.mslice
-              (Referent.rtF (Referent.fInt Syntax.w8))
-              (Syntax.tyRef (Syntax.named 5) Syntax.mut (Syntax.tyInt Syntax.w8))
+              (Referent.rtF (Referent.fInt Syntax.w64))
+              (Syntax.tyRef (Syntax.named 5) Syntax.mut (Syntax.tyInt Syntax.w64))
               5,
         ) (List._∷_ (
           8,
@@ -6163,20 +6296,26 @@ module _ (claims· : Claims) where
               7,
         ) (List._∷_ (
           10,
+          Mut.mslice
+              (Referent.rtF (Referent.fInt Syntax.w8))
+              (Syntax.tyRef (Syntax.named 8) Syntax.mut (Syntax.tyInt Syntax.w8))
+              8,
+        ) (List._∷_ (
+          11,
           Reshare.mslice-owedS
               Elem.R
               (Syntax.tyRef
-              (Syntax.named 8)
+              (Syntax.named 9)
               Syntax.mut
               Elem.ty)
-              8
-              10
-              (Row.lease (κs .1 .1 .1 .1 .1 .1 .1 .1 .0) (qs .1 .1 .1 .1 .1 .1 .1 .1 .0)),
-        ) (List._∷_ (11, Rows.sc-here (Row.sInt Syntax.w64)) (List._∷_ (
-          12,
+              9
+              11
+              (Row.lease (κs .1 .1 .1 .1 .1 .1 .1 .1 .1 .0) (qs .1 .1 .1 .1 .1 .1 .1 .1 .1 .0)),
+        ) (List._∷_ (12, Rows.sc-here (Row.sInt Syntax.w64)) (List._∷_ (
+          13,
           Rows.sc-here (Row.sInt Syntax.w64),
-        ) (List._∷_ (13, Rows.sc-here (Row.sInt Syntax.w64)) (List._∷_ (
-          14,
+        ) (List._∷_ (14, Rows.sc-here (Row.sInt Syntax.w64)) (List._∷_ (
+          15,
           Rows.any-gone
               (Syntax.tyStruct
               (List._∷_
@@ -6231,7 +6370,7 @@ module _ (claims· : Claims) where
               (List._∷_ 103 (List._∷_ 105 (List._∷_ 111 (List._∷_ 110 List.[])))))))))))))
               (Syntax.tcons (Syntax.tyInt Syntax.w64) Syntax.tnil))
               (Syntax.tcons (Syntax.tyInt Syntax.w64) Syntax.tnil))))),
-        ) (List._∷_ (15, Rows.any-gone Syntax.tyBool) List.[])))))))))))))))
+        ) List.[])))))))))))))))
 
         abbrev g19 : List.List Row.Entry
         g19 = List._∷_ (0, Rows.any-gone (Syntax.tyInt Syntax.w64)) (List._∷_ (
@@ -6260,15 +6399,15 @@ module _ (claims· : Claims) where
               3,
         ) (List._∷_ (
           6,
-          Mut.mslice
+          Rows.sslice
               (Referent.rtF (Referent.fInt Syntax.w64))
-              (Syntax.tyRef (Syntax.named 4) Syntax.mut (Syntax.tyInt Syntax.w64))
+              (Syntax.tyRef (Syntax.named 4) Syntax.imm (Syntax.tyInt Syntax.w64))
               4,
         ) (List._∷_ (
           7,
           Mut.mslice
-              (Referent.rtF (Referent.fInt Syntax.w8))
-              (Syntax.tyRef (Syntax.named 5) Syntax.mut (Syntax.tyInt Syntax.w8))
+              (Referent.rtF (Referent.fInt Syntax.w64))
+              (Syntax.tyRef (Syntax.named 5) Syntax.mut (Syntax.tyInt Syntax.w64))
               5,
         ) (List._∷_ (
           8,
@@ -6284,22 +6423,28 @@ module _ (claims· : Claims) where
               7,
         ) (List._∷_ (
           10,
+          Mut.mslice
+              (Referent.rtF (Referent.fInt Syntax.w8))
+              (Syntax.tyRef (Syntax.named 8) Syntax.mut (Syntax.tyInt Syntax.w8))
+              8,
+        ) (List._∷_ (
+          11,
           Reshare.mslice-owedS
               Elem.R
               (Syntax.tyRef
-              (Syntax.named 8)
+              (Syntax.named 9)
               Syntax.mut
               Elem.ty)
-              8
-              10
-              (Row.lease (κs .1 .1 .1 .1 .1 .1 .1 .1 .0) (qs .1 .1 .1 .1 .1 .1 .1 .1 .0)),
-        ) (List._∷_ (11, Rows.sc-here (Row.sInt Syntax.w64)) (List._∷_ (
-          12,
+              9
+              11
+              (Row.lease (κs .1 .1 .1 .1 .1 .1 .1 .1 .1 .0) (qs .1 .1 .1 .1 .1 .1 .1 .1 .1 .0)),
+        ) (List._∷_ (12, Rows.sc-here (Row.sInt Syntax.w64)) (List._∷_ (
+          13,
           Rows.sc-here (Row.sInt Syntax.w64),
-        ) (List._∷_ (13, Rows.sc-here (Row.sInt Syntax.w64)) (List._∷_ (
-          14,
+        ) (List._∷_ (14, Rows.sc-here (Row.sInt Syntax.w64)) (List._∷_ (
+          15,
           Rows.whole (Declared.row LineRec.the-type),
-        ) (List._∷_ (15, Rows.any-gone Syntax.tyBool) List.[])))))))))))))))
+        ) List.[])))))))))))))))
 
         abbrev g22 : List.List Row.Entry
         g22 = List._∷_ (0, Rows.any-gone (Syntax.tyInt Syntax.w64)) (List._∷_ (
@@ -6328,18 +6473,18 @@ module _ (claims· : Claims) where
               3,
         ) (List._∷_ (
           6,
-          Relend.mslice-owed
+          Rows.sslice
               (Referent.rtF (Referent.fInt Syntax.w64))
-              (Syntax.tyRef (Syntax.named 4) Syntax.mut (Syntax.tyInt Syntax.w64))
-              4
-              11
-              (Row.lease (κs .1 .1 .1 .1 .0) (qs .1 .1 .1 .1 .0)),
+              (Syntax.tyRef (Syntax.named 4) Syntax.imm (Syntax.tyInt Syntax.w64))
+              4,
         ) (List._∷_ (
           7,
-          Mut.mslice
-              (Referent.rtF (Referent.fInt Syntax.w8))
-              (Syntax.tyRef (Syntax.named 5) Syntax.mut (Syntax.tyInt Syntax.w8))
-              5,
+          Relend.mslice-owed
+              (Referent.rtF (Referent.fInt Syntax.w64))
+              (Syntax.tyRef (Syntax.named 5) Syntax.mut (Syntax.tyInt Syntax.w64))
+              5
+              12
+              (Row.lease (κs .1 .1 .1 .1 .1 .0) (qs .1 .1 .1 .1 .1 .0)),
         ) (List._∷_ (
           8,
           Mut.mslice
@@ -6355,19 +6500,25 @@ module _ (claims· : Claims) where
         ) (List._∷_ (
           10,
           Mut.mslice
+              (Referent.rtF (Referent.fInt Syntax.w8))
+              (Syntax.tyRef (Syntax.named 8) Syntax.mut (Syntax.tyInt Syntax.w8))
+              8,
+        ) (List._∷_ (
+          11,
+          Mut.mslice
               Elem.R
               (Syntax.tyRef
-              (Syntax.named 8)
+              (Syntax.named 9)
               Syntax.mut
               Elem.ty)
-              8,
-        ) (List._∷_ (11, Rows.sc-here (Row.sInt Syntax.w64)) (List._∷_ (
-          12,
+              9,
+        ) (List._∷_ (12, Rows.sc-here (Row.sInt Syntax.w64)) (List._∷_ (
+          13,
           Rows.sc-here (Row.sInt Syntax.w64),
-        ) (List._∷_ (13, Rows.sc-here (Row.sInt Syntax.w64)) (List._∷_ (
-          14,
+        ) (List._∷_ (14, Rows.sc-here (Row.sInt Syntax.w64)) (List._∷_ (
+          15,
           Rows.whole (Declared.row LineRec.the-type),
-        ) (List._∷_ (15, Rows.any-gone Syntax.tyBool) List.[])))))))))))))))
+        ) List.[])))))))))))))))
 
         abbrev g25 : List.List Row.Entry
         g25 = List._∷_ (0, Rows.any-gone (Syntax.tyInt Syntax.w64)) (List._∷_ (
@@ -6396,26 +6547,26 @@ module _ (claims· : Claims) where
               3,
         ) (List._∷_ (
           6,
-          Relend.mslice-owed
+          Rows.sslice
               (Referent.rtF (Referent.fInt Syntax.w64))
-              (Syntax.tyRef (Syntax.named 4) Syntax.mut (Syntax.tyInt Syntax.w64))
-              4
-              11
-              (Row.lease (κs .1 .1 .1 .1 .0) (qs .1 .1 .1 .1 .0)),
+              (Syntax.tyRef (Syntax.named 4) Syntax.imm (Syntax.tyInt Syntax.w64))
+              4,
         ) (List._∷_ (
           7,
           Relend.mslice-owed
-              (Referent.rtF (Referent.fInt Syntax.w8))
-              (Syntax.tyRef (Syntax.named 5) Syntax.mut (Syntax.tyInt Syntax.w8))
+              (Referent.rtF (Referent.fInt Syntax.w64))
+              (Syntax.tyRef (Syntax.named 5) Syntax.mut (Syntax.tyInt Syntax.w64))
               5
               12
               (Row.lease (κs .1 .1 .1 .1 .1 .0) (qs .1 .1 .1 .1 .1 .0)),
         ) (List._∷_ (
           8,
-          Mut.mslice
+          Relend.mslice-owed
               (Referent.rtF (Referent.fInt Syntax.w8))
               (Syntax.tyRef (Syntax.named 6) Syntax.mut (Syntax.tyInt Syntax.w8))
-              6,
+              6
+              13
+              (Row.lease (κs .1 .1 .1 .1 .1 .1 .0) (qs .1 .1 .1 .1 .1 .1 .0)),
         ) (List._∷_ (
           9,
           Mut.mslice
@@ -6425,19 +6576,25 @@ module _ (claims· : Claims) where
         ) (List._∷_ (
           10,
           Mut.mslice
+              (Referent.rtF (Referent.fInt Syntax.w8))
+              (Syntax.tyRef (Syntax.named 8) Syntax.mut (Syntax.tyInt Syntax.w8))
+              8,
+        ) (List._∷_ (
+          11,
+          Mut.mslice
               Elem.R
               (Syntax.tyRef
-              (Syntax.named 8)
+              (Syntax.named 9)
               Syntax.mut
               Elem.ty)
-              8,
-        ) (List._∷_ (11, Rows.sc-here (Row.sInt Syntax.w64)) (List._∷_ (
-          12,
+              9,
+        ) (List._∷_ (12, Rows.sc-here (Row.sInt Syntax.w64)) (List._∷_ (
+          13,
           Rows.sc-here (Row.sInt Syntax.w64),
-        ) (List._∷_ (13, Rows.sc-here (Row.sInt Syntax.w64)) (List._∷_ (
-          14,
+        ) (List._∷_ (14, Rows.sc-here (Row.sInt Syntax.w64)) (List._∷_ (
+          15,
           Rows.whole (Declared.row LineRec.the-type),
-        ) (List._∷_ (15, Rows.any-gone Syntax.tyBool) List.[])))))))))))))))
+        ) List.[])))))))))))))))
 
         abbrev g28 : List.List Row.Entry
         g28 = List._∷_ (0, Rows.any-gone (Syntax.tyInt Syntax.w64)) (List._∷_ (
@@ -6466,17 +6623,15 @@ module _ (claims· : Claims) where
               3,
         ) (List._∷_ (
           6,
-          Relend.mslice-owed
+          Rows.sslice
               (Referent.rtF (Referent.fInt Syntax.w64))
-              (Syntax.tyRef (Syntax.named 4) Syntax.mut (Syntax.tyInt Syntax.w64))
-              4
-              11
-              (Row.lease (κs .1 .1 .1 .1 .0) (qs .1 .1 .1 .1 .0)),
+              (Syntax.tyRef (Syntax.named 4) Syntax.imm (Syntax.tyInt Syntax.w64))
+              4,
         ) (List._∷_ (
           7,
           Relend.mslice-owed
-              (Referent.rtF (Referent.fInt Syntax.w8))
-              (Syntax.tyRef (Syntax.named 5) Syntax.mut (Syntax.tyInt Syntax.w8))
+              (Referent.rtF (Referent.fInt Syntax.w64))
+              (Syntax.tyRef (Syntax.named 5) Syntax.mut (Syntax.tyInt Syntax.w64))
               5
               12
               (Row.lease (κs .1 .1 .1 .1 .1 .0) (qs .1 .1 .1 .1 .1 .0)),
@@ -6490,26 +6645,34 @@ module _ (claims· : Claims) where
               (Row.lease (κs .1 .1 .1 .1 .1 .1 .0) (qs .1 .1 .1 .1 .1 .1 .0)),
         ) (List._∷_ (
           9,
-          Mut.mslice
+          Relend.mslice-owed
               (Referent.rtF (Referent.fInt Syntax.w8))
               (Syntax.tyRef (Syntax.named 7) Syntax.mut (Syntax.tyInt Syntax.w8))
-              7,
+              7
+              14
+              (Row.lease (κs .1 .1 .1 .1 .1 .1 .1 .0) (qs .1 .1 .1 .1 .1 .1 .1 .0)),
         ) (List._∷_ (
           10,
           Mut.mslice
+              (Referent.rtF (Referent.fInt Syntax.w8))
+              (Syntax.tyRef (Syntax.named 8) Syntax.mut (Syntax.tyInt Syntax.w8))
+              8,
+        ) (List._∷_ (
+          11,
+          Mut.mslice
               Elem.R
               (Syntax.tyRef
-              (Syntax.named 8)
+              (Syntax.named 9)
               Syntax.mut
               Elem.ty)
-              8,
-        ) (List._∷_ (11, Rows.sc-here (Row.sInt Syntax.w64)) (List._∷_ (
-          12,
+              9,
+        ) (List._∷_ (12, Rows.sc-here (Row.sInt Syntax.w64)) (List._∷_ (
+          13,
           Rows.sc-here (Row.sInt Syntax.w64),
-        ) (List._∷_ (13, Rows.sc-here (Row.sInt Syntax.w64)) (List._∷_ (
-          14,
+        ) (List._∷_ (14, Rows.sc-here (Row.sInt Syntax.w64)) (List._∷_ (
+          15,
           Rows.whole (Declared.row LineRec.the-type),
-        ) (List._∷_ (15, Rows.any-gone Syntax.tyBool) List.[])))))))))))))))
+        ) List.[])))))))))))))))
 
         abbrev g31 : List.List Row.Entry
         g31 = List._∷_ (0, Rows.any-gone (Syntax.tyInt Syntax.w64)) (List._∷_ (
@@ -6538,17 +6701,15 @@ module _ (claims· : Claims) where
               3,
         ) (List._∷_ (
           6,
-          Relend.mslice-owed
+          Rows.sslice
               (Referent.rtF (Referent.fInt Syntax.w64))
-              (Syntax.tyRef (Syntax.named 4) Syntax.mut (Syntax.tyInt Syntax.w64))
-              4
-              11
-              (Row.lease (κs .1 .1 .1 .1 .0) (qs .1 .1 .1 .1 .0)),
+              (Syntax.tyRef (Syntax.named 4) Syntax.imm (Syntax.tyInt Syntax.w64))
+              4,
         ) (List._∷_ (
           7,
           Relend.mslice-owed
-              (Referent.rtF (Referent.fInt Syntax.w8))
-              (Syntax.tyRef (Syntax.named 5) Syntax.mut (Syntax.tyInt Syntax.w8))
+              (Referent.rtF (Referent.fInt Syntax.w64))
+              (Syntax.tyRef (Syntax.named 5) Syntax.mut (Syntax.tyInt Syntax.w64))
               5
               12
               (Row.lease (κs .1 .1 .1 .1 .1 .0) (qs .1 .1 .1 .1 .1 .0)),
@@ -6570,20 +6731,28 @@ module _ (claims· : Claims) where
               (Row.lease (κs .1 .1 .1 .1 .1 .1 .1 .0) (qs .1 .1 .1 .1 .1 .1 .1 .0)),
         ) (List._∷_ (
           10,
+          Relend.mslice-owed
+              (Referent.rtF (Referent.fInt Syntax.w8))
+              (Syntax.tyRef (Syntax.named 8) Syntax.mut (Syntax.tyInt Syntax.w8))
+              8
+              15
+              (Row.lease (κs .1 .1 .1 .1 .1 .1 .1 .1 .0) (qs .1 .1 .1 .1 .1 .1 .1 .1 .0)),
+        ) (List._∷_ (
+          11,
           Mut.mslice
               Elem.R
               (Syntax.tyRef
-              (Syntax.named 8)
+              (Syntax.named 9)
               Syntax.mut
               Elem.ty)
-              8,
-        ) (List._∷_ (11, Rows.sc-here (Row.sInt Syntax.w64)) (List._∷_ (
-          12,
+              9,
+        ) (List._∷_ (12, Rows.sc-here (Row.sInt Syntax.w64)) (List._∷_ (
+          13,
           Rows.sc-here (Row.sInt Syntax.w64),
-        ) (List._∷_ (13, Rows.sc-here (Row.sInt Syntax.w64)) (List._∷_ (
-          14,
+        ) (List._∷_ (14, Rows.sc-here (Row.sInt Syntax.w64)) (List._∷_ (
+          15,
           Rows.whole (Declared.row LineRec.the-type),
-        ) (List._∷_ (15, Rows.any-gone Syntax.tyBool) List.[])))))))))))))))
+        ) List.[])))))))))))))))
 
         abbrev g35 : List.List Row.Entry
         g35 = List._∷_ (0, Rows.any-gone (Syntax.tyInt Syntax.w64)) (List._∷_ (
@@ -6612,17 +6781,15 @@ module _ (claims· : Claims) where
               3,
         ) (List._∷_ (
           6,
-          Relend.mslice-owed
+          Rows.sslice
               (Referent.rtF (Referent.fInt Syntax.w64))
-              (Syntax.tyRef (Syntax.named 4) Syntax.mut (Syntax.tyInt Syntax.w64))
-              4
-              11
-              (Row.lease (κs .1 .1 .1 .1 .0) (qs .1 .1 .1 .1 .0)),
+              (Syntax.tyRef (Syntax.named 4) Syntax.imm (Syntax.tyInt Syntax.w64))
+              4,
         ) (List._∷_ (
           7,
           Relend.mslice-owed
-              (Referent.rtF (Referent.fInt Syntax.w8))
-              (Syntax.tyRef (Syntax.named 5) Syntax.mut (Syntax.tyInt Syntax.w8))
+              (Referent.rtF (Referent.fInt Syntax.w64))
+              (Syntax.tyRef (Syntax.named 5) Syntax.mut (Syntax.tyInt Syntax.w64))
               5
               12
               (Row.lease (κs .1 .1 .1 .1 .1 .0) (qs .1 .1 .1 .1 .1 .0)),
@@ -6644,18 +6811,26 @@ module _ (claims· : Claims) where
               (Row.lease (κs .1 .1 .1 .1 .1 .1 .1 .0) (qs .1 .1 .1 .1 .1 .1 .1 .0)),
         ) (List._∷_ (
           10,
+          Relend.mslice-owed
+              (Referent.rtF (Referent.fInt Syntax.w8))
+              (Syntax.tyRef (Syntax.named 8) Syntax.mut (Syntax.tyInt Syntax.w8))
+              8
+              15
+              (Row.lease (κs .1 .1 .1 .1 .1 .1 .1 .1 .0) (qs .1 .1 .1 .1 .1 .1 .1 .1 .0)),
+        ) (List._∷_ (
+          11,
           Mut.mslice
               Elem.R
               (Syntax.tyRef
-              (Syntax.named 8)
+              (Syntax.named 9)
               Syntax.mut
               Elem.ty)
-              8,
-        ) (List._∷_ (11, Rows.sc-here (Row.sInt Syntax.w64)) (List._∷_ (
-          12,
+              9,
+        ) (List._∷_ (12, Rows.sc-here (Row.sInt Syntax.w64)) (List._∷_ (
+          13,
           Rows.sc-here (Row.sInt Syntax.w64),
-        ) (List._∷_ (13, Rows.sc-here (Row.sInt Syntax.w64)) (List._∷_ (
-          14,
+        ) (List._∷_ (14, Rows.sc-here (Row.sInt Syntax.w64)) (List._∷_ (
+          15,
           Rows.any-gone
               (Syntax.tyStruct
               (List._∷_
@@ -6710,7 +6885,7 @@ module _ (claims· : Claims) where
               (List._∷_ 103 (List._∷_ 105 (List._∷_ 111 (List._∷_ 110 List.[])))))))))))))
               (Syntax.tcons (Syntax.tyInt Syntax.w64) Syntax.tnil))
               (Syntax.tcons (Syntax.tyInt Syntax.w64) Syntax.tnil))))),
-        ) (List._∷_ (15, Rows.any-gone Syntax.tyBool) List.[])))))))))))))))
+        ) List.[])))))))))))))))
 
         abbrev g36 : List.List Row.Entry
         g36 = List._∷_ (0, Rows.any-gone (Syntax.tyInt Syntax.w64)) (List._∷_ (
@@ -6739,18 +6914,16 @@ module _ (claims· : Claims) where
               3,
         ) (List._∷_ (
           6,
-          Mut.mslice
+          Rows.sslice
               (Referent.rtF (Referent.fInt Syntax.w64))
-              (Syntax.tyRef (Syntax.named 4) Syntax.mut (Syntax.tyInt Syntax.w64))
+              (Syntax.tyRef (Syntax.named 4) Syntax.imm (Syntax.tyInt Syntax.w64))
               4,
         ) (List._∷_ (
           7,
-          Relend.mslice-owed
-              (Referent.rtF (Referent.fInt Syntax.w8))
-              (Syntax.tyRef (Syntax.named 5) Syntax.mut (Syntax.tyInt Syntax.w8))
-              5
-              12
-              (Row.lease (κs .1 .1 .1 .1 .1 .0) (qs .1 .1 .1 .1 .1 .0)),
+          Mut.mslice
+              (Referent.rtF (Referent.fInt Syntax.w64))
+              (Syntax.tyRef (Syntax.named 5) Syntax.mut (Syntax.tyInt Syntax.w64))
+              5,
         ) (List._∷_ (
           8,
           Relend.mslice-owed
@@ -6769,18 +6942,26 @@ module _ (claims· : Claims) where
               (Row.lease (κs .1 .1 .1 .1 .1 .1 .1 .0) (qs .1 .1 .1 .1 .1 .1 .1 .0)),
         ) (List._∷_ (
           10,
+          Relend.mslice-owed
+              (Referent.rtF (Referent.fInt Syntax.w8))
+              (Syntax.tyRef (Syntax.named 8) Syntax.mut (Syntax.tyInt Syntax.w8))
+              8
+              15
+              (Row.lease (κs .1 .1 .1 .1 .1 .1 .1 .1 .0) (qs .1 .1 .1 .1 .1 .1 .1 .1 .0)),
+        ) (List._∷_ (
+          11,
           Mut.mslice
               Elem.R
               (Syntax.tyRef
-              (Syntax.named 8)
+              (Syntax.named 9)
               Syntax.mut
               Elem.ty)
-              8,
-        ) (List._∷_ (11, Rows.sc-here (Row.sInt Syntax.w64)) (List._∷_ (
-          12,
+              9,
+        ) (List._∷_ (12, Rows.sc-here (Row.sInt Syntax.w64)) (List._∷_ (
+          13,
           Rows.sc-here (Row.sInt Syntax.w64),
-        ) (List._∷_ (13, Rows.sc-here (Row.sInt Syntax.w64)) (List._∷_ (
-          14,
+        ) (List._∷_ (14, Rows.sc-here (Row.sInt Syntax.w64)) (List._∷_ (
+          15,
           Rows.any-gone
               (Syntax.tyStruct
               (List._∷_
@@ -6835,7 +7016,7 @@ module _ (claims· : Claims) where
               (List._∷_ 103 (List._∷_ 105 (List._∷_ 111 (List._∷_ 110 List.[])))))))))))))
               (Syntax.tcons (Syntax.tyInt Syntax.w64) Syntax.tnil))
               (Syntax.tcons (Syntax.tyInt Syntax.w64) Syntax.tnil))))),
-        ) (List._∷_ (15, Rows.any-gone Syntax.tyBool) List.[])))))))))))))))
+        ) List.[])))))))))))))))
 
         abbrev g38 : List.List Row.Entry
         g38 = List._∷_ (0, Rows.any-gone (Syntax.tyInt Syntax.w64)) (List._∷_ (
@@ -6864,24 +7045,22 @@ module _ (claims· : Claims) where
               3,
         ) (List._∷_ (
           6,
-          Mut.mslice
+          Rows.sslice
               (Referent.rtF (Referent.fInt Syntax.w64))
-              (Syntax.tyRef (Syntax.named 4) Syntax.mut (Syntax.tyInt Syntax.w64))
+              (Syntax.tyRef (Syntax.named 4) Syntax.imm (Syntax.tyInt Syntax.w64))
               4,
         ) (List._∷_ (
           7,
           Mut.mslice
-              (Referent.rtF (Referent.fInt Syntax.w8))
-              (Syntax.tyRef (Syntax.named 5) Syntax.mut (Syntax.tyInt Syntax.w8))
+              (Referent.rtF (Referent.fInt Syntax.w64))
+              (Syntax.tyRef (Syntax.named 5) Syntax.mut (Syntax.tyInt Syntax.w64))
               5,
         ) (List._∷_ (
           8,
-          Relend.mslice-owed
+          Mut.mslice
               (Referent.rtF (Referent.fInt Syntax.w8))
               (Syntax.tyRef (Syntax.named 6) Syntax.mut (Syntax.tyInt Syntax.w8))
-              6
-              13
-              (Row.lease (κs .1 .1 .1 .1 .1 .1 .0) (qs .1 .1 .1 .1 .1 .1 .0)),
+              6,
         ) (List._∷_ (
           9,
           Relend.mslice-owed
@@ -6892,18 +7071,26 @@ module _ (claims· : Claims) where
               (Row.lease (κs .1 .1 .1 .1 .1 .1 .1 .0) (qs .1 .1 .1 .1 .1 .1 .1 .0)),
         ) (List._∷_ (
           10,
+          Relend.mslice-owed
+              (Referent.rtF (Referent.fInt Syntax.w8))
+              (Syntax.tyRef (Syntax.named 8) Syntax.mut (Syntax.tyInt Syntax.w8))
+              8
+              15
+              (Row.lease (κs .1 .1 .1 .1 .1 .1 .1 .1 .0) (qs .1 .1 .1 .1 .1 .1 .1 .1 .0)),
+        ) (List._∷_ (
+          11,
           Mut.mslice
               Elem.R
               (Syntax.tyRef
-              (Syntax.named 8)
+              (Syntax.named 9)
               Syntax.mut
               Elem.ty)
-              8,
-        ) (List._∷_ (11, Rows.sc-here (Row.sInt Syntax.w64)) (List._∷_ (
-          12,
+              9,
+        ) (List._∷_ (12, Rows.sc-here (Row.sInt Syntax.w64)) (List._∷_ (
+          13,
           Rows.sc-here (Row.sInt Syntax.w64),
-        ) (List._∷_ (13, Rows.sc-here (Row.sInt Syntax.w64)) (List._∷_ (
-          14,
+        ) (List._∷_ (14, Rows.sc-here (Row.sInt Syntax.w64)) (List._∷_ (
+          15,
           Rows.any-gone
               (Syntax.tyStruct
               (List._∷_
@@ -6958,7 +7145,7 @@ module _ (claims· : Claims) where
               (List._∷_ 103 (List._∷_ 105 (List._∷_ 111 (List._∷_ 110 List.[])))))))))))))
               (Syntax.tcons (Syntax.tyInt Syntax.w64) Syntax.tnil))
               (Syntax.tcons (Syntax.tyInt Syntax.w64) Syntax.tnil))))),
-        ) (List._∷_ (15, Rows.any-gone Syntax.tyBool) List.[])))))))))))))))
+        ) List.[])))))))))))))))
 
         abbrev g40 : List.List Row.Entry
         g40 = List._∷_ (0, Rows.any-gone (Syntax.tyInt Syntax.w64)) (List._∷_ (
@@ -6987,15 +7174,15 @@ module _ (claims· : Claims) where
               3,
         ) (List._∷_ (
           6,
-          Mut.mslice
+          Rows.sslice
               (Referent.rtF (Referent.fInt Syntax.w64))
-              (Syntax.tyRef (Syntax.named 4) Syntax.mut (Syntax.tyInt Syntax.w64))
+              (Syntax.tyRef (Syntax.named 4) Syntax.imm (Syntax.tyInt Syntax.w64))
               4,
         ) (List._∷_ (
           7,
           Mut.mslice
-              (Referent.rtF (Referent.fInt Syntax.w8))
-              (Syntax.tyRef (Syntax.named 5) Syntax.mut (Syntax.tyInt Syntax.w8))
+              (Referent.rtF (Referent.fInt Syntax.w64))
+              (Syntax.tyRef (Syntax.named 5) Syntax.mut (Syntax.tyInt Syntax.w64))
               5,
         ) (List._∷_ (
           8,
@@ -7005,26 +7192,32 @@ module _ (claims· : Claims) where
               6,
         ) (List._∷_ (
           9,
-          Relend.mslice-owed
+          Mut.mslice
               (Referent.rtF (Referent.fInt Syntax.w8))
               (Syntax.tyRef (Syntax.named 7) Syntax.mut (Syntax.tyInt Syntax.w8))
-              7
-              14
-              (Row.lease (κs .1 .1 .1 .1 .1 .1 .1 .0) (qs .1 .1 .1 .1 .1 .1 .1 .0)),
+              7,
         ) (List._∷_ (
           10,
+          Relend.mslice-owed
+              (Referent.rtF (Referent.fInt Syntax.w8))
+              (Syntax.tyRef (Syntax.named 8) Syntax.mut (Syntax.tyInt Syntax.w8))
+              8
+              15
+              (Row.lease (κs .1 .1 .1 .1 .1 .1 .1 .1 .0) (qs .1 .1 .1 .1 .1 .1 .1 .1 .0)),
+        ) (List._∷_ (
+          11,
           Mut.mslice
               Elem.R
               (Syntax.tyRef
-              (Syntax.named 8)
+              (Syntax.named 9)
               Syntax.mut
               Elem.ty)
-              8,
-        ) (List._∷_ (11, Rows.sc-here (Row.sInt Syntax.w64)) (List._∷_ (
-          12,
+              9,
+        ) (List._∷_ (12, Rows.sc-here (Row.sInt Syntax.w64)) (List._∷_ (
+          13,
           Rows.sc-here (Row.sInt Syntax.w64),
-        ) (List._∷_ (13, Rows.sc-here (Row.sInt Syntax.w64)) (List._∷_ (
-          14,
+        ) (List._∷_ (14, Rows.sc-here (Row.sInt Syntax.w64)) (List._∷_ (
+          15,
           Rows.any-gone
               (Syntax.tyStruct
               (List._∷_
@@ -7079,7 +7272,7 @@ module _ (claims· : Claims) where
               (List._∷_ 103 (List._∷_ 105 (List._∷_ 111 (List._∷_ 110 List.[])))))))))))))
               (Syntax.tcons (Syntax.tyInt Syntax.w64) Syntax.tnil))
               (Syntax.tcons (Syntax.tyInt Syntax.w64) Syntax.tnil))))),
-        ) (List._∷_ (15, Rows.any-gone Syntax.tyBool) List.[])))))))))))))))
+        ) List.[])))))))))))))))
 
         abbrev G0 : Row.Cx
         G0 = record {
@@ -7103,12 +7296,14 @@ module _ (claims· : Claims) where
               (List._∷_
               (Row.lease (κs .1 .1 .1 .1 .1 .1 .1 .1 .0) (qs .1 .1 .1 .1 .1 .1 .1 .1 .0))
               (List._∷_
-              Row.off
+              (Row.lease (κs .1 .1 .1 .1 .1 .1 .1 .1 .1 .0) (qs .1 .1 .1 .1 .1 .1 .1 .1 .1 .0))
               (List._∷_
               Row.off
               (List._∷_
               Row.off
-              (List._∷_ Row.off (List._∷_ Row.off (List._∷_ Row.off List.[]))))))))))))));
+              (List._∷_
+              Row.off
+              (List._∷_ Row.off (List._∷_ Row.off (List._∷_ Row.off List.[])))))))))))))));
         }
 
         abbrev G1 : Row.Cx
@@ -7133,12 +7328,14 @@ module _ (claims· : Claims) where
               (List._∷_
               (Row.lease (κs .1 .1 .1 .1 .1 .1 .1 .1 .0) (qs .1 .1 .1 .1 .1 .1 .1 .1 .0))
               (List._∷_
-              Row.off
+              (Row.lease (κs .1 .1 .1 .1 .1 .1 .1 .1 .1 .0) (qs .1 .1 .1 .1 .1 .1 .1 .1 .1 .0))
               (List._∷_
               Row.off
               (List._∷_
               Row.off
-              (List._∷_ Row.off (List._∷_ Row.off (List._∷_ Row.off List.[]))))))))))))));
+              (List._∷_
+              Row.off
+              (List._∷_ Row.off (List._∷_ Row.off (List._∷_ Row.off List.[])))))))))))))));
         }
 
         abbrev G2 : Row.Cx
@@ -7163,12 +7360,14 @@ module _ (claims· : Claims) where
               (List._∷_
               (Row.lease (κs .1 .1 .1 .1 .1 .1 .1 .1 .0) (qs .1 .1 .1 .1 .1 .1 .1 .1 .0))
               (List._∷_
-              Row.off
+              (Row.lease (κs .1 .1 .1 .1 .1 .1 .1 .1 .1 .0) (qs .1 .1 .1 .1 .1 .1 .1 .1 .1 .0))
               (List._∷_
               Row.off
               (List._∷_
               Row.off
-              (List._∷_ Row.off (List._∷_ Row.off (List._∷_ Row.off List.[]))))))))))))));
+              (List._∷_
+              Row.off
+              (List._∷_ Row.off (List._∷_ Row.off (List._∷_ Row.off List.[])))))))))))))));
         }
 
         abbrev G3 : Row.Cx
@@ -7193,12 +7392,14 @@ module _ (claims· : Claims) where
               (List._∷_
               (Row.lease (κs .1 .1 .1 .1 .1 .1 .1 .1 .0) (qs .1 .1 .1 .1 .1 .1 .1 .1 .0))
               (List._∷_
-              Row.off
+              (Row.lease (κs .1 .1 .1 .1 .1 .1 .1 .1 .1 .0) (qs .1 .1 .1 .1 .1 .1 .1 .1 .1 .0))
               (List._∷_
               Row.off
               (List._∷_
               Row.off
-              (List._∷_ Row.off (List._∷_ Row.off (List._∷_ Row.off List.[]))))))))))))));
+              (List._∷_
+              Row.off
+              (List._∷_ Row.off (List._∷_ Row.off (List._∷_ Row.off List.[])))))))))))))));
         }
 
         abbrev G4 : Row.Cx
@@ -7223,12 +7424,14 @@ module _ (claims· : Claims) where
               (List._∷_
               (Row.lease (κs .1 .1 .1 .1 .1 .1 .1 .1 .0) (qs .1 .1 .1 .1 .1 .1 .1 .1 .0))
               (List._∷_
-              Row.off
+              (Row.lease (κs .1 .1 .1 .1 .1 .1 .1 .1 .1 .0) (qs .1 .1 .1 .1 .1 .1 .1 .1 .1 .0))
               (List._∷_
               Row.off
               (List._∷_
               Row.off
-              (List._∷_ Row.off (List._∷_ Row.off (List._∷_ Row.off List.[]))))))))))))));
+              (List._∷_
+              Row.off
+              (List._∷_ Row.off (List._∷_ Row.off (List._∷_ Row.off List.[])))))))))))))));
         }
 
         abbrev G5 : Row.Cx
@@ -7253,12 +7456,14 @@ module _ (claims· : Claims) where
               (List._∷_
               (Row.lease (κs .1 .1 .1 .1 .1 .1 .1 .1 .0) (qs .1 .1 .1 .1 .1 .1 .1 .1 .0))
               (List._∷_
-              Row.off
+              (Row.lease (κs .1 .1 .1 .1 .1 .1 .1 .1 .1 .0) (qs .1 .1 .1 .1 .1 .1 .1 .1 .1 .0))
               (List._∷_
               Row.off
               (List._∷_
               Row.off
-              (List._∷_ Row.off (List._∷_ Row.off (List._∷_ Row.off List.[]))))))))))))));
+              (List._∷_
+              Row.off
+              (List._∷_ Row.off (List._∷_ Row.off (List._∷_ Row.off List.[])))))))))))))));
         }
 
         abbrev G6 : Row.Cx
@@ -7283,12 +7488,14 @@ module _ (claims· : Claims) where
               (List._∷_
               (Row.lease (κs .1 .1 .1 .1 .1 .1 .1 .1 .0) (qs .1 .1 .1 .1 .1 .1 .1 .1 .0))
               (List._∷_
-              Row.off
+              (Row.lease (κs .1 .1 .1 .1 .1 .1 .1 .1 .1 .0) (qs .1 .1 .1 .1 .1 .1 .1 .1 .1 .0))
               (List._∷_
               Row.off
               (List._∷_
               Row.off
-              (List._∷_ Row.off (List._∷_ Row.off (List._∷_ Row.off List.[]))))))))))))));
+              (List._∷_
+              Row.off
+              (List._∷_ Row.off (List._∷_ Row.off (List._∷_ Row.off List.[])))))))))))))));
         }
 
         abbrev G7 : Row.Cx
@@ -7313,12 +7520,14 @@ module _ (claims· : Claims) where
               (List._∷_
               (Row.lease (κs .1 .1 .1 .1 .1 .1 .1 .1 .0) (qs .1 .1 .1 .1 .1 .1 .1 .1 .0))
               (List._∷_
-              Row.off
+              (Row.lease (κs .1 .1 .1 .1 .1 .1 .1 .1 .1 .0) (qs .1 .1 .1 .1 .1 .1 .1 .1 .1 .0))
               (List._∷_
               Row.off
               (List._∷_
               Row.off
-              (List._∷_ Row.off (List._∷_ Row.off (List._∷_ Row.off List.[]))))))))))))));
+              (List._∷_
+              Row.off
+              (List._∷_ Row.off (List._∷_ Row.off (List._∷_ Row.off List.[])))))))))))))));
         }
 
         abbrev G8 : Row.Cx
@@ -7343,12 +7552,14 @@ module _ (claims· : Claims) where
               (List._∷_
               (Row.lease (κs .1 .1 .1 .1 .1 .1 .1 .1 .0) (qs .1 .1 .1 .1 .1 .1 .1 .1 .0))
               (List._∷_
-              Row.off
+              (Row.lease (κs .1 .1 .1 .1 .1 .1 .1 .1 .1 .0) (qs .1 .1 .1 .1 .1 .1 .1 .1 .1 .0))
               (List._∷_
               Row.off
               (List._∷_
               Row.off
-              (List._∷_ Row.off (List._∷_ Row.off (List._∷_ Row.off List.[]))))))))))))));
+              (List._∷_
+              Row.off
+              (List._∷_ Row.off (List._∷_ Row.off (List._∷_ Row.off List.[])))))))))))))));
         }
 
         abbrev G9 : Row.Cx
@@ -7373,16 +7584,50 @@ module _ (claims· : Claims) where
               (List._∷_
               (Row.lease (κs .1 .1 .1 .1 .1 .1 .1 .1 .0) (qs .1 .1 .1 .1 .1 .1 .1 .1 .0))
               (List._∷_
-              Row.off
+              (Row.lease (κs .1 .1 .1 .1 .1 .1 .1 .1 .1 .0) (qs .1 .1 .1 .1 .1 .1 .1 .1 .1 .0))
               (List._∷_
               Row.off
               (List._∷_
               Row.off
-              (List._∷_ Row.off (List._∷_ Row.off (List._∷_ Row.off List.[]))))))))))))));
+              (List._∷_
+              Row.off
+              (List._∷_ Row.off (List._∷_ Row.off (List._∷_ Row.off List.[])))))))))))))));
         }
 
         abbrev G10 : Row.Cx
         G10 = record {
+          locals = List._++_ t0 t1;
+          slots = List._∷_
+              (Row.lease (κs .0) (qs .0))
+              (List._∷_
+              (Row.lease (κs .1 .0) (qs .1 .0))
+              (List._∷_
+              (Row.lease (κs .1 .1 .0) (qs .1 .1 .0))
+              (List._∷_
+              (Row.lease (κs .1 .1 .1 .0) (qs .1 .1 .1 .0))
+              (List._∷_
+              (Row.lease (κs .1 .1 .1 .1 .0) (qs .1 .1 .1 .1 .0))
+              (List._∷_
+              (Row.lease (κs .1 .1 .1 .1 .1 .0) (qs .1 .1 .1 .1 .1 .0))
+              (List._∷_
+              (Row.lease (κs .1 .1 .1 .1 .1 .1 .0) (qs .1 .1 .1 .1 .1 .1 .0))
+              (List._∷_
+              (Row.lease (κs .1 .1 .1 .1 .1 .1 .1 .0) (qs .1 .1 .1 .1 .1 .1 .1 .0))
+              (List._∷_
+              (Row.lease (κs .1 .1 .1 .1 .1 .1 .1 .1 .0) (qs .1 .1 .1 .1 .1 .1 .1 .1 .0))
+              (List._∷_
+              (Row.lease (κs .1 .1 .1 .1 .1 .1 .1 .1 .1 .0) (qs .1 .1 .1 .1 .1 .1 .1 .1 .1 .0))
+              (List._∷_
+              Row.off
+              (List._∷_
+              Row.off
+              (List._∷_
+              Row.off
+              (List._∷_ Row.off (List._∷_ Row.off (List._∷_ Row.off List.[])))))))))))))));
+        }
+
+        abbrev G11 : Row.Cx
+        G11 = record {
           locals = List._++_ t3 t1;
           slots = List._∷_
               (Row.lease (κs .0) (qs .0))
@@ -7403,16 +7648,18 @@ module _ (claims· : Claims) where
               (List._∷_
               (Row.lease (κs .1 .1 .1 .1 .1 .1 .1 .1 .0) (qs .1 .1 .1 .1 .1 .1 .1 .1 .0))
               (List._∷_
-              Row.off
+              (Row.lease (κs .1 .1 .1 .1 .1 .1 .1 .1 .1 .0) (qs .1 .1 .1 .1 .1 .1 .1 .1 .1 .0))
               (List._∷_
               Row.off
               (List._∷_
               Row.off
-              (List._∷_ Row.off (List._∷_ Row.off (List._∷_ Row.off List.[]))))))))))))));
+              (List._∷_
+              Row.off
+              (List._∷_ Row.off (List._∷_ Row.off (List._∷_ Row.off List.[])))))))))))))));
         }
 
-        abbrev G11 : Row.Cx
-        G11 = record {
+        abbrev G12 : Row.Cx
+        G12 = record {
           locals = List._++_ t4 t1;
           slots = List._∷_
               (Row.lease (κs .0) (qs .0))
@@ -7433,42 +7680,14 @@ module _ (claims· : Claims) where
               (List._∷_
               (Row.lease (κs .1 .1 .1 .1 .1 .1 .1 .1 .0) (qs .1 .1 .1 .1 .1 .1 .1 .1 .0))
               (List._∷_
-              Row.off
-              (List._∷_
-              Row.off
-              (List._∷_
-              Row.off
-              (List._∷_ Row.off (List._∷_ Row.off (List._∷_ Row.off List.[]))))))))))))));
-        }
-
-        abbrev G12 : Row.Cx
-        G12 = record {
-          locals = List._++_ t5 t1;
-          slots = List._∷_
-              (Row.lease (κs .0) (qs .0))
-              (List._∷_
-              (Row.lease (κs .1 .0) (qs .1 .0))
-              (List._∷_
-              (Row.lease (κs .1 .1 .0) (qs .1 .1 .0))
-              (List._∷_
-              (Row.lease (κs .1 .1 .1 .0) (qs .1 .1 .1 .0))
-              (List._∷_
-              (Row.lease (κs .1 .1 .1 .1 .0) (qs .1 .1 .1 .1 .0))
-              (List._∷_
-              (Row.lease (κs .1 .1 .1 .1 .1 .0) (qs .1 .1 .1 .1 .1 .0))
-              (List._∷_
-              (Row.lease (κs .1 .1 .1 .1 .1 .1 .0) (qs .1 .1 .1 .1 .1 .1 .0))
-              (List._∷_
-              (Row.lease (κs .1 .1 .1 .1 .1 .1 .1 .0) (qs .1 .1 .1 .1 .1 .1 .1 .0))
-              (List._∷_
-              (Row.lease (κs .1 .1 .1 .1 .1 .1 .1 .1 .0) (qs .1 .1 .1 .1 .1 .1 .1 .1 .0))
+              (Row.lease (κs .1 .1 .1 .1 .1 .1 .1 .1 .1 .0) (qs .1 .1 .1 .1 .1 .1 .1 .1 .1 .0))
               (List._∷_
               Row.off
               (List._∷_
               Row.off
               (List._∷_
               Row.off
-              (List._∷_ Row.off (List._∷_ Row.off (List._∷_ Row.off List.[]))))))))))))));
+              (List._∷_ Row.off (List._∷_ Row.off (List._∷_ Row.off List.[])))))))))))))));
         }
 
         abbrev G13 : Row.Cx
@@ -7493,46 +7712,18 @@ module _ (claims· : Claims) where
               (List._∷_
               (Row.lease (κs .1 .1 .1 .1 .1 .1 .1 .1 .0) (qs .1 .1 .1 .1 .1 .1 .1 .1 .0))
               (List._∷_
-              Row.off
+              (Row.lease (κs .1 .1 .1 .1 .1 .1 .1 .1 .1 .0) (qs .1 .1 .1 .1 .1 .1 .1 .1 .1 .0))
               (List._∷_
               Row.off
               (List._∷_
               Row.off
-              (List._∷_ Row.off (List._∷_ Row.off (List._∷_ Row.off List.[]))))))))))))));
+              (List._∷_
+              Row.off
+              (List._∷_ Row.off (List._∷_ Row.off (List._∷_ Row.off List.[])))))))))))))));
         }
 
         abbrev G14 : Row.Cx
         G14 = record {
-          locals = List._++_ t6 t1;
-          slots = List._∷_
-              (Row.lease (κs .0) (qs .0))
-              (List._∷_
-              (Row.lease (κs .1 .0) (qs .1 .0))
-              (List._∷_
-              (Row.lease (κs .1 .1 .0) (qs .1 .1 .0))
-              (List._∷_
-              (Row.lease (κs .1 .1 .1 .0) (qs .1 .1 .1 .0))
-              (List._∷_
-              (Row.lease (κs .1 .1 .1 .1 .0) (qs .1 .1 .1 .1 .0))
-              (List._∷_
-              (Row.lease (κs .1 .1 .1 .1 .1 .0) (qs .1 .1 .1 .1 .1 .0))
-              (List._∷_
-              (Row.lease (κs .1 .1 .1 .1 .1 .1 .0) (qs .1 .1 .1 .1 .1 .1 .0))
-              (List._∷_
-              (Row.lease (κs .1 .1 .1 .1 .1 .1 .1 .0) (qs .1 .1 .1 .1 .1 .1 .1 .0))
-              (List._∷_
-              (Row.lease (κs .1 .1 .1 .1 .1 .1 .1 .1 .0) (qs .1 .1 .1 .1 .1 .1 .1 .1 .0))
-              (List._∷_
-              Row.off
-              (List._∷_
-              Row.off
-              (List._∷_
-              Row.off
-              (List._∷_ Row.off (List._∷_ Row.off (List._∷_ Row.off List.[]))))))))))))));
-        }
-
-        abbrev G15 : Row.Cx
-        G15 = record {
           locals = List._++_ t5 t1;
           slots = List._∷_
               (Row.lease (κs .0) (qs .0))
@@ -7553,12 +7744,46 @@ module _ (claims· : Claims) where
               (List._∷_
               (Row.lease (κs .1 .1 .1 .1 .1 .1 .1 .1 .0) (qs .1 .1 .1 .1 .1 .1 .1 .1 .0))
               (List._∷_
-              Row.off
+              (Row.lease (κs .1 .1 .1 .1 .1 .1 .1 .1 .1 .0) (qs .1 .1 .1 .1 .1 .1 .1 .1 .1 .0))
               (List._∷_
               Row.off
               (List._∷_
               Row.off
-              (List._∷_ Row.off (List._∷_ Row.off (List._∷_ Row.off List.[]))))))))))))));
+              (List._∷_
+              Row.off
+              (List._∷_ Row.off (List._∷_ Row.off (List._∷_ Row.off List.[])))))))))))))));
+        }
+
+        abbrev G15 : Row.Cx
+        G15 = record {
+          locals = List._++_ t5 t6;
+          slots = List._∷_
+              (Row.lease (κs .0) (qs .0))
+              (List._∷_
+              (Row.lease (κs .1 .0) (qs .1 .0))
+              (List._∷_
+              (Row.lease (κs .1 .1 .0) (qs .1 .1 .0))
+              (List._∷_
+              (Row.lease (κs .1 .1 .1 .0) (qs .1 .1 .1 .0))
+              (List._∷_
+              (Row.lease (κs .1 .1 .1 .1 .0) (qs .1 .1 .1 .1 .0))
+              (List._∷_
+              (Row.lease (κs .1 .1 .1 .1 .1 .0) (qs .1 .1 .1 .1 .1 .0))
+              (List._∷_
+              (Row.lease (κs .1 .1 .1 .1 .1 .1 .0) (qs .1 .1 .1 .1 .1 .1 .0))
+              (List._∷_
+              (Row.lease (κs .1 .1 .1 .1 .1 .1 .1 .0) (qs .1 .1 .1 .1 .1 .1 .1 .0))
+              (List._∷_
+              (Row.lease (κs .1 .1 .1 .1 .1 .1 .1 .1 .0) (qs .1 .1 .1 .1 .1 .1 .1 .1 .0))
+              (List._∷_
+              (Row.lease (κs .1 .1 .1 .1 .1 .1 .1 .1 .1 .0) (qs .1 .1 .1 .1 .1 .1 .1 .1 .1 .0))
+              (List._∷_
+              Row.off
+              (List._∷_
+              Row.off
+              (List._∷_
+              Row.off
+              (List._∷_ Row.off (List._∷_ Row.off (List._∷_ Row.off List.[])))))))))))))));
         }
 
         abbrev G16 : Row.Cx
@@ -7583,12 +7808,14 @@ module _ (claims· : Claims) where
               (List._∷_
               (Row.lease (κs .1 .1 .1 .1 .1 .1 .1 .1 .0) (qs .1 .1 .1 .1 .1 .1 .1 .1 .0))
               (List._∷_
-              Row.off
+              (Row.lease (κs .1 .1 .1 .1 .1 .1 .1 .1 .1 .0) (qs .1 .1 .1 .1 .1 .1 .1 .1 .1 .0))
               (List._∷_
               Row.off
               (List._∷_
               Row.off
-              (List._∷_ Row.off (List._∷_ Row.off (List._∷_ Row.off List.[]))))))))))))));
+              (List._∷_
+              Row.off
+              (List._∷_ Row.off (List._∷_ Row.off (List._∷_ Row.off List.[])))))))))))))));
         }
 
         abbrev G17 : Row.Cx
@@ -7613,12 +7840,14 @@ module _ (claims· : Claims) where
               (List._∷_
               (Row.lease (κs .1 .1 .1 .1 .1 .1 .1 .1 .0) (qs .1 .1 .1 .1 .1 .1 .1 .1 .0))
               (List._∷_
-              Row.off
+              (Row.lease (κs .1 .1 .1 .1 .1 .1 .1 .1 .1 .0) (qs .1 .1 .1 .1 .1 .1 .1 .1 .1 .0))
               (List._∷_
               Row.off
               (List._∷_
               Row.off
-              (List._∷_ Row.off (List._∷_ Row.off (List._∷_ Row.off List.[]))))))))))))));
+              (List._∷_
+              Row.off
+              (List._∷_ Row.off (List._∷_ Row.off (List._∷_ Row.off List.[])))))))))))))));
         }
 
         abbrev G18 : Row.Cx
@@ -7643,16 +7872,50 @@ module _ (claims· : Claims) where
               (List._∷_
               (Row.lease (κs .1 .1 .1 .1 .1 .1 .1 .1 .0) (qs .1 .1 .1 .1 .1 .1 .1 .1 .0))
               (List._∷_
+              (Row.lease (κs .1 .1 .1 .1 .1 .1 .1 .1 .1 .0) (qs .1 .1 .1 .1 .1 .1 .1 .1 .1 .0))
+              (List._∷_
+              Row.off
+              (List._∷_
+              Row.off
+              (List._∷_
+              Row.off
+              (List._∷_ Row.off (List._∷_ Row.off (List._∷_ Row.off List.[])))))))))))))));
+        }
+
+        abbrev G19 : Row.Cx
+        G19 = record {
+          locals = List._++_ t5 t1;
+          slots = List._∷_
+              (Row.lease (κs .0) (qs .0))
+              (List._∷_
+              (Row.lease (κs .1 .0) (qs .1 .0))
+              (List._∷_
+              (Row.lease (κs .1 .1 .0) (qs .1 .1 .0))
+              (List._∷_
+              (Row.lease (κs .1 .1 .1 .0) (qs .1 .1 .1 .0))
+              (List._∷_
+              (Row.lease (κs .1 .1 .1 .1 .0) (qs .1 .1 .1 .1 .0))
+              (List._∷_
+              (Row.lease (κs .1 .1 .1 .1 .1 .0) (qs .1 .1 .1 .1 .1 .0))
+              (List._∷_
+              (Row.lease (κs .1 .1 .1 .1 .1 .1 .0) (qs .1 .1 .1 .1 .1 .1 .0))
+              (List._∷_
+              (Row.lease (κs .1 .1 .1 .1 .1 .1 .1 .0) (qs .1 .1 .1 .1 .1 .1 .1 .0))
+              (List._∷_
+              (Row.lease (κs .1 .1 .1 .1 .1 .1 .1 .1 .0) (qs .1 .1 .1 .1 .1 .1 .1 .1 .0))
+              (List._∷_
+              (Row.lease (κs .1 .1 .1 .1 .1 .1 .1 .1 .1 .0) (qs .1 .1 .1 .1 .1 .1 .1 .1 .1 .0))
+              (List._∷_
               Row.alive
               (List._∷_
               Row.off
               (List._∷_
               Row.off
-              (List._∷_ Row.off (List._∷_ Row.off (List._∷_ Row.off List.[]))))))))))))));
+              (List._∷_ Row.off (List._∷_ Row.off (List._∷_ Row.off List.[])))))))))))))));
         }
 
-        abbrev G19 : Row.Cx
-        G19 = record {
+        abbrev G20 : Row.Cx
+        G20 = record {
           locals = List._++_ g7 t8;
           slots = List._∷_
               (Row.lease (κs .0) (qs .0))
@@ -7671,6 +7934,8 @@ module _ (claims· : Claims) where
               (List._∷_
               (Row.lease (κs .1 .1 .1 .1 .1 .1 .1 .0) (qs .1 .1 .1 .1 .1 .1 .1 .0))
               (List._∷_
+              (Row.lease (κs .1 .1 .1 .1 .1 .1 .1 .1 .0) (qs .1 .1 .1 .1 .1 .1 .1 .1 .0))
+              (List._∷_
               Row.off
               (List._∷_
               Row.alive
@@ -7678,11 +7943,11 @@ module _ (claims· : Claims) where
               Row.off
               (List._∷_
               Row.off
-              (List._∷_ Row.off (List._∷_ Row.off (List._∷_ Row.off List.[]))))))))))))));
+              (List._∷_ Row.off (List._∷_ Row.off (List._∷_ Row.off List.[])))))))))))))));
         }
 
-        abbrev G20 : Row.Cx
-        G20 = record {
+        abbrev G21 : Row.Cx
+        G21 = record {
           locals = List._++_ g7 t9;
           slots = List._∷_
               (Row.lease (κs .0) (qs .0))
@@ -7701,35 +7966,7 @@ module _ (claims· : Claims) where
               (List._∷_
               (Row.lease (κs .1 .1 .1 .1 .1 .1 .1 .0) (qs .1 .1 .1 .1 .1 .1 .1 .0))
               (List._∷_
-              Row.off
-              (List._∷_
-              Row.alive
-              (List._∷_
-              Row.off
-              (List._∷_
-              Row.off
-              (List._∷_ Row.off (List._∷_ Row.off (List._∷_ Row.off List.[]))))))))))))));
-        }
-
-        abbrev G21 : Row.Cx
-        G21 = record {
-          locals = List._++_ g7 t10;
-          slots = List._∷_
-              (Row.lease (κs .0) (qs .0))
-              (List._∷_
-              (Row.lease (κs .1 .0) (qs .1 .0))
-              (List._∷_
-              (Row.lease (κs .1 .1 .0) (qs .1 .1 .0))
-              (List._∷_
-              (Row.lease (κs .1 .1 .1 .0) (qs .1 .1 .1 .0))
-              (List._∷_
-              (Row.lease (κs .1 .1 .1 .1 .0) (qs .1 .1 .1 .1 .0))
-              (List._∷_
-              (Row.lease (κs .1 .1 .1 .1 .1 .0) (qs .1 .1 .1 .1 .1 .0))
-              (List._∷_
-              (Row.lease (κs .1 .1 .1 .1 .1 .1 .0) (qs .1 .1 .1 .1 .1 .1 .0))
-              (List._∷_
-              (Row.lease (κs .1 .1 .1 .1 .1 .1 .1 .0) (qs .1 .1 .1 .1 .1 .1 .1 .0))
+              (Row.lease (κs .1 .1 .1 .1 .1 .1 .1 .1 .0) (qs .1 .1 .1 .1 .1 .1 .1 .1 .0))
               (List._∷_
               Row.off
               (List._∷_
@@ -7738,7 +7975,7 @@ module _ (claims· : Claims) where
               Row.off
               (List._∷_
               Row.off
-              (List._∷_ Row.off (List._∷_ Row.off (List._∷_ Row.off List.[]))))))))))))));
+              (List._∷_ Row.off (List._∷_ Row.off (List._∷_ Row.off List.[])))))))))))))));
         }
 
         abbrev G22 : Row.Cx
@@ -7761,19 +7998,21 @@ module _ (claims· : Claims) where
               (List._∷_
               (Row.lease (κs .1 .1 .1 .1 .1 .1 .1 .0) (qs .1 .1 .1 .1 .1 .1 .1 .0))
               (List._∷_
-              Row.off
-              (List._∷_
-              Row.dead
+              (Row.lease (κs .1 .1 .1 .1 .1 .1 .1 .1 .0) (qs .1 .1 .1 .1 .1 .1 .1 .1 .0))
               (List._∷_
               Row.off
               (List._∷_
+              Row.alive
+              (List._∷_
               Row.off
-              (List._∷_ Row.off (List._∷_ Row.off (List._∷_ Row.off List.[]))))))))))))));
+              (List._∷_
+              Row.off
+              (List._∷_ Row.off (List._∷_ Row.off (List._∷_ Row.off List.[])))))))))))))));
         }
 
         abbrev G23 : Row.Cx
         G23 = record {
-          locals = List._++_ t5 t1;
+          locals = List._++_ g7 t10;
           slots = List._∷_
               (Row.lease (κs .0) (qs .0))
               (List._∷_
@@ -7793,12 +8032,14 @@ module _ (claims· : Claims) where
               (List._∷_
               (Row.lease (κs .1 .1 .1 .1 .1 .1 .1 .1 .0) (qs .1 .1 .1 .1 .1 .1 .1 .1 .0))
               (List._∷_
+              Row.off
+              (List._∷_
               Row.dead
               (List._∷_
               Row.off
               (List._∷_
               Row.off
-              (List._∷_ Row.off (List._∷_ Row.off (List._∷_ Row.off List.[]))))))))))))));
+              (List._∷_ Row.off (List._∷_ Row.off (List._∷_ Row.off List.[])))))))))))))));
         }
 
         abbrev G24 : Row.Cx
@@ -7823,12 +8064,14 @@ module _ (claims· : Claims) where
               (List._∷_
               (Row.lease (κs .1 .1 .1 .1 .1 .1 .1 .1 .0) (qs .1 .1 .1 .1 .1 .1 .1 .1 .0))
               (List._∷_
-              Row.off
+              (Row.lease (κs .1 .1 .1 .1 .1 .1 .1 .1 .1 .0) (qs .1 .1 .1 .1 .1 .1 .1 .1 .1 .0))
+              (List._∷_
+              Row.dead
               (List._∷_
               Row.off
               (List._∷_
               Row.off
-              (List._∷_ Row.off (List._∷_ Row.off (List._∷_ Row.off List.[]))))))))))))));
+              (List._∷_ Row.off (List._∷_ Row.off (List._∷_ Row.off List.[])))))))))))))));
         }
 
         abbrev G25 : Row.Cx
@@ -7853,16 +8096,50 @@ module _ (claims· : Claims) where
               (List._∷_
               (Row.lease (κs .1 .1 .1 .1 .1 .1 .1 .1 .0) (qs .1 .1 .1 .1 .1 .1 .1 .1 .0))
               (List._∷_
+              (Row.lease (κs .1 .1 .1 .1 .1 .1 .1 .1 .1 .0) (qs .1 .1 .1 .1 .1 .1 .1 .1 .1 .0))
+              (List._∷_
+              Row.off
+              (List._∷_
+              Row.off
+              (List._∷_
+              Row.off
+              (List._∷_ Row.off (List._∷_ Row.off (List._∷_ Row.off List.[])))))))))))))));
+        }
+
+        abbrev G26 : Row.Cx
+        G26 = record {
+          locals = List._++_ t5 t1;
+          slots = List._∷_
+              (Row.lease (κs .0) (qs .0))
+              (List._∷_
+              (Row.lease (κs .1 .0) (qs .1 .0))
+              (List._∷_
+              (Row.lease (κs .1 .1 .0) (qs .1 .1 .0))
+              (List._∷_
+              (Row.lease (κs .1 .1 .1 .0) (qs .1 .1 .1 .0))
+              (List._∷_
+              (Row.lease (κs .1 .1 .1 .1 .0) (qs .1 .1 .1 .1 .0))
+              (List._∷_
+              (Row.lease (κs .1 .1 .1 .1 .1 .0) (qs .1 .1 .1 .1 .1 .0))
+              (List._∷_
+              (Row.lease (κs .1 .1 .1 .1 .1 .1 .0) (qs .1 .1 .1 .1 .1 .1 .0))
+              (List._∷_
+              (Row.lease (κs .1 .1 .1 .1 .1 .1 .1 .0) (qs .1 .1 .1 .1 .1 .1 .1 .0))
+              (List._∷_
+              (Row.lease (κs .1 .1 .1 .1 .1 .1 .1 .1 .0) (qs .1 .1 .1 .1 .1 .1 .1 .1 .0))
+              (List._∷_
+              (Row.lease (κs .1 .1 .1 .1 .1 .1 .1 .1 .1 .0) (qs .1 .1 .1 .1 .1 .1 .1 .1 .1 .0))
+              (List._∷_
               Row.off
               (List._∷_
               Row.alive
               (List._∷_
               Row.off
-              (List._∷_ Row.off (List._∷_ Row.off (List._∷_ Row.off List.[]))))))))))))));
+              (List._∷_ Row.off (List._∷_ Row.off (List._∷_ Row.off List.[])))))))))))))));
         }
 
-        abbrev G26 : Row.Cx
-        G26 = record {
+        abbrev G27 : Row.Cx
+        G27 = record {
           locals = List._++_ g11 t12;
           slots = List._∷_
               (Row.lease (κs .0) (qs .0))
@@ -7881,6 +8158,8 @@ module _ (claims· : Claims) where
               (List._∷_
               (Row.lease (κs .1 .1 .1 .1 .1 .1 .1 .0) (qs .1 .1 .1 .1 .1 .1 .1 .0))
               (List._∷_
+              (Row.lease (κs .1 .1 .1 .1 .1 .1 .1 .1 .0) (qs .1 .1 .1 .1 .1 .1 .1 .1 .0))
+              (List._∷_
               Row.off
               (List._∷_
               Row.off
@@ -7888,11 +8167,11 @@ module _ (claims· : Claims) where
               Row.alive
               (List._∷_
               Row.off
-              (List._∷_ Row.off (List._∷_ Row.off (List._∷_ Row.off List.[]))))))))))))));
+              (List._∷_ Row.off (List._∷_ Row.off (List._∷_ Row.off List.[])))))))))))))));
         }
 
-        abbrev G27 : Row.Cx
-        G27 = record {
+        abbrev G28 : Row.Cx
+        G28 = record {
           locals = List._++_ g11 t13;
           slots = List._∷_
               (Row.lease (κs .0) (qs .0))
@@ -7911,6 +8190,8 @@ module _ (claims· : Claims) where
               (List._∷_
               (Row.lease (κs .1 .1 .1 .1 .1 .1 .1 .0) (qs .1 .1 .1 .1 .1 .1 .1 .0))
               (List._∷_
+              (Row.lease (κs .1 .1 .1 .1 .1 .1 .1 .1 .0) (qs .1 .1 .1 .1 .1 .1 .1 .1 .0))
+              (List._∷_
               Row.off
               (List._∷_
               Row.off
@@ -7918,11 +8199,11 @@ module _ (claims· : Claims) where
               Row.alive
               (List._∷_
               Row.off
-              (List._∷_ Row.off (List._∷_ Row.off (List._∷_ Row.off List.[]))))))))))))));
+              (List._∷_ Row.off (List._∷_ Row.off (List._∷_ Row.off List.[])))))))))))))));
         }
 
-        abbrev G28 : Row.Cx
-        G28 = record {
+        abbrev G29 : Row.Cx
+        G29 = record {
           locals = List._++_ g11 t14;
           slots = List._∷_
               (Row.lease (κs .0) (qs .0))
@@ -7941,6 +8222,8 @@ module _ (claims· : Claims) where
               (List._∷_
               (Row.lease (κs .1 .1 .1 .1 .1 .1 .1 .0) (qs .1 .1 .1 .1 .1 .1 .1 .0))
               (List._∷_
+              (Row.lease (κs .1 .1 .1 .1 .1 .1 .1 .1 .0) (qs .1 .1 .1 .1 .1 .1 .1 .1 .0))
+              (List._∷_
               Row.off
               (List._∷_
               Row.off
@@ -7948,11 +8231,11 @@ module _ (claims· : Claims) where
               Row.alive
               (List._∷_
               Row.off
-              (List._∷_ Row.off (List._∷_ Row.off (List._∷_ Row.off List.[]))))))))))))));
+              (List._∷_ Row.off (List._∷_ Row.off (List._∷_ Row.off List.[])))))))))))))));
         }
 
-        abbrev G29 : Row.Cx
-        G29 = record {
+        abbrev G30 : Row.Cx
+        G30 = record {
           locals = List._++_ g11 t15;
           slots = List._∷_
               (Row.lease (κs .0) (qs .0))
@@ -7971,6 +8254,8 @@ module _ (claims· : Claims) where
               (List._∷_
               (Row.lease (κs .1 .1 .1 .1 .1 .1 .1 .0) (qs .1 .1 .1 .1 .1 .1 .1 .0))
               (List._∷_
+              (Row.lease (κs .1 .1 .1 .1 .1 .1 .1 .1 .0) (qs .1 .1 .1 .1 .1 .1 .1 .1 .0))
+              (List._∷_
               Row.off
               (List._∷_
               Row.off
@@ -7978,11 +8263,11 @@ module _ (claims· : Claims) where
               Row.alive
               (List._∷_
               Row.off
-              (List._∷_ Row.off (List._∷_ Row.off (List._∷_ Row.off List.[]))))))))))))));
+              (List._∷_ Row.off (List._∷_ Row.off (List._∷_ Row.off List.[])))))))))))))));
         }
 
-        abbrev G30 : Row.Cx
-        G30 = record {
+        abbrev G31 : Row.Cx
+        G31 = record {
           locals = List._++_ g11 t16;
           slots = List._∷_
               (Row.lease (κs .0) (qs .0))
@@ -8001,6 +8286,8 @@ module _ (claims· : Claims) where
               (List._∷_
               (Row.lease (κs .1 .1 .1 .1 .1 .1 .1 .0) (qs .1 .1 .1 .1 .1 .1 .1 .0))
               (List._∷_
+              (Row.lease (κs .1 .1 .1 .1 .1 .1 .1 .1 .0) (qs .1 .1 .1 .1 .1 .1 .1 .1 .0))
+              (List._∷_
               Row.off
               (List._∷_
               Row.off
@@ -8008,11 +8295,11 @@ module _ (claims· : Claims) where
               Row.alive
               (List._∷_
               Row.off
-              (List._∷_ Row.off (List._∷_ Row.off (List._∷_ Row.off List.[]))))))))))))));
+              (List._∷_ Row.off (List._∷_ Row.off (List._∷_ Row.off List.[])))))))))))))));
         }
 
-        abbrev G31 : Row.Cx
-        G31 = record {
+        abbrev G32 : Row.Cx
+        G32 = record {
           locals = List._++_ g11 t17;
           slots = List._∷_
               (Row.lease (κs .0) (qs .0))
@@ -8031,6 +8318,8 @@ module _ (claims· : Claims) where
               (List._∷_
               (Row.lease (κs .1 .1 .1 .1 .1 .1 .1 .0) (qs .1 .1 .1 .1 .1 .1 .1 .0))
               (List._∷_
+              (Row.lease (κs .1 .1 .1 .1 .1 .1 .1 .1 .0) (qs .1 .1 .1 .1 .1 .1 .1 .1 .0))
+              (List._∷_
               Row.off
               (List._∷_
               Row.off
@@ -8038,11 +8327,11 @@ module _ (claims· : Claims) where
               Row.alive
               (List._∷_
               Row.off
-              (List._∷_ Row.off (List._∷_ Row.off (List._∷_ Row.off List.[]))))))))))))));
+              (List._∷_ Row.off (List._∷_ Row.off (List._∷_ Row.off List.[])))))))))))))));
         }
 
-        abbrev G32 : Row.Cx
-        G32 = record {
+        abbrev G33 : Row.Cx
+        G33 = record {
           locals = List._++_ g11 t18;
           slots = List._∷_
               (Row.lease (κs .0) (qs .0))
@@ -8061,6 +8350,8 @@ module _ (claims· : Claims) where
               (List._∷_
               (Row.lease (κs .1 .1 .1 .1 .1 .1 .1 .0) (qs .1 .1 .1 .1 .1 .1 .1 .0))
               (List._∷_
+              (Row.lease (κs .1 .1 .1 .1 .1 .1 .1 .1 .0) (qs .1 .1 .1 .1 .1 .1 .1 .1 .0))
+              (List._∷_
               Row.off
               (List._∷_
               Row.off
@@ -8068,11 +8359,11 @@ module _ (claims· : Claims) where
               Row.alive
               (List._∷_
               Row.off
-              (List._∷_ Row.off (List._∷_ Row.off (List._∷_ Row.off List.[]))))))))))))));
+              (List._∷_ Row.off (List._∷_ Row.off (List._∷_ Row.off List.[])))))))))))))));
         }
 
-        abbrev G33 : Row.Cx
-        G33 = record {
+        abbrev G34 : Row.Cx
+        G34 = record {
           locals = List._++_ g19 t18;
           slots = List._∷_
               (Row.lease (κs .0) (qs .0))
@@ -8091,6 +8382,8 @@ module _ (claims· : Claims) where
               (List._∷_
               (Row.lease (κs .1 .1 .1 .1 .1 .1 .1 .0) (qs .1 .1 .1 .1 .1 .1 .1 .0))
               (List._∷_
+              (Row.lease (κs .1 .1 .1 .1 .1 .1 .1 .1 .0) (qs .1 .1 .1 .1 .1 .1 .1 .1 .0))
+              (List._∷_
               Row.off
               (List._∷_
               Row.off
@@ -8098,11 +8391,11 @@ module _ (claims· : Claims) where
               Row.alive
               (List._∷_
               Row.off
-              (List._∷_ Row.off (List._∷_ Row.off (List._∷_ Row.off List.[]))))))))))))));
+              (List._∷_ Row.off (List._∷_ Row.off (List._∷_ Row.off List.[])))))))))))))));
         }
 
-        abbrev G34 : Row.Cx
-        G34 = record {
+        abbrev G35 : Row.Cx
+        G35 = record {
           locals = List._++_ g19 t20;
           slots = List._∷_
               (Row.lease (κs .0) (qs .0))
@@ -8121,35 +8414,7 @@ module _ (claims· : Claims) where
               (List._∷_
               (Row.lease (κs .1 .1 .1 .1 .1 .1 .1 .0) (qs .1 .1 .1 .1 .1 .1 .1 .0))
               (List._∷_
-              Row.off
-              (List._∷_
-              Row.off
-              (List._∷_
-              Row.alive
-              (List._∷_
-              Row.off
-              (List._∷_ Row.off (List._∷_ Row.off (List._∷_ Row.off List.[]))))))))))))));
-        }
-
-        abbrev G35 : Row.Cx
-        G35 = record {
-          locals = List._++_ g19 t1;
-          slots = List._∷_
-              (Row.lease (κs .0) (qs .0))
-              (List._∷_
-              (Row.lease (κs .1 .0) (qs .1 .0))
-              (List._∷_
-              (Row.lease (κs .1 .1 .0) (qs .1 .1 .0))
-              (List._∷_
-              (Row.lease (κs .1 .1 .1 .0) (qs .1 .1 .1 .0))
-              (List._∷_
-              (Row.lease (κs .1 .1 .1 .1 .0) (qs .1 .1 .1 .1 .0))
-              (List._∷_
-              (Row.lease (κs .1 .1 .1 .1 .1 .0) (qs .1 .1 .1 .1 .1 .0))
-              (List._∷_
-              (Row.lease (κs .1 .1 .1 .1 .1 .1 .0) (qs .1 .1 .1 .1 .1 .1 .0))
-              (List._∷_
-              (Row.lease (κs .1 .1 .1 .1 .1 .1 .1 .0) (qs .1 .1 .1 .1 .1 .1 .1 .0))
+              (Row.lease (κs .1 .1 .1 .1 .1 .1 .1 .1 .0) (qs .1 .1 .1 .1 .1 .1 .1 .1 .0))
               (List._∷_
               Row.off
               (List._∷_
@@ -8158,7 +8423,7 @@ module _ (claims· : Claims) where
               Row.alive
               (List._∷_
               Row.off
-              (List._∷_ Row.off (List._∷_ Row.off (List._∷_ Row.off List.[]))))))))))))));
+              (List._∷_ Row.off (List._∷_ Row.off (List._∷_ Row.off List.[])))))))))))))));
         }
 
         abbrev G36 : Row.Cx
@@ -8181,19 +8446,21 @@ module _ (claims· : Claims) where
               (List._∷_
               (Row.lease (κs .1 .1 .1 .1 .1 .1 .1 .0) (qs .1 .1 .1 .1 .1 .1 .1 .0))
               (List._∷_
-              Row.off
+              (Row.lease (κs .1 .1 .1 .1 .1 .1 .1 .1 .0) (qs .1 .1 .1 .1 .1 .1 .1 .1 .0))
               (List._∷_
               Row.off
               (List._∷_
-              Row.dead
+              Row.off
+              (List._∷_
+              Row.alive
               (List._∷_
               Row.off
-              (List._∷_ Row.off (List._∷_ Row.off (List._∷_ Row.off List.[]))))))))))))));
+              (List._∷_ Row.off (List._∷_ Row.off (List._∷_ Row.off List.[])))))))))))))));
         }
 
         abbrev G37 : Row.Cx
         G37 = record {
-          locals = List._++_ t21 t1;
+          locals = List._++_ g19 t1;
           slots = List._∷_
               (Row.lease (κs .0) (qs .0))
               (List._∷_
@@ -8215,10 +8482,12 @@ module _ (claims· : Claims) where
               (List._∷_
               Row.off
               (List._∷_
+              Row.off
+              (List._∷_
               Row.dead
               (List._∷_
               Row.off
-              (List._∷_ Row.off (List._∷_ Row.off (List._∷_ Row.off List.[]))))))))))))));
+              (List._∷_ Row.off (List._∷_ Row.off (List._∷_ Row.off List.[])))))))))))))));
         }
 
         abbrev G38 : Row.Cx
@@ -8243,12 +8512,14 @@ module _ (claims· : Claims) where
               (List._∷_
               (Row.lease (κs .1 .1 .1 .1 .1 .1 .1 .1 .0) (qs .1 .1 .1 .1 .1 .1 .1 .1 .0))
               (List._∷_
-              Row.off
+              (Row.lease (κs .1 .1 .1 .1 .1 .1 .1 .1 .1 .0) (qs .1 .1 .1 .1 .1 .1 .1 .1 .1 .0))
               (List._∷_
               Row.off
               (List._∷_
+              Row.dead
+              (List._∷_
               Row.off
-              (List._∷_ Row.off (List._∷_ Row.off (List._∷_ Row.off List.[]))))))))))))));
+              (List._∷_ Row.off (List._∷_ Row.off (List._∷_ Row.off List.[])))))))))))))));
         }
 
         abbrev G39 : Row.Cx
@@ -8273,16 +8544,50 @@ module _ (claims· : Claims) where
               (List._∷_
               (Row.lease (κs .1 .1 .1 .1 .1 .1 .1 .1 .0) (qs .1 .1 .1 .1 .1 .1 .1 .1 .0))
               (List._∷_
+              (Row.lease (κs .1 .1 .1 .1 .1 .1 .1 .1 .1 .0) (qs .1 .1 .1 .1 .1 .1 .1 .1 .1 .0))
+              (List._∷_
+              Row.off
+              (List._∷_
+              Row.off
+              (List._∷_
+              Row.off
+              (List._∷_ Row.off (List._∷_ Row.off (List._∷_ Row.off List.[])))))))))))))));
+        }
+
+        abbrev G40 : Row.Cx
+        G40 = record {
+          locals = List._++_ t21 t1;
+          slots = List._∷_
+              (Row.lease (κs .0) (qs .0))
+              (List._∷_
+              (Row.lease (κs .1 .0) (qs .1 .0))
+              (List._∷_
+              (Row.lease (κs .1 .1 .0) (qs .1 .1 .0))
+              (List._∷_
+              (Row.lease (κs .1 .1 .1 .0) (qs .1 .1 .1 .0))
+              (List._∷_
+              (Row.lease (κs .1 .1 .1 .1 .0) (qs .1 .1 .1 .1 .0))
+              (List._∷_
+              (Row.lease (κs .1 .1 .1 .1 .1 .0) (qs .1 .1 .1 .1 .1 .0))
+              (List._∷_
+              (Row.lease (κs .1 .1 .1 .1 .1 .1 .0) (qs .1 .1 .1 .1 .1 .1 .0))
+              (List._∷_
+              (Row.lease (κs .1 .1 .1 .1 .1 .1 .1 .0) (qs .1 .1 .1 .1 .1 .1 .1 .0))
+              (List._∷_
+              (Row.lease (κs .1 .1 .1 .1 .1 .1 .1 .1 .0) (qs .1 .1 .1 .1 .1 .1 .1 .1 .0))
+              (List._∷_
+              (Row.lease (κs .1 .1 .1 .1 .1 .1 .1 .1 .1 .0) (qs .1 .1 .1 .1 .1 .1 .1 .1 .1 .0))
+              (List._∷_
               Row.off
               (List._∷_
               Row.off
               (List._∷_
               Row.alive
-              (List._∷_ Row.off (List._∷_ Row.off (List._∷_ Row.off List.[]))))))))))))));
+              (List._∷_ Row.off (List._∷_ Row.off (List._∷_ Row.off List.[])))))))))))))));
         }
 
-        abbrev G40 : Row.Cx
-        G40 = record {
+        abbrev G41 : Row.Cx
+        G41 = record {
           locals = List._++_ g22 t23;
           slots = List._∷_
               (Row.lease (κs .0) (qs .0))
@@ -8293,9 +8598,9 @@ module _ (claims· : Claims) where
               (List._∷_
               (Row.lease (κs .1 .1 .1 .0) (qs .1 .1 .1 .0))
               (List._∷_
-              Row.off
+              (Row.lease (κs .1 .1 .1 .1 .0) (qs .1 .1 .1 .1 .0))
               (List._∷_
-              (Row.lease (κs .1 .1 .1 .1 .1 .0) (qs .1 .1 .1 .1 .1 .0))
+              Row.off
               (List._∷_
               (Row.lease (κs .1 .1 .1 .1 .1 .1 .0) (qs .1 .1 .1 .1 .1 .1 .0))
               (List._∷_
@@ -8303,42 +8608,14 @@ module _ (claims· : Claims) where
               (List._∷_
               (Row.lease (κs .1 .1 .1 .1 .1 .1 .1 .1 .0) (qs .1 .1 .1 .1 .1 .1 .1 .1 .0))
               (List._∷_
-              Row.off
-              (List._∷_
-              Row.off
-              (List._∷_
-              Row.alive
-              (List._∷_ Row.off (List._∷_ Row.off (List._∷_ Row.off List.[]))))))))))))));
-        }
-
-        abbrev G41 : Row.Cx
-        G41 = record {
-          locals = List._++_ g22 t24;
-          slots = List._∷_
-              (Row.lease (κs .0) (qs .0))
-              (List._∷_
-              (Row.lease (κs .1 .0) (qs .1 .0))
-              (List._∷_
-              (Row.lease (κs .1 .1 .0) (qs .1 .1 .0))
-              (List._∷_
-              (Row.lease (κs .1 .1 .1 .0) (qs .1 .1 .1 .0))
-              (List._∷_
-              Row.off
-              (List._∷_
-              (Row.lease (κs .1 .1 .1 .1 .1 .0) (qs .1 .1 .1 .1 .1 .0))
-              (List._∷_
-              (Row.lease (κs .1 .1 .1 .1 .1 .1 .0) (qs .1 .1 .1 .1 .1 .1 .0))
-              (List._∷_
-              (Row.lease (κs .1 .1 .1 .1 .1 .1 .1 .0) (qs .1 .1 .1 .1 .1 .1 .1 .0))
-              (List._∷_
-              (Row.lease (κs .1 .1 .1 .1 .1 .1 .1 .1 .0) (qs .1 .1 .1 .1 .1 .1 .1 .1 .0))
+              (Row.lease (κs .1 .1 .1 .1 .1 .1 .1 .1 .1 .0) (qs .1 .1 .1 .1 .1 .1 .1 .1 .1 .0))
               (List._∷_
               Row.off
               (List._∷_
               Row.off
               (List._∷_
               Row.alive
-              (List._∷_ Row.off (List._∷_ Row.off (List._∷_ Row.off List.[]))))))))))))));
+              (List._∷_ Row.off (List._∷_ Row.off (List._∷_ Row.off List.[])))))))))))))));
         }
 
         abbrev G42 : Row.Cx
@@ -8353,9 +8630,9 @@ module _ (claims· : Claims) where
               (List._∷_
               (Row.lease (κs .1 .1 .1 .0) (qs .1 .1 .1 .0))
               (List._∷_
-              Row.off
+              (Row.lease (κs .1 .1 .1 .1 .0) (qs .1 .1 .1 .1 .0))
               (List._∷_
-              (Row.lease (κs .1 .1 .1 .1 .1 .0) (qs .1 .1 .1 .1 .1 .0))
+              Row.off
               (List._∷_
               (Row.lease (κs .1 .1 .1 .1 .1 .1 .0) (qs .1 .1 .1 .1 .1 .1 .0))
               (List._∷_
@@ -8363,16 +8640,50 @@ module _ (claims· : Claims) where
               (List._∷_
               (Row.lease (κs .1 .1 .1 .1 .1 .1 .1 .1 .0) (qs .1 .1 .1 .1 .1 .1 .1 .1 .0))
               (List._∷_
+              (Row.lease (κs .1 .1 .1 .1 .1 .1 .1 .1 .1 .0) (qs .1 .1 .1 .1 .1 .1 .1 .1 .1 .0))
+              (List._∷_
               Row.off
               (List._∷_
               Row.off
               (List._∷_
               Row.alive
-              (List._∷_ Row.alive (List._∷_ Row.off (List._∷_ Row.off List.[]))))))))))))));
+              (List._∷_ Row.off (List._∷_ Row.off (List._∷_ Row.off List.[])))))))))))))));
         }
 
         abbrev G43 : Row.Cx
         G43 = record {
+          locals = List._++_ g22 t24;
+          slots = List._∷_
+              (Row.lease (κs .0) (qs .0))
+              (List._∷_
+              (Row.lease (κs .1 .0) (qs .1 .0))
+              (List._∷_
+              (Row.lease (κs .1 .1 .0) (qs .1 .1 .0))
+              (List._∷_
+              (Row.lease (κs .1 .1 .1 .0) (qs .1 .1 .1 .0))
+              (List._∷_
+              (Row.lease (κs .1 .1 .1 .1 .0) (qs .1 .1 .1 .1 .0))
+              (List._∷_
+              Row.off
+              (List._∷_
+              (Row.lease (κs .1 .1 .1 .1 .1 .1 .0) (qs .1 .1 .1 .1 .1 .1 .0))
+              (List._∷_
+              (Row.lease (κs .1 .1 .1 .1 .1 .1 .1 .0) (qs .1 .1 .1 .1 .1 .1 .1 .0))
+              (List._∷_
+              (Row.lease (κs .1 .1 .1 .1 .1 .1 .1 .1 .0) (qs .1 .1 .1 .1 .1 .1 .1 .1 .0))
+              (List._∷_
+              (Row.lease (κs .1 .1 .1 .1 .1 .1 .1 .1 .1 .0) (qs .1 .1 .1 .1 .1 .1 .1 .1 .1 .0))
+              (List._∷_
+              Row.off
+              (List._∷_
+              Row.off
+              (List._∷_
+              Row.alive
+              (List._∷_ Row.alive (List._∷_ Row.off (List._∷_ Row.off List.[])))))))))))))));
+        }
+
+        abbrev G44 : Row.Cx
+        G44 = record {
           locals = List._++_ g25 t26;
           slots = List._∷_
               (Row.lease (κs .0) (qs .0))
@@ -8383,52 +8694,24 @@ module _ (claims· : Claims) where
               (List._∷_
               (Row.lease (κs .1 .1 .1 .0) (qs .1 .1 .1 .0))
               (List._∷_
-              Row.off
+              (Row.lease (κs .1 .1 .1 .1 .0) (qs .1 .1 .1 .1 .0))
               (List._∷_
               Row.off
               (List._∷_
-              (Row.lease (κs .1 .1 .1 .1 .1 .1 .0) (qs .1 .1 .1 .1 .1 .1 .0))
+              Row.off
               (List._∷_
               (Row.lease (κs .1 .1 .1 .1 .1 .1 .1 .0) (qs .1 .1 .1 .1 .1 .1 .1 .0))
               (List._∷_
               (Row.lease (κs .1 .1 .1 .1 .1 .1 .1 .1 .0) (qs .1 .1 .1 .1 .1 .1 .1 .1 .0))
+              (List._∷_
+              (Row.lease (κs .1 .1 .1 .1 .1 .1 .1 .1 .1 .0) (qs .1 .1 .1 .1 .1 .1 .1 .1 .1 .0))
               (List._∷_
               Row.off
               (List._∷_
               Row.off
               (List._∷_
               Row.alive
-              (List._∷_ Row.alive (List._∷_ Row.off (List._∷_ Row.off List.[]))))))))))))));
-        }
-
-        abbrev G44 : Row.Cx
-        G44 = record {
-          locals = List._++_ g25 t27;
-          slots = List._∷_
-              (Row.lease (κs .0) (qs .0))
-              (List._∷_
-              (Row.lease (κs .1 .0) (qs .1 .0))
-              (List._∷_
-              (Row.lease (κs .1 .1 .0) (qs .1 .1 .0))
-              (List._∷_
-              (Row.lease (κs .1 .1 .1 .0) (qs .1 .1 .1 .0))
-              (List._∷_
-              Row.off
-              (List._∷_
-              Row.off
-              (List._∷_
-              (Row.lease (κs .1 .1 .1 .1 .1 .1 .0) (qs .1 .1 .1 .1 .1 .1 .0))
-              (List._∷_
-              (Row.lease (κs .1 .1 .1 .1 .1 .1 .1 .0) (qs .1 .1 .1 .1 .1 .1 .1 .0))
-              (List._∷_
-              (Row.lease (κs .1 .1 .1 .1 .1 .1 .1 .1 .0) (qs .1 .1 .1 .1 .1 .1 .1 .1 .0))
-              (List._∷_
-              Row.off
-              (List._∷_
-              Row.off
-              (List._∷_
-              Row.alive
-              (List._∷_ Row.alive (List._∷_ Row.off (List._∷_ Row.off List.[]))))))))))))));
+              (List._∷_ Row.alive (List._∷_ Row.off (List._∷_ Row.off List.[])))))))))))))));
         }
 
         abbrev G45 : Row.Cx
@@ -8443,27 +8726,29 @@ module _ (claims· : Claims) where
               (List._∷_
               (Row.lease (κs .1 .1 .1 .0) (qs .1 .1 .1 .0))
               (List._∷_
-              Row.off
+              (Row.lease (κs .1 .1 .1 .1 .0) (qs .1 .1 .1 .1 .0))
               (List._∷_
               Row.off
               (List._∷_
-              (Row.lease (κs .1 .1 .1 .1 .1 .1 .0) (qs .1 .1 .1 .1 .1 .1 .0))
+              Row.off
               (List._∷_
               (Row.lease (κs .1 .1 .1 .1 .1 .1 .1 .0) (qs .1 .1 .1 .1 .1 .1 .1 .0))
               (List._∷_
               (Row.lease (κs .1 .1 .1 .1 .1 .1 .1 .1 .0) (qs .1 .1 .1 .1 .1 .1 .1 .1 .0))
+              (List._∷_
+              (Row.lease (κs .1 .1 .1 .1 .1 .1 .1 .1 .1 .0) (qs .1 .1 .1 .1 .1 .1 .1 .1 .1 .0))
               (List._∷_
               Row.off
               (List._∷_
               Row.off
               (List._∷_
               Row.alive
-              (List._∷_ Row.alive (List._∷_ Row.alive (List._∷_ Row.off List.[]))))))))))))));
+              (List._∷_ Row.alive (List._∷_ Row.off (List._∷_ Row.off List.[])))))))))))))));
         }
 
         abbrev G46 : Row.Cx
         G46 = record {
-          locals = List._++_ g28 t29;
+          locals = List._++_ g25 t27;
           slots = List._∷_
               (Row.lease (κs .0) (qs .0))
               (List._∷_
@@ -8473,7 +8758,7 @@ module _ (claims· : Claims) where
               (List._∷_
               (Row.lease (κs .1 .1 .1 .0) (qs .1 .1 .1 .0))
               (List._∷_
-              Row.off
+              (Row.lease (κs .1 .1 .1 .1 .0) (qs .1 .1 .1 .1 .0))
               (List._∷_
               Row.off
               (List._∷_
@@ -8483,227 +8768,19 @@ module _ (claims· : Claims) where
               (List._∷_
               (Row.lease (κs .1 .1 .1 .1 .1 .1 .1 .1 .0) (qs .1 .1 .1 .1 .1 .1 .1 .1 .0))
               (List._∷_
+              (Row.lease (κs .1 .1 .1 .1 .1 .1 .1 .1 .1 .0) (qs .1 .1 .1 .1 .1 .1 .1 .1 .1 .0))
+              (List._∷_
               Row.off
               (List._∷_
               Row.off
               (List._∷_
               Row.alive
-              (List._∷_ Row.alive (List._∷_ Row.alive (List._∷_ Row.off List.[]))))))))))))));
+              (List._∷_ Row.alive (List._∷_ Row.alive (List._∷_ Row.off List.[])))))))))))))));
         }
 
         abbrev G47 : Row.Cx
         G47 = record {
-          locals = List._++_ g28 t30;
-          slots = List._∷_
-              (Row.lease (κs .0) (qs .0))
-              (List._∷_
-              (Row.lease (κs .1 .0) (qs .1 .0))
-              (List._∷_
-              (Row.lease (κs .1 .1 .0) (qs .1 .1 .0))
-              (List._∷_
-              (Row.lease (κs .1 .1 .1 .0) (qs .1 .1 .1 .0))
-              (List._∷_
-              Row.off
-              (List._∷_
-              Row.off
-              (List._∷_
-              Row.off
-              (List._∷_
-              (Row.lease (κs .1 .1 .1 .1 .1 .1 .1 .0) (qs .1 .1 .1 .1 .1 .1 .1 .0))
-              (List._∷_
-              (Row.lease (κs .1 .1 .1 .1 .1 .1 .1 .1 .0) (qs .1 .1 .1 .1 .1 .1 .1 .1 .0))
-              (List._∷_
-              Row.off
-              (List._∷_
-              Row.off
-              (List._∷_
-              Row.alive
-              (List._∷_ Row.alive (List._∷_ Row.alive (List._∷_ Row.off List.[]))))))))))))));
-        }
-
-        abbrev G48 : Row.Cx
-        G48 = record {
-          locals = List._++_ g28 t30;
-          slots = List._∷_
-              (Row.lease (κs .0) (qs .0))
-              (List._∷_
-              (Row.lease (κs .1 .0) (qs .1 .0))
-              (List._∷_
-              (Row.lease (κs .1 .1 .0) (qs .1 .1 .0))
-              (List._∷_
-              (Row.lease (κs .1 .1 .1 .0) (qs .1 .1 .1 .0))
-              (List._∷_
-              Row.off
-              (List._∷_
-              Row.off
-              (List._∷_
-              Row.off
-              (List._∷_
-              (Row.lease (κs .1 .1 .1 .1 .1 .1 .1 .0) (qs .1 .1 .1 .1 .1 .1 .1 .0))
-              (List._∷_
-              (Row.lease (κs .1 .1 .1 .1 .1 .1 .1 .1 .0) (qs .1 .1 .1 .1 .1 .1 .1 .1 .0))
-              (List._∷_
-              Row.off
-              (List._∷_
-              Row.off
-              (List._∷_
-              Row.alive
-              (List._∷_ Row.alive (List._∷_ Row.alive (List._∷_ Row.alive List.[]))))))))))))));
-        }
-
-        abbrev G49 : Row.Cx
-        G49 = record {
-          locals = List._++_ g31 t32;
-          slots = List._∷_
-              (Row.lease (κs .0) (qs .0))
-              (List._∷_
-              (Row.lease (κs .1 .0) (qs .1 .0))
-              (List._∷_
-              (Row.lease (κs .1 .1 .0) (qs .1 .1 .0))
-              (List._∷_
-              (Row.lease (κs .1 .1 .1 .0) (qs .1 .1 .1 .0))
-              (List._∷_
-              Row.off
-              (List._∷_
-              Row.off
-              (List._∷_
-              Row.off
-              (List._∷_
-              Row.off
-              (List._∷_
-              (Row.lease (κs .1 .1 .1 .1 .1 .1 .1 .1 .0) (qs .1 .1 .1 .1 .1 .1 .1 .1 .0))
-              (List._∷_
-              Row.off
-              (List._∷_
-              Row.off
-              (List._∷_
-              Row.alive
-              (List._∷_ Row.alive (List._∷_ Row.alive (List._∷_ Row.alive List.[]))))))))))))));
-        }
-
-        abbrev G50 : Row.Cx
-        G50 = record {
-          locals = List._++_ g31 t33;
-          slots = List._∷_
-              (Row.lease (κs .0) (qs .0))
-              (List._∷_
-              (Row.lease (κs .1 .0) (qs .1 .0))
-              (List._∷_
-              (Row.lease (κs .1 .1 .0) (qs .1 .1 .0))
-              (List._∷_
-              (Row.lease (κs .1 .1 .1 .0) (qs .1 .1 .1 .0))
-              (List._∷_
-              Row.off
-              (List._∷_
-              Row.off
-              (List._∷_
-              Row.off
-              (List._∷_
-              Row.off
-              (List._∷_
-              (Row.lease (κs .1 .1 .1 .1 .1 .1 .1 .1 .0) (qs .1 .1 .1 .1 .1 .1 .1 .1 .0))
-              (List._∷_
-              Row.off
-              (List._∷_
-              Row.off
-              (List._∷_
-              Row.alive
-              (List._∷_ Row.alive (List._∷_ Row.alive (List._∷_ Row.alive List.[]))))))))))))));
-        }
-
-        abbrev G51 : Row.Cx
-        G51 = record {
-          locals = List._++_ g31 t34;
-          slots = List._∷_
-              (Row.lease (κs .0) (qs .0))
-              (List._∷_
-              (Row.lease (κs .1 .0) (qs .1 .0))
-              (List._∷_
-              (Row.lease (κs .1 .1 .0) (qs .1 .1 .0))
-              (List._∷_
-              (Row.lease (κs .1 .1 .1 .0) (qs .1 .1 .1 .0))
-              (List._∷_
-              Row.off
-              (List._∷_
-              Row.off
-              (List._∷_
-              Row.off
-              (List._∷_
-              Row.off
-              (List._∷_
-              (Row.lease (κs .1 .1 .1 .1 .1 .1 .1 .1 .0) (qs .1 .1 .1 .1 .1 .1 .1 .1 .0))
-              (List._∷_
-              Row.off
-              (List._∷_
-              Row.off
-              (List._∷_
-              Row.alive
-              (List._∷_ Row.alive (List._∷_ Row.alive (List._∷_ Row.alive List.[]))))))))))))));
-        }
-
-        abbrev G52 : Row.Cx
-        G52 = record {
-          locals = List._++_ g35 t34;
-          slots = List._∷_
-              (Row.lease (κs .0) (qs .0))
-              (List._∷_
-              (Row.lease (κs .1 .0) (qs .1 .0))
-              (List._∷_
-              (Row.lease (κs .1 .1 .0) (qs .1 .1 .0))
-              (List._∷_
-              (Row.lease (κs .1 .1 .1 .0) (qs .1 .1 .1 .0))
-              (List._∷_
-              Row.off
-              (List._∷_
-              Row.off
-              (List._∷_
-              Row.off
-              (List._∷_
-              Row.off
-              (List._∷_
-              (Row.lease (κs .1 .1 .1 .1 .1 .1 .1 .1 .0) (qs .1 .1 .1 .1 .1 .1 .1 .1 .0))
-              (List._∷_
-              Row.off
-              (List._∷_
-              Row.off
-              (List._∷_
-              Row.alive
-              (List._∷_ Row.alive (List._∷_ Row.alive (List._∷_ Row.alive List.[]))))))))))))));
-        }
-
-        abbrev G53 : Row.Cx
-        G53 = record {
-          locals = List._++_ g35 t34;
-          slots = List._∷_
-              (Row.lease (κs .0) (qs .0))
-              (List._∷_
-              (Row.lease (κs .1 .0) (qs .1 .0))
-              (List._∷_
-              (Row.lease (κs .1 .1 .0) (qs .1 .1 .0))
-              (List._∷_
-              (Row.lease (κs .1 .1 .1 .0) (qs .1 .1 .1 .0))
-              (List._∷_
-              Row.off
-              (List._∷_
-              Row.off
-              (List._∷_
-              Row.off
-              (List._∷_
-              Row.off
-              (List._∷_
-              (Row.lease (κs .1 .1 .1 .1 .1 .1 .1 .1 .0) (qs .1 .1 .1 .1 .1 .1 .1 .1 .0))
-              (List._∷_
-              Row.off
-              (List._∷_
-              Row.off
-              (List._∷_
-              Row.dead
-              (List._∷_ Row.alive (List._∷_ Row.alive (List._∷_ Row.alive List.[]))))))))))))));
-        }
-
-        abbrev G54 : Row.Cx
-        G54 = record {
-          locals = List._++_ g36 t37;
+          locals = List._++_ g28 t29;
           slots = List._∷_
               (Row.lease (κs .0) (qs .0))
               (List._∷_
@@ -8723,12 +8800,238 @@ module _ (claims· : Claims) where
               (List._∷_
               (Row.lease (κs .1 .1 .1 .1 .1 .1 .1 .1 .0) (qs .1 .1 .1 .1 .1 .1 .1 .1 .0))
               (List._∷_
+              (Row.lease (κs .1 .1 .1 .1 .1 .1 .1 .1 .1 .0) (qs .1 .1 .1 .1 .1 .1 .1 .1 .1 .0))
+              (List._∷_
+              Row.off
+              (List._∷_
+              Row.off
+              (List._∷_
+              Row.alive
+              (List._∷_ Row.alive (List._∷_ Row.alive (List._∷_ Row.off List.[])))))))))))))));
+        }
+
+        abbrev G48 : Row.Cx
+        G48 = record {
+          locals = List._++_ g28 t30;
+          slots = List._∷_
+              (Row.lease (κs .0) (qs .0))
+              (List._∷_
+              (Row.lease (κs .1 .0) (qs .1 .0))
+              (List._∷_
+              (Row.lease (κs .1 .1 .0) (qs .1 .1 .0))
+              (List._∷_
+              (Row.lease (κs .1 .1 .1 .0) (qs .1 .1 .1 .0))
+              (List._∷_
+              (Row.lease (κs .1 .1 .1 .1 .0) (qs .1 .1 .1 .1 .0))
+              (List._∷_
+              Row.off
+              (List._∷_
+              Row.off
+              (List._∷_
+              Row.off
+              (List._∷_
+              (Row.lease (κs .1 .1 .1 .1 .1 .1 .1 .1 .0) (qs .1 .1 .1 .1 .1 .1 .1 .1 .0))
+              (List._∷_
+              (Row.lease (κs .1 .1 .1 .1 .1 .1 .1 .1 .1 .0) (qs .1 .1 .1 .1 .1 .1 .1 .1 .1 .0))
+              (List._∷_
+              Row.off
+              (List._∷_
+              Row.off
+              (List._∷_
+              Row.alive
+              (List._∷_ Row.alive (List._∷_ Row.alive (List._∷_ Row.off List.[])))))))))))))));
+        }
+
+        abbrev G49 : Row.Cx
+        G49 = record {
+          locals = List._++_ g28 t30;
+          slots = List._∷_
+              (Row.lease (κs .0) (qs .0))
+              (List._∷_
+              (Row.lease (κs .1 .0) (qs .1 .0))
+              (List._∷_
+              (Row.lease (κs .1 .1 .0) (qs .1 .1 .0))
+              (List._∷_
+              (Row.lease (κs .1 .1 .1 .0) (qs .1 .1 .1 .0))
+              (List._∷_
+              (Row.lease (κs .1 .1 .1 .1 .0) (qs .1 .1 .1 .1 .0))
+              (List._∷_
+              Row.off
+              (List._∷_
+              Row.off
+              (List._∷_
+              Row.off
+              (List._∷_
+              (Row.lease (κs .1 .1 .1 .1 .1 .1 .1 .1 .0) (qs .1 .1 .1 .1 .1 .1 .1 .1 .0))
+              (List._∷_
+              (Row.lease (κs .1 .1 .1 .1 .1 .1 .1 .1 .1 .0) (qs .1 .1 .1 .1 .1 .1 .1 .1 .1 .0))
+              (List._∷_
+              Row.off
+              (List._∷_
+              Row.off
+              (List._∷_
+              Row.alive
+              (List._∷_ Row.alive (List._∷_ Row.alive (List._∷_ Row.alive List.[])))))))))))))));
+        }
+
+        abbrev G50 : Row.Cx
+        G50 = record {
+          locals = List._++_ g31 t32;
+          slots = List._∷_
+              (Row.lease (κs .0) (qs .0))
+              (List._∷_
+              (Row.lease (κs .1 .0) (qs .1 .0))
+              (List._∷_
+              (Row.lease (κs .1 .1 .0) (qs .1 .1 .0))
+              (List._∷_
+              (Row.lease (κs .1 .1 .1 .0) (qs .1 .1 .1 .0))
+              (List._∷_
+              (Row.lease (κs .1 .1 .1 .1 .0) (qs .1 .1 .1 .1 .0))
+              (List._∷_
+              Row.off
+              (List._∷_
+              Row.off
+              (List._∷_
+              Row.off
+              (List._∷_
+              Row.off
+              (List._∷_
+              (Row.lease (κs .1 .1 .1 .1 .1 .1 .1 .1 .1 .0) (qs .1 .1 .1 .1 .1 .1 .1 .1 .1 .0))
+              (List._∷_
+              Row.off
+              (List._∷_
+              Row.off
+              (List._∷_
+              Row.alive
+              (List._∷_ Row.alive (List._∷_ Row.alive (List._∷_ Row.alive List.[])))))))))))))));
+        }
+
+        abbrev G51 : Row.Cx
+        G51 = record {
+          locals = List._++_ g31 t33;
+          slots = List._∷_
+              (Row.lease (κs .0) (qs .0))
+              (List._∷_
+              (Row.lease (κs .1 .0) (qs .1 .0))
+              (List._∷_
+              (Row.lease (κs .1 .1 .0) (qs .1 .1 .0))
+              (List._∷_
+              (Row.lease (κs .1 .1 .1 .0) (qs .1 .1 .1 .0))
+              (List._∷_
+              (Row.lease (κs .1 .1 .1 .1 .0) (qs .1 .1 .1 .1 .0))
+              (List._∷_
+              Row.off
+              (List._∷_
+              Row.off
+              (List._∷_
+              Row.off
+              (List._∷_
+              Row.off
+              (List._∷_
+              (Row.lease (κs .1 .1 .1 .1 .1 .1 .1 .1 .1 .0) (qs .1 .1 .1 .1 .1 .1 .1 .1 .1 .0))
+              (List._∷_
+              Row.off
+              (List._∷_
+              Row.off
+              (List._∷_
+              Row.alive
+              (List._∷_ Row.alive (List._∷_ Row.alive (List._∷_ Row.alive List.[])))))))))))))));
+        }
+
+        abbrev G52 : Row.Cx
+        G52 = record {
+          locals = List._++_ g31 t34;
+          slots = List._∷_
+              (Row.lease (κs .0) (qs .0))
+              (List._∷_
+              (Row.lease (κs .1 .0) (qs .1 .0))
+              (List._∷_
+              (Row.lease (κs .1 .1 .0) (qs .1 .1 .0))
+              (List._∷_
+              (Row.lease (κs .1 .1 .1 .0) (qs .1 .1 .1 .0))
+              (List._∷_
+              (Row.lease (κs .1 .1 .1 .1 .0) (qs .1 .1 .1 .1 .0))
+              (List._∷_
+              Row.off
+              (List._∷_
+              Row.off
+              (List._∷_
+              Row.off
+              (List._∷_
+              Row.off
+              (List._∷_
+              (Row.lease (κs .1 .1 .1 .1 .1 .1 .1 .1 .1 .0) (qs .1 .1 .1 .1 .1 .1 .1 .1 .1 .0))
+              (List._∷_
+              Row.off
+              (List._∷_
+              Row.off
+              (List._∷_
+              Row.alive
+              (List._∷_ Row.alive (List._∷_ Row.alive (List._∷_ Row.alive List.[])))))))))))))));
+        }
+
+        abbrev G53 : Row.Cx
+        G53 = record {
+          locals = List._++_ g35 t34;
+          slots = List._∷_
+              (Row.lease (κs .0) (qs .0))
+              (List._∷_
+              (Row.lease (κs .1 .0) (qs .1 .0))
+              (List._∷_
+              (Row.lease (κs .1 .1 .0) (qs .1 .1 .0))
+              (List._∷_
+              (Row.lease (κs .1 .1 .1 .0) (qs .1 .1 .1 .0))
+              (List._∷_
+              (Row.lease (κs .1 .1 .1 .1 .0) (qs .1 .1 .1 .1 .0))
+              (List._∷_
+              Row.off
+              (List._∷_
+              Row.off
+              (List._∷_
+              Row.off
+              (List._∷_
+              Row.off
+              (List._∷_
+              (Row.lease (κs .1 .1 .1 .1 .1 .1 .1 .1 .1 .0) (qs .1 .1 .1 .1 .1 .1 .1 .1 .1 .0))
+              (List._∷_
+              Row.off
+              (List._∷_
+              Row.off
+              (List._∷_
+              Row.alive
+              (List._∷_ Row.alive (List._∷_ Row.alive (List._∷_ Row.alive List.[])))))))))))))));
+        }
+
+        abbrev G54 : Row.Cx
+        G54 = record {
+          locals = List._++_ g35 t34;
+          slots = List._∷_
+              (Row.lease (κs .0) (qs .0))
+              (List._∷_
+              (Row.lease (κs .1 .0) (qs .1 .0))
+              (List._∷_
+              (Row.lease (κs .1 .1 .0) (qs .1 .1 .0))
+              (List._∷_
+              (Row.lease (κs .1 .1 .1 .0) (qs .1 .1 .1 .0))
+              (List._∷_
+              (Row.lease (κs .1 .1 .1 .1 .0) (qs .1 .1 .1 .1 .0))
+              (List._∷_
+              Row.off
+              (List._∷_
+              Row.off
+              (List._∷_
+              Row.off
+              (List._∷_
+              Row.off
+              (List._∷_
+              (Row.lease (κs .1 .1 .1 .1 .1 .1 .1 .1 .1 .0) (qs .1 .1 .1 .1 .1 .1 .1 .1 .1 .0))
+              (List._∷_
               Row.off
               (List._∷_
               Row.off
               (List._∷_
               Row.dead
-              (List._∷_ Row.alive (List._∷_ Row.alive (List._∷_ Row.alive List.[]))))))))))))));
+              (List._∷_ Row.alive (List._∷_ Row.alive (List._∷_ Row.alive List.[])))))))))))))));
         }
 
         abbrev G55 : Row.Cx
@@ -8745,85 +9048,27 @@ module _ (claims· : Claims) where
               (List._∷_
               (Row.lease (κs .1 .1 .1 .1 .0) (qs .1 .1 .1 .1 .0))
               (List._∷_
-              Row.off
+              (Row.lease (κs .1 .1 .1 .1 .1 .0) (qs .1 .1 .1 .1 .1 .0))
               (List._∷_
               Row.off
               (List._∷_
               Row.off
               (List._∷_
-              (Row.lease (κs .1 .1 .1 .1 .1 .1 .1 .1 .0) (qs .1 .1 .1 .1 .1 .1 .1 .1 .0))
+              Row.off
+              (List._∷_
+              (Row.lease (κs .1 .1 .1 .1 .1 .1 .1 .1 .1 .0) (qs .1 .1 .1 .1 .1 .1 .1 .1 .1 .0))
               (List._∷_
               Row.off
               (List._∷_
               Row.off
               (List._∷_
               Row.dead
-              (List._∷_ Row.alive (List._∷_ Row.alive (List._∷_ Row.alive List.[]))))))))))))));
+              (List._∷_ Row.alive (List._∷_ Row.alive (List._∷_ Row.alive List.[])))))))))))))));
         }
 
         abbrev G56 : Row.Cx
         G56 = record {
           locals = List._++_ g36 t37;
-          slots = List._∷_
-              (Row.lease (κs .0) (qs .0))
-              (List._∷_
-              (Row.lease (κs .1 .0) (qs .1 .0))
-              (List._∷_
-              (Row.lease (κs .1 .1 .0) (qs .1 .1 .0))
-              (List._∷_
-              (Row.lease (κs .1 .1 .1 .0) (qs .1 .1 .1 .0))
-              (List._∷_
-              (Row.lease (κs .1 .1 .1 .1 .0) (qs .1 .1 .1 .1 .0))
-              (List._∷_
-              Row.off
-              (List._∷_
-              Row.off
-              (List._∷_
-              Row.off
-              (List._∷_
-              (Row.lease (κs .1 .1 .1 .1 .1 .1 .1 .1 .0) (qs .1 .1 .1 .1 .1 .1 .1 .1 .0))
-              (List._∷_
-              Row.off
-              (List._∷_
-              Row.off
-              (List._∷_
-              Row.off
-              (List._∷_ Row.alive (List._∷_ Row.alive (List._∷_ Row.alive List.[]))))))))))))));
-        }
-
-        abbrev G57 : Row.Cx
-        G57 = record {
-          locals = List._++_ g36 t37;
-          slots = List._∷_
-              (Row.lease (κs .0) (qs .0))
-              (List._∷_
-              (Row.lease (κs .1 .0) (qs .1 .0))
-              (List._∷_
-              (Row.lease (κs .1 .1 .0) (qs .1 .1 .0))
-              (List._∷_
-              (Row.lease (κs .1 .1 .1 .0) (qs .1 .1 .1 .0))
-              (List._∷_
-              (Row.lease (κs .1 .1 .1 .1 .0) (qs .1 .1 .1 .1 .0))
-              (List._∷_
-              Row.off
-              (List._∷_
-              Row.off
-              (List._∷_
-              Row.off
-              (List._∷_
-              (Row.lease (κs .1 .1 .1 .1 .1 .1 .1 .1 .0) (qs .1 .1 .1 .1 .1 .1 .1 .1 .0))
-              (List._∷_
-              Row.off
-              (List._∷_
-              Row.off
-              (List._∷_
-              Row.off
-              (List._∷_ Row.dead (List._∷_ Row.alive (List._∷_ Row.alive List.[]))))))))))))));
-        }
-
-        abbrev G58 : Row.Cx
-        G58 = record {
-          locals = List._++_ g38 t39;
           slots = List._∷_
               (Row.lease (κs .0) (qs .0))
               (List._∷_
@@ -8841,14 +9086,80 @@ module _ (claims· : Claims) where
               (List._∷_
               Row.off
               (List._∷_
-              (Row.lease (κs .1 .1 .1 .1 .1 .1 .1 .1 .0) (qs .1 .1 .1 .1 .1 .1 .1 .1 .0))
+              Row.off
+              (List._∷_
+              (Row.lease (κs .1 .1 .1 .1 .1 .1 .1 .1 .1 .0) (qs .1 .1 .1 .1 .1 .1 .1 .1 .1 .0))
+              (List._∷_
+              Row.off
+              (List._∷_
+              Row.off
+              (List._∷_
+              Row.dead
+              (List._∷_ Row.alive (List._∷_ Row.alive (List._∷_ Row.alive List.[])))))))))))))));
+        }
+
+        abbrev G57 : Row.Cx
+        G57 = record {
+          locals = List._++_ g36 t37;
+          slots = List._∷_
+              (Row.lease (κs .0) (qs .0))
+              (List._∷_
+              (Row.lease (κs .1 .0) (qs .1 .0))
+              (List._∷_
+              (Row.lease (κs .1 .1 .0) (qs .1 .1 .0))
+              (List._∷_
+              (Row.lease (κs .1 .1 .1 .0) (qs .1 .1 .1 .0))
+              (List._∷_
+              (Row.lease (κs .1 .1 .1 .1 .0) (qs .1 .1 .1 .1 .0))
+              (List._∷_
+              (Row.lease (κs .1 .1 .1 .1 .1 .0) (qs .1 .1 .1 .1 .1 .0))
               (List._∷_
               Row.off
               (List._∷_
               Row.off
               (List._∷_
               Row.off
-              (List._∷_ Row.dead (List._∷_ Row.alive (List._∷_ Row.alive List.[]))))))))))))));
+              (List._∷_
+              (Row.lease (κs .1 .1 .1 .1 .1 .1 .1 .1 .1 .0) (qs .1 .1 .1 .1 .1 .1 .1 .1 .1 .0))
+              (List._∷_
+              Row.off
+              (List._∷_
+              Row.off
+              (List._∷_
+              Row.off
+              (List._∷_ Row.alive (List._∷_ Row.alive (List._∷_ Row.alive List.[])))))))))))))));
+        }
+
+        abbrev G58 : Row.Cx
+        G58 = record {
+          locals = List._++_ g36 t37;
+          slots = List._∷_
+              (Row.lease (κs .0) (qs .0))
+              (List._∷_
+              (Row.lease (κs .1 .0) (qs .1 .0))
+              (List._∷_
+              (Row.lease (κs .1 .1 .0) (qs .1 .1 .0))
+              (List._∷_
+              (Row.lease (κs .1 .1 .1 .0) (qs .1 .1 .1 .0))
+              (List._∷_
+              (Row.lease (κs .1 .1 .1 .1 .0) (qs .1 .1 .1 .1 .0))
+              (List._∷_
+              (Row.lease (κs .1 .1 .1 .1 .1 .0) (qs .1 .1 .1 .1 .1 .0))
+              (List._∷_
+              Row.off
+              (List._∷_
+              Row.off
+              (List._∷_
+              Row.off
+              (List._∷_
+              (Row.lease (κs .1 .1 .1 .1 .1 .1 .1 .1 .1 .0) (qs .1 .1 .1 .1 .1 .1 .1 .1 .1 .0))
+              (List._∷_
+              Row.off
+              (List._∷_
+              Row.off
+              (List._∷_
+              Row.off
+              (List._∷_ Row.dead (List._∷_ Row.alive (List._∷_ Row.alive List.[])))))))))))))));
         }
 
         abbrev G59 : Row.Cx
@@ -8867,18 +9178,20 @@ module _ (claims· : Claims) where
               (List._∷_
               (Row.lease (κs .1 .1 .1 .1 .1 .0) (qs .1 .1 .1 .1 .1 .0))
               (List._∷_
-              Row.off
-              (List._∷_
-              Row.off
-              (List._∷_
-              (Row.lease (κs .1 .1 .1 .1 .1 .1 .1 .1 .0) (qs .1 .1 .1 .1 .1 .1 .1 .1 .0))
+              (Row.lease (κs .1 .1 .1 .1 .1 .1 .0) (qs .1 .1 .1 .1 .1 .1 .0))
               (List._∷_
               Row.off
               (List._∷_
               Row.off
               (List._∷_
+              (Row.lease (κs .1 .1 .1 .1 .1 .1 .1 .1 .1 .0) (qs .1 .1 .1 .1 .1 .1 .1 .1 .1 .0))
+              (List._∷_
               Row.off
-              (List._∷_ Row.dead (List._∷_ Row.alive (List._∷_ Row.alive List.[]))))))))))))));
+              (List._∷_
+              Row.off
+              (List._∷_
+              Row.off
+              (List._∷_ Row.dead (List._∷_ Row.alive (List._∷_ Row.alive List.[])))))))))))))));
         }
 
         abbrev G60 : Row.Cx
@@ -8897,18 +9210,20 @@ module _ (claims· : Claims) where
               (List._∷_
               (Row.lease (κs .1 .1 .1 .1 .1 .0) (qs .1 .1 .1 .1 .1 .0))
               (List._∷_
-              Row.off
-              (List._∷_
-              Row.off
-              (List._∷_
-              (Row.lease (κs .1 .1 .1 .1 .1 .1 .1 .1 .0) (qs .1 .1 .1 .1 .1 .1 .1 .1 .0))
+              (Row.lease (κs .1 .1 .1 .1 .1 .1 .0) (qs .1 .1 .1 .1 .1 .1 .0))
               (List._∷_
               Row.off
               (List._∷_
               Row.off
               (List._∷_
+              (Row.lease (κs .1 .1 .1 .1 .1 .1 .1 .1 .1 .0) (qs .1 .1 .1 .1 .1 .1 .1 .1 .1 .0))
+              (List._∷_
               Row.off
-              (List._∷_ Row.off (List._∷_ Row.alive (List._∷_ Row.alive List.[]))))))))))))));
+              (List._∷_
+              Row.off
+              (List._∷_
+              Row.off
+              (List._∷_ Row.dead (List._∷_ Row.alive (List._∷_ Row.alive List.[])))))))))))))));
         }
 
         abbrev G61 : Row.Cx
@@ -8927,23 +9242,25 @@ module _ (claims· : Claims) where
               (List._∷_
               (Row.lease (κs .1 .1 .1 .1 .1 .0) (qs .1 .1 .1 .1 .1 .0))
               (List._∷_
-              Row.off
-              (List._∷_
-              Row.off
-              (List._∷_
-              (Row.lease (κs .1 .1 .1 .1 .1 .1 .1 .1 .0) (qs .1 .1 .1 .1 .1 .1 .1 .1 .0))
+              (Row.lease (κs .1 .1 .1 .1 .1 .1 .0) (qs .1 .1 .1 .1 .1 .1 .0))
               (List._∷_
               Row.off
               (List._∷_
               Row.off
               (List._∷_
+              (Row.lease (κs .1 .1 .1 .1 .1 .1 .1 .1 .1 .0) (qs .1 .1 .1 .1 .1 .1 .1 .1 .1 .0))
+              (List._∷_
               Row.off
-              (List._∷_ Row.off (List._∷_ Row.dead (List._∷_ Row.alive List.[]))))))))))))));
+              (List._∷_
+              Row.off
+              (List._∷_
+              Row.off
+              (List._∷_ Row.off (List._∷_ Row.alive (List._∷_ Row.alive List.[])))))))))))))));
         }
 
         abbrev G62 : Row.Cx
         G62 = record {
-          locals = List._++_ g40 t41;
+          locals = List._++_ g38 t39;
           slots = List._∷_
               (Row.lease (κs .0) (qs .0))
               (List._∷_
@@ -8961,14 +9278,16 @@ module _ (claims· : Claims) where
               (List._∷_
               Row.off
               (List._∷_
-              (Row.lease (κs .1 .1 .1 .1 .1 .1 .1 .1 .0) (qs .1 .1 .1 .1 .1 .1 .1 .1 .0))
+              Row.off
+              (List._∷_
+              (Row.lease (κs .1 .1 .1 .1 .1 .1 .1 .1 .1 .0) (qs .1 .1 .1 .1 .1 .1 .1 .1 .1 .0))
               (List._∷_
               Row.off
               (List._∷_
               Row.off
               (List._∷_
               Row.off
-              (List._∷_ Row.off (List._∷_ Row.dead (List._∷_ Row.alive List.[]))))))))))))));
+              (List._∷_ Row.off (List._∷_ Row.dead (List._∷_ Row.alive List.[])))))))))))))));
         }
 
         abbrev G63 : Row.Cx
@@ -8989,16 +9308,18 @@ module _ (claims· : Claims) where
               (List._∷_
               (Row.lease (κs .1 .1 .1 .1 .1 .1 .0) (qs .1 .1 .1 .1 .1 .1 .0))
               (List._∷_
-              Row.off
-              (List._∷_
-              (Row.lease (κs .1 .1 .1 .1 .1 .1 .1 .1 .0) (qs .1 .1 .1 .1 .1 .1 .1 .1 .0))
+              (Row.lease (κs .1 .1 .1 .1 .1 .1 .1 .0) (qs .1 .1 .1 .1 .1 .1 .1 .0))
               (List._∷_
               Row.off
               (List._∷_
+              (Row.lease (κs .1 .1 .1 .1 .1 .1 .1 .1 .1 .0) (qs .1 .1 .1 .1 .1 .1 .1 .1 .1 .0))
+              (List._∷_
               Row.off
               (List._∷_
               Row.off
-              (List._∷_ Row.off (List._∷_ Row.dead (List._∷_ Row.alive List.[]))))))))))))));
+              (List._∷_
+              Row.off
+              (List._∷_ Row.off (List._∷_ Row.dead (List._∷_ Row.alive List.[])))))))))))))));
         }
 
         abbrev G64 : Row.Cx
@@ -9019,16 +9340,18 @@ module _ (claims· : Claims) where
               (List._∷_
               (Row.lease (κs .1 .1 .1 .1 .1 .1 .0) (qs .1 .1 .1 .1 .1 .1 .0))
               (List._∷_
-              Row.off
-              (List._∷_
-              (Row.lease (κs .1 .1 .1 .1 .1 .1 .1 .1 .0) (qs .1 .1 .1 .1 .1 .1 .1 .1 .0))
+              (Row.lease (κs .1 .1 .1 .1 .1 .1 .1 .0) (qs .1 .1 .1 .1 .1 .1 .1 .0))
               (List._∷_
               Row.off
               (List._∷_
+              (Row.lease (κs .1 .1 .1 .1 .1 .1 .1 .1 .1 .0) (qs .1 .1 .1 .1 .1 .1 .1 .1 .1 .0))
+              (List._∷_
               Row.off
               (List._∷_
               Row.off
-              (List._∷_ Row.off (List._∷_ Row.off (List._∷_ Row.alive List.[]))))))))))))));
+              (List._∷_
+              Row.off
+              (List._∷_ Row.off (List._∷_ Row.dead (List._∷_ Row.alive List.[])))))))))))))));
         }
 
         abbrev G65 : Row.Cx
@@ -9049,21 +9372,23 @@ module _ (claims· : Claims) where
               (List._∷_
               (Row.lease (κs .1 .1 .1 .1 .1 .1 .0) (qs .1 .1 .1 .1 .1 .1 .0))
               (List._∷_
-              Row.off
-              (List._∷_
-              (Row.lease (κs .1 .1 .1 .1 .1 .1 .1 .1 .0) (qs .1 .1 .1 .1 .1 .1 .1 .1 .0))
+              (Row.lease (κs .1 .1 .1 .1 .1 .1 .1 .0) (qs .1 .1 .1 .1 .1 .1 .1 .0))
               (List._∷_
               Row.off
               (List._∷_
+              (Row.lease (κs .1 .1 .1 .1 .1 .1 .1 .1 .1 .0) (qs .1 .1 .1 .1 .1 .1 .1 .1 .1 .0))
+              (List._∷_
               Row.off
               (List._∷_
               Row.off
-              (List._∷_ Row.off (List._∷_ Row.off (List._∷_ Row.dead List.[]))))))))))))));
+              (List._∷_
+              Row.off
+              (List._∷_ Row.off (List._∷_ Row.off (List._∷_ Row.alive List.[])))))))))))))));
         }
 
         abbrev G66 : Row.Cx
         G66 = record {
-          locals = List._++_ t5 t1;
+          locals = List._++_ g40 t41;
           slots = List._∷_
               (Row.lease (κs .0) (qs .0))
               (List._∷_
@@ -9081,14 +9406,16 @@ module _ (claims· : Claims) where
               (List._∷_
               (Row.lease (κs .1 .1 .1 .1 .1 .1 .1 .0) (qs .1 .1 .1 .1 .1 .1 .1 .0))
               (List._∷_
-              (Row.lease (κs .1 .1 .1 .1 .1 .1 .1 .1 .0) (qs .1 .1 .1 .1 .1 .1 .1 .1 .0))
+              Row.off
+              (List._∷_
+              (Row.lease (κs .1 .1 .1 .1 .1 .1 .1 .1 .1 .0) (qs .1 .1 .1 .1 .1 .1 .1 .1 .1 .0))
               (List._∷_
               Row.off
               (List._∷_
               Row.off
               (List._∷_
               Row.off
-              (List._∷_ Row.off (List._∷_ Row.off (List._∷_ Row.dead List.[]))))))))))))));
+              (List._∷_ Row.off (List._∷_ Row.off (List._∷_ Row.dead List.[])))))))))))))));
         }
 
         abbrev G67 : Row.Cx
@@ -9113,12 +9440,14 @@ module _ (claims· : Claims) where
               (List._∷_
               (Row.lease (κs .1 .1 .1 .1 .1 .1 .1 .1 .0) (qs .1 .1 .1 .1 .1 .1 .1 .1 .0))
               (List._∷_
-              Row.off
+              (Row.lease (κs .1 .1 .1 .1 .1 .1 .1 .1 .1 .0) (qs .1 .1 .1 .1 .1 .1 .1 .1 .1 .0))
               (List._∷_
               Row.off
               (List._∷_
               Row.off
-              (List._∷_ Row.off (List._∷_ Row.off (List._∷_ Row.dead List.[]))))))))))))));
+              (List._∷_
+              Row.off
+              (List._∷_ Row.off (List._∷_ Row.off (List._∷_ Row.dead List.[])))))))))))))));
         }
 
         abbrev G68 : Row.Cx
@@ -9143,12 +9472,14 @@ module _ (claims· : Claims) where
               (List._∷_
               (Row.lease (κs .1 .1 .1 .1 .1 .1 .1 .1 .0) (qs .1 .1 .1 .1 .1 .1 .1 .1 .0))
               (List._∷_
-              Row.off
+              (Row.lease (κs .1 .1 .1 .1 .1 .1 .1 .1 .1 .0) (qs .1 .1 .1 .1 .1 .1 .1 .1 .1 .0))
               (List._∷_
               Row.off
               (List._∷_
               Row.off
-              (List._∷_ Row.off (List._∷_ Row.off (List._∷_ Row.off List.[]))))))))))))));
+              (List._∷_
+              Row.off
+              (List._∷_ Row.off (List._∷_ Row.off (List._∷_ Row.dead List.[])))))))))))))));
         }
 
         abbrev G69 : Row.Cx
@@ -9173,16 +9504,50 @@ module _ (claims· : Claims) where
               (List._∷_
               (Row.lease (κs .1 .1 .1 .1 .1 .1 .1 .1 .0) (qs .1 .1 .1 .1 .1 .1 .1 .1 .0))
               (List._∷_
-              Row.off
+              (Row.lease (κs .1 .1 .1 .1 .1 .1 .1 .1 .1 .0) (qs .1 .1 .1 .1 .1 .1 .1 .1 .1 .0))
               (List._∷_
               Row.off
               (List._∷_
               Row.off
-              (List._∷_ Row.off (List._∷_ Row.off (List._∷_ Row.off List.[]))))))))))))));
+              (List._∷_
+              Row.off
+              (List._∷_ Row.off (List._∷_ Row.off (List._∷_ Row.off List.[])))))))))))))));
         }
 
         abbrev G70 : Row.Cx
         G70 = record {
+          locals = List._++_ t5 t1;
+          slots = List._∷_
+              (Row.lease (κs .0) (qs .0))
+              (List._∷_
+              (Row.lease (κs .1 .0) (qs .1 .0))
+              (List._∷_
+              (Row.lease (κs .1 .1 .0) (qs .1 .1 .0))
+              (List._∷_
+              (Row.lease (κs .1 .1 .1 .0) (qs .1 .1 .1 .0))
+              (List._∷_
+              (Row.lease (κs .1 .1 .1 .1 .0) (qs .1 .1 .1 .1 .0))
+              (List._∷_
+              (Row.lease (κs .1 .1 .1 .1 .1 .0) (qs .1 .1 .1 .1 .1 .0))
+              (List._∷_
+              (Row.lease (κs .1 .1 .1 .1 .1 .1 .0) (qs .1 .1 .1 .1 .1 .1 .0))
+              (List._∷_
+              (Row.lease (κs .1 .1 .1 .1 .1 .1 .1 .0) (qs .1 .1 .1 .1 .1 .1 .1 .0))
+              (List._∷_
+              (Row.lease (κs .1 .1 .1 .1 .1 .1 .1 .1 .0) (qs .1 .1 .1 .1 .1 .1 .1 .1 .0))
+              (List._∷_
+              (Row.lease (κs .1 .1 .1 .1 .1 .1 .1 .1 .1 .0) (qs .1 .1 .1 .1 .1 .1 .1 .1 .1 .0))
+              (List._∷_
+              Row.off
+              (List._∷_
+              Row.off
+              (List._∷_
+              Row.off
+              (List._∷_ Row.off (List._∷_ Row.off (List._∷_ Row.off List.[])))))))))))))));
+        }
+
+        abbrev G71 : Row.Cx
+        G71 = record {
           locals = List._++_ t42 t1;
           slots = List._∷_
               (Row.lease (κs .0) (qs .0))
@@ -9203,16 +9568,18 @@ module _ (claims· : Claims) where
               (List._∷_
               (Row.lease (κs .1 .1 .1 .1 .1 .1 .1 .1 .0) (qs .1 .1 .1 .1 .1 .1 .1 .1 .0))
               (List._∷_
-              Row.off
+              (Row.lease (κs .1 .1 .1 .1 .1 .1 .1 .1 .1 .0) (qs .1 .1 .1 .1 .1 .1 .1 .1 .1 .0))
               (List._∷_
               Row.off
               (List._∷_
               Row.off
-              (List._∷_ Row.off (List._∷_ Row.off (List._∷_ Row.off List.[]))))))))))))));
+              (List._∷_
+              Row.off
+              (List._∷_ Row.off (List._∷_ Row.off (List._∷_ Row.off List.[])))))))))))))));
         }
 
-        abbrev G71 : Row.Cx
-        G71 = record {
+        abbrev G72 : Row.Cx
+        G72 = record {
           locals = List._++_ t43 t1;
           slots = List._∷_
               (Row.lease (κs .0) (qs .0))
@@ -9233,16 +9600,18 @@ module _ (claims· : Claims) where
               (List._∷_
               (Row.lease (κs .1 .1 .1 .1 .1 .1 .1 .1 .0) (qs .1 .1 .1 .1 .1 .1 .1 .1 .0))
               (List._∷_
-              Row.off
+              (Row.lease (κs .1 .1 .1 .1 .1 .1 .1 .1 .1 .0) (qs .1 .1 .1 .1 .1 .1 .1 .1 .1 .0))
               (List._∷_
               Row.off
               (List._∷_
               Row.off
-              (List._∷_ Row.off (List._∷_ Row.off (List._∷_ Row.off List.[]))))))))))))));
+              (List._∷_
+              Row.off
+              (List._∷_ Row.off (List._∷_ Row.off (List._∷_ Row.off List.[])))))))))))))));
         }
 
-        abbrev G72 : Row.Cx
-        G72 = record {
+        abbrev G73 : Row.Cx
+        G73 = record {
           locals = List._++_ t44 t1;
           slots = List._∷_
               (Row.lease (κs .0) (qs .0))
@@ -9263,16 +9632,18 @@ module _ (claims· : Claims) where
               (List._∷_
               (Row.lease (κs .1 .1 .1 .1 .1 .1 .1 .1 .0) (qs .1 .1 .1 .1 .1 .1 .1 .1 .0))
               (List._∷_
-              Row.off
+              (Row.lease (κs .1 .1 .1 .1 .1 .1 .1 .1 .1 .0) (qs .1 .1 .1 .1 .1 .1 .1 .1 .1 .0))
               (List._∷_
               Row.off
               (List._∷_
               Row.off
-              (List._∷_ Row.off (List._∷_ Row.off (List._∷_ Row.off List.[]))))))))))))));
+              (List._∷_
+              Row.off
+              (List._∷_ Row.off (List._∷_ Row.off (List._∷_ Row.off List.[])))))))))))))));
         }
 
-        abbrev G73 : Row.Cx
-        G73 = record {
+        abbrev G74 : Row.Cx
+        G74 = record {
           locals = List._++_ t45 t1;
           slots = List._∷_
               (Row.lease (κs .0) (qs .0))
@@ -9293,16 +9664,18 @@ module _ (claims· : Claims) where
               (List._∷_
               (Row.lease (κs .1 .1 .1 .1 .1 .1 .1 .1 .0) (qs .1 .1 .1 .1 .1 .1 .1 .1 .0))
               (List._∷_
-              Row.off
+              (Row.lease (κs .1 .1 .1 .1 .1 .1 .1 .1 .1 .0) (qs .1 .1 .1 .1 .1 .1 .1 .1 .1 .0))
               (List._∷_
               Row.off
               (List._∷_
               Row.off
-              (List._∷_ Row.off (List._∷_ Row.off (List._∷_ Row.off List.[]))))))))))))));
+              (List._∷_
+              Row.off
+              (List._∷_ Row.off (List._∷_ Row.off (List._∷_ Row.off List.[])))))))))))))));
         }
 
-        abbrev G74 : Row.Cx
-        G74 = record {
+        abbrev G75 : Row.Cx
+        G75 = record {
           locals = List._++_ t2 t1;
           slots = List._∷_
               (Row.lease (κs .0) (qs .0))
@@ -9323,39 +9696,41 @@ module _ (claims· : Claims) where
               (List._∷_
               (Row.lease (κs .1 .1 .1 .1 .1 .1 .1 .1 .0) (qs .1 .1 .1 .1 .1 .1 .1 .1 .0))
               (List._∷_
-              Row.off
+              (Row.lease (κs .1 .1 .1 .1 .1 .1 .1 .1 .1 .0) (qs .1 .1 .1 .1 .1 .1 .1 .1 .1 .0))
               (List._∷_
               Row.off
               (List._∷_
               Row.off
-              (List._∷_ Row.off (List._∷_ Row.off (List._∷_ Row.off List.[]))))))))))))));
+              (List._∷_
+              Row.off
+              (List._∷_ Row.off (List._∷_ Row.off (List._∷_ Row.off List.[])))))))))))))));
         }
 
         abbrev Δ0 : Typed.Outs
         Δ0 = record { next = Option.none; exits = List.[]; returns = Option.some G1 }
 
         abbrev Δ1 : Typed.Outs
-        Δ1 = Typed.withNext (Option.some G13) Δ0
+        Δ1 = Typed.withNext (Option.some G14) Δ0
 
         abbrev Δ2 : Typed.Outs
         Δ2 = Typed.inBlock₀ Δ1
 
         abbrev Δ3 : Typed.Outs
-        Δ3 = Typed.inLoop₀ G12 Δ2
+        Δ3 = Typed.inLoop₀ G13 Δ2
 
         abbrev Δ4 : Typed.Outs
-        Δ4 = Typed.withNext (Option.some G15) Δ3
+        Δ4 = Typed.withNext (Option.some G16) Δ3
 
         module _ {M : Type 1} (𝓤 : URA.URA M) (H : Wp.Heap 𝓤) (A : Atoms.Atoms 𝓤)
             (W : Kit.Given 𝓤 H A) (𝓣 : Wp.Tables 𝓤 H) (known : Knowns 𝓤 H A W 𝓣)
-            (bs : List.List Nat.ℕ) (bd : Lifetimes.AllOutlive 9 (Kinds.osR r) κs) where
+            (bs : List.List Nat.ℕ) (bd : Lifetimes.AllOutlive 10 (Kinds.osR r) κs) where
           abbrev E : Wp.Env 𝓤 H
           E = Frame.EnvOf 𝓤 H (List._∷_ (Kinds.tyR r) (Enter.tysP ps xs)) bs
 
-          d0 : Typed.Typed 𝓤 H A 𝓣 E G16 b4 Δ4 at0
+          d0 : Typed.Typed 𝓤 H A 𝓣 E G17 b4 Δ4 at0
           d0 = Typed.t-skip 𝓤 H A W 𝓣 E Δ4 tt
 
-          d1 : Typed.Typed 𝓤 H A 𝓣 E G14 b4 Δ4 at1
+          d1 : Typed.Typed 𝓤 H A 𝓣 E G15 b4 Δ4 at1
           d1 =
               Typed.g-pre
               𝓤
@@ -9364,19 +9739,19 @@ module _ (claims· : Claims) where
               W
               𝓣
               E
-              G14
-              G16
+              G15
+              G17
               b4
               Δ4
-              (Typed.pass T14 T16 s12)
+              (Typed.pass T15 T17 s13)
               at0
-              (Scalar.g-room 𝓤 H A W E G14 15 Syntax.tyBool (Scalar.room-sc 𝓤 H A W Row.sBool))
+              (Scalar.g-room 𝓤 H A W E G15 16 Syntax.tyBool (Scalar.room-sc 𝓤 H A W Row.sBool))
               d0
 
-          d2 : Typed.Typed 𝓤 H A 𝓣 E G17 b5 Δ4 at2
+          d2 : Typed.Typed 𝓤 H A 𝓣 E G18 b5 Δ4 at2
           d2 = Typed.t-exit 𝓤 H A W 𝓣 E 1 Δ4 tt
 
-          d3 : Typed.Typed 𝓤 H A 𝓣 E G14 b5 Δ4 at3
+          d3 : Typed.Typed 𝓤 H A 𝓣 E G15 b5 Δ4 at3
           d3 =
               Typed.g-pre
               𝓤
@@ -9385,16 +9760,16 @@ module _ (claims· : Claims) where
               W
               𝓣
               E
-              G14
-              G17
+              G15
+              G18
               b5
               Δ4
-              (Typed.pass T14 T17 s13)
+              (Typed.pass T15 T18 s14)
               at2
-              (Scalar.g-room 𝓤 H A W E G14 15 Syntax.tyBool (Scalar.room-sc 𝓤 H A W Row.sBool))
+              (Scalar.g-room 𝓤 H A W E G15 16 Syntax.tyBool (Scalar.room-sc 𝓤 H A W Row.sBool))
               d2
 
-          d4 : Typed.Typed 𝓤 H A 𝓣 E G14 b6 Δ4 at4
+          d4 : Typed.Typed 𝓤 H A 𝓣 E G15 b6 Δ4 at4
           d4 =
               Scalar.t-cond
               𝓤
@@ -9403,8 +9778,8 @@ module _ (claims· : Claims) where
               W
               E
               𝓣
-              G14
-              15
+              G15
+              16
               (λ x. x)
               b4
               b5
@@ -9416,7 +9791,7 @@ module _ (claims· : Claims) where
               d1
               d3
 
-          d5 : Typed.Typed 𝓤 H A 𝓣 E G68 b25 Δ3 at5
+          d5 : Typed.Typed 𝓤 H A 𝓣 E G69 b25 Δ3 at5
           d5 =
               Typed.s-typed
               𝓤
@@ -9425,10 +9800,10 @@ module _ (claims· : Claims) where
               W
               𝓣
               E
-              G68
+              G69
               b25
               Δ3
-              (Typed.ask s65)
+              (Typed.ask s66)
               tt
               (Scalar.t-op2
               𝓤
@@ -9437,11 +9812,11 @@ module _ (claims· : Claims) where
               W
               E
               𝓣
-              G68
+              G69
               (Syntax.add Syntax.unsigned)
-              (Scalar.oAt 12 (Syntax.tyInt Syntax.w64) (Row.valS (Row.sInt Syntax.w64)))
+              (Scalar.oAt 13 (Syntax.tyInt Syntax.w64) (Row.valS (Row.sInt Syntax.w64)))
               (Scalar.oInt Syntax.w64 1)
-              12
+              13
               (Rows.sc-here (Row.sInt Syntax.w64))
               (Syntax.tyInt Syntax.w64)
               (Row.valS (Row.sInt Syntax.w64))
@@ -9454,8 +9829,26 @@ module _ (claims· : Claims) where
               (λ u. Path'.refl)
               λ u. tt)
 
-          d6 : Typed.Typed 𝓤 H A 𝓣 E G67 b25 Δ3 at6
+          d6 : Typed.Typed 𝓤 H A 𝓣 E G68 b25 Δ3 at6
           d6 =
+              Typed.g-pre
+              𝓤
+              H
+              A
+              W
+              𝓣
+              E
+              G68
+              G69
+              b25
+              Δ3
+              (λ Ψ. Ψ)
+              at5
+              (Lifetime.g-forget 𝓤 H A W E G68 15 Row.dead Path'.refl)
+              d5
+
+          d7 : Typed.Typed 𝓤 H A 𝓣 E G67 b25 Δ3 at7
+          d7 =
               Typed.g-pre
               𝓤
               H
@@ -9467,13 +9860,37 @@ module _ (claims· : Claims) where
               G68
               b25
               Δ3
-              (λ Ψ. Ψ)
-              at5
-              (Lifetime.g-forget 𝓤 H A W E G67 14 Row.dead Path'.refl)
-              d5
+              (Typed.give s64)
+              at6
+              (Know.g-sl-known
+              𝓤
+              H
+              A
+              W
+              (Referent.fInt Syntax.w8)
+              E
+              G67
+              10
+              8
+              (Syntax.tyRef (Syntax.named 8) Syntax.mut (Syntax.tyInt Syntax.w8))
+              (Row.lease (κs .1 .1 .1 .1 .1 .1 .1 .1 .0) (qs .1 .1 .1 .1 .1 .1 .1 .1 .0))
+              0
+              (λ x. x)
+              record { fits = Dec'.lit< tt }
+              (Reads'.as-is
+              𝓤
+              H
+              A
+              (Mut.mslice
+              (Referent.rtF (Referent.fInt Syntax.w8))
+              (Syntax.tyRef (Syntax.named 8) Syntax.mut (Syntax.tyInt Syntax.w8))
+              8))
+              Path'.refl
+              tt)
+              d6
 
-          d7 : Typed.Typed 𝓤 H A 𝓣 E G66 b25 Δ3 at7
-          d7 =
+          d8 : Typed.Typed 𝓤 H A 𝓣 E G66 b25 Δ3 at8
+          d8 =
               Typed.g-pre
               𝓤
               H
@@ -9485,8 +9902,97 @@ module _ (claims· : Claims) where
               G67
               b25
               Δ3
-              (Typed.give s63)
-              at6
+              (Typed.both s63)
+              at7
+              (Relend.g-back-sl
+              𝓤
+              H
+              A
+              W
+              E
+              (Referent.rtF (Referent.fInt Syntax.w8))
+              G66
+              31
+              10
+              8
+              15
+              (Syntax.tyRef (Syntax.named 8) Syntax.mut (Syntax.tyInt Syntax.w8))
+              (Syntax.tyRef Syntax.erased Syntax.mut (Syntax.tyInt Syntax.w8))
+              (Row.lease (κs .1 .1 .1 .1 .1 .1 .1 .1 .0) (qs .1 .1 .1 .1 .1 .1 .1 .1 .0))
+              (λ x. x)
+              (λ x. x)
+              (Reads'.as-is
+              𝓤
+              H
+              A
+              (Mut.msleft
+              (Referent.rtF (Referent.fInt Syntax.w8))
+              (Syntax.tyRef Syntax.erased Syntax.mut (Syntax.tyInt Syntax.w8))))
+              (Reads'.as-is
+              𝓤
+              H
+              A
+              (Relend.mslice-owed
+              (Referent.rtF (Referent.fInt Syntax.w8))
+              (Syntax.tyRef (Syntax.named 8) Syntax.mut (Syntax.tyInt Syntax.w8))
+              8
+              15
+              (Row.lease (κs .1 .1 .1 .1 .1 .1 .1 .1 .0) (qs .1 .1 .1 .1 .1 .1 .1 .1 .0))))
+              Path'.refl
+              Path'.refl)
+              d7
+
+          d9 : Typed.Typed 𝓤 H A 𝓣 E G65 b25 Δ3 at9
+          d9 =
+              Typed.g-pre
+              𝓤
+              H
+              A
+              W
+              𝓣
+              E
+              G65
+              G66
+              b25
+              Δ3
+              (λ Ψ. Ψ)
+              at8
+              (Lifetime.g-end 𝓤 H A W E G65 15 Path'.refl)
+              d8
+
+          d10 : Typed.Typed 𝓤 H A 𝓣 E G64 b25 Δ3 at10
+          d10 =
+              Typed.g-pre
+              𝓤
+              H
+              A
+              W
+              𝓣
+              E
+              G64
+              G65
+              b25
+              Δ3
+              (λ Ψ. Ψ)
+              at9
+              (Lifetime.g-forget 𝓤 H A W E G64 14 Row.dead Path'.refl)
+              d9
+
+          d11 : Typed.Typed 𝓤 H A 𝓣 E G63 b25 Δ3 at11
+          d11 =
+              Typed.g-pre
+              𝓤
+              H
+              A
+              W
+              𝓣
+              E
+              G63
+              G64
+              b25
+              Δ3
+              (Typed.give s60)
+              at10
               (Know.g-sl-known
               𝓤
               H
@@ -9494,7 +10000,7 @@ module _ (claims· : Claims) where
               W
               (Referent.fInt Syntax.w8)
               E
-              G66
+              G63
               9
               7
               (Syntax.tyRef (Syntax.named 7) Syntax.mut (Syntax.tyInt Syntax.w8))
@@ -9512,10 +10018,10 @@ module _ (claims· : Claims) where
               7))
               Path'.refl
               tt)
-              d6
+              d10
 
-          d8 : Typed.Typed 𝓤 H A 𝓣 E G65 b25 Δ3 at8
-          d8 =
+          d12 : Typed.Typed 𝓤 H A 𝓣 E G62 b25 Δ3 at12
+          d12 =
               Typed.g-pre
               𝓤
               H
@@ -9523,12 +10029,12 @@ module _ (claims· : Claims) where
               W
               𝓣
               E
-              G65
-              G66
+              G62
+              G63
               b25
               Δ3
-              (Typed.both s62)
-              at7
+              (Typed.both s59)
+              at11
               (Relend.g-back-sl
               𝓤
               H
@@ -9536,8 +10042,8 @@ module _ (claims· : Claims) where
               W
               E
               (Referent.rtF (Referent.fInt Syntax.w8))
-              G65
-              30
+              G62
+              29
               9
               7
               14
@@ -9565,10 +10071,10 @@ module _ (claims· : Claims) where
               (Row.lease (κs .1 .1 .1 .1 .1 .1 .1 .0) (qs .1 .1 .1 .1 .1 .1 .1 .0))))
               Path'.refl
               Path'.refl)
-              d7
+              d11
 
-          d9 : Typed.Typed 𝓤 H A 𝓣 E G64 b25 Δ3 at9
-          d9 =
+          d13 : Typed.Typed 𝓤 H A 𝓣 E G61 b25 Δ3 at13
+          d13 =
               Typed.g-pre
               𝓤
               H
@@ -9576,48 +10082,48 @@ module _ (claims· : Claims) where
               W
               𝓣
               E
-              G64
-              G65
-              b25
-              Δ3
-              (λ Ψ. Ψ)
-              at8
-              (Lifetime.g-end 𝓤 H A W E G64 14 Path'.refl)
-              d8
-
-          d10 : Typed.Typed 𝓤 H A 𝓣 E G63 b25 Δ3 at10
-          d10 =
-              Typed.g-pre
-              𝓤
-              H
-              A
-              W
-              𝓣
-              E
-              G63
-              G64
-              b25
-              Δ3
-              (λ Ψ. Ψ)
-              at9
-              (Lifetime.g-forget 𝓤 H A W E G63 13 Row.dead Path'.refl)
-              d9
-
-          d11 : Typed.Typed 𝓤 H A 𝓣 E G62 b25 Δ3 at11
-          d11 =
-              Typed.g-pre
-              𝓤
-              H
-              A
-              W
-              𝓣
-              E
+              G61
               G62
-              G63
               b25
               Δ3
-              (Typed.give s59)
-              at10
+              (λ Ψ. Ψ)
+              at12
+              (Lifetime.g-end 𝓤 H A W E G61 14 Path'.refl)
+              d12
+
+          d14 : Typed.Typed 𝓤 H A 𝓣 E G60 b25 Δ3 at14
+          d14 =
+              Typed.g-pre
+              𝓤
+              H
+              A
+              W
+              𝓣
+              E
+              G60
+              G61
+              b25
+              Δ3
+              (λ Ψ. Ψ)
+              at13
+              (Lifetime.g-forget 𝓤 H A W E G60 13 Row.dead Path'.refl)
+              d13
+
+          d15 : Typed.Typed 𝓤 H A 𝓣 E G59 b25 Δ3 at15
+          d15 =
+              Typed.g-pre
+              𝓤
+              H
+              A
+              W
+              𝓣
+              E
+              G59
+              G60
+              b25
+              Δ3
+              (Typed.give s56)
+              at14
               (Know.g-sl-known
               𝓤
               H
@@ -9625,7 +10131,7 @@ module _ (claims· : Claims) where
               W
               (Referent.fInt Syntax.w8)
               E
-              G62
+              G59
               8
               6
               (Syntax.tyRef (Syntax.named 6) Syntax.mut (Syntax.tyInt Syntax.w8))
@@ -9643,10 +10149,10 @@ module _ (claims· : Claims) where
               6))
               Path'.refl
               tt)
-              d10
+              d14
 
-          d12 : Typed.Typed 𝓤 H A 𝓣 E G61 b25 Δ3 at12
-          d12 =
+          d16 : Typed.Typed 𝓤 H A 𝓣 E G58 b25 Δ3 at16
+          d16 =
               Typed.g-pre
               𝓤
               H
@@ -9654,12 +10160,12 @@ module _ (claims· : Claims) where
               W
               𝓣
               E
-              G61
-              G62
+              G58
+              G59
               b25
               Δ3
-              (Typed.both s58)
-              at11
+              (Typed.both s55)
+              at15
               (Relend.g-back-sl
               𝓤
               H
@@ -9667,8 +10173,8 @@ module _ (claims· : Claims) where
               W
               E
               (Referent.rtF (Referent.fInt Syntax.w8))
-              G61
-              28
+              G58
+              27
               8
               6
               13
@@ -9696,140 +10202,9 @@ module _ (claims· : Claims) where
               (Row.lease (κs .1 .1 .1 .1 .1 .1 .0) (qs .1 .1 .1 .1 .1 .1 .0))))
               Path'.refl
               Path'.refl)
-              d11
-
-          d13 : Typed.Typed 𝓤 H A 𝓣 E G60 b25 Δ3 at13
-          d13 =
-              Typed.g-pre
-              𝓤
-              H
-              A
-              W
-              𝓣
-              E
-              G60
-              G61
-              b25
-              Δ3
-              (λ Ψ. Ψ)
-              at12
-              (Lifetime.g-end 𝓤 H A W E G60 13 Path'.refl)
-              d12
-
-          d14 : Typed.Typed 𝓤 H A 𝓣 E G59 b25 Δ3 at14
-          d14 =
-              Typed.g-pre
-              𝓤
-              H
-              A
-              W
-              𝓣
-              E
-              G59
-              G60
-              b25
-              Δ3
-              (λ Ψ. Ψ)
-              at13
-              (Lifetime.g-forget 𝓤 H A W E G59 12 Row.dead Path'.refl)
-              d13
-
-          d15 : Typed.Typed 𝓤 H A 𝓣 E G58 b25 Δ3 at15
-          d15 =
-              Typed.g-pre
-              𝓤
-              H
-              A
-              W
-              𝓣
-              E
-              G58
-              G59
-              b25
-              Δ3
-              (Typed.give s55)
-              at14
-              (Know.g-sl-known
-              𝓤
-              H
-              A
-              W
-              (Referent.fInt Syntax.w8)
-              E
-              G58
-              7
-              5
-              (Syntax.tyRef (Syntax.named 5) Syntax.mut (Syntax.tyInt Syntax.w8))
-              (Row.lease (κs .1 .1 .1 .1 .1 .0) (qs .1 .1 .1 .1 .1 .0))
-              0
-              (λ x. x)
-              record { fits = Dec'.lit< tt }
-              (Reads'.as-is
-              𝓤
-              H
-              A
-              (Mut.mslice
-              (Referent.rtF (Referent.fInt Syntax.w8))
-              (Syntax.tyRef (Syntax.named 5) Syntax.mut (Syntax.tyInt Syntax.w8))
-              5))
-              Path'.refl
-              tt)
-              d14
-
-          d16 : Typed.Typed 𝓤 H A 𝓣 E G57 b25 Δ3 at16
-          d16 =
-              Typed.g-pre
-              𝓤
-              H
-              A
-              W
-              𝓣
-              E
-              G57
-              G58
-              b25
-              Δ3
-              (Typed.both s54)
-              at15
-              (Relend.g-back-sl
-              𝓤
-              H
-              A
-              W
-              E
-              (Referent.rtF (Referent.fInt Syntax.w8))
-              G57
-              26
-              7
-              5
-              12
-              (Syntax.tyRef (Syntax.named 5) Syntax.mut (Syntax.tyInt Syntax.w8))
-              (Syntax.tyRef Syntax.erased Syntax.mut (Syntax.tyInt Syntax.w8))
-              (Row.lease (κs .1 .1 .1 .1 .1 .0) (qs .1 .1 .1 .1 .1 .0))
-              (λ x. x)
-              (λ x. x)
-              (Reads'.as-is
-              𝓤
-              H
-              A
-              (Mut.msleft
-              (Referent.rtF (Referent.fInt Syntax.w8))
-              (Syntax.tyRef Syntax.erased Syntax.mut (Syntax.tyInt Syntax.w8))))
-              (Reads'.as-is
-              𝓤
-              H
-              A
-              (Relend.mslice-owed
-              (Referent.rtF (Referent.fInt Syntax.w8))
-              (Syntax.tyRef (Syntax.named 5) Syntax.mut (Syntax.tyInt Syntax.w8))
-              5
-              12
-              (Row.lease (κs .1 .1 .1 .1 .1 .0) (qs .1 .1 .1 .1 .1 .0))))
-              Path'.refl
-              Path'.refl)
               d15
 
-          d17 : Typed.Typed 𝓤 H A 𝓣 E G56 b25 Δ3 at17
+          d17 : Typed.Typed 𝓤 H A 𝓣 E G57 b25 Δ3 at17
           d17 =
               Typed.g-pre
               𝓤
@@ -9838,16 +10213,16 @@ module _ (claims· : Claims) where
               W
               𝓣
               E
-              G56
               G57
+              G58
               b25
               Δ3
               (λ Ψ. Ψ)
               at16
-              (Lifetime.g-end 𝓤 H A W E G56 12 Path'.refl)
+              (Lifetime.g-end 𝓤 H A W E G57 13 Path'.refl)
               d16
 
-          d18 : Typed.Typed 𝓤 H A 𝓣 E G55 b25 Δ3 at18
+          d18 : Typed.Typed 𝓤 H A 𝓣 E G56 b25 Δ3 at18
           d18 =
               Typed.g-pre
               𝓤
@@ -9856,16 +10231,16 @@ module _ (claims· : Claims) where
               W
               𝓣
               E
-              G55
               G56
+              G57
               b25
               Δ3
               (λ Ψ. Ψ)
               at17
-              (Lifetime.g-forget 𝓤 H A W E G55 11 Row.dead Path'.refl)
+              (Lifetime.g-forget 𝓤 H A W E G56 12 Row.dead Path'.refl)
               d17
 
-          d19 : Typed.Typed 𝓤 H A 𝓣 E G54 b25 Δ3 at19
+          d19 : Typed.Typed 𝓤 H A 𝓣 E G55 b25 Δ3 at19
           d19 =
               Typed.g-pre
               𝓤
@@ -9874,11 +10249,11 @@ module _ (claims· : Claims) where
               W
               𝓣
               E
-              G54
               G55
+              G56
               b25
               Δ3
-              (Typed.give s51)
+              (Typed.give s52)
               at18
               (Know.g-sl-known
               𝓤
@@ -9887,11 +10262,11 @@ module _ (claims· : Claims) where
               W
               (Referent.fInt Syntax.w64)
               E
-              G54
-              6
-              4
-              (Syntax.tyRef (Syntax.named 4) Syntax.mut (Syntax.tyInt Syntax.w64))
-              (Row.lease (κs .1 .1 .1 .1 .0) (qs .1 .1 .1 .1 .0))
+              G55
+              7
+              5
+              (Syntax.tyRef (Syntax.named 5) Syntax.mut (Syntax.tyInt Syntax.w64))
+              (Row.lease (κs .1 .1 .1 .1 .1 .0) (qs .1 .1 .1 .1 .1 .0))
               0
               (λ x. x)
               record { fits = Dec'.lit< tt }
@@ -9901,13 +10276,13 @@ module _ (claims· : Claims) where
               A
               (Mut.mslice
               (Referent.rtF (Referent.fInt Syntax.w64))
-              (Syntax.tyRef (Syntax.named 4) Syntax.mut (Syntax.tyInt Syntax.w64))
-              4))
+              (Syntax.tyRef (Syntax.named 5) Syntax.mut (Syntax.tyInt Syntax.w64))
+              5))
               Path'.refl
               tt)
               d18
 
-          d20 : Typed.Typed 𝓤 H A 𝓣 E G53 b25 Δ3 at20
+          d20 : Typed.Typed 𝓤 H A 𝓣 E G54 b25 Δ3 at20
           d20 =
               Typed.g-pre
               𝓤
@@ -9916,11 +10291,11 @@ module _ (claims· : Claims) where
               W
               𝓣
               E
-              G53
               G54
+              G55
               b25
               Δ3
-              (Typed.both s50)
+              (Typed.both s51)
               at19
               (Relend.g-back-sl
               𝓤
@@ -9929,14 +10304,14 @@ module _ (claims· : Claims) where
               W
               E
               (Referent.rtF (Referent.fInt Syntax.w64))
-              G53
-              24
-              6
-              4
-              11
-              (Syntax.tyRef (Syntax.named 4) Syntax.mut (Syntax.tyInt Syntax.w64))
+              G54
+              25
+              7
+              5
+              12
+              (Syntax.tyRef (Syntax.named 5) Syntax.mut (Syntax.tyInt Syntax.w64))
               (Syntax.tyRef Syntax.erased Syntax.mut (Syntax.tyInt Syntax.w64))
-              (Row.lease (κs .1 .1 .1 .1 .0) (qs .1 .1 .1 .1 .0))
+              (Row.lease (κs .1 .1 .1 .1 .1 .0) (qs .1 .1 .1 .1 .1 .0))
               (λ x. x)
               (λ x. x)
               (Reads'.as-is
@@ -9952,16 +10327,34 @@ module _ (claims· : Claims) where
               A
               (Relend.mslice-owed
               (Referent.rtF (Referent.fInt Syntax.w64))
-              (Syntax.tyRef (Syntax.named 4) Syntax.mut (Syntax.tyInt Syntax.w64))
-              4
-              11
-              (Row.lease (κs .1 .1 .1 .1 .0) (qs .1 .1 .1 .1 .0))))
+              (Syntax.tyRef (Syntax.named 5) Syntax.mut (Syntax.tyInt Syntax.w64))
+              5
+              12
+              (Row.lease (κs .1 .1 .1 .1 .1 .0) (qs .1 .1 .1 .1 .1 .0))))
               Path'.refl
               Path'.refl)
               d19
 
-          d21 : Typed.Typed 𝓤 H A 𝓣 E G52 b25 Δ3 at21
+          d21 : Typed.Typed 𝓤 H A 𝓣 E G53 b25 Δ3 at21
           d21 =
+              Typed.g-pre
+              𝓤
+              H
+              A
+              W
+              𝓣
+              E
+              G53
+              G54
+              b25
+              Δ3
+              (λ Ψ. Ψ)
+              at20
+              (Lifetime.g-end 𝓤 H A W E G53 12 Path'.refl)
+              d20
+
+          d22 : Typed.Typed 𝓤 H A 𝓣 E G52 b25 Δ3 at22
+          d22 =
               Typed.g-pre
               𝓤
               H
@@ -9973,25 +10366,7 @@ module _ (claims· : Claims) where
               G53
               b25
               Δ3
-              (λ Ψ. Ψ)
-              at20
-              (Lifetime.g-end 𝓤 H A W E G52 11 Path'.refl)
-              d20
-
-          d22 : Typed.Typed 𝓤 H A 𝓣 E G51 b25 Δ3 at22
-          d22 =
-              Typed.g-pre
-              𝓤
-              H
-              A
-              W
-              𝓣
-              E
-              G51
-              G52
-              b25
-              Δ3
-              (Typed.pass T51 T52 s48)
+              (Typed.pass T52 T53 s49)
               at21
               (Scalar.g-room
               𝓤
@@ -9999,8 +10374,8 @@ module _ (claims· : Claims) where
               A
               W
               E
-              G51
-              14
+              G52
+              15
               (Syntax.tyStruct
               (List._∷_
               114
@@ -10116,7 +10491,7 @@ module _ (claims· : Claims) where
               Path'.refl))
               d21
 
-          d23 : Typed.Typed 𝓤 H A 𝓣 E G50 b26 Δ3 at23
+          d23 : Typed.Typed 𝓤 H A 𝓣 E G51 b26 Δ3 at23
           d23 =
               Typed.s-seq
               𝓤
@@ -10125,12 +10500,12 @@ module _ (claims· : Claims) where
               W
               𝓣
               E
-              G50
               G51
+              G52
               b24
               b25
               Δ3
-              (Typed.both s47)
+              (Typed.both s48)
               at22
               (Plain.t-call-plain
               𝓤
@@ -10138,7 +10513,7 @@ module _ (claims· : Claims) where
               A
               W
               𝓣
-              7
+              8
               ps·2
               r·2
               (claims· .4)
@@ -10147,7 +10522,7 @@ module _ (claims· : Claims) where
               (known .2)
               E
               (λ pos β. β)
-              G50 (
+              G51 (
                 record {
                   pos = 1;
                   ty = Syntax.tyRef (Syntax.named 0) Syntax.imm (Syntax.tyInt Syntax.w8);
@@ -10155,20 +10530,20 @@ module _ (claims· : Claims) where
                 },
                 (
                   Num.vFld
-                      14
+                      15
                       (List._∷_ (Syntax.field 0) List.[])
                       0
                       λ x. LineRec.struct .as-values
                       x .0,
                   (
                     Num.vFld
-                        14
+                        15
                         (List._∷_ (Syntax.field 1) List.[])
                         8
                         λ x. LineRec.struct .as-values
                         x .1 .0,
                     (
-                      Num.vAt 12 λ x. x,
+                      Num.vAt 13 λ x. x,
                       (
                         record {
                           pos = 4;
@@ -10183,40 +10558,53 @@ module _ (claims· : Claims) where
                           },
                           (
                             record {
-                              pos = 24;
-                              ty = Syntax.tyRef Syntax.erased Syntax.mut (Syntax.tyInt Syntax.w64);
+                              pos = 6;
+                              ty = Syntax.tyRef
+                                  (Syntax.named 4)
+                                  Syntax.imm
+                                  (Syntax.tyInt Syntax.w64);
                               ref = λ x. x;
                             },
                             (
                               record {
-                                pos = 26;
+                                pos = 25;
                                 ty = Syntax.tyRef
                                     Syntax.erased
                                     Syntax.mut
-                                    (Syntax.tyInt Syntax.w8);
+                                    (Syntax.tyInt Syntax.w64);
                                 ref = λ x. x;
                               },
                               (
-                                Num.vAt 13 λ x. x,
+                                record {
+                                  pos = 27;
+                                  ty = Syntax.tyRef
+                                      Syntax.erased
+                                      Syntax.mut
+                                      (Syntax.tyInt Syntax.w8);
+                                  ref = λ x. x;
+                                },
                                 (
-                                  record {
-                                    pos = 28;
-                                    ty = Syntax.tyRef
-                                        Syntax.erased
-                                        Syntax.mut
-                                        (Syntax.tyInt Syntax.w8);
-                                    ref = λ x. x;
-                                  },
+                                  Num.vAt 14 λ x. x,
                                   (
                                     record {
-                                      pos = 30;
+                                      pos = 29;
                                       ty = Syntax.tyRef
                                           Syntax.erased
                                           Syntax.mut
                                           (Syntax.tyInt Syntax.w8);
                                       ref = λ x. x;
                                     },
-                                    tt,
+                                    (
+                                      record {
+                                        pos = 31;
+                                        ty = Syntax.tyRef
+                                            Syntax.erased
+                                            Syntax.mut
+                                            (Syntax.tyInt Syntax.w8);
+                                        ref = λ x. x;
+                                      },
+                                      tt,
+                                    ),
                                   ),
                                 ),
                               ),
@@ -10228,13 +10616,15 @@ module _ (claims· : Claims) where
                   ),
                 ),
               )
-              13
+              14
               (List._∷_
               0
               (List._∷_
               2
-              (List._∷_ 3 (List._∷_ 11 (List._∷_ 12 (List._∷_ 13 (List._∷_ 14 List.[])))))))
-              (Call.sub-id 𝓤 H A W (G50 .slots)) (
+              (List._∷_
+              3
+              (List._∷_ 4 (List._∷_ 12 (List._∷_ 13 (List._∷_ 14 (List._∷_ 15 List.[]))))))))
+              (Call.sub-id 𝓤 H A W (G51 .slots)) (
                 ShrSlice.spares-sslice
                     𝓤
                     H
@@ -10321,22 +10711,28 @@ module _ (claims· : Claims) where
                               3,
                           Path'.refl,
                           (
-                            Reads'.as-is
-                                𝓤
-                                H
-                                A
-                                (Mut.mslice
-                                (Referent.rtF (Referent.fInt Syntax.w64))
-                                (Syntax.tyRef Syntax.erased Syntax.mut (Syntax.tyInt Syntax.w64))
-                                11),
-                            Mut.reads-mslice
+                            ShrSlice.spares-sslice
                                 𝓤
                                 H
                                 A
                                 W
                                 (Referent.rtF (Referent.fInt Syntax.w64))
-                                (Syntax.tyRef Syntax.erased Syntax.mut (Syntax.tyInt Syntax.w64))
-                                11,
+                                (Syntax.tyRef
+                                (Syntax.named 4)
+                                Syntax.imm
+                                (Syntax.tyInt Syntax.w64))
+                                4,
+                            Shared.reads-sslice
+                                𝓤
+                                H
+                                A
+                                W
+                                (Referent.rtF (Referent.fInt Syntax.w64))
+                                (Syntax.tyRef
+                                (Syntax.named 4)
+                                Syntax.imm
+                                (Syntax.tyInt Syntax.w64))
+                                4,
                             Path'.refl,
                             (
                               Reads'.as-is
@@ -10344,44 +10740,44 @@ module _ (claims· : Claims) where
                                   H
                                   A
                                   (Mut.mslice
-                                  (Referent.rtF (Referent.fInt Syntax.w8))
-                                  (Syntax.tyRef Syntax.erased Syntax.mut (Syntax.tyInt Syntax.w8))
+                                  (Referent.rtF (Referent.fInt Syntax.w64))
+                                  (Syntax.tyRef Syntax.erased Syntax.mut (Syntax.tyInt Syntax.w64))
                                   12),
                               Mut.reads-mslice
                                   𝓤
                                   H
                                   A
                                   W
-                                  (Referent.rtF (Referent.fInt Syntax.w8))
-                                  (Syntax.tyRef Syntax.erased Syntax.mut (Syntax.tyInt Syntax.w8))
+                                  (Referent.rtF (Referent.fInt Syntax.w64))
+                                  (Syntax.tyRef Syntax.erased Syntax.mut (Syntax.tyInt Syntax.w64))
                                   12,
                               Path'.refl,
                               (
-                                (Scalar.reads-sc 𝓤 H A W (Row.sInt Syntax.w64), Path'.refl),
+                                Reads'.as-is
+                                    𝓤
+                                    H
+                                    A
+                                    (Mut.mslice
+                                    (Referent.rtF (Referent.fInt Syntax.w8))
+                                    (Syntax.tyRef
+                                    Syntax.erased
+                                    Syntax.mut
+                                    (Syntax.tyInt Syntax.w8))
+                                    13),
+                                Mut.reads-mslice
+                                    𝓤
+                                    H
+                                    A
+                                    W
+                                    (Referent.rtF (Referent.fInt Syntax.w8))
+                                    (Syntax.tyRef
+                                    Syntax.erased
+                                    Syntax.mut
+                                    (Syntax.tyInt Syntax.w8))
+                                    13,
+                                Path'.refl,
                                 (
-                                  Reads'.as-is
-                                      𝓤
-                                      H
-                                      A
-                                      (Mut.mslice
-                                      (Referent.rtF (Referent.fInt Syntax.w8))
-                                      (Syntax.tyRef
-                                      Syntax.erased
-                                      Syntax.mut
-                                      (Syntax.tyInt Syntax.w8))
-                                      13),
-                                  Mut.reads-mslice
-                                      𝓤
-                                      H
-                                      A
-                                      W
-                                      (Referent.rtF (Referent.fInt Syntax.w8))
-                                      (Syntax.tyRef
-                                      Syntax.erased
-                                      Syntax.mut
-                                      (Syntax.tyInt Syntax.w8))
-                                      13,
-                                  Path'.refl,
+                                  (Scalar.reads-sc 𝓤 H A W (Row.sInt Syntax.w64), Path'.refl),
                                   (
                                     Reads'.as-is
                                         𝓤
@@ -10406,7 +10802,32 @@ module _ (claims· : Claims) where
                                         (Syntax.tyInt Syntax.w8))
                                         14,
                                     Path'.refl,
-                                    tt,
+                                    (
+                                      Reads'.as-is
+                                          𝓤
+                                          H
+                                          A
+                                          (Mut.mslice
+                                          (Referent.rtF (Referent.fInt Syntax.w8))
+                                          (Syntax.tyRef
+                                          Syntax.erased
+                                          Syntax.mut
+                                          (Syntax.tyInt Syntax.w8))
+                                          15),
+                                      Mut.reads-mslice
+                                          𝓤
+                                          H
+                                          A
+                                          W
+                                          (Referent.rtF (Referent.fInt Syntax.w8))
+                                          (Syntax.tyRef
+                                          Syntax.erased
+                                          Syntax.mut
+                                          (Syntax.tyInt Syntax.w8))
+                                          15,
+                                      Path'.refl,
+                                      tt,
+                                    ),
                                   ),
                                 ),
                               ),
@@ -10419,11 +10840,11 @@ module _ (claims· : Claims) where
                 ),
               )
               (Scalar.room-sc 𝓤 H A W (Row.sInt Syntax.w64))
-              (tt, (tt, (tt, (tt, (tt, (tt, (tt, tt)))))))
+              (tt, (tt, (tt, (tt, (tt, (tt, (tt, (tt, tt))))))))
               Path'.refl)
               d22
 
-          d24 : Typed.Typed 𝓤 H A 𝓣 E G49 b27 Δ3 at24
+          d24 : Typed.Typed 𝓤 H A 𝓣 E G50 b27 Δ3 at24
           d24 =
               Typed.s-seq
               𝓤
@@ -10432,12 +10853,12 @@ module _ (claims· : Claims) where
               W
               𝓣
               E
-              G49
               G50
+              G51
               b23
               b26
               Δ3
-              (Typed.ask s46)
+              (Typed.ask s47)
               at23
               (Relend.t-sl-aggregate
               𝓤
@@ -10448,9 +10869,244 @@ module _ (claims· : Claims) where
               (Referent.rtF (Referent.fInt Syntax.w8))
               𝓣
               (Relend.asMut (Referent.rtF (Referent.fInt Syntax.w8)))
-              G49
-              29
+              G50
               30
+              31
+              15
+              (Syntax.tyRef Syntax.erased Syntax.mut (Syntax.tyInt Syntax.w8))
+              (Syntax.tyRef Syntax.erased Syntax.mut (Syntax.tyInt Syntax.w8))
+              (λ x. x)
+              (Scalar.oFld
+              10
+              (List._∷_ (Syntax.field 1) List.[])
+              (Syntax.tyInt Syntax.w64)
+              8
+              λ v. Shared.lenV
+              (v .0))
+              (Reads'.as-is
+              𝓤
+              H
+              A
+              (Relend.msptr
+              (Referent.rtF (Referent.fInt Syntax.w8))
+              (Syntax.tyRef Syntax.erased Syntax.mut (Syntax.tyInt Syntax.w8))
+              15))
+              (Reads'.room-gone
+              𝓤
+              H
+              A
+              (Syntax.tyStruct
+              (List._∷_ 38 (List._∷_ 91 (List._∷_ 93 List.[])))
+              (Syntax.tcons
+              (Syntax.tyRef Syntax.erased Syntax.mut (Syntax.tyInt Syntax.w8))
+              (Syntax.tcons (Syntax.tyInt Syntax.w64) Syntax.tnil)))) (
+                Relend.reads-owed-len
+                    𝓤
+                    H
+                    A
+                    W
+                    (Referent.rtF (Referent.fInt Syntax.w8))
+                    (Syntax.tyRef (Syntax.named 8) Syntax.mut (Syntax.tyInt Syntax.w8))
+                    8
+                    15
+                    (Row.lease (κs .1 .1 .1 .1 .1 .1 .1 .1 .0) (qs .1 .1 .1 .1 .1 .1 .1 .1 .0))
+                    8
+                    Path'.refl,
+                Path'.refl,
+              )
+              Path'.refl
+              Path'.refl
+              λ b o k. tt)
+              d23
+
+          d25 : Typed.Typed 𝓤 H A 𝓣 E G49 b28 Δ3 at25
+          d25 =
+              Typed.s-seq
+              𝓤
+              H
+              A
+              W
+              𝓣
+              E
+              G49
+              G50
+              b22
+              b27
+              Δ3
+              (Typed.give s46)
+              at24
+              (Relend.t-sl-relend
+              𝓤
+              H
+              A
+              W
+              E
+              (Referent.rtF (Referent.fInt Syntax.w8))
+              𝓣
+              G49
+              10
+              30
+              8
+              15
+              (Syntax.tyRef (Syntax.named 8) Syntax.mut (Syntax.tyInt Syntax.w8))
+              (Syntax.tyRef Syntax.erased Syntax.mut (Syntax.tyInt Syntax.w8))
+              (Row.lease (κs .1 .1 .1 .1 .1 .1 .1 .1 .0) (qs .1 .1 .1 .1 .1 .1 .1 .1 .0))
+              0
+              (λ x. x)
+              (Reads'.as-is
+              𝓤
+              H
+              A
+              (Mut.mslice
+              (Referent.rtF (Referent.fInt Syntax.w8))
+              (Syntax.tyRef (Syntax.named 8) Syntax.mut (Syntax.tyInt Syntax.w8))
+              8))
+              (Reads'.room-gone
+              𝓤
+              H
+              A
+              (Syntax.tyRef Syntax.erased Syntax.mut (Syntax.tyInt Syntax.w8)))
+              Path'.refl
+              tt
+              Path'.refl
+              Path'.refl
+              Path'.refl
+              λ b o. tt)
+              d24
+
+          d26 : Typed.Typed 𝓤 H A 𝓣 E G48 b28 Δ3 at26
+          d26 =
+              Typed.g-pre
+              𝓤
+              H
+              A
+              W
+              𝓣
+              E
+              G48
+              G49
+              b28
+              Δ3
+              (λ Ψ. Ψ)
+              at25
+              (Lifetime.g-begin 𝓤 H A W E G48 15 (
+                tt,
+                (
+                  tt,
+                  (
+                    tt,
+                    (
+                      tt,
+                      (
+                        tt,
+                        (
+                          tt,
+                          (
+                            tt,
+                            (
+                              (tt, tt),
+                              (
+                                (tt, tt),
+                                (
+                                  (tt, tt),
+                                  (
+                                    tt,
+                                    (
+                                      tt,
+                                      (
+                                        tt,
+                                        (
+                                          tt,
+                                          (
+                                            tt,
+                                            (
+                                              tt,
+                                              (
+                                                tt,
+                                                (
+                                                  tt,
+                                                  (
+                                                    tt,
+                                                    (
+                                                      tt,
+                                                      (
+                                                        tt,
+                                                        (
+                                                          tt,
+                                                          (
+                                                            tt,
+                                                            (
+                                                              tt,
+                                                              (
+                                                                tt,
+                                                                (
+                                                                  tt,
+                                                                  (
+                                                                    tt,
+                                                                    (
+                                                                      tt,
+                                                                      (
+                                                                        tt,
+                                                                        (tt, (tt, (tt, tt))),
+                                                                      ),
+                                                                    ),
+                                                                  ),
+                                                                ),
+                                                              ),
+                                                            ),
+                                                          ),
+                                                        ),
+                                                      ),
+                                                    ),
+                                                  ),
+                                                ),
+                                              ),
+                                            ),
+                                          ),
+                                        ),
+                                      ),
+                                    ),
+                                  ),
+                                ),
+                              ),
+                            ),
+                          ),
+                        ),
+                      ),
+                    ),
+                  ),
+                ),
+              ))
+              d25
+
+          d27 : Typed.Typed 𝓤 H A 𝓣 E G47 b29 Δ3 at27
+          d27 =
+              Typed.s-seq
+              𝓤
+              H
+              A
+              W
+              𝓣
+              E
+              G47
+              G48
+              b21
+              b28
+              Δ3
+              (Typed.ask s44)
+              at26
+              (Relend.t-sl-aggregate
+              𝓤
+              H
+              A
+              W
+              E
+              (Referent.rtF (Referent.fInt Syntax.w8))
+              𝓣
+              (Relend.asMut (Referent.rtF (Referent.fInt Syntax.w8)))
+              G47
+              28
+              29
               14
               (Syntax.tyRef Syntax.erased Syntax.mut (Syntax.tyInt Syntax.w8))
               (Syntax.tyRef Syntax.erased Syntax.mut (Syntax.tyInt Syntax.w8))
@@ -10496,10 +11152,10 @@ module _ (claims· : Claims) where
               Path'.refl
               Path'.refl
               λ b o k. tt)
-              d23
+              d26
 
-          d25 : Typed.Typed 𝓤 H A 𝓣 E G48 b28 Δ3 at25
-          d25 =
+          d28 : Typed.Typed 𝓤 H A 𝓣 E G46 b30 Δ3 at28
+          d28 =
               Typed.s-seq
               𝓤
               H
@@ -10507,13 +11163,13 @@ module _ (claims· : Claims) where
               W
               𝓣
               E
-              G48
-              G49
-              b22
-              b27
+              G46
+              G47
+              b20
+              b29
               Δ3
-              (Typed.give s45)
-              at24
+              (Typed.give s43)
+              at27
               (Relend.t-sl-relend
               𝓤
               H
@@ -10522,9 +11178,9 @@ module _ (claims· : Claims) where
               E
               (Referent.rtF (Referent.fInt Syntax.w8))
               𝓣
-              G48
+              G46
               9
-              29
+              28
               7
               14
               (Syntax.tyRef (Syntax.named 7) Syntax.mut (Syntax.tyInt Syntax.w8))
@@ -10551,10 +11207,10 @@ module _ (claims· : Claims) where
               Path'.refl
               Path'.refl
               λ b o. tt)
-              d24
+              d27
 
-          d26 : Typed.Typed 𝓤 H A 𝓣 E G47 b28 Δ3 at26
-          d26 =
+          d29 : Typed.Typed 𝓤 H A 𝓣 E G45 b30 Δ3 at29
+          d29 =
               Typed.g-pre
               𝓤
               H
@@ -10562,13 +11218,13 @@ module _ (claims· : Claims) where
               W
               𝓣
               E
-              G47
-              G48
-              b28
+              G45
+              G46
+              b30
               Δ3
               (λ Ψ. Ψ)
-              at25
-              (Lifetime.g-begin 𝓤 H A W E G47 14 (
+              at28
+              (Lifetime.g-begin 𝓤 H A W E G45 14 (
                 tt,
                 (
                   tt,
@@ -10581,7 +11237,7 @@ module _ (claims· : Claims) where
                         (
                           tt,
                           (
-                            (tt, tt),
+                            tt,
                             (
                               (tt, tt),
                               (
@@ -10622,7 +11278,13 @@ module _ (claims· : Claims) where
                                                                   tt,
                                                                   (
                                                                     tt,
-                                                                    (tt, (tt, (tt, (tt, tt)))),
+                                                                    (
+                                                                      tt,
+                                                                      (
+                                                                        tt,
+                                                                        (tt, (tt, (tt, tt))),
+                                                                      ),
+                                                                    ),
                                                                   ),
                                                                 ),
                                                               ),
@@ -10650,10 +11312,10 @@ module _ (claims· : Claims) where
                   ),
                 ),
               ))
-              d25
+              d28
 
-          d27 : Typed.Typed 𝓤 H A 𝓣 E G46 b29 Δ3 at27
-          d27 =
+          d30 : Typed.Typed 𝓤 H A 𝓣 E G44 b31 Δ3 at30
+          d30 =
               Typed.s-seq
               𝓤
               H
@@ -10661,13 +11323,13 @@ module _ (claims· : Claims) where
               W
               𝓣
               E
-              G46
-              G47
-              b21
-              b28
+              G44
+              G45
+              b19
+              b30
               Δ3
-              (Typed.ask s43)
-              at26
+              (Typed.ask s41)
+              at29
               (Relend.t-sl-aggregate
               𝓤
               H
@@ -10677,9 +11339,9 @@ module _ (claims· : Claims) where
               (Referent.rtF (Referent.fInt Syntax.w8))
               𝓣
               (Relend.asMut (Referent.rtF (Referent.fInt Syntax.w8)))
-              G46
+              G44
+              26
               27
-              28
               13
               (Syntax.tyRef Syntax.erased Syntax.mut (Syntax.tyInt Syntax.w8))
               (Syntax.tyRef Syntax.erased Syntax.mut (Syntax.tyInt Syntax.w8))
@@ -10725,10 +11387,10 @@ module _ (claims· : Claims) where
               Path'.refl
               Path'.refl
               λ b o k. tt)
-              d26
+              d29
 
-          d28 : Typed.Typed 𝓤 H A 𝓣 E G45 b30 Δ3 at28
-          d28 =
+          d31 : Typed.Typed 𝓤 H A 𝓣 E G43 b32 Δ3 at31
+          d31 =
               Typed.s-seq
               𝓤
               H
@@ -10736,13 +11398,13 @@ module _ (claims· : Claims) where
               W
               𝓣
               E
-              G45
-              G46
-              b20
-              b29
+              G43
+              G44
+              b18
+              b31
               Δ3
-              (Typed.give s42)
-              at27
+              (Typed.give s40)
+              at30
               (Relend.t-sl-relend
               𝓤
               H
@@ -10751,9 +11413,9 @@ module _ (claims· : Claims) where
               E
               (Referent.rtF (Referent.fInt Syntax.w8))
               𝓣
-              G45
+              G43
               8
-              27
+              26
               6
               13
               (Syntax.tyRef (Syntax.named 6) Syntax.mut (Syntax.tyInt Syntax.w8))
@@ -10780,10 +11442,10 @@ module _ (claims· : Claims) where
               Path'.refl
               Path'.refl
               λ b o. tt)
-              d27
+              d30
 
-          d29 : Typed.Typed 𝓤 H A 𝓣 E G44 b30 Δ3 at29
-          d29 =
+          d32 : Typed.Typed 𝓤 H A 𝓣 E G42 b32 Δ3 at32
+          d32 =
               Typed.g-pre
               𝓤
               H
@@ -10791,13 +11453,13 @@ module _ (claims· : Claims) where
               W
               𝓣
               E
-              G44
-              G45
-              b30
+              G42
+              G43
+              b32
               Δ3
               (λ Ψ. Ψ)
-              at28
-              (Lifetime.g-begin 𝓤 H A W E G44 13 (
+              at31
+              (Lifetime.g-begin 𝓤 H A W E G42 13 (
                 tt,
                 (
                   tt,
@@ -10810,7 +11472,7 @@ module _ (claims· : Claims) where
                         (
                           tt,
                           (
-                            (tt, tt),
+                            tt,
                             (
                               (tt, tt),
                               (
@@ -10851,236 +11513,13 @@ module _ (claims· : Claims) where
                                                                   tt,
                                                                   (
                                                                     tt,
-                                                                    (tt, (tt, (tt, (tt, tt)))),
-                                                                  ),
-                                                                ),
-                                                              ),
-                                                            ),
-                                                          ),
-                                                        ),
-                                                      ),
-                                                    ),
-                                                  ),
-                                                ),
-                                              ),
-                                            ),
-                                          ),
-                                        ),
-                                      ),
-                                    ),
-                                  ),
-                                ),
-                              ),
-                            ),
-                          ),
-                        ),
-                      ),
-                    ),
-                  ),
-                ),
-              ))
-              d28
-
-          d30 : Typed.Typed 𝓤 H A 𝓣 E G43 b31 Δ3 at30
-          d30 =
-              Typed.s-seq
-              𝓤
-              H
-              A
-              W
-              𝓣
-              E
-              G43
-              G44
-              b19
-              b30
-              Δ3
-              (Typed.ask s40)
-              at29
-              (Relend.t-sl-aggregate
-              𝓤
-              H
-              A
-              W
-              E
-              (Referent.rtF (Referent.fInt Syntax.w8))
-              𝓣
-              (Relend.asMut (Referent.rtF (Referent.fInt Syntax.w8)))
-              G43
-              25
-              26
-              12
-              (Syntax.tyRef Syntax.erased Syntax.mut (Syntax.tyInt Syntax.w8))
-              (Syntax.tyRef Syntax.erased Syntax.mut (Syntax.tyInt Syntax.w8))
-              (λ x. x)
-              (Scalar.oFld
-              7
-              (List._∷_ (Syntax.field 1) List.[])
-              (Syntax.tyInt Syntax.w64)
-              8
-              λ v. Shared.lenV
-              (v .0))
-              (Reads'.as-is
-              𝓤
-              H
-              A
-              (Relend.msptr
-              (Referent.rtF (Referent.fInt Syntax.w8))
-              (Syntax.tyRef Syntax.erased Syntax.mut (Syntax.tyInt Syntax.w8))
-              12))
-              (Reads'.room-gone
-              𝓤
-              H
-              A
-              (Syntax.tyStruct
-              (List._∷_ 38 (List._∷_ 91 (List._∷_ 93 List.[])))
-              (Syntax.tcons
-              (Syntax.tyRef Syntax.erased Syntax.mut (Syntax.tyInt Syntax.w8))
-              (Syntax.tcons (Syntax.tyInt Syntax.w64) Syntax.tnil)))) (
-                Relend.reads-owed-len
-                    𝓤
-                    H
-                    A
-                    W
-                    (Referent.rtF (Referent.fInt Syntax.w8))
-                    (Syntax.tyRef (Syntax.named 5) Syntax.mut (Syntax.tyInt Syntax.w8))
-                    5
-                    12
-                    (Row.lease (κs .1 .1 .1 .1 .1 .0) (qs .1 .1 .1 .1 .1 .0))
-                    8
-                    Path'.refl,
-                Path'.refl,
-              )
-              Path'.refl
-              Path'.refl
-              λ b o k. tt)
-              d29
-
-          d31 : Typed.Typed 𝓤 H A 𝓣 E G42 b32 Δ3 at31
-          d31 =
-              Typed.s-seq
-              𝓤
-              H
-              A
-              W
-              𝓣
-              E
-              G42
-              G43
-              b18
-              b31
-              Δ3
-              (Typed.give s39)
-              at30
-              (Relend.t-sl-relend
-              𝓤
-              H
-              A
-              W
-              E
-              (Referent.rtF (Referent.fInt Syntax.w8))
-              𝓣
-              G42
-              7
-              25
-              5
-              12
-              (Syntax.tyRef (Syntax.named 5) Syntax.mut (Syntax.tyInt Syntax.w8))
-              (Syntax.tyRef Syntax.erased Syntax.mut (Syntax.tyInt Syntax.w8))
-              (Row.lease (κs .1 .1 .1 .1 .1 .0) (qs .1 .1 .1 .1 .1 .0))
-              0
-              (λ x. x)
-              (Reads'.as-is
-              𝓤
-              H
-              A
-              (Mut.mslice
-              (Referent.rtF (Referent.fInt Syntax.w8))
-              (Syntax.tyRef (Syntax.named 5) Syntax.mut (Syntax.tyInt Syntax.w8))
-              5))
-              (Reads'.room-gone
-              𝓤
-              H
-              A
-              (Syntax.tyRef Syntax.erased Syntax.mut (Syntax.tyInt Syntax.w8)))
-              Path'.refl
-              tt
-              Path'.refl
-              Path'.refl
-              Path'.refl
-              λ b o. tt)
-              d30
-
-          d32 : Typed.Typed 𝓤 H A 𝓣 E G41 b32 Δ3 at32
-          d32 =
-              Typed.g-pre
-              𝓤
-              H
-              A
-              W
-              𝓣
-              E
-              G41
-              G42
-              b32
-              Δ3
-              (λ Ψ. Ψ)
-              at31
-              (Lifetime.g-begin 𝓤 H A W E G41 12 (
-                tt,
-                (
-                  tt,
-                  (
-                    tt,
-                    (
-                      tt,
-                      (
-                        tt,
-                        (
-                          tt,
-                          (
-                            (tt, tt),
-                            (
-                              tt,
-                              (
-                                tt,
-                                (
-                                  tt,
-                                  (
-                                    tt,
-                                    (
-                                      tt,
-                                      (
-                                        tt,
-                                        (
-                                          tt,
-                                          (
-                                            tt,
-                                            (
-                                              tt,
-                                              (
-                                                tt,
-                                                (
-                                                  tt,
-                                                  (
-                                                    tt,
-                                                    (
-                                                      tt,
-                                                      (
-                                                        tt,
-                                                        (
-                                                          tt,
-                                                          (
-                                                            tt,
-                                                            (
-                                                              tt,
-                                                              (
-                                                                tt,
-                                                                (
-                                                                  tt,
-                                                                  (
-                                                                    tt,
-                                                                    (tt, (tt, (tt, (tt, tt)))),
+                                                                    (
+                                                                      tt,
+                                                                      (
+                                                                        tt,
+                                                                        (tt, (tt, (tt, tt))),
+                                                                      ),
+                                                                    ),
                                                                   ),
                                                                 ),
                                                               ),
@@ -11110,7 +11549,7 @@ module _ (claims· : Claims) where
               ))
               d31
 
-          d33 : Typed.Typed 𝓤 H A 𝓣 E G40 b33 Δ3 at33
+          d33 : Typed.Typed 𝓤 H A 𝓣 E G41 b33 Δ3 at33
           d33 =
               Typed.s-seq
               𝓤
@@ -11119,12 +11558,12 @@ module _ (claims· : Claims) where
               W
               𝓣
               E
-              G40
               G41
+              G42
               b17
               b32
               Δ3
-              (Typed.ask s37)
+              (Typed.ask s38)
               at32
               (Relend.t-sl-aggregate
               𝓤
@@ -11135,15 +11574,15 @@ module _ (claims· : Claims) where
               (Referent.rtF (Referent.fInt Syntax.w64))
               𝓣
               (Relend.asMut (Referent.rtF (Referent.fInt Syntax.w64)))
-              G40
-              23
+              G41
               24
-              11
+              25
+              12
               (Syntax.tyRef Syntax.erased Syntax.mut (Syntax.tyInt Syntax.w64))
               (Syntax.tyRef Syntax.erased Syntax.mut (Syntax.tyInt Syntax.w64))
               (λ x. x)
               (Scalar.oFld
-              6
+              7
               (List._∷_ (Syntax.field 1) List.[])
               (Syntax.tyInt Syntax.w64)
               8
@@ -11156,7 +11595,7 @@ module _ (claims· : Claims) where
               (Relend.msptr
               (Referent.rtF (Referent.fInt Syntax.w64))
               (Syntax.tyRef Syntax.erased Syntax.mut (Syntax.tyInt Syntax.w64))
-              11))
+              12))
               (Reads'.room-gone
               𝓤
               H
@@ -11172,10 +11611,10 @@ module _ (claims· : Claims) where
                     A
                     W
                     (Referent.rtF (Referent.fInt Syntax.w64))
-                    (Syntax.tyRef (Syntax.named 4) Syntax.mut (Syntax.tyInt Syntax.w64))
-                    4
-                    11
-                    (Row.lease (κs .1 .1 .1 .1 .0) (qs .1 .1 .1 .1 .0))
+                    (Syntax.tyRef (Syntax.named 5) Syntax.mut (Syntax.tyInt Syntax.w64))
+                    5
+                    12
+                    (Row.lease (κs .1 .1 .1 .1 .1 .0) (qs .1 .1 .1 .1 .1 .0))
                     8
                     Path'.refl,
                 Path'.refl,
@@ -11185,7 +11624,7 @@ module _ (claims· : Claims) where
               λ b o k. tt)
               d32
 
-          d34 : Typed.Typed 𝓤 H A 𝓣 E G39 b34 Δ3 at34
+          d34 : Typed.Typed 𝓤 H A 𝓣 E G40 b34 Δ3 at34
           d34 =
               Typed.s-seq
               𝓤
@@ -11194,12 +11633,12 @@ module _ (claims· : Claims) where
               W
               𝓣
               E
-              G39
               G40
+              G41
               b16
               b33
               Δ3
-              (Typed.give s36)
+              (Typed.give s37)
               at33
               (Relend.t-sl-relend
               𝓤
@@ -11209,14 +11648,14 @@ module _ (claims· : Claims) where
               E
               (Referent.rtF (Referent.fInt Syntax.w64))
               𝓣
-              G39
-              6
-              23
-              4
-              11
-              (Syntax.tyRef (Syntax.named 4) Syntax.mut (Syntax.tyInt Syntax.w64))
+              G40
+              7
+              24
+              5
+              12
+              (Syntax.tyRef (Syntax.named 5) Syntax.mut (Syntax.tyInt Syntax.w64))
               (Syntax.tyRef Syntax.erased Syntax.mut (Syntax.tyInt Syntax.w64))
-              (Row.lease (κs .1 .1 .1 .1 .0) (qs .1 .1 .1 .1 .0))
+              (Row.lease (κs .1 .1 .1 .1 .1 .0) (qs .1 .1 .1 .1 .1 .0))
               0
               (λ x. x)
               (Reads'.as-is
@@ -11225,8 +11664,8 @@ module _ (claims· : Claims) where
               A
               (Mut.mslice
               (Referent.rtF (Referent.fInt Syntax.w64))
-              (Syntax.tyRef (Syntax.named 4) Syntax.mut (Syntax.tyInt Syntax.w64))
-              4))
+              (Syntax.tyRef (Syntax.named 5) Syntax.mut (Syntax.tyInt Syntax.w64))
+              5))
               (Reads'.room-gone
               𝓤
               H
@@ -11240,7 +11679,7 @@ module _ (claims· : Claims) where
               λ b o. tt)
               d33
 
-          d35 : Typed.Typed 𝓤 H A 𝓣 E G38 b34 Δ3 at35
+          d35 : Typed.Typed 𝓤 H A 𝓣 E G39 b34 Δ3 at35
           d35 =
               Typed.g-pre
               𝓤
@@ -11249,13 +11688,13 @@ module _ (claims· : Claims) where
               W
               𝓣
               E
-              G38
               G39
+              G40
               b34
               Δ3
               (λ Ψ. Ψ)
               at34
-              (Lifetime.g-begin 𝓤 H A W E G38 11 (
+              (Lifetime.g-begin 𝓤 H A W E G39 12 (
                 tt,
                 (
                   tt,
@@ -11309,7 +11748,13 @@ module _ (claims· : Claims) where
                                                                   tt,
                                                                   (
                                                                     tt,
-                                                                    (tt, (tt, (tt, (tt, tt)))),
+                                                                    (
+                                                                      tt,
+                                                                      (
+                                                                        tt,
+                                                                        (tt, (tt, (tt, tt))),
+                                                                      ),
+                                                                    ),
                                                                   ),
                                                                 ),
                                                               ),
@@ -11339,8 +11784,26 @@ module _ (claims· : Claims) where
               ))
               d34
 
-          d36 : Typed.Typed 𝓤 H A 𝓣 E G37 b34 Δ3 at36
+          d36 : Typed.Typed 𝓤 H A 𝓣 E G38 b34 Δ3 at36
           d36 =
+              Typed.g-pre
+              𝓤
+              H
+              A
+              W
+              𝓣
+              E
+              G38
+              G39
+              b34
+              Δ3
+              (λ Ψ. Ψ)
+              at35
+              (Lifetime.g-forget 𝓤 H A W E G38 11 Row.dead Path'.refl)
+              d35
+
+          d37 : Typed.Typed 𝓤 H A 𝓣 E G37 b34 Δ3 at37
+          d37 =
               Typed.g-pre
               𝓤
               H
@@ -11352,13 +11815,44 @@ module _ (claims· : Claims) where
               G38
               b34
               Δ3
-              (λ Ψ. Ψ)
-              at35
-              (Lifetime.g-forget 𝓤 H A W E G37 10 Row.dead Path'.refl)
-              d35
+              (Typed.pass T36 T38 s34)
+              at36
+              (Reshare.g-back-sl-shr
+              𝓤
+              H
+              A
+              W
+              E
+              Elem.R
+              G37
+              11
+              9
+              11
+              (Syntax.tyRef
+              (Syntax.named 9)
+              Syntax.mut
+              Elem.ty)
+              (Row.lease (κs .1 .1 .1 .1 .1 .1 .1 .1 .1 .0) (qs .1 .1 .1 .1 .1 .1 .1 .1 .1 .0))
+              (λ x. x)
+              (Reads'.as-is
+              𝓤
+              H
+              A
+              (Reshare.mslice-owedS
+              Elem.R
+              (Syntax.tyRef
+              (Syntax.named 9)
+              Syntax.mut
+              Elem.ty)
+              9
+              11
+              (Row.lease (κs .1 .1 .1 .1 .1 .1 .1 .1 .1 .0) (qs .1 .1 .1 .1 .1 .1 .1 .1 .1 .0))))
+              Path'.refl
+              Path'.refl)
+              d36
 
-          d37 : Typed.Typed 𝓤 H A 𝓣 E G36 b34 Δ3 at37
-          d37 =
+          d38 : Typed.Typed 𝓤 H A 𝓣 E G36 b34 Δ3 at38
+          d38 =
               Typed.g-pre
               𝓤
               H
@@ -11370,44 +11864,13 @@ module _ (claims· : Claims) where
               G37
               b34
               Δ3
-              (Typed.pass T35 T37 s33)
-              at36
-              (Reshare.g-back-sl-shr
-              𝓤
-              H
-              A
-              W
-              E
-              Elem.R
-              G36
-              10
-              8
-              10
-              (Syntax.tyRef
-              (Syntax.named 8)
-              Syntax.mut
-              Elem.ty)
-              (Row.lease (κs .1 .1 .1 .1 .1 .1 .1 .1 .0) (qs .1 .1 .1 .1 .1 .1 .1 .1 .0))
-              (λ x. x)
-              (Reads'.as-is
-              𝓤
-              H
-              A
-              (Reshare.mslice-owedS
-              Elem.R
-              (Syntax.tyRef
-              (Syntax.named 8)
-              Syntax.mut
-              Elem.ty)
-              8
-              10
-              (Row.lease (κs .1 .1 .1 .1 .1 .1 .1 .1 .0) (qs .1 .1 .1 .1 .1 .1 .1 .1 .0))))
-              Path'.refl
-              Path'.refl)
-              d36
+              (λ Ψ. Ψ)
+              at37
+              (Lifetime.g-end 𝓤 H A W E G36 11 Path'.refl)
+              d37
 
-          d38 : Typed.Typed 𝓤 H A 𝓣 E G35 b34 Δ3 at38
-          d38 =
+          d39 : Typed.Typed 𝓤 H A 𝓣 E G35 b34 Δ3 at39
+          d39 =
               Typed.g-pre
               𝓤
               H
@@ -11419,13 +11882,22 @@ module _ (claims· : Claims) where
               G36
               b34
               Δ3
-              (λ Ψ. Ψ)
-              at37
-              (Lifetime.g-end 𝓤 H A W E G35 10 Path'.refl)
-              d37
+              (Typed.pass T35 T36 s32)
+              at38
+              (Scalar.g-room
+              𝓤
+              H
+              A
+              W
+              E
+              G35
+              23
+              (Syntax.tyInt Syntax.w64)
+              (Scalar.room-sc 𝓤 H A W (Row.sInt Syntax.w64)))
+              d38
 
-          d39 : Typed.Typed 𝓤 H A 𝓣 E G34 b34 Δ3 at39
-          d39 =
+          d40 : Typed.Typed 𝓤 H A 𝓣 E G34 b34 Δ3 at40
+          d40 =
               Typed.g-pre
               𝓤
               H
@@ -11438,33 +11910,6 @@ module _ (claims· : Claims) where
               b34
               Δ3
               (Typed.pass T34 T35 s31)
-              at38
-              (Scalar.g-room
-              𝓤
-              H
-              A
-              W
-              E
-              G34
-              22
-              (Syntax.tyInt Syntax.w64)
-              (Scalar.room-sc 𝓤 H A W (Row.sInt Syntax.w64)))
-              d38
-
-          d40 : Typed.Typed 𝓤 H A 𝓣 E G33 b34 Δ3 at40
-          d40 =
-              Typed.g-pre
-              𝓤
-              H
-              A
-              W
-              𝓣
-              E
-              G33
-              G34
-              b34
-              Δ3
-              (Typed.pass T33 T34 s30)
               at39
               (Scalar.g-room
               𝓤
@@ -11472,8 +11917,8 @@ module _ (claims· : Claims) where
               A
               W
               E
-              G33
-              19
+              G34
+              20
               (Syntax.tyStruct
               (List._∷_ 38 (List._∷_ 91 (List._∷_ 93 List.[])))
               (Syntax.tcons
@@ -11492,10 +11937,10 @@ module _ (claims· : Claims) where
               Syntax.erased
               Syntax.imm
               Elem.ty)
-              10))
+              11))
               d39
 
-          d41 : Typed.Typed 𝓤 H A 𝓣 E G32 b35 Δ3 at41
+          d41 : Typed.Typed 𝓤 H A 𝓣 E G33 b35 Δ3 at41
           d41 =
               Typed.s-seq
               𝓤
@@ -11504,12 +11949,12 @@ module _ (claims· : Claims) where
               W
               𝓣
               E
-              G32
               G33
+              G34
               b15
               b34
               Δ3
-              (Typed.both s29)
+              (Typed.both s30)
               at40
               (Plain.t-call-plain
               𝓤
@@ -11526,20 +11971,20 @@ module _ (claims· : Claims) where
               (known .1)
               E
               (λ pos β. β)
-              G32 (
+              G33 (
                 record {
-                  pos = 19;
+                  pos = 20;
                   ty = Syntax.tyRef
                       Syntax.erased
                       Syntax.imm
                       Elem.ty;
                   ref = λ x. x;
                 },
-                (Num.vAt 22 λ x. x, tt),
+                (Num.vAt 23 λ x. x, tt),
               )
-              14
-              (List._∷_ 10 List.[])
-              (Call.sub-id 𝓤 H A W (G32 .slots)) (
+              15
+              (List._∷_ 11 List.[])
+              (Call.sub-id 𝓤 H A W (G33 .slots)) (
                 ShrSlice.spares-sslice
                     𝓤
                     H
@@ -11550,7 +11995,7 @@ module _ (claims· : Claims) where
                     Syntax.erased
                     Syntax.imm
                     Elem.ty)
-                    10,
+                    11,
                 Shared.reads-sslice
                     𝓤
                     H
@@ -11561,7 +12006,7 @@ module _ (claims· : Claims) where
                     Syntax.erased
                     Syntax.imm
                     Elem.ty)
-                    10,
+                    11,
                 Path'.refl,
                 ((Scalar.reads-sc 𝓤 H A W (Row.sInt Syntax.w64), Path'.refl), tt),
               )
@@ -11626,7 +12071,7 @@ module _ (claims· : Claims) where
               Path'.refl)
               d40
 
-          d42 : Typed.Typed 𝓤 H A 𝓣 E G31 b35 Δ3 at42
+          d42 : Typed.Typed 𝓤 H A 𝓣 E G32 b35 Δ3 at42
           d42 =
               Typed.g-pre
               𝓤
@@ -11635,11 +12080,11 @@ module _ (claims· : Claims) where
               W
               𝓣
               E
-              G31
               G32
+              G33
               b35
               Δ3
-              (Typed.pass T31 T32 s28)
+              (Typed.pass T32 T33 s29)
               at41
               (Scalar.g-room
               𝓤
@@ -11647,13 +12092,13 @@ module _ (claims· : Claims) where
               A
               W
               E
-              G31
-              21
+              G32
+              22
               (Syntax.tyInt Syntax.w64)
               (Scalar.room-sc 𝓤 H A W (Row.sInt Syntax.w64)))
               d41
 
-          d43 : Typed.Typed 𝓤 H A 𝓣 E G30 b36 Δ3 at43
+          d43 : Typed.Typed 𝓤 H A 𝓣 E G31 b36 Δ3 at43
           d43 =
               Typed.s-seq
               𝓤
@@ -11662,12 +12107,12 @@ module _ (claims· : Claims) where
               W
               𝓣
               E
-              G30
               G31
+              G32
               b14
               b35
               Δ3
-              (Typed.ask s27)
+              (Typed.ask s28)
               at42
               (Scalar.t-op2
               𝓤
@@ -11676,11 +12121,11 @@ module _ (claims· : Claims) where
               W
               E
               𝓣
-              G30
+              G31
               (Syntax.sub Syntax.unsigned)
-              (Scalar.oAt 21 (Syntax.tyInt Syntax.w64) (Row.valS (Row.sInt Syntax.w64)))
-              (Scalar.oAt 11 (Syntax.tyInt Syntax.w64) (Row.valS (Row.sInt Syntax.w64)))
-              22
+              (Scalar.oAt 22 (Syntax.tyInt Syntax.w64) (Row.valS (Row.sInt Syntax.w64)))
+              (Scalar.oAt 12 (Syntax.tyInt Syntax.w64) (Row.valS (Row.sInt Syntax.w64)))
+              23
               (Rows.sc-here (Row.sInt Syntax.w64))
               (Syntax.tyInt Syntax.w64)
               (Row.valS (Row.sInt Syntax.w64))
@@ -11694,7 +12139,7 @@ module _ (claims· : Claims) where
               λ u. tt)
               d42
 
-          d44 : Typed.Typed 𝓤 H A 𝓣 E G29 b36 Δ3 at44
+          d44 : Typed.Typed 𝓤 H A 𝓣 E G30 b36 Δ3 at44
           d44 =
               Typed.g-pre
               𝓤
@@ -11703,11 +12148,11 @@ module _ (claims· : Claims) where
               W
               𝓣
               E
-              G29
               G30
+              G31
               b36
               Δ3
-              (Typed.pass T29 T30 s26)
+              (Typed.pass T30 T31 s27)
               at43
               (Scalar.g-room
               𝓤
@@ -11715,13 +12160,13 @@ module _ (claims· : Claims) where
               A
               W
               E
-              G29
-              20
+              G30
+              21
               (Syntax.tyInt Syntax.w64)
               (Scalar.room-sc 𝓤 H A W (Row.sInt Syntax.w64)))
               d43
 
-          d45 : Typed.Typed 𝓤 H A 𝓣 E G28 b37 Δ3 at45
+          d45 : Typed.Typed 𝓤 H A 𝓣 E G29 b37 Δ3 at45
           d45 =
               Typed.s-seq
               𝓤
@@ -11730,12 +12175,12 @@ module _ (claims· : Claims) where
               W
               𝓣
               E
-              G28
               G29
+              G30
               b13
               b36
               Δ3
-              (Typed.ask s25)
+              (Typed.ask s26)
               at44
               (Scalar.t-op2
               𝓤
@@ -11744,11 +12189,11 @@ module _ (claims· : Claims) where
               W
               E
               𝓣
-              G28
+              G29
               (Syntax.add Syntax.unsigned)
-              (Scalar.oAt 12 (Syntax.tyInt Syntax.w64) (Row.valS (Row.sInt Syntax.w64)))
-              (Scalar.oAt 20 (Syntax.tyInt Syntax.w64) (Row.valS (Row.sInt Syntax.w64)))
-              21
+              (Scalar.oAt 13 (Syntax.tyInt Syntax.w64) (Row.valS (Row.sInt Syntax.w64)))
+              (Scalar.oAt 21 (Syntax.tyInt Syntax.w64) (Row.valS (Row.sInt Syntax.w64)))
+              22
               (Rows.sc-here (Row.sInt Syntax.w64))
               (Syntax.tyInt Syntax.w64)
               (Row.valS (Row.sInt Syntax.w64))
@@ -11762,7 +12207,7 @@ module _ (claims· : Claims) where
               λ u. tt)
               d44
 
-          d46 : Typed.Typed 𝓤 H A 𝓣 E G27 b38 Δ3 at46
+          d46 : Typed.Typed 𝓤 H A 𝓣 E G28 b38 Δ3 at46
           d46 =
               Typed.s-seq
               𝓤
@@ -11771,12 +12216,12 @@ module _ (claims· : Claims) where
               W
               𝓣
               E
-              G27
               G28
+              G29
               b12
               b37
               Δ3
-              (Typed.pass T27 T28 s24)
+              (Typed.pass T28 T29 s25)
               at45
               (Scalar.t-use
               𝓤
@@ -11785,15 +12230,15 @@ module _ (claims· : Claims) where
               W
               E
               𝓣
-              G27
+              G28
               (Scalar.oFld
-              10
+              11
               (List._∷_ (Syntax.field 1) List.[])
               (Syntax.tyInt Syntax.w64)
               8
               λ v. Shared.lenV
               (v .0))
-              20
+              21
               (Rows.sc-here (Row.sInt Syntax.w64))
               (Syntax.tyInt Syntax.w64)
               (Row.valS (Row.sInt Syntax.w64))
@@ -11805,12 +12250,14 @@ module _ (claims· : Claims) where
                     W
                     Elem.R
                     (Syntax.tyRef
-                    (Syntax.named 8)
+                    (Syntax.named 9)
                     Syntax.mut
                     Elem.ty)
-                    8
-                    10
-                    (Row.lease (κs .1 .1 .1 .1 .1 .1 .1 .1 .0) (qs .1 .1 .1 .1 .1 .1 .1 .1 .0))
+                    9
+                    11
+                    (Row.lease
+                    (κs .1 .1 .1 .1 .1 .1 .1 .1 .1 .0)
+                    (qs .1 .1 .1 .1 .1 .1 .1 .1 .1 .0))
                     8
                     Path'.refl,
                 Path'.refl,
@@ -11822,7 +12269,7 @@ module _ (claims· : Claims) where
               λ u. tt)
               d45
 
-          d47 : Typed.Typed 𝓤 H A 𝓣 E G26 b39 Δ3 at47
+          d47 : Typed.Typed 𝓤 H A 𝓣 E G27 b39 Δ3 at47
           d47 =
               Typed.s-seq
               𝓤
@@ -11831,12 +12278,12 @@ module _ (claims· : Claims) where
               W
               𝓣
               E
-              G26
               G27
+              G28
               b11
               b38
               Δ3
-              (Typed.ask s23)
+              (Typed.ask s24)
               at46
               (Relend.t-sl-aggregate
               𝓤
@@ -11847,10 +12294,10 @@ module _ (claims· : Claims) where
               Elem.R
               𝓣
               (Relend.asShr Elem.R)
-              G26
-              18
+              G27
               19
-              10
+              20
+              11
               (Syntax.tyRef
               Syntax.erased
               Syntax.imm
@@ -11861,7 +12308,7 @@ module _ (claims· : Claims) where
               Elem.ty)
               (λ x. x)
               (Scalar.oFld
-              10
+              11
               (List._∷_ (Syntax.field 1) List.[])
               (Syntax.tyInt Syntax.w64)
               8
@@ -11877,7 +12324,7 @@ module _ (claims· : Claims) where
               Syntax.erased
               Syntax.imm
               Elem.ty)
-              10))
+              11))
               (Reads'.room-gone
               𝓤
               H
@@ -11897,12 +12344,14 @@ module _ (claims· : Claims) where
                     W
                     Elem.R
                     (Syntax.tyRef
-                    (Syntax.named 8)
+                    (Syntax.named 9)
                     Syntax.mut
                     Elem.ty)
-                    8
-                    10
-                    (Row.lease (κs .1 .1 .1 .1 .1 .1 .1 .1 .0) (qs .1 .1 .1 .1 .1 .1 .1 .1 .0))
+                    9
+                    11
+                    (Row.lease
+                    (κs .1 .1 .1 .1 .1 .1 .1 .1 .1 .0)
+                    (qs .1 .1 .1 .1 .1 .1 .1 .1 .1 .0))
                     8
                     Path'.refl,
                 Path'.refl,
@@ -11912,7 +12361,7 @@ module _ (claims· : Claims) where
               λ b o k. tt)
               d46
 
-          d48 : Typed.Typed 𝓤 H A 𝓣 E G25 b40 Δ3 at48
+          d48 : Typed.Typed 𝓤 H A 𝓣 E G26 b40 Δ3 at48
           d48 =
               Typed.s-seq
               𝓤
@@ -11921,12 +12370,12 @@ module _ (claims· : Claims) where
               W
               𝓣
               E
-              G25
               G26
+              G27
               b10
               b39
               Δ3
-              (Typed.give s22)
+              (Typed.give s23)
               at47
               (Reshare.t-sl-reshare
               𝓤
@@ -11936,20 +12385,20 @@ module _ (claims· : Claims) where
               E
               Elem.R
               𝓣
-              G25
-              10
-              18
-              8
-              10
+              G26
+              11
+              19
+              9
+              11
               (Syntax.tyRef
-              (Syntax.named 8)
+              (Syntax.named 9)
               Syntax.mut
               Elem.ty)
               (Syntax.tyRef
               Syntax.erased
               Syntax.imm
               Elem.ty)
-              (Row.lease (κs .1 .1 .1 .1 .1 .1 .1 .1 .0) (qs .1 .1 .1 .1 .1 .1 .1 .1 .0))
+              (Row.lease (κs .1 .1 .1 .1 .1 .1 .1 .1 .1 .0) (qs .1 .1 .1 .1 .1 .1 .1 .1 .1 .0))
               0
               (λ x. x)
               (Reads'.as-is
@@ -11959,10 +12408,10 @@ module _ (claims· : Claims) where
               (Mut.mslice
               Elem.R
               (Syntax.tyRef
-              (Syntax.named 8)
+              (Syntax.named 9)
               Syntax.mut
               Elem.ty)
-              8))
+              9))
               (Reads'.room-gone
               𝓤
               H
@@ -11979,7 +12428,7 @@ module _ (claims· : Claims) where
               λ b o. tt)
               d47
 
-          d49 : Typed.Typed 𝓤 H A 𝓣 E G24 b40 Δ3 at49
+          d49 : Typed.Typed 𝓤 H A 𝓣 E G25 b40 Δ3 at49
           d49 =
               Typed.g-pre
               𝓤
@@ -11988,13 +12437,13 @@ module _ (claims· : Claims) where
               W
               𝓣
               E
-              G24
               G25
+              G26
               b40
               Δ3
               (λ Ψ. Ψ)
               at48
-              (Lifetime.g-begin 𝓤 H A W E G24 10 (
+              (Lifetime.g-begin 𝓤 H A W E G25 11 (
                 tt,
                 (
                   tt,
@@ -12048,7 +12497,13 @@ module _ (claims· : Claims) where
                                                                   tt,
                                                                   (
                                                                     tt,
-                                                                    (tt, (tt, (tt, (tt, tt)))),
+                                                                    (
+                                                                      tt,
+                                                                      (
+                                                                        tt,
+                                                                        (tt, (tt, (tt, tt))),
+                                                                      ),
+                                                                    ),
                                                                   ),
                                                                 ),
                                                               ),
@@ -12078,8 +12533,26 @@ module _ (claims· : Claims) where
               ))
               d48
 
-          d50 : Typed.Typed 𝓤 H A 𝓣 E G23 b40 Δ3 at50
+          d50 : Typed.Typed 𝓤 H A 𝓣 E G24 b40 Δ3 at50
           d50 =
+              Typed.g-pre
+              𝓤
+              H
+              A
+              W
+              𝓣
+              E
+              G24
+              G25
+              b40
+              Δ3
+              (λ Ψ. Ψ)
+              at49
+              (Lifetime.g-forget 𝓤 H A W E G24 10 Row.dead Path'.refl)
+              d49
+
+          d51 : Typed.Typed 𝓤 H A 𝓣 E G23 b40 Δ3 at51
+          d51 =
               Typed.g-pre
               𝓤
               H
@@ -12091,25 +12564,7 @@ module _ (claims· : Claims) where
               G24
               b40
               Δ3
-              (λ Ψ. Ψ)
-              at49
-              (Lifetime.g-forget 𝓤 H A W E G23 9 Row.dead Path'.refl)
-              d49
-
-          d51 : Typed.Typed 𝓤 H A 𝓣 E G22 b40 Δ3 at51
-          d51 =
-              Typed.g-pre
-              𝓤
-              H
-              A
-              W
-              𝓣
-              E
-              G22
-              G23
-              b40
-              Δ3
-              (Typed.both s19)
+              (Typed.both s20)
               at50
               (Relend.g-back-sl
               𝓤
@@ -12118,20 +12573,20 @@ module _ (claims· : Claims) where
               W
               E
               Elem.R
-              G22
-              17
-              10
-              8
+              G23
+              18
+              11
               9
+              10
               (Syntax.tyRef
-              (Syntax.named 8)
+              (Syntax.named 9)
               Syntax.mut
               Elem.ty)
               (Syntax.tyRef
               Syntax.erased
               Syntax.mut
               Elem.ty)
-              (Row.lease (κs .1 .1 .1 .1 .1 .1 .1 .1 .0) (qs .1 .1 .1 .1 .1 .1 .1 .1 .0))
+              (Row.lease (κs .1 .1 .1 .1 .1 .1 .1 .1 .1 .0) (qs .1 .1 .1 .1 .1 .1 .1 .1 .1 .0))
               (λ x. x)
               (λ x. x)
               (Reads'.as-is
@@ -12151,17 +12606,17 @@ module _ (claims· : Claims) where
               (Relend.mslice-owed
               Elem.R
               (Syntax.tyRef
-              (Syntax.named 8)
+              (Syntax.named 9)
               Syntax.mut
               Elem.ty)
-              8
               9
-              (Row.lease (κs .1 .1 .1 .1 .1 .1 .1 .1 .0) (qs .1 .1 .1 .1 .1 .1 .1 .1 .0))))
+              10
+              (Row.lease (κs .1 .1 .1 .1 .1 .1 .1 .1 .1 .0) (qs .1 .1 .1 .1 .1 .1 .1 .1 .1 .0))))
               Path'.refl
               Path'.refl)
               d50
 
-          d52 : Typed.Typed 𝓤 H A 𝓣 E G21 b40 Δ3 at52
+          d52 : Typed.Typed 𝓤 H A 𝓣 E G22 b40 Δ3 at52
           d52 =
               Typed.g-pre
               𝓤
@@ -12170,16 +12625,16 @@ module _ (claims· : Claims) where
               W
               𝓣
               E
-              G21
               G22
+              G23
               b40
               Δ3
               (λ Ψ. Ψ)
               at51
-              (Lifetime.g-end 𝓤 H A W E G21 9 Path'.refl)
+              (Lifetime.g-end 𝓤 H A W E G22 10 Path'.refl)
               d51
 
-          d53 : Typed.Typed 𝓤 H A 𝓣 E G20 b41 Δ3 at53
+          d53 : Typed.Typed 𝓤 H A 𝓣 E G21 b41 Δ3 at53
           d53 =
               Typed.s-seq
               𝓤
@@ -12188,12 +12643,12 @@ module _ (claims· : Claims) where
               W
               𝓣
               E
-              G20
               G21
+              G22
               b9
               b40
               Δ3
-              (Typed.both s17)
+              (Typed.both s18)
               at52
               (Plain.t-call-plain
               𝓤
@@ -12210,7 +12665,7 @@ module _ (claims· : Claims) where
               (known .0)
               E
               (λ pos β. β)
-              G20 (
+              G21 (
                 record {
                   pos = 2;
                   ty = Syntax.tyRef (Syntax.named 1) Syntax.imm (Syntax.tyInt Syntax.w64);
@@ -12225,12 +12680,12 @@ module _ (claims· : Claims) where
                   (
                     Num.vAt 3 λ x. x,
                     (
-                      Num.vAt 12 λ x. x,
+                      Num.vAt 13 λ x. x,
                       (
-                        Num.vAt 11 λ x. x,
+                        Num.vAt 12 λ x. x,
                         (
                           record {
-                            pos = 17;
+                            pos = 18;
                             ty = Syntax.tyRef
                                 Syntax.erased
                                 Syntax.mut
@@ -12244,9 +12699,9 @@ module _ (claims· : Claims) where
                   ),
                 ),
               )
-              11
-              (List._∷_ 1 (List._∷_ 2 (List._∷_ 9 List.[])))
-              (Call.sub-id 𝓤 H A W (G20 .slots)) (
+              12
+              (List._∷_ 1 (List._∷_ 2 (List._∷_ 10 List.[])))
+              (Call.sub-id 𝓤 H A W (G21 .slots)) (
                 ShrSlice.spares-sslice
                     𝓤
                     H
@@ -12299,7 +12754,7 @@ module _ (claims· : Claims) where
                               Syntax.erased
                               Syntax.mut
                               Elem.ty)
-                              9),
+                              10),
                           Mut.reads-mslice
                               𝓤
                               H
@@ -12310,7 +12765,7 @@ module _ (claims· : Claims) where
                               Syntax.erased
                               Syntax.mut
                               Elem.ty)
-                              9,
+                              10,
                           Path'.refl,
                           tt,
                         ),
@@ -12324,7 +12779,7 @@ module _ (claims· : Claims) where
               Path'.refl)
               d52
 
-          d54 : Typed.Typed 𝓤 H A 𝓣 E G19 b42 Δ3 at54
+          d54 : Typed.Typed 𝓤 H A 𝓣 E G20 b42 Δ3 at54
           d54 =
               Typed.s-seq
               𝓤
@@ -12333,12 +12788,12 @@ module _ (claims· : Claims) where
               W
               𝓣
               E
-              G19
               G20
+              G21
               b8
               b41
               Δ3
-              (Typed.ask s16)
+              (Typed.ask s17)
               at53
               (Relend.t-sl-aggregate
               𝓤
@@ -12349,10 +12804,10 @@ module _ (claims· : Claims) where
               Elem.R
               𝓣
               (Relend.asMut Elem.R)
-              G19
-              16
+              G20
               17
-              9
+              18
+              10
               (Syntax.tyRef
               Syntax.erased
               Syntax.mut
@@ -12363,7 +12818,7 @@ module _ (claims· : Claims) where
               Elem.ty)
               (λ x. x)
               (Scalar.oFld
-              10
+              11
               (List._∷_ (Syntax.field 1) List.[])
               (Syntax.tyInt Syntax.w64)
               8
@@ -12379,7 +12834,7 @@ module _ (claims· : Claims) where
               Syntax.erased
               Syntax.mut
               Elem.ty)
-              9))
+              10))
               (Reads'.room-gone
               𝓤
               H
@@ -12399,12 +12854,14 @@ module _ (claims· : Claims) where
                     W
                     Elem.R
                     (Syntax.tyRef
-                    (Syntax.named 8)
+                    (Syntax.named 9)
                     Syntax.mut
                     Elem.ty)
-                    8
                     9
-                    (Row.lease (κs .1 .1 .1 .1 .1 .1 .1 .1 .0) (qs .1 .1 .1 .1 .1 .1 .1 .1 .0))
+                    10
+                    (Row.lease
+                    (κs .1 .1 .1 .1 .1 .1 .1 .1 .1 .0)
+                    (qs .1 .1 .1 .1 .1 .1 .1 .1 .1 .0))
                     8
                     Path'.refl,
                 Path'.refl,
@@ -12414,7 +12871,7 @@ module _ (claims· : Claims) where
               λ b o k. tt)
               d53
 
-          d55 : Typed.Typed 𝓤 H A 𝓣 E G18 b43 Δ3 at55
+          d55 : Typed.Typed 𝓤 H A 𝓣 E G19 b43 Δ3 at55
           d55 =
               Typed.s-seq
               𝓤
@@ -12423,12 +12880,12 @@ module _ (claims· : Claims) where
               W
               𝓣
               E
-              G18
               G19
+              G20
               b7
               b42
               Δ3
-              (Typed.give s15)
+              (Typed.give s16)
               at54
               (Relend.t-sl-relend
               𝓤
@@ -12438,20 +12895,20 @@ module _ (claims· : Claims) where
               E
               Elem.R
               𝓣
-              G18
-              10
-              16
-              8
+              G19
+              11
+              17
               9
+              10
               (Syntax.tyRef
-              (Syntax.named 8)
+              (Syntax.named 9)
               Syntax.mut
               Elem.ty)
               (Syntax.tyRef
               Syntax.erased
               Syntax.mut
               Elem.ty)
-              (Row.lease (κs .1 .1 .1 .1 .1 .1 .1 .1 .0) (qs .1 .1 .1 .1 .1 .1 .1 .1 .0))
+              (Row.lease (κs .1 .1 .1 .1 .1 .1 .1 .1 .1 .0) (qs .1 .1 .1 .1 .1 .1 .1 .1 .1 .0))
               0
               (λ x. x)
               (Reads'.as-is
@@ -12461,10 +12918,10 @@ module _ (claims· : Claims) where
               (Mut.mslice
               Elem.R
               (Syntax.tyRef
-              (Syntax.named 8)
+              (Syntax.named 9)
               Syntax.mut
               Elem.ty)
-              8))
+              9))
               (Reads'.room-gone
               𝓤
               H
@@ -12481,7 +12938,7 @@ module _ (claims· : Claims) where
               λ b o. tt)
               d54
 
-          d56 : Typed.Typed 𝓤 H A 𝓣 E G15 b43 Δ3 at56
+          d56 : Typed.Typed 𝓤 H A 𝓣 E G16 b43 Δ3 at56
           d56 =
               Typed.g-pre
               𝓤
@@ -12490,13 +12947,13 @@ module _ (claims· : Claims) where
               W
               𝓣
               E
-              G15
-              G18
+              G16
+              G19
               b43
               Δ3
               (λ Ψ. Ψ)
               at55
-              (Lifetime.g-begin 𝓤 H A W E G15 9 (
+              (Lifetime.g-begin 𝓤 H A W E G16 10 (
                 tt,
                 (
                   tt,
@@ -12550,7 +13007,13 @@ module _ (claims· : Claims) where
                                                                   tt,
                                                                   (
                                                                     tt,
-                                                                    (tt, (tt, (tt, (tt, tt)))),
+                                                                    (
+                                                                      tt,
+                                                                      (
+                                                                        tt,
+                                                                        (tt, (tt, (tt, tt))),
+                                                                      ),
+                                                                    ),
                                                                   ),
                                                                 ),
                                                               ),
@@ -12580,10 +13043,10 @@ module _ (claims· : Claims) where
               ))
               d55
 
-          d57 : Typed.Typed 𝓤 H A 𝓣 E G14 b44 Δ3 at57
-          d57 = Typed.t-seq 𝓤 H A W 𝓣 E G14 G15 b6 b43 Δ3 at4 at56 d4 d56
+          d57 : Typed.Typed 𝓤 H A 𝓣 E G15 b44 Δ3 at57
+          d57 = Typed.t-seq 𝓤 H A W 𝓣 E G15 G16 b6 b43 Δ3 at4 at56 d4 d56
 
-          d58 : Typed.Typed 𝓤 H A 𝓣 E G12 b45 Δ3 at58
+          d58 : Typed.Typed 𝓤 H A 𝓣 E G13 b45 Δ3 at58
           d58 =
               Typed.s-seq
               𝓤
@@ -12592,12 +13055,12 @@ module _ (claims· : Claims) where
               W
               𝓣
               E
-              G12
-              G14
+              G13
+              G15
               b3
               b44
               Δ3
-              (Typed.ask s11)
+              (Typed.ask s12)
               at57
               (Scalar.t-op2
               𝓤
@@ -12606,11 +13069,11 @@ module _ (claims· : Claims) where
               W
               E
               𝓣
-              G12
+              G13
               (Syntax.lt Syntax.unsigned)
-              (Scalar.oAt 12 (Syntax.tyInt Syntax.w64) (Row.valS (Row.sInt Syntax.w64)))
+              (Scalar.oAt 13 (Syntax.tyInt Syntax.w64) (Row.valS (Row.sInt Syntax.w64)))
               (Scalar.oAt 3 (Syntax.tyInt Syntax.w64) (Row.valS (Row.sInt Syntax.w64)))
-              15
+              16
               (Rows.sc-here Row.sBool)
               Syntax.tyBool
               (Row.valS Row.sBool)
@@ -12624,7 +13087,7 @@ module _ (claims· : Claims) where
               λ u. tt)
               d57
 
-          d59 : Typed.Typed 𝓤 H A 𝓣 E G12 b46 Δ2 at59
+          d59 : Typed.Typed 𝓤 H A 𝓣 E G13 b46 Δ2 at59
           d59 =
               Typed.t-loop-by
               𝓤
@@ -12633,24 +13096,25 @@ module _ (claims· : Claims) where
               W
               𝓣
               E
-              G12
+              G13
               b45
               Δ2
               put0
               (λ u vs. Inv·0
-              (Row.get 1 (T12 .locals) u .now)
-              (Row.get 2 (T12 .locals) u .now)
-              (Row.get 3 (T12 .locals) u)
-              (Row.get 4 (T12 .locals) u .now)
-              (Row.get 5 (T12 .locals) u .now)
-              (Row.get 6 (T12 .locals) u .now)
-              (Row.get 7 (T12 .locals) u .now)
-              (Row.get 8 (T12 .locals) u .now)
-              (Row.get 9 (T12 .locals) u .now)
-              (Row.get 10 (T12 .locals) u .now)
-              (Row.get 11 (T12 .locals) u)
-              (Row.get 12 (T12 .locals) u)
-              (Row.get 13 (T12 .locals) u)
+              (Row.get 1 (T13 .locals) u .now)
+              (Row.get 2 (T13 .locals) u .now)
+              (Row.get 3 (T13 .locals) u)
+              (Row.get 4 (T13 .locals) u .now)
+              (Row.get 5 (T13 .locals) u .now)
+              (Row.get 6 (T13 .locals) u .now)
+              (Row.get 7 (T13 .locals) u .now)
+              (Row.get 8 (T13 .locals) u .now)
+              (Row.get 9 (T13 .locals) u .now)
+              (Row.get 10 (T13 .locals) u .now)
+              (Row.get 11 (T13 .locals) u .now)
+              (Row.get 12 (T13 .locals) u)
+              (Row.get 13 (T13 .locals) u)
+              (Row.get 14 (T13 .locals) u)
               (vs .0)
               (vs .1)
               (vs .2)
@@ -12660,19 +13124,20 @@ module _ (claims· : Claims) where
               (vs .6)
               (vs .7))
               (λ u vs. μ·0
-              (Row.get 1 (T12 .locals) u .now)
-              (Row.get 2 (T12 .locals) u .now)
-              (Row.get 3 (T12 .locals) u)
-              (Row.get 4 (T12 .locals) u .now)
-              (Row.get 5 (T12 .locals) u .now)
-              (Row.get 6 (T12 .locals) u .now)
-              (Row.get 7 (T12 .locals) u .now)
-              (Row.get 8 (T12 .locals) u .now)
-              (Row.get 9 (T12 .locals) u .now)
-              (Row.get 10 (T12 .locals) u .now)
-              (Row.get 11 (T12 .locals) u)
-              (Row.get 12 (T12 .locals) u)
-              (Row.get 13 (T12 .locals) u)
+              (Row.get 1 (T13 .locals) u .now)
+              (Row.get 2 (T13 .locals) u .now)
+              (Row.get 3 (T13 .locals) u)
+              (Row.get 4 (T13 .locals) u .now)
+              (Row.get 5 (T13 .locals) u .now)
+              (Row.get 6 (T13 .locals) u .now)
+              (Row.get 7 (T13 .locals) u .now)
+              (Row.get 8 (T13 .locals) u .now)
+              (Row.get 9 (T13 .locals) u .now)
+              (Row.get 10 (T13 .locals) u .now)
+              (Row.get 11 (T13 .locals) u .now)
+              (Row.get 12 (T13 .locals) u)
+              (Row.get 13 (T13 .locals) u)
+              (Row.get 14 (T13 .locals) u)
               (vs .0)
               (vs .1)
               (vs .2)
@@ -12684,14 +13149,41 @@ module _ (claims· : Claims) where
               at58
               d58
 
-          d60 : Typed.Typed 𝓤 H A 𝓣 E G12 b47 Δ1 at60
-          d60 = Typed.t-block 𝓤 H A W 𝓣 E G12 b46 Δ1 at59 d59
+          d60 : Typed.Typed 𝓤 H A 𝓣 E G13 b47 Δ1 at60
+          d60 = Typed.t-block 𝓤 H A W 𝓣 E G13 b46 Δ1 at59 d59
 
-          d61 : Typed.Typed 𝓤 H A 𝓣 E G74 b49 Δ0 at61
+          d61 : Typed.Typed 𝓤 H A 𝓣 E G75 b49 Δ0 at61
           d61 = Typed.t-return 𝓤 H A W 𝓣 E Δ0 tt
 
-          d62 : Typed.Typed 𝓤 H A 𝓣 E G73 b49 Δ0 at62
+          d62 : Typed.Typed 𝓤 H A 𝓣 E G74 b49 Δ0 at62
           d62 =
+              Typed.g-pre
+              𝓤
+              H
+              A
+              W
+              𝓣
+              E
+              G74
+              G75
+              b49
+              Δ0
+              (Typed.pass T74 T75 s71)
+              at61
+              (Scalar.g-room
+              𝓤
+              H
+              A
+              W
+              E
+              G74
+              3
+              (Syntax.tyInt Syntax.w64)
+              (Scalar.room-sc 𝓤 H A W (Row.sInt Syntax.w64)))
+              d61
+
+          d63 : Typed.Typed 𝓤 H A 𝓣 E G73 b49 Δ0 at63
+          d63 =
               Typed.g-pre
               𝓤
               H
@@ -12704,7 +13196,7 @@ module _ (claims· : Claims) where
               b49
               Δ0
               (Typed.pass T73 T74 s70)
-              at61
+              at62
               (Scalar.g-room
               𝓤
               H
@@ -12712,13 +13204,13 @@ module _ (claims· : Claims) where
               W
               E
               G73
-              3
+              14
               (Syntax.tyInt Syntax.w64)
               (Scalar.room-sc 𝓤 H A W (Row.sInt Syntax.w64)))
-              d61
+              d62
 
-          d63 : Typed.Typed 𝓤 H A 𝓣 E G72 b49 Δ0 at63
-          d63 =
+          d64 : Typed.Typed 𝓤 H A 𝓣 E G72 b49 Δ0 at64
+          d64 =
               Typed.g-pre
               𝓤
               H
@@ -12731,7 +13223,7 @@ module _ (claims· : Claims) where
               b49
               Δ0
               (Typed.pass T72 T73 s69)
-              at62
+              at63
               (Scalar.g-room
               𝓤
               H
@@ -12742,10 +13234,10 @@ module _ (claims· : Claims) where
               13
               (Syntax.tyInt Syntax.w64)
               (Scalar.room-sc 𝓤 H A W (Row.sInt Syntax.w64)))
-              d62
+              d63
 
-          d64 : Typed.Typed 𝓤 H A 𝓣 E G71 b49 Δ0 at64
-          d64 =
+          d65 : Typed.Typed 𝓤 H A 𝓣 E G71 b49 Δ0 at65
+          d65 =
               Typed.g-pre
               𝓤
               H
@@ -12758,7 +13250,7 @@ module _ (claims· : Claims) where
               b49
               Δ0
               (Typed.pass T71 T72 s68)
-              at63
+              at64
               (Scalar.g-room
               𝓤
               H
@@ -12769,36 +13261,9 @@ module _ (claims· : Claims) where
               12
               (Syntax.tyInt Syntax.w64)
               (Scalar.room-sc 𝓤 H A W (Row.sInt Syntax.w64)))
-              d63
-
-          d65 : Typed.Typed 𝓤 H A 𝓣 E G70 b49 Δ0 at65
-          d65 =
-              Typed.g-pre
-              𝓤
-              H
-              A
-              W
-              𝓣
-              E
-              G70
-              G71
-              b49
-              Δ0
-              (Typed.pass T70 T71 s67)
-              at64
-              (Scalar.g-room
-              𝓤
-              H
-              A
-              W
-              E
-              G70
-              11
-              (Syntax.tyInt Syntax.w64)
-              (Scalar.room-sc 𝓤 H A W (Row.sInt Syntax.w64)))
               d64
 
-          d66 : Typed.Typed 𝓤 H A 𝓣 E G13 b50 Δ0 at66
+          d66 : Typed.Typed 𝓤 H A 𝓣 E G14 b50 Δ0 at66
           d66 =
               Typed.s-seq
               𝓤
@@ -12807,12 +13272,12 @@ module _ (claims· : Claims) where
               W
               𝓣
               E
-              G13
-              G70
+              G14
+              G71
               b48
               b49
               Δ0
-              (Typed.pass T13 T70 s66)
+              (Typed.pass T14 T71 s67)
               at65
               (Scalar.t-use
               𝓤
@@ -12821,8 +13286,8 @@ module _ (claims· : Claims) where
               W
               E
               𝓣
-              G13
-              (Scalar.oAt 13 (Syntax.tyInt Syntax.w64) (Row.valS (Row.sInt Syntax.w64)))
+              G14
+              (Scalar.oAt 14 (Syntax.tyInt Syntax.w64) (Row.valS (Row.sInt Syntax.w64)))
               0
               (Rows.sc-here (Row.sInt Syntax.w64))
               (Syntax.tyInt Syntax.w64)
@@ -12836,11 +13301,49 @@ module _ (claims· : Claims) where
               λ u. tt)
               d65
 
-          d67 : Typed.Typed 𝓤 H A 𝓣 E G12 b51 Δ0 at67
-          d67 = Typed.t-seq 𝓤 H A W 𝓣 E G12 G13 b47 b50 Δ0 at60 at66 d60 d66
+          d67 : Typed.Typed 𝓤 H A 𝓣 E G13 b51 Δ0 at67
+          d67 = Typed.t-seq 𝓤 H A W 𝓣 E G13 G14 b47 b50 Δ0 at60 at66 d60 d66
 
-          d68 : Typed.Typed 𝓤 H A 𝓣 E G11 b52 Δ0 at68
+          d68 : Typed.Typed 𝓤 H A 𝓣 E G12 b52 Δ0 at68
           d68 =
+              Typed.s-seq
+              𝓤
+              H
+              A
+              W
+              𝓣
+              E
+              G12
+              G13
+              b2
+              b51
+              Δ0
+              (Typed.pass T12 T13 s11)
+              at67
+              (Scalar.t-use
+              𝓤
+              H
+              A
+              W
+              E
+              𝓣
+              G12
+              (Scalar.oInt Syntax.w64 0)
+              14
+              (Rows.sc-here (Row.sInt Syntax.w64))
+              (Syntax.tyInt Syntax.w64)
+              (Row.valS (Row.sInt Syntax.w64))
+              (Row.sInt Syntax.w64 .of)
+              tt
+              (Reads'.room-gone 𝓤 H A (Syntax.tyInt Syntax.w64))
+              (Scalar.holds-sc 𝓤 H A W (Row.sInt Syntax.w64))
+              Path'.refl
+              (λ u. Path'.refl)
+              λ u. tt)
+              d67
+
+          d69 : Typed.Typed 𝓤 H A 𝓣 E G11 b53 Δ0 at69
+          d69 =
               Typed.s-seq
               𝓤
               H
@@ -12850,11 +13353,11 @@ module _ (claims· : Claims) where
               E
               G11
               G12
-              b2
-              b51
+              b1
+              b52
               Δ0
               (Typed.pass T11 T12 s10)
-              at67
+              at68
               (Scalar.t-use
               𝓤
               H
@@ -12875,10 +13378,10 @@ module _ (claims· : Claims) where
               Path'.refl
               (λ u. Path'.refl)
               λ u. tt)
-              d67
+              d68
 
-          d69 : Typed.Typed 𝓤 H A 𝓣 E G10 b53 Δ0 at69
-          d69 =
+          d70 : Typed.Typed 𝓤 H A 𝓣 E G10 b54 Δ0 at70
+          d70 =
               Typed.s-seq
               𝓤
               H
@@ -12888,11 +13391,11 @@ module _ (claims· : Claims) where
               E
               G10
               G11
-              b1
-              b52
+              b0
+              b53
               Δ0
               (Typed.pass T10 T11 s9)
-              at68
+              at69
               (Scalar.t-use
               𝓤
               H
@@ -12913,11 +13416,11 @@ module _ (claims· : Claims) where
               Path'.refl
               (λ u. Path'.refl)
               λ u. tt)
-              d68
+              d69
 
-          d70 : Typed.Typed 𝓤 H A 𝓣 E G9 b54 Δ0 at70
-          d70 =
-              Typed.s-seq
+          d71 : Typed.Typed 𝓤 H A 𝓣 E G9 b54 Δ0 at71
+          d71 =
+              Typed.g-pre
               𝓤
               H
               A
@@ -12926,35 +13429,39 @@ module _ (claims· : Claims) where
               E
               G9
               G10
-              b0
-              b53
+              b54
               Δ0
-              (Typed.pass T9 T10 s8)
-              at69
-              (Scalar.t-use
+              (Typed.give s8)
+              at70
+              (Know.g-sl-known
               𝓤
               H
               A
               W
+              (Referent.fInt Syntax.w8)
               E
-              𝓣
               G9
-              (Scalar.oInt Syntax.w64 0)
-              11
-              (Rows.sc-here (Row.sInt Syntax.w64))
-              (Syntax.tyInt Syntax.w64)
-              (Row.valS (Row.sInt Syntax.w64))
-              (Row.sInt Syntax.w64 .of)
-              tt
-              (Reads'.room-gone 𝓤 H A (Syntax.tyInt Syntax.w64))
-              (Scalar.holds-sc 𝓤 H A W (Row.sInt Syntax.w64))
+              10
+              8
+              (Syntax.tyRef (Syntax.named 8) Syntax.mut (Syntax.tyInt Syntax.w8))
+              (Row.lease (κs .1 .1 .1 .1 .1 .1 .1 .1 .0) (qs .1 .1 .1 .1 .1 .1 .1 .1 .0))
+              0
+              (λ x. x)
+              record { fits = Dec'.lit< tt }
+              (Reads'.as-is
+              𝓤
+              H
+              A
+              (Mut.mslice
+              (Referent.rtF (Referent.fInt Syntax.w8))
+              (Syntax.tyRef (Syntax.named 8) Syntax.mut (Syntax.tyInt Syntax.w8))
+              8))
               Path'.refl
-              (λ u. Path'.refl)
-              λ u. tt)
-              d69
+              tt)
+              d70
 
-          d71 : Typed.Typed 𝓤 H A 𝓣 E G8 b54 Δ0 at71
-          d71 =
+          d72 : Typed.Typed 𝓤 H A 𝓣 E G8 b54 Δ0 at72
+          d72 =
               Typed.g-pre
               𝓤
               H
@@ -12967,7 +13474,7 @@ module _ (claims· : Claims) where
               b54
               Δ0
               (Typed.give s7)
-              at70
+              at71
               (Know.g-sl-known
               𝓤
               H
@@ -12993,10 +13500,10 @@ module _ (claims· : Claims) where
               7))
               Path'.refl
               tt)
-              d70
+              d71
 
-          d72 : Typed.Typed 𝓤 H A 𝓣 E G7 b54 Δ0 at72
-          d72 =
+          d73 : Typed.Typed 𝓤 H A 𝓣 E G7 b54 Δ0 at73
+          d73 =
               Typed.g-pre
               𝓤
               H
@@ -13009,7 +13516,7 @@ module _ (claims· : Claims) where
               b54
               Δ0
               (Typed.give s6)
-              at71
+              at72
               (Know.g-sl-known
               𝓤
               H
@@ -13035,10 +13542,10 @@ module _ (claims· : Claims) where
               6))
               Path'.refl
               tt)
-              d71
+              d72
 
-          d73 : Typed.Typed 𝓤 H A 𝓣 E G6 b54 Δ0 at73
-          d73 =
+          d74 : Typed.Typed 𝓤 H A 𝓣 E G6 b54 Δ0 at74
+          d74 =
               Typed.g-pre
               𝓤
               H
@@ -13051,18 +13558,18 @@ module _ (claims· : Claims) where
               b54
               Δ0
               (Typed.give s5)
-              at72
+              at73
               (Know.g-sl-known
               𝓤
               H
               A
               W
-              (Referent.fInt Syntax.w8)
+              (Referent.fInt Syntax.w64)
               E
               G6
               7
               5
-              (Syntax.tyRef (Syntax.named 5) Syntax.mut (Syntax.tyInt Syntax.w8))
+              (Syntax.tyRef (Syntax.named 5) Syntax.mut (Syntax.tyInt Syntax.w64))
               (Row.lease (κs .1 .1 .1 .1 .1 .0) (qs .1 .1 .1 .1 .1 .0))
               0
               (λ x. x)
@@ -13072,15 +13579,15 @@ module _ (claims· : Claims) where
               H
               A
               (Mut.mslice
-              (Referent.rtF (Referent.fInt Syntax.w8))
-              (Syntax.tyRef (Syntax.named 5) Syntax.mut (Syntax.tyInt Syntax.w8))
+              (Referent.rtF (Referent.fInt Syntax.w64))
+              (Syntax.tyRef (Syntax.named 5) Syntax.mut (Syntax.tyInt Syntax.w64))
               5))
               Path'.refl
               tt)
-              d72
+              d73
 
-          d74 : Typed.Typed 𝓤 H A 𝓣 E G5 b54 Δ0 at74
-          d74 =
+          d75 : Typed.Typed 𝓤 H A 𝓣 E G5 b54 Δ0 at75
+          d75 =
               Typed.g-pre
               𝓤
               H
@@ -13093,8 +13600,8 @@ module _ (claims· : Claims) where
               b54
               Δ0
               (Typed.give s4)
-              at73
-              (Know.g-sl-known
+              at74
+              (Know.g-shs-known
               𝓤
               H
               A
@@ -13104,7 +13611,7 @@ module _ (claims· : Claims) where
               G5
               6
               4
-              (Syntax.tyRef (Syntax.named 4) Syntax.mut (Syntax.tyInt Syntax.w64))
+              (Syntax.tyRef (Syntax.named 4) Syntax.imm (Syntax.tyInt Syntax.w64))
               (Row.lease (κs .1 .1 .1 .1 .0) (qs .1 .1 .1 .1 .0))
               0
               (λ x. x)
@@ -13113,16 +13620,16 @@ module _ (claims· : Claims) where
               𝓤
               H
               A
-              (Mut.mslice
+              (Rows.sslice
               (Referent.rtF (Referent.fInt Syntax.w64))
-              (Syntax.tyRef (Syntax.named 4) Syntax.mut (Syntax.tyInt Syntax.w64))
+              (Syntax.tyRef (Syntax.named 4) Syntax.imm (Syntax.tyInt Syntax.w64))
               4))
               Path'.refl
               tt)
-              d73
+              d74
 
-          d75 : Typed.Typed 𝓤 H A 𝓣 E G4 b54 Δ0 at75
-          d75 =
+          d76 : Typed.Typed 𝓤 H A 𝓣 E G4 b54 Δ0 at76
+          d76 =
               Typed.g-pre
               𝓤
               H
@@ -13135,7 +13642,7 @@ module _ (claims· : Claims) where
               b54
               Δ0
               (Typed.give s3)
-              at74
+              at75
               (Know.g-shs-known
               𝓤
               H
@@ -13161,10 +13668,10 @@ module _ (claims· : Claims) where
               3))
               Path'.refl
               tt)
-              d74
+              d75
 
-          d76 : Typed.Typed 𝓤 H A 𝓣 E G3 b54 Δ0 at76
-          d76 =
+          d77 : Typed.Typed 𝓤 H A 𝓣 E G3 b54 Δ0 at77
+          d77 =
               Typed.g-pre
               𝓤
               H
@@ -13177,7 +13684,7 @@ module _ (claims· : Claims) where
               b54
               Δ0
               (Typed.give s2)
-              at75
+              at76
               (Know.g-shs-known
               𝓤
               H
@@ -13203,10 +13710,10 @@ module _ (claims· : Claims) where
               2))
               Path'.refl
               tt)
-              d75
+              d76
 
-          d77 : Typed.Typed 𝓤 H A 𝓣 E G2 b54 Δ0 at77
-          d77 =
+          d78 : Typed.Typed 𝓤 H A 𝓣 E G2 b54 Δ0 at78
+          d78 =
               Typed.g-pre
               𝓤
               H
@@ -13219,7 +13726,7 @@ module _ (claims· : Claims) where
               b54
               Δ0
               (Typed.give s1)
-              at76
+              at77
               (Know.g-shs-known
               𝓤
               H
@@ -13245,10 +13752,10 @@ module _ (claims· : Claims) where
               1))
               Path'.refl
               tt)
-              d76
+              d77
 
-          d78 : Typed.Typed 𝓤 H A 𝓣 E G0 b54 Δ0 at78
-          d78 =
+          d79 : Typed.Typed 𝓤 H A 𝓣 E G0 b54 Δ0 at79
+          d79 =
               Typed.g-pre
               𝓤
               H
@@ -13261,7 +13768,7 @@ module _ (claims· : Claims) where
               b54
               Δ0
               (Typed.give s0)
-              at77
+              at78
               (Know.g-shs-known
               𝓤
               H
@@ -13287,7 +13794,7 @@ module _ (claims· : Claims) where
               0))
               Path'.refl
               tt)
-              d77
+              d78
 
           pub typed :
               Typed.Typed
@@ -13296,42 +13803,45 @@ module _ (claims· : Claims) where
               A
               𝓣
               E
-              (Function.Γin 9 ps r xs m κs qs)
+              (Function.Γin 10 ps r xs m κs qs)
               b54
-              (Function.Δret 9 ps r xs m κs qs)
+              (Function.Δret 10 ps r xs m κs qs)
               Φ
-          typed = d78
+          typed = d79
 
-      module _ (κs : Lifetimes.Lfts 9) where
+      module _ (κs : Lifetimes.Lfts 10) where
         pub record Args : Type 0 where
-          pub text : Kinds.Den {n = 9}
+          pub text : Kinds.Den {n = 10}
               κs
               (ShrSlice.pShrS (Referent.rtF (Referent.fInt Syntax.w8)) 0 tt)
-          pub ends : Kinds.Den {n = 9}
+          pub ends : Kinds.Den {n = 10}
               κs
               (ShrSlice.pShrS (Referent.rtF (Referent.fInt Syntax.w64)) 1 tt)
-          pub m : Kinds.Den {n = 9} κs (Num.pNum Syntax.w64)
-          pub blocks : Kinds.Den {n = 9}
+          pub m : Kinds.Den {n = 10} κs (Num.pNum Syntax.w64)
+          pub blocks : Kinds.Den {n = 10}
               κs
               (ShrSlice.pShrS (Referent.rtF (Referent.fInt Syntax.w64)) 2 tt)
-          pub starts : Kinds.Den {n = 9}
+          pub starts : Kinds.Den {n = 10}
               κs
               (ShrSlice.pShrS (Referent.rtF (Referent.fInt Syntax.w8)) 3 tt)
-          pub owner : Kinds.Den {n = 9}
+          pub notes : Kinds.Den {n = 10}
               κs
-              (MutSlice.pMutS (Referent.rtF (Referent.fInt Syntax.w64)) 4 tt)
-          pub stack : Kinds.Den {n = 9}
+              (ShrSlice.pShrS (Referent.rtF (Referent.fInt Syntax.w64)) 4 tt)
+          pub owner : Kinds.Den {n = 10}
               κs
-              (MutSlice.pMutS (Referent.rtF (Referent.fInt Syntax.w8)) 5 tt)
-          pub cur : Kinds.Den {n = 9}
+              (MutSlice.pMutS (Referent.rtF (Referent.fInt Syntax.w64)) 5 tt)
+          pub stack : Kinds.Den {n = 10}
               κs
               (MutSlice.pMutS (Referent.rtF (Referent.fInt Syntax.w8)) 6 tt)
-          pub next : Kinds.Den {n = 9}
+          pub cur : Kinds.Den {n = 10}
               κs
               (MutSlice.pMutS (Referent.rtF (Referent.fInt Syntax.w8)) 7 tt)
-          pub recs : Kinds.Den {n = 9}
+          pub next : Kinds.Den {n = 10}
               κs
-              (MutSlice.pMutS Elem.R 8 tt)
+              (MutSlice.pMutS (Referent.rtF (Referent.fInt Syntax.w8)) 8 tt)
+          pub recs : Kinds.Den {n = 10}
+              κs
+              (MutSlice.pMutS Elem.R 9 tt)
 
         abbrev pub dens : (a : Args) → Kinds.Dens κs ps
         dens = λ a. (
@@ -13342,7 +13852,10 @@ module _ (claims· : Claims) where
               a .m,
               (
                 a .blocks,
-                (a .starts, (a .owner, (a .stack, (a .cur, (a .next, (a .recs, tt)))))),
+                (
+                  a .starts,
+                  (a .notes, (a .owner, (a .stack, (a .cur, (a .next, (a .recs, tt)))))),
+                ),
               ),
             ),
           ),
@@ -13352,10 +13865,10 @@ module _ (claims· : Claims) where
           pub record Ranges : Type 0 where
             pub m : Val.Fits Syntax.w64 (args· .m)
 
-      abbrev pub m0 : (κs : Lifetimes.Lfts 9) → (args : Args κs) → Typed.Mo T0
+      abbrev pub m0 : (κs : Lifetimes.Lfts 10) → (args : Args κs) → Typed.Mo T0
       m0 = λ κs args. (tt, Enter.partsP κs 1 ps xs (dens κs args))
 
-      abbrev W0 : (κs : Lifetimes.Lfts 9) → (args : Args κs) → Typed.Want O0
+      abbrev W0 : (κs : Lifetimes.Lfts 10) → (args : Args κs) → Typed.Want O0
       W0 = λ κs args. (
         λ u. ⊥,
         tt,
@@ -13365,14 +13878,14 @@ module _ (claims· : Claims) where
             (dens κs args)
             (Function.resV r κs (u .0))
             (Clauses.atExit
-            (Kinds.endedOf 9 ps r)
+            (Kinds.endedOf 10 ps r)
             κs
             (dens κs args)
             (Enter.lastsP κs 1 ps xs (dens κs args) (u .1))),
       )
 
       pub record Start : Type 0 where
-        pub κs : Lifetimes.Lfts 9
+        pub κs : Lifetimes.Lfts 10
         pub args : Args κs
         pub good : Kinds.GoodsP κs ps (dens κs args)
         pub fits : Ranges κs args
@@ -13442,90 +13955,105 @@ module _ (claims· : Claims) where
           λ before given. s4 .next (m4 (before .before) (before .shared-slice-known4 .given)) given
 
       module _ (before· : After-shared-slice-known4) where
-        pub record After-slice-known·own : Type 0 where
+        pub record After-shared-slice-known5·own : Type 0 where
           pub given : s4 .gives (m4 (before· .before) (before· .shared-slice-known4 .given))
 
-      pub record After-slice-known : Type 0 where
+      pub record After-shared-slice-known5 : Type 0 where
         pub before : After-shared-slice-known4
-        pub slice-known : After-slice-known·own before
+        pub shared-slice-known5 : After-shared-slice-known5·own before
 
       abbrev pub m6 :
-          (before : After-slice-known) →
-          (given : s5 .gives (m5 (before .before) (before .slice-known .given))) →
+          (before : After-shared-slice-known5) →
+          (given : s5 .gives (m5 (before .before) (before .shared-slice-known5 .given))) →
           Typed.Mo T7
-      m6 = λ before given. s5 .next (m5 (before .before) (before .slice-known .given)) given
+      m6 =
+          λ before given. s5 .next (m5 (before .before) (before .shared-slice-known5 .given)) given
+
+      module _ (before· : After-shared-slice-known5) where
+        pub record After-slice-known·own : Type 0 where
+          pub given : s5 .gives (m5 (before· .before) (before· .shared-slice-known5 .given))
+
+      pub record After-slice-known : Type 0 where
+        pub before : After-shared-slice-known5
+        pub slice-known : After-slice-known·own before
+
+      abbrev pub m7 :
+          (before : After-slice-known) →
+          (given : s6 .gives (m6 (before .before) (before .slice-known .given))) →
+          Typed.Mo T8
+      m7 = λ before given. s6 .next (m6 (before .before) (before .slice-known .given)) given
 
       module _ (before· : After-slice-known) where
         pub record After-slice-known2·own : Type 0 where
-          pub given : s5 .gives (m5 (before· .before) (before· .slice-known .given))
+          pub given : s6 .gives (m6 (before· .before) (before· .slice-known .given))
 
       pub record After-slice-known2 : Type 0 where
         pub before : After-slice-known
         pub slice-known2 : After-slice-known2·own before
 
-      abbrev pub m7 :
+      abbrev pub m8 :
           (before : After-slice-known2) →
-          (given : s6 .gives (m6 (before .before) (before .slice-known2 .given))) →
-          Typed.Mo T8
-      m7 = λ before given. s6 .next (m6 (before .before) (before .slice-known2 .given)) given
+          (given : s7 .gives (m7 (before .before) (before .slice-known2 .given))) →
+          Typed.Mo T9
+      m8 = λ before given. s7 .next (m7 (before .before) (before .slice-known2 .given)) given
 
       module _ (before· : After-slice-known2) where
         pub record After-slice-known3·own : Type 0 where
-          pub given : s6 .gives (m6 (before· .before) (before· .slice-known2 .given))
+          pub given : s7 .gives (m7 (before· .before) (before· .slice-known2 .given))
 
       pub record After-slice-known3 : Type 0 where
         pub before : After-slice-known2
         pub slice-known3 : After-slice-known3·own before
 
-      abbrev pub m8 :
-          (before : After-slice-known3) →
-          (given : s7 .gives (m7 (before .before) (before .slice-known3 .given))) →
-          Typed.Mo T9
-      m8 = λ before given. s7 .next (m7 (before .before) (before .slice-known3 .given)) given
-
       abbrev pub m9 :
           (before : After-slice-known3) →
-          (given : s7 .gives (m7 (before .before) (before .slice-known3 .given))) →
+          (given : s8 .gives (m8 (before .before) (before .slice-known3 .given))) →
           Typed.Mo T10
-      m9 = λ before given. s8 (m8 before given)
+      m9 = λ before given. s8 .next (m8 (before .before) (before .slice-known3 .given)) given
 
       abbrev pub m10 :
           (before : After-slice-known3) →
-          (given : s7 .gives (m7 (before .before) (before .slice-known3 .given))) →
+          (given : s8 .gives (m8 (before .before) (before .slice-known3 .given))) →
           Typed.Mo T11
       m10 = λ before given. s9 (m9 before given)
 
       abbrev pub m11 :
           (before : After-slice-known3) →
-          (given : s7 .gives (m7 (before .before) (before .slice-known3 .given))) →
+          (given : s8 .gives (m8 (before .before) (before .slice-known3 .given))) →
           Typed.Mo T12
       m11 = λ before given. s10 (m10 before given)
 
+      abbrev pub m12 :
+          (before : After-slice-known3) →
+          (given : s8 .gives (m8 (before .before) (before .slice-known3 .given))) →
+          Typed.Mo T13
+      m12 = λ before given. s11 (m11 before given)
+
       abbrev W1 :
           (before : After-slice-known3) →
-          (given : s7 .gives (m7 (before .before) (before .slice-known3 .given))) →
+          (given : s8 .gives (m8 (before .before) (before .slice-known3 .given))) →
           Typed.Want O1
       W1 =
           λ before given. Typed.wantNext
-          T13
+          T14
           O0
           (at66
           (W0
-          (before .before .before .before .before .before .before .before .κs)
-          (before .before .before .before .before .before .before .before .args)))
+          (before .before .before .before .before .before .before .before .before .κs)
+          (before .before .before .before .before .before .before .before .before .args)))
           (W0
-          (before .before .before .before .before .before .before .before .κs)
-          (before .before .before .before .before .before .before .before .args))
+          (before .before .before .before .before .before .before .before .before .κs)
+          (before .before .before .before .before .before .before .before .before .args))
 
       abbrev W2 :
           (before : After-slice-known3) →
-          (given : s7 .gives (m7 (before .before) (before .slice-known3 .given))) →
+          (given : s8 .gives (m8 (before .before) (before .slice-known3 .given))) →
           Typed.Want O2
       W2 = λ before given. Typed.inBlock O1 (W1 before given)
 
       module _ (before· : After-slice-known3) where
         pub record After-slice-known4·own : Type 0 where
-          pub given : s7 .gives (m7 (before· .before) (before· .slice-known3 .given))
+          pub given : s8 .gives (m8 (before· .before) (before· .slice-known3 .given))
 
       pub record After-slice-known4 : Type 0 where
         pub before : After-slice-known3
@@ -13535,29 +14063,30 @@ module _ (claims· : Claims) where
       Need-loop-holds =
           (c : After-slice-known4) →
           Inv·0
-          (Row.get 1 (T12 .locals) (m11 (c .before) (c .slice-known4 .given)) .now)
-          (Row.get 2 (T12 .locals) (m11 (c .before) (c .slice-known4 .given)) .now)
-          (Row.get 3 (T12 .locals) (m11 (c .before) (c .slice-known4 .given)))
-          (Row.get 4 (T12 .locals) (m11 (c .before) (c .slice-known4 .given)) .now)
-          (Row.get 5 (T12 .locals) (m11 (c .before) (c .slice-known4 .given)) .now)
-          (Row.get 6 (T12 .locals) (m11 (c .before) (c .slice-known4 .given)) .now)
-          (Row.get 7 (T12 .locals) (m11 (c .before) (c .slice-known4 .given)) .now)
-          (Row.get 8 (T12 .locals) (m11 (c .before) (c .slice-known4 .given)) .now)
-          (Row.get 9 (T12 .locals) (m11 (c .before) (c .slice-known4 .given)) .now)
-          (Row.get 10 (T12 .locals) (m11 (c .before) (c .slice-known4 .given)) .now)
-          (Row.get 11 (T12 .locals) (m11 (c .before) (c .slice-known4 .given)))
-          (Row.get 12 (T12 .locals) (m11 (c .before) (c .slice-known4 .given)))
-          (Row.get 13 (T12 .locals) (m11 (c .before) (c .slice-known4 .given)))
-          (Row.get 6 (T12 .locals) (m11 (c .before) (c .slice-known4 .given)) .now)
-          (Row.get 7 (T12 .locals) (m11 (c .before) (c .slice-known4 .given)) .now)
-          (Row.get 8 (T12 .locals) (m11 (c .before) (c .slice-known4 .given)) .now)
-          (Row.get 9 (T12 .locals) (m11 (c .before) (c .slice-known4 .given)) .now)
-          (Row.get 10 (T12 .locals) (m11 (c .before) (c .slice-known4 .given)) .now)
-          (Row.get 11 (T12 .locals) (m11 (c .before) (c .slice-known4 .given)))
-          (Row.get 12 (T12 .locals) (m11 (c .before) (c .slice-known4 .given)))
-          (Row.get 13 (T12 .locals) (m11 (c .before) (c .slice-known4 .given)))
+          (Row.get 1 (T13 .locals) (m12 (c .before) (c .slice-known4 .given)) .now)
+          (Row.get 2 (T13 .locals) (m12 (c .before) (c .slice-known4 .given)) .now)
+          (Row.get 3 (T13 .locals) (m12 (c .before) (c .slice-known4 .given)))
+          (Row.get 4 (T13 .locals) (m12 (c .before) (c .slice-known4 .given)) .now)
+          (Row.get 5 (T13 .locals) (m12 (c .before) (c .slice-known4 .given)) .now)
+          (Row.get 6 (T13 .locals) (m12 (c .before) (c .slice-known4 .given)) .now)
+          (Row.get 7 (T13 .locals) (m12 (c .before) (c .slice-known4 .given)) .now)
+          (Row.get 8 (T13 .locals) (m12 (c .before) (c .slice-known4 .given)) .now)
+          (Row.get 9 (T13 .locals) (m12 (c .before) (c .slice-known4 .given)) .now)
+          (Row.get 10 (T13 .locals) (m12 (c .before) (c .slice-known4 .given)) .now)
+          (Row.get 11 (T13 .locals) (m12 (c .before) (c .slice-known4 .given)) .now)
+          (Row.get 12 (T13 .locals) (m12 (c .before) (c .slice-known4 .given)))
+          (Row.get 13 (T13 .locals) (m12 (c .before) (c .slice-known4 .given)))
+          (Row.get 14 (T13 .locals) (m12 (c .before) (c .slice-known4 .given)))
+          (Row.get 7 (T13 .locals) (m12 (c .before) (c .slice-known4 .given)) .now)
+          (Row.get 8 (T13 .locals) (m12 (c .before) (c .slice-known4 .given)) .now)
+          (Row.get 9 (T13 .locals) (m12 (c .before) (c .slice-known4 .given)) .now)
+          (Row.get 10 (T13 .locals) (m12 (c .before) (c .slice-known4 .given)) .now)
+          (Row.get 11 (T13 .locals) (m12 (c .before) (c .slice-known4 .given)) .now)
+          (Row.get 12 (T13 .locals) (m12 (c .before) (c .slice-known4 .given)))
+          (Row.get 13 (T13 .locals) (m12 (c .before) (c .slice-known4 .given)))
+          (Row.get 14 (T13 .locals) (m12 (c .before) (c .slice-known4 .given)))
 
-      abbrev pub m12 :
+      abbrev pub m13 :
           (before : After-slice-known4) →
           (owner : List.List (Referent.rtF (Referent.fInt Syntax.w64) .Denot)) →
           (stack : List.List (Referent.rtF (Referent.fInt Syntax.w8) .Denot)) →
@@ -13567,21 +14096,27 @@ module _ (claims· : Claims) where
           (past : Rows.sc-here (Row.sInt Syntax.w64) .Mod) →
           (n : Rows.sc-here (Row.sInt Syntax.w64) .Mod) →
           (o : Rows.sc-here (Row.sInt Syntax.w64) .Mod) →
-          Typed.Mo T12
-      m12 = λ before owner stack cur next recs past n o. Row.set 13 (
-        13,
+          Typed.Mo T13
+      m13 = λ before owner stack cur next recs past n o. Row.set 14 (
+        14,
         Rows.sc-here (Row.sInt Syntax.w64),
-      ) o (Row.setRow 12 (12, Rows.sc-here (Row.sInt Syntax.w64)) (Row.setRow 11 (
+      ) o (Row.setRow 13 (13, Rows.sc-here (Row.sInt Syntax.w64)) (Row.setRow 12 (
+        12,
+        Rows.sc-here (Row.sInt Syntax.w64),
+      ) (Row.setRow 11 (
         11,
-        Rows.sc-here (Row.sInt Syntax.w64),
-      ) (Row.setRow 10 (
-        10,
         Mut.mslice
             Elem.R
             (Syntax.tyRef
-            (Syntax.named 8)
+            (Syntax.named 9)
             Syntax.mut
             Elem.ty)
+            9,
+      ) (Row.setRow 10 (
+        10,
+        Mut.mslice
+            (Referent.rtF (Referent.fInt Syntax.w8))
+            (Syntax.tyRef (Syntax.named 8) Syntax.mut (Syntax.tyInt Syntax.w8))
             8,
       ) (Row.setRow 9 (
         9,
@@ -13598,27 +14133,27 @@ module _ (claims· : Claims) where
       ) (Row.setRow 7 (
         7,
         Mut.mslice
-            (Referent.rtF (Referent.fInt Syntax.w8))
-            (Syntax.tyRef (Syntax.named 5) Syntax.mut (Syntax.tyInt Syntax.w8))
-            5,
-      ) (Row.setRow 6 (
-        6,
-        Mut.mslice
             (Referent.rtF (Referent.fInt Syntax.w64))
-            (Syntax.tyRef (Syntax.named 4) Syntax.mut (Syntax.tyInt Syntax.w64))
-            4,
-      ) (T12 .locals))))))))
-          (Row.set 12 (12, Rows.sc-here (Row.sInt Syntax.w64)) n (Row.setRow 11 (
-            11,
+            (Syntax.tyRef (Syntax.named 5) Syntax.mut (Syntax.tyInt Syntax.w64))
+            5,
+      ) (T13 .locals))))))))
+          (Row.set 13 (13, Rows.sc-here (Row.sInt Syntax.w64)) n (Row.setRow 12 (
+            12,
             Rows.sc-here (Row.sInt Syntax.w64),
+          ) (Row.setRow 11 (
+            11,
+            Mut.mslice
+                Elem.R
+                (Syntax.tyRef
+                (Syntax.named 9)
+                Syntax.mut
+                Elem.ty)
+                9,
           ) (Row.setRow 10 (
             10,
             Mut.mslice
-                Elem.R
-                (Syntax.tyRef
-                (Syntax.named 8)
-                Syntax.mut
-                Elem.ty)
+                (Referent.rtF (Referent.fInt Syntax.w8))
+                (Syntax.tyRef (Syntax.named 8) Syntax.mut (Syntax.tyInt Syntax.w8))
                 8,
           ) (Row.setRow 9 (
             9,
@@ -13635,24 +14170,24 @@ module _ (claims· : Claims) where
           ) (Row.setRow 7 (
             7,
             Mut.mslice
-                (Referent.rtF (Referent.fInt Syntax.w8))
-                (Syntax.tyRef (Syntax.named 5) Syntax.mut (Syntax.tyInt Syntax.w8))
-                5,
-          ) (Row.setRow 6 (
-            6,
-            Mut.mslice
                 (Referent.rtF (Referent.fInt Syntax.w64))
-                (Syntax.tyRef (Syntax.named 4) Syntax.mut (Syntax.tyInt Syntax.w64))
-                4,
-          ) (T12 .locals)))))))
-          (Row.set 11 (11, Rows.sc-here (Row.sInt Syntax.w64)) past (Row.setRow 10 (
-            10,
+                (Syntax.tyRef (Syntax.named 5) Syntax.mut (Syntax.tyInt Syntax.w64))
+                5,
+          ) (T13 .locals)))))))
+          (Row.set 12 (12, Rows.sc-here (Row.sInt Syntax.w64)) past (Row.setRow 11 (
+            11,
             Mut.mslice
                 Elem.R
                 (Syntax.tyRef
-                (Syntax.named 8)
+                (Syntax.named 9)
                 Syntax.mut
                 Elem.ty)
+                9,
+          ) (Row.setRow 10 (
+            10,
+            Mut.mslice
+                (Referent.rtF (Referent.fInt Syntax.w8))
+                (Syntax.tyRef (Syntax.named 8) Syntax.mut (Syntax.tyInt Syntax.w8))
                 8,
           ) (Row.setRow 9 (
             9,
@@ -13669,34 +14204,68 @@ module _ (claims· : Claims) where
           ) (Row.setRow 7 (
             7,
             Mut.mslice
-                (Referent.rtF (Referent.fInt Syntax.w8))
-                (Syntax.tyRef (Syntax.named 5) Syntax.mut (Syntax.tyInt Syntax.w8))
-                5,
-          ) (Row.setRow 6 (
-            6,
-            Mut.mslice
                 (Referent.rtF (Referent.fInt Syntax.w64))
-                (Syntax.tyRef (Syntax.named 4) Syntax.mut (Syntax.tyInt Syntax.w64))
-                4,
-          ) (T12 .locals)))))) (Row.set 10 (
-            10,
+                (Syntax.tyRef (Syntax.named 5) Syntax.mut (Syntax.tyInt Syntax.w64))
+                5,
+          ) (T13 .locals)))))) (Row.set 11 (
+            11,
             Mut.mslice
                 Elem.R
                 (Syntax.tyRef
-                (Syntax.named 8)
+                (Syntax.named 9)
                 Syntax.mut
                 Elem.ty)
+                9,
+          ) record {
+            ptr = Row.get
+                11
+                (T13 .locals)
+                (m12 (before .before) (before .slice-known4 .given)) .ptr;
+            name = Row.get
+                11
+                (T13 .locals)
+                (m12 (before .before) (before .slice-known4 .given)) .name;
+            now = recs;
+          } (Row.setRow 10 (
+            10,
+            Mut.mslice
+                (Referent.rtF (Referent.fInt Syntax.w8))
+                (Syntax.tyRef (Syntax.named 8) Syntax.mut (Syntax.tyInt Syntax.w8))
+                8,
+          ) (Row.setRow 9 (
+            9,
+            Mut.mslice
+                (Referent.rtF (Referent.fInt Syntax.w8))
+                (Syntax.tyRef (Syntax.named 7) Syntax.mut (Syntax.tyInt Syntax.w8))
+                7,
+          ) (Row.setRow 8 (
+            8,
+            Mut.mslice
+                (Referent.rtF (Referent.fInt Syntax.w8))
+                (Syntax.tyRef (Syntax.named 6) Syntax.mut (Syntax.tyInt Syntax.w8))
+                6,
+          ) (Row.setRow 7 (
+            7,
+            Mut.mslice
+                (Referent.rtF (Referent.fInt Syntax.w64))
+                (Syntax.tyRef (Syntax.named 5) Syntax.mut (Syntax.tyInt Syntax.w64))
+                5,
+          ) (T13 .locals))))) (Row.set 10 (
+            10,
+            Mut.mslice
+                (Referent.rtF (Referent.fInt Syntax.w8))
+                (Syntax.tyRef (Syntax.named 8) Syntax.mut (Syntax.tyInt Syntax.w8))
                 8,
           ) record {
             ptr = Row.get
                 10
-                (T12 .locals)
-                (m11 (before .before) (before .slice-known4 .given)) .ptr;
+                (T13 .locals)
+                (m12 (before .before) (before .slice-known4 .given)) .ptr;
             name = Row.get
                 10
-                (T12 .locals)
-                (m11 (before .before) (before .slice-known4 .given)) .name;
-            now = recs;
+                (T13 .locals)
+                (m12 (before .before) (before .slice-known4 .given)) .name;
+            now = next;
           } (Row.setRow 9 (
             9,
             Mut.mslice
@@ -13712,16 +14281,10 @@ module _ (claims· : Claims) where
           ) (Row.setRow 7 (
             7,
             Mut.mslice
-                (Referent.rtF (Referent.fInt Syntax.w8))
-                (Syntax.tyRef (Syntax.named 5) Syntax.mut (Syntax.tyInt Syntax.w8))
-                5,
-          ) (Row.setRow 6 (
-            6,
-            Mut.mslice
                 (Referent.rtF (Referent.fInt Syntax.w64))
-                (Syntax.tyRef (Syntax.named 4) Syntax.mut (Syntax.tyInt Syntax.w64))
-                4,
-          ) (T12 .locals))))) (Row.set 9 (
+                (Syntax.tyRef (Syntax.named 5) Syntax.mut (Syntax.tyInt Syntax.w64))
+                5,
+          ) (T13 .locals)))) (Row.set 9 (
             9,
             Mut.mslice
                 (Referent.rtF (Referent.fInt Syntax.w8))
@@ -13730,13 +14293,13 @@ module _ (claims· : Claims) where
           ) record {
             ptr = Row.get
                 9
-                (T12 .locals)
-                (m11 (before .before) (before .slice-known4 .given)) .ptr;
+                (T13 .locals)
+                (m12 (before .before) (before .slice-known4 .given)) .ptr;
             name = Row.get
                 9
-                (T12 .locals)
-                (m11 (before .before) (before .slice-known4 .given)) .name;
-            now = next;
+                (T13 .locals)
+                (m12 (before .before) (before .slice-known4 .given)) .name;
+            now = cur;
           } (Row.setRow 8 (
             8,
             Mut.mslice
@@ -13746,16 +14309,10 @@ module _ (claims· : Claims) where
           ) (Row.setRow 7 (
             7,
             Mut.mslice
-                (Referent.rtF (Referent.fInt Syntax.w8))
-                (Syntax.tyRef (Syntax.named 5) Syntax.mut (Syntax.tyInt Syntax.w8))
-                5,
-          ) (Row.setRow 6 (
-            6,
-            Mut.mslice
                 (Referent.rtF (Referent.fInt Syntax.w64))
-                (Syntax.tyRef (Syntax.named 4) Syntax.mut (Syntax.tyInt Syntax.w64))
-                4,
-          ) (T12 .locals)))) (Row.set 8 (
+                (Syntax.tyRef (Syntax.named 5) Syntax.mut (Syntax.tyInt Syntax.w64))
+                5,
+          ) (T13 .locals))) (Row.set 8 (
             8,
             Mut.mslice
                 (Referent.rtF (Referent.fInt Syntax.w8))
@@ -13764,64 +14321,36 @@ module _ (claims· : Claims) where
           ) record {
             ptr = Row.get
                 8
-                (T12 .locals)
-                (m11 (before .before) (before .slice-known4 .given)) .ptr;
+                (T13 .locals)
+                (m12 (before .before) (before .slice-known4 .given)) .ptr;
             name = Row.get
                 8
-                (T12 .locals)
-                (m11 (before .before) (before .slice-known4 .given)) .name;
-            now = cur;
+                (T13 .locals)
+                (m12 (before .before) (before .slice-known4 .given)) .name;
+            now = stack;
           } (Row.setRow 7 (
             7,
             Mut.mslice
-                (Referent.rtF (Referent.fInt Syntax.w8))
-                (Syntax.tyRef (Syntax.named 5) Syntax.mut (Syntax.tyInt Syntax.w8))
-                5,
-          ) (Row.setRow 6 (
-            6,
-            Mut.mslice
                 (Referent.rtF (Referent.fInt Syntax.w64))
-                (Syntax.tyRef (Syntax.named 4) Syntax.mut (Syntax.tyInt Syntax.w64))
-                4,
-          ) (T12 .locals))) (Row.set 7 (
+                (Syntax.tyRef (Syntax.named 5) Syntax.mut (Syntax.tyInt Syntax.w64))
+                5,
+          ) (T13 .locals)) (Row.set 7 (
             7,
             Mut.mslice
-                (Referent.rtF (Referent.fInt Syntax.w8))
-                (Syntax.tyRef (Syntax.named 5) Syntax.mut (Syntax.tyInt Syntax.w8))
+                (Referent.rtF (Referent.fInt Syntax.w64))
+                (Syntax.tyRef (Syntax.named 5) Syntax.mut (Syntax.tyInt Syntax.w64))
                 5,
           ) record {
             ptr = Row.get
                 7
-                (T12 .locals)
-                (m11 (before .before) (before .slice-known4 .given)) .ptr;
+                (T13 .locals)
+                (m12 (before .before) (before .slice-known4 .given)) .ptr;
             name = Row.get
                 7
-                (T12 .locals)
-                (m11 (before .before) (before .slice-known4 .given)) .name;
-            now = stack;
-          } (Row.setRow 6 (
-            6,
-            Mut.mslice
-                (Referent.rtF (Referent.fInt Syntax.w64))
-                (Syntax.tyRef (Syntax.named 4) Syntax.mut (Syntax.tyInt Syntax.w64))
-                4,
-          ) (T12 .locals)) (Row.set 6 (
-            6,
-            Mut.mslice
-                (Referent.rtF (Referent.fInt Syntax.w64))
-                (Syntax.tyRef (Syntax.named 4) Syntax.mut (Syntax.tyInt Syntax.w64))
-                4,
-          ) record {
-            ptr = Row.get
-                6
-                (T12 .locals)
-                (m11 (before .before) (before .slice-known4 .given)) .ptr;
-            name = Row.get
-                6
-                (T12 .locals)
-                (m11 (before .before) (before .slice-known4 .given)) .name;
+                (T13 .locals)
+                (m12 (before .before) (before .slice-known4 .given)) .name;
             now = owner;
-          } (T12 .locals) (m11 (before .before) (before .slice-known4 .given)))))))))
+          } (T13 .locals) (m12 (before .before) (before .slice-known4 .given)))))))))
 
       abbrev W3 :
           (before : After-slice-known4) →
@@ -13836,26 +14365,27 @@ module _ (claims· : Claims) where
           Typed.Want O3
       W3 =
           λ before owner stack cur next recs past n o. Typed.inLoop
-          T12
+          T13
           O2
           (Typed.Round
-          T12
+          T13
           O2
           put0
           (λ u vs. Inv·0
-          (Row.get 1 (T12 .locals) u .now)
-          (Row.get 2 (T12 .locals) u .now)
-          (Row.get 3 (T12 .locals) u)
-          (Row.get 4 (T12 .locals) u .now)
-          (Row.get 5 (T12 .locals) u .now)
-          (Row.get 6 (T12 .locals) u .now)
-          (Row.get 7 (T12 .locals) u .now)
-          (Row.get 8 (T12 .locals) u .now)
-          (Row.get 9 (T12 .locals) u .now)
-          (Row.get 10 (T12 .locals) u .now)
-          (Row.get 11 (T12 .locals) u)
-          (Row.get 12 (T12 .locals) u)
-          (Row.get 13 (T12 .locals) u)
+          (Row.get 1 (T13 .locals) u .now)
+          (Row.get 2 (T13 .locals) u .now)
+          (Row.get 3 (T13 .locals) u)
+          (Row.get 4 (T13 .locals) u .now)
+          (Row.get 5 (T13 .locals) u .now)
+          (Row.get 6 (T13 .locals) u .now)
+          (Row.get 7 (T13 .locals) u .now)
+          (Row.get 8 (T13 .locals) u .now)
+          (Row.get 9 (T13 .locals) u .now)
+          (Row.get 10 (T13 .locals) u .now)
+          (Row.get 11 (T13 .locals) u .now)
+          (Row.get 12 (T13 .locals) u)
+          (Row.get 13 (T13 .locals) u)
+          (Row.get 14 (T13 .locals) u)
           (vs .0)
           (vs .1)
           (vs .2)
@@ -13865,19 +14395,20 @@ module _ (claims· : Claims) where
           (vs .6)
           (vs .7))
           (λ u vs. μ·0
-          (Row.get 1 (T12 .locals) u .now)
-          (Row.get 2 (T12 .locals) u .now)
-          (Row.get 3 (T12 .locals) u)
-          (Row.get 4 (T12 .locals) u .now)
-          (Row.get 5 (T12 .locals) u .now)
-          (Row.get 6 (T12 .locals) u .now)
-          (Row.get 7 (T12 .locals) u .now)
-          (Row.get 8 (T12 .locals) u .now)
-          (Row.get 9 (T12 .locals) u .now)
-          (Row.get 10 (T12 .locals) u .now)
-          (Row.get 11 (T12 .locals) u)
-          (Row.get 12 (T12 .locals) u)
-          (Row.get 13 (T12 .locals) u)
+          (Row.get 1 (T13 .locals) u .now)
+          (Row.get 2 (T13 .locals) u .now)
+          (Row.get 3 (T13 .locals) u)
+          (Row.get 4 (T13 .locals) u .now)
+          (Row.get 5 (T13 .locals) u .now)
+          (Row.get 6 (T13 .locals) u .now)
+          (Row.get 7 (T13 .locals) u .now)
+          (Row.get 8 (T13 .locals) u .now)
+          (Row.get 9 (T13 .locals) u .now)
+          (Row.get 10 (T13 .locals) u .now)
+          (Row.get 11 (T13 .locals) u .now)
+          (Row.get 12 (T13 .locals) u)
+          (Row.get 13 (T13 .locals) u)
+          (Row.get 14 (T13 .locals) u)
           (vs .0)
           (vs .1)
           (vs .2)
@@ -13887,11 +14418,11 @@ module _ (claims· : Claims) where
           (vs .6)
           (vs .7))
           at58
-          (m11 (before .before) (before .slice-known4 .given))
+          (m12 (before .before) (before .slice-known4 .given))
           (owner, stack, cur, next, recs, past, n, o))
           (W2 (before .before) (before .slice-known4 .given))
 
-      abbrev pub m13 :
+      abbrev pub m14 :
           (before : After-slice-known4) →
           (owner : List.List (Referent.rtF (Referent.fInt Syntax.w64) .Denot)) →
           (stack : List.List (Referent.rtF (Referent.fInt Syntax.w8) .Denot)) →
@@ -13901,10 +14432,10 @@ module _ (claims· : Claims) where
           (past : Rows.sc-here (Row.sInt Syntax.w64) .Mod) →
           (n : Rows.sc-here (Row.sInt Syntax.w64) .Mod) →
           (o : Rows.sc-here (Row.sInt Syntax.w64) .Mod) →
-          Typed.Mo T14
-      m13 =
-          λ before owner stack cur next recs past n o. s11 .next
-          (m12 before owner stack cur next recs past n o)
+          Typed.Mo T15
+      m14 =
+          λ before owner stack cur next recs past n o. s12 .next
+          (m13 before owner stack cur next recs past n o)
 
       abbrev W4 :
           (before : After-slice-known4) →
@@ -13919,7 +14450,7 @@ module _ (claims· : Claims) where
           Typed.Want O4
       W4 =
           λ before owner stack cur next recs past n o. Typed.wantNext
-          T15
+          T16
           O3
           (at56 (W3 before owner stack cur next recs past n o))
           (W3 before owner stack cur next recs past n o)
@@ -13935,22 +14466,26 @@ module _ (claims· : Claims) where
           pub n : Rows.sc-here (Row.sInt Syntax.w64) .Mod
           pub o : Rows.sc-here (Row.sInt Syntax.w64) .Mod
           pub inv : Inv·0
-              (Row.get 1 (T12 .locals) (m11 (before· .before) (before· .slice-known4 .given)) .now)
-              (Row.get 2 (T12 .locals) (m11 (before· .before) (before· .slice-known4 .given)) .now)
-              (Row.get 3 (T12 .locals) (m11 (before· .before) (before· .slice-known4 .given)))
-              (Row.get 4 (T12 .locals) (m11 (before· .before) (before· .slice-known4 .given)) .now)
-              (Row.get 5 (T12 .locals) (m11 (before· .before) (before· .slice-known4 .given)) .now)
-              (Row.get 6 (T12 .locals) (m11 (before· .before) (before· .slice-known4 .given)) .now)
-              (Row.get 7 (T12 .locals) (m11 (before· .before) (before· .slice-known4 .given)) .now)
-              (Row.get 8 (T12 .locals) (m11 (before· .before) (before· .slice-known4 .given)) .now)
-              (Row.get 9 (T12 .locals) (m11 (before· .before) (before· .slice-known4 .given)) .now)
+              (Row.get 1 (T13 .locals) (m12 (before· .before) (before· .slice-known4 .given)) .now)
+              (Row.get 2 (T13 .locals) (m12 (before· .before) (before· .slice-known4 .given)) .now)
+              (Row.get 3 (T13 .locals) (m12 (before· .before) (before· .slice-known4 .given)))
+              (Row.get 4 (T13 .locals) (m12 (before· .before) (before· .slice-known4 .given)) .now)
+              (Row.get 5 (T13 .locals) (m12 (before· .before) (before· .slice-known4 .given)) .now)
+              (Row.get 6 (T13 .locals) (m12 (before· .before) (before· .slice-known4 .given)) .now)
+              (Row.get 7 (T13 .locals) (m12 (before· .before) (before· .slice-known4 .given)) .now)
+              (Row.get 8 (T13 .locals) (m12 (before· .before) (before· .slice-known4 .given)) .now)
+              (Row.get 9 (T13 .locals) (m12 (before· .before) (before· .slice-known4 .given)) .now)
               (Row.get
               10
-              (T12 .locals)
-              (m11 (before· .before) (before· .slice-known4 .given)) .now)
-              (Row.get 11 (T12 .locals) (m11 (before· .before) (before· .slice-known4 .given)))
-              (Row.get 12 (T12 .locals) (m11 (before· .before) (before· .slice-known4 .given)))
-              (Row.get 13 (T12 .locals) (m11 (before· .before) (before· .slice-known4 .given)))
+              (T13 .locals)
+              (m12 (before· .before) (before· .slice-known4 .given)) .now)
+              (Row.get
+              11
+              (T13 .locals)
+              (m12 (before· .before) (before· .slice-known4 .given)) .now)
+              (Row.get 12 (T13 .locals) (m12 (before· .before) (before· .slice-known4 .given)))
+              (Row.get 13 (T13 .locals) (m12 (before· .before) (before· .slice-known4 .given)))
+              (Row.get 14 (T13 .locals) (m12 (before· .before) (before· .slice-known4 .given)))
               owner
               stack
               cur
@@ -13968,9 +14503,9 @@ module _ (claims· : Claims) where
         pub record In-loop·own : Type 0 where
           pub taken : Nat._<_
               (Row.get
-              12
-              (T12 .locals)
-              (m12
+              13
+              (T13 .locals)
+              (m13
               (before· .before)
               (before· .loop .owner)
               (before· .loop .stack)
@@ -13982,8 +14517,8 @@ module _ (claims· : Claims) where
               (before· .loop .o)))
               (Row.get
               3
-              (T12 .locals)
-              (m12
+              (T13 .locals)
+              (m13
               (before· .before)
               (before· .loop .owner)
               (before· .loop .stack)
@@ -13998,10 +14533,10 @@ module _ (claims· : Claims) where
         pub before : At-loop
         pub loop-test : In-loop·own before
 
-      abbrev pub m14 : (before : At-loop) → Typed.Mo T16
-      m14 =
-          λ before. s12
-          (m13
+      abbrev pub m15 : (before : At-loop) → Typed.Mo T17
+      m15 =
+          λ before. s13
+          (m14
           (before .before)
           (before .loop .owner)
           (before .loop .stack)
@@ -14017,8 +14552,8 @@ module _ (claims· : Claims) where
           pub left : Nat._≤_
               (Row.get
               3
-              (T12 .locals)
-              (m12
+              (T13 .locals)
+              (m13
               (before· .before)
               (before· .loop .owner)
               (before· .loop .stack)
@@ -14029,9 +14564,9 @@ module _ (claims· : Claims) where
               (before· .loop .n)
               (before· .loop .o)))
               (Row.get
-              12
-              (T12 .locals)
-              (m12
+              13
+              (T13 .locals)
+              (m13
               (before· .before)
               (before· .loop .owner)
               (before· .loop .stack)
@@ -14046,10 +14581,10 @@ module _ (claims· : Claims) where
         pub before : At-loop
         pub loop-test : After-loop·own before
 
-      abbrev pub m15 : (before : At-loop) → Typed.Mo T17
-      m15 =
-          λ before. s13
-          (m13
+      abbrev pub m16 : (before : At-loop) → Typed.Mo T18
+      m16 =
+          λ before. s14
+          (m14
           (before .before)
           (before .loop .owner)
           (before .loop .stack)
@@ -14060,17 +14595,17 @@ module _ (claims· : Claims) where
           (before .loop .n)
           (before .loop .o))
 
-      abbrev pub m16 :
-          (before : In-loop) → (given : s15 .gives (m14 (before .before))) → Typed.Mo T19
-      m16 = λ before given. s15 .next (m14 (before .before)) given
-
       abbrev pub m17 :
-          (before : In-loop) → (given : s15 .gives (m14 (before .before))) → Typed.Mo T20
-      m17 = λ before given. s16 .next (m16 before given)
+          (before : In-loop) → (given : s16 .gives (m15 (before .before))) → Typed.Mo T20
+      m17 = λ before given. s16 .next (m15 (before .before)) given
+
+      abbrev pub m18 :
+          (before : In-loop) → (given : s16 .gives (m15 (before .before))) → Typed.Mo T21
+      m18 = λ before given. s17 .next (m17 before given)
 
       module _ (before· : In-loop) where
         pub record After-refill-arg·own : Type 0 where
-          pub given : s15 .gives (m14 (before· .before))
+          pub given : s16 .gives (m15 (before· .before))
 
       pub record After-refill-arg : Type 0 where
         pub before : In-loop
@@ -14078,17 +14613,17 @@ module _ (claims· : Claims) where
 
       abbrev pub Need-refill-requires : Type 0
       Need-refill-requires =
-          (c : After-refill-arg) → s17 .asks (m17 (c .before) (c .refill-arg .given))
+          (c : After-refill-arg) → s18 .asks (m18 (c .before) (c .refill-arg .given))
 
-      abbrev pub m18 :
+      abbrev pub m19 :
           (before : After-refill-arg) →
-          (given : s17 .gives (m17 (before .before) (before .refill-arg .given))) →
-          Typed.Mo T21
-      m18 = λ before given. s17 .next (m17 (before .before) (before .refill-arg .given)) given
+          (given : s18 .gives (m18 (before .before) (before .refill-arg .given))) →
+          Typed.Mo T22
+      m19 = λ before given. s18 .next (m18 (before .before) (before .refill-arg .given)) given
 
       module _ (before· : After-refill-arg) where
         abbrev pub After-refill·own : Type 0
-        After-refill·own = Called.Called ps·0 r·0 (claims· .1) T20 (
+        After-refill·own = Called.Called ps·0 r·0 (claims· .1) T21 (
           record {
             pos = 2;
             ty = Syntax.tyRef (Syntax.named 1) Syntax.imm (Syntax.tyInt Syntax.w64);
@@ -14103,12 +14638,12 @@ module _ (claims· : Claims) where
             (
               Num.vAt 3 λ x. x,
               (
-                Num.vAt 12 λ x. x,
+                Num.vAt 13 λ x. x,
                 (
-                  Num.vAt 11 λ x. x,
+                  Num.vAt 12 λ x. x,
                   (
                     record {
-                      pos = 17;
+                      pos = 18;
                       ty = Syntax.tyRef
                           Syntax.erased
                           Syntax.mut
@@ -14121,15 +14656,15 @@ module _ (claims· : Claims) where
               ),
             ),
           ),
-        ) (m17 (before· .before) (before· .refill-arg .given))
+        ) (m18 (before· .before) (before· .refill-arg .given))
 
       pub record After-refill : Type 0 where
         pub before : After-refill-arg
         pub refill : After-refill·own before
 
       abbrev pub After-refill·gave :
-          (c : After-refill) → s17 .gives (m17 (c .before .before) (c .before .refill-arg .given))
-      After-refill·gave = λ c. Called.given ps·0 r·0 (claims· .1) T20 (
+          (c : After-refill) → s18 .gives (m18 (c .before .before) (c .before .refill-arg .given))
+      After-refill·gave = λ c. Called.given ps·0 r·0 (claims· .1) T21 (
         record {
           pos = 2;
           ty = Syntax.tyRef (Syntax.named 1) Syntax.imm (Syntax.tyInt Syntax.w64);
@@ -14144,12 +14679,12 @@ module _ (claims· : Claims) where
           (
             Num.vAt 3 λ x. x,
             (
-              Num.vAt 12 λ x. x,
+              Num.vAt 13 λ x. x,
               (
-                Num.vAt 11 λ x. x,
+                Num.vAt 12 λ x. x,
                 (
                   record {
-                    pos = 17;
+                    pos = 18;
                     ty = Syntax.tyRef
                         Syntax.erased
                         Syntax.mut
@@ -14162,212 +14697,212 @@ module _ (claims· : Claims) where
             ),
           ),
         ),
-      ) (m17 (c .before .before) (c .before .refill-arg .given)) (c .refill)
+      ) (m18 (c .before .before) (c .before .refill-arg .given)) (c .refill)
 
-      abbrev pub m19 :
+      abbrev pub m20 :
           (before : After-refill) →
-          (given : s19 .gives (m18 (before .before) (After-refill·gave before))) →
-          Typed.Mo T23
-      m19 = λ before given. s19 .next (m18 (before .before) (After-refill·gave before)) given
+          (given : s20 .gives (m19 (before .before) (After-refill·gave before))) →
+          Typed.Mo T24
+      m20 = λ before given. s20 .next (m19 (before .before) (After-refill·gave before)) given
 
       module _ (before· : After-refill) where
         pub record After-recs·own : Type 0 where
-          pub given : s19 .gives (m18 (before· .before) (After-refill·gave before·))
+          pub given : s20 .gives (m19 (before· .before) (After-refill·gave before·))
 
       pub record After-recs : Type 0 where
         pub before : After-refill
         pub recs : After-recs·own before
 
-      abbrev pub m20 :
-          (before : After-recs) →
-          (given : s22 .gives (m19 (before .before) (before .recs .given))) →
-          Typed.Mo T26
-      m20 = λ before given. s22 .next (m19 (before .before) (before .recs .given)) given
-
       abbrev pub m21 :
           (before : After-recs) →
-          (given : s22 .gives (m19 (before .before) (before .recs .given))) →
+          (given : s23 .gives (m20 (before .before) (before .recs .given))) →
           Typed.Mo T27
-      m21 = λ before given. s23 .next (m20 before given)
+      m21 = λ before given. s23 .next (m20 (before .before) (before .recs .given)) given
 
       abbrev pub m22 :
           (before : After-recs) →
-          (given : s22 .gives (m19 (before .before) (before .recs .given))) →
+          (given : s23 .gives (m20 (before .before) (before .recs .given))) →
           Typed.Mo T28
-      m22 = λ before given. s24 (m21 before given)
+      m22 = λ before given. s24 .next (m21 before given)
+
+      abbrev pub m23 :
+          (before : After-recs) →
+          (given : s23 .gives (m20 (before .before) (before .recs .given))) →
+          Typed.Mo T29
+      m23 = λ before given. s25 (m22 before given)
 
       module _ (before· : After-recs) where
         pub record After-get-arg·own : Type 0 where
-          pub given : s22 .gives (m19 (before· .before) (before· .recs .given))
+          pub given : s23 .gives (m20 (before· .before) (before· .recs .given))
 
       pub record After-get-arg : Type 0 where
         pub before : After-recs
         pub get-arg : After-get-arg·own before
 
       abbrev pub Need-add-get : Type 0
-      Need-add-get = (c : After-get-arg) → s25 .asks (m22 (c .before) (c .get-arg .given))
-
-      abbrev pub m23 :
-          (before : After-recs) →
-          (given : s22 .gives (m19 (before .before) (before .recs .given))) →
-          Typed.Mo T29
-      m23 = λ before given. s25 .next (m22 before given)
+      Need-add-get = (c : After-get-arg) → s26 .asks (m23 (c .before) (c .get-arg .given))
 
       abbrev pub m24 :
           (before : After-recs) →
-          (given : s22 .gives (m19 (before .before) (before .recs .given))) →
+          (given : s23 .gives (m20 (before .before) (before .recs .given))) →
           Typed.Mo T30
-      m24 = λ before given. s26 (m23 before given)
-
-      abbrev pub Need-sub-get : Type 0
-      Need-sub-get = (c : After-get-arg) → s27 .asks (m24 (c .before) (c .get-arg .given))
+      m24 = λ before given. s26 .next (m23 before given)
 
       abbrev pub m25 :
           (before : After-recs) →
-          (given : s22 .gives (m19 (before .before) (before .recs .given))) →
+          (given : s23 .gives (m20 (before .before) (before .recs .given))) →
           Typed.Mo T31
-      m25 = λ before given. s27 .next (m24 before given)
+      m25 = λ before given. s27 (m24 before given)
+
+      abbrev pub Need-sub-get : Type 0
+      Need-sub-get = (c : After-get-arg) → s28 .asks (m25 (c .before) (c .get-arg .given))
 
       abbrev pub m26 :
           (before : After-recs) →
-          (given : s22 .gives (m19 (before .before) (before .recs .given))) →
+          (given : s23 .gives (m20 (before .before) (before .recs .given))) →
           Typed.Mo T32
-      m26 = λ before given. s28 (m25 before given)
-
-      abbrev pub Need-get-requires : Type 0
-      Need-get-requires = (c : After-get-arg) → s29 .asks (m26 (c .before) (c .get-arg .given))
+      m26 = λ before given. s28 .next (m25 before given)
 
       abbrev pub m27 :
-          (before : After-get-arg) →
-          (given : s29 .gives (m26 (before .before) (before .get-arg .given))) →
+          (before : After-recs) →
+          (given : s23 .gives (m20 (before .before) (before .recs .given))) →
           Typed.Mo T33
-      m27 = λ before given. s29 .next (m26 (before .before) (before .get-arg .given)) given
+      m27 = λ before given. s29 (m26 before given)
+
+      abbrev pub Need-get-requires : Type 0
+      Need-get-requires = (c : After-get-arg) → s30 .asks (m27 (c .before) (c .get-arg .given))
+
+      abbrev pub m28 :
+          (before : After-get-arg) →
+          (given : s30 .gives (m27 (before .before) (before .get-arg .given))) →
+          Typed.Mo T34
+      m28 = λ before given. s30 .next (m27 (before .before) (before .get-arg .given)) given
 
       module _ (before· : After-get-arg) where
         abbrev pub After-get·own : Type 0
-        After-get·own = Called.Called ps·1 r·1 (claims· .3) T32 (
+        After-get·own = Called.Called ps·1 r·1 (claims· .3) T33 (
           record {
-            pos = 19;
+            pos = 20;
             ty = Syntax.tyRef
                 Syntax.erased
                 Syntax.imm
                 Elem.ty;
             ref = λ x. x;
           },
-          (Num.vAt 22 λ x. x, tt),
-        ) (m26 (before· .before) (before· .get-arg .given))
+          (Num.vAt 23 λ x. x, tt),
+        ) (m27 (before· .before) (before· .get-arg .given))
 
       pub record After-get : Type 0 where
         pub before : After-get-arg
         pub get : After-get·own before
 
       abbrev pub After-get·gave :
-          (c : After-get) → s29 .gives (m26 (c .before .before) (c .before .get-arg .given))
-      After-get·gave = λ c. Called.given ps·1 r·1 (claims· .3) T32 (
+          (c : After-get) → s30 .gives (m27 (c .before .before) (c .before .get-arg .given))
+      After-get·gave = λ c. Called.given ps·1 r·1 (claims· .3) T33 (
         record {
-          pos = 19;
+          pos = 20;
           ty = Syntax.tyRef
               Syntax.erased
               Syntax.imm
               Elem.ty;
           ref = λ x. x;
         },
-        (Num.vAt 22 λ x. x, tt),
-      ) (m26 (c .before .before) (c .before .get-arg .given)) (c .get)
-
-      abbrev pub m28 :
-          (before : After-get-arg) →
-          (given : s29 .gives (m26 (before .before) (before .get-arg .given))) →
-          Typed.Mo T34
-      m28 = λ before given. s30 (m27 before given)
+        (Num.vAt 23 λ x. x, tt),
+      ) (m27 (c .before .before) (c .before .get-arg .given)) (c .get)
 
       abbrev pub m29 :
           (before : After-get-arg) →
-          (given : s29 .gives (m26 (before .before) (before .get-arg .given))) →
+          (given : s30 .gives (m27 (before .before) (before .get-arg .given))) →
           Typed.Mo T35
       m29 = λ before given. s31 (m28 before given)
 
       abbrev pub m30 :
           (before : After-get-arg) →
-          (given : s29 .gives (m26 (before .before) (before .get-arg .given))) →
-          Typed.Mo T37
-      m30 = λ before given. s33 (m29 before given)
+          (given : s30 .gives (m27 (before .before) (before .get-arg .given))) →
+          Typed.Mo T36
+      m30 = λ before given. s32 (m29 before given)
 
       abbrev pub m31 :
-          (before : After-get) →
-          (given : s36 .gives (m30 (before .before) (After-get·gave before))) →
-          Typed.Mo T40
-      m31 = λ before given. s36 .next (m30 (before .before) (After-get·gave before)) given
+          (before : After-get-arg) →
+          (given : s30 .gives (m27 (before .before) (before .get-arg .given))) →
+          Typed.Mo T38
+      m31 = λ before given. s34 (m30 before given)
 
       abbrev pub m32 :
           (before : After-get) →
-          (given : s36 .gives (m30 (before .before) (After-get·gave before))) →
+          (given : s37 .gives (m31 (before .before) (After-get·gave before))) →
           Typed.Mo T41
-      m32 = λ before given. s37 .next (m31 before given)
+      m32 = λ before given. s37 .next (m31 (before .before) (After-get·gave before)) given
+
+      abbrev pub m33 :
+          (before : After-get) →
+          (given : s37 .gives (m31 (before .before) (After-get·gave before))) →
+          Typed.Mo T42
+      m33 = λ before given. s38 .next (m32 before given)
 
       module _ (before· : After-get) where
         pub record After-turn-line-arg·own : Type 0 where
-          pub given : s36 .gives (m30 (before· .before) (After-get·gave before·))
+          pub given : s37 .gives (m31 (before· .before) (After-get·gave before·))
 
       pub record After-turn-line-arg : Type 0 where
         pub before : After-get
         pub turn-line-arg : After-turn-line-arg·own before
 
-      abbrev pub m33 :
-          (before : After-turn-line-arg) →
-          (given : s39 .gives (m32 (before .before) (before .turn-line-arg .given))) →
-          Typed.Mo T43
-      m33 = λ before given. s39 .next (m32 (before .before) (before .turn-line-arg .given)) given
-
       abbrev pub m34 :
           (before : After-turn-line-arg) →
-          (given : s39 .gives (m32 (before .before) (before .turn-line-arg .given))) →
+          (given : s40 .gives (m33 (before .before) (before .turn-line-arg .given))) →
           Typed.Mo T44
-      m34 = λ before given. s40 .next (m33 before given)
+      m34 = λ before given. s40 .next (m33 (before .before) (before .turn-line-arg .given)) given
+
+      abbrev pub m35 :
+          (before : After-turn-line-arg) →
+          (given : s40 .gives (m33 (before .before) (before .turn-line-arg .given))) →
+          Typed.Mo T45
+      m35 = λ before given. s41 .next (m34 before given)
 
       module _ (before· : After-turn-line-arg) where
         pub record After-turn-line-arg2·own : Type 0 where
-          pub given : s39 .gives (m32 (before· .before) (before· .turn-line-arg .given))
+          pub given : s40 .gives (m33 (before· .before) (before· .turn-line-arg .given))
 
       pub record After-turn-line-arg2 : Type 0 where
         pub before : After-turn-line-arg
         pub turn-line-arg2 : After-turn-line-arg2·own before
 
-      abbrev pub m35 :
-          (before : After-turn-line-arg2) →
-          (given : s42 .gives (m34 (before .before) (before .turn-line-arg2 .given))) →
-          Typed.Mo T46
-      m35 = λ before given. s42 .next (m34 (before .before) (before .turn-line-arg2 .given)) given
-
       abbrev pub m36 :
           (before : After-turn-line-arg2) →
-          (given : s42 .gives (m34 (before .before) (before .turn-line-arg2 .given))) →
+          (given : s43 .gives (m35 (before .before) (before .turn-line-arg2 .given))) →
           Typed.Mo T47
-      m36 = λ before given. s43 .next (m35 before given)
+      m36 = λ before given. s43 .next (m35 (before .before) (before .turn-line-arg2 .given)) given
+
+      abbrev pub m37 :
+          (before : After-turn-line-arg2) →
+          (given : s43 .gives (m35 (before .before) (before .turn-line-arg2 .given))) →
+          Typed.Mo T48
+      m37 = λ before given. s44 .next (m36 before given)
 
       module _ (before· : After-turn-line-arg2) where
         pub record After-turn-line-arg3·own : Type 0 where
-          pub given : s42 .gives (m34 (before· .before) (before· .turn-line-arg2 .given))
+          pub given : s43 .gives (m35 (before· .before) (before· .turn-line-arg2 .given))
 
       pub record After-turn-line-arg3 : Type 0 where
         pub before : After-turn-line-arg2
         pub turn-line-arg3 : After-turn-line-arg3·own before
 
-      abbrev pub m37 :
-          (before : After-turn-line-arg3) →
-          (given : s45 .gives (m36 (before .before) (before .turn-line-arg3 .given))) →
-          Typed.Mo T49
-      m37 = λ before given. s45 .next (m36 (before .before) (before .turn-line-arg3 .given)) given
-
       abbrev pub m38 :
           (before : After-turn-line-arg3) →
-          (given : s45 .gives (m36 (before .before) (before .turn-line-arg3 .given))) →
+          (given : s46 .gives (m37 (before .before) (before .turn-line-arg3 .given))) →
           Typed.Mo T50
-      m38 = λ before given. s46 .next (m37 before given)
+      m38 = λ before given. s46 .next (m37 (before .before) (before .turn-line-arg3 .given)) given
+
+      abbrev pub m39 :
+          (before : After-turn-line-arg3) →
+          (given : s46 .gives (m37 (before .before) (before .turn-line-arg3 .given))) →
+          Typed.Mo T51
+      m39 = λ before given. s47 .next (m38 before given)
 
       module _ (before· : After-turn-line-arg3) where
         pub record After-turn-line-arg4·own : Type 0 where
-          pub given : s45 .gives (m36 (before· .before) (before· .turn-line-arg3 .given))
+          pub given : s46 .gives (m37 (before· .before) (before· .turn-line-arg3 .given))
 
       pub record After-turn-line-arg4 : Type 0 where
         pub before : After-turn-line-arg3
@@ -14375,33 +14910,33 @@ module _ (claims· : Claims) where
 
       abbrev pub Need-turn-line-requires : Type 0
       Need-turn-line-requires =
-          (c : After-turn-line-arg4) → s47 .asks (m38 (c .before) (c .turn-line-arg4 .given))
+          (c : After-turn-line-arg4) → s48 .asks (m39 (c .before) (c .turn-line-arg4 .given))
 
-      abbrev pub m39 :
+      abbrev pub m40 :
           (before : After-turn-line-arg4) →
-          (given : s47 .gives (m38 (before .before) (before .turn-line-arg4 .given))) →
-          Typed.Mo T51
-      m39 = λ before given. s47 .next (m38 (before .before) (before .turn-line-arg4 .given)) given
+          (given : s48 .gives (m39 (before .before) (before .turn-line-arg4 .given))) →
+          Typed.Mo T52
+      m40 = λ before given. s48 .next (m39 (before .before) (before .turn-line-arg4 .given)) given
 
       module _ (before· : After-turn-line-arg4) where
         abbrev pub After-turn-line·own : Type 0
-        After-turn-line·own = Called.Called ps·2 r·2 (claims· .5) T50 (
+        After-turn-line·own = Called.Called ps·2 r·2 (claims· .5) T51 (
           record {
             pos = 1;
             ty = Syntax.tyRef (Syntax.named 0) Syntax.imm (Syntax.tyInt Syntax.w8);
             ref = λ x. x;
           },
           (
-            Num.vFld 14 (List._∷_ (Syntax.field 0) List.[]) 0 λ x. LineRec.struct .as-values x .0,
+            Num.vFld 15 (List._∷_ (Syntax.field 0) List.[]) 0 λ x. LineRec.struct .as-values x .0,
             (
               Num.vFld
-                  14
+                  15
                   (List._∷_ (Syntax.field 1) List.[])
                   8
                   λ x. LineRec.struct .as-values
                   x .1 .0,
               (
-                Num.vAt 12 λ x. x,
+                Num.vAt 13 λ x. x,
                 (
                   record {
                     pos = 4;
@@ -14416,27 +14951,121 @@ module _ (claims· : Claims) where
                     },
                     (
                       record {
-                        pos = 24;
+                        pos = 6;
+                        ty = Syntax.tyRef (Syntax.named 4) Syntax.imm (Syntax.tyInt Syntax.w64);
+                        ref = λ x. x;
+                      },
+                      (
+                        record {
+                          pos = 25;
+                          ty = Syntax.tyRef Syntax.erased Syntax.mut (Syntax.tyInt Syntax.w64);
+                          ref = λ x. x;
+                        },
+                        (
+                          record {
+                            pos = 27;
+                            ty = Syntax.tyRef Syntax.erased Syntax.mut (Syntax.tyInt Syntax.w8);
+                            ref = λ x. x;
+                          },
+                          (
+                            Num.vAt 14 λ x. x,
+                            (
+                              record {
+                                pos = 29;
+                                ty = Syntax.tyRef
+                                    Syntax.erased
+                                    Syntax.mut
+                                    (Syntax.tyInt Syntax.w8);
+                                ref = λ x. x;
+                              },
+                              (
+                                record {
+                                  pos = 31;
+                                  ty = Syntax.tyRef
+                                      Syntax.erased
+                                      Syntax.mut
+                                      (Syntax.tyInt Syntax.w8);
+                                  ref = λ x. x;
+                                },
+                                tt,
+                              ),
+                            ),
+                          ),
+                        ),
+                      ),
+                    ),
+                  ),
+                ),
+              ),
+            ),
+          ),
+        ) (m39 (before· .before) (before· .turn-line-arg4 .given))
+
+      pub record After-turn-line : Type 0 where
+        pub before : After-turn-line-arg4
+        pub turn-line : After-turn-line·own before
+
+      abbrev pub After-turn-line·gave :
+          (c : After-turn-line) →
+          s48 .gives (m39 (c .before .before) (c .before .turn-line-arg4 .given))
+      After-turn-line·gave = λ c. Called.given ps·2 r·2 (claims· .5) T51 (
+        record {
+          pos = 1;
+          ty = Syntax.tyRef (Syntax.named 0) Syntax.imm (Syntax.tyInt Syntax.w8);
+          ref = λ x. x;
+        },
+        (
+          Num.vFld 15 (List._∷_ (Syntax.field 0) List.[]) 0 λ x. LineRec.struct .as-values x .0,
+          (
+            Num.vFld
+                15
+                (List._∷_ (Syntax.field 1) List.[])
+                8
+                λ x. LineRec.struct .as-values
+                x .1 .0,
+            (
+              Num.vAt 13 λ x. x,
+              (
+                record {
+                  pos = 4;
+                  ty = Syntax.tyRef (Syntax.named 2) Syntax.imm (Syntax.tyInt Syntax.w64);
+                  ref = λ x. x;
+                },
+                (
+                  record {
+                    pos = 5;
+                    ty = Syntax.tyRef (Syntax.named 3) Syntax.imm (Syntax.tyInt Syntax.w8);
+                    ref = λ x. x;
+                  },
+                  (
+                    record {
+                      pos = 6;
+                      ty = Syntax.tyRef (Syntax.named 4) Syntax.imm (Syntax.tyInt Syntax.w64);
+                      ref = λ x. x;
+                    },
+                    (
+                      record {
+                        pos = 25;
                         ty = Syntax.tyRef Syntax.erased Syntax.mut (Syntax.tyInt Syntax.w64);
                         ref = λ x. x;
                       },
                       (
                         record {
-                          pos = 26;
+                          pos = 27;
                           ty = Syntax.tyRef Syntax.erased Syntax.mut (Syntax.tyInt Syntax.w8);
                           ref = λ x. x;
                         },
                         (
-                          Num.vAt 13 λ x. x,
+                          Num.vAt 14 λ x. x,
                           (
                             record {
-                              pos = 28;
+                              pos = 29;
                               ty = Syntax.tyRef Syntax.erased Syntax.mut (Syntax.tyInt Syntax.w8);
                               ref = λ x. x;
                             },
                             (
                               record {
-                                pos = 30;
+                                pos = 31;
                                 ty = Syntax.tyRef
                                     Syntax.erased
                                     Syntax.mut
@@ -14454,346 +15083,282 @@ module _ (claims· : Claims) where
               ),
             ),
           ),
-        ) (m38 (before· .before) (before· .turn-line-arg4 .given))
-
-      pub record After-turn-line : Type 0 where
-        pub before : After-turn-line-arg4
-        pub turn-line : After-turn-line·own before
-
-      abbrev pub After-turn-line·gave :
-          (c : After-turn-line) →
-          s47 .gives (m38 (c .before .before) (c .before .turn-line-arg4 .given))
-      After-turn-line·gave = λ c. Called.given ps·2 r·2 (claims· .5) T50 (
-        record {
-          pos = 1;
-          ty = Syntax.tyRef (Syntax.named 0) Syntax.imm (Syntax.tyInt Syntax.w8);
-          ref = λ x. x;
-        },
-        (
-          Num.vFld 14 (List._∷_ (Syntax.field 0) List.[]) 0 λ x. LineRec.struct .as-values x .0,
-          (
-            Num.vFld
-                14
-                (List._∷_ (Syntax.field 1) List.[])
-                8
-                λ x. LineRec.struct .as-values
-                x .1 .0,
-            (
-              Num.vAt 12 λ x. x,
-              (
-                record {
-                  pos = 4;
-                  ty = Syntax.tyRef (Syntax.named 2) Syntax.imm (Syntax.tyInt Syntax.w64);
-                  ref = λ x. x;
-                },
-                (
-                  record {
-                    pos = 5;
-                    ty = Syntax.tyRef (Syntax.named 3) Syntax.imm (Syntax.tyInt Syntax.w8);
-                    ref = λ x. x;
-                  },
-                  (
-                    record {
-                      pos = 24;
-                      ty = Syntax.tyRef Syntax.erased Syntax.mut (Syntax.tyInt Syntax.w64);
-                      ref = λ x. x;
-                    },
-                    (
-                      record {
-                        pos = 26;
-                        ty = Syntax.tyRef Syntax.erased Syntax.mut (Syntax.tyInt Syntax.w8);
-                        ref = λ x. x;
-                      },
-                      (
-                        Num.vAt 13 λ x. x,
-                        (
-                          record {
-                            pos = 28;
-                            ty = Syntax.tyRef Syntax.erased Syntax.mut (Syntax.tyInt Syntax.w8);
-                            ref = λ x. x;
-                          },
-                          (
-                            record {
-                              pos = 30;
-                              ty = Syntax.tyRef Syntax.erased Syntax.mut (Syntax.tyInt Syntax.w8);
-                              ref = λ x. x;
-                            },
-                            tt,
-                          ),
-                        ),
-                      ),
-                    ),
-                  ),
-                ),
-              ),
-            ),
-          ),
         ),
-      ) (m38 (c .before .before) (c .before .turn-line-arg4 .given)) (c .turn-line)
-
-      abbrev pub m40 :
-          (before : After-turn-line-arg4) →
-          (given : s47 .gives (m38 (before .before) (before .turn-line-arg4 .given))) →
-          Typed.Mo T52
-      m40 = λ before given. s48 (m39 before given)
+      ) (m39 (c .before .before) (c .before .turn-line-arg4 .given)) (c .turn-line)
 
       abbrev pub m41 :
+          (before : After-turn-line-arg4) →
+          (given : s48 .gives (m39 (before .before) (before .turn-line-arg4 .given))) →
+          Typed.Mo T53
+      m41 = λ before given. s49 (m40 before given)
+
+      abbrev pub m42 :
           (before : After-turn-line) →
-          (given : s50 .gives (m40 (before .before) (After-turn-line·gave before))) →
-          Typed.Mo T54
-      m41 = λ before given. s50 .next (m40 (before .before) (After-turn-line·gave before)) given
+          (given : s51 .gives (m41 (before .before) (After-turn-line·gave before))) →
+          Typed.Mo T55
+      m42 = λ before given. s51 .next (m41 (before .before) (After-turn-line·gave before)) given
 
       module _ (before· : After-turn-line) where
         pub record After-owner·own : Type 0 where
-          pub given : s50 .gives (m40 (before· .before) (After-turn-line·gave before·))
+          pub given : s51 .gives (m41 (before· .before) (After-turn-line·gave before·))
 
       pub record After-owner : Type 0 where
         pub before : After-turn-line
         pub owner : After-owner·own before
 
-      abbrev pub m42 :
+      abbrev pub m43 :
           (before : After-owner) →
-          (given : s51 .gives (m41 (before .before) (before .owner .given))) →
-          Typed.Mo T55
-      m42 = λ before given. s51 .next (m41 (before .before) (before .owner .given)) given
+          (given : s52 .gives (m42 (before .before) (before .owner .given))) →
+          Typed.Mo T56
+      m43 = λ before given. s52 .next (m42 (before .before) (before .owner .given)) given
 
       module _ (before· : After-owner) where
         pub record After-slice-known5·own : Type 0 where
-          pub given : s51 .gives (m41 (before· .before) (before· .owner .given))
+          pub given : s52 .gives (m42 (before· .before) (before· .owner .given))
 
       pub record After-slice-known5 : Type 0 where
         pub before : After-owner
         pub slice-known5 : After-slice-known5·own before
 
-      abbrev pub m43 :
+      abbrev pub m44 :
           (before : After-slice-known5) →
-          (given : s54 .gives (m42 (before .before) (before .slice-known5 .given))) →
-          Typed.Mo T58
-      m43 = λ before given. s54 .next (m42 (before .before) (before .slice-known5 .given)) given
+          (given : s55 .gives (m43 (before .before) (before .slice-known5 .given))) →
+          Typed.Mo T59
+      m44 = λ before given. s55 .next (m43 (before .before) (before .slice-known5 .given)) given
 
       module _ (before· : After-slice-known5) where
         pub record After-stack·own : Type 0 where
-          pub given : s54 .gives (m42 (before· .before) (before· .slice-known5 .given))
+          pub given : s55 .gives (m43 (before· .before) (before· .slice-known5 .given))
 
       pub record After-stack : Type 0 where
         pub before : After-slice-known5
         pub stack : After-stack·own before
 
-      abbrev pub m44 :
+      abbrev pub m45 :
           (before : After-stack) →
-          (given : s55 .gives (m43 (before .before) (before .stack .given))) →
-          Typed.Mo T59
-      m44 = λ before given. s55 .next (m43 (before .before) (before .stack .given)) given
+          (given : s56 .gives (m44 (before .before) (before .stack .given))) →
+          Typed.Mo T60
+      m45 = λ before given. s56 .next (m44 (before .before) (before .stack .given)) given
 
       module _ (before· : After-stack) where
         pub record After-slice-known6·own : Type 0 where
-          pub given : s55 .gives (m43 (before· .before) (before· .stack .given))
+          pub given : s56 .gives (m44 (before· .before) (before· .stack .given))
 
       pub record After-slice-known6 : Type 0 where
         pub before : After-stack
         pub slice-known6 : After-slice-known6·own before
 
-      abbrev pub m45 :
+      abbrev pub m46 :
           (before : After-slice-known6) →
-          (given : s58 .gives (m44 (before .before) (before .slice-known6 .given))) →
-          Typed.Mo T62
-      m45 = λ before given. s58 .next (m44 (before .before) (before .slice-known6 .given)) given
+          (given : s59 .gives (m45 (before .before) (before .slice-known6 .given))) →
+          Typed.Mo T63
+      m46 = λ before given. s59 .next (m45 (before .before) (before .slice-known6 .given)) given
 
       module _ (before· : After-slice-known6) where
         pub record After-cur·own : Type 0 where
-          pub given : s58 .gives (m44 (before· .before) (before· .slice-known6 .given))
+          pub given : s59 .gives (m45 (before· .before) (before· .slice-known6 .given))
 
       pub record After-cur : Type 0 where
         pub before : After-slice-known6
         pub cur : After-cur·own before
 
-      abbrev pub m46 :
+      abbrev pub m47 :
           (before : After-cur) →
-          (given : s59 .gives (m45 (before .before) (before .cur .given))) →
-          Typed.Mo T63
-      m46 = λ before given. s59 .next (m45 (before .before) (before .cur .given)) given
+          (given : s60 .gives (m46 (before .before) (before .cur .given))) →
+          Typed.Mo T64
+      m47 = λ before given. s60 .next (m46 (before .before) (before .cur .given)) given
 
       module _ (before· : After-cur) where
         pub record After-slice-known7·own : Type 0 where
-          pub given : s59 .gives (m45 (before· .before) (before· .cur .given))
+          pub given : s60 .gives (m46 (before· .before) (before· .cur .given))
 
       pub record After-slice-known7 : Type 0 where
         pub before : After-cur
         pub slice-known7 : After-slice-known7·own before
 
-      abbrev pub m47 :
+      abbrev pub m48 :
           (before : After-slice-known7) →
-          (given : s62 .gives (m46 (before .before) (before .slice-known7 .given))) →
-          Typed.Mo T66
-      m47 = λ before given. s62 .next (m46 (before .before) (before .slice-known7 .given)) given
+          (given : s63 .gives (m47 (before .before) (before .slice-known7 .given))) →
+          Typed.Mo T67
+      m48 = λ before given. s63 .next (m47 (before .before) (before .slice-known7 .given)) given
 
       module _ (before· : After-slice-known7) where
         pub record After-next·own : Type 0 where
-          pub given : s62 .gives (m46 (before· .before) (before· .slice-known7 .given))
+          pub given : s63 .gives (m47 (before· .before) (before· .slice-known7 .given))
 
       pub record After-next : Type 0 where
         pub before : After-slice-known7
         pub next : After-next·own before
 
-      abbrev pub m48 :
+      abbrev pub m49 :
           (before : After-next) →
-          (given : s63 .gives (m47 (before .before) (before .next .given))) →
-          Typed.Mo T67
-      m48 = λ before given. s63 .next (m47 (before .before) (before .next .given)) given
+          (given : s64 .gives (m48 (before .before) (before .next .given))) →
+          Typed.Mo T68
+      m49 = λ before given. s64 .next (m48 (before .before) (before .next .given)) given
 
       module _ (before· : After-next) where
         pub record After-slice-known8·own : Type 0 where
-          pub given : s63 .gives (m47 (before· .before) (before· .next .given))
+          pub given : s64 .gives (m48 (before· .before) (before· .next .given))
 
       pub record After-slice-known8 : Type 0 where
         pub before : After-next
         pub slice-known8 : After-slice-known8·own before
 
       abbrev pub Need-add-n : Type 0
-      Need-add-n = (c : After-slice-known8) → s65 .asks (m48 (c .before) (c .slice-known8 .given))
+      Need-add-n = (c : After-slice-known8) → s66 .asks (m49 (c .before) (c .slice-known8 .given))
 
-      abbrev pub m49 :
+      abbrev pub m50 :
           (before : After-next) →
-          (given : s63 .gives (m47 (before .before) (before .next .given))) →
-          Typed.Mo T69
-      m49 = λ before given. s65 .next (m48 before given)
+          (given : s64 .gives (m48 (before .before) (before .next .given))) →
+          Typed.Mo T70
+      m50 = λ before given. s66 .next (m49 before given)
 
       abbrev pub Need-loop-less : Type 0
       Need-loop-less =
-          (c : After-slice-known8) → Nat._<_ (μ·0 (Row.get 1 (T12 .locals) (m11
+          (c : After-slice-known8) → Nat._<_ (μ·0 (Row.get 1 (T13 .locals) (m12
           (c .before .before .before .before .before .before .before .before .before .before
           .before .before .before .before .before .before .before .before .before .before .before)
           (c .before .before .before .before .before .before .before .before .before .before
           .before .before .before .before .before .before .before .before .before .before
-          .slice-known4 .given)) .now) (Row.get 2 (T12 .locals) (m11
+          .slice-known4 .given)) .now) (Row.get 2 (T13 .locals) (m12
           (c .before .before .before .before .before .before .before .before .before .before
           .before .before .before .before .before .before .before .before .before .before .before)
           (c .before .before .before .before .before .before .before .before .before .before
           .before .before .before .before .before .before .before .before .before .before
-          .slice-known4 .given)) .now) (Row.get 3 (T12 .locals) (m11
+          .slice-known4 .given)) .now) (Row.get 3 (T13 .locals) (m12
           (c .before .before .before .before .before .before .before .before .before .before
           .before .before .before .before .before .before .before .before .before .before .before)
           (c .before .before .before .before .before .before .before .before .before .before
           .before .before .before .before .before .before .before .before .before .before
-          .slice-known4 .given))) (Row.get 4 (T12 .locals) (m11
+          .slice-known4 .given))) (Row.get 4 (T13 .locals) (m12
           (c .before .before .before .before .before .before .before .before .before .before
           .before .before .before .before .before .before .before .before .before .before .before)
           (c .before .before .before .before .before .before .before .before .before .before
           .before .before .before .before .before .before .before .before .before .before
-          .slice-known4 .given)) .now) (Row.get 5 (T12 .locals) (m11
+          .slice-known4 .given)) .now) (Row.get 5 (T13 .locals) (m12
           (c .before .before .before .before .before .before .before .before .before .before
           .before .before .before .before .before .before .before .before .before .before .before)
           (c .before .before .before .before .before .before .before .before .before .before
           .before .before .before .before .before .before .before .before .before .before
-          .slice-known4 .given)) .now) (Row.get 6 (T12 .locals) (m11
+          .slice-known4 .given)) .now) (Row.get 6 (T13 .locals) (m12
           (c .before .before .before .before .before .before .before .before .before .before
           .before .before .before .before .before .before .before .before .before .before .before)
           (c .before .before .before .before .before .before .before .before .before .before
           .before .before .before .before .before .before .before .before .before .before
-          .slice-known4 .given)) .now) (Row.get 7 (T12 .locals) (m11
+          .slice-known4 .given)) .now) (Row.get 7 (T13 .locals) (m12
           (c .before .before .before .before .before .before .before .before .before .before
           .before .before .before .before .before .before .before .before .before .before .before)
           (c .before .before .before .before .before .before .before .before .before .before
           .before .before .before .before .before .before .before .before .before .before
-          .slice-known4 .given)) .now) (Row.get 8 (T12 .locals) (m11
+          .slice-known4 .given)) .now) (Row.get 8 (T13 .locals) (m12
           (c .before .before .before .before .before .before .before .before .before .before
           .before .before .before .before .before .before .before .before .before .before .before)
           (c .before .before .before .before .before .before .before .before .before .before
           .before .before .before .before .before .before .before .before .before .before
-          .slice-known4 .given)) .now) (Row.get 9 (T12 .locals) (m11
+          .slice-known4 .given)) .now) (Row.get 9 (T13 .locals) (m12
           (c .before .before .before .before .before .before .before .before .before .before
           .before .before .before .before .before .before .before .before .before .before .before)
           (c .before .before .before .before .before .before .before .before .before .before
           .before .before .before .before .before .before .before .before .before .before
-          .slice-known4 .given)) .now) (Row.get 10 (T12 .locals) (m11
+          .slice-known4 .given)) .now) (Row.get 10 (T13 .locals) (m12
           (c .before .before .before .before .before .before .before .before .before .before
           .before .before .before .before .before .before .before .before .before .before .before)
           (c .before .before .before .before .before .before .before .before .before .before
           .before .before .before .before .before .before .before .before .before .before
-          .slice-known4 .given)) .now) (Row.get 11 (T12 .locals) (m11
+          .slice-known4 .given)) .now) (Row.get 11 (T13 .locals) (m12
           (c .before .before .before .before .before .before .before .before .before .before
           .before .before .before .before .before .before .before .before .before .before .before)
           (c .before .before .before .before .before .before .before .before .before .before
           .before .before .before .before .before .before .before .before .before .before
-          .slice-known4 .given))) (Row.get 12 (T12 .locals) (m11
+          .slice-known4 .given)) .now) (Row.get 12 (T13 .locals) (m12
           (c .before .before .before .before .before .before .before .before .before .before
           .before .before .before .before .before .before .before .before .before .before .before)
           (c .before .before .before .before .before .before .before .before .before .before
           .before .before .before .before .before .before .before .before .before .before
-          .slice-known4 .given))) (Row.get 13 (T12 .locals) (m11
+          .slice-known4 .given))) (Row.get 13 (T13 .locals) (m12
           (c .before .before .before .before .before .before .before .before .before .before
           .before .before .before .before .before .before .before .before .before .before .before)
           (c .before .before .before .before .before .before .before .before .before .before
           .before .before .before .before .before .before .before .before .before .before
-          .slice-known4 .given))) (Row.get 6 (T12 .locals) (m49 (c .before)
-          (c .slice-known8 .given)) .now) (Row.get 7 (T12 .locals) (m49 (c .before)
-          (c .slice-known8 .given)) .now) (Row.get 8 (T12 .locals) (m49 (c .before)
-          (c .slice-known8 .given)) .now) (Row.get 9 (T12 .locals) (m49 (c .before)
-          (c .slice-known8 .given)) .now) (Row.get 10 (T12 .locals) (m49 (c .before)
-          (c .slice-known8 .given)) .now) (Row.get 11 (T12 .locals) (m49 (c .before)
-          (c .slice-known8 .given))) (Row.get 12 (T12 .locals) (m49 (c .before)
-          (c .slice-known8 .given))) (Row.get 13 (T12 .locals) (m49 (c .before)
-          (c .slice-known8 .given)))) (μ·0 (Row.get 1 (T12 .locals) (m11
+          .slice-known4 .given))) (Row.get 14 (T13 .locals) (m12
           (c .before .before .before .before .before .before .before .before .before .before
           .before .before .before .before .before .before .before .before .before .before .before)
           (c .before .before .before .before .before .before .before .before .before .before
           .before .before .before .before .before .before .before .before .before .before
-          .slice-known4 .given)) .now) (Row.get 2 (T12 .locals) (m11
+          .slice-known4 .given))) (Row.get 7 (T13 .locals) (m50 (c .before)
+          (c .slice-known8 .given)) .now) (Row.get 8 (T13 .locals) (m50 (c .before)
+          (c .slice-known8 .given)) .now) (Row.get 9 (T13 .locals) (m50 (c .before)
+          (c .slice-known8 .given)) .now) (Row.get 10 (T13 .locals) (m50 (c .before)
+          (c .slice-known8 .given)) .now) (Row.get 11 (T13 .locals) (m50 (c .before)
+          (c .slice-known8 .given)) .now) (Row.get 12 (T13 .locals) (m50 (c .before)
+          (c .slice-known8 .given))) (Row.get 13 (T13 .locals) (m50 (c .before)
+          (c .slice-known8 .given))) (Row.get 14 (T13 .locals) (m50 (c .before)
+          (c .slice-known8 .given)))) (μ·0 (Row.get 1 (T13 .locals) (m12
           (c .before .before .before .before .before .before .before .before .before .before
           .before .before .before .before .before .before .before .before .before .before .before)
           (c .before .before .before .before .before .before .before .before .before .before
           .before .before .before .before .before .before .before .before .before .before
-          .slice-known4 .given)) .now) (Row.get 3 (T12 .locals) (m11
+          .slice-known4 .given)) .now) (Row.get 2 (T13 .locals) (m12
           (c .before .before .before .before .before .before .before .before .before .before
           .before .before .before .before .before .before .before .before .before .before .before)
           (c .before .before .before .before .before .before .before .before .before .before
           .before .before .before .before .before .before .before .before .before .before
-          .slice-known4 .given))) (Row.get 4 (T12 .locals) (m11
+          .slice-known4 .given)) .now) (Row.get 3 (T13 .locals) (m12
           (c .before .before .before .before .before .before .before .before .before .before
           .before .before .before .before .before .before .before .before .before .before .before)
           (c .before .before .before .before .before .before .before .before .before .before
           .before .before .before .before .before .before .before .before .before .before
-          .slice-known4 .given)) .now) (Row.get 5 (T12 .locals) (m11
+          .slice-known4 .given))) (Row.get 4 (T13 .locals) (m12
           (c .before .before .before .before .before .before .before .before .before .before
           .before .before .before .before .before .before .before .before .before .before .before)
           (c .before .before .before .before .before .before .before .before .before .before
           .before .before .before .before .before .before .before .before .before .before
-          .slice-known4 .given)) .now) (Row.get 6 (T12 .locals) (m11
+          .slice-known4 .given)) .now) (Row.get 5 (T13 .locals) (m12
           (c .before .before .before .before .before .before .before .before .before .before
           .before .before .before .before .before .before .before .before .before .before .before)
           (c .before .before .before .before .before .before .before .before .before .before
           .before .before .before .before .before .before .before .before .before .before
-          .slice-known4 .given)) .now) (Row.get 7 (T12 .locals) (m11
+          .slice-known4 .given)) .now) (Row.get 6 (T13 .locals) (m12
           (c .before .before .before .before .before .before .before .before .before .before
           .before .before .before .before .before .before .before .before .before .before .before)
           (c .before .before .before .before .before .before .before .before .before .before
           .before .before .before .before .before .before .before .before .before .before
-          .slice-known4 .given)) .now) (Row.get 8 (T12 .locals) (m11
+          .slice-known4 .given)) .now) (Row.get 7 (T13 .locals) (m12
           (c .before .before .before .before .before .before .before .before .before .before
           .before .before .before .before .before .before .before .before .before .before .before)
           (c .before .before .before .before .before .before .before .before .before .before
           .before .before .before .before .before .before .before .before .before .before
-          .slice-known4 .given)) .now) (Row.get 9 (T12 .locals) (m11
+          .slice-known4 .given)) .now) (Row.get 8 (T13 .locals) (m12
           (c .before .before .before .before .before .before .before .before .before .before
           .before .before .before .before .before .before .before .before .before .before .before)
           (c .before .before .before .before .before .before .before .before .before .before
           .before .before .before .before .before .before .before .before .before .before
-          .slice-known4 .given)) .now) (Row.get 10 (T12 .locals) (m11
+          .slice-known4 .given)) .now) (Row.get 9 (T13 .locals) (m12
           (c .before .before .before .before .before .before .before .before .before .before
           .before .before .before .before .before .before .before .before .before .before .before)
           (c .before .before .before .before .before .before .before .before .before .before
           .before .before .before .before .before .before .before .before .before .before
-          .slice-known4 .given)) .now) (Row.get 11 (T12 .locals) (m11
+          .slice-known4 .given)) .now) (Row.get 10 (T13 .locals) (m12
           (c .before .before .before .before .before .before .before .before .before .before
           .before .before .before .before .before .before .before .before .before .before .before)
           (c .before .before .before .before .before .before .before .before .before .before
           .before .before .before .before .before .before .before .before .before .before
-          .slice-known4 .given))) (Row.get 12 (T12 .locals) (m11
+          .slice-known4 .given)) .now) (Row.get 11 (T13 .locals) (m12
           (c .before .before .before .before .before .before .before .before .before .before
           .before .before .before .before .before .before .before .before .before .before .before)
           (c .before .before .before .before .before .before .before .before .before .before
           .before .before .before .before .before .before .before .before .before .before
-          .slice-known4 .given))) (Row.get 13 (T12 .locals) (m11
+          .slice-known4 .given)) .now) (Row.get 12 (T13 .locals) (m12
+          (c .before .before .before .before .before .before .before .before .before .before
+          .before .before .before .before .before .before .before .before .before .before .before)
+          (c .before .before .before .before .before .before .before .before .before .before
+          .before .before .before .before .before .before .before .before .before .before
+          .slice-known4 .given))) (Row.get 13 (T13 .locals) (m12
+          (c .before .before .before .before .before .before .before .before .before .before
+          .before .before .before .before .before .before .before .before .before .before .before)
+          (c .before .before .before .before .before .before .before .before .before .before
+          .before .before .before .before .before .before .before .before .before .before
+          .slice-known4 .given))) (Row.get 14 (T13 .locals) (m12
           (c .before .before .before .before .before .before .before .before .before .before
           .before .before .before .before .before .before .before .before .before .before .before)
           (c .before .before .before .before .before .before .before .before .before .before
@@ -14818,86 +15383,88 @@ module _ (claims· : Claims) where
 
       abbrev pub Need-loop-again : Type 0
       Need-loop-again =
-          (c : After-slice-known8) → Inv·0 (Row.get 1 (T12 .locals) (m11
+          (c : After-slice-known8) → Inv·0 (Row.get 1 (T13 .locals) (m12
           (c .before .before .before .before .before .before .before .before .before .before
           .before .before .before .before .before .before .before .before .before .before .before)
           (c .before .before .before .before .before .before .before .before .before .before
           .before .before .before .before .before .before .before .before .before .before
-          .slice-known4 .given)) .now) (Row.get 2 (T12 .locals) (m11
+          .slice-known4 .given)) .now) (Row.get 2 (T13 .locals) (m12
           (c .before .before .before .before .before .before .before .before .before .before
           .before .before .before .before .before .before .before .before .before .before .before)
           (c .before .before .before .before .before .before .before .before .before .before
           .before .before .before .before .before .before .before .before .before .before
-          .slice-known4 .given)) .now) (Row.get 3 (T12 .locals) (m11
+          .slice-known4 .given)) .now) (Row.get 3 (T13 .locals) (m12
           (c .before .before .before .before .before .before .before .before .before .before
           .before .before .before .before .before .before .before .before .before .before .before)
           (c .before .before .before .before .before .before .before .before .before .before
           .before .before .before .before .before .before .before .before .before .before
-          .slice-known4 .given))) (Row.get 4 (T12 .locals) (m11
+          .slice-known4 .given))) (Row.get 4 (T13 .locals) (m12
           (c .before .before .before .before .before .before .before .before .before .before
           .before .before .before .before .before .before .before .before .before .before .before)
           (c .before .before .before .before .before .before .before .before .before .before
           .before .before .before .before .before .before .before .before .before .before
-          .slice-known4 .given)) .now) (Row.get 5 (T12 .locals) (m11
+          .slice-known4 .given)) .now) (Row.get 5 (T13 .locals) (m12
           (c .before .before .before .before .before .before .before .before .before .before
           .before .before .before .before .before .before .before .before .before .before .before)
           (c .before .before .before .before .before .before .before .before .before .before
           .before .before .before .before .before .before .before .before .before .before
-          .slice-known4 .given)) .now) (Row.get 6 (T12 .locals) (m11
+          .slice-known4 .given)) .now) (Row.get 6 (T13 .locals) (m12
           (c .before .before .before .before .before .before .before .before .before .before
           .before .before .before .before .before .before .before .before .before .before .before)
           (c .before .before .before .before .before .before .before .before .before .before
           .before .before .before .before .before .before .before .before .before .before
-          .slice-known4 .given)) .now) (Row.get 7 (T12 .locals) (m11
+          .slice-known4 .given)) .now) (Row.get 7 (T13 .locals) (m12
           (c .before .before .before .before .before .before .before .before .before .before
           .before .before .before .before .before .before .before .before .before .before .before)
           (c .before .before .before .before .before .before .before .before .before .before
           .before .before .before .before .before .before .before .before .before .before
-          .slice-known4 .given)) .now) (Row.get 8 (T12 .locals) (m11
+          .slice-known4 .given)) .now) (Row.get 8 (T13 .locals) (m12
           (c .before .before .before .before .before .before .before .before .before .before
           .before .before .before .before .before .before .before .before .before .before .before)
           (c .before .before .before .before .before .before .before .before .before .before
           .before .before .before .before .before .before .before .before .before .before
-          .slice-known4 .given)) .now) (Row.get 9 (T12 .locals) (m11
+          .slice-known4 .given)) .now) (Row.get 9 (T13 .locals) (m12
           (c .before .before .before .before .before .before .before .before .before .before
           .before .before .before .before .before .before .before .before .before .before .before)
           (c .before .before .before .before .before .before .before .before .before .before
           .before .before .before .before .before .before .before .before .before .before
-          .slice-known4 .given)) .now) (Row.get 10 (T12 .locals) (m11
+          .slice-known4 .given)) .now) (Row.get 10 (T13 .locals) (m12
           (c .before .before .before .before .before .before .before .before .before .before
           .before .before .before .before .before .before .before .before .before .before .before)
           (c .before .before .before .before .before .before .before .before .before .before
           .before .before .before .before .before .before .before .before .before .before
-          .slice-known4 .given)) .now) (Row.get 11 (T12 .locals) (m11
+          .slice-known4 .given)) .now) (Row.get 11 (T13 .locals) (m12
           (c .before .before .before .before .before .before .before .before .before .before
           .before .before .before .before .before .before .before .before .before .before .before)
           (c .before .before .before .before .before .before .before .before .before .before
           .before .before .before .before .before .before .before .before .before .before
-          .slice-known4 .given))) (Row.get 12 (T12 .locals) (m11
+          .slice-known4 .given)) .now) (Row.get 12 (T13 .locals) (m12
           (c .before .before .before .before .before .before .before .before .before .before
           .before .before .before .before .before .before .before .before .before .before .before)
           (c .before .before .before .before .before .before .before .before .before .before
           .before .before .before .before .before .before .before .before .before .before
-          .slice-known4 .given))) (Row.get 13 (T12 .locals) (m11
+          .slice-known4 .given))) (Row.get 13 (T13 .locals) (m12
           (c .before .before .before .before .before .before .before .before .before .before
           .before .before .before .before .before .before .before .before .before .before .before)
           (c .before .before .before .before .before .before .before .before .before .before
           .before .before .before .before .before .before .before .before .before .before
-          .slice-known4 .given))) (Row.get 6 (T12 .locals) (m49 (c .before)
-          (c .slice-known8 .given)) .now) (Row.get 7 (T12 .locals) (m49 (c .before)
-          (c .slice-known8 .given)) .now) (Row.get 8 (T12 .locals) (m49 (c .before)
-          (c .slice-known8 .given)) .now) (Row.get 9 (T12 .locals) (m49 (c .before)
-          (c .slice-known8 .given)) .now) (Row.get 10 (T12 .locals) (m49 (c .before)
-          (c .slice-known8 .given)) .now) (Row.get 11 (T12 .locals) (m49 (c .before)
-          (c .slice-known8 .given))) (Row.get 12 (T12 .locals) (m49 (c .before)
-          (c .slice-known8 .given))) (Row.get 13 (T12 .locals) (m49 (c .before)
+          .slice-known4 .given))) (Row.get 14 (T13 .locals) (m12
+          (c .before .before .before .before .before .before .before .before .before .before
+          .before .before .before .before .before .before .before .before .before .before .before)
+          (c .before .before .before .before .before .before .before .before .before .before
+          .before .before .before .before .before .before .before .before .before .before
+          .slice-known4 .given))) (Row.get 7 (T13 .locals) (m50 (c .before)
+          (c .slice-known8 .given)) .now) (Row.get 8 (T13 .locals) (m50 (c .before)
+          (c .slice-known8 .given)) .now) (Row.get 9 (T13 .locals) (m50 (c .before)
+          (c .slice-known8 .given)) .now) (Row.get 10 (T13 .locals) (m50 (c .before)
+          (c .slice-known8 .given)) .now) (Row.get 11 (T13 .locals) (m50 (c .before)
+          (c .slice-known8 .given)) .now) (Row.get 12 (T13 .locals) (m50 (c .before)
+          (c .slice-known8 .given))) (Row.get 13 (T13 .locals) (m50 (c .before)
+          (c .slice-known8 .given))) (Row.get 14 (T13 .locals) (m50 (c .before)
           (c .slice-known8 .given)))
 
-      abbrev pub m50 : (before : At-loop) → Typed.Mo T70
-      m50 = λ before. s66 (m15 before)
-
       abbrev pub m51 : (before : At-loop) → Typed.Mo T71
-      m51 = λ before. s67 (m50 before)
+      m51 = λ before. s67 (m16 before)
 
       abbrev pub m52 : (before : At-loop) → Typed.Mo T72
       m52 = λ before. s68 (m51 before)
@@ -14908,61 +15475,72 @@ module _ (claims· : Claims) where
       abbrev pub m54 : (before : At-loop) → Typed.Mo T74
       m54 = λ before. s70 (m53 before)
 
+      abbrev pub m55 : (before : At-loop) → Typed.Mo T75
+      m55 = λ before. s71 (m54 before)
+
       abbrev pub Need-same-length : Type 0
       Need-same-length =
-          (c : After-loop) → MutSlice.SameLen (Row.get 6 (T74 .locals) (m54 (c .before))) (dens
-          (c .before .before .before .before .before .before .before .before .before .before .κs)
-          (c .before .before .before .before .before .before .before .before .before .before .args)
-          .1 .1 .1 .1 .1 .0)
+          (c : After-loop) → MutSlice.SameLen (Row.get 7 (T75 .locals) (m55 (c .before))) (dens
+          (c .before .before .before .before .before .before .before .before .before .before
+          .before .κs)
+          (c .before .before .before .before .before .before .before .before .before .before
+          .before .args) .1 .1 .1 .1 .1 .1 .0)
 
       abbrev pub Need-same-length-2 : Type 0
       Need-same-length-2 =
-          (c : After-loop) → MutSlice.SameLen (Row.get 7 (T74 .locals) (m54 (c .before))) (dens
-          (c .before .before .before .before .before .before .before .before .before .before .κs)
-          (c .before .before .before .before .before .before .before .before .before .before .args)
-          .1 .1 .1 .1 .1 .1 .0)
+          (c : After-loop) → MutSlice.SameLen (Row.get 8 (T75 .locals) (m55 (c .before))) (dens
+          (c .before .before .before .before .before .before .before .before .before .before
+          .before .κs)
+          (c .before .before .before .before .before .before .before .before .before .before
+          .before .args) .1 .1 .1 .1 .1 .1 .1 .0)
 
       abbrev pub Need-same-length-3 : Type 0
       Need-same-length-3 =
-          (c : After-loop) → MutSlice.SameLen (Row.get 8 (T74 .locals) (m54 (c .before))) (dens
-          (c .before .before .before .before .before .before .before .before .before .before .κs)
-          (c .before .before .before .before .before .before .before .before .before .before .args)
-          .1 .1 .1 .1 .1 .1 .1 .0)
+          (c : After-loop) → MutSlice.SameLen (Row.get 9 (T75 .locals) (m55 (c .before))) (dens
+          (c .before .before .before .before .before .before .before .before .before .before
+          .before .κs)
+          (c .before .before .before .before .before .before .before .before .before .before
+          .before .args) .1 .1 .1 .1 .1 .1 .1 .1 .0)
 
       abbrev pub Need-same-length-4 : Type 0
       Need-same-length-4 =
-          (c : After-loop) → MutSlice.SameLen (Row.get 9 (T74 .locals) (m54 (c .before))) (dens
-          (c .before .before .before .before .before .before .before .before .before .before .κs)
-          (c .before .before .before .before .before .before .before .before .before .before .args)
-          .1 .1 .1 .1 .1 .1 .1 .1 .0)
+          (c : After-loop) → MutSlice.SameLen (Row.get 10 (T75 .locals) (m55 (c .before))) (dens
+          (c .before .before .before .before .before .before .before .before .before .before
+          .before .κs)
+          (c .before .before .before .before .before .before .before .before .before .before
+          .before .args) .1 .1 .1 .1 .1 .1 .1 .1 .1 .0)
 
       abbrev pub Need-same-length-5 : Type 0
       Need-same-length-5 =
-          (c : After-loop) → MutSlice.SameLen (Row.get 10 (T74 .locals) (m54 (c .before))) (dens
-          (c .before .before .before .before .before .before .before .before .before .before .κs)
-          (c .before .before .before .before .before .before .before .before .before .before .args)
-          .1 .1 .1 .1 .1 .1 .1 .1 .1 .0)
+          (c : After-loop) → MutSlice.SameLen (Row.get 11 (T75 .locals) (m55 (c .before))) (dens
+          (c .before .before .before .before .before .before .before .before .before .before
+          .before .κs)
+          (c .before .before .before .before .before .before .before .before .before .before
+          .before .args) .1 .1 .1 .1 .1 .1 .1 .1 .1 .1 .0)
 
       abbrev pub Need-returns : Type 0
       Need-returns =
           (c : After-loop) → Post·
-          (c .before .before .before .before .before .before .before .before .before .before .κs)
-          (dens
-          (c .before .before .before .before .before .before .before .before .before .before .κs)
-          (c .before .before .before .before .before .before .before .before .before .before .args)
-          ) (Function.resV r
-          (c .before .before .before .before .before .before .before .before .before .before .κs)
-          (m54 (c .before) .0)) (Clauses.atExit (Kinds.endedOf 9 ps r)
-          (c .before .before .before .before .before .before .before .before .before .before .κs)
-          (dens
-          (c .before .before .before .before .before .before .before .before .before .before .κs)
-          (c .before .before .before .before .before .before .before .before .before .before .args)
-          ) (Enter.lastsP
-          (c .before .before .before .before .before .before .before .before .before .before .κs) 1
-          ps xs (dens
-          (c .before .before .before .before .before .before .before .before .before .before .κs)
-          (c .before .before .before .before .before .before .before .before .before .before .args)
-          ) (m54 (c .before) .1)))
+          (c .before .before .before .before .before .before .before .before .before .before
+          .before .κs) (dens
+          (c .before .before .before .before .before .before .before .before .before .before
+          .before .κs)
+          (c .before .before .before .before .before .before .before .before .before .before
+          .before .args)) (Function.resV r
+          (c .before .before .before .before .before .before .before .before .before .before
+          .before .κs) (m55 (c .before) .0)) (Clauses.atExit (Kinds.endedOf 10 ps r)
+          (c .before .before .before .before .before .before .before .before .before .before
+          .before .κs) (dens
+          (c .before .before .before .before .before .before .before .before .before .before
+          .before .κs)
+          (c .before .before .before .before .before .before .before .before .before .before
+          .before .args)) (Enter.lastsP
+          (c .before .before .before .before .before .before .before .before .before .before
+          .before .κs) 1 ps xs (dens
+          (c .before .before .before .before .before .before .before .before .before .before
+          .before .κs)
+          (c .before .before .before .before .before .before .before .before .before .before
+          .before .args)) (m55 (c .before) .1)))
 
       module _ (loop-holds : Need-loop-holds) (refill-requires : Need-refill-requires)
           (add-get : Need-add-get) (sub-get : Need-sub-get) (get-requires : Need-get-requires)
@@ -14973,9 +15551,10 @@ module _ (claims· : Claims) where
           (same-length-5 : Need-same-length-5) (returns : Need-returns) where
         lay7 :
             (c : After-loop) → at66 (W0
-            (c .before .before .before .before .before .before .before .before .before .before .κs)
             (c .before .before .before .before .before .before .before .before .before .before
-            .args)) (m15 (c .before))
+            .before .κs)
+            (c .before .before .before .before .before .before .before .before .before .before
+            .before .args)) (m16 (c .before))
         lay7 = λ c. (
           (
             Path'.refl,
@@ -14988,53 +15567,58 @@ module _ (claims· : Claims) where
                   (
                     Path'.refl,
                     (
-                      MutSlice.fix-len (Row.get 6 (T74 .locals) (m54 (c .before)) .ptr) (Row.get 6
-                          (T74 .locals) (m54 (c .before)) .name) (Row.get 6 (T74 .locals) (m54
-                          (c .before)) .now) (dens
-                          (c .before .before .before .before .before .before .before .before
-                          .before .before .κs)
-                          (c .before .before .before .before .before .before .before .before
-                          .before .before .args) .1 .1 .1 .1 .1 .0 .now) (same-length
-                          record { before = c .before; loop-test = c .loop-test }),
+                      Path'.refl,
                       (
-                        MutSlice.fix-len (Row.get 7 (T74 .locals) (m54 (c .before)) .ptr) (Row.get
-                            7 (T74 .locals) (m54 (c .before)) .name) (Row.get 7 (T74 .locals) (m54
+                        MutSlice.fix-len (Row.get 7 (T75 .locals) (m55 (c .before)) .ptr) (Row.get
+                            7 (T75 .locals) (m55 (c .before)) .name) (Row.get 7 (T75 .locals) (m55
                             (c .before)) .now) (dens
                             (c .before .before .before .before .before .before .before .before
-                            .before .before .κs)
+                            .before .before .before .κs)
                             (c .before .before .before .before .before .before .before .before
-                            .before .before .args) .1 .1 .1 .1 .1 .1 .0 .now) (same-length-2
+                            .before .before .before .args) .1 .1 .1 .1 .1 .1 .0 .now) (same-length
                             record { before = c .before; loop-test = c .loop-test }),
                         (
-                          MutSlice.fix-len (Row.get 8 (T74 .locals) (m54 (c .before)) .ptr)
-                              (Row.get 8 (T74 .locals) (m54 (c .before)) .name) (Row.get 8
-                              (T74 .locals) (m54 (c .before)) .now) (dens
+                          MutSlice.fix-len (Row.get 8 (T75 .locals) (m55 (c .before)) .ptr)
+                              (Row.get 8 (T75 .locals) (m55 (c .before)) .name) (Row.get 8
+                              (T75 .locals) (m55 (c .before)) .now) (dens
                               (c .before .before .before .before .before .before .before .before
-                              .before .before .κs)
+                              .before .before .before .κs)
                               (c .before .before .before .before .before .before .before .before
-                              .before .before .args) .1 .1 .1 .1 .1 .1 .1 .0 .now) (same-length-3
+                              .before .before .before .args) .1 .1 .1 .1 .1 .1 .1 .0 .now)
+                              (same-length-2
                               record { before = c .before; loop-test = c .loop-test }),
                           (
-                            MutSlice.fix-len (Row.get 9 (T74 .locals) (m54 (c .before)) .ptr)
-                                (Row.get 9 (T74 .locals) (m54 (c .before)) .name) (Row.get 9
-                                (T74 .locals) (m54 (c .before)) .now) (dens
+                            MutSlice.fix-len (Row.get 9 (T75 .locals) (m55 (c .before)) .ptr)
+                                (Row.get 9 (T75 .locals) (m55 (c .before)) .name) (Row.get 9
+                                (T75 .locals) (m55 (c .before)) .now) (dens
                                 (c .before .before .before .before .before .before .before .before
-                                .before .before .κs)
+                                .before .before .before .κs)
                                 (c .before .before .before .before .before .before .before .before
-                                .before .before .args) .1 .1 .1 .1 .1 .1 .1 .1 .0 .now)
-                                (same-length-4
+                                .before .before .before .args) .1 .1 .1 .1 .1 .1 .1 .1 .0 .now)
+                                (same-length-3
                                 record { before = c .before; loop-test = c .loop-test }),
                             (
-                              MutSlice.fix-len (Row.get 10 (T74 .locals) (m54 (c .before)) .ptr)
-                                  (Row.get 10 (T74 .locals) (m54 (c .before)) .name) (Row.get 10
-                                  (T74 .locals) (m54 (c .before)) .now) (dens
+                              MutSlice.fix-len (Row.get 10 (T75 .locals) (m55 (c .before)) .ptr)
+                                  (Row.get 10 (T75 .locals) (m55 (c .before)) .name) (Row.get 10
+                                  (T75 .locals) (m55 (c .before)) .now) (dens
                                   (c .before .before .before .before .before .before .before
-                                  .before .before .before .κs)
+                                  .before .before .before .before .κs)
                                   (c .before .before .before .before .before .before .before
-                                  .before .before .before .args) .1 .1 .1 .1 .1 .1 .1 .1 .1 .0
-                                  .now) (same-length-5
+                                  .before .before .before .before .args) .1 .1 .1 .1 .1 .1 .1 .1 .1
+                                  .0 .now) (same-length-4
                                   record { before = c .before; loop-test = c .loop-test }),
-                              tt,
+                              (
+                                MutSlice.fix-len (Row.get 11 (T75 .locals) (m55 (c .before)) .ptr)
+                                    (Row.get 11 (T75 .locals) (m55 (c .before)) .name) (Row.get 11
+                                    (T75 .locals) (m55 (c .before)) .now) (dens
+                                    (c .before .before .before .before .before .before .before
+                                    .before .before .before .before .κs)
+                                    (c .before .before .before .before .before .before .before
+                                    .before .before .before .before .args) .1 .1 .1 .1 .1 .1 .1 .1
+                                    .1 .1 .0 .now) (same-length-5
+                                    record { before = c .before; loop-test = c .loop-test }),
+                                tt,
+                              ),
                             ),
                           ),
                         ),
@@ -15067,7 +15651,7 @@ module _ (claims· : Claims) where
             (c .before .before .before .before .before .before .before .before .before .before
             .before .loop .n)
             (c .before .before .before .before .before .before .before .before .before .before
-            .before .loop .o)) (m39 (c .before) (After-turn-line·gave c))
+            .before .loop .o)) (m40 (c .before) (After-turn-line·gave c))
         lay6 = λ c. (
           Path'.refl,
           λ g. λ g'. (
@@ -15107,72 +15691,77 @@ module _ (claims· : Claims) where
                   },
                   (
                     μ·0
-                        (Row.get 1 (T12 .locals) (m11
+                        (Row.get 1 (T13 .locals) (m12
                         (c .before .before .before .before .before .before .before .before .before
                         .before .before .before .before)
                         (c .before .before .before .before .before .before .before .before .before
                         .before .before .before .slice-known4 .given)) .now)
-                        (Row.get 2 (T12 .locals) (m11
+                        (Row.get 2 (T13 .locals) (m12
                         (c .before .before .before .before .before .before .before .before .before
                         .before .before .before .before)
                         (c .before .before .before .before .before .before .before .before .before
                         .before .before .before .slice-known4 .given)) .now)
-                        (Row.get 3 (T12 .locals) (m11
+                        (Row.get 3 (T13 .locals) (m12
                         (c .before .before .before .before .before .before .before .before .before
                         .before .before .before .before)
                         (c .before .before .before .before .before .before .before .before .before
                         .before .before .before .slice-known4 .given)))
-                        (Row.get 4 (T12 .locals) (m11
+                        (Row.get 4 (T13 .locals) (m12
                         (c .before .before .before .before .before .before .before .before .before
                         .before .before .before .before)
                         (c .before .before .before .before .before .before .before .before .before
                         .before .before .before .slice-known4 .given)) .now)
-                        (Row.get 5 (T12 .locals) (m11
+                        (Row.get 5 (T13 .locals) (m12
                         (c .before .before .before .before .before .before .before .before .before
                         .before .before .before .before)
                         (c .before .before .before .before .before .before .before .before .before
                         .before .before .before .slice-known4 .given)) .now)
-                        (Row.get 6 (T12 .locals) (m11
+                        (Row.get 6 (T13 .locals) (m12
                         (c .before .before .before .before .before .before .before .before .before
                         .before .before .before .before)
                         (c .before .before .before .before .before .before .before .before .before
                         .before .before .before .slice-known4 .given)) .now)
-                        (Row.get 7 (T12 .locals) (m11
+                        (Row.get 7 (T13 .locals) (m12
                         (c .before .before .before .before .before .before .before .before .before
                         .before .before .before .before)
                         (c .before .before .before .before .before .before .before .before .before
                         .before .before .before .slice-known4 .given)) .now)
-                        (Row.get 8 (T12 .locals) (m11
+                        (Row.get 8 (T13 .locals) (m12
                         (c .before .before .before .before .before .before .before .before .before
                         .before .before .before .before)
                         (c .before .before .before .before .before .before .before .before .before
                         .before .before .before .slice-known4 .given)) .now)
-                        (Row.get 9 (T12 .locals) (m11
+                        (Row.get 9 (T13 .locals) (m12
                         (c .before .before .before .before .before .before .before .before .before
                         .before .before .before .before)
                         (c .before .before .before .before .before .before .before .before .before
                         .before .before .before .slice-known4 .given)) .now)
-                        (Row.get 10 (T12 .locals) (m11
+                        (Row.get 10 (T13 .locals) (m12
                         (c .before .before .before .before .before .before .before .before .before
                         .before .before .before .before)
                         (c .before .before .before .before .before .before .before .before .before
                         .before .before .before .slice-known4 .given)) .now)
-                        (Row.get 11 (T12 .locals) (m11
+                        (Row.get 11 (T13 .locals) (m12
+                        (c .before .before .before .before .before .before .before .before .before
+                        .before .before .before .before)
+                        (c .before .before .before .before .before .before .before .before .before
+                        .before .before .before .slice-known4 .given)) .now)
+                        (Row.get 12 (T13 .locals) (m12
                         (c .before .before .before .before .before .before .before .before .before
                         .before .before .before .before)
                         (c .before .before .before .before .before .before .before .before .before
                         .before .before .before .slice-known4 .given)))
-                        (Row.get 12 (T12 .locals) (m11
+                        (Row.get 13 (T13 .locals) (m12
                         (c .before .before .before .before .before .before .before .before .before
                         .before .before .before .before)
                         (c .before .before .before .before .before .before .before .before .before
                         .before .before .before .slice-known4 .given)))
-                        (Row.get 13 (T12 .locals) (m11
+                        (Row.get 14 (T13 .locals) (m12
                         (c .before .before .before .before .before .before .before .before .before
                         .before .before .before .before)
                         (c .before .before .before .before .before .before .before .before .before
                         .before .before .before .slice-known4 .given)))
-                        (Row.get 6 (T12 .locals) (m49 record {
+                        (Row.get 7 (T13 .locals) (m50 record {
                           before = record {
                             before = record {
                               before = record {
@@ -15197,7 +15786,7 @@ module _ (claims· : Claims) where
                           };
                           next = record { given = g'6 };
                         } g'7) .now)
-                        (Row.get 7 (T12 .locals) (m49 record {
+                        (Row.get 8 (T13 .locals) (m50 record {
                           before = record {
                             before = record {
                               before = record {
@@ -15222,7 +15811,7 @@ module _ (claims· : Claims) where
                           };
                           next = record { given = g'6 };
                         } g'7) .now)
-                        (Row.get 8 (T12 .locals) (m49 record {
+                        (Row.get 9 (T13 .locals) (m50 record {
                           before = record {
                             before = record {
                               before = record {
@@ -15247,7 +15836,7 @@ module _ (claims· : Claims) where
                           };
                           next = record { given = g'6 };
                         } g'7) .now)
-                        (Row.get 9 (T12 .locals) (m49 record {
+                        (Row.get 10 (T13 .locals) (m50 record {
                           before = record {
                             before = record {
                               before = record {
@@ -15272,7 +15861,7 @@ module _ (claims· : Claims) where
                           };
                           next = record { given = g'6 };
                         } g'7) .now)
-                        (Row.get 10 (T12 .locals) (m49 record {
+                        (Row.get 11 (T13 .locals) (m50 record {
                           before = record {
                             before = record {
                               before = record {
@@ -15297,7 +15886,7 @@ module _ (claims· : Claims) where
                           };
                           next = record { given = g'6 };
                         } g'7) .now)
-                        (Row.get 11 (T12 .locals) (m49 record {
+                        (Row.get 12 (T13 .locals) (m50 record {
                           before = record {
                             before = record {
                               before = record {
@@ -15322,7 +15911,7 @@ module _ (claims· : Claims) where
                           };
                           next = record { given = g'6 };
                         } g'7))
-                        (Row.get 12 (T12 .locals) (m49 record {
+                        (Row.get 13 (T13 .locals) (m50 record {
                           before = record {
                             before = record {
                               before = record {
@@ -15347,7 +15936,7 @@ module _ (claims· : Claims) where
                           };
                           next = record { given = g'6 };
                         } g'7))
-                        (Row.get 13 (T12 .locals) (m49 record {
+                        (Row.get 14 (T13 .locals) (m50 record {
                           before = record {
                             before = record {
                               before = record {
@@ -15402,7 +15991,7 @@ module _ (claims· : Claims) where
                     },
                     (
                       (
-                        Row.get 6 (T12 .locals) (m49 record {
+                        Row.get 7 (T13 .locals) (m50 record {
                           before = record {
                             before = record {
                               before = record {
@@ -15427,7 +16016,7 @@ module _ (claims· : Claims) where
                           };
                           next = record { given = g'6 };
                         } g'7) .now,
-                        Row.get 7 (T12 .locals) (m49 record {
+                        Row.get 8 (T13 .locals) (m50 record {
                           before = record {
                             before = record {
                               before = record {
@@ -15452,7 +16041,7 @@ module _ (claims· : Claims) where
                           };
                           next = record { given = g'6 };
                         } g'7) .now,
-                        Row.get 8 (T12 .locals) (m49 record {
+                        Row.get 9 (T13 .locals) (m50 record {
                           before = record {
                             before = record {
                               before = record {
@@ -15477,7 +16066,7 @@ module _ (claims· : Claims) where
                           };
                           next = record { given = g'6 };
                         } g'7) .now,
-                        Row.get 9 (T12 .locals) (m49 record {
+                        Row.get 10 (T13 .locals) (m50 record {
                           before = record {
                             before = record {
                               before = record {
@@ -15502,7 +16091,7 @@ module _ (claims· : Claims) where
                           };
                           next = record { given = g'6 };
                         } g'7) .now,
-                        Row.get 10 (T12 .locals) (m49 record {
+                        Row.get 11 (T13 .locals) (m50 record {
                           before = record {
                             before = record {
                               before = record {
@@ -15527,7 +16116,7 @@ module _ (claims· : Claims) where
                           };
                           next = record { given = g'6 };
                         } g'7) .now,
-                        Row.get 11 (T12 .locals) (m49 record {
+                        Row.get 12 (T13 .locals) (m50 record {
                           before = record {
                             before = record {
                               before = record {
@@ -15552,7 +16141,7 @@ module _ (claims· : Claims) where
                           };
                           next = record { given = g'6 };
                         } g'7),
-                        Row.get 12 (T12 .locals) (m49 record {
+                        Row.get 13 (T13 .locals) (m50 record {
                           before = record {
                             before = record {
                               before = record {
@@ -15577,7 +16166,7 @@ module _ (claims· : Claims) where
                           };
                           next = record { given = g'6 };
                         } g'7),
-                        Row.get 13 (T12 .locals) (m49 record {
+                        Row.get 14 (T13 .locals) (m50 record {
                           before = record {
                             before = record {
                               before = record {
@@ -15603,7 +16192,7 @@ module _ (claims· : Claims) where
                           next = record { given = g'6 };
                         } g'7),
                       ),
-                      Path'.refl {a = m49 record {
+                      Path'.refl {a = m50 record {
                         before = record {
                           before = record {
                             before = record {
@@ -15657,72 +16246,77 @@ module _ (claims· : Claims) where
                         slice-known8 = record { given = g'7 };
                       },
                       Path'.refl {a = μ·0
-                          (Row.get 1 (T12 .locals) (m11
+                          (Row.get 1 (T13 .locals) (m12
                           (c .before .before .before .before .before .before .before .before
                           .before .before .before .before .before)
                           (c .before .before .before .before .before .before .before .before
                           .before .before .before .before .slice-known4 .given)) .now)
-                          (Row.get 2 (T12 .locals) (m11
+                          (Row.get 2 (T13 .locals) (m12
                           (c .before .before .before .before .before .before .before .before
                           .before .before .before .before .before)
                           (c .before .before .before .before .before .before .before .before
                           .before .before .before .before .slice-known4 .given)) .now)
-                          (Row.get 3 (T12 .locals) (m11
+                          (Row.get 3 (T13 .locals) (m12
                           (c .before .before .before .before .before .before .before .before
                           .before .before .before .before .before)
                           (c .before .before .before .before .before .before .before .before
                           .before .before .before .before .slice-known4 .given)))
-                          (Row.get 4 (T12 .locals) (m11
+                          (Row.get 4 (T13 .locals) (m12
                           (c .before .before .before .before .before .before .before .before
                           .before .before .before .before .before)
                           (c .before .before .before .before .before .before .before .before
                           .before .before .before .before .slice-known4 .given)) .now)
-                          (Row.get 5 (T12 .locals) (m11
+                          (Row.get 5 (T13 .locals) (m12
                           (c .before .before .before .before .before .before .before .before
                           .before .before .before .before .before)
                           (c .before .before .before .before .before .before .before .before
                           .before .before .before .before .slice-known4 .given)) .now)
-                          (Row.get 6 (T12 .locals) (m11
+                          (Row.get 6 (T13 .locals) (m12
                           (c .before .before .before .before .before .before .before .before
                           .before .before .before .before .before)
                           (c .before .before .before .before .before .before .before .before
                           .before .before .before .before .slice-known4 .given)) .now)
-                          (Row.get 7 (T12 .locals) (m11
+                          (Row.get 7 (T13 .locals) (m12
                           (c .before .before .before .before .before .before .before .before
                           .before .before .before .before .before)
                           (c .before .before .before .before .before .before .before .before
                           .before .before .before .before .slice-known4 .given)) .now)
-                          (Row.get 8 (T12 .locals) (m11
+                          (Row.get 8 (T13 .locals) (m12
                           (c .before .before .before .before .before .before .before .before
                           .before .before .before .before .before)
                           (c .before .before .before .before .before .before .before .before
                           .before .before .before .before .slice-known4 .given)) .now)
-                          (Row.get 9 (T12 .locals) (m11
+                          (Row.get 9 (T13 .locals) (m12
                           (c .before .before .before .before .before .before .before .before
                           .before .before .before .before .before)
                           (c .before .before .before .before .before .before .before .before
                           .before .before .before .before .slice-known4 .given)) .now)
-                          (Row.get 10 (T12 .locals) (m11
+                          (Row.get 10 (T13 .locals) (m12
                           (c .before .before .before .before .before .before .before .before
                           .before .before .before .before .before)
                           (c .before .before .before .before .before .before .before .before
                           .before .before .before .before .slice-known4 .given)) .now)
-                          (Row.get 11 (T12 .locals) (m11
+                          (Row.get 11 (T13 .locals) (m12
+                          (c .before .before .before .before .before .before .before .before
+                          .before .before .before .before .before)
+                          (c .before .before .before .before .before .before .before .before
+                          .before .before .before .before .slice-known4 .given)) .now)
+                          (Row.get 12 (T13 .locals) (m12
                           (c .before .before .before .before .before .before .before .before
                           .before .before .before .before .before)
                           (c .before .before .before .before .before .before .before .before
                           .before .before .before .before .slice-known4 .given)))
-                          (Row.get 12 (T12 .locals) (m11
+                          (Row.get 13 (T13 .locals) (m12
                           (c .before .before .before .before .before .before .before .before
                           .before .before .before .before .before)
                           (c .before .before .before .before .before .before .before .before
                           .before .before .before .before .slice-known4 .given)))
-                          (Row.get 13 (T12 .locals) (m11
+                          (Row.get 14 (T13 .locals) (m12
                           (c .before .before .before .before .before .before .before .before
                           .before .before .before .before .before)
                           (c .before .before .before .before .before .before .before .before
                           .before .before .before .before .slice-known4 .given)))
-                          (Row.get 6 (T12 .locals) (m49 record {
+                          (Row.get 7 (T13 .locals) (m50 record {
                             before = record {
                               before = record {
                                 before = record {
@@ -15747,7 +16341,7 @@ module _ (claims· : Claims) where
                             };
                             next = record { given = g'6 };
                           } g'7) .now)
-                          (Row.get 7 (T12 .locals) (m49 record {
+                          (Row.get 8 (T13 .locals) (m50 record {
                             before = record {
                               before = record {
                                 before = record {
@@ -15772,7 +16366,7 @@ module _ (claims· : Claims) where
                             };
                             next = record { given = g'6 };
                           } g'7) .now)
-                          (Row.get 8 (T12 .locals) (m49 record {
+                          (Row.get 9 (T13 .locals) (m50 record {
                             before = record {
                               before = record {
                                 before = record {
@@ -15797,7 +16391,7 @@ module _ (claims· : Claims) where
                             };
                             next = record { given = g'6 };
                           } g'7) .now)
-                          (Row.get 9 (T12 .locals) (m49 record {
+                          (Row.get 10 (T13 .locals) (m50 record {
                             before = record {
                               before = record {
                                 before = record {
@@ -15822,7 +16416,7 @@ module _ (claims· : Claims) where
                             };
                             next = record { given = g'6 };
                           } g'7) .now)
-                          (Row.get 10 (T12 .locals) (m49 record {
+                          (Row.get 11 (T13 .locals) (m50 record {
                             before = record {
                               before = record {
                                 before = record {
@@ -15847,7 +16441,7 @@ module _ (claims· : Claims) where
                             };
                             next = record { given = g'6 };
                           } g'7) .now)
-                          (Row.get 11 (T12 .locals) (m49 record {
+                          (Row.get 12 (T13 .locals) (m50 record {
                             before = record {
                               before = record {
                                 before = record {
@@ -15872,7 +16466,7 @@ module _ (claims· : Claims) where
                             };
                             next = record { given = g'6 };
                           } g'7))
-                          (Row.get 12 (T12 .locals) (m49 record {
+                          (Row.get 13 (T13 .locals) (m50 record {
                             before = record {
                               before = record {
                                 before = record {
@@ -15897,7 +16491,7 @@ module _ (claims· : Claims) where
                             };
                             next = record { given = g'6 };
                           } g'7))
-                          (Row.get 13 (T12 .locals) (m49 record {
+                          (Row.get 14 (T13 .locals) (m50 record {
                             before = record {
                               before = record {
                                 before = record {
@@ -15943,7 +16537,7 @@ module _ (claims· : Claims) where
             (c .before .before .before .before .before .before .loop .past)
             (c .before .before .before .before .before .before .loop .n)
             (c .before .before .before .before .before .before .loop .o))
-            (m27 (c .before) (After-get·gave c))
+            (m28 (c .before) (After-get·gave c))
         lay5 = λ c. λ g. (
           Path'.refl,
           λ g'. (
@@ -15980,7 +16574,7 @@ module _ (claims· : Claims) where
                       };
                       turn-line-arg4 = record { given = g'3 };
                     };
-                    turn-line = Called.called ps·2 r·2 (claims· .5) T50 (
+                    turn-line = Called.called ps·2 r·2 (claims· .5) T51 (
                       record {
                         pos = 1;
                         ty = Syntax.tyRef (Syntax.named 0) Syntax.imm (Syntax.tyInt Syntax.w8);
@@ -15988,20 +16582,20 @@ module _ (claims· : Claims) where
                       },
                       (
                         Num.vFld
-                            14
+                            15
                             (List._∷_ (Syntax.field 0) List.[])
                             0
                             λ x. LineRec.struct .as-values
                             x .0,
                         (
                           Num.vFld
-                              14
+                              15
                               (List._∷_ (Syntax.field 1) List.[])
                               8
                               λ x. LineRec.struct .as-values
                               x .1 .0,
                           (
-                            Num.vAt 12 λ x. x,
+                            Num.vAt 13 λ x. x,
                             (
                               record {
                                 pos = 4;
@@ -16022,43 +16616,53 @@ module _ (claims· : Claims) where
                                 },
                                 (
                                   record {
-                                    pos = 24;
+                                    pos = 6;
                                     ty = Syntax.tyRef
-                                        Syntax.erased
-                                        Syntax.mut
+                                        (Syntax.named 4)
+                                        Syntax.imm
                                         (Syntax.tyInt Syntax.w64);
                                     ref = λ x. x;
                                   },
                                   (
                                     record {
-                                      pos = 26;
+                                      pos = 25;
                                       ty = Syntax.tyRef
                                           Syntax.erased
                                           Syntax.mut
-                                          (Syntax.tyInt Syntax.w8);
+                                          (Syntax.tyInt Syntax.w64);
                                       ref = λ x. x;
                                     },
                                     (
-                                      Num.vAt 13 λ x. x,
+                                      record {
+                                        pos = 27;
+                                        ty = Syntax.tyRef
+                                            Syntax.erased
+                                            Syntax.mut
+                                            (Syntax.tyInt Syntax.w8);
+                                        ref = λ x. x;
+                                      },
                                       (
-                                        record {
-                                          pos = 28;
-                                          ty = Syntax.tyRef
-                                              Syntax.erased
-                                              Syntax.mut
-                                              (Syntax.tyInt Syntax.w8);
-                                          ref = λ x. x;
-                                        },
+                                        Num.vAt 14 λ x. x,
                                         (
                                           record {
-                                            pos = 30;
+                                            pos = 29;
                                             ty = Syntax.tyRef
                                                 Syntax.erased
                                                 Syntax.mut
                                                 (Syntax.tyInt Syntax.w8);
                                             ref = λ x. x;
                                           },
-                                          tt,
+                                          (
+                                            record {
+                                              pos = 31;
+                                              ty = Syntax.tyRef
+                                                  Syntax.erased
+                                                  Syntax.mut
+                                                  (Syntax.tyInt Syntax.w8);
+                                              ref = λ x. x;
+                                            },
+                                            tt,
+                                          ),
                                         ),
                                       ),
                                     ),
@@ -16069,7 +16673,7 @@ module _ (claims· : Claims) where
                           ),
                         ),
                       ),
-                    ) (m38 record {
+                    ) (m39 record {
                       before = record {
                         before = record {
                           before = record { before = c .before; get = c .get };
@@ -16099,7 +16703,7 @@ module _ (claims· : Claims) where
             (c .before .before .before .loop .past)
             (c .before .before .before .loop .n)
             (c .before .before .before .loop .o))
-            (m18 (c .before) (After-refill·gave c))
+            (m19 (c .before) (After-refill·gave c))
         lay4 = λ c. (
           Path'.refl,
           λ g. λ g'. (
@@ -16136,17 +16740,17 @@ module _ (claims· : Claims) where
                       };
                       get-arg = record { given = g' };
                     };
-                    get = Called.called ps·1 r·1 (claims· .3) T32 (
+                    get = Called.called ps·1 r·1 (claims· .3) T33 (
                       record {
-                        pos = 19;
+                        pos = 20;
                         ty = Syntax.tyRef
                             Syntax.erased
                             Syntax.imm
                             Elem.ty;
                         ref = λ x. x;
                       },
-                      (Num.vAt 22 λ x. x, tt),
-                    ) (m26 record {
+                      (Num.vAt 23 λ x. x, tt),
+                    ) (m27 record {
                       before = record { before = c .before; refill = c .refill };
                       recs = record { given = g };
                     } g') g'';
@@ -16170,7 +16774,7 @@ module _ (claims· : Claims) where
             (c .before .loop .past)
             (c .before .loop .n)
             (c .before .loop .o))
-            (m14 (c .before))
+            (m15 (c .before))
         lay3 = λ c. λ g. (
           Path'.refl,
           (
@@ -16183,7 +16787,7 @@ module _ (claims· : Claims) where
                 before = record { before = c .before; loop-test = c .loop-test };
                 refill-arg = record { given = g };
               };
-              refill = Called.called ps·0 r·0 (claims· .1) T20 (
+              refill = Called.called ps·0 r·0 (claims· .1) T21 (
                 record {
                   pos = 2;
                   ty = Syntax.tyRef (Syntax.named 1) Syntax.imm (Syntax.tyInt Syntax.w64);
@@ -16198,12 +16802,12 @@ module _ (claims· : Claims) where
                   (
                     Num.vAt 3 λ x. x,
                     (
-                      Num.vAt 12 λ x. x,
+                      Num.vAt 13 λ x. x,
                       (
-                        Num.vAt 11 λ x. x,
+                        Num.vAt 12 λ x. x,
                         (
                           record {
-                            pos = 17;
+                            pos = 18;
                             ty = Syntax.tyRef
                                 Syntax.erased
                                 Syntax.mut
@@ -16216,7 +16820,7 @@ module _ (claims· : Claims) where
                     ),
                   ),
                 ),
-              ) (m17 record { before = c .before; loop-test = c .loop-test } g) g';
+              ) (m18 record { before = c .before; loop-test = c .loop-test } g) g';
             },
           ),
         )
@@ -16234,7 +16838,7 @@ module _ (claims· : Claims) where
             (c .before .loop .past)
             (c .before .loop .n)
             (c .before .loop .o))
-            (m13
+            (m14
             (c .before .before)
             (c .before .loop .owner)
             (c .before .loop .stack)
@@ -16259,7 +16863,7 @@ module _ (claims· : Claims) where
             (c .before .loop .past)
             (c .before .loop .n)
             (c .before .loop .o))
-            (m13
+            (m14
             (c .before .before)
             (c .before .loop .owner)
             (c .before .loop .stack)
@@ -16271,209 +16875,236 @@ module _ (claims· : Claims) where
             (c .before .loop .o))
         lay1 = λ c. lay3 record { before = c .before; loop-test = c .loop-test }
 
-        pub laid : (c : Start) → at78 (W0 (c .κs) (c .args)) (m0 (c .κs) (c .args))
-        laid = λ c. λ g. λ g'. λ g''. λ g'3. λ g'4. λ g'5. λ g'6. λ g'7. (
+        pub laid : (c : Start) → at79 (W0 (c .κs) (c .args)) (m0 (c .κs) (c .args))
+        laid = λ c. λ g. λ g'. λ g''. λ g'3. λ g'4. λ g'5. λ g'6. λ g'7. λ g'8. (
           (
             (
-              Row.get 6 (T12 .locals) (m11 record {
+              Row.get 7 (T13 .locals) (m12 record {
                 before = record {
                   before = record {
                     before = record {
                       before = record {
                         before = record {
                           before = record {
-                            before = c;
-                            shared-slice-known = record { given = g };
+                            before = record {
+                              before = c;
+                              shared-slice-known = record { given = g };
+                            };
+                            shared-slice-known2 = record { given = g' };
                           };
-                          shared-slice-known2 = record { given = g' };
+                          shared-slice-known3 = record { given = g'' };
                         };
-                        shared-slice-known3 = record { given = g'' };
+                        shared-slice-known4 = record { given = g'3 };
                       };
-                      shared-slice-known4 = record { given = g'3 };
+                      shared-slice-known5 = record { given = g'4 };
                     };
-                    slice-known = record { given = g'4 };
+                    slice-known = record { given = g'5 };
                   };
-                  slice-known2 = record { given = g'5 };
+                  slice-known2 = record { given = g'6 };
                 };
-                slice-known3 = record { given = g'6 };
-              } g'7) .now,
-              Row.get 7 (T12 .locals) (m11 record {
+                slice-known3 = record { given = g'7 };
+              } g'8) .now,
+              Row.get 8 (T13 .locals) (m12 record {
                 before = record {
                   before = record {
                     before = record {
                       before = record {
                         before = record {
                           before = record {
-                            before = c;
-                            shared-slice-known = record { given = g };
+                            before = record {
+                              before = c;
+                              shared-slice-known = record { given = g };
+                            };
+                            shared-slice-known2 = record { given = g' };
                           };
-                          shared-slice-known2 = record { given = g' };
+                          shared-slice-known3 = record { given = g'' };
                         };
-                        shared-slice-known3 = record { given = g'' };
+                        shared-slice-known4 = record { given = g'3 };
                       };
-                      shared-slice-known4 = record { given = g'3 };
+                      shared-slice-known5 = record { given = g'4 };
                     };
-                    slice-known = record { given = g'4 };
+                    slice-known = record { given = g'5 };
                   };
-                  slice-known2 = record { given = g'5 };
+                  slice-known2 = record { given = g'6 };
                 };
-                slice-known3 = record { given = g'6 };
-              } g'7) .now,
-              Row.get 8 (T12 .locals) (m11 record {
+                slice-known3 = record { given = g'7 };
+              } g'8) .now,
+              Row.get 9 (T13 .locals) (m12 record {
                 before = record {
                   before = record {
                     before = record {
                       before = record {
                         before = record {
                           before = record {
-                            before = c;
-                            shared-slice-known = record { given = g };
+                            before = record {
+                              before = c;
+                              shared-slice-known = record { given = g };
+                            };
+                            shared-slice-known2 = record { given = g' };
                           };
-                          shared-slice-known2 = record { given = g' };
+                          shared-slice-known3 = record { given = g'' };
                         };
-                        shared-slice-known3 = record { given = g'' };
+                        shared-slice-known4 = record { given = g'3 };
                       };
-                      shared-slice-known4 = record { given = g'3 };
+                      shared-slice-known5 = record { given = g'4 };
                     };
-                    slice-known = record { given = g'4 };
+                    slice-known = record { given = g'5 };
                   };
-                  slice-known2 = record { given = g'5 };
+                  slice-known2 = record { given = g'6 };
                 };
-                slice-known3 = record { given = g'6 };
-              } g'7) .now,
-              Row.get 9 (T12 .locals) (m11 record {
+                slice-known3 = record { given = g'7 };
+              } g'8) .now,
+              Row.get 10 (T13 .locals) (m12 record {
                 before = record {
                   before = record {
                     before = record {
                       before = record {
                         before = record {
                           before = record {
-                            before = c;
-                            shared-slice-known = record { given = g };
+                            before = record {
+                              before = c;
+                              shared-slice-known = record { given = g };
+                            };
+                            shared-slice-known2 = record { given = g' };
                           };
-                          shared-slice-known2 = record { given = g' };
+                          shared-slice-known3 = record { given = g'' };
                         };
-                        shared-slice-known3 = record { given = g'' };
+                        shared-slice-known4 = record { given = g'3 };
                       };
-                      shared-slice-known4 = record { given = g'3 };
+                      shared-slice-known5 = record { given = g'4 };
                     };
-                    slice-known = record { given = g'4 };
+                    slice-known = record { given = g'5 };
                   };
-                  slice-known2 = record { given = g'5 };
+                  slice-known2 = record { given = g'6 };
                 };
-                slice-known3 = record { given = g'6 };
-              } g'7) .now,
-              Row.get 10 (T12 .locals) (m11 record {
+                slice-known3 = record { given = g'7 };
+              } g'8) .now,
+              Row.get 11 (T13 .locals) (m12 record {
                 before = record {
                   before = record {
                     before = record {
                       before = record {
                         before = record {
                           before = record {
-                            before = c;
-                            shared-slice-known = record { given = g };
+                            before = record {
+                              before = c;
+                              shared-slice-known = record { given = g };
+                            };
+                            shared-slice-known2 = record { given = g' };
                           };
-                          shared-slice-known2 = record { given = g' };
+                          shared-slice-known3 = record { given = g'' };
                         };
-                        shared-slice-known3 = record { given = g'' };
+                        shared-slice-known4 = record { given = g'3 };
                       };
-                      shared-slice-known4 = record { given = g'3 };
+                      shared-slice-known5 = record { given = g'4 };
                     };
-                    slice-known = record { given = g'4 };
+                    slice-known = record { given = g'5 };
                   };
-                  slice-known2 = record { given = g'5 };
+                  slice-known2 = record { given = g'6 };
                 };
-                slice-known3 = record { given = g'6 };
-              } g'7) .now,
-              Row.get 11 (T12 .locals) (m11 record {
+                slice-known3 = record { given = g'7 };
+              } g'8) .now,
+              Row.get 12 (T13 .locals) (m12 record {
                 before = record {
                   before = record {
                     before = record {
                       before = record {
                         before = record {
                           before = record {
-                            before = c;
-                            shared-slice-known = record { given = g };
+                            before = record {
+                              before = c;
+                              shared-slice-known = record { given = g };
+                            };
+                            shared-slice-known2 = record { given = g' };
                           };
-                          shared-slice-known2 = record { given = g' };
+                          shared-slice-known3 = record { given = g'' };
                         };
-                        shared-slice-known3 = record { given = g'' };
+                        shared-slice-known4 = record { given = g'3 };
                       };
-                      shared-slice-known4 = record { given = g'3 };
+                      shared-slice-known5 = record { given = g'4 };
                     };
-                    slice-known = record { given = g'4 };
+                    slice-known = record { given = g'5 };
                   };
-                  slice-known2 = record { given = g'5 };
+                  slice-known2 = record { given = g'6 };
                 };
-                slice-known3 = record { given = g'6 };
-              } g'7),
-              Row.get 12 (T12 .locals) (m11 record {
+                slice-known3 = record { given = g'7 };
+              } g'8),
+              Row.get 13 (T13 .locals) (m12 record {
                 before = record {
                   before = record {
                     before = record {
                       before = record {
                         before = record {
                           before = record {
-                            before = c;
-                            shared-slice-known = record { given = g };
+                            before = record {
+                              before = c;
+                              shared-slice-known = record { given = g };
+                            };
+                            shared-slice-known2 = record { given = g' };
                           };
-                          shared-slice-known2 = record { given = g' };
+                          shared-slice-known3 = record { given = g'' };
                         };
-                        shared-slice-known3 = record { given = g'' };
+                        shared-slice-known4 = record { given = g'3 };
                       };
-                      shared-slice-known4 = record { given = g'3 };
+                      shared-slice-known5 = record { given = g'4 };
                     };
-                    slice-known = record { given = g'4 };
+                    slice-known = record { given = g'5 };
                   };
-                  slice-known2 = record { given = g'5 };
+                  slice-known2 = record { given = g'6 };
                 };
-                slice-known3 = record { given = g'6 };
-              } g'7),
-              Row.get 13 (T12 .locals) (m11 record {
+                slice-known3 = record { given = g'7 };
+              } g'8),
+              Row.get 14 (T13 .locals) (m12 record {
                 before = record {
                   before = record {
                     before = record {
                       before = record {
                         before = record {
                           before = record {
-                            before = c;
-                            shared-slice-known = record { given = g };
+                            before = record {
+                              before = c;
+                              shared-slice-known = record { given = g };
+                            };
+                            shared-slice-known2 = record { given = g' };
                           };
-                          shared-slice-known2 = record { given = g' };
+                          shared-slice-known3 = record { given = g'' };
                         };
-                        shared-slice-known3 = record { given = g'' };
+                        shared-slice-known4 = record { given = g'3 };
                       };
-                      shared-slice-known4 = record { given = g'3 };
+                      shared-slice-known5 = record { given = g'4 };
                     };
-                    slice-known = record { given = g'4 };
+                    slice-known = record { given = g'5 };
                   };
-                  slice-known2 = record { given = g'5 };
+                  slice-known2 = record { given = g'6 };
                 };
-                slice-known3 = record { given = g'6 };
-              } g'7),
+                slice-known3 = record { given = g'7 };
+              } g'8),
             ),
-            Path'.refl {a = m11 record {
+            Path'.refl {a = m12 record {
               before = record {
                 before = record {
                   before = record {
                     before = record {
                       before = record {
                         before = record {
-                          before = c;
-                          shared-slice-known = record { given = g };
+                          before = record {
+                            before = c;
+                            shared-slice-known = record { given = g };
+                          };
+                          shared-slice-known2 = record { given = g' };
                         };
-                        shared-slice-known2 = record { given = g' };
+                        shared-slice-known3 = record { given = g'' };
                       };
-                      shared-slice-known3 = record { given = g'' };
+                      shared-slice-known4 = record { given = g'3 };
                     };
-                    shared-slice-known4 = record { given = g'3 };
+                    shared-slice-known5 = record { given = g'4 };
                   };
-                  slice-known = record { given = g'4 };
+                  slice-known = record { given = g'5 };
                 };
-                slice-known2 = record { given = g'5 };
+                slice-known2 = record { given = g'6 };
               };
-              slice-known3 = record { given = g'6 };
-            } g'7},
+              slice-known3 = record { given = g'7 };
+            } g'8},
             loop-holds record {
               before = record {
                 before = record {
@@ -16482,22 +17113,25 @@ module _ (claims· : Claims) where
                       before = record {
                         before = record {
                           before = record {
-                            before = c;
-                            shared-slice-known = record { given = g };
+                            before = record {
+                              before = c;
+                              shared-slice-known = record { given = g };
+                            };
+                            shared-slice-known2 = record { given = g' };
                           };
-                          shared-slice-known2 = record { given = g' };
+                          shared-slice-known3 = record { given = g'' };
                         };
-                        shared-slice-known3 = record { given = g'' };
+                        shared-slice-known4 = record { given = g'3 };
                       };
-                      shared-slice-known4 = record { given = g'3 };
+                      shared-slice-known5 = record { given = g'4 };
                     };
-                    slice-known = record { given = g'4 };
+                    slice-known = record { given = g'5 };
                   };
-                  slice-known2 = record { given = g'5 };
+                  slice-known2 = record { given = g'6 };
                 };
-                slice-known3 = record { given = g'6 };
+                slice-known3 = record { given = g'7 };
               };
-              slice-known4 = record { given = g'7 };
+              slice-known4 = record { given = g'8 };
             },
           ),
           λ vs inv. (
@@ -16513,22 +17147,25 @@ module _ (claims· : Claims) where
                             before = record {
                               before = record {
                                 before = record {
-                                  before = c;
-                                  shared-slice-known = record { given = g };
+                                  before = record {
+                                    before = c;
+                                    shared-slice-known = record { given = g };
+                                  };
+                                  shared-slice-known2 = record { given = g' };
                                 };
-                                shared-slice-known2 = record { given = g' };
+                                shared-slice-known3 = record { given = g'' };
                               };
-                              shared-slice-known3 = record { given = g'' };
+                              shared-slice-known4 = record { given = g'3 };
                             };
-                            shared-slice-known4 = record { given = g'3 };
+                            shared-slice-known5 = record { given = g'4 };
                           };
-                          slice-known = record { given = g'4 };
+                          slice-known = record { given = g'5 };
                         };
-                        slice-known2 = record { given = g'5 };
+                        slice-known2 = record { given = g'6 };
                       };
-                      slice-known3 = record { given = g'6 };
+                      slice-known3 = record { given = g'7 };
                     };
-                    slice-known4 = record { given = g'7 };
+                    slice-known4 = record { given = g'8 };
                   };
                   loop = record {
                     owner = vs .0;
@@ -16543,7 +17180,7 @@ module _ (claims· : Claims) where
                   };
                 };
                 loop-test = record {
-                  taken = Tests.ltb-true (Row.get 12 (T12 .locals) (m12 record {
+                  taken = Tests.ltb-true (Row.get 13 (T13 .locals) (m13 record {
                     before = record {
                       before = record {
                         before = record {
@@ -16551,24 +17188,27 @@ module _ (claims· : Claims) where
                             before = record {
                               before = record {
                                 before = record {
-                                  before = c;
-                                  shared-slice-known = record { given = g };
+                                  before = record {
+                                    before = c;
+                                    shared-slice-known = record { given = g };
+                                  };
+                                  shared-slice-known2 = record { given = g' };
                                 };
-                                shared-slice-known2 = record { given = g' };
+                                shared-slice-known3 = record { given = g'' };
                               };
-                              shared-slice-known3 = record { given = g'' };
+                              shared-slice-known4 = record { given = g'3 };
                             };
-                            shared-slice-known4 = record { given = g'3 };
+                            shared-slice-known5 = record { given = g'4 };
                           };
-                          slice-known = record { given = g'4 };
+                          slice-known = record { given = g'5 };
                         };
-                        slice-known2 = record { given = g'5 };
+                        slice-known2 = record { given = g'6 };
                       };
-                      slice-known3 = record { given = g'6 };
+                      slice-known3 = record { given = g'7 };
                     };
-                    slice-known4 = record { given = g'7 };
+                    slice-known4 = record { given = g'8 };
                   } (vs .0) (vs .1) (vs .2) (vs .3) (vs .4) (vs .5) (vs .6) (vs .7)))
-                      (Row.get 3 (T12 .locals) (m12 record {
+                      (Row.get 3 (T13 .locals) (m13 record {
                         before = record {
                           before = record {
                             before = record {
@@ -16576,22 +17216,25 @@ module _ (claims· : Claims) where
                                 before = record {
                                   before = record {
                                     before = record {
-                                      before = c;
-                                      shared-slice-known = record { given = g };
+                                      before = record {
+                                        before = c;
+                                        shared-slice-known = record { given = g };
+                                      };
+                                      shared-slice-known2 = record { given = g' };
                                     };
-                                    shared-slice-known2 = record { given = g' };
+                                    shared-slice-known3 = record { given = g'' };
                                   };
-                                  shared-slice-known3 = record { given = g'' };
+                                  shared-slice-known4 = record { given = g'3 };
                                 };
-                                shared-slice-known4 = record { given = g'3 };
+                                shared-slice-known5 = record { given = g'4 };
                               };
-                              slice-known = record { given = g'4 };
+                              slice-known = record { given = g'5 };
                             };
-                            slice-known2 = record { given = g'5 };
+                            slice-known2 = record { given = g'6 };
                           };
-                          slice-known3 = record { given = g'6 };
+                          slice-known3 = record { given = g'7 };
                         };
-                        slice-known4 = record { given = g'7 };
+                        slice-known4 = record { given = g'8 };
                       } (vs .0) (vs .1) (vs .2) (vs .3) (vs .4) (vs .5) (vs .6) (vs .7)))
                       taken;
                 };
@@ -16606,22 +17249,25 @@ module _ (claims· : Claims) where
                             before = record {
                               before = record {
                                 before = record {
-                                  before = c;
-                                  shared-slice-known = record { given = g };
+                                  before = record {
+                                    before = c;
+                                    shared-slice-known = record { given = g };
+                                  };
+                                  shared-slice-known2 = record { given = g' };
                                 };
-                                shared-slice-known2 = record { given = g' };
+                                shared-slice-known3 = record { given = g'' };
                               };
-                              shared-slice-known3 = record { given = g'' };
+                              shared-slice-known4 = record { given = g'3 };
                             };
-                            shared-slice-known4 = record { given = g'3 };
+                            shared-slice-known5 = record { given = g'4 };
                           };
-                          slice-known = record { given = g'4 };
+                          slice-known = record { given = g'5 };
                         };
-                        slice-known2 = record { given = g'5 };
+                        slice-known2 = record { given = g'6 };
                       };
-                      slice-known3 = record { given = g'6 };
+                      slice-known3 = record { given = g'7 };
                     };
-                    slice-known4 = record { given = g'7 };
+                    slice-known4 = record { given = g'8 };
                   };
                   loop = record {
                     owner = vs .0;
@@ -16636,7 +17282,7 @@ module _ (claims· : Claims) where
                   };
                 };
                 loop-test = record {
-                  left = Tests.ltb-false (Row.get 12 (T12 .locals) (m12 record {
+                  left = Tests.ltb-false (Row.get 13 (T13 .locals) (m13 record {
                     before = record {
                       before = record {
                         before = record {
@@ -16644,24 +17290,27 @@ module _ (claims· : Claims) where
                             before = record {
                               before = record {
                                 before = record {
-                                  before = c;
-                                  shared-slice-known = record { given = g };
+                                  before = record {
+                                    before = c;
+                                    shared-slice-known = record { given = g };
+                                  };
+                                  shared-slice-known2 = record { given = g' };
                                 };
-                                shared-slice-known2 = record { given = g' };
+                                shared-slice-known3 = record { given = g'' };
                               };
-                              shared-slice-known3 = record { given = g'' };
+                              shared-slice-known4 = record { given = g'3 };
                             };
-                            shared-slice-known4 = record { given = g'3 };
+                            shared-slice-known5 = record { given = g'4 };
                           };
-                          slice-known = record { given = g'4 };
+                          slice-known = record { given = g'5 };
                         };
-                        slice-known2 = record { given = g'5 };
+                        slice-known2 = record { given = g'6 };
                       };
-                      slice-known3 = record { given = g'6 };
+                      slice-known3 = record { given = g'7 };
                     };
-                    slice-known4 = record { given = g'7 };
+                    slice-known4 = record { given = g'8 };
                   } (vs .0) (vs .1) (vs .2) (vs .3) (vs .4) (vs .5) (vs .6) (vs .7)))
-                      (Row.get 3 (T12 .locals) (m12 record {
+                      (Row.get 3 (T13 .locals) (m13 record {
                         before = record {
                           before = record {
                             before = record {
@@ -16669,22 +17318,25 @@ module _ (claims· : Claims) where
                                 before = record {
                                   before = record {
                                     before = record {
-                                      before = c;
-                                      shared-slice-known = record { given = g };
+                                      before = record {
+                                        before = c;
+                                        shared-slice-known = record { given = g };
+                                      };
+                                      shared-slice-known2 = record { given = g' };
                                     };
-                                    shared-slice-known2 = record { given = g' };
+                                    shared-slice-known3 = record { given = g'' };
                                   };
-                                  shared-slice-known3 = record { given = g'' };
+                                  shared-slice-known4 = record { given = g'3 };
                                 };
-                                shared-slice-known4 = record { given = g'3 };
+                                shared-slice-known5 = record { given = g'4 };
                               };
-                              slice-known = record { given = g'4 };
+                              slice-known = record { given = g'5 };
                             };
-                            slice-known2 = record { given = g'5 };
+                            slice-known2 = record { given = g'6 };
                           };
-                          slice-known3 = record { given = g'6 };
+                          slice-known3 = record { given = g'7 };
                         };
-                        slice-known4 = record { given = g'7 };
+                        slice-known4 = record { given = g'8 };
                       } (vs .0) (vs .1) (vs .2) (vs .3) (vs .4) (vs .5) (vs .6) (vs .7)))
                       left;
                 };
@@ -16693,13 +17345,13 @@ module _ (claims· : Claims) where
           ),
         )
 
-        module _ (κs : Lifetimes.Lfts 9) (qs : Lifetimes.Shares 9) where
+        module _ (κs : Lifetimes.Lfts 10) (qs : Lifetimes.Shares 10) where
           pub asked :
               (a : Kinds.Dens κs ps) →
               (good : Kinds.GoodsP κs ps a) →
               (pre : Pre· κs a) →
               (bs : List.List Nat.ℕ) →
-              Φ (Any.wantQ 9 ps r xs m κs qs a (Post· κs a)) (Function.init 9 ps r xs m κs qs a)
+              Φ (Any.wantQ 10 ps r xs m κs qs a (Post· κs a)) (Function.init 10 ps r xs m κs qs a)
           asked = λ a good pre bs. laid record {
             κs = κs;
             args = record {
@@ -16708,11 +17360,12 @@ module _ (claims· : Claims) where
               m = a .1 .1 .0;
               blocks = a .1 .1 .1 .0;
               starts = a .1 .1 .1 .1 .0;
-              owner = a .1 .1 .1 .1 .1 .0;
-              stack = a .1 .1 .1 .1 .1 .1 .0;
-              cur = a .1 .1 .1 .1 .1 .1 .1 .0;
-              next = a .1 .1 .1 .1 .1 .1 .1 .1 .0;
-              recs = a .1 .1 .1 .1 .1 .1 .1 .1 .1 .0;
+              notes = a .1 .1 .1 .1 .1 .0;
+              owner = a .1 .1 .1 .1 .1 .1 .0;
+              stack = a .1 .1 .1 .1 .1 .1 .1 .0;
+              cur = a .1 .1 .1 .1 .1 .1 .1 .1 .0;
+              next = a .1 .1 .1 .1 .1 .1 .1 .1 .1 .0;
+              recs = a .1 .1 .1 .1 .1 .1 .1 .1 .1 .1 .0;
             };
             good = good;
             fits = record { m = record { fits = good .1 .1 .0 .1 } };
@@ -16729,7 +17382,7 @@ module _ (claims· : Claims) where
             A
             W
             𝓣
-            7
+            8
             ps·2
             r·2
             (claims· .4)
@@ -16738,8 +17391,8 @@ module _ (claims· : Claims) where
           pub spec :
               Statement.Triple
               𝓤
-              (Wp.WpFn 𝓤 H (𝓣 .C) (𝓣 .Λ) (Function.fnOf 9 ps r xs m hs body))
-              (Function.plainOf 𝓤 H A 9 ps r Pre· Post·)
+              (Wp.WpFn 𝓤 H (𝓣 .C) (𝓣 .Λ) (Function.fnOf 10 ps r xs m hs body))
+              (Function.plainOf 𝓤 H A 10 ps r Pre· Post·)
           spec =
               Plain.t-fn-plain
               𝓤
@@ -16747,7 +17400,7 @@ module _ (claims· : Claims) where
               A
               W
               𝓣
-              9
+              10
               ps
               r
               xs

@@ -75,6 +75,16 @@ After-shared-slice-known4 = λ Inv μ. Lts.After-shared-slice-known4 (
   Reads'.Learnt,
 ) Reads.Pre Reads.Post Inv μ
 
+abbrev pub After-shared-slice-known5 : (Inv : InvT-loop) → (μ : MeasureT-loop) → Type 0
+After-shared-slice-known5 = λ Inv μ. Lts.After-shared-slice-known5 (
+  Reads'3.Asked,
+  Reads'3.Learnt,
+  Reads''.Asked,
+  Reads''.Learnt,
+  Reads'.Asked,
+  Reads'.Learnt,
+) Reads.Pre Reads.Post Inv μ
+
 abbrev pub After-slice-known : (Inv : InvT-loop) → (μ : MeasureT-loop) → Type 0
 After-slice-known = λ Inv μ. Lts.After-slice-known (
   Reads'3.Asked,
@@ -521,7 +531,7 @@ module _ {M : Type 1} where
   unfolding Code.routine Running.tablesOf
   close =
       λ closed 𝓤 H 𝓜 𝓖 𝓡. Written.close
-      9
+      10
       Kinds.ps
       Kinds.r
       Reads.Ghost

@@ -47,7 +47,7 @@ use mir.Val
 use prog.Wp
 use types.Kit
 
-abbrev pub ps : List.List (Kinds.PK 8)
+abbrev pub ps : List.List (Kinds.PK 9)
 ps =
     List._∷_
     (ShrSlice.pShrS (Referent.rtF (Referent.fInt Syntax.w8)) 0 tt)
@@ -60,14 +60,16 @@ ps =
     (List._∷_
     (ShrSlice.pShrS (Referent.rtF (Referent.fInt Syntax.w8)) 3 tt)
     (List._∷_
-    (MutSlice.pMutS (Referent.rtF (Referent.fInt Syntax.w64)) 4 tt)
+    (ShrSlice.pShrS (Referent.rtF (Referent.fInt Syntax.w64)) 4 tt)
     (List._∷_
-    (MutSlice.pMutS (Referent.rtF (Referent.fInt Syntax.w8)) 5 tt)
+    (MutSlice.pMutS (Referent.rtF (Referent.fInt Syntax.w64)) 5 tt)
     (List._∷_
     (MutSlice.pMutS (Referent.rtF (Referent.fInt Syntax.w8)) 6 tt)
-    (List._∷_ (MutSlice.pMutS (Referent.rtF (Referent.fInt Syntax.w8)) 7 tt) List.[]))))))))
+    (List._∷_
+    (MutSlice.pMutS (Referent.rtF (Referent.fInt Syntax.w8)) 7 tt)
+    (List._∷_ (MutSlice.pMutS (Referent.rtF (Referent.fInt Syntax.w8)) 8 tt) List.[])))))))))
 
-abbrev pub r : Kinds.RK 8
+abbrev pub r : Kinds.RK 9
 r = Num.rNum Syntax.w64
 
 abbrev pub xs : List.List Syntax.Ty
@@ -134,7 +136,7 @@ r·0 =
     Elem.e-laws
     64
 
-abbrev pub ps·1 : List.List (Kinds.PK 9)
+abbrev pub ps·1 : List.List (Kinds.PK 10)
 ps·1 =
     List._∷_
     (ShrSlice.pShrS (Referent.rtF (Referent.fInt Syntax.w8)) 0 tt)
@@ -147,23 +149,27 @@ ps·1 =
     (List._∷_
     (ShrSlice.pShrS (Referent.rtF (Referent.fInt Syntax.w8)) 3 tt)
     (List._∷_
-    (MutSlice.pMutS (Referent.rtF (Referent.fInt Syntax.w64)) 4 tt)
+    (ShrSlice.pShrS (Referent.rtF (Referent.fInt Syntax.w64)) 4 tt)
     (List._∷_
-    (MutSlice.pMutS (Referent.rtF (Referent.fInt Syntax.w8)) 5 tt)
+    (MutSlice.pMutS (Referent.rtF (Referent.fInt Syntax.w64)) 5 tt)
     (List._∷_
     (MutSlice.pMutS (Referent.rtF (Referent.fInt Syntax.w8)) 6 tt)
     (List._∷_
     (MutSlice.pMutS (Referent.rtF (Referent.fInt Syntax.w8)) 7 tt)
     (List._∷_
-    (MutSlice.pMutS Elem.R 8 tt)
-    List.[])))))))))
+    (MutSlice.pMutS (Referent.rtF (Referent.fInt Syntax.w8)) 8 tt)
+    (List._∷_
+    (MutSlice.pMutS Elem.R 9 tt)
+    List.[]))))))))))
 
-abbrev pub r·1 : Kinds.RK 9
+abbrev pub r·1 : Kinds.RK 10
 r·1 = Num.rNum Syntax.w64
 
 abbrev pub hs : List.List Syntax.Home
 hs =
     List._∷_
+    Syntax.valueLocal
+    (List._∷_
     Syntax.valueLocal
     (List._∷_
     Syntax.valueLocal
@@ -203,96 +209,96 @@ hs =
     Syntax.valueLocal
     (List._∷_
     Syntax.valueLocal
-    (List._∷_ Syntax.valueLocal (List._∷_ Syntax.valueLocal List.[])))))))))))))))))))))
+    (List._∷_ Syntax.valueLocal (List._∷_ Syntax.valueLocal List.[]))))))))))))))))))))))
 
 abbrev b0 : Syntax.Body
-b0 = Syntax.call "records::window" List.[] (Syntax.place 11 List.[])
+b0 = Syntax.call "records::window" List.[] (Syntax.place 12 List.[])
 
 abbrev b1 : Syntax.Body
-b1 = Syntax.assign (Syntax.place 10 List.[]) (Syntax.rvOpd (Syntax.copy (Syntax.place 11 List.[])))
+b1 = Syntax.assign (Syntax.place 11 List.[]) (Syntax.rvOpd (Syntax.copy (Syntax.place 12 List.[])))
 
 abbrev b2 : Syntax.Body
 b2 =
     Syntax.assign
-    (Syntax.place 12 List.[])
+    (Syntax.place 13 List.[])
     (Syntax.addrOf
     (Syntax.place
-    6
+    7
     (List._∷_ (Syntax.field 0) (List._∷_ (Syntax.deref (Syntax.tyInt Syntax.w64)) List.[]))))
 
 abbrev b3 : Syntax.Body
 b3 =
     Syntax.assign
-    (Syntax.place 13 List.[])
+    (Syntax.place 14 List.[])
     (Syntax.aggregate
     (List._∷_
-    (Syntax.copy (Syntax.place 12 List.[]))
-    (List._∷_ (Syntax.copy (Syntax.place 6 (List._∷_ (Syntax.field 1) List.[]))) List.[])))
+    (Syntax.copy (Syntax.place 13 List.[]))
+    (List._∷_ (Syntax.copy (Syntax.place 7 (List._∷_ (Syntax.field 1) List.[]))) List.[])))
 
 abbrev b4 : Syntax.Body
 b4 =
     Syntax.assign
-    (Syntax.place 14 List.[])
-    (Syntax.addrOf
-    (Syntax.place
-    7
-    (List._∷_ (Syntax.field 0) (List._∷_ (Syntax.deref (Syntax.tyInt Syntax.w8)) List.[]))))
-
-abbrev b5 : Syntax.Body
-b5 =
-    Syntax.assign
     (Syntax.place 15 List.[])
-    (Syntax.aggregate
-    (List._∷_
-    (Syntax.copy (Syntax.place 14 List.[]))
-    (List._∷_ (Syntax.copy (Syntax.place 7 (List._∷_ (Syntax.field 1) List.[]))) List.[])))
-
-abbrev b6 : Syntax.Body
-b6 =
-    Syntax.assign
-    (Syntax.place 16 List.[])
     (Syntax.addrOf
     (Syntax.place
     8
     (List._∷_ (Syntax.field 0) (List._∷_ (Syntax.deref (Syntax.tyInt Syntax.w8)) List.[]))))
 
-abbrev b7 : Syntax.Body
-b7 =
+abbrev b5 : Syntax.Body
+b5 =
     Syntax.assign
-    (Syntax.place 17 List.[])
+    (Syntax.place 16 List.[])
     (Syntax.aggregate
     (List._∷_
-    (Syntax.copy (Syntax.place 16 List.[]))
+    (Syntax.copy (Syntax.place 15 List.[]))
     (List._∷_ (Syntax.copy (Syntax.place 8 (List._∷_ (Syntax.field 1) List.[]))) List.[])))
 
-abbrev b8 : Syntax.Body
-b8 =
+abbrev b6 : Syntax.Body
+b6 =
     Syntax.assign
-    (Syntax.place 18 List.[])
+    (Syntax.place 17 List.[])
     (Syntax.addrOf
     (Syntax.place
     9
     (List._∷_ (Syntax.field 0) (List._∷_ (Syntax.deref (Syntax.tyInt Syntax.w8)) List.[]))))
 
+abbrev b7 : Syntax.Body
+b7 =
+    Syntax.assign
+    (Syntax.place 18 List.[])
+    (Syntax.aggregate
+    (List._∷_
+    (Syntax.copy (Syntax.place 17 List.[]))
+    (List._∷_ (Syntax.copy (Syntax.place 9 (List._∷_ (Syntax.field 1) List.[]))) List.[])))
+
+abbrev b8 : Syntax.Body
+b8 =
+    Syntax.assign
+    (Syntax.place 19 List.[])
+    (Syntax.addrOf
+    (Syntax.place
+    10
+    (List._∷_ (Syntax.field 0) (List._∷_ (Syntax.deref (Syntax.tyInt Syntax.w8)) List.[]))))
+
 abbrev b9 : Syntax.Body
 b9 =
     Syntax.assign
-    (Syntax.place 19 List.[])
+    (Syntax.place 20 List.[])
     (Syntax.aggregate
     (List._∷_
-    (Syntax.copy (Syntax.place 18 List.[]))
-    (List._∷_ (Syntax.copy (Syntax.place 9 (List._∷_ (Syntax.field 1) List.[]))) List.[])))
+    (Syntax.copy (Syntax.place 19 List.[]))
+    (List._∷_ (Syntax.copy (Syntax.place 10 (List._∷_ (Syntax.field 1) List.[]))) List.[])))
 
 abbrev b10 : Syntax.Body
-b10 = Syntax.assign (Syntax.place 20 List.[]) (Syntax.addrOf (Syntax.place 10 List.[]))
+b10 = Syntax.assign (Syntax.place 21 List.[]) (Syntax.addrOf (Syntax.place 11 List.[]))
 
 abbrev b11 : Syntax.Body
 b11 =
     Syntax.assign
-    (Syntax.place 21 List.[])
+    (Syntax.place 22 List.[])
     (Syntax.aggregate
     (List._∷_
-    (Syntax.copy (Syntax.place 20 List.[]))
+    (Syntax.copy (Syntax.place 21 List.[]))
     (List._∷_ (Syntax.int Syntax.w64 64) List.[])))
 
 abbrev b12 : Syntax.Body
@@ -310,14 +316,16 @@ b12 =
     (List._∷_
     (Syntax.copy (Syntax.place 5 List.[]))
     (List._∷_
-    (Syntax.copy (Syntax.place 13 List.[]))
+    (Syntax.copy (Syntax.place 6 List.[]))
     (List._∷_
-    (Syntax.copy (Syntax.place 15 List.[]))
+    (Syntax.copy (Syntax.place 14 List.[]))
     (List._∷_
-    (Syntax.copy (Syntax.place 17 List.[]))
+    (Syntax.copy (Syntax.place 16 List.[]))
     (List._∷_
-    (Syntax.copy (Syntax.place 19 List.[]))
-    (List._∷_ (Syntax.copy (Syntax.place 21 List.[])) List.[]))))))))))
+    (Syntax.copy (Syntax.place 18 List.[]))
+    (List._∷_
+    (Syntax.copy (Syntax.place 20 List.[]))
+    (List._∷_ (Syntax.copy (Syntax.place 22 List.[])) List.[])))))))))))
     (Syntax.place 0 List.[])
 
 abbrev b13 : Syntax.Body
@@ -366,7 +374,7 @@ abbrev pub body : Syntax.Body
 body = b26
 
 abbrev pub Claims : Type 1
-Claims = Kinds.In 0 ps·0 × Kinds.Out 0 ps·0 r·0 × Kinds.In 9 ps·1 × Kinds.Out 9 ps·1 r·1
+Claims = Kinds.In 0 ps·0 × Kinds.Out 0 ps·0 r·0 × Kinds.In 10 ps·1 × Kinds.Out 10 ps·1 r·1
 
 abbrev pub t0 : List.List Row.Entry
 t0 = List._∷_ (0, Rows'.any-gone (Syntax.tyInt Syntax.w64)) (List._∷_ (
@@ -395,15 +403,15 @@ t0 = List._∷_ (0, Rows'.any-gone (Syntax.tyInt Syntax.w64)) (List._∷_ (
       3,
 ) (List._∷_ (
   6,
-  Mut.mslice
+  Rows'.sslice
       (Referent.rtF (Referent.fInt Syntax.w64))
-      (Syntax.tyRef (Syntax.named 4) Syntax.mut (Syntax.tyInt Syntax.w64))
+      (Syntax.tyRef (Syntax.named 4) Syntax.imm (Syntax.tyInt Syntax.w64))
       4,
 ) (List._∷_ (
   7,
   Mut.mslice
-      (Referent.rtF (Referent.fInt Syntax.w8))
-      (Syntax.tyRef (Syntax.named 5) Syntax.mut (Syntax.tyInt Syntax.w8))
+      (Referent.rtF (Referent.fInt Syntax.w64))
+      (Syntax.tyRef (Syntax.named 5) Syntax.mut (Syntax.tyInt Syntax.w64))
       5,
 ) (List._∷_ (
   8,
@@ -419,16 +427,22 @@ t0 = List._∷_ (0, Rows'.any-gone (Syntax.tyInt Syntax.w64)) (List._∷_ (
       7,
 ) (List._∷_ (
   10,
-  Rows'.any-gone (Syntax.tyArray Elem.held 64),
+  Mut.mslice
+      (Referent.rtF (Referent.fInt Syntax.w8))
+      (Syntax.tyRef (Syntax.named 8) Syntax.mut (Syntax.tyInt Syntax.w8))
+      8,
 ) (List._∷_ (
   11,
   Rows'.any-gone (Syntax.tyArray Elem.held 64),
+) (List._∷_ (
+  12,
+  Rows'.any-gone (Syntax.tyArray Elem.held 64),
 )
     (List._∷_ (
-      12,
+      13,
       Rows'.any-gone (Syntax.tyRef Syntax.erased Syntax.mut (Syntax.tyInt Syntax.w64)),
     ) (List._∷_ (
-      13,
+      14,
       Rows'.any-gone
           (Syntax.tyStruct
           (List._∷_ 38 (List._∷_ 91 (List._∷_ 93 List.[])))
@@ -436,24 +450,13 @@ t0 = List._∷_ (0, Rows'.any-gone (Syntax.tyInt Syntax.w64)) (List._∷_ (
           (Syntax.tyRef Syntax.erased Syntax.mut (Syntax.tyInt Syntax.w64))
           (Syntax.tcons (Syntax.tyInt Syntax.w64) Syntax.tnil))),
     ) (List._∷_ (
-      14,
-      Rows'.any-gone (Syntax.tyRef Syntax.erased Syntax.mut (Syntax.tyInt Syntax.w8)),
-    ) (List._∷_ (
       15,
-      Rows'.any-gone
-          (Syntax.tyStruct
-          (List._∷_ 38 (List._∷_ 91 (List._∷_ 93 List.[])))
-          (Syntax.tcons
-          (Syntax.tyRef Syntax.erased Syntax.mut (Syntax.tyInt Syntax.w8))
-          (Syntax.tcons (Syntax.tyInt Syntax.w64) Syntax.tnil))),
+      Rows'.any-gone (Syntax.tyRef Syntax.erased Syntax.mut (Syntax.tyInt Syntax.w8)),
     ) List.[])))))))))))))))
 
 abbrev pub t1 : List.List Row.Entry
 t1 = List._∷_ (
   16,
-  Rows'.any-gone (Syntax.tyRef Syntax.erased Syntax.mut (Syntax.tyInt Syntax.w8)),
-) (List._∷_ (
-  17,
   Rows'.any-gone
       (Syntax.tyStruct
       (List._∷_ 38 (List._∷_ 91 (List._∷_ 93 List.[])))
@@ -462,10 +465,10 @@ t1 = List._∷_ (
       (Syntax.tcons (Syntax.tyInt Syntax.w64) Syntax.tnil))),
 )
     (List._∷_ (
-      18,
+      17,
       Rows'.any-gone (Syntax.tyRef Syntax.erased Syntax.mut (Syntax.tyInt Syntax.w8)),
     ) (List._∷_ (
-      19,
+      18,
       Rows'.any-gone
           (Syntax.tyStruct
           (List._∷_ 38 (List._∷_ 91 (List._∷_ 93 List.[])))
@@ -473,21 +476,32 @@ t1 = List._∷_ (
           (Syntax.tyRef Syntax.erased Syntax.mut (Syntax.tyInt Syntax.w8))
           (Syntax.tcons (Syntax.tyInt Syntax.w64) Syntax.tnil))),
     ) (List._∷_ (
+      19,
+      Rows'.any-gone (Syntax.tyRef Syntax.erased Syntax.mut (Syntax.tyInt Syntax.w8)),
+    ) (List._∷_ (
       20,
+      Rows'.any-gone
+          (Syntax.tyStruct
+          (List._∷_ 38 (List._∷_ 91 (List._∷_ 93 List.[])))
+          (Syntax.tcons
+          (Syntax.tyRef Syntax.erased Syntax.mut (Syntax.tyInt Syntax.w8))
+          (Syntax.tcons (Syntax.tyInt Syntax.w64) Syntax.tnil))),
+    ) (List._∷_ (
+      21,
       Rows'.any-gone
           (Syntax.tyRef
           Syntax.erased
           Syntax.mut
           (Syntax.tyArray Elem.ty 64)),
     ) (List._∷_ (
-      21,
+      22,
       Rows'.any-gone
           (Syntax.tyStruct
           (List._∷_ 38 (List._∷_ 91 (List._∷_ 93 List.[])))
           (Syntax.tcons
           (Syntax.tyRef Syntax.erased Syntax.mut Elem.ty)
           (Syntax.tcons (Syntax.tyInt Syntax.w64) Syntax.tnil))),
-    ) List.[])))))
+    ) List.[]))))))
 
 abbrev pub t2 : List.List Row.Entry
 t2 = List._∷_ (0, Rows'.sc-here (Row.sInt Syntax.w64)) (List._∷_ (
@@ -516,15 +530,15 @@ t2 = List._∷_ (0, Rows'.sc-here (Row.sInt Syntax.w64)) (List._∷_ (
       3,
 ) (List._∷_ (
   6,
-  Mut.mslice
+  Rows'.sslice
       (Referent.rtF (Referent.fInt Syntax.w64))
-      (Syntax.tyRef (Syntax.named 4) Syntax.mut (Syntax.tyInt Syntax.w64))
+      (Syntax.tyRef (Syntax.named 4) Syntax.imm (Syntax.tyInt Syntax.w64))
       4,
 ) (List._∷_ (
   7,
   Mut.mslice
-      (Referent.rtF (Referent.fInt Syntax.w8))
-      (Syntax.tyRef (Syntax.named 5) Syntax.mut (Syntax.tyInt Syntax.w8))
+      (Referent.rtF (Referent.fInt Syntax.w64))
+      (Syntax.tyRef (Syntax.named 5) Syntax.mut (Syntax.tyInt Syntax.w64))
       5,
 ) (List._∷_ (
   8,
@@ -540,16 +554,22 @@ t2 = List._∷_ (0, Rows'.sc-here (Row.sInt Syntax.w64)) (List._∷_ (
       7,
 ) (List._∷_ (
   10,
-  Rows'.any-gone (Syntax.tyArray Elem.held 64),
+  Mut.mslice
+      (Referent.rtF (Referent.fInt Syntax.w8))
+      (Syntax.tyRef (Syntax.named 8) Syntax.mut (Syntax.tyInt Syntax.w8))
+      8,
 ) (List._∷_ (
   11,
   Rows'.any-gone (Syntax.tyArray Elem.held 64),
+) (List._∷_ (
+  12,
+  Rows'.any-gone (Syntax.tyArray Elem.held 64),
 )
     (List._∷_ (
-      12,
+      13,
       Rows'.any-gone (Syntax.tyRef Syntax.erased Syntax.mut (Syntax.tyInt Syntax.w64)),
     ) (List._∷_ (
-      13,
+      14,
       Rows'.any-gone
           (Syntax.tyStruct
           (List._∷_ 38 (List._∷_ 91 (List._∷_ 93 List.[])))
@@ -557,16 +577,8 @@ t2 = List._∷_ (0, Rows'.sc-here (Row.sInt Syntax.w64)) (List._∷_ (
           (Syntax.tyRef Syntax.erased Syntax.mut (Syntax.tyInt Syntax.w64))
           (Syntax.tcons (Syntax.tyInt Syntax.w64) Syntax.tnil))),
     ) (List._∷_ (
-      14,
-      Rows'.any-gone (Syntax.tyRef Syntax.erased Syntax.mut (Syntax.tyInt Syntax.w8)),
-    ) (List._∷_ (
       15,
-      Rows'.any-gone
-          (Syntax.tyStruct
-          (List._∷_ 38 (List._∷_ 91 (List._∷_ 93 List.[])))
-          (Syntax.tcons
-          (Syntax.tyRef Syntax.erased Syntax.mut (Syntax.tyInt Syntax.w8))
-          (Syntax.tcons (Syntax.tyInt Syntax.w64) Syntax.tnil))),
+      Rows'.any-gone (Syntax.tyRef Syntax.erased Syntax.mut (Syntax.tyInt Syntax.w8)),
     ) List.[])))))))))))))))
 
 abbrev pub t3 : List.List Row.Entry
@@ -596,15 +608,15 @@ t3 = List._∷_ (0, Rows'.any-gone (Syntax.tyInt Syntax.w64)) (List._∷_ (
       3,
 ) (List._∷_ (
   6,
-  Mut.mslice
+  Rows'.sslice
       (Referent.rtF (Referent.fInt Syntax.w64))
-      (Syntax.tyRef (Syntax.named 4) Syntax.mut (Syntax.tyInt Syntax.w64))
+      (Syntax.tyRef (Syntax.named 4) Syntax.imm (Syntax.tyInt Syntax.w64))
       4,
 ) (List._∷_ (
   7,
   Mut.mslice
-      (Referent.rtF (Referent.fInt Syntax.w8))
-      (Syntax.tyRef (Syntax.named 5) Syntax.mut (Syntax.tyInt Syntax.w8))
+      (Referent.rtF (Referent.fInt Syntax.w64))
+      (Syntax.tyRef (Syntax.named 5) Syntax.mut (Syntax.tyInt Syntax.w64))
       5,
 ) (List._∷_ (
   8,
@@ -620,15 +632,21 @@ t3 = List._∷_ (0, Rows'.any-gone (Syntax.tyInt Syntax.w64)) (List._∷_ (
       7,
 ) (List._∷_ (
   10,
+  Mut.mslice
+      (Referent.rtF (Referent.fInt Syntax.w8))
+      (Syntax.tyRef (Syntax.named 8) Syntax.mut (Syntax.tyInt Syntax.w8))
+      8,
+) (List._∷_ (
+  11,
   Rows'.any-gone (Syntax.tyArray Elem.held 64),
 )
     (List._∷_
-    (11, Rows.arrF Elem.R 64 0)
+    (12, Rows.arrF Elem.R 64 0)
     (List._∷_ (
-      12,
+      13,
       Rows'.any-gone (Syntax.tyRef Syntax.erased Syntax.mut (Syntax.tyInt Syntax.w64)),
     ) (List._∷_ (
-      13,
+      14,
       Rows'.any-gone
           (Syntax.tyStruct
           (List._∷_ 38 (List._∷_ 91 (List._∷_ 93 List.[])))
@@ -636,16 +654,8 @@ t3 = List._∷_ (0, Rows'.any-gone (Syntax.tyInt Syntax.w64)) (List._∷_ (
           (Syntax.tyRef Syntax.erased Syntax.mut (Syntax.tyInt Syntax.w64))
           (Syntax.tcons (Syntax.tyInt Syntax.w64) Syntax.tnil))),
     ) (List._∷_ (
-      14,
-      Rows'.any-gone (Syntax.tyRef Syntax.erased Syntax.mut (Syntax.tyInt Syntax.w8)),
-    ) (List._∷_ (
       15,
-      Rows'.any-gone
-          (Syntax.tyStruct
-          (List._∷_ 38 (List._∷_ 91 (List._∷_ 93 List.[])))
-          (Syntax.tcons
-          (Syntax.tyRef Syntax.erased Syntax.mut (Syntax.tyInt Syntax.w8))
-          (Syntax.tcons (Syntax.tyInt Syntax.w64) Syntax.tnil))),
+      Rows'.any-gone (Syntax.tyRef Syntax.erased Syntax.mut (Syntax.tyInt Syntax.w8)),
     ) List.[])))))))))))))))
 
 abbrev pub t4 : List.List Row.Entry
@@ -675,15 +685,15 @@ t4 = List._∷_ (0, Rows'.any-gone (Syntax.tyInt Syntax.w64)) (List._∷_ (
       3,
 ) (List._∷_ (
   6,
-  Mut.mslice
+  Rows'.sslice
       (Referent.rtF (Referent.fInt Syntax.w64))
-      (Syntax.tyRef (Syntax.named 4) Syntax.mut (Syntax.tyInt Syntax.w64))
+      (Syntax.tyRef (Syntax.named 4) Syntax.imm (Syntax.tyInt Syntax.w64))
       4,
 ) (List._∷_ (
   7,
   Mut.mslice
-      (Referent.rtF (Referent.fInt Syntax.w8))
-      (Syntax.tyRef (Syntax.named 5) Syntax.mut (Syntax.tyInt Syntax.w8))
+      (Referent.rtF (Referent.fInt Syntax.w64))
+      (Syntax.tyRef (Syntax.named 5) Syntax.mut (Syntax.tyInt Syntax.w64))
       5,
 ) (List._∷_ (
   8,
@@ -697,16 +707,22 @@ t4 = List._∷_ (0, Rows'.any-gone (Syntax.tyInt Syntax.w64)) (List._∷_ (
       (Referent.rtF (Referent.fInt Syntax.w8))
       (Syntax.tyRef (Syntax.named 7) Syntax.mut (Syntax.tyInt Syntax.w8))
       7,
+) (List._∷_ (
+  10,
+  Mut.mslice
+      (Referent.rtF (Referent.fInt Syntax.w8))
+      (Syntax.tyRef (Syntax.named 8) Syntax.mut (Syntax.tyInt Syntax.w8))
+      8,
 )
     (List._∷_
-    (10, Rows.arrF Elem.R 64 0)
-    (List._∷_
     (11, Rows.arrF Elem.R 64 0)
+    (List._∷_
+    (12, Rows.arrF Elem.R 64 0)
     (List._∷_ (
-      12,
+      13,
       Rows'.any-gone (Syntax.tyRef Syntax.erased Syntax.mut (Syntax.tyInt Syntax.w64)),
     ) (List._∷_ (
-      13,
+      14,
       Rows'.any-gone
           (Syntax.tyStruct
           (List._∷_ 38 (List._∷_ 91 (List._∷_ 93 List.[])))
@@ -714,16 +730,8 @@ t4 = List._∷_ (0, Rows'.any-gone (Syntax.tyInt Syntax.w64)) (List._∷_ (
           (Syntax.tyRef Syntax.erased Syntax.mut (Syntax.tyInt Syntax.w64))
           (Syntax.tcons (Syntax.tyInt Syntax.w64) Syntax.tnil))),
     ) (List._∷_ (
-      14,
-      Rows'.any-gone (Syntax.tyRef Syntax.erased Syntax.mut (Syntax.tyInt Syntax.w8)),
-    ) (List._∷_ (
       15,
-      Rows'.any-gone
-          (Syntax.tyStruct
-          (List._∷_ 38 (List._∷_ 91 (List._∷_ 93 List.[])))
-          (Syntax.tcons
-          (Syntax.tyRef Syntax.erased Syntax.mut (Syntax.tyInt Syntax.w8))
-          (Syntax.tcons (Syntax.tyInt Syntax.w64) Syntax.tnil))),
+      Rows'.any-gone (Syntax.tyRef Syntax.erased Syntax.mut (Syntax.tyInt Syntax.w8)),
     ) List.[])))))))))))))))
 
 abbrev pub t5 : List.List Row.Entry
@@ -753,15 +761,15 @@ t5 = List._∷_ (0, Rows'.any-gone (Syntax.tyInt Syntax.w64)) (List._∷_ (
       3,
 ) (List._∷_ (
   6,
-  Mut.mslice
+  Rows'.sslice
       (Referent.rtF (Referent.fInt Syntax.w64))
-      (Syntax.tyRef (Syntax.named 4) Syntax.mut (Syntax.tyInt Syntax.w64))
+      (Syntax.tyRef (Syntax.named 4) Syntax.imm (Syntax.tyInt Syntax.w64))
       4,
 ) (List._∷_ (
   7,
   Mut.mslice
-      (Referent.rtF (Referent.fInt Syntax.w8))
-      (Syntax.tyRef (Syntax.named 5) Syntax.mut (Syntax.tyInt Syntax.w8))
+      (Referent.rtF (Referent.fInt Syntax.w64))
+      (Syntax.tyRef (Syntax.named 5) Syntax.mut (Syntax.tyInt Syntax.w64))
       5,
 ) (List._∷_ (
   8,
@@ -775,17 +783,23 @@ t5 = List._∷_ (0, Rows'.any-gone (Syntax.tyInt Syntax.w64)) (List._∷_ (
       (Referent.rtF (Referent.fInt Syntax.w8))
       (Syntax.tyRef (Syntax.named 7) Syntax.mut (Syntax.tyInt Syntax.w8))
       7,
+) (List._∷_ (
+  10,
+  Mut.mslice
+      (Referent.rtF (Referent.fInt Syntax.w8))
+      (Syntax.tyRef (Syntax.named 8) Syntax.mut (Syntax.tyInt Syntax.w8))
+      8,
 )
     (List._∷_
-    (10, Rows.arrF Elem.R 64 0)
+    (11, Rows.arrF Elem.R 64 0)
     (List._∷_ (
-      11,
+      12,
       Rows'.any-gone (Syntax.tyArray Elem.held 64),
     ) (List._∷_ (
-      12,
+      13,
       Rows'.any-gone (Syntax.tyRef Syntax.erased Syntax.mut (Syntax.tyInt Syntax.w64)),
     ) (List._∷_ (
-      13,
+      14,
       Rows'.any-gone
           (Syntax.tyStruct
           (List._∷_ 38 (List._∷_ 91 (List._∷_ 93 List.[])))
@@ -793,16 +807,8 @@ t5 = List._∷_ (0, Rows'.any-gone (Syntax.tyInt Syntax.w64)) (List._∷_ (
           (Syntax.tyRef Syntax.erased Syntax.mut (Syntax.tyInt Syntax.w64))
           (Syntax.tcons (Syntax.tyInt Syntax.w64) Syntax.tnil))),
     ) (List._∷_ (
-      14,
-      Rows'.any-gone (Syntax.tyRef Syntax.erased Syntax.mut (Syntax.tyInt Syntax.w8)),
-    ) (List._∷_ (
       15,
-      Rows'.any-gone
-          (Syntax.tyStruct
-          (List._∷_ 38 (List._∷_ 91 (List._∷_ 93 List.[])))
-          (Syntax.tcons
-          (Syntax.tyRef Syntax.erased Syntax.mut (Syntax.tyInt Syntax.w8))
-          (Syntax.tcons (Syntax.tyInt Syntax.w64) Syntax.tnil))),
+      Rows'.any-gone (Syntax.tyRef Syntax.erased Syntax.mut (Syntax.tyInt Syntax.w8)),
     ) List.[])))))))))))))))
 
 abbrev pub t6 : List.List Row.Entry
@@ -832,18 +838,18 @@ t6 = List._∷_ (0, Rows'.any-gone (Syntax.tyInt Syntax.w64)) (List._∷_ (
       3,
 ) (List._∷_ (
   6,
-  Relend.mslice-owed
+  Rows'.sslice
       (Referent.rtF (Referent.fInt Syntax.w64))
-      (Syntax.tyRef (Syntax.named 4) Syntax.mut (Syntax.tyInt Syntax.w64))
-      4
-      8
-      Row.off,
+      (Syntax.tyRef (Syntax.named 4) Syntax.imm (Syntax.tyInt Syntax.w64))
+      4,
 ) (List._∷_ (
   7,
-  Mut.mslice
-      (Referent.rtF (Referent.fInt Syntax.w8))
-      (Syntax.tyRef (Syntax.named 5) Syntax.mut (Syntax.tyInt Syntax.w8))
-      5,
+  Relend.mslice-owed
+      (Referent.rtF (Referent.fInt Syntax.w64))
+      (Syntax.tyRef (Syntax.named 5) Syntax.mut (Syntax.tyInt Syntax.w64))
+      5
+      9
+      Row.off,
 ) (List._∷_ (
   8,
   Mut.mslice
@@ -856,20 +862,26 @@ t6 = List._∷_ (0, Rows'.any-gone (Syntax.tyInt Syntax.w64)) (List._∷_ (
       (Referent.rtF (Referent.fInt Syntax.w8))
       (Syntax.tyRef (Syntax.named 7) Syntax.mut (Syntax.tyInt Syntax.w8))
       7,
+) (List._∷_ (
+  10,
+  Mut.mslice
+      (Referent.rtF (Referent.fInt Syntax.w8))
+      (Syntax.tyRef (Syntax.named 8) Syntax.mut (Syntax.tyInt Syntax.w8))
+      8,
 )
     (List._∷_
-    (10, Rows.arrF Elem.R 64 0)
+    (11, Rows.arrF Elem.R 64 0)
     (List._∷_ (
-      11,
+      12,
       Rows'.any-gone (Syntax.tyArray Elem.held 64),
     ) (List._∷_ (
-      12,
+      13,
       Relend.msptr
           (Referent.rtF (Referent.fInt Syntax.w64))
           (Syntax.tyRef Syntax.erased Syntax.mut (Syntax.tyInt Syntax.w64))
-          8,
+          9,
     ) (List._∷_ (
-      13,
+      14,
       Rows'.any-gone
           (Syntax.tyStruct
           (List._∷_ 38 (List._∷_ 91 (List._∷_ 93 List.[])))
@@ -877,16 +889,8 @@ t6 = List._∷_ (0, Rows'.any-gone (Syntax.tyInt Syntax.w64)) (List._∷_ (
           (Syntax.tyRef Syntax.erased Syntax.mut (Syntax.tyInt Syntax.w64))
           (Syntax.tcons (Syntax.tyInt Syntax.w64) Syntax.tnil))),
     ) (List._∷_ (
-      14,
-      Rows'.any-gone (Syntax.tyRef Syntax.erased Syntax.mut (Syntax.tyInt Syntax.w8)),
-    ) (List._∷_ (
       15,
-      Rows'.any-gone
-          (Syntax.tyStruct
-          (List._∷_ 38 (List._∷_ 91 (List._∷_ 93 List.[])))
-          (Syntax.tcons
-          (Syntax.tyRef Syntax.erased Syntax.mut (Syntax.tyInt Syntax.w8))
-          (Syntax.tcons (Syntax.tyInt Syntax.w64) Syntax.tnil))),
+      Rows'.any-gone (Syntax.tyRef Syntax.erased Syntax.mut (Syntax.tyInt Syntax.w8)),
     ) List.[])))))))))))))))
 
 abbrev pub t7 : List.List Row.Entry
@@ -916,18 +920,18 @@ t7 = List._∷_ (0, Rows'.any-gone (Syntax.tyInt Syntax.w64)) (List._∷_ (
       3,
 ) (List._∷_ (
   6,
-  Relend.mslice-owed
+  Rows'.sslice
       (Referent.rtF (Referent.fInt Syntax.w64))
-      (Syntax.tyRef (Syntax.named 4) Syntax.mut (Syntax.tyInt Syntax.w64))
-      4
-      8
-      Row.off,
+      (Syntax.tyRef (Syntax.named 4) Syntax.imm (Syntax.tyInt Syntax.w64))
+      4,
 ) (List._∷_ (
   7,
-  Mut.mslice
-      (Referent.rtF (Referent.fInt Syntax.w8))
-      (Syntax.tyRef (Syntax.named 5) Syntax.mut (Syntax.tyInt Syntax.w8))
-      5,
+  Relend.mslice-owed
+      (Referent.rtF (Referent.fInt Syntax.w64))
+      (Syntax.tyRef (Syntax.named 5) Syntax.mut (Syntax.tyInt Syntax.w64))
+      5
+      9
+      Row.off,
 ) (List._∷_ (
   8,
   Mut.mslice
@@ -940,32 +944,30 @@ t7 = List._∷_ (0, Rows'.any-gone (Syntax.tyInt Syntax.w64)) (List._∷_ (
       (Referent.rtF (Referent.fInt Syntax.w8))
       (Syntax.tyRef (Syntax.named 7) Syntax.mut (Syntax.tyInt Syntax.w8))
       7,
+) (List._∷_ (
+  10,
+  Mut.mslice
+      (Referent.rtF (Referent.fInt Syntax.w8))
+      (Syntax.tyRef (Syntax.named 8) Syntax.mut (Syntax.tyInt Syntax.w8))
+      8,
 )
     (List._∷_
-    (10, Rows.arrF Elem.R 64 0)
+    (11, Rows.arrF Elem.R 64 0)
     (List._∷_ (
-      11,
+      12,
       Rows'.any-gone (Syntax.tyArray Elem.held 64),
     ) (List._∷_ (
-      12,
+      13,
       Rows'.any-gone (Syntax.tyRef Syntax.erased Syntax.mut (Syntax.tyInt Syntax.w64)),
     ) (List._∷_ (
-      13,
+      14,
       Mut.mslice
           (Referent.rtF (Referent.fInt Syntax.w64))
           (Syntax.tyRef Syntax.erased Syntax.mut (Syntax.tyInt Syntax.w64))
-          8,
-    ) (List._∷_ (
-      14,
-      Rows'.any-gone (Syntax.tyRef Syntax.erased Syntax.mut (Syntax.tyInt Syntax.w8)),
+          9,
     ) (List._∷_ (
       15,
-      Rows'.any-gone
-          (Syntax.tyStruct
-          (List._∷_ 38 (List._∷_ 91 (List._∷_ 93 List.[])))
-          (Syntax.tcons
-          (Syntax.tyRef Syntax.erased Syntax.mut (Syntax.tyInt Syntax.w8))
-          (Syntax.tcons (Syntax.tyInt Syntax.w64) Syntax.tnil))),
+      Rows'.any-gone (Syntax.tyRef Syntax.erased Syntax.mut (Syntax.tyInt Syntax.w8)),
     ) List.[])))))))))))))))
 
 abbrev pub t8 : List.List Row.Entry
@@ -995,61 +997,59 @@ t8 = List._∷_ (0, Rows'.any-gone (Syntax.tyInt Syntax.w64)) (List._∷_ (
       3,
 ) (List._∷_ (
   6,
-  Relend.mslice-owed
+  Rows'.sslice
       (Referent.rtF (Referent.fInt Syntax.w64))
-      (Syntax.tyRef (Syntax.named 4) Syntax.mut (Syntax.tyInt Syntax.w64))
-      4
-      8
-      Row.off,
+      (Syntax.tyRef (Syntax.named 4) Syntax.imm (Syntax.tyInt Syntax.w64))
+      4,
 ) (List._∷_ (
   7,
   Relend.mslice-owed
-      (Referent.rtF (Referent.fInt Syntax.w8))
-      (Syntax.tyRef (Syntax.named 5) Syntax.mut (Syntax.tyInt Syntax.w8))
+      (Referent.rtF (Referent.fInt Syntax.w64))
+      (Syntax.tyRef (Syntax.named 5) Syntax.mut (Syntax.tyInt Syntax.w64))
       5
       9
       Row.off,
 ) (List._∷_ (
   8,
-  Mut.mslice
+  Relend.mslice-owed
       (Referent.rtF (Referent.fInt Syntax.w8))
       (Syntax.tyRef (Syntax.named 6) Syntax.mut (Syntax.tyInt Syntax.w8))
-      6,
+      6
+      10
+      Row.off,
 ) (List._∷_ (
   9,
   Mut.mslice
       (Referent.rtF (Referent.fInt Syntax.w8))
       (Syntax.tyRef (Syntax.named 7) Syntax.mut (Syntax.tyInt Syntax.w8))
       7,
+) (List._∷_ (
+  10,
+  Mut.mslice
+      (Referent.rtF (Referent.fInt Syntax.w8))
+      (Syntax.tyRef (Syntax.named 8) Syntax.mut (Syntax.tyInt Syntax.w8))
+      8,
 )
     (List._∷_
-    (10, Rows.arrF Elem.R 64 0)
+    (11, Rows.arrF Elem.R 64 0)
     (List._∷_ (
-      11,
+      12,
       Rows'.any-gone (Syntax.tyArray Elem.held 64),
     ) (List._∷_ (
-      12,
+      13,
       Rows'.any-gone (Syntax.tyRef Syntax.erased Syntax.mut (Syntax.tyInt Syntax.w64)),
     ) (List._∷_ (
-      13,
+      14,
       Mut.mslice
           (Referent.rtF (Referent.fInt Syntax.w64))
           (Syntax.tyRef Syntax.erased Syntax.mut (Syntax.tyInt Syntax.w64))
-          8,
-    ) (List._∷_ (
-      14,
-      Relend.msptr
-          (Referent.rtF (Referent.fInt Syntax.w8))
-          (Syntax.tyRef Syntax.erased Syntax.mut (Syntax.tyInt Syntax.w8))
           9,
     ) (List._∷_ (
       15,
-      Rows'.any-gone
-          (Syntax.tyStruct
-          (List._∷_ 38 (List._∷_ 91 (List._∷_ 93 List.[])))
-          (Syntax.tcons
+      Relend.msptr
+          (Referent.rtF (Referent.fInt Syntax.w8))
           (Syntax.tyRef Syntax.erased Syntax.mut (Syntax.tyInt Syntax.w8))
-          (Syntax.tcons (Syntax.tyInt Syntax.w64) Syntax.tnil))),
+          10,
     ) List.[])))))))))))))))
 
 abbrev pub t9 : List.List Row.Entry
@@ -1079,60 +1079,107 @@ t9 = List._∷_ (0, Rows'.any-gone (Syntax.tyInt Syntax.w64)) (List._∷_ (
       3,
 ) (List._∷_ (
   6,
-  Relend.mslice-owed
+  Rows'.sslice
       (Referent.rtF (Referent.fInt Syntax.w64))
-      (Syntax.tyRef (Syntax.named 4) Syntax.mut (Syntax.tyInt Syntax.w64))
-      4
-      8
-      Row.off,
+      (Syntax.tyRef (Syntax.named 4) Syntax.imm (Syntax.tyInt Syntax.w64))
+      4,
 ) (List._∷_ (
   7,
   Relend.mslice-owed
-      (Referent.rtF (Referent.fInt Syntax.w8))
-      (Syntax.tyRef (Syntax.named 5) Syntax.mut (Syntax.tyInt Syntax.w8))
+      (Referent.rtF (Referent.fInt Syntax.w64))
+      (Syntax.tyRef (Syntax.named 5) Syntax.mut (Syntax.tyInt Syntax.w64))
       5
       9
       Row.off,
 ) (List._∷_ (
   8,
-  Mut.mslice
+  Relend.mslice-owed
       (Referent.rtF (Referent.fInt Syntax.w8))
       (Syntax.tyRef (Syntax.named 6) Syntax.mut (Syntax.tyInt Syntax.w8))
-      6,
+      6
+      10
+      Row.off,
 ) (List._∷_ (
   9,
   Mut.mslice
       (Referent.rtF (Referent.fInt Syntax.w8))
       (Syntax.tyRef (Syntax.named 7) Syntax.mut (Syntax.tyInt Syntax.w8))
       7,
+) (List._∷_ (
+  10,
+  Mut.mslice
+      (Referent.rtF (Referent.fInt Syntax.w8))
+      (Syntax.tyRef (Syntax.named 8) Syntax.mut (Syntax.tyInt Syntax.w8))
+      8,
 )
     (List._∷_
-    (10, Rows.arrF Elem.R 64 0)
+    (11, Rows.arrF Elem.R 64 0)
     (List._∷_ (
-      11,
+      12,
       Rows'.any-gone (Syntax.tyArray Elem.held 64),
     ) (List._∷_ (
-      12,
+      13,
       Rows'.any-gone (Syntax.tyRef Syntax.erased Syntax.mut (Syntax.tyInt Syntax.w64)),
     ) (List._∷_ (
-      13,
+      14,
       Mut.mslice
           (Referent.rtF (Referent.fInt Syntax.w64))
           (Syntax.tyRef Syntax.erased Syntax.mut (Syntax.tyInt Syntax.w64))
-          8,
-    ) (List._∷_ (
-      14,
-      Rows'.any-gone (Syntax.tyRef Syntax.erased Syntax.mut (Syntax.tyInt Syntax.w8)),
+          9,
     ) (List._∷_ (
       15,
-      Mut.mslice
-          (Referent.rtF (Referent.fInt Syntax.w8))
-          (Syntax.tyRef Syntax.erased Syntax.mut (Syntax.tyInt Syntax.w8))
-          9,
+      Rows'.any-gone (Syntax.tyRef Syntax.erased Syntax.mut (Syntax.tyInt Syntax.w8)),
     ) List.[])))))))))))))))
 
 abbrev pub t10 : List.List Row.Entry
-t10 = List._∷_ (0, Rows'.any-gone (Syntax.tyInt Syntax.w64)) (List._∷_ (
+t10 = List._∷_ (
+  16,
+  Mut.mslice
+      (Referent.rtF (Referent.fInt Syntax.w8))
+      (Syntax.tyRef Syntax.erased Syntax.mut (Syntax.tyInt Syntax.w8))
+      10,
+)
+    (List._∷_ (
+      17,
+      Rows'.any-gone (Syntax.tyRef Syntax.erased Syntax.mut (Syntax.tyInt Syntax.w8)),
+    ) (List._∷_ (
+      18,
+      Rows'.any-gone
+          (Syntax.tyStruct
+          (List._∷_ 38 (List._∷_ 91 (List._∷_ 93 List.[])))
+          (Syntax.tcons
+          (Syntax.tyRef Syntax.erased Syntax.mut (Syntax.tyInt Syntax.w8))
+          (Syntax.tcons (Syntax.tyInt Syntax.w64) Syntax.tnil))),
+    ) (List._∷_ (
+      19,
+      Rows'.any-gone (Syntax.tyRef Syntax.erased Syntax.mut (Syntax.tyInt Syntax.w8)),
+    ) (List._∷_ (
+      20,
+      Rows'.any-gone
+          (Syntax.tyStruct
+          (List._∷_ 38 (List._∷_ 91 (List._∷_ 93 List.[])))
+          (Syntax.tcons
+          (Syntax.tyRef Syntax.erased Syntax.mut (Syntax.tyInt Syntax.w8))
+          (Syntax.tcons (Syntax.tyInt Syntax.w64) Syntax.tnil))),
+    ) (List._∷_ (
+      21,
+      Rows'.any-gone
+          (Syntax.tyRef
+          Syntax.erased
+          Syntax.mut
+          (Syntax.tyArray Elem.ty 64)),
+    ) (List._∷_ (
+      22,
+      Rows'.any-gone
+          (Syntax.tyStruct
+          (List._∷_ 38 (List._∷_ 91 (List._∷_ 93 List.[])))
+          (Syntax.tcons
+          (Syntax.tyRef Syntax.erased Syntax.mut Elem.ty)
+          (Syntax.tcons (Syntax.tyInt Syntax.w64) Syntax.tnil))),
+    ) List.[]))))))
+
+abbrev pub t11 : List.List Row.Entry
+t11 = List._∷_ (0, Rows'.any-gone (Syntax.tyInt Syntax.w64)) (List._∷_ (
   1,
   Rows'.sslice
       (Referent.rtF (Referent.fInt Syntax.w8))
@@ -1158,17 +1205,15 @@ t10 = List._∷_ (0, Rows'.any-gone (Syntax.tyInt Syntax.w64)) (List._∷_ (
       3,
 ) (List._∷_ (
   6,
-  Relend.mslice-owed
+  Rows'.sslice
       (Referent.rtF (Referent.fInt Syntax.w64))
-      (Syntax.tyRef (Syntax.named 4) Syntax.mut (Syntax.tyInt Syntax.w64))
-      4
-      8
-      Row.off,
+      (Syntax.tyRef (Syntax.named 4) Syntax.imm (Syntax.tyInt Syntax.w64))
+      4,
 ) (List._∷_ (
   7,
   Relend.mslice-owed
-      (Referent.rtF (Referent.fInt Syntax.w8))
-      (Syntax.tyRef (Syntax.named 5) Syntax.mut (Syntax.tyInt Syntax.w8))
+      (Referent.rtF (Referent.fInt Syntax.w64))
+      (Syntax.tyRef (Syntax.named 5) Syntax.mut (Syntax.tyInt Syntax.w64))
       5
       9
       Row.off,
@@ -1182,282 +1227,135 @@ t10 = List._∷_ (0, Rows'.any-gone (Syntax.tyInt Syntax.w64)) (List._∷_ (
       Row.off,
 ) (List._∷_ (
   9,
-  Mut.mslice
+  Relend.mslice-owed
       (Referent.rtF (Referent.fInt Syntax.w8))
       (Syntax.tyRef (Syntax.named 7) Syntax.mut (Syntax.tyInt Syntax.w8))
-      7,
+      7
+      11
+      Row.off,
+) (List._∷_ (
+  10,
+  Mut.mslice
+      (Referent.rtF (Referent.fInt Syntax.w8))
+      (Syntax.tyRef (Syntax.named 8) Syntax.mut (Syntax.tyInt Syntax.w8))
+      8,
 )
     (List._∷_
-    (10, Rows.arrF Elem.R 64 0)
+    (11, Rows.arrF Elem.R 64 0)
     (List._∷_ (
-      11,
+      12,
       Rows'.any-gone (Syntax.tyArray Elem.held 64),
     ) (List._∷_ (
-      12,
+      13,
       Rows'.any-gone (Syntax.tyRef Syntax.erased Syntax.mut (Syntax.tyInt Syntax.w64)),
     ) (List._∷_ (
-      13,
+      14,
       Mut.mslice
           (Referent.rtF (Referent.fInt Syntax.w64))
           (Syntax.tyRef Syntax.erased Syntax.mut (Syntax.tyInt Syntax.w64))
-          8,
-    ) (List._∷_ (
-      14,
-      Rows'.any-gone (Syntax.tyRef Syntax.erased Syntax.mut (Syntax.tyInt Syntax.w8)),
+          9,
     ) (List._∷_ (
       15,
-      Mut.mslice
-          (Referent.rtF (Referent.fInt Syntax.w8))
-          (Syntax.tyRef Syntax.erased Syntax.mut (Syntax.tyInt Syntax.w8))
-          9,
-    ) List.[])))))))))))))))
-
-abbrev pub t11 : List.List Row.Entry
-t11 = List._∷_ (
-  16,
-  Relend.msptr
-      (Referent.rtF (Referent.fInt Syntax.w8))
-      (Syntax.tyRef Syntax.erased Syntax.mut (Syntax.tyInt Syntax.w8))
-      10,
-) (List._∷_ (
-  17,
-  Rows'.any-gone
-      (Syntax.tyStruct
-      (List._∷_ 38 (List._∷_ 91 (List._∷_ 93 List.[])))
-      (Syntax.tcons
-      (Syntax.tyRef Syntax.erased Syntax.mut (Syntax.tyInt Syntax.w8))
-      (Syntax.tcons (Syntax.tyInt Syntax.w64) Syntax.tnil))),
-)
-    (List._∷_ (
-      18,
       Rows'.any-gone (Syntax.tyRef Syntax.erased Syntax.mut (Syntax.tyInt Syntax.w8)),
-    ) (List._∷_ (
-      19,
-      Rows'.any-gone
-          (Syntax.tyStruct
-          (List._∷_ 38 (List._∷_ 91 (List._∷_ 93 List.[])))
-          (Syntax.tcons
-          (Syntax.tyRef Syntax.erased Syntax.mut (Syntax.tyInt Syntax.w8))
-          (Syntax.tcons (Syntax.tyInt Syntax.w64) Syntax.tnil))),
-    ) (List._∷_ (
-      20,
-      Rows'.any-gone
-          (Syntax.tyRef
-          Syntax.erased
-          Syntax.mut
-          (Syntax.tyArray Elem.ty 64)),
-    ) (List._∷_ (
-      21,
-      Rows'.any-gone
-          (Syntax.tyStruct
-          (List._∷_ 38 (List._∷_ 91 (List._∷_ 93 List.[])))
-          (Syntax.tcons
-          (Syntax.tyRef Syntax.erased Syntax.mut Elem.ty)
-          (Syntax.tcons (Syntax.tyInt Syntax.w64) Syntax.tnil))),
-    ) List.[])))))
+    ) List.[])))))))))))))))
 
 abbrev pub t12 : List.List Row.Entry
 t12 = List._∷_ (
   16,
-  Rows'.any-gone (Syntax.tyRef Syntax.erased Syntax.mut (Syntax.tyInt Syntax.w8)),
-) (List._∷_ (
-  17,
-  Mut.mslice
-      (Referent.rtF (Referent.fInt Syntax.w8))
-      (Syntax.tyRef Syntax.erased Syntax.mut (Syntax.tyInt Syntax.w8))
-      10,
-)
-    (List._∷_ (
-      18,
-      Rows'.any-gone (Syntax.tyRef Syntax.erased Syntax.mut (Syntax.tyInt Syntax.w8)),
-    ) (List._∷_ (
-      19,
-      Rows'.any-gone
-          (Syntax.tyStruct
-          (List._∷_ 38 (List._∷_ 91 (List._∷_ 93 List.[])))
-          (Syntax.tcons
-          (Syntax.tyRef Syntax.erased Syntax.mut (Syntax.tyInt Syntax.w8))
-          (Syntax.tcons (Syntax.tyInt Syntax.w64) Syntax.tnil))),
-    ) (List._∷_ (
-      20,
-      Rows'.any-gone
-          (Syntax.tyRef
-          Syntax.erased
-          Syntax.mut
-          (Syntax.tyArray Elem.ty 64)),
-    ) (List._∷_ (
-      21,
-      Rows'.any-gone
-          (Syntax.tyStruct
-          (List._∷_ 38 (List._∷_ 91 (List._∷_ 93 List.[])))
-          (Syntax.tcons
-          (Syntax.tyRef Syntax.erased Syntax.mut Elem.ty)
-          (Syntax.tcons (Syntax.tyInt Syntax.w64) Syntax.tnil))),
-    ) List.[])))))
-
-abbrev pub t13 : List.List Row.Entry
-t13 = List._∷_ (0, Rows'.any-gone (Syntax.tyInt Syntax.w64)) (List._∷_ (
-  1,
-  Rows'.sslice
-      (Referent.rtF (Referent.fInt Syntax.w8))
-      (Syntax.tyRef (Syntax.named 0) Syntax.imm (Syntax.tyInt Syntax.w8))
-      0,
-) (List._∷_ (
-  2,
-  Rows'.sslice
-      (Referent.rtF (Referent.fInt Syntax.w64))
-      (Syntax.tyRef (Syntax.named 1) Syntax.imm (Syntax.tyInt Syntax.w64))
-      1,
-) (List._∷_ (3, Rows'.sc-here (Row.sInt Syntax.w64)) (List._∷_ (
-  4,
-  Rows'.sslice
-      (Referent.rtF (Referent.fInt Syntax.w64))
-      (Syntax.tyRef (Syntax.named 2) Syntax.imm (Syntax.tyInt Syntax.w64))
-      2,
-) (List._∷_ (
-  5,
-  Rows'.sslice
-      (Referent.rtF (Referent.fInt Syntax.w8))
-      (Syntax.tyRef (Syntax.named 3) Syntax.imm (Syntax.tyInt Syntax.w8))
-      3,
-) (List._∷_ (
-  6,
-  Relend.mslice-owed
-      (Referent.rtF (Referent.fInt Syntax.w64))
-      (Syntax.tyRef (Syntax.named 4) Syntax.mut (Syntax.tyInt Syntax.w64))
-      4
-      8
-      Row.off,
-) (List._∷_ (
-  7,
-  Relend.mslice-owed
-      (Referent.rtF (Referent.fInt Syntax.w8))
-      (Syntax.tyRef (Syntax.named 5) Syntax.mut (Syntax.tyInt Syntax.w8))
-      5
-      9
-      Row.off,
-) (List._∷_ (
-  8,
-  Relend.mslice-owed
-      (Referent.rtF (Referent.fInt Syntax.w8))
-      (Syntax.tyRef (Syntax.named 6) Syntax.mut (Syntax.tyInt Syntax.w8))
-      6
-      10
-      Row.off,
-) (List._∷_ (
-  9,
-  Relend.mslice-owed
-      (Referent.rtF (Referent.fInt Syntax.w8))
-      (Syntax.tyRef (Syntax.named 7) Syntax.mut (Syntax.tyInt Syntax.w8))
-      7
-      11
-      Row.off,
-)
-    (List._∷_
-    (10, Rows.arrF Elem.R 64 0)
-    (List._∷_ (
-      11,
-      Rows'.any-gone (Syntax.tyArray Elem.held 64),
-    ) (List._∷_ (
-      12,
-      Rows'.any-gone (Syntax.tyRef Syntax.erased Syntax.mut (Syntax.tyInt Syntax.w64)),
-    ) (List._∷_ (
-      13,
-      Mut.mslice
-          (Referent.rtF (Referent.fInt Syntax.w64))
-          (Syntax.tyRef Syntax.erased Syntax.mut (Syntax.tyInt Syntax.w64))
-          8,
-    ) (List._∷_ (
-      14,
-      Rows'.any-gone (Syntax.tyRef Syntax.erased Syntax.mut (Syntax.tyInt Syntax.w8)),
-    ) (List._∷_ (
-      15,
-      Mut.mslice
-          (Referent.rtF (Referent.fInt Syntax.w8))
-          (Syntax.tyRef Syntax.erased Syntax.mut (Syntax.tyInt Syntax.w8))
-          9,
-    ) List.[])))))))))))))))
-
-abbrev pub t14 : List.List Row.Entry
-t14 = List._∷_ (
-  16,
-  Rows'.any-gone (Syntax.tyRef Syntax.erased Syntax.mut (Syntax.tyInt Syntax.w8)),
-) (List._∷_ (
-  17,
   Mut.mslice
       (Referent.rtF (Referent.fInt Syntax.w8))
       (Syntax.tyRef Syntax.erased Syntax.mut (Syntax.tyInt Syntax.w8))
       10,
 ) (List._∷_ (
-  18,
+  17,
   Relend.msptr
       (Referent.rtF (Referent.fInt Syntax.w8))
       (Syntax.tyRef Syntax.erased Syntax.mut (Syntax.tyInt Syntax.w8))
       11,
 ) (List._∷_ (
-  19,
+  18,
   Rows'.any-gone
       (Syntax.tyStruct
       (List._∷_ 38 (List._∷_ 91 (List._∷_ 93 List.[])))
       (Syntax.tcons
       (Syntax.tyRef Syntax.erased Syntax.mut (Syntax.tyInt Syntax.w8))
       (Syntax.tcons (Syntax.tyInt Syntax.w64) Syntax.tnil))),
-) (List._∷_ (
-  20,
-  Rows'.any-gone
-      (Syntax.tyRef
-      Syntax.erased
-      Syntax.mut
-      (Syntax.tyArray Elem.ty 64)),
-) (List._∷_ (
-  21,
-  Rows'.any-gone
-      (Syntax.tyStruct
-      (List._∷_ 38 (List._∷_ 91 (List._∷_ 93 List.[])))
-      (Syntax.tcons
-      (Syntax.tyRef Syntax.erased Syntax.mut Elem.ty)
-      (Syntax.tcons (Syntax.tyInt Syntax.w64) Syntax.tnil))),
-) List.[])))))
-
-abbrev pub t15 : List.List Row.Entry
-t15 = List._∷_ (
-  16,
-  Rows'.any-gone (Syntax.tyRef Syntax.erased Syntax.mut (Syntax.tyInt Syntax.w8)),
-) (List._∷_ (
-  17,
-  Mut.mslice
-      (Referent.rtF (Referent.fInt Syntax.w8))
-      (Syntax.tyRef Syntax.erased Syntax.mut (Syntax.tyInt Syntax.w8))
-      10,
 )
     (List._∷_ (
-      18,
+      19,
       Rows'.any-gone (Syntax.tyRef Syntax.erased Syntax.mut (Syntax.tyInt Syntax.w8)),
     ) (List._∷_ (
-      19,
-      Mut.mslice
-          (Referent.rtF (Referent.fInt Syntax.w8))
-          (Syntax.tyRef Syntax.erased Syntax.mut (Syntax.tyInt Syntax.w8))
-          11,
-    ) (List._∷_ (
       20,
+      Rows'.any-gone
+          (Syntax.tyStruct
+          (List._∷_ 38 (List._∷_ 91 (List._∷_ 93 List.[])))
+          (Syntax.tcons
+          (Syntax.tyRef Syntax.erased Syntax.mut (Syntax.tyInt Syntax.w8))
+          (Syntax.tcons (Syntax.tyInt Syntax.w64) Syntax.tnil))),
+    ) (List._∷_ (
+      21,
       Rows'.any-gone
           (Syntax.tyRef
           Syntax.erased
           Syntax.mut
           (Syntax.tyArray Elem.ty 64)),
     ) (List._∷_ (
-      21,
+      22,
       Rows'.any-gone
           (Syntax.tyStruct
           (List._∷_ 38 (List._∷_ 91 (List._∷_ 93 List.[])))
           (Syntax.tcons
           (Syntax.tyRef Syntax.erased Syntax.mut Elem.ty)
           (Syntax.tcons (Syntax.tyInt Syntax.w64) Syntax.tnil))),
-    ) List.[])))))
+    ) List.[]))))))
 
-abbrev pub t16 : List.List Row.Entry
-t16 = List._∷_ (0, Rows'.any-gone (Syntax.tyInt Syntax.w64)) (List._∷_ (
+abbrev pub t13 : List.List Row.Entry
+t13 = List._∷_ (
+  16,
+  Mut.mslice
+      (Referent.rtF (Referent.fInt Syntax.w8))
+      (Syntax.tyRef Syntax.erased Syntax.mut (Syntax.tyInt Syntax.w8))
+      10,
+)
+    (List._∷_ (
+      17,
+      Rows'.any-gone (Syntax.tyRef Syntax.erased Syntax.mut (Syntax.tyInt Syntax.w8)),
+    ) (List._∷_ (
+      18,
+      Mut.mslice
+          (Referent.rtF (Referent.fInt Syntax.w8))
+          (Syntax.tyRef Syntax.erased Syntax.mut (Syntax.tyInt Syntax.w8))
+          11,
+    ) (List._∷_ (
+      19,
+      Rows'.any-gone (Syntax.tyRef Syntax.erased Syntax.mut (Syntax.tyInt Syntax.w8)),
+    ) (List._∷_ (
+      20,
+      Rows'.any-gone
+          (Syntax.tyStruct
+          (List._∷_ 38 (List._∷_ 91 (List._∷_ 93 List.[])))
+          (Syntax.tcons
+          (Syntax.tyRef Syntax.erased Syntax.mut (Syntax.tyInt Syntax.w8))
+          (Syntax.tcons (Syntax.tyInt Syntax.w64) Syntax.tnil))),
+    ) (List._∷_ (
+      21,
+      Rows'.any-gone
+          (Syntax.tyRef
+          Syntax.erased
+          Syntax.mut
+          (Syntax.tyArray Elem.ty 64)),
+    ) (List._∷_ (
+      22,
+      Rows'.any-gone
+          (Syntax.tyStruct
+          (List._∷_ 38 (List._∷_ 91 (List._∷_ 93 List.[])))
+          (Syntax.tcons
+          (Syntax.tyRef Syntax.erased Syntax.mut Elem.ty)
+          (Syntax.tcons (Syntax.tyInt Syntax.w64) Syntax.tnil))),
+    ) List.[]))))))
+
+abbrev pub t14 : List.List Row.Entry
+t14 = List._∷_ (0, Rows'.any-gone (Syntax.tyInt Syntax.w64)) (List._∷_ (
   1,
   Rows'.sslice
       (Referent.rtF (Referent.fInt Syntax.w8))
@@ -1483,17 +1381,15 @@ t16 = List._∷_ (0, Rows'.any-gone (Syntax.tyInt Syntax.w64)) (List._∷_ (
       3,
 ) (List._∷_ (
   6,
-  Relend.mslice-owed
+  Rows'.sslice
       (Referent.rtF (Referent.fInt Syntax.w64))
-      (Syntax.tyRef (Syntax.named 4) Syntax.mut (Syntax.tyInt Syntax.w64))
-      4
-      8
-      Row.off,
+      (Syntax.tyRef (Syntax.named 4) Syntax.imm (Syntax.tyInt Syntax.w64))
+      4,
 ) (List._∷_ (
   7,
   Relend.mslice-owed
-      (Referent.rtF (Referent.fInt Syntax.w8))
-      (Syntax.tyRef (Syntax.named 5) Syntax.mut (Syntax.tyInt Syntax.w8))
+      (Referent.rtF (Referent.fInt Syntax.w64))
+      (Syntax.tyRef (Syntax.named 5) Syntax.mut (Syntax.tyInt Syntax.w64))
       5
       9
       Row.off,
@@ -1513,109 +1409,297 @@ t16 = List._∷_ (0, Rows'.any-gone (Syntax.tyInt Syntax.w64)) (List._∷_ (
       7
       11
       Row.off,
+) (List._∷_ (
+  10,
+  Relend.mslice-owed
+      (Referent.rtF (Referent.fInt Syntax.w8))
+      (Syntax.tyRef (Syntax.named 8) Syntax.mut (Syntax.tyInt Syntax.w8))
+      8
+      12
+      Row.off,
 )
+    (List._∷_
+    (11, Rows.arrF Elem.R 64 0)
     (List._∷_ (
-      10,
-      Rows.arr-owed Elem.R 64 12,
-    ) (List._∷_ (
-      11,
+      12,
       Rows'.any-gone (Syntax.tyArray Elem.held 64),
     ) (List._∷_ (
-      12,
+      13,
       Rows'.any-gone (Syntax.tyRef Syntax.erased Syntax.mut (Syntax.tyInt Syntax.w64)),
     ) (List._∷_ (
-      13,
+      14,
       Mut.mslice
           (Referent.rtF (Referent.fInt Syntax.w64))
           (Syntax.tyRef Syntax.erased Syntax.mut (Syntax.tyInt Syntax.w64))
-          8,
-    ) (List._∷_ (
-      14,
-      Rows'.any-gone (Syntax.tyRef Syntax.erased Syntax.mut (Syntax.tyInt Syntax.w8)),
+          9,
     ) (List._∷_ (
       15,
-      Mut.mslice
-          (Referent.rtF (Referent.fInt Syntax.w8))
-          (Syntax.tyRef Syntax.erased Syntax.mut (Syntax.tyInt Syntax.w8))
-          9,
+      Rows'.any-gone (Syntax.tyRef Syntax.erased Syntax.mut (Syntax.tyInt Syntax.w8)),
     ) List.[])))))))))))))))
 
-abbrev pub t17 : List.List Row.Entry
-t17 = List._∷_ (
+abbrev pub t15 : List.List Row.Entry
+t15 = List._∷_ (
   16,
-  Rows'.any-gone (Syntax.tyRef Syntax.erased Syntax.mut (Syntax.tyInt Syntax.w8)),
-) (List._∷_ (
-  17,
   Mut.mslice
       (Referent.rtF (Referent.fInt Syntax.w8))
       (Syntax.tyRef Syntax.erased Syntax.mut (Syntax.tyInt Syntax.w8))
       10,
 )
     (List._∷_ (
-      18,
+      17,
       Rows'.any-gone (Syntax.tyRef Syntax.erased Syntax.mut (Syntax.tyInt Syntax.w8)),
     ) (List._∷_ (
-      19,
+      18,
       Mut.mslice
           (Referent.rtF (Referent.fInt Syntax.w8))
           (Syntax.tyRef Syntax.erased Syntax.mut (Syntax.tyInt Syntax.w8))
           11,
     ) (List._∷_ (
+      19,
+      Relend.msptr
+          (Referent.rtF (Referent.fInt Syntax.w8))
+          (Syntax.tyRef Syntax.erased Syntax.mut (Syntax.tyInt Syntax.w8))
+          12,
+    ) (List._∷_ (
       20,
+      Rows'.any-gone
+          (Syntax.tyStruct
+          (List._∷_ 38 (List._∷_ 91 (List._∷_ 93 List.[])))
+          (Syntax.tcons
+          (Syntax.tyRef Syntax.erased Syntax.mut (Syntax.tyInt Syntax.w8))
+          (Syntax.tcons (Syntax.tyInt Syntax.w64) Syntax.tnil))),
+    ) (List._∷_ (
+      21,
+      Rows'.any-gone
+          (Syntax.tyRef
+          Syntax.erased
+          Syntax.mut
+          (Syntax.tyArray Elem.ty 64)),
+    ) (List._∷_ (
+      22,
+      Rows'.any-gone
+          (Syntax.tyStruct
+          (List._∷_ 38 (List._∷_ 91 (List._∷_ 93 List.[])))
+          (Syntax.tcons
+          (Syntax.tyRef Syntax.erased Syntax.mut Elem.ty)
+          (Syntax.tcons (Syntax.tyInt Syntax.w64) Syntax.tnil))),
+    ) List.[]))))))
+
+abbrev pub t16 : List.List Row.Entry
+t16 = List._∷_ (
+  16,
+  Mut.mslice
+      (Referent.rtF (Referent.fInt Syntax.w8))
+      (Syntax.tyRef Syntax.erased Syntax.mut (Syntax.tyInt Syntax.w8))
+      10,
+)
+    (List._∷_ (
+      17,
+      Rows'.any-gone (Syntax.tyRef Syntax.erased Syntax.mut (Syntax.tyInt Syntax.w8)),
+    ) (List._∷_ (
+      18,
+      Mut.mslice
+          (Referent.rtF (Referent.fInt Syntax.w8))
+          (Syntax.tyRef Syntax.erased Syntax.mut (Syntax.tyInt Syntax.w8))
+          11,
+    ) (List._∷_ (
+      19,
+      Rows'.any-gone (Syntax.tyRef Syntax.erased Syntax.mut (Syntax.tyInt Syntax.w8)),
+    ) (List._∷_ (
+      20,
+      Mut.mslice
+          (Referent.rtF (Referent.fInt Syntax.w8))
+          (Syntax.tyRef Syntax.erased Syntax.mut (Syntax.tyInt Syntax.w8))
+          12,
+    ) (List._∷_ (
+      21,
+      Rows'.any-gone
+          (Syntax.tyRef
+          Syntax.erased
+          Syntax.mut
+          (Syntax.tyArray Elem.ty 64)),
+    ) (List._∷_ (
+      22,
+      Rows'.any-gone
+          (Syntax.tyStruct
+          (List._∷_ 38 (List._∷_ 91 (List._∷_ 93 List.[])))
+          (Syntax.tcons
+          (Syntax.tyRef Syntax.erased Syntax.mut Elem.ty)
+          (Syntax.tcons (Syntax.tyInt Syntax.w64) Syntax.tnil))),
+    ) List.[]))))))
+
+abbrev pub t17 : List.List Row.Entry
+t17 = List._∷_ (0, Rows'.any-gone (Syntax.tyInt Syntax.w64)) (List._∷_ (
+  1,
+  Rows'.sslice
+      (Referent.rtF (Referent.fInt Syntax.w8))
+      (Syntax.tyRef (Syntax.named 0) Syntax.imm (Syntax.tyInt Syntax.w8))
+      0,
+) (List._∷_ (
+  2,
+  Rows'.sslice
+      (Referent.rtF (Referent.fInt Syntax.w64))
+      (Syntax.tyRef (Syntax.named 1) Syntax.imm (Syntax.tyInt Syntax.w64))
+      1,
+) (List._∷_ (3, Rows'.sc-here (Row.sInt Syntax.w64)) (List._∷_ (
+  4,
+  Rows'.sslice
+      (Referent.rtF (Referent.fInt Syntax.w64))
+      (Syntax.tyRef (Syntax.named 2) Syntax.imm (Syntax.tyInt Syntax.w64))
+      2,
+) (List._∷_ (
+  5,
+  Rows'.sslice
+      (Referent.rtF (Referent.fInt Syntax.w8))
+      (Syntax.tyRef (Syntax.named 3) Syntax.imm (Syntax.tyInt Syntax.w8))
+      3,
+) (List._∷_ (
+  6,
+  Rows'.sslice
+      (Referent.rtF (Referent.fInt Syntax.w64))
+      (Syntax.tyRef (Syntax.named 4) Syntax.imm (Syntax.tyInt Syntax.w64))
+      4,
+) (List._∷_ (
+  7,
+  Relend.mslice-owed
+      (Referent.rtF (Referent.fInt Syntax.w64))
+      (Syntax.tyRef (Syntax.named 5) Syntax.mut (Syntax.tyInt Syntax.w64))
+      5
+      9
+      Row.off,
+) (List._∷_ (
+  8,
+  Relend.mslice-owed
+      (Referent.rtF (Referent.fInt Syntax.w8))
+      (Syntax.tyRef (Syntax.named 6) Syntax.mut (Syntax.tyInt Syntax.w8))
+      6
+      10
+      Row.off,
+) (List._∷_ (
+  9,
+  Relend.mslice-owed
+      (Referent.rtF (Referent.fInt Syntax.w8))
+      (Syntax.tyRef (Syntax.named 7) Syntax.mut (Syntax.tyInt Syntax.w8))
+      7
+      11
+      Row.off,
+) (List._∷_ (
+  10,
+  Relend.mslice-owed
+      (Referent.rtF (Referent.fInt Syntax.w8))
+      (Syntax.tyRef (Syntax.named 8) Syntax.mut (Syntax.tyInt Syntax.w8))
+      8
+      12
+      Row.off,
+)
+    (List._∷_ (
+      11,
+      Rows.arr-owed Elem.R 64 13,
+    ) (List._∷_ (
+      12,
+      Rows'.any-gone (Syntax.tyArray Elem.held 64),
+    ) (List._∷_ (
+      13,
+      Rows'.any-gone (Syntax.tyRef Syntax.erased Syntax.mut (Syntax.tyInt Syntax.w64)),
+    ) (List._∷_ (
+      14,
+      Mut.mslice
+          (Referent.rtF (Referent.fInt Syntax.w64))
+          (Syntax.tyRef Syntax.erased Syntax.mut (Syntax.tyInt Syntax.w64))
+          9,
+    ) (List._∷_ (
+      15,
+      Rows'.any-gone (Syntax.tyRef Syntax.erased Syntax.mut (Syntax.tyInt Syntax.w8)),
+    ) List.[])))))))))))))))
+
+abbrev pub t18 : List.List Row.Entry
+t18 = List._∷_ (
+  16,
+  Mut.mslice
+      (Referent.rtF (Referent.fInt Syntax.w8))
+      (Syntax.tyRef Syntax.erased Syntax.mut (Syntax.tyInt Syntax.w8))
+      10,
+)
+    (List._∷_ (
+      17,
+      Rows'.any-gone (Syntax.tyRef Syntax.erased Syntax.mut (Syntax.tyInt Syntax.w8)),
+    ) (List._∷_ (
+      18,
+      Mut.mslice
+          (Referent.rtF (Referent.fInt Syntax.w8))
+          (Syntax.tyRef Syntax.erased Syntax.mut (Syntax.tyInt Syntax.w8))
+          11,
+    ) (List._∷_ (
+      19,
+      Rows'.any-gone (Syntax.tyRef Syntax.erased Syntax.mut (Syntax.tyInt Syntax.w8)),
+    ) (List._∷_ (
+      20,
+      Mut.mslice
+          (Referent.rtF (Referent.fInt Syntax.w8))
+          (Syntax.tyRef Syntax.erased Syntax.mut (Syntax.tyInt Syntax.w8))
+          12,
+    ) (List._∷_ (
+      21,
       Relend.msptr
           Elem.R
           (Syntax.tyRef
           Syntax.erased
           Syntax.mut
           (Syntax.tyArray Elem.ty 64))
-          12,
+          13,
     ) (List._∷_ (
-      21,
+      22,
       Rows'.any-gone
           (Syntax.tyStruct
           (List._∷_ 38 (List._∷_ 91 (List._∷_ 93 List.[])))
           (Syntax.tcons
           (Syntax.tyRef Syntax.erased Syntax.mut Elem.ty)
           (Syntax.tcons (Syntax.tyInt Syntax.w64) Syntax.tnil))),
-    ) List.[])))))
+    ) List.[]))))))
 
-abbrev pub t18 : List.List Row.Entry
-t18 = List._∷_ (
+abbrev pub t19 : List.List Row.Entry
+t19 = List._∷_ (
   16,
-  Rows'.any-gone (Syntax.tyRef Syntax.erased Syntax.mut (Syntax.tyInt Syntax.w8)),
-) (List._∷_ (
-  17,
   Mut.mslice
       (Referent.rtF (Referent.fInt Syntax.w8))
       (Syntax.tyRef Syntax.erased Syntax.mut (Syntax.tyInt Syntax.w8))
       10,
 )
     (List._∷_ (
-      18,
+      17,
       Rows'.any-gone (Syntax.tyRef Syntax.erased Syntax.mut (Syntax.tyInt Syntax.w8)),
     ) (List._∷_ (
-      19,
+      18,
       Mut.mslice
           (Referent.rtF (Referent.fInt Syntax.w8))
           (Syntax.tyRef Syntax.erased Syntax.mut (Syntax.tyInt Syntax.w8))
           11,
     ) (List._∷_ (
+      19,
+      Rows'.any-gone (Syntax.tyRef Syntax.erased Syntax.mut (Syntax.tyInt Syntax.w8)),
+    ) (List._∷_ (
       20,
+      Mut.mslice
+          (Referent.rtF (Referent.fInt Syntax.w8))
+          (Syntax.tyRef Syntax.erased Syntax.mut (Syntax.tyInt Syntax.w8))
+          12,
+    ) (List._∷_ (
+      21,
       Rows'.any-gone
           (Syntax.tyRef
           Syntax.erased
           Syntax.mut
           (Syntax.tyArray Elem.ty 64)),
     ) (List._∷_ (
-      21,
+      22,
       Mut.mslice
           Elem.R
           (Syntax.tyRef Syntax.erased Syntax.mut Elem.ty)
-          12,
-    ) List.[])))))
+          13,
+    ) List.[]))))))
 
-abbrev pub t19 : List.List Row.Entry
-t19 = List._∷_ (0, Rows'.sc-here (Row.sInt Syntax.w64)) (List._∷_ (
+abbrev pub t20 : List.List Row.Entry
+t20 = List._∷_ (0, Rows'.sc-here (Row.sInt Syntax.w64)) (List._∷_ (
   1,
   Rows'.sslice
       (Referent.rtF (Referent.fInt Syntax.w8))
@@ -1641,17 +1725,15 @@ t19 = List._∷_ (0, Rows'.sc-here (Row.sInt Syntax.w64)) (List._∷_ (
       3,
 ) (List._∷_ (
   6,
-  Relend.mslice-owed
+  Rows'.sslice
       (Referent.rtF (Referent.fInt Syntax.w64))
-      (Syntax.tyRef (Syntax.named 4) Syntax.mut (Syntax.tyInt Syntax.w64))
-      4
-      8
-      Row.off,
+      (Syntax.tyRef (Syntax.named 4) Syntax.imm (Syntax.tyInt Syntax.w64))
+      4,
 ) (List._∷_ (
   7,
   Relend.mslice-owed
-      (Referent.rtF (Referent.fInt Syntax.w8))
-      (Syntax.tyRef (Syntax.named 5) Syntax.mut (Syntax.tyInt Syntax.w8))
+      (Referent.rtF (Referent.fInt Syntax.w64))
+      (Syntax.tyRef (Syntax.named 5) Syntax.mut (Syntax.tyInt Syntax.w64))
       5
       9
       Row.off,
@@ -1671,145 +1753,70 @@ t19 = List._∷_ (0, Rows'.sc-here (Row.sInt Syntax.w64)) (List._∷_ (
       7
       11
       Row.off,
+) (List._∷_ (
+  10,
+  Relend.mslice-owed
+      (Referent.rtF (Referent.fInt Syntax.w8))
+      (Syntax.tyRef (Syntax.named 8) Syntax.mut (Syntax.tyInt Syntax.w8))
+      8
+      12
+      Row.off,
 )
     (List._∷_ (
-      10,
-      Rows.arr-owed Elem.R 64 12,
-    ) (List._∷_ (
       11,
-      Rows'.any-gone (Syntax.tyArray Elem.held 64),
+      Rows.arr-owed Elem.R 64 13,
     ) (List._∷_ (
       12,
-      Rows'.any-gone (Syntax.tyRef Syntax.erased Syntax.mut (Syntax.tyInt Syntax.w64)),
+      Rows'.any-gone (Syntax.tyArray Elem.held 64),
     ) (List._∷_ (
       13,
+      Rows'.any-gone (Syntax.tyRef Syntax.erased Syntax.mut (Syntax.tyInt Syntax.w64)),
+    ) (List._∷_ (
+      14,
       Mut.msleft
           (Referent.rtF (Referent.fInt Syntax.w64))
           (Syntax.tyRef Syntax.erased Syntax.mut (Syntax.tyInt Syntax.w64)),
     ) (List._∷_ (
-      14,
-      Rows'.any-gone (Syntax.tyRef Syntax.erased Syntax.mut (Syntax.tyInt Syntax.w8)),
-    ) (List._∷_ (
       15,
-      Mut.msleft
-          (Referent.rtF (Referent.fInt Syntax.w8))
-          (Syntax.tyRef Syntax.erased Syntax.mut (Syntax.tyInt Syntax.w8)),
+      Rows'.any-gone (Syntax.tyRef Syntax.erased Syntax.mut (Syntax.tyInt Syntax.w8)),
     ) List.[])))))))))))))))
 
-abbrev pub t20 : List.List Row.Entry
-t20 = List._∷_ (
+abbrev pub t21 : List.List Row.Entry
+t21 = List._∷_ (
   16,
-  Rows'.any-gone (Syntax.tyRef Syntax.erased Syntax.mut (Syntax.tyInt Syntax.w8)),
-) (List._∷_ (
-  17,
   Mut.msleft
       (Referent.rtF (Referent.fInt Syntax.w8))
       (Syntax.tyRef Syntax.erased Syntax.mut (Syntax.tyInt Syntax.w8)),
 )
     (List._∷_ (
-      18,
+      17,
       Rows'.any-gone (Syntax.tyRef Syntax.erased Syntax.mut (Syntax.tyInt Syntax.w8)),
     ) (List._∷_ (
-      19,
+      18,
       Mut.msleft
           (Referent.rtF (Referent.fInt Syntax.w8))
           (Syntax.tyRef Syntax.erased Syntax.mut (Syntax.tyInt Syntax.w8)),
     ) (List._∷_ (
+      19,
+      Rows'.any-gone (Syntax.tyRef Syntax.erased Syntax.mut (Syntax.tyInt Syntax.w8)),
+    ) (List._∷_ (
       20,
+      Mut.msleft
+          (Referent.rtF (Referent.fInt Syntax.w8))
+          (Syntax.tyRef Syntax.erased Syntax.mut (Syntax.tyInt Syntax.w8)),
+    ) (List._∷_ (
+      21,
       Rows'.any-gone
           (Syntax.tyRef
           Syntax.erased
           Syntax.mut
           (Syntax.tyArray Elem.ty 64)),
     ) (List._∷_ (
-      21,
+      22,
       Mut.msleft
           Elem.R
           (Syntax.tyRef Syntax.erased Syntax.mut Elem.ty),
-    ) List.[])))))
-
-abbrev pub t21 : List.List Row.Entry
-t21 = List._∷_ (0, Rows'.sc-here (Row.sInt Syntax.w64)) (List._∷_ (
-  1,
-  Rows'.sslice
-      (Referent.rtF (Referent.fInt Syntax.w8))
-      (Syntax.tyRef (Syntax.named 0) Syntax.imm (Syntax.tyInt Syntax.w8))
-      0,
-) (List._∷_ (
-  2,
-  Rows'.sslice
-      (Referent.rtF (Referent.fInt Syntax.w64))
-      (Syntax.tyRef (Syntax.named 1) Syntax.imm (Syntax.tyInt Syntax.w64))
-      1,
-) (List._∷_ (3, Rows'.sc-here (Row.sInt Syntax.w64)) (List._∷_ (
-  4,
-  Rows'.sslice
-      (Referent.rtF (Referent.fInt Syntax.w64))
-      (Syntax.tyRef (Syntax.named 2) Syntax.imm (Syntax.tyInt Syntax.w64))
-      2,
-) (List._∷_ (
-  5,
-  Rows'.sslice
-      (Referent.rtF (Referent.fInt Syntax.w8))
-      (Syntax.tyRef (Syntax.named 3) Syntax.imm (Syntax.tyInt Syntax.w8))
-      3,
-) (List._∷_ (
-  6,
-  Mut.mslice
-      (Referent.rtF (Referent.fInt Syntax.w64))
-      (Syntax.tyRef (Syntax.named 4) Syntax.mut (Syntax.tyInt Syntax.w64))
-      4,
-) (List._∷_ (
-  7,
-  Relend.mslice-owed
-      (Referent.rtF (Referent.fInt Syntax.w8))
-      (Syntax.tyRef (Syntax.named 5) Syntax.mut (Syntax.tyInt Syntax.w8))
-      5
-      9
-      Row.off,
-) (List._∷_ (
-  8,
-  Relend.mslice-owed
-      (Referent.rtF (Referent.fInt Syntax.w8))
-      (Syntax.tyRef (Syntax.named 6) Syntax.mut (Syntax.tyInt Syntax.w8))
-      6
-      10
-      Row.off,
-) (List._∷_ (
-  9,
-  Relend.mslice-owed
-      (Referent.rtF (Referent.fInt Syntax.w8))
-      (Syntax.tyRef (Syntax.named 7) Syntax.mut (Syntax.tyInt Syntax.w8))
-      7
-      11
-      Row.off,
-)
-    (List._∷_ (
-      10,
-      Rows.arr-owed Elem.R 64 12,
-    ) (List._∷_ (
-      11,
-      Rows'.any-gone (Syntax.tyArray Elem.held 64),
-    ) (List._∷_ (
-      12,
-      Rows'.any-gone (Syntax.tyRef Syntax.erased Syntax.mut (Syntax.tyInt Syntax.w64)),
-    ) (List._∷_ (
-      13,
-      Rows'.any-gone
-          (Syntax.tyStruct
-          (List._∷_ 38 (List._∷_ 91 (List._∷_ 93 List.[])))
-          (Syntax.tcons
-          (Syntax.tyRef Syntax.erased Syntax.mut (Syntax.tyInt Syntax.w64))
-          (Syntax.tcons (Syntax.tyInt Syntax.w64) Syntax.tnil))),
-    ) (List._∷_ (
-      14,
-      Rows'.any-gone (Syntax.tyRef Syntax.erased Syntax.mut (Syntax.tyInt Syntax.w8)),
-    ) (List._∷_ (
-      15,
-      Mut.msleft
-          (Referent.rtF (Referent.fInt Syntax.w8))
-          (Syntax.tyRef Syntax.erased Syntax.mut (Syntax.tyInt Syntax.w8)),
-    ) List.[])))))))))))))))
+    ) List.[]))))))
 
 abbrev pub t22 : List.List Row.Entry
 t22 = List._∷_ (0, Rows'.sc-here (Row.sInt Syntax.w64)) (List._∷_ (
@@ -1838,15 +1845,15 @@ t22 = List._∷_ (0, Rows'.sc-here (Row.sInt Syntax.w64)) (List._∷_ (
       3,
 ) (List._∷_ (
   6,
-  Mut.mslice
+  Rows'.sslice
       (Referent.rtF (Referent.fInt Syntax.w64))
-      (Syntax.tyRef (Syntax.named 4) Syntax.mut (Syntax.tyInt Syntax.w64))
+      (Syntax.tyRef (Syntax.named 4) Syntax.imm (Syntax.tyInt Syntax.w64))
       4,
 ) (List._∷_ (
   7,
   Mut.mslice
-      (Referent.rtF (Referent.fInt Syntax.w8))
-      (Syntax.tyRef (Syntax.named 5) Syntax.mut (Syntax.tyInt Syntax.w8))
+      (Referent.rtF (Referent.fInt Syntax.w64))
+      (Syntax.tyRef (Syntax.named 5) Syntax.mut (Syntax.tyInt Syntax.w64))
       5,
 ) (List._∷_ (
   8,
@@ -1864,18 +1871,26 @@ t22 = List._∷_ (0, Rows'.sc-here (Row.sInt Syntax.w64)) (List._∷_ (
       7
       11
       Row.off,
+) (List._∷_ (
+  10,
+  Relend.mslice-owed
+      (Referent.rtF (Referent.fInt Syntax.w8))
+      (Syntax.tyRef (Syntax.named 8) Syntax.mut (Syntax.tyInt Syntax.w8))
+      8
+      12
+      Row.off,
 )
     (List._∷_ (
-      10,
-      Rows.arr-owed Elem.R 64 12,
-    ) (List._∷_ (
       11,
-      Rows'.any-gone (Syntax.tyArray Elem.held 64),
+      Rows.arr-owed Elem.R 64 13,
     ) (List._∷_ (
       12,
-      Rows'.any-gone (Syntax.tyRef Syntax.erased Syntax.mut (Syntax.tyInt Syntax.w64)),
+      Rows'.any-gone (Syntax.tyArray Elem.held 64),
     ) (List._∷_ (
       13,
+      Rows'.any-gone (Syntax.tyRef Syntax.erased Syntax.mut (Syntax.tyInt Syntax.w64)),
+    ) (List._∷_ (
+      14,
       Rows'.any-gone
           (Syntax.tyStruct
           (List._∷_ 38 (List._∷_ 91 (List._∷_ 93 List.[])))
@@ -1883,16 +1898,8 @@ t22 = List._∷_ (0, Rows'.sc-here (Row.sInt Syntax.w64)) (List._∷_ (
           (Syntax.tyRef Syntax.erased Syntax.mut (Syntax.tyInt Syntax.w64))
           (Syntax.tcons (Syntax.tyInt Syntax.w64) Syntax.tnil))),
     ) (List._∷_ (
-      14,
-      Rows'.any-gone (Syntax.tyRef Syntax.erased Syntax.mut (Syntax.tyInt Syntax.w8)),
-    ) (List._∷_ (
       15,
-      Rows'.any-gone
-          (Syntax.tyStruct
-          (List._∷_ 38 (List._∷_ 91 (List._∷_ 93 List.[])))
-          (Syntax.tcons
-          (Syntax.tyRef Syntax.erased Syntax.mut (Syntax.tyInt Syntax.w8))
-          (Syntax.tcons (Syntax.tyInt Syntax.w64) Syntax.tnil))),
+      Rows'.any-gone (Syntax.tyRef Syntax.erased Syntax.mut (Syntax.tyInt Syntax.w8)),
     ) List.[])))))))))))))))
 
 abbrev pub t23 : List.List Row.Entry
@@ -1922,15 +1929,15 @@ t23 = List._∷_ (0, Rows'.sc-here (Row.sInt Syntax.w64)) (List._∷_ (
       3,
 ) (List._∷_ (
   6,
-  Mut.mslice
+  Rows'.sslice
       (Referent.rtF (Referent.fInt Syntax.w64))
-      (Syntax.tyRef (Syntax.named 4) Syntax.mut (Syntax.tyInt Syntax.w64))
+      (Syntax.tyRef (Syntax.named 4) Syntax.imm (Syntax.tyInt Syntax.w64))
       4,
 ) (List._∷_ (
   7,
   Mut.mslice
-      (Referent.rtF (Referent.fInt Syntax.w8))
-      (Syntax.tyRef (Syntax.named 5) Syntax.mut (Syntax.tyInt Syntax.w8))
+      (Referent.rtF (Referent.fInt Syntax.w64))
+      (Syntax.tyRef (Syntax.named 5) Syntax.mut (Syntax.tyInt Syntax.w64))
       5,
 ) (List._∷_ (
   8,
@@ -1946,18 +1953,26 @@ t23 = List._∷_ (0, Rows'.sc-here (Row.sInt Syntax.w64)) (List._∷_ (
       7
       11
       Row.off,
+) (List._∷_ (
+  10,
+  Relend.mslice-owed
+      (Referent.rtF (Referent.fInt Syntax.w8))
+      (Syntax.tyRef (Syntax.named 8) Syntax.mut (Syntax.tyInt Syntax.w8))
+      8
+      12
+      Row.off,
 )
     (List._∷_ (
-      10,
-      Rows.arr-owed Elem.R 64 12,
-    ) (List._∷_ (
       11,
-      Rows'.any-gone (Syntax.tyArray Elem.held 64),
+      Rows.arr-owed Elem.R 64 13,
     ) (List._∷_ (
       12,
-      Rows'.any-gone (Syntax.tyRef Syntax.erased Syntax.mut (Syntax.tyInt Syntax.w64)),
+      Rows'.any-gone (Syntax.tyArray Elem.held 64),
     ) (List._∷_ (
       13,
+      Rows'.any-gone (Syntax.tyRef Syntax.erased Syntax.mut (Syntax.tyInt Syntax.w64)),
+    ) (List._∷_ (
+      14,
       Rows'.any-gone
           (Syntax.tyStruct
           (List._∷_ 38 (List._∷_ 91 (List._∷_ 93 List.[])))
@@ -1965,24 +1980,13 @@ t23 = List._∷_ (0, Rows'.sc-here (Row.sInt Syntax.w64)) (List._∷_ (
           (Syntax.tyRef Syntax.erased Syntax.mut (Syntax.tyInt Syntax.w64))
           (Syntax.tcons (Syntax.tyInt Syntax.w64) Syntax.tnil))),
     ) (List._∷_ (
-      14,
-      Rows'.any-gone (Syntax.tyRef Syntax.erased Syntax.mut (Syntax.tyInt Syntax.w8)),
-    ) (List._∷_ (
       15,
-      Rows'.any-gone
-          (Syntax.tyStruct
-          (List._∷_ 38 (List._∷_ 91 (List._∷_ 93 List.[])))
-          (Syntax.tcons
-          (Syntax.tyRef Syntax.erased Syntax.mut (Syntax.tyInt Syntax.w8))
-          (Syntax.tcons (Syntax.tyInt Syntax.w64) Syntax.tnil))),
+      Rows'.any-gone (Syntax.tyRef Syntax.erased Syntax.mut (Syntax.tyInt Syntax.w8)),
     ) List.[])))))))))))))))
 
 abbrev pub t24 : List.List Row.Entry
 t24 = List._∷_ (
   16,
-  Rows'.any-gone (Syntax.tyRef Syntax.erased Syntax.mut (Syntax.tyInt Syntax.w8)),
-) (List._∷_ (
-  17,
   Rows'.any-gone
       (Syntax.tyStruct
       (List._∷_ 38 (List._∷_ 91 (List._∷_ 93 List.[])))
@@ -1991,26 +1995,34 @@ t24 = List._∷_ (
       (Syntax.tcons (Syntax.tyInt Syntax.w64) Syntax.tnil))),
 )
     (List._∷_ (
-      18,
+      17,
       Rows'.any-gone (Syntax.tyRef Syntax.erased Syntax.mut (Syntax.tyInt Syntax.w8)),
     ) (List._∷_ (
-      19,
+      18,
       Mut.msleft
           (Referent.rtF (Referent.fInt Syntax.w8))
           (Syntax.tyRef Syntax.erased Syntax.mut (Syntax.tyInt Syntax.w8)),
     ) (List._∷_ (
+      19,
+      Rows'.any-gone (Syntax.tyRef Syntax.erased Syntax.mut (Syntax.tyInt Syntax.w8)),
+    ) (List._∷_ (
       20,
+      Mut.msleft
+          (Referent.rtF (Referent.fInt Syntax.w8))
+          (Syntax.tyRef Syntax.erased Syntax.mut (Syntax.tyInt Syntax.w8)),
+    ) (List._∷_ (
+      21,
       Rows'.any-gone
           (Syntax.tyRef
           Syntax.erased
           Syntax.mut
           (Syntax.tyArray Elem.ty 64)),
     ) (List._∷_ (
-      21,
+      22,
       Mut.msleft
           Elem.R
           (Syntax.tyRef Syntax.erased Syntax.mut Elem.ty),
-    ) List.[])))))
+    ) List.[]))))))
 
 abbrev pub t25 : List.List Row.Entry
 t25 = List._∷_ (0, Rows'.sc-here (Row.sInt Syntax.w64)) (List._∷_ (
@@ -2039,15 +2051,15 @@ t25 = List._∷_ (0, Rows'.sc-here (Row.sInt Syntax.w64)) (List._∷_ (
       3,
 ) (List._∷_ (
   6,
-  Mut.mslice
+  Rows'.sslice
       (Referent.rtF (Referent.fInt Syntax.w64))
-      (Syntax.tyRef (Syntax.named 4) Syntax.mut (Syntax.tyInt Syntax.w64))
+      (Syntax.tyRef (Syntax.named 4) Syntax.imm (Syntax.tyInt Syntax.w64))
       4,
 ) (List._∷_ (
   7,
   Mut.mslice
-      (Referent.rtF (Referent.fInt Syntax.w8))
-      (Syntax.tyRef (Syntax.named 5) Syntax.mut (Syntax.tyInt Syntax.w8))
+      (Referent.rtF (Referent.fInt Syntax.w64))
+      (Syntax.tyRef (Syntax.named 5) Syntax.mut (Syntax.tyInt Syntax.w64))
       5,
 ) (List._∷_ (
   8,
@@ -2061,18 +2073,26 @@ t25 = List._∷_ (0, Rows'.sc-here (Row.sInt Syntax.w64)) (List._∷_ (
       (Referent.rtF (Referent.fInt Syntax.w8))
       (Syntax.tyRef (Syntax.named 7) Syntax.mut (Syntax.tyInt Syntax.w8))
       7,
+) (List._∷_ (
+  10,
+  Relend.mslice-owed
+      (Referent.rtF (Referent.fInt Syntax.w8))
+      (Syntax.tyRef (Syntax.named 8) Syntax.mut (Syntax.tyInt Syntax.w8))
+      8
+      12
+      Row.off,
 )
     (List._∷_ (
-      10,
-      Rows.arr-owed Elem.R 64 12,
-    ) (List._∷_ (
       11,
-      Rows'.any-gone (Syntax.tyArray Elem.held 64),
+      Rows.arr-owed Elem.R 64 13,
     ) (List._∷_ (
       12,
-      Rows'.any-gone (Syntax.tyRef Syntax.erased Syntax.mut (Syntax.tyInt Syntax.w64)),
+      Rows'.any-gone (Syntax.tyArray Elem.held 64),
     ) (List._∷_ (
       13,
+      Rows'.any-gone (Syntax.tyRef Syntax.erased Syntax.mut (Syntax.tyInt Syntax.w64)),
+    ) (List._∷_ (
+      14,
       Rows'.any-gone
           (Syntax.tyStruct
           (List._∷_ 38 (List._∷_ 91 (List._∷_ 93 List.[])))
@@ -2080,24 +2100,13 @@ t25 = List._∷_ (0, Rows'.sc-here (Row.sInt Syntax.w64)) (List._∷_ (
           (Syntax.tyRef Syntax.erased Syntax.mut (Syntax.tyInt Syntax.w64))
           (Syntax.tcons (Syntax.tyInt Syntax.w64) Syntax.tnil))),
     ) (List._∷_ (
-      14,
-      Rows'.any-gone (Syntax.tyRef Syntax.erased Syntax.mut (Syntax.tyInt Syntax.w8)),
-    ) (List._∷_ (
       15,
-      Rows'.any-gone
-          (Syntax.tyStruct
-          (List._∷_ 38 (List._∷_ 91 (List._∷_ 93 List.[])))
-          (Syntax.tcons
-          (Syntax.tyRef Syntax.erased Syntax.mut (Syntax.tyInt Syntax.w8))
-          (Syntax.tcons (Syntax.tyInt Syntax.w64) Syntax.tnil))),
+      Rows'.any-gone (Syntax.tyRef Syntax.erased Syntax.mut (Syntax.tyInt Syntax.w8)),
     ) List.[])))))))))))))))
 
 abbrev pub t26 : List.List Row.Entry
 t26 = List._∷_ (
   16,
-  Rows'.any-gone (Syntax.tyRef Syntax.erased Syntax.mut (Syntax.tyInt Syntax.w8)),
-) (List._∷_ (
-  17,
   Rows'.any-gone
       (Syntax.tyStruct
       (List._∷_ 38 (List._∷_ 91 (List._∷_ 93 List.[])))
@@ -2106,10 +2115,10 @@ t26 = List._∷_ (
       (Syntax.tcons (Syntax.tyInt Syntax.w64) Syntax.tnil))),
 )
     (List._∷_ (
-      18,
+      17,
       Rows'.any-gone (Syntax.tyRef Syntax.erased Syntax.mut (Syntax.tyInt Syntax.w8)),
     ) (List._∷_ (
-      19,
+      18,
       Rows'.any-gone
           (Syntax.tyStruct
           (List._∷_ 38 (List._∷_ 91 (List._∷_ 93 List.[])))
@@ -2117,18 +2126,26 @@ t26 = List._∷_ (
           (Syntax.tyRef Syntax.erased Syntax.mut (Syntax.tyInt Syntax.w8))
           (Syntax.tcons (Syntax.tyInt Syntax.w64) Syntax.tnil))),
     ) (List._∷_ (
+      19,
+      Rows'.any-gone (Syntax.tyRef Syntax.erased Syntax.mut (Syntax.tyInt Syntax.w8)),
+    ) (List._∷_ (
       20,
+      Mut.msleft
+          (Referent.rtF (Referent.fInt Syntax.w8))
+          (Syntax.tyRef Syntax.erased Syntax.mut (Syntax.tyInt Syntax.w8)),
+    ) (List._∷_ (
+      21,
       Rows'.any-gone
           (Syntax.tyRef
           Syntax.erased
           Syntax.mut
           (Syntax.tyArray Elem.ty 64)),
     ) (List._∷_ (
-      21,
+      22,
       Mut.msleft
           Elem.R
           (Syntax.tyRef Syntax.erased Syntax.mut Elem.ty),
-    ) List.[])))))
+    ) List.[]))))))
 
 abbrev pub t27 : List.List Row.Entry
 t27 = List._∷_ (0, Rows'.sc-here (Row.sInt Syntax.w64)) (List._∷_ (
@@ -2157,15 +2174,15 @@ t27 = List._∷_ (0, Rows'.sc-here (Row.sInt Syntax.w64)) (List._∷_ (
       3,
 ) (List._∷_ (
   6,
-  Mut.mslice
+  Rows'.sslice
       (Referent.rtF (Referent.fInt Syntax.w64))
-      (Syntax.tyRef (Syntax.named 4) Syntax.mut (Syntax.tyInt Syntax.w64))
+      (Syntax.tyRef (Syntax.named 4) Syntax.imm (Syntax.tyInt Syntax.w64))
       4,
 ) (List._∷_ (
   7,
   Mut.mslice
-      (Referent.rtF (Referent.fInt Syntax.w8))
-      (Syntax.tyRef (Syntax.named 5) Syntax.mut (Syntax.tyInt Syntax.w8))
+      (Referent.rtF (Referent.fInt Syntax.w64))
+      (Syntax.tyRef (Syntax.named 5) Syntax.mut (Syntax.tyInt Syntax.w64))
       5,
 ) (List._∷_ (
   8,
@@ -2179,17 +2196,24 @@ t27 = List._∷_ (0, Rows'.sc-here (Row.sInt Syntax.w64)) (List._∷_ (
       (Referent.rtF (Referent.fInt Syntax.w8))
       (Syntax.tyRef (Syntax.named 7) Syntax.mut (Syntax.tyInt Syntax.w8))
       7,
+) (List._∷_ (
+  10,
+  Mut.mslice
+      (Referent.rtF (Referent.fInt Syntax.w8))
+      (Syntax.tyRef (Syntax.named 8) Syntax.mut (Syntax.tyInt Syntax.w8))
+      8,
 )
-    (List._∷_
-    (10, Rows.arrF Elem.R 64 0)
     (List._∷_ (
       11,
-      Rows'.any-gone (Syntax.tyArray Elem.held 64),
+      Rows.arr-owed Elem.R 64 13,
     ) (List._∷_ (
       12,
-      Rows'.any-gone (Syntax.tyRef Syntax.erased Syntax.mut (Syntax.tyInt Syntax.w64)),
+      Rows'.any-gone (Syntax.tyArray Elem.held 64),
     ) (List._∷_ (
       13,
+      Rows'.any-gone (Syntax.tyRef Syntax.erased Syntax.mut (Syntax.tyInt Syntax.w64)),
+    ) (List._∷_ (
+      14,
       Rows'.any-gone
           (Syntax.tyStruct
           (List._∷_ 38 (List._∷_ 91 (List._∷_ 93 List.[])))
@@ -2197,20 +2221,58 @@ t27 = List._∷_ (0, Rows'.sc-here (Row.sInt Syntax.w64)) (List._∷_ (
           (Syntax.tyRef Syntax.erased Syntax.mut (Syntax.tyInt Syntax.w64))
           (Syntax.tcons (Syntax.tyInt Syntax.w64) Syntax.tnil))),
     ) (List._∷_ (
-      14,
+      15,
+      Rows'.any-gone (Syntax.tyRef Syntax.erased Syntax.mut (Syntax.tyInt Syntax.w8)),
+    ) List.[])))))))))))))))
+
+abbrev pub t28 : List.List Row.Entry
+t28 = List._∷_ (
+  16,
+  Rows'.any-gone
+      (Syntax.tyStruct
+      (List._∷_ 38 (List._∷_ 91 (List._∷_ 93 List.[])))
+      (Syntax.tcons
+      (Syntax.tyRef Syntax.erased Syntax.mut (Syntax.tyInt Syntax.w8))
+      (Syntax.tcons (Syntax.tyInt Syntax.w64) Syntax.tnil))),
+)
+    (List._∷_ (
+      17,
       Rows'.any-gone (Syntax.tyRef Syntax.erased Syntax.mut (Syntax.tyInt Syntax.w8)),
     ) (List._∷_ (
-      15,
+      18,
       Rows'.any-gone
           (Syntax.tyStruct
           (List._∷_ 38 (List._∷_ 91 (List._∷_ 93 List.[])))
           (Syntax.tcons
           (Syntax.tyRef Syntax.erased Syntax.mut (Syntax.tyInt Syntax.w8))
           (Syntax.tcons (Syntax.tyInt Syntax.w64) Syntax.tnil))),
-    ) List.[])))))))))))))))
+    ) (List._∷_ (
+      19,
+      Rows'.any-gone (Syntax.tyRef Syntax.erased Syntax.mut (Syntax.tyInt Syntax.w8)),
+    ) (List._∷_ (
+      20,
+      Rows'.any-gone
+          (Syntax.tyStruct
+          (List._∷_ 38 (List._∷_ 91 (List._∷_ 93 List.[])))
+          (Syntax.tcons
+          (Syntax.tyRef Syntax.erased Syntax.mut (Syntax.tyInt Syntax.w8))
+          (Syntax.tcons (Syntax.tyInt Syntax.w64) Syntax.tnil))),
+    ) (List._∷_ (
+      21,
+      Rows'.any-gone
+          (Syntax.tyRef
+          Syntax.erased
+          Syntax.mut
+          (Syntax.tyArray Elem.ty 64)),
+    ) (List._∷_ (
+      22,
+      Mut.msleft
+          Elem.R
+          (Syntax.tyRef Syntax.erased Syntax.mut Elem.ty),
+    ) List.[]))))))
 
-abbrev pub t28 : List.List Row.Entry
-t28 = List._∷_ (0, Rows'.sc-here (Row.sInt Syntax.w64)) (List._∷_ (
+abbrev pub t29 : List.List Row.Entry
+t29 = List._∷_ (0, Rows'.sc-here (Row.sInt Syntax.w64)) (List._∷_ (
   1,
   Rows'.sslice
       (Referent.rtF (Referent.fInt Syntax.w8))
@@ -2236,15 +2298,15 @@ t28 = List._∷_ (0, Rows'.sc-here (Row.sInt Syntax.w64)) (List._∷_ (
       3,
 ) (List._∷_ (
   6,
-  Mut.mslice
+  Rows'.sslice
       (Referent.rtF (Referent.fInt Syntax.w64))
-      (Syntax.tyRef (Syntax.named 4) Syntax.mut (Syntax.tyInt Syntax.w64))
+      (Syntax.tyRef (Syntax.named 4) Syntax.imm (Syntax.tyInt Syntax.w64))
       4,
 ) (List._∷_ (
   7,
   Mut.mslice
-      (Referent.rtF (Referent.fInt Syntax.w8))
-      (Syntax.tyRef (Syntax.named 5) Syntax.mut (Syntax.tyInt Syntax.w8))
+      (Referent.rtF (Referent.fInt Syntax.w64))
+      (Syntax.tyRef (Syntax.named 5) Syntax.mut (Syntax.tyInt Syntax.w64))
       5,
 ) (List._∷_ (
   8,
@@ -2260,16 +2322,21 @@ t28 = List._∷_ (0, Rows'.sc-here (Row.sInt Syntax.w64)) (List._∷_ (
       7,
 ) (List._∷_ (
   10,
-  Rows'.any-gone (Syntax.tyArray Elem.held 64),
-) (List._∷_ (
-  11,
-  Rows'.any-gone (Syntax.tyArray Elem.held 64),
+  Mut.mslice
+      (Referent.rtF (Referent.fInt Syntax.w8))
+      (Syntax.tyRef (Syntax.named 8) Syntax.mut (Syntax.tyInt Syntax.w8))
+      8,
 )
+    (List._∷_
+    (11, Rows.arrF Elem.R 64 0)
     (List._∷_ (
       12,
-      Rows'.any-gone (Syntax.tyRef Syntax.erased Syntax.mut (Syntax.tyInt Syntax.w64)),
+      Rows'.any-gone (Syntax.tyArray Elem.held 64),
     ) (List._∷_ (
       13,
+      Rows'.any-gone (Syntax.tyRef Syntax.erased Syntax.mut (Syntax.tyInt Syntax.w64)),
+    ) (List._∷_ (
+      14,
       Rows'.any-gone
           (Syntax.tyStruct
           (List._∷_ 38 (List._∷_ 91 (List._∷_ 93 List.[])))
@@ -2277,16 +2344,86 @@ t28 = List._∷_ (0, Rows'.sc-here (Row.sInt Syntax.w64)) (List._∷_ (
           (Syntax.tyRef Syntax.erased Syntax.mut (Syntax.tyInt Syntax.w64))
           (Syntax.tcons (Syntax.tyInt Syntax.w64) Syntax.tnil))),
     ) (List._∷_ (
-      14,
-      Rows'.any-gone (Syntax.tyRef Syntax.erased Syntax.mut (Syntax.tyInt Syntax.w8)),
-    ) (List._∷_ (
       15,
+      Rows'.any-gone (Syntax.tyRef Syntax.erased Syntax.mut (Syntax.tyInt Syntax.w8)),
+    ) List.[])))))))))))))))
+
+abbrev pub t30 : List.List Row.Entry
+t30 = List._∷_ (0, Rows'.sc-here (Row.sInt Syntax.w64)) (List._∷_ (
+  1,
+  Rows'.sslice
+      (Referent.rtF (Referent.fInt Syntax.w8))
+      (Syntax.tyRef (Syntax.named 0) Syntax.imm (Syntax.tyInt Syntax.w8))
+      0,
+) (List._∷_ (
+  2,
+  Rows'.sslice
+      (Referent.rtF (Referent.fInt Syntax.w64))
+      (Syntax.tyRef (Syntax.named 1) Syntax.imm (Syntax.tyInt Syntax.w64))
+      1,
+) (List._∷_ (3, Rows'.sc-here (Row.sInt Syntax.w64)) (List._∷_ (
+  4,
+  Rows'.sslice
+      (Referent.rtF (Referent.fInt Syntax.w64))
+      (Syntax.tyRef (Syntax.named 2) Syntax.imm (Syntax.tyInt Syntax.w64))
+      2,
+) (List._∷_ (
+  5,
+  Rows'.sslice
+      (Referent.rtF (Referent.fInt Syntax.w8))
+      (Syntax.tyRef (Syntax.named 3) Syntax.imm (Syntax.tyInt Syntax.w8))
+      3,
+) (List._∷_ (
+  6,
+  Rows'.sslice
+      (Referent.rtF (Referent.fInt Syntax.w64))
+      (Syntax.tyRef (Syntax.named 4) Syntax.imm (Syntax.tyInt Syntax.w64))
+      4,
+) (List._∷_ (
+  7,
+  Mut.mslice
+      (Referent.rtF (Referent.fInt Syntax.w64))
+      (Syntax.tyRef (Syntax.named 5) Syntax.mut (Syntax.tyInt Syntax.w64))
+      5,
+) (List._∷_ (
+  8,
+  Mut.mslice
+      (Referent.rtF (Referent.fInt Syntax.w8))
+      (Syntax.tyRef (Syntax.named 6) Syntax.mut (Syntax.tyInt Syntax.w8))
+      6,
+) (List._∷_ (
+  9,
+  Mut.mslice
+      (Referent.rtF (Referent.fInt Syntax.w8))
+      (Syntax.tyRef (Syntax.named 7) Syntax.mut (Syntax.tyInt Syntax.w8))
+      7,
+) (List._∷_ (
+  10,
+  Mut.mslice
+      (Referent.rtF (Referent.fInt Syntax.w8))
+      (Syntax.tyRef (Syntax.named 8) Syntax.mut (Syntax.tyInt Syntax.w8))
+      8,
+) (List._∷_ (
+  11,
+  Rows'.any-gone (Syntax.tyArray Elem.held 64),
+) (List._∷_ (
+  12,
+  Rows'.any-gone (Syntax.tyArray Elem.held 64),
+)
+    (List._∷_ (
+      13,
+      Rows'.any-gone (Syntax.tyRef Syntax.erased Syntax.mut (Syntax.tyInt Syntax.w64)),
+    ) (List._∷_ (
+      14,
       Rows'.any-gone
           (Syntax.tyStruct
           (List._∷_ 38 (List._∷_ 91 (List._∷_ 93 List.[])))
           (Syntax.tcons
-          (Syntax.tyRef Syntax.erased Syntax.mut (Syntax.tyInt Syntax.w8))
+          (Syntax.tyRef Syntax.erased Syntax.mut (Syntax.tyInt Syntax.w64))
           (Syntax.tcons (Syntax.tyInt Syntax.w64) Syntax.tnil))),
+    ) (List._∷_ (
+      15,
+      Rows'.any-gone (Syntax.tyRef Syntax.erased Syntax.mut (Syntax.tyInt Syntax.w8)),
     ) List.[])))))))))))))))
 
 abbrev pub T0 : Row.Cx
@@ -2320,79 +2457,82 @@ abbrev pub T9 : Row.Cx
 T9 = record { locals = List._++_ t0 t1; slots = List.[] }
 
 abbrev pub T10 : Row.Cx
-T10 = record { locals = List._++_ t3 t1; slots = List.[] }
+T10 = record { locals = List._++_ t0 t1; slots = List.[] }
 
 abbrev pub T11 : Row.Cx
-T11 = record { locals = List._++_ t4 t1; slots = List.[] }
+T11 = record { locals = List._++_ t3 t1; slots = List.[] }
 
 abbrev pub T12 : Row.Cx
-T12 = record { locals = List._++_ t5 t1; slots = List.[] }
+T12 = record { locals = List._++_ t4 t1; slots = List.[] }
 
-abbrev pub T14 : Row.Cx
-T14 = record { locals = List._++_ t6 t1; slots = List.[] }
+abbrev pub T13 : Row.Cx
+T13 = record { locals = List._++_ t5 t1; slots = List.[] }
 
 abbrev pub T15 : Row.Cx
-T15 = record { locals = List._++_ t7 t1; slots = List.[] }
+T15 = record { locals = List._++_ t6 t1; slots = List.[] }
 
-abbrev pub T17 : Row.Cx
-T17 = record { locals = List._++_ t8 t1; slots = List.[] }
+abbrev pub T16 : Row.Cx
+T16 = record { locals = List._++_ t7 t1; slots = List.[] }
 
 abbrev pub T18 : Row.Cx
-T18 = record { locals = List._++_ t9 t1; slots = List.[] }
+T18 = record { locals = List._++_ t8 t1; slots = List.[] }
 
-abbrev pub T20 : Row.Cx
-T20 = record { locals = List._++_ t10 t11; slots = List.[] }
+abbrev pub T19 : Row.Cx
+T19 = record { locals = List._++_ t9 t10; slots = List.[] }
 
 abbrev pub T21 : Row.Cx
-T21 = record { locals = List._++_ t10 t12; slots = List.[] }
+T21 = record { locals = List._++_ t11 t12; slots = List.[] }
 
-abbrev pub T23 : Row.Cx
-T23 = record { locals = List._++_ t13 t14; slots = List.[] }
+abbrev pub T22 : Row.Cx
+T22 = record { locals = List._++_ t11 t13; slots = List.[] }
 
 abbrev pub T24 : Row.Cx
-T24 = record { locals = List._++_ t13 t15; slots = List.[] }
+T24 = record { locals = List._++_ t14 t15; slots = List.[] }
 
-abbrev pub T26 : Row.Cx
-T26 = record { locals = List._++_ t16 t17; slots = List.[] }
+abbrev pub T25 : Row.Cx
+T25 = record { locals = List._++_ t14 t16; slots = List.[] }
 
 abbrev pub T27 : Row.Cx
-T27 = record { locals = List._++_ t16 t18; slots = List.[] }
+T27 = record { locals = List._++_ t17 t18; slots = List.[] }
 
 abbrev pub T28 : Row.Cx
-T28 = record { locals = List._++_ t19 t20; slots = List.[] }
+T28 = record { locals = List._++_ t17 t19; slots = List.[] }
 
-abbrev pub T30 : Row.Cx
-T30 = record { locals = List._++_ t21 t20; slots = List.[] }
+abbrev pub T29 : Row.Cx
+T29 = record { locals = List._++_ t20 t21; slots = List.[] }
 
 abbrev pub T31 : Row.Cx
-T31 = record { locals = List._++_ t21 t20; slots = List.[] }
+T31 = record { locals = List._++_ t22 t21; slots = List.[] }
 
-abbrev pub T34 : Row.Cx
-T34 = record { locals = List._++_ t22 t20; slots = List.[] }
+abbrev pub T32 : Row.Cx
+T32 = record { locals = List._++_ t22 t21; slots = List.[] }
 
 abbrev pub T35 : Row.Cx
-T35 = record { locals = List._++_ t22 t20; slots = List.[] }
+T35 = record { locals = List._++_ t23 t24; slots = List.[] }
 
-abbrev pub T38 : Row.Cx
-T38 = record { locals = List._++_ t23 t24; slots = List.[] }
+abbrev pub T36 : Row.Cx
+T36 = record { locals = List._++_ t23 t24; slots = List.[] }
 
 abbrev pub T39 : Row.Cx
-T39 = record { locals = List._++_ t23 t24; slots = List.[] }
+T39 = record { locals = List._++_ t25 t26; slots = List.[] }
 
-abbrev pub T42 : Row.Cx
-T42 = record { locals = List._++_ t25 t26; slots = List.[] }
+abbrev pub T40 : Row.Cx
+T40 = record { locals = List._++_ t25 t26; slots = List.[] }
 
 abbrev pub T43 : Row.Cx
-T43 = record { locals = List._++_ t25 t26; slots = List.[] }
+T43 = record { locals = List._++_ t27 t28; slots = List.[] }
 
-abbrev pub T46 : Row.Cx
-T46 = record { locals = List._++_ t27 t1; slots = List.[] }
+abbrev pub T44 : Row.Cx
+T44 = record { locals = List._++_ t27 t28; slots = List.[] }
 
-abbrev pub T48 : Row.Cx
-T48 = record { locals = List._++_ t28 t1; slots = List.[] }
+abbrev pub T47 : Row.Cx
+T47 = record { locals = List._++_ t29 t1; slots = List.[] }
 
 abbrev pub T49 : Row.Cx
-T49 = record { locals = List._++_ t2 t1; slots = List.[] }
+T49 = record { locals = List._++_ t30 t1; slots = List.[] }
+
+abbrev pub T50 : Row.Cx
+T50 = record { locals = List._++_ t2 t1; slots = List.[] }
 
 abbrev pub O0 : Typed.Outs
 O0 = record { next = Option.none; exits = List.[]; returns = Option.some T1 }
@@ -2448,12 +2588,12 @@ module _ (claims· : Claims) where
 
   abbrev s4 : (bs : List.List Nat.ℕ) → Typed.Gives T5 T6
   s4 =
-      λ bs. Know.k-sl-known
+      λ bs. Know.k-shs-known
       (Referent.fInt Syntax.w64)
       T5
       6
       4
-      (Syntax.tyRef (Syntax.named 4) Syntax.mut (Syntax.tyInt Syntax.w64))
+      (Syntax.tyRef (Syntax.named 4) Syntax.imm (Syntax.tyInt Syntax.w64))
       Row.off
       0
       λ x. x
@@ -2461,11 +2601,11 @@ module _ (claims· : Claims) where
   abbrev s5 : (bs : List.List Nat.ℕ) → Typed.Gives T6 T7
   s5 =
       λ bs. Know.k-sl-known
-      (Referent.fInt Syntax.w8)
+      (Referent.fInt Syntax.w64)
       T6
       7
       5
-      (Syntax.tyRef (Syntax.named 5) Syntax.mut (Syntax.tyInt Syntax.w8))
+      (Syntax.tyRef (Syntax.named 5) Syntax.mut (Syntax.tyInt Syntax.w64))
       Row.off
       0
       λ x. x
@@ -2494,25 +2634,37 @@ module _ (claims· : Claims) where
       0
       λ x. x
 
-  abbrev s8 : (bs : List.List Nat.ℕ) → Typed.Both T9 T10
+  abbrev s8 : (bs : List.List Nat.ℕ) → Typed.Gives T9 T10
   s8 =
+      λ bs. Know.k-sl-known
+      (Referent.fInt Syntax.w8)
+      T9
+      10
+      8
+      (Syntax.tyRef (Syntax.named 8) Syntax.mut (Syntax.tyInt Syntax.w8))
+      Row.off
+      0
+      λ x. x
+
+  abbrev s9 : (bs : List.List Nat.ℕ) → Typed.Both T10 T11
+  s9 =
       λ bs. Call.callB
       ps·0
       r·0
       (claims· .0)
       (claims· .1)
-      T9
+      T10
       tt
-      11
+      12
       List.[]
       (Syntax.tyArray Elem.held 64)
 
-  abbrev s9 : (bs : List.List Nat.ℕ) → Typed.Mo T10 → Typed.Mo T11
-  s9 =
+  abbrev s10 : (bs : List.List Nat.ℕ) → Typed.Mo T11 → Typed.Mo T12
+  s10 =
       λ bs. LocalCopy.n-val-copy
-      T10
+      T11
+      12
       11
-      10
       (Array'.Array Elem.R 64)
       (Rows.arrF Elem.R 64 0)
       (Rows.arrF Elem.R 64 0)
@@ -2520,69 +2672,35 @@ module _ (claims· : Claims) where
       (λ x. x)
       λ x. x
 
-  abbrev s10 : (bs : List.List Nat.ℕ) → Typed.Mo T11 → Typed.Mo T12
-  s10 =
-      λ bs. Scalar.n-room T11 11 (Syntax.tyArray Elem.held 64)
+  abbrev s11 : (bs : List.List Nat.ℕ) → Typed.Mo T12 → Typed.Mo T13
+  s11 =
+      λ bs. Scalar.n-room T12 12 (Syntax.tyArray Elem.held 64)
 
-  abbrev s12 : (bs : List.List Nat.ℕ) → Typed.Gives T12 T14
-  s12 =
+  abbrev s13 : (bs : List.List Nat.ℕ) → Typed.Gives T13 T15
+  s13 =
       λ bs. Relend.k-sl-relend
       (Referent.rtF (Referent.fInt Syntax.w64))
-      T12
-      6
-      12
-      4
-      8
-      (Syntax.tyRef (Syntax.named 4) Syntax.mut (Syntax.tyInt Syntax.w64))
+      T13
+      7
+      13
+      5
+      9
+      (Syntax.tyRef (Syntax.named 5) Syntax.mut (Syntax.tyInt Syntax.w64))
       (Syntax.tyRef Syntax.erased Syntax.mut (Syntax.tyInt Syntax.w64))
       Row.off
       λ x. x
 
-  abbrev s13 : (bs : List.List Nat.ℕ) → Typed.Asks T14 T15
-  s13 =
+  abbrev s14 : (bs : List.List Nat.ℕ) → Typed.Asks T15 T16
+  s14 =
       λ bs. Relend.k-sl-aggregate
       (Referent.rtF (Referent.fInt Syntax.w64))
       (Relend.asMut (Referent.rtF (Referent.fInt Syntax.w64)))
-      T14
-      12
-      13
-      8
-      (Syntax.tyRef Syntax.erased Syntax.mut (Syntax.tyInt Syntax.w64))
-      (Syntax.tyRef Syntax.erased Syntax.mut (Syntax.tyInt Syntax.w64))
-      (λ x. x)
-      (Scalar.oFld
-      6
-      (List._∷_ (Syntax.field 1) List.[])
-      (Syntax.tyInt Syntax.w64)
-      8
-      λ v. Shared.lenV
-      (v .0))
-
-  abbrev s15 : (bs : List.List Nat.ℕ) → Typed.Gives T15 T17
-  s15 =
-      λ bs. Relend.k-sl-relend
-      (Referent.rtF (Referent.fInt Syntax.w8))
       T15
-      7
+      13
       14
-      5
       9
-      (Syntax.tyRef (Syntax.named 5) Syntax.mut (Syntax.tyInt Syntax.w8))
-      (Syntax.tyRef Syntax.erased Syntax.mut (Syntax.tyInt Syntax.w8))
-      Row.off
-      λ x. x
-
-  abbrev s16 : (bs : List.List Nat.ℕ) → Typed.Asks T17 T18
-  s16 =
-      λ bs. Relend.k-sl-aggregate
-      (Referent.rtF (Referent.fInt Syntax.w8))
-      (Relend.asMut (Referent.rtF (Referent.fInt Syntax.w8)))
-      T17
-      14
-      15
-      9
-      (Syntax.tyRef Syntax.erased Syntax.mut (Syntax.tyInt Syntax.w8))
-      (Syntax.tyRef Syntax.erased Syntax.mut (Syntax.tyInt Syntax.w8))
+      (Syntax.tyRef Syntax.erased Syntax.mut (Syntax.tyInt Syntax.w64))
+      (Syntax.tyRef Syntax.erased Syntax.mut (Syntax.tyInt Syntax.w64))
       (λ x. x)
       (Scalar.oFld
       7
@@ -2592,13 +2710,13 @@ module _ (claims· : Claims) where
       λ v. Shared.lenV
       (v .0))
 
-  abbrev s18 : (bs : List.List Nat.ℕ) → Typed.Gives T18 T20
-  s18 =
+  abbrev s16 : (bs : List.List Nat.ℕ) → Typed.Gives T16 T18
+  s16 =
       λ bs. Relend.k-sl-relend
       (Referent.rtF (Referent.fInt Syntax.w8))
-      T18
+      T16
       8
-      16
+      15
       6
       10
       (Syntax.tyRef (Syntax.named 6) Syntax.mut (Syntax.tyInt Syntax.w8))
@@ -2606,14 +2724,14 @@ module _ (claims· : Claims) where
       Row.off
       λ x. x
 
-  abbrev s19 : (bs : List.List Nat.ℕ) → Typed.Asks T20 T21
-  s19 =
+  abbrev s17 : (bs : List.List Nat.ℕ) → Typed.Asks T18 T19
+  s17 =
       λ bs. Relend.k-sl-aggregate
       (Referent.rtF (Referent.fInt Syntax.w8))
       (Relend.asMut (Referent.rtF (Referent.fInt Syntax.w8)))
-      T20
+      T18
+      15
       16
-      17
       10
       (Syntax.tyRef Syntax.erased Syntax.mut (Syntax.tyInt Syntax.w8))
       (Syntax.tyRef Syntax.erased Syntax.mut (Syntax.tyInt Syntax.w8))
@@ -2626,13 +2744,13 @@ module _ (claims· : Claims) where
       λ v. Shared.lenV
       (v .0))
 
-  abbrev s21 : (bs : List.List Nat.ℕ) → Typed.Gives T21 T23
-  s21 =
+  abbrev s19 : (bs : List.List Nat.ℕ) → Typed.Gives T19 T21
+  s19 =
       λ bs. Relend.k-sl-relend
       (Referent.rtF (Referent.fInt Syntax.w8))
-      T21
+      T19
       9
-      18
+      17
       7
       11
       (Syntax.tyRef (Syntax.named 7) Syntax.mut (Syntax.tyInt Syntax.w8))
@@ -2640,14 +2758,14 @@ module _ (claims· : Claims) where
       Row.off
       λ x. x
 
-  abbrev s22 : (bs : List.List Nat.ℕ) → Typed.Asks T23 T24
-  s22 =
+  abbrev s20 : (bs : List.List Nat.ℕ) → Typed.Asks T21 T22
+  s20 =
       λ bs. Relend.k-sl-aggregate
       (Referent.rtF (Referent.fInt Syntax.w8))
       (Relend.asMut (Referent.rtF (Referent.fInt Syntax.w8)))
-      T23
+      T21
+      17
       18
-      19
       11
       (Syntax.tyRef Syntax.erased Syntax.mut (Syntax.tyInt Syntax.w8))
       (Syntax.tyRef Syntax.erased Syntax.mut (Syntax.tyInt Syntax.w8))
@@ -2660,33 +2778,69 @@ module _ (claims· : Claims) where
       λ v. Shared.lenV
       (v .0))
 
-  abbrev s24 : (bs : List.List Nat.ℕ) → Typed.Gives T24 T26
-  s24 =
+  abbrev s22 : (bs : List.List Nat.ℕ) → Typed.Gives T22 T24
+  s22 =
+      λ bs. Relend.k-sl-relend
+      (Referent.rtF (Referent.fInt Syntax.w8))
+      T22
+      10
+      19
+      8
+      12
+      (Syntax.tyRef (Syntax.named 8) Syntax.mut (Syntax.tyInt Syntax.w8))
+      (Syntax.tyRef Syntax.erased Syntax.mut (Syntax.tyInt Syntax.w8))
+      Row.off
+      λ x. x
+
+  abbrev s23 : (bs : List.List Nat.ℕ) → Typed.Asks T24 T25
+  s23 =
+      λ bs. Relend.k-sl-aggregate
+      (Referent.rtF (Referent.fInt Syntax.w8))
+      (Relend.asMut (Referent.rtF (Referent.fInt Syntax.w8)))
+      T24
+      19
+      20
+      12
+      (Syntax.tyRef Syntax.erased Syntax.mut (Syntax.tyInt Syntax.w8))
+      (Syntax.tyRef Syntax.erased Syntax.mut (Syntax.tyInt Syntax.w8))
+      (λ x. x)
+      (Scalar.oFld
+      10
+      (List._∷_ (Syntax.field 1) List.[])
+      (Syntax.tyInt Syntax.w64)
+      8
+      λ v. Shared.lenV
+      (v .0))
+
+  abbrev s25 : (bs : List.List Nat.ℕ) → Typed.Gives T25 T27
+  s25 =
       λ bs. Borrow.k-arr-borrow
       Elem.R
-      T24
+      T25
       (Row.hd
       0
-      (Row.tl (Row.tl (Row.tl (Row.tl (Row.tl (Row.tl (Row.tl (Row.tl (Row.tl (Row.tl bs)))))))))))
-      10
-      20
+      (Row.tl
+      (Row.tl
+      (Row.tl (Row.tl (Row.tl (Row.tl (Row.tl (Row.tl (Row.tl (Row.tl (Row.tl bs))))))))))))
+      11
+      21
       64
-      12
+      13
       (Syntax.tyRef
       Syntax.erased
       Syntax.mut
       (Syntax.tyArray Elem.ty 64))
       λ x. x
 
-  abbrev s25 : (bs : List.List Nat.ℕ) → Typed.Asks T26 T27
-  s25 =
+  abbrev s26 : (bs : List.List Nat.ℕ) → Typed.Asks T27 T28
+  s26 =
       λ bs. Relend.k-sl-aggregate
       Elem.R
       (Relend.asMut Elem.R)
-      T26
-      20
+      T27
       21
-      12
+      22
+      13
       (Syntax.tyRef
       Syntax.erased
       Syntax.mut
@@ -2695,8 +2849,8 @@ module _ (claims· : Claims) where
       (λ x. x)
       (Scalar.oInt Syntax.w64 64)
 
-  abbrev s26 : (bs : List.List Nat.ℕ) → Typed.Both T27 T28
-  s26 = λ bs. Call.callB ps·1 r·1 (claims· .2) (claims· .3) T27 (
+  abbrev s27 : (bs : List.List Nat.ℕ) → Typed.Both T28 T29
+  s27 = λ bs. Call.callB ps·1 r·1 (claims· .2) (claims· .3) T28 (
     record {
       pos = 1;
       ty = Syntax.tyRef (Syntax.named 0) Syntax.imm (Syntax.tyInt Syntax.w8);
@@ -2724,38 +2878,45 @@ module _ (claims· : Claims) where
             },
             (
               record {
-                pos = 13;
-                ty = Syntax.tyRef Syntax.erased Syntax.mut (Syntax.tyInt Syntax.w64);
+                pos = 6;
+                ty = Syntax.tyRef (Syntax.named 4) Syntax.imm (Syntax.tyInt Syntax.w64);
                 ref = λ x. x;
               },
               (
                 record {
-                  pos = 15;
-                  ty = Syntax.tyRef Syntax.erased Syntax.mut (Syntax.tyInt Syntax.w8);
+                  pos = 14;
+                  ty = Syntax.tyRef Syntax.erased Syntax.mut (Syntax.tyInt Syntax.w64);
                   ref = λ x. x;
                 },
                 (
                   record {
-                    pos = 17;
+                    pos = 16;
                     ty = Syntax.tyRef Syntax.erased Syntax.mut (Syntax.tyInt Syntax.w8);
                     ref = λ x. x;
                   },
                   (
                     record {
-                      pos = 19;
+                      pos = 18;
                       ty = Syntax.tyRef Syntax.erased Syntax.mut (Syntax.tyInt Syntax.w8);
                       ref = λ x. x;
                     },
                     (
                       record {
-                        pos = 21;
-                        ty = Syntax.tyRef
-                            Syntax.erased
-                            Syntax.mut
-                            Elem.ty;
+                        pos = 20;
+                        ty = Syntax.tyRef Syntax.erased Syntax.mut (Syntax.tyInt Syntax.w8);
                         ref = λ x. x;
                       },
-                      tt,
+                      (
+                        record {
+                          pos = 22;
+                          ty = Syntax.tyRef
+                              Syntax.erased
+                              Syntax.mut
+                              Elem.ty;
+                          ref = λ x. x;
+                        },
+                        tt,
+                      ),
                     ),
                   ),
                 ),
@@ -2773,69 +2934,44 @@ module _ (claims· : Claims) where
       1
       (List._∷_
       2
-      (List._∷_ 3 (List._∷_ 8 (List._∷_ 9 (List._∷_ 10 (List._∷_ 11 (List._∷_ 12 List.[])))))))))
+      (List._∷_
+      3
+      (List._∷_ 4 (List._∷_ 9 (List._∷_ 10 (List._∷_ 11 (List._∷_ 12 (List._∷_ 13 List.[]))))))))))
       (Syntax.tyInt Syntax.w64)
 
-  abbrev s28 : (bs : List.List Nat.ℕ) → Typed.Both T28 T30
-  s28 =
+  abbrev s29 : (bs : List.List Nat.ℕ) → Typed.Both T29 T31
+  s29 =
       λ bs. Relend.k-back-sl
       (Referent.rtF (Referent.fInt Syntax.w64))
-      T28
-      13
-      6
-      4
-      8
-      (Syntax.tyRef (Syntax.named 4) Syntax.mut (Syntax.tyInt Syntax.w64))
+      T29
+      14
+      7
+      5
+      9
+      (Syntax.tyRef (Syntax.named 5) Syntax.mut (Syntax.tyInt Syntax.w64))
       (Syntax.tyRef Syntax.erased Syntax.mut (Syntax.tyInt Syntax.w64))
       Row.off
       (λ x. x)
       λ x. x
 
-  abbrev s29 : (bs : List.List Nat.ℕ) → Typed.Gives T30 T31
-  s29 =
+  abbrev s30 : (bs : List.List Nat.ℕ) → Typed.Gives T31 T32
+  s30 =
       λ bs. Know.k-sl-known
       (Referent.fInt Syntax.w64)
-      T30
-      6
-      4
-      (Syntax.tyRef (Syntax.named 4) Syntax.mut (Syntax.tyInt Syntax.w64))
-      Row.off
-      0
-      λ x. x
-
-  abbrev s32 : (bs : List.List Nat.ℕ) → Typed.Both T31 T34
-  s32 =
-      λ bs. Relend.k-back-sl
-      (Referent.rtF (Referent.fInt Syntax.w8))
       T31
-      15
       7
       5
-      9
-      (Syntax.tyRef (Syntax.named 5) Syntax.mut (Syntax.tyInt Syntax.w8))
-      (Syntax.tyRef Syntax.erased Syntax.mut (Syntax.tyInt Syntax.w8))
-      Row.off
-      (λ x. x)
-      λ x. x
-
-  abbrev s33 : (bs : List.List Nat.ℕ) → Typed.Gives T34 T35
-  s33 =
-      λ bs. Know.k-sl-known
-      (Referent.fInt Syntax.w8)
-      T34
-      7
-      5
-      (Syntax.tyRef (Syntax.named 5) Syntax.mut (Syntax.tyInt Syntax.w8))
+      (Syntax.tyRef (Syntax.named 5) Syntax.mut (Syntax.tyInt Syntax.w64))
       Row.off
       0
       λ x. x
 
-  abbrev s36 : (bs : List.List Nat.ℕ) → Typed.Both T35 T38
-  s36 =
+  abbrev s33 : (bs : List.List Nat.ℕ) → Typed.Both T32 T35
+  s33 =
       λ bs. Relend.k-back-sl
       (Referent.rtF (Referent.fInt Syntax.w8))
-      T35
-      17
+      T32
+      16
       8
       6
       10
@@ -2845,11 +2981,11 @@ module _ (claims· : Claims) where
       (λ x. x)
       λ x. x
 
-  abbrev s37 : (bs : List.List Nat.ℕ) → Typed.Gives T38 T39
-  s37 =
+  abbrev s34 : (bs : List.List Nat.ℕ) → Typed.Gives T35 T36
+  s34 =
       λ bs. Know.k-sl-known
       (Referent.fInt Syntax.w8)
-      T38
+      T35
       8
       6
       (Syntax.tyRef (Syntax.named 6) Syntax.mut (Syntax.tyInt Syntax.w8))
@@ -2857,12 +2993,12 @@ module _ (claims· : Claims) where
       0
       λ x. x
 
-  abbrev s40 : (bs : List.List Nat.ℕ) → Typed.Both T39 T42
-  s40 =
+  abbrev s37 : (bs : List.List Nat.ℕ) → Typed.Both T36 T39
+  s37 =
       λ bs. Relend.k-back-sl
       (Referent.rtF (Referent.fInt Syntax.w8))
-      T39
-      19
+      T36
+      18
       9
       7
       11
@@ -2872,11 +3008,11 @@ module _ (claims· : Claims) where
       (λ x. x)
       λ x. x
 
-  abbrev s41 : (bs : List.List Nat.ℕ) → Typed.Gives T42 T43
-  s41 =
+  abbrev s38 : (bs : List.List Nat.ℕ) → Typed.Gives T39 T40
+  s38 =
       λ bs. Know.k-sl-known
       (Referent.fInt Syntax.w8)
-      T42
+      T39
       9
       7
       (Syntax.tyRef (Syntax.named 7) Syntax.mut (Syntax.tyInt Syntax.w8))
@@ -2884,196 +3020,226 @@ module _ (claims· : Claims) where
       0
       λ x. x
 
-  abbrev s44 : (bs : List.List Nat.ℕ) → Typed.Both T43 T46
-  s44 =
+  abbrev s41 : (bs : List.List Nat.ℕ) → Typed.Both T40 T43
+  s41 =
+      λ bs. Relend.k-back-sl
+      (Referent.rtF (Referent.fInt Syntax.w8))
+      T40
+      20
+      10
+      8
+      12
+      (Syntax.tyRef (Syntax.named 8) Syntax.mut (Syntax.tyInt Syntax.w8))
+      (Syntax.tyRef Syntax.erased Syntax.mut (Syntax.tyInt Syntax.w8))
+      Row.off
+      (λ x. x)
+      λ x. x
+
+  abbrev s42 : (bs : List.List Nat.ℕ) → Typed.Gives T43 T44
+  s42 =
+      λ bs. Know.k-sl-known
+      (Referent.fInt Syntax.w8)
+      T43
+      10
+      8
+      (Syntax.tyRef (Syntax.named 8) Syntax.mut (Syntax.tyInt Syntax.w8))
+      Row.off
+      0
+      λ x. x
+
+  abbrev s45 : (bs : List.List Nat.ℕ) → Typed.Both T44 T47
+  s45 =
       λ bs. Borrow.k-back-arr
       Elem.R
-      T43
-      21
-      10
-      12
+      T44
+      22
+      11
+      13
       64
       (Syntax.tyRef Syntax.erased Syntax.mut Elem.ty)
       (λ x. x)
       λ x. x
 
-  abbrev s46 : (bs : List.List Nat.ℕ) → Typed.Mo T46 → Typed.Mo T48
-  s46 =
-      λ bs. Scalar.n-room T46 10 (Syntax.tyArray Elem.held 64)
+  abbrev s47 : (bs : List.List Nat.ℕ) → Typed.Mo T47 → Typed.Mo T49
+  s47 =
+      λ bs. Scalar.n-room T47 11 (Syntax.tyArray Elem.held 64)
 
-  abbrev s47 : (bs : List.List Nat.ℕ) → Typed.Mo T48 → Typed.Mo T49
-  s47 = λ bs. Scalar.n-room T48 3 (Syntax.tyInt Syntax.w64)
+  abbrev s48 : (bs : List.List Nat.ℕ) → Typed.Mo T49 → Typed.Mo T50
+  s48 = λ bs. Scalar.n-room T49 3 (Syntax.tyInt Syntax.w64)
 
-  module _ (Pre· : (κs : Lifetimes.Lfts 8) → Kinds.Dens κs ps → Type 0)
-      (Post· : (κs : Lifetimes.Lfts 8) → (a : Kinds.Dens κs ps) → Kinds.Plain 8 ps r κs) where
+  module _ (Pre· : (κs : Lifetimes.Lfts 9) → Kinds.Dens κs ps → Type 0)
+      (Post· : (κs : Lifetimes.Lfts 9) → (a : Kinds.Dens κs ps) → Kinds.Plain 9 ps r κs) where
     module _ (M : Type 1) where
       abbrev pub Closed : Type 2
       Closed =
           (𝓤 : URA.URA M) (H : Wp.Heap 𝓤) (A : Atoms.Atoms 𝓤) (W : Kit.Given 𝓤 H A) (𝓣 : Wp.Tables
           𝓤 H) (known0 : Plain.Known 𝓤 H A W 𝓣 0 ps·0 r·0 (claims· .0) (claims· .1)
-          "records::window") (known1 : Plain.Known 𝓤 H A W 𝓣 9 ps·1 r·1 (claims· .2) (claims· .3)
-          "calls::rebuild_lines") → Statement.Triple 𝓤 (Wp.WpFn 𝓤 H (𝓣 .C) (𝓣 .Λ) (Function.fnOf 8
-          ps r xs m hs body)) (Function.plainOf 𝓤 H A 8 ps r Pre· Post·)
+          "records::window") (known1 : Plain.Known 𝓤 H A W 𝓣 10 ps·1 r·1 (claims· .2) (claims· .3)
+          "calls::rebuild_lines") → Statement.Triple 𝓤 (Wp.WpFn 𝓤 H (𝓣 .C) (𝓣 .Λ) (Function.fnOf 9
+          ps r xs m hs body)) (Function.plainOf 𝓤 H A 9 ps r Pre· Post·)
 
     module _ where
-      abbrev at0 : (bs : List.List Nat.ℕ) → Typed.TF T49 O0
+      abbrev at0 : (bs : List.List Nat.ℕ) → Typed.TF T50 O0
       at0 = λ bs. Typed.atRet O0
 
-      abbrev at1 : (bs : List.List Nat.ℕ) → Typed.TF T48 O0
-      at1 = λ bs. λ Ψ. Typed.pass T48 T49 (s47 bs) (at0 bs Ψ)
+      abbrev at1 : (bs : List.List Nat.ℕ) → Typed.TF T49 O0
+      at1 = λ bs. λ Ψ. Typed.pass T49 T50 (s48 bs) (at0 bs Ψ)
 
-      abbrev at2 : (bs : List.List Nat.ℕ) → Typed.TF T46 O0
-      at2 = λ bs. λ Ψ. Typed.pass T46 T48 (s46 bs) (at1 bs Ψ)
+      abbrev at2 : (bs : List.List Nat.ℕ) → Typed.TF T47 O0
+      at2 = λ bs. λ Ψ. Typed.pass T47 T49 (s47 bs) (at1 bs Ψ)
 
-      abbrev at3 : (bs : List.List Nat.ℕ) → Typed.TF T46 O0
+      abbrev at3 : (bs : List.List Nat.ℕ) → Typed.TF T47 O0
       at3 = λ bs. λ Ψ. at2 bs Ψ
 
-      abbrev at4 : (bs : List.List Nat.ℕ) → Typed.TF T43 O0
-      at4 = λ bs. λ Ψ. Typed.both (s44 bs) (at3 bs Ψ)
+      abbrev at4 : (bs : List.List Nat.ℕ) → Typed.TF T44 O0
+      at4 = λ bs. λ Ψ. Typed.both (s45 bs) (at3 bs Ψ)
 
-      abbrev at5 : (bs : List.List Nat.ℕ) → Typed.TF T43 O0
+      abbrev at5 : (bs : List.List Nat.ℕ) → Typed.TF T44 O0
       at5 = λ bs. λ Ψ. at4 bs Ψ
 
-      abbrev at6 : (bs : List.List Nat.ℕ) → Typed.TF T43 O0
+      abbrev at6 : (bs : List.List Nat.ℕ) → Typed.TF T44 O0
       at6 = λ bs. λ Ψ. at5 bs Ψ
 
-      abbrev at7 : (bs : List.List Nat.ℕ) → Typed.TF T42 O0
-      at7 = λ bs. λ Ψ. Typed.give (s41 bs) (at6 bs Ψ)
+      abbrev at7 : (bs : List.List Nat.ℕ) → Typed.TF T43 O0
+      at7 = λ bs. λ Ψ. Typed.give (s42 bs) (at6 bs Ψ)
 
-      abbrev at8 : (bs : List.List Nat.ℕ) → Typed.TF T39 O0
-      at8 = λ bs. λ Ψ. Typed.both (s40 bs) (at7 bs Ψ)
+      abbrev at8 : (bs : List.List Nat.ℕ) → Typed.TF T40 O0
+      at8 = λ bs. λ Ψ. Typed.both (s41 bs) (at7 bs Ψ)
 
-      abbrev at9 : (bs : List.List Nat.ℕ) → Typed.TF T39 O0
+      abbrev at9 : (bs : List.List Nat.ℕ) → Typed.TF T40 O0
       at9 = λ bs. λ Ψ. at8 bs Ψ
 
-      abbrev at10 : (bs : List.List Nat.ℕ) → Typed.TF T39 O0
+      abbrev at10 : (bs : List.List Nat.ℕ) → Typed.TF T40 O0
       at10 = λ bs. λ Ψ. at9 bs Ψ
 
-      abbrev at11 : (bs : List.List Nat.ℕ) → Typed.TF T38 O0
-      at11 = λ bs. λ Ψ. Typed.give (s37 bs) (at10 bs Ψ)
+      abbrev at11 : (bs : List.List Nat.ℕ) → Typed.TF T39 O0
+      at11 = λ bs. λ Ψ. Typed.give (s38 bs) (at10 bs Ψ)
 
-      abbrev at12 : (bs : List.List Nat.ℕ) → Typed.TF T35 O0
-      at12 = λ bs. λ Ψ. Typed.both (s36 bs) (at11 bs Ψ)
+      abbrev at12 : (bs : List.List Nat.ℕ) → Typed.TF T36 O0
+      at12 = λ bs. λ Ψ. Typed.both (s37 bs) (at11 bs Ψ)
 
-      abbrev at13 : (bs : List.List Nat.ℕ) → Typed.TF T35 O0
+      abbrev at13 : (bs : List.List Nat.ℕ) → Typed.TF T36 O0
       at13 = λ bs. λ Ψ. at12 bs Ψ
 
-      abbrev at14 : (bs : List.List Nat.ℕ) → Typed.TF T35 O0
+      abbrev at14 : (bs : List.List Nat.ℕ) → Typed.TF T36 O0
       at14 = λ bs. λ Ψ. at13 bs Ψ
 
-      abbrev at15 : (bs : List.List Nat.ℕ) → Typed.TF T34 O0
-      at15 = λ bs. λ Ψ. Typed.give (s33 bs) (at14 bs Ψ)
+      abbrev at15 : (bs : List.List Nat.ℕ) → Typed.TF T35 O0
+      at15 = λ bs. λ Ψ. Typed.give (s34 bs) (at14 bs Ψ)
 
-      abbrev at16 : (bs : List.List Nat.ℕ) → Typed.TF T31 O0
-      at16 = λ bs. λ Ψ. Typed.both (s32 bs) (at15 bs Ψ)
+      abbrev at16 : (bs : List.List Nat.ℕ) → Typed.TF T32 O0
+      at16 = λ bs. λ Ψ. Typed.both (s33 bs) (at15 bs Ψ)
 
-      abbrev at17 : (bs : List.List Nat.ℕ) → Typed.TF T31 O0
+      abbrev at17 : (bs : List.List Nat.ℕ) → Typed.TF T32 O0
       at17 = λ bs. λ Ψ. at16 bs Ψ
 
-      abbrev at18 : (bs : List.List Nat.ℕ) → Typed.TF T31 O0
+      abbrev at18 : (bs : List.List Nat.ℕ) → Typed.TF T32 O0
       at18 = λ bs. λ Ψ. at17 bs Ψ
 
-      abbrev at19 : (bs : List.List Nat.ℕ) → Typed.TF T30 O0
-      at19 = λ bs. λ Ψ. Typed.give (s29 bs) (at18 bs Ψ)
+      abbrev at19 : (bs : List.List Nat.ℕ) → Typed.TF T31 O0
+      at19 = λ bs. λ Ψ. Typed.give (s30 bs) (at18 bs Ψ)
 
-      abbrev at20 : (bs : List.List Nat.ℕ) → Typed.TF T28 O0
-      at20 = λ bs. λ Ψ. Typed.both (s28 bs) (at19 bs Ψ)
+      abbrev at20 : (bs : List.List Nat.ℕ) → Typed.TF T29 O0
+      at20 = λ bs. λ Ψ. Typed.both (s29 bs) (at19 bs Ψ)
 
-      abbrev at21 : (bs : List.List Nat.ℕ) → Typed.TF T28 O0
+      abbrev at21 : (bs : List.List Nat.ℕ) → Typed.TF T29 O0
       at21 = λ bs. λ Ψ. at20 bs Ψ
 
-      abbrev at22 : (bs : List.List Nat.ℕ) → Typed.TF T27 O0
-      at22 = λ bs. λ Ψ. Typed.both (s26 bs) (at21 bs Ψ)
+      abbrev at22 : (bs : List.List Nat.ℕ) → Typed.TF T28 O0
+      at22 = λ bs. λ Ψ. Typed.both (s27 bs) (at21 bs Ψ)
 
-      abbrev at23 : (bs : List.List Nat.ℕ) → Typed.TF T26 O0
-      at23 = λ bs. λ Ψ. Typed.ask (s25 bs) (at22 bs Ψ)
+      abbrev at23 : (bs : List.List Nat.ℕ) → Typed.TF T27 O0
+      at23 = λ bs. λ Ψ. Typed.ask (s26 bs) (at22 bs Ψ)
 
-      abbrev at24 : (bs : List.List Nat.ℕ) → Typed.TF T24 O0
-      at24 = λ bs. λ Ψ. Typed.give (s24 bs) (at23 bs Ψ)
+      abbrev at24 : (bs : List.List Nat.ℕ) → Typed.TF T25 O0
+      at24 = λ bs. λ Ψ. Typed.give (s25 bs) (at23 bs Ψ)
 
-      abbrev at25 : (bs : List.List Nat.ℕ) → Typed.TF T24 O0
+      abbrev at25 : (bs : List.List Nat.ℕ) → Typed.TF T25 O0
       at25 = λ bs. λ Ψ. at24 bs Ψ
 
-      abbrev at26 : (bs : List.List Nat.ℕ) → Typed.TF T23 O0
-      at26 = λ bs. λ Ψ. Typed.ask (s22 bs) (at25 bs Ψ)
+      abbrev at26 : (bs : List.List Nat.ℕ) → Typed.TF T24 O0
+      at26 = λ bs. λ Ψ. Typed.ask (s23 bs) (at25 bs Ψ)
 
-      abbrev at27 : (bs : List.List Nat.ℕ) → Typed.TF T21 O0
-      at27 = λ bs. λ Ψ. Typed.give (s21 bs) (at26 bs Ψ)
+      abbrev at27 : (bs : List.List Nat.ℕ) → Typed.TF T22 O0
+      at27 = λ bs. λ Ψ. Typed.give (s22 bs) (at26 bs Ψ)
 
-      abbrev at28 : (bs : List.List Nat.ℕ) → Typed.TF T21 O0
+      abbrev at28 : (bs : List.List Nat.ℕ) → Typed.TF T22 O0
       at28 = λ bs. λ Ψ. at27 bs Ψ
 
-      abbrev at29 : (bs : List.List Nat.ℕ) → Typed.TF T20 O0
-      at29 = λ bs. λ Ψ. Typed.ask (s19 bs) (at28 bs Ψ)
+      abbrev at29 : (bs : List.List Nat.ℕ) → Typed.TF T21 O0
+      at29 = λ bs. λ Ψ. Typed.ask (s20 bs) (at28 bs Ψ)
 
-      abbrev at30 : (bs : List.List Nat.ℕ) → Typed.TF T18 O0
-      at30 = λ bs. λ Ψ. Typed.give (s18 bs) (at29 bs Ψ)
+      abbrev at30 : (bs : List.List Nat.ℕ) → Typed.TF T19 O0
+      at30 = λ bs. λ Ψ. Typed.give (s19 bs) (at29 bs Ψ)
 
-      abbrev at31 : (bs : List.List Nat.ℕ) → Typed.TF T18 O0
+      abbrev at31 : (bs : List.List Nat.ℕ) → Typed.TF T19 O0
       at31 = λ bs. λ Ψ. at30 bs Ψ
 
-      abbrev at32 : (bs : List.List Nat.ℕ) → Typed.TF T17 O0
-      at32 = λ bs. λ Ψ. Typed.ask (s16 bs) (at31 bs Ψ)
+      abbrev at32 : (bs : List.List Nat.ℕ) → Typed.TF T18 O0
+      at32 = λ bs. λ Ψ. Typed.ask (s17 bs) (at31 bs Ψ)
 
-      abbrev at33 : (bs : List.List Nat.ℕ) → Typed.TF T15 O0
-      at33 = λ bs. λ Ψ. Typed.give (s15 bs) (at32 bs Ψ)
+      abbrev at33 : (bs : List.List Nat.ℕ) → Typed.TF T16 O0
+      at33 = λ bs. λ Ψ. Typed.give (s16 bs) (at32 bs Ψ)
 
-      abbrev at34 : (bs : List.List Nat.ℕ) → Typed.TF T15 O0
+      abbrev at34 : (bs : List.List Nat.ℕ) → Typed.TF T16 O0
       at34 = λ bs. λ Ψ. at33 bs Ψ
 
-      abbrev at35 : (bs : List.List Nat.ℕ) → Typed.TF T14 O0
-      at35 = λ bs. λ Ψ. Typed.ask (s13 bs) (at34 bs Ψ)
+      abbrev at35 : (bs : List.List Nat.ℕ) → Typed.TF T15 O0
+      at35 = λ bs. λ Ψ. Typed.ask (s14 bs) (at34 bs Ψ)
 
-      abbrev at36 : (bs : List.List Nat.ℕ) → Typed.TF T12 O0
-      at36 = λ bs. λ Ψ. Typed.give (s12 bs) (at35 bs Ψ)
+      abbrev at36 : (bs : List.List Nat.ℕ) → Typed.TF T13 O0
+      at36 = λ bs. λ Ψ. Typed.give (s13 bs) (at35 bs Ψ)
 
-      abbrev at37 : (bs : List.List Nat.ℕ) → Typed.TF T12 O0
+      abbrev at37 : (bs : List.List Nat.ℕ) → Typed.TF T13 O0
       at37 = λ bs. λ Ψ. at36 bs Ψ
 
-      abbrev at38 : (bs : List.List Nat.ℕ) → Typed.TF T11 O0
-      at38 = λ bs. λ Ψ. Typed.pass T11 T12 (s10 bs) (at37 bs Ψ)
+      abbrev at38 : (bs : List.List Nat.ℕ) → Typed.TF T12 O0
+      at38 = λ bs. λ Ψ. Typed.pass T12 T13 (s11 bs) (at37 bs Ψ)
 
-      abbrev at39 : (bs : List.List Nat.ℕ) → Typed.TF T10 O0
-      at39 = λ bs. λ Ψ. Typed.pass T10 T11 (s9 bs) (at38 bs Ψ)
+      abbrev at39 : (bs : List.List Nat.ℕ) → Typed.TF T11 O0
+      at39 = λ bs. λ Ψ. Typed.pass T11 T12 (s10 bs) (at38 bs Ψ)
 
-      abbrev at40 : (bs : List.List Nat.ℕ) → Typed.TF T9 O0
-      at40 = λ bs. λ Ψ. Typed.both (s8 bs) (at39 bs Ψ)
+      abbrev at40 : (bs : List.List Nat.ℕ) → Typed.TF T10 O0
+      at40 = λ bs. λ Ψ. Typed.both (s9 bs) (at39 bs Ψ)
 
-      abbrev at41 : (bs : List.List Nat.ℕ) → Typed.TF T8 O0
-      at41 = λ bs. λ Ψ. Typed.give (s7 bs) (at40 bs Ψ)
+      abbrev at41 : (bs : List.List Nat.ℕ) → Typed.TF T9 O0
+      at41 = λ bs. λ Ψ. Typed.give (s8 bs) (at40 bs Ψ)
 
-      abbrev at42 : (bs : List.List Nat.ℕ) → Typed.TF T7 O0
-      at42 = λ bs. λ Ψ. Typed.give (s6 bs) (at41 bs Ψ)
+      abbrev at42 : (bs : List.List Nat.ℕ) → Typed.TF T8 O0
+      at42 = λ bs. λ Ψ. Typed.give (s7 bs) (at41 bs Ψ)
 
-      abbrev at43 : (bs : List.List Nat.ℕ) → Typed.TF T6 O0
-      at43 = λ bs. λ Ψ. Typed.give (s5 bs) (at42 bs Ψ)
+      abbrev at43 : (bs : List.List Nat.ℕ) → Typed.TF T7 O0
+      at43 = λ bs. λ Ψ. Typed.give (s6 bs) (at42 bs Ψ)
 
-      abbrev at44 : (bs : List.List Nat.ℕ) → Typed.TF T5 O0
-      at44 = λ bs. λ Ψ. Typed.give (s4 bs) (at43 bs Ψ)
+      abbrev at44 : (bs : List.List Nat.ℕ) → Typed.TF T6 O0
+      at44 = λ bs. λ Ψ. Typed.give (s5 bs) (at43 bs Ψ)
 
-      abbrev at45 : (bs : List.List Nat.ℕ) → Typed.TF T4 O0
-      at45 = λ bs. λ Ψ. Typed.give (s3 bs) (at44 bs Ψ)
+      abbrev at45 : (bs : List.List Nat.ℕ) → Typed.TF T5 O0
+      at45 = λ bs. λ Ψ. Typed.give (s4 bs) (at44 bs Ψ)
 
-      abbrev at46 : (bs : List.List Nat.ℕ) → Typed.TF T3 O0
-      at46 = λ bs. λ Ψ. Typed.give (s2 bs) (at45 bs Ψ)
+      abbrev at46 : (bs : List.List Nat.ℕ) → Typed.TF T4 O0
+      at46 = λ bs. λ Ψ. Typed.give (s3 bs) (at45 bs Ψ)
 
-      abbrev at47 : (bs : List.List Nat.ℕ) → Typed.TF T2 O0
-      at47 = λ bs. λ Ψ. Typed.give (s1 bs) (at46 bs Ψ)
+      abbrev at47 : (bs : List.List Nat.ℕ) → Typed.TF T3 O0
+      at47 = λ bs. λ Ψ. Typed.give (s2 bs) (at46 bs Ψ)
 
-      abbrev at48 : (bs : List.List Nat.ℕ) → Typed.TF T0 O0
-      at48 = λ bs. λ Ψ. Typed.give (s0 bs) (at47 bs Ψ)
+      abbrev at48 : (bs : List.List Nat.ℕ) → Typed.TF T2 O0
+      at48 = λ bs. λ Ψ. Typed.give (s1 bs) (at47 bs Ψ)
+
+      abbrev at49 : (bs : List.List Nat.ℕ) → Typed.TF T0 O0
+      at49 = λ bs. λ Ψ. Typed.give (s0 bs) (at48 bs Ψ)
 
       abbrev pub Φ : (bs : List.List Nat.ℕ) → Typed.TF T0 O0
-      Φ = λ bs. at48 bs
+      Φ = λ bs. at49 bs
 
       module _ {M : Type 1} (𝓤 : URA.URA M) (H : Wp.Heap 𝓤) (A : Atoms.Atoms 𝓤)
           (W : Kit.Given 𝓤 H A) (𝓣 : Wp.Tables 𝓤 H) where
         abbrev Knowns : Type 1
         Knowns =
             Plain.Known 𝓤 H A W 𝓣 0 ps·0 r·0 (claims· .0) (claims· .1) "records::window" ×
-            Plain.Known 𝓤 H A W 𝓣 9 ps·1 r·1 (claims· .2) (claims· .3) "calls::rebuild_lines"
+            Plain.Known 𝓤 H A W 𝓣 10 ps·1 r·1 (claims· .2) (claims· .3) "calls::rebuild_lines"
 
-      module _ (κs : Lifetimes.Lfts 8) (qs : Lifetimes.Shares 8) where
+      module _ (κs : Lifetimes.Lfts 9) (qs : Lifetimes.Shares 9) where
         abbrev g6 : List.List Row.Entry
         g6 = List._∷_ (0, Rows'.any-gone (Syntax.tyInt Syntax.w64)) (List._∷_ (
           1,
@@ -3101,18 +3267,18 @@ module _ (claims· : Claims) where
               3,
         ) (List._∷_ (
           6,
-          Relend.mslice-owed
+          Rows'.sslice
               (Referent.rtF (Referent.fInt Syntax.w64))
-              (Syntax.tyRef (Syntax.named 4) Syntax.mut (Syntax.tyInt Syntax.w64))
-              4
-              8
-              (Row.lease (κs .1 .1 .1 .1 .0) (qs .1 .1 .1 .1 .0)),
+              (Syntax.tyRef (Syntax.named 4) Syntax.imm (Syntax.tyInt Syntax.w64))
+              4,
         ) (List._∷_ (
           7,
-          Mut.mslice
-              (Referent.rtF (Referent.fInt Syntax.w8))
-              (Syntax.tyRef (Syntax.named 5) Syntax.mut (Syntax.tyInt Syntax.w8))
-              5,
+          Relend.mslice-owed
+              (Referent.rtF (Referent.fInt Syntax.w64))
+              (Syntax.tyRef (Syntax.named 5) Syntax.mut (Syntax.tyInt Syntax.w64))
+              5
+              9
+              (Row.lease (κs .1 .1 .1 .1 .1 .0) (qs .1 .1 .1 .1 .1 .0)),
         ) (List._∷_ (
           8,
           Mut.mslice
@@ -3127,18 +3293,24 @@ module _ (claims· : Claims) where
               7,
         ) (List._∷_ (
           10,
-          Rows.arrF Elem.R 64 0,
+          Mut.mslice
+              (Referent.rtF (Referent.fInt Syntax.w8))
+              (Syntax.tyRef (Syntax.named 8) Syntax.mut (Syntax.tyInt Syntax.w8))
+              8,
         ) (List._∷_ (
           11,
-          Rows'.any-gone (Syntax.tyArray Elem.held 64),
+          Rows.arrF Elem.R 64 0,
         ) (List._∷_ (
           12,
+          Rows'.any-gone (Syntax.tyArray Elem.held 64),
+        ) (List._∷_ (
+          13,
           Relend.msptr
               (Referent.rtF (Referent.fInt Syntax.w64))
               (Syntax.tyRef Syntax.erased Syntax.mut (Syntax.tyInt Syntax.w64))
-              8,
+              9,
         ) (List._∷_ (
-          13,
+          14,
           Rows'.any-gone
               (Syntax.tyStruct
               (List._∷_ 38 (List._∷_ 91 (List._∷_ 93 List.[])))
@@ -3146,16 +3318,8 @@ module _ (claims· : Claims) where
               (Syntax.tyRef Syntax.erased Syntax.mut (Syntax.tyInt Syntax.w64))
               (Syntax.tcons (Syntax.tyInt Syntax.w64) Syntax.tnil))),
         ) (List._∷_ (
-          14,
-          Rows'.any-gone (Syntax.tyRef Syntax.erased Syntax.mut (Syntax.tyInt Syntax.w8)),
-        ) (List._∷_ (
           15,
-          Rows'.any-gone
-              (Syntax.tyStruct
-              (List._∷_ 38 (List._∷_ 91 (List._∷_ 93 List.[])))
-              (Syntax.tcons
-              (Syntax.tyRef Syntax.erased Syntax.mut (Syntax.tyInt Syntax.w8))
-              (Syntax.tcons (Syntax.tyInt Syntax.w64) Syntax.tnil))),
+          Rows'.any-gone (Syntax.tyRef Syntax.erased Syntax.mut (Syntax.tyInt Syntax.w8)),
         ) List.[])))))))))))))))
 
         abbrev g7 : List.List Row.Entry
@@ -3185,18 +3349,18 @@ module _ (claims· : Claims) where
               3,
         ) (List._∷_ (
           6,
-          Relend.mslice-owed
+          Rows'.sslice
               (Referent.rtF (Referent.fInt Syntax.w64))
-              (Syntax.tyRef (Syntax.named 4) Syntax.mut (Syntax.tyInt Syntax.w64))
-              4
-              8
-              (Row.lease (κs .1 .1 .1 .1 .0) (qs .1 .1 .1 .1 .0)),
+              (Syntax.tyRef (Syntax.named 4) Syntax.imm (Syntax.tyInt Syntax.w64))
+              4,
         ) (List._∷_ (
           7,
-          Mut.mslice
-              (Referent.rtF (Referent.fInt Syntax.w8))
-              (Syntax.tyRef (Syntax.named 5) Syntax.mut (Syntax.tyInt Syntax.w8))
-              5,
+          Relend.mslice-owed
+              (Referent.rtF (Referent.fInt Syntax.w64))
+              (Syntax.tyRef (Syntax.named 5) Syntax.mut (Syntax.tyInt Syntax.w64))
+              5
+              9
+              (Row.lease (κs .1 .1 .1 .1 .1 .0) (qs .1 .1 .1 .1 .1 .0)),
         ) (List._∷_ (
           8,
           Mut.mslice
@@ -3211,30 +3375,28 @@ module _ (claims· : Claims) where
               7,
         ) (List._∷_ (
           10,
-          Rows.arrF Elem.R 64 0,
+          Mut.mslice
+              (Referent.rtF (Referent.fInt Syntax.w8))
+              (Syntax.tyRef (Syntax.named 8) Syntax.mut (Syntax.tyInt Syntax.w8))
+              8,
         ) (List._∷_ (
           11,
-          Rows'.any-gone (Syntax.tyArray Elem.held 64),
+          Rows.arrF Elem.R 64 0,
         ) (List._∷_ (
           12,
-          Rows'.any-gone (Syntax.tyRef Syntax.erased Syntax.mut (Syntax.tyInt Syntax.w64)),
+          Rows'.any-gone (Syntax.tyArray Elem.held 64),
         ) (List._∷_ (
           13,
+          Rows'.any-gone (Syntax.tyRef Syntax.erased Syntax.mut (Syntax.tyInt Syntax.w64)),
+        ) (List._∷_ (
+          14,
           Mut.mslice
               (Referent.rtF (Referent.fInt Syntax.w64))
               (Syntax.tyRef Syntax.erased Syntax.mut (Syntax.tyInt Syntax.w64))
-              8,
-        ) (List._∷_ (
-          14,
-          Rows'.any-gone (Syntax.tyRef Syntax.erased Syntax.mut (Syntax.tyInt Syntax.w8)),
+              9,
         ) (List._∷_ (
           15,
-          Rows'.any-gone
-              (Syntax.tyStruct
-              (List._∷_ 38 (List._∷_ 91 (List._∷_ 93 List.[])))
-              (Syntax.tcons
-              (Syntax.tyRef Syntax.erased Syntax.mut (Syntax.tyInt Syntax.w8))
-              (Syntax.tcons (Syntax.tyInt Syntax.w64) Syntax.tnil))),
+          Rows'.any-gone (Syntax.tyRef Syntax.erased Syntax.mut (Syntax.tyInt Syntax.w8)),
         ) List.[])))))))))))))))
 
         abbrev g8 : List.List Row.Entry
@@ -3264,26 +3426,26 @@ module _ (claims· : Claims) where
               3,
         ) (List._∷_ (
           6,
-          Relend.mslice-owed
+          Rows'.sslice
               (Referent.rtF (Referent.fInt Syntax.w64))
-              (Syntax.tyRef (Syntax.named 4) Syntax.mut (Syntax.tyInt Syntax.w64))
-              4
-              8
-              (Row.lease (κs .1 .1 .1 .1 .0) (qs .1 .1 .1 .1 .0)),
+              (Syntax.tyRef (Syntax.named 4) Syntax.imm (Syntax.tyInt Syntax.w64))
+              4,
         ) (List._∷_ (
           7,
           Relend.mslice-owed
-              (Referent.rtF (Referent.fInt Syntax.w8))
-              (Syntax.tyRef (Syntax.named 5) Syntax.mut (Syntax.tyInt Syntax.w8))
+              (Referent.rtF (Referent.fInt Syntax.w64))
+              (Syntax.tyRef (Syntax.named 5) Syntax.mut (Syntax.tyInt Syntax.w64))
               5
               9
               (Row.lease (κs .1 .1 .1 .1 .1 .0) (qs .1 .1 .1 .1 .1 .0)),
         ) (List._∷_ (
           8,
-          Mut.mslice
+          Relend.mslice-owed
               (Referent.rtF (Referent.fInt Syntax.w8))
               (Syntax.tyRef (Syntax.named 6) Syntax.mut (Syntax.tyInt Syntax.w8))
-              6,
+              6
+              10
+              (Row.lease (κs .1 .1 .1 .1 .1 .1 .0) (qs .1 .1 .1 .1 .1 .1 .0)),
         ) (List._∷_ (
           9,
           Mut.mslice
@@ -3292,33 +3454,31 @@ module _ (claims· : Claims) where
               7,
         ) (List._∷_ (
           10,
-          Rows.arrF Elem.R 64 0,
+          Mut.mslice
+              (Referent.rtF (Referent.fInt Syntax.w8))
+              (Syntax.tyRef (Syntax.named 8) Syntax.mut (Syntax.tyInt Syntax.w8))
+              8,
         ) (List._∷_ (
           11,
-          Rows'.any-gone (Syntax.tyArray Elem.held 64),
+          Rows.arrF Elem.R 64 0,
         ) (List._∷_ (
           12,
-          Rows'.any-gone (Syntax.tyRef Syntax.erased Syntax.mut (Syntax.tyInt Syntax.w64)),
+          Rows'.any-gone (Syntax.tyArray Elem.held 64),
         ) (List._∷_ (
           13,
+          Rows'.any-gone (Syntax.tyRef Syntax.erased Syntax.mut (Syntax.tyInt Syntax.w64)),
+        ) (List._∷_ (
+          14,
           Mut.mslice
               (Referent.rtF (Referent.fInt Syntax.w64))
               (Syntax.tyRef Syntax.erased Syntax.mut (Syntax.tyInt Syntax.w64))
-              8,
-        ) (List._∷_ (
-          14,
-          Relend.msptr
-              (Referent.rtF (Referent.fInt Syntax.w8))
-              (Syntax.tyRef Syntax.erased Syntax.mut (Syntax.tyInt Syntax.w8))
               9,
         ) (List._∷_ (
           15,
-          Rows'.any-gone
-              (Syntax.tyStruct
-              (List._∷_ 38 (List._∷_ 91 (List._∷_ 93 List.[])))
-              (Syntax.tcons
+          Relend.msptr
+              (Referent.rtF (Referent.fInt Syntax.w8))
               (Syntax.tyRef Syntax.erased Syntax.mut (Syntax.tyInt Syntax.w8))
-              (Syntax.tcons (Syntax.tyInt Syntax.w64) Syntax.tnil))),
+              10,
         ) List.[])))))))))))))))
 
         abbrev g9 : List.List Row.Entry
@@ -3348,422 +3508,94 @@ module _ (claims· : Claims) where
               3,
         ) (List._∷_ (
           6,
-          Relend.mslice-owed
-              (Referent.rtF (Referent.fInt Syntax.w64))
-              (Syntax.tyRef (Syntax.named 4) Syntax.mut (Syntax.tyInt Syntax.w64))
-              4
-              8
-              (Row.lease (κs .1 .1 .1 .1 .0) (qs .1 .1 .1 .1 .0)),
-        ) (List._∷_ (
-          7,
-          Relend.mslice-owed
-              (Referent.rtF (Referent.fInt Syntax.w8))
-              (Syntax.tyRef (Syntax.named 5) Syntax.mut (Syntax.tyInt Syntax.w8))
-              5
-              9
-              (Row.lease (κs .1 .1 .1 .1 .1 .0) (qs .1 .1 .1 .1 .1 .0)),
-        ) (List._∷_ (
-          8,
-          Mut.mslice
-              (Referent.rtF (Referent.fInt Syntax.w8))
-              (Syntax.tyRef (Syntax.named 6) Syntax.mut (Syntax.tyInt Syntax.w8))
-              6,
-        ) (List._∷_ (
-          9,
-          Mut.mslice
-              (Referent.rtF (Referent.fInt Syntax.w8))
-              (Syntax.tyRef (Syntax.named 7) Syntax.mut (Syntax.tyInt Syntax.w8))
-              7,
-        ) (List._∷_ (
-          10,
-          Rows.arrF Elem.R 64 0,
-        ) (List._∷_ (
-          11,
-          Rows'.any-gone (Syntax.tyArray Elem.held 64),
-        ) (List._∷_ (
-          12,
-          Rows'.any-gone (Syntax.tyRef Syntax.erased Syntax.mut (Syntax.tyInt Syntax.w64)),
-        ) (List._∷_ (
-          13,
-          Mut.mslice
-              (Referent.rtF (Referent.fInt Syntax.w64))
-              (Syntax.tyRef Syntax.erased Syntax.mut (Syntax.tyInt Syntax.w64))
-              8,
-        ) (List._∷_ (
-          14,
-          Rows'.any-gone (Syntax.tyRef Syntax.erased Syntax.mut (Syntax.tyInt Syntax.w8)),
-        ) (List._∷_ (
-          15,
-          Mut.mslice
-              (Referent.rtF (Referent.fInt Syntax.w8))
-              (Syntax.tyRef Syntax.erased Syntax.mut (Syntax.tyInt Syntax.w8))
-              9,
-        ) List.[])))))))))))))))
-
-        abbrev g10 : List.List Row.Entry
-        g10 = List._∷_ (0, Rows'.any-gone (Syntax.tyInt Syntax.w64)) (List._∷_ (
-          1,
-          Rows'.sslice
-              (Referent.rtF (Referent.fInt Syntax.w8))
-              (Syntax.tyRef (Syntax.named 0) Syntax.imm (Syntax.tyInt Syntax.w8))
-              0,
-        ) (List._∷_ (
-          2,
           Rows'.sslice
               (Referent.rtF (Referent.fInt Syntax.w64))
-              (Syntax.tyRef (Syntax.named 1) Syntax.imm (Syntax.tyInt Syntax.w64))
-              1,
-        ) (List._∷_ (3, Rows'.sc-here (Row.sInt Syntax.w64)) (List._∷_ (
-          4,
-          Rows'.sslice
-              (Referent.rtF (Referent.fInt Syntax.w64))
-              (Syntax.tyRef (Syntax.named 2) Syntax.imm (Syntax.tyInt Syntax.w64))
-              2,
-        ) (List._∷_ (
-          5,
-          Rows'.sslice
-              (Referent.rtF (Referent.fInt Syntax.w8))
-              (Syntax.tyRef (Syntax.named 3) Syntax.imm (Syntax.tyInt Syntax.w8))
-              3,
-        ) (List._∷_ (
-          6,
-          Relend.mslice-owed
-              (Referent.rtF (Referent.fInt Syntax.w64))
-              (Syntax.tyRef (Syntax.named 4) Syntax.mut (Syntax.tyInt Syntax.w64))
-              4
-              8
-              (Row.lease (κs .1 .1 .1 .1 .0) (qs .1 .1 .1 .1 .0)),
-        ) (List._∷_ (
-          7,
-          Relend.mslice-owed
-              (Referent.rtF (Referent.fInt Syntax.w8))
-              (Syntax.tyRef (Syntax.named 5) Syntax.mut (Syntax.tyInt Syntax.w8))
-              5
-              9
-              (Row.lease (κs .1 .1 .1 .1 .1 .0) (qs .1 .1 .1 .1 .1 .0)),
-        ) (List._∷_ (
-          8,
-          Relend.mslice-owed
-              (Referent.rtF (Referent.fInt Syntax.w8))
-              (Syntax.tyRef (Syntax.named 6) Syntax.mut (Syntax.tyInt Syntax.w8))
-              6
-              10
-              (Row.lease (κs .1 .1 .1 .1 .1 .1 .0) (qs .1 .1 .1 .1 .1 .1 .0)),
-        ) (List._∷_ (
-          9,
-          Mut.mslice
-              (Referent.rtF (Referent.fInt Syntax.w8))
-              (Syntax.tyRef (Syntax.named 7) Syntax.mut (Syntax.tyInt Syntax.w8))
-              7,
-        ) (List._∷_ (
-          10,
-          Rows.arrF Elem.R 64 0,
-        ) (List._∷_ (
-          11,
-          Rows'.any-gone (Syntax.tyArray Elem.held 64),
-        ) (List._∷_ (
-          12,
-          Rows'.any-gone (Syntax.tyRef Syntax.erased Syntax.mut (Syntax.tyInt Syntax.w64)),
-        ) (List._∷_ (
-          13,
-          Mut.mslice
-              (Referent.rtF (Referent.fInt Syntax.w64))
-              (Syntax.tyRef Syntax.erased Syntax.mut (Syntax.tyInt Syntax.w64))
-              8,
-        ) (List._∷_ (
-          14,
-          Rows'.any-gone (Syntax.tyRef Syntax.erased Syntax.mut (Syntax.tyInt Syntax.w8)),
-        ) (List._∷_ (
-          15,
-          Mut.mslice
-              (Referent.rtF (Referent.fInt Syntax.w8))
-              (Syntax.tyRef Syntax.erased Syntax.mut (Syntax.tyInt Syntax.w8))
-              9,
-        ) List.[])))))))))))))))
-
-        abbrev g13 : List.List Row.Entry
-        g13 = List._∷_ (0, Rows'.any-gone (Syntax.tyInt Syntax.w64)) (List._∷_ (
-          1,
-          Rows'.sslice
-              (Referent.rtF (Referent.fInt Syntax.w8))
-              (Syntax.tyRef (Syntax.named 0) Syntax.imm (Syntax.tyInt Syntax.w8))
-              0,
-        ) (List._∷_ (
-          2,
-          Rows'.sslice
-              (Referent.rtF (Referent.fInt Syntax.w64))
-              (Syntax.tyRef (Syntax.named 1) Syntax.imm (Syntax.tyInt Syntax.w64))
-              1,
-        ) (List._∷_ (3, Rows'.sc-here (Row.sInt Syntax.w64)) (List._∷_ (
-          4,
-          Rows'.sslice
-              (Referent.rtF (Referent.fInt Syntax.w64))
-              (Syntax.tyRef (Syntax.named 2) Syntax.imm (Syntax.tyInt Syntax.w64))
-              2,
-        ) (List._∷_ (
-          5,
-          Rows'.sslice
-              (Referent.rtF (Referent.fInt Syntax.w8))
-              (Syntax.tyRef (Syntax.named 3) Syntax.imm (Syntax.tyInt Syntax.w8))
-              3,
-        ) (List._∷_ (
-          6,
-          Relend.mslice-owed
-              (Referent.rtF (Referent.fInt Syntax.w64))
-              (Syntax.tyRef (Syntax.named 4) Syntax.mut (Syntax.tyInt Syntax.w64))
-              4
-              8
-              (Row.lease (κs .1 .1 .1 .1 .0) (qs .1 .1 .1 .1 .0)),
-        ) (List._∷_ (
-          7,
-          Relend.mslice-owed
-              (Referent.rtF (Referent.fInt Syntax.w8))
-              (Syntax.tyRef (Syntax.named 5) Syntax.mut (Syntax.tyInt Syntax.w8))
-              5
-              9
-              (Row.lease (κs .1 .1 .1 .1 .1 .0) (qs .1 .1 .1 .1 .1 .0)),
-        ) (List._∷_ (
-          8,
-          Relend.mslice-owed
-              (Referent.rtF (Referent.fInt Syntax.w8))
-              (Syntax.tyRef (Syntax.named 6) Syntax.mut (Syntax.tyInt Syntax.w8))
-              6
-              10
-              (Row.lease (κs .1 .1 .1 .1 .1 .1 .0) (qs .1 .1 .1 .1 .1 .1 .0)),
-        ) (List._∷_ (
-          9,
-          Relend.mslice-owed
-              (Referent.rtF (Referent.fInt Syntax.w8))
-              (Syntax.tyRef (Syntax.named 7) Syntax.mut (Syntax.tyInt Syntax.w8))
-              7
-              11
-              (Row.lease (κs .1 .1 .1 .1 .1 .1 .1 .0) (qs .1 .1 .1 .1 .1 .1 .1 .0)),
-        ) (List._∷_ (
-          10,
-          Rows.arrF Elem.R 64 0,
-        ) (List._∷_ (
-          11,
-          Rows'.any-gone (Syntax.tyArray Elem.held 64),
-        ) (List._∷_ (
-          12,
-          Rows'.any-gone (Syntax.tyRef Syntax.erased Syntax.mut (Syntax.tyInt Syntax.w64)),
-        ) (List._∷_ (
-          13,
-          Mut.mslice
-              (Referent.rtF (Referent.fInt Syntax.w64))
-              (Syntax.tyRef Syntax.erased Syntax.mut (Syntax.tyInt Syntax.w64))
-              8,
-        ) (List._∷_ (
-          14,
-          Rows'.any-gone (Syntax.tyRef Syntax.erased Syntax.mut (Syntax.tyInt Syntax.w8)),
-        ) (List._∷_ (
-          15,
-          Mut.mslice
-              (Referent.rtF (Referent.fInt Syntax.w8))
-              (Syntax.tyRef Syntax.erased Syntax.mut (Syntax.tyInt Syntax.w8))
-              9,
-        ) List.[])))))))))))))))
-
-        abbrev g16 : List.List Row.Entry
-        g16 = List._∷_ (0, Rows'.any-gone (Syntax.tyInt Syntax.w64)) (List._∷_ (
-          1,
-          Rows'.sslice
-              (Referent.rtF (Referent.fInt Syntax.w8))
-              (Syntax.tyRef (Syntax.named 0) Syntax.imm (Syntax.tyInt Syntax.w8))
-              0,
-        ) (List._∷_ (
-          2,
-          Rows'.sslice
-              (Referent.rtF (Referent.fInt Syntax.w64))
-              (Syntax.tyRef (Syntax.named 1) Syntax.imm (Syntax.tyInt Syntax.w64))
-              1,
-        ) (List._∷_ (3, Rows'.sc-here (Row.sInt Syntax.w64)) (List._∷_ (
-          4,
-          Rows'.sslice
-              (Referent.rtF (Referent.fInt Syntax.w64))
-              (Syntax.tyRef (Syntax.named 2) Syntax.imm (Syntax.tyInt Syntax.w64))
-              2,
-        ) (List._∷_ (
-          5,
-          Rows'.sslice
-              (Referent.rtF (Referent.fInt Syntax.w8))
-              (Syntax.tyRef (Syntax.named 3) Syntax.imm (Syntax.tyInt Syntax.w8))
-              3,
-        ) (List._∷_ (
-          6,
-          Relend.mslice-owed
-              (Referent.rtF (Referent.fInt Syntax.w64))
-              (Syntax.tyRef (Syntax.named 4) Syntax.mut (Syntax.tyInt Syntax.w64))
-              4
-              8
-              (Row.lease (κs .1 .1 .1 .1 .0) (qs .1 .1 .1 .1 .0)),
-        ) (List._∷_ (
-          7,
-          Relend.mslice-owed
-              (Referent.rtF (Referent.fInt Syntax.w8))
-              (Syntax.tyRef (Syntax.named 5) Syntax.mut (Syntax.tyInt Syntax.w8))
-              5
-              9
-              (Row.lease (κs .1 .1 .1 .1 .1 .0) (qs .1 .1 .1 .1 .1 .0)),
-        ) (List._∷_ (
-          8,
-          Relend.mslice-owed
-              (Referent.rtF (Referent.fInt Syntax.w8))
-              (Syntax.tyRef (Syntax.named 6) Syntax.mut (Syntax.tyInt Syntax.w8))
-              6
-              10
-              (Row.lease (κs .1 .1 .1 .1 .1 .1 .0) (qs .1 .1 .1 .1 .1 .1 .0)),
-        ) (List._∷_ (
-          9,
-          Relend.mslice-owed
-              (Referent.rtF (Referent.fInt Syntax.w8))
-              (Syntax.tyRef (Syntax.named 7) Syntax.mut (Syntax.tyInt Syntax.w8))
-              7
-              11
-              (Row.lease (κs .1 .1 .1 .1 .1 .1 .1 .0) (qs .1 .1 .1 .1 .1 .1 .1 .0)),
-        ) (List._∷_ (
-          10,
-          Rows.arr-owed Elem.R 64 12,
-        ) (List._∷_ (
-          11,
-          Rows'.any-gone (Syntax.tyArray Elem.held 64),
-        ) (List._∷_ (
-          12,
-          Rows'.any-gone (Syntax.tyRef Syntax.erased Syntax.mut (Syntax.tyInt Syntax.w64)),
-        ) (List._∷_ (
-          13,
-          Mut.mslice
-              (Referent.rtF (Referent.fInt Syntax.w64))
-              (Syntax.tyRef Syntax.erased Syntax.mut (Syntax.tyInt Syntax.w64))
-              8,
-        ) (List._∷_ (
-          14,
-          Rows'.any-gone (Syntax.tyRef Syntax.erased Syntax.mut (Syntax.tyInt Syntax.w8)),
-        ) (List._∷_ (
-          15,
-          Mut.mslice
-              (Referent.rtF (Referent.fInt Syntax.w8))
-              (Syntax.tyRef Syntax.erased Syntax.mut (Syntax.tyInt Syntax.w8))
-              9,
-        ) List.[])))))))))))))))
-
-        abbrev g19 : List.List Row.Entry
-        g19 = List._∷_ (0, Rows'.sc-here (Row.sInt Syntax.w64)) (List._∷_ (
-          1,
-          Rows'.sslice
-              (Referent.rtF (Referent.fInt Syntax.w8))
-              (Syntax.tyRef (Syntax.named 0) Syntax.imm (Syntax.tyInt Syntax.w8))
-              0,
-        ) (List._∷_ (
-          2,
-          Rows'.sslice
-              (Referent.rtF (Referent.fInt Syntax.w64))
-              (Syntax.tyRef (Syntax.named 1) Syntax.imm (Syntax.tyInt Syntax.w64))
-              1,
-        ) (List._∷_ (3, Rows'.sc-here (Row.sInt Syntax.w64)) (List._∷_ (
-          4,
-          Rows'.sslice
-              (Referent.rtF (Referent.fInt Syntax.w64))
-              (Syntax.tyRef (Syntax.named 2) Syntax.imm (Syntax.tyInt Syntax.w64))
-              2,
-        ) (List._∷_ (
-          5,
-          Rows'.sslice
-              (Referent.rtF (Referent.fInt Syntax.w8))
-              (Syntax.tyRef (Syntax.named 3) Syntax.imm (Syntax.tyInt Syntax.w8))
-              3,
-        ) (List._∷_ (
-          6,
-          Relend.mslice-owed
-              (Referent.rtF (Referent.fInt Syntax.w64))
-              (Syntax.tyRef (Syntax.named 4) Syntax.mut (Syntax.tyInt Syntax.w64))
-              4
-              8
-              (Row.lease (κs .1 .1 .1 .1 .0) (qs .1 .1 .1 .1 .0)),
-        ) (List._∷_ (
-          7,
-          Relend.mslice-owed
-              (Referent.rtF (Referent.fInt Syntax.w8))
-              (Syntax.tyRef (Syntax.named 5) Syntax.mut (Syntax.tyInt Syntax.w8))
-              5
-              9
-              (Row.lease (κs .1 .1 .1 .1 .1 .0) (qs .1 .1 .1 .1 .1 .0)),
-        ) (List._∷_ (
-          8,
-          Relend.mslice-owed
-              (Referent.rtF (Referent.fInt Syntax.w8))
-              (Syntax.tyRef (Syntax.named 6) Syntax.mut (Syntax.tyInt Syntax.w8))
-              6
-              10
-              (Row.lease (κs .1 .1 .1 .1 .1 .1 .0) (qs .1 .1 .1 .1 .1 .1 .0)),
-        ) (List._∷_ (
-          9,
-          Relend.mslice-owed
-              (Referent.rtF (Referent.fInt Syntax.w8))
-              (Syntax.tyRef (Syntax.named 7) Syntax.mut (Syntax.tyInt Syntax.w8))
-              7
-              11
-              (Row.lease (κs .1 .1 .1 .1 .1 .1 .1 .0) (qs .1 .1 .1 .1 .1 .1 .1 .0)),
-        ) (List._∷_ (
-          10,
-          Rows.arr-owed Elem.R 64 12,
-        ) (List._∷_ (
-          11,
-          Rows'.any-gone (Syntax.tyArray Elem.held 64),
-        ) (List._∷_ (
-          12,
-          Rows'.any-gone (Syntax.tyRef Syntax.erased Syntax.mut (Syntax.tyInt Syntax.w64)),
-        ) (List._∷_ (
-          13,
-          Mut.msleft
-              (Referent.rtF (Referent.fInt Syntax.w64))
-              (Syntax.tyRef Syntax.erased Syntax.mut (Syntax.tyInt Syntax.w64)),
-        ) (List._∷_ (
-          14,
-          Rows'.any-gone (Syntax.tyRef Syntax.erased Syntax.mut (Syntax.tyInt Syntax.w8)),
-        ) (List._∷_ (
-          15,
-          Mut.msleft
-              (Referent.rtF (Referent.fInt Syntax.w8))
-              (Syntax.tyRef Syntax.erased Syntax.mut (Syntax.tyInt Syntax.w8)),
-        ) List.[])))))))))))))))
-
-        abbrev g21 : List.List Row.Entry
-        g21 = List._∷_ (0, Rows'.sc-here (Row.sInt Syntax.w64)) (List._∷_ (
-          1,
-          Rows'.sslice
-              (Referent.rtF (Referent.fInt Syntax.w8))
-              (Syntax.tyRef (Syntax.named 0) Syntax.imm (Syntax.tyInt Syntax.w8))
-              0,
-        ) (List._∷_ (
-          2,
-          Rows'.sslice
-              (Referent.rtF (Referent.fInt Syntax.w64))
-              (Syntax.tyRef (Syntax.named 1) Syntax.imm (Syntax.tyInt Syntax.w64))
-              1,
-        ) (List._∷_ (3, Rows'.sc-here (Row.sInt Syntax.w64)) (List._∷_ (
-          4,
-          Rows'.sslice
-              (Referent.rtF (Referent.fInt Syntax.w64))
-              (Syntax.tyRef (Syntax.named 2) Syntax.imm (Syntax.tyInt Syntax.w64))
-              2,
-        ) (List._∷_ (
-          5,
-          Rows'.sslice
-              (Referent.rtF (Referent.fInt Syntax.w8))
-              (Syntax.tyRef (Syntax.named 3) Syntax.imm (Syntax.tyInt Syntax.w8))
-              3,
-        ) (List._∷_ (
-          6,
-          Mut.mslice
-              (Referent.rtF (Referent.fInt Syntax.w64))
-              (Syntax.tyRef (Syntax.named 4) Syntax.mut (Syntax.tyInt Syntax.w64))
+              (Syntax.tyRef (Syntax.named 4) Syntax.imm (Syntax.tyInt Syntax.w64))
               4,
         ) (List._∷_ (
           7,
           Relend.mslice-owed
+              (Referent.rtF (Referent.fInt Syntax.w64))
+              (Syntax.tyRef (Syntax.named 5) Syntax.mut (Syntax.tyInt Syntax.w64))
+              5
+              9
+              (Row.lease (κs .1 .1 .1 .1 .1 .0) (qs .1 .1 .1 .1 .1 .0)),
+        ) (List._∷_ (
+          8,
+          Relend.mslice-owed
               (Referent.rtF (Referent.fInt Syntax.w8))
-              (Syntax.tyRef (Syntax.named 5) Syntax.mut (Syntax.tyInt Syntax.w8))
+              (Syntax.tyRef (Syntax.named 6) Syntax.mut (Syntax.tyInt Syntax.w8))
+              6
+              10
+              (Row.lease (κs .1 .1 .1 .1 .1 .1 .0) (qs .1 .1 .1 .1 .1 .1 .0)),
+        ) (List._∷_ (
+          9,
+          Mut.mslice
+              (Referent.rtF (Referent.fInt Syntax.w8))
+              (Syntax.tyRef (Syntax.named 7) Syntax.mut (Syntax.tyInt Syntax.w8))
+              7,
+        ) (List._∷_ (
+          10,
+          Mut.mslice
+              (Referent.rtF (Referent.fInt Syntax.w8))
+              (Syntax.tyRef (Syntax.named 8) Syntax.mut (Syntax.tyInt Syntax.w8))
+              8,
+        ) (List._∷_ (
+          11,
+          Rows.arrF Elem.R 64 0,
+        ) (List._∷_ (
+          12,
+          Rows'.any-gone (Syntax.tyArray Elem.held 64),
+        ) (List._∷_ (
+          13,
+          Rows'.any-gone (Syntax.tyRef Syntax.erased Syntax.mut (Syntax.tyInt Syntax.w64)),
+        ) (List._∷_ (
+          14,
+          Mut.mslice
+              (Referent.rtF (Referent.fInt Syntax.w64))
+              (Syntax.tyRef Syntax.erased Syntax.mut (Syntax.tyInt Syntax.w64))
+              9,
+        ) (List._∷_ (
+          15,
+          Rows'.any-gone (Syntax.tyRef Syntax.erased Syntax.mut (Syntax.tyInt Syntax.w8)),
+        ) List.[])))))))))))))))
+
+        abbrev g11 : List.List Row.Entry
+        g11 = List._∷_ (0, Rows'.any-gone (Syntax.tyInt Syntax.w64)) (List._∷_ (
+          1,
+          Rows'.sslice
+              (Referent.rtF (Referent.fInt Syntax.w8))
+              (Syntax.tyRef (Syntax.named 0) Syntax.imm (Syntax.tyInt Syntax.w8))
+              0,
+        ) (List._∷_ (
+          2,
+          Rows'.sslice
+              (Referent.rtF (Referent.fInt Syntax.w64))
+              (Syntax.tyRef (Syntax.named 1) Syntax.imm (Syntax.tyInt Syntax.w64))
+              1,
+        ) (List._∷_ (3, Rows'.sc-here (Row.sInt Syntax.w64)) (List._∷_ (
+          4,
+          Rows'.sslice
+              (Referent.rtF (Referent.fInt Syntax.w64))
+              (Syntax.tyRef (Syntax.named 2) Syntax.imm (Syntax.tyInt Syntax.w64))
+              2,
+        ) (List._∷_ (
+          5,
+          Rows'.sslice
+              (Referent.rtF (Referent.fInt Syntax.w8))
+              (Syntax.tyRef (Syntax.named 3) Syntax.imm (Syntax.tyInt Syntax.w8))
+              3,
+        ) (List._∷_ (
+          6,
+          Rows'.sslice
+              (Referent.rtF (Referent.fInt Syntax.w64))
+              (Syntax.tyRef (Syntax.named 4) Syntax.imm (Syntax.tyInt Syntax.w64))
+              4,
+        ) (List._∷_ (
+          7,
+          Relend.mslice-owed
+              (Referent.rtF (Referent.fInt Syntax.w64))
+              (Syntax.tyRef (Syntax.named 5) Syntax.mut (Syntax.tyInt Syntax.w64))
               5
               9
               (Row.lease (κs .1 .1 .1 .1 .1 .0) (qs .1 .1 .1 .1 .1 .0)),
@@ -3785,29 +3617,276 @@ module _ (claims· : Claims) where
               (Row.lease (κs .1 .1 .1 .1 .1 .1 .1 .0) (qs .1 .1 .1 .1 .1 .1 .1 .0)),
         ) (List._∷_ (
           10,
-          Rows.arr-owed Elem.R 64 12,
+          Mut.mslice
+              (Referent.rtF (Referent.fInt Syntax.w8))
+              (Syntax.tyRef (Syntax.named 8) Syntax.mut (Syntax.tyInt Syntax.w8))
+              8,
         ) (List._∷_ (
           11,
-          Rows'.any-gone (Syntax.tyArray Elem.held 64),
+          Rows.arrF Elem.R 64 0,
         ) (List._∷_ (
           12,
-          Rows'.any-gone (Syntax.tyRef Syntax.erased Syntax.mut (Syntax.tyInt Syntax.w64)),
+          Rows'.any-gone (Syntax.tyArray Elem.held 64),
         ) (List._∷_ (
           13,
-          Rows'.any-gone
-              (Syntax.tyStruct
-              (List._∷_ 38 (List._∷_ 91 (List._∷_ 93 List.[])))
-              (Syntax.tcons
-              (Syntax.tyRef Syntax.erased Syntax.mut (Syntax.tyInt Syntax.w64))
-              (Syntax.tcons (Syntax.tyInt Syntax.w64) Syntax.tnil))),
+          Rows'.any-gone (Syntax.tyRef Syntax.erased Syntax.mut (Syntax.tyInt Syntax.w64)),
         ) (List._∷_ (
           14,
-          Rows'.any-gone (Syntax.tyRef Syntax.erased Syntax.mut (Syntax.tyInt Syntax.w8)),
+          Mut.mslice
+              (Referent.rtF (Referent.fInt Syntax.w64))
+              (Syntax.tyRef Syntax.erased Syntax.mut (Syntax.tyInt Syntax.w64))
+              9,
         ) (List._∷_ (
           15,
-          Mut.msleft
+          Rows'.any-gone (Syntax.tyRef Syntax.erased Syntax.mut (Syntax.tyInt Syntax.w8)),
+        ) List.[])))))))))))))))
+
+        abbrev g14 : List.List Row.Entry
+        g14 = List._∷_ (0, Rows'.any-gone (Syntax.tyInt Syntax.w64)) (List._∷_ (
+          1,
+          Rows'.sslice
               (Referent.rtF (Referent.fInt Syntax.w8))
-              (Syntax.tyRef Syntax.erased Syntax.mut (Syntax.tyInt Syntax.w8)),
+              (Syntax.tyRef (Syntax.named 0) Syntax.imm (Syntax.tyInt Syntax.w8))
+              0,
+        ) (List._∷_ (
+          2,
+          Rows'.sslice
+              (Referent.rtF (Referent.fInt Syntax.w64))
+              (Syntax.tyRef (Syntax.named 1) Syntax.imm (Syntax.tyInt Syntax.w64))
+              1,
+        ) (List._∷_ (3, Rows'.sc-here (Row.sInt Syntax.w64)) (List._∷_ (
+          4,
+          Rows'.sslice
+              (Referent.rtF (Referent.fInt Syntax.w64))
+              (Syntax.tyRef (Syntax.named 2) Syntax.imm (Syntax.tyInt Syntax.w64))
+              2,
+        ) (List._∷_ (
+          5,
+          Rows'.sslice
+              (Referent.rtF (Referent.fInt Syntax.w8))
+              (Syntax.tyRef (Syntax.named 3) Syntax.imm (Syntax.tyInt Syntax.w8))
+              3,
+        ) (List._∷_ (
+          6,
+          Rows'.sslice
+              (Referent.rtF (Referent.fInt Syntax.w64))
+              (Syntax.tyRef (Syntax.named 4) Syntax.imm (Syntax.tyInt Syntax.w64))
+              4,
+        ) (List._∷_ (
+          7,
+          Relend.mslice-owed
+              (Referent.rtF (Referent.fInt Syntax.w64))
+              (Syntax.tyRef (Syntax.named 5) Syntax.mut (Syntax.tyInt Syntax.w64))
+              5
+              9
+              (Row.lease (κs .1 .1 .1 .1 .1 .0) (qs .1 .1 .1 .1 .1 .0)),
+        ) (List._∷_ (
+          8,
+          Relend.mslice-owed
+              (Referent.rtF (Referent.fInt Syntax.w8))
+              (Syntax.tyRef (Syntax.named 6) Syntax.mut (Syntax.tyInt Syntax.w8))
+              6
+              10
+              (Row.lease (κs .1 .1 .1 .1 .1 .1 .0) (qs .1 .1 .1 .1 .1 .1 .0)),
+        ) (List._∷_ (
+          9,
+          Relend.mslice-owed
+              (Referent.rtF (Referent.fInt Syntax.w8))
+              (Syntax.tyRef (Syntax.named 7) Syntax.mut (Syntax.tyInt Syntax.w8))
+              7
+              11
+              (Row.lease (κs .1 .1 .1 .1 .1 .1 .1 .0) (qs .1 .1 .1 .1 .1 .1 .1 .0)),
+        ) (List._∷_ (
+          10,
+          Relend.mslice-owed
+              (Referent.rtF (Referent.fInt Syntax.w8))
+              (Syntax.tyRef (Syntax.named 8) Syntax.mut (Syntax.tyInt Syntax.w8))
+              8
+              12
+              (Row.lease (κs .1 .1 .1 .1 .1 .1 .1 .1 .0) (qs .1 .1 .1 .1 .1 .1 .1 .1 .0)),
+        ) (List._∷_ (
+          11,
+          Rows.arrF Elem.R 64 0,
+        ) (List._∷_ (
+          12,
+          Rows'.any-gone (Syntax.tyArray Elem.held 64),
+        ) (List._∷_ (
+          13,
+          Rows'.any-gone (Syntax.tyRef Syntax.erased Syntax.mut (Syntax.tyInt Syntax.w64)),
+        ) (List._∷_ (
+          14,
+          Mut.mslice
+              (Referent.rtF (Referent.fInt Syntax.w64))
+              (Syntax.tyRef Syntax.erased Syntax.mut (Syntax.tyInt Syntax.w64))
+              9,
+        ) (List._∷_ (
+          15,
+          Rows'.any-gone (Syntax.tyRef Syntax.erased Syntax.mut (Syntax.tyInt Syntax.w8)),
+        ) List.[])))))))))))))))
+
+        abbrev g17 : List.List Row.Entry
+        g17 = List._∷_ (0, Rows'.any-gone (Syntax.tyInt Syntax.w64)) (List._∷_ (
+          1,
+          Rows'.sslice
+              (Referent.rtF (Referent.fInt Syntax.w8))
+              (Syntax.tyRef (Syntax.named 0) Syntax.imm (Syntax.tyInt Syntax.w8))
+              0,
+        ) (List._∷_ (
+          2,
+          Rows'.sslice
+              (Referent.rtF (Referent.fInt Syntax.w64))
+              (Syntax.tyRef (Syntax.named 1) Syntax.imm (Syntax.tyInt Syntax.w64))
+              1,
+        ) (List._∷_ (3, Rows'.sc-here (Row.sInt Syntax.w64)) (List._∷_ (
+          4,
+          Rows'.sslice
+              (Referent.rtF (Referent.fInt Syntax.w64))
+              (Syntax.tyRef (Syntax.named 2) Syntax.imm (Syntax.tyInt Syntax.w64))
+              2,
+        ) (List._∷_ (
+          5,
+          Rows'.sslice
+              (Referent.rtF (Referent.fInt Syntax.w8))
+              (Syntax.tyRef (Syntax.named 3) Syntax.imm (Syntax.tyInt Syntax.w8))
+              3,
+        ) (List._∷_ (
+          6,
+          Rows'.sslice
+              (Referent.rtF (Referent.fInt Syntax.w64))
+              (Syntax.tyRef (Syntax.named 4) Syntax.imm (Syntax.tyInt Syntax.w64))
+              4,
+        ) (List._∷_ (
+          7,
+          Relend.mslice-owed
+              (Referent.rtF (Referent.fInt Syntax.w64))
+              (Syntax.tyRef (Syntax.named 5) Syntax.mut (Syntax.tyInt Syntax.w64))
+              5
+              9
+              (Row.lease (κs .1 .1 .1 .1 .1 .0) (qs .1 .1 .1 .1 .1 .0)),
+        ) (List._∷_ (
+          8,
+          Relend.mslice-owed
+              (Referent.rtF (Referent.fInt Syntax.w8))
+              (Syntax.tyRef (Syntax.named 6) Syntax.mut (Syntax.tyInt Syntax.w8))
+              6
+              10
+              (Row.lease (κs .1 .1 .1 .1 .1 .1 .0) (qs .1 .1 .1 .1 .1 .1 .0)),
+        ) (List._∷_ (
+          9,
+          Relend.mslice-owed
+              (Referent.rtF (Referent.fInt Syntax.w8))
+              (Syntax.tyRef (Syntax.named 7) Syntax.mut (Syntax.tyInt Syntax.w8))
+              7
+              11
+              (Row.lease (κs .1 .1 .1 .1 .1 .1 .1 .0) (qs .1 .1 .1 .1 .1 .1 .1 .0)),
+        ) (List._∷_ (
+          10,
+          Relend.mslice-owed
+              (Referent.rtF (Referent.fInt Syntax.w8))
+              (Syntax.tyRef (Syntax.named 8) Syntax.mut (Syntax.tyInt Syntax.w8))
+              8
+              12
+              (Row.lease (κs .1 .1 .1 .1 .1 .1 .1 .1 .0) (qs .1 .1 .1 .1 .1 .1 .1 .1 .0)),
+        ) (List._∷_ (
+          11,
+          Rows.arr-owed Elem.R 64 13,
+        ) (List._∷_ (
+          12,
+          Rows'.any-gone (Syntax.tyArray Elem.held 64),
+        ) (List._∷_ (
+          13,
+          Rows'.any-gone (Syntax.tyRef Syntax.erased Syntax.mut (Syntax.tyInt Syntax.w64)),
+        ) (List._∷_ (
+          14,
+          Mut.mslice
+              (Referent.rtF (Referent.fInt Syntax.w64))
+              (Syntax.tyRef Syntax.erased Syntax.mut (Syntax.tyInt Syntax.w64))
+              9,
+        ) (List._∷_ (
+          15,
+          Rows'.any-gone (Syntax.tyRef Syntax.erased Syntax.mut (Syntax.tyInt Syntax.w8)),
+        ) List.[])))))))))))))))
+
+        abbrev g20 : List.List Row.Entry
+        g20 = List._∷_ (0, Rows'.sc-here (Row.sInt Syntax.w64)) (List._∷_ (
+          1,
+          Rows'.sslice
+              (Referent.rtF (Referent.fInt Syntax.w8))
+              (Syntax.tyRef (Syntax.named 0) Syntax.imm (Syntax.tyInt Syntax.w8))
+              0,
+        ) (List._∷_ (
+          2,
+          Rows'.sslice
+              (Referent.rtF (Referent.fInt Syntax.w64))
+              (Syntax.tyRef (Syntax.named 1) Syntax.imm (Syntax.tyInt Syntax.w64))
+              1,
+        ) (List._∷_ (3, Rows'.sc-here (Row.sInt Syntax.w64)) (List._∷_ (
+          4,
+          Rows'.sslice
+              (Referent.rtF (Referent.fInt Syntax.w64))
+              (Syntax.tyRef (Syntax.named 2) Syntax.imm (Syntax.tyInt Syntax.w64))
+              2,
+        ) (List._∷_ (
+          5,
+          Rows'.sslice
+              (Referent.rtF (Referent.fInt Syntax.w8))
+              (Syntax.tyRef (Syntax.named 3) Syntax.imm (Syntax.tyInt Syntax.w8))
+              3,
+        ) (List._∷_ (
+          6,
+          Rows'.sslice
+              (Referent.rtF (Referent.fInt Syntax.w64))
+              (Syntax.tyRef (Syntax.named 4) Syntax.imm (Syntax.tyInt Syntax.w64))
+              4,
+        ) (List._∷_ (
+          7,
+          Relend.mslice-owed
+              (Referent.rtF (Referent.fInt Syntax.w64))
+              (Syntax.tyRef (Syntax.named 5) Syntax.mut (Syntax.tyInt Syntax.w64))
+              5
+              9
+              (Row.lease (κs .1 .1 .1 .1 .1 .0) (qs .1 .1 .1 .1 .1 .0)),
+        ) (List._∷_ (
+          8,
+          Relend.mslice-owed
+              (Referent.rtF (Referent.fInt Syntax.w8))
+              (Syntax.tyRef (Syntax.named 6) Syntax.mut (Syntax.tyInt Syntax.w8))
+              6
+              10
+              (Row.lease (κs .1 .1 .1 .1 .1 .1 .0) (qs .1 .1 .1 .1 .1 .1 .0)),
+        ) (List._∷_ (
+          9,
+          Relend.mslice-owed
+              (Referent.rtF (Referent.fInt Syntax.w8))
+              (Syntax.tyRef (Syntax.named 7) Syntax.mut (Syntax.tyInt Syntax.w8))
+              7
+              11
+              (Row.lease (κs .1 .1 .1 .1 .1 .1 .1 .0) (qs .1 .1 .1 .1 .1 .1 .1 .0)),
+        ) (List._∷_ (
+          10,
+          Relend.mslice-owed
+              (Referent.rtF (Referent.fInt Syntax.w8))
+              (Syntax.tyRef (Syntax.named 8) Syntax.mut (Syntax.tyInt Syntax.w8))
+              8
+              12
+              (Row.lease (κs .1 .1 .1 .1 .1 .1 .1 .1 .0) (qs .1 .1 .1 .1 .1 .1 .1 .1 .0)),
+        ) (List._∷_ (
+          11,
+          Rows.arr-owed Elem.R 64 13,
+        ) (List._∷_ (
+          12,
+          Rows'.any-gone (Syntax.tyArray Elem.held 64),
+        ) (List._∷_ (
+          13,
+          Rows'.any-gone (Syntax.tyRef Syntax.erased Syntax.mut (Syntax.tyInt Syntax.w64)),
+        ) (List._∷_ (
+          14,
+          Mut.msleft
+              (Referent.rtF (Referent.fInt Syntax.w64))
+              (Syntax.tyRef Syntax.erased Syntax.mut (Syntax.tyInt Syntax.w64)),
+        ) (List._∷_ (
+          15,
+          Rows'.any-gone (Syntax.tyRef Syntax.erased Syntax.mut (Syntax.tyInt Syntax.w8)),
         ) List.[])))))))))))))))
 
         abbrev g22 : List.List Row.Entry
@@ -3837,15 +3916,15 @@ module _ (claims· : Claims) where
               3,
         ) (List._∷_ (
           6,
-          Mut.mslice
+          Rows'.sslice
               (Referent.rtF (Referent.fInt Syntax.w64))
-              (Syntax.tyRef (Syntax.named 4) Syntax.mut (Syntax.tyInt Syntax.w64))
+              (Syntax.tyRef (Syntax.named 4) Syntax.imm (Syntax.tyInt Syntax.w64))
               4,
         ) (List._∷_ (
           7,
           Mut.mslice
-              (Referent.rtF (Referent.fInt Syntax.w8))
-              (Syntax.tyRef (Syntax.named 5) Syntax.mut (Syntax.tyInt Syntax.w8))
+              (Referent.rtF (Referent.fInt Syntax.w64))
+              (Syntax.tyRef (Syntax.named 5) Syntax.mut (Syntax.tyInt Syntax.w64))
               5,
         ) (List._∷_ (
           8,
@@ -3865,15 +3944,23 @@ module _ (claims· : Claims) where
               (Row.lease (κs .1 .1 .1 .1 .1 .1 .1 .0) (qs .1 .1 .1 .1 .1 .1 .1 .0)),
         ) (List._∷_ (
           10,
-          Rows.arr-owed Elem.R 64 12,
+          Relend.mslice-owed
+              (Referent.rtF (Referent.fInt Syntax.w8))
+              (Syntax.tyRef (Syntax.named 8) Syntax.mut (Syntax.tyInt Syntax.w8))
+              8
+              12
+              (Row.lease (κs .1 .1 .1 .1 .1 .1 .1 .1 .0) (qs .1 .1 .1 .1 .1 .1 .1 .1 .0)),
         ) (List._∷_ (
           11,
-          Rows'.any-gone (Syntax.tyArray Elem.held 64),
+          Rows.arr-owed Elem.R 64 13,
         ) (List._∷_ (
           12,
-          Rows'.any-gone (Syntax.tyRef Syntax.erased Syntax.mut (Syntax.tyInt Syntax.w64)),
+          Rows'.any-gone (Syntax.tyArray Elem.held 64),
         ) (List._∷_ (
           13,
+          Rows'.any-gone (Syntax.tyRef Syntax.erased Syntax.mut (Syntax.tyInt Syntax.w64)),
+        ) (List._∷_ (
+          14,
           Rows'.any-gone
               (Syntax.tyStruct
               (List._∷_ 38 (List._∷_ 91 (List._∷_ 93 List.[])))
@@ -3881,16 +3968,8 @@ module _ (claims· : Claims) where
               (Syntax.tyRef Syntax.erased Syntax.mut (Syntax.tyInt Syntax.w64))
               (Syntax.tcons (Syntax.tyInt Syntax.w64) Syntax.tnil))),
         ) (List._∷_ (
-          14,
-          Rows'.any-gone (Syntax.tyRef Syntax.erased Syntax.mut (Syntax.tyInt Syntax.w8)),
-        ) (List._∷_ (
           15,
-          Rows'.any-gone
-              (Syntax.tyStruct
-              (List._∷_ 38 (List._∷_ 91 (List._∷_ 93 List.[])))
-              (Syntax.tcons
-              (Syntax.tyRef Syntax.erased Syntax.mut (Syntax.tyInt Syntax.w8))
-              (Syntax.tcons (Syntax.tyInt Syntax.w64) Syntax.tnil))),
+          Rows'.any-gone (Syntax.tyRef Syntax.erased Syntax.mut (Syntax.tyInt Syntax.w8)),
         ) List.[])))))))))))))))
 
         abbrev g23 : List.List Row.Entry
@@ -3920,15 +3999,15 @@ module _ (claims· : Claims) where
               3,
         ) (List._∷_ (
           6,
-          Mut.mslice
+          Rows'.sslice
               (Referent.rtF (Referent.fInt Syntax.w64))
-              (Syntax.tyRef (Syntax.named 4) Syntax.mut (Syntax.tyInt Syntax.w64))
+              (Syntax.tyRef (Syntax.named 4) Syntax.imm (Syntax.tyInt Syntax.w64))
               4,
         ) (List._∷_ (
           7,
           Mut.mslice
-              (Referent.rtF (Referent.fInt Syntax.w8))
-              (Syntax.tyRef (Syntax.named 5) Syntax.mut (Syntax.tyInt Syntax.w8))
+              (Referent.rtF (Referent.fInt Syntax.w64))
+              (Syntax.tyRef (Syntax.named 5) Syntax.mut (Syntax.tyInt Syntax.w64))
               5,
         ) (List._∷_ (
           8,
@@ -3946,15 +4025,23 @@ module _ (claims· : Claims) where
               (Row.lease (κs .1 .1 .1 .1 .1 .1 .1 .0) (qs .1 .1 .1 .1 .1 .1 .1 .0)),
         ) (List._∷_ (
           10,
-          Rows.arr-owed Elem.R 64 12,
+          Relend.mslice-owed
+              (Referent.rtF (Referent.fInt Syntax.w8))
+              (Syntax.tyRef (Syntax.named 8) Syntax.mut (Syntax.tyInt Syntax.w8))
+              8
+              12
+              (Row.lease (κs .1 .1 .1 .1 .1 .1 .1 .1 .0) (qs .1 .1 .1 .1 .1 .1 .1 .1 .0)),
         ) (List._∷_ (
           11,
-          Rows'.any-gone (Syntax.tyArray Elem.held 64),
+          Rows.arr-owed Elem.R 64 13,
         ) (List._∷_ (
           12,
-          Rows'.any-gone (Syntax.tyRef Syntax.erased Syntax.mut (Syntax.tyInt Syntax.w64)),
+          Rows'.any-gone (Syntax.tyArray Elem.held 64),
         ) (List._∷_ (
           13,
+          Rows'.any-gone (Syntax.tyRef Syntax.erased Syntax.mut (Syntax.tyInt Syntax.w64)),
+        ) (List._∷_ (
+          14,
           Rows'.any-gone
               (Syntax.tyStruct
               (List._∷_ 38 (List._∷_ 91 (List._∷_ 93 List.[])))
@@ -3962,16 +4049,87 @@ module _ (claims· : Claims) where
               (Syntax.tyRef Syntax.erased Syntax.mut (Syntax.tyInt Syntax.w64))
               (Syntax.tcons (Syntax.tyInt Syntax.w64) Syntax.tnil))),
         ) (List._∷_ (
-          14,
-          Rows'.any-gone (Syntax.tyRef Syntax.erased Syntax.mut (Syntax.tyInt Syntax.w8)),
-        ) (List._∷_ (
           15,
+          Rows'.any-gone (Syntax.tyRef Syntax.erased Syntax.mut (Syntax.tyInt Syntax.w8)),
+        ) List.[])))))))))))))))
+
+        abbrev g25 : List.List Row.Entry
+        g25 = List._∷_ (0, Rows'.sc-here (Row.sInt Syntax.w64)) (List._∷_ (
+          1,
+          Rows'.sslice
+              (Referent.rtF (Referent.fInt Syntax.w8))
+              (Syntax.tyRef (Syntax.named 0) Syntax.imm (Syntax.tyInt Syntax.w8))
+              0,
+        ) (List._∷_ (
+          2,
+          Rows'.sslice
+              (Referent.rtF (Referent.fInt Syntax.w64))
+              (Syntax.tyRef (Syntax.named 1) Syntax.imm (Syntax.tyInt Syntax.w64))
+              1,
+        ) (List._∷_ (3, Rows'.sc-here (Row.sInt Syntax.w64)) (List._∷_ (
+          4,
+          Rows'.sslice
+              (Referent.rtF (Referent.fInt Syntax.w64))
+              (Syntax.tyRef (Syntax.named 2) Syntax.imm (Syntax.tyInt Syntax.w64))
+              2,
+        ) (List._∷_ (
+          5,
+          Rows'.sslice
+              (Referent.rtF (Referent.fInt Syntax.w8))
+              (Syntax.tyRef (Syntax.named 3) Syntax.imm (Syntax.tyInt Syntax.w8))
+              3,
+        ) (List._∷_ (
+          6,
+          Rows'.sslice
+              (Referent.rtF (Referent.fInt Syntax.w64))
+              (Syntax.tyRef (Syntax.named 4) Syntax.imm (Syntax.tyInt Syntax.w64))
+              4,
+        ) (List._∷_ (
+          7,
+          Mut.mslice
+              (Referent.rtF (Referent.fInt Syntax.w64))
+              (Syntax.tyRef (Syntax.named 5) Syntax.mut (Syntax.tyInt Syntax.w64))
+              5,
+        ) (List._∷_ (
+          8,
+          Mut.mslice
+              (Referent.rtF (Referent.fInt Syntax.w8))
+              (Syntax.tyRef (Syntax.named 6) Syntax.mut (Syntax.tyInt Syntax.w8))
+              6,
+        ) (List._∷_ (
+          9,
+          Mut.mslice
+              (Referent.rtF (Referent.fInt Syntax.w8))
+              (Syntax.tyRef (Syntax.named 7) Syntax.mut (Syntax.tyInt Syntax.w8))
+              7,
+        ) (List._∷_ (
+          10,
+          Relend.mslice-owed
+              (Referent.rtF (Referent.fInt Syntax.w8))
+              (Syntax.tyRef (Syntax.named 8) Syntax.mut (Syntax.tyInt Syntax.w8))
+              8
+              12
+              (Row.lease (κs .1 .1 .1 .1 .1 .1 .1 .1 .0) (qs .1 .1 .1 .1 .1 .1 .1 .1 .0)),
+        ) (List._∷_ (
+          11,
+          Rows.arr-owed Elem.R 64 13,
+        ) (List._∷_ (
+          12,
+          Rows'.any-gone (Syntax.tyArray Elem.held 64),
+        ) (List._∷_ (
+          13,
+          Rows'.any-gone (Syntax.tyRef Syntax.erased Syntax.mut (Syntax.tyInt Syntax.w64)),
+        ) (List._∷_ (
+          14,
           Rows'.any-gone
               (Syntax.tyStruct
               (List._∷_ 38 (List._∷_ 91 (List._∷_ 93 List.[])))
               (Syntax.tcons
-              (Syntax.tyRef Syntax.erased Syntax.mut (Syntax.tyInt Syntax.w8))
+              (Syntax.tyRef Syntax.erased Syntax.mut (Syntax.tyInt Syntax.w64))
               (Syntax.tcons (Syntax.tyInt Syntax.w64) Syntax.tnil))),
+        ) (List._∷_ (
+          15,
+          Rows'.any-gone (Syntax.tyRef Syntax.erased Syntax.mut (Syntax.tyInt Syntax.w8)),
         ) List.[])))))))))))))))
 
         abbrev G0 : Row.Cx
@@ -3994,10 +4152,12 @@ module _ (claims· : Claims) where
               (List._∷_
               (Row.lease (κs .1 .1 .1 .1 .1 .1 .1 .0) (qs .1 .1 .1 .1 .1 .1 .1 .0))
               (List._∷_
+              (Row.lease (κs .1 .1 .1 .1 .1 .1 .1 .1 .0) (qs .1 .1 .1 .1 .1 .1 .1 .1 .0))
+              (List._∷_
               Row.off
               (List._∷_
               Row.off
-              (List._∷_ Row.off (List._∷_ Row.off (List._∷_ Row.off List.[]))))))))))));
+              (List._∷_ Row.off (List._∷_ Row.off (List._∷_ Row.off List.[])))))))))))));
         }
 
         abbrev G1 : Row.Cx
@@ -4020,10 +4180,12 @@ module _ (claims· : Claims) where
               (List._∷_
               (Row.lease (κs .1 .1 .1 .1 .1 .1 .1 .0) (qs .1 .1 .1 .1 .1 .1 .1 .0))
               (List._∷_
+              (Row.lease (κs .1 .1 .1 .1 .1 .1 .1 .1 .0) (qs .1 .1 .1 .1 .1 .1 .1 .1 .0))
+              (List._∷_
               Row.off
               (List._∷_
               Row.off
-              (List._∷_ Row.off (List._∷_ Row.off (List._∷_ Row.off List.[]))))))))))));
+              (List._∷_ Row.off (List._∷_ Row.off (List._∷_ Row.off List.[])))))))))))));
         }
 
         abbrev G2 : Row.Cx
@@ -4046,10 +4208,12 @@ module _ (claims· : Claims) where
               (List._∷_
               (Row.lease (κs .1 .1 .1 .1 .1 .1 .1 .0) (qs .1 .1 .1 .1 .1 .1 .1 .0))
               (List._∷_
+              (Row.lease (κs .1 .1 .1 .1 .1 .1 .1 .1 .0) (qs .1 .1 .1 .1 .1 .1 .1 .1 .0))
+              (List._∷_
               Row.off
               (List._∷_
               Row.off
-              (List._∷_ Row.off (List._∷_ Row.off (List._∷_ Row.off List.[]))))))))))));
+              (List._∷_ Row.off (List._∷_ Row.off (List._∷_ Row.off List.[])))))))))))));
         }
 
         abbrev G3 : Row.Cx
@@ -4072,10 +4236,12 @@ module _ (claims· : Claims) where
               (List._∷_
               (Row.lease (κs .1 .1 .1 .1 .1 .1 .1 .0) (qs .1 .1 .1 .1 .1 .1 .1 .0))
               (List._∷_
+              (Row.lease (κs .1 .1 .1 .1 .1 .1 .1 .1 .0) (qs .1 .1 .1 .1 .1 .1 .1 .1 .0))
+              (List._∷_
               Row.off
               (List._∷_
               Row.off
-              (List._∷_ Row.off (List._∷_ Row.off (List._∷_ Row.off List.[]))))))))))));
+              (List._∷_ Row.off (List._∷_ Row.off (List._∷_ Row.off List.[])))))))))))));
         }
 
         abbrev G4 : Row.Cx
@@ -4098,10 +4264,12 @@ module _ (claims· : Claims) where
               (List._∷_
               (Row.lease (κs .1 .1 .1 .1 .1 .1 .1 .0) (qs .1 .1 .1 .1 .1 .1 .1 .0))
               (List._∷_
+              (Row.lease (κs .1 .1 .1 .1 .1 .1 .1 .1 .0) (qs .1 .1 .1 .1 .1 .1 .1 .1 .0))
+              (List._∷_
               Row.off
               (List._∷_
               Row.off
-              (List._∷_ Row.off (List._∷_ Row.off (List._∷_ Row.off List.[]))))))))))));
+              (List._∷_ Row.off (List._∷_ Row.off (List._∷_ Row.off List.[])))))))))))));
         }
 
         abbrev G5 : Row.Cx
@@ -4124,10 +4292,12 @@ module _ (claims· : Claims) where
               (List._∷_
               (Row.lease (κs .1 .1 .1 .1 .1 .1 .1 .0) (qs .1 .1 .1 .1 .1 .1 .1 .0))
               (List._∷_
+              (Row.lease (κs .1 .1 .1 .1 .1 .1 .1 .1 .0) (qs .1 .1 .1 .1 .1 .1 .1 .1 .0))
+              (List._∷_
               Row.off
               (List._∷_
               Row.off
-              (List._∷_ Row.off (List._∷_ Row.off (List._∷_ Row.off List.[]))))))))))));
+              (List._∷_ Row.off (List._∷_ Row.off (List._∷_ Row.off List.[])))))))))))));
         }
 
         abbrev G6 : Row.Cx
@@ -4150,10 +4320,12 @@ module _ (claims· : Claims) where
               (List._∷_
               (Row.lease (κs .1 .1 .1 .1 .1 .1 .1 .0) (qs .1 .1 .1 .1 .1 .1 .1 .0))
               (List._∷_
+              (Row.lease (κs .1 .1 .1 .1 .1 .1 .1 .1 .0) (qs .1 .1 .1 .1 .1 .1 .1 .1 .0))
+              (List._∷_
               Row.off
               (List._∷_
               Row.off
-              (List._∷_ Row.off (List._∷_ Row.off (List._∷_ Row.off List.[]))))))))))));
+              (List._∷_ Row.off (List._∷_ Row.off (List._∷_ Row.off List.[])))))))))))));
         }
 
         abbrev G7 : Row.Cx
@@ -4176,10 +4348,12 @@ module _ (claims· : Claims) where
               (List._∷_
               (Row.lease (κs .1 .1 .1 .1 .1 .1 .1 .0) (qs .1 .1 .1 .1 .1 .1 .1 .0))
               (List._∷_
+              (Row.lease (κs .1 .1 .1 .1 .1 .1 .1 .1 .0) (qs .1 .1 .1 .1 .1 .1 .1 .1 .0))
+              (List._∷_
               Row.off
               (List._∷_
               Row.off
-              (List._∷_ Row.off (List._∷_ Row.off (List._∷_ Row.off List.[]))))))))))));
+              (List._∷_ Row.off (List._∷_ Row.off (List._∷_ Row.off List.[])))))))))))));
         }
 
         abbrev G8 : Row.Cx
@@ -4202,10 +4376,12 @@ module _ (claims· : Claims) where
               (List._∷_
               (Row.lease (κs .1 .1 .1 .1 .1 .1 .1 .0) (qs .1 .1 .1 .1 .1 .1 .1 .0))
               (List._∷_
+              (Row.lease (κs .1 .1 .1 .1 .1 .1 .1 .1 .0) (qs .1 .1 .1 .1 .1 .1 .1 .1 .0))
+              (List._∷_
               Row.off
               (List._∷_
               Row.off
-              (List._∷_ Row.off (List._∷_ Row.off (List._∷_ Row.off List.[]))))))))))));
+              (List._∷_ Row.off (List._∷_ Row.off (List._∷_ Row.off List.[])))))))))))));
         }
 
         abbrev G9 : Row.Cx
@@ -4228,14 +4404,44 @@ module _ (claims· : Claims) where
               (List._∷_
               (Row.lease (κs .1 .1 .1 .1 .1 .1 .1 .0) (qs .1 .1 .1 .1 .1 .1 .1 .0))
               (List._∷_
+              (Row.lease (κs .1 .1 .1 .1 .1 .1 .1 .1 .0) (qs .1 .1 .1 .1 .1 .1 .1 .1 .0))
+              (List._∷_
               Row.off
               (List._∷_
               Row.off
-              (List._∷_ Row.off (List._∷_ Row.off (List._∷_ Row.off List.[]))))))))))));
+              (List._∷_ Row.off (List._∷_ Row.off (List._∷_ Row.off List.[])))))))))))));
         }
 
         abbrev G10 : Row.Cx
         G10 = record {
+          locals = List._++_ t0 t1;
+          slots = List._∷_
+              (Row.lease (κs .0) (qs .0))
+              (List._∷_
+              (Row.lease (κs .1 .0) (qs .1 .0))
+              (List._∷_
+              (Row.lease (κs .1 .1 .0) (qs .1 .1 .0))
+              (List._∷_
+              (Row.lease (κs .1 .1 .1 .0) (qs .1 .1 .1 .0))
+              (List._∷_
+              (Row.lease (κs .1 .1 .1 .1 .0) (qs .1 .1 .1 .1 .0))
+              (List._∷_
+              (Row.lease (κs .1 .1 .1 .1 .1 .0) (qs .1 .1 .1 .1 .1 .0))
+              (List._∷_
+              (Row.lease (κs .1 .1 .1 .1 .1 .1 .0) (qs .1 .1 .1 .1 .1 .1 .0))
+              (List._∷_
+              (Row.lease (κs .1 .1 .1 .1 .1 .1 .1 .0) (qs .1 .1 .1 .1 .1 .1 .1 .0))
+              (List._∷_
+              (Row.lease (κs .1 .1 .1 .1 .1 .1 .1 .1 .0) (qs .1 .1 .1 .1 .1 .1 .1 .1 .0))
+              (List._∷_
+              Row.off
+              (List._∷_
+              Row.off
+              (List._∷_ Row.off (List._∷_ Row.off (List._∷_ Row.off List.[])))))))))))));
+        }
+
+        abbrev G11 : Row.Cx
+        G11 = record {
           locals = List._++_ t3 t1;
           slots = List._∷_
               (Row.lease (κs .0) (qs .0))
@@ -4254,14 +4460,16 @@ module _ (claims· : Claims) where
               (List._∷_
               (Row.lease (κs .1 .1 .1 .1 .1 .1 .1 .0) (qs .1 .1 .1 .1 .1 .1 .1 .0))
               (List._∷_
+              (Row.lease (κs .1 .1 .1 .1 .1 .1 .1 .1 .0) (qs .1 .1 .1 .1 .1 .1 .1 .1 .0))
+              (List._∷_
               Row.off
               (List._∷_
               Row.off
-              (List._∷_ Row.off (List._∷_ Row.off (List._∷_ Row.off List.[]))))))))))));
+              (List._∷_ Row.off (List._∷_ Row.off (List._∷_ Row.off List.[])))))))))))));
         }
 
-        abbrev G11 : Row.Cx
-        G11 = record {
+        abbrev G12 : Row.Cx
+        G12 = record {
           locals = List._++_ t4 t1;
           slots = List._∷_
               (Row.lease (κs .0) (qs .0))
@@ -4280,36 +4488,12 @@ module _ (claims· : Claims) where
               (List._∷_
               (Row.lease (κs .1 .1 .1 .1 .1 .1 .1 .0) (qs .1 .1 .1 .1 .1 .1 .1 .0))
               (List._∷_
-              Row.off
-              (List._∷_
-              Row.off
-              (List._∷_ Row.off (List._∷_ Row.off (List._∷_ Row.off List.[]))))))))))));
-        }
-
-        abbrev G12 : Row.Cx
-        G12 = record {
-          locals = List._++_ t5 t1;
-          slots = List._∷_
-              (Row.lease (κs .0) (qs .0))
-              (List._∷_
-              (Row.lease (κs .1 .0) (qs .1 .0))
-              (List._∷_
-              (Row.lease (κs .1 .1 .0) (qs .1 .1 .0))
-              (List._∷_
-              (Row.lease (κs .1 .1 .1 .0) (qs .1 .1 .1 .0))
-              (List._∷_
-              (Row.lease (κs .1 .1 .1 .1 .0) (qs .1 .1 .1 .1 .0))
-              (List._∷_
-              (Row.lease (κs .1 .1 .1 .1 .1 .0) (qs .1 .1 .1 .1 .1 .0))
-              (List._∷_
-              (Row.lease (κs .1 .1 .1 .1 .1 .1 .0) (qs .1 .1 .1 .1 .1 .1 .0))
-              (List._∷_
-              (Row.lease (κs .1 .1 .1 .1 .1 .1 .1 .0) (qs .1 .1 .1 .1 .1 .1 .1 .0))
+              (Row.lease (κs .1 .1 .1 .1 .1 .1 .1 .1 .0) (qs .1 .1 .1 .1 .1 .1 .1 .1 .0))
               (List._∷_
               Row.off
               (List._∷_
               Row.off
-              (List._∷_ Row.off (List._∷_ Row.off (List._∷_ Row.off List.[]))))))))))));
+              (List._∷_ Row.off (List._∷_ Row.off (List._∷_ Row.off List.[])))))))))))));
         }
 
         abbrev G13 : Row.Cx
@@ -4332,14 +4516,44 @@ module _ (claims· : Claims) where
               (List._∷_
               (Row.lease (κs .1 .1 .1 .1 .1 .1 .1 .0) (qs .1 .1 .1 .1 .1 .1 .1 .0))
               (List._∷_
-              Row.alive
+              (Row.lease (κs .1 .1 .1 .1 .1 .1 .1 .1 .0) (qs .1 .1 .1 .1 .1 .1 .1 .1 .0))
               (List._∷_
               Row.off
-              (List._∷_ Row.off (List._∷_ Row.off (List._∷_ Row.off List.[]))))))))))));
+              (List._∷_
+              Row.off
+              (List._∷_ Row.off (List._∷_ Row.off (List._∷_ Row.off List.[])))))))))))));
         }
 
         abbrev G14 : Row.Cx
         G14 = record {
+          locals = List._++_ t5 t1;
+          slots = List._∷_
+              (Row.lease (κs .0) (qs .0))
+              (List._∷_
+              (Row.lease (κs .1 .0) (qs .1 .0))
+              (List._∷_
+              (Row.lease (κs .1 .1 .0) (qs .1 .1 .0))
+              (List._∷_
+              (Row.lease (κs .1 .1 .1 .0) (qs .1 .1 .1 .0))
+              (List._∷_
+              (Row.lease (κs .1 .1 .1 .1 .0) (qs .1 .1 .1 .1 .0))
+              (List._∷_
+              (Row.lease (κs .1 .1 .1 .1 .1 .0) (qs .1 .1 .1 .1 .1 .0))
+              (List._∷_
+              (Row.lease (κs .1 .1 .1 .1 .1 .1 .0) (qs .1 .1 .1 .1 .1 .1 .0))
+              (List._∷_
+              (Row.lease (κs .1 .1 .1 .1 .1 .1 .1 .0) (qs .1 .1 .1 .1 .1 .1 .1 .0))
+              (List._∷_
+              (Row.lease (κs .1 .1 .1 .1 .1 .1 .1 .1 .0) (qs .1 .1 .1 .1 .1 .1 .1 .1 .0))
+              (List._∷_
+              Row.alive
+              (List._∷_
+              Row.off
+              (List._∷_ Row.off (List._∷_ Row.off (List._∷_ Row.off List.[])))))))))))));
+        }
+
+        abbrev G15 : Row.Cx
+        G15 = record {
           locals = List._++_ g6 t1;
           slots = List._∷_
               (Row.lease (κs .0) (qs .0))
@@ -4350,44 +4564,20 @@ module _ (claims· : Claims) where
               (List._∷_
               (Row.lease (κs .1 .1 .1 .0) (qs .1 .1 .1 .0))
               (List._∷_
-              Row.off
+              (Row.lease (κs .1 .1 .1 .1 .0) (qs .1 .1 .1 .1 .0))
               (List._∷_
-              (Row.lease (κs .1 .1 .1 .1 .1 .0) (qs .1 .1 .1 .1 .1 .0))
+              Row.off
               (List._∷_
               (Row.lease (κs .1 .1 .1 .1 .1 .1 .0) (qs .1 .1 .1 .1 .1 .1 .0))
               (List._∷_
               (Row.lease (κs .1 .1 .1 .1 .1 .1 .1 .0) (qs .1 .1 .1 .1 .1 .1 .1 .0))
               (List._∷_
-              Row.alive
-              (List._∷_
-              Row.off
-              (List._∷_ Row.off (List._∷_ Row.off (List._∷_ Row.off List.[]))))))))))));
-        }
-
-        abbrev G15 : Row.Cx
-        G15 = record {
-          locals = List._++_ g7 t1;
-          slots = List._∷_
-              (Row.lease (κs .0) (qs .0))
-              (List._∷_
-              (Row.lease (κs .1 .0) (qs .1 .0))
-              (List._∷_
-              (Row.lease (κs .1 .1 .0) (qs .1 .1 .0))
-              (List._∷_
-              (Row.lease (κs .1 .1 .1 .0) (qs .1 .1 .1 .0))
-              (List._∷_
-              Row.off
-              (List._∷_
-              (Row.lease (κs .1 .1 .1 .1 .1 .0) (qs .1 .1 .1 .1 .1 .0))
-              (List._∷_
-              (Row.lease (κs .1 .1 .1 .1 .1 .1 .0) (qs .1 .1 .1 .1 .1 .1 .0))
-              (List._∷_
-              (Row.lease (κs .1 .1 .1 .1 .1 .1 .1 .0) (qs .1 .1 .1 .1 .1 .1 .1 .0))
+              (Row.lease (κs .1 .1 .1 .1 .1 .1 .1 .1 .0) (qs .1 .1 .1 .1 .1 .1 .1 .1 .0))
               (List._∷_
               Row.alive
               (List._∷_
               Row.off
-              (List._∷_ Row.off (List._∷_ Row.off (List._∷_ Row.off List.[]))))))))))));
+              (List._∷_ Row.off (List._∷_ Row.off (List._∷_ Row.off List.[])))))))))))));
         }
 
         abbrev G16 : Row.Cx
@@ -4402,22 +4592,52 @@ module _ (claims· : Claims) where
               (List._∷_
               (Row.lease (κs .1 .1 .1 .0) (qs .1 .1 .1 .0))
               (List._∷_
-              Row.off
+              (Row.lease (κs .1 .1 .1 .1 .0) (qs .1 .1 .1 .1 .0))
               (List._∷_
-              (Row.lease (κs .1 .1 .1 .1 .1 .0) (qs .1 .1 .1 .1 .1 .0))
+              Row.off
               (List._∷_
               (Row.lease (κs .1 .1 .1 .1 .1 .1 .0) (qs .1 .1 .1 .1 .1 .1 .0))
               (List._∷_
               (Row.lease (κs .1 .1 .1 .1 .1 .1 .1 .0) (qs .1 .1 .1 .1 .1 .1 .1 .0))
               (List._∷_
-              Row.alive
+              (Row.lease (κs .1 .1 .1 .1 .1 .1 .1 .1 .0) (qs .1 .1 .1 .1 .1 .1 .1 .1 .0))
               (List._∷_
               Row.alive
-              (List._∷_ Row.off (List._∷_ Row.off (List._∷_ Row.off List.[]))))))))))));
+              (List._∷_
+              Row.off
+              (List._∷_ Row.off (List._∷_ Row.off (List._∷_ Row.off List.[])))))))))))));
         }
 
         abbrev G17 : Row.Cx
         G17 = record {
+          locals = List._++_ g7 t1;
+          slots = List._∷_
+              (Row.lease (κs .0) (qs .0))
+              (List._∷_
+              (Row.lease (κs .1 .0) (qs .1 .0))
+              (List._∷_
+              (Row.lease (κs .1 .1 .0) (qs .1 .1 .0))
+              (List._∷_
+              (Row.lease (κs .1 .1 .1 .0) (qs .1 .1 .1 .0))
+              (List._∷_
+              (Row.lease (κs .1 .1 .1 .1 .0) (qs .1 .1 .1 .1 .0))
+              (List._∷_
+              Row.off
+              (List._∷_
+              (Row.lease (κs .1 .1 .1 .1 .1 .1 .0) (qs .1 .1 .1 .1 .1 .1 .0))
+              (List._∷_
+              (Row.lease (κs .1 .1 .1 .1 .1 .1 .1 .0) (qs .1 .1 .1 .1 .1 .1 .1 .0))
+              (List._∷_
+              (Row.lease (κs .1 .1 .1 .1 .1 .1 .1 .1 .0) (qs .1 .1 .1 .1 .1 .1 .1 .1 .0))
+              (List._∷_
+              Row.alive
+              (List._∷_
+              Row.alive
+              (List._∷_ Row.off (List._∷_ Row.off (List._∷_ Row.off List.[])))))))))))));
+        }
+
+        abbrev G18 : Row.Cx
+        G18 = record {
           locals = List._++_ g8 t1;
           slots = List._∷_
               (Row.lease (κs .0) (qs .0))
@@ -4428,49 +4648,25 @@ module _ (claims· : Claims) where
               (List._∷_
               (Row.lease (κs .1 .1 .1 .0) (qs .1 .1 .1 .0))
               (List._∷_
-              Row.off
+              (Row.lease (κs .1 .1 .1 .1 .0) (qs .1 .1 .1 .1 .0))
               (List._∷_
               Row.off
               (List._∷_
-              (Row.lease (κs .1 .1 .1 .1 .1 .1 .0) (qs .1 .1 .1 .1 .1 .1 .0))
+              Row.off
               (List._∷_
               (Row.lease (κs .1 .1 .1 .1 .1 .1 .1 .0) (qs .1 .1 .1 .1 .1 .1 .1 .0))
               (List._∷_
-              Row.alive
-              (List._∷_
-              Row.alive
-              (List._∷_ Row.off (List._∷_ Row.off (List._∷_ Row.off List.[]))))))))))));
-        }
-
-        abbrev G18 : Row.Cx
-        G18 = record {
-          locals = List._++_ g9 t1;
-          slots = List._∷_
-              (Row.lease (κs .0) (qs .0))
-              (List._∷_
-              (Row.lease (κs .1 .0) (qs .1 .0))
-              (List._∷_
-              (Row.lease (κs .1 .1 .0) (qs .1 .1 .0))
-              (List._∷_
-              (Row.lease (κs .1 .1 .1 .0) (qs .1 .1 .1 .0))
-              (List._∷_
-              Row.off
-              (List._∷_
-              Row.off
-              (List._∷_
-              (Row.lease (κs .1 .1 .1 .1 .1 .1 .0) (qs .1 .1 .1 .1 .1 .1 .0))
-              (List._∷_
-              (Row.lease (κs .1 .1 .1 .1 .1 .1 .1 .0) (qs .1 .1 .1 .1 .1 .1 .1 .0))
+              (Row.lease (κs .1 .1 .1 .1 .1 .1 .1 .1 .0) (qs .1 .1 .1 .1 .1 .1 .1 .1 .0))
               (List._∷_
               Row.alive
               (List._∷_
               Row.alive
-              (List._∷_ Row.off (List._∷_ Row.off (List._∷_ Row.off List.[]))))))))))));
+              (List._∷_ Row.off (List._∷_ Row.off (List._∷_ Row.off List.[])))))))))))));
         }
 
         abbrev G19 : Row.Cx
         G19 = record {
-          locals = List._++_ g9 t1;
+          locals = List._++_ g9 t10;
           slots = List._∷_
               (Row.lease (κs .0) (qs .0))
               (List._∷_
@@ -4480,23 +4676,25 @@ module _ (claims· : Claims) where
               (List._∷_
               (Row.lease (κs .1 .1 .1 .0) (qs .1 .1 .1 .0))
               (List._∷_
-              Row.off
+              (Row.lease (κs .1 .1 .1 .1 .0) (qs .1 .1 .1 .1 .0))
               (List._∷_
               Row.off
               (List._∷_
-              (Row.lease (κs .1 .1 .1 .1 .1 .1 .0) (qs .1 .1 .1 .1 .1 .1 .0))
+              Row.off
               (List._∷_
               (Row.lease (κs .1 .1 .1 .1 .1 .1 .1 .0) (qs .1 .1 .1 .1 .1 .1 .1 .0))
               (List._∷_
+              (Row.lease (κs .1 .1 .1 .1 .1 .1 .1 .1 .0) (qs .1 .1 .1 .1 .1 .1 .1 .1 .0))
+              (List._∷_
               Row.alive
               (List._∷_
               Row.alive
-              (List._∷_ Row.alive (List._∷_ Row.off (List._∷_ Row.off List.[]))))))))))));
+              (List._∷_ Row.off (List._∷_ Row.off (List._∷_ Row.off List.[])))))))))))));
         }
 
         abbrev G20 : Row.Cx
         G20 = record {
-          locals = List._++_ g10 t11;
+          locals = List._++_ g9 t10;
           slots = List._∷_
               (Row.lease (κs .0) (qs .0))
               (List._∷_
@@ -4506,7 +4704,7 @@ module _ (claims· : Claims) where
               (List._∷_
               (Row.lease (κs .1 .1 .1 .0) (qs .1 .1 .1 .0))
               (List._∷_
-              Row.off
+              (Row.lease (κs .1 .1 .1 .1 .0) (qs .1 .1 .1 .1 .0))
               (List._∷_
               Row.off
               (List._∷_
@@ -4514,15 +4712,17 @@ module _ (claims· : Claims) where
               (List._∷_
               (Row.lease (κs .1 .1 .1 .1 .1 .1 .1 .0) (qs .1 .1 .1 .1 .1 .1 .1 .0))
               (List._∷_
+              (Row.lease (κs .1 .1 .1 .1 .1 .1 .1 .1 .0) (qs .1 .1 .1 .1 .1 .1 .1 .1 .0))
+              (List._∷_
               Row.alive
               (List._∷_
               Row.alive
-              (List._∷_ Row.alive (List._∷_ Row.off (List._∷_ Row.off List.[]))))))))))));
+              (List._∷_ Row.alive (List._∷_ Row.off (List._∷_ Row.off List.[])))))))))))));
         }
 
         abbrev G21 : Row.Cx
         G21 = record {
-          locals = List._++_ g10 t12;
+          locals = List._++_ g11 t12;
           slots = List._∷_
               (Row.lease (κs .0) (qs .0))
               (List._∷_
@@ -4532,23 +4732,25 @@ module _ (claims· : Claims) where
               (List._∷_
               (Row.lease (κs .1 .1 .1 .0) (qs .1 .1 .1 .0))
               (List._∷_
-              Row.off
+              (Row.lease (κs .1 .1 .1 .1 .0) (qs .1 .1 .1 .1 .0))
               (List._∷_
               Row.off
               (List._∷_
               Row.off
               (List._∷_
-              (Row.lease (κs .1 .1 .1 .1 .1 .1 .1 .0) (qs .1 .1 .1 .1 .1 .1 .1 .0))
+              Row.off
+              (List._∷_
+              (Row.lease (κs .1 .1 .1 .1 .1 .1 .1 .1 .0) (qs .1 .1 .1 .1 .1 .1 .1 .1 .0))
               (List._∷_
               Row.alive
               (List._∷_
               Row.alive
-              (List._∷_ Row.alive (List._∷_ Row.off (List._∷_ Row.off List.[]))))))))))));
+              (List._∷_ Row.alive (List._∷_ Row.off (List._∷_ Row.off List.[])))))))))))));
         }
 
         abbrev G22 : Row.Cx
         G22 = record {
-          locals = List._++_ g10 t12;
+          locals = List._++_ g11 t13;
           slots = List._∷_
               (Row.lease (κs .0) (qs .0))
               (List._∷_
@@ -4558,23 +4760,25 @@ module _ (claims· : Claims) where
               (List._∷_
               (Row.lease (κs .1 .1 .1 .0) (qs .1 .1 .1 .0))
               (List._∷_
-              Row.off
+              (Row.lease (κs .1 .1 .1 .1 .0) (qs .1 .1 .1 .1 .0))
               (List._∷_
               Row.off
               (List._∷_
               Row.off
               (List._∷_
-              (Row.lease (κs .1 .1 .1 .1 .1 .1 .1 .0) (qs .1 .1 .1 .1 .1 .1 .1 .0))
+              Row.off
+              (List._∷_
+              (Row.lease (κs .1 .1 .1 .1 .1 .1 .1 .1 .0) (qs .1 .1 .1 .1 .1 .1 .1 .1 .0))
               (List._∷_
               Row.alive
               (List._∷_
               Row.alive
-              (List._∷_ Row.alive (List._∷_ Row.alive (List._∷_ Row.off List.[]))))))))))));
+              (List._∷_ Row.alive (List._∷_ Row.off (List._∷_ Row.off List.[])))))))))))));
         }
 
         abbrev G23 : Row.Cx
         G23 = record {
-          locals = List._++_ g13 t14;
+          locals = List._++_ g11 t13;
           slots = List._∷_
               (Row.lease (κs .0) (qs .0))
               (List._∷_
@@ -4584,23 +4788,25 @@ module _ (claims· : Claims) where
               (List._∷_
               (Row.lease (κs .1 .1 .1 .0) (qs .1 .1 .1 .0))
               (List._∷_
-              Row.off
+              (Row.lease (κs .1 .1 .1 .1 .0) (qs .1 .1 .1 .1 .0))
               (List._∷_
               Row.off
               (List._∷_
               Row.off
               (List._∷_
               Row.off
+              (List._∷_
+              (Row.lease (κs .1 .1 .1 .1 .1 .1 .1 .1 .0) (qs .1 .1 .1 .1 .1 .1 .1 .1 .0))
               (List._∷_
               Row.alive
               (List._∷_
               Row.alive
-              (List._∷_ Row.alive (List._∷_ Row.alive (List._∷_ Row.off List.[]))))))))))));
+              (List._∷_ Row.alive (List._∷_ Row.alive (List._∷_ Row.off List.[])))))))))))));
         }
 
         abbrev G24 : Row.Cx
         G24 = record {
-          locals = List._++_ g13 t15;
+          locals = List._++_ g14 t15;
           slots = List._∷_
               (Row.lease (κs .0) (qs .0))
               (List._∷_
@@ -4610,6 +4816,8 @@ module _ (claims· : Claims) where
               (List._∷_
               (Row.lease (κs .1 .1 .1 .0) (qs .1 .1 .1 .0))
               (List._∷_
+              (Row.lease (κs .1 .1 .1 .1 .0) (qs .1 .1 .1 .1 .0))
+              (List._∷_
               Row.off
               (List._∷_
               Row.off
@@ -4621,12 +4829,12 @@ module _ (claims· : Claims) where
               Row.alive
               (List._∷_
               Row.alive
-              (List._∷_ Row.alive (List._∷_ Row.alive (List._∷_ Row.off List.[]))))))))))));
+              (List._∷_ Row.alive (List._∷_ Row.alive (List._∷_ Row.off List.[])))))))))))));
         }
 
         abbrev G25 : Row.Cx
         G25 = record {
-          locals = List._++_ g13 t15;
+          locals = List._++_ g14 t16;
           slots = List._∷_
               (Row.lease (κs .0) (qs .0))
               (List._∷_
@@ -4636,6 +4844,8 @@ module _ (claims· : Claims) where
               (List._∷_
               (Row.lease (κs .1 .1 .1 .0) (qs .1 .1 .1 .0))
               (List._∷_
+              (Row.lease (κs .1 .1 .1 .1 .0) (qs .1 .1 .1 .1 .0))
+              (List._∷_
               Row.off
               (List._∷_
               Row.off
@@ -4647,12 +4857,12 @@ module _ (claims· : Claims) where
               Row.alive
               (List._∷_
               Row.alive
-              (List._∷_ Row.alive (List._∷_ Row.alive (List._∷_ Row.alive List.[]))))))))))));
+              (List._∷_ Row.alive (List._∷_ Row.alive (List._∷_ Row.off List.[])))))))))))));
         }
 
         abbrev G26 : Row.Cx
         G26 = record {
-          locals = List._++_ g16 t17;
+          locals = List._++_ g14 t16;
           slots = List._∷_
               (Row.lease (κs .0) (qs .0))
               (List._∷_
@@ -4662,6 +4872,8 @@ module _ (claims· : Claims) where
               (List._∷_
               (Row.lease (κs .1 .1 .1 .0) (qs .1 .1 .1 .0))
               (List._∷_
+              (Row.lease (κs .1 .1 .1 .1 .0) (qs .1 .1 .1 .1 .0))
+              (List._∷_
               Row.off
               (List._∷_
               Row.off
@@ -4673,12 +4885,12 @@ module _ (claims· : Claims) where
               Row.alive
               (List._∷_
               Row.alive
-              (List._∷_ Row.alive (List._∷_ Row.alive (List._∷_ Row.alive List.[]))))))))))));
+              (List._∷_ Row.alive (List._∷_ Row.alive (List._∷_ Row.alive List.[])))))))))))));
         }
 
         abbrev G27 : Row.Cx
         G27 = record {
-          locals = List._++_ g16 t18;
+          locals = List._++_ g17 t18;
           slots = List._∷_
               (Row.lease (κs .0) (qs .0))
               (List._∷_
@@ -4688,6 +4900,8 @@ module _ (claims· : Claims) where
               (List._∷_
               (Row.lease (κs .1 .1 .1 .0) (qs .1 .1 .1 .0))
               (List._∷_
+              (Row.lease (κs .1 .1 .1 .1 .0) (qs .1 .1 .1 .1 .0))
+              (List._∷_
               Row.off
               (List._∷_
               Row.off
@@ -4699,12 +4913,12 @@ module _ (claims· : Claims) where
               Row.alive
               (List._∷_
               Row.alive
-              (List._∷_ Row.alive (List._∷_ Row.alive (List._∷_ Row.alive List.[]))))))))))));
+              (List._∷_ Row.alive (List._∷_ Row.alive (List._∷_ Row.alive List.[])))))))))))));
         }
 
         abbrev G28 : Row.Cx
         G28 = record {
-          locals = List._++_ g19 t20;
+          locals = List._++_ g17 t19;
           slots = List._∷_
               (Row.lease (κs .0) (qs .0))
               (List._∷_
@@ -4714,6 +4928,8 @@ module _ (claims· : Claims) where
               (List._∷_
               (Row.lease (κs .1 .1 .1 .0) (qs .1 .1 .1 .0))
               (List._∷_
+              (Row.lease (κs .1 .1 .1 .1 .0) (qs .1 .1 .1 .1 .0))
+              (List._∷_
               Row.off
               (List._∷_
               Row.off
@@ -4725,12 +4941,12 @@ module _ (claims· : Claims) where
               Row.alive
               (List._∷_
               Row.alive
-              (List._∷_ Row.alive (List._∷_ Row.alive (List._∷_ Row.alive List.[]))))))))))));
+              (List._∷_ Row.alive (List._∷_ Row.alive (List._∷_ Row.alive List.[])))))))))))));
         }
 
         abbrev G29 : Row.Cx
         G29 = record {
-          locals = List._++_ g19 t20;
+          locals = List._++_ g20 t21;
           slots = List._∷_
               (Row.lease (κs .0) (qs .0))
               (List._∷_
@@ -4740,7 +4956,7 @@ module _ (claims· : Claims) where
               (List._∷_
               (Row.lease (κs .1 .1 .1 .0) (qs .1 .1 .1 .0))
               (List._∷_
-              Row.off
+              (Row.lease (κs .1 .1 .1 .1 .0) (qs .1 .1 .1 .1 .0))
               (List._∷_
               Row.off
               (List._∷_
@@ -4748,15 +4964,17 @@ module _ (claims· : Claims) where
               (List._∷_
               Row.off
               (List._∷_
-              Row.dead
+              Row.off
               (List._∷_
               Row.alive
-              (List._∷_ Row.alive (List._∷_ Row.alive (List._∷_ Row.alive List.[]))))))))))));
+              (List._∷_
+              Row.alive
+              (List._∷_ Row.alive (List._∷_ Row.alive (List._∷_ Row.alive List.[])))))))))))));
         }
 
         abbrev G30 : Row.Cx
         G30 = record {
-          locals = List._++_ g21 t20;
+          locals = List._++_ g20 t21;
           slots = List._∷_
               (Row.lease (κs .0) (qs .0))
               (List._∷_
@@ -4774,15 +4992,17 @@ module _ (claims· : Claims) where
               (List._∷_
               Row.off
               (List._∷_
+              Row.off
+              (List._∷_
               Row.dead
               (List._∷_
               Row.alive
-              (List._∷_ Row.alive (List._∷_ Row.alive (List._∷_ Row.alive List.[]))))))))))));
+              (List._∷_ Row.alive (List._∷_ Row.alive (List._∷_ Row.alive List.[])))))))))))));
         }
 
         abbrev G31 : Row.Cx
         G31 = record {
-          locals = List._++_ g21 t20;
+          locals = List._++_ g22 t21;
           slots = List._∷_
               (Row.lease (κs .0) (qs .0))
               (List._∷_
@@ -4794,6 +5014,8 @@ module _ (claims· : Claims) where
               (List._∷_
               (Row.lease (κs .1 .1 .1 .1 .0) (qs .1 .1 .1 .1 .0))
               (List._∷_
+              (Row.lease (κs .1 .1 .1 .1 .1 .0) (qs .1 .1 .1 .1 .1 .0))
+              (List._∷_
               Row.off
               (List._∷_
               Row.off
@@ -4803,12 +5025,12 @@ module _ (claims· : Claims) where
               Row.dead
               (List._∷_
               Row.alive
-              (List._∷_ Row.alive (List._∷_ Row.alive (List._∷_ Row.alive List.[]))))))))))));
+              (List._∷_ Row.alive (List._∷_ Row.alive (List._∷_ Row.alive List.[])))))))))))));
         }
 
         abbrev G32 : Row.Cx
         G32 = record {
-          locals = List._++_ g21 t20;
+          locals = List._++_ g22 t21;
           slots = List._∷_
               (Row.lease (κs .0) (qs .0))
               (List._∷_
@@ -4819,6 +5041,36 @@ module _ (claims· : Claims) where
               (Row.lease (κs .1 .1 .1 .0) (qs .1 .1 .1 .0))
               (List._∷_
               (Row.lease (κs .1 .1 .1 .1 .0) (qs .1 .1 .1 .1 .0))
+              (List._∷_
+              (Row.lease (κs .1 .1 .1 .1 .1 .0) (qs .1 .1 .1 .1 .1 .0))
+              (List._∷_
+              Row.off
+              (List._∷_
+              Row.off
+              (List._∷_
+              Row.off
+              (List._∷_
+              Row.dead
+              (List._∷_
+              Row.alive
+              (List._∷_ Row.alive (List._∷_ Row.alive (List._∷_ Row.alive List.[])))))))))))));
+        }
+
+        abbrev G33 : Row.Cx
+        G33 = record {
+          locals = List._++_ g22 t21;
+          slots = List._∷_
+              (Row.lease (κs .0) (qs .0))
+              (List._∷_
+              (Row.lease (κs .1 .0) (qs .1 .0))
+              (List._∷_
+              (Row.lease (κs .1 .1 .0) (qs .1 .1 .0))
+              (List._∷_
+              (Row.lease (κs .1 .1 .1 .0) (qs .1 .1 .1 .0))
+              (List._∷_
+              (Row.lease (κs .1 .1 .1 .1 .0) (qs .1 .1 .1 .1 .0))
+              (List._∷_
+              (Row.lease (κs .1 .1 .1 .1 .1 .0) (qs .1 .1 .1 .1 .1 .0))
               (List._∷_
               Row.off
               (List._∷_
@@ -4829,38 +5081,12 @@ module _ (claims· : Claims) where
               Row.off
               (List._∷_
               Row.alive
-              (List._∷_ Row.alive (List._∷_ Row.alive (List._∷_ Row.alive List.[]))))))))))));
-        }
-
-        abbrev G33 : Row.Cx
-        G33 = record {
-          locals = List._++_ g21 t20;
-          slots = List._∷_
-              (Row.lease (κs .0) (qs .0))
-              (List._∷_
-              (Row.lease (κs .1 .0) (qs .1 .0))
-              (List._∷_
-              (Row.lease (κs .1 .1 .0) (qs .1 .1 .0))
-              (List._∷_
-              (Row.lease (κs .1 .1 .1 .0) (qs .1 .1 .1 .0))
-              (List._∷_
-              (Row.lease (κs .1 .1 .1 .1 .0) (qs .1 .1 .1 .1 .0))
-              (List._∷_
-              Row.off
-              (List._∷_
-              Row.off
-              (List._∷_
-              Row.off
-              (List._∷_
-              Row.off
-              (List._∷_
-              Row.dead
-              (List._∷_ Row.alive (List._∷_ Row.alive (List._∷_ Row.alive List.[]))))))))))));
+              (List._∷_ Row.alive (List._∷_ Row.alive (List._∷_ Row.alive List.[])))))))))))));
         }
 
         abbrev G34 : Row.Cx
         G34 = record {
-          locals = List._++_ g22 t20;
+          locals = List._++_ g22 t21;
           slots = List._∷_
               (Row.lease (κs .0) (qs .0))
               (List._∷_
@@ -4880,13 +5106,15 @@ module _ (claims· : Claims) where
               (List._∷_
               Row.off
               (List._∷_
+              Row.off
+              (List._∷_
               Row.dead
-              (List._∷_ Row.alive (List._∷_ Row.alive (List._∷_ Row.alive List.[]))))))))))));
+              (List._∷_ Row.alive (List._∷_ Row.alive (List._∷_ Row.alive List.[])))))))))))));
         }
 
         abbrev G35 : Row.Cx
         G35 = record {
-          locals = List._++_ g22 t20;
+          locals = List._++_ g23 t24;
           slots = List._∷_
               (Row.lease (κs .0) (qs .0))
               (List._∷_
@@ -4899,6 +5127,8 @@ module _ (claims· : Claims) where
               (Row.lease (κs .1 .1 .1 .1 .0) (qs .1 .1 .1 .1 .0))
               (List._∷_
               (Row.lease (κs .1 .1 .1 .1 .1 .0) (qs .1 .1 .1 .1 .1 .0))
+              (List._∷_
+              (Row.lease (κs .1 .1 .1 .1 .1 .1 .0) (qs .1 .1 .1 .1 .1 .1 .0))
               (List._∷_
               Row.off
               (List._∷_
@@ -4907,12 +5137,12 @@ module _ (claims· : Claims) where
               Row.off
               (List._∷_
               Row.dead
-              (List._∷_ Row.alive (List._∷_ Row.alive (List._∷_ Row.alive List.[]))))))))))));
+              (List._∷_ Row.alive (List._∷_ Row.alive (List._∷_ Row.alive List.[])))))))))))));
         }
 
         abbrev G36 : Row.Cx
         G36 = record {
-          locals = List._++_ g22 t20;
+          locals = List._++_ g23 t24;
           slots = List._∷_
               (Row.lease (κs .0) (qs .0))
               (List._∷_
@@ -4926,19 +5156,21 @@ module _ (claims· : Claims) where
               (List._∷_
               (Row.lease (κs .1 .1 .1 .1 .1 .0) (qs .1 .1 .1 .1 .1 .0))
               (List._∷_
-              Row.off
+              (Row.lease (κs .1 .1 .1 .1 .1 .1 .0) (qs .1 .1 .1 .1 .1 .1 .0))
               (List._∷_
               Row.off
               (List._∷_
               Row.off
               (List._∷_
               Row.off
-              (List._∷_ Row.alive (List._∷_ Row.alive (List._∷_ Row.alive List.[]))))))))))));
+              (List._∷_
+              Row.dead
+              (List._∷_ Row.alive (List._∷_ Row.alive (List._∷_ Row.alive List.[])))))))))))));
         }
 
         abbrev G37 : Row.Cx
         G37 = record {
-          locals = List._++_ g22 t20;
+          locals = List._++_ g23 t24;
           slots = List._∷_
               (Row.lease (κs .0) (qs .0))
               (List._∷_
@@ -4952,14 +5184,16 @@ module _ (claims· : Claims) where
               (List._∷_
               (Row.lease (κs .1 .1 .1 .1 .1 .0) (qs .1 .1 .1 .1 .1 .0))
               (List._∷_
-              Row.off
+              (Row.lease (κs .1 .1 .1 .1 .1 .1 .0) (qs .1 .1 .1 .1 .1 .1 .0))
               (List._∷_
               Row.off
               (List._∷_
               Row.off
               (List._∷_
               Row.off
-              (List._∷_ Row.dead (List._∷_ Row.alive (List._∷_ Row.alive List.[]))))))))))));
+              (List._∷_
+              Row.off
+              (List._∷_ Row.alive (List._∷_ Row.alive (List._∷_ Row.alive List.[])))))))))))));
         }
 
         abbrev G38 : Row.Cx
@@ -4985,12 +5219,14 @@ module _ (claims· : Claims) where
               Row.off
               (List._∷_
               Row.off
-              (List._∷_ Row.dead (List._∷_ Row.alive (List._∷_ Row.alive List.[]))))))))))));
+              (List._∷_
+              Row.off
+              (List._∷_ Row.dead (List._∷_ Row.alive (List._∷_ Row.alive List.[])))))))))))));
         }
 
         abbrev G39 : Row.Cx
         G39 = record {
-          locals = List._++_ g23 t24;
+          locals = List._++_ g25 t26;
           slots = List._∷_
               (Row.lease (κs .0) (qs .0))
               (List._∷_
@@ -5006,17 +5242,19 @@ module _ (claims· : Claims) where
               (List._∷_
               (Row.lease (κs .1 .1 .1 .1 .1 .1 .0) (qs .1 .1 .1 .1 .1 .1 .0))
               (List._∷_
-              Row.off
+              (Row.lease (κs .1 .1 .1 .1 .1 .1 .1 .0) (qs .1 .1 .1 .1 .1 .1 .1 .0))
               (List._∷_
               Row.off
               (List._∷_
               Row.off
-              (List._∷_ Row.dead (List._∷_ Row.alive (List._∷_ Row.alive List.[]))))))))))));
+              (List._∷_
+              Row.off
+              (List._∷_ Row.dead (List._∷_ Row.alive (List._∷_ Row.alive List.[])))))))))))));
         }
 
         abbrev G40 : Row.Cx
         G40 = record {
-          locals = List._++_ g23 t24;
+          locals = List._++_ g25 t26;
           slots = List._∷_
               (Row.lease (κs .0) (qs .0))
               (List._∷_
@@ -5032,17 +5270,19 @@ module _ (claims· : Claims) where
               (List._∷_
               (Row.lease (κs .1 .1 .1 .1 .1 .1 .0) (qs .1 .1 .1 .1 .1 .1 .0))
               (List._∷_
-              Row.off
+              (Row.lease (κs .1 .1 .1 .1 .1 .1 .1 .0) (qs .1 .1 .1 .1 .1 .1 .1 .0))
               (List._∷_
               Row.off
               (List._∷_
               Row.off
-              (List._∷_ Row.off (List._∷_ Row.alive (List._∷_ Row.alive List.[]))))))))))));
+              (List._∷_
+              Row.off
+              (List._∷_ Row.dead (List._∷_ Row.alive (List._∷_ Row.alive List.[])))))))))))));
         }
 
         abbrev G41 : Row.Cx
         G41 = record {
-          locals = List._++_ g23 t24;
+          locals = List._++_ g25 t26;
           slots = List._∷_
               (Row.lease (κs .0) (qs .0))
               (List._∷_
@@ -5058,17 +5298,19 @@ module _ (claims· : Claims) where
               (List._∷_
               (Row.lease (κs .1 .1 .1 .1 .1 .1 .0) (qs .1 .1 .1 .1 .1 .1 .0))
               (List._∷_
-              Row.off
+              (Row.lease (κs .1 .1 .1 .1 .1 .1 .1 .0) (qs .1 .1 .1 .1 .1 .1 .1 .0))
               (List._∷_
               Row.off
               (List._∷_
               Row.off
-              (List._∷_ Row.off (List._∷_ Row.dead (List._∷_ Row.alive List.[]))))))))))));
+              (List._∷_
+              Row.off
+              (List._∷_ Row.off (List._∷_ Row.alive (List._∷_ Row.alive List.[])))))))))))));
         }
 
         abbrev G42 : Row.Cx
         G42 = record {
-          locals = List._++_ t25 t26;
+          locals = List._++_ g25 t26;
           slots = List._∷_
               (Row.lease (κs .0) (qs .0))
               (List._∷_
@@ -5089,12 +5331,14 @@ module _ (claims· : Claims) where
               Row.off
               (List._∷_
               Row.off
-              (List._∷_ Row.off (List._∷_ Row.dead (List._∷_ Row.alive List.[]))))))))))));
+              (List._∷_
+              Row.off
+              (List._∷_ Row.off (List._∷_ Row.dead (List._∷_ Row.alive List.[])))))))))))));
         }
 
         abbrev G43 : Row.Cx
         G43 = record {
-          locals = List._++_ t25 t26;
+          locals = List._++_ t27 t28;
           slots = List._∷_
               (Row.lease (κs .0) (qs .0))
               (List._∷_
@@ -5112,15 +5356,17 @@ module _ (claims· : Claims) where
               (List._∷_
               (Row.lease (κs .1 .1 .1 .1 .1 .1 .1 .0) (qs .1 .1 .1 .1 .1 .1 .1 .0))
               (List._∷_
+              (Row.lease (κs .1 .1 .1 .1 .1 .1 .1 .1 .0) (qs .1 .1 .1 .1 .1 .1 .1 .1 .0))
+              (List._∷_
               Row.off
               (List._∷_
               Row.off
-              (List._∷_ Row.off (List._∷_ Row.dead (List._∷_ Row.alive List.[]))))))))))));
+              (List._∷_ Row.off (List._∷_ Row.dead (List._∷_ Row.alive List.[])))))))))))));
         }
 
         abbrev G44 : Row.Cx
         G44 = record {
-          locals = List._++_ t25 t26;
+          locals = List._++_ t27 t28;
           slots = List._∷_
               (Row.lease (κs .0) (qs .0))
               (List._∷_
@@ -5138,15 +5384,17 @@ module _ (claims· : Claims) where
               (List._∷_
               (Row.lease (κs .1 .1 .1 .1 .1 .1 .1 .0) (qs .1 .1 .1 .1 .1 .1 .1 .0))
               (List._∷_
+              (Row.lease (κs .1 .1 .1 .1 .1 .1 .1 .1 .0) (qs .1 .1 .1 .1 .1 .1 .1 .1 .0))
+              (List._∷_
               Row.off
               (List._∷_
               Row.off
-              (List._∷_ Row.off (List._∷_ Row.off (List._∷_ Row.alive List.[]))))))))))));
+              (List._∷_ Row.off (List._∷_ Row.dead (List._∷_ Row.alive List.[])))))))))))));
         }
 
         abbrev G45 : Row.Cx
         G45 = record {
-          locals = List._++_ t25 t26;
+          locals = List._++_ t27 t28;
           slots = List._∷_
               (Row.lease (κs .0) (qs .0))
               (List._∷_
@@ -5164,15 +5412,17 @@ module _ (claims· : Claims) where
               (List._∷_
               (Row.lease (κs .1 .1 .1 .1 .1 .1 .1 .0) (qs .1 .1 .1 .1 .1 .1 .1 .0))
               (List._∷_
+              (Row.lease (κs .1 .1 .1 .1 .1 .1 .1 .1 .0) (qs .1 .1 .1 .1 .1 .1 .1 .1 .0))
+              (List._∷_
               Row.off
               (List._∷_
               Row.off
-              (List._∷_ Row.off (List._∷_ Row.off (List._∷_ Row.dead List.[]))))))))))));
+              (List._∷_ Row.off (List._∷_ Row.off (List._∷_ Row.alive List.[])))))))))))));
         }
 
         abbrev G46 : Row.Cx
         G46 = record {
-          locals = List._++_ t27 t1;
+          locals = List._++_ t27 t28;
           slots = List._∷_
               (Row.lease (κs .0) (qs .0))
               (List._∷_
@@ -5190,15 +5440,17 @@ module _ (claims· : Claims) where
               (List._∷_
               (Row.lease (κs .1 .1 .1 .1 .1 .1 .1 .0) (qs .1 .1 .1 .1 .1 .1 .1 .0))
               (List._∷_
+              (Row.lease (κs .1 .1 .1 .1 .1 .1 .1 .1 .0) (qs .1 .1 .1 .1 .1 .1 .1 .1 .0))
+              (List._∷_
               Row.off
               (List._∷_
               Row.off
-              (List._∷_ Row.off (List._∷_ Row.off (List._∷_ Row.dead List.[]))))))))))));
+              (List._∷_ Row.off (List._∷_ Row.off (List._∷_ Row.dead List.[])))))))))))));
         }
 
         abbrev G47 : Row.Cx
         G47 = record {
-          locals = List._++_ t27 t1;
+          locals = List._++_ t29 t1;
           slots = List._∷_
               (Row.lease (κs .0) (qs .0))
               (List._∷_
@@ -5216,15 +5468,17 @@ module _ (claims· : Claims) where
               (List._∷_
               (Row.lease (κs .1 .1 .1 .1 .1 .1 .1 .0) (qs .1 .1 .1 .1 .1 .1 .1 .0))
               (List._∷_
+              (Row.lease (κs .1 .1 .1 .1 .1 .1 .1 .1 .0) (qs .1 .1 .1 .1 .1 .1 .1 .1 .0))
+              (List._∷_
               Row.off
               (List._∷_
               Row.off
-              (List._∷_ Row.off (List._∷_ Row.off (List._∷_ Row.off List.[]))))))))))));
+              (List._∷_ Row.off (List._∷_ Row.off (List._∷_ Row.dead List.[])))))))))))));
         }
 
         abbrev G48 : Row.Cx
         G48 = record {
-          locals = List._++_ t28 t1;
+          locals = List._++_ t29 t1;
           slots = List._∷_
               (Row.lease (κs .0) (qs .0))
               (List._∷_
@@ -5242,14 +5496,44 @@ module _ (claims· : Claims) where
               (List._∷_
               (Row.lease (κs .1 .1 .1 .1 .1 .1 .1 .0) (qs .1 .1 .1 .1 .1 .1 .1 .0))
               (List._∷_
+              (Row.lease (κs .1 .1 .1 .1 .1 .1 .1 .1 .0) (qs .1 .1 .1 .1 .1 .1 .1 .1 .0))
+              (List._∷_
               Row.off
               (List._∷_
               Row.off
-              (List._∷_ Row.off (List._∷_ Row.off (List._∷_ Row.off List.[]))))))))))));
+              (List._∷_ Row.off (List._∷_ Row.off (List._∷_ Row.off List.[])))))))))))));
         }
 
         abbrev G49 : Row.Cx
         G49 = record {
+          locals = List._++_ t30 t1;
+          slots = List._∷_
+              (Row.lease (κs .0) (qs .0))
+              (List._∷_
+              (Row.lease (κs .1 .0) (qs .1 .0))
+              (List._∷_
+              (Row.lease (κs .1 .1 .0) (qs .1 .1 .0))
+              (List._∷_
+              (Row.lease (κs .1 .1 .1 .0) (qs .1 .1 .1 .0))
+              (List._∷_
+              (Row.lease (κs .1 .1 .1 .1 .0) (qs .1 .1 .1 .1 .0))
+              (List._∷_
+              (Row.lease (κs .1 .1 .1 .1 .1 .0) (qs .1 .1 .1 .1 .1 .0))
+              (List._∷_
+              (Row.lease (κs .1 .1 .1 .1 .1 .1 .0) (qs .1 .1 .1 .1 .1 .1 .0))
+              (List._∷_
+              (Row.lease (κs .1 .1 .1 .1 .1 .1 .1 .0) (qs .1 .1 .1 .1 .1 .1 .1 .0))
+              (List._∷_
+              (Row.lease (κs .1 .1 .1 .1 .1 .1 .1 .1 .0) (qs .1 .1 .1 .1 .1 .1 .1 .1 .0))
+              (List._∷_
+              Row.off
+              (List._∷_
+              Row.off
+              (List._∷_ Row.off (List._∷_ Row.off (List._∷_ Row.off List.[])))))))))))));
+        }
+
+        abbrev G50 : Row.Cx
+        G50 = record {
           locals = List._++_ t2 t1;
           slots = List._∷_
               (Row.lease (κs .0) (qs .0))
@@ -5268,10 +5552,12 @@ module _ (claims· : Claims) where
               (List._∷_
               (Row.lease (κs .1 .1 .1 .1 .1 .1 .1 .0) (qs .1 .1 .1 .1 .1 .1 .1 .0))
               (List._∷_
+              (Row.lease (κs .1 .1 .1 .1 .1 .1 .1 .1 .0) (qs .1 .1 .1 .1 .1 .1 .1 .1 .0))
+              (List._∷_
               Row.off
               (List._∷_
               Row.off
-              (List._∷_ Row.off (List._∷_ Row.off (List._∷_ Row.off List.[]))))))))))));
+              (List._∷_ Row.off (List._∷_ Row.off (List._∷_ Row.off List.[])))))))))))));
         }
 
         abbrev Δ0 : Typed.Outs
@@ -5279,15 +5565,42 @@ module _ (claims· : Claims) where
 
         module _ {M : Type 1} (𝓤 : URA.URA M) (H : Wp.Heap 𝓤) (A : Atoms.Atoms 𝓤)
             (W : Kit.Given 𝓤 H A) (𝓣 : Wp.Tables 𝓤 H) (known : Knowns 𝓤 H A W 𝓣)
-            (bs : List.List Nat.ℕ) (bd : Lifetimes.AllOutlive 8 (Kinds.osR r) κs) where
+            (bs : List.List Nat.ℕ) (bd : Lifetimes.AllOutlive 9 (Kinds.osR r) κs) where
           abbrev E : Wp.Env 𝓤 H
           E = Frame.EnvOf 𝓤 H (List._∷_ (Kinds.tyR r) (Enter.tysP ps xs)) bs
 
-          d0 : Typed.Typed 𝓤 H A 𝓣 E G49 b13 Δ0 (at0 bs)
+          d0 : Typed.Typed 𝓤 H A 𝓣 E G50 b13 Δ0 (at0 bs)
           d0 = Typed.t-return 𝓤 H A W 𝓣 E Δ0 tt
 
-          d1 : Typed.Typed 𝓤 H A 𝓣 E G48 b13 Δ0 (at1 bs)
+          d1 : Typed.Typed 𝓤 H A 𝓣 E G49 b13 Δ0 (at1 bs)
           d1 =
+              Typed.g-pre
+              𝓤
+              H
+              A
+              W
+              𝓣
+              E
+              G49
+              G50
+              b13
+              Δ0
+              (Typed.pass T49 T50 (s48 bs))
+              (at0 bs)
+              (Scalar.g-room
+              𝓤
+              H
+              A
+              W
+              E
+              G49
+              3
+              (Syntax.tyInt Syntax.w64)
+              (Scalar.room-sc 𝓤 H A W (Row.sInt Syntax.w64)))
+              d0
+
+          d2 : Typed.Typed 𝓤 H A 𝓣 E G48 b13 Δ0 (at2 bs)
+          d2 =
               Typed.g-pre
               𝓤
               H
@@ -5299,34 +5612,7 @@ module _ (claims· : Claims) where
               G49
               b13
               Δ0
-              (Typed.pass T48 T49 (s47 bs))
-              (at0 bs)
-              (Scalar.g-room
-              𝓤
-              H
-              A
-              W
-              E
-              G48
-              3
-              (Syntax.tyInt Syntax.w64)
-              (Scalar.room-sc 𝓤 H A W (Row.sInt Syntax.w64)))
-              d0
-
-          d2 : Typed.Typed 𝓤 H A 𝓣 E G47 b13 Δ0 (at2 bs)
-          d2 =
-              Typed.g-pre
-              𝓤
-              H
-              A
-              W
-              𝓣
-              E
-              G47
-              G48
-              b13
-              Δ0
-              (Typed.pass T46 T48 (s46 bs))
+              (Typed.pass T47 T49 (s47 bs))
               (at1 bs)
               (Scalar.g-room
               𝓤
@@ -5334,8 +5620,8 @@ module _ (claims· : Claims) where
               A
               W
               E
-              G47
-              10
+              G48
+              11
               (Syntax.tyArray Elem.held 64)
               (Init.room-arr
               𝓤
@@ -5349,8 +5635,26 @@ module _ (claims· : Claims) where
               Path'.refl))
               d1
 
-          d3 : Typed.Typed 𝓤 H A 𝓣 E G46 b13 Δ0 (at3 bs)
+          d3 : Typed.Typed 𝓤 H A 𝓣 E G47 b13 Δ0 (at3 bs)
           d3 =
+              Typed.g-pre
+              𝓤
+              H
+              A
+              W
+              𝓣
+              E
+              G47
+              G48
+              b13
+              Δ0
+              (λ Ψ. Ψ)
+              (at2 bs)
+              (Lifetime.g-forget 𝓤 H A W E G47 13 Row.dead Path'.refl)
+              d2
+
+          d4 : Typed.Typed 𝓤 H A 𝓣 E G46 b13 Δ0 (at4 bs)
+          d4 =
               Typed.g-pre
               𝓤
               H
@@ -5362,25 +5666,7 @@ module _ (claims· : Claims) where
               G47
               b13
               Δ0
-              (λ Ψ. Ψ)
-              (at2 bs)
-              (Lifetime.g-forget 𝓤 H A W E G46 12 Row.dead Path'.refl)
-              d2
-
-          d4 : Typed.Typed 𝓤 H A 𝓣 E G45 b13 Δ0 (at4 bs)
-          d4 =
-              Typed.g-pre
-              𝓤
-              H
-              A
-              W
-              𝓣
-              E
-              G45
-              G46
-              b13
-              Δ0
-              (Typed.both (s44 bs))
+              (Typed.both (s45 bs))
               (at3 bs)
               (Borrow.g-back-arr
               𝓤
@@ -5389,10 +5675,10 @@ module _ (claims· : Claims) where
               W
               E
               Elem.R
-              G45
-              21
-              10
-              12
+              G46
+              22
+              11
+              13
               64
               (Syntax.tyRef
               Syntax.erased
@@ -5414,12 +5700,30 @@ module _ (claims· : Claims) where
               𝓤
               H
               A
-              (Rows.arr-owed Elem.R 64 12))
+              (Rows.arr-owed Elem.R 64 13))
               Path'.refl)
               d3
 
-          d5 : Typed.Typed 𝓤 H A 𝓣 E G44 b13 Δ0 (at5 bs)
+          d5 : Typed.Typed 𝓤 H A 𝓣 E G45 b13 Δ0 (at5 bs)
           d5 =
+              Typed.g-pre
+              𝓤
+              H
+              A
+              W
+              𝓣
+              E
+              G45
+              G46
+              b13
+              Δ0
+              (λ Ψ. Ψ)
+              (at4 bs)
+              (Lifetime.g-end 𝓤 H A W E G45 13 Path'.refl)
+              d4
+
+          d6 : Typed.Typed 𝓤 H A 𝓣 E G44 b13 Δ0 (at6 bs)
+          d6 =
               Typed.g-pre
               𝓤
               H
@@ -5432,12 +5736,12 @@ module _ (claims· : Claims) where
               b13
               Δ0
               (λ Ψ. Ψ)
-              (at4 bs)
-              (Lifetime.g-end 𝓤 H A W E G44 12 Path'.refl)
-              d4
+              (at5 bs)
+              (Lifetime.g-forget 𝓤 H A W E G44 12 Row.dead Path'.refl)
+              d5
 
-          d6 : Typed.Typed 𝓤 H A 𝓣 E G43 b13 Δ0 (at6 bs)
-          d6 =
+          d7 : Typed.Typed 𝓤 H A 𝓣 E G43 b13 Δ0 (at7 bs)
+          d7 =
               Typed.g-pre
               𝓤
               H
@@ -5449,13 +5753,37 @@ module _ (claims· : Claims) where
               G44
               b13
               Δ0
-              (λ Ψ. Ψ)
-              (at5 bs)
-              (Lifetime.g-forget 𝓤 H A W E G43 11 Row.dead Path'.refl)
-              d5
+              (Typed.give (s42 bs))
+              (at6 bs)
+              (Know.g-sl-known
+              𝓤
+              H
+              A
+              W
+              (Referent.fInt Syntax.w8)
+              E
+              G43
+              10
+              8
+              (Syntax.tyRef (Syntax.named 8) Syntax.mut (Syntax.tyInt Syntax.w8))
+              (Row.lease (κs .1 .1 .1 .1 .1 .1 .1 .1 .0) (qs .1 .1 .1 .1 .1 .1 .1 .1 .0))
+              0
+              (λ x. x)
+              record { fits = Dec'.lit< tt }
+              (Reads.as-is
+              𝓤
+              H
+              A
+              (Mut.mslice
+              (Referent.rtF (Referent.fInt Syntax.w8))
+              (Syntax.tyRef (Syntax.named 8) Syntax.mut (Syntax.tyInt Syntax.w8))
+              8))
+              Path'.refl
+              tt)
+              d6
 
-          d7 : Typed.Typed 𝓤 H A 𝓣 E G42 b13 Δ0 (at7 bs)
-          d7 =
+          d8 : Typed.Typed 𝓤 H A 𝓣 E G42 b13 Δ0 (at8 bs)
+          d8 =
               Typed.g-pre
               𝓤
               H
@@ -5467,8 +5795,97 @@ module _ (claims· : Claims) where
               G43
               b13
               Δ0
-              (Typed.give (s41 bs))
-              (at6 bs)
+              (Typed.both (s41 bs))
+              (at7 bs)
+              (Relend.g-back-sl
+              𝓤
+              H
+              A
+              W
+              E
+              (Referent.rtF (Referent.fInt Syntax.w8))
+              G42
+              20
+              10
+              8
+              12
+              (Syntax.tyRef (Syntax.named 8) Syntax.mut (Syntax.tyInt Syntax.w8))
+              (Syntax.tyRef Syntax.erased Syntax.mut (Syntax.tyInt Syntax.w8))
+              (Row.lease (κs .1 .1 .1 .1 .1 .1 .1 .1 .0) (qs .1 .1 .1 .1 .1 .1 .1 .1 .0))
+              (λ x. x)
+              (λ x. x)
+              (Reads.as-is
+              𝓤
+              H
+              A
+              (Mut.msleft
+              (Referent.rtF (Referent.fInt Syntax.w8))
+              (Syntax.tyRef Syntax.erased Syntax.mut (Syntax.tyInt Syntax.w8))))
+              (Reads.as-is
+              𝓤
+              H
+              A
+              (Relend.mslice-owed
+              (Referent.rtF (Referent.fInt Syntax.w8))
+              (Syntax.tyRef (Syntax.named 8) Syntax.mut (Syntax.tyInt Syntax.w8))
+              8
+              12
+              (Row.lease (κs .1 .1 .1 .1 .1 .1 .1 .1 .0) (qs .1 .1 .1 .1 .1 .1 .1 .1 .0))))
+              Path'.refl
+              Path'.refl)
+              d7
+
+          d9 : Typed.Typed 𝓤 H A 𝓣 E G41 b13 Δ0 (at9 bs)
+          d9 =
+              Typed.g-pre
+              𝓤
+              H
+              A
+              W
+              𝓣
+              E
+              G41
+              G42
+              b13
+              Δ0
+              (λ Ψ. Ψ)
+              (at8 bs)
+              (Lifetime.g-end 𝓤 H A W E G41 12 Path'.refl)
+              d8
+
+          d10 : Typed.Typed 𝓤 H A 𝓣 E G40 b13 Δ0 (at10 bs)
+          d10 =
+              Typed.g-pre
+              𝓤
+              H
+              A
+              W
+              𝓣
+              E
+              G40
+              G41
+              b13
+              Δ0
+              (λ Ψ. Ψ)
+              (at9 bs)
+              (Lifetime.g-forget 𝓤 H A W E G40 11 Row.dead Path'.refl)
+              d9
+
+          d11 : Typed.Typed 𝓤 H A 𝓣 E G39 b13 Δ0 (at11 bs)
+          d11 =
+              Typed.g-pre
+              𝓤
+              H
+              A
+              W
+              𝓣
+              E
+              G39
+              G40
+              b13
+              Δ0
+              (Typed.give (s38 bs))
+              (at10 bs)
               (Know.g-sl-known
               𝓤
               H
@@ -5476,7 +5893,7 @@ module _ (claims· : Claims) where
               W
               (Referent.fInt Syntax.w8)
               E
-              G42
+              G39
               9
               7
               (Syntax.tyRef (Syntax.named 7) Syntax.mut (Syntax.tyInt Syntax.w8))
@@ -5494,10 +5911,10 @@ module _ (claims· : Claims) where
               7))
               Path'.refl
               tt)
-              d6
+              d10
 
-          d8 : Typed.Typed 𝓤 H A 𝓣 E G41 b13 Δ0 (at8 bs)
-          d8 =
+          d12 : Typed.Typed 𝓤 H A 𝓣 E G38 b13 Δ0 (at12 bs)
+          d12 =
               Typed.g-pre
               𝓤
               H
@@ -5505,12 +5922,12 @@ module _ (claims· : Claims) where
               W
               𝓣
               E
-              G41
-              G42
+              G38
+              G39
               b13
               Δ0
-              (Typed.both (s40 bs))
-              (at7 bs)
+              (Typed.both (s37 bs))
+              (at11 bs)
               (Relend.g-back-sl
               𝓤
               H
@@ -5518,8 +5935,8 @@ module _ (claims· : Claims) where
               W
               E
               (Referent.rtF (Referent.fInt Syntax.w8))
-              G41
-              19
+              G38
+              18
               9
               7
               11
@@ -5547,10 +5964,10 @@ module _ (claims· : Claims) where
               (Row.lease (κs .1 .1 .1 .1 .1 .1 .1 .0) (qs .1 .1 .1 .1 .1 .1 .1 .0))))
               Path'.refl
               Path'.refl)
-              d7
+              d11
 
-          d9 : Typed.Typed 𝓤 H A 𝓣 E G40 b13 Δ0 (at9 bs)
-          d9 =
+          d13 : Typed.Typed 𝓤 H A 𝓣 E G37 b13 Δ0 (at13 bs)
+          d13 =
               Typed.g-pre
               𝓤
               H
@@ -5558,48 +5975,48 @@ module _ (claims· : Claims) where
               W
               𝓣
               E
-              G40
-              G41
-              b13
-              Δ0
-              (λ Ψ. Ψ)
-              (at8 bs)
-              (Lifetime.g-end 𝓤 H A W E G40 11 Path'.refl)
-              d8
-
-          d10 : Typed.Typed 𝓤 H A 𝓣 E G39 b13 Δ0 (at10 bs)
-          d10 =
-              Typed.g-pre
-              𝓤
-              H
-              A
-              W
-              𝓣
-              E
-              G39
-              G40
-              b13
-              Δ0
-              (λ Ψ. Ψ)
-              (at9 bs)
-              (Lifetime.g-forget 𝓤 H A W E G39 10 Row.dead Path'.refl)
-              d9
-
-          d11 : Typed.Typed 𝓤 H A 𝓣 E G38 b13 Δ0 (at11 bs)
-          d11 =
-              Typed.g-pre
-              𝓤
-              H
-              A
-              W
-              𝓣
-              E
+              G37
               G38
-              G39
               b13
               Δ0
-              (Typed.give (s37 bs))
-              (at10 bs)
+              (λ Ψ. Ψ)
+              (at12 bs)
+              (Lifetime.g-end 𝓤 H A W E G37 11 Path'.refl)
+              d12
+
+          d14 : Typed.Typed 𝓤 H A 𝓣 E G36 b13 Δ0 (at14 bs)
+          d14 =
+              Typed.g-pre
+              𝓤
+              H
+              A
+              W
+              𝓣
+              E
+              G36
+              G37
+              b13
+              Δ0
+              (λ Ψ. Ψ)
+              (at13 bs)
+              (Lifetime.g-forget 𝓤 H A W E G36 10 Row.dead Path'.refl)
+              d13
+
+          d15 : Typed.Typed 𝓤 H A 𝓣 E G35 b13 Δ0 (at15 bs)
+          d15 =
+              Typed.g-pre
+              𝓤
+              H
+              A
+              W
+              𝓣
+              E
+              G35
+              G36
+              b13
+              Δ0
+              (Typed.give (s34 bs))
+              (at14 bs)
               (Know.g-sl-known
               𝓤
               H
@@ -5607,7 +6024,7 @@ module _ (claims· : Claims) where
               W
               (Referent.fInt Syntax.w8)
               E
-              G38
+              G35
               8
               6
               (Syntax.tyRef (Syntax.named 6) Syntax.mut (Syntax.tyInt Syntax.w8))
@@ -5625,10 +6042,10 @@ module _ (claims· : Claims) where
               6))
               Path'.refl
               tt)
-              d10
+              d14
 
-          d12 : Typed.Typed 𝓤 H A 𝓣 E G37 b13 Δ0 (at12 bs)
-          d12 =
+          d16 : Typed.Typed 𝓤 H A 𝓣 E G34 b13 Δ0 (at16 bs)
+          d16 =
               Typed.g-pre
               𝓤
               H
@@ -5636,12 +6053,12 @@ module _ (claims· : Claims) where
               W
               𝓣
               E
-              G37
-              G38
+              G34
+              G35
               b13
               Δ0
-              (Typed.both (s36 bs))
-              (at11 bs)
+              (Typed.both (s33 bs))
+              (at15 bs)
               (Relend.g-back-sl
               𝓤
               H
@@ -5649,8 +6066,8 @@ module _ (claims· : Claims) where
               W
               E
               (Referent.rtF (Referent.fInt Syntax.w8))
-              G37
-              17
+              G34
+              16
               8
               6
               10
@@ -5678,140 +6095,9 @@ module _ (claims· : Claims) where
               (Row.lease (κs .1 .1 .1 .1 .1 .1 .0) (qs .1 .1 .1 .1 .1 .1 .0))))
               Path'.refl
               Path'.refl)
-              d11
-
-          d13 : Typed.Typed 𝓤 H A 𝓣 E G36 b13 Δ0 (at13 bs)
-          d13 =
-              Typed.g-pre
-              𝓤
-              H
-              A
-              W
-              𝓣
-              E
-              G36
-              G37
-              b13
-              Δ0
-              (λ Ψ. Ψ)
-              (at12 bs)
-              (Lifetime.g-end 𝓤 H A W E G36 10 Path'.refl)
-              d12
-
-          d14 : Typed.Typed 𝓤 H A 𝓣 E G35 b13 Δ0 (at14 bs)
-          d14 =
-              Typed.g-pre
-              𝓤
-              H
-              A
-              W
-              𝓣
-              E
-              G35
-              G36
-              b13
-              Δ0
-              (λ Ψ. Ψ)
-              (at13 bs)
-              (Lifetime.g-forget 𝓤 H A W E G35 9 Row.dead Path'.refl)
-              d13
-
-          d15 : Typed.Typed 𝓤 H A 𝓣 E G34 b13 Δ0 (at15 bs)
-          d15 =
-              Typed.g-pre
-              𝓤
-              H
-              A
-              W
-              𝓣
-              E
-              G34
-              G35
-              b13
-              Δ0
-              (Typed.give (s33 bs))
-              (at14 bs)
-              (Know.g-sl-known
-              𝓤
-              H
-              A
-              W
-              (Referent.fInt Syntax.w8)
-              E
-              G34
-              7
-              5
-              (Syntax.tyRef (Syntax.named 5) Syntax.mut (Syntax.tyInt Syntax.w8))
-              (Row.lease (κs .1 .1 .1 .1 .1 .0) (qs .1 .1 .1 .1 .1 .0))
-              0
-              (λ x. x)
-              record { fits = Dec'.lit< tt }
-              (Reads.as-is
-              𝓤
-              H
-              A
-              (Mut.mslice
-              (Referent.rtF (Referent.fInt Syntax.w8))
-              (Syntax.tyRef (Syntax.named 5) Syntax.mut (Syntax.tyInt Syntax.w8))
-              5))
-              Path'.refl
-              tt)
-              d14
-
-          d16 : Typed.Typed 𝓤 H A 𝓣 E G33 b13 Δ0 (at16 bs)
-          d16 =
-              Typed.g-pre
-              𝓤
-              H
-              A
-              W
-              𝓣
-              E
-              G33
-              G34
-              b13
-              Δ0
-              (Typed.both (s32 bs))
-              (at15 bs)
-              (Relend.g-back-sl
-              𝓤
-              H
-              A
-              W
-              E
-              (Referent.rtF (Referent.fInt Syntax.w8))
-              G33
-              15
-              7
-              5
-              9
-              (Syntax.tyRef (Syntax.named 5) Syntax.mut (Syntax.tyInt Syntax.w8))
-              (Syntax.tyRef Syntax.erased Syntax.mut (Syntax.tyInt Syntax.w8))
-              (Row.lease (κs .1 .1 .1 .1 .1 .0) (qs .1 .1 .1 .1 .1 .0))
-              (λ x. x)
-              (λ x. x)
-              (Reads.as-is
-              𝓤
-              H
-              A
-              (Mut.msleft
-              (Referent.rtF (Referent.fInt Syntax.w8))
-              (Syntax.tyRef Syntax.erased Syntax.mut (Syntax.tyInt Syntax.w8))))
-              (Reads.as-is
-              𝓤
-              H
-              A
-              (Relend.mslice-owed
-              (Referent.rtF (Referent.fInt Syntax.w8))
-              (Syntax.tyRef (Syntax.named 5) Syntax.mut (Syntax.tyInt Syntax.w8))
-              5
-              9
-              (Row.lease (κs .1 .1 .1 .1 .1 .0) (qs .1 .1 .1 .1 .1 .0))))
-              Path'.refl
-              Path'.refl)
               d15
 
-          d17 : Typed.Typed 𝓤 H A 𝓣 E G32 b13 Δ0 (at17 bs)
+          d17 : Typed.Typed 𝓤 H A 𝓣 E G33 b13 Δ0 (at17 bs)
           d17 =
               Typed.g-pre
               𝓤
@@ -5820,16 +6106,16 @@ module _ (claims· : Claims) where
               W
               𝓣
               E
-              G32
               G33
+              G34
               b13
               Δ0
               (λ Ψ. Ψ)
               (at16 bs)
-              (Lifetime.g-end 𝓤 H A W E G32 9 Path'.refl)
+              (Lifetime.g-end 𝓤 H A W E G33 10 Path'.refl)
               d16
 
-          d18 : Typed.Typed 𝓤 H A 𝓣 E G31 b13 Δ0 (at18 bs)
+          d18 : Typed.Typed 𝓤 H A 𝓣 E G32 b13 Δ0 (at18 bs)
           d18 =
               Typed.g-pre
               𝓤
@@ -5838,16 +6124,16 @@ module _ (claims· : Claims) where
               W
               𝓣
               E
-              G31
               G32
+              G33
               b13
               Δ0
               (λ Ψ. Ψ)
               (at17 bs)
-              (Lifetime.g-forget 𝓤 H A W E G31 8 Row.dead Path'.refl)
+              (Lifetime.g-forget 𝓤 H A W E G32 9 Row.dead Path'.refl)
               d17
 
-          d19 : Typed.Typed 𝓤 H A 𝓣 E G30 b13 Δ0 (at19 bs)
+          d19 : Typed.Typed 𝓤 H A 𝓣 E G31 b13 Δ0 (at19 bs)
           d19 =
               Typed.g-pre
               𝓤
@@ -5856,11 +6142,11 @@ module _ (claims· : Claims) where
               W
               𝓣
               E
-              G30
               G31
+              G32
               b13
               Δ0
-              (Typed.give (s29 bs))
+              (Typed.give (s30 bs))
               (at18 bs)
               (Know.g-sl-known
               𝓤
@@ -5869,11 +6155,11 @@ module _ (claims· : Claims) where
               W
               (Referent.fInt Syntax.w64)
               E
-              G30
-              6
-              4
-              (Syntax.tyRef (Syntax.named 4) Syntax.mut (Syntax.tyInt Syntax.w64))
-              (Row.lease (κs .1 .1 .1 .1 .0) (qs .1 .1 .1 .1 .0))
+              G31
+              7
+              5
+              (Syntax.tyRef (Syntax.named 5) Syntax.mut (Syntax.tyInt Syntax.w64))
+              (Row.lease (κs .1 .1 .1 .1 .1 .0) (qs .1 .1 .1 .1 .1 .0))
               0
               (λ x. x)
               record { fits = Dec'.lit< tt }
@@ -5883,13 +6169,13 @@ module _ (claims· : Claims) where
               A
               (Mut.mslice
               (Referent.rtF (Referent.fInt Syntax.w64))
-              (Syntax.tyRef (Syntax.named 4) Syntax.mut (Syntax.tyInt Syntax.w64))
-              4))
+              (Syntax.tyRef (Syntax.named 5) Syntax.mut (Syntax.tyInt Syntax.w64))
+              5))
               Path'.refl
               tt)
               d18
 
-          d20 : Typed.Typed 𝓤 H A 𝓣 E G29 b13 Δ0 (at20 bs)
+          d20 : Typed.Typed 𝓤 H A 𝓣 E G30 b13 Δ0 (at20 bs)
           d20 =
               Typed.g-pre
               𝓤
@@ -5898,11 +6184,11 @@ module _ (claims· : Claims) where
               W
               𝓣
               E
-              G29
               G30
+              G31
               b13
               Δ0
-              (Typed.both (s28 bs))
+              (Typed.both (s29 bs))
               (at19 bs)
               (Relend.g-back-sl
               𝓤
@@ -5911,14 +6197,14 @@ module _ (claims· : Claims) where
               W
               E
               (Referent.rtF (Referent.fInt Syntax.w64))
-              G29
-              13
-              6
-              4
-              8
-              (Syntax.tyRef (Syntax.named 4) Syntax.mut (Syntax.tyInt Syntax.w64))
+              G30
+              14
+              7
+              5
+              9
+              (Syntax.tyRef (Syntax.named 5) Syntax.mut (Syntax.tyInt Syntax.w64))
               (Syntax.tyRef Syntax.erased Syntax.mut (Syntax.tyInt Syntax.w64))
-              (Row.lease (κs .1 .1 .1 .1 .0) (qs .1 .1 .1 .1 .0))
+              (Row.lease (κs .1 .1 .1 .1 .1 .0) (qs .1 .1 .1 .1 .1 .0))
               (λ x. x)
               (λ x. x)
               (Reads.as-is
@@ -5934,15 +6220,15 @@ module _ (claims· : Claims) where
               A
               (Relend.mslice-owed
               (Referent.rtF (Referent.fInt Syntax.w64))
-              (Syntax.tyRef (Syntax.named 4) Syntax.mut (Syntax.tyInt Syntax.w64))
-              4
-              8
-              (Row.lease (κs .1 .1 .1 .1 .0) (qs .1 .1 .1 .1 .0))))
+              (Syntax.tyRef (Syntax.named 5) Syntax.mut (Syntax.tyInt Syntax.w64))
+              5
+              9
+              (Row.lease (κs .1 .1 .1 .1 .1 .0) (qs .1 .1 .1 .1 .1 .0))))
               Path'.refl
               Path'.refl)
               d19
 
-          d21 : Typed.Typed 𝓤 H A 𝓣 E G28 b13 Δ0 (at21 bs)
+          d21 : Typed.Typed 𝓤 H A 𝓣 E G29 b13 Δ0 (at21 bs)
           d21 =
               Typed.g-pre
               𝓤
@@ -5951,16 +6237,16 @@ module _ (claims· : Claims) where
               W
               𝓣
               E
-              G28
               G29
+              G30
               b13
               Δ0
               (λ Ψ. Ψ)
               (at20 bs)
-              (Lifetime.g-end 𝓤 H A W E G28 8 Path'.refl)
+              (Lifetime.g-end 𝓤 H A W E G29 9 Path'.refl)
               d20
 
-          d22 : Typed.Typed 𝓤 H A 𝓣 E G27 b14 Δ0 (at22 bs)
+          d22 : Typed.Typed 𝓤 H A 𝓣 E G28 b14 Δ0 (at22 bs)
           d22 =
               Typed.s-seq
               𝓤
@@ -5969,12 +6255,12 @@ module _ (claims· : Claims) where
               W
               𝓣
               E
-              G27
               G28
+              G29
               b12
               b13
               Δ0
-              (Typed.both (s26 bs))
+              (Typed.both (s27 bs))
               (at21 bs)
               (Plain.t-call-plain
               𝓤
@@ -5982,7 +6268,7 @@ module _ (claims· : Claims) where
               A
               W
               𝓣
-              9
+              10
               ps·1
               r·1
               (claims· .2)
@@ -5991,7 +6277,7 @@ module _ (claims· : Claims) where
               (known .1)
               E
               (λ pos β. β)
-              G27 (
+              G28 (
                 record {
                   pos = 1;
                   ty = Syntax.tyRef (Syntax.named 0) Syntax.imm (Syntax.tyInt Syntax.w8);
@@ -6019,19 +6305,22 @@ module _ (claims· : Claims) where
                         },
                         (
                           record {
-                            pos = 13;
-                            ty = Syntax.tyRef Syntax.erased Syntax.mut (Syntax.tyInt Syntax.w64);
+                            pos = 6;
+                            ty = Syntax.tyRef
+                                (Syntax.named 4)
+                                Syntax.imm
+                                (Syntax.tyInt Syntax.w64);
                             ref = λ x. x;
                           },
                           (
                             record {
-                              pos = 15;
-                              ty = Syntax.tyRef Syntax.erased Syntax.mut (Syntax.tyInt Syntax.w8);
+                              pos = 14;
+                              ty = Syntax.tyRef Syntax.erased Syntax.mut (Syntax.tyInt Syntax.w64);
                               ref = λ x. x;
                             },
                             (
                               record {
-                                pos = 17;
+                                pos = 16;
                                 ty = Syntax.tyRef
                                     Syntax.erased
                                     Syntax.mut
@@ -6040,7 +6329,7 @@ module _ (claims· : Claims) where
                               },
                               (
                                 record {
-                                  pos = 19;
+                                  pos = 18;
                                   ty = Syntax.tyRef
                                       Syntax.erased
                                       Syntax.mut
@@ -6049,14 +6338,24 @@ module _ (claims· : Claims) where
                                 },
                                 (
                                   record {
-                                    pos = 21;
+                                    pos = 20;
                                     ty = Syntax.tyRef
                                         Syntax.erased
                                         Syntax.mut
-                                        Elem.ty;
+                                        (Syntax.tyInt Syntax.w8);
                                     ref = λ x. x;
                                   },
-                                  tt,
+                                  (
+                                    record {
+                                      pos = 22;
+                                      ty = Syntax.tyRef
+                                          Syntax.erased
+                                          Syntax.mut
+                                          Elem.ty;
+                                      ref = λ x. x;
+                                    },
+                                    tt,
+                                  ),
                                 ),
                               ),
                             ),
@@ -6076,8 +6375,10 @@ module _ (claims· : Claims) where
               2
               (List._∷_
               3
-              (List._∷_ 8 (List._∷_ 9 (List._∷_ 10 (List._∷_ 11 (List._∷_ 12 List.[])))))))))
-              (Call.sub-id 𝓤 H A W (G27 .slots)) (
+              (List._∷_
+              4
+              (List._∷_ 9 (List._∷_ 10 (List._∷_ 11 (List._∷_ 12 (List._∷_ 13 List.[]))))))))))
+              (Call.sub-id 𝓤 H A W (G28 .slots)) (
                 ShrSlice.spares-sslice
                     𝓤
                     H
@@ -6152,22 +6453,22 @@ module _ (claims· : Claims) where
                             3,
                         Path'.refl,
                         (
-                          Reads.as-is
-                              𝓤
-                              H
-                              A
-                              (Mut.mslice
-                              (Referent.rtF (Referent.fInt Syntax.w64))
-                              (Syntax.tyRef Syntax.erased Syntax.mut (Syntax.tyInt Syntax.w64))
-                              8),
-                          Mut.reads-mslice
+                          ShrSlice.spares-sslice
                               𝓤
                               H
                               A
                               W
                               (Referent.rtF (Referent.fInt Syntax.w64))
-                              (Syntax.tyRef Syntax.erased Syntax.mut (Syntax.tyInt Syntax.w64))
-                              8,
+                              (Syntax.tyRef (Syntax.named 4) Syntax.imm (Syntax.tyInt Syntax.w64))
+                              4,
+                          Shared.reads-sslice
+                              𝓤
+                              H
+                              A
+                              W
+                              (Referent.rtF (Referent.fInt Syntax.w64))
+                              (Syntax.tyRef (Syntax.named 4) Syntax.imm (Syntax.tyInt Syntax.w64))
+                              4,
                           Path'.refl,
                           (
                             Reads.as-is
@@ -6175,16 +6476,16 @@ module _ (claims· : Claims) where
                                 H
                                 A
                                 (Mut.mslice
-                                (Referent.rtF (Referent.fInt Syntax.w8))
-                                (Syntax.tyRef Syntax.erased Syntax.mut (Syntax.tyInt Syntax.w8))
+                                (Referent.rtF (Referent.fInt Syntax.w64))
+                                (Syntax.tyRef Syntax.erased Syntax.mut (Syntax.tyInt Syntax.w64))
                                 9),
                             Mut.reads-mslice
                                 𝓤
                                 H
                                 A
                                 W
-                                (Referent.rtF (Referent.fInt Syntax.w8))
-                                (Syntax.tyRef Syntax.erased Syntax.mut (Syntax.tyInt Syntax.w8))
+                                (Referent.rtF (Referent.fInt Syntax.w64))
+                                (Syntax.tyRef Syntax.erased Syntax.mut (Syntax.tyInt Syntax.w64))
                                 9,
                             Path'.refl,
                             (
@@ -6235,25 +6536,50 @@ module _ (claims· : Claims) where
                                       H
                                       A
                                       (Mut.mslice
-                                      Elem.R
+                                      (Referent.rtF (Referent.fInt Syntax.w8))
                                       (Syntax.tyRef
                                       Syntax.erased
                                       Syntax.mut
-                                      Elem.ty)
+                                      (Syntax.tyInt Syntax.w8))
                                       12),
                                   Mut.reads-mslice
                                       𝓤
                                       H
                                       A
                                       W
-                                      Elem.R
+                                      (Referent.rtF (Referent.fInt Syntax.w8))
                                       (Syntax.tyRef
                                       Syntax.erased
                                       Syntax.mut
-                                      Elem.ty)
+                                      (Syntax.tyInt Syntax.w8))
                                       12,
                                   Path'.refl,
-                                  tt,
+                                  (
+                                    Reads.as-is
+                                        𝓤
+                                        H
+                                        A
+                                        (Mut.mslice
+                                        Elem.R
+                                        (Syntax.tyRef
+                                        Syntax.erased
+                                        Syntax.mut
+                                        Elem.ty)
+                                        13),
+                                    Mut.reads-mslice
+                                        𝓤
+                                        H
+                                        A
+                                        W
+                                        Elem.R
+                                        (Syntax.tyRef
+                                        Syntax.erased
+                                        Syntax.mut
+                                        Elem.ty)
+                                        13,
+                                    Path'.refl,
+                                    tt,
+                                  ),
                                 ),
                               ),
                             ),
@@ -6265,11 +6591,11 @@ module _ (claims· : Claims) where
                 ),
               )
               (Reads.room-gone 𝓤 H A (Syntax.tyInt Syntax.w64))
-              (tt, (tt, (tt, (tt, (tt, (tt, (tt, (tt, (tt, tt)))))))))
+              (tt, (tt, (tt, (tt, (tt, (tt, (tt, (tt, (tt, (tt, tt))))))))))
               Path'.refl)
               d21
 
-          d23 : Typed.Typed 𝓤 H A 𝓣 E G26 b15 Δ0 (at23 bs)
+          d23 : Typed.Typed 𝓤 H A 𝓣 E G27 b15 Δ0 (at23 bs)
           d23 =
               Typed.s-seq
               𝓤
@@ -6278,12 +6604,12 @@ module _ (claims· : Claims) where
               W
               𝓣
               E
-              G26
               G27
+              G28
               b11
               b14
               Δ0
-              (Typed.ask (s25 bs))
+              (Typed.ask (s26 bs))
               (at22 bs)
               (Relend.t-sl-aggregate
               𝓤
@@ -6294,10 +6620,10 @@ module _ (claims· : Claims) where
               Elem.R
               𝓣
               (Relend.asMut Elem.R)
-              G26
-              20
+              G27
               21
-              12
+              22
+              13
               (Syntax.tyRef
               Syntax.erased
               Syntax.mut
@@ -6318,7 +6644,7 @@ module _ (claims· : Claims) where
               Syntax.erased
               Syntax.mut
               (Syntax.tyArray Elem.ty 64))
-              12))
+              13))
               (Reads.room-gone
               𝓤
               H
@@ -6337,7 +6663,7 @@ module _ (claims· : Claims) where
               λ b o k. tt)
               d22
 
-          d24 : Typed.Typed 𝓤 H A 𝓣 E G25 b16 Δ0 (at24 bs)
+          d24 : Typed.Typed 𝓤 H A 𝓣 E G26 b16 Δ0 (at24 bs)
           d24 =
               Typed.s-seq
               𝓤
@@ -6346,12 +6672,12 @@ module _ (claims· : Claims) where
               W
               𝓣
               E
-              G25
               G26
+              G27
               b10
               b15
               Δ0
-              (Typed.give (s24 bs))
+              (Typed.give (s25 bs))
               (at23 bs)
               (Borrow.t-arr-borrow
               𝓤
@@ -6361,11 +6687,11 @@ module _ (claims· : Claims) where
               E
               𝓣
               Elem.R
-              G25
-              10
-              20
+              G26
+              11
+              21
               64
-              12
+              13
               (Syntax.tyRef
               Syntax.erased
               Syntax.mut
@@ -6389,7 +6715,7 @@ module _ (claims· : Claims) where
               (Dec'.lit< tt, Dec'.lit< tt))
               d23
 
-          d25 : Typed.Typed 𝓤 H A 𝓣 E G24 b16 Δ0 (at25 bs)
+          d25 : Typed.Typed 𝓤 H A 𝓣 E G25 b16 Δ0 (at25 bs)
           d25 =
               Typed.g-pre
               𝓤
@@ -6398,13 +6724,13 @@ module _ (claims· : Claims) where
               W
               𝓣
               E
-              G24
               G25
+              G26
               b16
               Δ0
               (λ Ψ. Ψ)
               (at24 bs)
-              (Lifetime.g-begin 𝓤 H A W E G24 12 (
+              (Lifetime.g-begin 𝓤 H A W E G25 13 (
                 tt,
                 (
                   tt,
@@ -6417,7 +6743,7 @@ module _ (claims· : Claims) where
                         (
                           tt,
                           (
-                            (tt, tt),
+                            tt,
                             (
                               (tt, tt),
                               (
@@ -6425,7 +6751,7 @@ module _ (claims· : Claims) where
                                 (
                                   (tt, tt),
                                   (
-                                    tt,
+                                    (tt, tt),
                                     (
                                       tt,
                                       (
@@ -6434,7 +6760,10 @@ module _ (claims· : Claims) where
                                           tt,
                                           (
                                             tt,
-                                            (tt, (tt, (tt, (tt, (tt, (tt, (tt, tt))))))),
+                                            (
+                                              tt,
+                                              (tt, (tt, (tt, (tt, (tt, (tt, (tt, tt))))))),
+                                            ),
                                           ),
                                         ),
                                       ),
@@ -6452,7 +6781,7 @@ module _ (claims· : Claims) where
               ))
               d24
 
-          d26 : Typed.Typed 𝓤 H A 𝓣 E G23 b17 Δ0 (at26 bs)
+          d26 : Typed.Typed 𝓤 H A 𝓣 E G24 b17 Δ0 (at26 bs)
           d26 =
               Typed.s-seq
               𝓤
@@ -6461,12 +6790,12 @@ module _ (claims· : Claims) where
               W
               𝓣
               E
-              G23
               G24
+              G25
               b9
               b16
               Δ0
-              (Typed.ask (s22 bs))
+              (Typed.ask (s23 bs))
               (at25 bs)
               (Relend.t-sl-aggregate
               𝓤
@@ -6477,9 +6806,205 @@ module _ (claims· : Claims) where
               (Referent.rtF (Referent.fInt Syntax.w8))
               𝓣
               (Relend.asMut (Referent.rtF (Referent.fInt Syntax.w8)))
-              G23
-              18
+              G24
               19
+              20
+              12
+              (Syntax.tyRef Syntax.erased Syntax.mut (Syntax.tyInt Syntax.w8))
+              (Syntax.tyRef Syntax.erased Syntax.mut (Syntax.tyInt Syntax.w8))
+              (λ x. x)
+              (Scalar.oFld
+              10
+              (List._∷_ (Syntax.field 1) List.[])
+              (Syntax.tyInt Syntax.w64)
+              8
+              λ v. Shared.lenV
+              (v .0))
+              (Reads.as-is
+              𝓤
+              H
+              A
+              (Relend.msptr
+              (Referent.rtF (Referent.fInt Syntax.w8))
+              (Syntax.tyRef Syntax.erased Syntax.mut (Syntax.tyInt Syntax.w8))
+              12))
+              (Reads.room-gone
+              𝓤
+              H
+              A
+              (Syntax.tyStruct
+              (List._∷_ 38 (List._∷_ 91 (List._∷_ 93 List.[])))
+              (Syntax.tcons
+              (Syntax.tyRef Syntax.erased Syntax.mut (Syntax.tyInt Syntax.w8))
+              (Syntax.tcons (Syntax.tyInt Syntax.w64) Syntax.tnil)))) (
+                Relend.reads-owed-len
+                    𝓤
+                    H
+                    A
+                    W
+                    (Referent.rtF (Referent.fInt Syntax.w8))
+                    (Syntax.tyRef (Syntax.named 8) Syntax.mut (Syntax.tyInt Syntax.w8))
+                    8
+                    12
+                    (Row.lease (κs .1 .1 .1 .1 .1 .1 .1 .1 .0) (qs .1 .1 .1 .1 .1 .1 .1 .1 .0))
+                    8
+                    Path'.refl,
+                Path'.refl,
+              )
+              Path'.refl
+              Path'.refl
+              λ b o k. tt)
+              d25
+
+          d27 : Typed.Typed 𝓤 H A 𝓣 E G23 b18 Δ0 (at27 bs)
+          d27 =
+              Typed.s-seq
+              𝓤
+              H
+              A
+              W
+              𝓣
+              E
+              G23
+              G24
+              b8
+              b17
+              Δ0
+              (Typed.give (s22 bs))
+              (at26 bs)
+              (Relend.t-sl-relend
+              𝓤
+              H
+              A
+              W
+              E
+              (Referent.rtF (Referent.fInt Syntax.w8))
+              𝓣
+              G23
+              10
+              19
+              8
+              12
+              (Syntax.tyRef (Syntax.named 8) Syntax.mut (Syntax.tyInt Syntax.w8))
+              (Syntax.tyRef Syntax.erased Syntax.mut (Syntax.tyInt Syntax.w8))
+              (Row.lease (κs .1 .1 .1 .1 .1 .1 .1 .1 .0) (qs .1 .1 .1 .1 .1 .1 .1 .1 .0))
+              0
+              (λ x. x)
+              (Reads.as-is
+              𝓤
+              H
+              A
+              (Mut.mslice
+              (Referent.rtF (Referent.fInt Syntax.w8))
+              (Syntax.tyRef (Syntax.named 8) Syntax.mut (Syntax.tyInt Syntax.w8))
+              8))
+              (Reads.room-gone
+              𝓤
+              H
+              A
+              (Syntax.tyRef Syntax.erased Syntax.mut (Syntax.tyInt Syntax.w8)))
+              Path'.refl
+              tt
+              Path'.refl
+              Path'.refl
+              Path'.refl
+              λ b o. tt)
+              d26
+
+          d28 : Typed.Typed 𝓤 H A 𝓣 E G22 b18 Δ0 (at28 bs)
+          d28 =
+              Typed.g-pre
+              𝓤
+              H
+              A
+              W
+              𝓣
+              E
+              G22
+              G23
+              b18
+              Δ0
+              (λ Ψ. Ψ)
+              (at27 bs)
+              (Lifetime.g-begin 𝓤 H A W E G22 12 (
+                tt,
+                (
+                  tt,
+                  (
+                    tt,
+                    (
+                      tt,
+                      (
+                        tt,
+                        (
+                          tt,
+                          (
+                            tt,
+                            (
+                              (tt, tt),
+                              (
+                                (tt, tt),
+                                (
+                                  (tt, tt),
+                                  (
+                                    tt,
+                                    (
+                                      tt,
+                                      (
+                                        tt,
+                                        (
+                                          tt,
+                                          (
+                                            tt,
+                                            (
+                                              tt,
+                                              (tt, (tt, (tt, (tt, (tt, (tt, (tt, tt))))))),
+                                            ),
+                                          ),
+                                        ),
+                                      ),
+                                    ),
+                                  ),
+                                ),
+                              ),
+                            ),
+                          ),
+                        ),
+                      ),
+                    ),
+                  ),
+                ),
+              ))
+              d27
+
+          d29 : Typed.Typed 𝓤 H A 𝓣 E G21 b19 Δ0 (at29 bs)
+          d29 =
+              Typed.s-seq
+              𝓤
+              H
+              A
+              W
+              𝓣
+              E
+              G21
+              G22
+              b7
+              b18
+              Δ0
+              (Typed.ask (s20 bs))
+              (at28 bs)
+              (Relend.t-sl-aggregate
+              𝓤
+              H
+              A
+              W
+              E
+              (Referent.rtF (Referent.fInt Syntax.w8))
+              𝓣
+              (Relend.asMut (Referent.rtF (Referent.fInt Syntax.w8)))
+              G21
+              17
+              18
               11
               (Syntax.tyRef Syntax.erased Syntax.mut (Syntax.tyInt Syntax.w8))
               (Syntax.tyRef Syntax.erased Syntax.mut (Syntax.tyInt Syntax.w8))
@@ -6525,10 +7050,10 @@ module _ (claims· : Claims) where
               Path'.refl
               Path'.refl
               λ b o k. tt)
-              d25
+              d28
 
-          d27 : Typed.Typed 𝓤 H A 𝓣 E G22 b18 Δ0 (at27 bs)
-          d27 =
+          d30 : Typed.Typed 𝓤 H A 𝓣 E G20 b20 Δ0 (at30 bs)
+          d30 =
               Typed.s-seq
               𝓤
               H
@@ -6536,13 +7061,13 @@ module _ (claims· : Claims) where
               W
               𝓣
               E
-              G22
-              G23
-              b8
-              b17
+              G20
+              G21
+              b6
+              b19
               Δ0
-              (Typed.give (s21 bs))
-              (at26 bs)
+              (Typed.give (s19 bs))
+              (at29 bs)
               (Relend.t-sl-relend
               𝓤
               H
@@ -6551,9 +7076,9 @@ module _ (claims· : Claims) where
               E
               (Referent.rtF (Referent.fInt Syntax.w8))
               𝓣
-              G22
+              G20
               9
-              18
+              17
               7
               11
               (Syntax.tyRef (Syntax.named 7) Syntax.mut (Syntax.tyInt Syntax.w8))
@@ -6580,10 +7105,10 @@ module _ (claims· : Claims) where
               Path'.refl
               Path'.refl
               λ b o. tt)
-              d26
+              d29
 
-          d28 : Typed.Typed 𝓤 H A 𝓣 E G21 b18 Δ0 (at28 bs)
-          d28 =
+          d31 : Typed.Typed 𝓤 H A 𝓣 E G19 b20 Δ0 (at31 bs)
+          d31 =
               Typed.g-pre
               𝓤
               H
@@ -6591,13 +7116,13 @@ module _ (claims· : Claims) where
               W
               𝓣
               E
-              G21
-              G22
-              b18
+              G19
+              G20
+              b20
               Δ0
               (λ Ψ. Ψ)
-              (at27 bs)
-              (Lifetime.g-begin 𝓤 H A W E G21 11 (
+              (at30 bs)
+              (Lifetime.g-begin 𝓤 H A W E G19 11 (
                 tt,
                 (
                   tt,
@@ -6610,7 +7135,7 @@ module _ (claims· : Claims) where
                         (
                           tt,
                           (
-                            (tt, tt),
+                            tt,
                             (
                               (tt, tt),
                               (
@@ -6627,7 +7152,10 @@ module _ (claims· : Claims) where
                                           tt,
                                           (
                                             tt,
-                                            (tt, (tt, (tt, (tt, (tt, (tt, (tt, tt))))))),
+                                            (
+                                              tt,
+                                              (tt, (tt, (tt, (tt, (tt, (tt, (tt, tt))))))),
+                                            ),
                                           ),
                                         ),
                                       ),
@@ -6643,10 +7171,10 @@ module _ (claims· : Claims) where
                   ),
                 ),
               ))
-              d27
+              d30
 
-          d29 : Typed.Typed 𝓤 H A 𝓣 E G20 b19 Δ0 (at29 bs)
-          d29 =
+          d32 : Typed.Typed 𝓤 H A 𝓣 E G18 b21 Δ0 (at32 bs)
+          d32 =
               Typed.s-seq
               𝓤
               H
@@ -6654,13 +7182,13 @@ module _ (claims· : Claims) where
               W
               𝓣
               E
-              G20
-              G21
-              b7
-              b18
+              G18
+              G19
+              b5
+              b20
               Δ0
-              (Typed.ask (s19 bs))
-              (at28 bs)
+              (Typed.ask (s17 bs))
+              (at31 bs)
               (Relend.t-sl-aggregate
               𝓤
               H
@@ -6670,9 +7198,9 @@ module _ (claims· : Claims) where
               (Referent.rtF (Referent.fInt Syntax.w8))
               𝓣
               (Relend.asMut (Referent.rtF (Referent.fInt Syntax.w8)))
-              G20
+              G18
+              15
               16
-              17
               10
               (Syntax.tyRef Syntax.erased Syntax.mut (Syntax.tyInt Syntax.w8))
               (Syntax.tyRef Syntax.erased Syntax.mut (Syntax.tyInt Syntax.w8))
@@ -6718,10 +7246,10 @@ module _ (claims· : Claims) where
               Path'.refl
               Path'.refl
               λ b o k. tt)
-              d28
+              d31
 
-          d30 : Typed.Typed 𝓤 H A 𝓣 E G19 b20 Δ0 (at30 bs)
-          d30 =
+          d33 : Typed.Typed 𝓤 H A 𝓣 E G17 b22 Δ0 (at33 bs)
+          d33 =
               Typed.s-seq
               𝓤
               H
@@ -6729,13 +7257,13 @@ module _ (claims· : Claims) where
               W
               𝓣
               E
-              G19
-              G20
-              b6
-              b19
+              G17
+              G18
+              b4
+              b21
               Δ0
-              (Typed.give (s18 bs))
-              (at29 bs)
+              (Typed.give (s16 bs))
+              (at32 bs)
               (Relend.t-sl-relend
               𝓤
               H
@@ -6744,9 +7272,9 @@ module _ (claims· : Claims) where
               E
               (Referent.rtF (Referent.fInt Syntax.w8))
               𝓣
-              G19
+              G17
               8
-              16
+              15
               6
               10
               (Syntax.tyRef (Syntax.named 6) Syntax.mut (Syntax.tyInt Syntax.w8))
@@ -6773,10 +7301,10 @@ module _ (claims· : Claims) where
               Path'.refl
               Path'.refl
               λ b o. tt)
-              d29
+              d32
 
-          d31 : Typed.Typed 𝓤 H A 𝓣 E G18 b20 Δ0 (at31 bs)
-          d31 =
+          d34 : Typed.Typed 𝓤 H A 𝓣 E G16 b22 Δ0 (at34 bs)
+          d34 =
               Typed.g-pre
               𝓤
               H
@@ -6784,13 +7312,13 @@ module _ (claims· : Claims) where
               W
               𝓣
               E
-              G18
-              G19
-              b20
+              G16
+              G17
+              b22
               Δ0
               (λ Ψ. Ψ)
-              (at30 bs)
-              (Lifetime.g-begin 𝓤 H A W E G18 10 (
+              (at33 bs)
+              (Lifetime.g-begin 𝓤 H A W E G16 10 (
                 tt,
                 (
                   tt,
@@ -6803,7 +7331,7 @@ module _ (claims· : Claims) where
                         (
                           tt,
                           (
-                            (tt, tt),
+                            tt,
                             (
                               (tt, tt),
                               (
@@ -6820,200 +7348,10 @@ module _ (claims· : Claims) where
                                           tt,
                                           (
                                             tt,
-                                            (tt, (tt, (tt, (tt, (tt, (tt, (tt, tt))))))),
-                                          ),
-                                        ),
-                                      ),
-                                    ),
-                                  ),
-                                ),
-                              ),
-                            ),
-                          ),
-                        ),
-                      ),
-                    ),
-                  ),
-                ),
-              ))
-              d30
-
-          d32 : Typed.Typed 𝓤 H A 𝓣 E G17 b21 Δ0 (at32 bs)
-          d32 =
-              Typed.s-seq
-              𝓤
-              H
-              A
-              W
-              𝓣
-              E
-              G17
-              G18
-              b5
-              b20
-              Δ0
-              (Typed.ask (s16 bs))
-              (at31 bs)
-              (Relend.t-sl-aggregate
-              𝓤
-              H
-              A
-              W
-              E
-              (Referent.rtF (Referent.fInt Syntax.w8))
-              𝓣
-              (Relend.asMut (Referent.rtF (Referent.fInt Syntax.w8)))
-              G17
-              14
-              15
-              9
-              (Syntax.tyRef Syntax.erased Syntax.mut (Syntax.tyInt Syntax.w8))
-              (Syntax.tyRef Syntax.erased Syntax.mut (Syntax.tyInt Syntax.w8))
-              (λ x. x)
-              (Scalar.oFld
-              7
-              (List._∷_ (Syntax.field 1) List.[])
-              (Syntax.tyInt Syntax.w64)
-              8
-              λ v. Shared.lenV
-              (v .0))
-              (Reads.as-is
-              𝓤
-              H
-              A
-              (Relend.msptr
-              (Referent.rtF (Referent.fInt Syntax.w8))
-              (Syntax.tyRef Syntax.erased Syntax.mut (Syntax.tyInt Syntax.w8))
-              9))
-              (Reads.room-gone
-              𝓤
-              H
-              A
-              (Syntax.tyStruct
-              (List._∷_ 38 (List._∷_ 91 (List._∷_ 93 List.[])))
-              (Syntax.tcons
-              (Syntax.tyRef Syntax.erased Syntax.mut (Syntax.tyInt Syntax.w8))
-              (Syntax.tcons (Syntax.tyInt Syntax.w64) Syntax.tnil)))) (
-                Relend.reads-owed-len
-                    𝓤
-                    H
-                    A
-                    W
-                    (Referent.rtF (Referent.fInt Syntax.w8))
-                    (Syntax.tyRef (Syntax.named 5) Syntax.mut (Syntax.tyInt Syntax.w8))
-                    5
-                    9
-                    (Row.lease (κs .1 .1 .1 .1 .1 .0) (qs .1 .1 .1 .1 .1 .0))
-                    8
-                    Path'.refl,
-                Path'.refl,
-              )
-              Path'.refl
-              Path'.refl
-              λ b o k. tt)
-              d31
-
-          d33 : Typed.Typed 𝓤 H A 𝓣 E G16 b22 Δ0 (at33 bs)
-          d33 =
-              Typed.s-seq
-              𝓤
-              H
-              A
-              W
-              𝓣
-              E
-              G16
-              G17
-              b4
-              b21
-              Δ0
-              (Typed.give (s15 bs))
-              (at32 bs)
-              (Relend.t-sl-relend
-              𝓤
-              H
-              A
-              W
-              E
-              (Referent.rtF (Referent.fInt Syntax.w8))
-              𝓣
-              G16
-              7
-              14
-              5
-              9
-              (Syntax.tyRef (Syntax.named 5) Syntax.mut (Syntax.tyInt Syntax.w8))
-              (Syntax.tyRef Syntax.erased Syntax.mut (Syntax.tyInt Syntax.w8))
-              (Row.lease (κs .1 .1 .1 .1 .1 .0) (qs .1 .1 .1 .1 .1 .0))
-              0
-              (λ x. x)
-              (Reads.as-is
-              𝓤
-              H
-              A
-              (Mut.mslice
-              (Referent.rtF (Referent.fInt Syntax.w8))
-              (Syntax.tyRef (Syntax.named 5) Syntax.mut (Syntax.tyInt Syntax.w8))
-              5))
-              (Reads.room-gone
-              𝓤
-              H
-              A
-              (Syntax.tyRef Syntax.erased Syntax.mut (Syntax.tyInt Syntax.w8)))
-              Path'.refl
-              tt
-              Path'.refl
-              Path'.refl
-              Path'.refl
-              λ b o. tt)
-              d32
-
-          d34 : Typed.Typed 𝓤 H A 𝓣 E G15 b22 Δ0 (at34 bs)
-          d34 =
-              Typed.g-pre
-              𝓤
-              H
-              A
-              W
-              𝓣
-              E
-              G15
-              G16
-              b22
-              Δ0
-              (λ Ψ. Ψ)
-              (at33 bs)
-              (Lifetime.g-begin 𝓤 H A W E G15 9 (
-                tt,
-                (
-                  tt,
-                  (
-                    tt,
-                    (
-                      tt,
-                      (
-                        tt,
-                        (
-                          tt,
-                          (
-                            (tt, tt),
-                            (
-                              tt,
-                              (
-                                tt,
-                                (
-                                  tt,
-                                  (
-                                    tt,
-                                    (
-                                      tt,
-                                      (
-                                        tt,
-                                        (
-                                          tt,
-                                          (
-                                            tt,
-                                            (tt, (tt, (tt, (tt, (tt, (tt, (tt, tt))))))),
+                                            (
+                                              tt,
+                                              (tt, (tt, (tt, (tt, (tt, (tt, (tt, tt))))))),
+                                            ),
                                           ),
                                         ),
                                       ),
@@ -7031,7 +7369,7 @@ module _ (claims· : Claims) where
               ))
               d33
 
-          d35 : Typed.Typed 𝓤 H A 𝓣 E G14 b23 Δ0 (at35 bs)
+          d35 : Typed.Typed 𝓤 H A 𝓣 E G15 b23 Δ0 (at35 bs)
           d35 =
               Typed.s-seq
               𝓤
@@ -7040,12 +7378,12 @@ module _ (claims· : Claims) where
               W
               𝓣
               E
-              G14
               G15
+              G16
               b3
               b22
               Δ0
-              (Typed.ask (s13 bs))
+              (Typed.ask (s14 bs))
               (at34 bs)
               (Relend.t-sl-aggregate
               𝓤
@@ -7056,15 +7394,15 @@ module _ (claims· : Claims) where
               (Referent.rtF (Referent.fInt Syntax.w64))
               𝓣
               (Relend.asMut (Referent.rtF (Referent.fInt Syntax.w64)))
-              G14
-              12
+              G15
               13
-              8
+              14
+              9
               (Syntax.tyRef Syntax.erased Syntax.mut (Syntax.tyInt Syntax.w64))
               (Syntax.tyRef Syntax.erased Syntax.mut (Syntax.tyInt Syntax.w64))
               (λ x. x)
               (Scalar.oFld
-              6
+              7
               (List._∷_ (Syntax.field 1) List.[])
               (Syntax.tyInt Syntax.w64)
               8
@@ -7077,7 +7415,7 @@ module _ (claims· : Claims) where
               (Relend.msptr
               (Referent.rtF (Referent.fInt Syntax.w64))
               (Syntax.tyRef Syntax.erased Syntax.mut (Syntax.tyInt Syntax.w64))
-              8))
+              9))
               (Reads.room-gone
               𝓤
               H
@@ -7093,10 +7431,10 @@ module _ (claims· : Claims) where
                     A
                     W
                     (Referent.rtF (Referent.fInt Syntax.w64))
-                    (Syntax.tyRef (Syntax.named 4) Syntax.mut (Syntax.tyInt Syntax.w64))
-                    4
-                    8
-                    (Row.lease (κs .1 .1 .1 .1 .0) (qs .1 .1 .1 .1 .0))
+                    (Syntax.tyRef (Syntax.named 5) Syntax.mut (Syntax.tyInt Syntax.w64))
+                    5
+                    9
+                    (Row.lease (κs .1 .1 .1 .1 .1 .0) (qs .1 .1 .1 .1 .1 .0))
                     8
                     Path'.refl,
                 Path'.refl,
@@ -7106,7 +7444,7 @@ module _ (claims· : Claims) where
               λ b o k. tt)
               d34
 
-          d36 : Typed.Typed 𝓤 H A 𝓣 E G13 b24 Δ0 (at36 bs)
+          d36 : Typed.Typed 𝓤 H A 𝓣 E G14 b24 Δ0 (at36 bs)
           d36 =
               Typed.s-seq
               𝓤
@@ -7115,12 +7453,12 @@ module _ (claims· : Claims) where
               W
               𝓣
               E
-              G13
               G14
+              G15
               b2
               b23
               Δ0
-              (Typed.give (s12 bs))
+              (Typed.give (s13 bs))
               (at35 bs)
               (Relend.t-sl-relend
               𝓤
@@ -7130,14 +7468,14 @@ module _ (claims· : Claims) where
               E
               (Referent.rtF (Referent.fInt Syntax.w64))
               𝓣
-              G13
-              6
-              12
-              4
-              8
-              (Syntax.tyRef (Syntax.named 4) Syntax.mut (Syntax.tyInt Syntax.w64))
+              G14
+              7
+              13
+              5
+              9
+              (Syntax.tyRef (Syntax.named 5) Syntax.mut (Syntax.tyInt Syntax.w64))
               (Syntax.tyRef Syntax.erased Syntax.mut (Syntax.tyInt Syntax.w64))
-              (Row.lease (κs .1 .1 .1 .1 .0) (qs .1 .1 .1 .1 .0))
+              (Row.lease (κs .1 .1 .1 .1 .1 .0) (qs .1 .1 .1 .1 .1 .0))
               0
               (λ x. x)
               (Reads.as-is
@@ -7146,8 +7484,8 @@ module _ (claims· : Claims) where
               A
               (Mut.mslice
               (Referent.rtF (Referent.fInt Syntax.w64))
-              (Syntax.tyRef (Syntax.named 4) Syntax.mut (Syntax.tyInt Syntax.w64))
-              4))
+              (Syntax.tyRef (Syntax.named 5) Syntax.mut (Syntax.tyInt Syntax.w64))
+              5))
               (Reads.room-gone
               𝓤
               H
@@ -7161,7 +7499,7 @@ module _ (claims· : Claims) where
               λ b o. tt)
               d35
 
-          d37 : Typed.Typed 𝓤 H A 𝓣 E G12 b24 Δ0 (at37 bs)
+          d37 : Typed.Typed 𝓤 H A 𝓣 E G13 b24 Δ0 (at37 bs)
           d37 =
               Typed.g-pre
               𝓤
@@ -7170,13 +7508,13 @@ module _ (claims· : Claims) where
               W
               𝓣
               E
-              G12
               G13
+              G14
               b24
               Δ0
               (λ Ψ. Ψ)
               (at36 bs)
-              (Lifetime.g-begin 𝓤 H A W E G12 8 (
+              (Lifetime.g-begin 𝓤 H A W E G13 9 (
                 tt,
                 (
                   tt,
@@ -7206,7 +7544,10 @@ module _ (claims· : Claims) where
                                           tt,
                                           (
                                             tt,
-                                            (tt, (tt, (tt, (tt, (tt, (tt, (tt, tt))))))),
+                                            (
+                                              tt,
+                                              (tt, (tt, (tt, (tt, (tt, (tt, (tt, tt))))))),
+                                            ),
                                           ),
                                         ),
                                       ),
@@ -7224,7 +7565,7 @@ module _ (claims· : Claims) where
               ))
               d36
 
-          d38 : Typed.Typed 𝓤 H A 𝓣 E G11 b24 Δ0 (at38 bs)
+          d38 : Typed.Typed 𝓤 H A 𝓣 E G12 b24 Δ0 (at38 bs)
           d38 =
               Typed.g-pre
               𝓤
@@ -7233,11 +7574,11 @@ module _ (claims· : Claims) where
               W
               𝓣
               E
-              G11
               G12
+              G13
               b24
               Δ0
-              (Typed.pass T11 T12 (s10 bs))
+              (Typed.pass T12 T13 (s11 bs))
               (at37 bs)
               (Scalar.g-room
               𝓤
@@ -7245,8 +7586,8 @@ module _ (claims· : Claims) where
               A
               W
               E
-              G11
-              11
+              G12
+              12
               (Syntax.tyArray Elem.held 64)
               (Init.room-arr
               𝓤
@@ -7260,7 +7601,7 @@ module _ (claims· : Claims) where
               Path'.refl))
               d37
 
-          d39 : Typed.Typed 𝓤 H A 𝓣 E G10 b25 Δ0 (at39 bs)
+          d39 : Typed.Typed 𝓤 H A 𝓣 E G11 b25 Δ0 (at39 bs)
           d39 =
               Typed.s-seq
               𝓤
@@ -7269,12 +7610,12 @@ module _ (claims· : Claims) where
               W
               𝓣
               E
-              G10
               G11
+              G12
               b1
               b24
               Δ0
-              (Typed.pass T10 T11 (s9 bs))
+              (Typed.pass T11 T12 (s10 bs))
               (at38 bs)
               (LocalCopy.t-val-copy
               𝓤
@@ -7284,9 +7625,9 @@ module _ (claims· : Claims) where
               E
               𝓣
               (λ ρ. Unit)
-              G10
+              G11
+              12
               11
-              10
               (Array'.Array Elem.R 64)
               (Syntax.tyArray Elem.held 64)
               (Syntax.tyArray Elem.held 64)
@@ -7296,7 +7637,7 @@ module _ (claims· : Claims) where
               (λ x. x)
               (λ x. x)
               Path'.refl
-              (Own.told-none 𝓤 H A (G10 .slots))
+              (Own.told-none 𝓤 H A (G11 .slots))
               (Yields.yields-copy
               𝓤
               H
@@ -7361,7 +7702,7 @@ module _ (claims· : Claims) where
               Path'.refl)
               d38
 
-          d40 : Typed.Typed 𝓤 H A 𝓣 E G9 b26 Δ0 (at40 bs)
+          d40 : Typed.Typed 𝓤 H A 𝓣 E G10 b26 Δ0 (at40 bs)
           d40 =
               Typed.s-seq
               𝓤
@@ -7370,12 +7711,12 @@ module _ (claims· : Claims) where
               W
               𝓣
               E
-              G9
               G10
+              G11
               b0
               b25
               Δ0
-              (Typed.both (s8 bs))
+              (Typed.both (s9 bs))
               (at39 bs)
               (Plain.t-call-plain
               𝓤
@@ -7392,11 +7733,11 @@ module _ (claims· : Claims) where
               (known .0)
               E
               (λ pos β. β)
-              G9
+              G10
               tt
-              11
+              12
               List.[]
-              (Call.sub-id 𝓤 H A W (G9 .slots))
+              (Call.sub-id 𝓤 H A W (G10 .slots))
               tt
               (Reads.room-gone
               𝓤
@@ -7407,8 +7748,50 @@ module _ (claims· : Claims) where
               Path'.refl)
               d39
 
-          d41 : Typed.Typed 𝓤 H A 𝓣 E G8 b26 Δ0 (at41 bs)
+          d41 : Typed.Typed 𝓤 H A 𝓣 E G9 b26 Δ0 (at41 bs)
           d41 =
+              Typed.g-pre
+              𝓤
+              H
+              A
+              W
+              𝓣
+              E
+              G9
+              G10
+              b26
+              Δ0
+              (Typed.give (s8 bs))
+              (at40 bs)
+              (Know.g-sl-known
+              𝓤
+              H
+              A
+              W
+              (Referent.fInt Syntax.w8)
+              E
+              G9
+              10
+              8
+              (Syntax.tyRef (Syntax.named 8) Syntax.mut (Syntax.tyInt Syntax.w8))
+              (Row.lease (κs .1 .1 .1 .1 .1 .1 .1 .1 .0) (qs .1 .1 .1 .1 .1 .1 .1 .1 .0))
+              0
+              (λ x. x)
+              record { fits = Dec'.lit< tt }
+              (Reads.as-is
+              𝓤
+              H
+              A
+              (Mut.mslice
+              (Referent.rtF (Referent.fInt Syntax.w8))
+              (Syntax.tyRef (Syntax.named 8) Syntax.mut (Syntax.tyInt Syntax.w8))
+              8))
+              Path'.refl
+              tt)
+              d40
+
+          d42 : Typed.Typed 𝓤 H A 𝓣 E G8 b26 Δ0 (at42 bs)
+          d42 =
               Typed.g-pre
               𝓤
               H
@@ -7421,7 +7804,7 @@ module _ (claims· : Claims) where
               b26
               Δ0
               (Typed.give (s7 bs))
-              (at40 bs)
+              (at41 bs)
               (Know.g-sl-known
               𝓤
               H
@@ -7447,10 +7830,10 @@ module _ (claims· : Claims) where
               7))
               Path'.refl
               tt)
-              d40
+              d41
 
-          d42 : Typed.Typed 𝓤 H A 𝓣 E G7 b26 Δ0 (at42 bs)
-          d42 =
+          d43 : Typed.Typed 𝓤 H A 𝓣 E G7 b26 Δ0 (at43 bs)
+          d43 =
               Typed.g-pre
               𝓤
               H
@@ -7463,7 +7846,7 @@ module _ (claims· : Claims) where
               b26
               Δ0
               (Typed.give (s6 bs))
-              (at41 bs)
+              (at42 bs)
               (Know.g-sl-known
               𝓤
               H
@@ -7489,10 +7872,10 @@ module _ (claims· : Claims) where
               6))
               Path'.refl
               tt)
-              d41
+              d42
 
-          d43 : Typed.Typed 𝓤 H A 𝓣 E G6 b26 Δ0 (at43 bs)
-          d43 =
+          d44 : Typed.Typed 𝓤 H A 𝓣 E G6 b26 Δ0 (at44 bs)
+          d44 =
               Typed.g-pre
               𝓤
               H
@@ -7505,18 +7888,18 @@ module _ (claims· : Claims) where
               b26
               Δ0
               (Typed.give (s5 bs))
-              (at42 bs)
+              (at43 bs)
               (Know.g-sl-known
               𝓤
               H
               A
               W
-              (Referent.fInt Syntax.w8)
+              (Referent.fInt Syntax.w64)
               E
               G6
               7
               5
-              (Syntax.tyRef (Syntax.named 5) Syntax.mut (Syntax.tyInt Syntax.w8))
+              (Syntax.tyRef (Syntax.named 5) Syntax.mut (Syntax.tyInt Syntax.w64))
               (Row.lease (κs .1 .1 .1 .1 .1 .0) (qs .1 .1 .1 .1 .1 .0))
               0
               (λ x. x)
@@ -7526,15 +7909,15 @@ module _ (claims· : Claims) where
               H
               A
               (Mut.mslice
-              (Referent.rtF (Referent.fInt Syntax.w8))
-              (Syntax.tyRef (Syntax.named 5) Syntax.mut (Syntax.tyInt Syntax.w8))
+              (Referent.rtF (Referent.fInt Syntax.w64))
+              (Syntax.tyRef (Syntax.named 5) Syntax.mut (Syntax.tyInt Syntax.w64))
               5))
               Path'.refl
               tt)
-              d42
+              d43
 
-          d44 : Typed.Typed 𝓤 H A 𝓣 E G5 b26 Δ0 (at44 bs)
-          d44 =
+          d45 : Typed.Typed 𝓤 H A 𝓣 E G5 b26 Δ0 (at45 bs)
+          d45 =
               Typed.g-pre
               𝓤
               H
@@ -7547,8 +7930,8 @@ module _ (claims· : Claims) where
               b26
               Δ0
               (Typed.give (s4 bs))
-              (at43 bs)
-              (Know.g-sl-known
+              (at44 bs)
+              (Know.g-shs-known
               𝓤
               H
               A
@@ -7558,7 +7941,7 @@ module _ (claims· : Claims) where
               G5
               6
               4
-              (Syntax.tyRef (Syntax.named 4) Syntax.mut (Syntax.tyInt Syntax.w64))
+              (Syntax.tyRef (Syntax.named 4) Syntax.imm (Syntax.tyInt Syntax.w64))
               (Row.lease (κs .1 .1 .1 .1 .0) (qs .1 .1 .1 .1 .0))
               0
               (λ x. x)
@@ -7567,16 +7950,16 @@ module _ (claims· : Claims) where
               𝓤
               H
               A
-              (Mut.mslice
+              (Rows'.sslice
               (Referent.rtF (Referent.fInt Syntax.w64))
-              (Syntax.tyRef (Syntax.named 4) Syntax.mut (Syntax.tyInt Syntax.w64))
+              (Syntax.tyRef (Syntax.named 4) Syntax.imm (Syntax.tyInt Syntax.w64))
               4))
               Path'.refl
               tt)
-              d43
+              d44
 
-          d45 : Typed.Typed 𝓤 H A 𝓣 E G4 b26 Δ0 (at45 bs)
-          d45 =
+          d46 : Typed.Typed 𝓤 H A 𝓣 E G4 b26 Δ0 (at46 bs)
+          d46 =
               Typed.g-pre
               𝓤
               H
@@ -7589,7 +7972,7 @@ module _ (claims· : Claims) where
               b26
               Δ0
               (Typed.give (s3 bs))
-              (at44 bs)
+              (at45 bs)
               (Know.g-shs-known
               𝓤
               H
@@ -7615,10 +7998,10 @@ module _ (claims· : Claims) where
               3))
               Path'.refl
               tt)
-              d44
+              d45
 
-          d46 : Typed.Typed 𝓤 H A 𝓣 E G3 b26 Δ0 (at46 bs)
-          d46 =
+          d47 : Typed.Typed 𝓤 H A 𝓣 E G3 b26 Δ0 (at47 bs)
+          d47 =
               Typed.g-pre
               𝓤
               H
@@ -7631,7 +8014,7 @@ module _ (claims· : Claims) where
               b26
               Δ0
               (Typed.give (s2 bs))
-              (at45 bs)
+              (at46 bs)
               (Know.g-shs-known
               𝓤
               H
@@ -7657,10 +8040,10 @@ module _ (claims· : Claims) where
               2))
               Path'.refl
               tt)
-              d45
+              d46
 
-          d47 : Typed.Typed 𝓤 H A 𝓣 E G2 b26 Δ0 (at47 bs)
-          d47 =
+          d48 : Typed.Typed 𝓤 H A 𝓣 E G2 b26 Δ0 (at48 bs)
+          d48 =
               Typed.g-pre
               𝓤
               H
@@ -7673,7 +8056,7 @@ module _ (claims· : Claims) where
               b26
               Δ0
               (Typed.give (s1 bs))
-              (at46 bs)
+              (at47 bs)
               (Know.g-shs-known
               𝓤
               H
@@ -7699,10 +8082,10 @@ module _ (claims· : Claims) where
               1))
               Path'.refl
               tt)
-              d46
+              d47
 
-          d48 : Typed.Typed 𝓤 H A 𝓣 E G0 b26 Δ0 (at48 bs)
-          d48 =
+          d49 : Typed.Typed 𝓤 H A 𝓣 E G0 b26 Δ0 (at49 bs)
+          d49 =
               Typed.g-pre
               𝓤
               H
@@ -7715,7 +8098,7 @@ module _ (claims· : Claims) where
               b26
               Δ0
               (Typed.give (s0 bs))
-              (at47 bs)
+              (at48 bs)
               (Know.g-shs-known
               𝓤
               H
@@ -7741,7 +8124,7 @@ module _ (claims· : Claims) where
               0))
               Path'.refl
               tt)
-              d47
+              d48
 
           pub typed :
               Typed.Typed
@@ -7750,39 +8133,42 @@ module _ (claims· : Claims) where
               A
               𝓣
               E
-              (Function.Γin 8 ps r xs m κs qs)
+              (Function.Γin 9 ps r xs m κs qs)
               b26
-              (Function.Δret 8 ps r xs m κs qs)
+              (Function.Δret 9 ps r xs m κs qs)
               (Φ bs)
-          typed = d48
+          typed = d49
 
-      module _ (κs : Lifetimes.Lfts 8) where
+      module _ (κs : Lifetimes.Lfts 9) where
         pub record Args : Type 0 where
-          pub text : Kinds.Den {n = 8}
+          pub text : Kinds.Den {n = 9}
               κs
               (ShrSlice.pShrS (Referent.rtF (Referent.fInt Syntax.w8)) 0 tt)
-          pub ends : Kinds.Den {n = 8}
+          pub ends : Kinds.Den {n = 9}
               κs
               (ShrSlice.pShrS (Referent.rtF (Referent.fInt Syntax.w64)) 1 tt)
-          pub m : Kinds.Den {n = 8} κs (Num.pNum Syntax.w64)
-          pub blocks : Kinds.Den {n = 8}
+          pub m : Kinds.Den {n = 9} κs (Num.pNum Syntax.w64)
+          pub blocks : Kinds.Den {n = 9}
               κs
               (ShrSlice.pShrS (Referent.rtF (Referent.fInt Syntax.w64)) 2 tt)
-          pub starts : Kinds.Den {n = 8}
+          pub starts : Kinds.Den {n = 9}
               κs
               (ShrSlice.pShrS (Referent.rtF (Referent.fInt Syntax.w8)) 3 tt)
-          pub owner : Kinds.Den {n = 8}
+          pub notes : Kinds.Den {n = 9}
               κs
-              (MutSlice.pMutS (Referent.rtF (Referent.fInt Syntax.w64)) 4 tt)
-          pub stack : Kinds.Den {n = 8}
+              (ShrSlice.pShrS (Referent.rtF (Referent.fInt Syntax.w64)) 4 tt)
+          pub owner : Kinds.Den {n = 9}
               κs
-              (MutSlice.pMutS (Referent.rtF (Referent.fInt Syntax.w8)) 5 tt)
-          pub cur : Kinds.Den {n = 8}
+              (MutSlice.pMutS (Referent.rtF (Referent.fInt Syntax.w64)) 5 tt)
+          pub stack : Kinds.Den {n = 9}
               κs
               (MutSlice.pMutS (Referent.rtF (Referent.fInt Syntax.w8)) 6 tt)
-          pub next : Kinds.Den {n = 8}
+          pub cur : Kinds.Den {n = 9}
               κs
               (MutSlice.pMutS (Referent.rtF (Referent.fInt Syntax.w8)) 7 tt)
+          pub next : Kinds.Den {n = 9}
+              κs
+              (MutSlice.pMutS (Referent.rtF (Referent.fInt Syntax.w8)) 8 tt)
 
         abbrev pub dens : (a : Args) → Kinds.Dens κs ps
         dens = λ a. (
@@ -7791,7 +8177,10 @@ module _ (claims· : Claims) where
             a .ends,
             (
               a .m,
-              (a .blocks, (a .starts, (a .owner, (a .stack, (a .cur, (a .next, tt)))))),
+              (
+                a .blocks,
+                (a .starts, (a .notes, (a .owner, (a .stack, (a .cur, (a .next, tt)))))),
+              ),
             ),
           ),
         )
@@ -7801,11 +8190,11 @@ module _ (claims· : Claims) where
             pub m : Val.Fits Syntax.w64 (args· .m)
 
       abbrev pub m0 :
-          (κs : Lifetimes.Lfts 8) → (args : Args κs) → (blocks : List.List Nat.ℕ) → Typed.Mo T0
+          (κs : Lifetimes.Lfts 9) → (args : Args κs) → (blocks : List.List Nat.ℕ) → Typed.Mo T0
       m0 = λ κs args blocks. (tt, Enter.partsP κs 1 ps xs (dens κs args))
 
       abbrev W0 :
-          (κs : Lifetimes.Lfts 8) → (args : Args κs) → (blocks : List.List Nat.ℕ) → Typed.Want O0
+          (κs : Lifetimes.Lfts 9) → (args : Args κs) → (blocks : List.List Nat.ℕ) → Typed.Want O0
       W0 = λ κs args blocks. (
         λ u. ⊥,
         tt,
@@ -7815,14 +8204,14 @@ module _ (claims· : Claims) where
             (dens κs args)
             (Function.resV r κs (u .0))
             (Clauses.atExit
-            (Kinds.endedOf 8 ps r)
+            (Kinds.endedOf 9 ps r)
             κs
             (dens κs args)
             (Enter.lastsP κs 1 ps xs (dens κs args) (u .1))),
       )
 
       pub record Start : Type 0 where
-        pub κs : Lifetimes.Lfts 8
+        pub κs : Lifetimes.Lfts 9
         pub args : Args κs
         pub blocks : List.List Nat.ℕ
         pub good : Kinds.GoodsP κs ps (dens κs args)
@@ -7928,76 +8317,99 @@ module _ (claims· : Claims) where
           given
 
       module _ (before· : After-shared-slice-known4) where
-        pub record After-slice-known·own : Type 0 where
+        pub record After-shared-slice-known5·own : Type 0 where
           pub given : s4
               (before· .before .before .before .before .blocks) .gives
               (m4 (before· .before) (before· .shared-slice-known4 .given))
 
-      pub record After-slice-known : Type 0 where
+      pub record After-shared-slice-known5 : Type 0 where
         pub before : After-shared-slice-known4
-        pub slice-known : After-slice-known·own before
+        pub shared-slice-known5 : After-shared-slice-known5·own before
 
       abbrev pub m6 :
-          (before : After-slice-known) →
+          (before : After-shared-slice-known5) →
           (given : s5
           (before .before .before .before .before .before .blocks) .gives
-          (m5 (before .before) (before .slice-known .given))) →
+          (m5 (before .before) (before .shared-slice-known5 .given))) →
           Typed.Mo T7
       m6 =
           λ before given. s5
           (before .before .before .before .before .before .blocks) .next
-          (m5 (before .before) (before .slice-known .given))
+          (m5 (before .before) (before .shared-slice-known5 .given))
+          given
+
+      module _ (before· : After-shared-slice-known5) where
+        pub record After-slice-known·own : Type 0 where
+          pub given : s5
+              (before· .before .before .before .before .before .blocks) .gives
+              (m5 (before· .before) (before· .shared-slice-known5 .given))
+
+      pub record After-slice-known : Type 0 where
+        pub before : After-shared-slice-known5
+        pub slice-known : After-slice-known·own before
+
+      abbrev pub m7 :
+          (before : After-slice-known) →
+          (given : s6
+          (before .before .before .before .before .before .before .blocks) .gives
+          (m6 (before .before) (before .slice-known .given))) →
+          Typed.Mo T8
+      m7 =
+          λ before given. s6
+          (before .before .before .before .before .before .before .blocks) .next
+          (m6 (before .before) (before .slice-known .given))
           given
 
       module _ (before· : After-slice-known) where
         pub record After-slice-known2·own : Type 0 where
-          pub given : s5
-              (before· .before .before .before .before .before .blocks) .gives
-              (m5 (before· .before) (before· .slice-known .given))
+          pub given : s6
+              (before· .before .before .before .before .before .before .blocks) .gives
+              (m6 (before· .before) (before· .slice-known .given))
 
       pub record After-slice-known2 : Type 0 where
         pub before : After-slice-known
         pub slice-known2 : After-slice-known2·own before
 
-      abbrev pub m7 :
+      abbrev pub m8 :
           (before : After-slice-known2) →
-          (given : s6
-          (before .before .before .before .before .before .before .blocks) .gives
-          (m6 (before .before) (before .slice-known2 .given))) →
-          Typed.Mo T8
-      m7 =
-          λ before given. s6
-          (before .before .before .before .before .before .before .blocks) .next
-          (m6 (before .before) (before .slice-known2 .given))
+          (given : s7
+          (before .before .before .before .before .before .before .before .blocks) .gives
+          (m7 (before .before) (before .slice-known2 .given))) →
+          Typed.Mo T9
+      m8 =
+          λ before given. s7
+          (before .before .before .before .before .before .before .before .blocks) .next
+          (m7 (before .before) (before .slice-known2 .given))
           given
 
       module _ (before· : After-slice-known2) where
         pub record After-slice-known3·own : Type 0 where
-          pub given : s6
-              (before· .before .before .before .before .before .before .blocks) .gives
-              (m6 (before· .before) (before· .slice-known2 .given))
+          pub given : s7
+              (before· .before .before .before .before .before .before .before .blocks) .gives
+              (m7 (before· .before) (before· .slice-known2 .given))
 
       pub record After-slice-known3 : Type 0 where
         pub before : After-slice-known2
         pub slice-known3 : After-slice-known3·own before
 
-      abbrev pub m8 :
+      abbrev pub m9 :
           (before : After-slice-known3) →
-          (given : s7
-          (before .before .before .before .before .before .before .before .blocks) .gives
-          (m7 (before .before) (before .slice-known3 .given))) →
-          Typed.Mo T9
-      m8 =
-          λ before given. s7
-          (before .before .before .before .before .before .before .before .blocks) .next
-          (m7 (before .before) (before .slice-known3 .given))
+          (given : s8
+          (before .before .before .before .before .before .before .before .before .blocks) .gives
+          (m8 (before .before) (before .slice-known3 .given))) →
+          Typed.Mo T10
+      m9 =
+          λ before given. s8
+          (before .before .before .before .before .before .before .before .before .blocks) .next
+          (m8 (before .before) (before .slice-known3 .given))
           given
 
       module _ (before· : After-slice-known3) where
         pub record After-slice-known4·own : Type 0 where
-          pub given : s7
-              (before· .before .before .before .before .before .before .before .blocks) .gives
-              (m7 (before· .before) (before· .slice-known3 .given))
+          pub given : s8
+              (before· .before .before .before .before .before .before .before .before .blocks)
+              .gives
+              (m8 (before· .before) (before· .slice-known3 .given))
 
       pub record After-slice-known4 : Type 0 where
         pub before : After-slice-known3
@@ -8006,21 +8418,18 @@ module _ (claims· : Claims) where
       abbrev pub Need-window-requires : Type 0
       Need-window-requires =
           (c : After-slice-known4) →
-          s8
-          (c .before .before .before .before .before .before .before .before .blocks) .asks
-          (m8 (c .before) (c .slice-known4 .given))
+          s9
+          (c .before .before .before .before .before .before .before .before .before .blocks) .asks
+          (m9 (c .before) (c .slice-known4 .given))
 
-      abbrev pub m9 :
-          (before : After-slice-known4) →
-          (given : s8
-          (before .before .before .before .before .before .before .before .before .blocks) .gives
-          (m8 (before .before) (before .slice-known4 .given))) →
-          Typed.Mo T10
-      m9 =
-          λ before given. s8
-          (before .before .before .before .before .before .before .before .before .blocks) .next
-          (m8 (before .before) (before .slice-known4 .given))
-          given
+      abbrev pub m10 :
+          (before : After-slice-known4) → (given : s9
+          (before .before .before .before .before .before .before .before .before .before .blocks)
+          .gives (m9 (before .before) (before .slice-known4 .given))) → Typed.Mo T11
+      m10 =
+          λ before given. s9
+          (before .before .before .before .before .before .before .before .before .before .blocks)
+          .next (m9 (before .before) (before .slice-known4 .given)) given
 
       module _ (before· : After-slice-known4) where
         abbrev pub After-window·own : Type 0
@@ -8029,188 +8438,187 @@ module _ (claims· : Claims) where
             ps·0
             r·0
             (claims· .1)
-            T9
+            T10
             tt
-            (m8 (before· .before) (before· .slice-known4 .given))
+            (m9 (before· .before) (before· .slice-known4 .given))
 
       pub record After-window : Type 0 where
         pub before : After-slice-known4
         pub window : After-window·own before
 
       abbrev pub After-window·gave :
-          (c : After-window) → s8
-          (c .before .before .before .before .before .before .before .before .before .blocks)
-          .gives (m8 (c .before .before) (c .before .slice-known4 .given))
+          (c : After-window) → s9
+          (c .before .before .before .before .before .before .before .before .before .before
+          .blocks) .gives (m9 (c .before .before) (c .before .slice-known4 .given))
       After-window·gave =
           λ c. Called.given
           ps·0
           r·0
           (claims· .1)
-          T9
+          T10
           tt
-          (m8 (c .before .before) (c .before .slice-known4 .given))
+          (m9 (c .before .before) (c .before .slice-known4 .given))
           (c .window)
 
-      abbrev pub m10 :
-          (before : After-slice-known4) →
-          (given : s8
-          (before .before .before .before .before .before .before .before .before .blocks) .gives
-          (m8 (before .before) (before .slice-known4 .given))) →
-          Typed.Mo T11
-      m10 =
-          λ before given. s9
-          (before .before .before .before .before .before .before .before .before .blocks)
-          (m9 before given)
-
       abbrev pub m11 :
-          (before : After-slice-known4) →
-          (given : s8
-          (before .before .before .before .before .before .before .before .before .blocks) .gives
-          (m8 (before .before) (before .slice-known4 .given))) →
-          Typed.Mo T12
+          (before : After-slice-known4) → (given : s9
+          (before .before .before .before .before .before .before .before .before .before .blocks)
+          .gives (m9 (before .before) (before .slice-known4 .given))) → Typed.Mo T12
       m11 =
           λ before given. s10
-          (before .before .before .before .before .before .before .before .before .blocks)
+          (before .before .before .before .before .before .before .before .before .before .blocks)
           (m10 before given)
 
       abbrev pub m12 :
-          (before : After-window) → (given : s12
+          (before : After-slice-known4) → (given : s9
           (before .before .before .before .before .before .before .before .before .before .blocks)
-          .gives (m11 (before .before) (After-window·gave before))) → Typed.Mo T14
+          .gives (m9 (before .before) (before .slice-known4 .given))) → Typed.Mo T13
       m12 =
-          λ before given. s12
+          λ before given. s11
           (before .before .before .before .before .before .before .before .before .before .blocks)
-          .next (m11 (before .before) (After-window·gave before)) given
+          (m11 before given)
 
       abbrev pub m13 :
-          (before : After-window) → (given : s12
-          (before .before .before .before .before .before .before .before .before .before .blocks)
-          .gives (m11 (before .before) (After-window·gave before))) → Typed.Mo T15
+          (before : After-window) → (given : s13
+          (before .before .before .before .before .before .before .before .before .before .before
+          .blocks) .gives (m12 (before .before) (After-window·gave before))) → Typed.Mo T15
       m13 =
           λ before given. s13
-          (before .before .before .before .before .before .before .before .before .before .blocks)
-          .next (m12 before given)
+          (before .before .before .before .before .before .before .before .before .before .before
+          .blocks) .next (m12 (before .before) (After-window·gave before)) given
+
+      abbrev pub m14 :
+          (before : After-window) → (given : s13
+          (before .before .before .before .before .before .before .before .before .before .before
+          .blocks) .gives (m12 (before .before) (After-window·gave before))) → Typed.Mo T16
+      m14 =
+          λ before given. s14
+          (before .before .before .before .before .before .before .before .before .before .before
+          .blocks) .next (m13 before given)
 
       module _ (before· : After-window) where
         pub record After-rebuild-lines-arg·own : Type 0 where
-          pub given : s12
+          pub given : s13
               (before· .before .before .before .before .before .before .before .before .before
-              .blocks) .gives
-              (m11 (before· .before) (After-window·gave before·))
+              .before .blocks) .gives
+              (m12 (before· .before) (After-window·gave before·))
 
       pub record After-rebuild-lines-arg : Type 0 where
         pub before : After-window
         pub rebuild-lines-arg : After-rebuild-lines-arg·own before
 
-      abbrev pub m14 :
-          (before : After-rebuild-lines-arg) → (given : s15
-          (before .before .before .before .before .before .before .before .before .before .before
-          .blocks) .gives (m13 (before .before) (before .rebuild-lines-arg .given))) → Typed.Mo T17
-      m14 =
-          λ before given. s15
-          (before .before .before .before .before .before .before .before .before .before .before
-          .blocks) .next (m13 (before .before) (before .rebuild-lines-arg .given)) given
-
       abbrev pub m15 :
-          (before : After-rebuild-lines-arg) → (given : s15
+          (before : After-rebuild-lines-arg) → (given : s16
           (before .before .before .before .before .before .before .before .before .before .before
-          .blocks) .gives (m13 (before .before) (before .rebuild-lines-arg .given))) → Typed.Mo T18
+          .before .blocks) .gives (m14 (before .before) (before .rebuild-lines-arg .given))) →
+          Typed.Mo T18
       m15 =
           λ before given. s16
           (before .before .before .before .before .before .before .before .before .before .before
-          .blocks) .next (m14 before given)
+          .before .blocks) .next (m14 (before .before) (before .rebuild-lines-arg .given)) given
+
+      abbrev pub m16 :
+          (before : After-rebuild-lines-arg) → (given : s16
+          (before .before .before .before .before .before .before .before .before .before .before
+          .before .blocks) .gives (m14 (before .before) (before .rebuild-lines-arg .given))) →
+          Typed.Mo T19
+      m16 =
+          λ before given. s17
+          (before .before .before .before .before .before .before .before .before .before .before
+          .before .blocks) .next (m15 before given)
 
       module _ (before· : After-rebuild-lines-arg) where
         pub record After-rebuild-lines-arg2·own : Type 0 where
-          pub given : s15
+          pub given : s16
               (before· .before .before .before .before .before .before .before .before .before
-              .before .blocks) .gives
-              (m13 (before· .before) (before· .rebuild-lines-arg .given))
+              .before .before .blocks) .gives
+              (m14 (before· .before) (before· .rebuild-lines-arg .given))
 
       pub record After-rebuild-lines-arg2 : Type 0 where
         pub before : After-rebuild-lines-arg
         pub rebuild-lines-arg2 : After-rebuild-lines-arg2·own before
 
-      abbrev pub m16 :
-          (before : After-rebuild-lines-arg2) → (given : s18
-          (before .before .before .before .before .before .before .before .before .before .before
-          .before .blocks) .gives (m15 (before .before) (before .rebuild-lines-arg2 .given))) →
-          Typed.Mo T20
-      m16 =
-          λ before given. s18
-          (before .before .before .before .before .before .before .before .before .before .before
-          .before .blocks) .next (m15 (before .before) (before .rebuild-lines-arg2 .given)) given
-
       abbrev pub m17 :
-          (before : After-rebuild-lines-arg2) → (given : s18
+          (before : After-rebuild-lines-arg2) → (given : s19
           (before .before .before .before .before .before .before .before .before .before .before
-          .before .blocks) .gives (m15 (before .before) (before .rebuild-lines-arg2 .given))) →
-          Typed.Mo T21
+          .before .before .blocks) .gives (m16 (before .before)
+          (before .rebuild-lines-arg2 .given))) → Typed.Mo T21
       m17 =
           λ before given. s19
           (before .before .before .before .before .before .before .before .before .before .before
-          .before .blocks) .next (m16 before given)
+          .before .before .blocks) .next (m16 (before .before) (before .rebuild-lines-arg2 .given))
+          given
+
+      abbrev pub m18 :
+          (before : After-rebuild-lines-arg2) → (given : s19
+          (before .before .before .before .before .before .before .before .before .before .before
+          .before .before .blocks) .gives (m16 (before .before)
+          (before .rebuild-lines-arg2 .given))) → Typed.Mo T22
+      m18 =
+          λ before given. s20
+          (before .before .before .before .before .before .before .before .before .before .before
+          .before .before .blocks) .next (m17 before given)
 
       module _ (before· : After-rebuild-lines-arg2) where
         pub record After-rebuild-lines-arg3·own : Type 0 where
-          pub given : s18
+          pub given : s19
               (before· .before .before .before .before .before .before .before .before .before
-              .before .before .blocks) .gives
-              (m15 (before· .before) (before· .rebuild-lines-arg2 .given))
+              .before .before .before .blocks) .gives
+              (m16 (before· .before) (before· .rebuild-lines-arg2 .given))
 
       pub record After-rebuild-lines-arg3 : Type 0 where
         pub before : After-rebuild-lines-arg2
         pub rebuild-lines-arg3 : After-rebuild-lines-arg3·own before
 
-      abbrev pub m18 :
-          (before : After-rebuild-lines-arg3) → (given : s21
-          (before .before .before .before .before .before .before .before .before .before .before
-          .before .before .blocks) .gives (m17 (before .before)
-          (before .rebuild-lines-arg3 .given))) → Typed.Mo T23
-      m18 =
-          λ before given. s21
-          (before .before .before .before .before .before .before .before .before .before .before
-          .before .before .blocks) .next (m17 (before .before) (before .rebuild-lines-arg3 .given))
-          given
-
       abbrev pub m19 :
-          (before : After-rebuild-lines-arg3) → (given : s21
+          (before : After-rebuild-lines-arg3) → (given : s22
           (before .before .before .before .before .before .before .before .before .before .before
-          .before .before .blocks) .gives (m17 (before .before)
+          .before .before .before .blocks) .gives (m18 (before .before)
           (before .rebuild-lines-arg3 .given))) → Typed.Mo T24
       m19 =
           λ before given. s22
           (before .before .before .before .before .before .before .before .before .before .before
-          .before .before .blocks) .next (m18 before given)
+          .before .before .before .blocks) .next (m18 (before .before)
+          (before .rebuild-lines-arg3 .given)) given
+
+      abbrev pub m20 :
+          (before : After-rebuild-lines-arg3) → (given : s22
+          (before .before .before .before .before .before .before .before .before .before .before
+          .before .before .before .blocks) .gives (m18 (before .before)
+          (before .rebuild-lines-arg3 .given))) → Typed.Mo T25
+      m20 =
+          λ before given. s23
+          (before .before .before .before .before .before .before .before .before .before .before
+          .before .before .before .blocks) .next (m19 before given)
 
       module _ (before· : After-rebuild-lines-arg3) where
         pub record After-rebuild-lines-arg4·own : Type 0 where
-          pub given : s21
+          pub given : s22
               (before· .before .before .before .before .before .before .before .before .before
-              .before .before .before .blocks) .gives
-              (m17 (before· .before) (before· .rebuild-lines-arg3 .given))
+              .before .before .before .before .blocks) .gives
+              (m18 (before· .before) (before· .rebuild-lines-arg3 .given))
 
       pub record After-rebuild-lines-arg4 : Type 0 where
         pub before : After-rebuild-lines-arg3
         pub rebuild-lines-arg4 : After-rebuild-lines-arg4·own before
 
-      abbrev pub m20 :
-          (before : After-rebuild-lines-arg4) → (given : s24
+      abbrev pub m21 :
+          (before : After-rebuild-lines-arg4) → (given : s25
           (before .before .before .before .before .before .before .before .before .before .before
-          .before .before .before .blocks) .gives (m19 (before .before)
-          (before .rebuild-lines-arg4 .given))) → Typed.Mo T26
-      m20 =
-          λ before given. s24
+          .before .before .before .before .blocks) .gives (m20 (before .before)
+          (before .rebuild-lines-arg4 .given))) → Typed.Mo T27
+      m21 =
+          λ before given. s25
           (before .before .before .before .before .before .before .before .before .before .before
-          .before .before .before .blocks) .next (m19 (before .before)
+          .before .before .before .before .blocks) .next (m20 (before .before)
           (before .rebuild-lines-arg4 .given)) given
 
       module _ (before· : After-rebuild-lines-arg4) where
         pub record After-recs·own : Type 0 where
-          pub given : s24
+          pub given : s25
               (before· .before .before .before .before .before .before .before .before .before
-              .before .before .before .before .blocks) .gives
-              (m19 (before· .before) (before· .rebuild-lines-arg4 .given))
+              .before .before .before .before .before .blocks) .gives
+              (m20 (before· .before) (before· .rebuild-lines-arg4 .given))
 
       pub record After-recs : Type 0 where
         pub before : After-rebuild-lines-arg4
@@ -8219,38 +8627,38 @@ module _ (claims· : Claims) where
       abbrev pub Need-slice-aggregate-rebuild-lines : Type 0
       Need-slice-aggregate-rebuild-lines =
           (c : After-recs) →
-          Relend.CountIs T26 20 21 (λ x. x) (λ u. 64) (m20 (c .before) (c .recs .given))
-
-      abbrev pub m21 :
-          (before : After-rebuild-lines-arg4) → (given : s24
-          (before .before .before .before .before .before .before .before .before .before .before
-          .before .before .before .blocks) .gives (m19 (before .before)
-          (before .rebuild-lines-arg4 .given))) → Typed.Mo T27
-      m21 =
-          λ before given. s25
-          (before .before .before .before .before .before .before .before .before .before .before
-          .before .before .before .blocks) .next (m20 before given)
-
-      abbrev pub Need-rebuild-lines-requires : Type 0
-      Need-rebuild-lines-requires =
-          (c : After-recs) → s26
-          (c .before .before .before .before .before .before .before .before .before .before
-          .before .before .before .before .blocks) .asks (m21 (c .before) (c .recs .given))
+          Relend.CountIs T27 21 22 (λ x. x) (λ u. 64) (m21 (c .before) (c .recs .given))
 
       abbrev pub m22 :
-          (before : After-recs) → (given : s26
+          (before : After-rebuild-lines-arg4) → (given : s25
           (before .before .before .before .before .before .before .before .before .before .before
-          .before .before .before .before .blocks) .gives (m21 (before .before)
-          (before .recs .given))) → Typed.Mo T28
+          .before .before .before .before .blocks) .gives (m20 (before .before)
+          (before .rebuild-lines-arg4 .given))) → Typed.Mo T28
       m22 =
           λ before given. s26
           (before .before .before .before .before .before .before .before .before .before .before
-          .before .before .before .before .blocks) .next (m21 (before .before)
+          .before .before .before .before .blocks) .next (m21 before given)
+
+      abbrev pub Need-rebuild-lines-requires : Type 0
+      Need-rebuild-lines-requires =
+          (c : After-recs) → s27
+          (c .before .before .before .before .before .before .before .before .before .before
+          .before .before .before .before .before .blocks) .asks (m22 (c .before) (c .recs .given))
+
+      abbrev pub m23 :
+          (before : After-recs) → (given : s27
+          (before .before .before .before .before .before .before .before .before .before .before
+          .before .before .before .before .before .blocks) .gives (m22 (before .before)
+          (before .recs .given))) → Typed.Mo T29
+      m23 =
+          λ before given. s27
+          (before .before .before .before .before .before .before .before .before .before .before
+          .before .before .before .before .before .blocks) .next (m22 (before .before)
           (before .recs .given)) given
 
       module _ (before· : After-recs) where
         abbrev pub After-rebuild-lines·own : Type 0
-        After-rebuild-lines·own = Called.Called ps·1 r·1 (claims· .3) T27 (
+        After-rebuild-lines·own = Called.Called ps·1 r·1 (claims· .3) T28 (
           record {
             pos = 1;
             ty = Syntax.tyRef (Syntax.named 0) Syntax.imm (Syntax.tyInt Syntax.w8);
@@ -8278,38 +8686,45 @@ module _ (claims· : Claims) where
                   },
                   (
                     record {
-                      pos = 13;
-                      ty = Syntax.tyRef Syntax.erased Syntax.mut (Syntax.tyInt Syntax.w64);
+                      pos = 6;
+                      ty = Syntax.tyRef (Syntax.named 4) Syntax.imm (Syntax.tyInt Syntax.w64);
                       ref = λ x. x;
                     },
                     (
                       record {
-                        pos = 15;
-                        ty = Syntax.tyRef Syntax.erased Syntax.mut (Syntax.tyInt Syntax.w8);
+                        pos = 14;
+                        ty = Syntax.tyRef Syntax.erased Syntax.mut (Syntax.tyInt Syntax.w64);
                         ref = λ x. x;
                       },
                       (
                         record {
-                          pos = 17;
+                          pos = 16;
                           ty = Syntax.tyRef Syntax.erased Syntax.mut (Syntax.tyInt Syntax.w8);
                           ref = λ x. x;
                         },
                         (
                           record {
-                            pos = 19;
+                            pos = 18;
                             ty = Syntax.tyRef Syntax.erased Syntax.mut (Syntax.tyInt Syntax.w8);
                             ref = λ x. x;
                           },
                           (
                             record {
-                              pos = 21;
-                              ty = Syntax.tyRef
-                                  Syntax.erased
-                                  Syntax.mut
-                                  Elem.ty;
+                              pos = 20;
+                              ty = Syntax.tyRef Syntax.erased Syntax.mut (Syntax.tyInt Syntax.w8);
                               ref = λ x. x;
                             },
-                            tt,
+                            (
+                              record {
+                                pos = 22;
+                                ty = Syntax.tyRef
+                                    Syntax.erased
+                                    Syntax.mut
+                                    Elem.ty;
+                                ref = λ x. x;
+                              },
+                              tt,
+                            ),
                           ),
                         ),
                       ),
@@ -8319,18 +8734,18 @@ module _ (claims· : Claims) where
               ),
             ),
           ),
-        ) (m21 (before· .before) (before· .recs .given))
+        ) (m22 (before· .before) (before· .recs .given))
 
       pub record After-rebuild-lines : Type 0 where
         pub before : After-recs
         pub rebuild-lines : After-rebuild-lines·own before
 
       abbrev pub After-rebuild-lines·gave :
-          (c : After-rebuild-lines) → s26
+          (c : After-rebuild-lines) → s27
           (c .before .before .before .before .before .before .before .before .before .before
-          .before .before .before .before .before .blocks) .gives (m21 (c .before .before)
+          .before .before .before .before .before .before .blocks) .gives (m22 (c .before .before)
           (c .before .recs .given))
-      After-rebuild-lines·gave = λ c. Called.given ps·1 r·1 (claims· .3) T27 (
+      After-rebuild-lines·gave = λ c. Called.given ps·1 r·1 (claims· .3) T28 (
         record {
           pos = 1;
           ty = Syntax.tyRef (Syntax.named 0) Syntax.imm (Syntax.tyInt Syntax.w8);
@@ -8358,38 +8773,45 @@ module _ (claims· : Claims) where
                 },
                 (
                   record {
-                    pos = 13;
-                    ty = Syntax.tyRef Syntax.erased Syntax.mut (Syntax.tyInt Syntax.w64);
+                    pos = 6;
+                    ty = Syntax.tyRef (Syntax.named 4) Syntax.imm (Syntax.tyInt Syntax.w64);
                     ref = λ x. x;
                   },
                   (
                     record {
-                      pos = 15;
-                      ty = Syntax.tyRef Syntax.erased Syntax.mut (Syntax.tyInt Syntax.w8);
+                      pos = 14;
+                      ty = Syntax.tyRef Syntax.erased Syntax.mut (Syntax.tyInt Syntax.w64);
                       ref = λ x. x;
                     },
                     (
                       record {
-                        pos = 17;
+                        pos = 16;
                         ty = Syntax.tyRef Syntax.erased Syntax.mut (Syntax.tyInt Syntax.w8);
                         ref = λ x. x;
                       },
                       (
                         record {
-                          pos = 19;
+                          pos = 18;
                           ty = Syntax.tyRef Syntax.erased Syntax.mut (Syntax.tyInt Syntax.w8);
                           ref = λ x. x;
                         },
                         (
                           record {
-                            pos = 21;
-                            ty = Syntax.tyRef
-                                Syntax.erased
-                                Syntax.mut
-                                Elem.ty;
+                            pos = 20;
+                            ty = Syntax.tyRef Syntax.erased Syntax.mut (Syntax.tyInt Syntax.w8);
                             ref = λ x. x;
                           },
-                          tt,
+                          (
+                            record {
+                              pos = 22;
+                              ty = Syntax.tyRef
+                                  Syntax.erased
+                                  Syntax.mut
+                                  Elem.ty;
+                              ref = λ x. x;
+                            },
+                            tt,
+                          ),
                         ),
                       ),
                     ),
@@ -8399,232 +8821,236 @@ module _ (claims· : Claims) where
             ),
           ),
         ),
-      ) (m21 (c .before .before) (c .before .recs .given)) (c .rebuild-lines)
+      ) (m22 (c .before .before) (c .before .recs .given)) (c .rebuild-lines)
 
-      abbrev pub m23 :
-          (before : After-rebuild-lines) → (given : s28
+      abbrev pub m24 :
+          (before : After-rebuild-lines) → (given : s29
           (before .before .before .before .before .before .before .before .before .before .before
-          .before .before .before .before .before .blocks) .gives (m22 (before .before)
-          (After-rebuild-lines·gave before))) → Typed.Mo T30
-      m23 =
-          λ before given. s28
+          .before .before .before .before .before .before .blocks) .gives (m23 (before .before)
+          (After-rebuild-lines·gave before))) → Typed.Mo T31
+      m24 =
+          λ before given. s29
           (before .before .before .before .before .before .before .before .before .before .before
-          .before .before .before .before .before .blocks) .next (m22 (before .before)
+          .before .before .before .before .before .before .blocks) .next (m23 (before .before)
           (After-rebuild-lines·gave before)) given
 
       module _ (before· : After-rebuild-lines) where
         pub record After-owner·own : Type 0 where
-          pub given : s28
+          pub given : s29
               (before· .before .before .before .before .before .before .before .before .before
-              .before .before .before .before .before .before .blocks) .gives
-              (m22 (before· .before) (After-rebuild-lines·gave before·))
+              .before .before .before .before .before .before .before .blocks) .gives
+              (m23 (before· .before) (After-rebuild-lines·gave before·))
 
       pub record After-owner : Type 0 where
         pub before : After-rebuild-lines
         pub owner : After-owner·own before
 
-      abbrev pub m24 :
-          (before : After-owner) → (given : s29
+      abbrev pub m25 :
+          (before : After-owner) → (given : s30
           (before .before .before .before .before .before .before .before .before .before .before
-          .before .before .before .before .before .before .blocks) .gives (m23 (before .before)
-          (before .owner .given))) → Typed.Mo T31
-      m24 =
-          λ before given. s29
+          .before .before .before .before .before .before .before .blocks) .gives (m24
+          (before .before) (before .owner .given))) → Typed.Mo T32
+      m25 =
+          λ before given. s30
           (before .before .before .before .before .before .before .before .before .before .before
-          .before .before .before .before .before .before .blocks) .next (m23 (before .before)
-          (before .owner .given)) given
+          .before .before .before .before .before .before .before .blocks) .next (m24
+          (before .before) (before .owner .given)) given
 
       module _ (before· : After-owner) where
         pub record After-slice-known5·own : Type 0 where
-          pub given : s29
+          pub given : s30
               (before· .before .before .before .before .before .before .before .before .before
-              .before .before .before .before .before .before .before .blocks) .gives
-              (m23 (before· .before) (before· .owner .given))
+              .before .before .before .before .before .before .before .before .blocks) .gives
+              (m24 (before· .before) (before· .owner .given))
 
       pub record After-slice-known5 : Type 0 where
         pub before : After-owner
         pub slice-known5 : After-slice-known5·own before
 
-      abbrev pub m25 :
-          (before : After-slice-known5) → (given : s32
+      abbrev pub m26 :
+          (before : After-slice-known5) → (given : s33
           (before .before .before .before .before .before .before .before .before .before .before
-          .before .before .before .before .before .before .before .blocks) .gives (m24
-          (before .before) (before .slice-known5 .given))) → Typed.Mo T34
-      m25 =
-          λ before given. s32
+          .before .before .before .before .before .before .before .before .blocks) .gives (m25
+          (before .before) (before .slice-known5 .given))) → Typed.Mo T35
+      m26 =
+          λ before given. s33
           (before .before .before .before .before .before .before .before .before .before .before
-          .before .before .before .before .before .before .before .blocks) .next (m24
+          .before .before .before .before .before .before .before .before .blocks) .next (m25
           (before .before) (before .slice-known5 .given)) given
 
       module _ (before· : After-slice-known5) where
         pub record After-stack·own : Type 0 where
-          pub given : s32
+          pub given : s33
               (before· .before .before .before .before .before .before .before .before .before
-              .before .before .before .before .before .before .before .before .blocks) .gives
-              (m24 (before· .before) (before· .slice-known5 .given))
+              .before .before .before .before .before .before .before .before .before .blocks)
+              .gives
+              (m25 (before· .before) (before· .slice-known5 .given))
 
       pub record After-stack : Type 0 where
         pub before : After-slice-known5
         pub stack : After-stack·own before
 
-      abbrev pub m26 :
-          (before : After-stack) → (given : s33
+      abbrev pub m27 :
+          (before : After-stack) → (given : s34
           (before .before .before .before .before .before .before .before .before .before .before
-          .before .before .before .before .before .before .before .before .blocks) .gives (m25
-          (before .before) (before .stack .given))) → Typed.Mo T35
-      m26 =
-          λ before given. s33
+          .before .before .before .before .before .before .before .before .before .blocks) .gives
+          (m26 (before .before) (before .stack .given))) → Typed.Mo T36
+      m27 =
+          λ before given. s34
           (before .before .before .before .before .before .before .before .before .before .before
-          .before .before .before .before .before .before .before .before .blocks) .next (m25
-          (before .before) (before .stack .given)) given
+          .before .before .before .before .before .before .before .before .before .blocks) .next
+          (m26 (before .before) (before .stack .given)) given
 
       module _ (before· : After-stack) where
         pub record After-slice-known6·own : Type 0 where
-          pub given : s33
+          pub given : s34
               (before· .before .before .before .before .before .before .before .before .before
-              .before .before .before .before .before .before .before .before .before .blocks)
-              .gives
-              (m25 (before· .before) (before· .stack .given))
+              .before .before .before .before .before .before .before .before .before .before
+              .blocks) .gives
+              (m26 (before· .before) (before· .stack .given))
 
       pub record After-slice-known6 : Type 0 where
         pub before : After-stack
         pub slice-known6 : After-slice-known6·own before
 
-      abbrev pub m27 :
-          (before : After-slice-known6) → (given : s36
+      abbrev pub m28 :
+          (before : After-slice-known6) → (given : s37
           (before .before .before .before .before .before .before .before .before .before .before
-          .before .before .before .before .before .before .before .before .before .blocks) .gives
-          (m26 (before .before) (before .slice-known6 .given))) → Typed.Mo T38
-      m27 =
-          λ before given. s36
+          .before .before .before .before .before .before .before .before .before .before .blocks)
+          .gives (m27 (before .before) (before .slice-known6 .given))) → Typed.Mo T39
+      m28 =
+          λ before given. s37
           (before .before .before .before .before .before .before .before .before .before .before
-          .before .before .before .before .before .before .before .before .before .blocks) .next
-          (m26 (before .before) (before .slice-known6 .given)) given
+          .before .before .before .before .before .before .before .before .before .before .blocks)
+          .next (m27 (before .before) (before .slice-known6 .given)) given
 
       module _ (before· : After-slice-known6) where
         pub record After-cur·own : Type 0 where
-          pub given : s36
+          pub given : s37
               (before· .before .before .before .before .before .before .before .before .before
               .before .before .before .before .before .before .before .before .before .before
-              .blocks) .gives
-              (m26 (before· .before) (before· .slice-known6 .given))
+              .before .blocks) .gives
+              (m27 (before· .before) (before· .slice-known6 .given))
 
       pub record After-cur : Type 0 where
         pub before : After-slice-known6
         pub cur : After-cur·own before
 
-      abbrev pub m28 :
-          (before : After-cur) → (given : s37
+      abbrev pub m29 :
+          (before : After-cur) → (given : s38
           (before .before .before .before .before .before .before .before .before .before .before
-          .before .before .before .before .before .before .before .before .before .before .blocks)
-          .gives (m27 (before .before) (before .cur .given))) → Typed.Mo T39
-      m28 =
-          λ before given. s37
+          .before .before .before .before .before .before .before .before .before .before .before
+          .blocks) .gives (m28 (before .before) (before .cur .given))) → Typed.Mo T40
+      m29 =
+          λ before given. s38
           (before .before .before .before .before .before .before .before .before .before .before
-          .before .before .before .before .before .before .before .before .before .before .blocks)
-          .next (m27 (before .before) (before .cur .given)) given
+          .before .before .before .before .before .before .before .before .before .before .before
+          .blocks) .next (m28 (before .before) (before .cur .given)) given
 
       module _ (before· : After-cur) where
         pub record After-slice-known7·own : Type 0 where
-          pub given : s37
+          pub given : s38
               (before· .before .before .before .before .before .before .before .before .before
               .before .before .before .before .before .before .before .before .before .before
-              .before .blocks) .gives
-              (m27 (before· .before) (before· .cur .given))
+              .before .before .blocks) .gives
+              (m28 (before· .before) (before· .cur .given))
 
       pub record After-slice-known7 : Type 0 where
         pub before : After-cur
         pub slice-known7 : After-slice-known7·own before
 
-      abbrev pub m29 :
-          (before : After-slice-known7) → (given : s40
+      abbrev pub m30 :
+          (before : After-slice-known7) → (given : s41
           (before .before .before .before .before .before .before .before .before .before .before
           .before .before .before .before .before .before .before .before .before .before .before
-          .blocks) .gives (m28 (before .before) (before .slice-known7 .given))) → Typed.Mo T42
-      m29 =
-          λ before given. s40
+          .before .blocks) .gives (m29 (before .before) (before .slice-known7 .given))) → Typed.Mo
+          T43
+      m30 =
+          λ before given. s41
           (before .before .before .before .before .before .before .before .before .before .before
           .before .before .before .before .before .before .before .before .before .before .before
-          .blocks) .next (m28 (before .before) (before .slice-known7 .given)) given
+          .before .blocks) .next (m29 (before .before) (before .slice-known7 .given)) given
 
       module _ (before· : After-slice-known7) where
         pub record After-next·own : Type 0 where
-          pub given : s40
+          pub given : s41
               (before· .before .before .before .before .before .before .before .before .before
               .before .before .before .before .before .before .before .before .before .before
-              .before .before .blocks) .gives
-              (m28 (before· .before) (before· .slice-known7 .given))
+              .before .before .before .blocks) .gives
+              (m29 (before· .before) (before· .slice-known7 .given))
 
       pub record After-next : Type 0 where
         pub before : After-slice-known7
         pub next : After-next·own before
 
-      abbrev pub m30 :
-          (before : After-next) → (given : s41
+      abbrev pub m31 :
+          (before : After-next) → (given : s42
           (before .before .before .before .before .before .before .before .before .before .before
           .before .before .before .before .before .before .before .before .before .before .before
-          .before .blocks) .gives (m29 (before .before) (before .next .given))) → Typed.Mo T43
-      m30 =
-          λ before given. s41
+          .before .before .blocks) .gives (m30 (before .before) (before .next .given))) → Typed.Mo
+          T44
+      m31 =
+          λ before given. s42
           (before .before .before .before .before .before .before .before .before .before .before
           .before .before .before .before .before .before .before .before .before .before .before
-          .before .blocks) .next (m29 (before .before) (before .next .given)) given
+          .before .before .blocks) .next (m30 (before .before) (before .next .given)) given
 
       module _ (before· : After-next) where
         pub record After-slice-known8·own : Type 0 where
-          pub given : s41
+          pub given : s42
               (before· .before .before .before .before .before .before .before .before .before
               .before .before .before .before .before .before .before .before .before .before
-              .before .before .before .blocks) .gives
-              (m29 (before· .before) (before· .next .given))
+              .before .before .before .before .blocks) .gives
+              (m30 (before· .before) (before· .next .given))
 
       pub record After-slice-known8 : Type 0 where
         pub before : After-next
         pub slice-known8 : After-slice-known8·own before
 
-      abbrev pub m31 :
-          (before : After-slice-known8) → (given : s44
-          (before .before .before .before .before .before .before .before .before .before .before
-          .before .before .before .before .before .before .before .before .before .before .before
-          .before .before .blocks) .gives (m30 (before .before) (before .slice-known8 .given))) →
-          Typed.Mo T46
-      m31 =
-          λ before given. s44
-          (before .before .before .before .before .before .before .before .before .before .before
-          .before .before .before .before .before .before .before .before .before .before .before
-          .before .before .blocks) .next (m30 (before .before) (before .slice-known8 .given)) given
-
       abbrev pub m32 :
-          (before : After-slice-known8) → (given : s44
+          (before : After-slice-known8) → (given : s45
           (before .before .before .before .before .before .before .before .before .before .before
           .before .before .before .before .before .before .before .before .before .before .before
-          .before .before .blocks) .gives (m30 (before .before) (before .slice-known8 .given))) →
-          Typed.Mo T48
+          .before .before .before .blocks) .gives (m31 (before .before)
+          (before .slice-known8 .given))) → Typed.Mo T47
       m32 =
-          λ before given. s46
+          λ before given. s45
           (before .before .before .before .before .before .before .before .before .before .before
           .before .before .before .before .before .before .before .before .before .before .before
-          .before .before .blocks) (m31 before given)
+          .before .before .before .blocks) .next (m31 (before .before)
+          (before .slice-known8 .given)) given
 
       abbrev pub m33 :
-          (before : After-slice-known8) → (given : s44
+          (before : After-slice-known8) → (given : s45
           (before .before .before .before .before .before .before .before .before .before .before
           .before .before .before .before .before .before .before .before .before .before .before
-          .before .before .blocks) .gives (m30 (before .before) (before .slice-known8 .given))) →
-          Typed.Mo T49
+          .before .before .before .blocks) .gives (m31 (before .before)
+          (before .slice-known8 .given))) → Typed.Mo T49
       m33 =
           λ before given. s47
           (before .before .before .before .before .before .before .before .before .before .before
           .before .before .before .before .before .before .before .before .before .before .before
-          .before .before .blocks) (m32 before given)
+          .before .before .before .blocks) (m32 before given)
+
+      abbrev pub m34 :
+          (before : After-slice-known8) → (given : s45
+          (before .before .before .before .before .before .before .before .before .before .before
+          .before .before .before .before .before .before .before .before .before .before .before
+          .before .before .before .blocks) .gives (m31 (before .before)
+          (before .slice-known8 .given))) → Typed.Mo T50
+      m34 =
+          λ before given. s48
+          (before .before .before .before .before .before .before .before .before .before .before
+          .before .before .before .before .before .before .before .before .before .before .before
+          .before .before .before .blocks) (m33 before given)
 
       module _ (before· : After-slice-known8) where
         pub record After-recs2·own : Type 0 where
-          pub given : s44
+          pub given : s45
               (before· .before .before .before .before .before .before .before .before .before
               .before .before .before .before .before .before .before .before .before .before
-              .before .before .before .before .blocks) .gives
-              (m30 (before· .before) (before· .slice-known8 .given))
+              .before .before .before .before .before .blocks) .gives
+              (m31 (before· .before) (before· .slice-known8 .given))
 
       pub record After-recs2 : Type 0 where
         pub before : After-slice-known8
@@ -8632,82 +9058,82 @@ module _ (claims· : Claims) where
 
       abbrev pub Need-same-length : Type 0
       Need-same-length =
-          (c : After-recs2) → MutSlice.SameLen (Row.get 6 (T49 .locals) (m33 (c .before)
+          (c : After-recs2) → MutSlice.SameLen (Row.get 7 (T50 .locals) (m34 (c .before)
           (c .recs2 .given))) (dens
           (c .before .before .before .before .before .before .before .before .before .before
           .before .before .before .before .before .before .before .before .before .before .before
-          .before .before .before .κs)
+          .before .before .before .before .κs)
           (c .before .before .before .before .before .before .before .before .before .before
           .before .before .before .before .before .before .before .before .before .before .before
-          .before .before .before .args) .1 .1 .1 .1 .1 .0)
+          .before .before .before .before .args) .1 .1 .1 .1 .1 .1 .0)
 
       abbrev pub Need-same-length-2 : Type 0
       Need-same-length-2 =
-          (c : After-recs2) → MutSlice.SameLen (Row.get 7 (T49 .locals) (m33 (c .before)
+          (c : After-recs2) → MutSlice.SameLen (Row.get 8 (T50 .locals) (m34 (c .before)
           (c .recs2 .given))) (dens
           (c .before .before .before .before .before .before .before .before .before .before
           .before .before .before .before .before .before .before .before .before .before .before
-          .before .before .before .κs)
+          .before .before .before .before .κs)
           (c .before .before .before .before .before .before .before .before .before .before
           .before .before .before .before .before .before .before .before .before .before .before
-          .before .before .before .args) .1 .1 .1 .1 .1 .1 .0)
+          .before .before .before .before .args) .1 .1 .1 .1 .1 .1 .1 .0)
 
       abbrev pub Need-same-length-3 : Type 0
       Need-same-length-3 =
-          (c : After-recs2) → MutSlice.SameLen (Row.get 8 (T49 .locals) (m33 (c .before)
+          (c : After-recs2) → MutSlice.SameLen (Row.get 9 (T50 .locals) (m34 (c .before)
           (c .recs2 .given))) (dens
           (c .before .before .before .before .before .before .before .before .before .before
           .before .before .before .before .before .before .before .before .before .before .before
-          .before .before .before .κs)
+          .before .before .before .before .κs)
           (c .before .before .before .before .before .before .before .before .before .before
           .before .before .before .before .before .before .before .before .before .before .before
-          .before .before .before .args) .1 .1 .1 .1 .1 .1 .1 .0)
+          .before .before .before .before .args) .1 .1 .1 .1 .1 .1 .1 .1 .0)
 
       abbrev pub Need-same-length-4 : Type 0
       Need-same-length-4 =
-          (c : After-recs2) → MutSlice.SameLen (Row.get 9 (T49 .locals) (m33 (c .before)
+          (c : After-recs2) → MutSlice.SameLen (Row.get 10 (T50 .locals) (m34 (c .before)
           (c .recs2 .given))) (dens
           (c .before .before .before .before .before .before .before .before .before .before
           .before .before .before .before .before .before .before .before .before .before .before
-          .before .before .before .κs)
+          .before .before .before .before .κs)
           (c .before .before .before .before .before .before .before .before .before .before
           .before .before .before .before .before .before .before .before .before .before .before
-          .before .before .before .args) .1 .1 .1 .1 .1 .1 .1 .1 .0)
+          .before .before .before .before .args) .1 .1 .1 .1 .1 .1 .1 .1 .1 .0)
 
       abbrev pub Need-returns : Type 0
       Need-returns =
           (c : After-recs2) → Post·
           (c .before .before .before .before .before .before .before .before .before .before
           .before .before .before .before .before .before .before .before .before .before .before
-          .before .before .before .κs) (dens
+          .before .before .before .before .κs) (dens
           (c .before .before .before .before .before .before .before .before .before .before
           .before .before .before .before .before .before .before .before .before .before .before
-          .before .before .before .κs)
+          .before .before .before .before .κs)
           (c .before .before .before .before .before .before .before .before .before .before
           .before .before .before .before .before .before .before .before .before .before .before
-          .before .before .before .args)) (Function.resV r
+          .before .before .before .before .args)) (Function.resV r
           (c .before .before .before .before .before .before .before .before .before .before
           .before .before .before .before .before .before .before .before .before .before .before
-          .before .before .before .κs) (m33 (c .before) (c .recs2 .given) .0)) (Clauses.atExit
-          (Kinds.endedOf 8 ps r)
+          .before .before .before .before .κs) (m34 (c .before) (c .recs2 .given) .0))
+          (Clauses.atExit (Kinds.endedOf 9 ps r)
           (c .before .before .before .before .before .before .before .before .before .before
           .before .before .before .before .before .before .before .before .before .before .before
-          .before .before .before .κs) (dens
+          .before .before .before .before .κs) (dens
           (c .before .before .before .before .before .before .before .before .before .before
           .before .before .before .before .before .before .before .before .before .before .before
-          .before .before .before .κs)
+          .before .before .before .before .κs)
           (c .before .before .before .before .before .before .before .before .before .before
           .before .before .before .before .before .before .before .before .before .before .before
-          .before .before .before .args)) (Enter.lastsP
+          .before .before .before .before .args)) (Enter.lastsP
           (c .before .before .before .before .before .before .before .before .before .before
           .before .before .before .before .before .before .before .before .before .before .before
-          .before .before .before .κs) 1 ps xs (dens
+          .before .before .before .before .κs) 1 ps xs (dens
           (c .before .before .before .before .before .before .before .before .before .before
           .before .before .before .before .before .before .before .before .before .before .before
-          .before .before .before .κs)
+          .before .before .before .before .κs)
           (c .before .before .before .before .before .before .before .before .before .before
           .before .before .before .before .before .before .before .before .before .before .before
-          .before .before .before .args)) (m33 (c .before) (c .recs2 .given) .1)))
+          .before .before .before .before .args)) (m34 (c .before) (c .recs2 .given) .1)))
 
       module _ (window-requires : Need-window-requires)
           (slice-aggregate-rebuild-lines : Need-slice-aggregate-rebuild-lines)
@@ -8717,13 +9143,13 @@ module _ (claims· : Claims) where
         lay2 :
             (c : After-rebuild-lines) → at21
             (c .before .before .before .before .before .before .before .before .before .before
-            .before .before .before .before .before .blocks) (W0
+            .before .before .before .before .before .before .blocks) (W0
             (c .before .before .before .before .before .before .before .before .before .before
-            .before .before .before .before .before .κs)
+            .before .before .before .before .before .before .κs)
             (c .before .before .before .before .before .before .before .before .before .before
-            .before .before .before .before .before .args)
+            .before .before .before .before .before .before .args)
             (c .before .before .before .before .before .before .before .before .before .before
-            .before .before .before .before .before .blocks)) (m22 (c .before)
+            .before .before .before .before .before .before .blocks)) (m23 (c .before)
             (After-rebuild-lines·gave c))
         lay2 = λ c. (
           Path'.refl,
@@ -8747,128 +9173,9 @@ module _ (claims· : Claims) where
                             (
                               Path'.refl,
                               (
-                                MutSlice.fix-len (Row.get 6 (T49 .locals) (m33 record {
-                                  before = record {
-                                    before = record {
-                                      before = record {
-                                        before = record {
-                                          before = record {
-                                            before = record {
-                                              before = record {
-                                                before = record {
-                                                  before = c .before;
-                                                  rebuild-lines = c .rebuild-lines;
-                                                };
-                                                owner = record { given = g };
-                                              };
-                                              slice-known5 = record { given = g' };
-                                            };
-                                            stack = record { given = g'' };
-                                          };
-                                          slice-known6 = record { given = g'3 };
-                                        };
-                                        cur = record { given = g'4 };
-                                      };
-                                      slice-known7 = record { given = g'5 };
-                                    };
-                                    next = record { given = g'6 };
-                                  };
-                                  slice-known8 = record { given = g'7 };
-                                } g'8) .ptr) (Row.get 6 (T49 .locals) (m33 record {
-                                  before = record {
-                                    before = record {
-                                      before = record {
-                                        before = record {
-                                          before = record {
-                                            before = record {
-                                              before = record {
-                                                before = record {
-                                                  before = c .before;
-                                                  rebuild-lines = c .rebuild-lines;
-                                                };
-                                                owner = record { given = g };
-                                              };
-                                              slice-known5 = record { given = g' };
-                                            };
-                                            stack = record { given = g'' };
-                                          };
-                                          slice-known6 = record { given = g'3 };
-                                        };
-                                        cur = record { given = g'4 };
-                                      };
-                                      slice-known7 = record { given = g'5 };
-                                    };
-                                    next = record { given = g'6 };
-                                  };
-                                  slice-known8 = record { given = g'7 };
-                                } g'8) .name) (Row.get 6 (T49 .locals) (m33 record {
-                                  before = record {
-                                    before = record {
-                                      before = record {
-                                        before = record {
-                                          before = record {
-                                            before = record {
-                                              before = record {
-                                                before = record {
-                                                  before = c .before;
-                                                  rebuild-lines = c .rebuild-lines;
-                                                };
-                                                owner = record { given = g };
-                                              };
-                                              slice-known5 = record { given = g' };
-                                            };
-                                            stack = record { given = g'' };
-                                          };
-                                          slice-known6 = record { given = g'3 };
-                                        };
-                                        cur = record { given = g'4 };
-                                      };
-                                      slice-known7 = record { given = g'5 };
-                                    };
-                                    next = record { given = g'6 };
-                                  };
-                                  slice-known8 = record { given = g'7 };
-                                } g'8) .now)
-                                    (dens
-                                    (c .before .before .before .before .before .before .before
-                                    .before .before .before .before .before .before .before .before
-                                    .κs)
-                                    (c .before .before .before .before .before .before .before
-                                    .before .before .before .before .before .before .before .before
-                                    .args) .1 .1 .1 .1 .1 .0 .now)
-                                    (same-length record {
-                                      before = record {
-                                        before = record {
-                                          before = record {
-                                            before = record {
-                                              before = record {
-                                                before = record {
-                                                  before = record {
-                                                    before = record {
-                                                      before = record {
-                                                        before = c .before;
-                                                        rebuild-lines = c .rebuild-lines;
-                                                      };
-                                                      owner = record { given = g };
-                                                    };
-                                                    slice-known5 = record { given = g' };
-                                                  };
-                                                  stack = record { given = g'' };
-                                                };
-                                                slice-known6 = record { given = g'3 };
-                                              };
-                                              cur = record { given = g'4 };
-                                            };
-                                            slice-known7 = record { given = g'5 };
-                                          };
-                                          next = record { given = g'6 };
-                                        };
-                                        slice-known8 = record { given = g'7 };
-                                      };
-                                      recs2 = record { given = g'8 };
-                                    }),
+                                Path'.refl,
                                 (
-                                  MutSlice.fix-len (Row.get 7 (T49 .locals) (m33 record {
+                                  MutSlice.fix-len (Row.get 7 (T50 .locals) (m34 record {
                                     before = record {
                                       before = record {
                                         before = record {
@@ -8895,7 +9202,7 @@ module _ (claims· : Claims) where
                                       next = record { given = g'6 };
                                     };
                                     slice-known8 = record { given = g'7 };
-                                  } g'8) .ptr) (Row.get 7 (T49 .locals) (m33 record {
+                                  } g'8) .ptr) (Row.get 7 (T50 .locals) (m34 record {
                                     before = record {
                                       before = record {
                                         before = record {
@@ -8922,7 +9229,7 @@ module _ (claims· : Claims) where
                                       next = record { given = g'6 };
                                     };
                                     slice-known8 = record { given = g'7 };
-                                  } g'8) .name) (Row.get 7 (T49 .locals) (m33 record {
+                                  } g'8) .name) (Row.get 7 (T50 .locals) (m34 record {
                                     before = record {
                                       before = record {
                                         before = record {
@@ -8953,11 +9260,11 @@ module _ (claims· : Claims) where
                                       (dens
                                       (c .before .before .before .before .before .before .before
                                       .before .before .before .before .before .before .before
-                                      .before .κs)
+                                      .before .before .κs)
                                       (c .before .before .before .before .before .before .before
                                       .before .before .before .before .before .before .before
-                                      .before .args) .1 .1 .1 .1 .1 .1 .0 .now)
-                                      (same-length-2 record {
+                                      .before .before .args) .1 .1 .1 .1 .1 .1 .0 .now)
+                                      (same-length record {
                                         before = record {
                                           before = record {
                                             before = record {
@@ -8989,7 +9296,7 @@ module _ (claims· : Claims) where
                                         recs2 = record { given = g'8 };
                                       }),
                                   (
-                                    MutSlice.fix-len (Row.get 8 (T49 .locals) (m33 record {
+                                    MutSlice.fix-len (Row.get 8 (T50 .locals) (m34 record {
                                       before = record {
                                         before = record {
                                           before = record {
@@ -9016,7 +9323,7 @@ module _ (claims· : Claims) where
                                         next = record { given = g'6 };
                                       };
                                       slice-known8 = record { given = g'7 };
-                                    } g'8) .ptr) (Row.get 8 (T49 .locals) (m33 record {
+                                    } g'8) .ptr) (Row.get 8 (T50 .locals) (m34 record {
                                       before = record {
                                         before = record {
                                           before = record {
@@ -9043,7 +9350,7 @@ module _ (claims· : Claims) where
                                         next = record { given = g'6 };
                                       };
                                       slice-known8 = record { given = g'7 };
-                                    } g'8) .name) (Row.get 8 (T49 .locals) (m33 record {
+                                    } g'8) .name) (Row.get 8 (T50 .locals) (m34 record {
                                       before = record {
                                         before = record {
                                           before = record {
@@ -9074,11 +9381,11 @@ module _ (claims· : Claims) where
                                         (dens
                                         (c .before .before .before .before .before .before .before
                                         .before .before .before .before .before .before .before
-                                        .before .κs)
+                                        .before .before .κs)
                                         (c .before .before .before .before .before .before .before
                                         .before .before .before .before .before .before .before
-                                        .before .args) .1 .1 .1 .1 .1 .1 .1 .0 .now)
-                                        (same-length-3 record {
+                                        .before .before .args) .1 .1 .1 .1 .1 .1 .1 .0 .now)
+                                        (same-length-2 record {
                                           before = record {
                                             before = record {
                                               before = record {
@@ -9110,7 +9417,7 @@ module _ (claims· : Claims) where
                                           recs2 = record { given = g'8 };
                                         }),
                                     (
-                                      MutSlice.fix-len (Row.get 9 (T49 .locals) (m33 record {
+                                      MutSlice.fix-len (Row.get 9 (T50 .locals) (m34 record {
                                         before = record {
                                           before = record {
                                             before = record {
@@ -9137,7 +9444,7 @@ module _ (claims· : Claims) where
                                           next = record { given = g'6 };
                                         };
                                         slice-known8 = record { given = g'7 };
-                                      } g'8) .ptr) (Row.get 9 (T49 .locals) (m33 record {
+                                      } g'8) .ptr) (Row.get 9 (T50 .locals) (m34 record {
                                         before = record {
                                           before = record {
                                             before = record {
@@ -9164,7 +9471,7 @@ module _ (claims· : Claims) where
                                           next = record { given = g'6 };
                                         };
                                         slice-known8 = record { given = g'7 };
-                                      } g'8) .name) (Row.get 9 (T49 .locals) (m33 record {
+                                      } g'8) .name) (Row.get 9 (T50 .locals) (m34 record {
                                         before = record {
                                           before = record {
                                             before = record {
@@ -9195,11 +9502,12 @@ module _ (claims· : Claims) where
                                           (dens
                                           (c .before .before .before .before .before .before
                                           .before .before .before .before .before .before .before
-                                          .before .before .κs)
+                                          .before .before .before .κs)
                                           (c .before .before .before .before .before .before
                                           .before .before .before .before .before .before .before
-                                          .before .before .args) .1 .1 .1 .1 .1 .1 .1 .1 .0 .now)
-                                          (same-length-4 record {
+                                          .before .before .before .args) .1 .1 .1 .1 .1 .1 .1 .1 .0
+                                          .now)
+                                          (same-length-3 record {
                                             before = record {
                                               before = record {
                                                 before = record {
@@ -9230,7 +9538,130 @@ module _ (claims· : Claims) where
                                             };
                                             recs2 = record { given = g'8 };
                                           }),
-                                      tt,
+                                      (
+                                        MutSlice.fix-len (Row.get 10 (T50 .locals) (m34 record {
+                                          before = record {
+                                            before = record {
+                                              before = record {
+                                                before = record {
+                                                  before = record {
+                                                    before = record {
+                                                      before = record {
+                                                        before = record {
+                                                          before = c .before;
+                                                          rebuild-lines = c .rebuild-lines;
+                                                        };
+                                                        owner = record { given = g };
+                                                      };
+                                                      slice-known5 = record { given = g' };
+                                                    };
+                                                    stack = record { given = g'' };
+                                                  };
+                                                  slice-known6 = record { given = g'3 };
+                                                };
+                                                cur = record { given = g'4 };
+                                              };
+                                              slice-known7 = record { given = g'5 };
+                                            };
+                                            next = record { given = g'6 };
+                                          };
+                                          slice-known8 = record { given = g'7 };
+                                        } g'8) .ptr) (Row.get 10 (T50 .locals) (m34 record {
+                                          before = record {
+                                            before = record {
+                                              before = record {
+                                                before = record {
+                                                  before = record {
+                                                    before = record {
+                                                      before = record {
+                                                        before = record {
+                                                          before = c .before;
+                                                          rebuild-lines = c .rebuild-lines;
+                                                        };
+                                                        owner = record { given = g };
+                                                      };
+                                                      slice-known5 = record { given = g' };
+                                                    };
+                                                    stack = record { given = g'' };
+                                                  };
+                                                  slice-known6 = record { given = g'3 };
+                                                };
+                                                cur = record { given = g'4 };
+                                              };
+                                              slice-known7 = record { given = g'5 };
+                                            };
+                                            next = record { given = g'6 };
+                                          };
+                                          slice-known8 = record { given = g'7 };
+                                        } g'8) .name) (Row.get 10 (T50 .locals) (m34 record {
+                                          before = record {
+                                            before = record {
+                                              before = record {
+                                                before = record {
+                                                  before = record {
+                                                    before = record {
+                                                      before = record {
+                                                        before = record {
+                                                          before = c .before;
+                                                          rebuild-lines = c .rebuild-lines;
+                                                        };
+                                                        owner = record { given = g };
+                                                      };
+                                                      slice-known5 = record { given = g' };
+                                                    };
+                                                    stack = record { given = g'' };
+                                                  };
+                                                  slice-known6 = record { given = g'3 };
+                                                };
+                                                cur = record { given = g'4 };
+                                              };
+                                              slice-known7 = record { given = g'5 };
+                                            };
+                                            next = record { given = g'6 };
+                                          };
+                                          slice-known8 = record { given = g'7 };
+                                        } g'8) .now)
+                                            (dens
+                                            (c .before .before .before .before .before .before
+                                            .before .before .before .before .before .before .before
+                                            .before .before .before .κs)
+                                            (c .before .before .before .before .before .before
+                                            .before .before .before .before .before .before .before
+                                            .before .before .before .args) .1 .1 .1 .1 .1 .1 .1 .1
+                                            .1 .0 .now)
+                                            (same-length-4 record {
+                                              before = record {
+                                                before = record {
+                                                  before = record {
+                                                    before = record {
+                                                      before = record {
+                                                        before = record {
+                                                          before = record {
+                                                            before = record {
+                                                              before = record {
+                                                                before = c .before;
+                                                                rebuild-lines = c .rebuild-lines;
+                                                              };
+                                                              owner = record { given = g };
+                                                            };
+                                                            slice-known5 = record { given = g' };
+                                                          };
+                                                          stack = record { given = g'' };
+                                                        };
+                                                        slice-known6 = record { given = g'3 };
+                                                      };
+                                                      cur = record { given = g'4 };
+                                                    };
+                                                    slice-known7 = record { given = g'5 };
+                                                  };
+                                                  next = record { given = g'6 };
+                                                };
+                                                slice-known8 = record { given = g'7 };
+                                              };
+                                              recs2 = record { given = g'8 };
+                                            }),
+                                        tt,
+                                      ),
                                     ),
                                   ),
                                 ),
@@ -9279,14 +9710,14 @@ module _ (claims· : Claims) where
         )
 
         lay1 :
-            (c : After-window) →
-            at39
-            (c .before .before .before .before .before .before .before .before .before .blocks)
-            (W0
-            (c .before .before .before .before .before .before .before .before .before .κs)
-            (c .before .before .before .before .before .before .before .before .before .args)
-            (c .before .before .before .before .before .before .before .before .before .blocks))
-            (m9 (c .before) (After-window·gave c))
+            (c : After-window) → at39
+            (c .before .before .before .before .before .before .before .before .before .before
+            .blocks) (W0
+            (c .before .before .before .before .before .before .before .before .before .before .κs)
+            (c .before .before .before .before .before .before .before .before .before .before
+            .args)
+            (c .before .before .before .before .before .before .before .before .before .before
+            .blocks)) (m10 (c .before) (After-window·gave c))
         lay1 = λ c. λ g. (
           Path'.refl,
           λ g'. (
@@ -9296,7 +9727,7 @@ module _ (claims· : Claims) where
               λ g'3. (
                 Path'.refl,
                 λ g'4. (
-                  Relend.count-is T26 20 21 (λ x. x) (λ u. 64) (m20 record {
+                  Relend.count-is T27 21 22 (λ x. x) (λ u. 64) (m21 record {
                     before = record {
                       before = record {
                         before = record {
@@ -9358,7 +9789,7 @@ module _ (claims· : Claims) where
                         };
                         recs = record { given = g'4 };
                       };
-                      rebuild-lines = Called.called ps·1 r·1 (claims· .3) T27 (
+                      rebuild-lines = Called.called ps·1 r·1 (claims· .3) T28 (
                         record {
                           pos = 1;
                           ty = Syntax.tyRef (Syntax.named 0) Syntax.imm (Syntax.tyInt Syntax.w8);
@@ -9395,25 +9826,25 @@ module _ (claims· : Claims) where
                                 },
                                 (
                                   record {
-                                    pos = 13;
+                                    pos = 6;
                                     ty = Syntax.tyRef
-                                        Syntax.erased
-                                        Syntax.mut
+                                        (Syntax.named 4)
+                                        Syntax.imm
                                         (Syntax.tyInt Syntax.w64);
                                     ref = λ x. x;
                                   },
                                   (
                                     record {
-                                      pos = 15;
+                                      pos = 14;
                                       ty = Syntax.tyRef
                                           Syntax.erased
                                           Syntax.mut
-                                          (Syntax.tyInt Syntax.w8);
+                                          (Syntax.tyInt Syntax.w64);
                                       ref = λ x. x;
                                     },
                                     (
                                       record {
-                                        pos = 17;
+                                        pos = 16;
                                         ty = Syntax.tyRef
                                             Syntax.erased
                                             Syntax.mut
@@ -9422,7 +9853,7 @@ module _ (claims· : Claims) where
                                       },
                                       (
                                         record {
-                                          pos = 19;
+                                          pos = 18;
                                           ty = Syntax.tyRef
                                               Syntax.erased
                                               Syntax.mut
@@ -9431,14 +9862,24 @@ module _ (claims· : Claims) where
                                         },
                                         (
                                           record {
-                                            pos = 21;
+                                            pos = 20;
                                             ty = Syntax.tyRef
                                                 Syntax.erased
                                                 Syntax.mut
-                                                Elem.ty;
+                                                (Syntax.tyInt Syntax.w8);
                                             ref = λ x. x;
                                           },
-                                          tt,
+                                          (
+                                            record {
+                                              pos = 22;
+                                              ty = Syntax.tyRef
+                                                  Syntax.erased
+                                                  Syntax.mut
+                                                  Elem.ty;
+                                              ref = λ x. x;
+                                            },
+                                            tt,
+                                          ),
                                         ),
                                       ),
                                     ),
@@ -9448,7 +9889,7 @@ module _ (claims· : Claims) where
                             ),
                           ),
                         ),
-                      ) (m21 record {
+                      ) (m22 record {
                         before = record {
                           before = record {
                             before = record {
@@ -9471,34 +9912,9 @@ module _ (claims· : Claims) where
 
         pub laid :
             (c : Start) →
-            at48 (c .blocks) (W0 (c .κs) (c .args) (c .blocks)) (m0 (c .κs) (c .args) (c .blocks))
-        laid = λ c. λ g. λ g'. λ g''. λ g'3. λ g'4. λ g'5. λ g'6. λ g'7. (
+            at49 (c .blocks) (W0 (c .κs) (c .args) (c .blocks)) (m0 (c .κs) (c .args) (c .blocks))
+        laid = λ c. λ g. λ g'. λ g''. λ g'3. λ g'4. λ g'5. λ g'6. λ g'7. λ g'8. (
           window-requires record {
-            before = record {
-              before = record {
-                before = record {
-                  before = record {
-                    before = record {
-                      before = record {
-                        before = record {
-                          before = c;
-                          shared-slice-known = record { given = g };
-                        };
-                        shared-slice-known2 = record { given = g' };
-                      };
-                      shared-slice-known3 = record { given = g'' };
-                    };
-                    shared-slice-known4 = record { given = g'3 };
-                  };
-                  slice-known = record { given = g'4 };
-                };
-                slice-known2 = record { given = g'5 };
-              };
-              slice-known3 = record { given = g'6 };
-            };
-            slice-known4 = record { given = g'7 };
-          },
-          λ g'8. lay1 record {
             before = record {
               before = record {
                 before = record {
@@ -9516,46 +9932,80 @@ module _ (claims· : Claims) where
                       };
                       shared-slice-known4 = record { given = g'3 };
                     };
-                    slice-known = record { given = g'4 };
+                    shared-slice-known5 = record { given = g'4 };
                   };
-                  slice-known2 = record { given = g'5 };
+                  slice-known = record { given = g'5 };
                 };
-                slice-known3 = record { given = g'6 };
+                slice-known2 = record { given = g'6 };
               };
-              slice-known4 = record { given = g'7 };
+              slice-known3 = record { given = g'7 };
             };
-            window = Called.called ps·0 r·0 (claims· .1) T9 tt (m8 record {
+            slice-known4 = record { given = g'8 };
+          },
+          λ g'9. lay1 record {
+            before = record {
               before = record {
                 before = record {
                   before = record {
                     before = record {
                       before = record {
                         before = record {
-                          before = c;
-                          shared-slice-known = record { given = g };
+                          before = record {
+                            before = record {
+                              before = c;
+                              shared-slice-known = record { given = g };
+                            };
+                            shared-slice-known2 = record { given = g' };
+                          };
+                          shared-slice-known3 = record { given = g'' };
                         };
-                        shared-slice-known2 = record { given = g' };
+                        shared-slice-known4 = record { given = g'3 };
                       };
-                      shared-slice-known3 = record { given = g'' };
+                      shared-slice-known5 = record { given = g'4 };
                     };
-                    shared-slice-known4 = record { given = g'3 };
+                    slice-known = record { given = g'5 };
                   };
-                  slice-known = record { given = g'4 };
+                  slice-known2 = record { given = g'6 };
                 };
-                slice-known2 = record { given = g'5 };
+                slice-known3 = record { given = g'7 };
               };
-              slice-known3 = record { given = g'6 };
-            } g'7) g'8;
+              slice-known4 = record { given = g'8 };
+            };
+            window = Called.called ps·0 r·0 (claims· .1) T10 tt (m9 record {
+              before = record {
+                before = record {
+                  before = record {
+                    before = record {
+                      before = record {
+                        before = record {
+                          before = record {
+                            before = c;
+                            shared-slice-known = record { given = g };
+                          };
+                          shared-slice-known2 = record { given = g' };
+                        };
+                        shared-slice-known3 = record { given = g'' };
+                      };
+                      shared-slice-known4 = record { given = g'3 };
+                    };
+                    shared-slice-known5 = record { given = g'4 };
+                  };
+                  slice-known = record { given = g'5 };
+                };
+                slice-known2 = record { given = g'6 };
+              };
+              slice-known3 = record { given = g'7 };
+            } g'8) g'9;
           },
         )
 
-        module _ (κs : Lifetimes.Lfts 8) (qs : Lifetimes.Shares 8) where
+        module _ (κs : Lifetimes.Lfts 9) (qs : Lifetimes.Shares 9) where
           pub asked :
               (a : Kinds.Dens κs ps) →
               (good : Kinds.GoodsP κs ps a) →
               (pre : Pre· κs a) →
               (bs : List.List Nat.ℕ) →
-              Φ bs (Any.wantQ 8 ps r xs m κs qs a (Post· κs a)) (Function.init 8 ps r xs m κs qs a)
+              Φ bs (Any.wantQ 9 ps r xs m κs qs a (Post· κs a)) (Function.init 9 ps r xs m κs qs a)
           asked = λ a good pre bs. laid record {
             κs = κs;
             args = record {
@@ -9564,10 +10014,11 @@ module _ (claims· : Claims) where
               m = a .1 .1 .0;
               blocks = a .1 .1 .1 .0;
               starts = a .1 .1 .1 .1 .0;
-              owner = a .1 .1 .1 .1 .1 .0;
-              stack = a .1 .1 .1 .1 .1 .1 .0;
-              cur = a .1 .1 .1 .1 .1 .1 .1 .0;
-              next = a .1 .1 .1 .1 .1 .1 .1 .1 .0;
+              notes = a .1 .1 .1 .1 .1 .0;
+              owner = a .1 .1 .1 .1 .1 .1 .0;
+              stack = a .1 .1 .1 .1 .1 .1 .1 .0;
+              cur = a .1 .1 .1 .1 .1 .1 .1 .1 .0;
+              next = a .1 .1 .1 .1 .1 .1 .1 .1 .1 .0;
             };
             blocks = bs;
             good = good;
@@ -9584,7 +10035,7 @@ module _ (claims· : Claims) where
             A
             W
             𝓣
-            9
+            10
             ps·1
             r·1
             (claims· .2)
@@ -9593,8 +10044,8 @@ module _ (claims· : Claims) where
           pub spec :
               Statement.Triple
               𝓤
-              (Wp.WpFn 𝓤 H (𝓣 .C) (𝓣 .Λ) (Function.fnOf 8 ps r xs m hs body))
-              (Function.plainOf 𝓤 H A 8 ps r Pre· Post·)
+              (Wp.WpFn 𝓤 H (𝓣 .C) (𝓣 .Λ) (Function.fnOf 9 ps r xs m hs body))
+              (Function.plainOf 𝓤 H A 9 ps r Pre· Post·)
           spec =
               Plain.t-fn-plain
               𝓤
@@ -9602,7 +10053,7 @@ module _ (claims· : Claims) where
               A
               W
               𝓣
-              8
+              9
               ps
               r
               xs

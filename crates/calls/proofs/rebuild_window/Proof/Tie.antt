@@ -52,6 +52,14 @@ After-shared-slice-known4 = Lts.After-shared-slice-known4 (
   Reads.Learnt,
 ) Reads'.Pre Reads'.Post
 
+abbrev pub After-shared-slice-known5 : Type 0
+After-shared-slice-known5 = Lts.After-shared-slice-known5 (
+  Reads''.Asked,
+  Reads''.Learnt,
+  Reads.Asked,
+  Reads.Learnt,
+) Reads'.Pre Reads'.Post
+
 abbrev pub After-slice-known : Type 0
 After-slice-known = Lts.After-slice-known (
   Reads''.Asked,
@@ -300,7 +308,7 @@ module _ {M : Type 1} where
   unfolding Code.routine Running.tablesOf
   close =
       λ closed 𝓤 H 𝓜 𝓖 𝓡. Written.close
-      8
+      9
       Kinds.ps
       Kinds.r
       Reads'.Ghost
