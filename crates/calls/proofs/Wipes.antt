@@ -1,13 +1,13 @@
 -- Laws of the buffers that are wiped at the end, and of the tables as they are lent. Assumes nothing.
-use Prim.Native.Nat.{ℕ, suc, _+_, _-_, _≤_, _<_}
-use mathlib.Core.Path.{_≡_, refl, sym, ap, _∙_}
-use mathlib.Core.List.{List, [], _∷_, _++_}
+use Prim.Native.Nat.{ℕ, _+_, _-_, _≤_}
+use mathlib.Core.Path.{_≡_, sym, ap, _∙_}
+use mathlib.Core.List.{List, _++_}
 use native.Mathlib.Omega.{arith}
-use native.Mathlib.Numerals.{add-one}
-use lib.ListN.{length, take, drop, set, replicate, length-set, length-replicate, replicate-append-replicate}
-use lib.Seq.{take-suc-set, take-all, length-take-le}
+use lib.ListN.{length, take, drop, replicate, length-replicate}
+use lib.Seq.{length-take-le}
 use Rattle.lines.specs.Lf.{part, linesOf, unlines}
 use Rattle.lines.specs.Inner.Out.{putAt, Wrote}
+use Rattle.lines.proofs.OutLaws.{wrote-whole}
 use Rattle.place.specs.Blocks.{cleaned}
 use Rattle.place.specs.Inner.Blocks.{blockIds}
 use Rattle.place.specs.Starts.{startsGo}
@@ -19,27 +19,10 @@ use Rattle.calls.specs.LeavesOf.{leavesOf}
 use Rattle.calls.specs.Calls.{rebuildCalls}
 use Rattle.calls.specs.Inner.Tables.{Placed, Rebuilt}
 
--- ---- the loop that wipes
+-- ---- a buffer of n bytes that is wiped
 
-pub record Wiping (s₀ s : List ℕ) (i : ℕ) : Type 0 where
-  pub same : length s ≡ length s₀
-  pub i≤ : i ≤ length s
-  pub zeros : take i s ≡ replicate i 0
-
-pub wiping-start : (s : List ℕ) → Wiping s s 0
-wiping-start s = record { same = refl; i≤ = omega arith; zeros = refl }
-
-pub wiping-on : {s₀ s : List ℕ} {i : ℕ} → Wiping s₀ s i → i < length s → Wiping s₀ (set s i 0) (i + 1)
-wiping-on {s₀} {s} {i} w h = record {
-  same = length-set s i 0 ∙ w .same;
-  i≤ = omega (arith, length-set s i 0);
-  zeros = ap (λ (k : ℕ). take k (set s i 0)) (add-one i) ∙ take-suc-set s i 0 h ∙ ap (λ (l : List ℕ). l ++ (0 ∷ [])) (w .zeros) ∙ replicate-append-replicate i 1 0;
-}
-
-pub wiping-end : {s₀ s : List ℕ} {i : ℕ} → Wiping s₀ s i → length s ≤ i → s ≡ replicate (length s₀) 0
-wiping-end {s₀} {s} {i} w h =
-    let e : i ≡ length s₀ = omega (arith, w .i≤, w .same) in
-    sym (take-all i s h) ∙ w .zeros ∙ ap (λ (k : ℕ). replicate k 0) e
+pub wiped-all : {d d′ : List ℕ} {n r : ℕ} → length d ≡ n → Wrote d 0 (replicate (length d) 0) d′ r → d′ ≡ replicate n 0
+wiped-all {d} e w = wrote-whole w (length-replicate {A = ℕ} (length d) 0) ∙ ap (λ (k : ℕ). replicate k 0) e
 
 -- ---- the tables
 

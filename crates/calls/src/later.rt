@@ -14,8 +14,10 @@ ghost use Rattle.decls.specs.Inner.Seen.{markStore, AtMost};
 ghost use Rattle.records.specs.Inner.Records.{Told};
 ghost use Rattle.calls.specs.Inner.Later.{readIn, readName, readRuns, readSpan, notePut, noteLine, Spans};
 
-// Every so many lines one is looked at to tell whether notes pay.
-const STRIDE: usize = 31;
+// Every so many lines one is looked at to tell whether notes pay, from that with so many above it on.
+const STRIDE: usize = 47;
+
+const FIRST: usize = 15;
 
 // Texts of fewer lines than this have none.
 const FEW: usize = 32;
@@ -268,7 +270,7 @@ fn pays(text: &[u8], ends: &[usize], m: usize) -> bool
     }
     let most = m / 4;
     let mut left = most;
-    let mut k = 0;
+    let mut k = FIRST;
     while (k < m - 1) & (0 < left) {
         left -= probe(text, ends, m, k, left);
         k += STRIDE;

@@ -375,15 +375,6 @@ fn walk_up(
     Peak { height: h, size: c }
 }
 
-// Puts a line with its LF on a stack of the height o, and returns the height then.
-fn push_line(line: &[u8], stack: &mut [u8], o: usize) -> usize
-    requires { ⌜ o + length (unlines (now line ∷ [])) ≤ length (now stack) ⌝ }
-    ensures { λ r. ⌜ Wrote (now (stack .entry)) o (unlines (now (line .entry) ∷ [])) (now (stack .exit)) r ⌝ }
-{
-    let p = lines::put(stack, o, line);
-    lines::put_byte(stack, p, 10)
-}
-
 // Puts line n, which stands from i up to e, on the stack, with the values of the stores above that go into it.
 fn turn_line(
     text: &[u8],
@@ -404,7 +395,7 @@ fn turn_line(
 {
     owner[n] = 0;
     if !takes(&text[i..e], starts[n] == 1) {
-        return push_line(&text[i..e], stack, o);
+        return lines::put_line(stack, o, &text[i..e]);
     }
     let size = lines::put(cur, 0, &text[i..e]);
     let top = place::is_header(&text[i..e]);
@@ -427,7 +418,7 @@ fn turn_line(
     );
     let h = w.height;
     let m = w.size;
-    push_line(lines::cut(cur, 0, m), stack, h)
+    lines::put_line(stack, h, lines::cut(cur, 0, m))
 }
 
 // Puts what becomes of the `m` lines on the stack, by their records in a lent window, and returns its height.
@@ -508,17 +499,6 @@ fn rebuild_window(
     )
 }
 
-// Writes zeros over all of a buffer.
-fn wipe(s: &mut [u8])
-    ensures { λ _. ⌜ now (s .exit) ≡ replicate (length (now (s .entry))) 0 ⌝ }
-{
-    let mut i = 0;
-    while i < s.len() {
-        s[i] = 0;
-        i += 1;
-    }
-}
-
 // Writes what becomes of all lines, with a stack and two more buffers that are wiped at the end.
 fn rebuild_with(
     text: &[u8],
@@ -556,9 +536,9 @@ fn rebuild_with(
         next,
     );
     let r = lines::put(out, 0, lines::cut(stack, 0, o));
-    wipe(stack);
-    wipe(cur);
-    wipe(next);
+    lines::wipe(stack, stack.len());
+    lines::wipe(cur, cur.len());
+    lines::wipe(next, next.len());
     r
 }
 

@@ -1,11 +1,10 @@
 -- `calls::rebuild_with` meets its contract. Assumes nothing.
-use Prim.Native.Nat.{ℕ}
+use borrow.Author.Needs.{needs}
 use native.Mathlib.Omega.{arith}
 use mathlib.Core.Path.{ap, _∙_}
-use lib.ListN.{length, replicate}
+use lib.ListN.{length}
 use Rattle.lines.proofs.OutLaws.{wrote-as}
-use Rattle.calls.proofs.Wipes.{rebuilt-text}
-use borrow.Author.Needs.{needs}
+use Rattle.calls.proofs.Wipes.{wiped-all, rebuilt-text}
 use Rattle.calls.proofs.rebuild_with.Statement.{statement}
 use Rattle.calls.proofs.rebuild_with.Tie as tie
 
@@ -19,13 +18,13 @@ put-requires : tie.Need-put-requires
 put-requires c κs = let r = c .before .before .before .before .before .before .before .before .before .before .before .rebuild-window .ensures in omega (arith, ap length (rebuilt-text r (c .cut .result .now) (c .cut .ensures)), c .before .before .before .before .before .before .before .before .before .before .before .before .before .before .before .before .before .before .before .before .before .before .before .before .before .before .pre .0 .1 .1 .1 .1 .1)
 
 wipe-requires : tie.Need-wipe-requires
-wipe-requires c κs = tt
+wipe-requires c κs = omega arith
 
 wipe-requires-2 : tie.Need-wipe-requires-2
-wipe-requires-2 c κs = tt
+wipe-requires-2 c κs = omega arith
 
 wipe-requires-3 : tie.Need-wipe-requires-3
-wipe-requires-3 c κs = tt
+wipe-requires-3 c κs = omega arith
 
 same-length : tie.Need-same-length
 same-length c = c .before .before .before .before .before .before .before .before .before .before .before .before .before .before .before .before .before .before .before .before .before .before .before .before .before .before .rebuild-window .kept .1 .1 .1 .1 .1 .1 .0
@@ -43,7 +42,7 @@ same-length-5 : tie.Need-same-length-5
 same-length-5 c = c .before .before .before .before .before .before .before .before .before .before .before .before .before .before .put .kept .0
 
 returns : tie.Need-returns
-returns c = (wrote-as (rebuilt-text (c .before .before .before .before .before .before .before .before .before .before .before .before .before .before .before .before .before .before .before .before .before .before .before .before .before .before .rebuild-window .ensures) (c .before .before .before .before .before .before .before .before .before .before .before .before .before .before .before .cut .result .now) (c .before .before .before .before .before .before .before .before .before .before .before .before .before .before .before .cut .ensures)) (c .before .before .before .before .before .before .before .before .before .before .before .before .before .before .put .ensures), (c .before .before .before .before .before .before .before .before .before .before .before .before .before .before .before .before .before .before .before .before .before .before .before .before .before .before .rebuild-window .ensures .owners, (c .before .before .before .before .before .before .before .before .before .before .wipe .ensures ∙ ap (λ (n : ℕ). replicate n 0) (c .before .before .before .before .before .before .before .before .before .before .before .before .before .before .before .before .before .before .before .before .before .before .before .before .before .before .rebuild-window .kept .1 .1 .1 .1 .1 .1 .1 .0), (c .before .before .before .before .before .before .wipe2 .ensures ∙ ap (λ (n : ℕ). replicate n 0) (c .before .before .before .before .before .before .before .before .before .before .before .before .before .before .before .before .before .before .before .before .before .before .before .before .before .before .rebuild-window .kept .1 .1 .1 .1 .1 .1 .1 .1 .0), c .before .before .wipe3 .ensures ∙ ap (λ (n : ℕ). replicate n 0) (c .before .before .before .before .before .before .before .before .before .before .before .before .before .before .before .before .before .before .before .before .before .before .before .before .before .before .rebuild-window .kept .1 .1 .1 .1 .1 .1 .1 .1 .1 .0)))))
+returns c = (wrote-as (rebuilt-text (c .before .before .before .before .before .before .before .before .before .before .before .before .before .before .before .before .before .before .before .before .before .before .before .before .before .before .rebuild-window .ensures) (c .before .before .before .before .before .before .before .before .before .before .before .before .before .before .before .cut .result .now) (c .before .before .before .before .before .before .before .before .before .before .before .before .before .before .before .cut .ensures)) (c .before .before .before .before .before .before .before .before .before .before .before .before .before .before .put .ensures), (c .before .before .before .before .before .before .before .before .before .before .before .before .before .before .before .before .before .before .before .before .before .before .before .before .before .before .rebuild-window .ensures .owners, (wiped-all (c .before .before .before .before .before .before .before .before .before .before .before .before .before .before .before .before .before .before .before .before .before .before .before .before .before .before .rebuild-window .kept .1 .1 .1 .1 .1 .1 .1 .0) (c .before .before .before .before .before .before .before .before .before .before .wipe .ensures), (wiped-all (c .before .before .before .before .before .before .before .before .before .before .before .before .before .before .before .before .before .before .before .before .before .before .before .before .before .before .rebuild-window .kept .1 .1 .1 .1 .1 .1 .1 .1 .0) (c .before .before .before .before .before .before .wipe2 .ensures), wiped-all (c .before .before .before .before .before .before .before .before .before .before .before .before .before .before .before .before .before .before .before .before .before .before .before .before .before .before .rebuild-window .kept .1 .1 .1 .1 .1 .1 .1 .1 .1 .0) (c .before .before .wipe3 .ensures)))))
 
 pub rebuild-with-spec : {M : Type 1} → statement M
 rebuild-with-spec =

@@ -1,11 +1,12 @@
 -- `calls::turn_line` meets its contract. Assumes nothing.
 use borrow.Author.Needs.{needs}
 use native.Mathlib.Omega.{arith}
-use mathlib.Core.Path.{_∙_}
+use mathlib.Core.Path.{ap, _∙_}
 use borrow.Author.Tests.{not-true, not-false}
-use lib.ListN.{length-set}
-use Rattle.lines.proofs.OutLaws.{wrote-length}
-use Rattle.calls.proofs.Turns.{end-in, end-after, starts-in, push-room, turn-plain, cur-room, walk-ready, made-room, turn-walked}
+use lib.ListN.{length, length-set}
+use Rattle.lines.specs.Lf.{part}
+use Rattle.lines.proofs.OutLaws.{wrote-length, wrote-as}
+use Rattle.calls.proofs.Turns.{line-is, end-in, end-after, starts-in, push-room, turn-plain, cur-room, walk-ready, made-room, turn-walked}
 use Rattle.calls.proofs.turn_line.Statement.{statement}
 use Rattle.calls.proofs.turn_line.Tie as tie
 
@@ -30,26 +31,26 @@ shared-slice-read-takes c = starts-in (c .before .before .before .before .before
 takes-requires : tie.Need-takes-requires
 takes-requires c κs = tt
 
-sub-push-line : tie.Need-sub-push-line
-sub-push-line c = end-after (c .before .before .before .before .before .before .before .before .before .before .before .before .pre .0)
+sub-put-line : tie.Need-sub-put-line
+sub-put-line c = end-after (c .before .before .before .before .before .before .before .before .before .before .before .before .before .pre .0)
 
-part-push-line-start : tie.Need-part-push-line-start
-part-push-line-start c = end-after (c .before .before .before .before .before .before .before .before .before .before .before .before .pre .0)
+part-put-line-start : tie.Need-part-put-line-start
+part-put-line-start c = end-after (c .before .before .before .before .before .before .before .before .before .before .before .before .before .pre .0)
 
-part-push-line-end : tie.Need-part-push-line-end
-part-push-line-end c = end-in (c .before .before .before .before .before .before .before .before .before .before .before .before .pre .0)
+part-put-line-end : tie.Need-part-put-line-end
+part-put-line-end c = end-in (c .before .before .before .before .before .before .before .before .before .before .before .before .before .pre .0)
 
-push-line-requires : tie.Need-push-line-requires
-push-line-requires c κs = push-room (c .before .before .before .before .before .before .before .before .before .before .before .before .before .before .pre .0)
+put-line-requires : tie.Need-put-line-requires
+put-line-requires c κs = omega (arith, push-room (c .before .before .before .before .before .before .before .before .before .before .before .before .before .before .pre .0), ap length (line-is (part (c .before .before .before .before .before .before .before .before .before .before .before .before .before .before .args .i) (c .before .before .before .before .before .before .before .before .before .before .before .before .before .before .args .e) (c .before .before .before .before .before .before .before .before .before .before .before .before .before .before .args .text .now))))
 
 same-length : tie.Need-same-length
 same-length c = length-set (c .before .before .before .before .before .before .before .before .before .before .before .before .before .before .before .before .before .args .owner .now) (c .before .before .before .before .before .before .before .before .before .before .before .before .before .before .before .before .before .args .n) 0
 
 same-length-2 : tie.Need-same-length-2
-same-length-2 c = wrote-length (c .before .before .push-line .ensures)
+same-length-2 c = wrote-length (c .before .before .put-line .ensures)
 
 returns : tie.Need-returns
-returns c = turn-plain (c .before .before .before .before .before .before .before .before .before .before .before .before .before .before .before .before .before .pre .0) _ (c .before .before .before .before .before .before .takes .ensures) (not-true _ (c .before .before .before .before .before .if1 .taken)) (c .before .before .push-line .ensures)
+returns c = turn-plain (c .before .before .before .before .before .before .before .before .before .before .before .before .before .before .before .before .before .pre .0) _ (c .before .before .before .before .before .before .takes .ensures) (not-true _ (c .before .before .before .before .before .if1 .taken)) (wrote-as (line-is _) (c .before .before .put-line .ensures))
 
 sub-put : tie.Need-sub-put
 sub-put c = end-after (c .before .before .before .before .before .before .before .before .before .before .before .before .before .pre .0)
@@ -84,14 +85,14 @@ walk-up-requires c κs = let w = walk-ready (c .before .before .before .before .
 cut-requires : tie.Need-cut-requires
 cut-requires c κs = tt
 
-push-line-requires-2 : tie.Need-push-line-requires-2
-push-line-requires-2 c κs = made-room (c .before .before .before .before .before .before .before .before .before .before .before .before .before .before .before .before .before .before .before .before .before .before .before .before .before .before .before .before .before .before .before .before .before .before .pre .0) (c .before .before .before .before .before .before .before .before .before .before .before .before .before .before .before .before .before .before .before .put .ensures) _ (c .before .before .before .before .before .before .before .before .before .before .before .before .before .before .before .is-header .ensures) (c .before .before .before .before .before .before .before .before .before .walk-up .ensures) _ (c .before .cut .ensures)
+put-line-requires-2 : tie.Need-put-line-requires-2
+put-line-requires-2 c κs = omega (arith, made-room (c .before .before .before .before .before .before .before .before .before .before .before .before .before .before .before .before .before .before .before .before .before .before .before .before .before .before .before .before .before .before .before .before .before .before .pre .0) (c .before .before .before .before .before .before .before .before .before .before .before .before .before .before .before .before .before .before .before .put .ensures) _ (c .before .before .before .before .before .before .before .before .before .before .before .before .before .before .before .is-header .ensures) (c .before .before .before .before .before .before .before .before .before .walk-up .ensures) _ (c .cut .ensures), ap length (line-is (c .cut .result .now)))
 
 same-length-3 : tie.Need-same-length-3
 same-length-3 c = c .before .before .before .before .before .before .before .before .before .before .before .before .walk-up .kept .1 .1 .1 .1 .1 .1 .1 .0 ∙ length-set (c .before .before .before .before .before .before .before .before .before .before .before .before .before .before .before .before .before .before .before .before .before .before .before .before .before .before .before .before .before .before .before .before .before .before .before .before .before .args .owner .now) (c .before .before .before .before .before .before .before .before .before .before .before .before .before .before .before .before .before .before .before .before .before .before .before .before .before .before .before .before .before .before .before .before .before .before .before .before .before .args .n) 0
 
 same-length-4 : tie.Need-same-length-4
-same-length-4 c = wrote-length (c .before .before .push-line2 .ensures)
+same-length-4 c = wrote-length (c .before .before .put-line2 .ensures)
 
 same-length-5 : tie.Need-same-length-5
 same-length-5 c = c .before .before .before .before .before .before .before .before .before .before .before .before .walk-up .kept .1 .1 .1 .1 .1 .1 .1 .1 .1 .1 .1 .1 .0 ∙ wrote-length (c .before .before .before .before .before .before .before .before .before .before .before .before .before .before .before .before .before .before .before .before .before .before .put .ensures)
@@ -100,7 +101,7 @@ same-length-6 : tie.Need-same-length-6
 same-length-6 c = c .before .before .before .before .before .before .before .before .before .before .before .before .walk-up .kept .1 .1 .1 .1 .1 .1 .1 .1 .1 .1 .1 .1 .1 .0
 
 returns-2 : tie.Need-returns-2
-returns-2 c = turn-walked (c .before .before .before .before .before .before .before .before .before .before .before .before .before .before .before .before .before .before .before .before .before .before .before .before .before .before .before .before .before .before .before .before .before .before .before .before .before .pre .0) (c .before .before .before .before .before .before .before .before .before .before .before .before .before .before .before .before .before .before .before .before .before .before .put .ensures) _ (c .before .before .before .before .before .before .before .before .before .before .before .before .before .before .before .before .before .before .is-header .ensures) (c .before .before .before .before .before .before .before .before .before .before .before .before .walk-up .ensures) _ (c .before .before .before .before .cut .ensures) (c .before .before .before .before .before .before .before .before .before .before .before .before .walk-up .kept .1 .1 .1 .1 .1 .1 .1 .0 ∙ length-set (c .before .before .before .before .before .before .before .before .before .before .before .before .before .before .before .before .before .before .before .before .before .before .before .before .before .before .before .before .before .before .before .before .before .before .before .before .before .args .owner .now) (c .before .before .before .before .before .before .before .before .before .before .before .before .before .before .before .before .before .before .before .before .before .before .before .before .before .before .before .before .before .before .before .before .before .before .before .before .before .args .n) 0) _ (c .before .before .before .before .before .before .before .before .before .before .before .before .before .before .before .before .before .before .before .before .before .before .before .before .before .before .takes .ensures) (not-false _ (c .before .before .before .before .before .before .before .before .before .before .before .before .before .before .before .before .before .before .before .before .before .before .before .before .before .if1 .left)) (c .before .before .push-line2 .ensures)
+returns-2 c = turn-walked (c .before .before .before .before .before .before .before .before .before .before .before .before .before .before .before .before .before .before .before .before .before .before .before .before .before .before .before .before .before .before .before .before .before .before .before .before .before .pre .0) (c .before .before .before .before .before .before .before .before .before .before .before .before .before .before .before .before .before .before .before .before .before .before .put .ensures) _ (c .before .before .before .before .before .before .before .before .before .before .before .before .before .before .before .before .before .before .is-header .ensures) (c .before .before .before .before .before .before .before .before .before .before .before .before .walk-up .ensures) _ (c .before .before .before .cut .ensures) (c .before .before .before .before .before .before .before .before .before .before .before .before .walk-up .kept .1 .1 .1 .1 .1 .1 .1 .0 ∙ length-set (c .before .before .before .before .before .before .before .before .before .before .before .before .before .before .before .before .before .before .before .before .before .before .before .before .before .before .before .before .before .before .before .before .before .before .before .before .before .args .owner .now) (c .before .before .before .before .before .before .before .before .before .before .before .before .before .before .before .before .before .before .before .before .before .before .before .before .before .before .before .before .before .before .before .before .before .before .before .before .before .args .n) 0) _ (c .before .before .before .before .before .before .before .before .before .before .before .before .before .before .before .before .before .before .before .before .before .before .before .before .before .before .takes .ensures) (not-false _ (c .before .before .before .before .before .before .before .before .before .before .before .before .before .before .before .before .before .before .before .before .before .before .before .before .before .if1 .left)) (wrote-as (line-is _) (c .before .before .put-line2 .ensures))
 
 pub turn-line-spec : {M : Type 1} → statement M
 turn-line-spec =
@@ -113,10 +114,10 @@ turn-line-spec =
     part-takes-end
     shared-slice-read-takes
     takes-requires
-    sub-push-line
-    part-push-line-start
-    part-push-line-end
-    push-line-requires
+    sub-put-line
+    part-put-line-start
+    part-put-line-end
+    put-line-requires
     same-length
     same-length-2
     returns
@@ -131,7 +132,7 @@ turn-line-spec =
     after-requires
     walk-up-requires
     cut-requires
-    push-line-requires-2
+    put-line-requires-2
     same-length-3
     same-length-4
     same-length-5
