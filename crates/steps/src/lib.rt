@@ -21,6 +21,9 @@ use limits::Task;
 // The most lines of a text that the tables over lines are made for.
 const LINES: usize = 1024;
 
+// The entries of the notes of rebuild_calls: two a line.
+const NOTES: usize = 2 * LINES;
+
 // The numbers below this have a place of their own in the tables over registers and phis.
 pub const LOW: usize = 1024;
 
@@ -74,10 +77,11 @@ fn once_step(
     )
 }
 
-// Runs rebuild_calls, with its tables over lines.
+// Runs rebuild_calls, with its tables over lines and registers.
 fn calls_step(
     m: Task,
     src: &[u8],
+    own: &[usize],
     cur: &mut [u8],
     next: &mut [u8],
     u: &mut [u32],
@@ -92,14 +96,21 @@ fn calls_step(
     let mut owner = [0usize; LINES];
     let mut blocks = [0usize; LINES];
     let mut starts = [0u8; LINES];
+    let mut near = [0usize; PLACES];
+    let mut stores = [0usize; PLACES];
+    let mut notes = [0usize; NOTES];
     let mut stack = [0u8; 32770];
     calls::rebuild_calls(
         src,
+        own,
         &mut ends,
         &mut owner,
         &mut blocks,
         &mut starts,
         u,
+        &mut near,
+        &mut stores,
+        &mut notes,
         &mut stack,
         cur,
         next,
@@ -208,7 +219,7 @@ fn other_step(
         return once_step(m, src, own, c, d, u, dst);
     }
     if k == 4 {
-        return calls_step(m, src, c, d, u, dst);
+        return calls_step(m, src, own, c, d, u, dst);
     }
     if k == 5 {
         return decls_step(m, src, own, dst);

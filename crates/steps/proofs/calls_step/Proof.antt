@@ -22,9 +22,18 @@ slice-aggregate-rebuild-calls-4 c = search needs
 slice-aggregate-rebuild-calls-5 : tie.Need-slice-aggregate-rebuild-calls-5
 slice-aggregate-rebuild-calls-5 c = search needs
 
+slice-aggregate-rebuild-calls-6 : tie.Need-slice-aggregate-rebuild-calls-6
+slice-aggregate-rebuild-calls-6 c = search needs
+
+slice-aggregate-rebuild-calls-7 : tie.Need-slice-aggregate-rebuild-calls-7
+slice-aggregate-rebuild-calls-7 c = search needs
+
+slice-aggregate-rebuild-calls-8 : tie.Need-slice-aggregate-rebuild-calls-8
+slice-aggregate-rebuild-calls-8 c = search needs
+
 rebuild-calls-requires : tie.Need-rebuild-calls-requires
 rebuild-calls-requires c κs =
-    let p = c .before .before .before .before .before .before .before .before .before .before .before .before .before .before .pre in
+    let p = c .before .before .before .before .before .before .before .before .before .before .before .before .before .before .before .before .before .before .pre in
     calls-room (p .0) (p .1 .1 .1 .0) (p .1 .0) (p .1 .1 .0) (p .1 .1 .1 .1) (table 1024) (table 1024) (table 1024) (table 1024) (table 32770)
 
 same-length : tie.Need-same-length
@@ -40,7 +49,7 @@ same-length-4 : tie.Need-same-length-4
 same-length-4 c = search needs
 
 returns : tie.Need-returns
-returns c = let p = c .before .before .before .before .before .before .before .before .before .before .before .before .before .rebuild-calls .ensures in (wrote-as (ap unlines (calls-mode (c .before .before .before .before .before .before .before .before .before .before .before .before .before .before .before .before .before .before .before .before .before .before .before .before .before .before .before .before .args .m .mode .0) _)) (p .0), calls-left _ _ (p .1 .1 .1 .0 .1 .0) (p .1 .1 .1 .0 .1 .1) (p .1 .1 .0 .1 .1))
+returns c = let p = c .before .before .before .before .before .before .before .before .before .before .before .before .before .before .before .before .rebuild-calls .ensures in (wrote-as (ap unlines (calls-mode (c .before .before .before .before .before .before .before .before .before .before .before .before .before .before .before .before .before .before .before .before .before .before .before .before .before .before .before .before .before .before .before .before .before .before .before .args .m .mode .0) _)) (p .0), calls-left _ _ (p .1 .1 .1 .0 .1 .0) (p .1 .1 .1 .0 .1 .1) (p .1 .1 .0 .1 .1))
 
 pub calls-step-spec : {M : Type 1} → statement M
 calls-step-spec =
@@ -51,6 +60,9 @@ calls-step-spec =
     slice-aggregate-rebuild-calls-3
     slice-aggregate-rebuild-calls-4
     slice-aggregate-rebuild-calls-5
+    slice-aggregate-rebuild-calls-6
+    slice-aggregate-rebuild-calls-7
+    slice-aggregate-rebuild-calls-8
     rebuild-calls-requires
     same-length
     same-length-2
