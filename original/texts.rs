@@ -231,6 +231,20 @@ fn long_chain(random: &mut Random) -> String {
     format!("{above}r0 = a;\n{steps}use(r900, r{count});\n")
 }
 
+/// Registers of one function that a call takes on the next line, and what becomes of some of them far below.
+fn far_reads(random: &mut Random) -> String {
+    let again = random.pick(&["", "keep(r#);\n", "r# = z;\nuse(r#);\n", "r# = f(r#);\n", "}\nfunction g() {\nuse(r#);\n"]);
+    let steps = ["r# = a#;\nuse(r#);\n", "r# = f(a#);\nuse(r#, b);\n", "r# = a#;\nr9# = r#.x;\nuse(r9#);\n", "r# = a;\nr# = r#.x(b);\nuse(r#);\n"];
+    let mut text = String::from("function main(a) {\n");
+    for number in 0..random.between(12, 150) {
+        text += &random.pick(&steps).replace('#', &number.to_string());
+        if random.chance(25) {
+            text += &again.replace('#', &random.below(number + 1).to_string());
+        }
+    }
+    text
+}
+
 /// Brackets one in another, on one line or on two that a forward brings together.
 fn deep(random: &mut Random) -> String {
     let depth = match random.below(3) {
@@ -281,11 +295,12 @@ impl Texts {
         self.weathered(random, text)
     }
 
-    /// Walks, chains and brackets, with something around them.
+    /// Walks, chains, far reads and brackets, with something around them.
     pub fn special(&self, random: &mut Random) -> Vec<u8> {
-        let middle = match random.below(5) {
+        let middle = match random.below(6) {
             0 | 1 => long_walk(random),
             2 => long_chain(random),
+            3 => far_reads(random),
             _ => deep(random),
         };
         let above = self.grammar.listing(random, 1, 100);
