@@ -12,8 +12,28 @@ rebuild-calls-fixed = fixed-by calls.rebuild_calls.Reads.Learnt (λ w κs a x. m
     let f = l .1 .1 .1 .0 in
     let g = m .1 .1 .1 .0 in
     let t = l .1 .1 .1 .1 .0 in
-    let s = m .1 .1 .1 .1 .0 in
-    let back = (wrote-once (f .0) (g .0) .0, (wrote-once (f .1 .0) (g .1 .0) .0, (wrote-once (f .1 .1) (g .1 .1) .0, wrote-once (l .0) (m .0)))) in
-    let noted = (t .0 ∙ sym (s .0), (t .1 .0 ∙ sym (s .1 .0), (t .1 .1 ∙ sym (s .1 .1), back))) in
-    let placed = (filled-once (p .0) (q .0) .0, (filled-once (p .1 .0) (q .1 .0) .0, (filled-once (p .1 .1) (q .1 .1) .0, noted))) in
-    (filled-once (l .1 .1 .1 .1 .1) (m .1 .1 .1 .1 .1) .0, (filled-once (l .1 .0) (m .1 .0) .0, placed)))
+    let s = m .1 .1 .1 .1 .0 in (
+      filled-once (l .1 .1 .1 .1 .1) (m .1 .1 .1 .1 .1) .0,
+      (
+        filled-once (l .1 .0) (m .1 .0) .0,
+        (
+          filled-once (p .0) (q .0) .0,
+          (
+            filled-once (p .1 .0) (q .1 .0) .0,
+            (
+              filled-once (p .1 .1) (q .1 .1) .0,
+              (
+                t .0 ∙ sym (s .0),
+                (
+                  t .1 .0 ∙ sym (s .1 .0),
+                  (
+                    t .1 .1 ∙ sym (s .1 .1),
+                    (wrote-once (f .0) (g .0) .0, (wrote-once (f .1 .0) (g .1 .0) .0, (wrote-once (f .1 .1) (g .1 .1) .0, wrote-once (l .0) (m .0)))),
+                  ),
+                ),
+              ),
+            ),
+          ),
+        ),
+      ),
+    ))
