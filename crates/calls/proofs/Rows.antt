@@ -17,6 +17,7 @@ use Rattle.place.specs.Inner.Ends.{endMark, endMarks}
 use Rattle.place.proofs.Marks.{marks-length}
 use Rattle.decls.specs.Inner.Seen.{markStore, AtMost}
 use Rattle.records.specs.Inner.Records.{Told}
+use Rattle.records.proofs.Shown.{told-long}
 use Rattle.calls.specs.Inner.Tables.{lineAt}
 use Rattle.calls.specs.Inner.Later.{readRuns, noteLine, Spans}
 use Rattle.calls.proofs.Notes.{runs-length, store-length, note-length, Tail, tail-none, tail-on, spans-none, spans-on}
@@ -125,6 +126,10 @@ module _ {t es bs : List ℕ} {m : ℕ} (w : Told t es bs m) (k : ℕ) (h : k < 
   pub head-found : {x : ℕ} → x ≡ getD es k 0 → (c n : ℕ) → cond (eqb (x % 2) 1) c n ≡ cond (isHeader (lineAt t k)) c n
   unfolding Found
   head-found e c n = ap (λ (y : ℕ). cond (eqb (y % 2) 1) c n) (e ∙ entry-at k h) ∙ ap (λ (b : Bool). cond b c n) (found-here .1)
+
+-- the table of ends has an entry for each line itself
+pub told-ends : {t es bs : List ℕ} {n : ℕ} → Told t es bs n → Told t es es n
+told-ends w = record { count = w .count; behind = w .behind; marks = w .marks; long = omega (arith, w .count, told-long w .0) }
 
 -- ---- the walk
 

@@ -19,6 +19,9 @@ const STRIDE: usize = 47;
 
 const FIRST: usize = 15;
 
+// Notes pay where those lines pass as many as this share of all.
+const SHARE: usize = 4;
+
 // Texts of fewer lines than this have none.
 const FEW: usize = 32;
 
@@ -195,14 +198,13 @@ fn head_at(x: usize, c: usize, h: usize) -> usize
 fn note_up(
     text: &[u8],
     ends: &[usize],
-    blocks: &[usize],
     m: usize,
     own: &[usize],
     near: &mut [usize],
     stores: &mut [usize],
     notes: &mut [usize],
 )
-    requires { ⌜ (AtMost 0 (now near)) × ((AtMost 0 (now stores)) × ((AtMost 0 (now notes)) × (Told (now text) (now ends) (now blocks) m))) ⌝ }
+    requires { ⌜ (AtMost 0 (now near)) × ((AtMost 0 (now stores)) × ((AtMost 0 (now notes)) × (Told (now text) (now ends) (now ends) m))) ⌝ }
     ensures { λ _. ⌜ Spans (now (text .entry)) (now (notes .exit)) ⌝ }
 {
     let mut k = m;
@@ -268,7 +270,7 @@ fn pays(text: &[u8], ends: &[usize], m: usize) -> bool
     if m < FEW {
         return false;
     }
-    let most = m / 4;
+    let most = m / SHARE;
     let mut left = most;
     let mut k = FIRST;
     while (k < m - 1) & (0 < left) {
@@ -282,14 +284,13 @@ fn pays(text: &[u8], ends: &[usize], m: usize) -> bool
 pub fn note_lines(
     text: &[u8],
     ends: &[usize],
-    blocks: &[usize],
     m: usize,
     own: &[usize],
     near: &mut [usize],
     stores: &mut [usize],
     notes: &mut [usize],
 ) -> usize
-    requires { ⌜ Told (now text) (now ends) (now blocks) m ⌝ }
+    requires { ⌜ Told (now text) (now ends) (now ends) m ⌝ }
     ensures answer { λ r. ⌜ (r ≤ length (now (notes .entry))) × (Spans (now (text .entry)) (take r (now (notes .exit)))) ⌝ }
     ensures memory { λ _. ⌜ (now (near .exit) ≡ replicate (length (now (near .entry))) 0) × (now (stores .exit) ≡ replicate (length (now (stores .entry))) 0) ⌝ }
 {
@@ -299,7 +300,7 @@ pub fn note_lines(
     if !pays(text, ends, m) {
         return 0;
     }
-    note_up(text, ends, blocks, m, own, near, stores, notes);
+    note_up(text, ends, m, own, near, stores, notes);
     slots::wipe(near);
     slots::wipe(stores);
     notes.len()

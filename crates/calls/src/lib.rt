@@ -580,7 +580,7 @@ pub fn rebuild_calls(
     let m = text.len();
     let h = m + 1;
     let n = place::place_lines(text, blocks, starts, up, ends);
-    let f = later::note_lines(text, ends, blocks, n, own, near, stores, notes);
+    let f = later::note_lines(text, ends, n, own, near, stores, notes);
     let r = rebuild_with(
         text,
         ends,
