@@ -27,6 +27,7 @@ use Rattle.temps.proofs.Keeps.{goes-dead}
 use Rattle.once.specs.Scratch.{isMember, liveBelow, calledBelow, scratchAt, objectOf}
 use Rattle.once.specs.Once.{Spot, linesIn, dropped}
 use Rattle.once.proofs.Reasons.{Reason, as-load, as-dead, dropped-reason}
+use Rattle.phis.specs.Phis.{phiStore, phiDead}
 use Rattle.phis.proofs.Keeps.{storeGoes}
 
 -- the reading of strict mode
@@ -63,11 +64,11 @@ name-other x h = go (eqb x 40) refl
 around : (f : ℕ → Bool) → f 46 ≡ true → (l : List ℕ) → all f (take (upTo 46 l) l) ≡ true → all f (drop (suc (upTo 46 l)) l) ≡ true → all f l ≡ true
 unfolding upTo
 around f p [] g h = refl
-around f p (x ∷ xs) g h = go (eqb x 46) refl g h
+around f p (x ∷ xs) g h = go (around f p xs) (eqb x 46) refl g h
   where
-    go : (b : Bool) → eqb x 46 ≡ b → all f (take (cond b 0 (suc (upTo 46 xs))) (x ∷ xs)) ≡ true → all f (drop (suc (cond b 0 (suc (upTo 46 xs)))) (x ∷ xs)) ≡ true → f x && all f xs ≡ true
-    go true e g h = and-both (ap f (eqb-true x 46 e) ∙ p) h
-    go false e g h = and-both (and-left (f x) _ g) (around f p xs (and-right (f x) _ g) h)
+    go : (all f (take (upTo 46 xs) xs) ≡ true → all f (drop (suc (upTo 46 xs)) xs) ≡ true → all f xs ≡ true) → (b : Bool) → eqb x 46 ≡ b → all f (take (cond b 0 (suc (upTo 46 xs))) (x ∷ xs)) ≡ true → all f (drop (suc (cond b 0 (suc (upTo 46 xs)))) (x ∷ xs)) ≡ true → f x && all f xs ≡ true
+    go on true e g h = and-both (ap f (eqb-true x 46 e) ∙ p) h
+    go on false e g h = and-both (and-left (f x) _ g) (on (and-right (f x) _ g) h)
 
 member-calls : (x : List ℕ) → isMember x ≡ true → holdsCall x ≡ false
 unfolding isMember
@@ -88,7 +89,7 @@ once-strict d below h = reason-calls d below (dropped-reason strict d below h)
 -- pass 3: a value with a call goes only by the original's own test of phis
 pub phis-strict : (ls : List (List ℕ)) (l : List ℕ) → storeGoes strict ls l ≡ true → holdsCall (rightOf (trimStart l)) ≡ true → phiRhsPure (rightOf (trimStart l)) ≡ true
 unfolding storeGoes
-phis-strict ls l h c = go (pureIn strict v) refl (and-right _ (pureIn strict v || phiRhsPure v) h)
+phis-strict ls l h c = go (pureIn strict v) refl (and-right (phiDead (phiStore (trimStart l)) ls) (pureIn strict v || phiRhsPure v) h)
   where
     v : List ℕ
     v = rightOf (trimStart l)
