@@ -118,7 +118,7 @@ unfolding checked checkedLines
 refused-by L short t h x = stopped-by L (ltb (L .bytes) (length t)) short (utf8Of t) t (ltb (L .lines) (length (splitLines t))) (overFrom 64 91 0 (splitLines t)) h x
 
 pub sane-small : Sane small
-sane-small = record { bytes-reach = omega arith; lines-reach = omega arith }
+sane-small = record { bytes-reach = omega arith }
 
 -- ---- what an answer leaves
 

@@ -2,12 +2,12 @@
 use Prim.Native.Nat.{ℕ, _+_, _-_, _≤_}
 use mathlib.Core.Path.{_≡_, refl, sym, ap, subst, _∙_}
 use mathlib.Core.Bool.{Bool, true, false, _||_}
-use mathlib.Core.List.{List, _++_}
+use mathlib.Core.List.{List, _++_, append-nil}
 use native.Mathlib.Omega.{arith}
 use borrow.Author.Tests.{ltb-false}
 use lib.Dec.{ltb}
 use lib.ListN.{length, take, drop, length-append, length-drop}
-use lib.Seq.{length-take-le}
+use lib.Seq.{length-take-le, drop-length}
 use Rattle.lines.specs.Lf.{endsIn}
 use Rattle.lines.specs.Steps.{splitLines, joined}
 use Rattle.lines.proofs.Tests.{no}
@@ -20,10 +20,11 @@ use Rattle.limits.proofs.AnswerLaws.{work-kept, work-wiped, roomed-runs}
 use Rattle.steps.specs.Step.{stepOf}
 use Rattle.passes.specs.Passes.{resultOf}
 use Rattle.passes.specs.Inner.Passes.{stepsOf}
+use Rattle.passes.specs.Inner.Buffers.{Unused}
 use Rattle.opt.specs.Whole.{whole}
-use Rattle.limits.specs.Entry.{byteSize, blockSize, isShort, roomed, wholeAnswer, outAfter, blank}
+use Rattle.limits.specs.Entry.{byteSize, blockSize, isShort, roomed, wholeAnswer, outAfter, workAfter, blank}
 use Rattle.opt.specs.Room.{After}
-use Rattle.opt.specs.Inner.Room.{Long, Wiped}
+use Rattle.opt.specs.Inner.Room.{Long, Wiped, Tables}
 
 -- ---- the sizes
 
@@ -86,6 +87,43 @@ all-wiped {L} {r} n room {a} {b} {c} {d} {e} {u} q w =
       d-after = work-wiped r (byteSize L) d h (w .d-wiped);
       e-after = work-wiped r (byteSize L) e h (w .e-wiped);
       u-after = work-wiped r (blockSize L) u h (w .u-wiped);
+    }
+
+-- a table that is used whole
+module _ (y : Answer) (d : List ℕ) {d′ : List ℕ} where
+  table-wiped : passesRan y ≡ true → d′ ≡ blank (length d) → d′ ≡ workAfter y (length d) d
+  table-wiped h e = work-wiped y (length d) d h (e ∙ sym (append-nil (blank (length d))) ∙ ap (λ (xs : List ℕ). blank (length d) ++ xs) (sym (drop-length d)))
+
+pub tables-kept : (y : Answer) (f g h v w x p q r t o : List ℕ) → passesRan y ≡ false → Tables y f g h v w x p q r t o f g h v w x p q r t o
+tables-kept y f g h v w x p q r t o k = record {
+  f-after = work-kept y (length f) f k;
+  g-after = work-kept y (length g) g k;
+  h-after = work-kept y (length h) h k;
+  v-after = work-kept y (length v) v k;
+  w-after = work-kept y (length w) w k;
+  x-after = work-kept y (length x) x k;
+  p-after = work-kept y (length p) p k;
+  q-after = work-kept y (length q) q k;
+  r-after = work-kept y (length r) r k;
+  t-after = work-kept y (length t) t k;
+  o-after = work-kept y (length o) o k;
+}
+
+pub tables-wiped : {y : Answer} (n room : ℕ) {f g h v w x p q r t o f′ g′ h′ v′ w′ x′ p′ q′ r′ t′ o′ : List ℕ} → y ≡ roomed n room → Unused f g h v w x p q r t o f′ g′ h′ v′ w′ x′ p′ q′ r′ t′ o′ → Tables y f g h v w x p q r t o f′ g′ h′ v′ w′ x′ p′ q′ r′ t′ o′
+tables-wiped {y} n room {f} {g} {h} {v} {w} {x} {p} {q} {r} {t} {o} e z =
+    let k = ap passesRan e ∙ roomed-runs n room in
+    record {
+      f-after = table-wiped y f k (z .f-unused);
+      g-after = table-wiped y g k (z .g-unused);
+      h-after = table-wiped y h k (z .h-unused);
+      v-after = table-wiped y v k (z .v-unused);
+      w-after = table-wiped y w k (z .w-unused);
+      x-after = table-wiped y x k (z .x-unused);
+      p-after = table-wiped y p k (z .p-unused);
+      q-after = table-wiped y q k (z .q-unused);
+      r-after = table-wiped y r k (z .r-unused);
+      t-after = table-wiped y t k (z .t-unused);
+      o-after = table-wiped y o k (z .o-unused);
     }
 
 -- ---- which passes an entry runs

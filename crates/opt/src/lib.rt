@@ -9,10 +9,24 @@ ghost use Rattle.limits.specs.Inner.Sane.{Sane, Within};
 ghost use Rattle.steps.specs.Step.{stepOf};
 ghost use Rattle.passes.specs.Passes.{resultOf};
 ghost use Rattle.passes.specs.Inner.Passes.{stepsOf};
+ghost use Rattle.passes.specs.Inner.Buffers.{Unused};
+ghost use Rattle.steps.specs.Inner.Bounds.{Tabled};
 ghost use Rattle.opt.specs.Whole.{whole};
 ghost use Rattle.opt.specs.Room.{After};
-ghost use Rattle.opt.specs.Inner.Room.{taskOf, Long, Wiped};
+ghost use Rattle.opt.specs.Inner.Room.{taskOf, Long, Wiped, Tables};
 use limits::Task;
+
+// The tables of the two entries have an entry for each of so many lines,
+const LINES: usize = limits::SMALL_LINES;
+
+// for each of the numbers below this,
+const LOW: usize = 1024;
+
+// and for so many others.
+const OWNERS: usize = 1024;
+
+// The entries of a table over registers or phis.
+const PLACES: usize = LOW + OWNERS;
 
 // Runs the passes of a task over a text, in the front of longer work buffers.
 fn run(
@@ -23,13 +37,26 @@ fn run(
     c: &mut [u8],
     d: &mut [u8],
     e: &mut [u8],
+    f: &mut [u8],
+    g: &mut [u8],
+    h: &mut [u8],
     u: &mut [u32],
+    v: &mut [u32],
+    w: &mut [u32],
+    x: &mut [u32],
+    p: &mut [usize],
+    q: &mut [usize],
+    r: &mut [usize],
+    t: &mut [usize],
+    own: &mut [usize],
     out: &mut [u8],
 ) -> limits::Answer
-    requires { ⌜ Within (m .limits) (now text) × Long (m .limits) (now a) (now b) (now c) (now d) (now e) (now u) ⌝ }
+    requires { ⌜ Within (m .limits) (now text) × (Long (m .limits) (now a) (now b) (now c) (now d) (now e) (now u)
+        × Tabled (m .limits) (now f) (now g) (now v) (now w) (now x) (now p) (now q) (now r)) ⌝ }
     ensures answer { λ r. ⌜ r ≡ roomed (length (resultOf (stepsOf (readingOf (m .mode .0)) (m .from) (m .to - m .from)) (now (text .entry)))) (length (now (out .entry))) ⌝ }
     ensures memory { λ r. ⌜ (now (out .exit) ≡ outAfter r (resultOf (stepsOf (readingOf (m .mode .0)) (m .from) (m .to - m .from)) (now (text .entry))) (now (out .entry)))
         × Wiped (m .limits) (now (a .entry)) (now (b .entry)) (now (c .entry)) (now (d .entry)) (now (e .entry)) (now (u .entry)) (now (a .exit)) (now (b .exit)) (now (c .exit)) (now (d .exit)) (now (e .exit)) (now (u .exit)) ⌝ }
+    ensures tables { λ _. ⌜ Unused (now (f .entry)) (now (g .entry)) (now (h .entry)) (now (v .entry)) (now (w .entry)) (now (x .entry)) (now (p .entry)) (now (q .entry)) (now (r .entry)) (now (t .entry)) (now (own .entry)) (now (f .exit)) (now (g .exit)) (now (h .exit)) (now (v .exit)) (now (w .exit)) (now (x .exit)) (now (p .exit)) (now (q .exit)) (now (r .exit)) (now (t .exit)) (now (own .exit)) ⌝ }
 {
     let n = limits::byte_size(m.limits);
     let blocks = m.limits.bytes;
@@ -41,7 +68,18 @@ fn run(
         &mut c[..n],
         &mut d[..n],
         &mut e[..n],
+        f,
+        g,
+        h,
         &mut u[..blocks],
+        v,
+        w,
+        x,
+        p,
+        q,
+        r,
+        t,
+        own,
         out,
     )
 }
@@ -55,13 +93,25 @@ fn tidy(
     c: &mut [u8],
     d: &mut [u8],
     e: &mut [u8],
+    f: &mut [u8],
+    g: &mut [u8],
+    h: &mut [u8],
     u: &mut [u32],
+    v: &mut [u32],
+    w: &mut [u32],
+    x: &mut [u32],
+    p: &mut [usize],
+    q: &mut [usize],
+    r: &mut [usize],
+    t: &mut [usize],
+    own: &mut [usize],
     out: &mut [u8],
 ) -> limits::Answer
-    requires { ⌜ Sane (m .limits) ⌝ }
+    requires { ⌜ Sane (m .limits) × Tabled (m .limits) (now f) (now g) (now v) (now w) (now x) (now p) (now q) (now r) ⌝ }
     ensures answer { λ r. ⌜ r ≡ wholeAnswer (m .limits) (m .mode .0) (isShort (m .limits) (length (now (a .entry))) (length (now (b .entry))) (length (now (c .entry))) (length (now (d .entry))) (length (now (e .entry))) (length (now (u .entry)))) (now (text .entry)) (resultOf (stepsOf (readingOf (m .mode .0)) (m .from) (m .to - m .from)) (now (text .entry))) (length (now (out .entry))) ⌝ }
     ensures memory { λ r. ⌜ (now (out .exit) ≡ outAfter r (resultOf (stepsOf (readingOf (m .mode .0)) (m .from) (m .to - m .from)) (now (text .entry))) (now (out .entry)))
         × After (m .limits) r (now (a .entry)) (now (b .entry)) (now (c .entry)) (now (d .entry)) (now (e .entry)) (now (u .entry)) (now (a .exit)) (now (b .exit)) (now (c .exit)) (now (d .exit)) (now (e .exit)) (now (u .exit)) ⌝ }
+    ensures tables { λ y. ⌜ Tables y (now (f .entry)) (now (g .entry)) (now (h .entry)) (now (v .entry)) (now (w .entry)) (now (x .entry)) (now (p .entry)) (now (q .entry)) (now (r .entry)) (now (t .entry)) (now (own .entry)) (now (f .exit)) (now (g .exit)) (now (h .exit)) (now (v .exit)) (now (w .exit)) (now (x .exit)) (now (p .exit)) (now (q .exit)) (now (r .exit)) (now (t .exit)) (now (own .exit)) ⌝ }
 {
     let short = limits::too_short(
         m.limits,
@@ -72,11 +122,32 @@ fn tidy(
         e.len(),
         u.len(),
     );
-    let r = limits::refused_task(m, text, short);
-    if limits::number_of(r) != 0 {
-        return r;
+    let refused = limits::refused_task(m, text, short);
+    if limits::number_of(refused) != 0 {
+        return refused;
     }
-    run(m, text, a, b, c, d, e, u, out)
+    run(
+        m,
+        text,
+        a,
+        b,
+        c,
+        d,
+        e,
+        f,
+        g,
+        h,
+        u,
+        v,
+        w,
+        x,
+        p,
+        q,
+        r,
+        t,
+        own,
+        out,
+    )
 }
 
 // The passes from a number up to another, in the mode of a number, within the limits of the two entries.
@@ -90,6 +161,59 @@ fn task(from: usize, to: usize, mode: usize) -> Task
         mode: reading::Mode(mode),
         limits,
     }
+}
+
+// Runs the passes from a number up to another over a text, in the mode of a number and within the limits of the two entries, in tables of its own.
+fn tidy_small(
+    from: usize,
+    to: usize,
+    mode: usize,
+    text: &[u8],
+    a: &mut [u8],
+    b: &mut [u8],
+    c: &mut [u8],
+    d: &mut [u8],
+    e: &mut [u8],
+    u: &mut [u32],
+    out: &mut [u8],
+) -> limits::Answer
+    ensures answer { λ r. ⌜ r ≡ wholeAnswer small mode (isShort small (length (now (a .entry))) (length (now (b .entry))) (length (now (c .entry))) (length (now (d .entry))) (length (now (e .entry))) (length (now (u .entry)))) (now (text .entry)) (resultOf (stepsOf (readingOf mode) from (to - from)) (now (text .entry))) (length (now (out .entry))) ⌝ }
+    ensures memory { λ r. ⌜ (now (out .exit) ≡ outAfter r (resultOf (stepsOf (readingOf mode) from (to - from)) (now (text .entry))) (now (out .entry)))
+        × After small r (now (a .entry)) (now (b .entry)) (now (c .entry)) (now (d .entry)) (now (e .entry)) (now (u .entry)) (now (a .exit)) (now (b .exit)) (now (c .exit)) (now (d .exit)) (now (e .exit)) (now (u .exit)) ⌝ }
+{
+    let mut f = [0u8; PLACES];
+    let mut g = [0u8; PLACES];
+    let mut h = [0u8; LINES];
+    let mut v = [0u32; PLACES];
+    let mut w = [0u32; PLACES];
+    let mut x = [0u32; PLACES];
+    let mut p = [0usize; LINES];
+    let mut q = [0usize; LINES];
+    let mut r = [0usize; PLACES];
+    let mut t = [0usize; PLACES];
+    let mut own = [0usize; OWNERS];
+    tidy(
+        task(from, to, mode),
+        text,
+        a,
+        b,
+        c,
+        d,
+        e,
+        &mut f,
+        &mut g,
+        &mut h,
+        u,
+        &mut v,
+        &mut w,
+        &mut x,
+        &mut p,
+        &mut q,
+        &mut r,
+        &mut t,
+        &mut own,
+        out,
+    )
 }
 
 // Removes the lines that declare globals from a text, runs the six passes over it, and writes the result to the front of `out`. Mode 0 reads values
@@ -110,7 +234,7 @@ pub fn optimize(
     ensures memory { λ r. ⌜ (now (out .exit) ≡ outAfter r (resultOf (whole (readingOf mode)) (now (text .entry))) (now (out .entry)))
         × After small r (now (a .entry)) (now (b .entry)) (now (c .entry)) (now (d .entry)) (now (e .entry)) (now (u .entry)) (now (a .exit)) (now (b .exit)) (now (c .exit)) (now (d .exit)) (now (e .exit)) (now (u .exit)) ⌝ }
 {
-    tidy(task(0, 7, mode), text, a, b, c, d, e, u, out)
+    tidy_small(0, 7, mode, text, a, b, c, d, e, u, out)
 }
 
 // Whether a number is that of a pass.
@@ -140,5 +264,5 @@ pub fn run_pass(
     if !is_pass(pass) {
         return limits::Answer::BadPass;
     }
-    tidy(task(pass, pass + 1, mode), text, a, b, c, d, e, u, out)
+    tidy_small(pass, pass + 1, mode, text, a, b, c, d, e, u, out)
 }

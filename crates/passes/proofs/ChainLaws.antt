@@ -4,7 +4,7 @@ use mathlib.Core.Path.{_≡_, refl, sym, ap, _∙_}
 use mathlib.Core.List.{List}
 use native.Mathlib.Omega.{arith}
 use native.Mathlib.Numerals.{add-one}
-use lib.ListN.{length, take}
+use lib.ListN.{length, take, length-take}
 use Rattle.lines.specs.Lf.{linesOf, unlines}
 use Rattle.lines.specs.Inner.Out.{Wrote}
 use Rattle.lines.specs.Steps.{splitLines}
@@ -14,8 +14,8 @@ use Rattle.lines.proofs.OutLaws.{wrote-length, wrote-part}
 use Rattle.reading.specs.Reading.{Reading, readingOf}
 use Rattle.reading.proofs.ByLine.{mode-by-line}
 use Rattle.steps.specs.Step.{stepOf}
-use Rattle.steps.specs.Inner.Bounds.{Bounded, Sized}
-use Rattle.steps.proofs.Tame.{tame-step}
+use Rattle.steps.specs.Inner.Bounds.{Bounded, Sized, Tabled}
+use Rattle.steps.proofs.Tame.{tame-step, room-fits}
 use Rattle.passes.specs.Inner.Passes.{stepsOf}
 use Rattle.limits.specs.declared.Limits.{Limits}
 use Rattle.limits.specs.Entry.{byteSize}
@@ -34,24 +34,60 @@ front-copied {a} {b} {a′} {xs} {n} {r} f w = let g = wrote-front w in record {
 
 -- ---- the loop of `chain`
 
-pub record ChainInv (L : Limits) (mode k to : ℕ) (t a b c d e u : List ℕ) (n j : ℕ) : Type 0 where
+-- the buffers and tables are as long as they were
+pub record Same (a b c d e f g h u v w x p q r t a′ b′ c′ d′ e′ f′ g′ h′ u′ v′ w′ x′ p′ q′ r′ t′ : List ℕ) : Type 0 where
+  pub a-same : length a′ ≡ length a
+  pub b-same : length b′ ≡ length b
+  pub c-same : length c′ ≡ length c
+  pub d-same : length d′ ≡ length d
+  pub e-same : length e′ ≡ length e
+  pub f-same : length f′ ≡ length f
+  pub g-same : length g′ ≡ length g
+  pub h-same : length h′ ≡ length h
+  pub u-same : length u′ ≡ length u
+  pub v-same : length v′ ≡ length v
+  pub w-same : length w′ ≡ length w
+  pub x-same : length x′ ≡ length x
+  pub p-same : length p′ ≡ length p
+  pub q-same : length q′ ≡ length q
+  pub r-same : length r′ ≡ length r
+  pub t-same : length t′ ≡ length t
+
+module _ {L : Limits} {a b c d e f g h u v w x p q r t a′ b′ c′ d′ e′ f′ g′ h′ u′ v′ w′ x′ p′ q′ r′ t′ : List ℕ} (y : Same a b c d e f g h u v w x p q r t a′ b′ c′ d′ e′ f′ g′ h′ u′ v′ w′ x′ p′ q′ r′ t′) where
+  pub same-sized : Sized L b c d e u → Sized L b′ c′ d′ e′ u′
+  same-sized z = record {
+    b-size = omega (arith, z .b-size, y .b-same);
+    c-size = omega (arith, z .c-size, y .c-same);
+    d-size = omega (arith, z .d-size, y .d-same);
+    e-size = omega (arith, z .e-size, y .e-same);
+    u-size = omega (arith, z .u-size, y .u-same);
+    u-narrow = omega (arith, z .u-narrow, y .u-same);
+  }
+
+  pub same-tabled : Tabled L f g v w x p q r → Tabled L f′ g′ v′ w′ x′ p′ q′ r′
+  same-tabled z = record {
+    f-lines = omega (arith, z .f-lines, y .f-same);
+    g-lines = omega (arith, z .g-lines, y .g-same);
+    p-lines = omega (arith, z .p-lines, y .p-same);
+    q-lines = omega (arith, z .q-lines, y .q-same);
+    r-lines = omega (arith, z .r-lines, y .r-same);
+    w-as-v = y .w-same ∙ z .w-as-v ∙ sym (y .v-same);
+    w-as-x = y .w-same ∙ z .w-as-x ∙ sym (y .x-same);
+  }
+
+pub record ChainInv (L : Limits) (mode k to : ℕ) (t a : List ℕ) (n j : ℕ) : Type 0 where
   pub taken : Within L t
-  pub a-size : length a ≡ byteSize L
-  pub sized : Sized L b c d e u
   pub now-lines : List (List ℕ)
   pub between : Between L t now-lines
   pub front : Front a n (unlines now-lines)
   pub so-far : stepsOf (readingOf mode) j (to - j) now-lines ≡ stepsOf (readingOf mode) k (to - k) (splitLines t)
 
-pub split-fits : {L : Limits} (t a : List ℕ) → Within L t → length a ≡ byteSize L → length (unlines (splitLines t)) ≤ length a
+pub split-fits : {L : Limits} (t a : List ℕ) → Within L t → byteSize L ≤ length a → length (unlines (splitLines t)) ≤ length a
 split-fits t a h q = omega (arith, split-room t, h .bytes)
 
-pub chain-start : {L : Limits} (mode k to : ℕ) {t a a′ b c d e u : List ℕ} {n : ℕ} → Within L t → length a ≡ byteSize L → Sized L b c d e u →
-    Wrote a 0 (unlines (splitLines t)) a′ n → ChainInv L mode k to t a′ b c d e u n k
-chain-start mode k to {t} h q s w = record {
+pub chain-start : {L : Limits} (mode k to : ℕ) {t a a′ : List ℕ} {n : ℕ} → Within L t → Wrote a 0 (unlines (splitLines t)) a′ n → ChainInv L mode k to t a′ n k
+chain-start mode k to {t} h w = record {
   taken = h;
-  a-size = wrote-length w ∙ q;
-  sized = s;
   now-lines = splitLines t;
   between = between-start t h;
   front = wrote-front w;
@@ -66,28 +102,23 @@ steps-none : (R : Reading) (j : ℕ) (ls : List (List ℕ)) → stepsOf R j 0 ls
 unfolding stepsOf
 steps-none R j ls = refl
 
-module _ {L : Limits} {mode k to : ℕ} {t a b c d e u : List ℕ} {n j : ℕ} (h : ChainInv L mode k to t a b c d e u n j) where
+module _ {L : Limits} {mode k to : ℕ} {t a : List ℕ} {n j : ℕ} (h : ChainInv L mode k to t a n j) where
   pub chain-room : Bounded L (take n a)
   chain-room = rw (h .front .is) (between-room (h .taken) (h .between))
 
+  -- what a pass wrote to b has room in a
+  pub chain-fits : {b b′ : List ℕ} {r : ℕ} → byteSize L ≤ length a → Wrote b 0 (unlines (stepOf (readingOf mode) j (linesOf (take n a)))) b′ r → length (take r b′) ≤ length a
+  chain-fits {b′ = b′} {r = r} l w = omega (arith, length-take r b′, w .place, room-fits (tame-step (mode-by-line mode) j) chain-room)
+
   -- a pass from the front of a into b, and what it wrote back to the front of a
-  pub chain-on : {a′ b′ c′ d′ e′ u′ : List ℕ} {r m : ℕ} → j < to → Wrote b 0 (unlines (stepOf (readingOf mode) j (linesOf (take n a)))) b′ r → length c′ ≡ length c → length d′ ≡ length d → length e′ ≡ length e → length u′ ≡ length u →
-      Wrote a 0 (take r b′) a′ m → ChainInv L mode k to t a′ b′ c′ d′ e′ u′ m (j + 1)
-  chain-on l w qc qd qe qu v =
+  pub chain-on : {b a′ b′ : List ℕ} {r m : ℕ} → j < to → Wrote b 0 (unlines (stepOf (readingOf mode) j (linesOf (take n a)))) b′ r → Wrote a 0 (take r b′) a′ m → ChainInv L mode k to t a′ m (j + 1)
+  chain-on l w v =
       let f = front-copied (wrote-front w) v in
       let ls : List (List ℕ) = h .now-lines in
       let g : linesOf (take n a) ≡ ls = ap linesOf (h .front .is) ∙ lines-unlines ls (h .between .clean) in
       let z : to - j ≡ suc (to - (j + 1)) = omega arith in
       record {
         taken = h .taken;
-        a-size = wrote-length v ∙ h .a-size;
-        sized = record {
-          b-size = wrote-length w ∙ h .sized .b-size;
-          c-size = qc ∙ h .sized .c-size;
-          d-size = qd ∙ h .sized .d-size;
-          e-size = qe ∙ h .sized .e-size;
-          u-size = qu ∙ h .sized .u-size;
-        };
         now-lines = stepOf (readingOf mode) j ls;
         between = between-on (tame-step (mode-by-line mode) j) (h .between);
         front = record { fits = f .fits; is = f .is ∙ ap (λ (ms : List (List ℕ)). unlines (stepOf (readingOf mode) j ms)) g };

@@ -13,7 +13,7 @@ use Rattle.limits.specs.declared.Answer.{Answer}
 use Rattle.limits.specs.Entry.{roomed, outAfter, blank}
 use Rattle.steps.proofs.Tame.{Tame}
 use Rattle.passes.specs.Passes.{resultOf}
-use Rattle.passes.specs.Inner.Buffers.{Front, Blank}
+use Rattle.passes.specs.Inner.Buffers.{Front, Blank, Unused}
 
 -- ---- zeroing
 
@@ -35,6 +35,22 @@ blank-as qa qb qc qd qe qu w = record {
   d-blank = w .d-blank ∙ ap blank qd;
   e-blank = w .e-blank ∙ ap blank qe;
   u-blank = w .u-blank ∙ ap blank qu;
+}
+
+pub unused-as : {f g h v w x p q r t o f₁ g₁ h₁ v₁ w₁ x₁ p₁ q₁ r₁ t₁ o₁ f′ g′ h′ v′ w′ x′ p′ q′ r′ t′ o′ : List ℕ} → length f₁ ≡ length f → length g₁ ≡ length g → length h₁ ≡ length h → length v₁ ≡ length v → length w₁ ≡ length w → length x₁ ≡ length x → length p₁ ≡ length p → length q₁ ≡ length q → length r₁ ≡ length r → length t₁ ≡ length t → length o₁ ≡ length o →
+    Unused f₁ g₁ h₁ v₁ w₁ x₁ p₁ q₁ r₁ t₁ o₁ f′ g′ h′ v′ w′ x′ p′ q′ r′ t′ o′ → Unused f g h v w x p q r t o f′ g′ h′ v′ w′ x′ p′ q′ r′ t′ o′
+unused-as qf qg qh qv qw qx qp qq qr qt qo w = record {
+  f-unused = w .f-unused ∙ ap blank qf;
+  g-unused = w .g-unused ∙ ap blank qg;
+  h-unused = w .h-unused ∙ ap blank qh;
+  v-unused = w .v-unused ∙ ap blank qv;
+  w-unused = w .w-unused ∙ ap blank qw;
+  x-unused = w .x-unused ∙ ap blank qx;
+  p-unused = w .p-unused ∙ ap blank qp;
+  q-unused = w .q-unused ∙ ap blank qq;
+  r-unused = w .r-unused ∙ ap blank qr;
+  t-unused = w .t-unused ∙ ap blank qt;
+  o-unused = w .o-unused ∙ ap blank qo;
 }
 
 -- ---- the last step

@@ -7,10 +7,10 @@ ghost use Rattle.lines.specs.Steps.{splitLines, joined};
 ghost use Rattle.reading.specs.Reading.{readingOf};
 ghost use Rattle.limits.specs.Entry.{byteSize, roomed, outAfter};
 ghost use Rattle.limits.specs.Inner.Sane.{Within};
-ghost use Rattle.steps.specs.Inner.Bounds.{Sized};
+ghost use Rattle.steps.specs.Inner.Bounds.{Sized, Tabled};
 ghost use Rattle.passes.specs.Passes.{resultOf};
 ghost use Rattle.passes.specs.Inner.Passes.{stepsOf};
-ghost use Rattle.passes.specs.Inner.Buffers.{Front, Blank};
+ghost use Rattle.passes.specs.Inner.Buffers.{Front, Blank, Unused};
 use limits::Task;
 
 // The first `n` owners, where there are so many.
@@ -21,7 +21,8 @@ fn front(own: &[usize], n: usize) -> &[usize] {
     &own[..n]
 }
 
-// Writes the lines of a text into a buffer, runs the passes of a task over them, and returns how many bytes they are then.
+// Writes the lines of a text into a buffer, runs the passes of a task over them, and returns how many bytes they are then. `own` gets the numbers
+// that have no place of their own in the tables over registers.
 fn chain(
     m: Task,
     text: &[u8],
@@ -30,19 +31,52 @@ fn chain(
     c: &mut [u8],
     d: &mut [u8],
     e: &mut [u8],
+    f: &mut [u8],
+    g: &mut [u8],
+    h: &mut [u8],
     u: &mut [u32],
+    v: &mut [u32],
+    w: &mut [u32],
+    x: &mut [u32],
+    p: &mut [usize],
+    q: &mut [usize],
+    r: &mut [usize],
+    t: &mut [usize],
+    own: &mut [usize],
 ) -> usize
-    requires { ⌜ Within (m .limits) (now text) × ((length (now a) ≡ byteSize (m .limits)) × Sized (m .limits) (now b) (now c) (now d) (now e) (now u)) ⌝ }
+    requires { ⌜ Within (m .limits) (now text) × ((byteSize (m .limits) ≤ length (now a))
+        × (Sized (m .limits) (now b) (now c) (now d) (now e) (now u) × Tabled (m .limits) (now f) (now g) (now v) (now w) (now x) (now p) (now q) (now r))) ⌝ }
     ensures { λ r. ⌜ Front (now (a .exit)) r (unlines (stepsOf (readingOf (m .mode .0)) (m .from) (m .to - m .from) (splitLines (now (text .entry))))) ⌝ }
 {
-    let mut own = [0usize; steps::OWNERS];
     let mut n = lines::split_lines(text, a);
-    let h = slots::gather::gather(&a[..n], steps::LOW, &mut own);
+    let low = slots::low_of(r.len(), own.len());
+    slots::wipe(own);
+    let high = slots::gather::gather(&a[..n], low, own);
     let to = m.to;
     let mut j = m.from;
     while j < to {
-        let r = steps::step(j, m, &a[..n], front(&own, h), b, c, d, e, u);
-        n = lines::put(a, 0, &b[..r]);
+        let k = steps::step(
+            j,
+            m,
+            &a[..n],
+            front(own, high),
+            b,
+            c,
+            d,
+            e,
+            f,
+            g,
+            h,
+            u,
+            v,
+            w,
+            x,
+            p,
+            q,
+            r,
+            t,
+        );
+        n = lines::put(a, 0, &b[..k]);
         j += 1;
     }
     n
@@ -58,6 +92,35 @@ fn wipe_all(a: &mut [u8], b: &mut [u8], c: &mut [u8], d: &mut [u8], e: &mut [u8]
     lines::wipe(d, d.len());
     lines::wipe(e, e.len());
     lines::wipe_numbers(u);
+}
+
+// Makes every table 0.
+fn wipe_tables(
+    f: &mut [u8],
+    g: &mut [u8],
+    h: &mut [u8],
+    v: &mut [u32],
+    w: &mut [u32],
+    x: &mut [u32],
+    p: &mut [usize],
+    q: &mut [usize],
+    r: &mut [usize],
+    t: &mut [usize],
+    own: &mut [usize],
+)
+    ensures { λ _. ⌜ Unused (now (f .entry)) (now (g .entry)) (now (h .entry)) (now (v .entry)) (now (w .entry)) (now (x .entry)) (now (p .entry)) (now (q .entry)) (now (r .entry)) (now (t .entry)) (now (own .entry)) (now (f .exit)) (now (g .exit)) (now (h .exit)) (now (v .exit)) (now (w .exit)) (now (x .exit)) (now (p .exit)) (now (q .exit)) (now (r .exit)) (now (t .exit)) (now (own .exit)) ⌝ }
+{
+    lines::wipe(f, f.len());
+    lines::wipe(g, g.len());
+    lines::wipe(h, h.len());
+    lines::wipe_numbers(v);
+    lines::wipe_numbers(w);
+    lines::wipe_numbers(x);
+    slots::wipe(p);
+    slots::wipe(q);
+    slots::wipe(r);
+    slots::wipe(t);
+    slots::wipe(own);
 }
 
 // Joins the lines in the first `n` bytes of a buffer into the result buffer, with a last LF where the text has one, and makes every work
@@ -84,7 +147,7 @@ fn close(
     r
 }
 
-// Runs the passes of a task over a text, in work buffers of the stated sizes, and leaves these 0.
+// Runs the passes of a task over a text, in work buffers of the stated sizes and in tables, and leaves these 0.
 pub fn work(
     m: Task,
     text: &[u8],
@@ -93,14 +156,28 @@ pub fn work(
     c: &mut [u8],
     d: &mut [u8],
     e: &mut [u8],
+    f: &mut [u8],
+    g: &mut [u8],
+    h: &mut [u8],
     u: &mut [u32],
+    v: &mut [u32],
+    w: &mut [u32],
+    x: &mut [u32],
+    p: &mut [usize],
+    q: &mut [usize],
+    r: &mut [usize],
+    t: &mut [usize],
+    own: &mut [usize],
     out: &mut [u8],
 ) -> limits::Answer
-    requires { ⌜ Within (m .limits) (now text) × ((length (now a) ≡ byteSize (m .limits)) × Sized (m .limits) (now b) (now c) (now d) (now e) (now u)) ⌝ }
+    requires { ⌜ Within (m .limits) (now text) × ((byteSize (m .limits) ≤ length (now a))
+        × (Sized (m .limits) (now b) (now c) (now d) (now e) (now u) × Tabled (m .limits) (now f) (now g) (now v) (now w) (now x) (now p) (now q) (now r))) ⌝ }
     ensures answer { λ r. ⌜ r ≡ roomed (length (resultOf (stepsOf (readingOf (m .mode .0)) (m .from) (m .to - m .from)) (now (text .entry)))) (length (now (out .entry))) ⌝ }
     ensures memory { λ r. ⌜ (now (out .exit) ≡ outAfter r (resultOf (stepsOf (readingOf (m .mode .0)) (m .from) (m .to - m .from)) (now (text .entry))) (now (out .entry)))
         × Blank (now (a .entry)) (now (b .entry)) (now (c .entry)) (now (d .entry)) (now (e .entry)) (now (u .entry)) (now (a .exit)) (now (b .exit)) (now (c .exit)) (now (d .exit)) (now (e .exit)) (now (u .exit)) ⌝ }
+    ensures tables { λ _. ⌜ Unused (now (f .entry)) (now (g .entry)) (now (h .entry)) (now (v .entry)) (now (w .entry)) (now (x .entry)) (now (p .entry)) (now (q .entry)) (now (r .entry)) (now (t .entry)) (now (own .entry)) (now (f .exit)) (now (g .exit)) (now (h .exit)) (now (v .exit)) (now (w .exit)) (now (x .exit)) (now (p .exit)) (now (q .exit)) (now (r .exit)) (now (t .exit)) (now (own .exit)) ⌝ }
 {
-    let n = chain(m, text, a, b, c, d, e, u);
+    let n = chain(m, text, a, b, c, d, e, f, g, h, u, v, w, x, p, q, r, t, own);
+    wipe_tables(f, g, h, v, w, x, p, q, r, t, own);
     close(n, text, a, b, c, d, e, u, out)
 }

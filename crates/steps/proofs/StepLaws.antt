@@ -22,7 +22,7 @@ use Rattle.calls.specs.Calls.{rebuildCalls}
 use Rattle.decls.specs.Decls.{pruneDecls}
 use Rattle.bind.specs.Bind.{bindDeclarators}
 use Rattle.steps.specs.Step.{stepOf}
-use Rattle.steps.specs.Inner.Left.{leftC, leftD, leftE, leftU, Left}
+use Rattle.steps.specs.Inner.Left.{leftC, leftD, leftE, leftU, Left, cleared, usesT, Cleared, Few}
 
 -- ---- which pass a number is
 
@@ -75,48 +75,134 @@ filled-at : {d xs d′ : List ℕ} {r : ℕ} → Filled d xs d′ r → d′ ≡
 unfolding putAt
 filled-at {d} {xs} f = let z : length xs ≡ 0 + length xs = omega arith in f .holds ∙ ap (λ (n : ℕ). xs ++ drop n d) z
 
-module _ {mode : ℕ} {s c d e u : List ℕ} where
-  -- no pass but 2, 4 and 6 has blocks, and no pass but 1 to 4 has scratch
-  pub left-0 : Left mode 0 s c d e u c d e u
-  unfolding leftC leftD leftE leftU
-  left-0 = record { c-left = refl; d-left = refl; e-left = refl; u-left = refl }
+module _ {mode : ℕ} {s c d e f g q r : List ℕ} where
+  pub few-0 : Few mode 0 s c d e f g q r c d e f g q r
+  unfolding leftC leftD leftE cleared
+  few-0 = record { c-left = refl; d-left = refl; e-left = refl; f-left = refl; g-left = refl; q-left = refl; r-left = refl }
 
-  pub left-1 : {c′ : List ℕ} → c′ ≡ leftC mode 1 s c → Left mode 1 s c d e u c′ d e u
-  unfolding leftD leftE leftU
-  left-1 p = record { c-left = p; d-left = refl; e-left = refl; u-left = refl }
+  pub few-1 : {c′ f′ g′ q′ : List ℕ} → c′ ≡ leftC mode 1 s c → (f′ ≡ replicate (length f) 0) × ((g′ ≡ replicate (length g) 0) × (q′ ≡ replicate (length q) 0)) → Few mode 1 s c d e f g q r c′ d e f′ g′ q′ r
+  unfolding leftD leftE cleared
+  few-1 b z = record { c-left = b; d-left = refl; e-left = refl; f-left = z .0; g-left = z .1 .0; q-left = z .1 .1; r-left = refl }
 
-  pub left-2 : {c′ d′ u′ : List ℕ} → (c′ ≡ leftC mode 2 s c) × ((d′ ≡ leftD mode 2 s d) × (u′ ≡ leftU 2 s u)) → Left mode 2 s c d e u c′ d′ e u′
-  unfolding leftE
-  left-2 p = record { c-left = p .0; d-left = p .1 .0; e-left = refl; u-left = p .1 .1 }
+  pub few-3 : {c′ d′ e′ f′ : List ℕ} → (c′ ≡ leftC mode 3 s c) × ((d′ ≡ leftD mode 3 s d) × (e′ ≡ leftE mode 3 s e)) → f′ ≡ replicate (length f) 0 → Few mode 3 s c d e f g q r c′ d′ e′ f′ g q r
+  unfolding cleared
+  few-3 b z = record { c-left = b .0; d-left = b .1 .0; e-left = b .1 .1; f-left = z; g-left = refl; q-left = refl; r-left = refl }
 
-  pub left-3 : {c′ d′ e′ : List ℕ} → (c′ ≡ leftC mode 3 s c) × ((d′ ≡ leftD mode 3 s d) × (e′ ≡ leftE mode 3 s e)) → Left mode 3 s c d e u c′ d′ e′ u
-  unfolding leftU
-  left-3 p = record { c-left = p .0; d-left = p .1 .0; e-left = p .1 .1; u-left = refl }
+  pub few-5 : {r′ : List ℕ} → r′ ≡ replicate (length r) 0 → Few mode 5 s c d e f g q r c d e f g q r′
+  unfolding leftC leftD leftE cleared
+  few-5 z = record { c-left = refl; d-left = refl; e-left = refl; f-left = refl; g-left = refl; q-left = refl; r-left = z }
 
-  pub left-4 : {c′ d′ u′ : List ℕ} → (c′ ≡ leftC mode 4 s c) × ((d′ ≡ leftD mode 4 s d) × (u′ ≡ leftU 4 s u)) → Left mode 4 s c d e u c′ d′ e u′
-  unfolding leftE
-  left-4 p = record { c-left = p .0; d-left = p .1 .0; e-left = refl; u-left = p .1 .1 }
-
-  pub left-5 : Left mode 5 s c d e u c d e u
-  unfolding leftC leftD leftE leftU
-  left-5 = record { c-left = refl; d-left = refl; e-left = refl; u-left = refl }
-
-  pub left-6 : {u′ : List ℕ} → u′ ≡ leftU 6 s u → Left mode 6 s c d e u c d e u′
-  unfolding leftC leftD leftE
-  left-6 p = record { c-left = refl; d-left = refl; e-left = refl; u-left = p }
+  pub few-else : {k : ℕ} → (k ≡ 1 → ⊥) → (k ≡ 3 → ⊥) → (k ≡ 5 → ⊥) → (k ≡ 2 → ⊥) × ((k ≡ 4 → ⊥) × (k ≡ 6 → ⊥)) → Few mode k s c d e f g q r c d e f g q r
+  unfolding leftC leftD leftE cleared
+  few-else {k} n1 n3 n5 n = record {
+    c-left = rw (ne-eqb k 1 n1, ne-eqb k 2 (n .0), ne-eqb k 3 n3, ne-eqb k 4 (n .1 .0));
+    d-left = rw (ne-eqb k 2 (n .0), ne-eqb k 3 n3, ne-eqb k 4 (n .1 .0));
+    e-left = rw (ne-eqb k 3 n3, ne-eqb k 4 (n .1 .0));
+    f-left = rw (ne-eqb k 1 n1, ne-eqb k 2 (n .0), ne-eqb k 3 n3, ne-eqb k 4 (n .1 .0), ne-eqb k 6 (n .1 .1));
+    g-left = rw (ne-eqb k 1 n1, ne-eqb k 2 (n .0), ne-eqb k 6 (n .1 .1));
+    q-left = rw (ne-eqb k 1 n1, ne-eqb k 2 (n .0), ne-eqb k 4 (n .1 .0), ne-eqb k 6 (n .1 .1));
+    r-left = rw (ne-eqb k 2 (n .0), ne-eqb k 4 (n .1 .0), ne-eqb k 5 n5, ne-eqb k 6 (n .1 .1));
+  }
 
   -- at the number that is k
-  pub left-as : {k j : ℕ} {c′ d′ e′ u′ : List ℕ} → k ≡ j → Left mode j s c d e u c′ d′ e′ u′ → Left mode k s c d e u c′ d′ e′ u′
-  left-as q h = rw q h
+  pub few-as : {k j : ℕ} {c′ d′ e′ f′ g′ q′ r′ : List ℕ} → k ≡ j → Few mode j s c d e f g q r c′ d′ e′ f′ g′ q′ r′ → Few mode k s c d e f g q r c′ d′ e′ f′ g′ q′ r′
+  few-as z w = rw z w
 
-  pub left-else : {k : ℕ} → (k ≡ 1 → ⊥) → (k ≡ 2 → ⊥) → (k ≡ 3 → ⊥) → (k ≡ 4 → ⊥) → (k ≡ 6 → ⊥) → Left mode k s c d e u c d e u
-  unfolding leftC leftD leftE leftU
-  left-else {k} n1 n2 n3 n4 n6 = record {
-    c-left = rw (ne-eqb k 1 n1, ne-eqb k 2 n2, ne-eqb k 3 n3, ne-eqb k 4 n4);
-    d-left = rw (ne-eqb k 2 n2, ne-eqb k 3 n3, ne-eqb k 4 n4);
-    e-left = rw (ne-eqb k 3 n3);
-    u-left = rw (ne-eqb k 2 n2, ne-eqb k 4 n4, ne-eqb k 6 n6);
-  }
+-- what every step leaves
+abbrev pub Leaves : (mode k : ℕ) → (s c d e u f g h v w x p q r c′ d′ e′ u′ f′ g′ h′ v′ w′ x′ p′ q′ r′ : List ℕ) → Type 0
+Leaves mode k s c d e u f g h v w x p q r c′ d′ e′ u′ f′ g′ h′ v′ w′ x′ p′ q′ r′ =
+    Left mode k s c d e u c′ d′ e′ u′ × Cleared k f g h v w x p q r f′ g′ h′ v′ w′ x′ p′ q′ r′
+
+module _ {mode : ℕ} {s c d e u f g h v w x p q r : List ℕ} where
+  pub leaves-2 : {c′ d′ u′ f′ g′ h′ v′ w′ x′ p′ q′ r′ : List ℕ} → (c′ ≡ leftC mode 2 s c) × ((d′ ≡ leftD mode 2 s d) × (u′ ≡ leftU 2 s u)) →
+      (f′ ≡ replicate (length f) 0) × ((g′ ≡ replicate (length g) 0) × ((h′ ≡ replicate (length h) 0) × ((v′ ≡ replicate (length v) 0) × ((w′ ≡ replicate (length w) 0) × ((x′ ≡ replicate (length x) 0)
+      × ((p′ ≡ replicate (length p) 0) × ((q′ ≡ replicate (length q) 0) × (r′ ≡ replicate (length r) 0)))))))) →
+      Leaves mode 2 s c d e u f g h v w x p q r c′ d′ e u′ f′ g′ h′ v′ w′ x′ p′ q′ r′
+  unfolding leftE cleared
+  leaves-2 b z = (
+    record { c-left = b .0; d-left = b .1 .0; e-left = refl; u-left = b .1 .1 },
+    record {
+      f-left = z .0;
+      g-left = z .1 .0;
+      h-left = z .1 .1 .0;
+      v-left = z .1 .1 .1 .0;
+      w-left = z .1 .1 .1 .1 .0;
+      x-left = z .1 .1 .1 .1 .1 .0;
+      p-left = z .1 .1 .1 .1 .1 .1 .0;
+      q-left = z .1 .1 .1 .1 .1 .1 .1 .0;
+      r-left = z .1 .1 .1 .1 .1 .1 .1 .1;
+    },
+  )
+
+  pub leaves-4 : {c′ d′ e′ u′ f′ v′ w′ x′ p′ q′ r′ : List ℕ} → (c′ ≡ leftC mode 4 s c) × ((d′ ≡ leftD mode 4 s d) × ((e′ ≡ leftE mode 4 s e) × (u′ ≡ leftU 4 s u))) →
+      (f′ ≡ replicate (length f) 0) × ((v′ ≡ replicate (length v) 0) × ((w′ ≡ replicate (length w) 0) × ((x′ ≡ replicate (length x) 0)
+      × ((p′ ≡ replicate (length p) 0) × ((q′ ≡ replicate (length q) 0) × (r′ ≡ replicate (length r) 0)))))) →
+      Leaves mode 4 s c d e u f g h v w x p q r c′ d′ e′ u′ f′ g h v′ w′ x′ p′ q′ r′
+  unfolding cleared
+  leaves-4 b z = (
+    record { c-left = b .0; d-left = b .1 .0; e-left = b .1 .1 .0; u-left = b .1 .1 .1 },
+    record {
+      f-left = z .0;
+      g-left = refl;
+      h-left = refl;
+      v-left = z .1 .0;
+      w-left = z .1 .1 .0;
+      x-left = z .1 .1 .1 .0;
+      p-left = z .1 .1 .1 .1 .0;
+      q-left = z .1 .1 .1 .1 .1 .0;
+      r-left = z .1 .1 .1 .1 .1 .1;
+    },
+  )
+
+  pub leaves-6 : {u′ f′ g′ p′ q′ r′ : List ℕ} → u′ ≡ leftU 6 s u →
+      (f′ ≡ replicate (length f) 0) × ((g′ ≡ replicate (length g) 0) × ((p′ ≡ replicate (length p) 0) × ((q′ ≡ replicate (length q) 0) × (r′ ≡ replicate (length r) 0)))) →
+      Leaves mode 6 s c d e u f g h v w x p q r c d e u′ f′ g′ h v w x p′ q′ r′
+  unfolding leftC leftD leftE cleared
+  leaves-6 b z = (
+    record { c-left = refl; d-left = refl; e-left = refl; u-left = b },
+    record {
+      f-left = z .0;
+      g-left = z .1 .0;
+      h-left = refl;
+      v-left = refl;
+      w-left = refl;
+      x-left = refl;
+      p-left = z .1 .1 .0;
+      q-left = z .1 .1 .1 .0;
+      r-left = z .1 .1 .1 .1;
+    },
+  )
+
+  pub leaves-few : {k : ℕ} {c′ d′ e′ f′ g′ q′ r′ : List ℕ} → (k ≡ 2 → ⊥) → (k ≡ 4 → ⊥) → (k ≡ 6 → ⊥) → Few mode k s c d e f g q r c′ d′ e′ f′ g′ q′ r′ →
+      Leaves mode k s c d e u f g h v w x p q r c′ d′ e′ u f′ g′ h v w x p q′ r′
+  unfolding leftU cleared
+  leaves-few {k} n2 n4 n6 y = (
+    record { c-left = y .c-left; d-left = y .d-left; e-left = y .e-left; u-left = rw (ne-eqb k 2 n2, ne-eqb k 4 n4, ne-eqb k 6 n6) },
+    record {
+      f-left = y .f-left;
+      g-left = y .g-left;
+      h-left = rw (ne-eqb k 2 n2);
+      v-left = rw (ne-eqb k 2 n2, ne-eqb k 4 n4);
+      w-left = rw (ne-eqb k 2 n2, ne-eqb k 4 n4);
+      x-left = rw (ne-eqb k 2 n2, ne-eqb k 4 n4);
+      p-left = rw (ne-eqb k 2 n2, ne-eqb k 4 n4, ne-eqb k 6 n6);
+      q-left = y .q-left;
+      r-left = y .r-left;
+    },
+  )
+
+  -- at the number that is k
+  pub leaves-as : {k j : ℕ} {c′ d′ e′ u′ f′ g′ h′ v′ w′ x′ p′ q′ r′ : List ℕ} → k ≡ j → Leaves mode j s c d e u f g h v w x p q r c′ d′ e′ u′ f′ g′ h′ v′ w′ x′ p′ q′ r′ → Leaves mode k s c d e u f g h v w x p q r c′ d′ e′ u′ f′ g′ h′ v′ w′ x′ p′ q′ r′
+  leaves-as z y = rw z y
+
+-- the table that pass 6 alone has
+pub last-used : {k : ℕ} {t t′ : List ℕ} → k ≡ 6 → t′ ≡ replicate (length t) 0 → t′ ≡ cleared (usesT k) t
+unfolding cleared
+last-used {k} e z = rw (eq-eqb k 6 e) z
+
+pub last-kept : {k : ℕ} (t : List ℕ) → (k ≡ 6 → ⊥) → t ≡ cleared (usesT k) t
+unfolding cleared
+last-kept {k} t n = rw (ne-eqb k 6 n)
 
 -- by what the passes with tables ensure
 pub temps-left : (mode : ℕ) (s c : List ℕ) {c′ : List ℕ} → c′ ≡ tempScratch (strictAt mode) (linesOf s) c → c′ ≡ leftC mode 1 s c
@@ -133,10 +219,10 @@ pub phis-left : (mode : ℕ) (s : List ℕ) {c d e c′ d′ e′ : List ℕ} {n
 unfolding leftC leftD leftE
 phis-left mode s p q r = (p .holds, (q .holds, r .holds))
 
-pub calls-left : (mode : ℕ) (s : List ℕ) {c d u c′ d′ u′ : List ℕ} {n m o : ℕ} → Wrote c 0 (replicate (length s) 0) c′ n → Wrote d 0 (replicate (length s) 0) d′ m →
-    Filled u (idsParents (linesOf s)) u′ o → (c′ ≡ leftC mode 4 s c) × ((d′ ≡ leftD mode 4 s d) × (u′ ≡ leftU 4 s u))
-unfolding leftC leftD leftU
-calls-left mode s p q f = (p .holds, (q .holds, filled-at f))
+pub calls-left : (mode : ℕ) (s : List ℕ) {c d e u c′ d′ e′ u′ : List ℕ} {n m l o : ℕ} → Wrote e 0 (replicate (length (unlines (linesOf s))) 0) e′ l → Wrote c 0 (replicate (length s) 0) c′ n → Wrote d 0 (replicate (length s) 0) d′ m →
+    Filled u (idsParents (linesOf s)) u′ o → (c′ ≡ leftC mode 4 s c) × ((d′ ≡ leftD mode 4 s d) × ((e′ ≡ leftE mode 4 s e) × (u′ ≡ leftU 4 s u)))
+unfolding leftC leftD leftE leftU
+calls-left mode s z p q f = (p .holds, (q .holds, (z .holds, filled-at f)))
 
 pub bind-left : (s : List ℕ) {u u′ : List ℕ} {n : ℕ} → Filled u (idsParents (linesOf s)) u′ n → u′ ≡ leftU 6 s u
 unfolding leftU

@@ -5,7 +5,7 @@ use mathlib.Core.Bool.{Bool, true, false, cond}
 use mathlib.Core.List.{List}
 use native.Mathlib.Omega.{arith}
 use lib.Dec.{eqb}
-use lib.ListN.{length, replicate, length-append, length-replicate}
+use lib.ListN.{length, length-append}
 use Rattle.lines.specs.Lf.{linesOf, unlines}
 use Rattle.lines.specs.Inner.Lf.{noLf}
 use Rattle.lines.specs.Acts.{apply}
@@ -40,7 +40,7 @@ use Rattle.decls.proofs.Decl.{prune-weight}
 use Rattle.decls.proofs.Passes.{prune-lines}
 use Rattle.steps.specs.Step.{stepOf}
 use Rattle.limits.specs.declared.Limits.{Limits}
-use Rattle.limits.specs.Entry.{small, byteSize, blockSize}
+use Rattle.limits.specs.Entry.{byteSize, blockSize}
 use Rattle.steps.specs.Inner.Bounds.{Bounded}
 
 pub record Tame (f : List (List ℕ) → List (List ℕ)) : Type 0 where
@@ -127,28 +127,26 @@ room-length {s = s} r = omega (arith, room-lines r, ap length (lines-text s), le
 
 -- ---- the room that passes with tables and scratch ask for
 
--- a table of n places
-pub table : (n : ℕ) → n ≤ length {A = ℕ} (replicate n 0)
-table n = omega (arith, length-replicate {A = ℕ} n 0)
-
-pub once-room : (R : Reading) {L : Limits} {s : List ℕ} {loops marks paths up scratch mid out near far stores : ℕ} → Bounded L s → scratch ≡ byteSize L → mid ≡ byteSize L → up ≡ blockSize L → out ≡ byteSize L → small .lines ≤ loops → small .lines ≤ marks → small .lines ≤ paths → (far ≡ near) × (far ≡ stores) →
+pub once-room : (R : Reading) {L : Limits} {s : List ℕ} {loops marks paths up scratch mid out near far stores : ℕ} → Bounded L s →
+    (byteSize L ≤ scratch) × ((byteSize L ≤ mid) × (byteSize L ≤ out)) → (blockSize L ≤ up) × (up < 2 ^ 32) →
+    (L .lines ≤ loops) × ((L .lines ≤ marks) × (L .lines ≤ paths)) → (far ≡ near) × (far ≡ stores) →
     (length (linesOf s) ≤ loops) × ((length (linesOf s) ≤ marks) × ((length (linesOf s) ≤ paths) × ((length (pathParents (linesOf s)) ≤ up) × ((up < 2 ^ 32)
     × ((length s ≤ scratch) × ((length (unlines (apply (onceActs R (linesOf s)) (linesOf s))) ≤ mid) × ((length (unlines (optimizeOnce R (linesOf s))) ≤ out) × ((far ≡ near) × (far ≡ stores)))))))))
-once-room R {s = s} r qs qm qu qo ql qk qp w = (
-  omega (arith, r .lines, r .sane .lines-reach),
+once-room R {s = s} r b u l w = (
+  omega (arith, r .lines, l .0),
   (
-    omega (arith, r .lines, r .sane .lines-reach),
+    omega (arith, r .lines, l .1 .0),
     (
-      omega (arith, r .lines, r .sane .lines-reach),
+      omega (arith, r .lines, l .1 .1),
       (
-        omega (arith, path-parents-text s, r .braces),
+        omega (arith, path-parents-text s, r .braces, u .0),
         (
-          omega (arith, r .sane .bytes-reach),
+          u .1,
           (
-            omega (arith, room-length r),
+            omega (arith, room-length r, b .0),
             (
-              omega (arith, room-fits (once-acts R) r),
-              (omega (arith, room-fits (tame-once R) r), w),
+              omega (arith, room-fits (once-acts R) r, b .1 .0),
+              (omega (arith, room-fits (tame-once R) r, b .1 .1), w),
             ),
           ),
         ),
@@ -157,42 +155,45 @@ once-room R {s = s} r qs qm qu qo ql qk qp w = (
   ),
 )
 
-pub phis-room : (R : Reading) {L : Limits} {s : List ℕ} → Bounded L s →
-    (longest R s ≤ byteSize L) × ((length (unlines (round R (linesOf s))) ≤ byteSize L) × ((length (unlines (round R (round R (linesOf s)))) ≤ byteSize L) × (length (unlines (pruneDeadPhis R (linesOf s))) ≤ byteSize L)))
-phis-room R {s = s} r =
+pub phis-room : (R : Reading) {L : Limits} {s : List ℕ} {scratch first second out : ℕ} → Bounded L s →
+    (byteSize L ≤ scratch) × ((byteSize L ≤ first) × ((byteSize L ≤ second) × (byteSize L ≤ out))) →
+    (longest R s ≤ scratch) × ((length (unlines (round R (linesOf s))) ≤ first) × ((length (unlines (round R (round R (linesOf s)))) ≤ second) × (length (unlines (pruneDeadPhis R (linesOf s))) ≤ out)))
+phis-room R {s = s} r b =
     let one : List (List ℕ) = round R (linesOf s) in
     let v = round-weight 0 R (linesOf s) in (
-      omega (arith, longest-weight 0 R s, r .heavy),
+      omega (arith, longest-weight 0 R s, r .heavy, b .0),
       (
-        omega (arith, length-weight 0 (unlines one), v, r .heavy),
+        omega (arith, length-weight 0 (unlines one), v, r .heavy, b .1 .0),
         (
-          omega (arith, length-weight 0 (unlines (round R one)), round-weight 0 R one, v, r .heavy),
-          omega (arith, room-fits (tame-phis R) r),
+          omega (arith, length-weight 0 (unlines (round R one)), round-weight 0 R one, v, r .heavy, b .1 .1 .0),
+          omega (arith, room-fits (tame-phis R) r, b .1 .1 .1),
         ),
       ),
     )
 
-pub calls-room : {L : Limits} {s : List ℕ} {owner blocks starts up stack cur next out ends : ℕ} → Bounded L s → up ≡ blockSize L → cur ≡ byteSize L → next ≡ byteSize L → out ≡ byteSize L → small .lines ≤ ends →
-    small .lines ≤ owner → small .lines ≤ blocks → small .lines ≤ starts → byteSize small < stack →
+pub calls-room : {L : Limits} {s : List ℕ} {owner blocks starts up stack cur next out ends : ℕ} → Bounded L s →
+    (byteSize L ≤ cur) × ((byteSize L ≤ next) × ((byteSize L ≤ stack) × (byteSize L ≤ out))) → (blockSize L ≤ up) × (up < 2 ^ 32) →
+    (L .lines ≤ starts) × ((L .lines ≤ owner) × ((L .lines ≤ ends) × (L .lines ≤ blocks))) →
     ((length (linesOf s) ≤ owner) × ((length (linesOf s) ≤ blocks) × (length (linesOf s) ≤ starts)))
     × (((length (idsParents (linesOf s)) ≤ up) × (up < 2 ^ 32))
-    × (((length s < stack) × ((length s ≤ cur) × (length s ≤ next)))
+    × (((length (unlines (linesOf s)) ≤ stack) × ((length s ≤ cur) × (length s ≤ next)))
     × ((length (unlines (rebuildCalls (leavesOf plain) (linesOf s))) ≤ out) × (length (linesOf s) ≤ ends))))
-calls-room {s = s} r qu qc qn qo qr ko kb ks kt = (
-  (omega (arith, r .lines, r .sane .lines-reach), (omega (arith, r .lines, r .sane .lines-reach), omega (arith, r .lines, r .sane .lines-reach))),
+calls-room {s = s} r b u l = (
+  (omega (arith, r .lines, l .1 .0), (omega (arith, r .lines, l .1 .1 .1), omega (arith, r .lines, l .0))),
   (
-    (omega (arith, ids-parents-text s, r .braces), omega (arith, r .sane .bytes-reach)),
+    (omega (arith, ids-parents-text s, r .braces, u .0), u .1),
     (
-      (omega (arith, room-length r, r .sane .bytes-reach), (omega (arith, room-length r), omega (arith, room-length r))),
-      (omega (arith, room-fits (tame-calls plain) r), omega (arith, r .lines, r .sane .lines-reach)),
+      (omega (arith, room-lines r, b .1 .1 .0), (omega (arith, room-length r, b .0), omega (arith, room-length r, b .1 .0))),
+      (omega (arith, room-fits (tame-calls plain) r, b .1 .1 .1), omega (arith, r .lines, l .1 .1 .0)),
     ),
   ),
 )
 
-pub bind-room : {L : Limits} {s : List ℕ} {blocks starts up marks out ends : ℕ} → Bounded L s → up ≡ blockSize L → out ≡ byteSize L → small .lines ≤ ends → small .lines ≤ blocks → small .lines ≤ starts → small .lines ≤ marks →
+pub bind-room : {L : Limits} {s : List ℕ} {blocks starts up marks out ends : ℕ} → Bounded L s → byteSize L ≤ out → (blockSize L ≤ up) × (up < 2 ^ 32) →
+    (L .lines ≤ starts) × ((L .lines ≤ marks) × ((L .lines ≤ blocks) × (L .lines ≤ ends))) →
     ((length (linesOf s) ≤ blocks) × ((length (linesOf s) ≤ starts) × ((length (idsParents (linesOf s)) ≤ up) × (up < 2 ^ 32))))
     × ((length (linesOf s) ≤ marks) × ((length (unlines (bindDeclarators plain (linesOf s))) ≤ out) × (length (linesOf s) ≤ ends)))
-bind-room {s = s} r qu qo qr qb qs qm = (
-  (omega (arith, r .lines, r .sane .lines-reach), (omega (arith, r .lines, r .sane .lines-reach), (omega (arith, ids-parents-text s, r .braces), omega (arith, r .sane .bytes-reach)))),
-  (omega (arith, r .lines, r .sane .lines-reach), (omega (arith, room-fits (tame-bind plain-by-line) r), omega (arith, r .lines, r .sane .lines-reach))),
+bind-room {s = s} r b u l = (
+  (omega (arith, r .lines, l .1 .1 .0), (omega (arith, r .lines, l .0), (omega (arith, ids-parents-text s, r .braces, u .0), u .1))),
+  (omega (arith, r .lines, l .1 .0), (omega (arith, room-fits (tame-bind plain-by-line) r, b), omega (arith, r .lines, l .1 .1 .1))),
 )

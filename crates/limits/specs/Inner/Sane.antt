@@ -1,15 +1,13 @@
 -- What inner functions ask of limits, and of a text within them. Assumes nothing.
-use Prim.Native.Nat.{ℕ, _≤_}
+use Prim.Native.Nat.{ℕ, _≤_, _<_, _^_}
 use mathlib.Core.List.{List}
 use lib.ListN.{length}
 use Rattle.lines.specs.Steps.{splitLines}
 use Rattle.limits.specs.declared.Limits.{Limits}
-use Rattle.limits.specs.Entry.{small}
 
--- the tables that a step makes for itself reach: they are made for `small`
+-- the sizes of the work buffers, and the blocks of a text, are numbers of 32 bits
 pub record Sane (L : Limits) : Type 0 where
-  pub bytes-reach : L .bytes ≤ small .bytes
-  pub lines-reach : L .lines ≤ small .lines
+  pub bytes-reach : L .bytes < 2 ^ 30
 
 -- a text within limits
 pub record Within (L : Limits) (t : List ℕ) : Type 0 where

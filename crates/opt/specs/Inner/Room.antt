@@ -5,7 +5,8 @@ use mathlib.Core.List.{List, _++_}
 use lib.ListN.{length, drop}
 use Rattle.limits.specs.declared.Limits.{Limits}
 use Rattle.limits.specs.declared.Task.{Task}
-use Rattle.limits.specs.Entry.{byteSize, blockSize, blank}
+use Rattle.limits.specs.declared.Answer.{Answer}
+use Rattle.limits.specs.Entry.{byteSize, blockSize, blank, workAfter}
 
 -- the passes from a number up to another, in a mode, within limits
 abbrev pub taskOf : Limits → ℕ → ℕ → ℕ → Task
@@ -28,3 +29,17 @@ pub record Wiped (L : Limits) (a b c d e u a′ b′ c′ d′ e′ u′ : List 
   pub d-wiped : d′ ≡ blank (byteSize L) ++ drop (byteSize L) d
   pub e-wiped : e′ ≡ blank (byteSize L) ++ drop (byteSize L) e
   pub u-wiped : u′ ≡ blank (blockSize L) ++ drop (blockSize L) u
+
+-- the tables after an answer: all of each is used
+pub record Tables (y : Answer) (f g h v w x p q r t o f′ g′ h′ v′ w′ x′ p′ q′ r′ t′ o′ : List ℕ) : Type 0 where
+  pub f-after : f′ ≡ workAfter y (length f) f
+  pub g-after : g′ ≡ workAfter y (length g) g
+  pub h-after : h′ ≡ workAfter y (length h) h
+  pub v-after : v′ ≡ workAfter y (length v) v
+  pub w-after : w′ ≡ workAfter y (length w) w
+  pub x-after : x′ ≡ workAfter y (length x) x
+  pub p-after : p′ ≡ workAfter y (length p) p
+  pub q-after : q′ ≡ workAfter y (length q) q
+  pub r-after : r′ ≡ workAfter y (length r) r
+  pub t-after : t′ ≡ workAfter y (length t) t
+  pub o-after : o′ ≡ workAfter y (length o) o

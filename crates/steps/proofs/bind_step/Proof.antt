@@ -1,54 +1,73 @@
 -- `steps::bind_step` meets its contract. Assumes nothing.
 use borrow.Author.Needs.{needs}
-use mathlib.Core.Path.{ap}
+use mathlib.Core.Path.{ap, _∙_}
+use Prim.Native.Nat.{ℕ}
+use lib.ListN.{replicate}
 use Rattle.lines.specs.Lf.{unlines}
 use Rattle.lines.proofs.OutLaws.{wrote-as}
-use Rattle.steps.proofs.Tame.{table, bind-room}
+use Rattle.calls.proofs.Wipes.{wiped-all}
+use Rattle.steps.proofs.Tame.{bind-room}
 use Rattle.steps.proofs.StepLaws.{bind-mode, bind-left}
 use Rattle.steps.proofs.bind_step.Statement.{statement}
 use Rattle.steps.proofs.bind_step.Tie as tie
 
-slice-aggregate-bind-declarators : tie.Need-slice-aggregate-bind-declarators
-slice-aggregate-bind-declarators c = search needs
-
-slice-aggregate-bind-declarators-2 : tie.Need-slice-aggregate-bind-declarators-2
-slice-aggregate-bind-declarators-2 c = search needs
-
-slice-aggregate-bind-declarators-3 : tie.Need-slice-aggregate-bind-declarators-3
-slice-aggregate-bind-declarators-3 c = search needs
-
-slice-aggregate-bind-declarators-4 : tie.Need-slice-aggregate-bind-declarators-4
-slice-aggregate-bind-declarators-4 c = search needs
-
-slice-aggregate-bind-declarators-5 : tie.Need-slice-aggregate-bind-declarators-5
-slice-aggregate-bind-declarators-5 c = search needs
-
-slice-aggregate-bind-declarators-6 : tie.Need-slice-aggregate-bind-declarators-6
-slice-aggregate-bind-declarators-6 c = search needs
-
 bind-declarators-requires : tie.Need-bind-declarators-requires
-bind-declarators-requires c κs = let p = c .before .before .before .before .before .before .before .before .before .before .before .before .pre in bind-room (p .0) (p .1 .0) (p .1 .1) (table 1024) (table 1024) (table 1024) (table 1024)
+bind-declarators-requires c κs = let p = c .before .before .before .before .before .before .before .before .before .before .before .before .before .before .before .before .before .before .pre in bind-room (p .0) (p .1 .0) (p .1 .1 .0) (p .1 .1 .1)
+
+wipe-requires : tie.Need-wipe-requires
+wipe-requires c κs = search needs
+
+wipe-requires-2 : tie.Need-wipe-requires-2
+wipe-requires-2 c κs = search needs
+
+wipe-requires-3 : tie.Need-wipe-requires-3
+wipe-requires-3 c κs = search needs
+
+wipe-requires-4 : tie.Need-wipe-requires-4
+wipe-requires-4 c κs = search needs
 
 same-length : tie.Need-same-length
-same-length c = search needs
+same-length c = c .before .before .before .before .before .before .before .before .before .before .before .before .before .before .wipe .kept .0 ∙ c .before .before .before .before .before .before .before .before .before .before .before .before .before .before .before .before .before .before .before .before .before .before .before .before .before .before .before .before .before .before .before .before .bind-declarators .kept .1 .1 .1 .1 .0
 
 same-length-2 : tie.Need-same-length-2
-same-length-2 c = search needs
+same-length-2 c = c .before .before .before .before .before .before .before .before .before .before .wipe2 .kept .0 ∙ c .before .before .before .before .before .before .before .before .before .before .before .before .before .before .before .before .before .before .before .before .before .before .before .before .before .before .before .before .before .before .before .before .bind-declarators .kept .1 .1 .1 .1 .1 .1 .0
+
+same-length-3 : tie.Need-same-length-3
+same-length-3 c = c .before .before .before .before .before .before .before .before .before .before .before .before .before .before .before .before .before .before .before .before .before .before .before .before .before .before .before .before .before .before .before .before .bind-declarators .kept .1 .1 .1 .1 .1 .0
+
+same-length-4 : tie.Need-same-length-4
+same-length-4 c = c .before .before .before .before .before .before .wipe3 .kept .0 ∙ c .before .before .before .before .before .before .before .before .before .before .before .before .before .before .before .before .before .before .before .before .before .before .before .before .before .before .before .before .before .before .before .before .bind-declarators .kept .1 .1 .1 .0
+
+same-length-5 : tie.Need-same-length-5
+same-length-5 c = c .before .before .wipe4 .kept .0 ∙ c .before .before .before .before .before .before .before .before .before .before .before .before .before .before .before .before .before .before .before .before .before .before .before .before .before .before .before .before .before .before .before .before .bind-declarators .kept .1 .1 .0
+
+same-length-6 : tie.Need-same-length-6
+same-length-6 c = c .before .before .before .before .before .before .before .before .before .before .before .before .before .before .before .before .before .before .before .before .before .before .before .before .before .before .before .before .before .before .before .before .bind-declarators .kept .1 .1 .1 .1 .1 .1 .1 .0
+
+same-length-7 : tie.Need-same-length-7
+same-length-7 c = c .before .before .before .before .before .before .before .before .before .before .before .before .before .before .before .before .before .before .before .before .before .before .before .before .before .before .before .before .before .before .before .before .bind-declarators .kept .1 .1 .1 .1 .1 .1 .1 .1 .0
+
+same-length-8 : tie.Need-same-length-8
+same-length-8 c = c .before .before .before .before .before .before .before .before .before .before .before .before .before .before .before .before .before .before .before .before .before .before .before .before .before .before .before .before .before .before .before .before .bind-declarators .kept .1 .1 .1 .1 .1 .1 .1 .1 .1 .0
 
 returns : tie.Need-returns
-returns c = let p = c .before .before .before .before .before .before .before .before .before .before .bind-declarators .ensures in (wrote-as (ap unlines (bind-mode (c .before .before .before .before .before .before .before .before .before .before .before .before .before .before .before .before .before .before .before .before .before .before .before .args .m .mode .0) _)) (p .0), bind-left _ (p .1 .0 .1 .1))
+returns c = let p = c .before .before .before .before .before .before .before .before .before .before .before .before .before .before .before .before .before .before .before .before .before .before .before .before .before .before .before .before .before .before .before .before .bind-declarators .ensures in (wrote-as (ap unlines (bind-mode (c .before .before .before .before .before .before .before .before .before .before .before .before .before .before .before .before .before .before .before .before .before .before .before .before .before .before .before .before .before .before .before .before .before .before .before .before .before .before .before .before .before .before .before .before .before .before .before .before .before .before .before .args .m .mode .0) _)) (p .0), (bind-left _ (p .1 .0 .1 .1), (wiped-all (c .before .before .before .before .before .before .before .before .before .before .before .before .before .before .before .before .before .before .before .before .before .before .before .before .before .before .before .before .before .before .before .before .bind-declarators .kept .1 .1 .1 .1 .0) (c .before .before .before .before .before .before .before .before .before .before .before .before .before .before .wipe .ensures), (wiped-all (c .before .before .before .before .before .before .before .before .before .before .before .before .before .before .before .before .before .before .before .before .before .before .before .before .before .before .before .before .before .before .before .before .bind-declarators .kept .1 .1 .1 .1 .1 .1 .0) (c .before .before .before .before .before .before .before .before .before .before .wipe2 .ensures), (c .before .before .before .before .before .before .wipe3 .ensures ∙ ap (λ (n : ℕ). replicate n 0) (c .before .before .before .before .before .before .before .before .before .before .before .before .before .before .before .before .before .before .before .before .before .before .before .before .before .before .before .before .before .before .before .before .bind-declarators .kept .1 .1 .1 .0), (c .before .before .wipe4 .ensures ∙ ap (λ (n : ℕ). replicate n 0) (c .before .before .before .before .before .before .before .before .before .before .before .before .before .before .before .before .before .before .before .before .before .before .before .before .before .before .before .before .before .before .before .before .bind-declarators .kept .1 .1 .0), p .1 .1 .1 .0))))))
 
 pub bind-step-spec : {M : Type 1} → statement M
 bind-step-spec =
     tie.close
     (tie.spec
-    slice-aggregate-bind-declarators
-    slice-aggregate-bind-declarators-2
-    slice-aggregate-bind-declarators-3
-    slice-aggregate-bind-declarators-4
-    slice-aggregate-bind-declarators-5
-    slice-aggregate-bind-declarators-6
     bind-declarators-requires
+    wipe-requires
+    wipe-requires-2
+    wipe-requires-3
+    wipe-requires-4
     same-length
     same-length-2
+    same-length-3
+    same-length-4
+    same-length-5
+    same-length-6
+    same-length-7
+    same-length-8
     returns)

@@ -1,73 +1,88 @@
 -- `steps::once_step` meets its contract. Assumes nothing.
 use borrow.Author.Needs.{needs}
-use mathlib.Core.Path.{refl}
+use mathlib.Core.Path.{ap, _∙_}
+use Prim.Native.Nat.{ℕ}
+use lib.ListN.{replicate}
 use Rattle.reading.specs.Reading.{readingOf}
-use Rattle.steps.proofs.Tame.{table, once-room}
+use Rattle.calls.proofs.Wipes.{wiped-all}
+use Rattle.steps.proofs.Tame.{once-room}
 use Rattle.steps.proofs.StepLaws.{once-left}
 use Rattle.steps.proofs.once_step.Statement.{statement}
 use Rattle.steps.proofs.once_step.Tie as tie
 
-slice-aggregate-optimize-once : tie.Need-slice-aggregate-optimize-once
-slice-aggregate-optimize-once c = search needs
-
-slice-aggregate-optimize-once-2 : tie.Need-slice-aggregate-optimize-once-2
-slice-aggregate-optimize-once-2 c = search needs
-
-slice-aggregate-optimize-once-3 : tie.Need-slice-aggregate-optimize-once-3
-slice-aggregate-optimize-once-3 c = search needs
-
-slice-aggregate-optimize-once-4 : tie.Need-slice-aggregate-optimize-once-4
-slice-aggregate-optimize-once-4 c = search needs
-
-slice-aggregate-optimize-once-5 : tie.Need-slice-aggregate-optimize-once-5
-slice-aggregate-optimize-once-5 c = search needs
-
-slice-aggregate-optimize-once-6 : tie.Need-slice-aggregate-optimize-once-6
-slice-aggregate-optimize-once-6 c = search needs
-
-slice-aggregate-optimize-once-7 : tie.Need-slice-aggregate-optimize-once-7
-slice-aggregate-optimize-once-7 c = search needs
-
-slice-aggregate-optimize-once-8 : tie.Need-slice-aggregate-optimize-once-8
-slice-aggregate-optimize-once-8 c = search needs
-
-slice-aggregate-optimize-once-9 : tie.Need-slice-aggregate-optimize-once-9
-slice-aggregate-optimize-once-9 c = search needs
-
 optimize-once-requires : tie.Need-optimize-once-requires
-optimize-once-requires c κs = let p = c .before .before .before .before .before .before .before .before .before .before .before .before .before .before .before .before .before .before .before .pre in once-room (readingOf (c .before .before .before .before .before .before .before .before .before .before .before .before .before .before .before .before .before .before .before .args .m .mode .0)) (p .0) (p .1 .0) (p .1 .1 .0) (p .1 .1 .1 .0) (p .1 .1 .1 .1) (table 1024) (table 1024) (table 1024) (refl, refl)
+optimize-once-requires c κs = let p = c .before .before .before .before .before .before .before .before .before .before .before .before .before .before .before .before .before .before .before .before .before .before .before .before .before .before .before .before .pre in once-room (readingOf (c .before .before .before .before .before .before .before .before .before .before .before .before .before .before .before .before .before .before .before .before .before .before .before .before .before .before .before .before .args .m .mode .0)) (p .0) (p .1 .0) (p .1 .1 .0) (p .1 .1 .1 .0) (p .1 .1 .1 .1)
+
+wipe-requires : tie.Need-wipe-requires
+wipe-requires c κs = search needs
+
+wipe-requires-2 : tie.Need-wipe-requires-2
+wipe-requires-2 c κs = search needs
+
+wipe-requires-3 : tie.Need-wipe-requires-3
+wipe-requires-3 c κs = search needs
 
 same-length : tie.Need-same-length
-same-length c = search needs
+same-length c = c .before .before .before .before .before .before .before .before .before .before .before .before .before .before .before .before .before .before .before .before .before .before .before .before .before .before .before .before .before .before .before .before .before .before .before .before .before .before .optimize-once .kept .1 .1 .1 .0
 
 same-length-2 : tie.Need-same-length-2
-same-length-2 c = search needs
+same-length-2 c = c .before .before .before .before .before .before .before .before .before .before .before .before .before .before .before .before .before .before .before .before .before .before .before .before .before .before .before .before .before .before .before .before .before .before .before .before .before .before .optimize-once .kept .1 .1 .1 .1 .0
 
 same-length-3 : tie.Need-same-length-3
-same-length-3 c = search needs
+same-length-3 c = c .before .before .before .before .before .before .before .before .before .before .wipe .kept .0 ∙ c .before .before .before .before .before .before .before .before .before .before .before .before .before .before .before .before .before .before .before .before .before .before .before .before .before .before .before .before .before .before .before .before .before .before .before .before .before .before .optimize-once .kept .1 .1 .1 .1 .1 .0
 
 same-length-4 : tie.Need-same-length-4
-same-length-4 c = search needs
+same-length-4 c = c .before .before .before .before .before .before .wipe2 .kept .0 ∙ c .before .before .before .before .before .before .before .before .before .before .before .before .before .before .before .before .before .before .before .before .before .before .before .before .before .before .before .before .before .before .before .before .before .before .before .before .before .before .optimize-once .kept .1 .1 .1 .1 .1 .1 .0
+
+same-length-5 : tie.Need-same-length-5
+same-length-5 c = c .before .before .before .before .before .before .before .before .before .before .before .before .before .before .before .before .before .before .before .before .before .before .before .before .before .before .before .before .before .before .before .before .before .before .before .before .before .before .optimize-once .kept .1 .1 .1 .1 .1 .1 .1 .1 .1 .1 .1 .1 .0
+
+same-length-6 : tie.Need-same-length-6
+same-length-6 c = c .before .before .before .before .before .before .before .before .before .before .before .before .before .before .before .before .before .before .before .before .before .before .before .before .before .before .before .before .before .before .before .before .before .before .before .before .before .before .optimize-once .kept .1 .1 .1 .1 .1 .1 .1 .1 .0
+
+same-length-7 : tie.Need-same-length-7
+same-length-7 c = c .before .before .before .before .before .before .before .before .before .before .before .before .before .before .before .before .before .before .before .before .before .before .before .before .before .before .before .before .before .before .before .before .before .before .before .before .before .before .optimize-once .kept .1 .1 .1 .1 .1 .1 .1 .1 .1 .0
+
+same-length-8 : tie.Need-same-length-8
+same-length-8 c = c .before .before .before .before .before .before .before .before .before .before .before .before .before .before .before .before .before .before .before .before .before .before .before .before .before .before .before .before .before .before .before .before .before .before .before .before .before .before .optimize-once .kept .1 .1 .1 .1 .1 .1 .1 .1 .1 .1 .0
+
+same-length-9 : tie.Need-same-length-9
+same-length-9 c = c .before .before .before .before .before .before .before .before .before .before .before .before .before .before .before .before .before .before .before .before .before .before .before .before .before .before .before .before .before .before .before .before .before .before .before .before .before .before .optimize-once .kept .1 .1 .1 .1 .1 .1 .1 .1 .1 .1 .1 .0
+
+same-length-10 : tie.Need-same-length-10
+same-length-10 c = c .before .before .wipe3 .kept .0 ∙ c .before .before .before .before .before .before .before .before .before .before .before .before .before .before .before .before .before .before .before .before .before .before .before .before .before .before .before .before .before .before .before .before .before .before .before .before .before .before .optimize-once .kept .1 .1 .1 .1 .1 .1 .1 .0
+
+same-length-11 : tie.Need-same-length-11
+same-length-11 c = c .before .before .before .before .before .before .before .before .before .before .before .before .before .before .before .before .before .before .before .before .before .before .before .before .before .before .before .before .before .before .before .before .before .before .before .before .before .before .optimize-once .kept .1 .1 .1 .1 .1 .1 .1 .1 .1 .1 .1 .1 .1 .0
+
+same-length-12 : tie.Need-same-length-12
+same-length-12 c = c .before .before .before .before .before .before .before .before .before .before .before .before .before .before .before .before .before .before .before .before .before .before .before .before .before .before .before .before .before .before .before .before .before .before .before .before .before .before .optimize-once .kept .1 .1 .1 .1 .1 .1 .1 .1 .1 .1 .1 .1 .1 .1 .0
+
+same-length-13 : tie.Need-same-length-13
+same-length-13 c = c .before .before .before .before .before .before .before .before .before .before .before .before .before .before .before .before .before .before .before .before .before .before .before .before .before .before .before .before .before .before .before .before .before .before .before .before .before .before .optimize-once .kept .1 .1 .1 .1 .1 .1 .1 .1 .1 .1 .1 .1 .1 .1 .1 .0
 
 returns : tie.Need-returns
-returns c = let p = c .before .before .before .before .before .before .before .before .before .before .before .before .before .before .before .before .before .optimize-once .ensures in let q = p .1 .0 in (p .0, once-left _ _ (q .0) (q .1 .0) (q .1 .1 .1 .1 .1))
+returns c = let p = c .before .before .before .before .before .before .before .before .before .before .before .before .before .before .before .before .before .before .before .before .before .before .before .before .before .before .before .before .before .before .before .before .before .before .before .before .before .before .optimize-once .ensures in let b = p .1 .0 in let z = p .1 .1 in (p .0, (once-left _ _ (b .0) (b .1 .0) (b .1 .1 .1 .1 .1), (wiped-all (c .before .before .before .before .before .before .before .before .before .before .before .before .before .before .before .before .before .before .before .before .before .before .before .before .before .before .before .before .before .before .before .before .before .before .before .before .before .before .optimize-once .kept .1 .1 .1 .1 .1 .0) (c .before .before .before .before .before .before .before .before .before .before .wipe .ensures), (wiped-all (c .before .before .before .before .before .before .before .before .before .before .before .before .before .before .before .before .before .before .before .before .before .before .before .before .before .before .before .before .before .before .before .before .before .before .before .before .before .before .optimize-once .kept .1 .1 .1 .1 .1 .1 .0) (c .before .before .before .before .before .before .wipe2 .ensures), (z .1 .1 .1 .0, (z .0, (z .1 .0, (z .1 .1 .0, (c .before .before .wipe3 .ensures ∙ ap (λ (n : ℕ). replicate n 0) (c .before .before .before .before .before .before .before .before .before .before .before .before .before .before .before .before .before .before .before .before .before .before .before .before .before .before .before .before .before .before .before .before .before .before .before .before .before .before .optimize-once .kept .1 .1 .1 .1 .1 .1 .1 .0), (z .1 .1 .1 .1 .0, z .1 .1 .1 .1 .1))))))))))
 
 pub once-step-spec : {M : Type 1} → statement M
 once-step-spec =
     tie.close
     (tie.spec
-    slice-aggregate-optimize-once
-    slice-aggregate-optimize-once-2
-    slice-aggregate-optimize-once-3
-    slice-aggregate-optimize-once-4
-    slice-aggregate-optimize-once-5
-    slice-aggregate-optimize-once-6
-    slice-aggregate-optimize-once-7
-    slice-aggregate-optimize-once-8
-    slice-aggregate-optimize-once-9
     optimize-once-requires
+    wipe-requires
+    wipe-requires-2
+    wipe-requires-3
     same-length
     same-length-2
     same-length-3
     same-length-4
+    same-length-5
+    same-length-6
+    same-length-7
+    same-length-8
+    same-length-9
+    same-length-10
+    same-length-11
+    same-length-12
+    same-length-13
     returns)

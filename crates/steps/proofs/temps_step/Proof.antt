@@ -7,17 +7,8 @@ use Rattle.steps.proofs.StepLaws.{temps-left}
 use Rattle.steps.proofs.temps_step.Statement.{statement}
 use Rattle.steps.proofs.temps_step.Tie as tie
 
-slice-aggregate-prune-dead-temps : tie.Need-slice-aggregate-prune-dead-temps
-slice-aggregate-prune-dead-temps c = search needs
-
-slice-aggregate-prune-dead-temps-2 : tie.Need-slice-aggregate-prune-dead-temps-2
-slice-aggregate-prune-dead-temps-2 c = search needs
-
-slice-aggregate-prune-dead-temps-3 : tie.Need-slice-aggregate-prune-dead-temps-3
-slice-aggregate-prune-dead-temps-3 c = search needs
-
 prune-dead-temps-requires : tie.Need-prune-dead-temps-requires
-prune-dead-temps-requires c κs = let p = c .before .before .before .before .before .before .before .before .pre in (omega (arith, room-length (p .0), p .1 .0), omega (arith, room-fits (tame-temps (readingOf (c .before .before .before .before .before .before .before .before .args .m .mode .0))) (p .0), p .1 .1))
+prune-dead-temps-requires c κs = let p = c .before .before .before .before .before .before .before .before .before .before .before .pre in (omega (arith, room-length (p .0), p .1 .0), omega (arith, room-fits (tame-temps (readingOf (c .before .before .before .before .before .before .before .before .before .before .before .args .m .mode .0))) (p .0), p .1 .1))
 
 same-length : tie.Need-same-length
 same-length c = search needs
@@ -25,17 +16,26 @@ same-length c = search needs
 same-length-2 : tie.Need-same-length-2
 same-length-2 c = search needs
 
+same-length-3 : tie.Need-same-length-3
+same-length-3 c = search needs
+
+same-length-4 : tie.Need-same-length-4
+same-length-4 c = search needs
+
+same-length-5 : tie.Need-same-length-5
+same-length-5 c = search needs
+
 returns : tie.Need-returns
-returns c = let p = c .before .before .before .before .before .before .before .prune-dead-temps .ensures in (p .0, temps-left _ _ _ (p .1 .0))
+returns c = let p = c .before .before .before .before .before .before .before .before .before .before .prune-dead-temps .ensures in let z = p .1 .1 in (p .0, (temps-left _ _ _ (p .1 .0), (z .1 .0, (z .1 .1, z .0))))
 
 pub temps-step-spec : {M : Type 1} → statement M
 temps-step-spec =
     tie.close
     (tie.spec
-    slice-aggregate-prune-dead-temps
-    slice-aggregate-prune-dead-temps-2
-    slice-aggregate-prune-dead-temps-3
     prune-dead-temps-requires
     same-length
     same-length-2
+    same-length-3
+    same-length-4
+    same-length-5
     returns)

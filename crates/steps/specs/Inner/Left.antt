@@ -1,7 +1,7 @@
 -- What a step leaves in the work buffers that it does not write its lines to. Assumes nothing.
 use Prim.Native.Nat.{ℕ}
 use mathlib.Core.Path.{_≡_}
-use mathlib.Core.Bool.{cond}
+use mathlib.Core.Bool.{Bool, cond, _||_}
 use mathlib.Core.List.{List}
 use lib.Dec.{eqb}
 use lib.ListN.{length, replicate}
@@ -32,9 +32,12 @@ leftD mode k s d =
     (cond (eqb k 4) (putAt d 0 (replicate (length s) 0))
     d))
 
--- the buffer e: the lines of the second round of pass 3
+-- the buffer e: the lines of the second round of pass 3, or zeros over as many bytes as the stack of pass 4 has
 unfoldable pub leftE : (mode k : ℕ) → List ℕ → List ℕ → List ℕ
-leftE mode k s e = cond (eqb k 3) (putAt e 0 (unlines (round (readingOf mode) (round (readingOf mode) (linesOf s))))) e
+leftE mode k s e =
+    cond (eqb k 3) (putAt e 0 (unlines (round (readingOf mode) (round (readingOf mode) (linesOf s)))))
+    (cond (eqb k 4) (putAt e 0 (replicate (length (unlines (linesOf s))) 0))
+    e)
 
 -- the block numbers u: the parents of the blocks that passes 2, 4 and 6 go by
 unfoldable pub leftU : ℕ → List ℕ → List ℕ → List ℕ
@@ -50,3 +53,56 @@ pub record Left (mode k : ℕ) (s c d e u c′ d′ e′ u′ : List ℕ) : Type
   pub d-left : d′ ≡ leftD mode k s d
   pub e-left : e′ ≡ leftE mode k s e
   pub u-left : u′ ≡ leftU k s u
+
+-- a table that a step used is zeros, and another is as it was
+unfoldable pub cleared : Bool → List ℕ → List ℕ
+cleared used d = cond used (replicate (length d) 0) d
+
+-- which steps use the tables of bytes
+abbrev pub usesF : ℕ → Bool
+usesF k = eqb k 1 || (eqb k 2 || (eqb k 3 || (eqb k 4 || eqb k 6)))
+
+abbrev pub usesG : ℕ → Bool
+usesG k = eqb k 1 || (eqb k 2 || eqb k 6)
+
+abbrev pub usesH : ℕ → Bool
+usesH k = eqb k 2
+
+-- those of numbers of 32 bits
+abbrev pub usesV : ℕ → Bool
+usesV k = eqb k 2 || eqb k 4
+
+-- and those of numbers
+abbrev pub usesP : ℕ → Bool
+usesP k = eqb k 2 || (eqb k 4 || eqb k 6)
+
+abbrev pub usesQ : ℕ → Bool
+usesQ k = eqb k 1 || (eqb k 2 || (eqb k 4 || eqb k 6))
+
+abbrev pub usesR : ℕ → Bool
+usesR k = eqb k 2 || (eqb k 4 || (eqb k 5 || eqb k 6))
+
+abbrev pub usesT : ℕ → Bool
+usesT k = eqb k 6
+
+-- the tables after step k, but for t
+pub record Cleared (k : ℕ) (f g h v w x p q r f′ g′ h′ v′ w′ x′ p′ q′ r′ : List ℕ) : Type 0 where
+  pub f-left : f′ ≡ cleared (usesF k) f
+  pub g-left : g′ ≡ cleared (usesG k) g
+  pub h-left : h′ ≡ cleared (usesH k) h
+  pub v-left : v′ ≡ cleared (usesV k) v
+  pub w-left : w′ ≡ cleared (usesV k) w
+  pub x-left : x′ ≡ cleared (usesV k) x
+  pub p-left : p′ ≡ cleared (usesP k) p
+  pub q-left : q′ ≡ cleared (usesQ k) q
+  pub r-left : r′ ≡ cleared (usesR k) r
+
+-- what a step without blocks leaves in the buffers and tables that it is lent
+pub record Few (mode k : ℕ) (s c d e f g q r c′ d′ e′ f′ g′ q′ r′ : List ℕ) : Type 0 where
+  pub c-left : c′ ≡ leftC mode k s c
+  pub d-left : d′ ≡ leftD mode k s d
+  pub e-left : e′ ≡ leftE mode k s e
+  pub f-left : f′ ≡ cleared (usesF k) f
+  pub g-left : g′ ≡ cleared (usesG k) g
+  pub q-left : q′ ≡ cleared (usesQ k) q
+  pub r-left : r′ ≡ cleared (usesR k) r
