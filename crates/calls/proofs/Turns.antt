@@ -137,8 +137,19 @@ module _ {t : List ℕ} {n i e : ℕ} {bs fs owner stack : List ℕ} {o : ℕ} {
   beyond-set : drop (suc n) (set owner n 0) ≡ drop (suc n) owner
   beyond-set = drop-set-lt (suc n) owner n 0 (omega arith)
 
+  -- the line and its LF are among the bytes of all lines
+  line-within : e < length (unlines (linesOf t))
+  unfolding unlines
+  line-within =
+      let above : List (List ℕ) = take n (linesOf t) in
+      let below : List (List ℕ) = linesOf (drop (min (e + 1) (length t)) t) in
+      let whole = ap (λ (l : List (List ℕ)). length (unlines l)) (sym (take-append-drop n (linesOf t)) ∙ ap (λ (l : List (List ℕ)). above ++ l) (sym lines-here))
+      ∙ ap length (unlines-append above (part i e t ∷ below)) ∙ length-append (unlines above) (unlines (part i e t ∷ below)) in
+      let front : length (unlines above) ≡ i = ap length (sym (v .spot .above)) ∙ length-take-le i t (omega (arith, v .spot .inside)) in
+      omega (arith, whole, front, length-append (part i e t) (10 ∷ unlines below), ap length line-here, line-size, end-after)
+
   pub push-room : o + length (unlines (part i e t ∷ [])) ≤ length stack
-  push-room = omega (arith, line-long (part i e t), ap length line-here, line-size, v .low, v .stack-room, end-in, end-after)
+  push-room = omega (arith, line-long (part i e t), ap length line-here, line-size, v .low, v .stack-room, line-within, end-after)
 
   -- it takes nothing in
   pub turn-plain : (r : Bool) → r ≡ isCall (part i e t) && (eqb (getD fs n 0) 1 && not (isControlLine (part i e t))) → r ≡ false → {stack′ : List ℕ} {x : ℕ} →
@@ -189,7 +200,7 @@ module _ {t : List ℕ} {n i e : ℕ} {bs fs owner stack : List ℕ} {o : ℕ} {
       made-size = ap length made-is ∙ length-take-le m cur″ (p .sized)
 
       pub made-room : height + length (unlines (l ∷ [])) ≤ length stack
-      made-room = omega (arith, line-long l, made-size, p .room, size-is, v .low, end-in, end-after, v .stack-room)
+      made-room = omega (arith, line-long l, made-size, p .room, size-is, v .low, line-within, end-after, v .stack-room)
 
       owner-last : getD owner′ n 0 ≡ 0
       owner-last =
@@ -226,11 +237,11 @@ pub record Passes (t bs fs owner₀ stack₀ cur₀ next₀ owner stack cur next
   pub same-cur : length cur ≡ length cur₀
   pub same-next : length next ≡ length next₀
   pub owner-room : length (linesOf t) ≤ length owner₀
-  pub stack-room : length t < length stack₀
+  pub stack-room : length (unlines (linesOf t)) ≤ length stack₀
   pub cur-room : length t ≤ length cur₀
   pub next-room : length t ≤ length next₀
 
-pub passes-start : {t bs fs owner stack cur next : List ℕ} → Placed t bs fs → length (linesOf t) ≤ length owner → length t < length stack → length t ≤ length cur → length t ≤ length next →
+pub passes-start : {t bs fs owner stack cur next : List ℕ} → Placed t bs fs → length (linesOf t) ≤ length owner → length (unlines (linesOf t)) ≤ length stack → length t ≤ length cur → length t ≤ length next →
     Passes t bs fs owner stack cur next owner stack cur next 0 0 0
 unfolding rowsAt rowsTo actsUp ownersOf apply unlines
 passes-start p a b c d = record {

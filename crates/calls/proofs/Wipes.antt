@@ -1,13 +1,15 @@
 -- Laws of the buffers that are wiped at the end, and of the tables as they are lent. Assumes nothing.
 use Prim.Native.Nat.{ℕ, _+_, _-_, _≤_}
-use mathlib.Core.Path.{_≡_, sym, ap, _∙_}
-use mathlib.Core.List.{List, _++_}
+use mathlib.Core.Path.{_≡_, sym, ap, subst, _∙_}
+use mathlib.Core.Bool.{true, false}
+use mathlib.Core.List.{List, [], _∷_, _++_}
 use native.Mathlib.Omega.{arith}
-use lib.ListN.{length, take, drop, replicate, length-replicate}
+use lib.ListN.{length, take, drop, replicate, length-append, length-replicate}
 use lib.Seq.{length-take-le}
-use Rattle.lines.specs.Lf.{part, linesOf, unlines}
+use Rattle.lines.specs.Lf.{part, linesOf, unlines, endsIn}
 use Rattle.lines.specs.Inner.Out.{putAt, Wrote}
 use Rattle.lines.proofs.OutLaws.{wrote-whole}
+use Rattle.lines.proofs.StepLaws.{missingLf, missing-ended, missing-empty, missing-open, lines-text}
 use Rattle.place.specs.Blocks.{cleaned}
 use Rattle.place.specs.Inner.Blocks.{blockIds}
 use Rattle.place.specs.Starts.{startsGo}
@@ -26,7 +28,7 @@ wiped-all {d} e w = wrote-whole w (length-replicate {A = ℕ} (length d) 0) ∙ 
 
 -- ---- the tables
 
-pub placed-by : {t b₀ b s₀ s : List ℕ} {r : ℕ} → length (linesOf t) ≤ length b₀ → length (linesOf t) ≤ length s₀ → Filled b₀ (blockIds (linesOf t)) b r → Filled s₀ (flagsOf (startsGo (cleaned (linesOf t)) mathlib.Core.Bool.true)) s r → Placed t b s
+pub placed-by : {t b₀ b s₀ s : List ℕ} {r : ℕ} → length (linesOf t) ≤ length b₀ → length (linesOf t) ≤ length s₀ → Filled b₀ (blockIds (linesOf t)) b r → Filled s₀ (flagsOf (startsGo (cleaned (linesOf t)) true)) s r → Placed t b s
 placed-by {t} {b₀} {b} {s₀} {s} {r} h k f g =
     let l = lengths (linesOf t) in
     let n : length (linesOf t) ≡ r = sym (f .place ∙ l .by-block) in
@@ -58,3 +60,22 @@ front-wiped d e n h q =
       place = sym k;
       holds = ap (λ (x : List ℕ). x ++ drop n d) (q ∙ ap (λ (j : ℕ). replicate j 0) (length-take-le n d h)) ∙ ap (λ (j : ℕ). replicate n 0 ++ drop j d) (sym k);
     }
+
+-- so where the number of its bytes is given by another
+pub whole-wiped : (d e : List ℕ) {m n : ℕ} → m ≡ n → m ≤ length d → e ≡ replicate (length (take m d)) 0 → Wrote d 0 (replicate n 0) (e ++ drop m d) n
+whole-wiped d e {m} q h z = subst (λ (k : ℕ). Wrote d 0 (replicate k 0) (e ++ drop m d) k) q (front-wiped d e m h z)
+
+-- ---- the bytes of a text, with the LF that its last line may lack
+
+module _ (t : List ℕ) where
+  size-by : (m : List ℕ) → missingLf t ≡ m → length t + length m ≡ length (unlines (linesOf t))
+  size-by m e = sym (ap length (lines-text t) ∙ length-append t (missingLf t) ∙ ap (λ (x : List ℕ). length t + length x) e)
+
+  pub size-ended : endsIn 10 t ≡ true → length t ≡ length (unlines (linesOf t))
+  size-ended e = omega (arith, size-by [] (missing-ended t e))
+
+  pub size-empty : length t ≡ 0 → length t ≡ length (unlines (linesOf t))
+  size-empty e = omega (arith, size-by [] (missing-empty t e))
+
+  pub size-open : endsIn 10 t ≡ false → (length t ≡ 0 → ⊥) → length t + 1 ≡ length (unlines (linesOf t))
+  size-open e n = size-by (10 ∷ []) (missing-open t e n)

@@ -436,7 +436,7 @@ fn rebuild_lines(
     recs: &mut [records::LineRec],
 ) -> usize
     requires { ⌜ (0 < length (now recs)) × ((Placed (now text) (now blocks) (now starts))
-        × ((length (linesOf (now text)) ≤ length (now owner)) × ((length (now text) < length (now stack))
+        × ((length (linesOf (now text)) ≤ length (now owner)) × ((length (unlines (linesOf (now text))) ≤ length (now stack))
         × ((length (now text) ≤ length (now cur)) × ((length (now text) ≤ length (now next)) × ((Told (now text) (now ends) (now blocks) m) × (Spans (now text) (now notes)))))))) ⌝ }
     ensures { λ r. ⌜ Rebuilt (now (text .entry)) (now (owner .entry)) (now (owner .exit)) (now (stack .exit)) r ⌝ }
 {
@@ -479,7 +479,7 @@ fn rebuild_window(
     next: &mut [u8],
 ) -> usize
     requires { ⌜ (Placed (now text) (now blocks) (now starts))
-        × ((length (linesOf (now text)) ≤ length (now owner)) × ((length (now text) < length (now stack))
+        × ((length (linesOf (now text)) ≤ length (now owner)) × ((length (unlines (linesOf (now text))) ≤ length (now stack))
         × ((length (now text) ≤ length (now cur)) × ((length (now text) ≤ length (now next)) × ((Told (now text) (now ends) (now blocks) m) × (Spans (now text) (now notes))))))) ⌝ }
     ensures { λ r. ⌜ Rebuilt (now (text .entry)) (now (owner .entry)) (now (owner .exit)) (now (stack .exit)) r ⌝ }
 {
@@ -514,7 +514,7 @@ fn rebuild_with(
     out: &mut [u8],
 ) -> usize
     requires { ⌜ ((Placed (now text) (now blocks) (now starts))
-        × ((length (linesOf (now text)) ≤ length (now owner)) × ((length (now text) < length (now stack))
+        × ((length (linesOf (now text)) ≤ length (now owner)) × ((length (unlines (linesOf (now text))) ≤ length (now stack))
         × ((length (now text) ≤ length (now cur)) × ((length (now text) ≤ length (now next))
         × (length (unlines (rebuildCalls (leavesOf plain) (linesOf (now text)))) ≤ length (now out)))))))
         × ((Told (now text) (now ends) (now blocks) m) × (Spans (now text) (now notes))) ⌝ }
@@ -542,6 +542,20 @@ fn rebuild_with(
     r
 }
 
+// How many bytes a text has, with the LF that its last line may lack.
+fn whole_size(text: &[u8]) -> usize
+    ensures { λ r. ⌜ r ≡ length (unlines (linesOf (now (text .entry)))) ⌝ }
+{
+    let n = text.len();
+    if lines::ends_lf(text) {
+        return n;
+    }
+    if n == 0 {
+        return n;
+    }
+    n + 1
+}
+
 // The values of stores go back into the call that follows them. Each line is followed by one LF; `owner` gets for each line how far below it
 // the line stands that took it in, or 0, `ends`, `blocks`, `starts` and `up` are left as `place::place_lines` fills them, and the front of the
 // three buffers before `out` is wiped.
@@ -563,14 +577,14 @@ pub fn rebuild_calls(
 ) -> usize
     requires { ⌜ ((length (linesOf (now text)) ≤ length (now owner)) × ((length (linesOf (now text)) ≤ length (now blocks)) × (length (linesOf (now text)) ≤ length (now starts))))
         × (((length (idsParents (linesOf (now text))) ≤ length (now up)) × (length (now up) < 2 ^ 32))
-        × (((length (now text) < length (now stack)) × ((length (now text) ≤ length (now cur)) × (length (now text) ≤ length (now next))))
+        × (((length (unlines (linesOf (now text))) ≤ length (now stack)) × ((length (now text) ≤ length (now cur)) × (length (now text) ≤ length (now next))))
         × ((length (unlines (rebuildCalls (leavesOf plain) (linesOf (now text)))) ≤ length (now out)) × (length (linesOf (now text)) ≤ length (now ends))))) ⌝ }
     ensures answer { λ r. ⌜ Wrote (now (out .entry)) 0 (unlines (rebuildCalls (leavesOf plain) (linesOf (now (text .entry))))) (now (out .exit)) r ⌝ }
     ensures owners { λ _. ⌜ Filled (now (owner .entry)) (ownersOf (rebuildCallsActs (leavesOf plain) (linesOf (now (text .entry))))) (now (owner .exit)) (length (linesOf (now (text .entry)))) ⌝ }
     ensures tables { λ _. ⌜ (Filled (now (blocks .entry)) (blockIds (linesOf (now (text .entry)))) (now (blocks .exit)) (length (linesOf (now (text .entry)))))
         × ((Filled (now (starts .entry)) (flagsOf (startsGo (cleaned (linesOf (now (text .entry)))) true)) (now (starts .exit)) (length (linesOf (now (text .entry)))))
         × (Filled (now (up .entry)) (idsParents (linesOf (now (text .entry)))) (now (up .exit)) (length (idsParents (linesOf (now (text .entry))))))) ⌝ }
-    ensures scratch { λ _. ⌜ (Wrote (now (stack .entry)) 0 (replicate (length (now (text .entry)) + 1) 0) (now (stack .exit)) (length (now (text .entry)) + 1))
+    ensures scratch { λ _. ⌜ (Wrote (now (stack .entry)) 0 (replicate (length (unlines (linesOf (now (text .entry))))) 0) (now (stack .exit)) (length (unlines (linesOf (now (text .entry))))))
         × ((Wrote (now (cur .entry)) 0 (replicate (length (now (text .entry))) 0) (now (cur .exit)) (length (now (text .entry))))
         × (Wrote (now (next .entry)) 0 (replicate (length (now (text .entry))) 0) (now (next .exit)) (length (now (text .entry))))) ⌝ }
     ensures notes { λ _. ⌜ (now (near .exit) ≡ replicate (length (now (near .entry))) 0)
@@ -578,7 +592,7 @@ pub fn rebuild_calls(
     ensures ends { λ _. ⌜ Filled (now (ends .entry)) (endMarks 0 (linesOf (now (text .entry)))) (now (ends .exit)) (length (linesOf (now (text .entry)))) ⌝ }
 {
     let m = text.len();
-    let h = m + 1;
+    let h = whole_size(text);
     let n = place::place_lines(text, blocks, starts, up, ends);
     let f = later::note_lines(text, ends, n, own, near, stores, notes);
     let r = rebuild_with(

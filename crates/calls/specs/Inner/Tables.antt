@@ -107,7 +107,7 @@ pub record Ready (t : List ℕ) (n i e : ℕ) (blocks starts owner stack : List 
   pub placed : Placed t blocks starts
   pub many : n < length owner
   pub low : o ≤ i
-  pub stack-room : length t < length stack
+  pub stack-room : length (unlines (linesOf t)) ≤ length stack
   pub cur-room : length t ≤ length cur
   pub next-room : length t ≤ length next
 
