@@ -1,8 +1,8 @@
 // Notes of the lines that store a register: how far below the value is read for the last time, and how far below the register is stored again or the
 // region ends. They are made from the last line to the first, with two tables over registers. The number of a line is how many lines there are from it on.
 ghost use mathlib.Core.Path.{_≡_};
-ghost use mathlib.Core.Bool.{cond};
-ghost use Prim.Native.Nat.{_+_, _-_, _*_, _/_, _%_, _≤_, _<_, max};
+ghost use mathlib.Core.Bool.{true, cond};
+ghost use Prim.Native.Nat.{_+_, _-_, _*_, _/_, _%_, _≤_, _<_, _^_, max};
 ghost use lib.Dec.{eqb};
 ghost use lib.ListN.{length, getD, replicate, take};
 ghost use Rattle.lines.specs.Lf.{linesOf};
@@ -25,8 +25,11 @@ const SHARE: usize = 4;
 // Texts of fewer lines than this have none.
 const FEW: usize = 32;
 
+// Nor do texts of as many lines as this: the number of each line has 32 bits.
+const MANY: usize = 4294967295;
+
 // Puts x as the entry of a register, where the table has a place for it.
-fn enter(reg: names::Register, x: usize, own: &[usize], table: &mut [usize])
+fn enter(reg: names::Register, x: u32, own: &[usize], table: &mut [u32])
     ensures { λ _. ⌜ now (table .exit) ≡ withEntry (now (own .entry)) (reg .0) x (now (table .entry)) ⌝ }
 {
     let v = slots::slot(reg.0 as usize, table.len(), own);
@@ -37,7 +40,7 @@ fn enter(reg: names::Register, x: usize, own: &[usize], table: &mut [usize])
 }
 
 // Puts x as the entry of the register that a line, read as p, stores.
-fn enter_store(p: parse::Line, x: usize, own: &[usize], table: &mut [usize])
+fn enter_store(p: parse::Line, x: u32, own: &[usize], table: &mut [u32])
     ensures { λ _. ⌜ now (table .exit) ≡ markStore (now (own .entry)) x p (now (table .entry)) ⌝ }
 {
     match p {
@@ -48,7 +51,7 @@ fn enter_store(p: parse::Line, x: usize, own: &[usize], table: &mut [usize])
 }
 
 // Notes a register as read by the line with the number c, where no line below reads it that stands above the next header, whose number is h.
-fn note_read(reg: names::Register, own: &[usize], c: usize, h: usize, near: &mut [usize])
+fn note_read(reg: names::Register, own: &[usize], c: u32, h: u32, near: &mut [u32])
     ensures { λ _. ⌜ now (near .exit) ≡ readIn (now (own .entry)) c h (reg .0) (now (near .entry)) ⌝ }
 {
     let v = slots::slot(reg.0 as usize, near.len(), own);
@@ -62,7 +65,7 @@ fn note_read(reg: names::Register, own: &[usize], c: usize, h: usize, near: &mut
 }
 
 // Notes the register that a text names.
-fn note_name(t: &[u8], own: &[usize], c: usize, h: usize, near: &mut [usize])
+fn note_name(t: &[u8], own: &[usize], c: u32, h: u32, near: &mut [u32])
     ensures { λ _. ⌜ now (near .exit) ≡ readName (now (own .entry)) c h (regOf (now (t .entry))) (now (near .entry)) ⌝ }
 {
     match names::reg_name(t) {
@@ -72,7 +75,7 @@ fn note_name(t: &[u8], own: &[usize], c: usize, h: usize, near: &mut [usize])
 }
 
 // Notes the registers that a text reads: runs that begin with another byte than `r` name none.
-fn note_runs(s: &[u8], own: &[usize], c: usize, h: usize, near: &mut [usize])
+fn note_runs(s: &[u8], own: &[usize], c: u32, h: u32, near: &mut [u32])
     ensures { λ _. ⌜ now (near .exit) ≡ readRuns (now (own .entry)) c h (runs (now (s .entry))) (now (near .entry)) ⌝ }
 {
     let mut i = words::reg_start(s, 0);
@@ -84,7 +87,7 @@ fn note_runs(s: &[u8], own: &[usize], c: usize, h: usize, near: &mut [usize])
 }
 
 // The greater of two numbers.
-fn greater(a: usize, b: usize) -> usize
+fn greater(a: u32, b: u32) -> u32
     ensures { λ r. ⌜ r ≡ max a b ⌝ }
 {
     if a <= b {
@@ -93,12 +96,22 @@ fn greater(a: usize, b: usize) -> usize
     a
 }
 
+// How far below the line with the number c the one with the number n stands; 0 where it does not.
+fn span(c: u32, n: u32) -> u32
+    ensures { λ r. ⌜ r ≡ c - n ⌝ }
+{
+    if c <= n {
+        return 0;
+    }
+    c - n
+}
+
 // How far below a line with the number c its value is read for the last time, by the entry r of its register; 0 where it is not.
-fn read_span(c: usize, h: usize, r: usize) -> usize
+fn read_span(c: u32, h: u32, r: u32) -> u32
     ensures { λ x. ⌜ x ≡ readSpan c h r ⌝ }
 {
     if h < r {
-        return slots::low_of(c, r);
+        return span(c, r);
     }
     0
 }
@@ -108,11 +121,11 @@ fn put_note(
     reg: names::Register,
     k: usize,
     own: &[usize],
-    c: usize,
-    h: usize,
-    near: &[usize],
-    stores: &[usize],
-    notes: &mut [usize],
+    c: u32,
+    h: u32,
+    near: &[u32],
+    stores: &[u32],
+    notes: &mut [u32],
 )
     ensures { λ _. ⌜ now (notes .exit) ≡ notePut (now (own .entry)) (reg .0) k c h (now (near .entry)) (now (stores .entry)) (now (notes .entry)) ⌝ }
 {
@@ -128,7 +141,7 @@ fn put_note(
         return;
     }
     notes[2 * k] = read_span(c, h, near[v]);
-    notes[2 * k + 1] = slots::low_of(c, greater(h, stores[w]));
+    notes[2 * k + 1] = span(c, greater(h, stores[w]));
 }
 
 // Puts the note of a line, read as p, where it stores a register.
@@ -136,11 +149,11 @@ fn put_line_note(
     p: parse::Line,
     k: usize,
     own: &[usize],
-    c: usize,
-    h: usize,
-    near: &[usize],
-    stores: &[usize],
-    notes: &mut [usize],
+    c: u32,
+    h: u32,
+    near: &[u32],
+    stores: &[u32],
+    notes: &mut [u32],
 )
     ensures { λ _. ⌜ now (notes .exit) ≡ noteLine (now (own .entry)) p k c h (now (near .entry)) (now (stores .entry)) (now (notes .entry)) ⌝ }
 {
@@ -156,11 +169,11 @@ fn note_line(
     line: &[u8],
     k: usize,
     own: &[usize],
-    c: usize,
-    h: usize,
-    near: &mut [usize],
-    stores: &mut [usize],
-    notes: &mut [usize],
+    c: u32,
+    h: u32,
+    near: &mut [u32],
+    stores: &mut [u32],
+    notes: &mut [u32],
 )
     ensures reads { λ _. ⌜ now (near .exit) ≡ readRuns (now (own .entry)) c h (runs (textOf (now (line .entry)) (parseOf (now (line .entry))))) (markStore (now (own .entry)) 0 (parseOf (now (line .entry))) (now (near .entry))) ⌝ }
     ensures stores { λ _. ⌜ now (stores .exit) ≡ markStore (now (own .entry)) c (parseOf (now (line .entry))) (now (stores .entry)) ⌝ }
@@ -185,7 +198,7 @@ fn start_at(ends: &[usize], k: usize) -> usize
 }
 
 // The number of the next header from a line with the number c on, by its entry x in the table of ends, where h is that below it.
-fn head_at(x: usize, c: usize, h: usize) -> usize
+fn head_at(x: usize, c: u32, h: u32) -> u32
     ensures { λ r. ⌜ r ≡ cond (eqb (x % 2) 1) c h ⌝ }
 {
     if x % 2 == 1 {
@@ -200,18 +213,18 @@ fn note_up(
     ends: &[usize],
     m: usize,
     own: &[usize],
-    near: &mut [usize],
-    stores: &mut [usize],
-    notes: &mut [usize],
+    near: &mut [u32],
+    stores: &mut [u32],
+    notes: &mut [u32],
 )
-    requires { ⌜ (AtMost 0 (now near)) × ((AtMost 0 (now stores)) × ((AtMost 0 (now notes)) × (Told (now text) (now ends) (now ends) m))) ⌝ }
+    requires { ⌜ (AtMost 0 (now near)) × ((AtMost 0 (now stores)) × ((AtMost 0 (now notes)) × ((Told (now text) (now ends) (now ends) m) × (m < 2 ^ 32)))) ⌝ }
     ensures { λ _. ⌜ Spans (now (text .entry)) (now (notes .exit)) ⌝ }
 {
     let mut k = m;
     let mut h = 0;
     while 0 < k {
         k -= 1;
-        let c = m - k;
+        let c = (m - k) as u32;
         let x = ends[k];
         let line = lines::cut(text, start_at(ends, k), x / 2);
         note_line(line, k, own, c, h, near, stores, notes);
@@ -263,11 +276,15 @@ fn probe(text: &[u8], ends: &[usize], m: usize, k: usize, most: usize) -> usize
     passed(text, ends, m, k + 2, s.reg, most)
 }
 
-// Whether searches below call lines pass so many lines, by some of them, that notes cost less.
+// Whether searches below call lines pass so many lines, by some of them, that notes cost less, and the numbers of lines fit them.
 fn pays(text: &[u8], ends: &[usize], m: usize) -> bool
     requires { ⌜ m ≤ length (now ends) ⌝ }
+    ensures { λ r. ⌜ (r ≡ true → m < 2 ^ 32) ⌝ }
 {
     if m < FEW {
+        return false;
+    }
+    if MANY <= m {
         return false;
     }
     let most = m / SHARE;
@@ -286,22 +303,22 @@ pub fn note_lines(
     ends: &[usize],
     m: usize,
     own: &[usize],
-    near: &mut [usize],
-    stores: &mut [usize],
-    notes: &mut [usize],
+    near: &mut [u32],
+    stores: &mut [u32],
+    notes: &mut [u32],
 ) -> usize
     requires { ⌜ Told (now text) (now ends) (now ends) m ⌝ }
     ensures answer { λ r. ⌜ (r ≤ length (now (notes .entry))) × (Spans (now (text .entry)) (take r (now (notes .exit)))) ⌝ }
     ensures memory { λ _. ⌜ (now (near .exit) ≡ replicate (length (now (near .entry))) 0) × (now (stores .exit) ≡ replicate (length (now (stores .entry))) 0) ⌝ }
 {
-    slots::wipe(near);
-    slots::wipe(stores);
-    slots::wipe(notes);
+    lines::wipe_numbers(near);
+    lines::wipe_numbers(stores);
+    lines::wipe_numbers(notes);
     if !pays(text, ends, m) {
         return 0;
     }
     note_up(text, ends, m, own, near, stores, notes);
-    slots::wipe(near);
-    slots::wipe(stores);
+    lines::wipe_numbers(near);
+    lines::wipe_numbers(stores);
     notes.len()
 }

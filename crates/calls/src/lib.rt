@@ -126,7 +126,7 @@ fn is_read(
     above: &[u8],
     k: usize,
     d: usize,
-    notes: &[usize],
+    notes: &[u32],
 ) -> bool
     requires { ⌜ Noted (reg .0) (now above) (getD (now notes) (2 * k) 0) (getD (now notes) (2 * k + 1) 0) d (linesOf (now below)) ⌝ }
     ensures { λ r. ⌜ r ≡ readLater (leavesOf plain) (reg .0) (linesOf (now (below .entry))) ⌝ }
@@ -137,10 +137,10 @@ fn is_read(
     if !stores(above, reg) {
         return read_later(below, reg);
     }
-    if d < notes[2 * k] {
+    if d < notes[2 * k] as usize {
         return true;
     }
-    if d < notes[2 * k + 1] {
+    if d < notes[2 * k + 1] as usize {
         return false;
     }
     read_later(below, reg)
@@ -246,7 +246,7 @@ fn absorb(
     below: &[u8],
     above: &[u8],
     k: usize,
-    notes: &[usize],
+    notes: &[u32],
     taken: &[u8],
     owner: &[usize],
     out: &mut [u8],
@@ -306,7 +306,7 @@ fn walk_up(
     n: usize,
     blocks: &[usize],
     starts: &[u8],
-    notes: &[usize],
+    notes: &[u32],
     owner: &mut [usize],
     stack: &[u8],
     o: usize,
@@ -383,7 +383,7 @@ fn turn_line(
     n: usize,
     blocks: &[usize],
     starts: &[u8],
-    notes: &[usize],
+    notes: &[u32],
     owner: &mut [usize],
     stack: &mut [u8],
     o: usize,
@@ -428,7 +428,7 @@ fn rebuild_lines(
     m: usize,
     blocks: &[usize],
     starts: &[u8],
-    notes: &[usize],
+    notes: &[u32],
     owner: &mut [usize],
     stack: &mut [u8],
     cur: &mut [u8],
@@ -472,7 +472,7 @@ fn rebuild_window(
     m: usize,
     blocks: &[usize],
     starts: &[u8],
-    notes: &[usize],
+    notes: &[u32],
     owner: &mut [usize],
     stack: &mut [u8],
     cur: &mut [u8],
@@ -506,7 +506,7 @@ fn rebuild_with(
     m: usize,
     blocks: &[usize],
     starts: &[u8],
-    notes: &[usize],
+    notes: &[u32],
     owner: &mut [usize],
     stack: &mut [u8],
     cur: &mut [u8],
@@ -567,9 +567,9 @@ pub fn rebuild_calls(
     blocks: &mut [usize],
     starts: &mut [u8],
     up: &mut [u32],
-    near: &mut [usize],
-    stores: &mut [usize],
-    notes: &mut [usize],
+    near: &mut [u32],
+    stores: &mut [u32],
+    notes: &mut [u32],
     stack: &mut [u8],
     cur: &mut [u8],
     next: &mut [u8],
@@ -608,6 +608,6 @@ pub fn rebuild_calls(
         &mut next[..m],
         out,
     );
-    slots::wipe(notes);
+    lines::wipe_numbers(notes);
     r
 }

@@ -20,7 +20,7 @@ ps =
     (List._∷_
     (ShrSlice.pShrS (Referent.rtF (Referent.fInt Syntax.w8)) 3 tt)
     (List._∷_
-    (ShrSlice.pShrS (Referent.rtF (Referent.fInt Syntax.w64)) 4 tt)
+    (ShrSlice.pShrS (Referent.rtF (Referent.fInt Syntax.w32)) 4 tt)
     (List._∷_
     (MutSlice.pMutS (Referent.rtF (Referent.fInt Syntax.w64)) 5 tt)
     (List._∷_

@@ -15,22 +15,25 @@ abbrev μ-loop : tie.MeasureT-loop
 μ-loop text ends m own near₀ stores₀ notes₀ k₀ h₀ near stores notes k h = k
 
 loop-holds : tie.Need-loop-holds Inv-loop μ-loop
-loop-holds c = upward-start (c .before .before .before .before .before .before .args .own .now) (c .before .before .before .before .before .before .args .text .now) (c .before .before .before .before .before .before .args .near .now) (c .before .before .before .before .before .before .args .stores .now) (c .before .before .before .before .before .before .args .notes .now) (c .before .before .before .before .before .before .args .m) (c .before .before .before .before .before .before .pre .1 .1 .1 .count) (c .before .before .before .before .before .before .pre .0) (c .before .before .before .before .before .before .pre .1 .0) (c .before .before .before .before .before .before .pre .1 .1 .0)
+loop-holds c = upward-start (c .before .before .before .before .before .before .args .own .now) (c .before .before .before .before .before .before .args .text .now) (c .before .before .before .before .before .before .args .near .now) (c .before .before .before .before .before .before .args .stores .now) (c .before .before .before .before .before .before .args .notes .now) (c .before .before .before .before .before .before .args .m) (c .before .before .before .before .before .before .pre .1 .1 .1 .0 .count) (c .before .before .before .before .before .before .pre .0) (c .before .before .before .before .before .before .pre .1 .0) (c .before .before .before .before .before .before .pre .1 .1 .0)
 
 sub-k : tie.Need-sub-k Inv-loop μ-loop
 sub-k c = omega (arith, c .loop-test .taken)
 
 sub-c : tie.Need-sub-c Inv-loop μ-loop
-sub-c c = omega (arith, c .before .loop .inv .within, c .before .before .before .before .before .before .before .before .pre .1 .1 .1 .count)
+sub-c c = omega (arith, c .before .loop .inv .within, c .before .before .before .before .before .before .before .before .pre .1 .1 .1 .0 .count)
+
+cast-c : tie.Need-cast-c Inv-loop μ-loop
+cast-c c = omega (arith, c .before .before .before .before .before .before .before .before .pre .1 .1 .1 .1)
 
 mul-x : tie.Need-mul-x Inv-loop μ-loop
-mul-x c = omega (arith, c .loop-test .taken, c .before .loop .inv .within, c .before .before .before .before .before .before .before .before .pre .1 .1 .1 .count, told-long (c .before .before .before .before .before .before .before .before .pre .1 .1 .1) .0, c .before .before .before .before .before .before .before .before .good)
+mul-x c = omega (arith, c .loop-test .taken, c .before .loop .inv .within, c .before .before .before .before .before .before .before .before .pre .1 .1 .1 .0 .count, told-long (c .before .before .before .before .before .before .before .before .pre .1 .1 .1 .0) .0, c .before .before .before .before .before .before .before .before .good)
 
 shared-slice-read-x : tie.Need-shared-slice-read-x Inv-loop μ-loop
-shared-slice-read-x c = omega (arith, c .before .loop-test .taken, c .before .before .loop .inv .within, c .before .before .before .before .before .before .before .before .before .pre .1 .1 .1 .count, told-long (c .before .before .before .before .before .before .before .before .before .pre .1 .1 .1) .0)
+shared-slice-read-x c = omega (arith, c .before .loop-test .taken, c .before .before .loop .inv .within, c .before .before .before .before .before .before .before .before .before .pre .1 .1 .1 .0 .count, told-long (c .before .before .before .before .before .before .before .before .before .pre .1 .1 .1 .0) .0)
 
 start-at-requires : tie.Need-start-at-requires Inv-loop μ-loop
-start-at-requires c κs = omega (arith, c .before .before .loop .inv .within, c .before .before .before .before .before .before .before .before .before .pre .1 .1 .1 .count, told-long (c .before .before .before .before .before .before .before .before .before .pre .1 .1 .1) .0)
+start-at-requires c κs = omega (arith, c .before .before .loop .inv .within, c .before .before .before .before .before .before .before .before .before .pre .1 .1 .1 .0 .count, told-long (c .before .before .before .before .before .before .before .before .before .pre .1 .1 .1 .0) .0)
 
 cut-requires : tie.Need-cut-requires Inv-loop μ-loop
 cut-requires c κs = search needs
@@ -45,7 +48,7 @@ loop-less : tie.Need-loop-less Inv-loop μ-loop
 loop-less c = omega (arith, c .before .before .before .before .before .before .before .before .before .before .before .before .before .before .loop-test .taken)
 
 loop-again : tie.Need-loop-again Inv-loop μ-loop
-loop-again c = let w = c .before .before .before .before .before .before .before .before .before .before .before .before .before .before .before .before .before .before .before .before .before .before .pre .1 .1 .1 in let i : c .before .before .before .before .before .before .before .before .before .before .before .before .before .before .before .loop .k - 1 < c .before .before .before .before .before .before .before .before .before .before .before .before .before .before .before .before .before .before .before .before .before .before .args .m = omega (arith, c .before .before .before .before .before .before .before .before .before .before .before .before .before .before .loop-test .taken, c .before .before .before .before .before .before .before .before .before .before .before .before .before .before .before .loop .inv .within, w .count) in let n = c .before .before .before .before .before .before .before .note-line .ensures in upward-on (c .before .before .before .before .before .before .before .before .before .before .before .before .before .before .before .loop .inv) (c .before .before .before .before .before .before .before .before .before .before .before .before .before .before .before .loop .k - 1) (c .before .before .before .before .before .before .before .before .before .before .before .before .before .before .before .before .before .before .before .before .before .before .args .m - (c .before .before .before .before .before .before .before .before .before .before .before .before .before .before .before .loop .k - 1)) (omega (arith, c .before .before .before .before .before .before .before .before .before .before .before .before .before .before .loop-test .taken)) refl (ap (λ (x : ℕ). x - (c .before .before .before .before .before .before .before .before .before .before .before .before .before .before .before .loop .k - 1)) (w .count)) (line-found w (c .before .before .before .before .before .before .before .before .before .before .before .before .before .before .before .loop .k - 1) i refl (c .before .before .before .before .before .before .before .before .before .before .before .before .start-at .ensures) (c .before .before .before .before .before .before .before .before .before .before .before .cut .ensures)) (n .0) (n .1 .0) (n .1 .1) (c .head-at .ensures ∙ head-found w (c .before .before .before .before .before .before .before .before .before .before .before .before .before .before .before .loop .k - 1) i refl (c .before .before .before .before .before .before .before .before .before .before .before .before .before .before .before .before .before .before .before .before .before .before .args .m - (c .before .before .before .before .before .before .before .before .before .before .before .before .before .before .before .loop .k - 1)) (c .before .before .before .before .before .before .before .before .before .before .before .before .before .before .before .loop .h))
+loop-again c = let w = c .before .before .before .before .before .before .before .before .before .before .before .before .before .before .before .before .before .before .before .before .before .before .pre .1 .1 .1 .0 in let i : c .before .before .before .before .before .before .before .before .before .before .before .before .before .before .before .loop .k - 1 < c .before .before .before .before .before .before .before .before .before .before .before .before .before .before .before .before .before .before .before .before .before .before .args .m = omega (arith, c .before .before .before .before .before .before .before .before .before .before .before .before .before .before .loop-test .taken, c .before .before .before .before .before .before .before .before .before .before .before .before .before .before .before .loop .inv .within, w .count) in let n = c .before .before .before .before .before .before .before .note-line .ensures in upward-on (c .before .before .before .before .before .before .before .before .before .before .before .before .before .before .before .loop .inv) (c .before .before .before .before .before .before .before .before .before .before .before .before .before .before .before .loop .k - 1) (c .before .before .before .before .before .before .before .before .before .before .before .before .before .before .before .before .before .before .before .before .before .before .args .m - (c .before .before .before .before .before .before .before .before .before .before .before .before .before .before .before .loop .k - 1)) (omega (arith, c .before .before .before .before .before .before .before .before .before .before .before .before .before .before .loop-test .taken)) refl (ap (λ (x : ℕ). x - (c .before .before .before .before .before .before .before .before .before .before .before .before .before .before .before .loop .k - 1)) (w .count)) (line-found w (c .before .before .before .before .before .before .before .before .before .before .before .before .before .before .before .loop .k - 1) i refl (c .before .before .before .before .before .before .before .before .before .before .before .before .start-at .ensures) (c .before .before .before .before .before .before .before .before .before .before .before .cut .ensures)) (n .0) (n .1 .0) (n .1 .1) (c .head-at .ensures ∙ head-found w (c .before .before .before .before .before .before .before .before .before .before .before .before .before .before .before .loop .k - 1) i refl (c .before .before .before .before .before .before .before .before .before .before .before .before .before .before .before .before .before .before .before .before .before .before .args .m - (c .before .before .before .before .before .before .before .before .before .before .before .before .before .before .before .loop .k - 1)) (c .before .before .before .before .before .before .before .before .before .before .before .before .before .before .before .loop .h))
 
 same-length : tie.Need-same-length Inv-loop μ-loop
 same-length c = c .before .loop .inv .same-near
@@ -68,6 +71,7 @@ note-up-spec =
     loop-holds
     sub-k
     sub-c
+    cast-c
     mul-x
     shared-slice-read-x
     start-at-requires

@@ -50,8 +50,8 @@ shared-slice-read-greater c = search needs
 greater-requires : tie.Need-greater-requires
 greater-requires c κs = search needs
 
-low-of-requires : tie.Need-low-of-requires
-low-of-requires c κs = search needs
+span-requires : tie.Need-span-requires
+span-requires c κs = search needs
 
 mul-notes-3 : tie.Need-mul-notes-3
 mul-notes-3 c = search needs
@@ -69,7 +69,7 @@ same-length : tie.Need-same-length
 same-length c = search needs
 
 returns-4 : tie.Need-returns-4
-returns-4 c = let a = c .before .before .before .before .before .before .before .before .before .before .before .before .before .before .args in note-put (a .own .now) (a .near .now) (a .stores .now) (a .notes .now) (a .reg .0) (a .k) (a .c) (a .h) _ _ (c .before .before .before .before .before .before .before .before .before .slot .ensures) (c .before .before .before .before .before .before .before .before .slot2 .ensures) (c .before .before .before .before .before .before .before .if1 .left) (c .before .before .before .before .before .before .if2 .left) (c .before .before .before .before .before .if3 .left) (c .before .before .before .read-span .ensures) (c .low-of .ensures ∙ ap (λ (x : ℕ). a .c - x) (c .before .greater .ensures))
+returns-4 c = let a = c .before .before .before .before .before .before .before .before .before .before .before .before .before .before .args in note-put (a .own .now) (a .near .now) (a .stores .now) (a .notes .now) (a .reg .0) (a .k) (a .c) (a .h) _ _ (c .before .before .before .before .before .before .before .before .before .slot .ensures) (c .before .before .before .before .before .before .before .before .slot2 .ensures) (c .before .before .before .before .before .before .before .if1 .left) (c .before .before .before .before .before .before .if2 .left) (c .before .before .before .before .before .if3 .left) (c .before .before .before .read-span .ensures) (c .span .ensures ∙ ap (λ (x : ℕ). a .c - x) (c .before .greater .ensures))
 
 pub put-note-spec : {M : Type 1} → statement M
 put-note-spec =
@@ -89,7 +89,7 @@ put-note-spec =
     mul-greater
     shared-slice-read-greater
     greater-requires
-    low-of-requires
+    span-requires
     mul-notes-3
     add-notes
     mul-notes-4

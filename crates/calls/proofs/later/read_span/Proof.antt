@@ -7,11 +7,11 @@ use borrow.Author.Tests.{lt-ltb, le-ltb}
 use Rattle.calls.proofs.later.read_span.Statement.{statement}
 use Rattle.calls.proofs.later.read_span.Tie as tie
 
-low-of-requires : tie.Need-low-of-requires
-low-of-requires c κs = search needs
+span-requires : tie.Need-span-requires
+span-requires c κs = search needs
 
 returns : tie.Need-returns
-returns c = let a = c .before .before .args in c .low-of .ensures ∙ sym (ap (λ (b : Bool). cond b (a .c - a .r) 0) (lt-ltb (a .h) (a .r) (c .before .if1 .taken)))
+returns c = let a = c .before .before .args in c .span .ensures ∙ sym (ap (λ (b : Bool). cond b (a .c - a .r) 0) (lt-ltb (a .h) (a .r) (c .before .if1 .taken)))
 
 returns-2 : tie.Need-returns-2
 returns-2 c = let a = c .before .args in sym (ap (λ (b : Bool). cond b (a .c - a .r) 0) (le-ltb (a .h) (a .r) (c .if1 .left)))
@@ -20,6 +20,6 @@ pub read-span-spec : {M : Type 1} → statement M
 read-span-spec =
     tie.close
     (tie.spec
-    low-of-requires
+    span-requires
     returns
     returns-2)

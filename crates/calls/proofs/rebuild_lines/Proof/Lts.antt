@@ -61,7 +61,7 @@ ps =
     (List._∷_
     (ShrSlice.pShrS (Referent.rtF (Referent.fInt Syntax.w8)) 3 tt)
     (List._∷_
-    (ShrSlice.pShrS (Referent.rtF (Referent.fInt Syntax.w64)) 4 tt)
+    (ShrSlice.pShrS (Referent.rtF (Referent.fInt Syntax.w32)) 4 tt)
     (List._∷_
     (MutSlice.pMutS (Referent.rtF (Referent.fInt Syntax.w64)) 5 tt)
     (List._∷_
@@ -254,7 +254,7 @@ ps·2 =
     (List._∷_
     (ShrSlice.pShrS (Referent.rtF (Referent.fInt Syntax.w8)) 2 tt)
     (List._∷_
-    (ShrSlice.pShrS (Referent.rtF (Referent.fInt Syntax.w64)) 3 tt)
+    (ShrSlice.pShrS (Referent.rtF (Referent.fInt Syntax.w32)) 3 tt)
     (List._∷_
     (MutSlice.pMutS (Referent.rtF (Referent.fInt Syntax.w64)) 4 tt)
     (List._∷_
@@ -686,8 +686,8 @@ t0 = List._∷_ (0, Rows.any-gone (Syntax.tyInt Syntax.w64)) (List._∷_ (
 ) (List._∷_ (
   6,
   Rows.sslice
-      (Referent.rtF (Referent.fInt Syntax.w64))
-      (Syntax.tyRef (Syntax.named 4) Syntax.imm (Syntax.tyInt Syntax.w64))
+      (Referent.rtF (Referent.fInt Syntax.w32))
+      (Syntax.tyRef (Syntax.named 4) Syntax.imm (Syntax.tyInt Syntax.w32))
       4,
 ) (List._∷_ (
   7,
@@ -878,8 +878,8 @@ t2 = List._∷_ (0, Rows.sc-here (Row.sInt Syntax.w64)) (List._∷_ (
 ) (List._∷_ (
   6,
   Rows.sslice
-      (Referent.rtF (Referent.fInt Syntax.w64))
-      (Syntax.tyRef (Syntax.named 4) Syntax.imm (Syntax.tyInt Syntax.w64))
+      (Referent.rtF (Referent.fInt Syntax.w32))
+      (Syntax.tyRef (Syntax.named 4) Syntax.imm (Syntax.tyInt Syntax.w32))
       4,
 ) (List._∷_ (
   7,
@@ -996,8 +996,8 @@ t3 = List._∷_ (0, Rows.any-gone (Syntax.tyInt Syntax.w64)) (List._∷_ (
 ) (List._∷_ (
   6,
   Rows.sslice
-      (Referent.rtF (Referent.fInt Syntax.w64))
-      (Syntax.tyRef (Syntax.named 4) Syntax.imm (Syntax.tyInt Syntax.w64))
+      (Referent.rtF (Referent.fInt Syntax.w32))
+      (Syntax.tyRef (Syntax.named 4) Syntax.imm (Syntax.tyInt Syntax.w32))
       4,
 ) (List._∷_ (
   7,
@@ -1114,8 +1114,8 @@ t4 = List._∷_ (0, Rows.any-gone (Syntax.tyInt Syntax.w64)) (List._∷_ (
 ) (List._∷_ (
   6,
   Rows.sslice
-      (Referent.rtF (Referent.fInt Syntax.w64))
-      (Syntax.tyRef (Syntax.named 4) Syntax.imm (Syntax.tyInt Syntax.w64))
+      (Referent.rtF (Referent.fInt Syntax.w32))
+      (Syntax.tyRef (Syntax.named 4) Syntax.imm (Syntax.tyInt Syntax.w32))
       4,
 ) (List._∷_ (
   7,
@@ -1232,8 +1232,8 @@ t5 = List._∷_ (0, Rows.any-gone (Syntax.tyInt Syntax.w64)) (List._∷_ (
 ) (List._∷_ (
   6,
   Rows.sslice
-      (Referent.rtF (Referent.fInt Syntax.w64))
-      (Syntax.tyRef (Syntax.named 4) Syntax.imm (Syntax.tyInt Syntax.w64))
+      (Referent.rtF (Referent.fInt Syntax.w32))
+      (Syntax.tyRef (Syntax.named 4) Syntax.imm (Syntax.tyInt Syntax.w32))
       4,
 ) (List._∷_ (
   7,
@@ -1424,8 +1424,8 @@ t7 = List._∷_ (0, Rows.any-gone (Syntax.tyInt Syntax.w64)) (List._∷_ (
 ) (List._∷_ (
   6,
   Rows.sslice
-      (Referent.rtF (Referent.fInt Syntax.w64))
-      (Syntax.tyRef (Syntax.named 4) Syntax.imm (Syntax.tyInt Syntax.w64))
+      (Referent.rtF (Referent.fInt Syntax.w32))
+      (Syntax.tyRef (Syntax.named 4) Syntax.imm (Syntax.tyInt Syntax.w32))
       4,
 ) (List._∷_ (
   7,
@@ -1763,8 +1763,8 @@ t11 = List._∷_ (0, Rows.any-gone (Syntax.tyInt Syntax.w64)) (List._∷_ (
 ) (List._∷_ (
   6,
   Rows.sslice
-      (Referent.rtF (Referent.fInt Syntax.w64))
-      (Syntax.tyRef (Syntax.named 4) Syntax.imm (Syntax.tyInt Syntax.w64))
+      (Referent.rtF (Referent.fInt Syntax.w32))
+      (Syntax.tyRef (Syntax.named 4) Syntax.imm (Syntax.tyInt Syntax.w32))
       4,
 ) (List._∷_ (
   7,
@@ -2391,8 +2391,8 @@ t19 = List._∷_ (0, Rows.any-gone (Syntax.tyInt Syntax.w64)) (List._∷_ (
 ) (List._∷_ (
   6,
   Rows.sslice
-      (Referent.rtF (Referent.fInt Syntax.w64))
-      (Syntax.tyRef (Syntax.named 4) Syntax.imm (Syntax.tyInt Syntax.w64))
+      (Referent.rtF (Referent.fInt Syntax.w32))
+      (Syntax.tyRef (Syntax.named 4) Syntax.imm (Syntax.tyInt Syntax.w32))
       4,
 ) (List._∷_ (
   7,
@@ -2536,8 +2536,8 @@ t21 = List._∷_ (0, Rows.any-gone (Syntax.tyInt Syntax.w64)) (List._∷_ (
 ) (List._∷_ (
   6,
   Rows.sslice
-      (Referent.rtF (Referent.fInt Syntax.w64))
-      (Syntax.tyRef (Syntax.named 4) Syntax.imm (Syntax.tyInt Syntax.w64))
+      (Referent.rtF (Referent.fInt Syntax.w32))
+      (Syntax.tyRef (Syntax.named 4) Syntax.imm (Syntax.tyInt Syntax.w32))
       4,
 ) (List._∷_ (
   7,
@@ -2605,8 +2605,8 @@ t22 = List._∷_ (0, Rows.any-gone (Syntax.tyInt Syntax.w64)) (List._∷_ (
 ) (List._∷_ (
   6,
   Rows.sslice
-      (Referent.rtF (Referent.fInt Syntax.w64))
-      (Syntax.tyRef (Syntax.named 4) Syntax.imm (Syntax.tyInt Syntax.w64))
+      (Referent.rtF (Referent.fInt Syntax.w32))
+      (Syntax.tyRef (Syntax.named 4) Syntax.imm (Syntax.tyInt Syntax.w32))
       4,
 ) (List._∷_ (
   7,
@@ -2825,8 +2825,8 @@ t25 = List._∷_ (0, Rows.any-gone (Syntax.tyInt Syntax.w64)) (List._∷_ (
 ) (List._∷_ (
   6,
   Rows.sslice
-      (Referent.rtF (Referent.fInt Syntax.w64))
-      (Syntax.tyRef (Syntax.named 4) Syntax.imm (Syntax.tyInt Syntax.w64))
+      (Referent.rtF (Referent.fInt Syntax.w32))
+      (Syntax.tyRef (Syntax.named 4) Syntax.imm (Syntax.tyInt Syntax.w32))
       4,
 ) (List._∷_ (
   7,
@@ -3043,8 +3043,8 @@ t28 = List._∷_ (0, Rows.any-gone (Syntax.tyInt Syntax.w64)) (List._∷_ (
 ) (List._∷_ (
   6,
   Rows.sslice
-      (Referent.rtF (Referent.fInt Syntax.w64))
-      (Syntax.tyRef (Syntax.named 4) Syntax.imm (Syntax.tyInt Syntax.w64))
+      (Referent.rtF (Referent.fInt Syntax.w32))
+      (Syntax.tyRef (Syntax.named 4) Syntax.imm (Syntax.tyInt Syntax.w32))
       4,
 ) (List._∷_ (
   7,
@@ -3259,8 +3259,8 @@ t31 = List._∷_ (0, Rows.any-gone (Syntax.tyInt Syntax.w64)) (List._∷_ (
 ) (List._∷_ (
   6,
   Rows.sslice
-      (Referent.rtF (Referent.fInt Syntax.w64))
-      (Syntax.tyRef (Syntax.named 4) Syntax.imm (Syntax.tyInt Syntax.w64))
+      (Referent.rtF (Referent.fInt Syntax.w32))
+      (Syntax.tyRef (Syntax.named 4) Syntax.imm (Syntax.tyInt Syntax.w32))
       4,
 ) (List._∷_ (
   7,
@@ -3535,8 +3535,8 @@ t35 = List._∷_ (0, Rows.any-gone (Syntax.tyInt Syntax.w64)) (List._∷_ (
 ) (List._∷_ (
   6,
   Rows.sslice
-      (Referent.rtF (Referent.fInt Syntax.w64))
-      (Syntax.tyRef (Syntax.named 4) Syntax.imm (Syntax.tyInt Syntax.w64))
+      (Referent.rtF (Referent.fInt Syntax.w32))
+      (Syntax.tyRef (Syntax.named 4) Syntax.imm (Syntax.tyInt Syntax.w32))
       4,
 ) (List._∷_ (
   7,
@@ -3661,8 +3661,8 @@ t36 = List._∷_ (0, Rows.any-gone (Syntax.tyInt Syntax.w64)) (List._∷_ (
 ) (List._∷_ (
   6,
   Rows.sslice
-      (Referent.rtF (Referent.fInt Syntax.w64))
-      (Syntax.tyRef (Syntax.named 4) Syntax.imm (Syntax.tyInt Syntax.w64))
+      (Referent.rtF (Referent.fInt Syntax.w32))
+      (Syntax.tyRef (Syntax.named 4) Syntax.imm (Syntax.tyInt Syntax.w32))
       4,
 ) (List._∷_ (
   7,
@@ -3850,8 +3850,8 @@ t38 = List._∷_ (0, Rows.any-gone (Syntax.tyInt Syntax.w64)) (List._∷_ (
 ) (List._∷_ (
   6,
   Rows.sslice
-      (Referent.rtF (Referent.fInt Syntax.w64))
-      (Syntax.tyRef (Syntax.named 4) Syntax.imm (Syntax.tyInt Syntax.w64))
+      (Referent.rtF (Referent.fInt Syntax.w32))
+      (Syntax.tyRef (Syntax.named 4) Syntax.imm (Syntax.tyInt Syntax.w32))
       4,
 ) (List._∷_ (
   7,
@@ -4040,8 +4040,8 @@ t40 = List._∷_ (0, Rows.any-gone (Syntax.tyInt Syntax.w64)) (List._∷_ (
 ) (List._∷_ (
   6,
   Rows.sslice
-      (Referent.rtF (Referent.fInt Syntax.w64))
-      (Syntax.tyRef (Syntax.named 4) Syntax.imm (Syntax.tyInt Syntax.w64))
+      (Referent.rtF (Referent.fInt Syntax.w32))
+      (Syntax.tyRef (Syntax.named 4) Syntax.imm (Syntax.tyInt Syntax.w32))
       4,
 ) (List._∷_ (
   7,
@@ -4231,8 +4231,8 @@ t42 = List._∷_ (0, Rows.sc-here (Row.sInt Syntax.w64)) (List._∷_ (
 ) (List._∷_ (
   6,
   Rows.sslice
-      (Referent.rtF (Referent.fInt Syntax.w64))
-      (Syntax.tyRef (Syntax.named 4) Syntax.imm (Syntax.tyInt Syntax.w64))
+      (Referent.rtF (Referent.fInt Syntax.w32))
+      (Syntax.tyRef (Syntax.named 4) Syntax.imm (Syntax.tyInt Syntax.w32))
       4,
 ) (List._∷_ (
   7,
@@ -4349,8 +4349,8 @@ t43 = List._∷_ (0, Rows.sc-here (Row.sInt Syntax.w64)) (List._∷_ (
 ) (List._∷_ (
   6,
   Rows.sslice
-      (Referent.rtF (Referent.fInt Syntax.w64))
-      (Syntax.tyRef (Syntax.named 4) Syntax.imm (Syntax.tyInt Syntax.w64))
+      (Referent.rtF (Referent.fInt Syntax.w32))
+      (Syntax.tyRef (Syntax.named 4) Syntax.imm (Syntax.tyInt Syntax.w32))
       4,
 ) (List._∷_ (
   7,
@@ -4467,8 +4467,8 @@ t44 = List._∷_ (0, Rows.sc-here (Row.sInt Syntax.w64)) (List._∷_ (
 ) (List._∷_ (
   6,
   Rows.sslice
-      (Referent.rtF (Referent.fInt Syntax.w64))
-      (Syntax.tyRef (Syntax.named 4) Syntax.imm (Syntax.tyInt Syntax.w64))
+      (Referent.rtF (Referent.fInt Syntax.w32))
+      (Syntax.tyRef (Syntax.named 4) Syntax.imm (Syntax.tyInt Syntax.w32))
       4,
 ) (List._∷_ (
   7,
@@ -4585,8 +4585,8 @@ t45 = List._∷_ (0, Rows.sc-here (Row.sInt Syntax.w64)) (List._∷_ (
 ) (List._∷_ (
   6,
   Rows.sslice
-      (Referent.rtF (Referent.fInt Syntax.w64))
-      (Syntax.tyRef (Syntax.named 4) Syntax.imm (Syntax.tyInt Syntax.w64))
+      (Referent.rtF (Referent.fInt Syntax.w32))
+      (Syntax.tyRef (Syntax.named 4) Syntax.imm (Syntax.tyInt Syntax.w32))
       4,
 ) (List._∷_ (
   7,
@@ -4871,7 +4871,7 @@ InvT-loop =
     Rows.sc-here (Row.sInt Syntax.w64) .Mod →
     List.List (Referent.rtF (Referent.fInt Syntax.w64) .Denot) →
     List.List (Referent.rtF (Referent.fInt Syntax.w8) .Denot) →
-    List.List (Referent.rtF (Referent.fInt Syntax.w64) .Denot) →
+    List.List (Referent.rtF (Referent.fInt Syntax.w32) .Denot) →
     List.List (Referent.rtF (Referent.fInt Syntax.w64) .Denot) →
     List.List (Referent.rtF (Referent.fInt Syntax.w8) .Denot) →
     List.List (Referent.rtF (Referent.fInt Syntax.w8) .Denot) →
@@ -4897,7 +4897,7 @@ MeasureT-loop =
     Rows.sc-here (Row.sInt Syntax.w64) .Mod →
     List.List (Referent.rtF (Referent.fInt Syntax.w64) .Denot) →
     List.List (Referent.rtF (Referent.fInt Syntax.w8) .Denot) →
-    List.List (Referent.rtF (Referent.fInt Syntax.w64) .Denot) →
+    List.List (Referent.rtF (Referent.fInt Syntax.w32) .Denot) →
     List.List (Referent.rtF (Referent.fInt Syntax.w64) .Denot) →
     List.List (Referent.rtF (Referent.fInt Syntax.w8) .Denot) →
     List.List (Referent.rtF (Referent.fInt Syntax.w8) .Denot) →
@@ -4968,11 +4968,11 @@ module _ (claims· : Claims) where
   abbrev s4 : Typed.Gives T5 T6
   s4 =
       Know.k-shs-known
-      (Referent.fInt Syntax.w64)
+      (Referent.fInt Syntax.w32)
       T5
       6
       4
-      (Syntax.tyRef (Syntax.named 4) Syntax.imm (Syntax.tyInt Syntax.w64))
+      (Syntax.tyRef (Syntax.named 4) Syntax.imm (Syntax.tyInt Syntax.w32))
       Row.off
       0
       λ x. x
@@ -5482,7 +5482,7 @@ module _ (claims· : Claims) where
               (
                 record {
                   pos = 6;
-                  ty = Syntax.tyRef (Syntax.named 4) Syntax.imm (Syntax.tyInt Syntax.w64);
+                  ty = Syntax.tyRef (Syntax.named 4) Syntax.imm (Syntax.tyInt Syntax.w32);
                   ref = λ x. x;
                 },
                 (
@@ -6146,8 +6146,8 @@ module _ (claims· : Claims) where
         ) (List._∷_ (
           6,
           Rows.sslice
-              (Referent.rtF (Referent.fInt Syntax.w64))
-              (Syntax.tyRef (Syntax.named 4) Syntax.imm (Syntax.tyInt Syntax.w64))
+              (Referent.rtF (Referent.fInt Syntax.w32))
+              (Syntax.tyRef (Syntax.named 4) Syntax.imm (Syntax.tyInt Syntax.w32))
               4,
         ) (List._∷_ (
           7,
@@ -6273,8 +6273,8 @@ module _ (claims· : Claims) where
         ) (List._∷_ (
           6,
           Rows.sslice
-              (Referent.rtF (Referent.fInt Syntax.w64))
-              (Syntax.tyRef (Syntax.named 4) Syntax.imm (Syntax.tyInt Syntax.w64))
+              (Referent.rtF (Referent.fInt Syntax.w32))
+              (Syntax.tyRef (Syntax.named 4) Syntax.imm (Syntax.tyInt Syntax.w32))
               4,
         ) (List._∷_ (
           7,
@@ -6400,8 +6400,8 @@ module _ (claims· : Claims) where
         ) (List._∷_ (
           6,
           Rows.sslice
-              (Referent.rtF (Referent.fInt Syntax.w64))
-              (Syntax.tyRef (Syntax.named 4) Syntax.imm (Syntax.tyInt Syntax.w64))
+              (Referent.rtF (Referent.fInt Syntax.w32))
+              (Syntax.tyRef (Syntax.named 4) Syntax.imm (Syntax.tyInt Syntax.w32))
               4,
         ) (List._∷_ (
           7,
@@ -6474,8 +6474,8 @@ module _ (claims· : Claims) where
         ) (List._∷_ (
           6,
           Rows.sslice
-              (Referent.rtF (Referent.fInt Syntax.w64))
-              (Syntax.tyRef (Syntax.named 4) Syntax.imm (Syntax.tyInt Syntax.w64))
+              (Referent.rtF (Referent.fInt Syntax.w32))
+              (Syntax.tyRef (Syntax.named 4) Syntax.imm (Syntax.tyInt Syntax.w32))
               4,
         ) (List._∷_ (
           7,
@@ -6548,8 +6548,8 @@ module _ (claims· : Claims) where
         ) (List._∷_ (
           6,
           Rows.sslice
-              (Referent.rtF (Referent.fInt Syntax.w64))
-              (Syntax.tyRef (Syntax.named 4) Syntax.imm (Syntax.tyInt Syntax.w64))
+              (Referent.rtF (Referent.fInt Syntax.w32))
+              (Syntax.tyRef (Syntax.named 4) Syntax.imm (Syntax.tyInt Syntax.w32))
               4,
         ) (List._∷_ (
           7,
@@ -6624,8 +6624,8 @@ module _ (claims· : Claims) where
         ) (List._∷_ (
           6,
           Rows.sslice
-              (Referent.rtF (Referent.fInt Syntax.w64))
-              (Syntax.tyRef (Syntax.named 4) Syntax.imm (Syntax.tyInt Syntax.w64))
+              (Referent.rtF (Referent.fInt Syntax.w32))
+              (Syntax.tyRef (Syntax.named 4) Syntax.imm (Syntax.tyInt Syntax.w32))
               4,
         ) (List._∷_ (
           7,
@@ -6702,8 +6702,8 @@ module _ (claims· : Claims) where
         ) (List._∷_ (
           6,
           Rows.sslice
-              (Referent.rtF (Referent.fInt Syntax.w64))
-              (Syntax.tyRef (Syntax.named 4) Syntax.imm (Syntax.tyInt Syntax.w64))
+              (Referent.rtF (Referent.fInt Syntax.w32))
+              (Syntax.tyRef (Syntax.named 4) Syntax.imm (Syntax.tyInt Syntax.w32))
               4,
         ) (List._∷_ (
           7,
@@ -6782,8 +6782,8 @@ module _ (claims· : Claims) where
         ) (List._∷_ (
           6,
           Rows.sslice
-              (Referent.rtF (Referent.fInt Syntax.w64))
-              (Syntax.tyRef (Syntax.named 4) Syntax.imm (Syntax.tyInt Syntax.w64))
+              (Referent.rtF (Referent.fInt Syntax.w32))
+              (Syntax.tyRef (Syntax.named 4) Syntax.imm (Syntax.tyInt Syntax.w32))
               4,
         ) (List._∷_ (
           7,
@@ -6915,8 +6915,8 @@ module _ (claims· : Claims) where
         ) (List._∷_ (
           6,
           Rows.sslice
-              (Referent.rtF (Referent.fInt Syntax.w64))
-              (Syntax.tyRef (Syntax.named 4) Syntax.imm (Syntax.tyInt Syntax.w64))
+              (Referent.rtF (Referent.fInt Syntax.w32))
+              (Syntax.tyRef (Syntax.named 4) Syntax.imm (Syntax.tyInt Syntax.w32))
               4,
         ) (List._∷_ (
           7,
@@ -7046,8 +7046,8 @@ module _ (claims· : Claims) where
         ) (List._∷_ (
           6,
           Rows.sslice
-              (Referent.rtF (Referent.fInt Syntax.w64))
-              (Syntax.tyRef (Syntax.named 4) Syntax.imm (Syntax.tyInt Syntax.w64))
+              (Referent.rtF (Referent.fInt Syntax.w32))
+              (Syntax.tyRef (Syntax.named 4) Syntax.imm (Syntax.tyInt Syntax.w32))
               4,
         ) (List._∷_ (
           7,
@@ -7175,8 +7175,8 @@ module _ (claims· : Claims) where
         ) (List._∷_ (
           6,
           Rows.sslice
-              (Referent.rtF (Referent.fInt Syntax.w64))
-              (Syntax.tyRef (Syntax.named 4) Syntax.imm (Syntax.tyInt Syntax.w64))
+              (Referent.rtF (Referent.fInt Syntax.w32))
+              (Syntax.tyRef (Syntax.named 4) Syntax.imm (Syntax.tyInt Syntax.w32))
               4,
         ) (List._∷_ (
           7,
@@ -10562,7 +10562,7 @@ module _ (claims· : Claims) where
                               ty = Syntax.tyRef
                                   (Syntax.named 4)
                                   Syntax.imm
-                                  (Syntax.tyInt Syntax.w64);
+                                  (Syntax.tyInt Syntax.w32);
                               ref = λ x. x;
                             },
                             (
@@ -10716,22 +10716,22 @@ module _ (claims· : Claims) where
                                 H
                                 A
                                 W
-                                (Referent.rtF (Referent.fInt Syntax.w64))
+                                (Referent.rtF (Referent.fInt Syntax.w32))
                                 (Syntax.tyRef
                                 (Syntax.named 4)
                                 Syntax.imm
-                                (Syntax.tyInt Syntax.w64))
+                                (Syntax.tyInt Syntax.w32))
                                 4,
                             Shared.reads-sslice
                                 𝓤
                                 H
                                 A
                                 W
-                                (Referent.rtF (Referent.fInt Syntax.w64))
+                                (Referent.rtF (Referent.fInt Syntax.w32))
                                 (Syntax.tyRef
                                 (Syntax.named 4)
                                 Syntax.imm
-                                (Syntax.tyInt Syntax.w64))
+                                (Syntax.tyInt Syntax.w32))
                                 4,
                             Path'.refl,
                             (
@@ -13606,12 +13606,12 @@ module _ (claims· : Claims) where
               H
               A
               W
-              (Referent.fInt Syntax.w64)
+              (Referent.fInt Syntax.w32)
               E
               G5
               6
               4
-              (Syntax.tyRef (Syntax.named 4) Syntax.imm (Syntax.tyInt Syntax.w64))
+              (Syntax.tyRef (Syntax.named 4) Syntax.imm (Syntax.tyInt Syntax.w32))
               (Row.lease (κs .1 .1 .1 .1 .0) (qs .1 .1 .1 .1 .0))
               0
               (λ x. x)
@@ -13621,8 +13621,8 @@ module _ (claims· : Claims) where
               H
               A
               (Rows.sslice
-              (Referent.rtF (Referent.fInt Syntax.w64))
-              (Syntax.tyRef (Syntax.named 4) Syntax.imm (Syntax.tyInt Syntax.w64))
+              (Referent.rtF (Referent.fInt Syntax.w32))
+              (Syntax.tyRef (Syntax.named 4) Syntax.imm (Syntax.tyInt Syntax.w32))
               4))
               Path'.refl
               tt)
@@ -13826,7 +13826,7 @@ module _ (claims· : Claims) where
               (ShrSlice.pShrS (Referent.rtF (Referent.fInt Syntax.w8)) 3 tt)
           pub notes : Kinds.Den {n = 10}
               κs
-              (ShrSlice.pShrS (Referent.rtF (Referent.fInt Syntax.w64)) 4 tt)
+              (ShrSlice.pShrS (Referent.rtF (Referent.fInt Syntax.w32)) 4 tt)
           pub owner : Kinds.Den {n = 10}
               κs
               (MutSlice.pMutS (Referent.rtF (Referent.fInt Syntax.w64)) 5 tt)
@@ -14952,7 +14952,7 @@ module _ (claims· : Claims) where
                     (
                       record {
                         pos = 6;
-                        ty = Syntax.tyRef (Syntax.named 4) Syntax.imm (Syntax.tyInt Syntax.w64);
+                        ty = Syntax.tyRef (Syntax.named 4) Syntax.imm (Syntax.tyInt Syntax.w32);
                         ref = λ x. x;
                       },
                       (
@@ -15040,7 +15040,7 @@ module _ (claims· : Claims) where
                   (
                     record {
                       pos = 6;
-                      ty = Syntax.tyRef (Syntax.named 4) Syntax.imm (Syntax.tyInt Syntax.w64);
+                      ty = Syntax.tyRef (Syntax.named 4) Syntax.imm (Syntax.tyInt Syntax.w32);
                       ref = λ x. x;
                     },
                     (
@@ -16620,7 +16620,7 @@ module _ (claims· : Claims) where
                                     ty = Syntax.tyRef
                                         (Syntax.named 4)
                                         Syntax.imm
-                                        (Syntax.tyInt Syntax.w64);
+                                        (Syntax.tyInt Syntax.w32);
                                     ref = λ x. x;
                                   },
                                   (

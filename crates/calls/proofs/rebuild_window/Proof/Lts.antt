@@ -60,7 +60,7 @@ ps =
     (List._∷_
     (ShrSlice.pShrS (Referent.rtF (Referent.fInt Syntax.w8)) 3 tt)
     (List._∷_
-    (ShrSlice.pShrS (Referent.rtF (Referent.fInt Syntax.w64)) 4 tt)
+    (ShrSlice.pShrS (Referent.rtF (Referent.fInt Syntax.w32)) 4 tt)
     (List._∷_
     (MutSlice.pMutS (Referent.rtF (Referent.fInt Syntax.w64)) 5 tt)
     (List._∷_
@@ -149,7 +149,7 @@ ps·1 =
     (List._∷_
     (ShrSlice.pShrS (Referent.rtF (Referent.fInt Syntax.w8)) 3 tt)
     (List._∷_
-    (ShrSlice.pShrS (Referent.rtF (Referent.fInt Syntax.w64)) 4 tt)
+    (ShrSlice.pShrS (Referent.rtF (Referent.fInt Syntax.w32)) 4 tt)
     (List._∷_
     (MutSlice.pMutS (Referent.rtF (Referent.fInt Syntax.w64)) 5 tt)
     (List._∷_
@@ -404,8 +404,8 @@ t0 = List._∷_ (0, Rows'.any-gone (Syntax.tyInt Syntax.w64)) (List._∷_ (
 ) (List._∷_ (
   6,
   Rows'.sslice
-      (Referent.rtF (Referent.fInt Syntax.w64))
-      (Syntax.tyRef (Syntax.named 4) Syntax.imm (Syntax.tyInt Syntax.w64))
+      (Referent.rtF (Referent.fInt Syntax.w32))
+      (Syntax.tyRef (Syntax.named 4) Syntax.imm (Syntax.tyInt Syntax.w32))
       4,
 ) (List._∷_ (
   7,
@@ -531,8 +531,8 @@ t2 = List._∷_ (0, Rows'.sc-here (Row.sInt Syntax.w64)) (List._∷_ (
 ) (List._∷_ (
   6,
   Rows'.sslice
-      (Referent.rtF (Referent.fInt Syntax.w64))
-      (Syntax.tyRef (Syntax.named 4) Syntax.imm (Syntax.tyInt Syntax.w64))
+      (Referent.rtF (Referent.fInt Syntax.w32))
+      (Syntax.tyRef (Syntax.named 4) Syntax.imm (Syntax.tyInt Syntax.w32))
       4,
 ) (List._∷_ (
   7,
@@ -609,8 +609,8 @@ t3 = List._∷_ (0, Rows'.any-gone (Syntax.tyInt Syntax.w64)) (List._∷_ (
 ) (List._∷_ (
   6,
   Rows'.sslice
-      (Referent.rtF (Referent.fInt Syntax.w64))
-      (Syntax.tyRef (Syntax.named 4) Syntax.imm (Syntax.tyInt Syntax.w64))
+      (Referent.rtF (Referent.fInt Syntax.w32))
+      (Syntax.tyRef (Syntax.named 4) Syntax.imm (Syntax.tyInt Syntax.w32))
       4,
 ) (List._∷_ (
   7,
@@ -686,8 +686,8 @@ t4 = List._∷_ (0, Rows'.any-gone (Syntax.tyInt Syntax.w64)) (List._∷_ (
 ) (List._∷_ (
   6,
   Rows'.sslice
-      (Referent.rtF (Referent.fInt Syntax.w64))
-      (Syntax.tyRef (Syntax.named 4) Syntax.imm (Syntax.tyInt Syntax.w64))
+      (Referent.rtF (Referent.fInt Syntax.w32))
+      (Syntax.tyRef (Syntax.named 4) Syntax.imm (Syntax.tyInt Syntax.w32))
       4,
 ) (List._∷_ (
   7,
@@ -762,8 +762,8 @@ t5 = List._∷_ (0, Rows'.any-gone (Syntax.tyInt Syntax.w64)) (List._∷_ (
 ) (List._∷_ (
   6,
   Rows'.sslice
-      (Referent.rtF (Referent.fInt Syntax.w64))
-      (Syntax.tyRef (Syntax.named 4) Syntax.imm (Syntax.tyInt Syntax.w64))
+      (Referent.rtF (Referent.fInt Syntax.w32))
+      (Syntax.tyRef (Syntax.named 4) Syntax.imm (Syntax.tyInt Syntax.w32))
       4,
 ) (List._∷_ (
   7,
@@ -839,8 +839,8 @@ t6 = List._∷_ (0, Rows'.any-gone (Syntax.tyInt Syntax.w64)) (List._∷_ (
 ) (List._∷_ (
   6,
   Rows'.sslice
-      (Referent.rtF (Referent.fInt Syntax.w64))
-      (Syntax.tyRef (Syntax.named 4) Syntax.imm (Syntax.tyInt Syntax.w64))
+      (Referent.rtF (Referent.fInt Syntax.w32))
+      (Syntax.tyRef (Syntax.named 4) Syntax.imm (Syntax.tyInt Syntax.w32))
       4,
 ) (List._∷_ (
   7,
@@ -921,8 +921,8 @@ t7 = List._∷_ (0, Rows'.any-gone (Syntax.tyInt Syntax.w64)) (List._∷_ (
 ) (List._∷_ (
   6,
   Rows'.sslice
-      (Referent.rtF (Referent.fInt Syntax.w64))
-      (Syntax.tyRef (Syntax.named 4) Syntax.imm (Syntax.tyInt Syntax.w64))
+      (Referent.rtF (Referent.fInt Syntax.w32))
+      (Syntax.tyRef (Syntax.named 4) Syntax.imm (Syntax.tyInt Syntax.w32))
       4,
 ) (List._∷_ (
   7,
@@ -998,8 +998,8 @@ t8 = List._∷_ (0, Rows'.any-gone (Syntax.tyInt Syntax.w64)) (List._∷_ (
 ) (List._∷_ (
   6,
   Rows'.sslice
-      (Referent.rtF (Referent.fInt Syntax.w64))
-      (Syntax.tyRef (Syntax.named 4) Syntax.imm (Syntax.tyInt Syntax.w64))
+      (Referent.rtF (Referent.fInt Syntax.w32))
+      (Syntax.tyRef (Syntax.named 4) Syntax.imm (Syntax.tyInt Syntax.w32))
       4,
 ) (List._∷_ (
   7,
@@ -1080,8 +1080,8 @@ t9 = List._∷_ (0, Rows'.any-gone (Syntax.tyInt Syntax.w64)) (List._∷_ (
 ) (List._∷_ (
   6,
   Rows'.sslice
-      (Referent.rtF (Referent.fInt Syntax.w64))
-      (Syntax.tyRef (Syntax.named 4) Syntax.imm (Syntax.tyInt Syntax.w64))
+      (Referent.rtF (Referent.fInt Syntax.w32))
+      (Syntax.tyRef (Syntax.named 4) Syntax.imm (Syntax.tyInt Syntax.w32))
       4,
 ) (List._∷_ (
   7,
@@ -1206,8 +1206,8 @@ t11 = List._∷_ (0, Rows'.any-gone (Syntax.tyInt Syntax.w64)) (List._∷_ (
 ) (List._∷_ (
   6,
   Rows'.sslice
-      (Referent.rtF (Referent.fInt Syntax.w64))
-      (Syntax.tyRef (Syntax.named 4) Syntax.imm (Syntax.tyInt Syntax.w64))
+      (Referent.rtF (Referent.fInt Syntax.w32))
+      (Syntax.tyRef (Syntax.named 4) Syntax.imm (Syntax.tyInt Syntax.w32))
       4,
 ) (List._∷_ (
   7,
@@ -1382,8 +1382,8 @@ t14 = List._∷_ (0, Rows'.any-gone (Syntax.tyInt Syntax.w64)) (List._∷_ (
 ) (List._∷_ (
   6,
   Rows'.sslice
-      (Referent.rtF (Referent.fInt Syntax.w64))
-      (Syntax.tyRef (Syntax.named 4) Syntax.imm (Syntax.tyInt Syntax.w64))
+      (Referent.rtF (Referent.fInt Syntax.w32))
+      (Syntax.tyRef (Syntax.named 4) Syntax.imm (Syntax.tyInt Syntax.w32))
       4,
 ) (List._∷_ (
   7,
@@ -1556,8 +1556,8 @@ t17 = List._∷_ (0, Rows'.any-gone (Syntax.tyInt Syntax.w64)) (List._∷_ (
 ) (List._∷_ (
   6,
   Rows'.sslice
-      (Referent.rtF (Referent.fInt Syntax.w64))
-      (Syntax.tyRef (Syntax.named 4) Syntax.imm (Syntax.tyInt Syntax.w64))
+      (Referent.rtF (Referent.fInt Syntax.w32))
+      (Syntax.tyRef (Syntax.named 4) Syntax.imm (Syntax.tyInt Syntax.w32))
       4,
 ) (List._∷_ (
   7,
@@ -1726,8 +1726,8 @@ t20 = List._∷_ (0, Rows'.sc-here (Row.sInt Syntax.w64)) (List._∷_ (
 ) (List._∷_ (
   6,
   Rows'.sslice
-      (Referent.rtF (Referent.fInt Syntax.w64))
-      (Syntax.tyRef (Syntax.named 4) Syntax.imm (Syntax.tyInt Syntax.w64))
+      (Referent.rtF (Referent.fInt Syntax.w32))
+      (Syntax.tyRef (Syntax.named 4) Syntax.imm (Syntax.tyInt Syntax.w32))
       4,
 ) (List._∷_ (
   7,
@@ -1846,8 +1846,8 @@ t22 = List._∷_ (0, Rows'.sc-here (Row.sInt Syntax.w64)) (List._∷_ (
 ) (List._∷_ (
   6,
   Rows'.sslice
-      (Referent.rtF (Referent.fInt Syntax.w64))
-      (Syntax.tyRef (Syntax.named 4) Syntax.imm (Syntax.tyInt Syntax.w64))
+      (Referent.rtF (Referent.fInt Syntax.w32))
+      (Syntax.tyRef (Syntax.named 4) Syntax.imm (Syntax.tyInt Syntax.w32))
       4,
 ) (List._∷_ (
   7,
@@ -1930,8 +1930,8 @@ t23 = List._∷_ (0, Rows'.sc-here (Row.sInt Syntax.w64)) (List._∷_ (
 ) (List._∷_ (
   6,
   Rows'.sslice
-      (Referent.rtF (Referent.fInt Syntax.w64))
-      (Syntax.tyRef (Syntax.named 4) Syntax.imm (Syntax.tyInt Syntax.w64))
+      (Referent.rtF (Referent.fInt Syntax.w32))
+      (Syntax.tyRef (Syntax.named 4) Syntax.imm (Syntax.tyInt Syntax.w32))
       4,
 ) (List._∷_ (
   7,
@@ -2052,8 +2052,8 @@ t25 = List._∷_ (0, Rows'.sc-here (Row.sInt Syntax.w64)) (List._∷_ (
 ) (List._∷_ (
   6,
   Rows'.sslice
-      (Referent.rtF (Referent.fInt Syntax.w64))
-      (Syntax.tyRef (Syntax.named 4) Syntax.imm (Syntax.tyInt Syntax.w64))
+      (Referent.rtF (Referent.fInt Syntax.w32))
+      (Syntax.tyRef (Syntax.named 4) Syntax.imm (Syntax.tyInt Syntax.w32))
       4,
 ) (List._∷_ (
   7,
@@ -2175,8 +2175,8 @@ t27 = List._∷_ (0, Rows'.sc-here (Row.sInt Syntax.w64)) (List._∷_ (
 ) (List._∷_ (
   6,
   Rows'.sslice
-      (Referent.rtF (Referent.fInt Syntax.w64))
-      (Syntax.tyRef (Syntax.named 4) Syntax.imm (Syntax.tyInt Syntax.w64))
+      (Referent.rtF (Referent.fInt Syntax.w32))
+      (Syntax.tyRef (Syntax.named 4) Syntax.imm (Syntax.tyInt Syntax.w32))
       4,
 ) (List._∷_ (
   7,
@@ -2299,8 +2299,8 @@ t29 = List._∷_ (0, Rows'.sc-here (Row.sInt Syntax.w64)) (List._∷_ (
 ) (List._∷_ (
   6,
   Rows'.sslice
-      (Referent.rtF (Referent.fInt Syntax.w64))
-      (Syntax.tyRef (Syntax.named 4) Syntax.imm (Syntax.tyInt Syntax.w64))
+      (Referent.rtF (Referent.fInt Syntax.w32))
+      (Syntax.tyRef (Syntax.named 4) Syntax.imm (Syntax.tyInt Syntax.w32))
       4,
 ) (List._∷_ (
   7,
@@ -2376,8 +2376,8 @@ t30 = List._∷_ (0, Rows'.sc-here (Row.sInt Syntax.w64)) (List._∷_ (
 ) (List._∷_ (
   6,
   Rows'.sslice
-      (Referent.rtF (Referent.fInt Syntax.w64))
-      (Syntax.tyRef (Syntax.named 4) Syntax.imm (Syntax.tyInt Syntax.w64))
+      (Referent.rtF (Referent.fInt Syntax.w32))
+      (Syntax.tyRef (Syntax.named 4) Syntax.imm (Syntax.tyInt Syntax.w32))
       4,
 ) (List._∷_ (
   7,
@@ -2589,11 +2589,11 @@ module _ (claims· : Claims) where
   abbrev s4 : (bs : List.List Nat.ℕ) → Typed.Gives T5 T6
   s4 =
       λ bs. Know.k-shs-known
-      (Referent.fInt Syntax.w64)
+      (Referent.fInt Syntax.w32)
       T5
       6
       4
-      (Syntax.tyRef (Syntax.named 4) Syntax.imm (Syntax.tyInt Syntax.w64))
+      (Syntax.tyRef (Syntax.named 4) Syntax.imm (Syntax.tyInt Syntax.w32))
       Row.off
       0
       λ x. x
@@ -2879,7 +2879,7 @@ module _ (claims· : Claims) where
             (
               record {
                 pos = 6;
-                ty = Syntax.tyRef (Syntax.named 4) Syntax.imm (Syntax.tyInt Syntax.w64);
+                ty = Syntax.tyRef (Syntax.named 4) Syntax.imm (Syntax.tyInt Syntax.w32);
                 ref = λ x. x;
               },
               (
@@ -3268,8 +3268,8 @@ module _ (claims· : Claims) where
         ) (List._∷_ (
           6,
           Rows'.sslice
-              (Referent.rtF (Referent.fInt Syntax.w64))
-              (Syntax.tyRef (Syntax.named 4) Syntax.imm (Syntax.tyInt Syntax.w64))
+              (Referent.rtF (Referent.fInt Syntax.w32))
+              (Syntax.tyRef (Syntax.named 4) Syntax.imm (Syntax.tyInt Syntax.w32))
               4,
         ) (List._∷_ (
           7,
@@ -3350,8 +3350,8 @@ module _ (claims· : Claims) where
         ) (List._∷_ (
           6,
           Rows'.sslice
-              (Referent.rtF (Referent.fInt Syntax.w64))
-              (Syntax.tyRef (Syntax.named 4) Syntax.imm (Syntax.tyInt Syntax.w64))
+              (Referent.rtF (Referent.fInt Syntax.w32))
+              (Syntax.tyRef (Syntax.named 4) Syntax.imm (Syntax.tyInt Syntax.w32))
               4,
         ) (List._∷_ (
           7,
@@ -3427,8 +3427,8 @@ module _ (claims· : Claims) where
         ) (List._∷_ (
           6,
           Rows'.sslice
-              (Referent.rtF (Referent.fInt Syntax.w64))
-              (Syntax.tyRef (Syntax.named 4) Syntax.imm (Syntax.tyInt Syntax.w64))
+              (Referent.rtF (Referent.fInt Syntax.w32))
+              (Syntax.tyRef (Syntax.named 4) Syntax.imm (Syntax.tyInt Syntax.w32))
               4,
         ) (List._∷_ (
           7,
@@ -3509,8 +3509,8 @@ module _ (claims· : Claims) where
         ) (List._∷_ (
           6,
           Rows'.sslice
-              (Referent.rtF (Referent.fInt Syntax.w64))
-              (Syntax.tyRef (Syntax.named 4) Syntax.imm (Syntax.tyInt Syntax.w64))
+              (Referent.rtF (Referent.fInt Syntax.w32))
+              (Syntax.tyRef (Syntax.named 4) Syntax.imm (Syntax.tyInt Syntax.w32))
               4,
         ) (List._∷_ (
           7,
@@ -3588,8 +3588,8 @@ module _ (claims· : Claims) where
         ) (List._∷_ (
           6,
           Rows'.sslice
-              (Referent.rtF (Referent.fInt Syntax.w64))
-              (Syntax.tyRef (Syntax.named 4) Syntax.imm (Syntax.tyInt Syntax.w64))
+              (Referent.rtF (Referent.fInt Syntax.w32))
+              (Syntax.tyRef (Syntax.named 4) Syntax.imm (Syntax.tyInt Syntax.w32))
               4,
         ) (List._∷_ (
           7,
@@ -3669,8 +3669,8 @@ module _ (claims· : Claims) where
         ) (List._∷_ (
           6,
           Rows'.sslice
-              (Referent.rtF (Referent.fInt Syntax.w64))
-              (Syntax.tyRef (Syntax.named 4) Syntax.imm (Syntax.tyInt Syntax.w64))
+              (Referent.rtF (Referent.fInt Syntax.w32))
+              (Syntax.tyRef (Syntax.named 4) Syntax.imm (Syntax.tyInt Syntax.w32))
               4,
         ) (List._∷_ (
           7,
@@ -3752,8 +3752,8 @@ module _ (claims· : Claims) where
         ) (List._∷_ (
           6,
           Rows'.sslice
-              (Referent.rtF (Referent.fInt Syntax.w64))
-              (Syntax.tyRef (Syntax.named 4) Syntax.imm (Syntax.tyInt Syntax.w64))
+              (Referent.rtF (Referent.fInt Syntax.w32))
+              (Syntax.tyRef (Syntax.named 4) Syntax.imm (Syntax.tyInt Syntax.w32))
               4,
         ) (List._∷_ (
           7,
@@ -3835,8 +3835,8 @@ module _ (claims· : Claims) where
         ) (List._∷_ (
           6,
           Rows'.sslice
-              (Referent.rtF (Referent.fInt Syntax.w64))
-              (Syntax.tyRef (Syntax.named 4) Syntax.imm (Syntax.tyInt Syntax.w64))
+              (Referent.rtF (Referent.fInt Syntax.w32))
+              (Syntax.tyRef (Syntax.named 4) Syntax.imm (Syntax.tyInt Syntax.w32))
               4,
         ) (List._∷_ (
           7,
@@ -3917,8 +3917,8 @@ module _ (claims· : Claims) where
         ) (List._∷_ (
           6,
           Rows'.sslice
-              (Referent.rtF (Referent.fInt Syntax.w64))
-              (Syntax.tyRef (Syntax.named 4) Syntax.imm (Syntax.tyInt Syntax.w64))
+              (Referent.rtF (Referent.fInt Syntax.w32))
+              (Syntax.tyRef (Syntax.named 4) Syntax.imm (Syntax.tyInt Syntax.w32))
               4,
         ) (List._∷_ (
           7,
@@ -4000,8 +4000,8 @@ module _ (claims· : Claims) where
         ) (List._∷_ (
           6,
           Rows'.sslice
-              (Referent.rtF (Referent.fInt Syntax.w64))
-              (Syntax.tyRef (Syntax.named 4) Syntax.imm (Syntax.tyInt Syntax.w64))
+              (Referent.rtF (Referent.fInt Syntax.w32))
+              (Syntax.tyRef (Syntax.named 4) Syntax.imm (Syntax.tyInt Syntax.w32))
               4,
         ) (List._∷_ (
           7,
@@ -4081,8 +4081,8 @@ module _ (claims· : Claims) where
         ) (List._∷_ (
           6,
           Rows'.sslice
-              (Referent.rtF (Referent.fInt Syntax.w64))
-              (Syntax.tyRef (Syntax.named 4) Syntax.imm (Syntax.tyInt Syntax.w64))
+              (Referent.rtF (Referent.fInt Syntax.w32))
+              (Syntax.tyRef (Syntax.named 4) Syntax.imm (Syntax.tyInt Syntax.w32))
               4,
         ) (List._∷_ (
           7,
@@ -6309,7 +6309,7 @@ module _ (claims· : Claims) where
                             ty = Syntax.tyRef
                                 (Syntax.named 4)
                                 Syntax.imm
-                                (Syntax.tyInt Syntax.w64);
+                                (Syntax.tyInt Syntax.w32);
                             ref = λ x. x;
                           },
                           (
@@ -6458,16 +6458,16 @@ module _ (claims· : Claims) where
                               H
                               A
                               W
-                              (Referent.rtF (Referent.fInt Syntax.w64))
-                              (Syntax.tyRef (Syntax.named 4) Syntax.imm (Syntax.tyInt Syntax.w64))
+                              (Referent.rtF (Referent.fInt Syntax.w32))
+                              (Syntax.tyRef (Syntax.named 4) Syntax.imm (Syntax.tyInt Syntax.w32))
                               4,
                           Shared.reads-sslice
                               𝓤
                               H
                               A
                               W
-                              (Referent.rtF (Referent.fInt Syntax.w64))
-                              (Syntax.tyRef (Syntax.named 4) Syntax.imm (Syntax.tyInt Syntax.w64))
+                              (Referent.rtF (Referent.fInt Syntax.w32))
+                              (Syntax.tyRef (Syntax.named 4) Syntax.imm (Syntax.tyInt Syntax.w32))
                               4,
                           Path'.refl,
                           (
@@ -7936,12 +7936,12 @@ module _ (claims· : Claims) where
               H
               A
               W
-              (Referent.fInt Syntax.w64)
+              (Referent.fInt Syntax.w32)
               E
               G5
               6
               4
-              (Syntax.tyRef (Syntax.named 4) Syntax.imm (Syntax.tyInt Syntax.w64))
+              (Syntax.tyRef (Syntax.named 4) Syntax.imm (Syntax.tyInt Syntax.w32))
               (Row.lease (κs .1 .1 .1 .1 .0) (qs .1 .1 .1 .1 .0))
               0
               (λ x. x)
@@ -7951,8 +7951,8 @@ module _ (claims· : Claims) where
               H
               A
               (Rows'.sslice
-              (Referent.rtF (Referent.fInt Syntax.w64))
-              (Syntax.tyRef (Syntax.named 4) Syntax.imm (Syntax.tyInt Syntax.w64))
+              (Referent.rtF (Referent.fInt Syntax.w32))
+              (Syntax.tyRef (Syntax.named 4) Syntax.imm (Syntax.tyInt Syntax.w32))
               4))
               Path'.refl
               tt)
@@ -8156,7 +8156,7 @@ module _ (claims· : Claims) where
               (ShrSlice.pShrS (Referent.rtF (Referent.fInt Syntax.w8)) 3 tt)
           pub notes : Kinds.Den {n = 9}
               κs
-              (ShrSlice.pShrS (Referent.rtF (Referent.fInt Syntax.w64)) 4 tt)
+              (ShrSlice.pShrS (Referent.rtF (Referent.fInt Syntax.w32)) 4 tt)
           pub owner : Kinds.Den {n = 9}
               κs
               (MutSlice.pMutS (Referent.rtF (Referent.fInt Syntax.w64)) 5 tt)
@@ -8687,7 +8687,7 @@ module _ (claims· : Claims) where
                   (
                     record {
                       pos = 6;
-                      ty = Syntax.tyRef (Syntax.named 4) Syntax.imm (Syntax.tyInt Syntax.w64);
+                      ty = Syntax.tyRef (Syntax.named 4) Syntax.imm (Syntax.tyInt Syntax.w32);
                       ref = λ x. x;
                     },
                     (
@@ -8774,7 +8774,7 @@ module _ (claims· : Claims) where
                 (
                   record {
                     pos = 6;
-                    ty = Syntax.tyRef (Syntax.named 4) Syntax.imm (Syntax.tyInt Syntax.w64);
+                    ty = Syntax.tyRef (Syntax.named 4) Syntax.imm (Syntax.tyInt Syntax.w32);
                     ref = λ x. x;
                   },
                   (
@@ -9830,7 +9830,7 @@ module _ (claims· : Claims) where
                                     ty = Syntax.tyRef
                                         (Syntax.named 4)
                                         Syntax.imm
-                                        (Syntax.tyInt Syntax.w64);
+                                        (Syntax.tyInt Syntax.w32);
                                     ref = λ x. x;
                                   },
                                   (
