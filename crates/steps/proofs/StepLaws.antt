@@ -196,9 +196,9 @@ module _ {mode : ℕ} {s c d e u f g h v w x p q r : List ℕ} where
   leaves-as z y = rw z y
 
 -- the table that pass 6 alone has
-pub last-used : {k : ℕ} {t t′ : List ℕ} → k ≡ 6 → t′ ≡ replicate (length t) 0 → t′ ≡ cleared (usesT k) t
+pub last-used : {k : ℕ} (t : List ℕ) {t′ : List ℕ} → k ≡ 6 → t′ ≡ replicate (length t) 0 → t′ ≡ cleared (usesT k) t
 unfolding cleared
-last-used {k} e z = rw (eq-eqb k 6 e) z
+last-used {k} t e z = rw (eq-eqb k 6 e) z
 
 pub last-kept : {k : ℕ} (t : List ℕ) → (k ≡ 6 → ⊥) → t ≡ cleared (usesT k) t
 unfolding cleared

@@ -15,7 +15,7 @@ ghost use Rattle.bind.specs.Bind.{bindDeclarators};
 ghost use Rattle.limits.specs.Entry.{byteSize, blockSize};
 ghost use Rattle.steps.specs.Step.{stepOf};
 ghost use Rattle.steps.specs.Inner.Bounds.{Bounded, Sized, Tabled};
-ghost use Rattle.steps.specs.Inner.Left.{leftC, leftD, leftE, leftU, Left, Cleared, Few};
+ghost use Rattle.steps.specs.Inner.Left.{leftC, leftD, leftE, leftU, Left, cleared, usesT, Cleared, Few};
 use limits::Task;
 
 // Runs prune_dead_temps: `own` gets the temps whose numbers are not low, and the tables what is declared and read.
@@ -81,6 +81,52 @@ fn once_step(
     lines::wipe(loops, loops.len());
     lines::wipe(marks, marks.len());
     slots::wipe(paths);
+    n
+}
+
+// Runs rebuild_calls, and makes its tables over lines 0.
+fn calls_step(
+    m: Task,
+    src: &[u8],
+    own: &[usize],
+    cur: &mut [u8],
+    next: &mut [u8],
+    stack: &mut [u8],
+    starts: &mut [u8],
+    up: &mut [u32],
+    near: &mut [u32],
+    stores: &mut [u32],
+    notes: &mut [u32],
+    owner: &mut [usize],
+    ends: &mut [usize],
+    blocks: &mut [usize],
+    dst: &mut [u8],
+) -> usize
+    requires { ⌜ Bounded (m .limits) (now src) × (((byteSize (m .limits) ≤ length (now cur)) × ((byteSize (m .limits) ≤ length (now next)) × ((byteSize (m .limits) ≤ length (now stack)) × (byteSize (m .limits) ≤ length (now dst))))) × (((blockSize (m .limits) ≤ length (now up)) × (length (now up) < 2 ^ 32)) × (((m .limits .lines) ≤ length (now starts)) × (((m .limits .lines) ≤ length (now owner)) × (((m .limits .lines) ≤ length (now ends)) × ((m .limits .lines) ≤ length (now blocks))))))) ⌝ }
+    ensures answer { λ r. ⌜ Wrote (now (dst .entry)) 0 (unlines (rebuildCalls (leavesOf (readingOf (m .mode .0))) (linesOf (now (src .entry))))) (now (dst .exit)) r ⌝ }
+    ensures memory { λ _. ⌜ (now (cur .exit) ≡ leftC (m .mode .0) 4 (now (src .entry)) (now (cur .entry))) × ((now (next .exit) ≡ leftD (m .mode .0) 4 (now (src .entry)) (now (next .entry))) × ((now (stack .exit) ≡ leftE (m .mode .0) 4 (now (src .entry)) (now (stack .entry))) × (now (up .exit) ≡ leftU 4 (now (src .entry)) (now (up .entry))))) ⌝ }
+    ensures tables { λ _. ⌜ (now (starts .exit) ≡ replicate (length (now (starts .entry))) 0) × ((now (near .exit) ≡ replicate (length (now (near .entry))) 0) × ((now (stores .exit) ≡ replicate (length (now (stores .entry))) 0) × ((now (notes .exit) ≡ replicate (length (now (notes .entry))) 0) × ((now (owner .exit) ≡ replicate (length (now (owner .entry))) 0) × ((now (ends .exit) ≡ replicate (length (now (ends .entry))) 0) × (now (blocks .exit) ≡ replicate (length (now (blocks .entry))) 0)))))) ⌝ }
+{
+    let n = calls::rebuild_calls(
+        src,
+        own,
+        ends,
+        owner,
+        blocks,
+        starts,
+        up,
+        near,
+        stores,
+        notes,
+        stack,
+        cur,
+        next,
+        dst,
+    );
+    lines::wipe(starts, starts.len());
+    slots::wipe(owner);
+    slots::wipe(ends);
+    slots::wipe(blocks);
     n
 }
 
@@ -164,3 +210,73 @@ fn few_step(
     lines::put_lines(src, dst, 0)
 }
 
+// Runs a pass by its number as `step` does, for another number than 6.
+fn other_step(
+    k: usize,
+    m: Task,
+    src: &[u8],
+    own: &[usize],
+    dst: &mut [u8],
+    c: &mut [u8],
+    d: &mut [u8],
+    e: &mut [u8],
+    f: &mut [u8],
+    g: &mut [u8],
+    h: &mut [u8],
+    u: &mut [u32],
+    v: &mut [u32],
+    w: &mut [u32],
+    x: &mut [u32],
+    p: &mut [usize],
+    q: &mut [usize],
+    r: &mut [usize],
+) -> usize
+    requires { ⌜ (k ≡ 6 → ⊥) × (Bounded (m .limits) (now src) × (Sized (m .limits) (now dst) (now c) (now d) (now e) (now u) × Tabled (m .limits) (now f) (now g) (now v) (now w) (now x) (now p) (now q) (now r))) ⌝ }
+    ensures answer { λ n. ⌜ Wrote (now (dst .entry)) 0 (unlines (stepOf (readingOf (m .mode .0)) k (linesOf (now (src .entry))))) (now (dst .exit)) n ⌝ }
+    ensures memory { λ _. ⌜ Left (m .mode .0) k (now (src .entry)) (now (c .entry)) (now (d .entry)) (now (e .entry)) (now (u .entry)) (now (c .exit)) (now (d .exit)) (now (e .exit)) (now (u .exit)) ⌝ }
+    ensures tables { λ _. ⌜ Cleared k (now (f .entry)) (now (g .entry)) (now (h .entry)) (now (v .entry)) (now (w .entry)) (now (x .entry)) (now (p .entry)) (now (q .entry)) (now (r .entry)) (now (f .exit)) (now (g .exit)) (now (h .exit)) (now (v .exit)) (now (w .exit)) (now (x .exit)) (now (p .exit)) (now (q .exit)) (now (r .exit)) ⌝ }
+{
+    if k == 2 {
+        return once_step(m, src, own, c, d, f, g, h, u, v, w, x, p, q, r, dst);
+    }
+    if k == 4 {
+        return calls_step(m, src, own, c, d, e, f, u, v, w, x, p, q, r, dst);
+    }
+    few_step(k, m, src, own, dst, c, d, e, f, g, q, r)
+}
+
+// Runs a pass of a task by its number from one buffer into another, and returns the length of what it wrote: 0 is the removal, and another number than
+// 1 to 6 changes nothing. The other buffers are scratch, and `f` to `h`, `v` to `x` and `p` to `t` are tables: those that the pass uses are 0 afterwards.
+// `own` has the numbers that are not low, and says where their entries stand.
+pub fn step(
+    k: usize,
+    m: Task,
+    src: &[u8],
+    own: &[usize],
+    dst: &mut [u8],
+    c: &mut [u8],
+    d: &mut [u8],
+    e: &mut [u8],
+    f: &mut [u8],
+    g: &mut [u8],
+    h: &mut [u8],
+    u: &mut [u32],
+    v: &mut [u32],
+    w: &mut [u32],
+    x: &mut [u32],
+    p: &mut [usize],
+    q: &mut [usize],
+    r: &mut [usize],
+    t: &mut [usize],
+) -> usize
+    requires { ⌜ Bounded (m .limits) (now src) × (Sized (m .limits) (now dst) (now c) (now d) (now e) (now u) × Tabled (m .limits) (now f) (now g) (now v) (now w) (now x) (now p) (now q) (now r)) ⌝ }
+    ensures answer { λ n. ⌜ Wrote (now (dst .entry)) 0 (unlines (stepOf (readingOf (m .mode .0)) k (linesOf (now (src .entry))))) (now (dst .exit)) n ⌝ }
+    ensures memory { λ _. ⌜ Left (m .mode .0) k (now (src .entry)) (now (c .entry)) (now (d .entry)) (now (e .entry)) (now (u .entry)) (now (c .exit)) (now (d .exit)) (now (e .exit)) (now (u .exit)) ⌝ }
+    ensures tables { λ _. ⌜ Cleared k (now (f .entry)) (now (g .entry)) (now (h .entry)) (now (v .entry)) (now (w .entry)) (now (x .entry)) (now (p .entry)) (now (q .entry)) (now (r .entry)) (now (f .exit)) (now (g .exit)) (now (h .exit)) (now (v .exit)) (now (w .exit)) (now (x .exit)) (now (p .exit)) (now (q .exit)) (now (r .exit)) ⌝ }
+    ensures last { λ _. ⌜ now (t .exit) ≡ cleared (usesT k) (now (t .entry)) ⌝ }
+{
+    if k == 6 {
+        return bind_step(m, src, own, f, g, u, p, q, r, t, dst);
+    }
+    other_step(k, m, src, own, dst, c, d, e, f, g, h, u, v, w, x, p, q, r)
+}
