@@ -6,7 +6,7 @@ use mathlib.Core.List.{List, _++_, append-nil}
 use native.Mathlib.Omega.{arith}
 use borrow.Author.Tests.{ltb-false}
 use lib.Dec.{ltb}
-use lib.ListN.{length, take, drop, length-append, length-drop}
+use lib.ListN.{length, take, drop, replicate, length-append, length-drop, length-replicate}
 use lib.Seq.{length-take-le, drop-length}
 use Rattle.lines.specs.Lf.{endsIn}
 use Rattle.lines.specs.Steps.{splitLines, joined}
@@ -47,6 +47,10 @@ long-by L a b c d e u h =
       e-long = ltb-false (length e) (byteSize L) (t .0);
       u-long = ltb-false (length u) (blockSize L) (t .1);
     }
+
+-- a table of n places
+pub table : (n : ℕ) {m : ℕ} → m ≤ n → m ≤ length {A = ℕ} (replicate n 0)
+table n h = omega (arith, length-replicate {A = ℕ} n 0)
 
 -- ---- the stated part of a longer buffer
 

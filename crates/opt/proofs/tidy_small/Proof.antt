@@ -1,0 +1,97 @@
+-- `opt::tidy_small` meets its contract. Assumes nothing.
+use borrow.Author.Needs.{needs}
+use mathlib.Core.Path.{refl}
+use native.Mathlib.Omega.{arith}
+use Rattle.limits.proofs.AnswerLaws.{sane-small}
+use Rattle.opt.proofs.EntryLaws.{table, tidied-as}
+use Rattle.opt.proofs.tidy_small.Statement.{statement}
+use Rattle.opt.proofs.tidy_small.Tie as tie
+
+task-requires : tie.Need-task-requires
+task-requires c κs = search needs
+
+slice-aggregate-tidy : tie.Need-slice-aggregate-tidy
+slice-aggregate-tidy c = search needs
+
+slice-aggregate-tidy-2 : tie.Need-slice-aggregate-tidy-2
+slice-aggregate-tidy-2 c = search needs
+
+slice-aggregate-tidy-3 : tie.Need-slice-aggregate-tidy-3
+slice-aggregate-tidy-3 c = search needs
+
+slice-aggregate-tidy-4 : tie.Need-slice-aggregate-tidy-4
+slice-aggregate-tidy-4 c = search needs
+
+slice-aggregate-tidy-5 : tie.Need-slice-aggregate-tidy-5
+slice-aggregate-tidy-5 c = search needs
+
+slice-aggregate-tidy-6 : tie.Need-slice-aggregate-tidy-6
+slice-aggregate-tidy-6 c = search needs
+
+slice-aggregate-tidy-7 : tie.Need-slice-aggregate-tidy-7
+slice-aggregate-tidy-7 c = search needs
+
+slice-aggregate-tidy-8 : tie.Need-slice-aggregate-tidy-8
+slice-aggregate-tidy-8 c = search needs
+
+slice-aggregate-tidy-9 : tie.Need-slice-aggregate-tidy-9
+slice-aggregate-tidy-9 c = search needs
+
+slice-aggregate-tidy-10 : tie.Need-slice-aggregate-tidy-10
+slice-aggregate-tidy-10 c = search needs
+
+slice-aggregate-tidy-11 : tie.Need-slice-aggregate-tidy-11
+slice-aggregate-tidy-11 c = search needs
+
+tidy-requires : tie.Need-tidy-requires
+tidy-requires c κs = rw (c .before .before .before .before .before .before .before .before .before .before .before .before .before .before .before .before .before .before .task .ensures) (sane-small, record { f-lines = table 2048 (omega arith); g-lines = table 2048 (omega arith); p-lines = table 1024 (omega arith); q-lines = table 1024 (omega arith); r-lines = table 2048 (omega arith); w-as-v = refl; w-as-x = refl })
+
+same-length : tie.Need-same-length
+same-length c = c .before .before .before .before .before .before .before .before .before .before .before .before .before .before .before .before .before .before .before .before .before .before .before .before .before .tidy .kept .1 .1 .0
+
+same-length-2 : tie.Need-same-length-2
+same-length-2 c = c .before .before .before .before .before .before .before .before .before .before .before .before .before .before .before .before .before .before .before .before .before .before .before .before .before .tidy .kept .1 .1 .1 .0
+
+same-length-3 : tie.Need-same-length-3
+same-length-3 c = c .before .before .before .before .before .before .before .before .before .before .before .before .before .before .before .before .before .before .before .before .before .before .before .before .before .tidy .kept .1 .1 .1 .1 .0
+
+same-length-4 : tie.Need-same-length-4
+same-length-4 c = c .before .before .before .before .before .before .before .before .before .before .before .before .before .before .before .before .before .before .before .before .before .before .before .before .before .tidy .kept .1 .1 .1 .1 .1 .0
+
+same-length-5 : tie.Need-same-length-5
+same-length-5 c = c .before .before .before .before .before .before .before .before .before .before .before .before .before .before .before .before .before .before .before .before .before .before .before .before .before .tidy .kept .1 .1 .1 .1 .1 .1 .0
+
+same-length-6 : tie.Need-same-length-6
+same-length-6 c = c .before .before .before .before .before .before .before .before .before .before .before .before .before .before .before .before .before .before .before .before .before .before .before .before .before .tidy .kept .1 .1 .1 .1 .1 .1 .1 .1 .1 .1 .0
+
+same-length-7 : tie.Need-same-length-7
+same-length-7 c = c .before .before .before .before .before .before .before .before .before .before .before .before .before .before .before .before .before .before .before .before .before .before .before .before .before .tidy .kept .1 .1 .1 .1 .1 .1 .1 .1 .1 .1 .1 .1 .1 .1 .1 .1 .1 .1 .1 .0
+
+returns : tie.Need-returns
+returns c = let g = c .before .before .before .before .before .before .before .before .before .before .before .before .before .before .before .before .before .before .before .before .before .before .before .before .before .before .before .before .before .before .before .before .before .before .before .before .before .before .before .before .before .before .before .before .before .before .before .before .before .before .before .before .before .args in let w = c .before .before .before .before .before .before .before .before .before .before .before .before .before .before .before .before .before .before .before .before .before .before .before .before .before .tidy .ensures in tidied-as (g .text .now) (g .out .now) (g .a .now) (g .b .now) (g .c .now) (g .d .now) (g .e .now) (g .u .now) (c .before .before .before .before .before .before .before .before .before .before .before .before .before .before .before .before .before .before .before .before .before .before .before .before .before .before .before .before .before .before .before .before .before .before .before .before .before .before .before .before .before .before .before .before .task .ensures) (w .0, w .1 .0)
+
+pub tidy-small-spec : {M : Type 1} → statement M
+tidy-small-spec =
+    tie.close
+    (tie.spec
+    task-requires
+    slice-aggregate-tidy
+    slice-aggregate-tidy-2
+    slice-aggregate-tidy-3
+    slice-aggregate-tidy-4
+    slice-aggregate-tidy-5
+    slice-aggregate-tidy-6
+    slice-aggregate-tidy-7
+    slice-aggregate-tidy-8
+    slice-aggregate-tidy-9
+    slice-aggregate-tidy-10
+    slice-aggregate-tidy-11
+    tidy-requires
+    same-length
+    same-length-2
+    same-length-3
+    same-length-4
+    same-length-5
+    same-length-6
+    same-length-7
+    returns)
