@@ -71,11 +71,7 @@ pub fn slot(v: usize, n: usize, own: &[usize]) -> usize
 pub fn wipe(table: &mut [usize])
     ensures { λ _. ⌜ now (table .exit) ≡ replicate (length (now (table .entry))) 0 ⌝ }
 {
-    let mut i = 0;
-    while i < table.len() {
-        table[i] = 0;
-        i += 1;
-    }
+    lines::wipe_words(table);
 }
 
 // Gives a number a place among the owners, where one of those that are looked at is free.
